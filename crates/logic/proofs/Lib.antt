@@ -1,0 +1,5 @@
+pub mod Search
+pub mod Iterate
+pub mod Saturated
+pub mod Tied
+pub mod Examples

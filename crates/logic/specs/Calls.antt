@@ -1,0 +1,104 @@
+-- What the two calls answer, and every byte of what is lent, on every input (01, "Refusals, in checking order").
+use Prim.Native.Nat.{ℕ, zero, suc, _+_, _*_, _-_}
+use mathlib.Core.Bool.{Bool, true, false, not, cond}
+use mathlib.Core.List.{List, [], _∷_, _++_}
+use mathlib.Core.Option.{Option, none, some, Option·elim}
+use lib.ListN.{length, replicate}
+use lib.Dec.{ltb}
+use Rattle.logic.specs.Search.{_or_, keep, isSome, firstOf}
+use Rattle.logic.specs.Query.{Query, isOrder, layoutFault, byteFault, decode}
+use Rattle.logic.specs.Facts.{Line}
+use Rattle.logic.specs.Walk.{Ending, refutation, saturation, broken-off, ourWalk}
+use Rattle.logic.specs.Derivation.{derivationBytes}
+use Rattle.logic.specs.Shown.{report}
+
+-- What a call is given: the order list, the query bytes, and how many bytes are lent for its output.
+pub record Input : Type 0 where
+  pub order : List ℕ
+  pub query : List ℕ
+  pub room : ℕ
+
+-- A refusal that is met before the walk: its number and, where its condition stands, the place that it gives.
+pub record Check : Type 0 where
+  pub number : ℕ
+  pub place : Input → Option ℕ
+
+-- "1. The order list is not eight bytes with each of 1 to 8 once." "The place is 0 for 1 and 9 to 12."
+unfoldable pub orderCheck : Check
+orderCheck = record { number = 1; place = λ i. keep (not (isOrder (i .order))) 0 }
+
+-- 2 to 4 are met by the walk from the front, and 5 to 8 by single bytes.
+unfoldable pub layoutCheck : ℕ → Check
+layoutCheck k = record { number = k; place = λ i. layoutFault k (i .query) }
+
+unfoldable pub byteCheck : ℕ → Check
+byteCheck k = record { number = k; place = λ i. byteFault k (i .query) }
+
+-- "9. The heap report's buffer has fewer than 53 bytes, whichever the verdict would be."
+unfoldable pub roomCheck : Check
+roomCheck = record { number = 9; place = λ i. keep (ltb (i .room) 53) 0 }
+
+-- "A query is accepted if it passes checks 2 to 8"
+unfoldable pub queryChecks : List Check
+queryChecks =
+    layoutCheck 2 ∷ layoutCheck 3 ∷ layoutCheck 4 ∷ byteCheck 5 ∷ byteCheck 6 ∷ byteCheck 7 ∷ byteCheck 8 ∷ []
+
+-- "The verdict call uses 1 to 10. The derivation call uses 1 to 8 and 10 to 12"; 10 to 12 are read off the walk.
+unfoldable pub verdictChecks : List Check
+verdictChecks = orderCheck ∷ (queryChecks ++ (roomCheck ∷ []))
+
+unfoldable pub derivationChecks : List Check
+derivationChecks = orderCheck ∷ queryChecks
+
+-- The number and place of a refusal, or a verdict.
+pub data Answer : Type 0 where
+  refused : ℕ → ℕ → Answer
+  satisfiable refuted : Answer
+
+-- The answer of a call, and the bytes of the lent output after it.
+pub record Outcome : Type 0 where
+  pub answer : Answer
+  pub lent : List ℕ
+
+-- the first of the checks that stands
+unfoldable pub refusalOf : List Check → Input → Option Answer
+refusalOf cs i = firstOf (λ c. Option·elim (c .place i) none (λ place. some (refused (c .number) place))) cs
+
+-- "A query is accepted": room plays no part
+unfoldable pub accepts : List ℕ → Bool
+accepts query = not (isSome (refusalOf queryChecks (record { order = []; query = query; room = 0 })))
+
+-- "bytes past it are zero"
+unfoldable pub padded : ℕ → List ℕ → List ℕ
+padded room bytes = bytes ++ replicate (room - length bytes) 0
+
+-- "All bytes of a lent report, or of any other lent output, are zero after a refusal."
+unfoldable pub blank : ℕ → Answer → Outcome
+blank room a = record { answer = a; lent = replicate room 0 }
+
+-- what a call answers: the first check that stands, else what its walk says
+unfoldable pub call : List Check → (Ending → Outcome) → Input → Outcome
+call cs result i =
+    let walked : Outcome = result (ourWalk (i .order) (decode (i .query))) in
+    Option·elim (refusalOf cs i) walked (blank (i .room))
+
+-- "With "refuted" the whole heap report is zero." "10. A path would need more than n times n plus n rule steps"
+unfoldable pub verdictOf : Query → ℕ → Ending → Outcome
+verdictOf q room (saturation s) = record { answer = satisfiable; lent = padded room (report q s) }
+verdictOf q room (refutation ls) = blank room refuted
+verdictOf q room broken-off = blank room (refused 10 0)
+
+unfoldable pub verdictCall : Input → Outcome
+verdictCall i = call verdictChecks (verdictOf (decode (i .query)) (i .room)) i
+
+-- "11. A derivation was asked for and the query is satisfiable. 12. The derivation has more than 16,000 lines or its buffer cannot
+-- hold it."
+unfoldable pub derivationOf : ℕ → Ending → Outcome
+derivationOf room (saturation s) = blank room (refused 11 0)
+derivationOf room (refutation ls) =
+    cond (ltb 16000 (length ls) or ltb room (2 + 4 * length ls)) (blank room (refused 12 0))
+    (record { answer = refuted; lent = padded room (derivationBytes ls) })
+derivationOf room broken-off = blank room (refused 10 0)
+
+unfoldable pub derivationCall : Input → Outcome
+derivationCall i = call derivationChecks (derivationOf (i .room)) i

@@ -1,0 +1,29 @@
+-- What it is for a derivation to follow the eight rules line by line (demand 2), said without reference to our walk.
+use Prim.Native.Nat.{ℕ, _+_, _*_, _/_, _%_}
+use mathlib.Core.Path.{_≡_}
+use mathlib.Core.Bool.{Bool, true, false}
+use mathlib.Core.List.{List, [], _∷_, _++_}
+use mathlib.Core.Option.{none}
+use lib.ListN.{length}
+use Rattle.logic.specs.Search.{flatMap}
+use Rattle.logic.specs.Query.{Query, termCount}
+use Rattle.logic.specs.Facts.{Facts, Line, line, isClash, clash}
+use Rattle.logic.specs.Rules.{Move, applies, branches, moveLine}
+
+-- Lines refute a path: a true clash ends it; or there is no clash, a rule applies, and the lines of all its branches follow in order.
+mutual
+  pub data Refutes (q : Query) : Facts → List Line → Type 0 where
+    ends : {s : Facts} (l : Line) → isClash q s l ≡ true → Refutes q s (l ∷ [])
+    follows : {s : Facts} (m : Move) {ls : List Line} → clash q s ≡ none → applies (termCount q) s m ≡ true → RefutesEach q (branches (termCount q) s m) ls → Refutes q s (moveLine m ∷ ls)
+
+  pub data RefutesEach (q : Query) : List Facts → List Line → Type 0 where
+    none-left : RefutesEach q [] []
+    one-more : {s : Facts} {ss : List Facts} {ls ms : List Line} → Refutes q s ls → RefutesEach q ss ms → RefutesEach q (s ∷ ss) (ls ++ ms)
+
+-- "then lines of four bytes in walk order"
+unfoldable pub lineBytes : Line → List ℕ
+lineBytes (line a b c d) = a ∷ b ∷ c ∷ d ∷ []
+
+-- "Line count in two bytes, high byte first"
+unfoldable pub derivationBytes : List Line → List ℕ
+derivationBytes ls = length ls / 256 ∷ length ls % 256 ∷ flatMap lineBytes ls

@@ -1,0 +1,133 @@
+-- The facts of a path: joining, the start, and the clash (01, "Joining and starting").
+use Prim.Native.Nat.{ℕ, zero, suc, min, max}
+use mathlib.Core.Bool.{Bool, true, false, not, cond}
+use mathlib.Core.List.{List, [], _∷_, _++_, map}
+use mathlib.Core.Option.{Option, none, some, Option·elim}
+use lib.ListN.{length}
+use lib.Dec.{eqb, ltb}
+use Rattle.logic.specs.Search.{_and_, _or_, from, any, select, at, holdsOf, firstOf, find, flatMap}
+use Rattle.logic.specs.Query.{Literal, Query, entryOf, termCount}
+
+-- The facts about one link field: f(a) = b, and "a>b", a reaches b. Facts speak of terms that are not replaced.
+pub record Graph : Type 0 where
+  pub link : ℕ → ℕ → Bool
+  pub reach : ℕ → ℕ → Bool
+
+-- The facts of a path: what each term was replaced by (itself where it was not), and the facts about the link. The literals of the
+-- query are read through `rep`, so that a join replaces terms in them too.
+pub record Facts : Type 0 where
+  pub rep : ℕ → ℕ
+  pub graph : Graph
+
+-- the terms of a query of n terms
+unfoldable pub terms : ℕ → List ℕ
+terms n = from n 1
+
+-- term t is not replaced
+unfoldable pub live : ℕ → Facts → ℕ → Bool
+live n s t = ltb 0 t and ltb t (suc n) and eqb (s .rep t) t
+
+unfoldable pub liveTerms : ℕ → Facts → List ℕ
+liveTerms n s = select (live n s) (terms n)
+
+-- the terms that become a where hi is replaced by lo
+unfoldable pub became : ℕ → ℕ → ℕ → List ℕ
+became lo hi a = cond (eqb a hi) [] (cond (eqb a lo) (lo ∷ hi ∷ []) (a ∷ []))
+
+unfoldable pub replaceIn : ℕ → ℕ → (ℕ → ℕ → Bool) → ℕ → ℕ → Bool
+replaceIn lo hi facts a b = any (λ x. any (facts x) (became lo hi b)) (became lo hi a)
+
+-- "replaces the higher number by the lower in every fact"
+unfoldable pub replace : ℕ → ℕ → Facts → Facts
+replace lo hi s =
+    record {
+      rep = λ t. cond (eqb (s .rep t) hi) lo (s .rep t);
+      graph = record { link = replaceIn lo hi (s .graph .link); reach = replaceIn lo hi (s .graph .reach) };
+    }
+
+-- the successors of a term, ascending
+unfoldable pub successors : ℕ → Graph → ℕ → List ℕ
+successors n g t = select (g .link t) (terms n)
+
+unfoldable pub firstTwo : List ℕ → Option (ℕ × ℕ)
+firstTwo [] = none
+firstTwo (a ∷ []) = none
+firstTwo (a ∷ b ∷ rest) = some (a, b)
+
+-- "the two lowest successors of the lowest such term"
+unfoldable pub doubled : ℕ → Graph → Option (ℕ × ℕ)
+doubled n g = firstOf (λ t. firstTwo (successors n g t)) (terms n)
+
+-- "While a term has two successors, the two lowest successors of the lowest such term are joined", at most k times
+unfoldable pub settle : ℕ → ℕ → Facts → Facts
+settle n zero s = s
+settle n (suc k) s = Option·elim (doubled n (s .graph)) s (λ ab. settle n k (replace (ab .0) (ab .1) s))
+
+-- "Joining a and b": each replacement leaves one term fewer, so n of them are enough
+unfoldable pub join : ℕ → ℕ → ℕ → Facts → Facts
+join n a b s = cond (eqb a b) s (settle n n (replace (min a b) (max a b) s))
+
+-- a reachability fact added
+unfoldable pub addReach : ℕ → ℕ → Facts → Facts
+addReach a b s =
+    record {
+      rep = s .rep;
+      graph = record { link = s .graph .link; reach = λ x y. s .graph .reach x y or (eqb x a and eqb y b) };
+    }
+
+-- "The start holds the links of section 1"
+unfoldable pub linksOf : List ℕ → Facts
+linksOf entries =
+    record {
+      rep = λ t. t;
+      graph = record { link = λ a b. ltb 0 a and eqb (entryOf entries b) a; reach = λ a b. false };
+    }
+
+-- "then each plain equality joined in query order"
+unfoldable pub joinEach : ℕ → List Literal → Facts → Facts
+joinEach n [] s = s
+joinEach n (l ∷ ls) s = joinEach n ls (cond (l .plain) (join n (s .rep (l .left)) (s .rep (l .right)) s) s)
+
+-- "then the plain reachability facts"
+unfoldable pub reachEach : List Literal → Facts → Facts
+reachEach [] s = s
+reachEach (l ∷ ls) s = reachEach ls (cond (l .plain) (addReach (s .rep (l .left)) (s .rep (l .right)) s) s)
+
+unfoldable pub start : Query → Facts
+start q =
+    let n : ℕ = termCount q in
+    reachEach (q .reachability) (joinEach n (q .equalities) (settle n n (linksOf (q .entries))))
+
+-- A line of a derivation: four numbers.
+pub data Line : Type 0 where
+  line : ℕ → ℕ → ℕ → ℕ → Line
+
+-- the literal at a place is negated and passes the test; it is plain and passes the test
+unfoldable pub negatedAt : List Literal → ℕ → (Literal → Bool) → Bool
+negatedAt ls i p = holdsOf (at ls i) (λ l. not (l .plain) and p l)
+
+unfoldable pub plainAt : List Literal → ℕ → (Literal → Bool) → Bool
+plainAt ls i p = holdsOf (at ls i) (λ l. l .plain and p l)
+
+-- "A clash is a negated equality of one term with itself, a negated reachability fact that is held, or a data or boolean literal held
+-- plain and negated." Section, "place of the negated literal (from 1)", and for sections 4 and 5 the place of a plain partner, else 0.
+unfoldable pub isClash : Query → Facts → Line → Bool
+isClash q s (line nine section i j) =
+    eqb nine 9
+    and (eqb section 2 and eqb j 0 and negatedAt (q .equalities) i (λ l. eqb (s .rep (l .left)) (s .rep (l .right)))
+    or eqb section 3 and eqb j 0 and negatedAt (q .reachability) i (λ l. s .graph .reach (s .rep (l .left)) (s .rep (l .right)))
+    or eqb section 4 and negatedAt (q .fields) i
+    (λ l. plainAt (q .fields) j (λ m. eqb (l .left) (m .left) and eqb (s .rep (l .right)) (s .rep (m .right))))
+    or eqb section 5 and negatedAt (q .booleans) i (λ l. plainAt (q .booleans) j (λ m. eqb (l .left) (m .left))))
+
+-- the clash lines that a query allows: by section, then place, then partner
+unfoldable pub clashLines : Query → List Line
+clashLines q =
+    let alone : ℕ → List Literal → List Line = λ k ls. map (λ i. line 9 k i 0) (from (length ls) 1) in
+    let paired : ℕ → List Literal → List Line =
+    λ k ls. flatMap (λ i. map (line 9 k i) (from (length ls) 1)) (from (length ls) 1) in
+    alone 2 (q .equalities) ++ (alone 3 (q .reachability) ++ (paired 4 (q .fields) ++ paired 5 (q .booleans)))
+
+-- "Lowest section, then lowest place, is reported", with "the place of the lowest plain partner"
+unfoldable pub clash : Query → Facts → Option Line
+clash q s = find (isClash q s) (clashLines q)

@@ -1,0 +1,78 @@
+-- Heaps and what the literals mean (01, "The logic"; 000, Sect. 5).
+use Prim.Native.Nat.{ℕ, zero, suc, _≤_}
+use mathlib.Core.Path.{_≡_}
+use mathlib.Core.Bool.{Bool, true, false, cond}
+use mathlib.Core.List.{List, List·Memᴰ}
+use lib.Dec.{eqb}
+use Rattle.logic.specs.Query.{Literal, Query, entryOf}
+
+-- "A heap is a finite set of at least one node, with one link f from every node to a node, a yes or no in each of 8 data fields at
+-- every node, and 8 booleans outside the nodes." The nodes are the numbers 1 to `size`. As in 000, a heap also says which node each
+-- variable names; a variable goes by its term number.
+pub record Heap : Type 0 where
+  pub size : ℕ
+  pub link : ℕ → ℕ
+  pub field : ℕ → ℕ → Bool
+  pub boolean : ℕ → Bool
+  pub variable : ℕ → ℕ
+
+abbrev pub Node : Heap → ℕ → Type 0
+Node h v = (1 ≤ v) × (v ≤ h .size)
+
+pub record IsHeap (h : Heap) : Type 0 where
+  pub nonempty : 1 ≤ h .size
+  pub link-node : (v : ℕ) → Node h v → Node h (h .link v)
+  pub variable-node : (t : ℕ) → Node h (h .variable t)
+
+-- "A term is a variable or f of an earlier term." The value of term t, whose entry and theirs are followed at most k times.
+unfoldable pub valueWithin : Heap → List ℕ → ℕ → ℕ → ℕ
+valueWithin h entries zero t = h .variable t
+valueWithin h entries (suc k) t =
+    cond (eqb (entryOf entries t) 0) (h .variable t) (h .link (valueWithin h entries k (entryOf entries t)))
+
+-- entries are below their term's number, so t times is enough
+unfoldable pub value : Heap → List ℕ → ℕ → ℕ
+value h entries t = valueWithin h entries t t
+
+-- f applied k times
+unfoldable pub iterate : (ℕ → ℕ) → ℕ → ℕ → ℕ
+iterate f zero v = v
+iterate f (suc k) v = iterate f k (f v)
+
+-- "a reaches b (zero or more links)"
+unfoldable pub Reaches : (ℕ → ℕ) → ℕ → ℕ → Type 0
+Reaches f v w = (k : ℕ) × (iterate f k v ≡ w)
+
+-- "Literals, plain or negated"
+abbrev pub Signed : Bool → Type 0 → Type 0
+Signed true P = P
+Signed false P = P → ⊥
+
+-- what a literal of each section means in a heap
+module _ (h : Heap) (entries : List ℕ) where
+  abbrev pub MeansEqual : Literal → Type 0
+  MeansEqual l = Signed (l .plain) (value h entries (l .left) ≡ value h entries (l .right))
+
+  abbrev pub MeansReach : Literal → Type 0
+  MeansReach l = Signed (l .plain) (Reaches (h .link) (value h entries (l .left)) (value h entries (l .right)))
+
+  abbrev pub MeansField : Literal → Type 0
+  MeansField l = Signed (l .plain) (h .field (l .left) (value h entries (l .right)) ≡ true)
+
+  abbrev pub MeansBoolean : Literal → Type 0
+  MeansBoolean l = Signed (l .plain) (h .boolean (l .left) ≡ true)
+
+abbrev pub Each : (Literal → Type 0) → List Literal → Type 0
+Each P ls = (l : Literal) → List·Memᴰ l ls → P l
+
+-- the heap meets every literal of the query
+pub record Meets (h : Heap) (q : Query) : Type 0 where
+  pub is-heap : IsHeap h
+  pub equalities : Each (MeansEqual h (q .entries)) (q .equalities)
+  pub reachability : Each (MeansReach h (q .entries)) (q .reachability)
+  pub fields : Each (MeansField h (q .entries)) (q .fields)
+  pub booleans : Each (MeansBoolean h (q .entries)) (q .booleans)
+
+-- "some finite heap .. meets every literal" (demand 2)
+abbrev pub Satisfiable : Query → Type 0
+Satisfiable q = (h : Heap) × Meets h q

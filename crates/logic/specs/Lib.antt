@@ -1,0 +1,12 @@
+-- What must be believed, in reading order.
+pub mod Search
+pub mod Heap
+pub mod Query
+pub mod Facts
+pub mod Rules
+pub mod Walk
+pub mod Derivation
+pub mod Shown
+pub mod Calls
+pub mod Examples
+pub mod Demands

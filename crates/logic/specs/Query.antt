@@ -1,0 +1,159 @@
+-- The query: its literals, its bytes, and what is refused of them (01, "Query bytes" and "Refusals, in checking order").
+use Prim.Native.Nat.{ℕ, zero, suc, _+_, _*_}
+use mathlib.Core.Bool.{Bool, true, false, not, cond}
+use mathlib.Core.List.{List, [], _∷_, _++_}
+use mathlib.Core.Option.{Option, none, some}
+use lib.ListN.{length, getD, take, drop}
+use lib.Dec.{eqb, ltb, leb}
+use Rattle.logic.specs.Search.{_and_, from, all, any, orElse, flatMap, keep}
+
+-- "Sign 1 is plain, 0 negated." An equality or a reachability literal has two terms, a data literal a field and a term, and a boolean
+-- literal its number (and 0).
+pub record Literal : Type 0 where
+  pub plain : Bool
+  pub left : ℕ
+  pub right : ℕ
+
+-- "Terms are numbered from 1." The entry of a term is 0 for a variable, and j for f of term j.
+pub record Query : Type 0 where
+  pub entries : List ℕ
+  pub equalities : List Literal
+  pub reachability : List Literal
+  pub fields : List Literal
+  pub booleans : List Literal
+
+-- how many terms the query has, and the entry of term t
+unfoldable pub termCount : Query → ℕ
+termCount q = length (q .entries)
+
+unfoldable pub entryOf : List ℕ → ℕ → ℕ
+entryOf entries zero = 0
+entryOf entries (suc i) = getD entries i 0
+
+-- What a byte of the query is held to: the refusal that it meets where it is not allowed. A count is held to nothing here.
+pub record Role : Type 0 where
+  pub refusal : ℕ
+  pub allows : ℕ → Bool
+
+-- "Five sections in this order, each after a one-byte count": the most entries, the bytes of one, and their roles in entry i.
+pub record Section : Type 0 where
+  pub limit : ℕ
+  pub width : ℕ
+  pub roles : ℕ → List Role
+
+-- 5: "A term byte is not below its own term's number."
+unfoldable pub entryRole : ℕ → Role
+entryRole i = record { refusal = 5; allows = λ b. ltb b i }
+
+-- 6: "A sign is neither 0 nor 1."
+unfoldable pub signRole : Role
+signRole = record { refusal = 6; allows = λ b. ltb b 2 }
+
+-- 7: "A term number in sections 2 to 4 is 0 or above the term count", n.
+unfoldable pub termRole : ℕ → Role
+termRole n = record { refusal = 7; allows = λ b. ltb 0 b and leb b n }
+
+-- 8: "A field or boolean number is not 1 to 8."
+unfoldable pub numberRole : Role
+numberRole = record { refusal = 8; allows = λ b. ltb 0 b and leb b 8 }
+
+unfoldable pub countRole : Role
+countRole = record { refusal = 0; allows = λ b. true }
+
+-- the sections of a query of n terms
+unfoldable pub sections : ℕ → List Section
+sections n =
+    record { limit = 16; width = 1; roles = λ i. entryRole i ∷ [] }
+    ∷ record { limit = 60; width = 3; roles = λ i. signRole ∷ termRole n ∷ termRole n ∷ [] }
+    ∷ record { limit = 60; width = 3; roles = λ i. signRole ∷ termRole n ∷ termRole n ∷ [] }
+    ∷ record { limit = 60; width = 3; roles = λ i. signRole ∷ numberRole ∷ termRole n ∷ [] }
+    ∷ record { limit = 60; width = 2; roles = λ i. signRole ∷ numberRole ∷ [] }
+    ∷ []
+
+-- What the walk from the front meets: a refusal 2, 3 or 4 with its place, or the bytes of each section.
+pub data Layout : Type 0 where
+  faulty : ℕ → ℕ → Layout
+  parts : List (List ℕ) → Layout
+
+unfoldable pub withPart : List ℕ → Layout → Layout
+withPart p (faulty k place) = faulty k place
+withPart p (parts ps) = parts (p ∷ ps)
+
+-- "2. The query ends before a count or inside a section (place: its length). 3. A count is above its section's limit (place: that
+-- count). 4. Bytes follow section 5 (place: the first of them)." The bytes from a place on, laid out by the sections that are left.
+unfoldable pub layout : List Section → ℕ → List ℕ → Layout
+layout [] place [] = parts []
+layout [] place (b ∷ bytes) = faulty 4 place
+layout (s ∷ ss) place [] = faulty 2 place
+layout (s ∷ ss) place (c ∷ bytes) =
+    let size : ℕ = c * s .width in
+    let rest : Layout = withPart (take size bytes) (layout ss (suc place + size) (drop size bytes)) in
+    cond (leb c (s .limit)) (cond (leb size (length bytes)) rest (faulty 2 (suc place + length bytes))) (faulty 3 place)
+
+-- the roles of the bytes of a query that is laid out by these sections
+unfoldable pub rolesOf : List Section → List ℕ → List Role
+rolesOf [] bytes = []
+rolesOf (s ∷ ss) [] = []
+rolesOf (s ∷ ss) (c ∷ bytes) =
+    countRole ∷ (flatMap (s .roles) (from c 1) ++ rolesOf ss (drop (c * s .width) bytes))
+
+-- the term count of query bytes: the first of them
+unfoldable pub firstByte : List ℕ → ℕ
+firstByte bytes = getD bytes 0 0
+
+unfoldable pub layoutOf : List ℕ → Layout
+layoutOf bytes = layout (sections (firstByte bytes)) 0 bytes
+
+-- refusal k of 2, 3 and 4, where the walk from the front meets it
+unfoldable pub faultIn : ℕ → Layout → Option ℕ
+faultIn k (faulty j place) = keep (eqb j k) place
+faultIn k (parts ps) = none
+
+unfoldable pub layoutFault : ℕ → List ℕ → Option ℕ
+layoutFault k bytes = faultIn k (layoutOf bytes)
+
+-- the lowest place from `place` on whose byte meets refusal k of 5 to 8
+unfoldable pub roleFault : ℕ → ℕ → List Role → List ℕ → Option ℕ
+roleFault k place [] bytes = none
+roleFault k place (r ∷ roles) [] = none
+roleFault k place (r ∷ roles) (b ∷ bytes) =
+    let rest : Option ℕ = roleFault k (suc place) roles bytes in
+    orElse (keep (eqb (r .refusal) k and not (r .allows b)) place) rest
+
+-- "For 5 to 8 the whole query is searched for one fault before the next, and the place is the lowest such byte."
+unfoldable pub byteFault : ℕ → List ℕ → Option ℕ
+byteFault k bytes = roleFault k 0 (rolesOf (sections (firstByte bytes)) bytes) bytes
+
+-- "The order list is eight bytes holding 1 to 8 once each."
+unfoldable pub isOrder : List ℕ → Bool
+isOrder order = eqb (length order) 8 and all (λ r. any (eqb r) order) (from 8 1)
+
+-- the literals of a section of three bytes an entry, and of two
+unfoldable pub literals : List ℕ → List Literal
+literals [] = []
+literals (s ∷ []) = []
+literals (s ∷ a ∷ []) = []
+literals (s ∷ a ∷ b ∷ rest) = record { plain = eqb s 1; left = a; right = b } ∷ literals rest
+
+unfoldable pub flags : List ℕ → List Literal
+flags [] = []
+flags (s ∷ []) = []
+flags (s ∷ a ∷ rest) = record { plain = eqb s 1; left = a; right = 0 } ∷ flags rest
+
+unfoldable pub section : List (List ℕ) → ℕ → List ℕ
+section ps i = getD ps i []
+
+unfoldable pub queryOf : Layout → Query
+queryOf (faulty k place) = record { entries = []; equalities = []; reachability = []; fields = []; booleans = [] }
+queryOf (parts ps) =
+    record {
+      entries = section ps 0;
+      equalities = literals (section ps 1);
+      reachability = literals (section ps 2);
+      fields = literals (section ps 3);
+      booleans = flags (section ps 4);
+    }
+
+-- what query bytes say; it is read only of bytes that are laid out as they should be
+unfoldable pub decode : List ℕ → Query
+decode bytes = queryOf (layoutOf bytes)

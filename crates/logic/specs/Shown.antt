@@ -1,0 +1,126 @@
+-- The heap shown, and the report's bytes (01, "The heap shown"; 000, Def. 4).
+use Prim.Native.Nat.{ℕ, zero, suc, _+_, _-_, _*_, _/_, _%_}
+use mathlib.Core.Bool.{Bool, true, false, not, cond}
+use mathlib.Core.List.{List, [], _∷_, _++_, map}
+use mathlib.Core.Option.{Option, none, some, Option·getD}
+use lib.ListN.{length, getD, replicate}
+use lib.Dec.{eqb, ltb, leb}
+use Rattle.logic.specs.Search.{_and_, _or_, from, any, all, select, find}
+use Rattle.logic.specs.Query.{Literal, Query, termCount}
+use Rattle.logic.specs.Heap.{Heap}
+use Rattle.logic.specs.Facts.{Graph, Facts, terms, liveTerms}
+use Rattle.logic.specs.Rules.{next}
+
+-- what v reaches, ascending
+unfoldable pub reached : ℕ → Graph → ℕ → List ℕ
+reached n g v = select (g .reach v) (terms n)
+
+-- "all that v reaches reaches v back": what v reaches is then v's basin
+unfoldable pub inBasin : ℕ → Graph → ℕ → Bool
+inBasin n g v = all (λ u. g .reach u v) (reached n g v)
+
+-- the terms of a basin that begin a path: no link from inside the basin leads there. Link 0 is none.
+unfoldable pub heads : (ℕ → ℕ) → List ℕ → List ℕ
+heads p basin = select (λ b. not (any (λ u. eqb (p u) b) basin)) basin
+
+-- v is on the path from b, which has at most k links
+unfoldable pub onPath : (ℕ → ℕ) → ℕ → ℕ → ℕ → Bool
+onPath p v zero b = eqb b v
+onPath p v (suc k) b = eqb b v or onPath p v k (p b)
+
+-- "If they lie on one path of links, take its first term; else the lowest term that begins a path without v."
+unfoldable pub basinLink : ℕ → (ℕ → ℕ) → List ℕ → ℕ → ℕ
+basinLink n p basin v =
+    let hs : List ℕ = heads p basin in
+    cond (eqb (length hs) 1) (getD hs 0 0) (Option·getD (find (λ b. not (onPath p v n b)) hs) 0)
+
+-- "the lowest u other than v that v reaches and that reaches every term v reaches, v alone excepted"
+unfoldable pub treeLink : ℕ → Graph → ℕ → ℕ
+treeLink n g v =
+    Option·getD (find (λ u. not (eqb u v) and all (λ w. eqb w v or g .reach u w) (reached n g v)) (reached n g v)) 0
+
+-- the link of a remaining term v, where the links given so far are p
+unfoldable pub newLink : ℕ → Graph → (ℕ → ℕ) → ℕ → ℕ
+newLink n g p v = cond (inBasin n g v) (basinLink n p (reached n g v) v) (treeLink n g v)
+
+-- "Known links stay. Each remaining term v, ascending, gets a link"
+unfoldable pub linkEach : ℕ → Graph → (ℕ → ℕ) → List ℕ → ℕ → ℕ
+linkEach n g p [] = p
+linkEach n g p (v ∷ vs) = linkEach n g (λ t. cond (eqb t v and eqb (p v) 0) (newLink n g p v) (p t)) vs
+
+unfoldable pub shownLink : ℕ → Facts → ℕ → ℕ
+shownLink n s = linkEach n (s .graph) (next n (s .graph)) (liveTerms n s)
+
+-- "The terms not replaced, ascending, are nodes 1 to m; with no terms, one node linked to itself": here the node of no term is 0.
+unfoldable pub orZero : List ℕ → List ℕ
+orZero [] = 0 ∷ []
+orZero (t ∷ ts) = t ∷ ts
+
+unfoldable pub nodes : ℕ → Facts → List ℕ
+nodes n s = orZero (liveTerms n s)
+
+-- the place of t in a list, from 1
+unfoldable pub placeOf : ℕ → List ℕ → ℕ
+placeOf t [] = 0
+placeOf t (u ∷ us) = cond (eqb u t) 1 (suc (placeOf t us))
+
+-- the byte whose bit j - i is f j, for k numbers j from i on; and bit i of a byte
+unfoldable pub byteOf : (ℕ → Bool) → ℕ → ℕ → ℕ
+byteOf f i zero = 0
+byteOf f i (suc k) = cond (f i) 1 0 + 2 * byteOf f (suc i) k
+
+unfoldable pub bitOf : ℕ → ℕ → Bool
+bitOf b zero = eqb (b % 2) 1
+bitOf b (suc i) = bitOf (b / 2) i
+
+-- "field j in bit j-1, set exactly by a plain literal", here for the node of term v; "one byte of booleans, set likewise"
+unfoldable pub fieldByte : Query → Facts → ℕ → ℕ
+fieldByte q s v = byteOf (λ j. any (λ l. l .plain and eqb (l .left) j and eqb (s .rep (l .right)) v) (q .fields)) 1 8
+
+unfoldable pub booleanByte : Query → ℕ
+booleanByte q = byteOf (λ j. any (λ l. l .plain and eqb (l .left) j) (q .booleans)) 1 8
+
+-- "Report, each section after its count: m successors; n nodes, one per term; m data bytes ..; one byte of booleans"
+unfoldable pub report : Query → Facts → List ℕ
+report q s =
+    let n : ℕ = termCount q in
+    let ts : List ℕ = nodes n s in
+    let m : ℕ = length ts in
+    (m ∷ map (λ v. placeOf (shownLink n s v) ts) ts)
+    ++ ((n ∷ map (λ t. placeOf (s .rep t) ts) (terms n))
+    ++ ((m ∷ map (fieldByte q s) ts) ++ (1 ∷ booleanByte q ∷ [])))
+
+-- Reading a report. `node` is the node of a term, `size` the first count.
+unfoldable pub sizeIn : List ℕ → ℕ
+sizeIn bytes = getD bytes 0 0
+
+unfoldable pub nodeIn : List ℕ → ℕ → ℕ
+nodeIn bytes t = getD bytes (sizeIn bytes + 1 + t) 0
+
+-- the heap that a report shows: a variable names the node that is listed for its term
+unfoldable pub heapIn : List ℕ → Heap
+heapIn bytes =
+    let m : ℕ = sizeIn bytes in
+    let n : ℕ = getD bytes (m + 1) 0 in
+    record {
+      size = m;
+      link = λ v. getD bytes v 0;
+      field = λ j v. bitOf (getD bytes (m + n + 2 + v) 0) (j - 1);
+      boolean = λ j. bitOf (getD bytes (m + n + m + 4) 0) (j - 1);
+      variable = λ t. cond (ltb 0 t and leb t n) (nodeIn bytes t) 1;
+    }
+
+-- "A report is well formed if m is 1 to 16, n at most 16, the third count m, the fourth 1, every successor and node 1 to m, and each
+-- byte past it zero"
+unfoldable pub isNode : ℕ → ℕ → Bool
+isNode m v = ltb 0 v and leb v m
+
+unfoldable pub wellFormed : List ℕ → Bool
+wellFormed bytes =
+    let m : ℕ = sizeIn bytes in
+    let n : ℕ = getD bytes (m + 1) 0 in
+    let byte : ℕ → ℕ = λ i. getD bytes i 0 in
+    isNode 16 m and leb n 16 and leb (m + n + m + 5) (length bytes)
+    and eqb (byte (m + n + 2)) m and eqb (byte (m + n + m + 3)) 1
+    and all (λ i. isNode m (byte i)) (from m 1) and all (λ i. isNode m (byte i)) (from n (m + 2))
+    and all (λ i. eqb (byte i) 0) (from (length bytes - (m + n + m + 5)) (m + n + m + 5))

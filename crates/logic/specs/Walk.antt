@@ -1,0 +1,119 @@
+-- Our walk, and the hand's (01, "The eight rules" and "The hand's walk and ours").
+use Prim.Native.Nat.{ℕ, zero, suc, _+_, _*_}
+use mathlib.Core.Bool.{Bool, true, false, not, cond}
+use mathlib.Core.List.{List, [], _∷_, _++_, map}
+use mathlib.Core.Option.{Option, none, some, Option·elim}
+use Rattle.logic.specs.Search.{_and_, any, all, isSome, flatMap}
+use Rattle.logic.specs.Query.{Query, termCount}
+use Rattle.logic.specs.Facts.{Facts, Line, start, clash}
+use Rattle.logic.specs.Rules.{Rule, rules, ruleOf, Triple, Move, move, applies, branches, choose, moveLine}
+
+-- What is seen at a path: its clash, the rule to apply, or neither (a saturated path).
+pub data Look : Type 0 where
+  clashing : Line → Look
+  applying : Move → Look
+  saturated : Look
+
+-- the order list as rules
+unfoldable pub orderOf : List ℕ → List Rule
+orderOf order = flatMap (λ k. Option·elim (ruleOf k) [] (λ r. r ∷ [])) order
+
+-- "It is looked for before any rule and ends the path."
+unfoldable pub look : Query → List Rule → Facts → Look
+look q order s =
+    let rest : Look = Option·elim (choose (termCount q) order s) saturated applying in
+    Option·elim (clash q s) rest clashing
+
+-- How our walk ends: all of its paths clash, and the lines say how; a path has no clash and no applicable rule; the limit breaks it off.
+pub data Ending : Type 0 where
+  refutation : List Line → Ending
+  saturation : Facts → Ending
+  broken-off : Ending
+
+-- lines in front of those of a refutation
+unfoldable pub after : List Line → Ending → Ending
+after ls (refutation ms) = refutation (ls ++ ms)
+after ls (saturation s) = saturation s
+after ls broken-off = broken-off
+
+-- the ending of a branch and then, where it is refuted, of those to its right
+unfoldable pub thenEnding : Ending → Ending → Ending
+thenEnding (refutation ls) e = after ls e
+thenEnding (saturation s) e = saturation s
+thenEnding broken-off e = broken-off
+
+-- "tried left to right", until one is not refuted; w walks a branch
+unfoldable pub walkEach : (Facts → Ending) → List Facts → Ending
+walkEach w [] = refutation []
+walkEach w (s ∷ ss) = let rest : Ending = walkEach w ss in thenEnding (w s) rest
+
+-- how a path ends at what is seen there; `go` goes on where a rule applies
+unfoldable pub endAt : Facts → (Move → Ending) → Look → Ending
+endAt s go (clashing l) = refutation (l ∷ [])
+endAt s go (applying m) = go m
+endAt s go saturated = saturation s
+
+-- "The walk takes the first applicable rule of the order list, at the smallest triple .. Each branch is walked by the same routine
+-- again, one step deeper." At most k rule steps are left to the path.
+unfoldable pub walk : Query → List Rule → ℕ → Facts → Ending
+walk q order zero s = endAt s (λ m. broken-off) (look q order s)
+walk q order (suc k) s = endAt s (λ m. after (moveLine m ∷ []) (walkEach (walk q order k) (branches (termCount q) s m))) (look q order s)
+
+-- "10. A path would need more than n times n plus n rule steps"
+unfoldable pub limit : Query → ℕ
+limit q = termCount q * termCount q + termCount q
+
+unfoldable pub ourWalk : List ℕ → Query → Ending
+ourWalk order q = walk q (orderOf order) (limit q) (start q)
+
+pub data Verdict : Type 0 where
+  satisfiable refuted : Verdict
+
+-- "It is finished unless the limit of refusal 10 breaks it off; its verdict is then read in the same way."
+unfoldable pub ourVerdict : Ending → Option Verdict
+ourVerdict (refutation ls) = some refuted
+ourVerdict (saturation s) = some satisfiable
+ourVerdict broken-off = none
+
+-- "A pick is a position in the row (from 1) and what a rule line holds, a rule number and its triple."
+pub record Pick : Type 0 where
+  pub position : ℕ
+  pub rule : ℕ
+  pub at-triple : Triple
+
+unfoldable pub isClashed : Query → Facts → Bool
+isClashed q s = isSome (clash q s)
+
+-- "If a path without a clash stands at that position, and the rule applies to it at that triple, the path gives way to one path per
+-- alternative, left to right .. Any other pick is vain: the row stays."
+unfoldable pub picked : Query → Pick → Facts → List Facts
+picked q p s =
+    let n : ℕ = termCount q in
+    Option·elim (ruleOf (p .rule)) (s ∷ [])
+    (λ r. let m : Move = move r (p .at-triple) in cond (not (isClashed q s) and applies n s m) (branches n s m) (s ∷ []))
+
+-- f of the element at a place, in its place
+unfoldable pub splice : (Facts → List Facts) → ℕ → List Facts → List Facts
+splice f i [] = []
+splice f zero (s ∷ row) = s ∷ row
+splice f (suc zero) (s ∷ row) = f s ++ row
+splice f (suc (suc i)) (s ∷ row) = s ∷ splice f (suc i) row
+
+-- "Each pick meets the row that the last one left; nothing else changes it."
+unfoldable pub pickEach : Query → List Pick → List Facts → List Facts
+pickEach q [] row = row
+pickEach q (p ∷ ps) row = pickEach q ps (splice (picked q p) (p .position) row)
+
+-- "At first the row has one path, the start."
+unfoldable pub handRow : Query → List Pick → List Facts
+handRow q picks = pickEach q picks (start q ∷ [])
+
+-- the path has no clash and no applicable rule
+unfoldable pub isSaturated : Query → Facts → Bool
+isSaturated q s = not (isClashed q s) and not (isSome (choose (termCount q) rules s))
+
+-- "the walk is finished, and refuted, if every path has a clash; finished, and satisfiable, if some path has no clash and no
+-- applicable rule; else it is not finished"
+unfoldable pub handVerdict : Query → List Facts → Option Verdict
+handVerdict q row =
+    cond (all (isClashed q) row) (some refuted) (cond (any (isSaturated q) row) (some satisfiable) none)
