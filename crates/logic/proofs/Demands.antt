@@ -179,6 +179,10 @@ answered i o h (by-limit w e r) = absurd (h 10 0 (ap (λ (x : Outcome). x .answe
 answered i o h (by-lines ls w e r) = (Verdict.refuted, (ap ourVerdict w, ap (λ (x : Outcome). x .answer) e), verdict-passed i r .0)
 answered i o h (by-model s w e r) = (Verdict.satisfiable, (ap ourVerdict w, ap (λ (x : Outcome). x .answer) e), verdict-passed i r .0)
 
+-- and its input has passed checks 1 to 8
+pub call-passed : (i : Input) → NotRefused (verdictCall i .answer) → Passed i
+call-passed i h = answered i (verdictCall i) h (verdict-case i) .2
+
 -- an answer is a verdict's exactly as the verdicts are
 answer-verdict : (v w : Verdict) → (answerOf v ≡ answerOf w) ↔ (v ≡ w)
 answer-verdict Verdict.satisfiable Verdict.satisfiable = (λ e. refl, λ e. refl)

@@ -1,0 +1,80 @@
+-- The alternatives one by one are the definition's.
+use Prim.Native.Nat.{ℕ, zero, suc, _+_, _≤_, _<_}
+use native.Mathlib.Omega.{arith}
+use mathlib.Core.Path.{_≡_, refl, sym, ap, _∙_}
+use mathlib.Core.Bool.{cond}
+use mathlib.Core.List.{List, [], _∷_, map}
+use lib.ListN.{length, getD, length-map, List·getD-map}
+use lib.Dec.{eqb}
+use Rattle.logic.specs.Heap.{iterate}
+use Rattle.logic.specs.Facts.{Graph, Facts}
+use Rattle.logic.specs.Rules.{Rule, REFLEX, TRANS1, TRANS2, FUNC, CYCLE, SCC, TOTAL, SHARE, Triple, triple, Move, move, Fact, equal, reaches, next, round, alternatives, add, branches}
+use Rattle.branch.specs.Alternatives.{countOf, alternativeAt}
+
+round-length : (n : ℕ) (g : Graph) (k c : ℕ) → length (round n g k c) ≡ k
+unfolding round
+round-length n g zero c = refl
+round-length n g (suc k) c = ap suc (round-length n g k (next n g c))
+
+round-at : (n : ℕ) (g : Graph) (k c i d : ℕ) → i < k → getD (round n g k c) i d ≡ iterate (next n g) i c
+unfolding round iterate
+round-at n g zero c i d h = absurd (omega arith)
+round-at n g (suc k) c zero d h = refl
+round-at n g (suc k) c (suc i) d h = round-at n g k (next n g c) i d (omega arith)
+
+-- within a list, what stands past its end does not matter
+pub getD-other {ℓ} : {A : Type ℓ} (xs : List A) (i : ℕ) (d e : A) → i < length xs → getD xs i d ≡ getD xs i e
+getD-other [] i d e h = absurd (omega arith)
+getD-other (x ∷ xs) zero d e h = refl
+getD-other (x ∷ xs) (suc i) d e h = getD-other xs i d e (omega arith)
+
+module _ (n : ℕ) (g : Graph) where
+  pub count-is : (r : Rule) (x y z : ℕ) → length (alternatives n g (move r (triple x y z))) ≡ countOf r z
+  unfolding alternatives
+  count-is REFLEX x y z = refl
+  count-is TRANS1 x y z = refl
+  count-is TRANS2 x y z = refl
+  count-is FUNC x y z = refl
+  count-is CYCLE x y z = length-map (round n g z x) (equal y) ∙ round-length n g z x
+  count-is SCC x y z = refl
+  count-is TOTAL x y z = refl
+  count-is SHARE x y z = refl
+
+  at-one : (f d : Fact) (i : ℕ) → i < 1 → getD (f ∷ []) i d ≡ f
+  at-one f d zero h = refl
+  at-one f d (suc i) h = absurd (omega arith)
+
+  at-two : (f e d : Fact) (i : ℕ) → i < 2 → getD (f ∷ e ∷ []) i d ≡ cond (eqb i 0) f e
+  at-two f e d zero h = refl
+  at-two f e d (suc zero) h = refl
+  at-two f e d (suc (suc i)) h = absurd (omega arith)
+
+  in-round : (x y z i : ℕ) (d : Fact) → i < z → getD (map (equal y) (round n g z x)) i d ≡ equal y (iterate (next n g) i x)
+  in-round x y z i d h = getD-other (map (equal y) (round n g z x)) i d (equal y 0) (omega (arith, length-map (round n g z x) (equal y), round-length n g z x)) ∙ List·getD-map (equal y) (round n g z x) i 0 ∙ ap (equal y) (round-at n g z x i 0 h)
+
+  pub alternative-is : (r : Rule) (x y z i : ℕ) (d : Fact) → i < countOf r z → getD (alternatives n g (move r (triple x y z))) i d ≡ alternativeAt n g r x y z i
+  unfolding alternatives
+  alternative-is REFLEX x y z i d h = at-one _ d i h
+  alternative-is TRANS1 x y z i d h = at-one _ d i h
+  alternative-is TRANS2 x y z i d h = at-one _ d i h
+  alternative-is FUNC x y z i d h = at-two _ _ d i h
+  alternative-is CYCLE x y z i d h = in-round x y z i d h
+  alternative-is SCC x y z i d h = at-two _ _ d i h
+  alternative-is TOTAL x y z i d h = at-two _ _ d i h
+  alternative-is SHARE x y z i d h = at-one _ d i h
+
+-- and the branch that it makes
+pub branch-is : (n : ℕ) (s : Facts) (r : Rule) (x y z i : ℕ) (d : Facts) → i < countOf r z → getD (branches n s (move r (triple x y z))) i d ≡ add n s (alternativeAt n (s .graph) r x y z i)
+unfolding branches
+branch-is n s r x y z i d h =
+    let m : Move = move r (triple x y z) in
+    let alts : List Fact = alternatives n (s .graph) m in
+    let l : i < length alts = omega (arith, count-is n (s .graph) r x y z) in
+    getD-other (map (add n s) alts) i d (add n s (equal 0 0)) (omega (arith, length-map alts (add n s)))
+    ∙ List·getD-map (add n s) alts i (equal 0 0)
+    ∙ ap (add n s) (alternative-is n (s .graph) r x y z i (equal 0 0) h)
+
+pub branch-count : (n : ℕ) (s : Facts) (r : Rule) (x y z : ℕ) → length (branches n s (move r (triple x y z))) ≡ countOf r z
+unfolding branches
+branch-count n s r x y z =
+    length-map (alternatives n (s .graph) (move r (triple x y z))) (add n s) ∙ count-is n (s .graph) r x y z

@@ -1,0 +1,2 @@
+pub mod Alternatives
+pub mod Steps

@@ -1,0 +1,19 @@
+-- The branch is the alternative, joined or added. Assumes nothing.
+use borrow.Author.Needs.{needs}
+use Rattle.rules.specs.Answers.{kindOf}
+use Rattle.branch.proofs.Steps.{branch-made}
+use Rattle.branch.proofs.branch.Statement.{statement}
+use Rattle.branch.proofs.branch.Tie as tie
+
+pub branch-spec : {M : Type 1} → statement M
+branch-spec =
+    tie.close
+    (tie.spec
+    -- alternative-requires
+    (λ c κs. search needs)
+    -- added-requires
+    (λ c κs. search needs)
+    -- returns
+    (λ c.
+    let a = c .before .before .before .before .args in
+    branch-made (a .n) (a .t1) (kindOf (a .rule)) (a .x .0) (a .y .0) (a .z) (a .i) _ _ (c .before .alternative .ensures .0) (c .added .ensures)))

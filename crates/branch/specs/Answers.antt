@@ -1,0 +1,14 @@
+-- The code's facts as the definitions'.
+use Prim.Native.Nat.{ℕ, _≤_}
+use Rattle.logic.specs.Rules.{Fact, equal, reaches}
+use Rattle.branch.specs.declared.Fact as code
+use Rattle.branch.specs.declared.Fact.the-variants as fact
+
+abbrev pub factOf : code.Fact → Fact
+factOf (fact.Equal a b) = equal (a .0) (b .0)
+factOf (fact.Reaches a b) = reaches (a .0) (b .0)
+
+-- its terms are at most 16
+abbrev pub InRange : code.Fact → Type 0
+InRange (fact.Equal a b) = (a .0 ≤ 16) × (b .0 ≤ 16)
+InRange (fact.Reaches a b) = (a .0 ≤ 16) × (b .0 ≤ 16)

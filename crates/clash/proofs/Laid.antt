@@ -1,0 +1,60 @@
+-- The searches of the sections, each where the query's bytes have it, make up the clash of a path.
+use Prim.Native.Nat.{ℕ}
+use mathlib.Core.Path.{_≡_, refl, sym, ap, ap₂, _∙_}
+use mathlib.Core.Bool.{Bool}
+use mathlib.Core.List.{List}
+use mathlib.Core.Option.{Option, none, some}
+use Rattle.logic.specs.Search.{orElse}
+use Rattle.logic.specs.Query.{Literal, Query, decode}
+use Rattle.logic.specs.Facts.{Facts, Line, clash}
+use Rattle.query.specs.declared.Layout.{Layout}
+use Rattle.query.specs.LaysOut.{LaysOut}
+use Rattle.clash.specs.Sections.{literalsIn, flagsIn, oneTerm, reachHeld, sameField, sameNumber, alone, paired, pathClash, booleanClash}
+use Rattle.clash.proofs.Decomposed.{clash-split}
+
+module _ {l : Layout} {bytes : List ℕ} (laid : LaysOut l bytes) where
+  pub booleans-laid : paired 5 (flagsIn bytes (l .«boolean_at») (l .«boolean_count»)) sameNumber ≡ booleanClash (decode bytes)
+  unfolding booleanClash
+  booleans-laid = ap (λ (ls : List Literal). paired 5 ls sameNumber) (sym (laid .boolean-are))
+
+  module _ (rep : ℕ → ℕ) (reach : ℕ → ℕ → Bool) where
+    abbrev inEqualities : Option Line
+    inEqualities = alone 2 (literalsIn bytes (l .«equal_at») (l .«equal_count»)) (oneTerm rep)
+
+    abbrev inReachability : Option Line
+    inReachability = alone 3 (literalsIn bytes (l .«reach_at») (l .«reach_count»)) (reachHeld rep reach)
+
+    abbrev inFields : Option Line
+    inFields = paired 4 (literalsIn bytes (l .«field_at») (l .«field_count»)) (sameField rep)
+
+    sections-laid : pathClash (decode bytes) rep reach ≡ orElse inEqualities (orElse inReachability inFields)
+    unfolding pathClash
+    sections-laid =
+        ap₂ orElse (ap (λ (ls : List Literal). alone 2 ls (oneTerm rep)) (laid .equal-are))
+        (ap₂ orElse (ap (λ (ls : List Literal). alone 3 ls (reachHeld rep reach)) (laid .reach-are))
+        (ap (λ (ls : List Literal). paired 4 ls (sameField rep)) (laid .field-are)))
+
+    pub equality-first : (x : Line) → inEqualities ≡ some x → pathClash (decode bytes) rep reach ≡ some x
+    unfolding orElse
+    equality-first x e = sections-laid ∙ rw e
+
+    pub reach-second : (x : Line) → inEqualities ≡ none → inReachability ≡ some x → pathClash (decode bytes) rep reach ≡ some x
+    unfolding orElse
+    reach-second x e f = sections-laid ∙ rw (e, f)
+
+    pub fields-third : inEqualities ≡ none → inReachability ≡ none → pathClash (decode bytes) rep reach ≡ inFields
+    unfolding orElse
+    fields-third e f = sections-laid ∙ rw (e, f)
+
+-- the clash of every path with these representatives and this reachability
+module _ (q : Query) (rep : ℕ → ℕ) (reach : ℕ → ℕ → Bool) where
+  split-at : (s : Facts) → s .rep ≡ rep → s .graph .reach ≡ reach → clash q s ≡ orElse (pathClash q rep reach) (booleanClash q)
+  split-at s e f = clash-split q s ∙ ap (λ (o : Option Line). orElse o (booleanClash q)) (ap₂ (pathClash q) e f)
+
+  pub path-first : (x : Line) → pathClash q rep reach ≡ some x → (s : Facts) → s .rep ≡ rep → s .graph .reach ≡ reach → clash q s ≡ some x
+  unfolding orElse
+  path-first x h s e f = split-at s e f ∙ rw h
+
+  pub booleans-last : pathClash q rep reach ≡ none → (s : Facts) → s .rep ≡ rep → s .graph .reach ≡ reach → clash q s ≡ booleanClash q
+  unfolding orElse
+  booleans-last h s e f = split-at s e f ∙ rw h

@@ -1,0 +1,39 @@
+-- What is left to search equals the whole. Assumes nothing.
+use native.Mathlib.Omega.{arith}
+use Prim.Native.Nat.{_-_}
+use mathlib.Core.Path.{sym, _∙_}
+use Rattle.facts.specs.Path.{repOf}
+use Rattle.query.proofs.Literals.{literals-are}
+use Rattle.clash.specs.Sections.{literalsIn, oneTerm}
+use Rattle.clash.proofs.Sections.{AloneLeft, alone-begin, alone-here, alone-next, alone-end}
+use Rattle.clash.proofs.equality_clash.Statement.{statement}
+use Rattle.clash.proofs.equality_clash.Tie as tie
+
+abbrev Inv-loop : tie.InvT-loop
+Inv-loop query at count rep i₀ i = AloneLeft (literalsIn query at count) count 2 (oneTerm (repOf rep)) i
+
+abbrev μ-loop : tie.MeasureT-loop
+μ-loop query at count rep i₀ i = count - i
+
+pub equality-clash-spec : {M : Type 1} → statement M
+equality-clash-spec =
+    tie.close
+    (tie.spec
+    Inv-loop
+    μ-loop
+    -- loop-holds
+    (λ c. alone-begin _ _ _ (literals-are _ _ _ (c .before .pre)) _ _)
+    -- is-unequal-to-itself-requires
+    (λ c κs. omega arith)
+    -- add-t8
+    (λ c. omega arith)
+    -- returns
+    (λ c. sym (alone-here _ _ _ (literals-are _ _ _ (c .before .before .before .before .before .pre)) _ _ _ (c .before .before .loop-test .taken) (sym (c .before .is-unequal-to-itself .ensures) ∙ c .if1 .taken) (c .before .before .before .loop .inv)))
+    -- add-i
+    (λ c. omega arith)
+    -- loop-less
+    (λ c. omega arith)
+    -- loop-again
+    (λ c. alone-next _ _ _ (literals-are _ _ _ (c .before .before .before .before .before .pre)) _ _ _ (c .before .before .loop-test .taken) (sym (c .before .is-unequal-to-itself .ensures) ∙ c .if1 .left) (c .before .before .before .loop .inv))
+    -- returns-2
+    (λ c. sym (alone-end _ _ _ (literals-are _ _ _ (c .before .before .before .pre)) _ _ _ (c .loop-test .left) (c .before .loop .inv))))

@@ -1,0 +1,44 @@
+-- What is left to search equals the whole. Assumes nothing.
+use native.Mathlib.Omega.{arith}
+use borrow.Author.Needs.{needs}
+use Prim.Native.Nat.{_-_}
+use mathlib.Core.Path.{sym, ap, _∙_}
+use Rattle.query.proofs.Literals.{flags-are}
+use Rattle.clash.specs.Sections.{flagsIn, sameNumber}
+use Rattle.clash.specs.Answers.{placeOf}
+use Rattle.clash.proofs.Sections.{PairedLeft, paired-begin, paired-here, paired-next, paired-end}
+use Rattle.clash.proofs.flag_clash.Statement.{statement}
+use Rattle.clash.proofs.flag_clash.Tie as tie
+
+abbrev Inv-loop : tie.InvT-loop
+Inv-loop query at count i₀ i = PairedLeft (flagsIn query at count) count 5 sameNumber i
+
+abbrev μ-loop : tie.MeasureT-loop
+μ-loop query at count i₀ i = count - i
+
+pub flag-clash-spec : {M : Type 1} → statement M
+flag-clash-spec =
+    tie.close
+    (tie.spec
+    Inv-loop
+    μ-loop
+    -- loop-holds
+    (λ c. paired-begin _ _ _ (flags-are _ _ _ (c .before .pre)) _ _)
+    -- boolean-partner-requires
+    (λ c κs. (c .before .before .before .pre, c .loop-test .taken))
+    -- enum-known-j
+    (λ c. search needs)
+    -- add-t8
+    (λ c. omega arith)
+    -- returns
+    (λ c. sym (paired-here _ _ _ (flags-are _ _ _ (c .before .before .before .before .before .before .before .pre)) _ _ _ _ (c .before .before .before .before .loop-test .taken) (sym (c .before .before .before .boolean-partner .ensures) ∙ ap placeOf (c .before .j .given .1)) (c .before .before .before .before .before .loop .inv)))
+    -- enum-told
+    (λ c. search needs)
+    -- add-i
+    (λ c. omega arith)
+    -- loop-less
+    (λ c. omega arith)
+    -- loop-again
+    (λ c. paired-next _ _ _ (flags-are _ _ _ (c .before .before .before .before .before .before .pre)) _ _ _ (c .before .before .before .loop-test .taken) (sym (c .before .before .boolean-partner .ensures) ∙ ap placeOf (c .enum-told .given .1)) (c .before .before .before .before .loop .inv))
+    -- returns-2
+    (λ c. sym (paired-end _ _ _ (flags-are _ _ _ (c .before .before .before .pre)) _ _ _ (c .loop-test .left) (c .before .loop .inv))))

@@ -1,0 +1,51 @@
+-- The clash of a path, one section of the query after the other.
+use Prim.Native.Nat.{ℕ, _*_}
+use mathlib.Core.Bool.{Bool}
+use mathlib.Core.List.{List}
+use mathlib.Core.Option.{Option}
+use lib.ListN.{length, take, drop}
+use lib.Dec.{eqb}
+use Rattle.logic.specs.Search.{_and_, from, keep, orElse, firstOf, find}
+use Rattle.logic.specs.Query.{Literal, Query, literals, flags}
+use Rattle.logic.specs.Facts.{Line, line, negatedAt, plainAt}
+
+-- `count` literals that stand at a place of the query's bytes, of three bytes each and of two
+abbrev pub literalsIn : List ℕ → ℕ → ℕ → List Literal
+literalsIn bytes at count = literals (take (3 * count) (drop at bytes))
+
+abbrev pub flagsIn : List ℕ → ℕ → ℕ → List Literal
+flagsIn bytes at count = flags (take (2 * count) (drop at bytes))
+
+-- the tests of sections 2 and 3, and those of a literal's partner in sections 4 and 5
+abbrev pub oneTerm : (ℕ → ℕ) → Literal → Bool
+oneTerm rep l = eqb (rep (l .left)) (rep (l .right))
+
+abbrev pub reachHeld : (ℕ → ℕ) → (ℕ → ℕ → Bool) → Literal → Bool
+reachHeld rep reach l = reach (rep (l .left)) (rep (l .right))
+
+abbrev pub sameField : (ℕ → ℕ) → Literal → Literal → Bool
+sameField rep l m = eqb (l .left) (m .left) and eqb (rep (l .right)) (rep (m .right))
+
+abbrev pub sameNumber : Literal → Literal → Bool
+sameNumber l m = eqb (l .left) (m .left)
+
+-- the lowest negated literal that passes the test
+unfoldable pub alone : ℕ → List Literal → (Literal → Bool) → Option Line
+alone k ls p = firstOf (λ i. keep (negatedAt ls i p) (line 9 k i 0)) (from (length ls) 1)
+
+-- the lowest plain partner of the literal at place i, where that is negated
+unfoldable pub partner : List Literal → (Literal → Literal → Bool) → ℕ → Option ℕ
+partner ls p i = find (λ j. negatedAt ls i (λ l. plainAt ls j (p l))) (from (length ls) 1)
+
+-- the lowest negated literal that has a partner, with the lowest of its partners
+unfoldable pub paired : ℕ → List Literal → (Literal → Literal → Bool) → Option Line
+paired k ls p =
+    firstOf (λ i. firstOf (λ j. keep (negatedAt ls i (λ l. plainAt ls j (p l))) (line 9 k i j)) (from (length ls) 1)) (from (length ls) 1)
+
+-- the clash in the sections that speak of terms, and the clash of the booleans, which is the same on every path
+unfoldable pub pathClash : Query → (ℕ → ℕ) → (ℕ → ℕ → Bool) → Option Line
+pathClash q rep reach =
+    orElse (alone 2 (q .equalities) (oneTerm rep)) (orElse (alone 3 (q .reachability) (reachHeld rep reach)) (paired 4 (q .fields) (sameField rep)))
+
+unfoldable pub booleanClash : Query → Option Line
+booleanClash q = paired 5 (q .booleans) sameNumber

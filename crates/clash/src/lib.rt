@@ -1,0 +1,249 @@
+// The clash of a path, over the query's bytes in place and the arrays that hold the path.
+use facts::Term;
+use query::Layout;
+ghost use mathlib.Core.Path.{_≡_};
+ghost use mathlib.Core.Bool.{not};
+ghost use Prim.Native.Nat.{ℕ, _+_, _*_, _≤_, _<_};
+ghost use lib.ListN.{length};
+ghost use lib.Dec.{eqb};
+ghost use Rattle.logic.specs.Search.{_and_};
+ghost use Rattle.logic.specs.Query.{decode};
+ghost use Rattle.logic.specs.Facts.{Facts, clash};
+ghost use Rattle.facts.specs.Square.{square};
+ghost use Rattle.facts.specs.Path.{repOf};
+ghost use Rattle.query.specs.LaysOut.{LaysOut, literalIn, flagIn};
+ghost use Rattle.clash.specs.Sections.{literalsIn, flagsIn, oneTerm, reachHeld, sameField, sameNumber, alone, partner, paired, pathClash, booleanClash};
+ghost use Rattle.clash.specs.Answers.{placeOf, lineOf};
+
+// A clash: its section, the place of the negated literal, and that of its plain partner or 0.
+pub enum Clash {
+    At(usize, usize, usize),
+    Nothing,
+}
+
+// A place that was looked for, from 1.
+enum Place {
+    At(usize),
+    Nothing,
+}
+
+// What the term t was replaced by; a number above 16 is no term, and is not replaced.
+fn read_rep(rep: [Term; 17], t: usize) -> Term
+    ensures { λ r. ⌜ r .0 ≡ repOf rep t ⌝ }
+{
+    if t < 17 {
+        return rep[t];
+    }
+    Term(t)
+}
+
+// "a reaches b" is held.
+fn reaches(reach: &[bool; 289], a: Term, b: Term) -> bool
+    ensures { λ r. ⌜ r ≡ square (now (reach .entry)) (a .0) (b .0) ⌝ }
+{
+    if 16 < a.0 {
+        return false;
+    }
+    if 16 < b.0 {
+        return false;
+    }
+    facts::holds(reach, a, b)
+}
+
+// Equality i is negated, and its terms have one representative.
+fn is_unequal_to_itself(query: &[u8], at: usize, i: usize, rep: [Term; 17]) -> bool
+    requires { ⌜ at + 3 * i + 3 ≤ length (now query) ⌝ }
+    ensures { λ r. ⌜ r ≡ (not (literalIn (now (query .entry)) at i .plain) and oneTerm (repOf rep) (literalIn (now (query .entry)) at i)) ⌝ }
+{
+    if query::sign(query, at, i) {
+        return false;
+    }
+    let a = read_rep(rep, query::left(query, at, i));
+    let b = read_rep(rep, query::right(query, at, i));
+    a.0 == b.0
+}
+
+// "a negated equality of one term with itself"
+fn equality_clash(query: &[u8], at: usize, count: usize, rep: [Term; 17]) -> Clash
+    requires { ⌜ at + 3 * count ≤ length (now query) ⌝ }
+    ensures { λ r. ⌜ lineOf r ≡ alone 2 (literalsIn (now (query .entry)) at count) (oneTerm (repOf rep)) ⌝ }
+{
+    let mut i: usize = 0;
+    while i < count {
+        if is_unequal_to_itself(query, at, i, rep) {
+            return Clash::At(2, i + 1, 0);
+        }
+        i += 1;
+    }
+    Clash::Nothing
+}
+
+// Reachability literal i is negated, and its fact is held.
+fn is_held_negated(query: &[u8], at: usize, i: usize, rep: [Term; 17], reach: &[bool; 289]) -> bool
+    requires { ⌜ at + 3 * i + 3 ≤ length (now query) ⌝ }
+    ensures { λ r. ⌜ r ≡ (not (literalIn (now (query .entry)) at i .plain) and reachHeld (repOf rep) (square (now (reach .entry))) (literalIn (now (query .entry)) at i)) ⌝ }
+{
+    if query::sign(query, at, i) {
+        return false;
+    }
+    let a = read_rep(rep, query::left(query, at, i));
+    let b = read_rep(rep, query::right(query, at, i));
+    reaches(reach, a, b)
+}
+
+// "a negated reachability fact that is held"
+fn reach_clash(query: &[u8], at: usize, count: usize, rep: [Term; 17], reach: &[bool; 289]) -> Clash
+    requires { ⌜ at + 3 * count ≤ length (now query) ⌝ }
+    ensures { λ r. ⌜ lineOf r ≡ alone 3 (literalsIn (now (query .entry)) at count) (reachHeld (repOf rep) (square (now (reach .entry)))) ⌝ }
+{
+    let mut i: usize = 0;
+    while i < count {
+        if is_held_negated(query, at, i, rep, reach) {
+            return Clash::At(3, i + 1, 0);
+        }
+        i += 1;
+    }
+    Clash::Nothing
+}
+
+// Data literal j is plain, and says this field of a term with this representative.
+fn is_field_partner(
+    query: &[u8],
+    at: usize,
+    j: usize,
+    rep: [Term; 17],
+    field: usize,
+    term: Term,
+) -> bool
+    requires { ⌜ at + 3 * j + 3 ≤ length (now query) ⌝ }
+    ensures { λ r. ⌜ r ≡ (literalIn (now (query .entry)) at j .plain and (eqb field (literalIn (now (query .entry)) at j .left) and eqb (term .0) (repOf rep (literalIn (now (query .entry)) at j .right)))) ⌝ }
+{
+    if !query::sign(query, at, j) {
+        return false;
+    }
+    let other = query::left(query, at, j);
+    if field != other {
+        return false;
+    }
+    let same = read_rep(rep, query::right(query, at, j));
+    term.0 == same.0
+}
+
+// The lowest plain partner of data literal i, where that is negated.
+fn field_partner(query: &[u8], at: usize, count: usize, rep: [Term; 17], i: usize) -> Place
+    requires { ⌜ (at + 3 * count ≤ length (now query)) × (i < count) ⌝ }
+    ensures { λ r. ⌜ placeOf r ≡ partner (literalsIn (now (query .entry)) at count) (sameField (repOf rep)) (i + 1) ⌝ }
+{
+    if query::sign(query, at, i) {
+        return Place::Nothing;
+    }
+    let field = query::left(query, at, i);
+    let term = read_rep(rep, query::right(query, at, i));
+    let mut j: usize = 0;
+    while j < count {
+        if is_field_partner(query, at, j, rep, field, term) {
+            return Place::At(j + 1);
+        }
+        j += 1;
+    }
+    Place::Nothing
+}
+
+// "a data .. literal held plain and negated"
+fn field_clash(query: &[u8], at: usize, count: usize, rep: [Term; 17]) -> Clash
+    requires { ⌜ at + 3 * count ≤ length (now query) ⌝ }
+    ensures { λ r. ⌜ lineOf r ≡ paired 4 (literalsIn (now (query .entry)) at count) (sameField (repOf rep)) ⌝ }
+{
+    let mut i: usize = 0;
+    while i < count {
+        if let Place::At(j) = field_partner(query, at, count, rep, i) {
+            return Clash::At(4, i + 1, j);
+        }
+        i += 1;
+    }
+    Clash::Nothing
+}
+
+// Boolean literal j is plain and has this number.
+fn is_boolean_partner(query: &[u8], at: usize, j: usize, number: usize) -> bool
+    requires { ⌜ at + 2 * j + 2 ≤ length (now query) ⌝ }
+    ensures { λ r. ⌜ r ≡ (flagIn (now (query .entry)) at j .plain and eqb number (flagIn (now (query .entry)) at j .left)) ⌝ }
+{
+    if !query::flag_sign(query, at, j) {
+        return false;
+    }
+    number == query::flag_number(query, at, j)
+}
+
+// The lowest plain partner of boolean literal i, where that is negated.
+fn boolean_partner(query: &[u8], at: usize, count: usize, i: usize) -> Place
+    requires { ⌜ (at + 2 * count ≤ length (now query)) × (i < count) ⌝ }
+    ensures { λ r. ⌜ placeOf r ≡ partner (flagsIn (now (query .entry)) at count) sameNumber (i + 1) ⌝ }
+{
+    if query::flag_sign(query, at, i) {
+        return Place::Nothing;
+    }
+    let number = query::flag_number(query, at, i);
+    let mut j: usize = 0;
+    while j < count {
+        if is_boolean_partner(query, at, j, number) {
+            return Place::At(j + 1);
+        }
+        j += 1;
+    }
+    Place::Nothing
+}
+
+// "a .. boolean literal held plain and negated", among `count` literals at `at`
+fn flag_clash(query: &[u8], at: usize, count: usize) -> Clash
+    requires { ⌜ at + 2 * count ≤ length (now query) ⌝ }
+    ensures { λ r. ⌜ lineOf r ≡ paired 5 (flagsIn (now (query .entry)) at count) sameNumber ⌝ }
+{
+    let mut i: usize = 0;
+    while i < count {
+        if let Place::At(j) = boolean_partner(query, at, count, i) {
+            return Clash::At(5, i + 1, j);
+        }
+        i += 1;
+    }
+    Clash::Nothing
+}
+
+// The clash of the booleans: the same on every path of a query.
+pub fn boolean_clash(query: &[u8], layout: Layout) -> Clash
+    requires { ⌜ LaysOut layout (now query) ⌝ }
+    ensures { λ r. ⌜ lineOf r ≡ booleanClash (decode (now (query .entry))) ⌝ }
+{
+    flag_clash(query, layout.boolean_at, layout.boolean_count)
+}
+
+// The clash in the sections that speak of terms.
+pub fn path_clash(query: &[u8], layout: Layout, rep: [Term; 17], reach: &[bool; 289]) -> Clash
+    requires { ⌜ LaysOut layout (now query) ⌝ }
+    ensures { λ r. ⌜ lineOf r ≡ pathClash (decode (now (query .entry))) (repOf rep) (square (now (reach .entry))) ⌝ }
+{
+    if let Clash::At(k, i, j) = equality_clash(query, layout.equal_at, layout.equal_count, rep) {
+        return Clash::At(k, i, j);
+    }
+    if let Clash::At(k, i, j) = reach_clash(
+        query,
+        layout.reach_at,
+        layout.reach_count,
+        rep,
+        reach,
+    ) {
+        return Clash::At(k, i, j);
+    }
+    field_clash(query, layout.field_at, layout.field_count, rep)
+}
+
+// "Lowest section, then lowest place, is reported": the clash of every path with these representatives and this reachability.
+pub fn find_clash(query: &[u8], layout: Layout, rep: [Term; 17], reach: &[bool; 289]) -> Clash
+    requires { ⌜ LaysOut layout (now query) ⌝ }
+    ensures { λ r. ⌜ ((s : Facts) → s .rep ≡ repOf rep → s .graph .reach ≡ square (now (reach .entry)) → lineOf r ≡ clash (decode (now (query .entry))) s) ⌝ }
+{
+    if let Clash::At(k, i, j) = path_clash(query, layout, rep, reach) {
+        return Clash::At(k, i, j);
+    }
+    boolean_clash(query, layout)
+}

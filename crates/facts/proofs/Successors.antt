@@ -1,0 +1,132 @@
+-- The two lowest successors, found by two searches; and what settling does at each turn.
+use Prim.Native.Nat.{ℕ, zero, suc, _+_, _-_, _≤_, _<_}
+use native.Mathlib.Omega.{arith}
+use mathlib.Core.Path.{_≡_, refl, sym, ap, ap₂, _∙_}
+use mathlib.Core.Logic.{⊎-elim}
+use mathlib.Core.Bool.{Bool, true, false, cond}
+use mathlib.Core.List.{List, [], _∷_}
+use mathlib.Core.Option.{Option, none, some, Option·elim}
+use borrow.Author.Tests.{eq-eqb, ne-eqb}
+use Rattle.logic.specs.Search.{from, keep, orElse, firstOf, find, select}
+use Rattle.logic.specs.Facts.{Graph, Facts, terms, firstTwo, successors, doubled, replace, settle, join}
+use Rattle.logic.proofs.Search.{bool-cases, none-some, find-some, from-mem, firstOf-some}
+use Rattle.facts.proofs.Loops.{from-end, from-next, find-end, find-here, find-next}
+
+-- what a search of the numbers from k below m finds is one of them
+pub found-in : (p : ℕ → Bool) (m k a : ℕ) → find p (from (m - k) k) ≡ some a → (k ≤ a) × (a < m)
+found-in p m k a e = let r = from-mem (m - k) k a (find-some p (from (m - k) k) a e .0) in (omega arith, omega arith)
+
+keep-hit : (k : ℕ) (o : Option ℕ) → orElse (keep true k) o ≡ some k
+unfolding orElse keep
+keep-hit k o = refl
+
+keep-miss : (k : ℕ) (o : Option ℕ) → orElse (keep false k) o ≡ o
+unfolding orElse keep
+keep-miss k o = refl
+
+keep-same : (k a : ℕ) (o : Option ℕ) → orElse (keep true k) o ≡ some a → k ≡ a
+unfolding orElse keep
+keep-same k a o e = cc
+
+module _ (p : ℕ → Bool) where
+  -- where nothing is found nothing is selected; else what is found is selected first, and then the rest above it
+  select-none : (j k : ℕ) → find p (from j k) ≡ none → select p (from j k) ≡ []
+  unfolding find firstOf select from
+  select-none zero k e = refl
+  select-none (suc j) k e = go (p k) e (select-none j (suc k))
+    where
+      go : (t : Bool) → orElse (keep t k) (find p (from j (suc k))) ≡ none → (find p (from j (suc k)) ≡ none → select p (from j (suc k)) ≡ []) → cond t (k ∷ select p (from j (suc k))) (select p (from j (suc k))) ≡ []
+      go true e ih = absurd (none-some (sym e ∙ keep-hit k (find p (from j (suc k)))))
+      go false e ih = ih (sym (keep-miss k (find p (from j (suc k)))) ∙ e)
+
+  select-some : (j k m a : ℕ) → m ≡ k + j → find p (from j k) ≡ some a → select p (from j k) ≡ a ∷ select p (from (m - (a + 1)) (a + 1))
+  unfolding find firstOf select from
+  select-some zero k m a q e = absurd (none-some e)
+  select-some (suc j) k m a q e = go (p k) e (select-some j (suc k) m a (omega arith))
+    where
+      here : k ≡ a → k ∷ select p (from j (suc k)) ≡ a ∷ select p (from (m - (a + 1)) (a + 1))
+      here h = rw h (ap (λ (l : List ℕ). a ∷ select p l) (λ i. from (numbers .0 i) (numbers .1 i)))
+        where
+          numbers : (j ≡ m - (a + 1)) × (suc a ≡ a + 1)
+          numbers = (omega arith, omega arith)
+
+      go : (t : Bool) → orElse (keep t k) (find p (from j (suc k))) ≡ some a → (find p (from j (suc k)) ≡ some a → select p (from j (suc k)) ≡ a ∷ select p (from (m - (a + 1)) (a + 1))) → cond t (k ∷ select p (from j (suc k))) (select p (from j (suc k))) ≡ a ∷ select p (from (m - (a + 1)) (a + 1))
+      go true e ih = here (keep-same k a (find p (from j (suc k))) e)
+      go false e ih = ih (sym (keep-miss k (find p (from j (suc k)))) ∙ e)
+
+  -- one search after the other
+  module _ (n : ℕ) where
+    one-less : n + 1 - 1 ≡ n
+    one-less = omega arith
+
+    pub two-none : find p (from (n + 1 - 1) 1) ≡ none → firstTwo (select p (terms n)) ≡ none
+    unfolding firstTwo terms
+    two-none e = rw (select-none n 1 (rw one-less at e))
+
+    pub two-one : (a : ℕ) → find p (from (n + 1 - 1) 1) ≡ some a → find p (from (n + 1 - (a + 1)) (a + 1)) ≡ none → firstTwo (select p (terms n)) ≡ none
+    unfolding firstTwo terms
+    two-one a e f = rw (select-some n 1 (n + 1) a (omega arith) (rw one-less at e), select-none _ _ f)
+
+    pub two-both : (a b : ℕ) → find p (from (n + 1 - 1) 1) ≡ some a → find p (from (n + 1 - (a + 1)) (a + 1)) ≡ some b → firstTwo (select p (terms n)) ≡ some (a, b)
+    unfolding firstTwo terms
+    two-both a b e f =
+        let h = found-in p (n + 1) (a + 1) b f in
+        rw (select-some n 1 (n + 1) a (omega arith) (rw one-less at e), select-some _ _ (n + 1) b (omega arith) f)
+
+    pub two-below : (a b : ℕ) → firstTwo (select p (terms n)) ≡ some (a, b) → (a < b) × (b ≤ n)
+    two-below a b e = first (find p (from (n + 1 - 1) 1)) refl
+      where
+        second : (c : ℕ) → find p (from (n + 1 - 1) 1) ≡ some c → (o : Option ℕ) → find p (from (n + 1 - (c + 1)) (c + 1)) ≡ o → (a < b) × (b ≤ n)
+        second c f none g = absurd (none-some (sym (two-one c f g) ∙ e))
+        second c f (some d) g =
+            let h = found-in p (n + 1) (c + 1) d g in
+            let q : _≡_ {A = Option (ℕ × ℕ)} (some (c, d)) (some (a, b)) = sym (two-both c d f g) ∙ e in
+            let w : _≡_ {A = ℕ × ℕ} (c, d) (a, b) = cc in
+            let l : c ≡ a = ap (λ (x : ℕ × ℕ). x .0) w in
+            let r : d ≡ b = ap (λ (x : ℕ × ℕ). x .1) w in
+            (omega arith, omega arith)
+
+        first : (o : Option ℕ) → find p (from (n + 1 - 1) 1) ≡ o → (a < b) × (b ≤ n)
+        first none f = absurd (none-some (sym (two-none f) ∙ e))
+        first (some c) f = second c f (find p (from (n + 1 - (c + 1)) (c + 1))) refl
+
+-- the search for a doubled term as a loop meets it
+pub doubled-search : (n : ℕ) (g : Graph) → doubled n g ≡ firstOf (λ t. firstTwo (successors n g t)) (from (n + 1 - 1) 1)
+unfolding doubled terms
+doubled-search n g = rw (one-less (g .link 0) n)
+
+pub doubled-below : (n : ℕ) (g : Graph) (a b : ℕ) → doubled n g ≡ some (a, b) → (a < b) × (b ≤ n)
+unfolding doubled successors
+doubled-below n g a b e =
+    let r = firstOf-some (λ t. firstTwo (successors n g t)) (terms n) (a, b) e in two-below (g .link (r .0)) n a b (r .2)
+
+module _ (n : ℕ) (s : Facts) where
+  pub settle-none : (k : ℕ) → k ≤ 0 → settle n k s ≡ s
+  unfolding settle
+  settle-none zero h = refl
+  settle-none (suc k) h = absurd (omega arith)
+
+  pub settle-done : (k : ℕ) → doubled n (s .graph) ≡ none → settle n k s ≡ s
+  unfolding settle Option·elim
+  settle-done zero e = refl
+  settle-done (suc k) e = rw e
+
+  pub settle-turn : (k a b : ℕ) → 0 < k → doubled n (s .graph) ≡ some (a, b) → settle n k s ≡ settle n (k - 1) (replace a b s)
+  unfolding settle Option·elim
+  settle-turn zero a b h e = absurd (omega arith)
+  settle-turn (suc k) a b h e = rw (e, left)
+    where
+      left : suc k - 1 ≡ k
+      left = omega arith
+
+  pub join-same : (a b : ℕ) → a ≡ b → join n a b s ≡ s
+  unfolding join
+  join-same a b e = rw (eq-eqb a b e)
+
+  pub join-lower : (a b : ℕ) → a < b → join n a b s ≡ settle n n (replace a b s)
+  unfolding join
+  join-lower a b h = rw (ne-eqb a b (omega arith)) (ap₂ (λ lo hi. settle n n (replace lo hi s)) (omega arith) (omega arith))
+
+  pub join-higher : (a b : ℕ) → b < a → join n a b s ≡ settle n n (replace b a s)
+  unfolding join
+  join-higher a b h = rw (ne-eqb a b (omega arith)) (ap₂ (λ lo hi. settle n n (replace lo hi s)) (omega arith) (omega arith))

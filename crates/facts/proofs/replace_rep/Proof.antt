@@ -1,0 +1,52 @@
+-- After t terms, those are renamed. Assumes nothing.
+use Prim.Native.Nat.{_+_, _-_, _≤_}
+use native.Mathlib.Omega.{arith}
+use borrow.Author.Needs.{needs}
+use mathlib.Core.Path.{_≡_}
+use lib.ListN.{length, length-set}
+use Rattle.facts.specs.Path.{repOf, replaceRep}
+use Rattle.facts.proofs.Rep.{renamed-more, renamed-all}
+use Rattle.facts.proofs.Fill.{Filled, filled-none}
+use Rattle.facts.proofs.replace_rep.Statement.{statement}
+use Rattle.facts.proofs.replace_rep.Tie as tie
+
+abbrev Inv-loop : tie.InvT-loop
+Inv-loop lo hi out₀ t₀ out t = (t ≤ 17) × (length out ≡ 17) × Filled (replaceRep (lo .0) (hi .0) (repOf out₀)) (repOf out₀) t (repOf out)
+
+abbrev μ-loop : tie.MeasureT-loop
+μ-loop lo hi out₀ t₀ out t = 17 - t
+
+whole : (c : tie.After-loop Inv-loop μ-loop) → c .before .loop .t ≡ 17
+whole c = omega arith
+
+pub replace-rep-spec : {M : Type 1} → statement M
+replace-rep-spec =
+    tie.close
+    (tie.spec
+    Inv-loop
+    μ-loop
+    -- loop-holds
+    (λ c. (omega arith, search needs, filled-none _ _))
+    -- mul-old
+    (λ c. omega arith)
+    -- array-copy-out-old
+    (λ c. omega arith)
+    -- renamed-requires
+    (λ c κs. search needs)
+    -- mul-out
+    (λ c. omega arith)
+    -- array-set-from-out
+    (λ c. omega arith)
+    -- add-t
+    (λ c. omega arith)
+    -- loop-less
+    (λ c. omega arith)
+    -- loop-again
+    (λ c.
+    let l = c .before .before .before .loop in (
+      omega arith,
+      simp length-set (l .inv .1),
+      renamed-more _ _ _ (l .t) (omega arith) (l .out) (l .inv .1) (c .renamed .result) (c .renamed .ensures) (l .inv .2),
+    ))
+    -- returns
+    (λ c. renamed-all _ _ _ (omega arith) _ (rw (whole c) at (c .before .loop .inv .2))))

@@ -1,0 +1,3 @@
+pub mod Square
+pub mod Path
+pub mod Answers

@@ -1,0 +1,28 @@
+-- The facts of a path that the code's arrays hold.
+use Prim.Native.Nat.{ℕ}
+use mathlib.Core.Bool.{Bool, false, cond}
+use mathlib.Core.List.{List}
+use lib.ListN.{getD}
+use lib.Dec.{ltb, eqb}
+use Rattle.facts.specs.Square.{square}
+use Rattle.facts.specs.declared.Term.{Term}
+use Rattle.facts.specs.declared.Facts as code
+use Rattle.logic.specs.Facts.{Graph, Facts}
+
+-- what a term was replaced by; a number above 16 is no term, and is not replaced
+unfoldable pub repOf : List Term → ℕ → ℕ
+repOf rep t = cond (ltb t 17) (getD rep t (record { 0 = 0 }) .0) t
+
+unfoldable pub graphOf : List Bool → List Bool → Graph
+graphOf link reach = record { link = square link; reach = square reach }
+
+unfoldable pub pathOf : code.Facts → Facts
+pathOf s = record { rep = repOf (s .rep); graph = graphOf (s .link) (s .reach) }
+
+-- a graph with these links alone: what reads only links asks no more
+unfoldable pub linksIn : List Bool → Graph
+linksIn link = record { link = square link; reach = λ a b. false }
+
+-- what each term was replaced by, once hi is replaced by lo
+unfoldable pub replaceRep : ℕ → ℕ → (ℕ → ℕ) → ℕ → ℕ
+replaceRep lo hi rep t = cond (eqb (rep t) hi) lo (rep t)

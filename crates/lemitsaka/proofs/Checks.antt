@@ -1,0 +1,71 @@
+-- The checks of a call in their order, as the code makes them: what each outcome says of the call.
+use Prim.Native.Nat.{ℕ, _≤_, _<_}
+use mathlib.Core.Path.{_≡_, refl, sym, ap, _∙_}
+use mathlib.Core.Bool.{Bool, true, false, not}
+use mathlib.Core.List.{List, [], _∷_, _++_, append-nil}
+use mathlib.Core.Option.{Option, none, some, Option·elim}
+use lib.Dec.{ltb}
+use borrow.Author.Tests.{lt-ltb, le-ltb}
+use Rattle.logic.specs.Search.{keep, orElse, firstOf}
+use Rattle.logic.specs.Query.{isOrder, decode}
+use Rattle.logic.specs.Walk.{Ending, ourWalk}
+use Rattle.logic.specs.Calls.{Input, Check, orderCheck, roomCheck, queryChecks, verdictChecks, derivationChecks, Answer, refused, Outcome, refusalOf, blank, call}
+
+-- a search of one list behind another
+firstOf-append : {A B : Type 0} (f : A → Option B) (xs ys : List A) → firstOf f (xs ++ ys) ≡ orElse (firstOf f xs) (firstOf f ys)
+unfolding firstOf orElse
+firstOf-append f [] ys = refl
+firstOf-append {B} f (x ∷ xs) ys = go (f x) (firstOf-append f xs ys)
+  where
+    go : (o : Option B) → firstOf f (xs ++ ys) ≡ orElse (firstOf f xs) (firstOf f ys) → orElse o (firstOf f (xs ++ ys)) ≡ orElse (orElse o (firstOf f xs)) (firstOf f ys)
+    go none ih = ih
+    go (some b) ih = refl
+
+module _ (i : Input) where
+  -- the order list is refused
+  pub order-refused : (cs : List Check) → isOrder (i .order) ≡ false → refusalOf (orderCheck ∷ cs) i ≡ some (refused 1 0)
+  unfolding refusalOf firstOf orderCheck keep orElse Option·elim
+  order-refused cs h = rw h
+
+  order-passed : (cs : List Check) → isOrder (i .order) ≡ true → refusalOf (orderCheck ∷ cs) i ≡ refusalOf cs i
+  unfolding refusalOf firstOf orderCheck keep orElse Option·elim
+  order-passed cs h = rw h
+
+  behind : (cs ds : List Check) → refusalOf (cs ++ ds) i ≡ orElse (refusalOf cs i) (refusalOf ds i)
+  unfolding refusalOf
+  behind cs ds = firstOf-append _ cs ds
+
+  -- the query is refused
+  pub query-refused : (ds : List Check) (a : Answer) → isOrder (i .order) ≡ true → refusalOf queryChecks i ≡ some a → refusalOf (orderCheck ∷ (queryChecks ++ ds)) i ≡ some a
+  unfolding orElse
+  query-refused ds a o h = order-passed (queryChecks ++ ds) o ∙ behind queryChecks ds ∙ ap (λ (x : Option Answer). orElse x (refusalOf ds i)) h
+
+  -- the query passes
+  query-passed : (ds : List Check) → isOrder (i .order) ≡ true → refusalOf queryChecks i ≡ none → refusalOf (orderCheck ∷ (queryChecks ++ ds)) i ≡ refusalOf ds i
+  unfolding orElse
+  query-passed ds o h = order-passed (queryChecks ++ ds) o ∙ behind queryChecks ds ∙ ap (λ (x : Option Answer). orElse x (refusalOf ds i)) h
+
+  pub room-refused : isOrder (i .order) ≡ true → refusalOf queryChecks i ≡ none → i .room < 53 → refusalOf verdictChecks i ≡ some (refused 9 0)
+  unfolding verdictChecks refusalOf firstOf roomCheck keep orElse Option·elim
+  room-refused o h l = query-passed (roomCheck ∷ []) o h ∙ rw (lt-ltb (i .room) 53 l)
+
+  pub verdict-clear : isOrder (i .order) ≡ true → refusalOf queryChecks i ≡ none → 53 ≤ i .room → refusalOf verdictChecks i ≡ none
+  unfolding verdictChecks refusalOf firstOf roomCheck keep orElse Option·elim
+  verdict-clear o h l = query-passed (roomCheck ∷ []) o h ∙ rw (le-ltb (i .room) 53 l)
+
+  pub derivation-refused : (a : Answer) → isOrder (i .order) ≡ true → refusalOf queryChecks i ≡ some a → refusalOf derivationChecks i ≡ some a
+  unfolding derivationChecks
+  derivation-refused a o h = order-passed queryChecks o ∙ h
+
+  pub derivation-clear : isOrder (i .order) ≡ true → refusalOf queryChecks i ≡ none → refusalOf derivationChecks i ≡ none
+  unfolding derivationChecks
+  derivation-clear o h = order-passed queryChecks o ∙ h
+
+  -- what the call then does
+  pub call-refused : (cs : List Check) (result : Ending → Outcome) (a : Answer) → refusalOf cs i ≡ some a → call cs result i ≡ blank (i .room) a
+  unfolding call Option·elim
+  call-refused cs result a h = rw h
+
+  pub call-walked : (cs : List Check) (result : Ending → Outcome) → refusalOf cs i ≡ none → call cs result i ≡ result (ourWalk (i .order) (decode (i .query)))
+  unfolding call Option·elim
+  call-walked cs result h = rw h

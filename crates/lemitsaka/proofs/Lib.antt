@@ -1,0 +1,4 @@
+pub mod Demands
+pub mod Checks
+pub mod Outcomes
+pub mod Answers

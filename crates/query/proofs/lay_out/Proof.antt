@@ -1,0 +1,181 @@
+-- The sections are read one behind the other, and the first refusal is that of the walk from the front. Assumes nothing.
+use Prim.Native.Nat.{ℕ, _+_, _≤_, _<_, _^_}
+use native.Mathlib.Omega.{arith}
+use borrow.Author.Needs.{needs}
+use native.Mathlib.Nat.{le-antisymm}
+use mathlib.Core.Path.{refl, subst}
+use mathlib.Core.List.{List}
+use lib.ListN.{length, drop}
+use mir.Val.{Fits}
+use mir.Syntax.{w64}
+use Rattle.logic.specs.Query.{sections, firstByte}
+use Rattle.query.specs.Sections.{Stands}
+use Rattle.query.specs.declared.Part.{Part}
+use Rattle.query.proofs.Reading.{read-section, Reached, at-front, beyond, stopped, trailing}
+use Rattle.query.proofs.lay_out.Statement.{statement}
+use Rattle.query.proofs.lay_out.Tie as tie
+
+-- Behind each section that was read: the bytes, the section, that it stands there, and where the walk has come to.
+
+abbrev bytes₁ : tie.After-known-told2 → List ℕ
+bytes₁ c = c .before .before .before .before .before .args .query .now
+
+abbrev part₁ : tie.After-known-told2 → Part
+part₁ c = c .before .part .given .0 .0
+
+stands₁ : (c : tie.After-known-told2) → Stands (bytes₁ c) 16 1 0 (part₁ c .count) (part₁ c .next)
+stands₁ c = read-section _ _ _ _ (c .before .part .given .1) (c .before .before .before .read-section .ensures)
+
+reached₁ : (c : tie.After-known-told2) → Reached (bytes₁ c) (drop 1 (sections (firstByte (bytes₁ c)))) (part₁ c .next)
+unfolding sections
+reached₁ c = beyond (at-front _) (stands₁ c)
+
+abbrev bytes₂ : tie.After-known-told4 → List ℕ
+bytes₂ c = bytes₁ (c .before .before .before .before)
+
+abbrev part₂ : tie.After-known-told4 → Part
+part₂ c = c .before .part2 .given .0 .0
+
+stands₂ : (c : tie.After-known-told4) → Stands (bytes₂ c) 60 3 (part₁ (c .before .before .before .before) .next) (part₂ c .count) (part₂ c .next)
+stands₂ c = read-section _ _ _ _ (c .before .part2 .given .1) (c .before .before .before .read-section2 .ensures)
+
+reached₂ : (c : tie.After-known-told4) → Reached (bytes₂ c) (drop 2 (sections (firstByte (bytes₂ c)))) (part₂ c .next)
+unfolding sections
+reached₂ c = beyond (reached₁ (c .before .before .before .before)) (stands₂ c)
+
+abbrev bytes₃ : tie.After-known-told6 → List ℕ
+bytes₃ c = bytes₂ (c .before .before .before .before)
+
+abbrev part₃ : tie.After-known-told6 → Part
+part₃ c = c .before .part3 .given .0 .0
+
+stands₃ : (c : tie.After-known-told6) → Stands (bytes₃ c) 60 3 (part₂ (c .before .before .before .before) .next) (part₃ c .count) (part₃ c .next)
+stands₃ c = read-section _ _ _ _ (c .before .part3 .given .1) (c .before .before .before .read-section3 .ensures)
+
+reached₃ : (c : tie.After-known-told6) → Reached (bytes₃ c) (drop 3 (sections (firstByte (bytes₃ c)))) (part₃ c .next)
+unfolding sections
+reached₃ c = beyond (reached₂ (c .before .before .before .before)) (stands₃ c)
+
+abbrev bytes₄ : tie.After-known-told8 → List ℕ
+bytes₄ c = bytes₃ (c .before .before .before .before)
+
+abbrev part₄ : tie.After-known-told8 → Part
+part₄ c = c .before .part4 .given .0 .0
+
+stands₄ : (c : tie.After-known-told8) → Stands (bytes₄ c) 60 3 (part₃ (c .before .before .before .before) .next) (part₄ c .count) (part₄ c .next)
+stands₄ c = read-section _ _ _ _ (c .before .part4 .given .1) (c .before .before .before .read-section4 .ensures)
+
+reached₄ : (c : tie.After-known-told8) → Reached (bytes₄ c) (drop 4 (sections (firstByte (bytes₄ c)))) (part₄ c .next)
+unfolding sections
+reached₄ c = beyond (reached₃ (c .before .before .before .before)) (stands₄ c)
+
+abbrev bytes₅ : tie.After-known-told10 → List ℕ
+bytes₅ c = bytes₄ (c .before .before .before .before)
+
+abbrev part₅ : tie.After-known-told10 → Part
+part₅ c = c .before .part5 .given .0 .0
+
+stands₅ : (c : tie.After-known-told10) → Stands (bytes₅ c) 60 2 (part₄ (c .before .before .before .before) .next) (part₅ c .count) (part₅ c .next)
+stands₅ c = read-section _ _ _ _ (c .before .part5 .given .1) (c .before .before .before .read-section5 .ensures)
+
+reached₅ : (c : tie.After-known-told10) → Reached (bytes₅ c) (drop 5 (sections (firstByte (bytes₅ c)))) (part₅ c .next)
+unfolding sections
+reached₅ c = beyond (reached₄ (c .before .before .before .before)) (stands₅ c)
+
+-- from behind the fifth section to behind the others
+abbrev to₄ : tie.After-known-told10 → tie.After-known-told8
+to₄ c = c .before .before .before .before
+
+abbrev to₃ : tie.After-known-told10 → tie.After-known-told6
+to₃ c = to₄ c .before .before .before .before
+
+abbrev to₂ : tie.After-known-told10 → tie.After-known-told4
+to₂ c = to₃ c .before .before .before .before
+
+abbrev to₁ : tie.After-known-told10 → tie.After-known-told2
+to₁ c = to₂ c .before .before .before .before
+
+short : (c : tie.After-known-told2) → length (bytes₁ c) < 2 ^ 64
+short c = c .before .before .before .before .before .good .0 .0
+
+-- the place behind a count
+fits-behind : {bytes : List ℕ} {limit width at count next : ℕ} → Stands bytes limit width at count next → length bytes < 2 ^ 64 → Fits w64 (at + 1)
+fits-behind stands h = record { fits = omega (arith, stands .counted) }
+
+-- no byte follows the section
+to-end : {bytes : List ℕ} {limit width at count next : ℕ} → Stands bytes limit width at count next → length bytes ≤ next → Stands bytes limit width at count (length bytes)
+to-end {bytes} {limit} {width} {at} {count} {next} stands h = subst (Stands bytes limit width at count) (le-antisymm (stands .fits) h) stands
+
+pub lay-out-spec : {M : Type 1} → statement M
+unfolding sections
+lay-out-spec =
+    tie.close
+    (tie.spec
+    -- read-section-requires
+    (λ c κs. search needs)
+    -- enum-known-k
+    (λ c. search needs)
+    -- returns
+    (λ c. stopped (at-front _) (c .before .k .given .1) (c .before .before .before .read-section .ensures))
+    -- enum-known-part
+    (λ c. search needs)
+    -- read-section-requires-2
+    (λ c κs. omega (arith, stands₁ c .fits))
+    -- enum-known-k-2
+    (λ c. search needs)
+    -- returns-2
+    (λ c. stopped (reached₁ (c .before .before .before .before)) (c .before .k2 .given .1) (c .before .before .before .read-section2 .ensures))
+    -- enum-known-part-2
+    (λ c. search needs)
+    -- read-section-requires-3
+    (λ c κs. omega (arith, stands₂ c .fits))
+    -- enum-known-k-3
+    (λ c. search needs)
+    -- returns-3
+    (λ c. stopped (reached₂ (c .before .before .before .before)) (c .before .k3 .given .1) (c .before .before .before .read-section3 .ensures))
+    -- enum-known-part-3
+    (λ c. search needs)
+    -- read-section-requires-4
+    (λ c κs. omega (arith, stands₃ c .fits))
+    -- enum-known-k-4
+    (λ c. search needs)
+    -- returns-4
+    (λ c. stopped (reached₃ (c .before .before .before .before)) (c .before .k4 .given .1) (c .before .before .before .read-section4 .ensures))
+    -- enum-known-part-4
+    (λ c. search needs)
+    -- read-section-requires-5
+    (λ c κs. omega (arith, stands₄ c .fits))
+    -- enum-known-k-5
+    (λ c. search needs)
+    -- returns-5
+    (λ c. stopped (reached₄ (c .before .before .before .before)) (c .before .k5 .given .1) (c .before .before .before .read-section5 .ensures))
+    -- enum-known-part-5
+    (λ c. search needs)
+    -- returns-6
+    (λ c. trailing (reached₅ (c .before .before)) (c .if1 .taken))
+    -- add-t32
+    (λ c. let d = c .before .before .before in fits-behind (stands₂ (to₂ d)) (short (to₁ d)))
+    -- add-t34
+    (λ c. let d = c .before .before .before .before in fits-behind (stands₃ (to₃ d)) (short (to₁ d)))
+    -- add-t35
+    (λ c. let d = c .before .before .before .before .before in fits-behind (stands₄ (to₄ d)) (short (to₁ d)))
+    -- add-t36
+    (λ c. let d = c .before .before .before .before .before .before in fits-behind (stands₅ d) (short (to₁ d)))
+    -- returns-7
+    (λ c.
+    let d = c .before .before .before .before .before .before in
+    record {
+      second = part₁ (to₁ d) .next;
+      third = part₂ (to₂ d) .next;
+      fourth = part₃ (to₃ d) .next;
+      fifth = part₄ (to₄ d) .next;
+      terms = stands₁ (to₁ d);
+      equalities = stands₂ (to₂ d);
+      reachability = stands₃ (to₃ d);
+      fields = stands₄ (to₄ d);
+      booleans = to-end (stands₅ d) (c .before .before .before .before .if1 .left);
+      equal-at = refl;
+      reach-at = refl;
+      field-at = refl;
+      boolean-at = refl;
+    }))

@@ -1,0 +1,362 @@
+// The order list and the query's bytes: where the sections of a query stand, refusals 1 to 8, and reading a literal in place.
+ghost use mathlib.Core.Path.{_≡_};
+ghost use mathlib.Core.List.{[], _∷_};
+ghost use Prim.Native.Nat.{_+_, _*_, _≤_, _<_};
+ghost use lib.ListN.{length, getD, drop};
+ghost use lib.Dec.{eqb};
+ghost use Rattle.logic.specs.Search.{any};
+ghost use Rattle.logic.specs.Query.{isOrder, entryRole, signRole, termRole, roleFault, byteFault};
+ghost use Rattle.query.specs.Sections.{widthOf, rolesAt, countedRole, meets, sectionFault, ReadAs, Sections};
+ghost use Rattle.query.specs.LaysOut.{EntryAt, literalIn, flagIn};
+ghost use Rattle.query.specs.Answers.{foundOf, LaidOut, CheckedAs};
+
+// Where the sections of a query stand: the first byte of each behind its count, and the count. The terms stand at 1.
+pub struct Layout {
+    pub terms: usize,
+    pub equal_at: usize,
+    pub equal_count: usize,
+    pub reach_at: usize,
+    pub reach_count: usize,
+    pub field_at: usize,
+    pub field_count: usize,
+    pub boolean_at: usize,
+    pub boolean_count: usize,
+}
+
+// A query that is refused, with the refusal's number and place, or one that is accepted.
+pub enum Checked {
+    Refused(usize, usize),
+    Accepted(Layout),
+}
+
+// A section: its count, and the place behind it.
+struct Part {
+    pub count: usize,
+    pub next: usize,
+}
+
+// What the walk from the front meets at a section: a refusal with its place, or the section.
+enum Read {
+    Refused(usize, usize),
+    Section(Part),
+}
+
+// What the bytes of a section's entries are held to: equalities and reachability literals are pairs of terms.
+enum Kind {
+    Terms,
+    Pairs,
+    Fields,
+    Booleans,
+}
+
+// A place that was looked for.
+enum Found {
+    At(usize),
+    Nothing,
+}
+
+// The order list names the rule r.
+fn names(order: &[u8], r: u8) -> bool
+    ensures { λ b. ⌜ b ≡ any (eqb r) (now (order .entry)) ⌝ }
+{
+    let mut i: usize = 0;
+    while i < order.len() {
+        let x = order[i];
+        if r == x {
+            return true;
+        }
+        i += 1;
+    }
+    false
+}
+
+// "The order list is eight bytes holding 1 to 8 once each."
+pub fn is_order(order: &[u8]) -> bool
+    ensures { λ b. ⌜ b ≡ isOrder (now (order .entry)) ⌝ }
+{
+    let n = order.len();
+    if n != 8 {
+        return false;
+    }
+    let mut r: u8 = 1;
+    while r < 9 {
+        if !names(order, r) {
+            return false;
+        }
+        r += 1;
+    }
+    true
+}
+
+// The section whose count stands at `at`: refused 2 where the query ends before it does, and 3 where the count is above the limit.
+fn read_section(query: &[u8], at: usize, limit: usize, width: usize) -> Read
+    requires { ⌜ (at ≤ length (now query)) × (width ≤ 3) ⌝ }
+    ensures { λ r. ⌜ ReadAs r (now (query .entry)) at limit width ⌝ }
+{
+    let len = query.len();
+    if at == len {
+        return Read::Refused(2, at);
+    }
+    let count = query[at] as usize;
+    if limit < count {
+        return Read::Refused(3, at);
+    }
+    let size = count * width;
+    let left = len - at - 1;
+    if left < size {
+        return Read::Refused(2, len);
+    }
+    Read::Section(Part {
+        count,
+        next: at + 1 + size,
+    })
+}
+
+// The walk from the front over the five sections: refusals 2 to 4.
+fn lay_out(query: &[u8]) -> Checked
+    ensures { λ r. ⌜ LaidOut r (now (query .entry)) ⌝ }
+{
+    let terms = match read_section(query, 0, 16, 1) {
+        Read::Refused(k, place) => return Checked::Refused(k, place),
+        Read::Section(part) => part,
+    };
+    let equal = match read_section(query, terms.next, 60, 3) {
+        Read::Refused(k, place) => return Checked::Refused(k, place),
+        Read::Section(part) => part,
+    };
+    let reach = match read_section(query, equal.next, 60, 3) {
+        Read::Refused(k, place) => return Checked::Refused(k, place),
+        Read::Section(part) => part,
+    };
+    let field = match read_section(query, reach.next, 60, 3) {
+        Read::Refused(k, place) => return Checked::Refused(k, place),
+        Read::Section(part) => part,
+    };
+    let boolean = match read_section(query, field.next, 60, 2) {
+        Read::Refused(k, place) => return Checked::Refused(k, place),
+        Read::Section(part) => part,
+    };
+    if boolean.next < query.len() {
+        return Checked::Refused(4, boolean.next);
+    }
+    Checked::Accepted(Layout {
+        terms: terms.count,
+        equal_at: terms.next + 1,
+        equal_count: equal.count,
+        reach_at: equal.next + 1,
+        reach_count: reach.count,
+        field_at: reach.next + 1,
+        field_count: field.count,
+        boolean_at: field.next + 1,
+        boolean_count: boolean.count,
+    })
+}
+
+// The byte at a place of the query.
+pub fn byte_at(query: &[u8], place: usize) -> usize
+    requires { ⌜ place < length (now query) ⌝ }
+    ensures { λ r. ⌜ r ≡ getD (now (query .entry)) place 0 ⌝ }
+{
+    query[place] as usize
+}
+
+// "A term byte is not below its own term's number."
+fn entry_refused(k: usize, t: usize, byte: usize) -> bool
+    ensures { λ b. ⌜ b ≡ meets (entryRole t) k byte ⌝ }
+{
+    (5 == k) & !(byte < t)
+}
+
+// "A sign is neither 0 nor 1."
+fn sign_refused(k: usize, byte: usize) -> bool
+    ensures { λ b. ⌜ b ≡ meets signRole k byte ⌝ }
+{
+    (6 == k) & !(byte < 2)
+}
+
+// A number is not 1 to `most`; its refusal is `own`.
+fn number_refused(k: usize, own: usize, most: usize, byte: usize) -> bool
+    ensures { λ b. ⌜ b ≡ meets (countedRole own most) k byte ⌝ }
+{
+    (own == k) & !((0 < byte) & (byte <= most))
+}
+
+// The lowest byte of an entry that meets refusal k: of a term, of a boolean literal, and of a literal with two numbers.
+fn term_fault(k: usize, t: usize, query: &[u8], at: usize) -> Found
+    requires { ⌜ at + 1 ≤ length (now query) ⌝ }
+    ensures { λ r. ⌜ foundOf r ≡ roleFault k at (entryRole t ∷ []) (drop at (now (query .entry))) ⌝ }
+{
+    if entry_refused(k, t, byte_at(query, at)) {
+        return Found::At(at);
+    }
+    Found::Nothing
+}
+
+fn flag_fault(k: usize, own: usize, most: usize, query: &[u8], at: usize) -> Found
+    requires { ⌜ at + 2 ≤ length (now query) ⌝ }
+    ensures { λ r. ⌜ foundOf r ≡ roleFault k at (signRole ∷ countedRole own most ∷ []) (drop at (now (query .entry))) ⌝ }
+{
+    let left = at + 1;
+    if sign_refused(k, byte_at(query, at)) {
+        return Found::At(at);
+    }
+    if number_refused(k, own, most, byte_at(query, left)) {
+        return Found::At(left);
+    }
+    Found::Nothing
+}
+
+fn literal_fault(k: usize, own: usize, most: usize, n: usize, query: &[u8], at: usize) -> Found
+    requires { ⌜ at + 3 ≤ length (now query) ⌝ }
+    ensures { λ r. ⌜ foundOf r ≡ roleFault k at (signRole ∷ countedRole own most ∷ termRole n ∷ []) (drop at (now (query .entry))) ⌝ }
+{
+    match flag_fault(k, own, most, query, at) {
+        Found::At(p) => return Found::At(p),
+        Found::Nothing => {}
+    }
+    let right = at + 2;
+    if number_refused(k, 7, n, byte_at(query, right)) {
+        return Found::At(right);
+    }
+    Found::Nothing
+}
+
+// Entry i, by the kind of its section.
+fn entry_fault(k: usize, kind: Kind, n: usize, i: usize, query: &[u8], at: usize) -> Found
+    requires { ⌜ at + widthOf kind ≤ length (now query) ⌝ }
+    ensures { λ r. ⌜ foundOf r ≡ roleFault k at (rolesAt kind n i) (drop at (now (query .entry))) ⌝ }
+{
+    match kind {
+        Kind::Terms => term_fault(k, i, query, at),
+        Kind::Pairs => literal_fault(k, 7, n, n, query, at),
+        Kind::Fields => literal_fault(k, 8, 8, n, query, at),
+        Kind::Booleans => flag_fault(k, 8, 8, query, at),
+    }
+}
+
+// The bytes of an entry.
+fn width(kind: Kind) -> usize
+    ensures { λ r. ⌜ r ≡ widthOf kind ⌝ }
+{
+    match kind {
+        Kind::Terms => 1,
+        Kind::Pairs => 3,
+        Kind::Fields => 3,
+        Kind::Booleans => 2,
+    }
+}
+
+// The lowest byte that meets refusal k, among `count` entries at `at`.
+fn section_fault(k: usize, kind: Kind, n: usize, query: &[u8], at: usize, count: usize) -> Found
+    requires { ⌜ at + count * widthOf kind ≤ length (now query) ⌝ }
+    ensures { λ r. ⌜ foundOf r ≡ sectionFault k kind n at count (now (query .entry)) ⌝ }
+{
+    let step = width(kind);
+    let mut place = at;
+    let mut i: usize = 0;
+    while i < count {
+        match entry_fault(k, kind, n, i + 1, query, place) {
+            Found::At(p) => return Found::At(p),
+            Found::Nothing => {}
+        }
+        place += step;
+        i += 1;
+    }
+    Found::Nothing
+}
+
+// "For 5 to 8 the whole query is searched for one fault before the next, and the place is the lowest such byte."
+fn byte_fault(k: usize, query: &[u8], l: Layout) -> Found
+    requires { ⌜ Sections l (now query) ⌝ }
+    ensures { λ r. ⌜ foundOf r ≡ byteFault k (now (query .entry)) ⌝ }
+{
+    let n = l.terms;
+    match section_fault(k, Kind::Terms, n, query, 1, n) {
+        Found::At(p) => return Found::At(p),
+        Found::Nothing => {}
+    }
+    match section_fault(k, Kind::Pairs, n, query, l.equal_at, l.equal_count) {
+        Found::At(p) => return Found::At(p),
+        Found::Nothing => {}
+    }
+    match section_fault(k, Kind::Pairs, n, query, l.reach_at, l.reach_count) {
+        Found::At(p) => return Found::At(p),
+        Found::Nothing => {}
+    }
+    match section_fault(k, Kind::Fields, n, query, l.field_at, l.field_count) {
+        Found::At(p) => return Found::At(p),
+        Found::Nothing => {}
+    }
+    section_fault(k, Kind::Booleans, n, query, l.boolean_at, l.boolean_count)
+}
+
+// Refusals 5 to 8, of a query that is laid out.
+fn check_bytes(query: &[u8], l: Layout) -> Checked
+    requires { ⌜ Sections l (now query) ⌝ }
+    ensures { λ r. ⌜ CheckedAs r (now (query .entry)) ⌝ }
+{
+    let mut k: usize = 5;
+    while k < 9 {
+        match byte_fault(k, query, l) {
+            Found::At(place) => return Checked::Refused(k, place),
+            Found::Nothing => {}
+        }
+        k += 1;
+    }
+    Checked::Accepted(l)
+}
+
+// "Refusals, in checking order": 2 to 8.
+pub fn check(query: &[u8]) -> Checked
+    ensures { λ r. ⌜ CheckedAs r (now (query .entry)) ⌝ }
+{
+    match lay_out(query) {
+        Checked::Refused(k, place) => Checked::Refused(k, place),
+        Checked::Accepted(l) => check_bytes(query, l),
+    }
+}
+
+// The entry of term t: 0 for a variable, and j for f of term j.
+pub fn entry(query: &[u8], t: usize) -> usize
+    requires { ⌜ t < length (now query) ⌝ }
+    ensures { λ r. ⌜ EntryAt (now (query .entry)) t r ⌝ }
+{
+    byte_at(query, t)
+}
+
+// Literal i of the equalities, the reachability literals or the data literals, which stand at `at`: whether it is plain, and its numbers.
+pub fn sign(query: &[u8], at: usize, i: usize) -> bool
+    requires { ⌜ at + 3 * i + 3 ≤ length (now query) ⌝ }
+    ensures { λ r. ⌜ r ≡ literalIn (now (query .entry)) at i .plain ⌝ }
+{
+    byte_at(query, at + 3 * i) == 1
+}
+
+pub fn left(query: &[u8], at: usize, i: usize) -> usize
+    requires { ⌜ at + 3 * i + 3 ≤ length (now query) ⌝ }
+    ensures { λ r. ⌜ r ≡ literalIn (now (query .entry)) at i .left ⌝ }
+{
+    byte_at(query, at + 3 * i + 1)
+}
+
+pub fn right(query: &[u8], at: usize, i: usize) -> usize
+    requires { ⌜ at + 3 * i + 3 ≤ length (now query) ⌝ }
+    ensures { λ r. ⌜ r ≡ literalIn (now (query .entry)) at i .right ⌝ }
+{
+    byte_at(query, at + 3 * i + 2)
+}
+
+// Literal i of the booleans, which stand at `at`: whether it is plain, and its number.
+pub fn flag_sign(query: &[u8], at: usize, i: usize) -> bool
+    requires { ⌜ at + 2 * i + 2 ≤ length (now query) ⌝ }
+    ensures { λ r. ⌜ r ≡ flagIn (now (query .entry)) at i .plain ⌝ }
+{
+    byte_at(query, at + 2 * i) == 1
+}
+
+pub fn flag_number(query: &[u8], at: usize, i: usize) -> usize
+    requires { ⌜ at + 2 * i + 2 ≤ length (now query) ⌝ }
+    ensures { λ r. ⌜ r ≡ flagIn (now (query .entry)) at i .left ⌝ }
+{
+    byte_at(query, at + 2 * i + 1)
+}

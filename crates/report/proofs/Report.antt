@@ -1,0 +1,105 @@
+-- The sections of the report put together.
+use Prim.Native.Nat.{ℕ, _+_, _≤_}
+use native.Mathlib.Omega.{arith}
+use mathlib.Core.Path.{_≡_, refl, sym, ap, ap₂, _∙_}
+use mathlib.Core.Bool.{Bool}
+use mathlib.Core.List.{List, [], _∷_, _++_, map, List·Memᴰ, List·Memᴰ·head, List·Memᴰ·tail}
+use lib.ListN.{length, getD, replicate, length-map}
+use Rattle.logic.specs.Query.{Literal, decode}
+use Rattle.logic.specs.Facts.{terms}
+use Rattle.logic.specs.Calls.{padded}
+use Rattle.logic.specs.Shown.{nodes, placeOf, shownLink, byteOf, fieldByte, booleanByte, report}
+use Rattle.logic.proofs.Search.{from-mem}
+use Rattle.logic.proofs.Placed.{length-from}
+use Rattle.logic.proofs.ShownNodes.{nodes-length}
+use Rattle.facts.specs.declared.Facts as code
+use Rattle.facts.specs.Path.{repOf, pathOf}
+use Rattle.facts.proofs.Rep.{rep-in}
+use Rattle.query.specs.declared.Layout.{Layout}
+use Rattle.query.proofs.Literals.{listed, fields-listed, booleans-listed}
+use Rattle.query.proofs.Ranges.{field-number-term, boolean-number}
+use Rattle.report.specs.declared.Node.{Node}
+use Rattle.report.specs.Links.{linkOf}
+use Rattle.report.specs.Nodes.{nodeOf, marked, nodesBy, Numbers}
+use Rattle.report.specs.Bytes.{Appends, fieldHeld, booleanHeld, literalsAt, flagsAt, FieldsIn, FlagsIn, Reportable, sections}
+use Rattle.report.proofs.Completing.{shown-below}
+use Rattle.report.proofs.Nodes.{nodes-by, marked-below, numbers-below}
+use Rattle.report.proofs.Writing.{appends-then, appends-zeros}
+
+pub terms-length : (marks : List Bool) (n : ℕ) → marked marks n ≡ terms n → length (marked marks n) ≡ n
+unfolding terms
+terms-length marks n e = ap length e ∙ length-from n 1
+
+-- five pieces, each behind the one before
+pub sections-written : (room : ℕ) (b0 b1 b2 b3 b4 b5 : List ℕ) (n m : ℕ) (ts es : List ℕ) (f g h : ℕ → ℕ) (p1 p2 p3 p4 v : ℕ) → m ≡ length ts → es ≡ terms n → b0 ≡ replicate room 0 → length b1 ≡ length b0 → length b2 ≡ length b1 → length b3 ≡ length b2 → length b4 ≡ length b3 → (p1 ≡ 0 + 1 + length ts) × Appends b0 b1 0 (m ∷ map f ts) → (p2 ≡ p1 + 1 + length es) × Appends b1 b2 p1 (n ∷ map g es) → (p3 ≡ p2 + 1 + length ts) × Appends b2 b3 p2 (m ∷ map h ts) → (p4 ≡ p3 + 1) × Appends b3 b4 p3 (1 ∷ []) → Appends b4 b5 p4 (v ∷ []) → b5 ≡ padded room (sections n ts f g h v)
+sections-written room b0 b1 b2 b3 b4 b5 n m ts es f g h p1 p2 p3 p4 v counted every cleared l1 l2 l3 l4 s1 s2 s3 s4 s5 =
+    let last = appends-then b3 b4 b5 p3 p4 (1 ∷ []) (v ∷ []) l4 (s4 .0) (s4 .1) s5 in
+    let third = appends-then b2 b3 b5 p2 p3 (m ∷ map h ts) (1 ∷ v ∷ []) l3 (omega (arith, s3 .0, length-map ts h)) (s3 .1) last in
+    let second = appends-then b1 b2 b5 p1 p2 (n ∷ map g es) ((m ∷ map h ts) ++ (1 ∷ v ∷ [])) l2 (omega (arith, s2 .0, length-map es g)) (s2 .1) third in
+    let first = appends-then b0 b1 b5 0 p1 (m ∷ map f ts) ((n ∷ map g es) ++ ((m ∷ map h ts) ++ (1 ∷ v ∷ []))) l1 (omega (arith, s1 .0, length-map ts f)) (s1 .1) second in
+    appends-zeros b0 b5 room _ cleared first
+    ∙ ap₂ (λ (k : ℕ) (xs : List ℕ). padded room ((k ∷ map f ts) ++ ((n ∷ map g xs) ++ ((k ∷ map h ts) ++ (1 ∷ v ∷ []))))) counted every
+
+map-alike : (f g : ℕ → ℕ) (xs : List ℕ) → ((x : ℕ) → List·Memᴰ x xs → f x ≡ g x) → map f xs ≡ map g xs
+map-alike f g [] h = refl
+map-alike f g (x ∷ xs) h = ap₂ (λ (y : ℕ) (ys : List ℕ). y ∷ ys) (h x (List·Memᴰ·head refl)) (map-alike f g xs (λ y m. h y (List·Memᴰ·tail m)))
+
+module _ (l : Layout) (query : List ℕ) (s : code.Facts) (ready : Reportable l query s) where
+  -- what the parts ask
+  pub rep-within : (t : ℕ) → 1 ≤ t → t ≤ l .terms → linkOf (s .rep) t ≤ 16
+  unfolding linkOf
+  rep-within t h k = omega (arith, ready .stands t h k, rep-in (s .rep) t (omega (arith, ready .laid .terms-within)))
+
+  pub fields-in : FieldsIn query (l .«field_at») (l .«field_count») (repOf (s .rep))
+  fields-in i h =
+      let r = field-number-term l query (ready .laid) (ready .passes) i h in
+      (r .0 .1, omega (arith, r .1 .1, ready .laid .terms-within), ready .stands _ (r .1 .0) (r .1 .1))
+
+  pub flags-in : FlagsIn query (l .«boolean_at») (l .«boolean_count»)
+  flags-in i h = boolean-number l query (ready .laid) (ready .passes) i h .1
+
+  module _ (marks : List Bool) (are : marked marks (l .terms) ≡ nodesBy (repOf (s .rep)) (l .terms)) where
+    are-nodes : marked marks (l .terms) ≡ nodes (l .terms) (pathOf s)
+    unfolding pathOf
+    are-nodes = are ∙ sym (nodes-by (l .terms) (pathOf s))
+
+    pub few-nodes : length (marked marks (l .terms)) ≤ 16
+    few-nodes = omega (arith, ap length are-nodes, nodes-length (l .terms) (pathOf s) (ready .laid .terms-within) .1)
+
+    pub node-within : (list : List Node) → Numbers list (marked marks (l .terms)) → (t : ℕ) → t ≤ 16 → nodeOf list t ≤ 16
+    node-within list e = numbers-below list (marked marks (l .terms)) e few-nodes
+
+    -- the sections are the report's
+    module _ (list : List Node) (numbers : Numbers list (marked marks (l .terms))) (successors places fields : List ℕ) (booleans : ℕ) (linked : (t : ℕ) → t ≤ l .terms → getD successors t 0 ≡ nodeOf list (shownLink (l .terms) (pathOf s) t)) (placed : (t : ℕ) → 1 ≤ t → t ≤ l .terms → getD places t 0 ≡ nodeOf list (linkOf (s .rep) t)) (held : (v : ℕ) → v ≤ l .terms → getD fields v 0 ≡ byteOf (fieldHeld (repOf (s .rep)) (literalsAt query (l .«field_at») (l .«field_count»)) v) 1 8) (flagged : booleans ≡ byteOf (booleanHeld (flagsAt query (l .«boolean_at») (l .«boolean_count»))) 1 8) where
+      successor : (v : ℕ) → List·Memᴰ v (marked marks (l .terms)) → getD successors v 0 ≡ placeOf (shownLink (l .terms) (pathOf s) v) (marked marks (l .terms))
+      successor v m =
+          linked v (marked-below marks (l .terms) v m)
+          ∙ numbers (shownLink (l .terms) (pathOf s) v) (omega (arith, shown-below (l .terms) (pathOf s) v, ready .laid .terms-within))
+
+      node : (t : ℕ) → List·Memᴰ t (terms (l .terms)) → getD places t 0 ≡ placeOf (pathOf s .rep t) (marked marks (l .terms))
+      unfolding terms linkOf pathOf
+      node t m =
+          let r = from-mem (l .terms) 1 t m in
+          let h : t ≤ l .terms = omega arith in
+          placed t (r .0) h
+          ∙ numbers (linkOf (s .rep) t) (rep-within t (r .0) h)
+          ∙ ap (λ (x : ℕ). placeOf x (marked marks (l .terms))) (sym (rep-in (s .rep) t (omega (arith, ready .laid .terms-within))))
+
+      datum : (v : ℕ) → List·Memᴰ v (marked marks (l .terms)) → getD fields v 0 ≡ fieldByte (decode query) (pathOf s) v
+      unfolding fieldByte fieldHeld literalsAt pathOf listed
+      datum v m = held v (marked-below marks (l .terms) v m) ∙ ap (λ (ls : List Literal). byteOf (fieldHeld (repOf (s .rep)) ls v) 1 8) (sym (fields-listed l query (ready .laid)))
+
+      flag : booleans ≡ booleanByte (decode query)
+      unfolding booleanByte booleanHeld flagsAt listed
+      flag = flagged ∙ ap (λ (ls : List Literal). byteOf (booleanHeld ls) 1 8) (sym (booleans-listed l query (ready .laid)))
+
+      pub report-is : sections (l .terms) (marked marks (l .terms)) (λ t. getD successors t 0) (λ t. getD places t 0) (λ t. getD fields t 0) booleans ≡ report (decode query) (pathOf s)
+      unfolding report
+      report-is =
+          parts
+          ∙ ap (λ (ts : List ℕ). sections (l .terms) ts (λ v. placeOf (shownLink (l .terms) (pathOf s) v) ts) (λ t. placeOf (pathOf s .rep t) ts) (fieldByte (decode query) (pathOf s)) (booleanByte (decode query))) are-nodes
+          ∙ ap (λ (n : ℕ). sections n (nodes n (pathOf s)) (λ v. placeOf (shownLink n (pathOf s) v) (nodes n (pathOf s))) (λ t. placeOf (pathOf s .rep t) (nodes n (pathOf s))) (fieldByte (decode query) (pathOf s)) (booleanByte (decode query))) (ready .laid .term-count)
+        where
+          parts : sections (l .terms) (marked marks (l .terms)) (λ t. getD successors t 0) (λ t. getD places t 0) (λ t. getD fields t 0) booleans ≡ sections (l .terms) (marked marks (l .terms)) (λ v. placeOf (shownLink (l .terms) (pathOf s) v) (marked marks (l .terms))) (λ t. placeOf (pathOf s .rep t) (marked marks (l .terms))) (fieldByte (decode query) (pathOf s)) (booleanByte (decode query))
+          parts =
+              rw (map-alike _ _ (marked marks (l .terms)) successor, map-alike _ _ (terms (l .terms)) node, map-alike _ _ (marked marks (l .terms)) datum, flag)

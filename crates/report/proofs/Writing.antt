@@ -1,0 +1,134 @@
+-- Bytes written behind each other into a buffer of zeros.
+use Prim.Native.Nat.{ℕ, zero, suc, _+_, _-_, _≤_, _<_}
+use native.Mathlib.Numerals.{add-one}
+use native.Mathlib.Nat.{sub-zero}
+use native.Mathlib.Omega.{arith}
+use mathlib.Core.Path.{_≡_, refl, sym, ap, _∙_}
+use mathlib.Core.Logic.{⊎-elim}
+use mathlib.Core.Bool.{Bool, true, false, cond}
+use mathlib.Core.List.{List, [], _∷_, _++_, map, append-assoc, append-nil}
+use lib.ListN.{length, getD, set, drop, replicate, length-append, length-set, length-map, length-replicate, drop-of-length-le}
+use lib.Seq.{drop-cons, set-append-seam, set-at}
+use lib.Dec.{eqb}
+use borrow.Author.Tests.{eqb-true, eqb-false}
+use Rattle.logic.specs.Search.{from, select}
+use Rattle.logic.specs.Calls.{padded}
+use Rattle.logic.proofs.Search.{bool-cases}
+use Rattle.report.specs.Bytes.{Appends}
+use Rattle.report.proofs.Loops.{select-end, select-here, select-skip}
+use Rattle.report.proofs.Links.{number-set}
+
+-- Clearing
+
+zeros-more : (i : ℕ) (xs : List ℕ) → replicate i 0 ++ (0 ∷ xs) ≡ 0 ∷ (replicate i 0 ++ xs)
+zeros-more zero xs = refl
+zeros-more (suc i) xs = ap (λ (ys : List ℕ). 0 ∷ ys) (zeros-more i xs)
+
+module _ (xs : List ℕ) (i : ℕ) where
+  pub clear-more : i < length xs → set (replicate i 0 ++ drop i xs) i 0 ≡ replicate (i + 1) 0 ++ drop (i + 1) xs
+  clear-more h =
+      rw (add-one i, drop-cons xs i 0 h) (set-at (replicate i 0) (getD xs i 0) (drop (suc i) xs) 0 i (length-replicate i 0) ∙ zeros-more i (drop (suc i) xs))
+
+  pub clear-all : length xs ≤ i → i ≤ length xs → replicate i 0 ++ drop i xs ≡ replicate (length xs) 0
+  clear-all h k =
+      let e : i ≡ length xs = omega arith in
+      ap (λ (ys : List ℕ). replicate i 0 ++ ys) (drop-of-length-le xs h) ∙ append-nil (replicate i 0) ∙ ap (λ (j : ℕ). replicate j 0) e
+
+-- Appending
+
+padded-set : (room : ℕ) (front : List ℕ) (v : ℕ) → length front < room → set (padded room front) (length front) v ≡ padded room (front ++ (v ∷ []))
+unfolding padded
+padded-set room front v h =
+    ap (λ (k : ℕ). set (front ++ replicate k 0) (length front) v) here
+    ∙ set-append-seam front 0 (replicate (room - (length front + 1)) 0) v
+    ∙ sym (append-assoc front (v ∷ []) (replicate (room - (length front + 1)) 0))
+    ∙ ap (λ (k : ℕ). (front ++ (v ∷ [])) ++ replicate (room - k) 0) (sym (length-append front (v ∷ [])))
+  where
+    here : room - length front ≡ suc (room - (length front + 1))
+    here = omega arith
+
+pub appends-none : (old : List ℕ) (at : ℕ) → Appends old old at []
+appends-none old at front e o = o ∙ ap (padded (length old)) (sym (append-nil front))
+
+pub appends-byte : (old : List ℕ) (at v : ℕ) → at < length old → Appends old (set old at v) at (v ∷ [])
+appends-byte old at v h front e o =
+    ap (λ (xs : List ℕ). set xs at v) o
+    ∙ ap (λ (k : ℕ). set (padded (length old) front) k v) (sym e)
+    ∙ padded-set (length old) front v (omega arith)
+
+pub appends-then : (a b c : List ℕ) (at next : ℕ) (ys zs : List ℕ) → length b ≡ length a → next ≡ at + length ys → Appends a b at ys → Appends b c next zs → Appends a c at (ys ++ zs)
+appends-then a b c at next ys zs same e f g front h o =
+    let o′ = f front h o in
+    g (front ++ ys) (length-append front ys ∙ omega arith) (o′ ∙ ap (λ (k : ℕ). padded k (front ++ ys)) (sym same))
+    ∙ ap (λ (k : ℕ). padded k ((front ++ ys) ++ zs)) same
+    ∙ ap (padded (length a)) (append-assoc front ys zs)
+
+-- the zeros that a buffer is cleared to
+pub appends-zeros : (old new : List ℕ) (room : ℕ) (bytes : List ℕ) → old ≡ replicate room 0 → Appends old new 0 bytes → new ≡ padded room bytes
+unfolding padded
+appends-zeros old new room bytes e f =
+    let size : length old ≡ room = ap length e ∙ length-replicate room 0 in
+    f [] refl (e ∙ ap (λ (k : ℕ). replicate k 0) (sym size ∙ sym (sub-zero (length old)))) ∙ ap (λ (k : ℕ). padded k bytes) size
+
+-- the bytes of what is marked, of the numbers below t
+pub record Put (q : ℕ → Bool) (f : ℕ → ℕ) (n at t to : ℕ) (old cur : List ℕ) : Type 0 where
+  pub written : List ℕ
+  pub appended : Appends old cur at written
+  pub placed : to ≡ at + length written
+  pub left : written ++ map f (select q (from (n + 1 - t) t)) ≡ map f (select q (from (n + 1 - 0) 0))
+  pub same : length cur ≡ length old
+
+module _ (q : ℕ → Bool) (f : ℕ → ℕ) (n at : ℕ) where
+  pub put-none : (old : List ℕ) → Put q f n at 0 at old old
+  put-none old = record { written = []; appended = appends-none old at; placed = omega arith; left = refl; same = refl }
+
+  module _ (t to : ℕ) (old cur : List ℕ) (now : Put q f n at t to old cur) where
+    -- how much is left to write
+    sizes : to + length (select q (from (n + 1 - t) t)) ≡ at + length (select q (from (n + 1 - 0) 0))
+    sizes =
+        let e = ap length (now .left) in
+        omega (arith, length-append (now .written) (map f (select q (from (n + 1 - t) t))), length-map (select q (from (n + 1 - t) t)) f, length-map (select q (from (n + 1 - 0) 0)) f, now .placed)
+
+    pub put-room : t ≤ n → q t ≡ true → at + length (select q (from (n + 1 - 0) 0)) ≤ length old → to < length cur
+    put-room h e r = omega (arith, sizes, ap length (select-here q (n + 1) t (omega arith) e), now .same)
+
+    pub put-skip : t ≤ n → q t ≡ false → Put q f n at (t + 1) to old cur
+    put-skip h e =
+        record {
+          written = now .written;
+          appended = now .appended;
+          placed = now .placed;
+          left = ap (λ (ts : List ℕ). now .written ++ map f ts) (sym (select-skip q (n + 1) t (omega arith) e)) ∙ now .left;
+          same = now .same;
+        }
+
+    pub put-here : t ≤ n → q t ≡ true → at + length (select q (from (n + 1 - 0) 0)) ≤ length old → (v : ℕ) → v ≡ f t → Put q f n at (t + 1) (to + 1) old (set cur to v)
+    put-here h e r v w =
+        let rest : List ℕ = map f (select q (from (n + 1 - (t + 1)) (t + 1))) in
+        record {
+          written = now .written ++ (v ∷ []);
+          appended = appends-then old cur (set cur to v) at to (now .written) (v ∷ []) (now .same) (now .placed) (now .appended) (appends-byte cur to v (put-room h e r));
+          placed = omega (arith, now .placed, length-append (now .written) (v ∷ []));
+          left = append-assoc (now .written) (v ∷ []) rest
+              ∙ ap (λ (b : ℕ). now .written ++ (b ∷ rest)) w
+              ∙ ap (λ (ts : List ℕ). now .written ++ map f ts) (sym (select-here q (n + 1) t (omega arith) e))
+              ∙ now .left;
+          same = length-set cur to v ∙ now .same;
+        }
+
+    pub put-all : n < t → (to ≡ at + length (select q (from (n + 1 - 0) 0))) × Appends old cur at (map f (select q (from (n + 1 - 0) 0)))
+    put-all h =
+        let s = select-end q (n + 1) t (omega arith) in
+        let none = ap length s in
+        let whole : now .written ≡ map f (select q (from (n + 1 - 0) 0)) = sym (append-nil (now .written)) ∙ ap (λ (ts : List ℕ). now .written ++ map f ts) (sym s) ∙ now .left in
+        (omega (arith, sizes), λ front e o. now .appended front e o ∙ ap (λ (ys : List ℕ). padded (length old) (front ++ ys)) whole)
+
+-- a list of bytes that is filled from lo on
+pub filled-more : (g : ℕ → ℕ) (lo : ℕ) (bytes : List ℕ) (t : ℕ) → t < length bytes → (b : ℕ) → b ≡ g t → ((x : ℕ) → lo ≤ x → x < t → getD bytes x 0 ≡ g x) → (x : ℕ) → lo ≤ x → x < t + 1 → getD (set bytes t b) x 0 ≡ g x
+filled-more g lo bytes t h b e m x l r = number-set (λ y. y) 0 bytes t h b x ∙ ⊎-elim here there (bool-cases (eqb x t))
+  where
+    here : eqb x t ≡ true → cond (eqb x t) b (getD bytes x 0) ≡ g x
+    here i = rw (i, eqb-true x t i) e
+
+    there : eqb x t ≡ false → cond (eqb x t) b (getD bytes x 0) ≡ g x
+    there i = let d = eqb-false x t i in rw i (m x l (omega arith))

@@ -1,0 +1,23 @@
+-- The links shown, and their nodes. Assumes nothing.
+use native.Mathlib.Omega.{arith}
+use borrow.Author.Needs.{needs}
+use Prim.Native.Nat.{ℕ}
+use mathlib.Core.Path.{ap, _∙_}
+use Rattle.facts.specs.Path.{pathOf}
+use Rattle.report.specs.Nodes.{nodeOf}
+use Rattle.report.proofs.Completing.{shown-below}
+use Rattle.report.proofs.successor_bytes.Statement.{statement}
+use Rattle.report.proofs.successor_bytes.Tie as tie
+
+pub successor-bytes-spec : {M : Type 1} → statement M
+successor-bytes-spec =
+    tie.close
+    (tie.spec
+    -- shown-links-requires
+    (λ c κs. search needs)
+    -- nodes-of-requires
+    (λ c κs.
+    let s = c .before in
+    (s .pre .0, λ t l r. rw (c .shown-links .ensures) (omega (arith, shown-below (s .args .n) (pathOf (s .args .s)) t)), s .pre .1))
+    -- returns
+    (λ c. λ t h. c .nodes-of .ensures t (omega arith) h ∙ ap (λ (f : ℕ → ℕ). nodeOf (c .before .before .args .nodes) (f t)) (c .before .shown-links .ensures)))

@@ -1,0 +1,216 @@
+-- The nested searches: each row's early end, and that together they search the triples in order.
+use Prim.Native.Nat.{ℕ, suc, _+_, _-_, _≤_, _<_}
+use native.Mathlib.Omega.{arith}
+use native.Mathlib.Numerals.{add-one}
+use mathlib.Core.Path.{_≡_, refl, sym, ap, _∙_, fun-ext}
+use mathlib.Core.Bool.{Bool, true, false, not, cond, _&&_, true≢false, false≢true}
+use mathlib.Core.List.{List, [], _∷_, _++_, map}
+use mathlib.Core.Option.{Option, none, some, Option·elim}
+use lib.ListN.{length, getD, drop, drop-of-length-le}
+use lib.Seq.{drop-cons}
+use lib.Dec.{eqb}
+use Rattle.logic.specs.Search.{_and_, _or_, from, keep, any, orElse, firstOf, find, flatMap}
+use Rattle.logic.specs.Facts.{Graph, Facts, live}
+use Rattle.logic.specs.Rules.{Rule, REFLEX, TRANS1, TRANS2, FUNC, CYCLE, SCC, TOTAL, SHARE, Triple, triple, Move, move, conditions, alternatives, held, applies, triples, ruleOf, choose}
+use Rattle.logic.specs.Walk.{orderOf}
+use Rattle.logic.proofs.Search.{firstOf-empty}
+use Rattle.facts.specs.declared.Facts as code
+use Rattle.facts.specs.Square.{rowOf}
+use Rattle.facts.specs.Path.{graphOf, pathOf}
+use Rattle.facts.proofs.Loops.{first-end, first-here, first-next}
+use Rattle.rules.specs.Tests.{pairTest, thirdTest, looped}
+use Rattle.rules.specs.Smallest.{allowed, inThird, inSecond, inFirst, moveAt, triedAt}
+
+-- a rule's test is in two halves
+module _ (n : ℕ) (alive : ℕ → Bool) (g : Graph) (x y z : ℕ) where
+  pub halves : (r : Rule) → looped r ≡ true → allowed n alive g (move r (triple x y z)) ≡ (pairTest alive g x y r && thirdTest g x y z r)
+  unfolding allowed conditions alternatives held any pairTest thirdTest looped _and_ _or_
+  halves REFLEX h = table (alive x) (eqb y 0) (eqb z 0) (g .reach x x)
+    where
+      table : (a b c d : Bool) → (a and b and c) and not (d or false) ≡ (a && b && not d && c)
+      table true true true true = refl
+      table true true true false = refl
+      table true true false true = refl
+      table true true false false = refl
+      table true false c d = refl
+      table false b c d = refl
+  halves TRANS1 h = table (g .link x y) (eqb z 0) (g .reach x y)
+    where
+      table : (a b c : Bool) → (a and b) and not (c or false) ≡ (a && not c && b)
+      table true true true = refl
+      table true true false = refl
+      table true false true = refl
+      table true false false = refl
+      table false b c = refl
+  halves TRANS2 h = table (g .reach x y) (g .reach y z) (g .reach x z)
+    where
+      table : (a b c : Bool) → (a and b) and not (c or false) ≡ (a && (b && not c))
+      table true true true = refl
+      table true true false = refl
+      table true false c = refl
+      table false b c = refl
+  halves FUNC h = table (g .link x y) (g .reach x z) (eqb x z) (g .reach y z)
+    where
+      table : (a b c d : Bool) → (a and b) and not (c or (d or false)) ≡ (a && (b && not c && not d))
+      table true true true d = refl
+      table true true false true = refl
+      table true true false false = refl
+      table true false c d = refl
+      table false b c d = refl
+  halves CYCLE h = absurd (false≢true h)
+  halves SCC h = table (g .reach x y) (g .reach y x) (g .reach x z) (eqb x y) (g .reach z x)
+    where
+      table : (a b c d e : Bool) → (a and b and c) and not (d or (e or false)) ≡ (a && b && not d && (c && not e))
+      table true true true true e = refl
+      table true true true false true = refl
+      table true true true false false = refl
+      table true true false true e = refl
+      table true true false false e = refl
+      table true false c d e = refl
+      table false b c d e = refl
+  halves TOTAL h = table (g .reach x y) (g .reach x z) (g .reach y z) (g .reach z y)
+    where
+      table : (a b c d : Bool) → (a and b) and not (c or (d or false)) ≡ (a && (b && not c && not d))
+      table true true true d = refl
+      table true true false true = refl
+      table true true false false = refl
+      table true false c d = refl
+      table false b c d = refl
+  halves SHARE h = table (g .link x z) (g .link y z) (g .reach x y) (g .reach y x) (eqb x y)
+    where
+      table : (a b c d e : Bool) → (a and b and c and d) and not (e or false) ≡ (c && d && not e && (a && b))
+      table true true true true true = refl
+      table true true true true false = refl
+      table true true true false e = refl
+      table true true false d e = refl
+      table true false true true true = refl
+      table true false true true false = refl
+      table true false true false e = refl
+      table true false false d e = refl
+      table false b true true true = refl
+      table false b true true false = refl
+      table false b true false e = refl
+      table false b false d e = refl
+
+pub not-looped : (r : Rule) → looped r ≡ false → r ≡ CYCLE
+unfolding looped
+not-looped REFLEX h = absurd (true≢false h)
+not-looped TRANS1 h = absurd (true≢false h)
+not-looped TRANS2 h = absurd (true≢false h)
+not-looped FUNC h = absurd (true≢false h)
+not-looped CYCLE h = refl
+not-looped SCC h = absurd (true≢false h)
+not-looped TOTAL h = absurd (true≢false h)
+not-looped SHARE h = absurd (true≢false h)
+
+-- the search for the third number, from k on
+abbrev pub thirdFrom : ℕ → (ℕ → Bool) → Graph → Rule → ℕ → ℕ → ℕ → Option Triple
+thirdFrom n alive g r x y k = firstOf (λ z. keep (allowed n alive g (move r (triple x y z))) (triple x y z)) (from (n + 1 - k) k)
+
+module _ (n : ℕ) (alive : ℕ → Bool) (g : Graph) (r : Rule) (l : looped r ≡ true) (x y : ℕ) where
+  pub third-none : pairTest alive g x y r ≡ false → inThird n alive g r x y ≡ none
+  unfolding inThird keep
+  third-none e = firstOf-empty _ _ (λ z m. rw (halves n alive g x y z r l, e))
+
+  module _ (e : pairTest alive g x y r ≡ true) (k : ℕ) where
+    pub third-here : k ≤ n → thirdTest g x y k r ≡ true → thirdFrom n alive g r x y k ≡ some (triple x y k)
+    unfolding keep
+    third-here h f = first-here _ (n + 1) k _ (omega arith) (rw (halves n alive g x y k r l, e, f))
+
+    pub third-next : k ≤ n → thirdTest g x y k r ≡ false → thirdFrom n alive g r x y k ≡ thirdFrom n alive g r x y (k + 1)
+    unfolding keep
+    third-next h f = first-next _ (n + 1) k (omega arith) (rw (halves n alive g x y k r l, e, f))
+
+-- Rows of triples
+
+module _ {B C : Type 0} (f : B → Option C) where
+  firstOf-append : (xs ys : List B) → firstOf f (xs ++ ys) ≡ orElse (firstOf f xs) (firstOf f ys)
+  unfolding firstOf orElse
+  firstOf-append [] ys = refl
+  firstOf-append (x ∷ xs) ys = go (f x) (firstOf-append xs ys)
+    where
+      go : (o : Option C) → firstOf f (xs ++ ys) ≡ orElse (firstOf f xs) (firstOf f ys) → orElse o (firstOf f (xs ++ ys)) ≡ orElse (orElse o (firstOf f xs)) (firstOf f ys)
+      go none e = e
+      go (some a) e = refl
+
+module _ {A B C : Type 0} (f : B → Option C) where
+  firstOf-flatMap : (h : A → List B) (xs : List A) → firstOf f (flatMap h xs) ≡ firstOf (λ x. firstOf f (h x)) xs
+  unfolding firstOf flatMap
+  firstOf-flatMap h [] = refl
+  firstOf-flatMap h (x ∷ xs) = firstOf-append f (h x) (flatMap h xs) ∙ ap (orElse (firstOf f (h x))) (firstOf-flatMap h xs)
+
+  firstOf-map : (h : A → B) (xs : List A) → firstOf f (map h xs) ≡ firstOf (λ x. f (h x)) xs
+  unfolding firstOf
+  firstOf-map h [] = refl
+  firstOf-map h (x ∷ xs) = ap (orElse (f (h x))) (firstOf-map h xs)
+
+-- the three searches together search all triples, smallest first
+pub nested : (n : ℕ) (f : Triple → Option Triple) → firstOf f (triples n) ≡ firstOf (λ x. firstOf (λ y. firstOf (λ z. f (triple x y z)) (from (n + 1 - 0) 0)) (from (n + 1 - 0) 0)) (from (n + 1 - 0) 0)
+unfolding triples
+nested n f =
+    rw count
+    (firstOf-flatMap f _ _
+    ∙ ap (λ (q : ℕ → Option Triple). firstOf q (from (n + 1 - 0) 0)) (fun-ext (λ x. firstOf-flatMap f _ _
+    ∙ ap (λ (q : ℕ → Option Triple). firstOf q (from (n + 1 - 0) 0)) (fun-ext (λ y. firstOf-map f (triple x y) _)))))
+  where
+    count : suc n ≡ n + 1 - 0
+    count = omega arith
+
+-- where the triple is found, the move is; and where it is not, neither is
+module _ {A B : Type 0} (p : A → Bool) (h : A → B) where
+  keep-through : (xs : List A) → firstOf (λ x. keep (p x) (h x)) xs ≡ Option·elim (find p xs) none (λ x. some (h x))
+  unfolding firstOf find keep orElse Option·elim
+  keep-through [] = refl
+  keep-through (x ∷ xs) = go (p x) (keep-through xs)
+    where
+      go : (t : Bool) → firstOf (λ y. keep (p y) (h y)) xs ≡ Option·elim (find p xs) none (λ y. some (h y)) → orElse (keep t (h x)) (firstOf (λ y. keep (p y) (h y)) xs) ≡ Option·elim (orElse (keep t x) (find p xs)) none (λ y. some (h y))
+      go true e = refl
+      go false e = e
+
+module _ (n : ℕ) (alive : ℕ → Bool) (g : Graph) where
+  first-find : (r : Rule) → inFirst n alive g r ≡ find (λ t. allowed n alive g (move r t)) (triples n)
+  unfolding inFirst inSecond inThird find
+  first-find r = sym (nested n (λ t. keep (allowed n alive g (move r t)) t))
+
+  pub tried-none : (k : ℕ) → ruleOf k ≡ none → triedAt n alive g k ≡ none
+  unfolding triedAt Option·elim
+  tried-none k e = rw e
+
+  pub tried-nowhere : (k : ℕ) (r : Rule) → ruleOf k ≡ some r → inFirst n alive g r ≡ none → triedAt n alive g k ≡ none
+  unfolding triedAt moveAt Option·elim
+  tried-nowhere k r e f = rw (e, keep-through (λ t. allowed n alive g (move r t)) (move r) (triples n), sym (first-find r), f)
+
+  pub tried-at : (k : ℕ) (r : Rule) (t : Triple) → ruleOf k ≡ some r → inFirst n alive g r ≡ some t → triedAt n alive g k ≡ some (move r t)
+  unfolding triedAt moveAt Option·elim
+  tried-at k r t e f = rw (e, keep-through (λ u. allowed n alive g (move r u)) (move r) (triples n), sym (first-find r), f)
+
+firstOf-option : {A B : Type 0} (f : A → Option B) (o : Option A) → firstOf f (Option·elim o [] (λ a. a ∷ [])) ≡ Option·elim o none f
+unfolding firstOf orElse Option·elim
+firstOf-option f none = refl
+firstOf-option f (some a) = go (f a)
+  where
+    go : {B : Type 0} (o : Option B) → orElse o none ≡ o
+    go none = refl
+    go (some b) = refl
+
+-- the order list, byte after byte
+choose-search : (n : ℕ) (s : Facts) (order : List ℕ) → choose n (orderOf order) s ≡ firstOf (triedAt n (live n s) (s .graph)) order
+unfolding choose orderOf triedAt moveAt allowed applies
+choose-search n s order = firstOf-flatMap _ _ order ∙ ap (λ (f : ℕ → Option Move). firstOf f order) (fun-ext (λ k. firstOf-option _ (ruleOf k)))
+
+pub choose-lent : (n : ℕ) (s : code.Facts) (alive : List Bool) (order : List ℕ) → rowOf alive ≡ live n (pathOf s) → choose n (orderOf order) (pathOf s) ≡ firstOf (triedAt n (rowOf alive) (graphOf (s .link) (s .reach))) order
+unfolding pathOf
+choose-lent n s alive order e = choose-search n (pathOf s) order ∙ ap (λ (a : ℕ → Bool). firstOf (triedAt n a (graphOf (s .link) (s .reach))) order) (sym e)
+
+module _ {B : Type 0} (f : ℕ → Option B) (xs : List ℕ) (i : ℕ) where
+  pub rest-end : length xs ≤ i → firstOf f (drop i xs) ≡ none
+  unfolding firstOf
+  rest-end h = rw (drop-of-length-le xs h)
+
+  pub rest-here : (b : B) → i < length xs → f (getD xs i 0) ≡ some b → firstOf f (drop i xs) ≡ some b
+  unfolding firstOf orElse
+  rest-here b h e = rw (drop-cons xs i 0 h, e)
+
+  pub rest-next : i < length xs → f (getD xs i 0) ≡ none → firstOf f (drop i xs) ≡ firstOf f (drop (i + 1) xs)
+  unfolding firstOf orElse
+  rest-next h e = rw (drop-cons xs i 0 h, e, add-one i)

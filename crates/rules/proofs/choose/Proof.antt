@@ -1,0 +1,59 @@
+-- What is left of the order list finds what the whole does. Assumes nothing.
+use Prim.Native.Nat.{_+_, _-_, _≤_}
+use native.Mathlib.Omega.{arith}
+use borrow.Author.Needs.{needs}
+use mathlib.Core.Path.{_≡_, refl, sym, ap, _∙_}
+use lib.ListN.{length, drop}
+use Rattle.logic.specs.Search.{firstOf}
+use Rattle.facts.specs.Square.{rowOf}
+use Rattle.facts.specs.Path.{graphOf}
+use Rattle.rules.specs.Answers.{choiceOf}
+use Rattle.rules.specs.Smallest.{triedAt}
+use Rattle.rules.proofs.Nested.{choose-lent, rest-end, rest-here, rest-next}
+use Rattle.rules.proofs.choose.Statement.{statement}
+use Rattle.rules.proofs.choose.Tie as tie
+
+abbrev Inv-loop : tie.InvT-loop
+Inv-loop order n alive link reach i₀ i =
+    (i ≤ length order)
+    × (firstOf (triedAt n (rowOf alive) (graphOf link reach)) order ≡ firstOf (triedAt n (rowOf alive) (graphOf link reach)) (drop i order))
+
+abbrev μ-loop : tie.MeasureT-loop
+μ-loop order n alive link reach i₀ i = length order - i
+
+pub choose-spec : {M : Type 1} → statement M
+choose-spec =
+    tie.close
+    (tie.spec
+    Inv-loop
+    μ-loop
+    -- live-requires
+    (λ c κs. search needs)
+    -- loop-holds
+    (λ c. (omega arith, refl))
+    -- shared-slice-read-tried
+    (λ c. omega arith)
+    -- tried-requires
+    (λ c κs. search needs)
+    -- enum-known-rule
+    (λ c. search needs)
+    -- returns
+    (λ c.
+    sym
+    (choose-lent _ (c .before .before .before .before .before .before .before .before .before .before .before .before .before .before .args .s) (c .before .before .before .before .before .before .before .before .before .before .before .before .live .result) (c .before .before .before .before .before .before .before .before .before .before .before .before .before .before .args .order .now) (c .before .before .before .before .before .before .before .before .before .before .before .before .live .ensures)
+    ∙ c .before .before .before .before .before .before .before .before .before .loop .inv .1
+    ∙ rest-here _ (c .before .before .before .before .before .before .before .before .before .before .before .before .before .before .args .order .now) (c .before .before .before .before .before .before .before .before .before .loop .i) _ (omega arith) (sym (c .before .before .before .tried .ensures) ∙ ap choiceOf (c .before .rule .given .1))))
+    -- enum-told
+    (λ c. search needs)
+    -- add-i
+    (λ c. omega arith)
+    -- loop-less
+    (λ c. omega arith)
+    -- loop-again
+    (λ c. (omega arith, c .before .before .before .before .before .before .before .before .loop .inv .1 ∙ rest-next _ (c .before .before .before .before .before .before .before .before .before .before .before .before .before .args .order .now) (c .before .before .before .before .before .before .before .before .loop .i) (omega arith) (sym (c .before .before .tried .ensures) ∙ ap choiceOf (c .enum-told .given .1))))
+    -- returns-2
+    (λ c.
+    sym
+    (choose-lent _ (c .before .before .before .before .before .before .args .s) (c .before .before .before .before .live .result) (c .before .before .before .before .before .before .args .order .now) (c .before .before .before .before .live .ensures)
+    ∙ c .before .loop .inv .1
+    ∙ rest-end _ (c .before .before .before .before .before .before .args .order .now) (c .before .loop .i) (omega arith))))

@@ -1,0 +1,38 @@
+-- One law for each return. Assumes nothing.
+use borrow.Author.Needs.{needs}
+use mathlib.Core.Path.{sym, ap, _∙_}
+use Rattle.rules.specs.Answers.{numberedOf, placeOf}
+use Rattle.rules.proofs.Nested.{tried-none, tried-nowhere, tried-at}
+use Rattle.rules.proofs.tried.Statement.{statement}
+use Rattle.rules.proofs.tried.Tie as tie
+
+pub tried-spec : {M : Type 1} → statement M
+tried-spec =
+    tie.close
+    (tie.spec
+    -- rule-numbered-requires
+    (λ c κs. search needs)
+    -- enum-known-rule
+    (λ c. search needs)
+    -- enum-told
+    (λ c. search needs)
+    -- returns
+    (λ c. sym (tried-none _ _ _ _ (sym (c .before .before .rule-numbered .ensures) ∙ ap numberedOf (c .enum-told .given .1))))
+    -- smallest-requires
+    (λ c κs. search needs)
+    -- enum-known-x
+    (λ c. search needs)
+    -- enum-told-2
+    (λ c. search needs)
+    -- returns-2
+    (λ c.
+    sym
+    (tried-nowhere _ _ _ _ _
+    (sym (c .before .before .before .before .before .before .rule-numbered .ensures) ∙ ap numberedOf (c .before .before .before .before .rule .given .1))
+    (sym (c .before .before .smallest .ensures) ∙ ap placeOf (c .enum-told2 .given .1))))
+    -- returns-3
+    (λ c.
+    sym
+    (tried-at _ _ _ _ _ _
+    (sym (c .before .before .before .before .before .before .before .rule-numbered .ensures) ∙ ap numberedOf (c .before .before .before .before .before .rule .given .1))
+    (sym (c .before .before .before .smallest .ensures) ∙ ap placeOf (c .before .x .given .1)))))

@@ -1,0 +1,4 @@
+pub mod Answers
+pub mod Tests
+pub mod Smallest
+pub mod Cycle

@@ -1,0 +1,39 @@
+-- Each rule's test in two halves: what it asks of the first two numbers, and what it asks of the third.
+use Prim.Native.Nat.{ℕ, zero}
+use mathlib.Core.Bool.{Bool, true, false, not, _&&_}
+use lib.Dec.{eqb}
+use Rattle.logic.specs.Facts.{Graph}
+use Rattle.logic.specs.Rules.{Rule, REFLEX, TRANS1, TRANS2, FUNC, CYCLE, SCC, TOTAL, SHARE}
+
+-- the third number of every rule but CYCLE is looked for among all numbers
+unfoldable pub looped : Rule → Bool
+looped REFLEX = true
+looped TRANS1 = true
+looped TRANS2 = true
+looped FUNC = true
+looped CYCLE = false
+looped SCC = true
+looped TOTAL = true
+looped SHARE = true
+
+module _ (alive : ℕ → Bool) (g : Graph) (x y : ℕ) where
+  unfoldable pub pairTest : Rule → Bool
+  pairTest REFLEX = alive x && eqb y 0 && not (g .reach x x)
+  pairTest TRANS1 = g .link x y && not (g .reach x y)
+  pairTest TRANS2 = g .reach x y
+  pairTest FUNC = g .link x y
+  pairTest CYCLE = g .reach x y
+  pairTest SCC = g .reach x y && g .reach y x && not (eqb x y)
+  pairTest TOTAL = g .reach x y
+  pairTest SHARE = g .reach x y && g .reach y x && not (eqb x y)
+
+module _ (g : Graph) (x y z : ℕ) where
+  unfoldable pub thirdTest : Rule → Bool
+  thirdTest REFLEX = eqb z 0
+  thirdTest TRANS1 = eqb z 0
+  thirdTest TRANS2 = g .reach y z && not (g .reach x z)
+  thirdTest FUNC = g .reach x z && not (eqb x z) && not (g .reach y z)
+  thirdTest CYCLE = false
+  thirdTest SCC = g .reach x z && not (g .reach z x)
+  thirdTest TOTAL = g .reach x z && not (g .reach y z) && not (g .reach z y)
+  thirdTest SHARE = g .link x z && g .link y z

@@ -1,0 +1,92 @@
+-- The links of section 1, one term after the other.
+use Prim.Native.Nat.{ℕ, zero, suc, _+_, _-_, _*_, _≤_, _<_}
+use native.Mathlib.Omega.{arith}
+use mathlib.Core.Path.{_≡_, refl, sym, ap, _∙_, fun-ext}
+use mathlib.Core.Logic.{⊎-elim}
+use mathlib.Core.Bool.{Bool, true, false, cond}
+use mathlib.Core.List.{List}
+use lib.ListN.{length, getD, take, drop, set, replicate, length-take, length-drop, List·getD-eq-default}
+use lib.Seq.{getD-take, getD-drop}
+use lib.Dec.{ltb, eqb}
+use borrow.Author.Tests.{lt-ltb, le-ltb, ltb-true, ltb-false, eqb-true, eqb-false, eq-eqb, ne-eqb}
+use Rattle.logic.specs.Search.{_and_}
+use Rattle.logic.specs.Query.{entryOf}
+use Rattle.logic.specs.Facts.{linksOf}
+use Rattle.logic.proofs.Search.{bool-cases}
+use Rattle.facts.specs.Square.{square, update}
+use Rattle.facts.proofs.Square.{square-set}
+use Rattle.facts.proofs.Fill.{ltb-next}
+
+abbrev linkIn : List ℕ → ℕ → ℕ → Bool
+linkIn entries a b = ltb 0 a and eqb (entryOf entries b) a
+
+and-false : (t : Bool) → t and false ≡ false
+unfolding _and_
+and-false true = refl
+and-false false = refl
+
+and-true : (t : Bool) → t and true ≡ t
+unfolding _and_
+and-true true = refl
+and-true false = refl
+
+-- a variable is nobody's successor
+variable-unlinked : (entries : List ℕ) (a b : ℕ) → entryOf entries b ≡ 0 → linkIn entries a b ≡ false
+unfolding _and_
+variable-unlinked entries zero b e = refl
+variable-unlinked entries (suc a) b e = rw (e, ne-eqb 0 (suc a) (omega arith)) (and-false (ltb 0 (suc a)))
+
+-- no cell is held
+nothing-at : (k i : ℕ) → getD (replicate k false) i false ≡ false
+nothing-at zero i = refl
+nothing-at (suc k) zero = refl
+nothing-at (suc k) (suc i) = nothing-at k i
+
+pub nothing-held : (k a b : ℕ) → square (replicate k false) a b ≡ false
+unfolding square
+nothing-held k a b = rw (nothing-at k (a * 17 + b)) (and-false _)
+
+-- the links to the terms below t are held, and no other
+abbrev pub LinksTo : List ℕ → ℕ → (ℕ → ℕ → Bool) → Type 0
+LinksTo entries t cur = (a b : ℕ) → cur a b ≡ (ltb b t and linkIn entries a b)
+
+module _ (entries : List ℕ) where
+  pub links-none : (cur : ℕ → ℕ → Bool) → ((a b : ℕ) → cur a b ≡ false) → LinksTo entries 1 cur
+  unfolding _and_ entryOf
+  links-none cur none a zero = none a zero ∙ sym (variable-unlinked entries a zero refl)
+  links-none cur none a (suc b) = none a (suc b) ∙ rw (le-ltb (suc b) 1 (omega arith))
+
+  -- the links to t are held next
+  pub links-more : (t a : ℕ) (cells : List Bool) → length cells ≡ 289 → a ≤ 16 → t ≤ 16 → entryOf entries t ≡ a → LinksTo entries t (square cells) → LinksTo entries (t + 1) (square (set cells (a * 17 + t) (ltb 0 a)))
+  unfolding update _and_
+  links-more t a cells full h k e m x y = ap (λ (f : ℕ → ℕ → Bool). f x y) (square-set cells full a t h k (ltb 0 a)) ∙ go (eqb y t) refl
+    where
+      row : y ≡ t → (u : Bool) → eqb x a ≡ u → cond (u and true) (ltb 0 a) (square cells x y) ≡ linkIn entries x y
+      row p true i = let q = eqb-true x a i in rw (q, p, e, eq-eqb a a refl) (sym (and-true (ltb 0 a)))
+      row p false i =
+          m x y
+          ∙ rw (p, le-ltb t t (omega arith), e, ne-eqb a x (λ q. eqb-false x a i (sym q))) (sym (and-false (ltb 0 x)))
+
+      go : (v : Bool) → eqb y t ≡ v → cond (eqb x a and v) (ltb 0 a) (square cells x y) ≡ (ltb y (t + 1) and linkIn entries x y)
+      go true i = let p = eqb-true y t i in rw (lt-ltb y (t + 1) (omega arith)) (row p (eqb x a) refl)
+      go false i = rw (and-false (eqb x a), ltb-next y t (eqb-false y t i)) (m x y)
+
+  -- all links are held
+  pub links-all : (n : ℕ) (cur : ℕ → ℕ → Bool) → ((b : ℕ) → n < b → entryOf entries b ≡ 0) → LinksTo entries (n + 1) cur → cur ≡ linksOf entries .graph .link
+  unfolding linksOf _and_
+  links-all n cur beyond m = fun-ext (λ a. fun-ext (λ b. m a b ∙ ⊎-elim (λ t. rw t) (λ t. let l = ltb-false b (n + 1) t in rw t (sym (variable-unlinked entries a b (beyond b (omega arith))))) (bool-cases (ltb b (n + 1)))))
+
+-- the entries of n terms in the query's bytes
+module _ (bytes : List ℕ) (n : ℕ) (fits : n < length bytes) where
+  pub entry-in : (t : ℕ) → 1 ≤ t → t ≤ n → entryOf (take n (drop 1 bytes)) t ≡ getD bytes t 0
+  unfolding entryOf
+  entry-in zero h k = absurd (omega arith)
+  entry-in (suc i) h k = getD-take n (drop 1 bytes) i 0 (omega arith) ∙ getD-drop 1 bytes i 0 ∙ ap (λ (j : ℕ). getD bytes j 0) one-more
+    where
+      one-more : 1 + i ≡ suc i
+      one-more = omega arith
+
+  pub entry-beyond : (t : ℕ) → n < t → entryOf (take n (drop 1 bytes)) t ≡ 0
+  unfolding entryOf
+  entry-beyond zero h = refl
+  entry-beyond (suc i) h = List·getD-eq-default (take n (drop 1 bytes)) 0 (simp (length-take, length-drop) (omega arith))

@@ -1,0 +1,6 @@
+pub mod Bounded
+pub mod Each
+pub mod Entries
+pub mod Itself
+pub mod Taken
+pub mod Laid

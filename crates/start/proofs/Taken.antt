@@ -1,0 +1,48 @@
+-- One literal taken, as the code reads it through the array of representatives.
+use Prim.Native.Nat.{ℕ, _≤_}
+use mathlib.Core.Path.{_≡_, refl, sym, ap, ap₂, _∙_}
+use mathlib.Core.Bool.{true, false, cond}
+use lib.ListN.{getD}
+use Rattle.logic.specs.Query.{Literal}
+use Rattle.logic.specs.Facts.{join, addReach}
+use Rattle.logic.proofs.Compare.{cond-true, cond-false}
+use Rattle.facts.specs.declared.Facts as code
+use Rattle.facts.specs.Path.{pathOf}
+use Rattle.facts.proofs.Rep.{rep-in}
+use Rattle.start.specs.Taken.{joinOne, reachOne, Bounded, Terms}
+
+-- what the array has for a term
+abbrev repAt : code.Facts → ℕ → ℕ
+repAt s t = getD (s .rep) t (record { 0 = 0 }) .0
+
+module _ (s : code.Facts) where
+  pub read-bounded : Bounded (pathOf s) → (t : ℕ) → t ≤ 16 → repAt s t ≤ 16
+  unfolding pathOf
+  read-bounded b t h = rw (rep-in (s .rep) t h) at (b .within t h)
+
+  rep-read : (t u : ℕ) → t ≡ u → u ≤ 16 → repAt s t ≡ pathOf s .rep u
+  unfolding pathOf
+  rep-read t u e h = ap (repAt s) e ∙ sym (rep-in (s .rep) u h)
+
+  -- the numbers x and y that are read of a literal are its terms
+  module _ (l : Literal) (x y : ℕ) (e : x ≡ l .left) (f : y ≡ l .right) (t : Terms l) where
+    pub join-plain : (n : ℕ) → l .plain ≡ true → join n (repAt s x) (repAt s y) (pathOf s) ≡ joinOne n l (pathOf s)
+    unfolding joinOne
+    join-plain n p =
+        ap₂ (λ a b. join n a b (pathOf s)) (rep-read x (l .left) e (t .left-within)) (rep-read y (l .right) f (t .right-within))
+        ∙ sym (cond-true _ _ p)
+
+    pub reach-plain : l .plain ≡ true → addReach (repAt s x) (repAt s y) (pathOf s) ≡ reachOne l (pathOf s)
+    unfolding reachOne
+    reach-plain p =
+        ap₂ (λ a b. addReach a b (pathOf s)) (rep-read x (l .left) e (t .left-within)) (rep-read y (l .right) f (t .right-within))
+        ∙ sym (cond-true _ _ p)
+
+  module _ (l : Literal) where
+    pub join-negated : (n : ℕ) → l .plain ≡ false → pathOf s ≡ joinOne n l (pathOf s)
+    unfolding joinOne
+    join-negated n p = sym (cond-false _ _ p)
+
+    pub reach-negated : l .plain ≡ false → pathOf s ≡ reachOne l (pathOf s)
+    unfolding reachOne
+    reach-negated p = sym (cond-false _ _ p)

@@ -1,0 +1,124 @@
+// The start of a query: the path that holds its links, its plain equalities and its plain reachability facts.
+use facts::Facts;
+use facts::Term;
+use query::Layout;
+ghost use mathlib.Core.Path.{_≡_};
+ghost use mathlib.Core.Bool.{true};
+ghost use Prim.Native.Nat.{ℕ, _+_, _*_, _≤_, _<_};
+ghost use lib.ListN.{length, take, drop};
+ghost use Rattle.logic.specs.Query.{literals, decode};
+ghost use Rattle.logic.specs.Facts.{linksOf, joinEach, reachEach, start};
+ghost use Rattle.logic.specs.Calls.{accepts};
+ghost use Rattle.facts.specs.Square.{square};
+ghost use Rattle.facts.specs.Path.{pathOf, repOf};
+ghost use Rattle.query.specs.LaysOut.{LaysOut, literalIn};
+ghost use Rattle.start.specs.Taken.{joinOne, reachOne, Bounded, Terms, TermsIn, EntriesIn};
+
+// No term is replaced.
+fn unreplaced() -> [Term; 17]
+    ensures { λ r. ⌜ ((t : ℕ) → repOf r t ≡ t) ⌝ }
+{
+    let mut rep = [Term(0); 17];
+    let mut t: usize = 0;
+    while t < 17 {
+        rep[t] = Term(t);
+        t += 1;
+    }
+    rep
+}
+
+// f(a) = b for each term b whose entry is a term a.
+fn links(query: &[u8], n: usize) -> [bool; 289]
+    requires { ⌜ (n ≤ 16) × (n < length (now query)) × EntriesIn (now query) n ⌝ }
+    ensures { λ r. ⌜ square r ≡ linksOf (take n (drop 1 (now (query .entry)))) .graph .link ⌝ }
+{
+    let mut link = [false; 289];
+    let mut b: usize = 1;
+    while b <= n {
+        let a = query::byte_at(query, b);
+        link[a * 17 + b] = 0 < a;
+        b += 1;
+    }
+    link
+}
+
+// "The start holds the links of section 1"
+fn linked(query: &[u8], n: usize) -> Facts
+    requires { ⌜ (n ≤ 16) × (n < length (now query)) × EntriesIn (now query) n ⌝ }
+    ensures { λ r. ⌜ pathOf r ≡ linksOf (take n (drop 1 (now (query .entry)))) ⌝ }
+{
+    let rep = unreplaced();
+    let link = links(query, n);
+    let reach = [false; 289];
+    Facts { rep, link, reach }
+}
+
+// Equality i is joined, where it is plain.
+fn join_one(s: Facts, n: usize, query: &[u8], at: usize, i: usize) -> Facts
+    requires { ⌜ (n ≤ 16) × (at + 3 * i + 3 ≤ length (now query)) × Terms (literalIn (now query) at i) × Bounded (pathOf s) ⌝ }
+    ensures { λ r. ⌜ pathOf r ≡ joinOne n (literalIn (now (query .entry)) at i) (pathOf s) ⌝ }
+{
+    if !query::sign(query, at, i) {
+        return s;
+    }
+    let left = query::left(query, at, i);
+    let right = query::right(query, at, i);
+    let a = s.rep[left];
+    let b = s.rep[right];
+    facts::join(s, n, a, b)
+}
+
+// "then each plain equality joined in query order"
+fn join_each(s: Facts, n: usize, query: &[u8], at: usize, count: usize) -> Facts
+    requires { ⌜ (n ≤ 16) × (at + 3 * count ≤ length (now query)) × TermsIn (now query) at count × Bounded (pathOf s) ⌝ }
+    ensures { λ r. ⌜ (pathOf r ≡ joinEach n (literals (take (3 * count) (drop at (now (query .entry))))) (pathOf s)) × Bounded (pathOf r) ⌝ }
+{
+    let mut t = s;
+    let mut i: usize = 0;
+    while i < count {
+        t = join_one(t, n, query, at, i);
+        i += 1;
+    }
+    t
+}
+
+// Reachability literal i is added, where it is plain.
+fn reach_one(s: Facts, query: &[u8], at: usize, i: usize) -> Facts
+    requires { ⌜ (at + 3 * i + 3 ≤ length (now query)) × Terms (literalIn (now query) at i) × Bounded (pathOf s) ⌝ }
+    ensures { λ r. ⌜ pathOf r ≡ reachOne (literalIn (now (query .entry)) at i) (pathOf s) ⌝ }
+{
+    let plain = query::sign(query, at, i);
+    if !plain {
+        return s;
+    }
+    let from = query::left(query, at, i);
+    let to = query::right(query, at, i);
+    let a = s.rep[from];
+    let b = s.rep[to];
+    facts::add_reach(s, a, b)
+}
+
+// "then the plain reachability facts"
+fn reach_each(s: Facts, query: &[u8], at: usize, count: usize) -> Facts
+    requires { ⌜ (at + 3 * count ≤ length (now query)) × TermsIn (now query) at count × Bounded (pathOf s) ⌝ }
+    ensures { λ r. ⌜ pathOf r ≡ reachEach (literals (take (3 * count) (drop at (now (query .entry))))) (pathOf s) ⌝ }
+{
+    let mut t = s;
+    let mut i: usize = 0;
+    while i < count {
+        t = reach_one(t, query, at, i);
+        i += 1;
+    }
+    t
+}
+
+// The start of an accepted query.
+pub fn start(query: &[u8], layout: Layout) -> Facts
+    requires { ⌜ LaysOut layout (now query) × (accepts (now query) ≡ true) ⌝ }
+    ensures { λ r. ⌜ pathOf r ≡ start (decode (now (query .entry))) ⌝ }
+{
+    let n = layout.terms;
+    let settled = facts::settle(linked(query, n), n);
+    let joined = join_each(settled, n, query, layout.equal_at, layout.equal_count);
+    reach_each(joined, query, layout.reach_at, layout.reach_count)
+}

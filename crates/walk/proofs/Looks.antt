@@ -1,0 +1,126 @@
+-- What is seen at a path, and that its numbers fit a byte.
+use Prim.Native.Nat.{ℕ, zero, suc, _+_, _≤_, _<_}
+use native.Mathlib.Omega.{arith}
+use mathlib.Core.Path.{_≡_, refl, sym, ap, _∙_, subst}
+use mathlib.Core.Logic.{_⊎_, ⊎-elim, inl, inr}
+use mathlib.Core.Bool.{Bool, true}
+use mathlib.Core.List.{List, [], _∷_, _++_, map, List·Memᴰ, List·Memᴰ·append-cases}
+use mathlib.Core.Option.{Option, none, some, Option·elim}
+use lib.ListN.{length}
+use Rattle.logic.specs.Search.{from, keep, firstOf, find, flatMap}
+use Rattle.logic.specs.Query.{Literal, Query, termCount}
+use Rattle.logic.specs.Facts.{Facts, Line, line, isClash, clashLines, clash}
+use Rattle.logic.specs.Rules.{Rule, Triple, triple, Move, move, applies, triples, choose}
+use Rattle.logic.specs.Walk.{Look, clashing, applying, saturated, look}
+use Rattle.facts.specs.Square.{square}
+use Rattle.facts.specs.Path.{repOf, graphOf, pathOf}
+use Rattle.facts.specs.declared.Facts as code
+use Rattle.logic.proofs.Search.{keep-some, firstOf-some, find-some, from-mem, flatMap-mem, map-mem, none-some}
+
+module _ (q : Query) (order : List Rule) (s : Facts) where
+  pub look-clashing : (l : Line) → clash q s ≡ some l → look q order s ≡ clashing l
+  unfolding look Option·elim
+  look-clashing l h = rw h
+
+  pub look-applying : (m : Move) → clash q s ≡ none → choose (termCount q) order s ≡ some m → look q order s ≡ applying m
+  unfolding look Option·elim
+  look-applying m h k = rw (h, k)
+
+  pub look-saturated : clash q s ≡ none → choose (termCount q) order s ≡ none → look q order s ≡ saturated
+  unfolding look Option·elim
+  look-saturated h k = rw (h, k)
+
+  -- and back
+  look-cases : (o : Option Line) (p : Option Move) → (l : Line) → Option·elim o (Option·elim p saturated applying) clashing ≡ clashing l → o ≡ some l
+  unfolding Option·elim
+  look-cases none none l h = let z : _≡_ {A = ℕ} 0 1 = cc in absurd (omega arith)
+  look-cases none (some m) l h = let z : _≡_ {A = ℕ} 0 1 = cc in absurd (omega arith)
+  look-cases (some l′) p l h = ap some (cc)
+
+  clashing-back : (l : Line) → look q order s ≡ clashing l → clash q s ≡ some l
+  unfolding look
+  clashing-back l h = look-cases (clash q s) (choose (termCount q) order s) l h
+
+  move-cases : (o : Option Line) (p : Option Move) → (m : Move) → Option·elim o (Option·elim p saturated applying) clashing ≡ applying m → p ≡ some m
+  unfolding Option·elim
+  move-cases none none m h = let z : _≡_ {A = ℕ} 0 1 = cc in absurd (omega arith)
+  move-cases none (some m′) m h = ap some (cc)
+  move-cases (some l) p m h = let z : _≡_ {A = ℕ} 0 1 = cc in absurd (omega arith)
+
+  applying-back : (m : Move) → look q order s ≡ applying m → choose (termCount q) order s ≡ some m
+  unfolding look
+  applying-back m h = move-cases (clash q s) (choose (termCount q) order s) m h
+
+-- a triple that is searched is of numbers up to n
+triple-range : (n x y z : ℕ) → List·Memᴰ (triple x y z) (triples n) → (x ≤ n) × (y ≤ n) × (z ≤ n)
+unfolding triples
+triple-range n x y z m =
+    let a = flatMap-mem (λ x. flatMap (λ y. map (triple x y) (from (suc n) 0)) (from (suc n) 0)) (triple x y z) (from (suc n) 0) m in
+    let b = flatMap-mem (λ y. map (triple (a .0) y) (from (suc n) 0)) (triple x y z) (from (suc n) 0) (a .2) in
+    let c = map-mem (triple (a .0) (b .0)) (triple x y z) (from (suc n) 0) (b .2) in
+    let ra = from-mem (suc n) 0 (a .0) (a .1) in
+    let rb = from-mem (suc n) 0 (b .0) (b .1) in
+    let rc = from-mem (suc n) 0 (c .0) (c .1) in
+    let e = c .2 in
+    let ex : x ≡ a .0 = cc in
+    let ey : y ≡ b .0 = cc in
+    let ez : z ≡ c .0 = cc in
+    (omega arith, omega arith, omega arith)
+
+pub move-range : (q : Query) (order : List Rule) (s : Facts) (r : Rule) (x y z : ℕ) → look q order s ≡ applying (move r (triple x y z)) → (x ≤ termCount q) × (y ≤ termCount q) × (z ≤ termCount q)
+unfolding choose
+move-range q order s r x y z h =
+    let n : ℕ = termCount q in
+    let f = firstOf-some (λ r. firstOf (λ t. keep (applies n s (move r t)) (move r t)) (triples n)) order (move r (triple x y z)) (applying-back q order s (move r (triple x y z)) h) in
+    let g = firstOf-some (λ t. keep (applies n s (move (f .0) t)) (move (f .0) t)) (triples n) (move r (triple x y z)) (f .2) in
+    let k = keep-some (applies n s (move (f .0) (g .0))) (g .2) .1 in
+    let e : g .0 ≡ triple x y z = cc in
+    triple-range n x y z (subst (λ (t : Triple). List·Memᴰ t (triples n)) e (g .1))
+
+-- the numbers of a line
+abbrev pub Small : ℕ → Line → Type 0
+Small m (line a b c d) = (b ≤ 5) × (c ≤ m) × (d ≤ m)
+
+alone-small : (m k : ℕ) (ls : List Literal) (l : Line) → k ≤ 5 → length ls ≤ m → List·Memᴰ l (map (λ i. line 9 k i 0) (from (length ls) 1)) → Small m l
+alone-small m k ls l h g i =
+    let p = map-mem (λ i. line 9 k i 0) l (from (length ls) 1) i in
+    let r = from-mem (length ls) 1 (p .0) (p .1) in
+    subst (Small m) (sym (p .2)) (h, omega arith, omega arith)
+
+paired-small : (m k : ℕ) (ls : List Literal) (l : Line) → k ≤ 5 → length ls ≤ m → List·Memᴰ l (flatMap (λ i. map (line 9 k i) (from (length ls) 1)) (from (length ls) 1)) → Small m l
+paired-small m k ls l h g i =
+    let p = flatMap-mem (λ i. map (line 9 k i) (from (length ls) 1)) l (from (length ls) 1) i in
+    let r = from-mem (length ls) 1 (p .0) (p .1) in
+    let c = map-mem (line 9 k (p .0)) l (from (length ls) 1) (p .2) in
+    let t = from-mem (length ls) 1 (c .0) (c .1) in
+    subst (Small m) (sym (c .2)) (h, omega arith, omega arith)
+
+pub clash-range : (q : Query) (order : List Rule) (s : Facts) (m : ℕ) (l : Line) → length (q .equalities) ≤ m → length (q .reachability) ≤ m → length (q .fields) ≤ m → length (q .booleans) ≤ m → look q order s ≡ clashing l → Small m l
+unfolding clash clashLines
+clash-range q order s m l a b c d h =
+    let i = find-some (isClash q s) (clashLines q) l (clashing-back q order s l h) .0 in
+    ⊎-elim (λ p. alone-small m 2 (q .equalities) l (omega arith) a p)
+    (λ p. ⊎-elim (λ p. alone-small m 3 (q .reachability) l (omega arith) b p)
+    (λ p. ⊎-elim (λ p. paired-small m 4 (q .fields) l (omega arith) c p) (λ p. paired-small m 5 (q .booleans) l (omega arith) d p)
+    (List·Memᴰ·append-cases _ p)) (List·Memᴰ·append-cases _ p)) (List·Memᴰ·append-cases _ i)
+
+-- What the code's searches find, as what is seen
+module _ (q : Query) (order : List Rule) (s : code.Facts) (n : ℕ) (terms-are : n ≡ termCount q) where
+  -- the clash of every path with these representatives and this reachability is that of the path
+  path-clash : (o : Option Line) → ((t : Facts) → t .rep ≡ repOf (s .rep) → t .graph .reach ≡ square (s .reach) → o ≡ clash q t) → o ≡ clash q (pathOf s)
+  unfolding pathOf graphOf
+  path-clash o h = h (pathOf s) refl refl
+
+  abbrev ClashIs : Option Line → Type 0
+  ClashIs o = (t : Facts) → t .rep ≡ repOf (s .rep) → t .graph .reach ≡ square (s .reach) → o ≡ clash q t
+
+  pub seen-clashing : (o : Option Line) (l : Line) → ClashIs o → o ≡ some l → clashing l ≡ look q order (pathOf s)
+  seen-clashing o l h e = sym (look-clashing q order (pathOf s) l (sym (path-clash o h) ∙ e))
+
+  pub seen-applying : (o : Option Line) (m : Move) (p : Option Move) → ClashIs o → o ≡ none → p ≡ choose n order (pathOf s) → p ≡ some m → applying m ≡ look q order (pathOf s)
+  seen-applying o m p h e k f =
+      sym (look-applying q order (pathOf s) m (sym (path-clash o h) ∙ e) (ap (λ (j : ℕ). choose j order (pathOf s)) (sym terms-are) ∙ sym k ∙ f))
+
+  pub seen-saturated : (o : Option Line) (p : Option Move) → ClashIs o → o ≡ none → p ≡ choose n order (pathOf s) → p ≡ none → saturated ≡ look q order (pathOf s)
+  seen-saturated o p h e k f =
+      sym (look-saturated q order (pathOf s) (sym (path-clash o h) ∙ e) (ap (λ (j : ℕ). choose j order (pathOf s)) (sym terms-are) ∙ sym k ∙ f))

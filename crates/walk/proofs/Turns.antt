@@ -1,0 +1,71 @@
+-- The branches of a rule, walked one after the other: what stands after some of them, and how the walk ends.
+use Prim.Native.Nat.{ℕ, zero, suc, _+_, _≤_, _<_}
+use native.Mathlib.Omega.{arith}
+use mathlib.Core.Path.{_≡_, refl, sym, ap, _∙_, subst}
+use mathlib.Core.Bool.{Bool, true, false, true≢false, false≢true}
+use mathlib.Core.List.{List, [], _∷_, _++_, append-nil}
+use lib.ListN.{length, getD, drop}
+use Rattle.logic.specs.Facts.{Facts, Line}
+use Rattle.logic.specs.Walk.{Ending, refutation, saturation, broken-off, after, walkEach}
+use Rattle.walk.specs.Lines.{counted, countAll, putLine, putAll}
+use Rattle.walk.specs.Ends.{isRefuted, Ends}
+use Rattle.walk.specs.declared.Walked.{Walked}
+use Rattle.walk.specs.declared.Kind.the-variants as kind
+use Rattle.walk.proofs.Lines.{countAll-append, putAll-append, putAll-length, putLine-length}
+use Rattle.walk.proofs.Walks.{after-after, after-none, each-end, each-refuted, each-saturated, each-broken}
+
+-- After i branches, all refuted by lines that are written and counted.
+pub record Turn (w : Facts → Ending) (bs : List Facts) (before : List ℕ) (c : ℕ) (i : ℕ) (bytes : List ℕ) (count : ℕ) : Type 0 where
+  pub lines : List Line
+  pub left : walkEach w bs ≡ after lines (walkEach w (drop i bs))
+  pub written : bytes ≡ putAll before c lines
+  pub counts : count ≡ countAll c lines
+
+module _ (w : Facts → Ending) (bs : List Facts) (before : List ℕ) (c : ℕ) where
+  pub turn-first : Turn w bs before c 0 before c
+  unfolding putAll countAll
+  turn-first = record { lines = []; left = sym (after-none (walkEach w bs)); written = refl; counts = refl }
+
+  module _ (i : ℕ) (bytes bytes′ : List ℕ) (count : ℕ) (t : Turn w bs before c i bytes count) (d : Facts) (r : Walked) (in-row : i < length bs) where
+    pub turn-next : (e : Ending) → w (getD bs i d) ≡ e → Ends r e bytes count bytes′ → isRefuted (r .kind) ≡ true → Turn w bs before c (i + 1) bytes′ (r .count)
+    turn-next (refutation ls) h p k =
+        record {
+          lines = t .lines ++ ls;
+          left = t .left ∙ ap (after (t .lines)) (each-refuted w bs i d ls in-row h) ∙ after-after (t .lines) ls (walkEach w (drop (i + 1) bs));
+          written = p .2 ∙ ap (λ (b : List ℕ). putAll b count ls) (t .written) ∙ ap (λ (j : ℕ). putAll (putAll before c (t .lines)) j ls) (t .counts) ∙ sym (putAll-append before c (t .lines) ls);
+          counts = p .1 ∙ ap (λ (j : ℕ). countAll j ls) (t .counts) ∙ sym (countAll-append c (t .lines) ls);
+        }
+    turn-next (saturation s) h p k = absurd (false≢true (ap isRefuted (sym (p .0)) ∙ k))
+    turn-next broken-off h p k = absurd (false≢true (ap isRefuted (sym (p .0)) ∙ k))
+
+    -- a branch that is not refuted ends the walk; e is its ending, which nothing in front changes
+    ended : (l : Line) (e : Ending) → ((ls : List Line) → after ls e ≡ e) → walkEach w (drop i bs) ≡ e → after (l ∷ []) (walkEach w bs) ≡ e
+    ended l e fixed g = ap (after (l ∷ [])) (t .left ∙ ap (after (t .lines)) g ∙ fixed (t .lines)) ∙ fixed (l ∷ [])
+
+    kept-length : (old : List ℕ) → length before ≡ length old → length bytes′ ≡ length bytes → length bytes′ ≡ length old
+    kept-length old same g = g ∙ ap length (t .written) ∙ putAll-length before c (t .lines) ∙ same
+
+    pub turn-stop : (l : Line) (old : List ℕ) (c₀ : ℕ) → length before ≡ length old → (e : Ending) → w (getD bs i d) ≡ e → Ends r e bytes count bytes′ → isRefuted (r .kind) ≡ false → Ends r (after (l ∷ []) (walkEach w bs)) old c₀ bytes′
+    unfolding after
+    turn-stop l old c₀ same (refutation ls) h p k = absurd (true≢false (ap isRefuted (sym (p .0)) ∙ k))
+    turn-stop l old c₀ same (saturation s) h p k =
+        subst (λ (e : Ending). Ends r e old c₀ bytes′) (sym (ended l (saturation s) (λ ls. refl) (each-saturated w bs i d s in-row h)))
+        (p .0, p .1, kept-length old same (p .2))
+    turn-stop l old c₀ same broken-off h p k =
+        subst (λ (e : Ending). Ends r e old c₀ bytes′) (sym (ended l broken-off (λ ls. refl) (each-broken w bs i d in-row h)))
+        (p .0, kept-length old same (p .1))
+
+  -- all branches are refuted
+  pub turn-last : (i : ℕ) (bytes : List ℕ) (count : ℕ) → Turn w bs before c i bytes count → length bs ≤ i → (r : Walked) (l : Line) (old : List ℕ) (c₀ : ℕ) → before ≡ putLine old c₀ l → c ≡ counted c₀ → r .kind ≡ kind.Refuted → r .count ≡ count → Ends r (after (l ∷ []) (walkEach w bs)) old c₀ bytes
+  unfolding after putAll countAll
+  turn-last i bytes count t past r l old c₀ eb ec k rc =
+      subst (λ (e : Ending). Ends r e old c₀ bytes) (sym whole) (
+        k,
+        rc ∙ t .counts ∙ ap (λ (j : ℕ). countAll j (t .lines)) ec,
+        t .written ∙ ap (λ (b : List ℕ). putAll b c (t .lines)) eb ∙ ap (λ (j : ℕ). putAll (putLine old c₀ l) j (t .lines)) ec,
+      )
+    where
+      whole : after (l ∷ []) (walkEach w bs) ≡ refutation (l ∷ t .lines)
+      whole =
+          ap (after (l ∷ [])) (t .left ∙ ap (after (t .lines)) (each-end w bs i past))
+          ∙ ap (λ (ls : List Line). refutation (l ∷ ls)) (append-nil (t .lines))

@@ -1,0 +1,71 @@
+-- Laws of the branch walk: one look, and then each branch in order.
+use Prim.Native.Nat.{ℕ, zero, suc, _+_, _*_, _-_, _≤_, _<_}
+use native.Mathlib.Omega.{arith}
+use native.Mathlib.Numerals.{add-one}
+use mathlib.Core.Path.{_≡_, refl, sym, ap, _∙_, subst}
+use mathlib.Core.List.{List, [], _∷_, _++_, map, append-nil, append-assoc}
+use lib.ListN.{length, getD, drop, drop-of-length-le}
+use lib.Seq.{drop-cons}
+use Rattle.logic.specs.Query.{Query, termCount}
+use Rattle.logic.specs.Facts.{Facts, Line}
+use Rattle.logic.specs.Rules.{Rule, Move, branches, moveLine}
+use Rattle.logic.specs.Walk.{Look, clashing, applying, saturated, look, Ending, refutation, saturation, broken-off, after, thenEnding, walkEach, endAt, walk}
+
+module _ (q : Query) (order : List Rule) where
+  pub walk-clashing : (k : ℕ) (s : Facts) (l : Line) → look q order s ≡ clashing l → walk q order k s ≡ refutation (l ∷ [])
+  unfolding walk endAt
+  walk-clashing zero s l h = rw h
+  walk-clashing (suc k) s l h = rw h
+
+  pub walk-saturated : (k : ℕ) (s : Facts) → look q order s ≡ saturated → walk q order k s ≡ saturation s
+  unfolding walk endAt
+  walk-saturated zero s h = rw h
+  walk-saturated (suc k) s h = rw h
+
+  pub walk-broken : (s : Facts) (m : Move) → look q order s ≡ applying m → walk q order 0 s ≡ broken-off
+  unfolding walk endAt
+  walk-broken s m h = rw h
+
+  pub walk-applying : (k : ℕ) (s : Facts) (m : Move) → 1 ≤ k → look q order s ≡ applying m → walk q order k s ≡ after (moveLine m ∷ []) (walkEach (walk q order (k - 1)) (branches (termCount q) s m))
+  unfolding walk endAt
+  walk-applying zero s m l h = absurd (omega arith)
+  walk-applying (suc k) s m l h =
+      let e : suc k - 1 ≡ k = omega arith in
+      rw (h, e)
+
+-- lines in front of lines
+pub after-after : (ls ms : List Line) (e : Ending) → after ls (after ms e) ≡ after (ls ++ ms) e
+unfolding after
+after-after ls ms (refutation ns) = ap refutation (sym (append-assoc ls ms ns))
+after-after ls ms (saturation s) = refl
+after-after ls ms broken-off = refl
+
+pub after-none : (e : Ending) → after [] e ≡ e
+unfolding after
+after-none (refutation ls) = refl
+after-none (saturation s) = refl
+after-none broken-off = refl
+
+-- Of the branches from i on, the first and then the others
+module _ (w : Facts → Ending) (bs : List Facts) where
+  pub each-end : (i : ℕ) → length bs ≤ i → walkEach w (drop i bs) ≡ refutation []
+  unfolding walkEach
+  each-end i h = ap (walkEach w) (drop-of-length-le bs h)
+
+  each-at : (i : ℕ) (d : Facts) (e : Ending) → i < length bs → w (getD bs i d) ≡ e → walkEach w (drop i bs) ≡ thenEnding e (walkEach w (drop (i + 1) bs))
+  unfolding walkEach
+  each-at i d e h p =
+      ap (walkEach w) (drop-cons bs i d h) ∙ ap (λ (x : Ending). thenEnding x (walkEach w (drop (suc i) bs))) p
+      ∙ ap (λ (j : ℕ). thenEnding e (walkEach w (drop j bs))) (sym (add-one i))
+
+  pub each-refuted : (i : ℕ) (d : Facts) (ls : List Line) → i < length bs → w (getD bs i d) ≡ refutation ls → walkEach w (drop i bs) ≡ after ls (walkEach w (drop (i + 1) bs))
+  unfolding thenEnding
+  each-refuted i d ls h p = each-at i d (refutation ls) h p
+
+  pub each-saturated : (i : ℕ) (d t : Facts) → i < length bs → w (getD bs i d) ≡ saturation t → walkEach w (drop i bs) ≡ saturation t
+  unfolding thenEnding
+  each-saturated i d t h p = each-at i d (saturation t) h p
+
+  pub each-broken : (i : ℕ) (d : Facts) → i < length bs → w (getD bs i d) ≡ broken-off → walkEach w (drop i bs) ≡ broken-off
+  unfolding thenEnding
+  each-broken i d h p = each-at i d broken-off h p

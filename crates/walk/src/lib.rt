@@ -1,0 +1,165 @@
+// The branch walk, and the lines that it writes.
+use clash::Clash;
+use facts::Facts;
+use facts::Term;
+use query::Layout;
+use rules::Choice;
+use rules::Rule;
+ghost use mathlib.Core.Path.{_≡_};
+ghost use Prim.Native.Nat.{ℕ, _+_, _*_, _≤_, _<_};
+ghost use lib.ListN.{length};
+ghost use Rattle.logic.specs.Facts.{line};
+ghost use Rattle.logic.specs.Query.{decode};
+ghost use Rattle.logic.specs.Rules.{ruleNumber};
+ghost use Rattle.logic.specs.Walk.{look, walk, orderOf};
+ghost use Rattle.facts.specs.Path.{pathOf};
+ghost use Rattle.query.specs.LaysOut.{LaysOut};
+ghost use Rattle.rules.specs.Answers.{kindOf};
+ghost use Rattle.walk.specs.Lines.{counted, putLine};
+ghost use Rattle.walk.specs.Ends.{isRefuted, lookOf, Ends};
+
+// One line more, up to one above 16,000.
+pub fn counted(count: usize) -> usize
+    ensures { λ r. ⌜ r ≡ counted count ⌝ }
+{
+    if count <= 16000 {
+        return count + 1;
+    }
+    count
+}
+
+// A line at its place, where there is room for it.
+pub fn put_line(lines: &mut [u8], count: usize, a: usize, b: usize, c: usize, d: usize)
+    requires { ⌜ (count ≤ 16001) × (a < 256) × (b < 256) × (c < 256) × (d < 256) ⌝ }
+    ensures { λ _. ⌜ now (lines .exit) ≡ putLine (now (lines .entry)) count (line a b c d) ⌝ }
+{
+    let at = 4 * count + 2;
+    if lines.len() < at + 4 {
+        return;
+    }
+    lines[at] = a as u8;
+    lines[at + 1] = b as u8;
+    lines[at + 2] = c as u8;
+    lines[at + 3] = d as u8;
+}
+
+// What is seen at a path: its clash, the rule to apply, or neither.
+pub enum Seen {
+    Clashing(usize, usize, usize),
+    Applying(Rule, usize, usize, usize),
+    Saturated,
+}
+
+// How a walk ends.
+pub enum Kind {
+    Refuted,
+    Saturated,
+    Broken,
+}
+
+// The ending of a walk, the saturated path where there is one, and the count of lines.
+pub struct Walked {
+    pub kind: Kind,
+    pub facts: Facts,
+    pub count: usize,
+}
+
+fn is_refuted(kind: Kind) -> bool
+    ensures { λ r. ⌜ r ≡ isRefuted kind ⌝ }
+{
+    match kind {
+        Kind::Refuted => true,
+        Kind::Saturated => false,
+        Kind::Broken => false,
+    }
+}
+
+fn number(rule: Rule) -> usize
+    ensures { λ r. ⌜ (r ≡ ruleNumber (kindOf rule)) × (r < 256) ⌝ }
+{
+    match rule {
+        Rule::Reflex => 1,
+        Rule::Trans1 => 2,
+        Rule::Trans2 => 3,
+        Rule::Func => 4,
+        Rule::Cycle => 5,
+        Rule::Scc => 6,
+        Rule::Total => 7,
+        Rule::Share => 8,
+    }
+}
+
+// "It is looked for before any rule and ends the path."
+fn look(query: &[u8], layout: Layout, order: &[u8], s: Facts) -> Seen
+    requires { ⌜ LaysOut layout (now query) ⌝ }
+    ensures { λ r. ⌜ lookOf r ≡ look (decode (now (query .entry))) (orderOf (now (order .entry))) (pathOf s) ⌝ }
+{
+    let n = layout.terms;
+    let rep = s.rep;
+    if let Clash::At(section, place, partner) = clash::find_clash(query, layout, rep, &s.reach) {
+        return Seen::Clashing(section, place, partner);
+    }
+    let Choice::Apply(rule, x, y, z) = rules::choose(order, s, n) else {
+        return Seen::Saturated;
+    };
+    Seen::Applying(rule, x, y, z)
+}
+
+// "Each branch is walked by the same routine again, one step deeper": `left` rule steps are left to the path.
+pub fn walk(
+    query: &[u8],
+    layout: Layout,
+    order: &[u8],
+    left: usize,
+    s: Facts,
+    lines: &mut [u8],
+    count: usize,
+) -> Walked
+    requires { ⌜ LaysOut layout (now query) × (count ≤ 16001) ⌝ }
+    ensures { λ r. ⌜ Ends r (walk (decode (now (query .entry))) (orderOf (now (order .entry))) left (pathOf s)) (now (lines .entry)) count (now (lines .exit)) ⌝ }
+{
+    let n = layout.terms;
+    match look(query, layout, order, s) {
+        Seen::Saturated => Walked {
+            kind: Kind::Saturated,
+            facts: s,
+            count,
+        },
+        Seen::Clashing(section, place, partner) => {
+            put_line(lines, count, 9, section, place, partner);
+            Walked {
+                kind: Kind::Refuted,
+                facts: s,
+                count: counted(count),
+            }
+        }
+        Seen::Applying(rule, x, y, z) => {
+            if left == 0 {
+                return Walked {
+                    kind: Kind::Broken,
+                    facts: s,
+                    count,
+                };
+            }
+            put_line(lines, count, number(rule), x, y, z);
+            let total = branch::count(rule, z);
+            let mut written = counted(count);
+            let mut i: usize = 0;
+            while i < total {
+                let path = branch::branch(s, n, rule, Term(x), Term(y), z, i);
+                let w = walk(query, layout, order, left - 1, path, lines, written);
+                let kind = w.kind;
+                if !is_refuted(kind) {
+                    return w;
+                }
+                written = w.count;
+                i += 1;
+            }
+            Walked {
+                kind: Kind::Refuted,
+                facts: s,
+                count: written,
+            }
+        }
+    }
+}
