@@ -1,0 +1,41 @@
+//! The proved library behind its two C functions (include/lemitsaka.h).
+
+extern "C" {
+    fn lemitsaka_verdict(
+        order: *const u8,
+        order_len: usize,
+        query: *const u8,
+        query_len: usize,
+        report: *mut u8,
+        report_len: usize,
+    ) -> u64;
+    fn lemitsaka_derivation(
+        order: *const u8,
+        order_len: usize,
+        query: *const u8,
+        query_len: usize,
+        buffer: *mut u8,
+        buffer_len: usize,
+    ) -> u64;
+}
+
+pub fn verdict(order: &[u8], query: &[u8], report: &mut [u8]) -> u64 {
+    // Sound: three live slices, the last one lent to this call alone.
+    unsafe {
+        lemitsaka_verdict(order.as_ptr(), order.len(), query.as_ptr(), query.len(), report.as_mut_ptr(), report.len())
+    }
+}
+
+pub fn derivation(order: &[u8], query: &[u8], buffer: &mut [u8]) -> u64 {
+    // Sound: as above.
+    unsafe {
+        lemitsaka_derivation(
+            order.as_ptr(),
+            order.len(),
+            query.as_ptr(),
+            query.len(),
+            buffer.as_mut_ptr(),
+            buffer.len(),
+        )
+    }
+}

@@ -1,0 +1,103 @@
+//! Tests, test data and timing by a second reading of the scope paper. See README.md.
+
+mod check;
+#[cfg(feature = "library")]
+mod differential;
+mod edges;
+mod enumerate;
+mod generate;
+#[cfg(feature = "library")]
+mod library;
+mod long;
+mod naive;
+mod reference;
+#[cfg(test)]
+mod tests;
+mod timing;
+mod vectors;
+
+use std::io::Read;
+use std::path::Path;
+use std::process::ExitCode;
+
+const USAGE: &str = "\
+vectors DIR                   compare the reference with every NAME.bin and NAME.txt in DIR
+program EXECUTABLE DIR        compare an executable heapverdict with them
+check N SEED                  compare the reference with the enumerator of small heaps on N queries
+slow N SEED                   compare the reference with the slow walk, line by line, on N queries and the edges
+slow long                     the same on the long derivations
+data DIR                      write edges, random and long .bin and .txt into DIR
+search LOW HIGH KINDS N SEED  print N inputs whose derivation has LOW to HIGH lines, of KINDS kinds or more
+time DIR                      time the workloads in DIR (with feature library: the library too)
+differential N SEED           (feature library) compare library and reference on N random inputs
+heapverdict                   be the program heapverdict";
+
+fn main() -> ExitCode {
+    let words: Vec<String> = std::env::args().skip(1).collect();
+    let words: Vec<&str> = words.iter().map(String::as_str).collect();
+    match run(&words) {
+        Ok(true) => ExitCode::SUCCESS,
+        Ok(false) => ExitCode::FAILURE,
+        Err(message) => {
+            eprintln!("{message}");
+            ExitCode::from(2)
+        }
+    }
+}
+
+fn number(word: &str) -> Result<u64, String> {
+    word.parse().map_err(|_| format!("{word}: not a number"))
+}
+
+/// Whether all agreed.
+fn run(words: &[&str]) -> Result<bool, String> {
+    match *words {
+        ["vectors", directory] => vectors::compare(Path::new(directory), &|input| Ok(reference::heapverdict(input))),
+        ["program", executable, directory] => {
+            vectors::compare(Path::new(directory), &|input| vectors::execute(Path::new(executable), input))
+        }
+        ["check", count, seed] => check::run(number(count)? as usize, number(seed)?),
+        ["slow", "long"] => check::slow_long(),
+        ["slow", count, seed] => check::slow(number(count)? as usize, number(seed)?),
+        ["data", directory] => {
+            let directory = Path::new(directory);
+            vectors::write(directory, "edges", &edges::inputs())?;
+            vectors::write(directory, "random", &generate::inputs(400, 20))?;
+            vectors::write(directory, "long", &long::inputs())?;
+            Ok(true)
+        }
+        ["search", low, high, kinds, count, seed] => {
+            long::search(number(low)?, number(high)?, number(kinds)? as usize, number(count)? as usize, number(seed)?);
+            Ok(true)
+        }
+        ["time", directory] => time(Path::new(directory)),
+        ["differential", count, seed] => differential(number(count)? as usize, number(seed)?),
+        ["heapverdict"] => {
+            let mut input = Vec::new();
+            std::io::stdin().take(reference::INPUT_BYTES as u64).read_to_end(&mut input).map_err(|e| e.to_string())?;
+            print!("{}", reference::heapverdict(&input));
+            Ok(true)
+        }
+        _ => Err(USAGE.into()),
+    }
+}
+
+#[cfg(feature = "library")]
+fn time(directory: &Path) -> Result<bool, String> {
+    timing::run(directory, &[("library", &library::verdict)])
+}
+
+#[cfg(not(feature = "library"))]
+fn time(directory: &Path) -> Result<bool, String> {
+    timing::run(directory, &[])
+}
+
+#[cfg(feature = "library")]
+fn differential(count: usize, seed: u64) -> Result<bool, String> {
+    differential::run(count, seed)
+}
+
+#[cfg(not(feature = "library"))]
+fn differential(_: usize, _: u64) -> Result<bool, String> {
+    Err("built without the feature library".into())
+}

@@ -1,0 +1,79 @@
+//! `cargo test`: the starred examples, the report's buffer, the stored test data, a short check against
+//! the enumerator.
+
+use crate::reference::{derivation, encode, heapverdict, verdict, End};
+use crate::{check, generate, vectors};
+use std::path::Path;
+
+const ORDER: [u8; 8] = [1, 2, 3, 4, 5, 6, 7, 8];
+
+fn bytes(hex: &str) -> Vec<u8> {
+    hex.split_whitespace().map(|b| u8::from_str_radix(b, 16).unwrap()).collect()
+}
+
+fn printed(order: &[u8], query: &str) -> String {
+    heapverdict(&[order, &bytes(query)].concat())
+}
+
+#[test]
+fn starred_examples() {
+    let e4 = "03 00 01 00 01 00 01 03 02 01 01 03 00 02 03 00 00";
+    assert_eq!(printed(&ORDER, "00 00 00 00 00"), "sat\n01 01 00 01 00 01 00\n");
+    assert_eq!(printed(&ORDER, "01 00 00 00 00 00"), "sat\n01 01 01 01 01 00 01 00\n");
+    assert_eq!(
+        printed(&ORDER, "02 00 00 01 00 01 02 02 01 01 02 01 02 01 00 00"),
+        "sat\n02 02 01 02 01 02 02 00 00 01 00\n"
+    );
+    assert_eq!(printed(&ORDER, e4).lines().count(), 8);
+    assert_eq!(printed(&[4, 1, 2, 3, 5, 6, 7, 8], e4), "unsat\n4 1 2 3\n9 2 1 0\n9 3 2 0\n");
+    assert_eq!(printed(&ORDER, "01 00 00 01 00 01 01 00 00"), "unsat\n1 1 0 0\n9 3 1 0\n");
+    assert_eq!(printed(&ORDER, "03 00 01 01 01 00 02 03 00 00 00"), "unsat\n9 2 1 0\n");
+    assert_eq!(printed(&ORDER, "00 00 00 00 02 01 01 00 01"), "unsat\n9 5 2 1\n");
+    assert_eq!(printed(&ORDER, "02 00 00 01 01 01 02 00 02 01 01 01 00 01 02 00"), "unsat\n9 4 2 1\n");
+    let e9 = "04 00 00 01 02 02 01 03 04 00 01 02 02 01 01 02 01 02 01 00 00";
+    assert!(printed(&ORDER, e9).starts_with("unsat\n"));
+    assert!(printed(&ORDER, "04 00 00 01 02 02 01 03 04 00 01 02 01 01 01 02 00 00").starts_with("sat\n"));
+}
+
+#[test]
+fn buffers() {
+    let empty = [0; 5];
+    let mut report = vec![7u8; 52];
+    assert_eq!(encode(verdict(&ORDER, &empty, &mut report)), 9 * 65_536);
+    assert!(report.iter().all(|&b| b == 0));
+    let mut report = vec![7u8; 53];
+    assert_eq!(encode(verdict(&ORDER, &empty, &mut report)), 0);
+    let mut buffer = vec![7u8; 10];
+    assert_eq!(encode(derivation(&ORDER, &empty, &mut buffer)), 11 * 65_536);
+    let e5 = bytes("01 00 00 01 00 01 01 00 00");
+    assert_eq!(encode(derivation(&ORDER, &e5, &mut buffer)), 1);
+    assert_eq!(buffer, [0, 2, 1, 1, 0, 0, 9, 3, 1, 0]);
+    for length in 0..10 {
+        let mut buffer = vec![7u8; length];
+        assert_eq!(encode(derivation(&ORDER, &e5, &mut buffer)), 12 * 65_536);
+        assert!(buffer.iter().all(|&b| b == 0));
+    }
+}
+
+#[test]
+fn stored_data() {
+    let directory = Path::new(env!("CARGO_MANIFEST_DIR")).join("../tests/data");
+    assert_eq!(vectors::compare(&directory, &|input| Ok(heapverdict(input))), Ok(true));
+}
+
+#[test]
+fn small_heaps() {
+    assert_eq!(check::run(3_000, 5), Ok(true));
+}
+
+#[test]
+fn slow_walk() {
+    assert_eq!(check::slow(100, 5), Ok(true));
+}
+
+#[test]
+fn longest_path() {
+    // A chain of 16 terms whose end reaches its beginning: all but one of 256 facts come from a step.
+    let query = [&[16][..], &(0..16).collect::<Vec<u8>>(), &[0, 1, 1, 16, 1, 0, 0]].concat();
+    assert_eq!(generate::walked(&ORDER, &query, 1_000), Some((End::Satisfiable, 255)));
+}

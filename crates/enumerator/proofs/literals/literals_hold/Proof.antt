@@ -1,0 +1,32 @@
+-- Safe, and ends: the measure is the count of sections left. Assumes nothing.
+use Prim.Native.Nat.{_-_, _≤_}
+use borrow.Author.Needs.{needs}
+use Rattle.enumerator.proofs.literals.literals_hold.Statement.{statement}
+use Rattle.enumerator.proofs.literals.literals_hold.Tie as tie
+
+abbrev Inv-loop : tie.InvT-loop
+Inv-loop query heap section₀ section = section ≤ 6
+
+abbrev μ-loop : tie.MeasureT-loop
+μ-loop query heap section₀ section = 6 - section
+
+pub literals-hold-spec : {M : Type 1} → statement M
+literals-hold-spec =
+    tie.close
+    (tie.spec
+    Inv-loop
+    μ-loop
+    -- loop-holds
+    (λ c. search needs)
+    -- section-holds-requires
+    (λ c κs. search needs)
+    -- returns
+    (λ c. search needs)
+    -- add-section
+    (λ c. search needs)
+    -- loop-less
+    (λ c. search needs)
+    -- loop-again
+    (λ c. search needs)
+    -- returns-2
+    (λ c. search needs))

@@ -1,0 +1,43 @@
+-- Assumes nothing.
+use borrow.Author.Needs.{needs}
+use mathlib.Core.Path.{sym}
+use lib.Seq.{length-take-le}
+use Rattle.vectors.proofs.run_input.Statement.{statement}
+use Rattle.vectors.proofs.run_input.Tie as tie
+
+pub run-input-spec : {M : Type 1} → statement M
+run-input-spec =
+    tie.close
+    (tie.spec
+    -- returns
+    (λ c. search needs)
+    -- slice-relend-prefix-read-full
+    (λ c. search needs)
+    -- slice-aggregate-read-full
+    (λ c. sym (length-take-le _ _ (c .before .if1 .left)))
+    -- read-full-requires
+    (λ c κs. search needs)
+    -- same-length
+    (λ c. search needs)
+    -- returns-2
+    (λ c. search needs)
+    -- most-requires
+    (λ c κs. search needs)
+    -- same-length-2
+    (λ c. search needs)
+    -- returns-3
+    (λ c. search needs)
+    -- slice-reshare-prefix-print-verdict
+    (λ c. search needs)
+    -- slice-aggregate-print-verdict
+    (λ c. sym (length-take-le _ _ (c .before .if3 .left)))
+    -- print-verdict-requires
+    (λ c κs. search needs)
+    -- slice-aggregate-write-all
+    (λ c. search needs)
+    -- write-all-requires
+    (λ c κs. search needs)
+    -- same-length-3
+    (λ c. search needs)
+    -- returns-4
+    (λ c. search needs))
