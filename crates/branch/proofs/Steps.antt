@@ -7,7 +7,7 @@ use mathlib.Core.Option.{Option, none, some, Option·getD}
 use mathlib.Core.Bool.{Bool, cond}
 use lib.Dec.{eqb}
 use borrow.Author.Tests.{eq-eqb, ne-eqb}
-use Rattle.logic.proofs.Search.{find-some, from-mem}
+use Rattle.logic.proofs.Basics.Search.{find-some, from-mem}
 use Rattle.rules.specs.declared.Rule as rules
 use Rattle.rules.specs.Answers.{kindOf}
 use Rattle.branch.specs.Alternatives.{alternativeAt}

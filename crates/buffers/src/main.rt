@@ -52,7 +52,11 @@ fn try_verdict(report: &mut [u8]) {
 }
 
 fn try_derivation(buffer: &mut [u8]) {
-    let answer = lemitsaka::derivation(&[1, 2, 3, 4, 5, 6, 7, 8], &[1, 0, 0, 1, 0, 1, 1, 0, 0], buffer);
+    let answer = lemitsaka::derivation(
+        &[1, 2, 3, 4, 5, 6, 7, 8],
+        &[1, 0, 0, 1, 0, 1, 1, 0, 0],
+        buffer,
+    );
     print_outcome(answer, buffer);
 }
 

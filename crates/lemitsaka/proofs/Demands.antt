@@ -17,7 +17,7 @@ use Rattle.logic.specs.Shown.{wellFormed}
 use Rattle.logic.specs.Calls.{Input, Check, verdictChecks, padded, verdictCall, derivationCall}
 use Rattle.logic.specs.Calls as calls
 use Rattle.logic.specs.Demands.{StatedIn, Shows, NotRefused, Right, answerOf}
-use Rattle.logic.proofs.Demands.{demand1, demand2, demand3, call-passed}
+use Rattle.logic.proofs.Calls.Demands.{demand1, demand2, demand3, call-passed}
 use Rattle.lemitsaka.specs.Promise.{meaning, inputOf, Does}
 use Rattle.lemitsaka.specs.declared.Answer.{Answer}
 use Rattle.lemitsaka.specs.declared.Answer.the-variants as answer

@@ -25,13 +25,13 @@ use Rattle.walk.specs.declared.Kind.{Kind}
 use Rattle.walk.specs.declared.Kind.the-variants as kind
 use Rattle.walk.proofs.Lines.{countAll-small, countAll-large}
 use Rattle.walk.proofs.Padded.{derivation-written, lines-length}
-use Rattle.logic.proofs.Compare.{le-cases}
-use Rattle.logic.proofs.CallLaws.{blank-length, padded-length}
-use Rattle.logic.proofs.Tied.{Accepted, Tied}
-use Rattle.logic.proofs.AcceptedBytes.{accepted}
-use Rattle.logic.proofs.Ranged.{live-range}
-use Rattle.logic.proofs.Invariant.{Invariant, start-invariant, branch-invariant}
-use Rattle.logic.proofs.Derives.{our-saturation}
+use Rattle.logic.proofs.Basics.Compare.{le-cases}
+use Rattle.logic.proofs.Calls.CallLaws.{blank-length, padded-length}
+use Rattle.logic.proofs.Query.Tied.{Accepted, Tied}
+use Rattle.logic.proofs.Query.AcceptedBytes.{accepted}
+use Rattle.logic.proofs.Paths.Ranged.{live-range}
+use Rattle.logic.proofs.Paths.Invariant.{Invariant, start-invariant, branch-invariant}
+use Rattle.logic.proofs.Walks.Derives.{our-saturation}
 use Rattle.lemitsaka.specs.Promise.{meaning, Does}
 use Rattle.lemitsaka.specs.declared.Answer.{Answer}
 use Rattle.lemitsaka.specs.declared.Answer.the-variants as answer

@@ -1,7 +1,7 @@
 -- What must be believed, in reading order.
 pub mod Search
-pub mod Heap
 pub mod Query
+pub mod Heap
 pub mod Facts
 pub mod Rules
 pub mod Walk

@@ -12,7 +12,7 @@ use borrow.Author.Tests.{eq-eqb, ne-eqb, eqb-true, eqb-false, ltb-true, ltb-fals
 use Rattle.logic.specs.Search.{_or_, from, any, select}
 use Rattle.logic.specs.Facts.{Facts, terms}
 use Rattle.logic.specs.Shown.{orZero, nodes, placeOf}
-use Rattle.logic.proofs.Search.{bool-cases, select-mem, from-mem}
+use Rattle.logic.proofs.Basics.Search.{bool-cases, select-mem, from-mem}
 use Rattle.facts.proofs.Loops.{from-next}
 use Rattle.report.specs.declared.Node.{Node}
 use Rattle.report.specs.Nodes.{nodeOf, marked, nodesBy, Numbers}

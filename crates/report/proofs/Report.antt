@@ -9,9 +9,9 @@ use Rattle.logic.specs.Query.{Literal, decode}
 use Rattle.logic.specs.Facts.{terms}
 use Rattle.logic.specs.Calls.{padded}
 use Rattle.logic.specs.Shown.{nodes, placeOf, shownLink, byteOf, fieldByte, booleanByte, report}
-use Rattle.logic.proofs.Search.{from-mem}
-use Rattle.logic.proofs.Placed.{length-from}
-use Rattle.logic.proofs.ShownNodes.{nodes-length}
+use Rattle.logic.proofs.Basics.Search.{from-mem}
+use Rattle.logic.proofs.Completeness.Placed.{length-from}
+use Rattle.logic.proofs.Completeness.ShownNodes.{nodes-length}
 use Rattle.facts.specs.declared.Facts as code
 use Rattle.facts.specs.Path.{repOf, pathOf}
 use Rattle.facts.proofs.Rep.{rep-in}

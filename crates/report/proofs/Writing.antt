@@ -13,7 +13,7 @@ use lib.Dec.{eqb}
 use borrow.Author.Tests.{eqb-true, eqb-false}
 use Rattle.logic.specs.Search.{from, select}
 use Rattle.logic.specs.Calls.{padded}
-use Rattle.logic.proofs.Search.{bool-cases}
+use Rattle.logic.proofs.Basics.Search.{bool-cases}
 use Rattle.report.specs.Bytes.{Appends}
 use Rattle.report.proofs.Loops.{select-end, select-here, select-skip}
 use Rattle.report.proofs.Links.{number-set}

@@ -12,7 +12,7 @@ use borrow.Author.Tests.{eq-eqb, ne-eqb, lt-ltb, le-ltb}
 use Rattle.logic.specs.Search.{_and_, _or_, from, keep, any, orElse, firstOf, find}
 use Rattle.logic.specs.Facts.{Graph, terms}
 use Rattle.logic.specs.Rules.{Rule, CYCLE, Triple, triple, Move, move, Fact, equal, next, returns, round, conditions, alternatives, held}
-use Rattle.logic.proofs.Search.{firstOf-empty, from-mem}
+use Rattle.logic.proofs.Basics.Search.{firstOf-empty, from-mem}
 use Rattle.facts.specs.Path.{graphOf, linksIn}
 use Rattle.facts.proofs.Successors.{found-in}
 use Rattle.rules.specs.Tests.{looped}

@@ -8,7 +8,7 @@ use mathlib.Core.List.{List, [], _∷_, _++_}
 use lib.ListN.{length, set, length-set}
 use borrow.Author.Tests.{lt-ltb, le-ltb, le-leb, lt-leb}
 use Rattle.logic.specs.Facts.{Line, line}
-use Rattle.logic.proofs.Compare.{le-cases}
+use Rattle.logic.proofs.Basics.Compare.{le-cases}
 use Rattle.walk.specs.Lines.{counted, countAll, putLine, putAll}
 
 pub counted-more : (c : ℕ) → c ≤ 16000 → counted c ≡ c + 1

@@ -1,0 +1,5 @@
+-- The calls, the demands and the examples.
+pub mod Verdicts
+pub mod CallLaws
+pub mod Demands
+pub mod Examples

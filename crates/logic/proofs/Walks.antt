@@ -1,0 +1,3 @@
+-- Walks: the choice of a move, and what a walk writes.
+pub mod Order
+pub mod Derives
