@@ -1,8 +1,8 @@
 -- Examples at the edges of the formats, where no theorem pins a number, a place, a limit or a bit. Every number and byte expected here is
 -- written out from 01's sentences and not computed by the definitions that it is held against.
-use Prim.Native.Nat.{ℕ, suc, _+_, _*_}
+use Prim.Native.Nat.{ℕ, suc}
 use mathlib.Core.Path.{_≡_}
-use mathlib.Core.Bool.{Bool, true}
+use mathlib.Core.Bool.{true}
 use mathlib.Core.List.{List, [], _∷_, _++_, map}
 use lib.ListN.{replicate, take, drop}
 use Rattle.logic.specs.Search.{from, all, flatMap}
