@@ -9,4 +9,5 @@ pub mod Derivation
 pub mod Shown
 pub mod Calls
 pub mod Examples
+pub mod EdgeExamples
 pub mod Demands
