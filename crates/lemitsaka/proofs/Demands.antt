@@ -92,6 +92,14 @@ module _ (order query before bytes : List ℕ) (r : Answer) (does : Does (verdic
       let p = call-passed i (unrefused h) in
       e ∙ ap answerOf (demand3 .one-verdict query order picks v w (p .query) (p .order) g f)
 
+  -- and some hand's walk is finished with it
+  pub hand-follows : Unrefused r → (picks : List Pick) × (w : Verdict) × (handVerdict (decode query) (handRow (decode query) picks) ≡ some w) × (meaning r ≡ answerOf w)
+  hand-follows h =
+      let (v, e, g) = one-verdict h in
+      let p = call-passed i (unrefused h) in
+      let (picks, f) = demand3 .hand-follows query order (p .query) (p .order) in
+      (picks, v, f ∙ g, e)
+
 -- The derivation call: DEMAND 2's last sentence, of the bytes that it writes
 module _ (order query before bytes : List ℕ) (r : Answer) (does : Does (derivationCall (inputOf order query before)) r bytes) where
   pub derivation-follows : r ≡ answer.Refuted → (ls : List Line) × (Refutes (decode query) (start (decode query)) ls × (bytes ≡ padded (length before) (derivationBytes ls)))

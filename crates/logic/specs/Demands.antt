@@ -70,4 +70,6 @@ pub record Demand3 : Type 0 where
   pub one-verdict : (query order : List ℕ) (picks : List Pick) (v w : Verdict) → accepts query ≡ true → isOrder order ≡ true → ourVerdict (ourWalk order (decode query)) ≡ some v → handVerdict (decode query) (handRow (decode query) picks) ≡ some w → v ≡ w
   pub ours-right : (query order : List ℕ) (v : Verdict) → accepts query ≡ true → isOrder order ≡ true → ourVerdict (ourWalk order (decode query)) ≡ some v → Right (decode query) v
   pub hand-right : (query : List ℕ) (picks : List Pick) (w : Verdict) → accepts query ≡ true → handVerdict (decode query) (handRow (decode query) picks) ≡ some w → Right (decode query) w
+  -- and a hand can move: some list of picks leaves its walk finished exactly if ours is, with our verdict
+  pub hand-follows : (query order : List ℕ) → accepts query ≡ true → isOrder order ≡ true → (picks : List Pick) × (handVerdict (decode query) (handRow (decode query) picks) ≡ ourVerdict (ourWalk order (decode query)))
   pub call-answers : (i : Input) → NotRefused (verdictCall i .answer) → (v : Verdict) × ((ourVerdict (ourWalk (i .order) (decode (i .query))) ≡ some v) × (verdictCall i .answer ≡ answerOf v))

@@ -114,6 +114,9 @@ module _ {A : Type 0} (p : A → Bool) where
   all-intro [] h = refl
   all-intro (x ∷ xs) h = and-intro (h x (List·Memᴰ·head refl)) (all-intro xs (λ y m. h y (List·Memᴰ·tail m)))
 
+  pub all-append : (xs ys : List A) → all p xs ≡ true → all p ys ≡ true → all p (xs ++ ys) ≡ true
+  all-append xs ys h k = all-intro (xs ++ ys) (λ x m. ⊎-elim (all-true x h) (all-true x k) (List·Memᴰ·append-cases xs m))
+
   pub all-false : (xs : List A) → all p xs ≡ false → (x : A) × List·Memᴰ x xs × (p x ≡ false)
   unfolding all
   all-false [] h = absurd (true≢false h)

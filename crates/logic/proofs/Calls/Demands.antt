@@ -24,6 +24,7 @@ use Rattle.logic.proofs.Query.Tied.{Accepted}
 use Rattle.logic.proofs.Query.AcceptedBytes.{accepted}
 use Rattle.logic.proofs.Calls.CallLaws.{refusalOf-some, refusalOf-none, call-cases, Passed, verdict-passed, derivation-passed, padded-length, blank-length}
 use Rattle.logic.proofs.Walks.Derives.{our-refutes}
+use Rattle.logic.proofs.Walks.Follows.{hand-follows}
 use Rattle.logic.proofs.Completeness.ShownHeap.{report-length, shown, formed}
 use Rattle.logic.proofs.Calls.Verdicts.{Model, our-model, our-refuted, completed, our-right, hand-right, right-unique}
 
@@ -247,5 +248,6 @@ demand3 =
           right-unique (decode query) v w (our-right (decode query) (accepted query a) order o v h) (hand-right (decode query) (accepted query a) picks w h′);
       ours-right = λ query order v a o h. our-right (decode query) (accepted query a) order o v h;
       hand-right = λ query picks w a h. hand-right (decode query) (accepted query a) picks w h;
+      hand-follows = λ query order a o. hand-follows (decode query) order o;
       call-answers = λ i h. let a = answered i (verdictCall i) h (verdict-case i) in (a .0, a .1);
     }

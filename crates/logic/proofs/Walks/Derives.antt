@@ -20,10 +20,10 @@ use Rattle.logic.proofs.Walks.Order.{choose-some}
 refuted-saturated : {ls : List Line} {s : Facts} → refutation ls ≡ saturation s → ⊥
 refuted-saturated e = let z : _≡_ {A = ℕ} 0 1 = cc in omega arith
 
-refuted-broken : {ls : List Line} → refutation ls ≡ broken-off → ⊥
+pub refuted-broken : {ls : List Line} → refutation ls ≡ broken-off → ⊥
 refuted-broken e = let z : _≡_ {A = ℕ} 0 1 = cc in omega arith
 
-saturated-broken : {s : Facts} → saturation s ≡ broken-off → ⊥
+pub saturated-broken : {s : Facts} → saturation s ≡ broken-off → ⊥
 saturated-broken e = let z : _≡_ {A = ℕ} 0 1 = cc in omega arith
 
 after-refutation : (ls : List Line) (e : Ending) (out : List Line) → after ls e ≡ refutation out → (ms : List Line) × (e ≡ refutation ms) × (ls ++ ms ≡ out)
@@ -55,12 +55,12 @@ thenEnding-saturation broken-off e′ t h = inl h
 module _ (q : Query) (order : List Rule) (s : Facts) where
   -- what each look says of the path
   Seen : Look → Type 0
-  Seen (clashing l) = isClash q s l ≡ true
+  Seen (clashing l) = clash q s ≡ some l
   Seen (applying m) = (clash q s ≡ none) × (applies (termCount q) s m ≡ true)
   Seen saturated = (clash q s ≡ none) × (choose (termCount q) order s ≡ none)
 
   seen : Seen (look q order s)
-  unfolding Seen look clash Option·elim
+  unfolding Seen look Option·elim
   seen = at-clash (clash q s) refl
     where
       at-choice : (o : Option Move) → choose (termCount q) order s ≡ o → clash q s ≡ none → Seen (Option·elim o saturated applying)
@@ -69,12 +69,12 @@ module _ (q : Query) (order : List Rule) (s : Facts) where
 
       at-clash : (o : Option Line) → clash q s ≡ o → Seen (Option·elim o (Option·elim (choose (termCount q) order s) saturated applying) clashing)
       at-clash none e = at-choice (choose (termCount q) order s) refl e
-      at-clash (some l) e = find-some (isClash q s) (clashLines q) l e .1
+      at-clash (some l) e = e
 
 -- Induction over a walk: a relation of the steps left, the path and its ending holds of every walk if it holds in each of the four
 -- cases, and where a rule applies it is known of the branches.
 pub record WalkCases (q : Query) (order : List Rule) (R : ℕ → Facts → Ending → Type 0) : Type 0 where
-  pub on-clash : (k : ℕ) (s : Facts) (l : Line) → isClash q s l ≡ true → R k s (refutation (l ∷ []))
+  pub on-clash : (k : ℕ) (s : Facts) (l : Line) → clash q s ≡ some l → R k s (refutation (l ∷ []))
   pub on-saturated : (k : ℕ) (s : Facts) → clash q s ≡ none → choose (termCount q) order s ≡ none → R k s (saturation s)
   pub on-limit : (s : Facts) (m : Move) → clash q s ≡ none → applies (termCount q) s m ≡ true → R zero s broken-off
   pub on-rule : (k : ℕ) (s : Facts) (m : Move) → clash q s ≡ none → applies (termCount q) s m ≡ true → ((s′ : Facts) → R k s′ (walk q order k s′)) → R (suc k) s (after (moveLine m ∷ []) (walkEach (walk q order k) (branches (termCount q) s m)))
@@ -96,6 +96,10 @@ module _ (q : Query) (order : List Rule) (R : ℕ → Facts → Ending → Type 
 
 -- A refutation follows the rules
 
+clash-true : (q : Query) (s : Facts) (l : Line) → clash q s ≡ some l → isClash q s l ≡ true
+unfolding clash
+clash-true q s l e = find-some (isClash q s) (clashLines q) l e .1
+
 walkEach-refutes : (q : Query) (w : Facts → Ending) → ((s : Facts) (ls : List Line) → w s ≡ refutation ls → Refutes q s ls) → (ss : List Facts) (ls : List Line) → walkEach w ss ≡ refutation ls → RefutesEach q ss ls
 unfolding walkEach
 walkEach-refutes q w each [] ls h = subst (RefutesEach q []) (cc) none-left
@@ -113,7 +117,7 @@ walk-refutes q order = walk-elim q order Follows cases
     cases : WalkCases q order Follows
     cases =
         record {
-          on-clash = λ k s l e ls h. subst (Refutes q s) (cc) (ends l e);
+          on-clash = λ k s l e ls h. subst (Refutes q s) (cc) (ends l (clash-true q s l e));
           on-saturated = λ k s free e ls h. absurd (refuted-saturated (sym h));
           on-limit = λ s m free app ls h. absurd (refuted-broken (sym h));
           on-rule =

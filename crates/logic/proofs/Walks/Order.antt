@@ -13,14 +13,14 @@ use Rattle.logic.specs.Query.{isOrder}
 use Rattle.logic.specs.Facts.{Facts}
 use Rattle.logic.specs.Rules.{Rule, REFLEX, TRANS1, TRANS2, FUNC, CYCLE, SCC, TOTAL, SHARE, ruleNumber, rules, ruleOf, Triple, triple, Move, move, applies, triples, choose}
 use Rattle.logic.specs.Walk.{orderOf}
-use Rattle.logic.proofs.Basics.Search.{and-right, keep-some, keep-none, any-true, all-true, firstOf-some, firstOf-none, find-some, from-intro, flatMap-intro, map-intro}
+use Rattle.logic.proofs.Basics.Search.{and-right, keep-some, keep-none, any-true, all-true, firstOf-some, firstOf-none, firstOf-empty, find-some, from-intro, flatMap-intro, map-intro}
 
 -- Lists that hold every rule
 
 abbrev pub HoldsAll : List Rule → Type 0
 HoldsAll order = (r : Rule) → List·Memᴰ r order
 
-ruleOf-number : (r : Rule) → ruleOf (ruleNumber r) ≡ some r
+pub ruleOf-number : (r : Rule) → ruleOf (ruleNumber r) ≡ some r
 unfolding ruleOf ruleNumber rules find firstOf keep orElse
 ruleOf-number REFLEX = refl
 ruleOf-number TRANS1 = refl
@@ -93,3 +93,10 @@ module _ (n : ℕ) (s : Facts) where
   choose-none order full h r t m =
       let at-rule = firstOf-none (λ r′. firstOf (tryAt r′) (triples n)) r h (full r) in
       keep-none (applies n s (move r t)) (move r t) (firstOf-none (tryAt r) t at-rule m)
+
+  -- so where one list of every rule chooses nothing, no list does
+  pub choose-nothing : (order order′ : List Rule) → HoldsAll order → choose n order s ≡ none → choose n order′ s ≡ none
+  unfolding choose keep
+  choose-nothing order order′ full h =
+      firstOf-empty (λ r. firstOf (tryAt r) (triples n)) order′
+      (λ r m. firstOf-empty (tryAt r) (triples n) (λ t k. rw (choose-none order full h r t k) refl))
