@@ -11,12 +11,12 @@ use lib.ListN.{length, replicate}
 use Rattle.logic.specs.Query.{decode}
 use Rattle.logic.specs.Heap.{Satisfiable}
 use Rattle.logic.specs.Facts.{Line, start}
-use Rattle.logic.specs.Walk.{Verdict, Pick, ourWalk, ourVerdict, handRow, handVerdict}
-use Rattle.logic.specs.Derivation.{Refutes, derivationBytes}
+use Rattle.logic.specs.Walk.{refutation, Verdict, Pick, ourWalk, ourVerdict, handRow, handVerdict}
+use Rattle.logic.specs.Derivation.{Refutes, derivationBytes, linesIn}
 use Rattle.logic.specs.Shown.{wellFormed}
 use Rattle.logic.specs.Calls.{Input, Check, verdictChecks, padded, verdictCall, derivationCall}
 use Rattle.logic.specs.Calls as calls
-use Rattle.logic.specs.Demands.{StatedIn, Shows, NotRefused, Right, answerOf}
+use Rattle.logic.specs.Demands.{StatedIn, Shows, Fits, NotRefused, Right, answerOf}
 use Rattle.logic.proofs.Calls.Demands.{demand1, demand2, demand3, call-passed}
 use Rattle.lemitsaka.specs.Promise.{meaning, inputOf, Does}
 use Rattle.lemitsaka.specs.declared.Answer.{Answer}
@@ -94,7 +94,21 @@ module _ (order query before bytes : List ℕ) (r : Answer) (does : Does (verdic
 
 -- The derivation call: DEMAND 2's last sentence, of the bytes that it writes
 module _ (order query before bytes : List ℕ) (r : Answer) (does : Does (derivationCall (inputOf order query before)) r bytes) where
-  pub derivation-follows : r ≡ answer.Refuted → (ls : List Line) × (Refutes (decode query) (start (decode query)) ls × (bytes ≡ padded (length before) (derivationBytes ls)))
-  derivation-follows e =
-      let (ls, (f, g)) = demand2 .derivation-follows (inputOf order query before) (sym (does .answers) ∙ ap meaning e) in
-      (ls, (f, does .leaves ∙ g))
+  abbrev j : Input
+  j = inputOf order query before
+
+  -- what holds of the bytes that the definition leaves where it says "refuted" holds of the bytes left
+  of-lines : (P : List ℕ → Type 0) → (derivationCall j .answer ≡ calls.refuted → P (derivationCall j .lent)) → r ≡ answer.Refuted → P bytes
+  of-lines P h e = subst P (sym (does .leaves)) (h (sym (does .answers) ∙ ap meaning e))
+
+  pub derivation-follows : r ≡ answer.Refuted → Refutes (decode query) (start (decode query)) (linesIn bytes)
+  derivation-follows = of-lines (λ b. Refutes (decode query) (start (decode query)) (linesIn b)) (demand2 .derivation-follows j)
+
+  pub derivation-walked : r ≡ answer.Refuted → ourWalk order (decode query) ≡ refutation (linesIn bytes)
+  derivation-walked = of-lines (λ b. ourWalk order (decode query) ≡ refutation (linesIn b)) (demand2 .derivation-walked j)
+
+  pub derivation-formed : r ≡ answer.Refuted → bytes ≡ padded (length before) (derivationBytes (linesIn bytes))
+  derivation-formed = of-lines (λ b. b ≡ padded (length before) (derivationBytes (linesIn b))) (demand2 .derivation-formed j)
+
+  pub derivation-counted : r ≡ answer.Refuted → Fits (length before) (linesIn bytes)
+  derivation-counted = of-lines (λ b. Fits (length before) (linesIn b)) (demand2 .derivation-counted j)

@@ -1,6 +1,6 @@
 -- The three demands (00), each beside its own words, as statements about the definitions. A call of the library is equated with
 -- `verdictCall` or `derivationCall` by its contract, so what is said here of them is said of it.
-use Prim.Native.Nat.{ℕ, _≤_}
+use Prim.Native.Nat.{ℕ, _+_, _*_, _≤_}
 use mathlib.Core.Path.{_≡_}
 use mathlib.Core.Logic.{_↔_, _⊎_}
 use mathlib.Core.Bool.{Bool, true, false}
@@ -10,8 +10,8 @@ use lib.ListN.{length, take, replicate}
 use Rattle.logic.specs.Query.{Query, isOrder, decode, termCount}
 use Rattle.logic.specs.Heap.{Heap, Meets, Satisfiable, value}
 use Rattle.logic.specs.Facts.{Line, start}
-use Rattle.logic.specs.Walk.{Verdict, Pick, ourWalk, ourVerdict, handRow, handVerdict, Ending, broken-off}
-use Rattle.logic.specs.Derivation.{Refutes, derivationBytes}
+use Rattle.logic.specs.Walk.{Verdict, Pick, ourWalk, ourVerdict, handRow, handVerdict, Ending, refutation, broken-off}
+use Rattle.logic.specs.Derivation.{Refutes, derivationBytes, linesIn}
 use Rattle.logic.specs.Shown.{heapIn, nodeIn, wellFormed}
 use Rattle.logic.specs.Calls.{Input, Check, Outcome, Answer, refused, verdictChecks, derivationChecks, accepts, padded, verdictCall, derivationCall}
 
@@ -46,11 +46,20 @@ pub record Shows (bytes : List ℕ) (q : Query) : Type 0 where
 abbrev pub NotRefused : Answer → Type 0
 NotRefused a = (k place : ℕ) → a ≡ refused k place → ⊥
 
+-- lines that a derivation in this room may have: "12. The derivation has more than 16,000 lines or its buffer cannot hold it."
+abbrev pub Fits : ℕ → List Line → Type 0
+Fits room ls = (length ls ≤ 16000) × (2 + 4 * length ls ≤ room)
+
 pub record Demand2 : Type 0 where
   pub satisfiable-exactly : (i : Input) → NotRefused (verdictCall i .answer) → (verdictCall i .answer ≡ Answer.satisfiable) ↔ Satisfiable (decode (i .query))
   pub heap-shown : (i : Input) → verdictCall i .answer ≡ Answer.satisfiable → Shows (verdictCall i .lent) (decode (i .query))
   pub refuted-exactly : (i : Input) → NotRefused (verdictCall i .answer) → (verdictCall i .answer ≡ Answer.refuted) ↔ (Satisfiable (decode (i .query)) → ⊥)
-  pub derivation-follows : (i : Input) → derivationCall i .answer ≡ Answer.refuted → (ls : List Line) × (Refutes (decode (i .query)) (start (decode (i .query))) ls × (derivationCall i .lent ≡ padded (i .room) (derivationBytes ls)))
+  -- where a derivation is given, the lines in the bytes left are those of our walk, and they follow the rules
+  pub derivation-follows : (i : Input) → derivationCall i .answer ≡ Answer.refuted → Refutes (decode (i .query)) (start (decode (i .query))) (linesIn (derivationCall i .lent))
+  pub derivation-walked : (i : Input) → derivationCall i .answer ≡ Answer.refuted → ourWalk (i .order) (decode (i .query)) ≡ refutation (linesIn (derivationCall i .lent))
+  -- they are written as 01 says, with zeros after them, and are no more than 16,000 and no more than the buffer holds
+  pub derivation-formed : (i : Input) → derivationCall i .answer ≡ Answer.refuted → derivationCall i .lent ≡ padded (i .room) (derivationBytes (linesIn (derivationCall i .lent)))
+  pub derivation-counted : (i : Input) → derivationCall i .answer ≡ Answer.refuted → Fits (i .room) (linesIn (derivationCall i .lent))
 
 -- a verdict is right: "satisfiable" exactly when some finite heap meets every literal, "refuted" exactly when none of any size does
 pub record Right (q : Query) (v : Verdict) : Type 0 where

@@ -9,20 +9,22 @@ use mathlib.Core.List.{List, [], _∷_, _++_, List·Memᴰ, List·Memᴰ·head, 
 use mathlib.Core.Option.{Option, none, some}
 use lib.ListN.{length, replicate}
 use lib.Dec.{ltb}
+use borrow.Author.Tests.{lt-ltb, le-ltb}
 use Rattle.logic.specs.Search.{_and_, _or_, all}
 use Rattle.logic.specs.Query.{Query, isOrder, decode}
 use Rattle.logic.specs.Heap.{Satisfiable}
 use Rattle.logic.specs.Facts.{Facts, Line, start}
 use Rattle.logic.specs.Walk.{Ending, refutation, saturation, broken-off, Verdict, Pick, ourWalk, ourVerdict, handRow, handVerdict}
-use Rattle.logic.specs.Derivation.{Refutes, derivationBytes}
+use Rattle.logic.specs.Derivation.{Refutes, derivationBytes, linesIn}
 use Rattle.logic.specs.Shown.{report, wellFormed}
 use Rattle.logic.specs.Calls.{Input, Check, orderCheck, layoutCheck, byteCheck, roomCheck, queryChecks, verdictChecks, derivationChecks, Outcome, Answer, refused, refusalOf, accepts, padded, blank, call, verdictOf, verdictCall, derivationOf, derivationCall}
-use Rattle.logic.specs.Demands.{StatedIn, Demand1, Demand2, Demand3, Shows, NotRefused, Right, answerOf}
+use Rattle.logic.specs.Demands.{StatedIn, Demand1, Demand2, Demand3, Shows, Fits, NotRefused, Right, answerOf}
 use Rattle.logic.proofs.Basics.Search.{none-some, bool-cases, and-left, and-right, all-true}
-use Rattle.logic.proofs.Basics.Compare.{ltb-true}
+use Rattle.logic.proofs.Basics.Compare.{ltb-true, le-cases}
 use Rattle.logic.proofs.Query.Tied.{Accepted}
 use Rattle.logic.proofs.Query.AcceptedBytes.{accepted}
 use Rattle.logic.proofs.Calls.CallLaws.{refusalOf-some, refusalOf-none, call-cases, Passed, verdict-passed, derivation-passed, padded-length, blank-length}
+use Rattle.logic.proofs.Calls.DerivationBytes.{lines-padded}
 use Rattle.logic.proofs.Walks.Derives.{our-refutes}
 use Rattle.logic.proofs.Completeness.ShownHeap.{report-length, shown, formed}
 use Rattle.logic.proofs.Calls.Verdicts.{Model, our-model, our-refuted, completed, our-right, hand-right, right-unique}
@@ -201,33 +203,51 @@ answer-exactly i w P h exactly =
     let e = exactly (a .0) (a .2) in
     (λ k. e .0 (answer-verdict (a .0) w .0 (sym (a .1) ∙ k)), λ p. a .1 ∙ ap answerOf (e .1 p))
 
--- the derivation call: where it answers "refuted", what it leaves are the lines of our walk
-abbrev Derived : Input → Outcome → Type 0
-Derived i o =
-    o .answer ≡ Answer.refuted → (ls : List Line) × (Refutes (decode (i .query)) (start (decode (i .query))) ls × (o .lent ≡ padded (i .room) (derivationBytes ls)))
+-- What the derivation call does, by cases.
+data DerivationCase (i : Input) (o : Outcome) : Type 0 where
+  by-refusal : (k place : ℕ) → o ≡ blank (i .room) (refused k place) → DerivationCase i o
+  by-lines : (ls : List Line) → walkOf i ≡ refutation ls → Fits (i .room) ls → o ≡ record { answer = Answer.refuted; lent = padded (i .room) (derivationBytes ls) } → DerivationCase i o
 
-blank-derived : (i : Input) (k place : ℕ) → Derived i (blank (i .room) (refused k place))
-unfolding blank
-blank-derived i k place h = absurd (refused-refuted (sym h))
+derived-case : (i : Input) (w : Ending) → walkOf i ≡ w → DerivationCase i (derivationOf (i .room) w)
+unfolding derivationOf _or_
+derived-case i (saturation s) e = by-refusal 11 0 refl
+derived-case i broken-off e = by-refusal 10 0 refl
+derived-case i (refutation ls) e =
+    ⊎-elim
+    (λ few. ⊎-elim
+    (λ fits. rw (le-ltb 16000 (length ls) few, le-ltb (i .room) (2 + 4 * length ls) fits) (by-lines ls e (few, fits) refl))
+    (λ l. rw (le-ltb 16000 (length ls) few, lt-ltb (i .room) (2 + 4 * length ls) l) (by-refusal 12 0 refl))
+    (le-cases (2 + 4 * length ls) (i .room)))
+    (λ l. rw (lt-ltb 16000 (length ls) l) (by-refusal 12 0 refl))
+    (le-cases (length ls) 16000)
 
-walked-derived : (i : Input) (w : Ending) → walkOf i ≡ w → Derived i (derivationOf (i .room) w)
-unfolding derivationOf
-walked-derived i (saturation s) e = blank-derived i 11 0
-walked-derived i broken-off e = blank-derived i 10 0
-walked-derived i (refutation ls) e = go (ltb 16000 (length ls) or ltb (i .room) (2 + 4 * length ls))
-  where
-    go : (b : Bool) → Derived i (cond b (blank (i .room) (refused 12 0)) (record { answer = Answer.refuted; lent = padded (i .room) (derivationBytes ls) }))
-    go true = blank-derived i 12 0
-    go false = λ h. (ls, (our-refutes (decode (i .query)) (i .order) ls e, refl))
-
-derived : (i : Input) → Derived i (derivationCall i)
+derivation-case : (i : Input) → DerivationCase i (derivationCall i)
 unfolding derivationCall
-derived i =
+derivation-case i =
     ⊎-elim
     (λ p. let r = refusalOf-some derivationChecks i (p .0) (p .1) in
-    subst (Derived i) (sym (p .2 ∙ ap (blank (i .room)) (r .2 .2))) (blank-derived i (r .0 .number) (r .2 .0)))
-    (λ p. subst (Derived i) (sym (p .1)) (walked-derived i (walkOf i) refl))
+    by-refusal (r .0 .number) (r .2 .0) (p .2 ∙ ap (blank (i .room)) (r .2 .2)))
+    (λ p. subst (DerivationCase i) (sym (p .1)) (derived-case i (walkOf i) refl))
     (call-cases derivationChecks i (derivationOf (i .room)))
+
+-- where it answers "refuted", what it leaves are the lines of our walk
+record Derived (i : Input) (bytes : List ℕ) : Type 0 where
+  walked : walkOf i ≡ refutation (linesIn bytes)
+  fits : Fits (i .room) (linesIn bytes)
+  formed : bytes ≡ padded (i .room) (derivationBytes (linesIn bytes))
+
+lines-derived : (i : Input) (ls : List Line) → walkOf i ≡ refutation ls → Fits (i .room) ls → Derived i (padded (i .room) (derivationBytes ls))
+lines-derived i ls w f =
+    let e = lines-padded (i .room) ls in
+    record {
+      walked = w ∙ ap refutation (sym e);
+      fits = subst (Fits (i .room)) (sym e) f;
+      formed = ap (λ (ms : List Line). padded (i .room) (derivationBytes ms)) (sym e);
+    }
+
+derived : (i : Input) (o : Outcome) → o .answer ≡ Answer.refuted → DerivationCase i o → Derived i (o .lent)
+derived i o h (by-refusal k place e) = absurd (refused-refuted (sym (blank-answer o (i .room) _ _ e h)))
+derived i o h (by-lines ls w f e) = subst (Derived i) (sym (ap (λ (x : Outcome). x .lent) e)) (lines-derived i ls w f)
 
 pub demand2 : Demand2
 demand2 =
@@ -235,7 +255,10 @@ demand2 =
       satisfiable-exactly = λ i h. answer-exactly i Verdict.satisfiable (Satisfiable (decode (i .query))) h (λ v r. r .satisfiable-exactly);
       heap-shown = λ i h. found-shown i (verdictCall i) (found i (verdictCall i) h (verdict-case i)) .0;
       refuted-exactly = λ i h. answer-exactly i Verdict.refuted (Satisfiable (decode (i .query)) → ⊥) h (λ v r. r .refuted-exactly);
-      derivation-follows = derived;
+      derivation-follows = λ i h. our-refutes (decode (i .query)) (i .order) _ (derived i (derivationCall i) h (derivation-case i) .walked);
+      derivation-walked = λ i h. derived i (derivationCall i) h (derivation-case i) .walked;
+      derivation-formed = λ i h. derived i (derivationCall i) h (derivation-case i) .formed;
+      derivation-counted = λ i h. derived i (derivationCall i) h (derivation-case i) .fits;
     }
 
 -- Demand 3
