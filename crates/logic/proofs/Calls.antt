@@ -7,4 +7,5 @@ pub mod VerdictCall
 pub mod DerivationBytes
 pub mod DerivationCall
 pub mod Demands
+pub mod Room
 pub mod Examples
