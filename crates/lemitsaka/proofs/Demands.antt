@@ -46,8 +46,8 @@ module _ (o : Outcome) (r : Answer) (bytes : List ℕ) (does : Does o r bytes) w
   back : (b : Answer) → o .answer ≡ meaning b → r ≡ b
   back b e = meaning-one r b (does .answers ∙ e)
 
-  unrefused : Unrefused r → NotRefused (o .answer)
-  unrefused h k place e = h k place (back (answer.Refused k place) e)
+  not-refused : Unrefused r → NotRefused (o .answer)
+  not-refused h k place e = h k place (back (answer.Refused k place) e)
 
   exactly : (b : Answer) (P : Type 0) → (o .answer ≡ meaning b) ↔ P → (r ≡ b) ↔ P
   exactly b P h = (λ e. h .0 (same b e), λ p. back b (h .1 p))
@@ -80,6 +80,9 @@ module _ (order query before bytes : List ℕ) (r : Answer) (does : Does (verdic
   abbrev i : Input
   i = inputOf order query before
 
+  unrefused : Unrefused r → NotRefused (verdictCall i .answer)
+  unrefused = not-refused _ r bytes does
+
   -- DEMAND 1
   pub verdict-refuses : Refuses verdictChecks i r bytes
   verdict-refuses = refuses verdictChecks verdictCall (demand1 .verdict-refusals) i r bytes does
@@ -95,22 +98,22 @@ module _ (order query before bytes : List ℕ) (r : Answer) (does : Does (verdic
 
   -- DEMAND 2: "satisfiable" exactly when some finite heap meets every literal, and the heap shown is one; "refuted" exactly when none
   pub satisfiable-exactly : Unrefused r → (r ≡ answer.Satisfiable) ↔ Satisfiable (decode query)
-  satisfiable-exactly h = exactly _ r bytes does answer.Satisfiable (Satisfiable (decode query)) (demand2 .satisfiable-exactly i (unrefused _ r bytes does h))
+  satisfiable-exactly h = exactly _ r bytes does answer.Satisfiable (Satisfiable (decode query)) (demand2 .satisfiable-exactly i (unrefused h))
 
   pub heap-shown : r ≡ answer.Satisfiable → Shows bytes (decode query)
   heap-shown e = subst (λ (b : List ℕ). Shows b (decode query)) (sym (does .leaves)) (demand2 .heap-shown i (same _ r bytes does answer.Satisfiable e))
 
   pub refuted-exactly : Unrefused r → (r ≡ answer.Refuted) ↔ (Satisfiable (decode query) → ⊥)
-  refuted-exactly h = exactly _ r bytes does answer.Refuted (Satisfiable (decode query) → ⊥) (demand2 .refuted-exactly i (unrefused _ r bytes does h))
+  refuted-exactly h = exactly _ r bytes does answer.Refuted (Satisfiable (decode query) → ⊥) (demand2 .refuted-exactly i (unrefused h))
 
   -- DEMAND 3: the call answers our walk's verdict, which is that of every hand's walk that is finished, and right
   pub one-verdict : Unrefused r → (v : Verdict) × (meaning r ≡ answerOf v) × (ourVerdict (ourWalk order (decode query)) ≡ some v)
-  one-verdict h = let (v, (e, f)) = demand3 .call-answers i (unrefused _ r bytes does h) in (v, does .answers ∙ f, e)
+  one-verdict h = let (v, (e, f)) = demand3 .call-answers i (unrefused h) in (v, does .answers ∙ f, e)
 
   pub hand-agrees : Unrefused r → (picks : List Pick) (w : Verdict) → handVerdict (decode query) (handRow (decode query) picks) ≡ some w → meaning r ≡ answerOf w
   hand-agrees h picks w f =
       let (v, e, g) = one-verdict h in
-      let p = call-passed i (unrefused _ r bytes does h) in
+      let p = call-passed i (unrefused h) in
       e ∙ ap answerOf (demand3 .one-verdict query order picks v w (p .query) (p .order) g f)
 
 -- The derivation call
@@ -157,7 +160,7 @@ module _ (order query before bytes : List ℕ) (r : Answer) (does : Does (deriva
 module _ (order query before before′ bytes bytes′ : List ℕ) (r r′ : Answer) (does : Does (verdictCall (inputOf order query before)) r bytes) (does′ : Does (derivationCall (inputOf order query before′)) r′ bytes′) where
   pub both-one-verdict : Unrefused r → Unrefused r′ → r ≡ r′
   both-one-verdict h h′ =
-      meaning-one r r′ (does .answers ∙ demand1 .one-verdict (inputOf order query before) (inputOf order query before′) (refl, refl) (unrefused _ r bytes does h) (unrefused _ r′ bytes′ does′ h′) ∙ sym (does′ .answers))
+      meaning-one r r′ (does .answers ∙ demand1 .one-verdict (inputOf order query before) (inputOf order query before′) (refl, refl) (not-refused _ r bytes does h) (not-refused _ r′ bytes′ does′ h′) ∙ sym (does′ .answers))
 
   pub both-one-heap : 53 ≤ length before → (r ≡ answer.Satisfiable) ↔ (r′ ≡ answer.Refused 11 0)
   both-one-heap l =

@@ -1,13 +1,11 @@
 -- What a C header says of the two calls, one theorem for each sentence. `order`, `query` and `before` are what a call is given, `r` is
 -- the number that it answers and `bytes` what it leaves in the lent output: its contract is the hypothesis `codes`.
-use Prim.Native.Nat.{ℕ, _+_, _*_, _-_, _/_, _%_, _≤_, _<_}
+use Prim.Native.Nat.{ℕ, _+_, _*_, _/_, _%_, _≤_, _<_}
 use native.Mathlib.Omega.{arith}
-use mathlib.Core.Path.{_≡_, refl, sym, ap, _∙_, subst}
+use mathlib.Core.Path.{_≡_, refl, sym, ap, _∙_}
 use mathlib.Core.Logic.{⊎-elim}
-use mathlib.Core.Bool.{Bool, true, false, cond}
 use mathlib.Core.List.{List}
 use lib.ListN.{length, getD, replicate}
-use lib.Dec.{eqb}
 use borrow.Author.Tests.{ne-eqb}
 use Rattle.logic.specs.Query.{decode}
 use Rattle.logic.specs.Facts.{Line}

@@ -1,20 +1,20 @@
 -- What a call answers, by cases: a check that stands, or what its walk says.
-use Prim.Native.Nat.{ℕ, zero, suc, _+_, _-_, _≤_}
+use Prim.Native.Nat.{ℕ, _-_, _≤_}
 use native.Mathlib.Omega.{arith}
 use mathlib.Core.Path.{_≡_, refl, sym, ap, _∙_, subst}
 use mathlib.Core.Logic.{_⊎_, ⊎-elim, inl, inr}
-use mathlib.Core.Bool.{Bool, true, false, not}
-use mathlib.Core.List.{List, [], _∷_, _++_, List·Memᴰ, List·Memᴰ·head, List·Memᴰ·tail, List·Memᴰ·not-nil, List·Memᴰ·cases-cons, List·Memᴰ·append-cases, Memᴰ·append-left, Memᴰ·append-right}
+use mathlib.Core.Bool.{Bool, true, not}
+use mathlib.Core.List.{List, [], _∷_, List·Memᴰ, List·Memᴰ·head, List·Memᴰ·tail, List·Memᴰ·not-nil, List·Memᴰ·cases-cons, List·Memᴰ·append-cases, Memᴰ·append-left, Memᴰ·append-right}
 use mathlib.Core.Option.{Option, none, some, Option·elim}
 use lib.ListN.{length, replicate, length-append, length-replicate}
 use lib.Dec.{ltb}
 use borrow.Author.Tests.{ltb-false, le-ltb}
-use Rattle.logic.specs.Search.{keep, isSome, firstOf}
+use Rattle.logic.specs.Search.{keep, isSome}
 use Rattle.logic.specs.Query.{isOrder, layoutFault, byteFault, decode}
 use Rattle.logic.specs.Walk.{Ending, ourWalk}
 use Rattle.logic.specs.Calls.{Input, Check, orderCheck, layoutCheck, byteCheck, roomCheck, queryChecks, verdictChecks, derivationChecks, Answer, refused, Outcome, refusalOf, accepts, padded, blank, call}
 use Rattle.logic.specs.Demands.{NoneStands, Alike}
-use Rattle.logic.proofs.Basics.Search.{none-some, firstOf-some, firstOf-none, firstOf-empty, keep-none, not-true, not-of, bool-cases, true-false}
+use Rattle.logic.proofs.Basics.Search.{none-some, firstOf-some, firstOf-none, firstOf-empty, keep-none, bool-cases, true-false}
 
 -- the answer that a check gives
 abbrev answers : Input → Check → Option Answer

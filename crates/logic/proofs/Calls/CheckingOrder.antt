@@ -1,14 +1,14 @@
 -- The checks of a call in their order: a refusal is the first that stands, and there is one first.
-use Prim.Native.Nat.{ℕ, _+_, _≤_, _<_}
+use Prim.Native.Nat.{ℕ, _≤_, _<_}
 use native.Mathlib.Omega.{arith}
 use mathlib.Core.Path.{_≡_, refl, sym, ap, _∙_, subst}
-use mathlib.Core.Logic.{_⊎_, ⊎-elim, inl, inr}
-use mathlib.Core.Bool.{Bool, true, false}
+use mathlib.Core.Logic.{⊎-elim}
+use mathlib.Core.Bool.{Bool, true}
 use mathlib.Core.List.{List, [], _∷_, _++_, map, List·Memᴰ, List·Memᴰ·head, List·Memᴰ·tail, List·Memᴰ·not-nil, List·Memᴰ·cases-cons, List·Memᴰ·append-cases}
 use mathlib.Core.Option.{Option, none, some, Option·elim}
 use lib.Dec.{ltb}
 use Rattle.logic.specs.Search.{_and_, from, all, orElse, firstOf}
-use Rattle.logic.specs.Calls.{Input, Check, orderCheck, layoutCheck, byteCheck, roomCheck, queryChecks, verdictChecks, derivationChecks, Answer, refused, refusalOf}
+use Rattle.logic.specs.Calls.{Input, Check, orderCheck, layoutCheck, byteCheck, roomCheck, queryChecks, verdictChecks, Answer, refused, refusalOf}
 use Rattle.logic.specs.Demands.{NoneStands, FirstStands}
 use Rattle.logic.proofs.Basics.Search.{none-some, and-left, and-right, all-true, map-mem, from-mem}
 use Rattle.logic.proofs.Basics.Compare.{ltb-true, le-cases}
@@ -116,3 +116,9 @@ check-elim P o l b r c m =
 
     bytes : (c : Check) → List·Memᴰ c (map byteCheck (from 4 5)) → P c
     bytes c m = let (k, n, e) = map-mem byteCheck c (from 4 5) m in let u = from-mem 4 5 k n in as-is e (b k (u .0) (omega arith))
+
+pub check-numbered : (c : Check) → List·Memᴰ c verdictChecks → (1 ≤ c .number) × (c .number ≤ 9)
+unfolding orderCheck layoutCheck byteCheck roomCheck
+check-numbered =
+    check-elim (λ (c : Check). (1 ≤ c .number) × (c .number ≤ 9)) (omega arith, omega arith) (λ k l u. (omega arith, omega arith))
+    (λ k l u. (omega arith, omega arith)) (omega arith, omega arith)

@@ -1,19 +1,18 @@
 -- The three demands are theorems.
-use Prim.Native.Nat.{ℕ, _+_, _-_, _≤_}
+use Prim.Native.Nat.{ℕ, _-_, _≤_}
 use native.Mathlib.Omega.{arith}
-use mathlib.Core.Path.{_≡_, refl, sym, ap, _∙_, subst}
-use mathlib.Core.Logic.{_↔_, _⊎_, ⊎-elim}
-use mathlib.Core.Bool.{Bool, true}
-use mathlib.Core.List.{List, [], _∷_, List·Memᴰ}
-use mathlib.Core.Option.{Option, none, some}
+use mathlib.Core.Path.{_≡_, refl, sym, ap, _∙_}
+use mathlib.Core.Logic.{_↔_}
+use mathlib.Core.Bool.{true}
+use mathlib.Core.List.{List}
+use mathlib.Core.Option.{some}
 use lib.ListN.{length, replicate}
-use Rattle.logic.specs.Query.{Query, isOrder, decode}
+use Rattle.logic.specs.Query.{Query, decode}
 use Rattle.logic.specs.Heap.{Satisfiable}
-use Rattle.logic.specs.Facts.{Facts, Line, start}
-use Rattle.logic.specs.Walk.{Ending, refutation, saturation, Verdict, Pick, ourWalk, ourVerdict, handRow, handVerdict}
-use Rattle.logic.specs.Derivation.{linesIn}
+use Rattle.logic.specs.Facts.{Facts}
+use Rattle.logic.specs.Walk.{Verdict, ourWalk, ourVerdict}
 use Rattle.logic.specs.Shown.{report, wellFormed}
-use Rattle.logic.specs.Calls.{Input, Check, orderCheck, layoutCheck, byteCheck, roomCheck, queryChecks, verdictChecks, derivationChecks, Outcome, Answer, refused, accepts, padded, blank, verdictOf, verdictCall, derivationCall}
+use Rattle.logic.specs.Calls.{Input, orderCheck, layoutCheck, byteCheck, roomCheck, queryChecks, verdictChecks, derivationChecks, Outcome, Answer, refused, padded, blank, verdictOf, verdictCall, derivationCall}
 use Rattle.logic.specs.Demands.{NotRefused, Alike, walkOf, Demand1, Demand2, Demand3, Shows, Right, answerOf}
 use Rattle.logic.proofs.Query.Tied.{Accepted}
 use Rattle.logic.proofs.Query.AcceptedBytes.{accepted}

@@ -10,7 +10,7 @@ use Rattle.logic.specs.Derivation.{lineBytes, derivationBytes, linesFrom
 use Rattle.logic.specs.Calls.{padded}
 use Rattle.logic.proofs.Calls.CallLaws.{padded-length}
 
-lines-length : (ls : List Line) → length (flatMap lineBytes ls) ≡ 4 * length ls
+pub lines-length : (ls : List Line) → length (flatMap lineBytes ls) ≡ 4 * length ls
 unfolding flatMap lineBytes
 lines-length [] = refl
 lines-length (line a b c d ∷ ls) = let ih = lines-length ls in omega arith

@@ -1,29 +1,29 @@
 -- What the derivation call does, by cases, and each of its answers exactly where it should be.
-use Prim.Native.Nat.{ℕ, _+_, _*_, _≤_, _<_}
+use Prim.Native.Nat.{ℕ, _+_, _*_, _≤_}
 use native.Mathlib.Omega.{arith}
 use mathlib.Core.Path.{_≡_, refl, sym, ap, _∙_, subst}
 use mathlib.Core.Logic.{_↔_, _⊎_, ⊎-elim, inl, inr}
-use mathlib.Core.Bool.{Bool, true, false}
-use mathlib.Core.List.{List, [], _∷_, List·Memᴰ, List·Memᴰ·tail}
-use lib.ListN.{length, replicate}
+use mathlib.Core.Bool.{true}
+use mathlib.Core.List.{List, List·Memᴰ, List·Memᴰ·tail}
+use lib.ListN.{length}
 use lib.Dec.{ltb}
 use borrow.Author.Tests.{lt-ltb, le-ltb}
 use Rattle.logic.specs.Search.{_and_, _or_, all}
-use Rattle.logic.specs.Query.{Query, decode}
+use Rattle.logic.specs.Query.{decode}
 use Rattle.logic.specs.Heap.{Satisfiable}
 use Rattle.logic.specs.Facts.{Facts, Line}
 use Rattle.logic.specs.Walk.{Ending, refutation, saturation, broken-off}
 use Rattle.logic.specs.Derivation.{derivationBytes, linesIn}
 use Rattle.logic.specs.Calls.{Input, Check, orderCheck, layoutCheck, byteCheck, queryChecks, derivationChecks, Outcome, Answer, refused, padded, blank, derivationOf, derivationCall}
-use Rattle.logic.specs.Demands.{NotRefused, NoneStands, FirstStands, walkOf, BrokenOff, Refusals, Fits, Exceeds}
+use Rattle.logic.specs.Demands.{NotRefused, NoneStands, walkOf, BrokenOff, Refusals, Fits, Exceeds}
 use Rattle.logic.proofs.Basics.Search.{or-left, or-right}
-use Rattle.logic.proofs.Basics.Compare.{le-cases, cond-true, cond-false}
+use Rattle.logic.proofs.Basics.Compare.{le-cases, cond-true}
 use Rattle.logic.proofs.Query.AcceptedBytes.{accepted}
 use Rattle.logic.proofs.Calls.Verdicts.{our-model, our-refuted, model-satisfiable}
-use Rattle.logic.proofs.Calls.CheckingOrder.{ascends}
+use Rattle.logic.proofs.Calls.CheckingOrder.{ascends, check-numbered}
 use Rattle.logic.proofs.Calls.CallLaws.{derivation-passed, derivation-known, blank-length}
 use Rattle.logic.proofs.Calls.Refusals.{refused-one, blank-answer, blank-lent, Late, Lawful, CallCase, by-check, by-walk, call-case, call-clear, refusals}
-use Rattle.logic.proofs.Calls.VerdictCall.{refused-satisfiable, refused-refuted, refuted-satisfiable, check-numbered}
+use Rattle.logic.proofs.Calls.VerdictCall.{refused-refuted}
 use Rattle.logic.proofs.Calls.DerivationBytes.{derivation-fits, lines-padded}
 
 -- what the call leaves of lines that fit
@@ -96,7 +96,6 @@ unfolding derivationOf
 derivation-lawful =
     record {
       ascending = derivation-ascends;
-      numbers = λ c m. check-numbered c (derivation-known c m);
       known = derivation-known;
       has = derivation-has;
       at-limit = λ i. refl;

@@ -1,21 +1,21 @@
 -- How a call refuses: what either call's refusals have in common, from what its walk's ending makes of it.
-use Prim.Native.Nat.{ℕ, _+_, _≤_, _<_}
+use Prim.Native.Nat.{ℕ, _≤_}
 use native.Mathlib.Omega.{arith}
 use mathlib.Core.Path.{_≡_, refl, sym, ap, _∙_, subst, subst₂}
-use mathlib.Core.Logic.{_↔_, _⊎_, ⊎-elim, inl, inr}
-use mathlib.Core.Bool.{Bool, true, false, not}
+use mathlib.Core.Logic.{_⊎_, ⊎-elim, inl, inr}
+use mathlib.Core.Bool.{Bool, true, not}
 use mathlib.Core.List.{List, List·Memᴰ, Memᴰ·append-left, map}
-use mathlib.Core.Option.{Option, none, some, Option·elim}
+use mathlib.Core.Option.{none, some, Option·elim}
 use lib.ListN.{length, replicate}
 use lib.Dec.{ltb}
 use Rattle.logic.specs.Search.{keep, from}
-use Rattle.logic.specs.Query.{isOrder, layoutFault, byteFault, decode}
+use Rattle.logic.specs.Query.{isOrder, layoutFault}
 use Rattle.logic.specs.Walk.{Ending, broken-off}
-use Rattle.logic.specs.Calls.{Input, Check, orderCheck, layoutCheck, byteCheck, roomCheck, queryChecks, verdictChecks, Answer, refused, Outcome, refusalOf, blank, call}
+use Rattle.logic.specs.Calls.{Input, Check, orderCheck, layoutCheck, byteCheck, roomCheck, queryChecks, verdictChecks, Answer, refused, Outcome, blank, call}
 use Rattle.logic.specs.Demands.{NoneStands, FirstStands, walkOf, BrokenOff, Refusals}
 use Rattle.logic.proofs.Basics.Search.{none-some, keep-some, from-intro, map-intro}
 use Rattle.logic.proofs.Query.Places.{InQuery, layout-place, byte-place}
-use Rattle.logic.proofs.Calls.CheckingOrder.{ascends, first-unique, first-stands, first-lowest, refusal-first, check-elim}
+use Rattle.logic.proofs.Calls.CheckingOrder.{ascends, first-unique, first-stands, first-lowest, refusal-first, check-elim, check-numbered}
 use Rattle.logic.proofs.Calls.CallLaws.{refusalOf-none, refusalOf-clear, call-cases, blank-length}
 
 -- what a refusal holds
@@ -60,7 +60,6 @@ pub record Late (room : ℕ) (w : Ending) (k place : ℕ) (lent : List ℕ) : Ty
 -- makes of it where none of them stands.
 pub record Lawful (cs : List Check) (result : Input → Ending → Outcome) : Type 0 where
   pub ascending : ascends cs ≡ true
-  pub numbers : (c : Check) → List·Memᴰ c cs → (1 ≤ c .number) × (c .number ≤ 9)
   pub known : (c : Check) → List·Memᴰ c cs → List·Memᴰ c verdictChecks
   pub has : (c : Check) → List·Memᴰ c queryChecks → List·Memᴰ c cs
   pub at-limit : (i : Input) → result i broken-off ≡ blank (i .room) (refused 10 0)
@@ -97,7 +96,7 @@ module _ (cs : List Check) (result : Input → Ending → Outcome) (lawful : Law
 
   -- the number and place of a check that stands first
   first-number : (i : Input) (k place : ℕ) → FirstStands cs i k place → (1 ≤ k) × (k ≤ 9)
-  first-number i k place f = subst (λ (x : ℕ). (1 ≤ x) × (x ≤ 9)) (f .numbered) (lawful .numbers (f .check) (f .own))
+  first-number i k place f = subst (λ (x : ℕ). (1 ≤ x) × (x ≤ 9)) (f .numbered) (check-numbered (f .check) (lawful .known (f .check) (f .own)))
 
   first-place : (i : Input) (k place : ℕ) → FirstStands cs i k place → InQuery (i .query) place
   unfolding layoutCheck

@@ -1,11 +1,10 @@
 -- What the verdict call does, by cases.
-use Prim.Native.Nat.{ℕ, _+_, _≤_}
+use Prim.Native.Nat.{ℕ, _≤_}
 use native.Mathlib.Omega.{arith}
-use mathlib.Core.Path.{_≡_, refl, sym, ap, _∙_, subst}
-use mathlib.Core.Bool.{Bool, true}
+use mathlib.Core.Path.{_≡_, refl, sym, subst}
+use mathlib.Core.Bool.{true}
 use mathlib.Core.List.{List, [], _∷_, List·Memᴰ, List·Memᴰ·tail, Memᴰ·append-left}
-use lib.ListN.{length, replicate}
-use lib.Dec.{ltb}
+use lib.ListN.{length}
 use Rattle.logic.specs.Search.{_and_, all}
 use Rattle.logic.specs.Query.{Query, decode}
 use Rattle.logic.specs.Facts.{Facts, Line}
@@ -13,13 +12,11 @@ use Rattle.logic.specs.Walk.{Ending, refutation, saturation, broken-off}
 use Rattle.logic.specs.Shown.{report}
 use Rattle.logic.specs.Calls.{Input, Check, orderCheck, layoutCheck, byteCheck, roomCheck, queryChecks, verdictChecks, Outcome, Answer, refused, padded, blank, verdictOf, verdictCall}
 use Rattle.logic.specs.Demands.{NoneStands, walkOf, Refusals}
-use Rattle.logic.proofs.Basics.Search.{and-left, and-right, all-true}
-use Rattle.logic.proofs.Basics.Compare.{ltb-true}
 use Rattle.logic.proofs.Query.AcceptedBytes.{accepted}
 use Rattle.logic.proofs.Completeness.ShownHeap.{report-length}
-use Rattle.logic.proofs.Calls.CheckingOrder.{ascends}
+use Rattle.logic.proofs.Calls.CheckingOrder.{ascends, check-numbered}
 use Rattle.logic.proofs.Calls.CallLaws.{verdict-passed, padded-length, blank-length}
-use Rattle.logic.proofs.Calls.Refusals.{refused-one, blank-answer, blank-lent, Late, Lawful, CallCase, by-check, by-walk, call-case, call-clear, refusals}
+use Rattle.logic.proofs.Calls.Refusals.{refused-one, Late, Lawful, CallCase, by-check, by-walk, call-case, call-clear, refusals}
 
 -- what the walk's ending makes of the call
 abbrev pub verdictAt : Input → Ending → Outcome
@@ -34,18 +31,6 @@ refused-refuted e = let z : _≡_ {A = ℕ} 0 1 = cc in omega arith
 
 pub refuted-satisfiable : Answer.refuted ≡ Answer.satisfiable → ⊥
 refuted-satisfiable e = let z : _≡_ {A = ℕ} 0 1 = cc in omega arith
-
--- the numbers of the checks
-numbered : Check → Bool
-numbered c = ltb 0 (c .number) and ltb (c .number) 10
-
-pub check-numbered : (c : Check) → List·Memᴰ c verdictChecks → (1 ≤ c .number) × (c .number ≤ 9)
-unfolding numbered verdictChecks queryChecks orderCheck layoutCheck byteCheck roomCheck all _and_
-check-numbered c m =
-    let h = all-true numbered {xs = verdictChecks} c refl m in
-    let a = ltb-true 0 (c .number) (and-left (ltb 0 (c .number)) (ltb (c .number) 10) h) in
-    let b = ltb-true (c .number) 10 (and-right (ltb 0 (c .number)) (ltb (c .number) 10) h) in
-    (omega arith, omega arith)
 
 verdict-ascends : ascends verdictChecks ≡ true
 unfolding ascends verdictChecks queryChecks orderCheck layoutCheck byteCheck roomCheck all _and_
@@ -77,7 +62,6 @@ unfolding verdictOf
 verdict-lawful =
     record {
       ascending = verdict-ascends;
-      numbers = check-numbered;
       known = λ c m. m;
       has = verdict-has;
       at-limit = λ i. refl;

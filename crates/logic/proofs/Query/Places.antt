@@ -1,15 +1,15 @@
 -- The places of refusals 2 to 8: none is past the query's end, or past the longest query, which has 681 bytes.
-use Prim.Native.Nat.{ℕ, zero, suc, _+_, _*_, _≤_, _<_}
+use Prim.Native.Nat.{ℕ, suc, _+_, _*_, _≤_, _<_}
 use native.Mathlib.Omega.{arith}
 use native.Mathlib.Nat.{mul-le-mul, le-refl}
-use mathlib.Core.Path.{_≡_, refl, sym, ap, _∙_, subst}
+use mathlib.Core.Path.{_≡_, refl, subst}
 use mathlib.Core.Logic.{⊎-elim}
-use mathlib.Core.Bool.{Bool, true, false, not, cond}
+use mathlib.Core.Bool.{not}
 use mathlib.Core.List.{List, [], _∷_}
 use mathlib.Core.Option.{none, some}
 use lib.ListN.{length, take, drop, length-drop}
 use lib.Dec.{eqb, leb}
-use borrow.Author.Tests.{leb-true, leb-false, eqb-true}
+use borrow.Author.Tests.{leb-true, leb-false}
 use Rattle.logic.specs.Search.{_and_, keep}
 use Rattle.logic.specs.Query.{Role, Section, sections, Layout, faulty, parts, withPart, layout, firstByte, layoutOf, faultIn, layoutFault, roleFault, byteFault}
 use Rattle.logic.proofs.Basics.Search.{none-some, keep-some, orElse-cases}
