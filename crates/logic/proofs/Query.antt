@@ -2,3 +2,4 @@
 pub mod Tied
 pub mod Bytes
 pub mod AcceptedBytes
+pub mod Places

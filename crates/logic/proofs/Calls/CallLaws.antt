@@ -1,20 +1,20 @@
 -- What a call answers, by cases: a check that stands, or what its walk says.
-use Prim.Native.Nat.{ℕ, zero, suc, _+_, _-_, _≤_}
+use Prim.Native.Nat.{ℕ, _-_, _≤_}
 use native.Mathlib.Omega.{arith}
-use native.Mathlib.Decide.{decLe}
 use mathlib.Core.Path.{_≡_, refl, sym, ap, _∙_, subst}
 use mathlib.Core.Logic.{_⊎_, ⊎-elim, inl, inr}
-use mathlib.Core.Bool.{Bool, true, false, not}
-use mathlib.Core.List.{List, [], _∷_, _++_, List·Memᴰ, List·Memᴰ·head, List·Memᴰ·tail, List·Memᴰ·not-nil, List·Memᴰ·cases-cons, List·Memᴰ·append-cases, Memᴰ·append-left, Memᴰ·append-right}
+use mathlib.Core.Bool.{Bool, true, not}
+use mathlib.Core.List.{List, [], _∷_, List·Memᴰ, List·Memᴰ·head, List·Memᴰ·tail, List·Memᴰ·not-nil, List·Memᴰ·cases-cons, List·Memᴰ·append-cases, Memᴰ·append-left, Memᴰ·append-right}
 use mathlib.Core.Option.{Option, none, some, Option·elim}
 use lib.ListN.{length, replicate, length-append, length-replicate}
 use lib.Dec.{ltb}
-use Rattle.logic.specs.Search.{keep, isSome, firstOf}
+use borrow.Author.Tests.{ltb-false, le-ltb}
+use Rattle.logic.specs.Search.{keep, isSome}
 use Rattle.logic.specs.Query.{isOrder, layoutFault, byteFault, decode}
 use Rattle.logic.specs.Walk.{Ending, ourWalk}
 use Rattle.logic.specs.Calls.{Input, Check, orderCheck, layoutCheck, byteCheck, roomCheck, queryChecks, verdictChecks, derivationChecks, Answer, refused, Outcome, refusalOf, accepts, padded, blank, call}
-use Rattle.logic.proofs.Basics.Search.{none-some, firstOf-some, firstOf-none, firstOf-empty, keep-none, not-true, not-of, bool-cases, true-false}
-use Rattle.logic.proofs.Basics.Compare.{ltb-intro}
+use Rattle.logic.specs.Demands.{NoneStands, Alike}
+use Rattle.logic.proofs.Basics.Search.{none-some, firstOf-some, firstOf-none, firstOf-empty, keep-none, bool-cases, true-false}
 
 -- the answer that a check gives
 abbrev answers : Input → Check → Option Answer
@@ -90,36 +90,55 @@ accepts-clear i h =
     rw (refusalOf-clear queryChecks j (λ c m. sym (local i j refl c m) ∙ h c m))
 
 -- what a call knows where none of its checks stands
-pub order-clear : (cs : List Check) (i : Input) → List·Memᴰ orderCheck cs → refusalOf cs i ≡ none → isOrder (i .order) ≡ true
+order-clear : (cs : List Check) (i : Input) → List·Memᴰ orderCheck cs → NoneStands cs i → isOrder (i .order) ≡ true
 unfolding orderCheck
 order-clear cs i m h =
-    let e = keep-none (not (isOrder (i .order))) 0 (refusalOf-none cs i h orderCheck m) in
+    let e = keep-none (not (isOrder (i .order))) 0 (h orderCheck m) in
     ⊎-elim (λ p. p) (λ p. absurd (true-false (ap not p) e)) (bool-cases (isOrder (i .order)))
 
 pub record Passed (i : Input) : Type 0 where
   pub order : isOrder (i .order) ≡ true
   pub query : accepts (i .query) ≡ true
 
-pub verdict-passed : (i : Input) → refusalOf verdictChecks i ≡ none → Passed i × (53 ≤ i .room)
-unfolding verdictChecks roomCheck
-verdict-passed i h = (
-  record {
-    order = order-clear verdictChecks i (List·Memᴰ·head refl) h;
-    query = accepts-clear i (λ c m. refusalOf-none verdictChecks i h c (List·Memᴰ·tail (Memᴰ·append-left (roomCheck ∷ []) m)));
-  },
-  room (keep-none (ltb (i .room) 53) 0 (refusalOf-none verdictChecks i h roomCheck (List·Memᴰ·tail (Memᴰ·append-right queryChecks (List·Memᴰ·head refl))))),
-)
-  where
-    room : ltb (i .room) 53 ≡ false → 53 ≤ i .room
-    room e = elim (decLe 53 (i .room)) [ yes p ↦ p | no p ↦ absurd (true-false (ltb-intro {m = i .room} {n = 53} (omega arith)) e) ]
-
-pub derivation-passed : (i : Input) → refusalOf derivationChecks i ≡ none → Passed i
+pub derivation-passed : (i : Input) → NoneStands derivationChecks i → Passed i
 unfolding derivationChecks
 derivation-passed i h =
     record {
       order = order-clear derivationChecks i (List·Memᴰ·head refl) h;
-      query = accepts-clear i (λ c m. refusalOf-none derivationChecks i h c (List·Memᴰ·tail m));
+      query = accepts-clear i (λ c m. h c (List·Memᴰ·tail m));
     }
+
+-- the verdict call's checks are the derivation call's, and that of the report's room
+pub derivation-known : (c : Check) → List·Memᴰ c derivationChecks → List·Memᴰ c verdictChecks
+unfolding derivationChecks verdictChecks
+derivation-known c m = ⊎-elim (λ e. List·Memᴰ·head e) (λ n. List·Memᴰ·tail (Memᴰ·append-left (roomCheck ∷ []) n)) (List·Memᴰ·cases-cons m)
+
+pub verdict-clear : (i : Input) → NoneStands derivationChecks i → 53 ≤ i .room → NoneStands verdictChecks i
+unfolding derivationChecks verdictChecks roomCheck keep
+verdict-clear i h r c m =
+    ⊎-elim (λ e. h c (List·Memᴰ·head e))
+    (λ n. ⊎-elim (λ n′. h c (List·Memᴰ·tail n′))
+    (λ n′. ⊎-elim (λ e. ap (λ (d : Check). d .place i) e ∙ ap (λ (b : Bool). keep b 0) (le-ltb (i .room) 53 r)) (λ n″. absurd (List·Memᴰ·not-nil n″)) (List·Memᴰ·cases-cons n′))
+    (List·Memᴰ·append-cases queryChecks n))
+    (List·Memᴰ·cases-cons m)
+
+pub verdict-passed : (i : Input) → NoneStands verdictChecks i → Passed i × (53 ≤ i .room)
+unfolding verdictChecks roomCheck
+verdict-passed i h = (
+  derivation-passed i (λ c m. h c (derivation-known c m)),
+  ltb-false (i .room) 53 (keep-none (ltb (i .room) 53) 0 (h roomCheck (List·Memᴰ·tail (Memᴰ·append-right queryChecks (List·Memᴰ·head refl))))),
+)
+
+-- two calls of one order list and one query pass the derivation call's checks alike
+order-local : (i j : Input) → i .order ≡ j .order → orderCheck .place i ≡ orderCheck .place j
+unfolding orderCheck
+order-local i j e = ap (λ (order : List ℕ). keep (not (isOrder order)) 0) e
+
+pub alike-clear : (i j : Input) → Alike i j → NoneStands derivationChecks i → NoneStands derivationChecks j
+unfolding derivationChecks
+alike-clear i j a h c m =
+    ⊎-elim (λ e. ap (λ (d : Check). d .place j) e ∙ sym (order-local i j (a .0)) ∙ h orderCheck (List·Memᴰ·head refl))
+    (λ n. sym (local i j (a .1) c n) ∙ h c m) (List·Memᴰ·cases-cons m)
 
 -- padding fills what is lent
 pub padded-length : (room : ℕ) (bytes : List ℕ) → length bytes ≤ room → length (padded room bytes) ≡ room

@@ -1,129 +1,33 @@
 -- The three demands are theorems.
-use Prim.Native.Nat.{ℕ, _+_, _-_, _*_, _≤_}
+use Prim.Native.Nat.{ℕ, _-_, _≤_}
 use native.Mathlib.Omega.{arith}
-use native.Mathlib.Decide.{decLe}
-use mathlib.Core.Path.{_≡_, refl, sym, ap, _∙_, subst}
-use mathlib.Core.Logic.{_↔_, _⊎_, ⊎-elim, inl, inr}
-use mathlib.Core.Bool.{Bool, true, false, not, cond}
-use mathlib.Core.List.{List, [], _∷_, _++_, List·Memᴰ, List·Memᴰ·head, List·Memᴰ·tail, List·Memᴰ·not-nil, List·Memᴰ·cases-cons, List·Memᴰ·append-cases}
-use mathlib.Core.Option.{Option, none, some}
+use mathlib.Core.Path.{_≡_, refl, sym, ap, _∙_}
+use mathlib.Core.Logic.{_↔_}
+use mathlib.Core.Bool.{true}
+use mathlib.Core.List.{List}
+use mathlib.Core.Option.{some}
 use lib.ListN.{length, replicate}
-use lib.Dec.{ltb}
-use Rattle.logic.specs.Search.{_and_, _or_, all}
-use Rattle.logic.specs.Query.{Query, isOrder, decode}
+use Rattle.logic.specs.Query.{Query, decode}
 use Rattle.logic.specs.Heap.{Satisfiable}
-use Rattle.logic.specs.Facts.{Facts, Line, start}
-use Rattle.logic.specs.Walk.{Ending, refutation, saturation, broken-off, Verdict, Pick, ourWalk, ourVerdict, handRow, handVerdict}
-use Rattle.logic.specs.Derivation.{Refutes, derivationBytes}
+use Rattle.logic.specs.Facts.{Facts}
+use Rattle.logic.specs.Walk.{Verdict, ourWalk, ourVerdict}
 use Rattle.logic.specs.Shown.{report, wellFormed}
-use Rattle.logic.specs.Calls.{Input, Check, orderCheck, layoutCheck, byteCheck, roomCheck, queryChecks, verdictChecks, derivationChecks, Outcome, Answer, refused, refusalOf, accepts, padded, blank, call, verdictOf, verdictCall, derivationOf, derivationCall}
-use Rattle.logic.specs.Demands.{StatedIn, Demand1, Demand2, Demand3, Shows, NotRefused, Right, answerOf}
-use Rattle.logic.proofs.Basics.Search.{none-some, bool-cases, and-left, and-right, all-true}
-use Rattle.logic.proofs.Basics.Compare.{ltb-true}
+use Rattle.logic.specs.Calls.{Input, orderCheck, layoutCheck, byteCheck, roomCheck, queryChecks, verdictChecks, derivationChecks, Outcome, Answer, refused, padded, blank, verdictOf, verdictCall, derivationCall}
+use Rattle.logic.specs.Demands.{NotRefused, Alike, walkOf, Demand1, Demand2, Demand3, Shows, Right, answerOf}
 use Rattle.logic.proofs.Query.Tied.{Accepted}
 use Rattle.logic.proofs.Query.AcceptedBytes.{accepted}
-use Rattle.logic.proofs.Calls.CallLaws.{refusalOf-some, refusalOf-none, call-cases, Passed, verdict-passed, derivation-passed, padded-length, blank-length}
 use Rattle.logic.proofs.Walks.Derives.{our-refutes}
 use Rattle.logic.proofs.Walks.Follows.{hand-follows}
-use Rattle.logic.proofs.Completeness.ShownHeap.{report-length, shown, formed}
-use Rattle.logic.proofs.Calls.Verdicts.{Model, our-model, our-refuted, completed, our-right, hand-right, right-unique}
-
--- What the verdict call does, by cases.
-abbrev walkOf : Input → Ending
-walkOf i = ourWalk (i .order) (decode (i .query))
-
-pub data VerdictCase (i : Input) (o : Outcome) : Type 0 where
-  by-check : (c : Check) (place : ℕ) → List·Memᴰ c verdictChecks → c .place i ≡ some place → o ≡ blank (i .room) (refused (c .number) place) → VerdictCase i o
-  by-limit : walkOf i ≡ broken-off → o ≡ blank (i .room) (refused 10 0) → refusalOf verdictChecks i ≡ none → VerdictCase i o
-  by-lines : (ls : List Line) → walkOf i ≡ refutation ls → o ≡ blank (i .room) Answer.refuted → refusalOf verdictChecks i ≡ none → VerdictCase i o
-  by-model : (s : Facts) → walkOf i ≡ saturation s → o ≡ record { answer = Answer.satisfiable; lent = padded (i .room) (report (decode (i .query)) s) } → refusalOf verdictChecks i ≡ none → VerdictCase i o
-
-abbrev verdictAt : Input → Ending → Outcome
-verdictAt i = verdictOf (decode (i .query)) (i .room)
-
-walked-case : (i : Input) (w : Ending) → walkOf i ≡ w → refusalOf verdictChecks i ≡ none → VerdictCase i (verdictAt i w)
-unfolding verdictOf
-walked-case i (refutation ls) e h = by-lines ls e refl h
-walked-case i (saturation s) e h = by-model s e refl h
-walked-case i broken-off e h = by-limit e refl h
-
-pub verdict-case : (i : Input) → VerdictCase i (verdictCall i)
-unfolding verdictCall
-verdict-case i =
-    ⊎-elim
-    (λ p. let r = refusalOf-some verdictChecks i (p .0) (p .1) in
-    by-check (r .0) (r .2 .0) (r .1) (r .2 .1) (p .2 ∙ ap (blank (i .room)) (r .2 .2)))
-    (λ p. subst (VerdictCase i) (sym (p .1)) (walked-case i (walkOf i) refl (p .0)))
-    (call-cases verdictChecks i (verdictAt i))
-
--- Answers of different kinds differ.
-refused-satisfiable : {k place : ℕ} → Answer.satisfiable ≡ refused k place → ⊥
-refused-satisfiable e = let z : _≡_ {A = ℕ} 0 1 = cc in omega arith
-
-refused-refuted : {k place : ℕ} → Answer.refuted ≡ refused k place → ⊥
-refused-refuted e = let z : _≡_ {A = ℕ} 0 1 = cc in omega arith
-
-refuted-satisfiable : Answer.refuted ≡ Answer.satisfiable → ⊥
-refuted-satisfiable e = let z : _≡_ {A = ℕ} 0 1 = cc in omega arith
-
--- what a blank outcome answers and leaves
-blank-answer : (o : Outcome) (room : ℕ) (a b : Answer) → o ≡ blank room a → o .answer ≡ b → a ≡ b
-unfolding blank
-blank-answer o room a b e h = sym (ap (λ (x : Outcome). x .answer) e) ∙ h
-
-blank-lent : (o : Outcome) (room : ℕ) (a : Answer) → o ≡ blank room a → o .lent ≡ replicate room 0
-unfolding blank
-blank-lent o room a e = ap (λ (x : Outcome). x .lent) e
-
--- Demand 1
-
-numbered : Check → Bool
-numbered c = ltb 0 (c .number) and ltb (c .number) 11
-
-check-numbered : (c : Check) → List·Memᴰ c verdictChecks → (1 ≤ c .number) × (c .number ≤ 10)
-unfolding numbered verdictChecks queryChecks orderCheck layoutCheck byteCheck roomCheck all _and_
-check-numbered c m =
-    let h = all-true numbered {xs = verdictChecks} c refl m in
-    let a = ltb-true 0 (c .number) (and-left (ltb 0 (c .number)) (ltb (c .number) 11) h) in
-    let b = ltb-true (c .number) 11 (and-right (ltb 0 (c .number)) (ltb (c .number) 11) h) in
-    (omega arith, omega arith)
-
-refusal-stated : (i : Input) (o : Outcome) (k place : ℕ) → o .answer ≡ refused k place → VerdictCase i o → StatedIn verdictChecks i k place × ((1 ≤ k) × (k ≤ 10)) × (o .lent ≡ replicate (i .room) 0)
-refusal-stated i o k place h (by-check c p m s e) =
-    let f : refused (c .number) p ≡ refused k place = blank-answer o (i .room) _ _ e h in
-    let kk : c .number ≡ k = cc in
-    let pp : p ≡ place = cc in
-    let b = check-numbered c m in
-    (inl (c, (m, (kk, s ∙ ap some pp))), (omega arith, omega arith), blank-lent o (i .room) _ e)
-refusal-stated i o k place h (by-limit w e r) =
-    let f : refused 10 0 ≡ refused k place = blank-answer o (i .room) _ _ e h in
-    let kk : 10 ≡ k = cc in
-    let pp : 0 ≡ place = cc in
-    (inr (sym kk, (sym pp, w)), (omega arith, omega arith), blank-lent o (i .room) _ e)
-refusal-stated i o k place h (by-lines ls w e r) = absurd (refused-refuted (blank-answer o (i .room) _ _ e h))
-refusal-stated i o k place h (by-model s w e r) = absurd (refused-satisfiable (sym (ap (λ (x : Outcome). x .answer) e) ∙ h))
-
--- a check that stands is met, or one before it
-refusal-made : (i : Input) (o : Outcome) (c : Check) (place : ℕ) → List·Memᴰ c verdictChecks → c .place i ≡ some place → VerdictCase i o → (k : ℕ) × ((p : ℕ) × (o .answer ≡ refused k p))
-unfolding blank
-refusal-made i o c place m s (by-check d p _ _ e) = (d .number, (p, ap (λ (x : Outcome). x .answer) e))
-refusal-made i o c place m s (by-limit w e r) = (10, (0, ap (λ (x : Outcome). x .answer) e))
-refusal-made i o c place m s (by-lines ls w e r) = absurd (none-some (sym (refusalOf-none verdictChecks i r c m) ∙ s))
-refusal-made i o c place m s (by-model t w e r) = absurd (none-some (sym (refusalOf-none verdictChecks i r c m) ∙ s))
+use Rattle.logic.proofs.Completeness.ShownHeap.{shown, formed}
+use Rattle.logic.proofs.Calls.Verdicts.{Model, our-model, completed, our-right, hand-right, right-unique}
+use Rattle.logic.proofs.Calls.CallLaws.{Passed, derivation-known, verdict-clear, verdict-passed, alike-clear}
+use Rattle.logic.proofs.Calls.Refusals.{refused-one, blank-answer}
+use Rattle.logic.proofs.Calls.VerdictCall.{verdictAt, refused-satisfiable, refused-refuted, refuted-satisfiable, VerdictCase, by-refusal, by-lines, by-model, verdict-refusals, verdict-of, verdict-case}
+use Rattle.logic.proofs.Calls.DerivationCall.{derivation-refusals, never-satisfiable, heap-exactly, excess-exactly, lines-exactly, eleven-modelled, model-answered, unrefused-refuted, derived}
 
 -- the query of a call whose checks all pass is accepted
 call-accepted : (i : Input) → Passed i → Accepted (decode (i .query))
 call-accepted i p = accepted (i .query) (p .query)
-
-lent-whole : (i : Input) (o : Outcome) → VerdictCase i o → length (o .lent) ≡ i .room
-lent-whole i o (by-check c p m s e) = ap (λ (x : Outcome). length (x .lent)) e ∙ blank-length (i .room) _
-lent-whole i o (by-limit w e r) = ap (λ (x : Outcome). length (x .lent)) e ∙ blank-length (i .room) _
-lent-whole i o (by-lines ls w e r) = ap (λ (x : Outcome). length (x .lent)) e ∙ blank-length (i .room) _
-lent-whole i o (by-model s w e r) =
-    let p = verdict-passed i r in
-    let q : Query = decode (i .query) in
-    let l : length (report q s) ≤ i .room = omega (arith, report-length q s (call-accepted i (p .0)), p .1) in
-    ap (λ (x : Outcome). length (x .lent)) e ∙ padded-length (i .room) (report q s) l
 
 -- where the call says "satisfiable", its walk has found a model, and the report is that model's
 record Found (i : Input) (o : Outcome) : Type 0 where
@@ -133,9 +37,8 @@ record Found (i : Input) (o : Outcome) : Type 0 where
   lent-is : o .lent ≡ padded (i .room) (report (decode (i .query)) facts)
 
 found : (i : Input) (o : Outcome) → o .answer ≡ Answer.satisfiable → VerdictCase i o → Found i o
-found i o h (by-check c p m s e) = absurd (refused-satisfiable (sym (blank-answer o (i .room) _ _ e h)))
-found i o h (by-limit w e r) = absurd (refused-satisfiable (sym (blank-answer o (i .room) _ _ e h)))
-found i o h (by-lines ls w e r) = absurd (refuted-satisfiable (blank-answer o (i .room) _ _ e h))
+found i o h (by-refusal k p u e) = absurd (refused-satisfiable (sym h ∙ blank-answer o (i .room) _ e))
+found i o h (by-lines ls w e r) = absurd (refuted-satisfiable (sym (blank-answer o (i .room) _ e) ∙ h))
 found i o h (by-model s w e r) =
     let p = verdict-passed i r .0 in
     let ok = call-accepted i p in
@@ -159,24 +62,10 @@ found-shown i o f =
       formed q s ok tied comp (i .room - length (report q s)),
     )
 
-pub demand1 : Demand1
-demand1 =
-    record {
-      refusal-stated = λ i k place h. refusal-stated i (verdictCall i) k place h (verdict-case i) .0;
-      refusal-numbered = λ i k place h. refusal-stated i (verdictCall i) k place h (verdict-case i) .1;
-      refusal-blank = λ i k place h. refusal-stated i (verdictCall i) k place h (verdict-case i) .2;
-      refusal-made = λ i c place m s. refusal-made i (verdictCall i) c place m s (verdict-case i);
-      lent-whole = λ i. lent-whole i (verdictCall i) (verdict-case i);
-      report-formed = λ i h. found-shown i (verdictCall i) (found i (verdictCall i) h (verdict-case i)) .1;
-    }
-
--- Demand 2
-
 -- where the call is not refused, it answers our walk's verdict
 answered : (i : Input) (o : Outcome) → NotRefused (o .answer) → VerdictCase i o → (v : Verdict) × ((ourVerdict (walkOf i) ≡ some v) × (o .answer ≡ answerOf v)) × Passed i
 unfolding blank ourVerdict
-answered i o h (by-check c p m s e) = absurd (h (c .number) p (ap (λ (x : Outcome). x .answer) e))
-answered i o h (by-limit w e r) = absurd (h 10 0 (ap (λ (x : Outcome). x .answer) e))
+answered i o h (by-refusal k p u e) = absurd (h k p (ap (λ (x : Outcome). x .answer) e))
 answered i o h (by-lines ls w e r) = (Verdict.refuted, (ap ourVerdict w, ap (λ (x : Outcome). x .answer) e), verdict-passed i r .0)
 answered i o h (by-model s w e r) = (Verdict.satisfiable, (ap ourVerdict w, ap (λ (x : Outcome). x .answer) e), verdict-passed i r .0)
 
@@ -202,33 +91,67 @@ answer-exactly i w P h exactly =
     let e = exactly (a .0) (a .2) in
     (λ k. e .0 (answer-verdict (a .0) w .0 (sym (a .1) ∙ k)), λ p. a .1 ∙ ap answerOf (e .1 p))
 
--- the derivation call: where it answers "refuted", what it leaves are the lines of our walk
-abbrev Derived : Input → Outcome → Type 0
-Derived i o =
-    o .answer ≡ Answer.refuted → (ls : List Line) × (Refutes (decode (i .query)) (start (decode (i .query))) ls × (o .lent ≡ padded (i .room) (derivationBytes ls)))
+-- Demand 1
 
-blank-derived : (i : Input) (k place : ℕ) → Derived i (blank (i .room) (refused k place))
-unfolding blank
-blank-derived i k place h = absurd (refused-refuted (sym h))
+-- the verdict call uses no refusal above 10
+verdict-numbered : (i : Input) (o : Outcome) (k place : ℕ) → o .answer ≡ refused k place → VerdictCase i o → k ≤ 10
+verdict-numbered i o k place h (by-refusal j p u e) = omega (arith, u, refused-one (sym (blank-answer o (i .room) _ e) ∙ h) .0)
+verdict-numbered i o k place h (by-lines ls w e r) = absurd (refused-refuted (sym (blank-answer o (i .room) _ e) ∙ h))
+verdict-numbered i o k place h (by-model s w e r) = absurd (refused-satisfiable (sym (ap (λ (x : Outcome). x .answer) e) ∙ h))
 
-walked-derived : (i : Input) (w : Ending) → walkOf i ≡ w → Derived i (derivationOf (i .room) w)
-unfolding derivationOf
-walked-derived i (saturation s) e = blank-derived i 11 0
-walked-derived i broken-off e = blank-derived i 10 0
-walked-derived i (refutation ls) e = go (ltb 16000 (length ls) or ltb (i .room) (2 + 4 * length ls))
+-- one walk is behind two calls of one order list and one query
+alike-walk : (i j : Input) → Alike i j → walkOf i ≡ walkOf j
+alike-walk i j e = ap (λ (order : List ℕ). ourWalk order (decode (i .query))) (e .0) ∙ ap (λ (query : List ℕ). ourWalk (j .order) (decode query)) (e .1)
+
+alike-back : (i j : Input) → Alike i j → Alike j i
+alike-back i j e = (sym (e .0), sym (e .1))
+
+-- where both calls give a verdict, it is "refuted"
+one-verdict : (i j : Input) → Alike i j → NotRefused (verdictCall i .answer) → NotRefused (derivationCall j .answer) → verdictCall i .answer ≡ derivationCall j .answer
+unfolding ourVerdict
+one-verdict i j e h g =
+    let d = unrefused-refuted j g in
+    let (n, (ls, w, f)) = lines-exactly j .0 d in
+    let a = answered i (verdictCall i) h (verdict-case i) in
+    let v : some Verdict.refuted ≡ some (a .0) = sym (ap ourVerdict (alike-walk i j e ∙ w)) ∙ a .1 .0 in
+    a .1 .1 ∙ ap answerOf (some-one (sym v)) ∙ sym d
   where
-    go : (b : Bool) → Derived i (cond b (blank (i .room) (refused 12 0)) (record { answer = Answer.refuted; lent = padded (i .room) (derivationBytes ls) }))
-    go true = blank-derived i 12 0
-    go false = λ h. (ls, (our-refutes (decode (i .query)) (i .order) ls e, refl))
+    some-one : {v w : Verdict} → some v ≡ some w → v ≡ w
+    some-one e = cc
 
-derived : (i : Input) → Derived i (derivationCall i)
-unfolding derivationCall
-derived i =
-    ⊎-elim
-    (λ p. let r = refusalOf-some derivationChecks i (p .0) (p .1) in
-    subst (Derived i) (sym (p .2 ∙ ap (blank (i .room)) (r .2 .2))) (blank-derived i (r .0 .number) (r .2 .0)))
-    (λ p. subst (Derived i) (sym (p .1)) (walked-derived i (walkOf i) refl))
-    (call-cases derivationChecks i (derivationOf (i .room)))
+one-heap : (i j : Input) → Alike i j → 53 ≤ i .room → (verdictCall i .answer ≡ Answer.satisfiable) ↔ (derivationCall j .answer ≡ refused 11 0)
+unfolding verdictOf
+one-heap i j e r = (λ h. there (verdictCall i) h (verdict-case i), back)
+  where
+    there : (o : Outcome) → o .answer ≡ Answer.satisfiable → VerdictCase i o → derivationCall j .answer ≡ refused 11 0
+    there o h (by-refusal k p u q) = absurd (refused-satisfiable (sym h ∙ blank-answer o (i .room) _ q))
+    there o h (by-lines ls w q n) = absurd (refuted-satisfiable (sym (blank-answer o (i .room) _ q) ∙ h))
+    there o h (by-model s w q n) = model-answered j s (alike-clear i j e (λ c m. n c (derivation-known c m))) (sym (alike-walk i j e) ∙ w)
+
+    back : derivationCall j .answer ≡ refused 11 0 → verdictCall i .answer ≡ Answer.satisfiable
+    back h =
+        let (n, (s, w)) = eleven-modelled j 0 h in
+        ap (λ (o : Outcome). o .answer) (verdict-of i (verdict-clear i (alike-clear j i (alike-back i j e) n) r) ∙ ap (verdictAt i) (alike-walk i j e ∙ w))
+
+pub demand1 : Demand1
+unfolding verdictChecks derivationChecks queryChecks orderCheck layoutCheck byteCheck roomCheck
+demand1 =
+    record {
+      verdict-checks = refl;
+      derivation-checks = refl;
+      verdict-refusals = verdict-refusals;
+      derivation-refusals = derivation-refusals;
+      verdict-numbered = λ i k place h. verdict-numbered i (verdictCall i) k place h (verdict-case i);
+      report-formed = λ i h. found-shown i (verdictCall i) (found i (verdictCall i) h (verdict-case i)) .1;
+      heap-exactly = heap-exactly;
+      excess-exactly = excess-exactly;
+      lines-exactly = lines-exactly;
+      never-satisfiable = never-satisfiable;
+      one-verdict = one-verdict;
+      one-heap = one-heap;
+    }
+
+-- Demand 2
 
 pub demand2 : Demand2
 demand2 =
@@ -236,7 +159,10 @@ demand2 =
       satisfiable-exactly = λ i h. answer-exactly i Verdict.satisfiable (Satisfiable (decode (i .query))) h (λ v r. r .satisfiable-exactly);
       heap-shown = λ i h. found-shown i (verdictCall i) (found i (verdictCall i) h (verdict-case i)) .0;
       refuted-exactly = λ i h. answer-exactly i Verdict.refuted (Satisfiable (decode (i .query)) → ⊥) h (λ v r. r .refuted-exactly);
-      derivation-follows = derived;
+      derivation-follows = λ i h. our-refutes (decode (i .query)) (i .order) _ (derived i h .walked);
+      derivation-walked = λ i h. derived i h .walked;
+      derivation-formed = λ i h. derived i h .formed;
+      derivation-counted = λ i h. derived i h .fits;
     }
 
 -- Demand 3

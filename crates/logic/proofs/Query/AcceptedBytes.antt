@@ -37,16 +37,16 @@ module _ (bytes : List ℕ) (passes : accepts bytes ≡ true) where
   unfolding queryChecks byteCheck from
   byte-passed k l u = check-passed (byteCheck k) (Memᴰ·append-right (map layoutCheck (from 3 2)) (map-intro byteCheck k (from-intro 4 5 k l (omega arith))))
 
-  -- the walk from the front meets no refusal
-  laid-out : (ps : List (List ℕ)) × (layoutOf bytes ≡ parts ps)
-  unfolding layoutFault layoutOf faultIn
-  laid-out = at-layout (layoutOf bytes) refl (layout-numbered (sections (firstByte bytes)) 0 bytes)
-    where
-      at-layout : (l : Layout) → layoutOf bytes ≡ l → Numbered l → (ps : List (List ℕ)) × (layoutOf bytes ≡ parts ps)
-      at-layout (faulty k place) e n =
-          let no-place : faultIn k (faulty k place) ≡ none = ap (faultIn k) (sym e) ∙ layout-passed k (n .0) (n .1) in
-          absurd (true-false (eq-eqb k k refl) (keep-none (eqb k k) place no-place))
-      at-layout (parts ps) e n = (ps, e)
+-- where the walk from the front meets no refusal, there are parts
+pub laid-out : (bytes : List ℕ) → ((k : ℕ) → 2 ≤ k → k ≤ 4 → layoutFault k bytes ≡ none) → (ps : List (List ℕ)) × (layoutOf bytes ≡ parts ps)
+unfolding layoutFault layoutOf faultIn
+laid-out bytes passed = at-layout (layoutOf bytes) refl (layout-numbered (sections (firstByte bytes)) 0 bytes)
+  where
+    at-layout : (l : Layout) → layoutOf bytes ≡ l → Numbered l → (ps : List (List ℕ)) × (layoutOf bytes ≡ parts ps)
+    at-layout (faulty k place) e n =
+        let no-place : faultIn k (faulty k place) ≡ none = ap (faultIn k) (sym e) ∙ passed k (n .0) (n .1) in
+        absurd (true-false (eq-eqb k k refl) (keep-none (eqb k k) place no-place))
+    at-layout (parts ps) e n = (ps, e)
 
 -- What the roles allow
 
@@ -106,7 +106,7 @@ module _ (n : ℕ) (ps : List (List ℕ)) (count : length (section ps 0) ≡ n) 
 pub accepted : (bytes : List ℕ) → accepts bytes ≡ true → Accepted (decode bytes)
 unfolding decode layoutOf byteFault sections
 accepted bytes h =
-    let l = laid-out bytes h in
+    let l = laid-out bytes (layout-passed bytes h) in
     let n : ℕ = firstByte bytes in
     let allowed = faultless-allowed 0 (rolesOf (sections n) bytes) bytes (byte-passed bytes h) in
     subst Accepted (ap queryOf (sym (l .1)))

@@ -73,7 +73,8 @@ unfolding flatMap from
 flatMap-length f w h zero i = sym (zero-mul w)
 flatMap-length f w h (suc c) i = rw (length-append, suc-mul) (omega (arith, h i, flatMap-length f w h c (suc i)))
 
-cond-elim : {A : Type 0} (P : A → Type 0) (b : Bool) {x y : A} → (b ≡ true → P x) → (b ≡ false → P y) → P (cond b x y)
+-- what a choice leads to, by its test
+pub cond-elim : {A : Type 0} (P : A → Type 0) (b : Bool) {x y : A} → (b ≡ true → P x) → (b ≡ false → P y) → P (cond b x y)
 cond-elim P true t f = t refl
 cond-elim P false t f = f refl
 
