@@ -1,15 +1,10 @@
 // The branches of a rule: its alternatives, left to right, each joined or added.
 use facts::Facts;
-use facts::Found;
 use facts::Term;
 use rules::Rule;
 ghost use mathlib.Core.Path.{_≡_};
-ghost use mathlib.Core.List.{List};
-ghost use Prim.Native.Nat.{ℕ, _+_, _≤_, _<_};
-ghost use lib.ListN.{length, getD};
-ghost use Rattle.logic.specs.Heap.{iterate};
-ghost use Rattle.logic.specs.Facts.{addReach};
-ghost use Rattle.logic.specs.Rules.{next, alternatives, add, move, triple, branches, reaches};
+ghost use Prim.Native.Nat.{_≤_};
+ghost use Rattle.logic.specs.Rules.{alternatives, add, triple, branches};
 ghost use Rattle.facts.specs.Path.{pathOf, linksIn};
 ghost use Rattle.rules.specs.Answers.{kindOf};
 ghost use Rattle.branch.specs.Answers.{factOf, InRange};
@@ -37,21 +32,7 @@ pub fn count(rule: Rule, z: usize) -> usize
     }
 }
 
-// The term that i links from c lead to.
-fn follow(link: &[bool; 289], n: usize, c: Term, i: usize) -> Term
-    requires { ⌜ (n ≤ 16) × (c .0 ≤ 16) ⌝ }
-    ensures { λ r. ⌜ (r .0 ≡ iterate (next n (linksIn (now (link .entry)))) i (c .0)) × (r .0 ≤ 16) ⌝ }
-{
-    let mut t = c;
-    let mut left = i;
-    while 0 < left {
-        t = rules::next(link, n, t);
-        left -= 1;
-    }
-    t
-}
-
-// The alternative of a rule at i, from 0.
+// The alternative of a rule at i, from 0. That of CYCLE is the term i links on from x: 17 is no term, so that all i are followed.
 fn alternative(
     link: &[bool; 289],
     n: usize,
@@ -74,7 +55,11 @@ fn alternative(
             }
             Fact::Reaches(y, Term(z))
         }
-        Rule::Cycle => Fact::Equal(y, follow(link, n, x, i)),
+        Rule::Cycle => {
+            let round = rules::follow(link, n, x, Term(17), i);
+            let t = round.term;
+            Fact::Equal(y, t)
+        }
         Rule::Scc => {
             if i == 0 {
                 return Fact::Equal(x, y);

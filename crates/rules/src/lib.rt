@@ -10,7 +10,8 @@ ghost use Rattle.rules.specs.Answers.{kindOf, placeOf, numberedOf, choic
 ghost use Rattle.facts.specs.Square.{rowOf};
 ghost use Rattle.rules.specs.Tests.{pairTest, thirdTest, looped};
 ghost use Rattle.rules.specs.Smallest.{inThird, inSecond, inFirst, triedAt};
-ghost use Rattle.rules.specs.Cycle.{stepsBack, among, cycleThird};
+ghost use Rattle.rules.specs.Cycle.{stepsTo, cycleThird};
+ghost use Rattle.logic.specs.Heap.{iterate};
 ghost use Rattle.logic.specs.Rules.{next, ruleOf, choose};
 ghost use Rattle.logic.specs.Walk.{orderOf};
 
@@ -41,6 +42,12 @@ pub enum Numbered {
 pub enum Choice {
     Apply(Rule, usize, usize, usize),
     Nothing,
+}
+
+// Where the links led, and after how many steps.
+pub struct Followed {
+    pub term: Term,
+    pub steps: usize,
 }
 
 // What a rule asks of its first two numbers alone.
@@ -132,46 +139,27 @@ pub fn next(link: &[bool; 289], n: usize, c: Term) -> Term
     }
 }
 
-// After how many steps, at most `left`, the links from c lead to x; 0 where they do not lead there so soon.
-fn steps_back(link: &[bool; 289], n: usize, x: Term, c: Term, left: usize) -> usize
-    requires { ⌜ (n ≤ 16) × (c .0 ≤ 16) × (left ≤ 16) ⌝ }
-    ensures { λ r. ⌜ r ≡ stepsBack n (linksIn (now (link .entry))) (x .0) left (c .0) ⌝ }
+// The steps round a cycle: the links from c are followed until they lead to `until`, or `left` of them are made.
+pub fn follow(link: &[bool; 289], n: usize, c: Term, until: Term, left: usize) -> Followed
+    requires { ⌜ (n ≤ 16) × (c .0 ≤ 16) ⌝ }
+    ensures { λ r. ⌜ (r .steps ≡ stepsTo n (linksIn (now (link .entry))) (until .0) left (c .0)) × (r .term .0 ≡ iterate (next n (linksIn (now (link .entry)))) (r .steps) (c .0)) ⌝ }
 {
     if left == 0 {
-        return 0;
+        return Followed { term: c, steps: 0 };
+    }
+    if c.0 == until.0 {
+        return Followed { term: c, steps: 0 };
     }
     let d = next(link, n, c);
-    if d.0 == x.0 {
-        return 1;
+    let rest = follow(link, n, d, until, left - 1);
+    let term = rest.term;
+    Followed {
+        term,
+        steps: rest.steps + 1,
     }
-    if d.0 == c.0 {
-        return 0;
-    }
-    let k = steps_back(link, n, x, d, left - 1);
-    if k == 0 {
-        return 0;
-    }
-    k + 1
 }
 
-// y is one of the k terms from x on.
-fn on_round(link: &[bool; 289], n: usize, y: Term, x: Term, k: usize) -> bool
-    requires { ⌜ (n ≤ 16) × (x .0 ≤ 16) ⌝ }
-    ensures { λ r. ⌜ r ≡ among n (linksIn (now (link .entry))) (y .0) k (x .0) ⌝ }
-{
-    let mut c = x;
-    let mut left = k;
-    while 0 < left {
-        if y.0 == c.0 {
-            return true;
-        }
-        c = next(link, n, c);
-        left -= 1;
-    }
-    false
-}
-
-// The smallest triple of CYCLE that begins with x and y.
+// The smallest triple of CYCLE that begins with x and y: the links lead back to x after k steps, and y is none of the k terms from x on.
 fn cycle(link: &[bool; 289], reach: &[bool; 289], n: usize, x: usize, y: usize) -> Place
     requires { ⌜ (n ≤ 16) × (x ≤ 16) × (y ≤ 16) ⌝ }
     ensures { λ r. ⌜ placeOf r ≡ cycleThird n (graphOf (now (link .entry)) (now (reach .entry))) x y ⌝ }
@@ -179,11 +167,14 @@ fn cycle(link: &[bool; 289], reach: &[bool; 289], n: usize, x: usize, y: usize) 
     if !facts::holds(reach, Term(x), Term(y)) {
         return Place::Nothing;
     }
-    let k = steps_back(link, n, Term(x), Term(x), n);
-    if k == 0 {
+    let first = next(link, n, Term(x));
+    let back = follow(link, n, first, Term(x), n);
+    let k = back.steps + 1;
+    if n < k {
         return Place::Nothing;
     }
-    if on_round(link, n, Term(y), Term(x), k) {
+    let met = follow(link, n, Term(x), Term(y), k);
+    if met.steps < k {
         return Place::Nothing;
     }
     Place::At(x, y, k)

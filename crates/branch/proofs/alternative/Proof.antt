@@ -2,7 +2,7 @@
 use borrow.Author.Needs.{needs}
 use mathlib.Core.Path.{refl, ap}
 use Rattle.logic.specs.Rules.{equal}
-use Rattle.branch.proofs.Steps.{known-rule, first-of-two, second-of-two}
+use Rattle.branch.proofs.Steps.{followed, known-rule, first-of-two, second-of-two}
 use Rattle.branch.proofs.alternative.Statement.{statement}
 use Rattle.branch.proofs.alternative.Tie as tie
 
@@ -44,9 +44,10 @@ alternative-spec =
     (λ c. let p = c .before .before .before .pre in (known-rule _ _ _ _ _ _ _ _ _ (c .before .enum-told4 .given .1) (second-of-two _ _ _ (c .if1 .left)), (p .2, p .3)))
     -- returns-8
     (λ c.
-    let p = c .before .before .before .pre in
-    let a = c .before .before .before .args in
-    (known-rule _ _ _ _ _ _ (a .z) _ _ (c .before .enum-told5 .given .1) (ap (equal (a .y .0)) (c .follow .ensures .0)), (p .2, c .follow .ensures .1)))
+    let p = c .before .before .before .before .pre in
+    let a = c .before .before .before .before .args in
+    let f = followed _ _ _ _ _ _ (p .0) (p .1) (c .before .follow .ensures .0) (c .before .follow .ensures .1) in
+    (known-rule _ _ _ _ _ _ (a .z) _ _ (c .before .before .enum-told5 .given .1) (ap (equal (a .y .0)) (f .0)), (p .2, f .1)))
     -- returns-9
     (λ c. let p = c .before .before .before .pre in (known-rule _ _ _ _ _ _ _ _ _ (c .before .enum-told6 .given .1) (second-of-two _ _ _ (c .if2 .left)), (p .3, p .1)))
     -- returns-10
