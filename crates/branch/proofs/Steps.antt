@@ -33,9 +33,9 @@ added-reaches n f a b s p e h = h ∙ ap (λ (x : code.Fact). add n s (factOf x)
 pub followed : (n : ℕ) (g : Graph) (c i s t : ℕ) → n ≤ 16 → c ≤ 16 → s ≡ stepsTo n g 17 i c → t ≡ iterate (next n g) s c → (t ≡ iterate (next n g) i c) × (t ≤ 16)
 followed n g c i s t h l e f = (f ∙ ap (λ (k : ℕ). iterate (next n g) k c) (e ∙ steps-never n g 17 (omega arith) i c (omega arith)), rw f (iterate-le n g s c 16 h l))
 
--- what a rule comes to, where the rule is known
-pub known-rule : (r r′ : rules.Rule) (n : ℕ) (g : Graph) (x y z i : ℕ) (f : Fact) → r ≡ r′ → f ≡ alternativeAt n g (kindOf r′) x y z i → f ≡ alternativeAt n g (kindOf r) x y z i
-known-rule r r′ n g x y z i f e h = h ∙ ap (λ (k : rules.Rule). alternativeAt n g (kindOf k) x y z i) (sym e)
+-- what a rule comes to, where the rule is known, and the third number as a term
+pub known-rule : (r r′ : rules.Rule) (n : ℕ) (g : Graph) (x y z t i : ℕ) (f : Fact) → r ≡ r′ → t ≡ z → f ≡ alternativeAt n g (kindOf r′) x y t i → f ≡ alternativeAt n g (kindOf r) x y z i
+known-rule r r′ n g x y z t i f e q h = h ∙ ap (λ (k : rules.Rule). alternativeAt n g (kindOf k) x y t i) (sym e) ∙ ap (λ (u : ℕ). alternativeAt n g (kindOf r) x y u i) q
 
 pub first-of-two : (i : ℕ) (f e : Fact) → i ≡ 0 → f ≡ cond (eqb i 0) f e
 first-of-two i f e h = rw (eq-eqb i 0 h)

@@ -2,6 +2,7 @@
 use facts::Facts;
 use facts::Term;
 use rules::Rule;
+use rules::Third;
 ghost use mathlib.Core.Path.{_≡_};
 ghost use Prim.Native.Nat.{_≤_};
 ghost use Rattle.logic.specs.Rules.{alternatives, add, triple, branches};
@@ -17,15 +18,15 @@ pub enum Fact {
 }
 
 // How many alternatives a rule has, z being the third number of its triple.
-pub fn count(rule: Rule, z: usize) -> usize
-    ensures { λ r. ⌜ r ≡ countOf (kindOf rule) z ⌝ }
+pub fn count(rule: Rule, z: Third) -> usize
+    ensures { λ r. ⌜ r ≡ countOf (kindOf rule) (z .0) ⌝ }
 {
     match rule {
         Rule::Reflex => 1,
         Rule::Trans1 => 1,
         Rule::Trans2 => 1,
         Rule::Func => 2,
-        Rule::Cycle => z,
+        Rule::Cycle => z.0,
         Rule::Scc => 2,
         Rule::Total => 2,
         Rule::Share => 1,
@@ -39,38 +40,39 @@ fn alternative(
     rule: Rule,
     x: Term,
     y: Term,
-    z: usize,
+    z: Third,
     i: usize,
 ) -> Fact
-    requires { ⌜ (n ≤ 16) × (x .0 ≤ 16) × (y .0 ≤ 16) × (z ≤ 16) ⌝ }
-    ensures { λ r. ⌜ (factOf r ≡ alternativeAt n (linksIn (now (link .entry))) (kindOf rule) (x .0) (y .0) z i) × InRange r ⌝ }
+    requires { ⌜ (n ≤ 16) × (x .0 ≤ 16) × (y .0 ≤ 16) × (z .0 ≤ 16) ⌝ }
+    ensures { λ r. ⌜ (factOf r ≡ alternativeAt n (linksIn (now (link .entry))) (kindOf rule) (x .0) (y .0) (z .0) i) × InRange r ⌝ }
 {
+    let t = rules::third_term(z);
     match rule {
         Rule::Reflex => Fact::Reaches(x, x),
         Rule::Trans1 => Fact::Reaches(x, y),
-        Rule::Trans2 => Fact::Reaches(x, Term(z)),
+        Rule::Trans2 => Fact::Reaches(x, t),
         Rule::Func => {
             if i == 0 {
-                return Fact::Equal(x, Term(z));
+                return Fact::Equal(x, t);
             }
-            Fact::Reaches(y, Term(z))
+            Fact::Reaches(y, t)
         }
         Rule::Cycle => {
             let round = rules::follow(link, n, x, Term(17), i);
-            let t = round.term;
-            Fact::Equal(y, t)
+            let u = round.term;
+            Fact::Equal(y, u)
         }
         Rule::Scc => {
             if i == 0 {
                 return Fact::Equal(x, y);
             }
-            Fact::Reaches(Term(z), x)
+            Fact::Reaches(t, x)
         }
         Rule::Total => {
             if i == 0 {
-                return Fact::Reaches(y, Term(z));
+                return Fact::Reaches(y, t);
             }
-            Fact::Reaches(Term(z), y)
+            Fact::Reaches(t, y)
         }
         Rule::Share => Fact::Equal(x, y),
     }
@@ -88,9 +90,9 @@ fn added(s: Facts, n: usize, fact: Fact) -> Facts
 }
 
 // The branch of a rule at i, from 0.
-pub fn branch(s: Facts, n: usize, rule: Rule, x: Term, y: Term, z: usize, i: usize) -> Facts
-    requires { ⌜ (n ≤ 16) × (x .0 ≤ 16) × (y .0 ≤ 16) × (z ≤ 16) ⌝ }
-    ensures { λ r. ⌜ pathOf r ≡ add n (pathOf s) (alternativeAt n (pathOf s .graph) (kindOf rule) (x .0) (y .0) z i) ⌝ }
+pub fn branch(s: Facts, n: usize, rule: Rule, x: Term, y: Term, z: Third, i: usize) -> Facts
+    requires { ⌜ (n ≤ 16) × (x .0 ≤ 16) × (y .0 ≤ 16) × (z .0 ≤ 16) ⌝ }
+    ensures { λ r. ⌜ pathOf r ≡ add n (pathOf s) (alternativeAt n (pathOf s .graph) (kindOf rule) (x .0) (y .0) (z .0) i) ⌝ }
 {
     let fact = alternative(&s.link, n, rule, x, y, z, i);
     added(s, n, fact)

@@ -85,7 +85,7 @@ module _ (n : ℕ) (g : Graph) (x : ℕ) where
       less : suc left - 1 ≡ left
       less = omega arith
 
-  pub steps-le : (left c : ℕ) → stepsTo n g x left c ≤ left
+  steps-le : (left c : ℕ) → stepsTo n g x left c ≤ left
   unfolding stepsTo
   steps-le zero c = omega arith
   steps-le (suc left) c = go (eqb c x) (steps-le left (next n g c))
@@ -93,6 +93,9 @@ module _ (n : ℕ) (g : Graph) (x : ℕ) where
       go : (t : Bool) → stepsTo n g x left (next n g c) ≤ left → cond t 0 (suc (stepsTo n g x left (next n g c))) ≤ suc left
       go true h = omega arith
       go false h = omega arith
+
+  pub steps-bound : (left c s : ℕ) → s ≡ stepsTo n g x left c → s ≤ left
+  steps-bound left c s e = let l = steps-le left c in omega arith
 
   -- to a number that is no term the links never lead
   pub steps-never : n < x → (left c : ℕ) → c < x → stepsTo n g x left c ≡ left

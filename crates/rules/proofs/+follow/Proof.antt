@@ -1,12 +1,12 @@
 -- Nothing to follow, or one step and then the same from there; the steps left fall. Assumes nothing.
-use Prim.Native.Nat.{ℕ, _<_, _+_, _-_}
+use Prim.Native.Nat.{ℕ, _<_, _+_}
 use native.Mathlib.Omega.{arith}
 use mathlib.Core.Path.{refl, sym, ap, _∙_}
 use Rattle.logic.specs.Heap.{iterate}
 use Rattle.logic.specs.Rules.{next}
 use Rattle.facts.specs.Path.{linksIn}
 use Rattle.rules.specs.Cycle.{stepsTo}
-use Rattle.rules.proofs.Around.{next-le, steps-none, steps-here, steps-on, steps-le, iterate-none, iterate-on}
+use Rattle.rules.proofs.Around.{next-le, steps-none, steps-here, steps-on, steps-bound, iterate-none, iterate-on}
 use borrow.Fn.Kinds.{In}
 use borrow.Fn.PlainCycle.{Measures, is, falls, and}
 use Rattle.rules.proofs.follow.Reads as follow
@@ -45,7 +45,7 @@ pub +follow-spec : {M : Type 1} → statement M
     -- follow-requires
     (λ c κs. let l = next-le (c .before .before .before .before .before .args .n) (linksIn (c .before .before .before .before .before .args .link .now)) (c .before .before .before .before .before .args .c .0) in let e = c .next .ensures in (omega arith, (omega arith, omega arith)))
     -- add-t10
-    (λ c. let l = steps-le (c .before .before .before .before .before .before .before .before .args .n) (linksIn (c .before .before .before .before .before .before .before .before .args .link .now)) (c .before .before .before .before .before .before .before .before .args .until .0) (c .before .before .before .before .before .before .before .before .args .left - 1) (c .before .before .before .next .result .0) in let e = c .before .before .follow .ensures .0 in omega arith)
+    (λ c. let l = steps-bound _ _ _ _ _ _ (c .before .before .follow .ensures .0) in omega arith)
     -- returns-3
     (λ c.
     let n = c .before .before .before .next .ensures in

@@ -5,7 +5,7 @@ use borrow.Author.Tests.{not-true, not-false}
 use mathlib.Core.Path.{sym, _∙_}
 use Rattle.facts.specs.Path.{graphOf, linksIn}
 use Rattle.rules.specs.Cycle.{cycleThird}
-use Rattle.rules.proofs.Around.{next-le, steps-le, steps-links, back-links, cycle-unreached, cycle-open, cycle-held, cycle-free}
+use Rattle.rules.proofs.Around.{next-le, steps-bound, steps-links, back-links, cycle-unreached, cycle-open, cycle-held, cycle-free}
 use Rattle.rules.proofs.cycle.Statement.{statement}
 use Rattle.rules.proofs.cycle.Tie as tie
 
@@ -19,7 +19,7 @@ unfolding cycleThird
 -- returns-2
 returns-2 c =
     let a = c .before .before .before .before .before .before .args in
-    let q = back-links (a .n) (a .link .now) (a .reach .now) (a .x) _ _ (c .before .before .before .next .ensures) (c .before .before .follow .ensures .0) in
+    let q = back-links (a .n) (a .link .now) (a .reach .now) (a .x .0) _ _ (c .before .before .before .next .ensures) (c .before .before .follow .ensures .0) in
     sym (cycle-open _ _ _ _ _ (omega arith))
 
 returns-3 : tie.Need-returns-3
@@ -27,7 +27,7 @@ unfolding cycleThird
 -- returns-3
 returns-3 c =
     let a = c .before .before .before .before .before .before .before .before .before .args in
-    let q = back-links (a .n) (a .link .now) (a .reach .now) (a .x) _ _ (c .before .before .before .before .before .before .next .ensures) (c .before .before .before .before .before .follow .ensures .0) in
+    let q = back-links (a .n) (a .link .now) (a .reach .now) (a .x .0) _ _ (c .before .before .before .before .before .before .next .ensures) (c .before .before .before .before .before .follow .ensures .0) in
     let m = c .before .before .follow2 .ensures .0 ∙ steps-links (a .n) (a .link .now) (a .reach .now) _ _ _ in
     sym (cycle-held _ _ _ _ _ _ q (omega arith) (omega arith))
 
@@ -36,7 +36,7 @@ unfolding cycleThird graphOf
 -- returns-4
 returns-4 c =
     let a = c .before .before .before .before .before .before .before .before .before .args in
-    let q = back-links (a .n) (a .link .now) (a .reach .now) (a .x) _ _ (c .before .before .before .before .before .before .next .ensures) (c .before .before .before .before .before .follow .ensures .0) in
+    let q = back-links (a .n) (a .link .now) (a .reach .now) (a .x .0) _ _ (c .before .before .before .before .before .before .next .ensures) (c .before .before .before .before .before .follow .ensures .0) in
     let m = c .before .before .follow2 .ensures .0 ∙ steps-links (a .n) (a .link .now) (a .reach .now) _ _ _ in
     sym (cycle-free _ _ _ _ _ _ q (omega arith) (sym (c .before .before .before .before .before .before .before .before .holds .ensures) ∙ not-false _ (c .before .before .before .before .before .before .before .if1 .left)) (omega arith))
 
@@ -50,9 +50,9 @@ cycle-spec =
     -- next-requires
     (λ c κs. search needs)
     -- follow-requires
-    (λ c κs. let l = next-le (c .before .before .before .args .n) (linksIn (c .before .before .before .args .link .now)) (c .before .before .before .args .x) in let e = c .next .ensures in omega arith)
+    (λ c κs. let l = next-le (c .before .before .before .args .n) (linksIn (c .before .before .before .args .link .now)) (c .before .before .before .args .x .0) in let e = c .next .ensures in omega arith)
     -- add-k
-    (λ c. let l = steps-le (c .before .before .before .before .before .args .n) (linksIn (c .before .before .before .before .before .args .link .now)) (c .before .before .before .before .before .args .x) (c .before .before .before .before .before .args .n) (c .before .before .next .result .0) in let e = c .before .follow .ensures .0 in omega arith)
+    (λ c. let l = steps-bound _ _ _ _ _ _ (c .before .follow .ensures .0) in omega arith)
     returns-2
     -- follow-requires-2
     (λ c κs. search needs)
