@@ -9,7 +9,7 @@ use mathlib.Core.List.{List, [], _∷_, map, List·Memᴰ}
 use mathlib.Core.Option.{some}
 use lib.ListN.{length, getD, take, drop}
 use lib.Seq.{getD-drop, getD-take}
-use Rattle.logic.specs.Search.{from, any, at}
+use Rattle.logic.specs.Search.{_or_, from, any, at}
 use Rattle.logic.specs.Query.{Literal, entryOf, literals, flags, decode}
 use Rattle.logic.proofs.Basics.Search.{from-intro, map-intro}
 use Rattle.query.specs.declared.Layout.{Layout}
