@@ -10,7 +10,7 @@ use borrow.Author.Tests.{le-leb, lt-leb}
 use Rattle.logic.specs.Search.{_and_, _or_, all}
 use Rattle.logic.proofs.Basics.Search.{and-left, and-right, and-intro}
 use Rattle.logic.proofs.Basics.Compare.{le-cases}
-use Rattle.text.specs.Text.{decimalWithin, decimal, hexDigit, hexByte, numberFrom, numberIn, isDigit, hexValue, hexFrom, hexIn, isHexDigit}
+use Rattle.text.specs.Text.{ascii, decimalWithin, decimal, hexDigit, hexByte, numberFrom, numberIn, isDigit, hexValue, hexFrom, hexIn, isHexDigit}
 use Rattle.text.proofs.Digits.{decimal-small, decimal-more, hexDigit-low, hexDigit-high}
 
 -- Every number from a property of its tenth. `below` is a bound to recurse on.
@@ -103,13 +103,16 @@ pub hex-digits : (k : ℕ) → k < 256 → all isHexDigit (hexByte k) ≡ true
 unfolding all hexByte
 hex-digits k h = and-intro (hex-of (k / 16) (omega arith) .1) (and-intro (hex-of (k % 16) (omega arith) .1) refl)
 
--- computed: "0", "9", "10", "64002" and the largest number of the machine; "00", "0a", "a0" and "ff"
+-- computed
+word-example : ascii "sat 1\n" ≡ 115 ∷ 97 ∷ 116 ∷ 32 ∷ 49 ∷ 10 ∷ []
+word-example = refl
+
 decimal-examples :
-    (decimal 0 ≡ 48 ∷ []) × (decimal 9 ≡ 57 ∷ []) × (decimal 10 ≡ 49 ∷ 48 ∷ []) × (decimal 64002 ≡ 54 ∷ 52 ∷ 48 ∷ 48 ∷ 50 ∷ [])
-    × (decimal 18446744073709551615 ≡ 49 ∷ 56 ∷ 52 ∷ 52 ∷ 54 ∷ 55 ∷ 52 ∷ 52 ∷ 48 ∷ 55 ∷ 51 ∷ 55 ∷ 48 ∷ 57 ∷ 53 ∷ 53 ∷ 49 ∷ 54 ∷ 49 ∷ 53 ∷ [])
+    (decimal 0 ≡ ascii "0") × (decimal 9 ≡ ascii "9") × (decimal 10 ≡ ascii "10") × (decimal 64002 ≡ ascii "64002")
+    × (decimal 18446744073709551615 ≡ ascii "18446744073709551615")
 unfolding decimal decimalWithin
 decimal-examples = (refl, refl, refl, refl, refl)
 
-hex-examples : (hexByte 0 ≡ 48 ∷ 48 ∷ []) × (hexByte 10 ≡ 48 ∷ 97 ∷ []) × (hexByte 160 ≡ 97 ∷ 48 ∷ []) × (hexByte 255 ≡ 102 ∷ 102 ∷ [])
+hex-examples : (hexByte 0 ≡ ascii "00") × (hexByte 10 ≡ ascii "0a") × (hexByte 160 ≡ ascii "a0") × (hexByte 255 ≡ ascii "ff")
 unfolding hexByte hexDigit
 hex-examples = (refl, refl, refl, refl)

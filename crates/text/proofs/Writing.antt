@@ -4,9 +4,9 @@ use native.Mathlib.Omega.{arith}
 use native.Mathlib.Nat.{add-suc, suc-add, add-zero, zero-add, sub-zero, zero-sub, suc-sub-suc}
 use native.Mathlib.Numerals.{add-one}
 use mathlib.Core.Path.{_≡_, refl, sym, ap, _∙_, subst}
-use mathlib.Core.List.{List, [], _∷_, _++_, append-assoc}
+use mathlib.Core.List.{List, [], _∷_, _++_, append-assoc, append-nil}
 use lib.ListN.{length, getD, set, take, drop, replicate, length-append, length-replicate}
-use lib.Seq.{sets, length-sets, sets-eq, set-out, length-take-le, take-suc, take-all}
+use lib.Seq.{sets, length-sets, sets-eq, set-out, drop-cons, take-at}
 use Rattle.logic.specs.Calls.{padded}
 use Rattle.text.specs.Text.{writeAt, Writes}
 
@@ -72,13 +72,44 @@ writes-length {a} {b} {at} {r} {bytes} h = ap length (h .leaves) ∙ writeAt-len
 pub writes-blank : {room r : ℕ} {text b : List ℕ} → Writes (replicate room 0) 0 text b r → length text ≤ room → (b ≡ padded room text) × (r ≡ length text)
 writes-blank {room} {r} {text} {b} w h = (w .leaves ∙ writeAt-blank room text h, w .ends ∙ zero-add (length text))
 
--- the bytes of a list, one after the other
-module _ {a b : List ℕ} {at to : ℕ} (bytes : List ℕ) (i : ℕ) where
-  pub writes-taken : Writes a at (take i bytes) b to → i ≤ length bytes → to ≡ at + i
-  writes-taken w h = w .ends ∙ ap (λ (k : ℕ). at + k) (length-take-le i bytes h)
+-- the bytes that are written, read back
+pub writes-taken : {a b text : List ℕ} {r : ℕ} → Writes a 0 text b r → r ≤ length a → take r b ≡ text
+writes-taken {a} {b} {text} {r} w h =
+    let e : r ≡ length text = w .ends ∙ zero-add (length text) in
+    ap (take r) (w .leaves ∙ writeAt-fits a 0 text (omega arith)) ∙ take-at text (drop (0 + length text) a) r (sym e)
 
-  pub writes-one : {c : List ℕ} {r : ℕ} → Writes a at (take i bytes) b to → i < length bytes → Writes b to (getD bytes i 0 ∷ []) c r → Writes a at (take (i + 1) bytes) c r
-  writes-one {c} {r} w h v = writes-as (sym (ap (λ (k : ℕ). take k bytes) (add-one i) ∙ take-suc bytes i 0 h)) (writes-then w v)
+-- A loop of writers: what is done and what is left make the whole.
+pub record Part (a : List ℕ) (at : ℕ) (whole b : List ℕ) (to : ℕ) (left : List ℕ) : Type 0 where
+  pub done : List ℕ
+  pub wrote : Writes a at done b to
+  pub makes : done ++ left ≡ whole
 
-  pub writes-all : Writes a at (take i bytes) b to → length bytes ≤ i → Writes a at bytes b to
-  writes-all w h = writes-as (take-all i bytes h) w
+pub part-none : (a : List ℕ) (at : ℕ) (whole : List ℕ) → Part a at whole a at whole
+part-none a at whole = record { done = []; wrote = writes-none a at; makes = refl }
+
+-- one writer more, whose bytes stand first in what is left
+pub part-more : {a b c whole : List ℕ} {at to r : ℕ} {left bytes rest : List ℕ} → Part a at whole b to left → left ≡ bytes ++ rest → Writes b to bytes c r → Part a at whole c r rest
+part-more {bytes = bytes} {rest = rest} p e w =
+    record {
+      done = p .done ++ bytes;
+      wrote = writes-then (p .wrote) w;
+      makes = append-assoc (p .done) bytes rest ∙ ap (λ (xs : List ℕ). p .done ++ xs) (sym e) ∙ p .makes;
+    }
+
+-- one writer for all that is left
+pub part-last : {a b c whole : List ℕ} {at to r : ℕ} {left : List ℕ} → Part a at whole b to left → Writes b to left c r → Writes a at whole c r
+part-last p w = writes-as (p .makes) (writes-then (p .wrote) w)
+
+pub part-all : {a b whole : List ℕ} {at to : ℕ} {left : List ℕ} → Part a at whole b to left → left ≡ [] → Writes a at whole b to
+part-all p e = writes-as (sym (append-nil (p .done)) ∙ ap (λ (xs : List ℕ). p .done ++ xs) (sym e) ∙ p .makes) (p .wrote)
+
+-- where the place stands, and the buffer's length
+pub part-place : {a b whole : List ℕ} {at to : ℕ} {left : List ℕ} → Part a at whole b to left → to + length left ≡ at + length whole
+part-place {left = left} p = omega (arith, p .wrote .ends, length-append (p .done) left, ap length (p .makes))
+
+pub part-length : {a b whole : List ℕ} {at to : ℕ} {left : List ℕ} → Part a at whole b to left → length b ≡ length a
+part-length p = writes-length (p .wrote)
+
+-- the bytes of a list from i on are the one at i, and those behind it
+pub left-first : (bytes : List ℕ) (i : ℕ) → i < length bytes → drop i bytes ≡ (getD bytes i 0 ∷ []) ++ drop (i + 1) bytes
+left-first bytes i h = drop-cons bytes i 0 h ∙ ap (λ (k : ℕ). getD bytes i 0 ∷ drop k bytes) (sym (add-one i))

@@ -1,5 +1,8 @@
 -- Bytes and numbers as text, and what a writer of them leaves in a lent buffer. A character is its ASCII code.
 use Prim.Native.Nat.{ℕ, zero, suc, _+_, _-_, _*_, _/_, _%_}
+use Prim.Native.Char.{code}
+use Prim.Native.String.{String}
+use Prim.Native.String as string
 use mathlib.Core.Path.{_≡_}
 use mathlib.Core.Bool.{Bool, cond}
 use mathlib.Core.List.{List, [], _∷_, _++_}
@@ -7,6 +10,11 @@ use lib.ListN.{length}
 use lib.Seq.{sets}
 use lib.Dec.{ltb, leb}
 use Rattle.logic.specs.Search.{_and_, _or_}
+
+-- The bytes of a word.
+abbrev pub ascii : String → List ℕ
+ascii string.[] = []
+ascii (string._∷_ c cs) = code c ∷ ascii cs
 
 -- The buffer after these bytes are stored from a place on, each where it has room: past the end nothing is stored.
 unfoldable pub writeAt : List ℕ → ℕ → List ℕ → List ℕ
