@@ -72,6 +72,10 @@ pub hexDigit-high : (d : ℕ) → 10 ≤ d → hexDigit d ≡ 87 + d
 unfolding hexDigit
 hexDigit-high d h = rw (le-ltb d 10 h)
 
+pub hex-two : (k : ℕ) → length (hexByte k) ≡ 2
+unfolding hexByte
+hex-two k = refl
+
 pub hex-pair : {h l : ℕ} (k : ℕ) → h ≡ hexDigit (k / 16) → l ≡ hexDigit (k % 16) → h ∷ l ∷ [] ≡ hexByte k
 unfolding hexByte
 hex-pair k p q = rw (p, q)

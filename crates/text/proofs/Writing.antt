@@ -84,8 +84,8 @@ pub record Part (a : List ℕ) (at : ℕ) (whole b : List ℕ) (to : ℕ) (left 
   pub wrote : Writes a at done b to
   pub makes : done ++ left ≡ whole
 
-pub part-none : (a : List ℕ) (at : ℕ) (whole : List ℕ) → Part a at whole a at whole
-part-none a at whole = record { done = []; wrote = writes-none a at; makes = refl }
+pub part-from : {whole left : List ℕ} (a : List ℕ) (at : ℕ) → whole ≡ left → Part a at whole a at left
+part-from a at e = record { done = []; wrote = writes-none a at; makes = sym e }
 
 -- one writer more, whose bytes stand first in what is left
 pub part-more : {a b c whole : List ℕ} {at to r : ℕ} {left bytes rest : List ℕ} → Part a at whole b to left → left ≡ bytes ++ rest → Writes b to bytes c r → Part a at whole c r rest

@@ -2,8 +2,9 @@
 use Prim.Native.Nat.{_≤_, _-_}
 use native.Mathlib.Omega.{arith}
 use borrow.Author.Needs.{needs}
+use mathlib.Core.Path.{refl}
 use lib.ListN.{length, drop, length-drop, drop-of-length-le}
-use Rattle.text.proofs.Writing.{Part, part-none, part-more, part-all, part-place, part-length, left-first}
+use Rattle.text.proofs.Writing.{Part, part-from, part-more, part-all, part-place, part-length, left-first}
 use Rattle.text.proofs.put_bytes.Statement.{statement}
 use Rattle.text.proofs.put_bytes.Tie as tie
 
@@ -20,7 +21,7 @@ put-bytes-spec =
     Inv-loop
     μ-loop
     -- loop-holds
-    (λ c. (omega arith, part-none _ _ _))
+    (λ c. (omega arith, part-from _ _ refl))
     -- shared-slice-read-put-byte
     (λ c. search needs)
     -- put-byte-requires
