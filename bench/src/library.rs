@@ -1,4 +1,4 @@
-//! The proved library behind its two C functions (include/lemitsaka.h).
+//! The proved library behind its two C functions (../include/lemitsaka.h).
 
 extern "C" {
     fn lemitsaka_verdict(

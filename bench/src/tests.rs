@@ -61,6 +61,17 @@ fn stored_data() {
     assert_eq!(vectors::compare(&directory, &|input| Ok(heapverdict(input))), Ok(true));
 }
 
+/// What the gate's program `vectors` reads and must print is the stored data, one file after another.
+#[test]
+fn gate_data() {
+    let root = Path::new(env!("CARGO_MANIFEST_DIR")).join("..");
+    for (ending, joined) in [("bin", "stdin"), ("txt", "stdout")] {
+        let parts = ["base", "edges", "random", "long"]
+            .map(|name| std::fs::read(root.join(format!("tests/data/{name}.{ending}"))).unwrap());
+        assert!(parts.concat() == std::fs::read(root.join("crates/vectors").join(joined)).unwrap(), "{joined}");
+    }
+}
+
 #[test]
 fn small_heaps() {
     assert_eq!(check::run(3_000, 5), Ok(true));

@@ -1,5 +1,5 @@
-// Buffers that are just large enough, and a byte too short: E10's heap report of 52 and 53 bytes, and E5's derivation, two lines in ten
-// bytes. Each buffer is lent full of 255; after a refusal all of it is zero.
+// Buffers of no bytes, a byte too short, just large enough and longer, lent to both calls for a query that is satisfiable (E2), one that is
+// refuted (E5, whose two lines are ten bytes) and one that is refused 8. Each is lent full of 255; after a refusal all of it is zero.
 use lemitsaka::Answer;
 use libc::STDOUT_FILENO;
 ghost use Prim.Native.Nat.{_≤_};
@@ -46,29 +46,56 @@ fn print_outcome(answer: Answer, bytes: &[u8]) {
     io::write_all(STDOUT_FILENO, b" set\n");
 }
 
-fn try_verdict(report: &mut [u8]) {
-    let answer = lemitsaka::verdict(&[1, 2, 3, 4, 5, 6, 7, 8], &[1, 0, 0, 0, 0, 0], report);
+fn try_verdict(query: &[u8], report: &mut [u8]) {
+    io::write_all(STDOUT_FILENO, b"verdict, ");
+    let answer = lemitsaka::verdict(&[1, 2, 3, 4, 5, 6, 7, 8], query, report);
     print_outcome(answer, report);
 }
 
-fn try_derivation(buffer: &mut [u8]) {
-    let answer = lemitsaka::derivation(&[1, 2, 3, 4, 5, 6, 7, 8], &[1, 0, 0, 1, 0, 1, 1, 0, 0], buffer);
+fn try_derivation(query: &[u8], buffer: &mut [u8]) {
+    io::write_all(STDOUT_FILENO, b"derivation, ");
+    let answer = lemitsaka::derivation(&[1, 2, 3, 4, 5, 6, 7, 8], query, buffer);
     print_outcome(answer, buffer);
 }
 
-fn main() {
-    let mut none = [255u8; 1];
+// "9. The heap report's buffer has fewer than 53 bytes, whichever the verdict would be."
+fn try_reports(query: &[u8]) {
+    let mut none = [255u8; 0];
+    let mut one = [255u8; 1];
     let mut short = [255u8; 52];
     let mut enough = [255u8; 53];
     let mut ample = [255u8; 54];
-    try_verdict(&mut none);
-    try_verdict(&mut short);
-    try_verdict(&mut enough);
-    try_verdict(&mut ample);
+    try_verdict(query, &mut none);
+    try_verdict(query, &mut one);
+    try_verdict(query, &mut short);
+    try_verdict(query, &mut enough);
+    try_verdict(query, &mut ample);
+}
+
+// "it settles the verdict first, so 12 is met by refuted queries only"
+fn try_lines(query: &[u8]) {
+    let mut none = [255u8; 0];
     let mut nine = [255u8; 9];
     let mut ten = [255u8; 10];
     let mut eleven = [255u8; 11];
-    try_derivation(&mut nine);
-    try_derivation(&mut ten);
-    try_derivation(&mut eleven);
+    let mut most = [255u8; 64002];
+    try_derivation(query, &mut none);
+    try_derivation(query, &mut nine);
+    try_derivation(query, &mut ten);
+    try_derivation(query, &mut eleven);
+    try_derivation(query, &mut most);
+}
+
+fn try_query(query: &[u8]) {
+    try_reports(query);
+    try_lines(query);
+}
+
+fn main() {
+    io::write_all(STDOUT_FILENO, b"E2, satisfiable\n");
+    try_query(&[1, 0, 0, 0, 0, 0]);
+    io::write_all(STDOUT_FILENO, b"E5, refuted\n");
+    try_query(&[1, 0, 0, 1, 0, 1, 1, 0, 0]);
+    io::write_all(STDOUT_FILENO, b"boolean 9, refused\n");
+    try_query(&[0, 0, 0, 0, 1, 1, 9]);
 }

@@ -10,7 +10,7 @@ use lib.Seq.{getD-set-same, getD-set-other}
 use lib.Dec.{ltb, eqb}
 use borrow.Author.Tests.{lt-ltb, le-ltb, ltb-true, ltb-false, eqb-true, eqb-false}
 use Rattle.logic.specs.Search.{_and_, _or_}
-use Rattle.logic.proofs.Search.{bool-cases}
+use Rattle.logic.proofs.Basics.Search.{bool-cases}
 use Rattle.facts.specs.Square.{square, rowOf, update}
 
 module _ (cells : List Bool) where

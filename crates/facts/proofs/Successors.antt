@@ -9,7 +9,7 @@ use mathlib.Core.Option.{Option, none, some, Option·elim}
 use borrow.Author.Tests.{eq-eqb, ne-eqb}
 use Rattle.logic.specs.Search.{from, keep, orElse, firstOf, find, select}
 use Rattle.logic.specs.Facts.{Graph, Facts, terms, firstTwo, successors, doubled, replace, settle, join}
-use Rattle.logic.proofs.Search.{bool-cases, none-some, find-some, from-mem, firstOf-some}
+use Rattle.logic.proofs.Basics.Search.{bool-cases, none-some, find-some, from-mem, firstOf-some}
 use Rattle.facts.proofs.Loops.{from-end, from-next, find-end, find-here, find-next}
 
 -- what a search of the numbers from k below m finds is one of them

@@ -13,9 +13,9 @@ use Rattle.logic.specs.Walk.{ourWalk, saturation}
 use Rattle.logic.specs.Shown.{report}
 use Rattle.logic.specs.Calls.{Input, orderCheck, queryChecks, verdictChecks, derivationChecks, refused, refusalOf, accepts, padded, blank, call, verdictOf, verdictCall, derivationOf, derivationCall}
 use Rattle.logic.specs.Calls as calls
-use Rattle.logic.proofs.CallLaws.{padded-length}
-use Rattle.logic.proofs.AcceptedBytes.{accepted}
-use Rattle.logic.proofs.ShownHeap.{report-length}
+use Rattle.logic.proofs.Calls.CallLaws.{padded-length}
+use Rattle.logic.proofs.Query.AcceptedBytes.{accepted}
+use Rattle.logic.proofs.Completeness.ShownHeap.{report-length}
 use Rattle.facts.specs.Path.{repOf, pathOf}
 use Rattle.facts.specs.declared.Facts as code
 use Rattle.query.specs.LaysOut.{LaysOut}

@@ -11,13 +11,13 @@ use lib.ListN.{length, replicate}
 use Rattle.logic.specs.Query.{decode}
 use Rattle.logic.specs.Heap.{Satisfiable}
 use Rattle.logic.specs.Facts.{Line, start}
-use Rattle.logic.specs.Walk.{Verdict, Pick, ourWalk, ourVerdict, handRow, handVerdict}
-use Rattle.logic.specs.Derivation.{Refutes, derivationBytes}
+use Rattle.logic.specs.Walk.{refutation, Verdict, Pick, ourWalk, ourVerdict, handRow, handVerdict}
+use Rattle.logic.specs.Derivation.{Refutes, derivationBytes, linesIn}
 use Rattle.logic.specs.Shown.{wellFormed}
-use Rattle.logic.specs.Calls.{Input, Check, verdictChecks, padded, verdictCall, derivationCall}
+use Rattle.logic.specs.Calls.{Input, Check, Outcome, verdictChecks, derivationChecks, padded, verdictCall, derivationCall}
 use Rattle.logic.specs.Calls as calls
-use Rattle.logic.specs.Demands.{StatedIn, Shows, NotRefused, Right, answerOf}
-use Rattle.logic.proofs.Demands.{demand1, demand2, demand3, call-passed}
+use Rattle.logic.specs.Demands.{NotRefused, NoneStands, FirstStands, BrokenOff, Refusals, Fits, Exceeds, Shows, Right, answerOf}
+use Rattle.logic.proofs.Calls.Demands.{demand1, demand2, demand3, call-passed}
 use Rattle.lemitsaka.specs.Promise.{meaning, inputOf, Does}
 use Rattle.lemitsaka.specs.declared.Answer.{Answer}
 use Rattle.lemitsaka.specs.declared.Answer.the-variants as answer
@@ -38,49 +38,73 @@ meaning-one (answer.Refused k p) (answer.Refused k′ p′) e = let a : k ≡ k�
 abbrev pub Unrefused : Answer → Type 0
 Unrefused r = (k place : ℕ) → r ≡ answer.Refused k place → ⊥
 
+-- an answer of the enum is the definition's, and the other way round
+module _ (o : Outcome) (r : Answer) (bytes : List ℕ) (does : Does o r bytes) where
+  same : (b : Answer) → r ≡ b → o .answer ≡ meaning b
+  same b e = sym (does .answers) ∙ ap meaning e
+
+  back : (b : Answer) → o .answer ≡ meaning b → r ≡ b
+  back b e = meaning-one r b (does .answers ∙ e)
+
+  not-refused : Unrefused r → NotRefused (o .answer)
+  not-refused h k place e = h k place (back (answer.Refused k place) e)
+
+  exactly : (b : Answer) (P : Type 0) → (o .answer ≡ meaning b) ↔ P → (r ≡ b) ↔ P
+  exactly b P h = (λ e. h .0 (same b e), λ p. back b (h .1 p))
+
+-- DEMAND 1, of either call: each refusal under its own stated condition only, the first in checking order; all of the lent output is
+-- then zero, and the call writes just what it was lent
+pub record Refuses (cs : List Check) (i : Input) (r : Answer) (bytes : List ℕ) : Type 0 where
+  pub first-exactly : (k place : ℕ) → k ≤ 9 → (r ≡ answer.Refused k place) ↔ FirstStands cs i k place
+  pub refusal-made : (c : Check) (place : ℕ) → List·Memᴰ c cs → c .place i ≡ some place → (k : ℕ) × (p : ℕ) × (k ≤ c .number) × (r ≡ answer.Refused k p)
+  pub limit-exactly : (place : ℕ) → (r ≡ answer.Refused 10 place) ↔ ((place ≡ 0) × NoneStands cs i × BrokenOff i)
+  pub refusal-numbered : (k place : ℕ) → r ≡ answer.Refused k place → (1 ≤ k) × (k ≤ 12)
+  pub refusal-placed : (k place : ℕ) → r ≡ answer.Refused k place → (place ≤ length (i .query)) × (place ≤ 681)
+  pub refusal-blank : (k place : ℕ) → r ≡ answer.Refused k place → bytes ≡ replicate (i .room) 0
+  pub lent-whole : length bytes ≡ i .room
+
+refuses : (cs : List Check) (outcome : Input → Outcome) → Refusals cs outcome → (i : Input) (r : Answer) (bytes : List ℕ) → Does (outcome i) r bytes → Refuses cs i r bytes
+refuses cs outcome law i r bytes does =
+    record {
+      first-exactly = λ k place u. exactly (outcome i) r bytes does (answer.Refused k place) (FirstStands cs i k place) (law .first-exactly i k place u);
+      refusal-made = λ c place m s. let (k, p, l, e) = law .refusal-made i c place m s in (k, p, l, back (outcome i) r bytes does (answer.Refused k p) e);
+      limit-exactly = λ place. exactly (outcome i) r bytes does (answer.Refused 10 place) ((place ≡ 0) × NoneStands cs i × BrokenOff i) (law .limit-exactly i place);
+      refusal-numbered = λ k place e. law .refusal-numbered i k place (same (outcome i) r bytes does (answer.Refused k place) e);
+      refusal-placed = λ k place e. law .refusal-placed i k place (same (outcome i) r bytes does (answer.Refused k place) e);
+      refusal-blank = λ k place e. does .leaves ∙ law .refusal-blank i k place (same (outcome i) r bytes does (answer.Refused k place) e);
+      lent-whole = ap length (does .leaves) ∙ law .lent-whole i;
+    }
+
 -- The verdict call
 module _ (order query before bytes : List ℕ) (r : Answer) (does : Does (verdictCall (inputOf order query before)) r bytes) where
   abbrev i : Input
   i = inputOf order query before
 
-  -- an answer of the enum is the definition's, and the other way round
-  same : (b : Answer) → r ≡ b → verdictCall i .answer ≡ meaning b
-  same b e = sym (does .answers) ∙ ap meaning e
-
-  back : (b : Answer) → verdictCall i .answer ≡ meaning b → r ≡ b
-  back b e = meaning-one r b (does .answers ∙ e)
-
   unrefused : Unrefused r → NotRefused (verdictCall i .answer)
-  unrefused h k place e = h k place (back (answer.Refused k place) e)
+  unrefused = not-refused _ r bytes does
 
-  -- DEMAND 1: a refusal under its own stated condition only, with all of the report zero; and a refusal where a condition stands
-  pub refusal-stated : (k place : ℕ) → r ≡ answer.Refused k place → StatedIn verdictChecks i k place × ((1 ≤ k) × (k ≤ 10)) × (bytes ≡ replicate (length before) 0)
-  refusal-stated k place e =
-      let h = same (answer.Refused k place) e in
-      (demand1 .refusal-stated i k place h, demand1 .refusal-numbered i k place h, does .leaves ∙ demand1 .refusal-blank i k place h)
+  -- DEMAND 1
+  pub verdict-refuses : Refuses verdictChecks i r bytes
+  verdict-refuses = refuses verdictChecks verdictCall (demand1 .verdict-refusals) i r bytes does
 
-  pub refusal-made : (c : Check) (place : ℕ) → List·Memᴰ c verdictChecks → c .place i ≡ some place → Unrefused r → ⊥
-  refusal-made c place m s h = let (k, (p, e)) = demand1 .refusal-made i c place m s in unrefused h k p e
+  pub verdict-numbered : (k place : ℕ) → r ≡ answer.Refused k place → k ≤ 10
+  verdict-numbered k place e = demand1 .verdict-numbered i k place (same _ r bytes does (answer.Refused k place) e)
 
   pub report-whole : length bytes ≡ length before
-  report-whole = ap length (does .leaves) ∙ demand1 .lent-whole i
+  report-whole = verdict-refuses .lent-whole
 
   pub report-formed : r ≡ answer.Satisfiable → wellFormed bytes ≡ true
-  report-formed e = ap wellFormed (does .leaves) ∙ demand1 .report-formed i (same answer.Satisfiable e)
+  report-formed e = ap wellFormed (does .leaves) ∙ demand1 .report-formed i (same _ r bytes does answer.Satisfiable e)
 
   -- DEMAND 2: "satisfiable" exactly when some finite heap meets every literal, and the heap shown is one; "refuted" exactly when none
   pub satisfiable-exactly : Unrefused r → (r ≡ answer.Satisfiable) ↔ Satisfiable (decode query)
-  satisfiable-exactly h =
-      let d = demand2 .satisfiable-exactly i (unrefused h) in
-      (λ e. d .0 (same answer.Satisfiable e), λ s. back answer.Satisfiable (d .1 s))
+  satisfiable-exactly h = exactly _ r bytes does answer.Satisfiable (Satisfiable (decode query)) (demand2 .satisfiable-exactly i (unrefused h))
 
   pub heap-shown : r ≡ answer.Satisfiable → Shows bytes (decode query)
-  heap-shown e = subst (λ (b : List ℕ). Shows b (decode query)) (sym (does .leaves)) (demand2 .heap-shown i (same answer.Satisfiable e))
+  heap-shown e = subst (λ (b : List ℕ). Shows b (decode query)) (sym (does .leaves)) (demand2 .heap-shown i (same _ r bytes does answer.Satisfiable e))
 
   pub refuted-exactly : Unrefused r → (r ≡ answer.Refuted) ↔ (Satisfiable (decode query) → ⊥)
-  refuted-exactly h =
-      let d = demand2 .refuted-exactly i (unrefused h) in
-      (λ e. d .0 (same answer.Refuted e), λ s. back answer.Refuted (d .1 s))
+  refuted-exactly h = exactly _ r bytes does answer.Refuted (Satisfiable (decode query) → ⊥) (demand2 .refuted-exactly i (unrefused h))
 
   -- DEMAND 3: the call answers our walk's verdict, which is that of every hand's walk that is finished, and right
   pub one-verdict : Unrefused r → (v : Verdict) × (meaning r ≡ answerOf v) × (ourVerdict (ourWalk order (decode query)) ≡ some v)
@@ -92,9 +116,61 @@ module _ (order query before bytes : List ℕ) (r : Answer) (does : Does (verdic
       let p = call-passed i (unrefused h) in
       e ∙ ap answerOf (demand3 .one-verdict query order picks v w (p .query) (p .order) g f)
 
--- The derivation call: DEMAND 2's last sentence, of the bytes that it writes
+  -- and some hand's walk is finished with it
+  pub hand-follows : Unrefused r → (picks : List Pick) × (w : Verdict) × (handVerdict (decode query) (handRow (decode query) picks) ≡ some w) × (meaning r ≡ answerOf w)
+  hand-follows h =
+      let (v, e, g) = one-verdict h in
+      let p = call-passed i (unrefused h) in
+      let (picks, f) = demand3 .hand-follows query order (p .query) (p .order) in
+      (picks, v, f ∙ g, e)
+
+-- The derivation call
 module _ (order query before bytes : List ℕ) (r : Answer) (does : Does (derivationCall (inputOf order query before)) r bytes) where
-  pub derivation-follows : r ≡ answer.Refuted → (ls : List Line) × (Refutes (decode query) (start (decode query)) ls × (bytes ≡ padded (length before) (derivationBytes ls)))
-  derivation-follows e =
-      let (ls, (f, g)) = demand2 .derivation-follows (inputOf order query before) (sym (does .answers) ∙ ap meaning e) in
-      (ls, (f, does .leaves ∙ g))
+  abbrev j : Input
+  j = inputOf order query before
+
+  -- DEMAND 1
+  pub derivation-refuses : Refuses derivationChecks j r bytes
+  derivation-refuses = refuses derivationChecks derivationCall (demand1 .derivation-refusals) j r bytes does
+
+  pub heap-exactly : (place : ℕ) → (r ≡ answer.Refused 11 place) ↔ ((place ≡ 0) × NoneStands derivationChecks j × (BrokenOff j → ⊥) × Satisfiable (decode query))
+  heap-exactly place = exactly _ r bytes does (answer.Refused 11 place) ((place ≡ 0) × NoneStands derivationChecks j × (BrokenOff j → ⊥) × Satisfiable (decode query)) (demand1 .heap-exactly j place)
+
+  abbrev Lines : (ℕ → List Line → Type 0) → Type 0
+  Lines P = (ls : List Line) × (ourWalk order (decode query) ≡ refutation ls) × P (length before) ls
+
+  pub excess-exactly : (place : ℕ) → (r ≡ answer.Refused 12 place) ↔ ((place ≡ 0) × NoneStands derivationChecks j × (Satisfiable (decode query) → ⊥) × Lines Exceeds)
+  excess-exactly place = exactly _ r bytes does (answer.Refused 12 place) ((place ≡ 0) × NoneStands derivationChecks j × (Satisfiable (decode query) → ⊥) × Lines Exceeds) (demand1 .excess-exactly j place)
+
+  pub lines-exactly : (r ≡ answer.Refuted) ↔ (NoneStands derivationChecks j × Lines Fits)
+  lines-exactly = exactly _ r bytes does answer.Refuted (NoneStands derivationChecks j × Lines Fits) (demand1 .lines-exactly j)
+
+  pub never-satisfiable : r ≡ answer.Satisfiable → ⊥
+  never-satisfiable e = demand1 .never-satisfiable j (same _ r bytes does answer.Satisfiable e)
+
+  -- DEMAND 2's last sentence, of the bytes left: what holds of the bytes that the definition leaves where it says "refuted" holds of the bytes left
+  of-lines : (P : List ℕ → Type 0) → (derivationCall j .answer ≡ calls.refuted → P (derivationCall j .lent)) → r ≡ answer.Refuted → P bytes
+  of-lines P h e = subst P (sym (does .leaves)) (h (same _ r bytes does answer.Refuted e))
+
+  pub derivation-follows : r ≡ answer.Refuted → Refutes (decode query) (start (decode query)) (linesIn bytes)
+  derivation-follows = of-lines (λ b. Refutes (decode query) (start (decode query)) (linesIn b)) (demand2 .derivation-follows j)
+
+  pub derivation-walked : r ≡ answer.Refuted → ourWalk order (decode query) ≡ refutation (linesIn bytes)
+  derivation-walked = of-lines (λ b. ourWalk order (decode query) ≡ refutation (linesIn b)) (demand2 .derivation-walked j)
+
+  pub derivation-formed : r ≡ answer.Refuted → bytes ≡ padded (length before) (derivationBytes (linesIn bytes))
+  derivation-formed = of-lines (λ b. b ≡ padded (length before) (derivationBytes (linesIn b))) (demand2 .derivation-formed j)
+
+  pub derivation-counted : r ≡ answer.Refuted → Fits (length before) (linesIn bytes)
+  derivation-counted = of-lines (λ b. Fits (length before) (linesIn b)) (demand2 .derivation-counted j)
+
+-- Both calls, with one order list and one query: one verdict
+module _ (order query before before′ bytes bytes′ : List ℕ) (r r′ : Answer) (does : Does (verdictCall (inputOf order query before)) r bytes) (does′ : Does (derivationCall (inputOf order query before′)) r′ bytes′) where
+  pub both-one-verdict : Unrefused r → Unrefused r′ → r ≡ r′
+  both-one-verdict h h′ =
+      meaning-one r r′ (does .answers ∙ demand1 .one-verdict (inputOf order query before) (inputOf order query before′) (refl, refl) (not-refused _ r bytes does h) (not-refused _ r′ bytes′ does′ h′) ∙ sym (does′ .answers))
+
+  pub both-one-heap : 53 ≤ length before → (r ≡ answer.Satisfiable) ↔ (r′ ≡ answer.Refused 11 0)
+  both-one-heap l =
+      let h = demand1 .one-heap (inputOf order query before) (inputOf order query before′) (refl, refl) l in
+      (λ e. back _ r′ bytes′ does′ (answer.Refused 11 0) (h .0 (same _ r bytes does answer.Satisfiable e)), λ e. back _ r bytes does answer.Satisfiable (h .1 (same _ r′ bytes′ does′ (answer.Refused 11 0) e)))

@@ -1,4 +1,5 @@
 pub mod Demands
+pub mod Header
 pub mod Checks
 pub mod Outcomes
 pub mod Answers

@@ -1,19 +1,17 @@
 -- What the walk's ending makes of a call.
-use Prim.Native.Nat.{ℕ, zero, suc, _+_, _*_, _/_, _%_, _≤_, _<_}
+use Prim.Native.Nat.{ℕ, _+_, _*_, _/_, _%_, _≤_, _<_}
 use native.Mathlib.Omega.{arith}
 use native.Mathlib.Nat.{zero-add}
-use mathlib.Core.Path.{_≡_, refl, sym, ap, _∙_, subst}
+use mathlib.Core.Path.{_≡_, refl, sym, ap, _∙_}
 use mathlib.Core.Logic.{⊎-elim}
-use mathlib.Core.Bool.{Bool, true, false, cond}
-use mathlib.Core.List.{List, [], _∷_}
-use lib.ListN.{length, set, replicate, length-replicate}
-use lib.Dec.{ltb}
+use mathlib.Core.Bool.{true}
+use mathlib.Core.List.{List}
+use lib.ListN.{length, set, replicate}
 use borrow.Author.Tests.{lt-ltb, le-ltb}
 use Rattle.logic.specs.Search.{_or_}
 use Rattle.logic.specs.Query.{Query, termCount, decode}
 use Rattle.logic.specs.Facts.{Facts, Line, start}
 use Rattle.logic.specs.Walk.{Ending, refutation, saturation, broken-off, walk, orderOf, limit, ourWalk}
-use Rattle.logic.specs.Derivation.{derivationBytes}
 use Rattle.logic.specs.Shown.{report}
 use Rattle.logic.specs.Calls.{Outcome, blank, padded, accepts, verdictOf, derivationOf}
 use Rattle.logic.specs.Calls as calls
@@ -21,17 +19,14 @@ use Rattle.facts.specs.Path.{pathOf}
 use Rattle.walk.specs.Lines.{countAll, putAll}
 use Rattle.walk.specs.Ends.{Ends}
 use Rattle.walk.specs.declared.Walked.{Walked}
-use Rattle.walk.specs.declared.Kind.{Kind}
 use Rattle.walk.specs.declared.Kind.the-variants as kind
 use Rattle.walk.proofs.Lines.{countAll-small, countAll-large}
-use Rattle.walk.proofs.Padded.{derivation-written, lines-length}
-use Rattle.logic.proofs.Compare.{le-cases}
-use Rattle.logic.proofs.CallLaws.{blank-length, padded-length}
-use Rattle.logic.proofs.Tied.{Accepted, Tied}
-use Rattle.logic.proofs.AcceptedBytes.{accepted}
-use Rattle.logic.proofs.Ranged.{live-range}
-use Rattle.logic.proofs.Invariant.{Invariant, start-invariant, branch-invariant}
-use Rattle.logic.proofs.Derives.{our-saturation}
+use Rattle.walk.proofs.Padded.{derivation-written}
+use Rattle.logic.proofs.Basics.Compare.{le-cases}
+use Rattle.logic.proofs.Query.AcceptedBytes.{accepted}
+use Rattle.logic.proofs.Paths.Ranged.{live-range}
+use Rattle.logic.proofs.Paths.Invariant.{Invariant, start-invariant, branch-invariant}
+use Rattle.logic.proofs.Walks.Derives.{our-saturation}
 use Rattle.lemitsaka.specs.Promise.{meaning, Does}
 use Rattle.lemitsaka.specs.declared.Answer.{Answer}
 use Rattle.lemitsaka.specs.declared.Answer.the-variants as answer
@@ -51,10 +46,6 @@ module _ (r : Walked) (before : List ℕ) (c : ℕ) (bytes : List ℕ) where
   broken-at (refutation ls) h k = let z : _≡_ {A = ℕ} 0 1 = cc in absurd (omega arith)
   broken-at (saturation t) h k = let z : _≡_ {A = ℕ} 0 1 = cc in absurd (omega arith)
   broken-at broken-off h k = refl
-
-derivation-bytes : (ls : List Line) → length (derivationBytes ls) ≡ 2 + 4 * length ls
-unfolding derivationBytes
-derivation-bytes ls = omega (arith, lines-length ls)
 
 -- the count of the lines, which stops above 16,000
 count-short : (ls : List Line) (count : ℕ) → count ≡ countAll 0 ls → count ≤ 16000 → count ≡ length ls
@@ -128,20 +119,6 @@ module _ (room : ℕ) (w : Ending) where
         answers = refl;
         leaves = f ∙ ap (λ (j : ℕ). set (set (putAll (replicate room 0) 0 ls) 0 (j / 256)) 1 (j % 256)) n ∙ derivation-written room ls k g;
       })
-
--- the derivation call, too, writes just what it was lent
-pub derivation-whole : (room : ℕ) (w : Ending) → length (derivationOf room w .lent) ≡ room
-unfolding derivationOf _or_
-derivation-whole room (saturation s) = blank-length room _
-derivation-whole room broken-off = blank-length room _
-derivation-whole room (refutation ls) =
-    ⊎-elim
-    (λ h. ⊎-elim (λ g. rw (le-ltb 16000 (length ls) h, le-ltb room (2 + 4 * length ls) g) (fitted g)) (λ g. rw (le-ltb 16000 (length ls) h, lt-ltb room (2 + 4 * length ls) g) (blank-length room _)) (le-cases (2 + 4 * length ls) room))
-    (λ h. rw (lt-ltb 16000 (length ls) h) (blank-length room _))
-    (le-cases (length ls) 16000)
-  where
-    fitted : 2 + 4 * length ls ≤ room → length (padded room (derivationBytes ls)) ≡ room
-    fitted g = padded-length room (derivationBytes ls) (subst (λ (k : ℕ). k ≤ room) (sym (derivation-bytes ls)) g)
 
 -- the terms of a path that our walk finds saturated stand for terms of the query
 pub saturated-stands : (bytes order : List ℕ) (s : Facts) → accepts bytes ≡ true → ourWalk order (decode bytes) ≡ saturation s → (t : ℕ) → 1 ≤ t → t ≤ termCount (decode bytes) → s .rep t ≤ 16

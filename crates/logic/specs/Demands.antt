@@ -1,39 +1,91 @@
 -- The three demands (00), each beside its own words, as statements about the definitions. A call of the library is equated with
 -- `verdictCall` or `derivationCall` by its contract, so what is said here of them is said of it.
-use Prim.Native.Nat.{ℕ, _≤_}
+use Prim.Native.Nat.{ℕ, _+_, _*_, _≤_, _<_}
 use mathlib.Core.Path.{_≡_}
 use mathlib.Core.Logic.{_↔_, _⊎_}
 use mathlib.Core.Bool.{Bool, true, false}
-use mathlib.Core.List.{List, List·Memᴰ}
+use mathlib.Core.List.{List, [], _∷_, map, List·Memᴰ}
 use mathlib.Core.Option.{Option, none, some}
 use lib.ListN.{length, take, replicate}
 use Rattle.logic.specs.Query.{Query, isOrder, decode, termCount}
 use Rattle.logic.specs.Heap.{Heap, Meets, Satisfiable, value}
 use Rattle.logic.specs.Facts.{Line, start}
-use Rattle.logic.specs.Walk.{Verdict, Pick, ourWalk, ourVerdict, handRow, handVerdict, Ending, broken-off}
-use Rattle.logic.specs.Derivation.{Refutes, derivationBytes}
+use Rattle.logic.specs.Walk.{Verdict, Pick, ourWalk, ourVerdict, handRow, handVerdict, Ending, refutation, broken-off}
+use Rattle.logic.specs.Derivation.{Refutes, derivationBytes, linesIn}
 use Rattle.logic.specs.Shown.{heapIn, nodeIn, wellFormed}
 use Rattle.logic.specs.Calls.{Input, Check, Outcome, Answer, refused, verdictChecks, derivationChecks, accepts, padded, verdictCall, derivationCall}
 
--- a refusal is under its own stated condition: that of a check that the call uses; or the walk is broken off (10)
-abbrev pub StatedIn : List Check → Input → ℕ → ℕ → Type 0
-StatedIn cs i k place =
-    ((c : Check) × (List·Memᴰ c cs × ((c .number ≡ k) × (c .place i ≡ some place))))
-    ⊎ ((k ≡ 10) × ((place ≡ 0) × (ourWalk (i .order) (decode (i .query)) ≡ broken-off)))
+-- no refusal
+abbrev pub NotRefused : Answer → Type 0
+NotRefused a = (k place : ℕ) → a ≡ refused k place → ⊥
+
+-- none of the checks stands
+abbrev pub NoneStands : List Check → Input → Type 0
+NoneStands cs i = (c : Check) → List·Memᴰ c cs → c .place i ≡ none
+
+-- "Refusals, in checking order": check k stands, at this place, and none of a lower number does
+pub record FirstStands (cs : List Check) (i : Input) (k place : ℕ) : Type 0 where
+  pub check : Check
+  pub own : List·Memᴰ check cs
+  pub numbered : check .number ≡ k
+  pub stands : check .place i ≡ some place
+  pub none-before : (c : Check) → List·Memᴰ c cs → c .number < k → c .place i ≡ none
+
+-- our walk of what a call is given; it is broken off at the path limit
+abbrev pub walkOf : Input → Ending
+walkOf i = ourWalk (i .order) (decode (i .query))
+
+abbrev pub BrokenOff : Input → Type 0
+BrokenOff i = walkOf i ≡ broken-off
+
+-- How a call refuses whose checks are cs. For every input:
+pub record Refusals (cs : List Check) (outcome : Input → Outcome) : Type 0 where
+  -- 1 to 9: the refusal answered is the first in checking order whose condition stands
+  pub first-exactly : (i : Input) (k place : ℕ) → k ≤ 9 → (outcome i .answer ≡ refused k place) ↔ FirstStands cs i k place
+  -- where the condition of a check stands, there is a refusal, that one or one before it
+  pub refusal-made : (i : Input) (c : Check) (place : ℕ) → List·Memᴰ c cs → c .place i ≡ some place → (k : ℕ) × (p : ℕ) × (k ≤ c .number) × (outcome i .answer ≡ refused k p)
+  -- 10: no check stands, and the walk is broken off
+  pub limit-exactly : (i : Input) (place : ℕ) → (outcome i .answer ≡ refused 10 place) ↔ ((place ≡ 0) × NoneStands cs i × BrokenOff i)
+  -- a number is 1 to 12, and a place is not past the query's end nor past that of the longest query
+  pub refusal-numbered : (i : Input) (k place : ℕ) → outcome i .answer ≡ refused k place → (1 ≤ k) × (k ≤ 12)
+  pub refusal-placed : (i : Input) (k place : ℕ) → outcome i .answer ≡ refused k place → (place ≤ length (i .query)) × (place ≤ 681)
+  -- a refusal leaves zero in all that was lent, and the call writes just that in any case
+  pub refusal-blank : (i : Input) (k place : ℕ) → outcome i .answer ≡ refused k place → outcome i .lent ≡ replicate (i .room) 0
+  pub lent-whole : (i : Input) → length (outcome i .lent) ≡ i .room
+
+-- lines that a derivation in this room may have, or not: "12. The derivation has more than 16,000 lines or its buffer cannot hold it."
+abbrev pub Fits : ℕ → List Line → Type 0
+Fits room ls = (length ls ≤ 16000) × (2 + 4 * length ls ≤ room)
+
+abbrev pub Exceeds : ℕ → List Line → Type 0
+Exceeds room ls = (16000 < length ls) ⊎ (room < 2 + 4 * length ls)
+
+-- two calls are given one order list and one query, and what room you like
+abbrev pub Alike : Input → Input → Type 0
+Alike i j = (i .order ≡ j .order) × (i .query ≡ j .query)
 
 -- DEMAND 1. "The answer to every order list and every string of query bytes is a heap, a refutation or one of the numbered refusals,
 -- each refusal under its own stated condition only. A refusal leaves zero in all of the lent report. The caller vouches for nothing."
 -- An answer is one of the three by its type. As to the rest, for every input:
 pub record Demand1 : Type 0 where
-  -- where a refusal is answered, its condition stands, its number is 1 to 10, and all of the report is zero
-  pub refusal-stated : (i : Input) (k place : ℕ) → verdictCall i .answer ≡ refused k place → StatedIn verdictChecks i k place
-  pub refusal-numbered : (i : Input) (k place : ℕ) → verdictCall i .answer ≡ refused k place → (1 ≤ k) × (k ≤ 10)
-  pub refusal-blank : (i : Input) (k place : ℕ) → verdictCall i .answer ≡ refused k place → verdictCall i .lent ≡ replicate (i .room) 0
-  -- where a condition of 1 to 9 stands, there is a refusal
-  pub refusal-made : (i : Input) (c : Check) (place : ℕ) → List·Memᴰ c verdictChecks → c .place i ≡ some place → (k : ℕ) × ((p : ℕ) × (verdictCall i .answer ≡ refused k p))
-  -- the call writes just what it was lent, and a report that shows a heap is well formed
-  pub lent-whole : (i : Input) → length (verdictCall i .lent) ≡ i .room
+  -- "The verdict call uses 1 to 10. The derivation call uses 1 to 8 and 10 to 12", in checking order; 10 to 12 are no checks
+  pub verdict-checks : map (λ (c : Check). c .number) verdictChecks ≡ 1 ∷ 2 ∷ 3 ∷ 4 ∷ 5 ∷ 6 ∷ 7 ∷ 8 ∷ 9 ∷ []
+  pub derivation-checks : map (λ (c : Check). c .number) derivationChecks ≡ 1 ∷ 2 ∷ 3 ∷ 4 ∷ 5 ∷ 6 ∷ 7 ∷ 8 ∷ []
+  -- each refusal under its own stated condition only, with all of the lent output zero
+  pub verdict-refusals : Refusals verdictChecks verdictCall
+  pub derivation-refusals : Refusals derivationChecks derivationCall
+  -- the verdict call: there is no refusal above 10, and a report that shows a heap is well formed
+  pub verdict-numbered : (i : Input) (k place : ℕ) → verdictCall i .answer ≡ refused k place → k ≤ 10
   pub report-formed : (i : Input) → verdictCall i .answer ≡ Answer.satisfiable → wellFormed (verdictCall i .lent) ≡ true
+  -- the derivation call: 11 exactly where no check stands, the walk is finished and some finite heap meets the query; 12 exactly where
+  -- no check stands, none does, and the lines are too many; "refuted" exactly where no check stands and the lines are not too many
+  pub heap-exactly : (i : Input) (place : ℕ) → (derivationCall i .answer ≡ refused 11 place) ↔ ((place ≡ 0) × NoneStands derivationChecks i × (BrokenOff i → ⊥) × Satisfiable (decode (i .query)))
+  pub excess-exactly : (i : Input) (place : ℕ) → (derivationCall i .answer ≡ refused 12 place) ↔ ((place ≡ 0) × NoneStands derivationChecks i × (Satisfiable (decode (i .query)) → ⊥) × ((ls : List Line) × (walkOf i ≡ refutation ls) × Exceeds (i .room) ls))
+  pub lines-exactly : (i : Input) → (derivationCall i .answer ≡ Answer.refuted) ↔ (NoneStands derivationChecks i × ((ls : List Line) × (walkOf i ≡ refutation ls) × Fits (i .room) ls))
+  pub never-satisfiable : (i : Input) → derivationCall i .answer ≡ Answer.satisfiable → ⊥
+  -- both calls have one verdict: where both give one, and where the derivation call is refused for it
+  pub one-verdict : (i j : Input) → Alike i j → NotRefused (verdictCall i .answer) → NotRefused (derivationCall j .answer) → verdictCall i .answer ≡ derivationCall j .answer
+  pub one-heap : (i j : Input) → Alike i j → 53 ≤ i .room → (verdictCall i .answer ≡ Answer.satisfiable) ↔ (derivationCall j .answer ≡ refused 11 0)
 
 -- "the heap shown is one": the heap in these report bytes meets the query, and each term's node is the one listed for it
 pub record Shows (bytes : List ℕ) (q : Query) : Type 0 where
@@ -43,14 +95,16 @@ pub record Shows (bytes : List ℕ) (q : Query) : Type 0 where
 -- DEMAND 2. "A verdict call that is not refused says "satisfiable" exactly when some finite heap .. meets every literal, and the heap
 -- shown is one. It says "refuted" exactly when no finite heap of any size does. A derivation, where one is given, follows the eight
 -- rules line by line."
-abbrev pub NotRefused : Answer → Type 0
-NotRefused a = (k place : ℕ) → a ≡ refused k place → ⊥
-
 pub record Demand2 : Type 0 where
   pub satisfiable-exactly : (i : Input) → NotRefused (verdictCall i .answer) → (verdictCall i .answer ≡ Answer.satisfiable) ↔ Satisfiable (decode (i .query))
   pub heap-shown : (i : Input) → verdictCall i .answer ≡ Answer.satisfiable → Shows (verdictCall i .lent) (decode (i .query))
   pub refuted-exactly : (i : Input) → NotRefused (verdictCall i .answer) → (verdictCall i .answer ≡ Answer.refuted) ↔ (Satisfiable (decode (i .query)) → ⊥)
-  pub derivation-follows : (i : Input) → derivationCall i .answer ≡ Answer.refuted → (ls : List Line) × (Refutes (decode (i .query)) (start (decode (i .query))) ls × (derivationCall i .lent ≡ padded (i .room) (derivationBytes ls)))
+  -- where a derivation is given, the lines in the bytes left are those of our walk, and they follow the rules
+  pub derivation-follows : (i : Input) → derivationCall i .answer ≡ Answer.refuted → Refutes (decode (i .query)) (start (decode (i .query))) (linesIn (derivationCall i .lent))
+  pub derivation-walked : (i : Input) → derivationCall i .answer ≡ Answer.refuted → ourWalk (i .order) (decode (i .query)) ≡ refutation (linesIn (derivationCall i .lent))
+  -- they are written as 01 says, with zeros after them, and are no more than 16,000 and no more than the buffer holds
+  pub derivation-formed : (i : Input) → derivationCall i .answer ≡ Answer.refuted → derivationCall i .lent ≡ padded (i .room) (derivationBytes (linesIn (derivationCall i .lent)))
+  pub derivation-counted : (i : Input) → derivationCall i .answer ≡ Answer.refuted → Fits (i .room) (linesIn (derivationCall i .lent))
 
 -- a verdict is right: "satisfiable" exactly when some finite heap meets every literal, "refuted" exactly when none of any size does
 pub record Right (q : Query) (v : Verdict) : Type 0 where
@@ -70,4 +124,6 @@ pub record Demand3 : Type 0 where
   pub one-verdict : (query order : List ℕ) (picks : List Pick) (v w : Verdict) → accepts query ≡ true → isOrder order ≡ true → ourVerdict (ourWalk order (decode query)) ≡ some v → handVerdict (decode query) (handRow (decode query) picks) ≡ some w → v ≡ w
   pub ours-right : (query order : List ℕ) (v : Verdict) → accepts query ≡ true → isOrder order ≡ true → ourVerdict (ourWalk order (decode query)) ≡ some v → Right (decode query) v
   pub hand-right : (query : List ℕ) (picks : List Pick) (w : Verdict) → accepts query ≡ true → handVerdict (decode query) (handRow (decode query) picks) ≡ some w → Right (decode query) w
+  -- and a hand can move: some list of picks leaves its walk finished exactly if ours is, with our verdict
+  pub hand-follows : (query order : List ℕ) → accepts query ≡ true → isOrder order ≡ true → (picks : List Pick) × (handVerdict (decode query) (handRow (decode query) picks) ≡ ourVerdict (ourWalk order (decode query)))
   pub call-answers : (i : Input) → NotRefused (verdictCall i .answer) → (v : Verdict) × ((ourVerdict (ourWalk (i .order) (decode (i .query))) ≡ some v) × (verdictCall i .answer ≡ answerOf v))

@@ -1,10 +1,10 @@
 -- What it is for a derivation to follow the eight rules line by line (demand 2), said without reference to our walk.
-use Prim.Native.Nat.{ℕ, _+_, _*_, _/_, _%_}
+use Prim.Native.Nat.{ℕ, zero, suc, _+_, _*_, _/_, _%_}
 use mathlib.Core.Path.{_≡_}
 use mathlib.Core.Bool.{Bool, true, false}
 use mathlib.Core.List.{List, [], _∷_, _++_}
 use mathlib.Core.Option.{none}
-use lib.ListN.{length}
+use lib.ListN.{length, getD, drop}
 use Rattle.logic.specs.Search.{flatMap}
 use Rattle.logic.specs.Query.{Query, termCount}
 use Rattle.logic.specs.Facts.{Facts, Line, line, isClash, clash}
@@ -27,3 +27,12 @@ lineBytes (line a b c d) = a ∷ b ∷ c ∷ d ∷ []
 -- "Line count in two bytes, high byte first"
 unfoldable pub derivationBytes : List Line → List ℕ
 derivationBytes ls = length ls / 256 ∷ length ls % 256 ∷ flatMap lineBytes ls
+
+-- Reading a derivation. "Line count in two bytes, high byte first, then lines of four bytes": the first k lines of bytes, and the lines
+-- in the bytes of a derivation; "bytes after them" are not read.
+unfoldable pub linesFrom : ℕ → List ℕ → List Line
+linesFrom zero bytes = []
+linesFrom (suc k) bytes = line (getD bytes 0 0) (getD bytes 1 0) (getD bytes 2 0) (getD bytes 3 0) ∷ linesFrom k (drop 4 bytes)
+
+unfoldable pub linesIn : List ℕ → List Line
+linesIn bytes = linesFrom (256 * getD bytes 0 0 + getD bytes 1 0) (drop 2 bytes)

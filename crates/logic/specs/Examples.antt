@@ -3,8 +3,6 @@ use Prim.Native.Nat.{ℕ, _+_, _*_}
 use mathlib.Core.Path.{_≡_}
 use mathlib.Core.List.{List, [], _∷_, _++_, map}
 use lib.ListN.{length}
-use Rattle.logic.specs.Facts.{Line, line}
-use Rattle.logic.specs.Derivation.{derivationBytes}
 use Rattle.logic.specs.Calls.{Outcome, satisfiable, refuted, refused, padded, blank, verdictCall, derivationCall}
 
 -- An order list and a query, what the verdict call leaves in 53 bytes, and what the derivation call leaves in 64.
@@ -17,7 +15,7 @@ pub record Example : Type 0 where
 unfoldable pub inOrder : List ℕ
 inOrder = 1 ∷ 2 ∷ 3 ∷ 4 ∷ 5 ∷ 6 ∷ 7 ∷ 8 ∷ []
 
--- a query that is satisfiable, with its report; one that is refuted, with its lines
+-- a query that is satisfiable, with its report; one that is refuted, with its derivation
 unfoldable pub sat : List ℕ → List ℕ → List ℕ → Example
 sat order query report =
     record {
@@ -27,13 +25,13 @@ sat order query report =
       derivation = blank 64 (refused 11 0);
     }
 
-unfoldable pub unsat : List ℕ → List ℕ → List Line → Example
-unsat order query ls =
+unfoldable pub unsat : List ℕ → List ℕ → List ℕ → Example
+unsat order query derivation =
     record {
       order = order;
       query = query;
       verdict = blank 53 refuted;
-      derivation = record { answer = refuted; lent = padded 64 (derivationBytes ls) };
+      derivation = record { answer = refuted; lent = padded 64 derivation };
     }
 
 -- E9's terms 1, 2, f(1), f(2), and its literals f(1)=f(2), not 1=2; then come the reachability literals
@@ -51,20 +49,26 @@ examples =
     (2 ∷ 2 ∷ 1 ∷ 2 ∷ 1 ∷ 2 ∷ 2 ∷ 0 ∷ 0 ∷ 1 ∷ 0 ∷ [])
     -- E4, under both orders
     ∷ unsat inOrder (3 ∷ 0 ∷ 1 ∷ 0 ∷ 1 ∷ 0 ∷ 1 ∷ 3 ∷ 2 ∷ 1 ∷ 1 ∷ 3 ∷ 0 ∷ 2 ∷ 3 ∷ 0 ∷ 0 ∷ [])
-    (line 1 1 0 0 ∷ line 1 2 0 0 ∷ line 1 3 0 0 ∷ line 2 1 2 0 ∷ line 4 1 2 3 ∷ line 9 2 1 0 ∷ line 9 3 2 0 ∷ [])
+    (0 ∷ 7
+    ∷ 1 ∷ 1 ∷ 0 ∷ 0 ∷ 1 ∷ 2 ∷ 0 ∷ 0 ∷ 1 ∷ 3 ∷ 0 ∷ 0 ∷ 2 ∷ 1 ∷ 2 ∷ 0
+    ∷ 4 ∷ 1 ∷ 2 ∷ 3 ∷ 9 ∷ 2 ∷ 1 ∷ 0 ∷ 9 ∷ 3 ∷ 2 ∷ 0 ∷ [])
     ∷ unsat (4 ∷ 1 ∷ 2 ∷ 3 ∷ 5 ∷ 6 ∷ 7 ∷ 8 ∷ []) (3 ∷ 0 ∷ 1 ∷ 0 ∷ 1 ∷ 0 ∷ 1 ∷ 3 ∷ 2 ∷ 1 ∷ 1 ∷ 3 ∷ 0 ∷ 2 ∷ 3 ∷ 0 ∷ 0 ∷ [])
-    (line 4 1 2 3 ∷ line 9 2 1 0 ∷ line 9 3 2 0 ∷ [])
+    (0 ∷ 3
+    ∷ 4 ∷ 1 ∷ 2 ∷ 3 ∷ 9 ∷ 2 ∷ 1 ∷ 0 ∷ 9 ∷ 3 ∷ 2 ∷ 0 ∷ [])
     -- E5
-    ∷ unsat inOrder (1 ∷ 0 ∷ 0 ∷ 1 ∷ 0 ∷ 1 ∷ 1 ∷ 0 ∷ 0 ∷ []) (line 1 1 0 0 ∷ line 9 3 1 0 ∷ [])
+    ∷ unsat inOrder (1 ∷ 0 ∷ 0 ∷ 1 ∷ 0 ∷ 1 ∷ 1 ∷ 0 ∷ 0 ∷ []) (0 ∷ 2 ∷ 1 ∷ 1 ∷ 0 ∷ 0 ∷ 9 ∷ 3 ∷ 1 ∷ 0 ∷ [])
     -- E6
-    ∷ unsat inOrder (3 ∷ 0 ∷ 1 ∷ 1 ∷ 1 ∷ 0 ∷ 2 ∷ 3 ∷ 0 ∷ 0 ∷ 0 ∷ []) (line 9 2 1 0 ∷ [])
+    ∷ unsat inOrder (3 ∷ 0 ∷ 1 ∷ 1 ∷ 1 ∷ 0 ∷ 2 ∷ 3 ∷ 0 ∷ 0 ∷ 0 ∷ []) (0 ∷ 1 ∷ 9 ∷ 2 ∷ 1 ∷ 0 ∷ [])
     -- E7
-    ∷ unsat inOrder (0 ∷ 0 ∷ 0 ∷ 0 ∷ 2 ∷ 1 ∷ 1 ∷ 0 ∷ 1 ∷ []) (line 9 5 2 1 ∷ [])
+    ∷ unsat inOrder (0 ∷ 0 ∷ 0 ∷ 0 ∷ 2 ∷ 1 ∷ 1 ∷ 0 ∷ 1 ∷ []) (0 ∷ 1 ∷ 9 ∷ 5 ∷ 2 ∷ 1 ∷ [])
     -- E8
-    ∷ unsat inOrder (2 ∷ 0 ∷ 0 ∷ 1 ∷ 1 ∷ 1 ∷ 2 ∷ 0 ∷ 2 ∷ 1 ∷ 1 ∷ 1 ∷ 0 ∷ 1 ∷ 2 ∷ 0 ∷ []) (line 9 4 2 1 ∷ [])
+    ∷ unsat inOrder (2 ∷ 0 ∷ 0 ∷ 1 ∷ 1 ∷ 1 ∷ 2 ∷ 0 ∷ 2 ∷ 1 ∷ 1 ∷ 1 ∷ 0 ∷ 1 ∷ 2 ∷ 0 ∷ []) (0 ∷ 1 ∷ 9 ∷ 4 ∷ 2 ∷ 1 ∷ [])
     -- E9, and without 2>1
     ∷ unsat inOrder (ringTerms ++ (2 ∷ 1 ∷ 1 ∷ 2 ∷ 1 ∷ 2 ∷ 1 ∷ 0 ∷ 0 ∷ []))
-    (line 1 1 0 0 ∷ line 1 2 0 0 ∷ line 1 3 0 0 ∷ line 2 1 3 0 ∷ line 2 2 3 0 ∷ line 4 1 3 2 ∷ line 9 2 2 0 ∷ line 3 3 2 1 ∷ line 8 1 2 3 ∷ line 9 2 2 0 ∷ [])
+    (0 ∷ 10
+    ∷ 1 ∷ 1 ∷ 0 ∷ 0 ∷ 1 ∷ 2 ∷ 0 ∷ 0 ∷ 1 ∷ 3 ∷ 0 ∷ 0 ∷ 2 ∷ 1 ∷ 3 ∷ 0
+    ∷ 2 ∷ 2 ∷ 3 ∷ 0 ∷ 4 ∷ 1 ∷ 3 ∷ 2 ∷ 9 ∷ 2 ∷ 2 ∷ 0 ∷ 3 ∷ 3 ∷ 2 ∷ 1
+    ∷ 8 ∷ 1 ∷ 2 ∷ 3 ∷ 9 ∷ 2 ∷ 2 ∷ 0 ∷ [])
     ∷ sat inOrder (ringTerms ++ (1 ∷ 1 ∷ 1 ∷ 2 ∷ 0 ∷ 0 ∷ []))
     (3 ∷ 3 ∷ 3 ∷ 2 ∷ 4 ∷ 1 ∷ 2 ∷ 3 ∷ 3 ∷ 3 ∷ 0 ∷ 0 ∷ 0 ∷ 1 ∷ 0 ∷ [])
     ∷ []

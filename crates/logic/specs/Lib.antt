@@ -1,7 +1,7 @@
 -- What must be believed, in reading order.
 pub mod Search
-pub mod Heap
 pub mod Query
+pub mod Heap
 pub mod Facts
 pub mod Rules
 pub mod Walk
@@ -9,4 +9,5 @@ pub mod Derivation
 pub mod Shown
 pub mod Calls
 pub mod Examples
+pub mod EdgeExamples
 pub mod Demands

@@ -10,7 +10,7 @@ use lib.Seq.{drop-length, length-take-le}
 use Rattle.logic.specs.Search.{from, keep, orElse, firstOf}
 use Rattle.logic.specs.Query.{termCount, sections, faulty, parts, layout, firstByte, layoutOf, faultIn, layoutFault, byteFault, literals, flags, section, queryOf, decode}
 use Rattle.logic.specs.Calls.{Input, Answer, refused, layoutCheck, byteCheck, queryChecks, refusalOf}
-use Rattle.logic.proofs.Bytes.{Numbered, layout-numbered}
+use Rattle.logic.proofs.Query.Bytes.{Numbered, layout-numbered}
 use Rattle.query.specs.declared.Layout.{Layout}
 use Rattle.query.specs.Sections.{Sections}
 use Rattle.query.specs.LaysOut.{LaysOut}

@@ -11,7 +11,7 @@ use lib.ListN.{length, getD, take, drop}
 use lib.Seq.{getD-drop, getD-take}
 use Rattle.logic.specs.Search.{_or_, from, any, at}
 use Rattle.logic.specs.Query.{Literal, entryOf, literals, flags, decode}
-use Rattle.logic.proofs.Search.{from-intro, map-intro}
+use Rattle.logic.proofs.Basics.Search.{from-intro, map-intro}
 use Rattle.query.specs.declared.Layout.{Layout}
 use Rattle.query.specs.LaysOut.{LaysOut, literalIn, flagIn}
 use Rattle.query.proofs.Loops.{drop-next, from-end, from-next}

@@ -7,8 +7,8 @@ use lib.ListN.{getD}
 use Rattle.logic.specs.Search.{isSome}
 use Rattle.logic.specs.Query.{Literal, decode}
 use Rattle.logic.specs.Calls.{accepts}
-use Rattle.logic.proofs.Tied.{InTerms, Accepted}
-use Rattle.logic.proofs.AcceptedBytes.{accepted}
+use Rattle.logic.proofs.Query.Tied.{InTerms, Accepted}
+use Rattle.logic.proofs.Query.AcceptedBytes.{accepted}
 use Rattle.query.specs.declared.Layout.{Layout}
 use Rattle.query.specs.declared.Checked.the-variants as checked
 use Rattle.query.specs.LaysOut.{LaysOut, literalIn, flagIn}

@@ -12,7 +12,7 @@ use borrow.Author.Tests.{eqb-true, eqb-false, eq-eqb, ne-eqb}
 use Rattle.logic.specs.Search.{_and_, _or_, any}
 use Rattle.logic.specs.Query.{Literal}
 use Rattle.logic.specs.Shown.{byteOf}
-use Rattle.logic.proofs.Search.{bool-cases}
+use Rattle.logic.proofs.Basics.Search.{bool-cases}
 use Rattle.facts.specs.Square.{square}
 use Rattle.facts.proofs.Square.{square-in, square-set, update-true}
 use Rattle.query.proofs.Literals.{listed, listed-end, listed-next}

@@ -13,7 +13,7 @@ use Rattle.logic.specs.Search.{_and_, _or_, from, keep, any, orElse, firstOf, f
 use Rattle.logic.specs.Facts.{Graph, Facts, live}
 use Rattle.logic.specs.Rules.{Rule, REFLEX, TRANS1, TRANS2, FUNC, CYCLE, SCC, TOTAL, SHARE, Triple, triple, Move, move, conditions, alternatives, held, applies, triples, ruleOf, choose}
 use Rattle.logic.specs.Walk.{orderOf}
-use Rattle.logic.proofs.Search.{firstOf-empty}
+use Rattle.logic.proofs.Basics.Search.{firstOf-empty}
 use Rattle.facts.specs.declared.Facts as code
 use Rattle.facts.specs.Square.{rowOf}
 use Rattle.facts.specs.Path.{graphOf, pathOf}

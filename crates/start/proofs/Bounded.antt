@@ -8,8 +8,8 @@ use mathlib.Core.List.{List}
 use lib.Dec.{eqb}
 use Rattle.logic.specs.Query.{Literal}
 use Rattle.logic.specs.Facts.{Facts, linksOf, replace, doubled, settle, join, addReach}
-use Rattle.logic.proofs.Compare.{eq-cases, le-cases}
-use Rattle.logic.proofs.Settle.{settle-keeps}
+use Rattle.logic.proofs.Basics.Compare.{eq-cases, le-cases}
+use Rattle.logic.proofs.Paths.Settle.{settle-keeps}
 use Rattle.facts.proofs.Successors.{doubled-below, join-same, join-lower, join-higher}
 use Rattle.start.specs.Taken.{joinOne, reachOne, Bounded, Terms}
 

@@ -12,7 +12,7 @@ use borrow.Author.Tests.{lt-ltb, le-ltb, ltb-true, ltb-false, eqb-true, eqb-fals
 use Rattle.logic.specs.Search.{_and_}
 use Rattle.logic.specs.Query.{entryOf}
 use Rattle.logic.specs.Facts.{linksOf}
-use Rattle.logic.proofs.Search.{bool-cases}
+use Rattle.logic.proofs.Basics.Search.{bool-cases}
 use Rattle.facts.specs.Square.{square, update}
 use Rattle.facts.proofs.Square.{square-set}
 use Rattle.facts.proofs.Fill.{ltb-next}

@@ -5,7 +5,7 @@ use mathlib.Core.Bool.{true, false, cond}
 use lib.ListN.{getD}
 use Rattle.logic.specs.Query.{Literal}
 use Rattle.logic.specs.Facts.{join, addReach}
-use Rattle.logic.proofs.Compare.{cond-true, cond-false}
+use Rattle.logic.proofs.Basics.Compare.{cond-true, cond-false}
 use Rattle.facts.specs.declared.Facts as code
 use Rattle.facts.specs.Path.{pathOf}
 use Rattle.facts.proofs.Rep.{rep-in}

@@ -5,9 +5,9 @@ use facts::Term;
 use query::Layout;
 use rules::Choice;
 use rules::Rule;
+use rules::Third;
 ghost use mathlib.Core.Path.{_≡_};
-ghost use Prim.Native.Nat.{ℕ, _+_, _*_, _≤_, _<_};
-ghost use lib.ListN.{length};
+ghost use Prim.Native.Nat.{_+_, _*_, _≤_, _<_};
 ghost use Rattle.logic.specs.Facts.{line};
 ghost use Rattle.logic.specs.Query.{decode};
 ghost use Rattle.logic.specs.Rules.{ruleNumber};
@@ -16,7 +16,7 @@ ghost use Rattle.facts.specs.Path.{pathOf};
 ghost use Rattle.query.specs.LaysOut.{LaysOut};
 ghost use Rattle.rules.specs.Answers.{kindOf};
 ghost use Rattle.walk.specs.Lines.{counted, putLine};
-ghost use Rattle.walk.specs.Ends.{isRefuted, lookOf, Ends};
+ghost use Rattle.walk.specs.Ends.{isRefuted, lookOf, Ends, Handed};
 
 // One line more, up to one above 16,000.
 pub fn counted(count: usize) -> usize
@@ -46,7 +46,7 @@ pub fn put_line(lines: &mut [u8], count: usize, a: usize, b: usize, c: usize, d:
 // What is seen at a path: its clash, the rule to apply, or neither.
 pub enum Seen {
     Clashing(usize, usize, usize),
-    Applying(Rule, usize, usize, usize),
+    Applying(Rule, Term, Term, Third),
     Saturated,
 }
 
@@ -57,7 +57,7 @@ pub enum Kind {
     Broken,
 }
 
-// The ending of a walk, the saturated path where there is one, and the count of lines.
+// The ending of a walk, the path that is saturated or broken off (where neither is, the one that was given), and the count of lines.
 pub struct Walked {
     pub kind: Kind,
     pub facts: Facts,
@@ -117,6 +117,7 @@ pub fn walk(
 ) -> Walked
     requires { ⌜ LaysOut layout (now query) × (count ≤ 16001) ⌝ }
     ensures { λ r. ⌜ Ends r (walk (decode (now (query .entry))) (orderOf (now (order .entry))) left (pathOf s)) (now (lines .entry)) count (now (lines .exit)) ⌝ }
+    ensures { λ r. ⌜ Handed (look (decode (now (query .entry))) (orderOf (now (order .entry)))) r (walk (decode (now (query .entry))) (orderOf (now (order .entry))) left (pathOf s)) (pathOf s) count ⌝ }
 {
     let n = layout.terms;
     match look(query, layout, order, s) {
@@ -141,12 +142,12 @@ pub fn walk(
                     count,
                 };
             }
-            put_line(lines, count, number(rule), x, y, z);
+            put_line(lines, count, number(rule), x.0, y.0, z.0);
             let total = branch::count(rule, z);
             let mut written = counted(count);
             let mut i: usize = 0;
             while i < total {
-                let path = branch::branch(s, n, rule, Term(x), Term(y), z, i);
+                let path = branch::branch(s, n, rule, x, y, z, i);
                 let w = walk(query, layout, order, left - 1, path, lines, written);
                 let kind = w.kind;
                 if !is_refuted(kind) {

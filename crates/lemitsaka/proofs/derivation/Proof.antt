@@ -6,7 +6,7 @@ use lib.ListN.{length}
 use Rattle.query.specs.Answers.{CheckedAs}
 use Rattle.query.specs.declared.Checked.{Checked}
 use Rattle.query.proofs.Ranges.{checked-accepts}
-use Rattle.lemitsaka.proofs.Outcomes.{derivation-whole}
+use Rattle.logic.proofs.Calls.DerivationCall.{derivation-whole}
 use Rattle.lemitsaka.proofs.Answers.{blank-again, blank-long, derivation-order, derivation-query, derivation-walked}
 use Rattle.lemitsaka.proofs.derivation.Statement.{statement}
 use Rattle.lemitsaka.proofs.derivation.Tie as tie

@@ -1,0 +1,117 @@
+-- What a C header says of the two calls, one theorem for each sentence. `order`, `query` and `before` are what a call is given, `r` is
+-- the number that it answers and `bytes` what it leaves in the lent output: its contract is the hypothesis `codes`.
+use Prim.Native.Nat.{ℕ, _+_, _*_, _/_, _%_, _≤_, _<_}
+use native.Mathlib.Omega.{arith}
+use mathlib.Core.Path.{_≡_, refl, sym, ap, _∙_}
+use mathlib.Core.Logic.{⊎-elim}
+use mathlib.Core.List.{List}
+use lib.ListN.{length, getD, replicate}
+use borrow.Author.Tests.{ne-eqb}
+use Rattle.logic.specs.Query.{decode}
+use Rattle.logic.specs.Facts.{Line}
+use Rattle.logic.specs.Walk.{ourWalk, refutation}
+use Rattle.logic.specs.Calls.{Input, Check, Outcome, verdictChecks, derivationChecks, verdictCall, derivationCall}
+use Rattle.logic.specs.Calls as calls
+use Rattle.logic.specs.Demands.{Refusals}
+use Rattle.logic.proofs.Calls.Demands.{demand1}
+use Rattle.logic.proofs.Calls.Room.{room-enough, report-short}
+use Rattle.lemitsaka.specs.Promise.{inputOf, codeOf, answerIn, Codes}
+
+-- "The number gives back the answer." A refusal's number is small, and its place.
+refused-back : (k place : ℕ) → 1 ≤ k → k ≤ 12 → place ≤ 681 → answerIn (codeOf (calls.refused k place)) ≡ calls.refused k place
+unfolding answerIn
+refused-back k place l u h =
+    let n : ℕ = k % 65536 * 65536 + place % 65536 in
+    let a : n / 65536 ≡ k = omega arith in
+    let b : n % 65536 ≡ place = omega arith in
+    rw (ne-eqb n 0 (λ e. omega arith), ne-eqb n 1 (λ e. omega arith)) (ap (λ (j : ℕ). calls.refused j (n % 65536)) a ∙ ap (calls.refused k) b)
+
+module _ (cs : List Check) (outcome : Input → Outcome) (law : Refusals cs outcome) where
+  code-back : (i : Input) → answerIn (codeOf (outcome i .answer)) ≡ outcome i .answer
+  unfolding answerIn
+  code-back i = go (outcome i .answer) refl
+    where
+      go : (a : calls.Answer) → outcome i .answer ≡ a → answerIn (codeOf a) ≡ a
+      go calls.satisfiable e = refl
+      go calls.refuted e = refl
+      go (calls.refused k place) e =
+          let n = law .refusal-numbered i k place e in
+          refused-back k place (n .0) (n .1) (law .refusal-placed i k place e .1)
+
+  module _ (order query before bytes : List ℕ) (r : ℕ) (codes : Codes (outcome (inputOf order query before)) r bytes) where
+    number-back : answerIn r ≡ outcome (inputOf order query before) .answer
+    number-back = ap answerIn (codes .answers) ∙ code-back (inputOf order query before)
+
+    answered : (a : calls.Answer) → answerIn r ≡ a → outcome (inputOf order query before) .answer ≡ a
+    answered a e = sym number-back ∙ e
+
+    kept : length bytes ≡ length before
+    kept = ap length (codes .leaves) ∙ law .lent-whole (inputOf order query before)
+
+    bounded : (k place : ℕ) → answerIn r ≡ calls.refused k place → (1 ≤ k) × (k ≤ 12) × (place ≤ length query) × (place ≤ 681)
+    bounded k place e =
+        let h = answered (calls.refused k place) e in
+        let n = law .refusal-numbered (inputOf order query before) k place h in
+        let p = law .refusal-placed (inputOf order query before) k place h in
+        (n .0, n .1, p .0, p .1)
+
+    blank : (k place : ℕ) → answerIn r ≡ calls.refused k place → bytes ≡ replicate (length before) 0
+    blank k place e = codes .leaves ∙ law .refusal-blank (inputOf order query before) k place (answered (calls.refused k place) e)
+
+-- "Every byte of the buffer is written": what it held before makes no difference, only its length.
+pub every-byte-written : (outcome : Input → Outcome) (order query before before′ bytes bytes′ : List ℕ) (r r′ : ℕ) → Codes (outcome (inputOf order query before)) r bytes → Codes (outcome (inputOf order query before′)) r′ bytes′ → length before ≡ length before′ → (r ≡ r′) × (bytes ≡ bytes′)
+every-byte-written outcome order query before before′ bytes bytes′ r r′ c c′ l =
+    let e : outcome (inputOf order query before) ≡ outcome (inputOf order query before′) = ap (λ (n : ℕ). outcome (record { order = order; query = query; room = n })) l in
+    (c .answers ∙ ap (λ (o : Outcome). codeOf (o .answer)) e ∙ sym (c′ .answers), c .leaves ∙ ap (λ (o : Outcome). o .lent) e ∙ sym (c′ .leaves))
+
+-- The verdict call
+module _ (order query before bytes : List ℕ) (r : ℕ) (codes : Codes (verdictCall (inputOf order query before)) r bytes) where
+  -- "The number gives back the answer."
+  pub verdict-number : answerIn r ≡ verdictCall (inputOf order query before) .answer
+  verdict-number = number-back verdictChecks verdictCall (demand1 .verdict-refusals) order query before bytes r codes
+
+  -- "A refusal's number is 1 to 12; its place is at most the query's length, and at most 681."
+  pub verdict-bounded : (k place : ℕ) → answerIn r ≡ calls.refused k place → (1 ≤ k) × (k ≤ 12) × (place ≤ length query) × (place ≤ 681)
+  verdict-bounded = bounded verdictChecks verdictCall (demand1 .verdict-refusals) order query before bytes r codes
+
+  -- "The report's length is kept"; "after a refusal, all of it is zero."
+  pub verdict-kept : length bytes ≡ length before
+  verdict-kept = kept verdictChecks verdictCall (demand1 .verdict-refusals) order query before bytes r codes
+
+  pub verdict-blank : (k place : ℕ) → answerIn r ≡ calls.refused k place → bytes ≡ replicate (length before) 0
+  verdict-blank = blank verdictChecks verdictCall (demand1 .verdict-refusals) order query before bytes r codes
+
+  -- "53 bytes are enough for every report": they are never refused, and every byte past them is zero.
+  pub verdict-room : 53 ≤ length before → (place : ℕ) → answerIn r ≡ calls.refused 9 place → ⊥
+  verdict-room l place e = room-enough (inputOf order query before) l place (sym verdict-number ∙ e)
+
+  pub verdict-short : (n : ℕ) → 53 ≤ n → getD bytes n 0 ≡ 0
+  verdict-short n l = ap (λ (b : List ℕ). getD b n 0) (codes .leaves) ∙ report-short (inputOf order query before) n l
+
+-- The derivation call
+module _ (order query before bytes : List ℕ) (r : ℕ) (codes : Codes (derivationCall (inputOf order query before)) r bytes) where
+  -- "The number gives back the answer."
+  pub derivation-number : answerIn r ≡ derivationCall (inputOf order query before) .answer
+  derivation-number = number-back derivationChecks derivationCall (demand1 .derivation-refusals) order query before bytes r codes
+
+  -- "A refusal's number is 1 to 12; its place is at most the query's length, and at most 681."
+  pub derivation-bounded : (k place : ℕ) → answerIn r ≡ calls.refused k place → (1 ≤ k) × (k ≤ 12) × (place ≤ length query) × (place ≤ 681)
+  derivation-bounded = bounded derivationChecks derivationCall (demand1 .derivation-refusals) order query before bytes r codes
+
+  -- "The buffer's length is kept"; "after a refusal, all of it is zero."
+  pub derivation-kept : length bytes ≡ length before
+  derivation-kept = kept derivationChecks derivationCall (demand1 .derivation-refusals) order query before bytes r codes
+
+  pub derivation-blank : (k place : ℕ) → answerIn r ≡ calls.refused k place → bytes ≡ replicate (length before) 0
+  derivation-blank = blank derivationChecks derivationCall (demand1 .derivation-refusals) order query before bytes r codes
+
+  -- "The derivation call never answers 0."
+  pub derivation-nonzero : r ≡ 0 → ⊥
+  unfolding answerIn
+  derivation-nonzero e = demand1 .never-satisfiable (inputOf order query before) (sym derivation-number ∙ ap answerIn e)
+
+  -- "64,002 bytes hold every derivation that is not refused for its line count": refusal 12 then means more than 16,000 lines.
+  pub derivation-room : 64002 ≤ length before → (place : ℕ) → answerIn r ≡ calls.refused 12 place → (ls : List Line) × (ourWalk order (decode query) ≡ refutation ls) × (16000 < length ls)
+  derivation-room l place e =
+      let (z, n, u, (ls, w, x)) = demand1 .excess-exactly (inputOf order query before) place .0 (sym derivation-number ∙ e) in
+      (ls, w, ⊎-elim (λ h. h) (λ h. omega arith) x)

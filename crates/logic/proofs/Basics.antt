@@ -1,0 +1,4 @@
+-- Tests, searches, iteration: laws that callers use in place of the definitions' text.
+pub mod Search
+pub mod Compare
+pub mod Iterate

@@ -1,0 +1,150 @@
+-- What a call answers, by cases: a check that stands, or what its walk says.
+use Prim.Native.Nat.{ℕ, _-_, _≤_}
+use native.Mathlib.Omega.{arith}
+use mathlib.Core.Path.{_≡_, refl, sym, ap, _∙_, subst}
+use mathlib.Core.Logic.{_⊎_, ⊎-elim, inl, inr}
+use mathlib.Core.Bool.{Bool, true, not}
+use mathlib.Core.List.{List, [], _∷_, List·Memᴰ, List·Memᴰ·head, List·Memᴰ·tail, List·Memᴰ·not-nil, List·Memᴰ·cases-cons, List·Memᴰ·append-cases, Memᴰ·append-left, Memᴰ·append-right}
+use mathlib.Core.Option.{Option, none, some, Option·elim}
+use lib.ListN.{length, replicate, length-append, length-replicate}
+use lib.Dec.{ltb}
+use borrow.Author.Tests.{ltb-false, le-ltb}
+use Rattle.logic.specs.Search.{keep, isSome}
+use Rattle.logic.specs.Query.{isOrder, layoutFault, byteFault, decode}
+use Rattle.logic.specs.Walk.{Ending, ourWalk}
+use Rattle.logic.specs.Calls.{Input, Check, orderCheck, layoutCheck, byteCheck, roomCheck, queryChecks, verdictChecks, derivationChecks, Answer, refused, Outcome, refusalOf, accepts, padded, blank, call}
+use Rattle.logic.specs.Demands.{NoneStands, Alike}
+use Rattle.logic.proofs.Basics.Search.{none-some, firstOf-some, firstOf-none, firstOf-empty, keep-none, bool-cases, true-false}
+
+-- the answer that a check gives
+abbrev answers : Input → Check → Option Answer
+answers i c = Option·elim (c .place i) none (λ place. some (refused (c .number) place))
+
+answers-some : (i : Input) (c : Check) (a : Answer) → answers i c ≡ some a → (place : ℕ) × (c .place i ≡ some place) × (a ≡ refused (c .number) place)
+unfolding Option·elim
+answers-some i c a h = go (c .place i) refl h
+  where
+    go : (o : Option ℕ) → c .place i ≡ o → Option·elim o none (λ place. some (refused (c .number) place)) ≡ some a → (place : ℕ) × (c .place i ≡ some place) × (a ≡ refused (c .number) place)
+    go none e h = absurd (none-some h)
+    go (some place) e h = (place, e, cc)
+
+answers-none : (i : Input) (c : Check) → answers i c ≡ none → c .place i ≡ none
+unfolding Option·elim
+answers-none i c h = go (c .place i) refl h
+  where
+    go : (o : Option ℕ) → c .place i ≡ o → Option·elim o none (λ place. some (refused (c .number) place)) ≡ none → c .place i ≡ none
+    go none e h = e
+    go (some place) e h = absurd (none-some (sym h))
+
+module _ (cs : List Check) (i : Input) where
+  -- a refusal is that of a check that stands
+  pub refusalOf-some : (a : Answer) → refusalOf cs i ≡ some a → (c : Check) × List·Memᴰ c cs × ((place : ℕ) × (c .place i ≡ some place) × (a ≡ refused (c .number) place))
+  unfolding refusalOf
+  refusalOf-some a h = let f = firstOf-some (answers i) cs a h in (f .0, f .1, answers-some i (f .0) a (f .2))
+
+  -- no refusal: no check stands
+  pub refusalOf-none : refusalOf cs i ≡ none → (c : Check) → List·Memᴰ c cs → c .place i ≡ none
+  unfolding refusalOf
+  refusalOf-none h c m = answers-none i c (firstOf-none (answers i) c h m)
+
+  pub refusalOf-clear : ((c : Check) → List·Memᴰ c cs → c .place i ≡ none) → refusalOf cs i ≡ none
+  unfolding refusalOf Option·elim
+  refusalOf-clear h = firstOf-empty (answers i) cs (λ c m. rw (h c m))
+
+  pub call-cases : (result : Ending → Outcome) → ((a : Answer) × (refusalOf cs i ≡ some a) × (call cs result i ≡ blank (i .room) a)) ⊎ ((refusalOf cs i ≡ none) × (call cs result i ≡ result (ourWalk (i .order) (decode (i .query)))))
+  unfolding call Option·elim
+  call-cases result = go (refusalOf cs i) refl
+    where
+      go : (o : Option Answer) → refusalOf cs i ≡ o → ((a : Answer) × (refusalOf cs i ≡ some a) × (Option·elim o (result (ourWalk (i .order) (decode (i .query)))) (blank (i .room)) ≡ blank (i .room) a)) ⊎ ((refusalOf cs i ≡ none) × (Option·elim o (result (ourWalk (i .order) (decode (i .query)))) (blank (i .room)) ≡ result (ourWalk (i .order) (decode (i .query)))))
+      go none e = inr (e, refl)
+      go (some a) e = inl (a, e, refl)
+
+-- The query's checks read the query alone, so a query that passes them in one call is accepted.
+layout-local : (k : ℕ) (i j : Input) → i .query ≡ j .query → layoutCheck k .place i ≡ layoutCheck k .place j
+unfolding layoutCheck
+layout-local k i j e = ap (layoutFault k) e
+
+byte-local : (k : ℕ) (i j : Input) → i .query ≡ j .query → byteCheck k .place i ≡ byteCheck k .place j
+unfolding byteCheck
+byte-local k i j e = ap (byteFault k) e
+
+local : (i j : Input) → i .query ≡ j .query → (c : Check) → List·Memᴰ c queryChecks → c .place i ≡ c .place j
+unfolding queryChecks
+local i j e c m =
+    ⊎-elim (λ q. same q (layout-local 2 i j e)) (λ m2.
+    ⊎-elim (λ q. same q (layout-local 3 i j e)) (λ m3.
+    ⊎-elim (λ q. same q (layout-local 4 i j e)) (λ m4.
+    ⊎-elim (λ q. same q (byte-local 5 i j e)) (λ m5.
+    ⊎-elim (λ q. same q (byte-local 6 i j e)) (λ m6.
+    ⊎-elim (λ q. same q (byte-local 7 i j e)) (λ m7.
+    ⊎-elim (λ q. same q (byte-local 8 i j e)) (λ m8. absurd (List·Memᴰ·not-nil m8))
+    (List·Memᴰ·cases-cons m7)) (List·Memᴰ·cases-cons m6)) (List·Memᴰ·cases-cons m5)) (List·Memᴰ·cases-cons m4)) (List·Memᴰ·cases-cons m3)) (List·Memᴰ·cases-cons m2)) (List·Memᴰ·cases-cons m)
+  where
+    same : {d : Check} → c ≡ d → d .place i ≡ d .place j → c .place i ≡ c .place j
+    same q h = subst (λ (d : Check). d .place i ≡ d .place j) (sym q) h
+
+pub accepts-clear : (i : Input) → ((c : Check) → List·Memᴰ c queryChecks → c .place i ≡ none) → accepts (i .query) ≡ true
+unfolding accepts isSome
+accepts-clear i h =
+    let j : Input = record { order = []; query = i .query; room = 0 } in
+    rw (refusalOf-clear queryChecks j (λ c m. sym (local i j refl c m) ∙ h c m))
+
+-- what a call knows where none of its checks stands
+order-clear : (cs : List Check) (i : Input) → List·Memᴰ orderCheck cs → NoneStands cs i → isOrder (i .order) ≡ true
+unfolding orderCheck
+order-clear cs i m h =
+    let e = keep-none (not (isOrder (i .order))) 0 (h orderCheck m) in
+    ⊎-elim (λ p. p) (λ p. absurd (true-false (ap not p) e)) (bool-cases (isOrder (i .order)))
+
+pub record Passed (i : Input) : Type 0 where
+  pub order : isOrder (i .order) ≡ true
+  pub query : accepts (i .query) ≡ true
+
+pub derivation-passed : (i : Input) → NoneStands derivationChecks i → Passed i
+unfolding derivationChecks
+derivation-passed i h =
+    record {
+      order = order-clear derivationChecks i (List·Memᴰ·head refl) h;
+      query = accepts-clear i (λ c m. h c (List·Memᴰ·tail m));
+    }
+
+-- the verdict call's checks are the derivation call's, and that of the report's room
+pub derivation-known : (c : Check) → List·Memᴰ c derivationChecks → List·Memᴰ c verdictChecks
+unfolding derivationChecks verdictChecks
+derivation-known c m = ⊎-elim (λ e. List·Memᴰ·head e) (λ n. List·Memᴰ·tail (Memᴰ·append-left (roomCheck ∷ []) n)) (List·Memᴰ·cases-cons m)
+
+pub verdict-clear : (i : Input) → NoneStands derivationChecks i → 53 ≤ i .room → NoneStands verdictChecks i
+unfolding derivationChecks verdictChecks roomCheck keep
+verdict-clear i h r c m =
+    ⊎-elim (λ e. h c (List·Memᴰ·head e))
+    (λ n. ⊎-elim (λ n′. h c (List·Memᴰ·tail n′))
+    (λ n′. ⊎-elim (λ e. ap (λ (d : Check). d .place i) e ∙ ap (λ (b : Bool). keep b 0) (le-ltb (i .room) 53 r)) (λ n″. absurd (List·Memᴰ·not-nil n″)) (List·Memᴰ·cases-cons n′))
+    (List·Memᴰ·append-cases queryChecks n))
+    (List·Memᴰ·cases-cons m)
+
+pub verdict-passed : (i : Input) → NoneStands verdictChecks i → Passed i × (53 ≤ i .room)
+unfolding verdictChecks roomCheck
+verdict-passed i h = (
+  derivation-passed i (λ c m. h c (derivation-known c m)),
+  ltb-false (i .room) 53 (keep-none (ltb (i .room) 53) 0 (h roomCheck (List·Memᴰ·tail (Memᴰ·append-right queryChecks (List·Memᴰ·head refl))))),
+)
+
+-- two calls of one order list and one query pass the derivation call's checks alike
+order-local : (i j : Input) → i .order ≡ j .order → orderCheck .place i ≡ orderCheck .place j
+unfolding orderCheck
+order-local i j e = ap (λ (order : List ℕ). keep (not (isOrder order)) 0) e
+
+pub alike-clear : (i j : Input) → Alike i j → NoneStands derivationChecks i → NoneStands derivationChecks j
+unfolding derivationChecks
+alike-clear i j a h c m =
+    ⊎-elim (λ e. ap (λ (d : Check). d .place j) e ∙ sym (order-local i j (a .0)) ∙ h orderCheck (List·Memᴰ·head refl))
+    (λ n. sym (local i j (a .1) c n) ∙ h c m) (List·Memᴰ·cases-cons m)
+
+-- padding fills what is lent
+pub padded-length : (room : ℕ) (bytes : List ℕ) → length bytes ≤ room → length (padded room bytes) ≡ room
+unfolding padded
+padded-length room bytes l = omega (arith, length-append bytes (replicate (room - length bytes) 0), length-replicate {A = ℕ} (room - length bytes) 0)
+
+pub blank-length : (room : ℕ) (a : Answer) → length (blank room a .lent) ≡ room
+unfolding blank
+blank-length room a = length-replicate room 0

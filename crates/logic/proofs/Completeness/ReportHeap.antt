@@ -1,0 +1,103 @@
+-- What is read from the bytes of a report: the heap that it shows, and that it is well formed (01, "The heap shown").
+use Prim.Native.Nat.{ℕ, zero, suc, _+_, _-_, _≤_, _<_}
+use native.Mathlib.Omega.{arith}
+use mathlib.Core.Path.{_≡_, refl, _∙_, subst}
+use mathlib.Core.Bool.{Bool, true, false, cond}
+use mathlib.Core.List.{List}
+use lib.ListN.{length, getD}
+use lib.Dec.{eqb, ltb, leb}
+use borrow.Author.Tests.{ltb-true, leb-true, lt-ltb, le-leb, eq-eqb}
+use Rattle.logic.specs.Search.{_and_, from, all}
+use Rattle.logic.specs.Heap.{IsHeap}
+use Rattle.logic.specs.Shown.{bitOf, sizeIn, nodeIn, heapIn, isNode, wellFormed}
+use Rattle.logic.proofs.Basics.Search.{and-left, and-right, and-intro, all-intro, from-mem}
+use Rattle.logic.proofs.Completeness.ReportBytes.{Laid}
+
+isNode-intro : (m v : ℕ) → 1 ≤ v → v ≤ m → isNode m v ≡ true
+unfolding isNode
+isNode-intro m v l h = and-intro (lt-ltb 0 v l) (le-leb v m h)
+
+-- a test of all numbers from i on, as a test of what is added to i
+all-from : (p : ℕ → Bool) (k i : ℕ) → ((j : ℕ) → j < k → p (i + j) ≡ true) → all p (from k i) ≡ true
+all-from p k i h =
+    all-intro p (from k i)
+    (λ x mem. let r = from-mem k i x mem in let e : i + (x - i) ≡ x = omega arith in subst (λ (y : ℕ). p y ≡ true) e (h (x - i) (omega arith)))
+
+-- What is read from bytes laid out so. Nodes are counted from 1, and the rows of a section from 0.
+module _ {bytes : List ℕ} {m n : ℕ} {link node datum : ℕ → ℕ} {flags : ℕ} {rest : List ℕ} (at : Laid bytes m n link node datum flags rest) where
+  heap-size : heapIn bytes .size ≡ m
+  unfolding heapIn sizeIn
+  heap-size = at .size-at
+
+  pub heap-link : (i : ℕ) → i < m → heapIn bytes .link (suc i) ≡ link i
+  unfolding heapIn
+  heap-link = at .link-at
+
+  pub node-listed : (i : ℕ) → i < n → nodeIn bytes (suc i) ≡ node i
+  unfolding nodeIn sizeIn
+  node-listed i h = rw (at .size-at) (let e : m + 1 + suc i ≡ m + 2 + i = omega arith in rw e (at .node-at i h))
+
+  heap-variable : (t : ℕ) → heapIn bytes .variable t ≡ cond (ltb 0 t and leb t n) (nodeIn bytes t) 1
+  unfolding heapIn sizeIn
+  heap-variable t = rw (at .size-at, at .count-at)
+
+  pub heap-field : (i j : ℕ) → i < m → heapIn bytes .field j (suc i) ≡ bitOf (datum i) (j - 1)
+  unfolding heapIn sizeIn
+  heap-field i j h = rw (at .size-at, at .count-at) (let e : m + n + 2 + suc i ≡ m + n + 3 + i = omega arith in rw (e, at .datum-at i h))
+
+  pub heap-boolean : (j : ℕ) → heapIn bytes .boolean j ≡ bitOf flags (j - 1)
+  unfolding heapIn sizeIn
+  heap-boolean j = rw (at .size-at, at .count-at, at .flags-at)
+
+  pub heap-listed : (i : ℕ) → i < n → heapIn bytes .variable (suc i) ≡ node i
+  heap-listed i h =
+      let inside : ltb 0 (suc i) and leb (suc i) n ≡ true = and-intro (lt-ltb 0 (suc i) (omega arith)) (le-leb (suc i) n h) in
+      rw (heap-variable, inside) (node-listed i h)
+
+  -- where the report lists nodes alone, it shows a heap and is well formed
+  module _ (nonempty : 1 ≤ m) (links : (i : ℕ) → i < m → (1 ≤ link i) × (link i ≤ m)) (listed : (i : ℕ) → i < n → (1 ≤ node i) × (node i ≤ m)) where
+    variable-in : (t : ℕ) (b : Bool) → ltb 0 t and leb t n ≡ b → (1 ≤ cond b (nodeIn bytes t) 1) × (cond b (nodeIn bytes t) 1 ≤ m)
+    variable-in t false e = (omega arith, omega arith)
+    variable-in zero true e = absurd (omega (arith, ltb-true 0 zero (and-left (ltb 0 zero) (leb zero n) e)))
+    variable-in (suc i) true e =
+        let h : i < n = leb-true (suc i) n (and-right (ltb 0 (suc i)) (leb (suc i) n) e) in
+        rw (node-listed i h) (listed i h)
+
+    link-in : (v : ℕ) → 1 ≤ v → v ≤ m → (1 ≤ heapIn bytes .link v) × (heapIn bytes .link v ≤ m)
+    link-in zero l h = absurd (omega arith)
+    link-in (suc i) l h = rw (heap-link i h) (links i h)
+
+    pub is-heap : IsHeap (heapIn bytes)
+    is-heap =
+        record {
+          nonempty = rw heap-size nonempty;
+          link-node = rw heap-size (λ v r. link-in v (r .0) (r .1));
+          variable-node = rw heap-size (λ t. rw heap-variable (variable-in t (ltb 0 t and leb t n) refl));
+        }
+
+    byte-is-node : (i v : ℕ) → getD bytes i 0 ≡ v → (1 ≤ v) × (v ≤ m) → isNode m (getD bytes i 0) ≡ true
+    byte-is-node i v e r = rw e (isNode-intro m v (r .0) (r .1))
+
+    links-pass : all (λ i. isNode m (getD bytes i 0)) (from m 1) ≡ true
+    links-pass =
+        all-from (λ i. isNode m (getD bytes i 0)) m 1
+        (λ i h. let e : 1 + i ≡ suc i = omega arith in rw e (byte-is-node (suc i) (link i) (at .link-at i h) (links i h)))
+
+    nodes-pass : all (λ i. isNode m (getD bytes i 0)) (from n (m + 2)) ≡ true
+    nodes-pass =
+        all-from (λ i. isNode m (getD bytes i 0)) n (m + 2) (λ i h. byte-is-node (m + 2 + i) (node i) (at .node-at i h) (listed i h))
+
+    zeros-pass : (k : ℕ) → ((i : ℕ) → getD rest i 0 ≡ 0) → all (λ i. eqb (getD bytes i 0) 0) (from k (m + n + m + 5)) ≡ true
+    zeros-pass k zeros =
+        all-from (λ i. eqb (getD bytes i 0) 0) k (m + n + m + 5) (λ i h. eq-eqb (getD bytes (m + n + m + 5 + i) 0) 0 (at .past-at i ∙ zeros i))
+
+    pub is-formed : m ≤ 16 → n ≤ 16 → ((i : ℕ) → getD rest i 0 ≡ 0) → wellFormed bytes ≡ true
+    unfolding wellFormed sizeIn
+    is-formed hm hn zeros =
+        let size-passes = isNode-intro 16 m nonempty hm in
+        let count-passes = le-leb n 16 hn in
+        let long-enough = le-leb (m + n + m + 5) (m + n + m + 5 + length rest) (omega arith) in
+        let third-passes = eq-eqb m m refl in
+        let counts = and-intro (and-intro (and-intro (and-intro size-passes count-passes) long-enough) third-passes) refl in
+        rw (at .size-at, at .count-at, at .third-at, at .fourth-at, at .total)
+        (and-intro (and-intro (and-intro counts links-pass) nodes-pass) (zeros-pass _ zeros))

@@ -1,0 +1,10 @@
+-- What every step of a path keeps.
+pub mod Replace
+pub mod Extends
+pub mod Doubled
+pub mod Ranged
+pub mod Settle
+pub mod Kept
+pub mod Round
+pub mod Start
+pub mod Invariant

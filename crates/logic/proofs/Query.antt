@@ -1,0 +1,5 @@
+-- The bytes of a query: what their acceptance gives.
+pub mod Tied
+pub mod Bytes
+pub mod AcceptedBytes
+pub mod Places

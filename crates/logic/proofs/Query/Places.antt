@@ -1,0 +1,87 @@
+-- The places of refusals 2 to 8: none is past the query's end, or past the longest query, which has 681 bytes.
+use Prim.Native.Nat.{ℕ, suc, _+_, _*_, _≤_, _<_}
+use native.Mathlib.Omega.{arith}
+use native.Mathlib.Nat.{mul-le-mul, le-refl}
+use mathlib.Core.Path.{_≡_, refl, subst}
+use mathlib.Core.Logic.{⊎-elim}
+use mathlib.Core.Bool.{not}
+use mathlib.Core.List.{List, [], _∷_}
+use mathlib.Core.Option.{none, some}
+use lib.ListN.{length, take, drop, length-drop}
+use lib.Dec.{eqb, leb}
+use borrow.Author.Tests.{leb-true, leb-false}
+use Rattle.logic.specs.Search.{_and_, keep}
+use Rattle.logic.specs.Query.{Role, Section, sections, Layout, faulty, parts, withPart, layout, firstByte, layoutOf, faultIn, layoutFault, roleFault, byteFault}
+use Rattle.logic.proofs.Basics.Search.{none-some, keep-some, orElse-cases}
+use Rattle.logic.proofs.Query.Bytes.{cond-elim}
+use Rattle.logic.proofs.Query.AcceptedBytes.{laid-out}
+
+-- the most bytes that sections have, each with its count
+most : List Section → ℕ
+most [] = 0
+most (s ∷ ss) = 1 + s .limit * s .width + most ss
+
+-- "The longest query has 681 bytes."
+most-bytes : (n : ℕ) → most (sections n) ≡ 681
+unfolding most sections
+most-bytes n = refl
+
+-- A refusal's place is not past the bytes nor past the most; bytes that are laid out are no more than the most.
+abbrev Bounded : List Section → ℕ → List ℕ → Layout → Type 0
+Bounded ss place bytes (faulty k p) = (p ≤ place + length bytes) × (p ≤ place + most ss)
+Bounded ss place bytes (parts ps) = length bytes ≤ most ss
+
+withPart-bounded : (s : Section) (ss : List Section) (place c : ℕ) (more : List ℕ) → c * s .width ≤ s .limit * s .width → c * s .width ≤ length more → (l : Layout) → Bounded ss (suc place + c * s .width) (drop (c * s .width) more) l → Bounded (s ∷ ss) place (c ∷ more) (withPart (take (c * s .width) more) l)
+unfolding withPart most
+withPart-bounded s ss place c more small fits (faulty k p) h = (omega (arith, h .0, length-drop (c * s .width) more), omega (arith, h .1))
+withPart-bounded s ss place c more small fits (parts ps) h = omega (arith, h, length-drop (c * s .width) more)
+
+layout-bounded : (ss : List Section) (place : ℕ) (bytes : List ℕ) → Bounded ss place bytes (layout ss place bytes)
+unfolding layout most
+layout-bounded [] place [] = omega arith
+layout-bounded [] place (b ∷ bytes) = (omega arith, omega arith)
+layout-bounded (s ∷ ss) place [] = (omega arith, omega arith)
+layout-bounded (s ∷ ss) place (c ∷ more) =
+    cond-elim (Bounded (s ∷ ss) place (c ∷ more)) (leb c (s .limit))
+    (λ t. let small = mul-le-mul (leb-true c (s .limit) t) (le-refl (s .width)) in
+    cond-elim (Bounded (s ∷ ss) place (c ∷ more)) (leb (c * s .width) (length more))
+    (λ t′. withPart-bounded s ss place c more small (leb-true (c * s .width) (length more) t′) _ (layout-bounded ss (suc place + c * s .width) (drop (c * s .width) more)))
+    (λ f. (omega arith, omega (arith, small, leb-false (c * s .width) (length more) f))))
+    (λ f. (omega arith, omega arith))
+
+-- the bytes of a query and a place in it
+abbrev pub InQuery : List ℕ → ℕ → Type 0
+InQuery bytes place = (place ≤ length bytes) × (place ≤ 681)
+
+pub layout-place : (k : ℕ) (bytes : List ℕ) (place : ℕ) → layoutFault k bytes ≡ some place → InQuery bytes place
+unfolding layoutFault layoutOf faultIn
+layout-place k bytes place h = go (layoutOf bytes) (layout-bounded (sections (firstByte bytes)) 0 bytes) h
+  where
+    go : (l : Layout) → Bounded (sections (firstByte bytes)) 0 bytes l → faultIn k l ≡ some place → InQuery bytes place
+    go (faulty j p) b e = let q = keep-some (eqb j k) e in (omega (arith, b .0, q .1), omega (arith, b .1, q .1, most-bytes (firstByte bytes)))
+    go (parts ps) b e = absurd (none-some e)
+
+-- a query that is laid out has at most 681 bytes
+laid-short : (bytes : List ℕ) (ps : List (List ℕ)) → layoutOf bytes ≡ parts ps → length bytes ≤ 681
+unfolding layoutOf
+laid-short bytes ps e =
+    let b : length bytes ≤ most (sections (firstByte bytes)) = subst (Bounded (sections (firstByte bytes)) 0 bytes) e (layout-bounded (sections (firstByte bytes)) 0 bytes) in
+    omega (arith, b, most-bytes (firstByte bytes))
+
+role-place : (k place : ℕ) (roles : List Role) (bytes : List ℕ) (p : ℕ) → roleFault k place roles bytes ≡ some p → p < place + length bytes
+unfolding roleFault
+role-place k place [] bytes p h = absurd (none-some h)
+role-place k place (r ∷ roles) [] p h = absurd (none-some h)
+role-place k place (r ∷ roles) (b ∷ bytes) p h =
+    ⊎-elim
+    (λ e. let q = keep-some (eqb (r .refusal) k and not (r .allows b)) e in omega (arith, q .1))
+    (λ e. let ih = role-place k (suc place) roles bytes p (e .1) in omega arith)
+    (orElse-cases (keep (eqb (r .refusal) k and not (r .allows b)) place) (roleFault k (suc place) roles bytes) p h)
+
+-- refusals 5 to 8 are met only where 2 to 4 are not
+pub byte-place : (k : ℕ) (bytes : List ℕ) (place : ℕ) → ((j : ℕ) → 2 ≤ j → j ≤ 4 → layoutFault j bytes ≡ none) → byteFault k bytes ≡ some place → InQuery bytes place
+unfolding byteFault
+byte-place k bytes place passed h =
+    let p = role-place k 0 _ bytes place h in
+    let l = laid-out bytes passed in
+    (omega arith, omega (arith, laid-short bytes (l .0) (l .1)))

@@ -1,0 +1,160 @@
+-- The facts of a path stay true of a heap where what is joined or added is true of it, and the start is true of every heap that meets
+-- the query.
+use Prim.Native.Nat.{ℕ, zero, suc, _≤_, _<_, min, max}
+use native.Mathlib.Omega.{arith}
+use native.Mathlib.Nat.{min-eq-left, min-eq-right, max-eq-left, max-eq-right}
+use mathlib.Core.Path.{_≡_, refl, sym, ap, _∙_, subst, subst₂}
+use mathlib.Core.Logic.{⊎-elim}
+use mathlib.Core.Bool.{Bool, true, false, cond, false≢true}
+use mathlib.Core.List.{List, [], _∷_, List·Memᴰ, List·Memᴰ·head, List·Memᴰ·tail}
+use mathlib.Core.Option.{Option, none, some, Option·elim, Option·some-injective}
+use lib.Dec.{eqb}
+use Rattle.logic.specs.Search.{_and_, _or_}
+use Rattle.logic.specs.Query.{Literal, Query, entryOf, termCount}
+use Rattle.logic.specs.Heap.{Heap, Reaches, Meets, value}
+use Rattle.logic.specs.Facts.{Graph, Facts, terms, replaceIn, replace, successors, firstTwo, doubled, settle, join, addReach, linksOf, joinEach, reachEach, start}
+use Rattle.logic.specs.Rules.{Fact, equal, reaches, add}
+use Rattle.logic.proofs.Basics.Search.{none-some, and-left, and-right, or-cases, firstOf-some, select-mem}
+use Rattle.logic.proofs.Basics.Compare.{eqb-true, ltb-true, eq-cases, le-cases}
+use Rattle.logic.proofs.Query.Tied.{Accepted}
+use Rattle.logic.proofs.Paths.Replace.{sub, sub-hit, sub-miss, replaceIn-true}
+use Rattle.logic.proofs.Soundness.Value.{accepted-below, entry-term, value-link, signed-true}
+use Rattle.logic.proofs.Soundness.Truth.{Between, between, Same, Linked, Reached, TrueGraph, True, Holds, same-refl, between-same, rep-between}
+
+-- A term replaced by one of the same value
+module _ (val : ℕ → ℕ) (lo hi : ℕ) (same : Same val lo hi) where
+  sub-same : (x : ℕ) → 1 ≤ x → Same val (sub lo hi x) x
+  sub-same x l =
+      ⊎-elim
+      (λ e. subst₂ (Same val) (sym (sub-hit lo hi) ∙ ap (sub lo hi) (sym e)) (sym e) same)
+      (λ d. subst (λ (y : ℕ). Same val y x) (sym (sub-miss lo hi x (d .0))) (same-refl val x l))
+      (eq-cases x hi)
+
+  replaced-true : (R : ℕ → ℕ → Type 0) (F : ℕ → ℕ → Bool) → ((a b : ℕ) → F a b ≡ true → Between val R a b) → (a b : ℕ) → replaceIn lo hi F a b ≡ true → Between val R a b
+  replaced-true R F h a b e =
+      let p = replaceIn-true lo hi F a b e in
+      let r = h (p .0) (p .1) (p .2) in
+      subst₂ (Between val R) (p .3) (p .4) (between-same (sub-same (p .0) (r .left-term)) (sub-same (p .1) (r .right-term)) r)
+
+-- the two are among those listed
+firstTwo-mem : (xs : List ℕ) (ab : ℕ × ℕ) → firstTwo xs ≡ some ab → List·Memᴰ (ab .0) xs × List·Memᴰ (ab .1) xs
+unfolding firstTwo
+firstTwo-mem [] ab h = absurd (none-some h)
+firstTwo-mem (a ∷ []) ab h = absurd (none-some h)
+firstTwo-mem (a ∷ b ∷ rest) ab h =
+    subst (λ (p : ℕ × ℕ). List·Memᴰ (p .0) (a ∷ b ∷ rest) × List·Memᴰ (p .1) (a ∷ b ∷ rest)) (Option·some-injective (a, b) ab h) (List·Memᴰ·head refl, List·Memᴰ·tail (List·Memᴰ·head refl))
+
+module _ (f val : ℕ → ℕ) (n : ℕ) where
+  holds-replace : (lo hi : ℕ) → Same val lo hi → (s : Facts) → Holds f val s → Holds f val (replace lo hi s)
+  unfolding replace sub
+  holds-replace lo hi same s h =
+      record {
+        rep-true = λ t l. between-same (sub-same val lo hi same (s .rep t) (h .rep-true t l .left-term)) (same-refl val t l) (h .rep-true t l);
+        graph-true = record {
+          link-true = replaced-true val lo hi same (λ v w. f v ≡ w) (s .graph .link) (h .graph-true .link-true);
+          reach-true = replaced-true val lo hi same (Reaches f) (s .graph .reach) (h .graph-true .reach-true);
+        };
+      }
+
+  -- f has one value: two successors of a term are the same
+  doubled-same : (g : Graph) → TrueGraph f val g → (ab : ℕ × ℕ) → doubled n g ≡ some ab → Same val (ab .0) (ab .1)
+  unfolding doubled successors
+  doubled-same g h ab e =
+      let p = firstOf-some (λ t. firstTwo (successors n g t)) (terms n) ab e in
+      let m = firstTwo-mem (successors n g (p .0)) ab (p .2) in
+      let k = h .link-true (p .0) (ab .0) (select-mem (g .link (p .0)) (ab .0) (terms n) (m .0) .1) in
+      let l = h .link-true (p .0) (ab .1) (select-mem (g .link (p .0)) (ab .1) (terms n) (m .1) .1) in
+      between (k .right-term) (l .right-term) (sym (k .stands) ∙ l .stands)
+
+  holds-settle : (k : ℕ) (s : Facts) → Holds f val s → Holds f val (settle n k s)
+  unfolding settle Option·elim
+  holds-settle zero s h = h
+  holds-settle (suc k) s h =
+      go (doubled n (s .graph)) (λ ab e. holds-settle k (replace (ab .0) (ab .1) s) (holds-replace (ab .0) (ab .1) (doubled-same (s .graph) (h .graph-true) ab e) s h))
+    where
+      go : (o : Option (ℕ × ℕ)) → ((ab : ℕ × ℕ) → o ≡ some ab → Holds f val (settle n k (replace (ab .0) (ab .1) s))) → Holds f val (Option·elim o s (λ ab. settle n k (replace (ab .0) (ab .1) s)))
+      go none r = h
+      go (some ab) r = r ab refl
+
+  same-ordered : (a b : ℕ) → Same val a b → Same val (min a b) (max a b)
+  same-ordered a b p =
+      ⊎-elim
+      (λ l. subst₂ (Same val) (sym (min-eq-left l)) (sym (max-eq-right l)) p)
+      (λ l. subst₂ (Same val) (sym (min-eq-right (lt-le l))) (sym (max-eq-left (lt-le l)))
+      (between (p .right-term) (p .left-term) (sym (p .stands))))
+      (le-cases a b)
+    where
+      lt-le : {a b : ℕ} → a < b → a ≤ b
+      lt-le l = omega arith
+
+  -- what is done where a test passes
+  holds-cond : (b : Bool) (s t : Facts) → (b ≡ true → Holds f val s) → (b ≡ false → Holds f val t) → Holds f val (cond b s t)
+  holds-cond true s t p q = p refl
+  holds-cond false s t p q = q refl
+
+  pub holds-join : (a b : ℕ) → Same val a b → (s : Facts) → Holds f val s → Holds f val (join n a b s)
+  unfolding join
+  holds-join a b same s h =
+      holds-cond (eqb a b) s (settle n n (replace (min a b) (max a b) s)) (λ e. h)
+      (λ e. holds-settle n (replace (min a b) (max a b) s) (holds-replace (min a b) (max a b) (same-ordered a b same) s h))
+
+  pub holds-addReach : (a b : ℕ) → Reached f val a b → (s : Facts) → Holds f val s → Holds f val (addReach a b s)
+  unfolding addReach
+  holds-addReach a b r s h =
+      record {
+        rep-true = h .rep-true;
+        graph-true = record { link-true = h .graph-true .link-true; reach-true = λ x y e. ⊎-elim (h .graph-true .reach-true x y) (here x y) (or-cases (s .graph .reach x y) (eqb x a and eqb y b) e) };
+      }
+    where
+      here : (x y : ℕ) → eqb x a and eqb y b ≡ true → Reached f val x y
+      here x y e = subst₂ (Reached f val) (sym (eqb-true x a (and-left _ _ e))) (sym (eqb-true y b (and-right _ _ e))) r
+
+  pub holds-add : (c : Fact) → True f val c → (s : Facts) → Holds f val s → Holds f val (add n s c)
+  unfolding add
+  holds-add (equal a b) t s h = holds-join a b t s h
+  holds-add (reaches a b) t s h = holds-addReach a b t s h
+
+  -- literals that are true, read through `rep`
+  holds-joinEach : (ls : List Literal) → ((l : Literal) → List·Memᴰ l ls → l .plain ≡ true → Same val (l .left) (l .right)) → (s : Facts) → Holds f val s → Holds f val (joinEach n ls s)
+  unfolding joinEach
+  holds-joinEach [] p s h = h
+  holds-joinEach (l ∷ ls) p s h =
+      holds-joinEach ls (λ m i. p m (List·Memᴰ·tail i)) _
+      (holds-cond (l .plain) (join n (s .rep (l .left)) (s .rep (l .right)) s) s (λ e. holds-join _ _ (rep-between f val s h (p l (List·Memᴰ·head refl) e)) s h) (λ e. h))
+
+  holds-reachEach : (ls : List Literal) → ((l : Literal) → List·Memᴰ l ls → l .plain ≡ true → Reached f val (l .left) (l .right)) → (s : Facts) → Holds f val s → Holds f val (reachEach ls s)
+  unfolding reachEach
+  holds-reachEach [] p s h = h
+  holds-reachEach (l ∷ ls) p s h =
+      holds-reachEach ls (λ m i. p m (List·Memᴰ·tail i)) _
+      (holds-cond (l .plain) (addReach (s .rep (l .left)) (s .rep (l .right)) s) s (λ e. holds-addReach _ _ (rep-between f val s h (p l (List·Memᴰ·head refl) e)) s h) (λ e. h))
+
+module _ (q : Query) (ok : Accepted q) (h : Heap) where
+  abbrev val : ℕ → ℕ
+  val = value h (q .entries)
+
+  -- the value of f of a term is the link of that term's value
+  links-hold : Holds (h .link) val (linksOf (q .entries))
+  unfolding linksOf
+  links-hold =
+      record {
+        rep-true = same-refl val;
+        graph-true = record {
+          link-true = λ a b e. linked a b (ltb-true 0 a (and-left _ _ e)) (eqb-true (entryOf (q .entries) b) a (and-right _ _ e));
+          reach-true = λ a b e. absurd (false≢true e);
+        };
+      }
+    where
+      linked : (a b : ℕ) → 1 ≤ a → entryOf (q .entries) b ≡ a → Linked (h .link) val a b
+      linked a b l e =
+          let one : 1 ≤ entryOf (q .entries) b = omega arith in
+          between l (entry-term (q .entries) b one)
+          (ap (λ (t : ℕ). h .link (val t)) (sym e) ∙ sym (value-link h (q .entries) (accepted-below q ok) b one))
+
+  pub start-holds : Meets h q → Holds (h .link) (value h (q .entries)) (start q)
+  unfolding start
+  start-holds m =
+      let n = termCount q in
+      holds-reachEach (h .link) val n (q .reachability) (λ l i e. let t = ok .reach-terms l i in between (t .0 .0) (t .1 .0) (signed-true (l .plain) e (m .reachability l i))) _
+      (holds-joinEach (h .link) val n (q .equalities) (λ l i e. let t = ok .equal-terms l i in between (t .0 .0) (t .1 .0) (signed-true (l .plain) e (m .equalities l i))) _
+      (holds-settle (h .link) val n n (linksOf (q .entries)) links-hold))

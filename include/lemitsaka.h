@@ -1,0 +1,101 @@
+/* Lemitsaka, the list prover: its calls for C and C++.
+ *
+ *     rt staticlib lemitsaka
+ *     cc -Iinclude yours.c target/staticlib/liblemitsaka.a
+ *
+ * examples/c/verdict.c is a whole program. README.md has the bytes of a query, of a report and of a derivation.
+ *
+ * Every slice is a pointer and a length in bytes:
+ *
+ *   order    the order in which the rules are tried: eight bytes, each of 1 to 8 once
+ *   query    the statements, at most 681 bytes
+ *   report, buffer    lent to the call, which writes every byte of it, whatever it answers
+ *
+ * Any bytes and any lengths will do: what is no order list or no query is refused. What the library cannot see for itself,
+ * the caller vouches for:
+ *
+ *   - each pointer leads to as many bytes as its length says; no pointer is null, not even with length 0;
+ *   - the lent bytes overlap neither the order list nor the query (which may overlap each other), and no other thread uses
+ *     them during the call.
+ *
+ * The calls keep nothing: no statics, no heap memory, no locks, no input or output. They may run in several threads at a
+ * time. A call needs less than 900 kB of stack. It always returns; but queries of many terms can be made, on purpose or by an
+ * order list that does not suit them, whose walk takes minutes and more.
+ *
+ * The answer is one number. Below 65,536 it is the call's own answer; else the call was refused, and it is the refusal's
+ * number times 65,536, plus its place, counted from 0 in the query. After a refusal all of the lent bytes are zero.
+ */
+#ifndef LEMITSAKA_H
+#define LEMITSAKA_H
+
+#include <stddef.h>
+#include <stdint.h>
+
+#ifdef __cplusplus
+extern "C" {
+#endif
+
+/* The calls' own answers. */
+#define LEMITSAKA_SATISFIABLE 0
+#define LEMITSAKA_REFUTED 1
+
+/* The bytes of an order list; the most bytes of a query and of a heap report; and the bytes that hold every derivation. */
+#define LEMITSAKA_ORDER_SIZE 8
+#define LEMITSAKA_QUERY_SIZE 681
+#define LEMITSAKA_REPORT_SIZE 53
+#define LEMITSAKA_DERIVATION_SIZE 64002
+
+/* The number of the refusal in an answer, or 0 where the call was not refused:
+ *
+ *    1  the order list is not eight bytes with each of 1 to 8 once
+ *    2  the query ends before a count or inside a section (place: its length)
+ *    3  a count is above its section's limit (place: that count)
+ *    4  bytes follow section 5 (place: the first of them)
+ *    5  a term byte is not below its own term's number (place: that byte, here and in 6 to 8)
+ *    6  a sign is neither 0 nor 1
+ *    7  a term number in sections 2 to 4 is 0 or above the term count
+ *    8  a field or boolean number is not 1 to 8
+ *    9  the report has fewer than 53 bytes
+ *   10  a path would need more rule steps than n times n plus n, n being the term count
+ *   11  a derivation was asked for and the query is satisfiable
+ *   12  the derivation has more than 16,000 lines, or its buffer cannot hold it
+ *
+ * The place is 0 for 1 and 9 to 12. */
+static inline unsigned lemitsaka_refusal(uint64_t answer)
+{
+    return (unsigned)(answer / 65536 % 65536);
+}
+
+/* The place of the refusal in an answer. */
+static inline unsigned lemitsaka_place(uint64_t answer)
+{
+    return (unsigned)(answer % 65536);
+}
+
+/* Is there a heap that meets every literal of the query?
+ *
+ *   LEMITSAKA_SATISFIABLE   there is, and the report shows one; the bytes past it are zero
+ *   LEMITSAKA_REFUTED       there is none, of any size; the report is all zero
+ *   refused                 1 to 10; 9 unless the report has LEMITSAKA_REPORT_SIZE bytes or more
+ *
+ * A report: the count of nodes and the successor of each; the count of terms and the node of each; the count of nodes and
+ * a byte of data for each, field j in bit j-1; a 1 and one byte of booleans, likewise. Nodes and terms count from 1. */
+uint64_t lemitsaka_verdict(const uint8_t *order, size_t order_len,
+                           const uint8_t *query, size_t query_len,
+                           uint8_t *report, size_t report_len);
+
+/* Why is there no heap that meets every literal of the query?
+ *
+ *   LEMITSAKA_REFUTED       the derivation is in the buffer; the bytes past it are zero
+ *   refused                 1 to 8 and 10 to 12; 11 where there is such a heap. Never LEMITSAKA_SATISFIABLE
+ *
+ * A derivation: the count of lines in two bytes, high byte first, then four bytes a line. */
+uint64_t lemitsaka_derivation(const uint8_t *order, size_t order_len,
+                              const uint8_t *query, size_t query_len,
+                              uint8_t *buffer, size_t buffer_len);
+
+#ifdef __cplusplus
+}
+#endif
+
+#endif
