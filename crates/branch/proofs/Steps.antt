@@ -1,23 +1,21 @@
 -- What the code's steps come to, by the cases of its enums.
-use Prim.Native.Nat.{ℕ, zero, suc, _+_, _-_, _≤_, _<_}
+use Prim.Native.Nat.{ℕ, _-_, _≤_}
 use native.Mathlib.Omega.{arith}
-use mathlib.Core.Path.{_≡_, refl, sym, ap, _∙_, subst}
+use mathlib.Core.Path.{_≡_, refl, sym, ap, _∙_}
 use mathlib.Core.List.{List}
-use mathlib.Core.Option.{Option, none, some, Option·getD}
 use mathlib.Core.Bool.{Bool, cond}
 use lib.Dec.{eqb}
 use borrow.Author.Tests.{eq-eqb, ne-eqb}
-use Rattle.logic.proofs.Basics.Search.{find-some, from-mem}
 use Rattle.rules.specs.declared.Rule as rules
 use Rattle.rules.specs.Answers.{kindOf}
+use Rattle.rules.specs.Cycle.{stepsTo}
+use Rattle.rules.proofs.Around.{steps-never, iterate-le}
 use Rattle.branch.specs.Alternatives.{alternativeAt}
-use Rattle.logic.specs.Search.{from, find}
 use Rattle.logic.specs.Heap.{iterate}
-use Rattle.logic.specs.Facts.{Graph, Facts, terms, join, addReach}
-use Rattle.logic.specs.Rules.{Rule, REFLEX, TRANS1, TRANS2, FUNC, CYCLE, SCC, TOTAL, SHARE, Fact, equal, reaches, next, add}
-use Rattle.facts.specs.Square.{square}
+use Rattle.logic.specs.Facts.{Graph, Facts, join, addReach}
+use Rattle.logic.specs.Rules.{Rule, REFLEX, TRANS1, TRANS2, FUNC, CYCLE, SCC, TOTAL, SHARE, Fact, next, add}
 use Rattle.facts.specs.Path.{linksIn, graphOf, pathOf}
-use Rattle.branch.specs.Answers.{factOf, InRange}
+use Rattle.branch.specs.Answers.{factOf}
 use Rattle.branch.specs.declared.Fact as code
 use Rattle.branch.specs.declared.Fact.the-variants as fact
 use Rattle.facts.specs.declared.Term.{Term}
@@ -31,34 +29,13 @@ pub added-reaches : (n : ℕ) (f : code.Fact) (a b : Term) (s p : Facts) → f �
 unfolding add
 added-reaches n f a b s p e h = h ∙ ap (λ (x : code.Fact). add n s (factOf x)) (sym e)
 
--- a successor is one of the terms up to n, or 0
-pub next-bound : (n : ℕ) (g : Graph) (t : ℕ) → n ≤ 16 → next n g t ≤ 16
-unfolding next terms
-next-bound n g t l = go (find (g .link t) (from n 1)) refl
-  where
-    go : (o : Option ℕ) → find (g .link t) (from n 1) ≡ o → Option·getD (find (g .link t) (from n 1)) 0 ≤ 16
-    go none e = rw e (omega arith)
-    go (some b) e =
-        let r = from-mem n 1 b (find-some (g .link t) (from n 1) b e .0) in
-        rw e (omega arith)
+-- the term that all i links lead to: 17 is met on no way
+pub followed : (n : ℕ) (g : Graph) (c i s t : ℕ) → n ≤ 16 → c ≤ 16 → s ≡ stepsTo n g 17 i c → t ≡ iterate (next n g) s c → (t ≡ iterate (next n g) i c) × (t ≤ 16)
+followed n g c i s t h l e f = (f ∙ ap (λ (k : ℕ). iterate (next n g) k c) (e ∙ steps-never n g 17 (omega arith) i c (omega arith)), rw f (iterate-le n g s c 16 h l))
 
--- one link more
-pub follow-turn : (f : ℕ → ℕ) (left t u : ℕ) → 0 < left → u ≡ f t → iterate f left t ≡ iterate f (left - 1) u
-unfolding iterate
-follow-turn f zero t u h e = absurd (omega arith)
-follow-turn f (suc k) t u h e = ap (iterate f k) (sym e) ∙ ap (λ (j : ℕ). iterate f j u) (sym k-is)
-  where
-    k-is : suc k - 1 ≡ k
-    k-is = omega arith
-
-pub follow-end : (f : ℕ → ℕ) (left t : ℕ) → left ≤ 0 → iterate f left t ≡ t
-unfolding iterate
-follow-end f zero t h = refl
-follow-end f (suc k) t h = absurd (omega arith)
-
--- what a rule comes to, where the rule is known
-pub known-rule : (r r′ : rules.Rule) (n : ℕ) (g : Graph) (x y z i : ℕ) (f : Fact) → r ≡ r′ → f ≡ alternativeAt n g (kindOf r′) x y z i → f ≡ alternativeAt n g (kindOf r) x y z i
-known-rule r r′ n g x y z i f e h = h ∙ ap (λ (k : rules.Rule). alternativeAt n g (kindOf k) x y z i) (sym e)
+-- what a rule comes to, where the rule is known, and the third number as a term
+pub known-rule : (r r′ : rules.Rule) (n : ℕ) (g : Graph) (x y z t i : ℕ) (f : Fact) → r ≡ r′ → t ≡ z → f ≡ alternativeAt n g (kindOf r′) x y t i → f ≡ alternativeAt n g (kindOf r) x y z i
+known-rule r r′ n g x y z t i f e q h = h ∙ ap (λ (k : rules.Rule). alternativeAt n g (kindOf k) x y t i) (sym e) ∙ ap (λ (u : ℕ). alternativeAt n g (kindOf r) x y u i) q
 
 pub first-of-two : (i : ℕ) (f e : Fact) → i ≡ 0 → f ≡ cond (eqb i 0) f e
 first-of-two i f e h = rw (eq-eqb i 0 h)

@@ -1,15 +1,11 @@
 // The branches of a rule: its alternatives, left to right, each joined or added.
 use facts::Facts;
-use facts::Found;
 use facts::Term;
 use rules::Rule;
+use rules::Third;
 ghost use mathlib.Core.Path.{_≡_};
-ghost use mathlib.Core.List.{List};
-ghost use Prim.Native.Nat.{ℕ, _+_, _≤_, _<_};
-ghost use lib.ListN.{length, getD};
-ghost use Rattle.logic.specs.Heap.{iterate};
-ghost use Rattle.logic.specs.Facts.{addReach};
-ghost use Rattle.logic.specs.Rules.{next, alternatives, add, move, triple, branches, reaches};
+ghost use Prim.Native.Nat.{_≤_};
+ghost use Rattle.logic.specs.Rules.{alternatives, add, triple, branches};
 ghost use Rattle.facts.specs.Path.{pathOf, linksIn};
 ghost use Rattle.rules.specs.Answers.{kindOf};
 ghost use Rattle.branch.specs.Answers.{factOf, InRange};
@@ -22,70 +18,61 @@ pub enum Fact {
 }
 
 // How many alternatives a rule has, z being the third number of its triple.
-pub fn count(rule: Rule, z: usize) -> usize
-    ensures { λ r. ⌜ r ≡ countOf (kindOf rule) z ⌝ }
+pub fn count(rule: Rule, z: Third) -> usize
+    ensures { λ r. ⌜ r ≡ countOf (kindOf rule) (z .0) ⌝ }
 {
     match rule {
         Rule::Reflex => 1,
         Rule::Trans1 => 1,
         Rule::Trans2 => 1,
         Rule::Func => 2,
-        Rule::Cycle => z,
+        Rule::Cycle => z.0,
         Rule::Scc => 2,
         Rule::Total => 2,
         Rule::Share => 1,
     }
 }
 
-// The term that i links from c lead to.
-fn follow(link: &[bool; 289], n: usize, c: Term, i: usize) -> Term
-    requires { ⌜ (n ≤ 16) × (c .0 ≤ 16) ⌝ }
-    ensures { λ r. ⌜ (r .0 ≡ iterate (next n (linksIn (now (link .entry)))) i (c .0)) × (r .0 ≤ 16) ⌝ }
-{
-    let mut t = c;
-    let mut left = i;
-    while 0 < left {
-        t = rules::next(link, n, t);
-        left -= 1;
-    }
-    t
-}
-
-// The alternative of a rule at i, from 0.
+// The alternative of a rule at i, from 0. That of CYCLE is the term i links on from x: 17 is no term, so that all i are followed.
 fn alternative(
     link: &[bool; 289],
     n: usize,
     rule: Rule,
     x: Term,
     y: Term,
-    z: usize,
+    z: Third,
     i: usize,
 ) -> Fact
-    requires { ⌜ (n ≤ 16) × (x .0 ≤ 16) × (y .0 ≤ 16) × (z ≤ 16) ⌝ }
-    ensures { λ r. ⌜ (factOf r ≡ alternativeAt n (linksIn (now (link .entry))) (kindOf rule) (x .0) (y .0) z i) × InRange r ⌝ }
+    requires { ⌜ (n ≤ 16) × (x .0 ≤ 16) × (y .0 ≤ 16) × (z .0 ≤ 16) ⌝ }
+    ensures { λ r. ⌜ (factOf r ≡ alternativeAt n (linksIn (now (link .entry))) (kindOf rule) (x .0) (y .0) (z .0) i) × InRange r ⌝ }
 {
+    let t = rules::third_term(z);
     match rule {
         Rule::Reflex => Fact::Reaches(x, x),
         Rule::Trans1 => Fact::Reaches(x, y),
-        Rule::Trans2 => Fact::Reaches(x, Term(z)),
+        Rule::Trans2 => Fact::Reaches(x, t),
         Rule::Func => {
             if i == 0 {
-                return Fact::Equal(x, Term(z));
+                return Fact::Equal(x, t);
             }
-            Fact::Reaches(y, Term(z))
+            Fact::Reaches(y, t)
         }
-        Rule::Cycle => Fact::Equal(y, follow(link, n, x, i)),
+        Rule::Cycle => {
+            let round = rules::follow(link, n, x, Term(17), i);
+            let u = round.term;
+            Fact::Equal(y, u)
+        }
         Rule::Scc => {
             if i == 0 {
                 return Fact::Equal(x, y);
             }
-            Fact::Reaches(Term(z), x)
+            Fact::Reaches(t, x)
         }
         Rule::Total => {
             if i == 0 {
-                return Fact::Reaches(y, Term(z));
+                return Fact::Reaches(y, t);
             }
-            Fact::Reaches(Term(z), y)
+            Fact::Reaches(t, y)
         }
         Rule::Share => Fact::Equal(x, y),
     }
@@ -103,9 +90,9 @@ fn added(s: Facts, n: usize, fact: Fact) -> Facts
 }
 
 // The branch of a rule at i, from 0.
-pub fn branch(s: Facts, n: usize, rule: Rule, x: Term, y: Term, z: usize, i: usize) -> Facts
-    requires { ⌜ (n ≤ 16) × (x .0 ≤ 16) × (y .0 ≤ 16) × (z ≤ 16) ⌝ }
-    ensures { λ r. ⌜ pathOf r ≡ add n (pathOf s) (alternativeAt n (pathOf s .graph) (kindOf rule) (x .0) (y .0) z i) ⌝ }
+pub fn branch(s: Facts, n: usize, rule: Rule, x: Term, y: Term, z: Third, i: usize) -> Facts
+    requires { ⌜ (n ≤ 16) × (x .0 ≤ 16) × (y .0 ≤ 16) × (z .0 ≤ 16) ⌝ }
+    ensures { λ r. ⌜ pathOf r ≡ add n (pathOf s) (alternativeAt n (pathOf s .graph) (kindOf rule) (x .0) (y .0) (z .0) i) ⌝ }
 {
     let fact = alternative(&s.link, n, rule, x, y, z, i);
     added(s, n, fact)

@@ -1,23 +1,26 @@
 -- The one count of steps at which CYCLE can apply.
 use Prim.Native.Nat.{ℕ, zero, suc, _+_, _-_, _≤_, _<_}
 use native.Mathlib.Omega.{arith}
+use native.Mathlib.Numerals.{add-one}
 use native.Mathlib.Nat.{eq-or-lt-of-le}
 use mathlib.Core.Path.{_≡_, refl, sym, ap, _∙_}
 use mathlib.Core.Logic.{⊎-elim}
 use mathlib.Core.Bool.{Bool, true, false, not, cond}
-use mathlib.Core.List.{List, [], _∷_, map}
-use mathlib.Core.Option.{Option, none, some, Option·getD}
+use mathlib.Core.List.{List, map}
+use mathlib.Core.Option.{Option, none, some}
 use lib.Dec.{eqb, ltb}
 use borrow.Author.Tests.{eq-eqb, ne-eqb, lt-ltb, le-ltb}
 use Rattle.logic.specs.Search.{_and_, _or_, from, keep, any, orElse, firstOf, find}
+use Rattle.logic.specs.Heap.{iterate}
 use Rattle.logic.specs.Facts.{Graph, terms}
-use Rattle.logic.specs.Rules.{Rule, CYCLE, Triple, triple, Move, move, Fact, equal, next, returns, round, conditions, alternatives, held}
+use Rattle.logic.specs.Rules.{Rule, CYCLE, triple, move, equal, next, returns, round, conditions, alternatives, held}
+use Rattle.logic.proofs.Basics.Compare.{eq-cases, le-cases}
 use Rattle.logic.proofs.Basics.Search.{firstOf-empty, from-mem}
 use Rattle.facts.specs.Path.{graphOf, linksIn}
 use Rattle.facts.proofs.Successors.{found-in}
 use Rattle.rules.specs.Tests.{looped}
 use Rattle.rules.proofs.Nested.{not-looped}
-use Rattle.rules.specs.Cycle.{oneMore, stepsBack, among, cycleThird}
+use Rattle.rules.specs.Cycle.{stepsTo, cycleThird}
 use Rattle.rules.specs.Smallest.{allowed, inThird}
 
 -- the successor of a term, as a search finds it
@@ -57,106 +60,87 @@ module _ {B : Type 0} (f : ℕ → Option B) (m k : ℕ) (only : (i : ℕ) → i
       here : i ≡ k → orElse (f i) (firstOf f (from j (suc i))) ≡ f k
       here e = rw e (alone (f k) (none-after e))
 
+eqb-suc : (a b : ℕ) → eqb (suc a) (suc b) ≡ eqb a b
+eqb-suc a b = ⊎-elim (λ e. eq-eqb (suc a) (suc b) (ap suc e) ∙ sym (eq-eqb a b e)) (λ d. ne-eqb (suc a) (suc b) (λ q. d .0 (omega arith)) ∙ sym (d .1)) (eq-cases a b)
+
+ltb-suc : (a b : ℕ) → ltb (suc a) (suc b) ≡ ltb a b
+ltb-suc a b = ⊎-elim (λ h. le-ltb (suc a) (suc b) (omega arith) ∙ sym (le-ltb a b h)) (λ h. lt-ltb (suc a) (suc b) (omega arith) ∙ sym (lt-ltb a b h)) (le-cases b a)
+
 module _ (n : ℕ) (g : Graph) (x : ℕ) where
-  oneMore-le : (a b : ℕ) → a ≤ b → oneMore a ≤ suc b
-  unfolding oneMore
-  oneMore-le zero b h = omega arith
-  oneMore-le (suc a) b h = omega arith
+  -- no step is made where none is left, or where x is; else one, and those from the next term on
+  pub steps-none : (left c : ℕ) → left ≡ 0 → stepsTo n g x left c ≡ 0
+  unfolding stepsTo
+  steps-none left c e = rw e
 
-  pub steps-le : (left c : ℕ) → stepsBack n g x left c ≤ left
-  unfolding stepsBack
-  steps-le zero c = omega arith
-  steps-le (suc left) c = go (eqb (next n g c) x) (steps-le left (next n g c))
+  pub steps-here : (left c : ℕ) → c ≡ x → stepsTo n g x left c ≡ 0
+  unfolding stepsTo
+  steps-here zero c e = refl
+  steps-here (suc left) c e = rw (eq-eqb c x e)
+
+  pub steps-on : (left c : ℕ) → (left ≡ 0 → ⊥) → (c ≡ x → ⊥) → stepsTo n g x left c ≡ stepsTo n g x (left - 1) (next n g c) + 1
+  unfolding stepsTo
+  steps-on zero c h e = absurd (h refl)
+  steps-on (suc left) c h e = rw (ne-eqb c x e, less, sym (add-one (stepsTo n g x left (next n g c))))
     where
-      go : (t : Bool) → stepsBack n g x left (next n g c) ≤ left → cond t 1 (oneMore (stepsBack n g x left (next n g c))) ≤ suc left
-      go true h = omega arith
-      go false h = oneMore-le _ left h
+      less : suc left - 1 ≡ left
+      less = omega arith
 
-  -- the links lead back after that many steps, and after no other number of them
-  returns-tail : (k d s : ℕ) → (suc k ≡ oneMore s → ⊥) → ((k ≡ s → ⊥) → returns n g x k d ≡ false) → returns n g x k d ≡ false
-  unfolding returns oneMore
-  returns-tail zero d s e ih = refl
-  returns-tail (suc k) d s e ih = ih (λ q. e (rw (← q)))
+  steps-le : (left c : ℕ) → stepsTo n g x left c ≤ left
+  unfolding stepsTo
+  steps-le zero c = omega arith
+  steps-le (suc left) c = go (eqb c x) (steps-le left (next n g c))
+    where
+      go : (t : Bool) → stepsTo n g x left (next n g c) ≤ left → cond t 0 (suc (stepsTo n g x left (next n g c))) ≤ suc left
+      go true h = omega arith
+      go false h = omega arith
+
+  pub steps-bound : (left c s : ℕ) → s ≡ stepsTo n g x left c → s ≤ left
+  steps-bound left c s e = let l = steps-le left c in omega arith
+
+  -- to a number that is no term the links never lead
+  pub steps-never : n < x → (left c : ℕ) → c < x → stepsTo n g x left c ≡ left
+  unfolding stepsTo
+  steps-never h zero c l = refl
+  steps-never h (suc left) c l = rw (ne-eqb c x (omega arith)) (ap suc (steps-never h left (next n g c) (let b = next-le n g c in omega arith)))
+
+  -- the links from c lead to x after as many steps as lead there from the next term, and one; not after any other number of them
+  returns-is : (left k c : ℕ) → k < left → returns n g x (suc k) c ≡ eqb k (stepsTo n g x left (next n g c))
+  unfolding returns stepsTo
+  returns-is zero k c h = absurd (omega arith)
+  returns-is (suc left) zero c h = go (eqb (next n g c) x)
+    where
+      go : (t : Bool) → cond t true false ≡ eqb 0 (cond t 0 (suc (stepsTo n g x left (next n g (next n g c)))))
+      go true = refl
+      go false = sym (ne-eqb 0 (suc (stepsTo n g x left (next n g (next n g c)))) (λ (e : 0 ≡ suc (stepsTo n g x left (next n g (next n g c)))). omega arith))
+  returns-is (suc left) (suc k) c h = go (eqb (next n g c) x) (returns-is left k (next n g c) (omega arith))
+    where
+      go : (t : Bool) → returns n g x (suc k) (next n g c) ≡ eqb k (stepsTo n g x left (next n g (next n g c))) → cond t (eqb (suc k) 0) (returns n g x (suc k) (next n g c)) ≡ eqb (suc k) (cond t 0 (suc (stepsTo n g x left (next n g (next n g c)))))
+      go true ih = refl
+      go false ih = ih ∙ sym (eqb-suc k _)
 
   returns-zero : (c : ℕ) → returns n g x 0 c ≡ false
   unfolding returns
   returns-zero c = refl
 
-  returns-not : (left k c : ℕ) → k ≤ left → (k ≡ stepsBack n g x left c → ⊥) → returns n g x k c ≡ false
-  unfolding returns stepsBack
-  returns-not left zero c h e = refl
-  returns-not zero (suc k) c h e = absurd (omega arith)
-  returns-not (suc left) (suc k) c h e = go (eqb (next n g c) x) e (returns-not left k (next n g c) (omega arith))
+  returns-not : (left k c : ℕ) → k ≤ left → (k ≡ stepsTo n g x left (next n g c) + 1 → ⊥) → returns n g x k c ≡ false
+  returns-not left zero c h e = returns-zero c
+  returns-not left (suc k) c h e = returns-is left k c (omega arith) ∙ ne-eqb k _ (λ q. e (omega arith))
+
+  returns-at : (left k c : ℕ) → k ≤ left → k ≡ stepsTo n g x left (next n g c) + 1 → returns n g x k c ≡ true
+  returns-at left zero c h e = absurd (omega arith)
+  returns-at left (suc k) c h e = returns-is left k c (omega arith) ∙ eq-eqb k _ (omega arith)
+
+  -- x is one of the k terms from c on exactly where fewer than k steps lead there
+  pub round-is : (k c : ℕ) → any (held g) (map (equal x) (round n g k c)) ≡ ltb (stepsTo n g x k c) k
+  unfolding any round held _or_ stepsTo
+  round-is zero c = refl
+  round-is (suc k) c = ⊎-elim here (λ d. there (d .0) (round-is k (next n g c))) (eq-cases c x)
     where
-      go : (t : Bool) → (suc k ≡ cond t 1 (oneMore (stepsBack n g x left (next n g c))) → ⊥) → ((k ≡ stepsBack n g x left (next n g c) → ⊥) → returns n g x k (next n g c) ≡ false) → cond t (eqb k 0) (returns n g x k (next n g c)) ≡ false
-      go true e ih = ne-eqb k 0 (λ q. e (omega arith))
-      go false e ih = returns-tail k (next n g c) (stepsBack n g x left (next n g c)) e ih
+      here : c ≡ x → (eqb x c or any (held g) (map (equal x) (round n g k (next n g c)))) ≡ ltb (cond (eqb c x) 0 (suc (stepsTo n g x k (next n g c)))) (suc k)
+      here e = rw (eq-eqb c x e, eq-eqb x c (sym e)) (sym (lt-ltb 0 (suc k) (omega arith)))
 
-  returns-more : (c s : ℕ) → eqb (next n g c) x ≡ false → 1 ≤ oneMore s → (1 ≤ s → returns n g x s (next n g c) ≡ true) → returns n g x (oneMore s) c ≡ true
-  unfolding returns oneMore
-  returns-more c zero e h ih = absurd (omega arith)
-  returns-more c (suc s) e h ih = rw e (ih (omega arith))
-
-  returns-at : (left c : ℕ) → 1 ≤ stepsBack n g x left c → returns n g x (stepsBack n g x left c) c ≡ true
-  unfolding returns stepsBack
-  returns-at zero c h = absurd (omega arith)
-  returns-at (suc left) c h = go (eqb (next n g c) x) refl h (returns-at left (next n g c))
-    where
-      go : (t : Bool) → eqb (next n g c) x ≡ t → 1 ≤ cond t 1 (oneMore (stepsBack n g x left (next n g c))) → (1 ≤ stepsBack n g x left (next n g c) → returns n g x (stepsBack n g x left (next n g c)) (next n g c) ≡ true) → returns n g x (cond t 1 (oneMore (stepsBack n g x left (next n g c)))) c ≡ true
-      go true e h ih = rw e (eq-eqb 0 0 refl)
-      go false e h ih = returns-more c _ e h ih
-
-  -- links that stay where they are lead nowhere else
-  pub steps-stay : (left c : ℕ) → next n g c ≡ c → (c ≡ x → ⊥) → stepsBack n g x left c ≡ 0
-  unfolding stepsBack oneMore
-  steps-stay zero c e m = refl
-  steps-stay (suc left) c e m = rw (e, ne-eqb c x m, steps-stay left c e m)
-
-  pub steps-none : (left c : ℕ) → left ≤ 0 → stepsBack n g x left c ≡ 0
-  unfolding stepsBack
-  steps-none zero c h = refl
-  steps-none (suc left) c h = absurd (omega arith)
-
-  pub steps-here : (left c : ℕ) → 0 < left → next n g c ≡ x → stepsBack n g x left c ≡ 1
-  unfolding stepsBack
-  steps-here zero c h e = absurd (omega arith)
-  steps-here (suc left) c h e = rw (eq-eqb _ _ e)
-
-  pub steps-on : (left c : ℕ) → 0 < left → (next n g c ≡ x → ⊥) → stepsBack n g x left c ≡ oneMore (stepsBack n g x (left - 1) (next n g c))
-  unfolding stepsBack
-  steps-on zero c h e = absurd (omega arith)
-  steps-on (suc left) c h e = rw (ne-eqb _ _ e, less)
-    where
-      less : suc left - 1 ≡ left
-      less = omega arith
-
-pub oneMore-zero : (k : ℕ) → k ≡ 0 → oneMore k ≡ 0
-unfolding oneMore
-oneMore-zero k e = rw e
-
-pub oneMore-suc : (k : ℕ) → (k ≡ 0 → ⊥) → oneMore k ≡ k + 1
-unfolding oneMore
-oneMore-suc zero e = absurd (e refl)
-oneMore-suc (suc k) e = omega arith
-
-module _ (n : ℕ) (g : Graph) (y : ℕ) where
-  pub among-none : (k c : ℕ) → k ≤ 0 → among n g y k c ≡ false
-  unfolding among round any
-  among-none zero c h = refl
-  among-none (suc k) c h = absurd (omega arith)
-
-  pub among-here : (k c : ℕ) → 0 < k → y ≡ c → among n g y k c ≡ true
-  unfolding among round any held _or_
-  among-here zero c h e = absurd (omega arith)
-  among-here (suc k) c h e = rw (eq-eqb y c e)
-
-  pub among-next : (k c : ℕ) → 0 < k → (y ≡ c → ⊥) → among n g y k c ≡ among n g y (k - 1) (next n g c)
-  unfolding among round any held _or_
-  among-next zero c h e = absurd (omega arith)
-  among-next (suc k) c h e = rw (ne-eqb y c e, less)
-    where
-      less : suc k - 1 ≡ k
-      less = omega arith
+      there : (c ≡ x → ⊥) → any (held g) (map (equal x) (round n g k (next n g c))) ≡ ltb (stepsTo n g x k (next n g c)) k → (eqb x c or any (held g) (map (equal x) (round n g k (next n g c)))) ≡ ltb (cond (eqb c x) 0 (suc (stepsTo n g x k (next n g c)))) (suc k)
+      there e ih = rw (ne-eqb c x e, ne-eqb x c (λ q. e (sym q))) (ih ∙ sym (ltb-suc _ k))
 
 -- CYCLE at x and y
 module _ (n : ℕ) (alive : ℕ → Bool) (g : Graph) (x y : ℕ) where
@@ -172,47 +156,55 @@ module _ (n : ℕ) (alive : ℕ → Bool) (g : Graph) (x y : ℕ) where
       go true k = rw e
       go false k = refl
 
-  pub cycle-open : stepsBack n g x n x ≡ 0 → inThird n alive g CYCLE x y ≡ none
+  -- the links do not return to x within n steps
+  pub cycle-open : n < stepsTo n g x n (next n g x) + 1 → inThird n alive g CYCLE x y ≡ none
   unfolding inThird
-  cycle-open e = firstOf-empty _ _ (λ k m. cycle-not k (go k (from-mem _ _ k m)))
-    where
-      go : (k : ℕ) → (0 ≤ k) × (k < 0 + (n + 1 - 0)) → returns n g x k x ≡ false
-      go zero h = returns-zero n g x x
-      go (suc k) h = returns-not n g x n (suc k) x (omega arith) (λ q. omega arith)
+  cycle-open h = firstOf-empty _ _ (λ k m. cycle-not k (let b = from-mem _ _ k m in returns-not n g x n k x (omega arith) (λ q. omega arith)))
 
   -- the links return to x after k steps: CYCLE can apply at k alone
-  module _ (k : ℕ) (q : k ≡ stepsBack n g x n x) (h : k ≡ 0 → ⊥) where
+  module _ (k : ℕ) (q : k ≡ stepsTo n g x n (next n g x) + 1) (h : k ≤ n) where
     cycle-at : inThird n alive g CYCLE x y ≡ keep (allowed n alive g (move CYCLE (triple x y k))) (triple x y k)
     unfolding inThird
-    cycle-at =
-        let l = steps-le n g x n x in
-        first-only _ (n + 1) k (λ i b e. cycle-not i (returns-not n g x n i x (omega arith) (λ p. e (p ∙ sym q)))) (n + 1 - 0) 0 (omega arith) (omega arith) (omega arith)
+    cycle-at = first-only _ (n + 1) k (λ i b e. cycle-not i (returns-not n g x n i x (omega arith) (λ p. e (p ∙ sym q)))) (n + 1 - 0) 0 (omega arith) (omega arith) (omega arith)
 
-    pub cycle-held : among n g y k x ≡ true → inThird n alive g CYCLE x y ≡ none
-    unfolding among allowed conditions alternatives keep _and_
-    cycle-held e = cycle-at ∙ rw e (go (returns n g x k x and g .reach x y))
+    pub cycle-held : stepsTo n g y k x < k → inThird n alive g CYCLE x y ≡ none
+    unfolding allowed conditions alternatives keep _and_
+    cycle-held l = cycle-at ∙ rw (round-is n g y k x ∙ lt-ltb _ _ l) (go (returns n g x k x and g .reach x y))
       where
         go : (t : Bool) → keep (t and false) (triple x y k) ≡ none
         go true = refl
         go false = refl
 
-    pub cycle-free : g .reach x y ≡ true → among n g y k x ≡ false → inThird n alive g CYCLE x y ≡ some (triple x y k)
-    unfolding among allowed conditions alternatives keep _and_
-    cycle-free r e =
-        let b : returns n g x k x ≡ true = rw q (returns-at n g x n x (omega arith)) in
-        cycle-at ∙ rw (e, b, r)
+    pub cycle-free : g .reach x y ≡ true → k ≤ stepsTo n g y k x → inThird n alive g CYCLE x y ≡ some (triple x y k)
+    unfolding allowed conditions alternatives keep _and_
+    cycle-free r l = cycle-at ∙ rw (round-is n g y k x ∙ le-ltb _ _ l, returns-at n g x n k x h q, r)
 
--- going round reads the links alone
+-- following reads the links alone
 module _ (n : ℕ) (link reach : List Bool) where
-  pub steps-links : (x k c : ℕ) → stepsBack n (linksIn link) x k c ≡ stepsBack n (graphOf link reach) x k c
-  unfolding stepsBack next linksIn graphOf
+  pub steps-links : (x k c : ℕ) → stepsTo n (linksIn link) x k c ≡ stepsTo n (graphOf link reach) x k c
+  unfolding stepsTo next linksIn graphOf
   steps-links x zero c = refl
-  steps-links x (suc k) c = ap (λ (s : ℕ). cond (eqb (next n (linksIn link) c) x) 1 (oneMore s)) (steps-links x k (next n (linksIn link) c))
+  steps-links x (suc k) c = ap (λ (s : ℕ). cond (eqb c x) 0 (suc s)) (steps-links x k (next n (linksIn link) c))
 
-  pub among-links : (y k c : ℕ) → among n (linksIn link) y k c ≡ among n (graphOf link reach) y k c
-  unfolding among round any held next linksIn graphOf
-  among-links y zero c = refl
-  among-links y (suc k) c = ap (λ (t : Bool). eqb y c or t) (among-links y k (next n (linksIn link) c))
+  -- from the successor of x, which is found first
+  pub back-links : (x c s : ℕ) → c ≡ next n (linksIn link) x → s ≡ stepsTo n (linksIn link) x n c → s + 1 ≡ stepsTo n (graphOf link reach) x n (next n (graphOf link reach) x) + 1
+  unfolding next linksIn graphOf
+  back-links x c s e h = ap (λ (k : ℕ). k + 1) (h ∙ ap (stepsTo n (linksIn link) x n) e ∙ steps-links x n (next n (linksIn link) x))
+
+-- the term that so many links lead to
+module _ (n : ℕ) (g : Graph) where
+  pub iterate-none : (k c : ℕ) → k ≡ 0 → iterate (next n g) k c ≡ c
+  unfolding iterate
+  iterate-none k c e = rw e
+
+  pub iterate-on : (k c : ℕ) → iterate (next n g) (k + 1) c ≡ iterate (next n g) k (next n g c)
+  unfolding iterate
+  iterate-on k c = rw (add-one k)
+
+  pub iterate-le : (k c m : ℕ) → n ≤ m → c ≤ m → iterate (next n g) k c ≤ m
+  unfolding iterate
+  iterate-le zero c m h l = l
+  iterate-le (suc k) c m h l = iterate-le k (next n g c) m h (let b = next-le n g c in omega arith)
 
 -- and CYCLE, the one rule that is not looped, does not ask which terms are replaced
 pub cycle-any : (n : ℕ) (alive : ℕ → Bool) (g : Graph) (r : Rule) → looped r ≡ false → (x y : ℕ) → cycleThird n g x y ≡ inThird n alive g r x y

@@ -21,7 +21,7 @@ kindOf rule.Total = TOTAL
 kindOf rule.Share = SHARE
 
 abbrev pub placeOf : Place → Option Triple
-placeOf (place.At x y z) = some (triple x y z)
+placeOf (place.At x y z) = some (triple (x .0) (y .0) (z .0))
 placeOf place.Nothing = none
 
 abbrev pub numberedOf : Numbered → Option Rule
@@ -29,5 +29,5 @@ numberedOf (numbered.Is r) = some (kindOf r)
 numberedOf numbered.Nothing = none
 
 abbrev pub choiceOf : Choice → Option Move
-choiceOf (choice.Apply r x y z) = some (move (kindOf r) (triple x y z))
+choiceOf (choice.Apply r x y z) = some (move (kindOf r) (triple (x .0) (y .0) (z .0)))
 choiceOf choice.Nothing = none

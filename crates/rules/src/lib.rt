@@ -10,7 +10,8 @@ ghost use Rattle.rules.specs.Answers.{kindOf, placeOf, numberedOf, choic
 ghost use Rattle.facts.specs.Square.{rowOf};
 ghost use Rattle.rules.specs.Tests.{pairTest, thirdTest, looped};
 ghost use Rattle.rules.specs.Smallest.{inThird, inSecond, inFirst, triedAt};
-ghost use Rattle.rules.specs.Cycle.{stepsBack, among, cycleThird};
+ghost use Rattle.rules.specs.Cycle.{stepsTo, cycleThird};
+ghost use Rattle.logic.specs.Heap.{iterate};
 ghost use Rattle.logic.specs.Rules.{next, ruleOf, choose};
 ghost use Rattle.logic.specs.Walk.{orderOf};
 
@@ -25,9 +26,12 @@ pub enum Rule {
     Share,
 }
 
-// The triple at which a rule applies.
+// The third number of a triple: a term's, or 0 where the rule has no third term, or the count of steps for CYCLE.
+pub struct Third(pub usize);
+
+// The triple at which a rule applies. Its second number is 0 for REFLEX, and Term(0) is no term.
 pub enum Place {
-    At(usize, usize, usize),
+    At(Term, Term, Third),
     Nothing,
 }
 
@@ -39,59 +43,76 @@ pub enum Numbered {
 
 // The rule to apply, and its triple.
 pub enum Choice {
-    Apply(Rule, usize, usize, usize),
+    Apply(Rule, Term, Term, Third),
     Nothing,
 }
 
+// Where the links led, and after how many steps.
+pub struct Followed {
+    pub term: Term,
+    pub steps: usize,
+}
+
+// The third number of a triple that is a term's.
+pub fn third_term(z: Third) -> Term
+    ensures { λ r. ⌜ r .0 ≡ z .0 ⌝ }
+{
+    Term(z.0)
+}
+
 // What a rule asks of its first two numbers alone.
-fn pair(
+fn pair_test(
     rule: Rule,
     alive: &[bool; 17],
     link: &[bool; 289],
     reach: &[bool; 289],
-    x: usize,
-    y: usize,
+    x: Term,
+    y: Term,
 ) -> bool
-    requires { ⌜ (x ≤ 16) × (y ≤ 16) ⌝ }
-    ensures { λ r. ⌜ r ≡ pairTest (rowOf (now (alive .entry))) (graphOf (now (link .entry)) (now (reach .entry))) x y (kindOf rule) ⌝ }
+    requires { ⌜ (x .0 ≤ 16) × (y .0 ≤ 16) ⌝ }
+    ensures { λ r. ⌜ r ≡ pairTest (rowOf (now (alive .entry))) (graphOf (now (link .entry)) (now (reach .entry))) (x .0) (y .0) (kindOf rule) ⌝ }
 {
-    let itself = facts::holds(reach, Term(x), Term(x));
-    let linked = facts::holds(link, Term(x), Term(y));
-    let forth = facts::holds(reach, Term(x), Term(y));
-    let back = facts::holds(reach, Term(y), Term(x));
+    let at = x.0;
+    let itself = facts::holds(reach, x, x);
+    let linked = facts::holds(link, x, y);
+    let forth = facts::holds(reach, x, y);
+    let back = facts::holds(reach, y, x);
     match rule {
-        Rule::Reflex => alive[x] & (y == 0) & !itself,
+        Rule::Reflex => alive[at] & (y.0 == 0) & !itself,
         Rule::Trans1 => linked & !forth,
         Rule::Trans2 => forth,
         Rule::Func => linked,
         Rule::Cycle => forth,
-        Rule::Scc => forth & back & !(x == y),
+        Rule::Scc => forth & back & !(x.0 == y.0),
         Rule::Total => forth,
-        Rule::Share => forth & back & !(x == y),
+        Rule::Share => forth & back & !(x.0 == y.0),
     }
 }
 
 // What a rule asks of its third number, once its first two are as it asks.
-fn third(rule: Rule, link: &[bool; 289], reach: &[bool; 289], x: usize, y: usize, z: usize) -> bool
-    requires { ⌜ (x ≤ 16) × (y ≤ 16) × (z ≤ 16) ⌝ }
-    ensures { λ r. ⌜ r ≡ thirdTest (graphOf (now (link .entry)) (now (reach .entry))) x y z (kindOf rule) ⌝ }
+fn third_test(
+    rule: Rule,
+    link: &[bool; 289],
+    reach: &[bool; 289],
+    x: Term,
+    y: Term,
+    z: Third,
+) -> bool
+    requires { ⌜ (x .0 ≤ 16) × (y .0 ≤ 16) × (z .0 ≤ 16) ⌝ }
+    ensures { λ r. ⌜ r ≡ thirdTest (graphOf (now (link .entry)) (now (reach .entry))) (x .0) (y .0) (z .0) (kindOf rule) ⌝ }
 {
+    let t = third_term(z);
     match rule {
-        Rule::Reflex => z == 0,
-        Rule::Trans1 => z == 0,
-        Rule::Trans2 => facts::holds(reach, Term(y), Term(z))
-            & !facts::holds(reach, Term(x), Term(z)),
-        Rule::Func => facts::holds(reach, Term(x), Term(z))
-            & !(x == z)
-            & !facts::holds(reach, Term(y), Term(z)),
+        Rule::Reflex => z.0 == 0,
+        Rule::Trans1 => z.0 == 0,
+        Rule::Trans2 => facts::holds(reach, y, t) & !facts::holds(reach, x, t),
+        Rule::Func => facts::holds(reach, x, t) & !(x.0 == t.0) & !facts::holds(reach, y, t),
         Rule::Cycle => false,
-        Rule::Scc => facts::holds(reach, Term(x), Term(z)) & !facts::holds(reach, Term(z), Term(x)),
+        Rule::Scc => facts::holds(reach, x, t) & !facts::holds(reach, t, x),
         Rule::Total => {
-            facts::holds(reach, Term(x), Term(z))
-                & !facts::holds(reach, Term(y), Term(z))
-                & !facts::holds(reach, Term(z), Term(y))
+            facts::holds(reach, x, t) & !facts::holds(reach, y, t) & !facts::holds(reach, t, y)
         }
-        Rule::Share => facts::holds(link, Term(x), Term(z)) & facts::holds(link, Term(y), Term(z)),
+        Rule::Share => facts::holds(link, x, t) & facts::holds(link, y, t),
     }
 }
 
@@ -102,19 +123,19 @@ fn scan(
     link: &[bool; 289],
     reach: &[bool; 289],
     n: usize,
-    x: usize,
-    y: usize,
+    x: Term,
+    y: Term,
 ) -> Place
-    requires { ⌜ (n ≤ 16) × (x ≤ 16) × (y ≤ 16) × (looped (kindOf rule) ≡ true) ⌝ }
-    ensures { λ r. ⌜ placeOf r ≡ inThird n (rowOf (now (alive .entry))) (graphOf (now (link .entry)) (now (reach .entry))) (kindOf rule) x y ⌝ }
+    requires { ⌜ (n ≤ 16) × (x .0 ≤ 16) × (y .0 ≤ 16) × (looped (kindOf rule) ≡ true) ⌝ }
+    ensures { λ r. ⌜ placeOf r ≡ inThird n (rowOf (now (alive .entry))) (graphOf (now (link .entry)) (now (reach .entry))) (kindOf rule) (x .0) (y .0) ⌝ }
 {
-    if !pair(rule, alive, link, reach, x, y) {
+    if !pair_test(rule, alive, link, reach, x, y) {
         return Place::Nothing;
     }
     let mut z: usize = 0;
     while z <= n {
-        if third(rule, link, reach, x, y, z) {
-            return Place::At(x, y, z);
+        if third_test(rule, link, reach, x, y, Third(z)) {
+            return Place::At(x, y, Third(z));
         }
         z += 1;
     }
@@ -132,61 +153,45 @@ pub fn next(link: &[bool; 289], n: usize, c: Term) -> Term
     }
 }
 
-// After how many steps, at most `left`, the links from c lead to x; 0 where they do not lead there so soon.
-fn steps_back(link: &[bool; 289], n: usize, x: Term, c: Term, left: usize) -> usize
-    requires { ⌜ (n ≤ 16) × (c .0 ≤ 16) × (left ≤ 16) ⌝ }
-    ensures { λ r. ⌜ r ≡ stepsBack n (linksIn (now (link .entry))) (x .0) left (c .0) ⌝ }
+// The steps round a cycle: the links from c are followed until they lead to `until`, or `left` of them are made.
+pub fn follow(link: &[bool; 289], n: usize, c: Term, until: Term, left: usize) -> Followed
+    requires { ⌜ (n ≤ 16) × (c .0 ≤ 16) ⌝ }
+    ensures { λ r. ⌜ (r .steps ≡ stepsTo n (linksIn (now (link .entry))) (until .0) left (c .0)) × (r .term .0 ≡ iterate (next n (linksIn (now (link .entry)))) (r .steps) (c .0)) ⌝ }
 {
     if left == 0 {
-        return 0;
+        return Followed { term: c, steps: 0 };
+    }
+    if c.0 == until.0 {
+        return Followed { term: c, steps: 0 };
     }
     let d = next(link, n, c);
-    if d.0 == x.0 {
-        return 1;
+    let rest = follow(link, n, d, until, left - 1);
+    let term = rest.term;
+    Followed {
+        term,
+        steps: rest.steps + 1,
     }
-    if d.0 == c.0 {
-        return 0;
-    }
-    let k = steps_back(link, n, x, d, left - 1);
-    if k == 0 {
-        return 0;
-    }
-    k + 1
 }
 
-// y is one of the k terms from x on.
-fn on_round(link: &[bool; 289], n: usize, y: Term, x: Term, k: usize) -> bool
-    requires { ⌜ (n ≤ 16) × (x .0 ≤ 16) ⌝ }
-    ensures { λ r. ⌜ r ≡ among n (linksIn (now (link .entry))) (y .0) k (x .0) ⌝ }
+// The smallest triple of CYCLE that begins with x and y: the links lead back to x after k steps, and y is none of the k terms from x on.
+fn cycle(link: &[bool; 289], reach: &[bool; 289], n: usize, x: Term, y: Term) -> Place
+    requires { ⌜ (n ≤ 16) × (x .0 ≤ 16) × (y .0 ≤ 16) ⌝ }
+    ensures { λ r. ⌜ placeOf r ≡ cycleThird n (graphOf (now (link .entry)) (now (reach .entry))) (x .0) (y .0) ⌝ }
 {
-    let mut c = x;
-    let mut left = k;
-    while 0 < left {
-        if y.0 == c.0 {
-            return true;
-        }
-        c = next(link, n, c);
-        left -= 1;
-    }
-    false
-}
-
-// The smallest triple of CYCLE that begins with x and y.
-fn cycle(link: &[bool; 289], reach: &[bool; 289], n: usize, x: usize, y: usize) -> Place
-    requires { ⌜ (n ≤ 16) × (x ≤ 16) × (y ≤ 16) ⌝ }
-    ensures { λ r. ⌜ placeOf r ≡ cycleThird n (graphOf (now (link .entry)) (now (reach .entry))) x y ⌝ }
-{
-    if !facts::holds(reach, Term(x), Term(y)) {
+    if !facts::holds(reach, x, y) {
         return Place::Nothing;
     }
-    let k = steps_back(link, n, Term(x), Term(x), n);
-    if k == 0 {
+    let first = next(link, n, x);
+    let back = follow(link, n, first, x, n);
+    let k = back.steps + 1;
+    if n < k {
         return Place::Nothing;
     }
-    if on_round(link, n, Term(y), Term(x), k) {
+    let met = follow(link, n, x, y, k);
+    if met.steps < k {
         return Place::Nothing;
     }
-    Place::At(x, y, k)
+    Place::At(x, y, Third(k))
 }
 
 // The rule is not CYCLE.
@@ -212,11 +217,11 @@ fn in_third(
     link: &[bool; 289],
     reach: &[bool; 289],
     n: usize,
-    x: usize,
-    y: usize,
+    x: Term,
+    y: Term,
 ) -> Place
-    requires { ⌜ (n ≤ 16) × (x ≤ 16) × (y ≤ 16) ⌝ }
-    ensures { λ r. ⌜ placeOf r ≡ inThird n (rowOf (now (alive .entry))) (graphOf (now (link .entry)) (now (reach .entry))) (kindOf rule) x y ⌝ }
+    requires { ⌜ (n ≤ 16) × (x .0 ≤ 16) × (y .0 ≤ 16) ⌝ }
+    ensures { λ r. ⌜ placeOf r ≡ inThird n (rowOf (now (alive .entry))) (graphOf (now (link .entry)) (now (reach .entry))) (kindOf rule) (x .0) (y .0) ⌝ }
 {
     if looped(rule) {
         return scan(rule, alive, link, reach, n, x, y);
@@ -231,14 +236,14 @@ fn in_second(
     link: &[bool; 289],
     reach: &[bool; 289],
     n: usize,
-    x: usize,
+    x: Term,
 ) -> Place
-    requires { ⌜ (n ≤ 16) × (x ≤ 16) ⌝ }
-    ensures { λ r. ⌜ placeOf r ≡ inSecond n (rowOf (now (alive .entry))) (graphOf (now (link .entry)) (now (reach .entry))) (kindOf rule) x ⌝ }
+    requires { ⌜ (n ≤ 16) × (x .0 ≤ 16) ⌝ }
+    ensures { λ r. ⌜ placeOf r ≡ inSecond n (rowOf (now (alive .entry))) (graphOf (now (link .entry)) (now (reach .entry))) (kindOf rule) (x .0) ⌝ }
 {
     let mut y: usize = 0;
     while y <= n {
-        if let Place::At(a, b, c) = in_third(rule, alive, link, reach, n, x, y) {
+        if let Place::At(a, b, c) = in_third(rule, alive, link, reach, n, x, Term(y)) {
             return Place::At(a, b, c);
         }
         y += 1;
@@ -259,7 +264,7 @@ pub fn smallest(
 {
     let mut x: usize = 0;
     while x <= n {
-        if let Place::At(a, b, c) = in_second(rule, alive, link, reach, n, x) {
+        if let Place::At(a, b, c) = in_second(rule, alive, link, reach, n, Term(x)) {
             return Place::At(a, b, c);
         }
         x += 1;

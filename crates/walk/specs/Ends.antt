@@ -18,7 +18,7 @@ use Rattle.walk.specs.declared.Walked.{Walked}
 
 abbrev pub lookOf : Seen → Look
 lookOf (seen.Clashing section i j) = clashing (line 9 section i j)
-lookOf (seen.Applying r x y z) = applying (move (kindOf r) (triple x y z))
+lookOf (seen.Applying r x y z) = applying (move (kindOf r) (triple (x .0) (y .0) (z .0)))
 lookOf seen.Saturated = saturated
 
 abbrev pub isRefuted : Kind → Bool

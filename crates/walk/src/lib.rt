@@ -5,6 +5,7 @@ use facts::Term;
 use query::Layout;
 use rules::Choice;
 use rules::Rule;
+use rules::Third;
 ghost use mathlib.Core.Path.{_≡_};
 ghost use Prim.Native.Nat.{ℕ, _+_, _*_, _≤_, _<_};
 ghost use lib.ListN.{length};
@@ -46,7 +47,7 @@ pub fn put_line(lines: &mut [u8], count: usize, a: usize, b: usize, c: usize, d:
 // What is seen at a path: its clash, the rule to apply, or neither.
 pub enum Seen {
     Clashing(usize, usize, usize),
-    Applying(Rule, usize, usize, usize),
+    Applying(Rule, Term, Term, Third),
     Saturated,
 }
 
@@ -141,12 +142,12 @@ pub fn walk(
                     count,
                 };
             }
-            put_line(lines, count, number(rule), x, y, z);
+            put_line(lines, count, number(rule), x.0, y.0, z.0);
             let total = branch::count(rule, z);
             let mut written = counted(count);
             let mut i: usize = 0;
             while i < total {
-                let path = branch::branch(s, n, rule, Term(x), Term(y), z, i);
+                let path = branch::branch(s, n, rule, x, y, z, i);
                 let w = walk(query, layout, order, left - 1, path, lines, written);
                 let kind = w.kind;
                 if !is_refuted(kind) {

@@ -16,4 +16,4 @@ branch-spec =
     -- returns
     (λ c.
     let a = c .before .before .before .before .args in
-    branch-made (a .n) (a .t1) (kindOf (a .rule)) (a .x .0) (a .y .0) (a .z) (a .i) _ _ (c .before .alternative .ensures .0) (c .added .ensures)))
+    branch-made (a .n) (a .t1) (kindOf (a .rule)) (a .x .0) (a .y .0) (a .z .0) (a .i) _ _ (c .before .alternative .ensures .0) (c .added .ensures)))

@@ -13,13 +13,14 @@ use Rattle.rules.proofs.in_second.Statement.{statement}
 use Rattle.rules.proofs.in_second.Tie as tie
 
 abbrev Inv-loop : tie.InvT-loop
-Inv-loop rule alive link reach n x y₀ y = inSecond n (rowOf alive) (graphOf link reach) (kindOf rule) x ≡ firstOf (inThird n (rowOf alive) (graphOf link reach) (kindOf rule) x) (from (n + 1 - y) y)
+Inv-loop rule alive link reach n x y₀ y = inSecond n (rowOf alive) (graphOf link reach) (kindOf rule) (x .0) ≡ firstOf (inThird n (rowOf alive) (graphOf link reach) (kindOf rule) (x .0)) (from (n + 1 - y) y)
 
 abbrev μ-loop : tie.MeasureT-loop
 μ-loop rule alive link reach n x y₀ y = n + 1 - y
 
 loop-holds : tie.Need-loop-holds Inv-loop μ-loop
 unfolding inSecond
+-- loop-holds
 loop-holds c = refl
 
 pub in-second-spec : {M : Type 1} → statement M

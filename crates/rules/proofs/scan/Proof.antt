@@ -15,13 +15,14 @@ use Rattle.rules.proofs.scan.Tie as tie
 
 abbrev Inv-loop : tie.InvT-loop
 Inv-loop rule alive link reach n x y z₀ z =
-    inThird n (rowOf alive) (graphOf link reach) (kindOf rule) x y ≡ thirdFrom n (rowOf alive) (graphOf link reach) (kindOf rule) x y z
+    inThird n (rowOf alive) (graphOf link reach) (kindOf rule) (x .0) (y .0) ≡ thirdFrom n (rowOf alive) (graphOf link reach) (kindOf rule) (x .0) (y .0) z
 
 abbrev μ-loop : tie.MeasureT-loop
 μ-loop rule alive link reach n x y z₀ z = n + 1 - z
 
 loop-holds : tie.Need-loop-holds Inv-loop μ-loop
 unfolding inThird
+-- loop-holds
 loop-holds c = refl
 
 pub scan-spec : {M : Type 1} → statement M
@@ -30,20 +31,20 @@ scan-spec =
     (tie.spec
     Inv-loop
     μ-loop
-    -- pair-requires
+    -- pair-test-requires
     (λ c κs. omega arith)
     -- returns
-    (λ c. sym (third-none _ _ _ _ (c .before .before .pre .3) _ _ (sym (c .before .pair .ensures) ∙ not-true _ (c .if1 .taken))))
+    (λ c. sym (third-none _ _ _ _ (c .before .before .pre .3) _ _ (sym (c .before .pair-test .ensures) ∙ not-true _ (c .if1 .taken))))
     loop-holds
-    -- third-requires
+    -- third-test-requires
     (λ c κs. omega arith)
     -- returns-2
-    (λ c. sym (c .before .before .before .loop .inv ∙ third-here _ _ _ _ (c .before .before .before .before .before .before .pre .3) _ _ (sym (c .before .before .before .before .before .pair .ensures) ∙ not-false _ (c .before .before .before .before .if1 .left)) _ (omega arith) (sym (c .before .third .ensures) ∙ c .if2 .taken)))
+    (λ c. sym (c .before .before .before .loop .inv ∙ third-here _ _ _ _ (c .before .before .before .before .before .before .pre .3) _ _ (sym (c .before .before .before .before .before .pair-test .ensures) ∙ not-false _ (c .before .before .before .before .if1 .left)) _ (omega arith) (sym (c .before .third-test .ensures) ∙ c .if2 .taken)))
     -- add-z
     (λ c. omega arith)
     -- loop-less
     (λ c. omega arith)
     -- loop-again
-    (λ c. c .before .before .before .loop .inv ∙ third-next _ _ _ _ (c .before .before .before .before .before .before .pre .3) _ _ (sym (c .before .before .before .before .before .pair .ensures) ∙ not-false _ (c .before .before .before .before .if1 .left)) _ (omega arith) (sym (c .before .third .ensures) ∙ c .if2 .left))
+    (λ c. c .before .before .before .loop .inv ∙ third-next _ _ _ _ (c .before .before .before .before .before .before .pre .3) _ _ (sym (c .before .before .before .before .before .pair-test .ensures) ∙ not-false _ (c .before .before .before .before .if1 .left)) _ (omega arith) (sym (c .before .third-test .ensures) ∙ c .if2 .left))
     -- returns-3
     (λ c. sym (c .before .loop .inv ∙ first-end _ _ _ (omega arith))))

@@ -20,6 +20,7 @@ abbrev μ-loop : tie.MeasureT-loop
 
 loop-holds : tie.Need-loop-holds Inv-loop μ-loop
 unfolding inFirst
+-- loop-holds
 loop-holds c = refl
 
 pub smallest-spec : {M : Type 1} → statement M

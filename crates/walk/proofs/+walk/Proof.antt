@@ -43,7 +43,7 @@ walk-below t = and 3 walk-kinds.ps (falls 3 walk-kinds.ps _<_ μ-walk t) walk.Pr
 
 abbrev walk-Inv-loop : walk-lts.InvT-loop
 walk-Inv-loop query layout order left s lines₀ count n rule x y z total written₀ i₀ lines written i =
-    Turn (walk (decode query) (orderOf order) (left - 1)) (branches (termCount (decode query)) (pathOf s) (move (kindOf rule) (triple x y z))) lines₀ written₀ i lines written
+    Turn (walk (decode query) (orderOf order) (left - 1)) (branches (termCount (decode query)) (pathOf s) (move (kindOf rule) (triple (x .0) (y .0) (z .0)))) lines₀ written₀ i lines written
     × (written ≤ 16001)
     × (length lines ≡ length lines₀)
 
@@ -73,59 +73,59 @@ pub +walk-spec : {M : Type 1} → statement M
     walk.Post
     walk-Inv-loop
     walk-μ-loop
-    -- walk-look-requires
+    -- look-requires
     (λ c κs. c .before .before .before .pre .1 .0)
-    -- walk-enum-told
+    -- enum-told
     (λ c. search needs)
-    -- walk-enum-known-section
+    -- enum-known-section
     (λ c. search needs)
-    -- walk-put-line-requires
+    -- put-line-requires
     (λ c κs.
     let p = c .before .before .before .before .before .before .before .before .pre .1 in
     let f = clash-fits _ _ (p .0) _ _ _ _ _ (look-is _ _ _ (c .before .before .before .before .look .ensures) (c .before .before .section .given .1)) in
     (p .1, lit< tt, f .0, f .1, f .2))
-    -- walk-counted-requires
+    -- counted-requires
     (λ c κs. search needs)
-    -- walk-enum-known-rule
+    -- enum-known-rule
     (λ c. search needs)
-    -- walk-returns
+    -- returns
     (λ c. ends-broken _ _ _ _ _ _ _ _ _ (look-is _ _ _ (c .before .before .before .before .look .ensures) (c .before .before .rule .given .1)) (c .if1 .taken) refl refl)
-    -- walk-number-requires
+    -- number-requires
     (λ c κs. search needs)
-    -- walk-put-line-requires-2
+    -- put-line-requires-2
     (λ c κs.
     let p = c .before .before .before .before .before .before .before .before .before .before .pre .1 in
     let f = move-fits _ _ (p .0) _ _ _ _ _ _ (look-is _ _ _ (c .before .before .before .before .before .before .look .ensures) (c .before .before .before .before .rule .given .1)) in
     (p .1, c .number .ensures .1, lt-of-le-of-lt (f .0) (lit< tt), lt-of-le-of-lt (f .1) (lit< tt), lt-of-le-of-lt (f .2) (lit< tt)))
-    -- walk-count-requires
+    -- count-requires
     (λ c κs. search needs)
-    -- walk-counted-requires-2
+    -- counted-requires-2
     (λ c κs. search needs)
-    -- walk-loop-holds
+    -- loop-holds
     (λ c. (turn-first _ _ _ _, subst (λ (j : ℕ). j ≤ 16001) (sym (c .counted2 .ensures)) (counted-bound _ (c .before .before .before .before .before .before .before .before .before .before .before .before .before .before .before .pre .1 .1)), refl))
-    -- walk-branch-requires
+    -- branch-requires
     (λ c κs.
     let p = c .before .before .before .before .before .before .before .before .before .before .before .before .before .before .before .before .before .pre .1 in
     let f = move-fits _ _ (p .0) _ _ _ _ _ _ (look-is _ _ _ (c .before .before .before .before .before .before .before .before .before .before .before .before .before .look .ensures) (c .before .before .before .before .before .before .before .before .before .before .before .rule .given .1)) in
     (p .0 .terms-within, f .0, f .1, f .2))
-    -- walk-sub-walk
+    -- sub-walk
     (λ c. some-left _ (c .before .before .before .before .before .before .before .before .before .before .if1 .left))
-    -- walk-walk-requires
+    -- walk-requires
     (λ c κs. (less-left _ _ (c .before .before .before .before .before .before .before .before .before .before .before .if1 .left) (c .before .before .before .before .before .before .before .before .before .before .before .before .before .before .before .before .before .before .before .pre .0), (c .before .before .before .before .before .before .before .before .before .before .before .before .before .before .before .before .before .before .before .pre .1 .0, c .before .before .before .loop .inv .1)))
-    -- walk-is-refuted-requires
+    -- is-refuted-requires
     (λ c κs. search needs)
-    -- walk-same-length
+    -- same-length
     (λ c. ends-length (c .before .before .before .before .walk .result) (walk (decode (c .before .before .before .before .before .before .before .before .before .before .before .before .before .before .before .before .before .before .before .before .before .before .before .before .args .query .now)) (orderOf (c .before .before .before .before .before .before .before .before .before .before .before .before .before .before .before .before .before .before .before .before .before .before .before .before .args .order .now)) (c .before .before .before .before .before .before .before .before .before .before .before .before .before .before .before .before .before .before .before .before .before .before .before .before .args .left - 1) (pathOf (c .before .before .before .before .before .before .branch .result))) (c .before .before .before .before .before .before .before .before .loop .lines) (c .before .before .before .before .before .before .before .before .loop .written) (c .before .before .before .before .walk .last .1 .1 .1 .1 .1 .0) (c .before .before .before .before .walk .ensures) ∙ c .before .before .before .before .before .before .before .before .loop .inv .2 ∙ ap length (c .before .before .before .before .before .before .before .before .before .before .before .before .before .put-line2 .ensures) ∙ putLine-length _ _ _)
-    -- walk-returns-2
+    -- returns-2
     (λ c.
     stopped _ _ _ _ _ _ _ _ _ (look-is _ _ _ (c .before .before .before .before .before .before .before .before .before .before .before .before .before .before .before .before .before .before .before .before .look .ensures) (c .before .before .before .before .before .before .before .before .before .before .before .before .before .before .before .before .before .before .rule .given .1)) (some-left _ (c .before .before .before .before .before .before .before .before .before .before .before .before .before .before .before .before .if1 .left)) (c .before .before .before .before .before .before .before .before .before .before .before .before .before .before .before .before .before .before .before .before .before .before .before .before .pre .1 .0 .term-count)
     _ _ _ _ _ _ (c .before .before .before .before .before .before .before .before .loop .inv .0) (subst (λ (j : ℕ). c .before .before .before .before .before .before .before .before .loop .i < j) (c .before .before .before .before .before .before .before .before .before .before .count .ensures) (c .before .before .before .before .before .before .before .loop-test .taken)) _ (c .before .before .before .before .before .before .branch .ensures) _ (c .before .before .before .before .walk .ensures)
     _ _ (ap length (c .before .before .before .before .before .before .before .before .before .before .before .before .before .put-line2 .ensures) ∙ putLine-length _ _ _) (sym (c .before .is-refuted .ensures) ∙ not-true _ (c .if2 .taken)))
-    -- walk-add-i
+    -- add-i
     (λ c. search needs)
-    -- walk-loop-less
+    -- loop-less
     (λ c. search needs)
-    -- walk-loop-again
+    -- loop-again
     (λ c.
     let k = sym (c .before .is-refuted .ensures) ∙ not-false _ (c .if2 .left) in (
       next-turn _ _ _ _ _ _ _ _ _ (look-is _ _ _ (c .before .before .before .before .before .before .before .before .before .before .before .before .before .before .before .before .before .before .before .before .look .ensures) (c .before .before .before .before .before .before .before .before .before .before .before .before .before .before .before .before .before .before .rule .given .1)) (some-left _ (c .before .before .before .before .before .before .before .before .before .before .before .before .before .before .before .before .if1 .left)) (c .before .before .before .before .before .before .before .before .before .before .before .before .before .before .before .before .before .before .before .before .before .before .before .before .pre .1 .0 .term-count)
@@ -133,15 +133,15 @@ pub +walk-spec : {M : Type 1} → statement M
       ends-bound (c .before .before .before .before .walk .result) (walk (decode (c .before .before .before .before .before .before .before .before .before .before .before .before .before .before .before .before .before .before .before .before .before .before .before .before .args .query .now)) (orderOf (c .before .before .before .before .before .before .before .before .before .before .before .before .before .before .before .before .before .before .before .before .before .before .before .before .args .order .now)) (c .before .before .before .before .before .before .before .before .before .before .before .before .before .before .before .before .before .before .before .before .before .before .before .before .args .left - 1) (pathOf (c .before .before .before .before .before .before .branch .result))) (c .before .before .before .before .before .before .before .before .loop .lines) (c .before .before .before .before .before .before .before .before .loop .written) (c .before .before .before .before .walk .last .1 .1 .1 .1 .1 .0) (c .before .before .before .before .walk .ensures) k (c .before .before .before .before .before .before .before .before .loop .inv .1),
       ends-length (c .before .before .before .before .walk .result) (walk (decode (c .before .before .before .before .before .before .before .before .before .before .before .before .before .before .before .before .before .before .before .before .before .before .before .before .args .query .now)) (orderOf (c .before .before .before .before .before .before .before .before .before .before .before .before .before .before .before .before .before .before .before .before .before .before .before .before .args .order .now)) (c .before .before .before .before .before .before .before .before .before .before .before .before .before .before .before .before .before .before .before .before .before .before .before .before .args .left - 1) (pathOf (c .before .before .before .before .before .before .branch .result))) (c .before .before .before .before .before .before .before .before .loop .lines) (c .before .before .before .before .before .before .before .before .loop .written) (c .before .before .before .before .walk .last .1 .1 .1 .1 .1 .0) (c .before .before .before .before .walk .ensures) ∙ c .before .before .before .before .before .before .before .before .loop .inv .2,
     ))
-    -- walk-returns-3
+    -- returns-3
     (λ c. let s = pathOf (c .before .before .before .before .before .before .args .s) in ends-saturated _ _ _ s _ _ _ _ s (look-is _ _ _ (c .before .before .look .ensures) (c .enum-told .given .1)) refl refl refl refl)
-    -- walk-same-length-2
+    -- same-length-2
     (λ c. ap length (c .before .before .before .put-line .ensures) ∙ putLine-length _ _ _)
-    -- walk-returns-4
+    -- returns-4
     (λ c. ends-clashing _ _ _ _ _ _ _ _ _ (look-is _ _ _ (c .before .before .before .before .before .before .before .before .look .ensures) (c .before .before .before .before .before .before .section .given .1)) refl (c .counted .ensures) (c .before .before .before .put-line .ensures))
-    -- walk-same-length-3
+    -- same-length-3
     (λ c. c .before .loop .inv .2 ∙ ap length (c .before .before .before .before .before .before .put-line2 .ensures) ∙ putLine-length _ _ _)
-    -- walk-returns-5
+    -- returns-5
     (λ c.
     all-refuted _ _ _ _ _ _ _ _ _ (look-is _ _ _ (c .before .before .before .before .before .before .before .before .before .before .before .before .before .look .ensures) (c .before .before .before .before .before .before .before .before .before .before .before .rule .given .1)) (some-left _ (c .before .before .before .before .before .before .before .before .before .if1 .left)) (c .before .before .before .before .before .before .before .before .before .before .before .before .before .before .before .before .before .pre .1 .0 .term-count)
     _ _ _ _ _ (c .before .loop .inv .0) (subst (λ (j : ℕ). j ≤ c .before .loop .i) (c .before .before .before .count .ensures) (c .loop-test .left)) _ _ _ _ (c .before .before .before .before .before .before .before .number .ensures .0) (c .before .before .before .before .before .before .put-line2 .ensures) (c .before .before .counted2 .ensures) refl refl)
