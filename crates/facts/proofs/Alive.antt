@@ -6,7 +6,7 @@ use mathlib.Core.Bool.{Bool, true, false, _&&_}
 use mathlib.Core.List.{List}
 use lib.ListN.{getD}
 use lib.Dec.{ltb, leb, eqb, leb·suc-suc}
-use borrow.Author.Tests.{le-ltb, eq-eqb, ne-eqb}
+use borrow.Author.Tests.{le-ltb}
 use Rattle.logic.specs.Search.{_and_, _or_}
 use Rattle.logic.specs.Facts.{live}
 use Rattle.facts.specs.declared.Term.{Term}
@@ -15,7 +15,8 @@ use Rattle.facts.specs.Bits.{bit}
 use Rattle.facts.specs.Path.{repOf, pathOf}
 use Rattle.facts.proofs.Bits.{bit-none}
 use Rattle.facts.proofs.Rep.{rep-in}
-use Rattle.facts.proofs.Fill.{Filled, filled-old, filled-more, filled-all}
+use Rattle.facts.proofs.Fill.{Filled, filled-all}
+use Rattle.facts.proofs.Turning.{filled-bit}
 
 -- what `live` says of a path with these replacements
 unfoldable pub aliveIn : ℕ → List Term → ℕ → Bool
@@ -35,16 +36,7 @@ module _ (n : ℕ) (rep : List Term) where
       go false b c e = refl
 
   pub live-more : (t : ℕ) → t ≤ 16 → (cur next : ℕ) (wanted : Bool) → wanted ≡ (ltb 0 t && leb t n && eqb (getD rep t (record { 0 = 0 }) .0) t) → ((i : ℕ) → bit next i ≡ bit cur i or (eqb i t and wanted)) → Filled (aliveIn n rep) (bit 0) t (bit cur) → Filled (aliveIn n rep) (bit 0) (t + 1) (bit next)
-  unfolding _and_ _or_
-  live-more t h cur next wanted w e m =
-      filled-more _ _ t (bit cur) (bit next)
-      (e t ∙ rw (eq-eqb t t refl, filled-old _ _ t (bit cur) m, bit-none t) (w ∙ same t h))
-      (λ x p. e x ∙ rw (ne-eqb x t p) (none (bit cur x)))
-      m
-    where
-      none : (b : Bool) → b or false ≡ b
-      none true = refl
-      none false = refl
+  live-more t h cur next wanted w = filled-bit (aliveIn n rep) t cur next wanted (w ∙ same t h)
 
 pub live-all : (n : ℕ) → n ≤ 16 → (s : code.Facts) (cur : ℕ) → Filled (aliveIn n (s .rep)) (bit 0) 17 (bit cur) → bit cur ≡ live n (pathOf s)
 unfolding aliveIn live pathOf _and_

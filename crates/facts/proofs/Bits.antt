@@ -15,6 +15,10 @@ use Rattle.logic.specs.Search.{_and_, _or_}
 use Rattle.logic.proofs.Basics.Search.{bool-cases}
 use Rattle.facts.specs.Bits.{bit}
 
+pub bit-is : (w b : ℕ) → bit w b ≡ eqb (w / 2 ^ b % 2) 1
+unfolding bit
+bit-is w b = refl
+
 -- the lowest bit, and the others
 pub bit-zero : (w : ℕ) → bit w 0 ≡ eqb (w % 2) 1
 unfolding bit

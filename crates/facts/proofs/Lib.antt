@@ -5,6 +5,7 @@ pub mod Square
 pub mod Words
 pub mod Fill
 pub mod Merge
+pub mod Turning
 pub mod Rep
 pub mod Path
 pub mod Successors

@@ -9,7 +9,6 @@ use mathlib.Core.Option.{Option, none, some, Option·elim}
 use lib.Arith.{lt-of-le-ne}
 use lib.ListN.{getD}
 use lib.Bits.{bitAnd}
-use lib.Count.{trailingZeros}
 use lib.Dec.{ltb, eqb}
 use borrow.Author.Tests.{eq-eqb, ne-eqb, eqb-false, lt-ltb, ltb-true}
 use Rattle.logic.specs.Search.{_and_, from, keep, orElse, firstOf, find, select}
@@ -18,9 +17,9 @@ use Rattle.logic.proofs.Basics.Search.{bool-cases, true-false, not-true, and-le
 use Rattle.logic.proofs.Basics.Compare.{le-cases}
 use Rattle.facts.specs.Bits.{bit}
 use Rattle.facts.specs.Square.{square}
-use Rattle.facts.proofs.Bits.{bit-and, bit-rest}
+use Rattle.facts.proofs.Bits.{bit-and}
 use Rattle.facts.proofs.Square.{square-in}
-use Rattle.facts.proofs.Finds.{find-in, find-bit, find-no-bit}
+use Rattle.facts.proofs.Finds.{find-in, find-no-bit, rest-other, rest-gone}
 
 -- what a search of the numbers from k below m finds is one of them
 pub found-in : (p : ℕ → Bool) (m k a : ℕ) → find p (from (m - k) k) ≡ some a → (k ≤ a) × (a < m)
@@ -40,7 +39,7 @@ keep-same k a o e = cc
 
 module _ (p : ℕ → Bool) where
   -- where nothing is found nothing is selected; else what is found is selected first, and then the rest above it
-  select-none : (j k : ℕ) → find p (from j k) ≡ none → select p (from j k) ≡ []
+  pub select-none : (j k : ℕ) → find p (from j k) ≡ none → select p (from j k) ≡ []
   unfolding find firstOf select from
   select-none zero k e = refl
   select-none (suc j) k e = go (p k) e (select-none j (suc k))
@@ -138,30 +137,19 @@ module _ (p : ℕ → Bool) (n : ℕ) (few : n ≤ 16) (w : ℕ) (e : (i : ℕ) 
         go zero q = absurd (none-some (sym (ap (λ (x : ℕ). find (bit x) (from 32 0)) q ∙ find-no-bit) ∙ found))
         go (suc v) q = omega arith
 
-    is-lowest : trailingZeros 32 w ≡ a
-    is-lowest = let z : _≡_ {A = Option ℕ} (some (trailingZeros 32 w)) (some a) = sym (find-bit w found-positive fits) ∙ found in cc
-
-    rest : (i : ℕ) → bit (bitAnd w (w - 1)) i ≡ bit w i and not (eqb i a)
-    rest i = bit-rest 32 w found-positive fits i ∙ ap (λ (t : ℕ). bit w i and not (eqb i t)) is-lowest
-
     pub next-term : find (bit (bitAnd w (w - 1))) (from 32 0) ≡ find p (from (n + 1 - (a + 1)) (a + 1))
-    unfolding _and_
     next-term =
         let here = within a (find-some (bit w) (from 32 0) a found .1) in
         sym
         (find-in p (bit (bitAnd w (w - 1))) (n + 1 - (a + 1)) (a + 1) 32 0 (omega arith) (omega arith)
-        (λ i h l. passes i (omega arith) (omega arith) ∙ sym (rest i ∙ rw (ne-eqb i a (λ z. omega arith)) (same (bit w i))))
+        (λ i h l. passes i (omega arith) (omega arith) ∙ sym (rest-other w a found-positive fits found i (λ z. omega arith)))
         (λ i h.
-        let b = sym (rest i) ∙ h in
-        let r = within i (and-left (bit w i) (not (eqb i a)) b) in
-        let other = eqb-false i a (not-true (and-right (bit w i) (not (eqb i a)) b)) in
-        let above = ⊎-elim (λ l. l) (λ l. absurd (true-false (and-left (bit w i) (not (eqb i a)) b) (find-lowest (bit w) 32 0 a found i (omega arith) l))) (le-cases a i) in
+        let other : i ≡ a → ⊥ = λ z. true-false h (ap (bit (bitAnd w (w - 1))) z ∙ rest-gone w a found-positive fits found) in
+        let set = sym (rest-other w a found-positive fits found i other) ∙ h in
+        let r = within i set in
+        let above = ⊎-elim (λ l. l) (λ l. absurd (true-false set (find-lowest (bit w) 32 0 a found i (omega arith) l))) (le-cases a i) in
         let past = lt-of-le-ne above (λ z. other (sym z)) in
         (omega arith, omega arith)))
-      where
-        same : (t : Bool) → t and true ≡ t
-        same true = refl
-        same false = refl
 
 -- the search for a doubled term as a loop meets it
 pub doubled-search : (n : ℕ) (g : Graph) → doubled n g ≡ firstOf (λ t. firstTwo (successors n g t)) (from (n + 1 - 1) 1)

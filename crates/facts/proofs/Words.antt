@@ -13,7 +13,7 @@ use borrow.Author.Tests.{eqb-true, eqb-false, eq-eqb, ne-eqb, lt-ltb, le-ltb}
 use Rattle.logic.specs.Search.{_and_, _or_}
 use Rattle.facts.specs.Bits.{bit}
 use Rattle.facts.specs.Square.{renamedRow}
-use Rattle.facts.proofs.Bits.{bit-none, bit-power, bit-ones, bit-or}
+use Rattle.facts.proofs.Bits.{bit-zero, bit-is, bit-none, bit-power, bit-ones, bit-and, bit-or}
 use Rattle.facts.proofs.Square.{renamed-is}
 
 -- the word shifted down to b, and its lowest bit
@@ -56,9 +56,10 @@ two-shifted-up n h = rw (shifted-two n h) (pow-pos (suc n))
 pub bit-up-to : (n : ℕ) → n ≤ 16 → (i : ℕ) → bit ((2 * 2 ^ n) % 2 ^ 32 - 1) i ≡ ltb i (n + 1)
 bit-up-to n h i = ap (λ (x : ℕ). bit (x - 1) i) (shifted-two n h) ∙ bit-ones (suc n) i ∙ ap (ltb i) (sym (add-one n))
 
-pub bit-terms : (n w : ℕ) → n ≤ 16 → ((i : ℕ) → bit w i ≡ bit ((2 * 2 ^ n) % 2 ^ 32 - 1) i and not (bit 1 i)) → (i : ℕ) → bit w i ≡ ltb 0 i and ltb i (n + 1)
+-- less 0
+pub bit-terms : (n m w : ℕ) → ((i : ℕ) → bit m i ≡ ltb i (n + 1)) → ((i : ℕ) → bit w i ≡ bit m i and not (bit 1 i)) → (i : ℕ) → bit w i ≡ ltb 0 i and ltb i (n + 1)
 unfolding _and_
-bit-terms n w h e i = e i ∙ rw (bit-up-to n h i, bit-power 0 i) (go (eqb i 0) refl (ltb i (n + 1)))
+bit-terms n m w f e i = e i ∙ rw (f i, bit-power 0 i) (go (eqb i 0) refl (ltb i (n + 1)))
   where
     some-false : (u : Bool) → u and true ≡ u
     some-false true = refl
@@ -69,8 +70,8 @@ bit-terms n w h e i = e i ∙ rw (bit-up-to n h i, bit-power 0 i) (go (eqb i 0) 
     none-true false = refl
 
     go : (t : Bool) → eqb i 0 ≡ t → (u : Bool) → u and not t ≡ ltb 0 i and u
-    go true f u = let p = eqb-true i 0 f in none-true u ∙ sym (rw (le-ltb 0 i (omega arith)))
-    go false f u = let p = eqb-false i 0 f in some-false u ∙ sym (rw (lt-ltb 0 i (positive i p)))
+    go true q u = let p = eqb-true i 0 q in none-true u ∙ sym (rw (le-ltb 0 i (omega arith)))
+    go false q u = let p = eqb-false i 0 q in some-false u ∙ sym (rw (lt-ltb 0 i (positive i p)))
       where
         positive : (j : ℕ) → (j ≡ 0 → ⊥) → 0 < j
         positive zero q = absurd (q refl)
@@ -116,3 +117,19 @@ bit-as-it-was w t i wanted h = sym (rw h (go (bit w i) (eqb i t)))
     go true v = refl
     go false true = refl
     go false false = refl
+
+-- the word of 0, where bit b of another is set
+pub bit-single : (w b i : ℕ) → bit (bitAnd (w / 2 ^ b) 1) i ≡ bit w b and eqb i 0
+unfolding _and_
+bit-single w b i = bit-and (w / 2 ^ b) 1 i ∙ rw (bit-power 0 i) (go (eqb i 0) refl)
+  where
+    none : (t : Bool) → t and false ≡ false
+    none true = refl
+    none false = refl
+
+    here : bit (w / 2 ^ b) 0 ≡ bit w b
+    here = bit-zero (w / 2 ^ b) ∙ sym (bit-is w b)
+
+    go : (t : Bool) → eqb i 0 ≡ t → bit (w / 2 ^ b) i and t ≡ bit w b and t
+    go true e = rw (eqb-true i 0 e) (ap (λ (s : Bool). s and true) here)
+    go false e = none (bit (w / 2 ^ b) i) ∙ sym (none (bit w b))

@@ -1,5 +1,6 @@
 -- A relation on the numbers 0 to 16, held as 17 rows: that of a and b is bit b of row a.
 use Prim.Native.Nat.{ℕ}
+use mathlib.Core.Path.{_≡_}
 use mathlib.Core.Bool.{Bool}
 use mathlib.Core.List.{List}
 use lib.ListN.{getD}
@@ -14,6 +15,10 @@ rowOf w b = ltb b 17 and bit w b
 
 unfoldable pub square : List ℕ → ℕ → ℕ → Bool
 square rows a b = ltb a 17 and rowOf (getD rows a 0) b
+
+-- the first relation is the second, turned round
+abbrev pub Turned : List ℕ → List ℕ → Type 0
+Turned back rows = (a b : ℕ) → square back a b ≡ square rows b a
 
 -- a property in which hi is replaced by lo
 unfoldable pub renamedRow : ℕ → ℕ → (ℕ → Bool) → ℕ → Bool

@@ -4,10 +4,12 @@ ghost use Prim.Native.Nat.{ℕ, _+_, _-_, _*_, _≤_, _<_};
 ghost use mathlib.Core.Bool.{Bool, not, cond};
 ghost use lib.Dec.{eqb, ltb};
 ghost use Rattle.facts.specs.Bits.{bit};
-ghost use Rattle.facts.specs.Square.{square, renamedRow, columns, rows};
+ghost use Rattle.facts.specs.Square.{square, Turned, renamedRow, columns, rows};
 ghost use Rattle.facts.specs.Path.{pathOf, repOf, replaceRep, linksIn};
 ghost use Rattle.facts.specs.Answers.{foundOf, twoOf};
-ghost use Rattle.logic.specs.Search.{_and_, _or_, from, find};
+ghost use mathlib.Core.List.{_∷_};
+ghost use mathlib.Core.Option.{some};
+ghost use Rattle.logic.specs.Search.{_and_, _or_, from, find, select};
 ghost use Rattle.logic.specs.Facts.{terms, addReach, replaceIn, replace, firstTwo, successors, doubled, settle, join, live};
 
 // A term by its number.
@@ -55,12 +57,20 @@ pub fn without(row: u32, other: u32) -> u32
     (row | other) ^ other
 }
 
+// The row of the numbers 0 to n.
+pub fn up_to(n: usize) -> u32
+    requires { ⌜ n ≤ 16 ⌝ }
+    ensures { λ r. ⌜ ((i : ℕ) → bit r i ≡ ltb i (n + 1)) ⌝ }
+{
+    (2u32 << n) - 1
+}
+
 // The row of the terms 1 to n.
 pub fn term_row(n: usize) -> u32
     requires { ⌜ n ≤ 16 ⌝ }
     ensures { λ r. ⌜ ((i : ℕ) → bit r i ≡ ltb 0 i and ltb i (n + 1)) ⌝ }
 {
-    without((2u32 << n) - 1, 1)
+    without(up_to(n), 1)
 }
 
 // The smallest number of a row.
@@ -71,6 +81,14 @@ pub fn first(row: u32) -> Found
         return Found::Nothing;
     }
     Found::At(Term(u32::trailing_zeros(row) as usize))
+}
+
+// The row without its smallest number.
+pub fn rest(row: u32) -> u32
+    requires { ⌜ 0 < row ⌝ }
+    ensures { λ r. ⌜ (r < row) × ((a : ℕ) → find (bit row) (from 32 0) ≡ some a → select (bit row) (from 32 0) ≡ (a ∷ select (bit r) (from 32 0))) ⌝ }
+{
+    row & (row - 1)
 }
 
 // The fact about a and b is held.
@@ -282,6 +300,34 @@ pub fn live(s: Facts, n: usize) -> u32
         let u = rep[t];
         out = with(out, t, (0 < t) & (t <= n) & (u.0 == t));
         t += 1;
+    }
+    out
+}
+
+// Column y of a relation, as a row.
+fn column(rows: &[u32; 17], y: usize) -> u32
+    requires { ⌜ y ≤ 16 ⌝ }
+    ensures { λ r. ⌜ ((z : ℕ) → bit r z ≡ square (now (rows .entry)) z y) ⌝ }
+{
+    let mut out: u32 = 0;
+    let mut z: usize = 0;
+    while z < 17 {
+        let set = has(rows[z], y);
+        out = with(out, z, set);
+        z += 1;
+    }
+    out
+}
+
+// The relation turned round: its columns as rows.
+pub fn turned(rows: &[u32; 17]) -> [u32; 17]
+    ensures { λ r. ⌜ Turned r (now (rows .entry)) ⌝ }
+{
+    let mut out = [0u32; 17];
+    let mut y: usize = 0;
+    while y < 17 {
+        out[y] = column(rows, y);
+        y += 1;
     }
     out
 }
