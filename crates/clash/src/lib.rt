@@ -28,13 +28,14 @@ enum Place {
 }
 
 // What the term t was replaced by; a number above 16 is no term, and is not replaced.
-fn read_rep(rep: [Term; 17], t: usize) -> Term
-    ensures { λ r. ⌜ r .0 ≡ repOf rep t ⌝ }
+fn read_rep(rep: [Term; 17], t: Term) -> Term
+    ensures { λ r. ⌜ r .0 ≡ repOf rep (t .0) ⌝ }
 {
-    if t < 17 {
-        return rep[t];
+    let at = t.0;
+    if at < 17 {
+        return rep[at];
     }
-    Term(t)
+    t
 }
 
 // "a reaches b" is held.
@@ -121,7 +122,7 @@ fn is_field_partner(
     if !query::sign(query, at, j) {
         return false;
     }
-    let other = query::left(query, at, j);
+    let other = query::field(query, at, j);
     if field != other {
         return false;
     }
@@ -137,7 +138,7 @@ fn field_partner(query: &[u8], at: usize, count: usize, rep: [Term; 17], i: usiz
     if query::sign(query, at, i) {
         return Place::Nothing;
     }
-    let field = query::left(query, at, i);
+    let field = query::field(query, at, i);
     let term = read_rep(rep, query::right(query, at, i));
     let mut j: usize = 0;
     while j < count {

@@ -4,7 +4,7 @@ use mathlib.Core.Path.{_≡_}
 use mathlib.Core.List.{List}
 use lib.ListN.{length, getD, take, drop}
 use lib.Dec.{eqb}
-use Rattle.logic.specs.Query.{Literal, entryOf, termCount, literals, flags, decode}
+use Rattle.logic.specs.Query.{Literal, termCount, literals, flags, decode}
 use Rattle.query.specs.declared.Layout.{Layout}
 
 pub record LaysOut (l : Layout) (bytes : List ℕ) : Type 0 where
@@ -24,10 +24,6 @@ pub record LaysOut (l : Layout) (bytes : List ℕ) : Type 0 where
   pub boolean-within : l .«boolean_count» ≤ 60
   pub boolean-fit : l .«boolean_at» + 2 * l .«boolean_count» ≤ length bytes
   pub boolean-are : decode bytes .booleans ≡ flags (take (2 * l .«boolean_count») (drop (l .«boolean_at») bytes))
-
--- the entry of term t, wherever the query is laid out
-abbrev pub EntryAt : List ℕ → ℕ → ℕ → Type 0
-EntryAt bytes t r = (l : Layout) → LaysOut l bytes → 1 ≤ t → t ≤ l .terms → r ≡ entryOf (decode bytes .entries) t
 
 -- Literal i of a section at `at`, of three bytes an entry and of two.
 abbrev pub literalIn : List ℕ → ℕ → ℕ → Literal

@@ -1,4 +1,5 @@
 // The order list and the query's bytes: where the sections of a query stand, refusals 1 to 8, and reading a literal in place.
+use facts::Term;
 ghost use mathlib.Core.Path.{_≡_};
 ghost use mathlib.Core.List.{[], _∷_};
 ghost use Prim.Native.Nat.{_+_, _*_, _≤_, _<_};
@@ -7,7 +8,7 @@ ghost use lib.Dec.{eqb};
 ghost use Rattle.logic.specs.Search.{any};
 ghost use Rattle.logic.specs.Query.{isOrder, entryRole, signRole, termRole, roleFault, byteFault};
 ghost use Rattle.query.specs.Sections.{widthOf, rolesAt, countedRole, meets, sectionFault, ReadAs, Sections};
-ghost use Rattle.query.specs.LaysOut.{EntryAt, literalIn, flagIn};
+ghost use Rattle.query.specs.LaysOut.{literalIn, flagIn};
 ghost use Rattle.query.specs.Answers.{foundOf, LaidOut, CheckedAs};
 
 // Where the sections of a query stand: the first byte of each behind its count, and the count. The terms stand at 1.
@@ -161,10 +162,10 @@ pub fn byte_at(query: &[u8], place: usize) -> usize
 }
 
 // "A term byte is not below its own term's number."
-fn entry_refused(k: usize, t: usize, byte: usize) -> bool
-    ensures { λ b. ⌜ b ≡ meets (entryRole t) k byte ⌝ }
+fn entry_refused(k: usize, t: Term, byte: usize) -> bool
+    ensures { λ b. ⌜ b ≡ meets (entryRole (t .0)) k byte ⌝ }
 {
-    (5 == k) & !(byte < t)
+    (5 == k) & !(byte < t.0)
 }
 
 // "A sign is neither 0 nor 1."
@@ -182,9 +183,9 @@ fn number_refused(k: usize, own: usize, most: usize, byte: usize) -> bool
 }
 
 // The lowest byte of an entry that meets refusal k: of a term, of a boolean literal, and of a literal with two numbers.
-fn term_fault(k: usize, t: usize, query: &[u8], at: usize) -> Found
+fn term_fault(k: usize, t: Term, query: &[u8], at: usize) -> Found
     requires { ⌜ at + 1 ≤ length (now query) ⌝ }
-    ensures { λ r. ⌜ foundOf r ≡ roleFault k at (entryRole t ∷ []) (drop at (now (query .entry))) ⌝ }
+    ensures { λ r. ⌜ foundOf r ≡ roleFault k at (entryRole (t .0) ∷ []) (drop at (now (query .entry))) ⌝ }
 {
     if entry_refused(k, t, byte_at(query, at)) {
         return Found::At(at);
@@ -227,7 +228,7 @@ fn entry_fault(k: usize, kind: Kind, n: usize, i: usize, query: &[u8], at: usize
     ensures { λ r. ⌜ foundOf r ≡ roleFault k at (rolesAt kind n i) (drop at (now (query .entry))) ⌝ }
 {
     match kind {
-        Kind::Terms => term_fault(k, i, query, at),
+        Kind::Terms => term_fault(k, Term(i), query, at),
         Kind::Pairs => literal_fault(k, 7, n, n, query, at),
         Kind::Fields => literal_fault(k, 8, 8, n, query, at),
         Kind::Booleans => flag_fault(k, 8, 8, query, at),
@@ -316,15 +317,7 @@ pub fn check(query: &[u8]) -> Checked
     }
 }
 
-// The entry of term t: 0 for a variable, and j for f of term j.
-pub fn entry(query: &[u8], t: usize) -> usize
-    requires { ⌜ t < length (now query) ⌝ }
-    ensures { λ r. ⌜ EntryAt (now (query .entry)) t r ⌝ }
-{
-    byte_at(query, t)
-}
-
-// Literal i of the equalities, the reachability literals or the data literals, which stand at `at`: whether it is plain, and its numbers.
+// Literal i of the equalities, the reachability literals or the data literals, which stand at `at`: whether it is plain.
 pub fn sign(query: &[u8], at: usize, i: usize) -> bool
     requires { ⌜ at + 3 * i + 3 ≤ length (now query) ⌝ }
     ensures { λ r. ⌜ r ≡ literalIn (now (query .entry)) at i .plain ⌝ }
@@ -332,18 +325,28 @@ pub fn sign(query: &[u8], at: usize, i: usize) -> bool
     byte_at(query, at + 3 * i) == 1
 }
 
-pub fn left(query: &[u8], at: usize, i: usize) -> usize
+// The left term of an equality or a reachability literal.
+pub fn left(query: &[u8], at: usize, i: usize) -> Term
+    requires { ⌜ at + 3 * i + 3 ≤ length (now query) ⌝ }
+    ensures { λ r. ⌜ r .0 ≡ literalIn (now (query .entry)) at i .left ⌝ }
+{
+    Term(byte_at(query, at + 3 * i + 1))
+}
+
+// The right term of these, or the term of a data literal.
+pub fn right(query: &[u8], at: usize, i: usize) -> Term
+    requires { ⌜ at + 3 * i + 3 ≤ length (now query) ⌝ }
+    ensures { λ r. ⌜ r .0 ≡ literalIn (now (query .entry)) at i .right ⌝ }
+{
+    Term(byte_at(query, at + 3 * i + 2))
+}
+
+// The field of a data literal.
+pub fn field(query: &[u8], at: usize, i: usize) -> usize
     requires { ⌜ at + 3 * i + 3 ≤ length (now query) ⌝ }
     ensures { λ r. ⌜ r ≡ literalIn (now (query .entry)) at i .left ⌝ }
 {
     byte_at(query, at + 3 * i + 1)
-}
-
-pub fn right(query: &[u8], at: usize, i: usize) -> usize
-    requires { ⌜ at + 3 * i + 3 ≤ length (now query) ⌝ }
-    ensures { λ r. ⌜ r ≡ literalIn (now (query .entry)) at i .right ⌝ }
-{
-    byte_at(query, at + 3 * i + 2)
 }
 
 // Literal i of the booleans, which stand at `at`: whether it is plain, and its number.

@@ -363,9 +363,10 @@ fn mark_fields(query: &[u8], at: usize, count: usize, rep: [Term; 17]) -> [bool;
         if !query::sign(query, at, i) {
             continue;
         }
-        let field = query::left(query, at, i);
+        let field = query::field(query, at, i);
         let term = query::right(query, at, i);
-        let stands = rep[term];
+        let t = term.0;
+        let stands = rep[t];
         let cell = stands.0 * 17 + field;
         marks[cell] = true;
     }

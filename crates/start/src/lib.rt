@@ -63,8 +63,10 @@ fn join_one(s: Facts, n: usize, query: &[u8], at: usize, i: usize) -> Facts
     }
     let left = query::left(query, at, i);
     let right = query::right(query, at, i);
-    let a = s.rep[left];
-    let b = s.rep[right];
+    let l = left.0;
+    let r = right.0;
+    let a = s.rep[l];
+    let b = s.rep[r];
     facts::join(s, n, a, b)
 }
 
@@ -91,10 +93,12 @@ fn reach_one(s: Facts, query: &[u8], at: usize, i: usize) -> Facts
     if !plain {
         return s;
     }
-    let from = query::left(query, at, i);
-    let to = query::right(query, at, i);
-    let a = s.rep[from];
-    let b = s.rep[to];
+    let left = query::left(query, at, i);
+    let right = query::right(query, at, i);
+    let l = left.0;
+    let r = right.0;
+    let a = s.rep[l];
+    let b = s.rep[r];
     facts::add_reach(s, a, b)
 }
 

@@ -26,7 +26,7 @@ field-partner-spec =
     (λ c κs. omega arith)
     -- returns
     (λ c. sym (partner-plain _ _ _ (literals-are _ _ _ (c .before .before .before .pre .0)) _ _ (c .before .before .before .pre .1) (sym (c .before .sign .ensures) ∙ c .if1 .taken)))
-    -- left-requires
+    -- field-requires
     (λ c κs. omega arith)
     -- right-requires
     (λ c κs. omega arith)
@@ -39,12 +39,12 @@ field-partner-spec =
     -- add-t13
     (λ c. omega arith)
     -- returns-2
-    (λ c. sym (partner-here _ _ _ (literals-are _ _ _ (c .before .before .before .before .before .before .before .before .before .before .pre .0)) _ _ (c .before .before .before .before .before .before .before .before .before .before .pre .1) _ (c .before .before .loop-test .taken) (sym (c .before .before .before .before .before .before .before .before .sign .ensures) ∙ c .before .before .before .before .before .before .before .if1 .left) (sym (rw (c .before .before .before .before .before .before .left .ensures, c .before .before .before .before .read-rep .ensures ∙ ap (repOf _) (c .before .before .before .before .before .right .ensures)) at (c .before .is-field-partner .ensures)) ∙ c .if2 .taken) (c .before .before .before .loop .inv)))
+    (λ c. sym (partner-here _ _ _ (literals-are _ _ _ (c .before .before .before .before .before .before .before .before .before .before .pre .0)) _ _ (c .before .before .before .before .before .before .before .before .before .before .pre .1) _ (c .before .before .loop-test .taken) (sym (c .before .before .before .before .before .before .before .before .sign .ensures) ∙ c .before .before .before .before .before .before .before .if1 .left) (sym (rw (c .before .before .before .before .before .before .field .ensures, c .before .before .before .before .read-rep .ensures ∙ ap (repOf _) (c .before .before .before .before .before .right .ensures)) at (c .before .is-field-partner .ensures)) ∙ c .if2 .taken) (c .before .before .before .loop .inv)))
     -- add-j
     (λ c. omega arith)
     -- loop-less
     (λ c. omega arith)
     -- loop-again
-    (λ c. partner-next _ _ _ (literals-are _ _ _ (c .before .before .before .before .before .before .before .before .before .before .pre .0)) _ _ (c .before .before .before .before .before .before .before .before .before .before .pre .1) _ (c .before .before .loop-test .taken) (sym (c .before .before .before .before .before .before .before .before .sign .ensures) ∙ c .before .before .before .before .before .before .before .if1 .left) (sym (rw (c .before .before .before .before .before .before .left .ensures, c .before .before .before .before .read-rep .ensures ∙ ap (repOf _) (c .before .before .before .before .before .right .ensures)) at (c .before .is-field-partner .ensures)) ∙ c .if2 .left) (c .before .before .before .loop .inv))
+    (λ c. partner-next _ _ _ (literals-are _ _ _ (c .before .before .before .before .before .before .before .before .before .before .pre .0)) _ _ (c .before .before .before .before .before .before .before .before .before .before .pre .1) _ (c .before .before .loop-test .taken) (sym (c .before .before .before .before .before .before .before .before .sign .ensures) ∙ c .before .before .before .before .before .before .before .if1 .left) (sym (rw (c .before .before .before .before .before .before .field .ensures, c .before .before .before .before .read-rep .ensures ∙ ap (repOf _) (c .before .before .before .before .before .right .ensures)) at (c .before .is-field-partner .ensures)) ∙ c .if2 .left) (c .before .before .before .loop .inv))
     -- returns-3
     (λ c. sym (partner-end _ _ _ (literals-are _ _ _ (c .before .before .before .before .before .before .before .before .pre .0)) _ _ (c .before .before .before .before .before .before .before .before .pre .1) _ (c .loop-test .left) (c .before .loop .inv))))

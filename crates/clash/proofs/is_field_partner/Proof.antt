@@ -17,15 +17,15 @@ is-field-partner-spec =
     (λ c κs. search needs)
     -- returns
     (λ c. rw (sym (c .before .sign .ensures) ∙ not-true _ (c .if1 .taken)))
-    -- left-requires
+    -- field-requires
     (λ c κs. search needs)
     -- returns-2
-    (λ c. rw (sym (c .before .before .before .sign .ensures) ∙ not-false _ (c .before .before .if1 .left), ← c .before .left .ensures, ne-eqb _ _ (c .if2 .taken)))
+    (λ c. rw (sym (c .before .before .before .sign .ensures) ∙ not-false _ (c .before .before .if1 .left), ← c .before .field .ensures, ne-eqb _ _ (c .if2 .taken)))
     -- right-requires
     (λ c κs. search needs)
     -- read-rep-requires
     (λ c κs. search needs)
     -- returns-3
     (λ c.
-    rw (sym (c .before .before .before .before .before .before .before .sign .ensures) ∙ not-false _ (c .before .before .before .before .before .before .if1 .left), ← c .before .before .before .before .before .left .ensures, eq-eqb _ _ (c .before .before .before .before .if2 .left))
+    rw (sym (c .before .before .before .before .before .before .before .sign .ensures) ∙ not-false _ (c .before .before .before .before .before .before .if1 .left), ← c .before .before .before .before .before .field .ensures, eq-eqb _ _ (c .before .before .before .before .if2 .left))
     (ap (eqb _) (c .before .before .read-rep .ensures ∙ ap (repOf _) (c .before .before .before .right .ensures)))))

@@ -21,15 +21,15 @@ abbrev μ-loop : tie.MeasureT-loop
 μ-loop query at count rep marks₀ i₀ marks i = count - i
 
 -- the cell's row is the term that stands for the literal's
-stands : (c : tie.After-struct-known Inv-loop μ-loop) → getD (c .before .before .before .before .before .before .before .before .before .args .t4) (c .before .before .right .result) (record { 0 = 0 }) .0 ≡ repOf (c .before .before .before .before .before .before .before .before .before .args .t4) (literalIn (c .before .before .before .before .before .before .before .before .before .args .query .now) (c .before .before .before .before .before .before .before .before .before .args .at) (c .before .before .before .before .before .before .before .loop .i) .right)
+stands : (c : tie.After-struct-known Inv-loop μ-loop) → getD (c .before .before .before .before .before .before .before .before .before .args .t4) (c .before .before .right .result .0) (record { 0 = 0 }) .0 ≡ repOf (c .before .before .before .before .before .before .before .before .before .args .t4) (literalIn (c .before .before .before .before .before .before .before .before .before .args .query .now) (c .before .before .before .before .before .before .before .before .before .args .at) (c .before .before .before .before .before .before .before .loop .i) .right)
 stands c =
     let r = c .before .before .before .before .before .before .before .before .before .pre .1 (c .before .before .before .before .before .before .before .loop .i) (omega arith) in
     sym (rep-in _ _ (omega (arith, c .before .before .right .ensures))) ∙ ap (repOf _) (c .before .before .right .ensures)
 
-cell : (c : tie.After-struct-known Inv-loop μ-loop) → (getD (c .before .before .before .before .before .before .before .before .before .args .t4) (c .before .before .right .result) (record { 0 = 0 }) .0 ≤ 16) × (c .before .before .before .left .result ≤ 8)
+cell : (c : tie.After-struct-known Inv-loop μ-loop) → (getD (c .before .before .before .before .before .before .before .before .before .args .t4) (c .before .before .right .result .0) (record { 0 = 0 }) .0 ≤ 16) × (c .before .before .before .field .result ≤ 8)
 cell c =
     let r = c .before .before .before .before .before .before .before .before .before .pre .1 (c .before .before .before .before .before .before .before .loop .i) (omega arith) in
-    (omega (arith, stands c), omega (arith, c .before .before .before .left .ensures))
+    (omega (arith, stands c), omega (arith, c .before .before .before .field .ensures))
 
 returns : tie.Need-returns Inv-loop μ-loop
 unfolding literalsAt listed
@@ -51,7 +51,7 @@ mark-fields-spec =
     (λ c. omega arith)
     -- loop-again
     (λ c. (c .before .before .before .loop .inv .0, fields-skip _ _ _ _ _ (omega arith) (sym (c .before .sign .ensures) ∙ not-true _ (c .if1 .taken)) (c .before .before .before .loop .inv .1)))
-    -- left-requires
+    -- field-requires
     (λ c κs. omega arith)
     -- right-requires
     (λ c κs. omega arith)
@@ -74,6 +74,6 @@ mark-fields-spec =
     let l = c .before .before .before .before .before .before .before .loop in
     let h = cell c in (
       simp length-set (l .inv .0),
-      fields-here _ _ _ (l .i) (l .marks) (l .inv .0) (omega arith) (sym (c .before .before .before .before .before .sign .ensures) ∙ not-false _ (c .before .before .before .before .if1 .left)) _ _ (h .0) (omega arith) (stands c) (c .before .before .before .left .ensures) (l .inv .1),
+      fields-here _ _ _ (l .i) (l .marks) (l .inv .0) (omega arith) (sym (c .before .before .before .before .before .sign .ensures) ∙ not-false _ (c .before .before .before .before .if1 .left)) _ _ (h .0) (omega arith) (stands c) (c .before .before .before .field .ensures) (l .inv .1),
     ))
     returns)

@@ -30,7 +30,7 @@ join-one-spec =
     -- join-requires
     (λ c κs.
     let p = c .before .before .before .before .before .before .before .pre in
-    omega (arith, read-bounded _ (p .3) (c .before .before .before .left .result) (omega arith), read-bounded _ (p .3) (c .before .before .right .result) (omega arith)))
+    omega (arith, read-bounded _ (p .3) (c .before .before .before .left .result .0) (omega arith), read-bounded _ (p .3) (c .before .before .right .result .0) (omega arith)))
     -- returns-2
     (λ c.
     c .join .ensures
