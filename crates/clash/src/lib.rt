@@ -39,7 +39,7 @@ fn read_rep(rep: [Term; 17], t: Term) -> Term
 }
 
 // "a reaches b" is held.
-fn reaches(reach: &[bool; 289], a: Term, b: Term) -> bool
+fn reaches(reach: &[u32; 17], a: Term, b: Term) -> bool
     ensures { λ r. ⌜ r ≡ square (now (reach .entry)) (a .0) (b .0) ⌝ }
 {
     if 16 < a.0 {
@@ -80,7 +80,7 @@ fn equality_clash(query: &[u8], at: usize, count: usize, rep: [Term; 17]) -> Cla
 }
 
 // Reachability literal i is negated, and its fact is held.
-fn is_held_negated(query: &[u8], at: usize, i: usize, rep: [Term; 17], reach: &[bool; 289]) -> bool
+fn is_held_negated(query: &[u8], at: usize, i: usize, rep: [Term; 17], reach: &[u32; 17]) -> bool
     requires { ⌜ at + 3 * i + 3 ≤ length (now query) ⌝ }
     ensures { λ r. ⌜ r ≡ (not (literalIn (now (query .entry)) at i .plain) and reachHeld (repOf rep) (square (now (reach .entry))) (literalIn (now (query .entry)) at i)) ⌝ }
 {
@@ -93,7 +93,7 @@ fn is_held_negated(query: &[u8], at: usize, i: usize, rep: [Term; 17], reach: &[
 }
 
 // "a negated reachability fact that is held"
-fn reach_clash(query: &[u8], at: usize, count: usize, rep: [Term; 17], reach: &[bool; 289]) -> Clash
+fn reach_clash(query: &[u8], at: usize, count: usize, rep: [Term; 17], reach: &[u32; 17]) -> Clash
     requires { ⌜ at + 3 * count ≤ length (now query) ⌝ }
     ensures { λ r. ⌜ lineOf r ≡ alone 3 (literalsIn (now (query .entry)) at count) (reachHeld (repOf rep) (square (now (reach .entry)))) ⌝ }
 {
@@ -219,7 +219,7 @@ pub fn boolean_clash(query: &[u8], layout: Layout) -> Clash
 }
 
 // The clash in the sections that speak of terms.
-pub fn path_clash(query: &[u8], layout: Layout, rep: [Term; 17], reach: &[bool; 289]) -> Clash
+pub fn path_clash(query: &[u8], layout: Layout, rep: [Term; 17], reach: &[u32; 17]) -> Clash
     requires { ⌜ LaysOut layout (now query) ⌝ }
     ensures { λ r. ⌜ lineOf r ≡ pathClash (decode (now (query .entry))) (repOf rep) (square (now (reach .entry))) ⌝ }
 {
@@ -239,7 +239,7 @@ pub fn path_clash(query: &[u8], layout: Layout, rep: [Term; 17], reach: &[bool; 
 }
 
 // "Lowest section, then lowest place, is reported": the clash of every path with these representatives and this reachability.
-pub fn find_clash(query: &[u8], layout: Layout, rep: [Term; 17], reach: &[bool; 289]) -> Clash
+pub fn find_clash(query: &[u8], layout: Layout, rep: [Term; 17], reach: &[u32; 17]) -> Clash
     requires { ⌜ LaysOut layout (now query) ⌝ }
     ensures { λ r. ⌜ ((s : Facts) → s .rep ≡ repOf rep → s .graph .reach ≡ square (now (reach .entry)) → lineOf r ≡ clash (decode (now (query .entry))) s) ⌝ }
 {

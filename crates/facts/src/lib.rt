@@ -278,7 +278,7 @@ pub fn join(s: Facts, n: usize, a: Term, b: Term) -> Facts
 }
 
 // A row with t, where it is to have it.
-fn with(row: u32, t: usize, wanted: bool) -> u32
+pub fn with(row: u32, t: usize, wanted: bool) -> u32
     requires { ⌜ t ≤ 16 ⌝ }
     ensures { λ r. ⌜ ((i : ℕ) → bit r i ≡ bit row i or (eqb i t and wanted)) ⌝ }
 {
