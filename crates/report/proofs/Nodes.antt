@@ -8,11 +8,12 @@ use mathlib.Core.List.{List, [], _∷_, List·Memᴰ, List·Memᴰ·head, List·
 use lib.ListN.{length, getD, set, replicate, getD-replicate}
 use lib.Seq.{getD-set-same, getD-set-other}
 use lib.Dec.{eqb, ltb}
-use borrow.Author.Tests.{eq-eqb, ne-eqb, eqb-true, eqb-false, ltb-true, ltb-false}
+use borrow.Author.Tests.{lt-ltb, eq-eqb, ne-eqb, eqb-true, eqb-false, ltb-true, ltb-false}
 use Rattle.logic.specs.Search.{_or_, from, any, select}
 use Rattle.logic.specs.Facts.{Facts, terms}
 use Rattle.logic.specs.Shown.{orZero, nodes, placeOf}
 use Rattle.logic.proofs.Basics.Search.{bool-cases, select-mem, from-mem}
+use Rattle.logic.proofs.Completeness.Placed.{length-from}
 use Rattle.facts.proofs.Loops.{from-next}
 use Rattle.report.specs.declared.Node.{Node}
 use Rattle.report.specs.Nodes.{nodeOf, marked, nodesBy, Numbers}
@@ -171,15 +172,15 @@ unfolding select from
 select-every q zero i h = refl
 select-every q (suc k) i h = rw (h i (omega arith) (omega arith)) (ap (λ (xs : List ℕ). i ∷ xs) (select-every q k (suc i) (λ x l r. h x (omega arith) (omega arith))))
 
-pub every-marked : (n : ℕ) → n ≤ 16 → marked (set (replicate 17 true) 0 false) n ≡ terms n
-unfolding marked
-every-marked n h =
-    select-skip q (n + 1) 0 (omega arith) refl
-    ∙ select-every q (n + 1 - 1) 1 (λ x l r. getD-set-other (replicate 17 true) 0 x false false (omega arith) ∙ getD-replicate 17 x true false (omega arith))
+pub every-selected : (n : ℕ) → select (ltb 0) (from (n + 1 - 0) 0) ≡ terms n
+every-selected n =
+    select-skip (ltb 0) (n + 1) 0 (omega arith) refl
+    ∙ select-every (ltb 0) (n + 1 - 1) 1 (λ x l r. lt-ltb 0 x l)
     ∙ sym (terms-from n)
-  where
-    q : ℕ → Bool
-    q x = getD (set (replicate 17 true) 0 false) x false
+
+pub every-length : (n : ℕ) → length (select (ltb 0) (from (n + 1 - 0) 0)) ≡ n
+unfolding terms
+every-length n = ap length (every-selected n) ∙ length-from n 1
 
 -- what is marked, and where it is numbered
 pub marked-below : (marks : List Bool) (n x : ℕ) → List·Memᴰ x (marked marks n) → x ≤ n

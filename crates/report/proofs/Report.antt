@@ -10,7 +10,6 @@ use Rattle.logic.specs.Facts.{terms}
 use Rattle.logic.specs.Calls.{padded}
 use Rattle.logic.specs.Shown.{nodes, placeOf, shownLink, byteOf, fieldByte, booleanByte, report}
 use Rattle.logic.proofs.Basics.Search.{from-mem}
-use Rattle.logic.proofs.Completeness.Placed.{length-from}
 use Rattle.logic.proofs.Completeness.ShownNodes.{nodes-length}
 use Rattle.facts.specs.declared.Facts as code
 use Rattle.facts.specs.Path.{repOf, pathOf}
@@ -23,22 +22,21 @@ use Rattle.report.specs.Links.{linkOf}
 use Rattle.report.specs.Nodes.{nodeOf, marked, nodesBy, Numbers}
 use Rattle.report.specs.Bytes.{Appends, fieldHeld, booleanHeld, literalsAt, flagsAt, FieldsIn, FlagsIn, Reportable, sections}
 use Rattle.report.proofs.Completing.{shown-below}
-use Rattle.report.proofs.Nodes.{nodes-by, marked-below, numbers-below}
+use Rattle.report.proofs.Nodes.{nodes-by, every-selected, every-length, marked-below, numbers-below}
 use Rattle.report.proofs.Writing.{appends-then, appends-zeros}
 
-pub terms-length : (marks : List Bool) (n : ℕ) → marked marks n ≡ terms n → length (marked marks n) ≡ n
-unfolding terms
-terms-length marks n e = ap length e ∙ length-from n 1
-
 -- five pieces, each behind the one before
-pub sections-written : (room : ℕ) (b0 b1 b2 b3 b4 b5 : List ℕ) (n m : ℕ) (ts es : List ℕ) (f g h : ℕ → ℕ) (p1 p2 p3 p4 v : ℕ) → m ≡ length ts → es ≡ terms n → b0 ≡ replicate room 0 → length b1 ≡ length b0 → length b2 ≡ length b1 → length b3 ≡ length b2 → length b4 ≡ length b3 → (p1 ≡ 0 + 1 + length ts) × Appends b0 b1 0 (m ∷ map f ts) → (p2 ≡ p1 + 1 + length es) × Appends b1 b2 p1 (n ∷ map g es) → (p3 ≡ p2 + 1 + length ts) × Appends b2 b3 p2 (m ∷ map h ts) → (p4 ≡ p3 + 1) × Appends b3 b4 p3 (1 ∷ []) → Appends b4 b5 p4 (v ∷ []) → b5 ≡ padded room (sections n ts f g h v)
-sections-written room b0 b1 b2 b3 b4 b5 n m ts es f g h p1 p2 p3 p4 v counted every cleared l1 l2 l3 l4 s1 s2 s3 s4 s5 =
+pub sections-written : (room : ℕ) (b0 b1 b2 b3 b4 b5 : List ℕ) (n m : ℕ) (ts : List ℕ) (f g h : ℕ → ℕ) (p1 p2 p3 p4 v : ℕ) → m ≡ length ts → b0 ≡ replicate room 0 → length b1 ≡ length b0 → length b2 ≡ length b1 → length b3 ≡ length b2 → length b4 ≡ length b3 → (p1 ≡ 0 + 1 + m) × Appends b0 b1 0 (m ∷ map f ts) → (p2 ≡ p1 + 1 + n) × Appends b1 b2 p1 (n ∷ map g (terms n)) → (p3 ≡ p2 + 1 + m) × Appends b2 b3 p2 (m ∷ map h ts) → (p4 ≡ p3 + 1) × Appends b3 b4 p3 (1 ∷ []) → Appends b4 b5 p4 (v ∷ []) → b5 ≡ padded room (sections n ts f g h v)
+sections-written room b0 b1 b2 b3 b4 b5 n m ts f g h p1 p2 p3 p4 v counted cleared l1 l2 l3 l4 s1 s2 s3 s4 s5 =
     let last = appends-then b3 b4 b5 p3 p4 (1 ∷ []) (v ∷ []) l4 (s4 .0) (s4 .1) s5 in
     let third = appends-then b2 b3 b5 p2 p3 (m ∷ map h ts) (1 ∷ v ∷ []) l3 (omega (arith, s3 .0, length-map ts h)) (s3 .1) last in
-    let second = appends-then b1 b2 b5 p1 p2 (n ∷ map g es) ((m ∷ map h ts) ++ (1 ∷ v ∷ [])) l2 (omega (arith, s2 .0, length-map es g)) (s2 .1) third in
-    let first = appends-then b0 b1 b5 0 p1 (m ∷ map f ts) ((n ∷ map g es) ++ ((m ∷ map h ts) ++ (1 ∷ v ∷ []))) l1 (omega (arith, s1 .0, length-map ts f)) (s1 .1) second in
+    let second = appends-then b1 b2 b5 p1 p2 (n ∷ map g (terms n)) ((m ∷ map h ts) ++ (1 ∷ v ∷ [])) l2 (omega (arith, s2 .0, length-map (terms n) g, terms-length)) (s2 .1) third in
+    let first = appends-then b0 b1 b5 0 p1 (m ∷ map f ts) ((n ∷ map g (terms n)) ++ ((m ∷ map h ts) ++ (1 ∷ v ∷ []))) l1 (omega (arith, s1 .0, length-map ts f)) (s1 .1) second in
     appends-zeros b0 b5 room _ cleared first
-    ∙ ap₂ (λ (k : ℕ) (xs : List ℕ). padded room ((k ∷ map f ts) ++ ((n ∷ map g xs) ++ ((k ∷ map h ts) ++ (1 ∷ v ∷ []))))) counted every
+    ∙ ap (λ (k : ℕ). padded room ((k ∷ map f ts) ++ ((n ∷ map g (terms n)) ++ ((k ∷ map h ts) ++ (1 ∷ v ∷ []))))) counted
+  where
+    terms-length : length (terms n) ≡ n
+    terms-length = ap length (sym (every-selected n)) ∙ every-length n
 
 map-alike : (f g : ℕ → ℕ) (xs : List ℕ) → ((x : ℕ) → List·Memᴰ x xs → f x ≡ g x) → map f xs ≡ map g xs
 map-alike f g [] h = refl

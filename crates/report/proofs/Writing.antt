@@ -10,9 +10,10 @@ use mathlib.Core.List.{List, [], _∷_, _++_, map, append-assoc, append-nil}
 use lib.ListN.{length, getD, set, drop, replicate, length-append, length-set, length-map, length-replicate, drop-of-length-le}
 use lib.Seq.{drop-cons, set-append-seam, set-at}
 use lib.Dec.{eqb}
-use borrow.Author.Tests.{eqb-true, eqb-false}
+use borrow.Author.Tests.{eq-eqb, ne-eqb, eqb-true, eqb-false}
 use Rattle.logic.specs.Search.{from, select}
 use Rattle.logic.specs.Calls.{padded}
+use Rattle.logic.specs.Shown.{placeOf}
 use Rattle.logic.proofs.Basics.Search.{bool-cases}
 use Rattle.report.specs.Bytes.{Appends}
 use Rattle.report.proofs.Loops.{select-end, select-here, select-skip}
@@ -122,6 +123,55 @@ module _ (q : ℕ → Bool) (f : ℕ → ℕ) (n at : ℕ) where
         let none = ap length s in
         let whole : now .written ≡ map f (select q (from (n + 1 - 0) 0)) = sym (append-nil (now .written)) ∙ ap (λ (ts : List ℕ). now .written ++ map f ts) (sym s) ∙ now .left in
         (omega (arith, sizes), λ front e o. now .appended front e o ∙ ap (λ (ys : List ℕ). padded (length old) (front ++ ys)) whole)
+
+-- the same, where each byte is put at the place of its number among those that are marked
+pub record PutAt (q : ℕ → Bool) (f : ℕ → ℕ) (n at t : ℕ) (old cur : List ℕ) : Type 0 where
+  pub to : ℕ
+  pub put : Put q f n at t to old cur
+  pub places : (x : ℕ) → t ≤ x → at + placeOf x (select q (from (n + 1 - 0) 0)) ≡ to + placeOf x (select q (from (n + 1 - t) t))
+
+module _ (q : ℕ → Bool) (f : ℕ → ℕ) (n at : ℕ) where
+  pub put-at-none : (old : List ℕ) → PutAt q f n at 0 old old
+  put-at-none old = record { to = at; put = put-none q f n at old; places = λ x l. refl }
+
+  module _ (t : ℕ) (old cur : List ℕ) (now : PutAt q f n at t old cur) where
+    pub put-at-skip : t ≤ n → q t ≡ false → PutAt q f n at (t + 1) old cur
+    put-at-skip h e =
+        record {
+          to = now .to;
+          put = put-skip q f n at t (now .to) old cur (now .put) h e;
+          places = λ x l. now .places x (omega arith) ∙ ap (λ (ts : List ℕ). now .to + placeOf x ts) (select-skip q (n + 1) t (omega arith) e);
+        }
+
+    module _ (h : t ≤ n) (e : q t ≡ true) (p : ℕ) (is : p ≡ placeOf t (select q (from (n + 1 - 0) 0))) where
+      -- the number's place is the next one
+      pub put-at-place : at + p ≡ now .to + 1
+      unfolding placeOf
+      put-at-place =
+          ap (λ (k : ℕ). at + k) is
+          ∙ now .places t (omega arith)
+          ∙ ap (λ (ts : List ℕ). now .to + placeOf t ts) (select-here q (n + 1) t (omega arith) e)
+          ∙ rw (eq-eqb t t refl)
+
+      pub put-at-room : at + length (select q (from (n + 1 - 0) 0)) ≤ length old → at + p - 1 < length cur
+      put-at-room r = let l = put-room q f n at t (now .to) old cur (now .put) h e r in omega (arith, put-at-place)
+
+      pub put-at-here : at + length (select q (from (n + 1 - 0) 0)) ≤ length old → (v : ℕ) → v ≡ f t → PutAt q f n at (t + 1) old (set cur (at + p - 1) v)
+      unfolding placeOf
+      put-at-here r v w =
+          record {
+            to = now .to + 1;
+            put = rw place (put-here q f n at t (now .to) old cur (now .put) h e r v w);
+            places = λ x l. now .places x (omega arith)
+                ∙ ap (λ (ts : List ℕ). now .to + placeOf x ts) (select-here q (n + 1) t (omega arith) e)
+                ∙ rw (ne-eqb t x (λ i. omega arith)) (omega arith);
+          }
+        where
+          place : at + p - 1 ≡ now .to
+          place = omega (arith, put-at-place)
+
+    pub put-at-all : n < t → Appends old cur at (map f (select q (from (n + 1 - 0) 0)))
+    put-at-all h = put-all q f n at t (now .to) old cur (now .put) h .1
 
 -- a list of bytes that is filled from lo on
 pub filled-more : (g : ℕ → ℕ) (lo : ℕ) (bytes : List ℕ) (t : ℕ) → t < length bytes → (b : ℕ) → b ≡ g t → ((x : ℕ) → lo ≤ x → x < t → getD bytes x 0 ≡ g x) → (x : ℕ) → lo ≤ x → x < t + 1 → getD (set bytes t b) x 0 ≡ g x

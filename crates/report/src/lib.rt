@@ -336,19 +336,40 @@ fn put(buffer: &mut [u8], at: usize, byte: u8) -> usize
     at + 1
 }
 
-// The bytes of the numbers to n that are marked.
-fn put_marked(buffer: &mut [u8], at: usize, bytes: &[u8; 17], marks: &[bool; 17], n: usize) -> usize
-    requires { ⌜ (n ≤ 16) × (at + length (marked (now marks) n) ≤ length (now buffer)) ⌝ }
-    ensures { λ r. ⌜ (r ≡ at + length (marked (now (marks .entry)) n)) × Appends (now (buffer .entry)) (now (buffer .exit)) at (map (λ t. getD (now (bytes .entry)) t 0) (marked (now (marks .entry)) n)) ⌝ }
+// The byte of each term that is a node, at its node's place.
+fn put_nodes(
+    buffer: &mut [u8],
+    at: usize,
+    bytes: &[u8; 17],
+    marks: &[bool; 17],
+    nodes: [Node; 17],
+    n: usize,
+)
+    requires { ⌜ (n ≤ 16) × (at + length (marked (now marks) n) ≤ length (now buffer)) × Numbers nodes (marked (now marks) n) ⌝ }
+    ensures { λ r. ⌜ Appends (now (buffer .entry)) (now (buffer .exit)) at (map (λ t. getD (now (bytes .entry)) t 0) (marked (now (marks .entry)) n)) ⌝ }
 {
-    let mut to = at;
     let end = n + 1;
     for t in 0..end {
         if !marks[t] {
             continue;
         }
+        let node = nodes[t];
+        let to = at + node.0 - 1;
+        buffer[to] = bytes[t];
+    }
+}
+
+// The byte of each term, ascending.
+fn put_terms(buffer: &mut [u8], at: usize, bytes: &[u8; 17], n: usize) -> usize
+    requires { ⌜ (n ≤ 16) × (at + n ≤ length (now buffer)) ⌝ }
+    ensures { λ r. ⌜ (r ≡ at + n) × Appends (now (buffer .entry)) (now (buffer .exit)) at (map (λ t. getD (now (bytes .entry)) t 0) (terms n)) ⌝ }
+{
+    let mut to = at;
+    let mut t: usize = 1;
+    while t <= n {
         buffer[to] = bytes[t];
         to += 1;
+        t += 1;
     }
     to
 }
@@ -454,50 +475,52 @@ fn boolean_byte(query: &[u8], at: usize, count: usize) -> u8
     row_byte(&marks, 0)
 }
 
-// All numbers but 0.
-fn mark_terms() -> [bool; 17]
-    ensures { λ r. ⌜ ((n : ℕ) → n ≤ 16 → marked r n ≡ terms n) ⌝ }
-{
-    let mut marks = [true; 17];
-    marks[0] = false;
-    marks
-}
-
-// A section: its count, and the bytes of the numbers to n that are marked.
-fn put_section(
+// A section of one byte for each node: the count of the nodes, and the bytes of the terms that are nodes.
+fn put_node_section(
     buffer: &mut [u8],
     at: usize,
-    count: usize,
+    m: usize,
     bytes: &[u8; 17],
     marks: &[bool; 17],
+    nodes: [Node; 17],
     n: usize,
 ) -> usize
-    requires { ⌜ (n ≤ 16) × (count ≤ 16) × (at + 1 + length (marked (now marks) n) ≤ length (now buffer)) ⌝ }
-    ensures { λ r. ⌜ (r ≡ at + 1 + length (marked (now (marks .entry)) n)) × Appends (now (buffer .entry)) (now (buffer .exit)) at (count ∷ map (λ t. getD (now (bytes .entry)) t 0) (marked (now (marks .entry)) n)) ⌝ }
+    requires { ⌜ (n ≤ 16) × (m ≤ 16) × (m ≡ length (marked (now marks) n)) × (at + 1 + m ≤ length (now buffer)) × Numbers nodes (marked (now marks) n) ⌝ }
+    ensures { λ r. ⌜ (r ≡ at + 1 + m) × Appends (now (buffer .entry)) (now (buffer .exit)) at (m ∷ map (λ t. getD (now (bytes .entry)) t 0) (marked (now (marks .entry)) n)) ⌝ }
 {
-    let next = put(buffer, at, count as u8);
-    put_marked(buffer, next, bytes, marks, n)
+    let next = put(buffer, at, m as u8);
+    put_nodes(buffer, next, bytes, marks, nodes, n);
+    next + m
+}
+
+// A section of one byte for each term: their count, and the bytes.
+fn put_term_section(buffer: &mut [u8], at: usize, n: usize, bytes: &[u8; 17]) -> usize
+    requires { ⌜ (n ≤ 16) × (at + 1 + n ≤ length (now buffer)) ⌝ }
+    ensures { λ r. ⌜ (r ≡ at + 1 + n) × Appends (now (buffer .entry)) (now (buffer .exit)) at (n ∷ map (λ t. getD (now (bytes .entry)) t 0) (terms n)) ⌝ }
+{
+    let next = put(buffer, at, n as u8);
+    put_terms(buffer, next, bytes, n)
 }
 
 // "m successors; n nodes, one per term; m data bytes ..; one byte of booleans", and zeros past them.
 fn write_sections(
     buffer: &mut [u8],
     marks: &[bool; 17],
+    nodes: [Node; 17],
     m: usize,
     n: usize,
     successors: &[u8; 17],
-    nodes: &[u8; 17],
+    places: &[u8; 17],
     fields: &[u8; 17],
     booleans: u8,
 )
-    requires { ⌜ (n ≤ 16) × (m ≤ 16) × (m ≡ length (marked (now marks) n)) × (53 ≤ length (now buffer)) ⌝ }
-    ensures { λ r. ⌜ now (buffer .exit) ≡ padded (length (now (buffer .entry))) (sections n (marked (now (marks .entry)) n) (λ t. getD (now (successors .entry)) t 0) (λ t. getD (now (nodes .entry)) t 0) (λ t. getD (now (fields .entry)) t 0) booleans) ⌝ }
+    requires { ⌜ (n ≤ 16) × (m ≤ 16) × (m ≡ length (marked (now marks) n)) × (53 ≤ length (now buffer)) × Numbers nodes (marked (now marks) n) ⌝ }
+    ensures { λ r. ⌜ now (buffer .exit) ≡ padded (length (now (buffer .entry))) (sections n (marked (now (marks .entry)) n) (λ t. getD (now (successors .entry)) t 0) (λ t. getD (now (places .entry)) t 0) (λ t. getD (now (fields .entry)) t 0) booleans) ⌝ }
 {
-    let every = mark_terms();
     clear(buffer);
-    let second = put_section(buffer, 0, m, successors, marks, n);
-    let third = put_section(buffer, second, n, nodes, &every, n);
-    let fourth = put_section(buffer, third, m, fields, marks, n);
+    let second = put_node_section(buffer, 0, m, successors, marks, nodes, n);
+    let third = put_term_section(buffer, second, n, places);
+    let fourth = put_node_section(buffer, third, m, fields, marks, nodes, n);
     let last = put(buffer, fourth, 1);
     put(buffer, last, booleans);
 }
@@ -519,6 +542,7 @@ pub fn write_report(buffer: &mut [u8], query: &[u8], l: Layout, s: Facts)
     write_sections(
         buffer,
         &marks,
+        nodes,
         m,
         n,
         &successors,

@@ -37,7 +37,16 @@ unfolding putAll countAll
 putAll-append b c [] ms = refl
 putAll-append b c (l ∷ ls) ms = putAll-append (putLine b c l) (counted c) ls ms
 
--- the count stays below its stop, and the buffer as long as it is
+-- the count does not fall
+pub counted-grows : (c : ℕ) → c ≤ counted c
+counted-grows c = ⊎-elim (λ l. omega (arith, counted-more c l)) (λ l. omega (arith, counted-full c l)) (le-cases c 16000)
+
+pub countAll-grows : (c : ℕ) (ls : List Line) → c ≤ countAll c ls
+unfolding countAll
+countAll-grows c [] = omega arith
+countAll-grows c (l ∷ ls) = let g = counted-grows c in let h = countAll-grows (counted c) ls in omega arith
+
+-- it stays below its stop, and the buffer as long as it is
 pub counted-bound : (c : ℕ) → c ≤ 16001 → counted c ≤ 16001
 counted-bound c h = ⊎-elim (λ l. omega (arith, counted-more c l)) (λ l. omega (arith, counted-full c l)) (le-cases c 16000)
 

@@ -1,8 +1,7 @@
 -- The branches of a rule, walked one after the other: what stands after some of them, and how the walk ends.
-use Prim.Native.Nat.{ℕ, zero, suc, _+_, _≤_, _<_}
-use native.Mathlib.Omega.{arith}
+use Prim.Native.Nat.{ℕ, _+_, _≤_, _<_}
 use mathlib.Core.Path.{_≡_, refl, sym, ap, _∙_, subst}
-use mathlib.Core.Bool.{Bool, true, false, true≢false, false≢true}
+use mathlib.Core.Bool.{true, false, true≢false, false≢true}
 use mathlib.Core.List.{List, [], _∷_, _++_, append-nil}
 use lib.ListN.{length, getD, drop}
 use Rattle.logic.specs.Facts.{Facts, Line}
@@ -11,7 +10,7 @@ use Rattle.walk.specs.Lines.{counted, countAll, putLine, putAll}
 use Rattle.walk.specs.Ends.{isRefuted, Ends}
 use Rattle.walk.specs.declared.Walked.{Walked}
 use Rattle.walk.specs.declared.Kind.the-variants as kind
-use Rattle.walk.proofs.Lines.{countAll-append, putAll-append, putAll-length, putLine-length}
+use Rattle.walk.proofs.Lines.{countAll-append, putAll-append, putAll-length}
 use Rattle.walk.proofs.Walks.{after-after, after-none, each-end, each-refuted, each-saturated, each-broken}
 
 -- After i branches, all refuted by lines that are written and counted.
@@ -45,27 +44,32 @@ module _ (w : Facts → Ending) (bs : List Facts) (before : List ℕ) (c : ℕ) 
     kept-length : (old : List ℕ) → length before ≡ length old → length bytes′ ≡ length bytes → length bytes′ ≡ length old
     kept-length old same g = g ∙ ap length (t .written) ∙ putAll-length before c (t .lines) ∙ same
 
-    pub turn-stop : (l : Line) (old : List ℕ) (c₀ : ℕ) → length before ≡ length old → (e : Ending) → w (getD bs i d) ≡ e → Ends r e bytes count bytes′ → isRefuted (r .kind) ≡ false → Ends r (after (l ∷ []) (walkEach w bs)) old c₀ bytes′
+    pub turn-same : (l : Line) (e : Ending) → w (getD bs i d) ≡ e → Ends r e bytes count bytes′ → isRefuted (r .kind) ≡ false → after (l ∷ []) (walkEach w bs) ≡ e
     unfolding after
-    turn-stop l old c₀ same (refutation ls) h p k = absurd (true≢false (ap isRefuted (sym (p .0)) ∙ k))
-    turn-stop l old c₀ same (saturation s) h p k =
-        subst (λ (e : Ending). Ends r e old c₀ bytes′) (sym (ended l (saturation s) (λ ls. refl) (each-saturated w bs i d s in-row h)))
-        (p .0, p .1, kept-length old same (p .2))
-    turn-stop l old c₀ same broken-off h p k =
-        subst (λ (e : Ending). Ends r e old c₀ bytes′) (sym (ended l broken-off (λ ls. refl) (each-broken w bs i d in-row h)))
-        (p .0, kept-length old same (p .1))
+    turn-same l (refutation ls) h p k = absurd (true≢false (ap isRefuted (sym (p .0)) ∙ k))
+    turn-same l (saturation s) h p k = ended l (saturation s) (λ ls. refl) (each-saturated w bs i d s in-row h)
+    turn-same l broken-off h p k = ended l broken-off (λ ls. refl) (each-broken w bs i d in-row h)
+
+    stays : (old : List ℕ) (c₀ : ℕ) → length before ≡ length old → (e : Ending) → Ends r e bytes count bytes′ → isRefuted (r .kind) ≡ false → Ends r e old c₀ bytes′
+    stays old c₀ same (refutation ls) p k = absurd (true≢false (ap isRefuted (sym (p .0)) ∙ k))
+    stays old c₀ same (saturation s) p k = (p .0, p .1, kept-length old same (p .2))
+    stays old c₀ same broken-off p k = (p .0, kept-length old same (p .1))
+
+    pub turn-stop : (l : Line) (old : List ℕ) (c₀ : ℕ) → length before ≡ length old → (e : Ending) → w (getD bs i d) ≡ e → Ends r e bytes count bytes′ → isRefuted (r .kind) ≡ false → Ends r (after (l ∷ []) (walkEach w bs)) old c₀ bytes′
+    turn-stop l old c₀ same e h p k = subst (λ (e : Ending). Ends r e old c₀ bytes′) (sym (turn-same l e h p k)) (stays old c₀ same e p k)
 
   -- all branches are refuted
+  pub turn-whole : (i : ℕ) (bytes : List ℕ) (count : ℕ) (t : Turn w bs before c i bytes count) → length bs ≤ i → (l : Line) → after (l ∷ []) (walkEach w bs) ≡ refutation (l ∷ t .lines)
+  unfolding after
+  turn-whole i bytes count t past l =
+      ap (after (l ∷ [])) (t .left ∙ ap (after (t .lines)) (each-end w bs i past))
+      ∙ ap (λ (ls : List Line). refutation (l ∷ ls)) (append-nil (t .lines))
+
   pub turn-last : (i : ℕ) (bytes : List ℕ) (count : ℕ) → Turn w bs before c i bytes count → length bs ≤ i → (r : Walked) (l : Line) (old : List ℕ) (c₀ : ℕ) → before ≡ putLine old c₀ l → c ≡ counted c₀ → r .kind ≡ kind.Refuted → r .count ≡ count → Ends r (after (l ∷ []) (walkEach w bs)) old c₀ bytes
-  unfolding after putAll countAll
+  unfolding putAll countAll
   turn-last i bytes count t past r l old c₀ eb ec k rc =
-      subst (λ (e : Ending). Ends r e old c₀ bytes) (sym whole) (
+      subst (λ (e : Ending). Ends r e old c₀ bytes) (sym (turn-whole i bytes count t past l)) (
         k,
         rc ∙ t .counts ∙ ap (λ (j : ℕ). countAll j (t .lines)) ec,
         t .written ∙ ap (λ (b : List ℕ). putAll b c (t .lines)) eb ∙ ap (λ (j : ℕ). putAll (putLine old c₀ l) j (t .lines)) ec,
       )
-    where
-      whole : after (l ∷ []) (walkEach w bs) ≡ refutation (l ∷ t .lines)
-      whole =
-          ap (after (l ∷ [])) (t .left ∙ ap (after (t .lines)) (each-end w bs i past))
-          ∙ ap (λ (ls : List Line). refutation (l ∷ ls)) (append-nil (t .lines))

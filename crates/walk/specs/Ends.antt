@@ -1,11 +1,11 @@
 -- The code's answers in the words of the definitions.
-use Prim.Native.Nat.{ℕ}
+use Prim.Native.Nat.{ℕ, _≤_}
 use mathlib.Core.Path.{_≡_}
 use mathlib.Core.Bool.{Bool, true, false}
 use mathlib.Core.List.{List}
 use lib.ListN.{length}
-use Rattle.logic.specs.Facts.{line}
-use Rattle.logic.specs.Rules.{triple, move}
+use Rattle.logic.specs.Facts.{Facts, line}
+use Rattle.logic.specs.Rules.{triple, Move, move}
 use Rattle.logic.specs.Walk.{Look, clashing, applying, saturated, Ending, refutation, saturation, broken-off}
 use Rattle.facts.specs.Path.{pathOf}
 use Rattle.rules.specs.Answers.{kindOf}
@@ -32,3 +32,10 @@ abbrev pub Ends : Walked → Ending → List ℕ → ℕ → List ℕ → Type 0
 Ends r (refutation ls) before c bytes = (r .kind ≡ kind.Refuted) × (r .count ≡ countAll c ls) × (bytes ≡ putAll before c ls)
 Ends r (saturation t) before c bytes = (r .kind ≡ kind.Saturated) × (pathOf (r .facts) ≡ t) × (length bytes ≡ length before)
 Ends r broken-off before c bytes = (r .kind ≡ kind.Broken) × (length bytes ≡ length before)
+
+-- What is handed back besides, of a walk of s from c lines on. Where it refutes, `facts` is s. Elsewhere nobody asks for `count`, the lines
+-- that stand by then: it is not below c and not above the stop. Where the limit breaks a path off, `facts` is that path, and a rule applies there.
+abbrev pub Handed : (Facts → Look) → Walked → Ending → Facts → ℕ → Type 0
+Handed see r (refutation ls) s c = pathOf (r .facts) ≡ s
+Handed see r (saturation t) s c = (c ≤ r .count) × (r .count ≤ 16001)
+Handed see r broken-off s c = ((m : Move) × (see (pathOf (r .facts)) ≡ applying m)) × (c ≤ r .count) × (r .count ≤ 16001)

@@ -7,8 +7,7 @@ use rules::Choice;
 use rules::Rule;
 use rules::Third;
 ghost use mathlib.Core.Path.{_≡_};
-ghost use Prim.Native.Nat.{ℕ, _+_, _*_, _≤_, _<_};
-ghost use lib.ListN.{length};
+ghost use Prim.Native.Nat.{_+_, _*_, _≤_, _<_};
 ghost use Rattle.logic.specs.Facts.{line};
 ghost use Rattle.logic.specs.Query.{decode};
 ghost use Rattle.logic.specs.Rules.{ruleNumber};
@@ -17,7 +16,7 @@ ghost use Rattle.facts.specs.Path.{pathOf};
 ghost use Rattle.query.specs.LaysOut.{LaysOut};
 ghost use Rattle.rules.specs.Answers.{kindOf};
 ghost use Rattle.walk.specs.Lines.{counted, putLine};
-ghost use Rattle.walk.specs.Ends.{isRefuted, lookOf, Ends};
+ghost use Rattle.walk.specs.Ends.{isRefuted, lookOf, Ends, Handed};
 
 // One line more, up to one above 16,000.
 pub fn counted(count: usize) -> usize
@@ -58,7 +57,7 @@ pub enum Kind {
     Broken,
 }
 
-// The ending of a walk, the saturated path where there is one, and the count of lines.
+// The ending of a walk, the path that is saturated or broken off (where neither is, the one that was given), and the count of lines.
 pub struct Walked {
     pub kind: Kind,
     pub facts: Facts,
@@ -118,6 +117,7 @@ pub fn walk(
 ) -> Walked
     requires { ⌜ LaysOut layout (now query) × (count ≤ 16001) ⌝ }
     ensures { λ r. ⌜ Ends r (walk (decode (now (query .entry))) (orderOf (now (order .entry))) left (pathOf s)) (now (lines .entry)) count (now (lines .exit)) ⌝ }
+    ensures { λ r. ⌜ Handed (look (decode (now (query .entry))) (orderOf (now (order .entry)))) r (walk (decode (now (query .entry))) (orderOf (now (order .entry))) left (pathOf s)) (pathOf s) count ⌝ }
 {
     let n = layout.terms;
     match look(query, layout, order, s) {

@@ -30,7 +30,7 @@ decide-spec =
     (λ c κs.
     let p = c .before .before .before .before .before .before .before .before .before .before .before .before .pre in
     let w = our-walk _ (c .before .before .before .before .before .before .before .before .before .before .before .before .args .order .now) _ _ _ (p .0 .term-count) (c .before .before .before .before .before .before .before .limit .ensures) (c .before .before .before .before .before .before .before .before .start .ensures) in
-    let e = saturated-at (c .before .before .before .before .before .walk .result) (0 ∷ []) 0 (c .before .before .before .before .before .walk .last .1 .1 .1 .1 .1 .0) _ (c .before .before .before .before .before .walk .ensures) (c .before .enum-told .given .1) in
+    let e = saturated-at (c .before .before .before .before .before .walk .result) (0 ∷ []) 0 (c .before .before .before .before .before .walk .last .1 .1 .1 .1 .1 .0) _ (c .before .before .before .before .before .walk .ensures .0) (c .before .enum-told .given .1) in
     (p .2, record { laid = p .0; passes = p .1; stands = stands-at _ _ _ _ (p .0) (p .1) (sym w ∙ e) }))
     -- enum-told-2
     (λ c. search needs)
@@ -42,17 +42,17 @@ decide-spec =
     (λ c.
     let p = c .before .before .before .before .before .before .before .before .before .before .before .before .before .before .before .pre in
     let w = our-walk _ (c .before .before .before .before .before .before .before .before .before .before .before .before .before .before .before .args .order .now) _ _ _ (p .0 .term-count) (c .before .before .before .before .before .before .before .before .before .before .limit .ensures) (c .before .before .before .before .before .before .before .before .before .before .before .start .ensures) in
-    let e = saturated-at (c .before .before .before .before .before .before .before .before .walk .result) (0 ∷ []) 0 (c .before .before .before .before .before .before .before .before .walk .last .1 .1 .1 .1 .1 .0) _ (c .before .before .before .before .before .before .before .before .walk .ensures) (c .before .before .before .before .enum-told .given .1) in
+    let e = saturated-at (c .before .before .before .before .before .before .before .before .walk .result) (0 ∷ []) 0 (c .before .before .before .before .before .before .before .before .walk .last .1 .1 .1 .1 .1 .0) _ (c .before .before .before .before .before .before .before .before .walk .ensures .0) (c .before .before .before .before .enum-told .given .1) in
     verdict-satisfiable _ _ _ _ _ (sym w ∙ e) (c .before .before .write-report .ensures))
     -- returns-2
     (λ c.
     let p = c .before .before .before .before .before .before .before .before .before .before .before .pre in
     let w = our-walk _ (c .before .before .before .before .before .before .before .before .before .before .before .args .order .now) _ _ _ (p .0 .term-count) (c .before .before .before .before .before .before .limit .ensures) (c .before .before .before .before .before .before .before .start .ensures) in
-    let e = refuted-at (c .before .before .before .before .walk .result) (0 ∷ []) 0 (c .before .before .before .before .walk .last .1 .1 .1 .1 .1 .0) _ (c .before .before .before .before .walk .ensures) (c .enum-told2 .given .1) in
+    let e = refuted-at (c .before .before .before .before .walk .result) (0 ∷ []) 0 (c .before .before .before .before .walk .last .1 .1 .1 .1 .1 .0) _ (c .before .before .before .before .walk .ensures .0) (c .enum-told2 .given .1) in
     verdict-refuted _ _ _ (e .0) _ (sym w ∙ e .1) (p .3))
     -- returns-3
     (λ c.
     let p = c .before .before .before .before .before .before .before .before .before .before .before .pre in
     let w = our-walk _ (c .before .before .before .before .before .before .before .before .before .before .before .args .order .now) _ _ _ (p .0 .term-count) (c .before .before .before .before .before .before .limit .ensures) (c .before .before .before .before .before .before .before .start .ensures) in
-    let e = broken-at (c .before .before .before .before .walk .result) (0 ∷ []) 0 (c .before .before .before .before .walk .last .1 .1 .1 .1 .1 .0) _ (c .before .before .before .before .walk .ensures) (c .enum-told3 .given .1) in
+    let e = broken-at (c .before .before .before .before .walk .result) (0 ∷ []) 0 (c .before .before .before .before .walk .last .1 .1 .1 .1 .1 .0) _ (c .before .before .before .before .walk .ensures .0) (c .enum-told3 .given .1) in
     verdict-broken _ _ _ _ (sym w ∙ e) (p .3)))

@@ -32,7 +32,7 @@ write-report-spec =
     (λ c κs.
     let p = c .before .before .before .before .before .before .before .before .before .before .before .before .before .before .before .before .before .pre .1 in
     let h = few-nodes _ _ _ p _ (c .before .before .before .before .before .before .before .before .before .before .before .before .before .mark-nodes .ensures) in
-    (p .laid .terms-within, omega (arith, h, c .before .before .before .before .before .before .before .before .before .before .before .count-marks .ensures), c .before .before .before .before .before .before .before .before .before .before .before .count-marks .ensures, c .before .before .before .before .before .before .before .before .before .before .before .before .before .before .before .before .before .pre .0))
+    (p .laid .terms-within, omega (arith, h, c .before .before .before .before .before .before .before .before .before .before .before .count-marks .ensures), c .before .before .before .before .before .before .before .before .before .before .before .count-marks .ensures, c .before .before .before .before .before .before .before .before .before .before .before .before .before .before .before .before .before .pre .0, c .before .before .before .before .before .before .before .before .before .number-nodes .ensures))
     -- same-length
     (λ c. c .before .before .write-sections .kept .0)
     -- returns

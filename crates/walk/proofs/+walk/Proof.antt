@@ -1,10 +1,8 @@
 -- The branch walk: one look, and then each branch in order, with a step less left to it. Assumes nothing.
 use Prim.Native.Nat.{ℕ, _≤_, _<_, _-_}
-use native.Mathlib.Omega.{arith}
 use mathlib.Core.Path.{_≡_, refl, sym, ap, _∙_, subst}
 use mathlib.Core.Bool.{not}
-use mathlib.Core.List.{List}
-use native.Mathlib.Nat.{lt-of-le-of-lt}
+use native.Mathlib.Nat.{lt-of-le-of-lt, le-trans}
 use lib.ListN.{length}
 use lib.Dec.{lit<}
 use borrow.Author.Needs.{needs}
@@ -17,8 +15,8 @@ use Rattle.logic.specs.Walk.{orderOf, walk}
 use Rattle.facts.specs.Path.{pathOf}
 use Rattle.rules.specs.Answers.{kindOf}
 use Rattle.walk.proofs.Turns.{Turn, turn-first}
-use Rattle.walk.proofs.Lines.{counted-bound, putLine-length}
-use Rattle.walk.proofs.Steps.{look-is, clash-fits, move-fits, ends-clashing, ends-saturated, ends-broken, ends-length, ends-bound, next-turn, stopped, all-refuted, some-left, less-left}
+use Rattle.walk.proofs.Lines.{counted-bound, counted-grows, putLine-length}
+use Rattle.walk.proofs.Steps.{look-is, clash-fits, move-fits, ends-clashing, ends-saturated, ends-broken, handed-clashing, handed-saturated, handed-broken, ends-length, ends-bound, ends-grows, next-turn, stopped, stopped-handed, all-refuted, all-handed, some-left, less-left}
 use Rattle.walk.proofs.walk.Reads as walk
 use Rattle.walk.proofs.walk.Kinds as walk-kinds
 use Rattle.walk.proofs.+walk.Lts-walk as walk-lts
@@ -46,6 +44,7 @@ walk-Inv-loop query layout order left s lines₀ count n rule x y z total writte
     Turn (walk (decode query) (orderOf order) (left - 1)) (branches (termCount (decode query)) (pathOf s) (move (kindOf rule) (triple (x .0) (y .0) (z .0)))) lines₀ written₀ i lines written
     × (written ≤ 16001)
     × (length lines ≡ length lines₀)
+    × (count ≤ written)
 
 abbrev walk-μ-loop : walk-lts.MeasureT-loop
 walk-μ-loop query layout order left s lines₀ count n rule x y z total written₀ i₀ lines written i = total - i
@@ -89,7 +88,10 @@ pub +walk-spec : {M : Type 1} → statement M
     -- enum-known-rule
     (λ c. search needs)
     -- returns
-    (λ c. ends-broken _ _ _ _ _ _ _ _ _ (look-is _ _ _ (c .before .before .before .before .look .ensures) (c .before .before .rule .given .1)) (c .if1 .taken) refl refl)
+    (λ c.
+    let s = pathOf (c .before .before .before .before .before .before .before .before .args .s) in
+    let h = look-is _ _ _ (c .before .before .before .before .look .ensures) (c .before .before .rule .given .1) in
+    (ends-broken _ _ _ _ _ _ _ _ _ h (c .if1 .taken) refl refl, handed-broken _ _ _ s _ _ _ h (c .if1 .taken) refl refl (c .before .before .before .before .before .before .before .before .pre .1 .1)))
     -- number-requires
     (λ c κs. search needs)
     -- put-line-requires-2
@@ -102,7 +104,7 @@ pub +walk-spec : {M : Type 1} → statement M
     -- counted-requires-2
     (λ c κs. search needs)
     -- loop-holds
-    (λ c. (turn-first _ _ _ _, subst (λ (j : ℕ). j ≤ 16001) (sym (c .counted2 .ensures)) (counted-bound _ (c .before .before .before .before .before .before .before .before .before .before .before .before .before .before .before .pre .1 .1)), refl))
+    (λ c. (turn-first _ _ _ _, subst (λ (j : ℕ). j ≤ 16001) (sym (c .counted2 .ensures)) (counted-bound _ (c .before .before .before .before .before .before .before .before .before .before .before .before .before .before .before .pre .1 .1)), refl, subst (λ (j : ℕ). c .before .before .before .before .before .before .before .before .before .before .before .before .before .before .before .args .count ≤ j) (sym (c .counted2 .ensures)) (counted-grows _)))
     -- branch-requires
     (λ c κs.
     let p = c .before .before .before .before .before .before .before .before .before .before .before .before .before .before .before .before .before .pre .1 in
@@ -115,12 +117,17 @@ pub +walk-spec : {M : Type 1} → statement M
     -- is-refuted-requires
     (λ c κs. search needs)
     -- same-length
-    (λ c. ends-length (c .before .before .before .before .walk .result) (walk (decode (c .before .before .before .before .before .before .before .before .before .before .before .before .before .before .before .before .before .before .before .before .before .before .before .before .args .query .now)) (orderOf (c .before .before .before .before .before .before .before .before .before .before .before .before .before .before .before .before .before .before .before .before .before .before .before .before .args .order .now)) (c .before .before .before .before .before .before .before .before .before .before .before .before .before .before .before .before .before .before .before .before .before .before .before .before .args .left - 1) (pathOf (c .before .before .before .before .before .before .branch .result))) (c .before .before .before .before .before .before .before .before .loop .lines) (c .before .before .before .before .before .before .before .before .loop .written) (c .before .before .before .before .walk .last .1 .1 .1 .1 .1 .0) (c .before .before .before .before .walk .ensures) ∙ c .before .before .before .before .before .before .before .before .loop .inv .2 ∙ ap length (c .before .before .before .before .before .before .before .before .before .before .before .before .before .put-line2 .ensures) ∙ putLine-length _ _ _)
+    (λ c. ends-length (c .before .before .before .before .walk .result) (walk (decode (c .before .before .before .before .before .before .before .before .before .before .before .before .before .before .before .before .before .before .before .before .before .before .before .before .args .query .now)) (orderOf (c .before .before .before .before .before .before .before .before .before .before .before .before .before .before .before .before .before .before .before .before .before .before .before .before .args .order .now)) (c .before .before .before .before .before .before .before .before .before .before .before .before .before .before .before .before .before .before .before .before .before .before .before .before .args .left - 1) (pathOf (c .before .before .before .before .before .before .branch .result))) (c .before .before .before .before .before .before .before .before .loop .lines) (c .before .before .before .before .before .before .before .before .loop .written) (c .before .before .before .before .walk .last .1 .1 .1 .1 .1 .0) (c .before .before .before .before .walk .ensures .0) ∙ c .before .before .before .before .before .before .before .before .loop .inv .2 ∙ ap length (c .before .before .before .before .before .before .before .before .before .before .before .before .before .put-line2 .ensures) ∙ putLine-length _ _ _)
     -- returns-2
     (λ c.
-    stopped _ _ _ _ _ _ _ _ _ (look-is _ _ _ (c .before .before .before .before .before .before .before .before .before .before .before .before .before .before .before .before .before .before .before .before .look .ensures) (c .before .before .before .before .before .before .before .before .before .before .before .before .before .before .before .before .before .before .rule .given .1)) (some-left _ (c .before .before .before .before .before .before .before .before .before .before .before .before .before .before .before .before .if1 .left)) (c .before .before .before .before .before .before .before .before .before .before .before .before .before .before .before .before .before .before .before .before .before .before .before .before .pre .1 .0 .term-count)
-    _ _ _ _ _ _ (c .before .before .before .before .before .before .before .before .loop .inv .0) (subst (λ (j : ℕ). c .before .before .before .before .before .before .before .before .loop .i < j) (c .before .before .before .before .before .before .before .before .before .before .count .ensures) (c .before .before .before .before .before .before .before .loop-test .taken)) _ (c .before .before .before .before .before .before .branch .ensures) _ (c .before .before .before .before .walk .ensures)
-    _ _ (ap length (c .before .before .before .before .before .before .before .before .before .before .before .before .before .put-line2 .ensures) ∙ putLine-length _ _ _) (sym (c .before .is-refuted .ensures) ∙ not-true _ (c .if2 .taken)))
+    let k = sym (c .before .is-refuted .ensures) ∙ not-true _ (c .if2 .taken) in (
+      stopped _ _ _ _ _ _ _ _ _ (look-is _ _ _ (c .before .before .before .before .before .before .before .before .before .before .before .before .before .before .before .before .before .before .before .before .look .ensures) (c .before .before .before .before .before .before .before .before .before .before .before .before .before .before .before .before .before .before .rule .given .1)) (some-left _ (c .before .before .before .before .before .before .before .before .before .before .before .before .before .before .before .before .if1 .left)) (c .before .before .before .before .before .before .before .before .before .before .before .before .before .before .before .before .before .before .before .before .before .before .before .before .pre .1 .0 .term-count)
+          _ _ _ _ _ _ (c .before .before .before .before .before .before .before .before .loop .inv .0) (subst (λ (j : ℕ). c .before .before .before .before .before .before .before .before .loop .i < j) (c .before .before .before .before .before .before .before .before .before .before .count .ensures) (c .before .before .before .before .before .before .before .loop-test .taken)) _ (c .before .before .before .before .before .before .branch .ensures) _ (c .before .before .before .before .walk .ensures .0)
+          _ _ (ap length (c .before .before .before .before .before .before .before .before .before .before .before .before .before .put-line2 .ensures) ∙ putLine-length _ _ _) k,
+      stopped-handed _ _ _ _ _ _ _ _ _ (look-is _ _ _ (c .before .before .before .before .before .before .before .before .before .before .before .before .before .before .before .before .before .before .before .before .look .ensures) (c .before .before .before .before .before .before .before .before .before .before .before .before .before .before .before .before .before .before .rule .given .1)) (some-left _ (c .before .before .before .before .before .before .before .before .before .before .before .before .before .before .before .before .if1 .left)) (c .before .before .before .before .before .before .before .before .before .before .before .before .before .before .before .before .before .before .before .before .before .before .before .before .pre .1 .0 .term-count)
+          _ _ _ _ _ _ (c .before .before .before .before .before .before .before .before .loop .inv .0) (subst (λ (j : ℕ). c .before .before .before .before .before .before .before .before .loop .i < j) (c .before .before .before .before .before .before .before .before .before .before .count .ensures) (c .before .before .before .before .before .before .before .loop-test .taken)) _ (c .before .before .before .before .before .before .branch .ensures) _ (c .before .before .before .before .walk .ensures .0)
+          _ (c .before .before .before .before .before .before .before .before .loop .inv .3) k (c .before .before .before .before .walk .ensures .1),
+    ))
     -- add-i
     (λ c. search needs)
     -- loop-less
@@ -129,19 +136,26 @@ pub +walk-spec : {M : Type 1} → statement M
     (λ c.
     let k = sym (c .before .is-refuted .ensures) ∙ not-false _ (c .if2 .left) in (
       next-turn _ _ _ _ _ _ _ _ _ (look-is _ _ _ (c .before .before .before .before .before .before .before .before .before .before .before .before .before .before .before .before .before .before .before .before .look .ensures) (c .before .before .before .before .before .before .before .before .before .before .before .before .before .before .before .before .before .before .rule .given .1)) (some-left _ (c .before .before .before .before .before .before .before .before .before .before .before .before .before .before .before .before .if1 .left)) (c .before .before .before .before .before .before .before .before .before .before .before .before .before .before .before .before .before .before .before .before .before .before .before .before .pre .1 .0 .term-count)
-          _ _ _ _ _ _ (c .before .before .before .before .before .before .before .before .loop .inv .0) (subst (λ (j : ℕ). c .before .before .before .before .before .before .before .before .loop .i < j) (c .before .before .before .before .before .before .before .before .before .before .count .ensures) (c .before .before .before .before .before .before .before .loop-test .taken)) _ (c .before .before .before .before .before .before .branch .ensures) _ (c .before .before .before .before .walk .ensures) k,
-      ends-bound (c .before .before .before .before .walk .result) (walk (decode (c .before .before .before .before .before .before .before .before .before .before .before .before .before .before .before .before .before .before .before .before .before .before .before .before .args .query .now)) (orderOf (c .before .before .before .before .before .before .before .before .before .before .before .before .before .before .before .before .before .before .before .before .before .before .before .before .args .order .now)) (c .before .before .before .before .before .before .before .before .before .before .before .before .before .before .before .before .before .before .before .before .before .before .before .before .args .left - 1) (pathOf (c .before .before .before .before .before .before .branch .result))) (c .before .before .before .before .before .before .before .before .loop .lines) (c .before .before .before .before .before .before .before .before .loop .written) (c .before .before .before .before .walk .last .1 .1 .1 .1 .1 .0) (c .before .before .before .before .walk .ensures) k (c .before .before .before .before .before .before .before .before .loop .inv .1),
-      ends-length (c .before .before .before .before .walk .result) (walk (decode (c .before .before .before .before .before .before .before .before .before .before .before .before .before .before .before .before .before .before .before .before .before .before .before .before .args .query .now)) (orderOf (c .before .before .before .before .before .before .before .before .before .before .before .before .before .before .before .before .before .before .before .before .before .before .before .before .args .order .now)) (c .before .before .before .before .before .before .before .before .before .before .before .before .before .before .before .before .before .before .before .before .before .before .before .before .args .left - 1) (pathOf (c .before .before .before .before .before .before .branch .result))) (c .before .before .before .before .before .before .before .before .loop .lines) (c .before .before .before .before .before .before .before .before .loop .written) (c .before .before .before .before .walk .last .1 .1 .1 .1 .1 .0) (c .before .before .before .before .walk .ensures) ∙ c .before .before .before .before .before .before .before .before .loop .inv .2,
+          _ _ _ _ _ _ (c .before .before .before .before .before .before .before .before .loop .inv .0) (subst (λ (j : ℕ). c .before .before .before .before .before .before .before .before .loop .i < j) (c .before .before .before .before .before .before .before .before .before .before .count .ensures) (c .before .before .before .before .before .before .before .loop-test .taken)) _ (c .before .before .before .before .before .before .branch .ensures) _ (c .before .before .before .before .walk .ensures .0) k,
+      ends-bound (c .before .before .before .before .walk .result) (walk (decode (c .before .before .before .before .before .before .before .before .before .before .before .before .before .before .before .before .before .before .before .before .before .before .before .before .args .query .now)) (orderOf (c .before .before .before .before .before .before .before .before .before .before .before .before .before .before .before .before .before .before .before .before .before .before .before .before .args .order .now)) (c .before .before .before .before .before .before .before .before .before .before .before .before .before .before .before .before .before .before .before .before .before .before .before .before .args .left - 1) (pathOf (c .before .before .before .before .before .before .branch .result))) (c .before .before .before .before .before .before .before .before .loop .lines) (c .before .before .before .before .before .before .before .before .loop .written) (c .before .before .before .before .walk .last .1 .1 .1 .1 .1 .0) (c .before .before .before .before .walk .ensures .0) k (c .before .before .before .before .before .before .before .before .loop .inv .1),
+      ends-length (c .before .before .before .before .walk .result) (walk (decode (c .before .before .before .before .before .before .before .before .before .before .before .before .before .before .before .before .before .before .before .before .before .before .before .before .args .query .now)) (orderOf (c .before .before .before .before .before .before .before .before .before .before .before .before .before .before .before .before .before .before .before .before .before .before .before .before .args .order .now)) (c .before .before .before .before .before .before .before .before .before .before .before .before .before .before .before .before .before .before .before .before .before .before .before .before .args .left - 1) (pathOf (c .before .before .before .before .before .before .branch .result))) (c .before .before .before .before .before .before .before .before .loop .lines) (c .before .before .before .before .before .before .before .before .loop .written) (c .before .before .before .before .walk .last .1 .1 .1 .1 .1 .0) (c .before .before .before .before .walk .ensures .0) ∙ c .before .before .before .before .before .before .before .before .loop .inv .2,
+      le-trans (c .before .before .before .before .before .before .before .before .loop .inv .3) (ends-grows (c .before .before .before .before .walk .result) (walk (decode (c .before .before .before .before .before .before .before .before .before .before .before .before .before .before .before .before .before .before .before .before .before .before .before .before .args .query .now)) (orderOf (c .before .before .before .before .before .before .before .before .before .before .before .before .before .before .before .before .before .before .before .before .before .before .before .before .args .order .now)) (c .before .before .before .before .before .before .before .before .before .before .before .before .before .before .before .before .before .before .before .before .before .before .before .before .args .left - 1) (pathOf (c .before .before .before .before .before .before .branch .result))) (c .before .before .before .before .before .before .before .before .loop .lines) (c .before .before .before .before .before .before .before .before .loop .written) (c .before .before .before .before .walk .last .1 .1 .1 .1 .1 .0) (c .before .before .before .before .walk .ensures .0) k),
     ))
     -- returns-3
-    (λ c. let s = pathOf (c .before .before .before .before .before .before .args .s) in ends-saturated _ _ _ s _ _ _ _ s (look-is _ _ _ (c .before .before .look .ensures) (c .enum-told .given .1)) refl refl refl refl)
+    (λ c. let s = pathOf (c .before .before .before .before .before .before .args .s) in let h = look-is _ _ _ (c .before .before .look .ensures) (c .enum-told .given .1) in (ends-saturated _ _ _ s _ _ _ _ s h refl refl refl refl, handed-saturated _ _ _ s _ _ h refl (c .before .before .before .before .before .before .pre .1 .1)))
     -- same-length-2
     (λ c. ap length (c .before .before .before .put-line .ensures) ∙ putLine-length _ _ _)
     -- returns-4
-    (λ c. ends-clashing _ _ _ _ _ _ _ _ _ (look-is _ _ _ (c .before .before .before .before .before .before .before .before .look .ensures) (c .before .before .before .before .before .before .section .given .1)) refl (c .counted .ensures) (c .before .before .before .put-line .ensures))
+    (λ c.
+    let s = pathOf (c .before .before .before .before .before .before .before .before .before .before .before .before .args .s) in
+    let h = look-is _ _ _ (c .before .before .before .before .before .before .before .before .look .ensures) (c .before .before .before .before .before .before .section .given .1) in
+    (ends-clashing _ _ _ _ _ _ _ _ _ h refl (c .counted .ensures) (c .before .before .before .put-line .ensures), handed-clashing _ _ _ s _ _ _ h refl))
     -- same-length-3
     (λ c. c .before .loop .inv .2 ∙ ap length (c .before .before .before .before .before .before .put-line2 .ensures) ∙ putLine-length _ _ _)
     -- returns-5
-    (λ c.
-    all-refuted _ _ _ _ _ _ _ _ _ (look-is _ _ _ (c .before .before .before .before .before .before .before .before .before .before .before .before .before .look .ensures) (c .before .before .before .before .before .before .before .before .before .before .before .rule .given .1)) (some-left _ (c .before .before .before .before .before .before .before .before .before .if1 .left)) (c .before .before .before .before .before .before .before .before .before .before .before .before .before .before .before .before .before .pre .1 .0 .term-count)
-    _ _ _ _ _ (c .before .loop .inv .0) (subst (λ (j : ℕ). j ≤ c .before .loop .i) (c .before .before .before .count .ensures) (c .loop-test .left)) _ _ _ _ (c .before .before .before .before .before .before .before .number .ensures .0) (c .before .before .before .before .before .before .put-line2 .ensures) (c .before .before .counted2 .ensures) refl refl)
+    (λ c. (
+      all-refuted _ _ _ _ _ _ _ _ _ (look-is _ _ _ (c .before .before .before .before .before .before .before .before .before .before .before .before .before .look .ensures) (c .before .before .before .before .before .before .before .before .before .before .before .rule .given .1)) (some-left _ (c .before .before .before .before .before .before .before .before .before .if1 .left)) (c .before .before .before .before .before .before .before .before .before .before .before .before .before .before .before .before .before .pre .1 .0 .term-count)
+          _ _ _ _ _ (c .before .loop .inv .0) (subst (λ (j : ℕ). j ≤ c .before .loop .i) (c .before .before .before .count .ensures) (c .loop-test .left)) _ _ _ _ (c .before .before .before .before .before .before .before .number .ensures .0) (c .before .before .before .before .before .before .put-line2 .ensures) (c .before .before .counted2 .ensures) refl refl,
+      all-handed _ _ _ _ _ _ _ _ _ (look-is _ _ _ (c .before .before .before .before .before .before .before .before .before .before .before .before .before .look .ensures) (c .before .before .before .before .before .before .before .before .before .before .before .rule .given .1)) (some-left _ (c .before .before .before .before .before .before .before .before .before .if1 .left)) (c .before .before .before .before .before .before .before .before .before .before .before .before .before .before .before .before .before .pre .1 .0 .term-count)
+          _ _ _ _ _ (c .before .loop .inv .0) (subst (λ (j : ℕ). j ≤ c .before .loop .i) (c .before .before .before .count .ensures) (c .loop-test .left)) _ _ refl,
+    ))

@@ -2,25 +2,25 @@
 use native.Mathlib.Omega.{arith}
 use borrow.Author.Needs.{needs}
 use Rattle.report.proofs.Writing.{appends-then}
-use Rattle.report.proofs.put_section.Statement.{statement}
-use Rattle.report.proofs.put_section.Tie as tie
+use Rattle.report.proofs.put_term_section.Statement.{statement}
+use Rattle.report.proofs.put_term_section.Tie as tie
 
-pub put-section-spec : {M : Type 1} → statement M
-put-section-spec =
+pub put-term-section-spec : {M : Type 1} → statement M
+put-term-section-spec =
     tie.close
     (tie.spec
     -- cast-put
     (λ c. search needs)
     -- put-requires
     (λ c κs. search needs)
-    -- put-marked-requires
+    -- put-terms-requires
     (λ c κs. search needs)
     -- same-length
     (λ c. search needs)
     -- returns
     (λ c.
     let first = c .before .before .before .before .before .before .put in
-    let rest = c .before .before .put-marked in (
+    let rest = c .before .before .put-terms in (
       omega (arith, first .ensures .0, rest .ensures .0),
       appends-then _ (first .last .0) (rest .last .0) _ _ _ _ (first .kept .0) (first .ensures .0) (first .ensures .1) (rest .ensures .1),
     )))

@@ -1,0 +1,28 @@
+-- The count, and then the bytes. Assumes nothing.
+use native.Mathlib.Omega.{arith}
+use borrow.Author.Needs.{needs}
+use Rattle.report.proofs.Writing.{appends-then}
+use Rattle.report.proofs.put_node_section.Statement.{statement}
+use Rattle.report.proofs.put_node_section.Tie as tie
+
+pub put-node-section-spec : {M : Type 1} → statement M
+put-node-section-spec =
+    tie.close
+    (tie.spec
+    -- cast-put
+    (λ c. search needs)
+    -- put-requires
+    (λ c κs. search needs)
+    -- put-nodes-requires
+    (λ c κs. search needs)
+    -- add-result
+    (λ c. search needs)
+    -- same-length
+    (λ c. search needs)
+    -- returns
+    (λ c.
+    let first = c .before .before .before .before .before .before .put in
+    let rest = c .before .before .put-nodes in (
+      omega (arith, first .ensures .0),
+      appends-then _ (first .last .0) (rest .last .0) _ _ _ _ (first .kept .0) (first .ensures .0) (first .ensures .1) (rest .ensures),
+    )))
