@@ -271,8 +271,8 @@ fn in_second(
     cycle(link, reach, n, x)
 }
 
-// The smallest triple at which a rule applies, looked for from the first number on.
-fn in_first(
+// The smallest triple at which a rule applies.
+pub fn smallest(
     rule: Rule,
     alive: u32,
     link: &[u32; 17],
@@ -291,30 +291,6 @@ fn in_first(
         x += 1;
     }
     Place::Nothing
-}
-
-// The smallest triple at which a rule applies. Each rule is named here, so that the compiler can make a search of its own for it.
-pub fn smallest(
-    rule: Rule,
-    alive: u32,
-    link: &[u32; 17],
-    reach: &[u32; 17],
-    back: &[u32; 17],
-    n: usize,
-) -> Place
-    requires { ⌜ (n ≤ 16) × Turned (now back) (now reach) ⌝ }
-    ensures { λ r. ⌜ placeOf r ≡ inFirst n (bit alive) (graphOf (now (link .entry)) (now (reach .entry))) (kindOf rule) ⌝ }
-{
-    match rule {
-        Rule::Reflex => in_first(Rule::Reflex, alive, link, reach, back, n),
-        Rule::Trans1 => in_first(Rule::Trans1, alive, link, reach, back, n),
-        Rule::Trans2 => in_first(Rule::Trans2, alive, link, reach, back, n),
-        Rule::Func => in_first(Rule::Func, alive, link, reach, back, n),
-        Rule::Cycle => in_first(Rule::Cycle, alive, link, reach, back, n),
-        Rule::Scc => in_first(Rule::Scc, alive, link, reach, back, n),
-        Rule::Total => in_first(Rule::Total, alive, link, reach, back, n),
-        Rule::Share => in_first(Rule::Share, alive, link, reach, back, n),
-    }
 }
 
 // The rule that has this number.

@@ -1,57 +1,48 @@
--- Each arm searches for its own rule. Assumes nothing.
+-- What is left to search equals the whole. Assumes nothing.
+use Prim.Native.Nat.{_+_, _-_}
+use native.Mathlib.Omega.{arith}
 use borrow.Author.Needs.{needs}
+use mathlib.Core.Path.{_≡_, refl, sym, ap, _∙_}
+use Rattle.logic.specs.Search.{from, firstOf}
+use Rattle.facts.specs.Path.{graphOf}
+use Rattle.facts.proofs.Loops.{first-end, first-here, first-next}
+use Rattle.rules.specs.Answers.{kindOf, placeOf}
+use Rattle.facts.specs.Bits.{bit}
+use Rattle.rules.specs.Smallest.{inSecond, inFirst}
 use Rattle.rules.proofs.smallest.Statement.{statement}
 use Rattle.rules.proofs.smallest.Tie as tie
+
+abbrev Inv-loop : tie.InvT-loop
+Inv-loop rule alive link reach back n x₀ x = inFirst n (bit alive) (graphOf link reach) (kindOf rule) ≡ firstOf (inSecond n (bit alive) (graphOf link reach) (kindOf rule)) (from (n + 1 - x) x)
+
+abbrev μ-loop : tie.MeasureT-loop
+μ-loop rule alive link reach back n x₀ x = n + 1 - x
+
+loop-holds : tie.Need-loop-holds Inv-loop μ-loop
+unfolding inFirst
+-- loop-holds
+loop-holds c = refl
 
 pub smallest-spec : {M : Type 1} → statement M
 smallest-spec =
     tie.close
     (tie.spec
+    Inv-loop
+    μ-loop
+    loop-holds
+    -- in-second-requires
+    (λ c κs. let s = c .before .before in (s .pre .0, omega arith, s .pre .1))
+    -- enum-known-a
+    (λ c. search needs)
+    -- returns
+    (λ c. sym (c .before .before .before .before .before .loop .inv ∙ first-here _ _ _ _ (omega arith) (sym (c .before .before .before .in-second .ensures) ∙ ap placeOf (c .before .a .given .1))))
     -- enum-told
     (λ c. search needs)
-    -- in-first-requires
-    (λ c κs. search needs)
-    -- enum-told-2
-    (λ c. search needs)
-    -- in-first-requires-2
-    (λ c κs. search needs)
-    -- enum-told-3
-    (λ c. search needs)
-    -- in-first-requires-3
-    (λ c κs. search needs)
-    -- enum-told-4
-    (λ c. search needs)
-    -- in-first-requires-4
-    (λ c κs. search needs)
-    -- enum-told-5
-    (λ c. search needs)
-    -- in-first-requires-5
-    (λ c κs. search needs)
-    -- enum-told-6
-    (λ c. search needs)
-    -- in-first-requires-6
-    (λ c κs. search needs)
-    -- enum-told-7
-    (λ c. search needs)
-    -- in-first-requires-7
-    (λ c κs. search needs)
-    -- enum-told-8
-    (λ c. search needs)
-    -- in-first-requires-8
-    (λ c κs. search needs)
-    -- returns
-    (λ c. rw (c .before .enum-told .given .1) (c .in-first .ensures))
+    -- add-x
+    (λ c. omega arith)
+    -- loop-less
+    (λ c. omega arith)
+    -- loop-again
+    (λ c. c .before .before .before .before .loop .inv ∙ first-next _ _ _ (omega arith) (sym (c .before .before .in-second .ensures) ∙ ap placeOf (c .enum-told .given .1)))
     -- returns-2
-    (λ c. rw (c .before .enum-told2 .given .1) (c .in-first2 .ensures))
-    -- returns-3
-    (λ c. rw (c .before .enum-told3 .given .1) (c .in-first3 .ensures))
-    -- returns-4
-    (λ c. rw (c .before .enum-told4 .given .1) (c .in-first4 .ensures))
-    -- returns-5
-    (λ c. rw (c .before .enum-told5 .given .1) (c .in-first5 .ensures))
-    -- returns-6
-    (λ c. rw (c .before .enum-told6 .given .1) (c .in-first6 .ensures))
-    -- returns-7
-    (λ c. rw (c .before .enum-told7 .given .1) (c .in-first7 .ensures))
-    -- returns-8
-    (λ c. rw (c .before .enum-told8 .given .1) (c .in-first8 .ensures)))
+    (λ c. sym (c .before .loop .inv ∙ first-end _ _ _ (omega arith))))
