@@ -108,7 +108,13 @@ fn is_held_negated(query: &[u8], at: usize, i: usize, reps: &[usize; 17], reach:
 }
 
 // "a negated reachability fact that is held"
-fn reach_clash(query: &[u8], at: usize, count: usize, reps: &[usize; 17], reach: &[u32; 17]) -> Clash
+fn reach_clash(
+    query: &[u8],
+    at: usize,
+    count: usize,
+    reps: &[usize; 17],
+    reach: &[u32; 17],
+) -> Clash
     requires { ⌜ at + 3 * count ≤ length (now query) ⌝ }
     ensures { λ r. ⌜ lineOf r ≡ alone 3 (literalsIn (now (query .entry)) at count) (reachHeld (repsOf (now (reps .entry))) (square (now (reach .entry)))) ⌝ }
 {
