@@ -44,7 +44,7 @@ pub second-of-two : (i : ℕ) (f e : Fact) → (i ≡ 0 → ⊥) → e ≡ cond 
 second-of-two i f e h = rw (ne-eqb i 0 h)
 
 -- alternatives read the links alone
-pub alternative-links : (n : ℕ) (link reach : List Bool) (r : Rule) (x y z i : ℕ) → alternativeAt n (linksIn link) r x y z i ≡ alternativeAt n (graphOf link reach) r x y z i
+pub alternative-links : (n : ℕ) (link reach : List ℕ) (r : Rule) (x y z i : ℕ) → alternativeAt n (linksIn link) r x y z i ≡ alternativeAt n (graphOf link reach) r x y z i
 unfolding next linksIn graphOf
 alternative-links n link reach REFLEX x y z i = refl
 alternative-links n link reach TRANS1 x y z i = refl

@@ -34,15 +34,7 @@ pub fn count(rule: Rule, z: Third) -> usize
 }
 
 // The alternative of a rule at i, from 0. That of CYCLE is the term i links on from x: 17 is no term, so that all i are followed.
-fn alternative(
-    link: &[bool; 289],
-    n: usize,
-    rule: Rule,
-    x: Term,
-    y: Term,
-    z: Third,
-    i: usize,
-) -> Fact
+fn alternative(link: &[u32; 17], n: usize, rule: Rule, x: Term, y: Term, z: Third, i: usize) -> Fact
     requires { ⌜ (n ≤ 16) × (x .0 ≤ 16) × (y .0 ≤ 16) × (z .0 ≤ 16) ⌝ }
     ensures { λ r. ⌜ (factOf r ≡ alternativeAt n (linksIn (now (link .entry))) (kindOf rule) (x .0) (y .0) (z .0) i) × InRange r ⌝ }
 {

@@ -1,3 +1,4 @@
+pub mod Reps
 pub mod Decomposed
 pub mod Sections
 pub mod Laid

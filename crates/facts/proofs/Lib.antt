@@ -1,8 +1,12 @@
+pub mod Bits
+pub mod Loops
+pub mod Finds
 pub mod Square
-pub mod Path
+pub mod Words
 pub mod Fill
 pub mod Merge
+pub mod Turning
 pub mod Rep
-pub mod Loops
+pub mod Path
 pub mod Successors
 pub mod Alive

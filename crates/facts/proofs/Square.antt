@@ -1,111 +1,150 @@
--- Cells read and written. Callers use these laws and know nothing of positions.
-use Prim.Native.Nat.{ℕ, _+_, _*_, _≤_, _<_}
+-- Rows read and written. Callers use these laws and know nothing of words.
+use Prim.Native.Nat.{ℕ, _≤_, _<_}
 use native.Mathlib.Omega.{arith}
 use mathlib.Core.Path.{_≡_, refl, sym, ap, _∙_, fun-ext}
-use mathlib.Core.Logic.{_⊎_, ⊎-elim, inl, inr}
-use mathlib.Core.Bool.{Bool, true, false, cond, _||_}
+use mathlib.Core.Bool.{Bool, true, false, cond}
 use mathlib.Core.List.{List}
-use lib.ListN.{length, getD, set, length-set}
+use lib.ListN.{length, getD, set}
 use lib.Seq.{getD-set-same, getD-set-other}
+use lib.Bits.{bitOr}
 use lib.Dec.{ltb, eqb}
-use borrow.Author.Tests.{lt-ltb, le-ltb, ltb-true, ltb-false, eqb-true, eqb-false}
-use Rattle.logic.specs.Search.{_and_, _or_}
-use Rattle.logic.proofs.Basics.Search.{bool-cases}
-use Rattle.facts.specs.Square.{square, rowOf, update}
+use borrow.Author.Tests.{lt-ltb, le-ltb, eqb-true, eqb-false, eq-eqb, ne-eqb, ltb-true, ltb-false}
+use Rattle.logic.specs.Search.{_and_, _or_, any}
+use Rattle.logic.specs.Facts.{became}
+use Rattle.facts.specs.Bits.{bit}
+use Rattle.facts.specs.Square.{rowOf, square, renamedRow}
+use Rattle.facts.proofs.Bits.{bit-or, bit-none}
 
-module _ (cells : List Bool) where
-  pub square-in : (x y : ℕ) → x ≤ 16 → y ≤ 16 → square cells x y ≡ getD cells (x * 17 + y) false
+module _ (w : ℕ) where
+  pub row-in : (b : ℕ) → b ≤ 16 → rowOf w b ≡ bit w b
+  unfolding rowOf _and_
+  row-in b h = rw (lt-ltb b 17 (omega arith))
+
+  pub row-beyond : (b : ℕ) → 17 ≤ b → rowOf w b ≡ false
+  unfolding rowOf _and_
+  row-beyond b h = rw (le-ltb b 17 h)
+
+-- two words with the same bits are one row
+pub row-same : (w v : ℕ) → ((i : ℕ) → bit w i ≡ bit v i) → (b : ℕ) → rowOf w b ≡ rowOf v b
+unfolding rowOf
+row-same w v e b = rw (e b)
+
+pub row-none : (b : ℕ) → rowOf 0 b ≡ false
+unfolding rowOf _and_
+row-none b = rw (bit-none b) (go (ltb b 17))
+  where
+    go : (t : Bool) → t and false ≡ false
+    go true = refl
+    go false = refl
+
+pub row-or : (w v b : ℕ) → rowOf (bitOr w v) b ≡ rowOf w b or rowOf v b
+unfolding rowOf _and_ _or_
+row-or w v b = rw (bit-or w v b) (go (ltb b 17))
+  where
+    go : (t : Bool) → t and (bit w b or bit v b) ≡ (t and bit w b) or (t and bit v b)
+    go true = refl
+    go false = refl
+
+-- the row of b alone
+pub row-only : (w b : ℕ) → b ≤ 16 → ((i : ℕ) → bit w i ≡ eqb i b) → (i : ℕ) → rowOf w i ≡ eqb i b
+unfolding rowOf _and_
+row-only w b h e i = rw (e i) (go (ltb i 17) refl)
+  where
+    go : (t : Bool) → ltb i 17 ≡ t → t and eqb i b ≡ eqb i b
+    go true f = refl
+    go false f = let l = ltb-false i 17 f in sym (ne-eqb i b (λ g. omega arith))
+
+module _ (rows : List ℕ) where
+  pub square-row : (x : ℕ) → x ≤ 16 → square rows x ≡ rowOf (getD rows x 0)
   unfolding square _and_
-  square-in x y h k = rw (lt-ltb x 17 (omega arith), lt-ltb y 17 (omega arith))
+  square-row x h = fun-ext (λ b. rw (lt-ltb x 17 (omega arith)))
 
-  pub square-above : (x y : ℕ) → 17 ≤ x → square cells x y ≡ false
+  pub square-in : (x y : ℕ) → x ≤ 16 → y ≤ 16 → square rows x y ≡ bit (getD rows x 0) y
+  square-in x y h k = rw (square-row x h) (row-in (getD rows x 0) y k)
+
+  pub square-above : (x y : ℕ) → 17 ≤ x → square rows x y ≡ false
   unfolding square _and_
   square-above x y h = rw (le-ltb x 17 h)
 
-  pub square-beside : (x y : ℕ) → 17 ≤ y → square cells x y ≡ false
+  pub square-beside : (x y : ℕ) → 17 ≤ y → square rows x y ≡ false
   unfolding square _and_
-  square-beside x y h = rw (le-ltb y 17 h) (go (ltb x 17))
+  square-beside x y h = rw (row-beyond (getD rows x 0) y h) (go (ltb x 17))
     where
-      go : (t : Bool) → (t and false) and getD cells (x * 17 + y) false ≡ false
+      go : (t : Bool) → t and false ≡ false
       go true = refl
       go false = refl
 
--- where a cell is written, the relation is changed there alone
-module _ (cells : List Bool) (full : length cells ≡ 289) (a b : ℕ) (h : a ≤ 16) (k : b ≤ 16) (v : Bool) where
-  square-same : (x y : ℕ) → x ≡ a → y ≡ b → square (set cells (a * 17 + b) v) x y ≡ v
-  square-same x y e f =
-      rw (e, f, square-in (set cells (a * 17 + b) v) a b h k) (getD-set-same cells (a * 17 + b) v false (omega arith))
+-- where a row is written, the relation is changed there alone
+module _ (rows : List ℕ) (a w : ℕ) where
+  pub set-same : length rows ≡ 17 → a ≤ 16 → square (set rows a w) a ≡ rowOf w
+  set-same full h = square-row (set rows a w) a h ∙ ap rowOf (getD-set-same rows a w 0 (omega arith))
 
-  square-cell : (x y : ℕ) → getD (set cells (a * 17 + b) v) (x * 17 + y) false ≡ getD cells (x * 17 + y) false → square (set cells (a * 17 + b) v) x y ≡ square cells x y
+  pub set-other : (x : ℕ) → (x ≡ a → ⊥) → square (set rows a w) x ≡ square rows x
   unfolding square
-  square-cell x y e = ap (λ (c : Bool). ltb x 17 and ltb y 17 and c) e
+  set-other x n = fun-ext (λ b. ap (λ (v : ℕ). ltb x 17 and rowOf v b) (getD-set-other rows a x w 0 n))
 
-  square-other : (x y : ℕ) → (x ≡ a → y ≡ b → ⊥) → square (set cells (a * 17 + b) v) x y ≡ square cells x y
-  square-other x y n =
-      ⊎-elim
-      (λ i. let m = ltb-true y 17 i in square-cell x y (getD-set-other cells (a * 17 + b) (x * 17 + y) v false (λ e. n (omega arith) (omega arith))))
-      (λ o. let m = ltb-false y 17 o in square-beside (set cells (a * 17 + b) v) x y m ∙ sym (square-beside cells x y m))
-      (bool-cases (ltb y 17))
+-- a bit is added to a row
+pub square-add : (rows : List ℕ) → length rows ≡ 17 → (a b w : ℕ) → a ≤ 16 → b ≤ 16 → ((i : ℕ) → bit w i ≡ eqb i b) → square (set rows a (bitOr (getD rows a 0) w)) ≡ (λ x y. square rows x y or (eqb x a and eqb y b))
+unfolding _and_ _or_
+square-add rows full a b w h k e = fun-ext (λ x. fun-ext (λ y. go x y (eqb x a) refl))
+  where
+    none : (t : Bool) → t ≡ t or false
+    none true = refl
+    none false = refl
 
-  pub square-set : square (set cells (a * 17 + b) v) ≡ update a b v (square cells)
-  unfolding update _and_
-  square-set = fun-ext (λ x. fun-ext (λ y. go x y (eqb x a) refl (eqb y b) refl))
+    go : (x y : ℕ) (s : Bool) → eqb x a ≡ s → square (set rows a (bitOr (getD rows a 0) w)) x y ≡ square rows x y or (s and eqb y b)
+    go x y true f =
+        rw (eqb-true x a f)
+        (ap (λ (g : ℕ → Bool). g y) (set-same rows a _ full h)
+        ∙ row-or (getD rows a 0) w y
+        ∙ rw (row-only w b k e y, square-row rows a h))
+    go x y false f = ap (λ (g : ℕ → Bool). g y) (set-other rows a _ x (eqb-false x a f)) ∙ none (square rows x y)
+
+-- the same, where the bit is wanted
+pub square-with : (rows : List ℕ) → length rows ≡ 17 → (a b w : ℕ) (wanted : Bool) → a ≤ 16 → b ≤ 16 → ((i : ℕ) → bit w i ≡ bit (getD rows a 0) i or (eqb i b and wanted)) → (x y : ℕ) → square (set rows a w) x y ≡ square rows x y or (eqb x a and (eqb y b and wanted))
+unfolding _and_ _or_
+square-with rows full a b w wanted h k e x y = go (eqb x a) refl
+  where
+    none : (t : Bool) → t ≡ t or false
+    none true = refl
+    none false = refl
+
+    here : (t : Bool) → ltb y 17 ≡ t → rowOf w y ≡ square rows a y or (eqb y b and wanted)
+    here true f = let l = ltb-true y 17 f in row-in w y (omega arith) ∙ e y ∙ sym (rw (square-in rows a y h (omega arith)))
+    here false f = let l = ltb-false y 17 f in row-beyond w y l ∙ sym (rw (square-beside rows a y l, ne-eqb y b (λ z. omega arith)))
+
+    go : (s : Bool) → eqb x a ≡ s → square (set rows a w) x y ≡ square rows x y or (s and (eqb y b and wanted))
+    go true f = rw (eqb-true x a f) (ap (λ (g : ℕ → Bool). g y) (set-same rows a w full h) ∙ here (ltb y 17) refl)
+    go false f = ap (λ (g : ℕ → Bool). g y) (set-other rows a w x (eqb-false x a f)) ∙ none (square rows x y)
+
+-- a row in which hi is replaced by lo
+module _ (lo hi : ℕ) (below : lo < hi) (p : ℕ → Bool) where
+  pub renamed-hi : (y : ℕ) → y ≡ hi → renamedRow lo hi p y ≡ false
+  unfolding renamedRow became any
+  renamed-hi y e = rw (eq-eqb y hi e)
+
+  pub renamed-lo : (y : ℕ) → y ≡ lo → renamedRow lo hi p y ≡ p lo or p hi
+  unfolding renamedRow became any _or_
+  renamed-lo y e = rw (ne-eqb y hi (omega arith), eq-eqb y lo e) (go (p lo) (p hi))
     where
-      go : (x y : ℕ) (s : Bool) → eqb x a ≡ s → (t : Bool) → eqb y b ≡ t → square (set cells (a * 17 + b) v) x y ≡ cond (s and t) v (square cells x y)
-      go x y true e true f = square-same x y (eqb-true x a e) (eqb-true y b f)
-      go x y true e false f = square-other x y (λ p. eqb-false y b f)
-      go x y false e t f = square-other x y (λ p q. eqb-false x a e p)
+      go : (s t : Bool) → s or (t or false) ≡ s or t
+      go true t = refl
+      go false true = refl
+      go false false = refl
 
-pub update-true : (a b : ℕ) (f : ℕ → ℕ → Bool) → update a b true f ≡ (λ x y. f x y or (eqb x a and eqb y b))
-unfolding update _or_
-update-true a b f = fun-ext (λ x. fun-ext (λ y. go (eqb x a and eqb y b) (f x y)))
-  where
-    go : (t u : Bool) → cond t true u ≡ u or t
-    go true true = refl
-    go true false = refl
-    go false true = refl
-    go false false = refl
+  pub renamed-else : (y : ℕ) → (y ≡ lo → ⊥) → (y ≡ hi → ⊥) → renamedRow lo hi p y ≡ p y
+  unfolding renamedRow became any _or_
+  renamed-else y n m = rw (ne-eqb y hi m, ne-eqb y lo n) (go (p y))
+    where
+      go : (s : Bool) → s or false ≡ s
+      go true = refl
+      go false = refl
 
-update-turned : (a b : ℕ) (v : Bool) (f : ℕ → ℕ → Bool) (x y : ℕ) → update a b v f y x ≡ update b a v (λ p q. f q p) x y
-unfolding update _and_
-update-turned a b v f x y = ap (λ (t : Bool). cond t v (f y x)) (go (eqb y a) (eqb x b))
-  where
-    go : (s t : Bool) → s and t ≡ t and s
-    go true true = refl
-    go true false = refl
-    go false true = refl
-    go false false = refl
-
--- what both hold is written to the first of two cells, and the second is cleared
-abbrev pub merged : List Bool → ℕ → ℕ → List Bool
-merged cells i j = set (set cells i (getD cells i false || getD cells j false)) j false
-
-module _ (cells : List Bool) (full : length cells ≡ 289) (a lo hi : ℕ) (h : a ≤ 16) (k : lo ≤ 16) (l : hi ≤ 16) where
-  pub column-merged : square (merged cells (a * 17 + lo) (a * 17 + hi)) ≡ update a hi false (update a lo (square cells a lo || square cells a hi) (square cells))
-  column-merged =
-      rw (square-in cells a lo h k, square-in cells a hi h l)
-      (square-set _ (simp length-set full) a hi h l false ∙ ap (update a hi false) (square-set cells full a lo h k _))
-
-  pub row-merged : (x y : ℕ) → square (merged cells (lo * 17 + a) (hi * 17 + a)) y x ≡ update a hi false (update a lo (square cells lo a || square cells hi a) (λ p q. square cells q p)) x y
-  row-merged x y =
-      rw (square-in cells lo a k h, square-in cells hi a l h)
-      (ap (λ (f : ℕ → ℕ → Bool). f y x) (square-set _ (simp length-set full) hi a l h false ∙ ap (update hi a false) (square-set cells full lo a k h _))
-      ∙ update-turned hi a false _ x y
-      ∙ ap (λ (f : ℕ → ℕ → Bool). update a hi false f x y) (fun-ext (λ p. fun-ext (λ q. update-turned lo a _ (square cells) p q))))
-
--- the same of a row
-pub row-in : (cells : List Bool) (t : ℕ) → t ≤ 16 → rowOf cells t ≡ getD cells t false
-unfolding rowOf _and_
-row-in cells t h = rw (lt-ltb t 17 (omega arith))
-
-pub row-beyond : (cells : List Bool) (t : ℕ) → 17 ≤ t → rowOf cells t ≡ false
-unfolding rowOf _and_
-row-beyond cells t h = rw (le-ltb t 17 h)
-
-module _ (cells : List Bool) (t : ℕ) (v : Bool) where
-  pub row-same : length cells ≡ 17 → t ≤ 16 → rowOf (set cells t v) t ≡ v
-  row-same full h = row-in (set cells t v) t h ∙ getD-set-same cells t v false (omega arith)
-
-  pub row-other : (x : ℕ) → (x ≡ t → ⊥) → rowOf (set cells t v) x ≡ rowOf cells x
-  unfolding rowOf
-  row-other x n = ap (λ (b : Bool). ltb x 17 and b) (getD-set-other cells t x v false n)
+  -- whatever answers alike is the row renamed
+  pub renamed-is : (q : ℕ → Bool) → ((y : ℕ) → y ≡ hi → q y ≡ false) → ((y : ℕ) → y ≡ lo → q y ≡ p lo or p hi) → ((y : ℕ) → (y ≡ lo → ⊥) → (y ≡ hi → ⊥) → q y ≡ p y) → (y : ℕ) → q y ≡ renamedRow lo hi p y
+  renamed-is q high low other y = go (eqb y hi) refl (eqb y lo) refl
+    where
+      go : (t : Bool) → eqb y hi ≡ t → (u : Bool) → eqb y lo ≡ u → q y ≡ renamedRow lo hi p y
+      go true k u l = let e = eqb-true y hi k in high y e ∙ sym (renamed-hi y e)
+      go false k true l = let e = eqb-true y lo l in low y e ∙ sym (renamed-lo y e)
+      go false k false l = let e = eqb-false y lo l in let f = eqb-false y hi k in other y e f ∙ sym (renamed-else y e f)

@@ -1,3 +1,4 @@
+pub mod Bits
 pub mod Square
 pub mod Path
 pub mod Answers

@@ -1,6 +1,6 @@
 -- The facts of a path that the code's arrays hold.
 use Prim.Native.Nat.{ℕ}
-use mathlib.Core.Bool.{Bool, false, cond}
+use mathlib.Core.Bool.{false, cond}
 use mathlib.Core.List.{List}
 use lib.ListN.{getD}
 use lib.Dec.{ltb, eqb}
@@ -13,14 +13,14 @@ use Rattle.logic.specs.Facts.{Graph, Facts}
 unfoldable pub repOf : List Term → ℕ → ℕ
 repOf rep t = cond (ltb t 17) (getD rep t (record { 0 = 0 }) .0) t
 
-unfoldable pub graphOf : List Bool → List Bool → Graph
+unfoldable pub graphOf : List ℕ → List ℕ → Graph
 graphOf link reach = record { link = square link; reach = square reach }
 
 unfoldable pub pathOf : code.Facts → Facts
 pathOf s = record { rep = repOf (s .rep); graph = graphOf (s .link) (s .reach) }
 
 -- a graph with these links alone: what reads only links asks no more
-unfoldable pub linksIn : List Bool → Graph
+unfoldable pub linksIn : List ℕ → Graph
 linksIn link = record { link = square link; reach = λ a b. false }
 
 -- what each term was replaced by, once hi is replaced by lo

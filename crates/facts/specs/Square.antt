@@ -1,26 +1,32 @@
--- A relation on the numbers 0 to 16, held as 289 cells: that of a and b is at a * 17 + b.
-use Prim.Native.Nat.{ℕ, _+_, _*_}
-use mathlib.Core.Bool.{Bool, true, false, cond}
+-- A relation on the numbers 0 to 16, held as 17 rows: that of a and b is bit b of row a.
+use Prim.Native.Nat.{ℕ}
+use mathlib.Core.Path.{_≡_}
+use mathlib.Core.Bool.{Bool}
 use mathlib.Core.List.{List}
 use lib.ListN.{getD}
-use lib.Dec.{ltb, eqb}
+use lib.Dec.{ltb}
 use Rattle.logic.specs.Search.{_and_, any}
 use Rattle.logic.specs.Facts.{became}
+use Rattle.facts.specs.Bits.{bit}
 
-unfoldable pub square : List Bool → ℕ → ℕ → Bool
-square cells a b = ltb a 17 and ltb b 17 and getD cells (a * 17 + b) false
+-- a property of the numbers 0 to 16, held as a word
+unfoldable pub rowOf : ℕ → ℕ → Bool
+rowOf w b = ltb b 17 and bit w b
 
--- a property of the numbers 0 to 16, held as 17 cells
-unfoldable pub rowOf : List Bool → ℕ → Bool
-rowOf cells t = ltb t 17 and getD cells t false
+unfoldable pub square : List ℕ → ℕ → ℕ → Bool
+square rows a b = ltb a 17 and rowOf (getD rows a 0) b
 
--- the relation with another answer at a and b
-unfoldable pub update : ℕ → ℕ → Bool → (ℕ → ℕ → Bool) → ℕ → ℕ → Bool
-update a b v f x y = cond (eqb x a and eqb y b) v (f x y)
+-- the first relation is the second, turned round
+abbrev pub Turned : List ℕ → List ℕ → Type 0
+Turned back rows = (a b : ℕ) → square back a b ≡ square rows b a
+
+-- a property in which hi is replaced by lo
+unfoldable pub renamedRow : ℕ → ℕ → (ℕ → Bool) → ℕ → Bool
+renamedRow lo hi p b = any p (became lo hi b)
 
 -- a relation in which, on the right or on the left, hi is replaced by lo
 unfoldable pub columns : ℕ → ℕ → (ℕ → ℕ → Bool) → ℕ → ℕ → Bool
-columns lo hi f a b = any (f a) (became lo hi b)
+columns lo hi f a = renamedRow lo hi (f a)
 
 unfoldable pub rows : ℕ → ℕ → (ℕ → ℕ → Bool) → ℕ → ℕ → Bool
-rows lo hi f a b = columns lo hi (λ x y. f y x) b a
+rows lo hi f a b = renamedRow lo hi (λ x. f x b) a

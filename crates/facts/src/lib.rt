@@ -1,22 +1,25 @@
-// The facts of a path as the code holds them: flat arrays over the numbers 0 to 16, of which 1 to 16 are terms.
+// The facts of a path as the code holds them: rows of bits over the numbers 0 to 16, of which 1 to 16 are terms.
 ghost use mathlib.Core.Path.{_≡_};
 ghost use Prim.Native.Nat.{ℕ, _+_, _-_, _*_, _≤_, _<_};
-ghost use mathlib.Core.Bool.{cond};
-ghost use lib.Dec.{eqb};
-ghost use Rattle.facts.specs.Square.{square, rowOf, columns, rows};
+ghost use mathlib.Core.Bool.{Bool, not, cond};
+ghost use lib.Dec.{eqb, ltb};
+ghost use Rattle.facts.specs.Bits.{bit};
+ghost use Rattle.facts.specs.Square.{square, Turned, renamedRow, columns, rows};
 ghost use Rattle.facts.specs.Path.{pathOf, repOf, replaceRep, linksIn};
 ghost use Rattle.facts.specs.Answers.{foundOf, twoOf};
-ghost use Rattle.logic.specs.Search.{from, find};
-ghost use Rattle.logic.specs.Facts.{addReach, replaceIn, replace, firstTwo, successors, doubled, settle, join, live};
+ghost use mathlib.Core.List.{_∷_};
+ghost use mathlib.Core.Option.{some};
+ghost use Rattle.logic.specs.Search.{_and_, _or_, from, find, select};
+ghost use Rattle.logic.specs.Facts.{terms, addReach, replaceIn, replace, firstTwo, successors, doubled, settle, join, live};
 
 // A term by its number.
 pub struct Term(pub usize);
 
-// What each term was replaced by, and whether f(a) = b and "a reaches b" are held, at a * 17 + b.
+// What each term was replaced by, and whether f(a) = b and "a reaches b" are held: bit b of row a.
 pub struct Facts {
     pub rep: [Term; 17],
-    pub link: [bool; 289],
-    pub reach: [bool; 289],
+    pub link: [u32; 17],
+    pub reach: [u32; 17],
 }
 
 // A term that was looked for.
@@ -31,13 +34,70 @@ pub enum Two {
     Nothing,
 }
 
-// The fact about a and b is held.
-pub fn holds(cells: &[bool; 289], a: Term, b: Term) -> bool
-    requires { ⌜ (a .0 ≤ 16) × (b .0 ≤ 16) ⌝ }
-    ensures { λ r. ⌜ r ≡ square (now (cells .entry)) (a .0) (b .0) ⌝ }
+// Bit b of a row.
+pub fn has(row: u32, b: usize) -> bool
+    requires { ⌜ b ≤ 16 ⌝ }
+    ensures { λ r. ⌜ r ≡ bit row b ⌝ }
 {
-    let at = a.0 * 17 + b.0;
-    cells[at]
+    (row >> b) & 1 == 1
+}
+
+// The row of b alone.
+pub fn only(b: usize) -> u32
+    requires { ⌜ b ≤ 16 ⌝ }
+    ensures { λ r. ⌜ ((i : ℕ) → bit r i ≡ eqb i b) ⌝ }
+{
+    1u32 << b
+}
+
+// What one row has and the other has not.
+pub fn without(row: u32, other: u32) -> u32
+    ensures { λ r. ⌜ ((i : ℕ) → bit r i ≡ bit row i and not (bit other i)) ⌝ }
+{
+    (row | other) ^ other
+}
+
+// The row of the numbers 0 to n.
+pub fn up_to(n: usize) -> u32
+    requires { ⌜ n ≤ 16 ⌝ }
+    ensures { λ r. ⌜ ((i : ℕ) → bit r i ≡ ltb i (n + 1)) ⌝ }
+{
+    (2u32 << n) - 1
+}
+
+// The row of the terms 1 to n.
+pub fn term_row(n: usize) -> u32
+    requires { ⌜ n ≤ 16 ⌝ }
+    ensures { λ r. ⌜ ((i : ℕ) → bit r i ≡ ltb 0 i and ltb i (n + 1)) ⌝ }
+{
+    without(up_to(n), 1)
+}
+
+// The smallest number of a row.
+pub fn first(row: u32) -> Found
+    ensures { λ r. ⌜ foundOf r ≡ find (bit row) (from 32 0) ⌝ }
+{
+    if row == 0 {
+        return Found::Nothing;
+    }
+    Found::At(Term(u32::trailing_zeros(row) as usize))
+}
+
+// The row without its smallest number.
+pub fn rest(row: u32) -> u32
+    requires { ⌜ 0 < row ⌝ }
+    ensures { λ r. ⌜ (r < row) × ((a : ℕ) → find (bit row) (from 32 0) ≡ some a → select (bit row) (from 32 0) ≡ (a ∷ select (bit r) (from 32 0))) ⌝ }
+{
+    row & (row - 1)
+}
+
+// The fact about a and b is held.
+pub fn holds(rows: &[u32; 17], a: Term, b: Term) -> bool
+    requires { ⌜ (a .0 ≤ 16) × (b .0 ≤ 16) ⌝ }
+    ensures { λ r. ⌜ r ≡ square (now (rows .entry)) (a .0) (b .0) ⌝ }
+{
+    let at = a.0;
+    has(rows[at], b.0)
 }
 
 // The reachability fact is added.
@@ -45,53 +105,57 @@ pub fn add_reach(s: Facts, a: Term, b: Term) -> Facts
     requires { ⌜ (a .0 ≤ 16) × (b .0 ≤ 16) ⌝ }
     ensures { λ r. ⌜ pathOf r ≡ addReach (a .0) (b .0) (pathOf s) ⌝ }
 {
-    let at = a.0 * 17 + b.0;
+    let at = a.0;
+    let added = only(b.0);
     let mut t = s;
-    t.reach[at] = true;
+    t.reach[at] = t.reach[at] | added;
     t
 }
 
-// In every row, the lower column gets what the higher holds, and the higher is cleared.
-fn merge_columns(cells: [bool; 289], lo: Term, hi: Term) -> [bool; 289]
+// A row in which hi is replaced by lo.
+fn renamed_row(row: u32, lo: usize, hi: usize) -> u32
+    requires { ⌜ (lo < hi) × (hi ≤ 16) ⌝ }
+    ensures { λ r. ⌜ bit r ≡ renamedRow lo hi (bit row) ⌝ }
+{
+    let moved = ((row >> hi) & 1) << lo;
+    without(row, only(hi)) | moved
+}
+
+// In every row, the lower number stands where the higher did.
+fn merge_columns(rows: [u32; 17], lo: Term, hi: Term) -> [u32; 17]
     requires { ⌜ (lo .0 < hi .0) × (hi .0 ≤ 16) ⌝ }
-    ensures { λ r. ⌜ square r ≡ columns (lo .0) (hi .0) (square cells) ⌝ }
+    ensures { λ r. ⌜ square r ≡ columns (lo .0) (hi .0) (square rows) ⌝ }
 {
     let low = lo.0;
     let high = hi.0;
-    let mut out = cells;
+    let mut out = rows;
     let mut a: usize = 0;
     while a < 17 {
-        let at = a * 17;
-        out[at + low] = out[at + low] | out[at + high];
-        out[at + high] = false;
+        out[a] = renamed_row(out[a], low, high);
         a += 1;
     }
     out
 }
 
-// In every column, the lower row gets what the higher holds, and the higher is cleared.
-fn merge_rows(cells: [bool; 289], lo: Term, hi: Term) -> [bool; 289]
+// The lower row gets what the higher holds, and the higher is cleared.
+fn merge_rows(cells: [u32; 17], lo: Term, hi: Term) -> [u32; 17]
     requires { ⌜ (lo .0 < hi .0) × (hi .0 ≤ 16) ⌝ }
     ensures { λ r. ⌜ square r ≡ rows (lo .0) (hi .0) (square cells) ⌝ }
 {
     let low = lo.0;
     let high = hi.0;
     let mut out = cells;
-    let mut b: usize = 0;
-    while b < 17 {
-        out[low * 17 + b] = out[low * 17 + b] | out[high * 17 + b];
-        out[high * 17 + b] = false;
-        b += 1;
-    }
+    out[low] = out[low] | out[high];
+    out[high] = 0;
     out
 }
 
 // hi is replaced by lo in a relation.
-fn replace_in(cells: [bool; 289], lo: Term, hi: Term) -> [bool; 289]
+fn replace_in(rows: [u32; 17], lo: Term, hi: Term) -> [u32; 17]
     requires { ⌜ (lo .0 < hi .0) × (hi .0 ≤ 16) ⌝ }
-    ensures { λ r. ⌜ square r ≡ replaceIn (lo .0) (hi .0) (square cells) ⌝ }
+    ensures { λ r. ⌜ square r ≡ replaceIn (lo .0) (hi .0) (square rows) ⌝ }
 {
-    merge_rows(merge_columns(cells, lo, hi), lo, hi)
+    merge_rows(merge_columns(rows, lo, hi), lo, hi)
 }
 
 // lo for hi, and any other term for itself.
@@ -134,37 +198,41 @@ pub fn replace(s: Facts, lo: Term, hi: Term) -> Facts
     }
 }
 
-// The lowest successor of t among the numbers from k to n.
-pub fn successor(link: &[bool; 289], n: usize, t: Term, k: usize) -> Found
+// The row of the successors of t.
+pub fn successor_row(link: &[u32; 17], n: usize, t: Term) -> u32
     requires { ⌜ (n ≤ 16) × (t .0 ≤ 16) ⌝ }
-    ensures { λ r. ⌜ foundOf r ≡ find (square (now (link .entry)) (t .0)) (from (n + 1 - k) k) ⌝ }
+    ensures { λ r. ⌜ ((i : ℕ) → bit r i ≡ square (now (link .entry)) (t .0) i and (ltb 0 i and ltb i (n + 1))) ⌝ }
 {
-    let mut b = k;
-    while b <= n {
-        if holds(link, t, Term(b)) {
-            return Found::At(Term(b));
-        }
-        b += 1;
-    }
-    Found::Nothing
+    let at = t.0;
+    let among = term_row(n);
+    link[at] & among
+}
+
+// The lowest successor of t.
+pub fn successor(link: &[u32; 17], n: usize, t: Term) -> Found
+    requires { ⌜ (n ≤ 16) × (t .0 ≤ 16) ⌝ }
+    ensures { λ r. ⌜ foundOf r ≡ find (square (now (link .entry)) (t .0)) (terms n) ⌝ }
+{
+    first(successor_row(link, n, t))
 }
 
 // The two lowest successors of t, where it has two.
-pub fn first_two(link: &[bool; 289], n: usize, t: Term) -> Two
+pub fn first_two(link: &[u32; 17], n: usize, t: Term) -> Two
     requires { ⌜ (n ≤ 16) × (t .0 ≤ 16) ⌝ }
     ensures { λ r. ⌜ twoOf r ≡ firstTwo (successors n (linksIn (now (link .entry))) (t .0)) ⌝ }
 {
-    let Found::At(a) = successor(link, n, t, 1) else {
+    let row = successor_row(link, n, t);
+    let Found::At(a) = first(row) else {
         return Two::Nothing;
     };
-    let Found::At(b) = successor(link, n, t, a.0 + 1) else {
+    let Found::At(b) = first(row & (row - 1)) else {
         return Two::Nothing;
     };
     Two::Of(a, b)
 }
 
 // "the two lowest successors of the lowest such term"
-pub fn doubled(link: &[bool; 289], n: usize) -> Two
+pub fn doubled(link: &[u32; 17], n: usize) -> Two
     requires { ⌜ n ≤ 16 ⌝ }
     ensures { λ r. ⌜ twoOf r ≡ doubled n (linksIn (now (link .entry))) ⌝ }
 {
@@ -209,18 +277,57 @@ pub fn join(s: Facts, n: usize, a: Term, b: Term) -> Facts
     settle(replace(s, b, a), n)
 }
 
-// Which terms are not replaced.
-pub fn live(s: Facts, n: usize) -> [bool; 17]
+// A row with t, where it is to have it.
+pub fn with(row: u32, t: usize, wanted: bool) -> u32
+    requires { ⌜ t ≤ 16 ⌝ }
+    ensures { λ r. ⌜ ((i : ℕ) → bit r i ≡ bit row i or (eqb i t and wanted)) ⌝ }
+{
+    if wanted {
+        return row | only(t);
+    }
+    row
+}
+
+// The row of the terms that are not replaced.
+pub fn live(s: Facts, n: usize) -> u32
     requires { ⌜ n ≤ 16 ⌝ }
-    ensures { λ r. ⌜ rowOf r ≡ live n (pathOf s) ⌝ }
+    ensures { λ r. ⌜ bit r ≡ live n (pathOf s) ⌝ }
 {
     let rep = s.rep;
-    let mut out = [false; 17];
+    let mut out: u32 = 0;
     let mut t: usize = 0;
     while t < 17 {
         let u = rep[t];
-        out[t] = (0 < t) & (t <= n) & (u.0 == t);
+        out = with(out, t, (0 < t) & (t <= n) & (u.0 == t));
         t += 1;
+    }
+    out
+}
+
+// Column y of a relation, as a row.
+fn column(rows: &[u32; 17], y: usize) -> u32
+    requires { ⌜ y ≤ 16 ⌝ }
+    ensures { λ r. ⌜ ((z : ℕ) → bit r z ≡ square (now (rows .entry)) z y) ⌝ }
+{
+    let mut out: u32 = 0;
+    let mut z: usize = 0;
+    while z < 17 {
+        let set = has(rows[z], y);
+        out = with(out, z, set);
+        z += 1;
+    }
+    out
+}
+
+// The relation turned round: its columns as rows.
+pub fn turned(rows: &[u32; 17]) -> [u32; 17]
+    ensures { λ r. ⌜ Turned r (now (rows .entry)) ⌝ }
+{
+    let mut out = [0u32; 17];
+    let mut y: usize = 0;
+    while y < 17 {
+        out[y] = column(rows, y);
+        y += 1;
     }
     out
 }

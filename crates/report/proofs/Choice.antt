@@ -18,27 +18,27 @@ use Rattle.report.specs.Links.{reachIn, begins, beginsWithout, coversAll
 use Rattle.report.proofs.Loops.{terms-from, all-selected, any-selected, find-selected, select-selected, and-both, first, find-first}
 
 -- v reaches u, and not back
-abbrev pub leaves : List Bool → ℕ → ℕ → Bool
+abbrev pub leaves : List ℕ → ℕ → ℕ → Bool
 leaves reach v u = square reach v u && not (square reach u v)
 
-pub basin-search : (n : ℕ) (reach : List Bool) (v : ℕ) → inBasin n (reachIn reach) v ≡ not (any (leaves reach v) (from (n + 1 - 1) 1))
+pub basin-search : (n : ℕ) (reach : List ℕ) (v : ℕ) → inBasin n (reachIn reach) v ≡ not (any (leaves reach v) (from (n + 1 - 1) 1))
 unfolding inBasin reached reachIn
 basin-search n reach v = rw (terms-from n) (all-selected (square reach v) (λ u. square reach u v) (from (n + 1 - 1) 1))
 
 -- a link from inside v's basin leads to b
-abbrev pub leadsTo : List Bool → (ℕ → ℕ) → ℕ → ℕ → ℕ → Bool
+abbrev pub leadsTo : List ℕ → (ℕ → ℕ) → ℕ → ℕ → ℕ → Bool
 leadsTo reach p v b u = square reach v u && eqb (p u) b
 
-pub begins-outside : (n : ℕ) (reach : List Bool) (p : ℕ → ℕ) (v b : ℕ) → square reach v b ≡ false → begins n (reachIn reach) p v b ≡ false
+pub begins-outside : (n : ℕ) (reach : List ℕ) (p : ℕ → ℕ) (v b : ℕ) → square reach v b ≡ false → begins n (reachIn reach) p v b ≡ false
 unfolding begins reachIn _and_
 begins-outside n reach p v b e = rw e
 
-pub begins-search : (n : ℕ) (reach : List Bool) (p : ℕ → ℕ) (v b : ℕ) → square reach v b ≡ true → begins n (reachIn reach) p v b ≡ not (any (leadsTo reach p v b) (from (n + 1 - 1) 1))
+pub begins-search : (n : ℕ) (reach : List ℕ) (p : ℕ → ℕ) (v b : ℕ) → square reach v b ≡ true → begins n (reachIn reach) p v b ≡ not (any (leadsTo reach p v b) (from (n + 1 - 1) 1))
 unfolding begins reachIn reached _and_
 begins-search n reach p v b e = rw (e, terms-from n) (ap not (any-selected (square reach v) (λ u. eqb (p u) b) (from (n + 1 - 1) 1)))
 
 -- v reaches w, another term, and u does not
-abbrev pub misses : List Bool → ℕ → ℕ → ℕ → Bool
+abbrev pub misses : List ℕ → ℕ → ℕ → ℕ → Bool
 misses reach v u w = square reach v w && not (eqb w v || square reach u w)
 
 or-either : (a b : Bool) → a || b ≡ a or b
@@ -46,7 +46,7 @@ unfolding _or_
 or-either true b = refl
 or-either false b = refl
 
-pub covers-search : (n : ℕ) (reach : List Bool) (v u : ℕ) → coversAll n (reachIn reach) v u ≡ not (any (misses reach v u) (from (n + 1 - 1) 1))
+pub covers-search : (n : ℕ) (reach : List ℕ) (v u : ℕ) → coversAll n (reachIn reach) v u ≡ not (any (misses reach v u) (from (n + 1 - 1) 1))
 unfolding coversAll reachIn reached
 covers-search n reach v u = rw (terms-from n) (simp (← or-either) (all-selected (square reach v) (λ w. eqb w v || square reach u w) (from (n + 1 - 1) 1)))
 
@@ -70,13 +70,13 @@ path-end p v zero b h = refl
 path-end p v (suc k) b h = absurd (omega arith)
 
 -- u is another term that v reaches, and it reaches all that v reaches
-abbrev pub above : ℕ → List Bool → ℕ → ℕ → Bool
+abbrev pub above : ℕ → List ℕ → ℕ → ℕ → Bool
 above n reach v u = square reach v u && (not (eqb u v) && coversAll n (reachIn reach) v u)
 
-above-tests : (n : ℕ) (reach : List Bool) (v : ℕ) (xs : List ℕ) → find (λ u. square reach v u && (not (eqb u v) and coversAll n (reachIn reach) v u)) xs ≡ find (λ u. square reach v u && (not (eqb u v) && coversAll n (reachIn reach) v u)) xs
+above-tests : (n : ℕ) (reach : List ℕ) (v : ℕ) (xs : List ℕ) → find (λ u. square reach v u && (not (eqb u v) and coversAll n (reachIn reach) v u)) xs ≡ find (λ u. square reach v u && (not (eqb u v) && coversAll n (reachIn reach) v u)) xs
 above-tests n reach v xs = simp and-both
 
-pub tree-search : (n : ℕ) (reach : List Bool) (v : ℕ) → treeLink n (reachIn reach) v ≡ Option·getD (find (above n reach v) (from (n + 1 - 1) 1)) 0
+pub tree-search : (n : ℕ) (reach : List ℕ) (v : ℕ) → treeLink n (reachIn reach) v ≡ Option·getD (find (above n reach v) (from (n + 1 - 1) 1)) 0
 unfolding treeLink coversAll reachIn reached
 tree-search n reach v =
     ap (λ (o : Option ℕ). Option·getD o 0)
@@ -108,7 +108,7 @@ pick-several t (x ∷ y ∷ hs) a b e = rw (ne-eqb (length (x ∷ y ∷ hs)) 1 (
 without-tests : (n : ℕ) (g : Graph) (p : ℕ → ℕ) (v : ℕ) (xs : List ℕ) → find (λ b. begins n g p v b && not (onPath p v n b)) xs ≡ find (beginsWithout n g p v) xs
 without-tests n g p v xs = simp and-both
 
-module _ (n : ℕ) (reach : List Bool) (p : ℕ → ℕ) (v : ℕ) where
+module _ (n : ℕ) (reach : List ℕ) (p : ℕ → ℕ) (v : ℕ) where
   heads-selected : heads p (reached n (reachIn reach) v) ≡ select (begins n (reachIn reach) p v) (from (n + 1 - 1) 1)
   unfolding heads reached reachIn begins
   heads-selected =
@@ -120,7 +120,7 @@ module _ (n : ℕ) (reach : List Bool) (p : ℕ → ℕ) (v : ℕ) where
   picked = ap (pick (λ b. not (onPath p v n b))) heads-selected
 
   two-none : (a : ℕ) → find (begins n (reachIn reach) p v) (from (n + 1 - 1) 1) ≡ some a → find (begins n (reachIn reach) p v) (from (n + 1 - (a + 1)) (a + 1)) ≡ none → firstTwo (select (begins n (reachIn reach) p v) (from (n + 1 - 1) 1)) ≡ none
-  two-none a e f = rw (← terms-from n) (two-one (begins n (reachIn reach) p v) n a e f)
+  two-none a e f = rw (← terms-from n) (two-one (begins n (reachIn reach) p v) n a (ap (find (begins n (reachIn reach) p v)) (terms-from n) ∙ e) f)
 
   pub basin-none : find (begins n (reachIn reach) p v) (from (n + 1 - 1) 1) ≡ none → basinLink n p (reached n (reachIn reach) v) v ≡ 0
   basin-none e = picked ∙ pick-none (λ b. not (onPath p v n b)) (select (begins n (reachIn reach) p v) (from (n + 1 - 1) 1)) (sym (find-first _ _) ∙ e)
@@ -131,5 +131,5 @@ module _ (n : ℕ) (reach : List Bool) (p : ℕ → ℕ) (v : ℕ) where
   pub basin-several : (a b : ℕ) → find (begins n (reachIn reach) p v) (from (n + 1 - 1) 1) ≡ some a → find (begins n (reachIn reach) p v) (from (n + 1 - (a + 1)) (a + 1)) ≡ some b → basinLink n p (reached n (reachIn reach) v) v ≡ Option·getD (find (beginsWithout n (reachIn reach) p v) (from (n + 1 - 1) 1)) 0
   basin-several a b e f =
       picked
-      ∙ pick-several (λ b. not (onPath p v n b)) (select (begins n (reachIn reach) p v) (from (n + 1 - 1) 1)) a b (rw (← terms-from n) (two-both (begins n (reachIn reach) p v) n a b e f))
+      ∙ pick-several (λ b. not (onPath p v n b)) (select (begins n (reachIn reach) p v) (from (n + 1 - 1) 1)) a b (rw (← terms-from n) (two-both (begins n (reachIn reach) p v) n a b (ap (find (begins n (reachIn reach) p v)) (terms-from n) ∙ e) f))
       ∙ ap (λ (o : Option ℕ). Option·getD o 0) (find-selected (begins n (reachIn reach) p v) (λ b. not (onPath p v n b)) (from (n + 1 - 1) 1) ∙ without-tests n (reachIn reach) p v (from (n + 1 - 1) 1))

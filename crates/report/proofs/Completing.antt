@@ -112,7 +112,7 @@ unfolding linkEach
 link-end n g q p v h = rw (select-end q (n + 1) v (omega arith))
 
 -- completing reads the reachability facts alone
-same-reach : (n : ℕ) (link reach : List Bool) (p : ℕ → ℕ) (vs : List ℕ) → linkEach n (reachIn reach) p vs ≡ linkEach n (graphOf link reach) p vs
+same-reach : (n : ℕ) (link reach : List ℕ) (p : ℕ → ℕ) (vs : List ℕ) → linkEach n (reachIn reach) p vs ≡ linkEach n (graphOf link reach) p vs
 unfolding linkEach newLink inBasin basinLink treeLink reached reachIn graphOf
 same-reach n link reach p [] = refl
 same-reach n link reach p (v ∷ vs) = same-reach n link reach _ vs

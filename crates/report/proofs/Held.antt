@@ -1,20 +1,28 @@
 -- What the plain literals set, marked one after the other; and the byte of a row of marks.
-use Prim.Native.Nat.{ℕ, zero, suc, _+_, _-_, _*_, _^_, _≤_, _<_}
-use native.Mathlib.Nat.{pow-succ', pow-le-pow-right}
+use Prim.Native.Nat.{ℕ, zero, suc, _+_, _-_, _*_, _/_, _%_, _^_, _≤_, _<_}
+use native.Mathlib.Nat.{pow-suc, div-div-eq-div-mul, mod-one, mod-lt, zero-lt-suc, mul-comm, add-comm}
 use native.Mathlib.Omega.{arith}
 use mathlib.Core.Path.{_≡_, refl, sym, ap, ap₂, _∙_}
 use mathlib.Core.Logic.{⊎-elim}
 use mathlib.Core.Bool.{Bool, true, false, cond}
 use mathlib.Core.List.{List, _∷_}
-use lib.ListN.{length, set, replicate, getD-replicate}
+use lib.ListN.{length, getD, set, replicate, getD-replicate}
+use lib.Arith.{mod-mul}
+use lib.Pow.{pow-pos}
+use lib.Bits.{bitAnd, bitOr, and-mask, mask-lt}
 use lib.Dec.{eqb}
 use borrow.Author.Tests.{eqb-true, eqb-false, eq-eqb, ne-eqb}
 use Rattle.logic.specs.Search.{_and_, _or_, any}
 use Rattle.logic.specs.Query.{Literal}
 use Rattle.logic.specs.Shown.{byteOf}
 use Rattle.logic.proofs.Basics.Search.{bool-cases}
+use Rattle.facts.specs.Bits.{bit}
 use Rattle.facts.specs.Square.{square}
-use Rattle.facts.proofs.Square.{square-in, square-set, update-true}
+use Rattle.facts.specs.declared.Term.{Term}
+use Rattle.facts.specs.Path.{repOf}
+use Rattle.facts.proofs.Rep.{rep-in}
+use Rattle.facts.proofs.Bits.{bit-is, bit-none}
+use Rattle.facts.proofs.Square.{square-in, square-add}
 use Rattle.query.proofs.Literals.{listed, listed-end, listed-next}
 use Rattle.report.specs.Bytes.{fieldHeld, booleanHeld}
 
@@ -53,32 +61,39 @@ set-cons : (l : Literal) (ls : List Literal) (j : ℕ) → booleanHeld (l ∷ ls
 unfolding booleanHeld any
 set-cons l ls j = refl
 
-no-marks : (v j : ℕ) → v ≤ 16 → j ≤ 16 → square (replicate 289 false) v j ≡ false
-no-marks v j h k = square-in (replicate 289 false) v j h k ∙ getD-replicate 289 (v * 17 + j) false false (omega arith)
+no-marks : (v j : ℕ) → v ≤ 16 → j ≤ 16 → square (replicate 17 0) v j ≡ false
+no-marks v j h k = square-in (replicate 17 0) v j h k ∙ ap (λ (w : ℕ). bit w j) (getD-replicate 17 v 0 0 (omega arith)) ∙ bit-none j
 
--- where one cell is set
-mark-set : (marks : List Bool) → length marks ≡ 289 → (a b : ℕ) → a ≤ 16 → b ≤ 16 → (v j : ℕ) → square (set marks (a * 17 + b) true) v j ≡ square marks v j or (eqb v a and eqb j b)
-mark-set marks full a b h k v j = ap (λ (f : ℕ → ℕ → Bool). f v j) (square-set marks full a b h k true ∙ update-true a b (square marks))
+-- the term that stands for a literal's
+pub stands-in : (rep : List Term) (t u : ℕ) → t ≡ u → u ≤ 16 → getD rep t (record { 0 = 0 }) .0 ≡ repOf rep u
+stands-in rep t u e h = ap (λ (x : ℕ). getD rep x (record { 0 = 0 }) .0) e ∙ sym (rep-in rep u h)
+
+-- row a with one more number, whose own row is o
+abbrev pub marked-at : List ℕ → ℕ → ℕ → List ℕ
+marked-at marks a o = set marks a (bitOr (getD marks a 0) o)
+
+mark-set : (marks : List ℕ) → length marks ≡ 17 → (a b o : ℕ) → a ≤ 16 → b ≤ 16 → ((i : ℕ) → bit o i ≡ eqb i b) → (v j : ℕ) → square (marked-at marks a o) v j ≡ square marks v j or (eqb v a and eqb j b)
+mark-set marks full a b o h k e v j = ap (λ (f : ℕ → ℕ → Bool). f v j) (square-add marks full a b o h k e)
 
 module _ (rep : ℕ → ℕ) (g : ℕ → Literal) (count : ℕ) where
   -- the marks so far and the literals left make the whole
-  abbrev pub FieldMarks : ℕ → List Bool → Type 0
+  abbrev pub FieldMarks : ℕ → List ℕ → Type 0
   FieldMarks i marks = (v j : ℕ) → v ≤ 16 → j ≤ 16 → fieldHeld rep (listed g count 0) v j ≡ square marks v j or fieldHeld rep (listed g count i) v j
 
-  pub fields-none : FieldMarks 0 (replicate 289 false)
+  pub fields-none : FieldMarks 0 (replicate 17 0)
   unfolding _or_
   fields-none v j h k = rw (no-marks v j h k)
 
-  pub fields-skip : (i : ℕ) (marks : List Bool) → i < count → g i .plain ≡ false → FieldMarks i marks → FieldMarks (i + 1) marks
+  pub fields-skip : (i : ℕ) (marks : List ℕ) → i < count → g i .plain ≡ false → FieldMarks i marks → FieldMarks (i + 1) marks
   unfolding fieldHeld any _or_ _and_
   fields-skip i marks h e m v j l r = m v j l r ∙ ap (λ (ls : List Literal). square marks v j or fieldHeld rep ls v j) (listed-next g count i h) ∙ rw e
 
-  pub fields-here : (i : ℕ) (marks : List Bool) → length marks ≡ 289 → i < count → g i .plain ≡ true → (a b : ℕ) → a ≤ 16 → b ≤ 16 → a ≡ rep (g i .right) → b ≡ g i .left → FieldMarks i marks → FieldMarks (i + 1) (set marks (a * 17 + b) true)
-  fields-here i marks full h e a b x y p q m v j l r =
+  pub fields-here : (i : ℕ) (marks : List ℕ) → length marks ≡ 17 → i < count → g i .plain ≡ true → (a b o : ℕ) → a ≤ 16 → b ≤ 16 → ((i : ℕ) → bit o i ≡ eqb i b) → a ≡ rep (g i .right) → b ≡ g i .left → FieldMarks i marks → FieldMarks (i + 1) (marked-at marks a o)
+  fields-here i marks full h e a b o x y c p q m v j l r =
       m v j l r
       ∙ ap (λ (ls : List Literal). square marks v j or fieldHeld rep ls v j) (listed-next g count i h)
       ∙ turn
-      ∙ ap (λ (s : Bool). s or fieldHeld rep (listed g count (i + 1)) v j) (sym (mark-set marks full a b x y v j))
+      ∙ ap (λ (s : Bool). s or fieldHeld rep (listed g count (i + 1)) v j) (sym (mark-set marks full a b o x y c v j))
     where
       test : g i .plain and eqb (g i .left) j and eqb (rep (g i .right)) v ≡ eqb j b and eqb v a
       test = rw (e, ← p, ← q, eqb-turned b j, eqb-turned a v) (true-and (eqb j b) (eqb v a))
@@ -86,76 +101,69 @@ module _ (rep : ℕ → ℕ) (g : ℕ → Literal) (count : ℕ) where
       turn : square marks v j or fieldHeld rep (g i ∷ listed g count (i + 1)) v j ≡ square marks v j or (eqb v a and eqb j b) or fieldHeld rep (listed g count (i + 1)) v j
       turn = ap (λ (t : Bool). square marks v j or t) (held-cons rep (g i) (listed g count (i + 1)) v j ∙ ap (λ (t : Bool). t or fieldHeld rep (listed g count (i + 1)) v j) test) ∙ or-turn (square marks v j) (eqb v a) (eqb j b) _
 
-  pub fields-all : (i : ℕ) (marks : List Bool) → count ≤ i → FieldMarks i marks → (v j : ℕ) → v ≤ 16 → j ≤ 16 → square marks v j ≡ fieldHeld rep (listed g count 0) v j
+  pub fields-all : (i : ℕ) (marks : List ℕ) → count ≤ i → FieldMarks i marks → (v j : ℕ) → v ≤ 16 → j ≤ 16 → square marks v j ≡ fieldHeld rep (listed g count 0) v j
   unfolding fieldHeld any
   fields-all i marks h m v j l r = sym (m v j l r ∙ ap (λ (ls : List Literal). square marks v j or fieldHeld rep ls v j) (listed-end g count i h) ∙ or-false (square marks v j))
 
 module _ (g : ℕ → Literal) (count : ℕ) where
-  abbrev pub BooleanMarks : ℕ → List Bool → Type 0
+  abbrev pub BooleanMarks : ℕ → List ℕ → Type 0
   BooleanMarks i marks = (j : ℕ) → j ≤ 16 → booleanHeld (listed g count 0) j ≡ square marks 0 j or booleanHeld (listed g count i) j
 
-  pub booleans-none : BooleanMarks 0 (replicate 289 false)
+  pub booleans-none : BooleanMarks 0 (replicate 17 0)
   unfolding _or_
   booleans-none j k = rw (no-marks 0 j (omega arith) k)
 
-  pub booleans-skip : (i : ℕ) (marks : List Bool) → i < count → g i .plain ≡ false → BooleanMarks i marks → BooleanMarks (i + 1) marks
+  pub booleans-skip : (i : ℕ) (marks : List ℕ) → i < count → g i .plain ≡ false → BooleanMarks i marks → BooleanMarks (i + 1) marks
   unfolding booleanHeld any _or_ _and_
   booleans-skip i marks h e m j r = m j r ∙ ap (λ (ls : List Literal). square marks 0 j or booleanHeld ls j) (listed-next g count i h) ∙ rw e
 
-  pub booleans-here : (i : ℕ) (marks : List Bool) → length marks ≡ 289 → i < count → g i .plain ≡ true → (b : ℕ) → b ≤ 16 → b ≡ g i .left → BooleanMarks i marks → BooleanMarks (i + 1) (set marks b true)
-  booleans-here i marks full h e b y q m j r =
+  pub booleans-here : (i : ℕ) (marks : List ℕ) → length marks ≡ 17 → i < count → g i .plain ≡ true → (b o : ℕ) → b ≤ 16 → ((i : ℕ) → bit o i ≡ eqb i b) → b ≡ g i .left → BooleanMarks i marks → BooleanMarks (i + 1) (marked-at marks 0 o)
+  booleans-here i marks full h e b o y c q m j r =
       m j r
       ∙ ap (λ (ls : List Literal). square marks 0 j or booleanHeld ls j) (listed-next g count i h)
       ∙ turn
-      ∙ ap (λ (s : Bool). s or booleanHeld (listed g count (i + 1)) j) (sym (mark-set marks full 0 b (omega arith) y 0 j) ∙ ap (λ (k : ℕ). square (set marks k true) 0 j) place)
+      ∙ ap (λ (s : Bool). s or booleanHeld (listed g count (i + 1)) j) (sym (mark-set marks full 0 b o (omega arith) y c 0 j))
     where
-      place : 0 * 17 + b ≡ b
-      place = omega arith
-
       test : g i .plain and eqb (g i .left) j ≡ eqb j b and eqb 0 0
       test = rw (e, ← q, eqb-turned b j) (plain-only (eqb j b))
 
       turn : square marks 0 j or booleanHeld (g i ∷ listed g count (i + 1)) j ≡ square marks 0 j or (eqb 0 0 and eqb j b) or booleanHeld (listed g count (i + 1)) j
       turn = ap (λ (t : Bool). square marks 0 j or t) (set-cons (g i) (listed g count (i + 1)) j ∙ ap (λ (t : Bool). t or booleanHeld (listed g count (i + 1)) j) test) ∙ or-turn (square marks 0 j) (eqb 0 0) (eqb j b) _
 
-  pub booleans-all : (i : ℕ) (marks : List Bool) → count ≤ i → BooleanMarks i marks → (j : ℕ) → j ≤ 16 → square marks 0 j ≡ booleanHeld (listed g count 0) j
+  pub booleans-all : (i : ℕ) (marks : List ℕ) → count ≤ i → BooleanMarks i marks → (j : ℕ) → j ≤ 16 → square marks 0 j ≡ booleanHeld (listed g count 0) j
   unfolding booleanHeld any
   booleans-all i marks h m j r = sym (m j r ∙ ap (λ (ls : List Literal). square marks 0 j or booleanHeld ls j) (listed-end g count i h) ∙ or-false (square marks 0 j))
 
 -- Bytes
 
-bit-below : (c : Bool) (b p : ℕ) → b < p → cond c 1 0 + 2 * b < 2 * p
-bit-below true b p h = omega arith
-bit-below false b p h = omega arith
+-- the byte of m bits of a word from k on
+byte-bits : (w k m : ℕ) → byteOf (bit w) k m ≡ w / 2 ^ k % 2 ^ m
+unfolding byteOf
+byte-bits w k zero = sym (mod-one (w / 2 ^ k))
+byte-bits w k (suc m) =
+    ap₂ (λ (b x : ℕ). b + 2 * x) (ap (λ (b : Bool). cond b 1 0) (bit-is w k) ∙ digit (w / 2 ^ k % 2) (mod-lt (w / 2 ^ k) (zero-lt-suc 1))) (byte-bits w (suc k) m ∙ ap (λ (x : ℕ). x % 2 ^ m) half)
+    ∙ total (w / 2 ^ k)
+  where
+    digit : (d : ℕ) → d < 2 → cond (eqb d 1) 1 0 ≡ d
+    digit zero h = refl
+    digit (suc zero) h = refl
+    digit (suc (suc d)) h = absurd (omega arith)
 
-module _ (f : ℕ → Bool) where
-  byte-below : (i k : ℕ) → byteOf f i k < 2 ^ k
-  unfolding byteOf
-  byte-below i zero = omega arith
-  byte-below i (suc k) = rw (pow-succ' 2 k) (bit-below (f i) (byteOf f (suc i) k) (2 ^ k) (byte-below (suc i) k))
+    half : w / 2 ^ suc k ≡ w / 2 ^ k / 2
+    half = ap (λ (x : ℕ). w / x) (pow-suc 2 k) ∙ sym (div-div-eq-div-mul w (2 ^ k) 2)
 
-  pub byte-small : (i k : ℕ) → k ≤ 8 → byteOf f i k < 256
-  byte-small i k h = let p : 2 ^ k ≤ 2 ^ 8 = pow-le-pow-right (omega arith) h in omega (arith, byte-below i k)
-
-  pub byte-turn : (j : ℕ) → 0 < j → j ≤ 8 → byteOf f (j - 1 + 1) (8 - (j - 1)) ≡ cond (f j) 1 0 + 2 * byteOf f (j + 1) (8 - j)
-  unfolding byteOf
-  byte-turn j h k = ap₂ (byteOf f) place left ∙ ap (λ (i : ℕ). cond (f j) 1 0 + 2 * byteOf f i (8 - j)) next
-    where
-      place : j - 1 + 1 ≡ j
-      place = omega arith
-
-      left : 8 - (j - 1) ≡ suc (8 - j)
-      left = omega arith
-
-      next : suc j ≡ j + 1
-      next = omega arith
-
-  pub byte-none : byteOf f 9 0 ≡ 0
-  unfolding byteOf
-  byte-none = refl
+    total : (x : ℕ) → x % 2 + 2 * (x / 2 % 2 ^ m) ≡ x % 2 ^ suc m
+    total x = let e = mod-mul x (pow-pos m) (zero-lt-suc 1) in let p = pow-suc 2 m in ap₂ _+_ refl (mul-comm 2 (x / 2 % 2 ^ m)) ∙ add-comm (x % 2) (x / 2 % 2 ^ m * 2) ∙ sym e ∙ ap (λ (y : ℕ). x % y) (sym p)
 
 -- a byte is that of its eight bits
 pub byte-alike : (f g : ℕ → Bool) (i k : ℕ) → ((j : ℕ) → i ≤ j → j < i + k → f j ≡ g j) → byteOf f i k ≡ byteOf g i k
 unfolding byteOf
 byte-alike f g i zero h = refl
 byte-alike f g i (suc k) h = ap₂ (λ (b : Bool) (x : ℕ). cond b 1 0 + 2 * x) (h i (omega arith) (omega arith)) (byte-alike f g (suc i) k (λ j l r. h j (omega arith) (omega arith)))
+
+-- eight bits of a row, from bit 1 on
+pub row-byte-is : (marks : List ℕ) (v : ℕ) → v ≤ 16 → bitAnd (getD marks v 0 / 2 ^ 1) 255 ≡ byteOf (square marks v) 1 8
+row-byte-is marks v h = and-mask (getD marks v 0 / 2 ^ 1) 8 ∙ sym (byte-bits (getD marks v 0) 1 8) ∙ byte-alike (bit (getD marks v 0)) (square marks v) 1 8 (λ j l r. sym (square-in marks v j h (omega arith)))
+
+pub row-byte-small : (w : ℕ) → bitAnd w 255 < 2 ^ 8
+row-byte-small w = mask-lt w 8

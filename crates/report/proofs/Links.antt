@@ -53,16 +53,16 @@ linked-more f links t h v e m x l = link-set links t h v x ∙ ⊎-elim here the
     there i = let d = eqb-false x t i in rw i (m x (omega arith))
 
 -- a number above 16 has no link
-pub next-beyond : (n : ℕ) (link : List Bool) (t : ℕ) → 17 ≤ t → next n (linksIn link) t ≡ 0
+pub next-beyond : (n : ℕ) (link : List ℕ) (t : ℕ) → 17 ≤ t → next n (linksIn link) t ≡ 0
 unfolding next linksIn
 next-beyond n link t h = ap (λ (o : Option ℕ). Option·getD o 0) (find-nothing (square link t) (terms n) (λ x. square-above link t x h))
 
-pub next-all : (n : ℕ) (link : List Bool) (links : List Term) → length links ≡ 17 → LinkedBelow 17 (next n (linksIn link)) (linkOf links) → linkOf links ≡ next n (linksIn link)
+pub next-all : (n : ℕ) (link : List ℕ) (links : List Term) → length links ≡ 17 → LinkedBelow 17 (next n (linksIn link)) (linkOf links) → linkOf links ≡ next n (linksIn link)
 next-all n link links full m = fun-ext (λ x. ⊎-elim (λ l. m x (ltb-true x 17 l)) (λ o. let h = ltb-false x 17 o in link-beyond links x (omega arith) ∙ sym (next-beyond n link x h)) (bool-cases (ltb x 17)))
 
-pub next-found : (n : ℕ) (link : List Bool) (t : ℕ) (o : Option ℕ) → o ≡ find (square link t) (from (n + 1 - 1) 1) → Option·getD o 0 ≡ next n (linksIn link) t
+pub next-found : (n : ℕ) (link : List ℕ) (t : ℕ) (o : Option ℕ) → o ≡ find (square link t) (terms n) → Option·getD o 0 ≡ next n (linksIn link) t
 unfolding next linksIn
-next-found n link t o e = rw (e, terms-from n)
+next-found n link t o e = rw e
 
 -- what a search of the terms finds, or 0, is at most n
 pub found-below : (p : ℕ → Bool) (n : ℕ) → Option·getD (find p (terms n)) 0 ≤ n
@@ -77,5 +77,5 @@ pub next-below : (n : ℕ) (g : Graph) (t : ℕ) → next n g t ≤ n
 unfolding next
 next-below n g t = found-below (g .link t) n
 
-pub known-range : (n : ℕ) (link : List Bool) (links : List Term) → n ≤ 16 → linkOf links ≡ next n (linksIn link) → InRange links
+pub known-range : (n : ℕ) (link : List ℕ) (links : List Term) → n ≤ 16 → linkOf links ≡ next n (linksIn link) → InRange links
 known-range n link links h e t = rw e (let b = next-below n (linksIn link) t in omega arith)

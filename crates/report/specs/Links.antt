@@ -19,7 +19,7 @@ abbrev pub InRange : List Term → Type 0
 InRange links = (t : ℕ) → linkOf links t ≤ 16
 
 -- a graph with these reachability facts alone: what reads only these asks no more
-unfoldable pub reachIn : List Bool → Graph
+unfoldable pub reachIn : List ℕ → Graph
 reachIn reach = record { link = λ a b. false; reach = square reach }
 
 -- b begins a path in v's basin

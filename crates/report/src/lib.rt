@@ -26,18 +26,18 @@ use query::Layout;
 pub struct Node(pub usize);
 
 // The successor of t, or 0 where it has none.
-fn known_link(link: &[bool; 289], n: usize, t: Term) -> Term
+fn known_link(link: &[u32; 17], n: usize, t: Term) -> Term
     requires { ⌜ (n ≤ 16) × (t .0 ≤ 16) ⌝ }
     ensures { λ r. ⌜ r .0 ≡ next n (linksIn (now (link .entry))) (t .0) ⌝ }
 {
-    let Found::At(u) = facts::successor(link, n, t, 1) else {
+    let Found::At(u) = facts::successor(link, n, t) else {
         return Term(0);
     };
     u
 }
 
 // "Known links stay."
-fn known_links(link: &[bool; 289], n: usize) -> [Term; 17]
+fn known_links(link: &[u32; 17], n: usize) -> [Term; 17]
     requires { ⌜ n ≤ 16 ⌝ }
     ensures { λ r. ⌜ linkOf r ≡ next n (linksIn (now (link .entry))) ⌝ }
 {
@@ -51,7 +51,7 @@ fn known_links(link: &[bool; 289], n: usize) -> [Term; 17]
 }
 
 // "all that v reaches reaches v back"
-fn in_basin(reach: &[bool; 289], n: usize, v: Term) -> bool
+fn in_basin(reach: &[u32; 17], n: usize, v: Term) -> bool
     requires { ⌜ (n ≤ 16) × (v .0 ≤ 16) ⌝ }
     ensures { λ r. ⌜ r ≡ inBasin n (reachIn (now (reach .entry))) (v .0) ⌝ }
 {
@@ -68,7 +68,7 @@ fn in_basin(reach: &[bool; 289], n: usize, v: Term) -> bool
 }
 
 // v reaches b, and no link from inside v's basin leads to b.
-fn begins_path(links: [Term; 17], reach: &[bool; 289], n: usize, v: Term, b: Term) -> bool
+fn begins_path(links: [Term; 17], reach: &[u32; 17], n: usize, v: Term, b: Term) -> bool
     requires { ⌜ (n ≤ 16) × (v .0 ≤ 16) × (b .0 ≤ 16) ⌝ }
     ensures { λ r. ⌜ r ≡ begins n (reachIn (now (reach .entry))) (linkOf links) (v .0) (b .0) ⌝ }
 {
@@ -88,7 +88,7 @@ fn begins_path(links: [Term; 17], reach: &[bool; 289], n: usize, v: Term, b: Ter
 }
 
 // The lowest term from k on that begins a path in v's basin.
-fn first_path(links: [Term; 17], reach: &[bool; 289], n: usize, v: Term, k: usize) -> Found
+fn first_path(links: [Term; 17], reach: &[u32; 17], n: usize, v: Term, k: usize) -> Found
     requires { ⌜ (n ≤ 16) × (v .0 ≤ 16) ⌝ }
     ensures { λ r. ⌜ foundOf r ≡ find (begins n (reachIn (now (reach .entry))) (linkOf links) (v .0)) (from (n + 1 - k) k) ⌝ }
 {
@@ -121,7 +121,7 @@ fn on_path(links: [Term; 17], n: usize, v: Term, b: Term) -> bool
 }
 
 // b begins a path in v's basin, and v is not on it.
-fn begins_without(links: [Term; 17], reach: &[bool; 289], n: usize, v: Term, b: Term) -> bool
+fn begins_without(links: [Term; 17], reach: &[u32; 17], n: usize, v: Term, b: Term) -> bool
     requires { ⌜ (n ≤ 16) × (v .0 ≤ 16) × (b .0 ≤ 16) × InRange links ⌝ }
     ensures { λ r. ⌜ r ≡ beginsWithout n (reachIn (now (reach .entry))) (linkOf links) (v .0) (b .0) ⌝ }
 {
@@ -132,7 +132,7 @@ fn begins_without(links: [Term; 17], reach: &[bool; 289], n: usize, v: Term, b: 
 }
 
 // The lowest term that begins a path in v's basin without v.
-fn other_path(links: [Term; 17], reach: &[bool; 289], n: usize, v: Term) -> Found
+fn other_path(links: [Term; 17], reach: &[u32; 17], n: usize, v: Term) -> Found
     requires { ⌜ (n ≤ 16) × (v .0 ≤ 16) × InRange links ⌝ }
     ensures { λ r. ⌜ foundOf r ≡ find (beginsWithout n (reachIn (now (reach .entry))) (linkOf links) (v .0)) (from (n + 1 - 1) 1) ⌝ }
 {
@@ -147,7 +147,7 @@ fn other_path(links: [Term; 17], reach: &[bool; 289], n: usize, v: Term) -> Foun
 }
 
 // "If they lie on one path of links, take its first term; else the lowest term that begins a path without v."
-fn basin_link(links: [Term; 17], reach: &[bool; 289], n: usize, v: Term) -> Term
+fn basin_link(links: [Term; 17], reach: &[u32; 17], n: usize, v: Term) -> Term
     requires { ⌜ (n ≤ 16) × (v .0 ≤ 16) × InRange links ⌝ }
     ensures { λ r. ⌜ r .0 ≡ basinLink n (linkOf links) (reached n (reachIn (now (reach .entry))) (v .0)) (v .0) ⌝ }
 {
@@ -164,7 +164,7 @@ fn basin_link(links: [Term; 17], reach: &[bool; 289], n: usize, v: Term) -> Term
 }
 
 // u reaches every term that v reaches, v alone excepted.
-fn covers_all(reach: &[bool; 289], n: usize, v: Term, u: Term) -> bool
+fn covers_all(reach: &[u32; 17], n: usize, v: Term, u: Term) -> bool
     requires { ⌜ (n ≤ 16) × (v .0 ≤ 16) × (u .0 ≤ 16) ⌝ }
     ensures { λ r. ⌜ r ≡ coversAll n (reachIn (now (reach .entry))) (v .0) (u .0) ⌝ }
 {
@@ -181,7 +181,7 @@ fn covers_all(reach: &[bool; 289], n: usize, v: Term, u: Term) -> bool
 }
 
 // "the lowest u other than v that v reaches and that reaches every term v reaches, v alone excepted"
-fn tree_link(reach: &[bool; 289], n: usize, v: Term) -> Term
+fn tree_link(reach: &[u32; 17], n: usize, v: Term) -> Term
     requires { ⌜ (n ≤ 16) × (v .0 ≤ 16) ⌝ }
     ensures { λ r. ⌜ r .0 ≡ treeLink n (reachIn (now (reach .entry))) (v .0) ⌝ }
 {
@@ -198,7 +198,7 @@ fn tree_link(reach: &[bool; 289], n: usize, v: Term) -> Term
 }
 
 // The link of a remaining term v.
-fn new_link(links: [Term; 17], reach: &[bool; 289], n: usize, v: Term) -> Term
+fn new_link(links: [Term; 17], reach: &[u32; 17], n: usize, v: Term) -> Term
     requires { ⌜ (n ≤ 16) × (v .0 ≤ 16) × InRange links ⌝ }
     ensures { λ r. ⌜ r .0 ≡ newLink n (reachIn (now (reach .entry))) (linkOf links) (v .0) ⌝ }
 {
@@ -209,7 +209,7 @@ fn new_link(links: [Term; 17], reach: &[bool; 289], n: usize, v: Term) -> Term
 }
 
 // The link of v after its turn: a term that is not replaced and has none gets one.
-fn link_at(links: [Term; 17], rep: [Term; 17], reach: &[bool; 289], n: usize, v: Term) -> Term
+fn link_at(links: [Term; 17], rep: [Term; 17], reach: &[u32; 17], n: usize, v: Term) -> Term
     requires { ⌜ (n ≤ 16) × (v .0 ≤ 16) × InRange links ⌝ }
     ensures { λ r. ⌜ r .0 ≡ linkAt n (reachIn (now (reach .entry))) (repOf rep) (linkOf links) (v .0) ⌝ }
 {
@@ -223,7 +223,7 @@ fn link_at(links: [Term; 17], rep: [Term; 17], reach: &[bool; 289], n: usize, v:
 }
 
 // "Each remaining term v, ascending, gets a link"
-fn link_each(links: [Term; 17], rep: [Term; 17], reach: &[bool; 289], n: usize) -> [Term; 17]
+fn link_each(links: [Term; 17], rep: [Term; 17], reach: &[u32; 17], n: usize) -> [Term; 17]
     requires { ⌜ (n ≤ 16) × InRange links ⌝ }
     ensures { λ r. ⌜ linkOf r ≡ linkEach n (reachIn (now (reach .entry))) (linkOf links) (select (λ v. eqb (repOf rep v) v) (from (n + 1 - 1) 1)) ⌝ }
 {
@@ -375,11 +375,11 @@ fn put_terms(buffer: &mut [u8], at: usize, bytes: &[u8; 17], n: usize) -> usize
 }
 
 // The fields that plain data literals set: field j at the node of term v is at v * 17 + j.
-fn mark_fields(query: &[u8], at: usize, count: usize, rep: [Term; 17]) -> [bool; 289]
+fn mark_fields(query: &[u8], at: usize, count: usize, rep: [Term; 17]) -> [u32; 17]
     requires { ⌜ (at + 3 * count ≤ length (now query)) × FieldsIn (now query) at count (repOf rep) ⌝ }
     ensures { λ r. ⌜ ((v j : ℕ) → v ≤ 16 → j ≤ 16 → square r v j ≡ fieldHeld (repOf rep) (literalsAt (now (query .entry)) at count) v j) ⌝ }
 {
-    let mut marks = [false; 289];
+    let mut marks = [0u32; 17];
     for i in 0..count {
         if !query::sign(query, at, i) {
             continue;
@@ -388,54 +388,38 @@ fn mark_fields(query: &[u8], at: usize, count: usize, rep: [Term; 17]) -> [bool;
         let term = query::right(query, at, i);
         let t = term.0;
         let stands = rep[t];
-        let cell = stands.0 * 17 + field;
-        marks[cell] = true;
+        let v = stands.0;
+        marks[v] = marks[v] | facts::only(field);
     }
     marks
 }
 
 // The booleans that plain literals set: boolean j is at j, as if it were a field at 0.
-fn mark_booleans(query: &[u8], at: usize, count: usize) -> [bool; 289]
+fn mark_booleans(query: &[u8], at: usize, count: usize) -> [u32; 17]
     requires { ⌜ (at + 2 * count ≤ length (now query)) × FlagsIn (now query) at count ⌝ }
     ensures { λ r. ⌜ ((j : ℕ) → j ≤ 16 → square r 0 j ≡ booleanHeld (flagsAt (now (query .entry)) at count) j) ⌝ }
 {
-    let mut marks = [false; 289];
+    let mut marks = [0u32; 17];
     for i in 0..count {
         if !query::flag_sign(query, at, i) {
             continue;
         }
         let number = query::flag_number(query, at, i);
-        marks[number] = true;
+        marks[0] = marks[0] | facts::only(number);
     }
     marks
 }
 
-fn bit(b: bool) -> u8
-    ensures { λ r. ⌜ r ≡ cond b 1 0 ⌝ }
-{
-    if b {
-        return 1;
-    }
-    0
-}
-
 // "field j in bit j-1": the byte of the row at v.
-fn row_byte(marks: &[bool; 289], v: usize) -> u8
+fn row_byte(marks: &[u32; 17], v: usize) -> u8
     requires { ⌜ v ≤ 16 ⌝ }
     ensures { λ r. ⌜ r ≡ byteOf (square (now (marks .entry)) v) 1 8 ⌝ }
 {
-    let mut byte: u8 = 0;
-    let mut j: usize = 8;
-    while 0 < j {
-        let at = v * 17 + j;
-        byte = bit(marks[at]) + 2 * byte;
-        j -= 1;
-    }
-    byte
+    ((marks[v] >> 1) & 255) as u8
 }
 
 // The data bytes, at the numbers to n.
-fn row_bytes(marks: &[bool; 289], n: usize) -> [u8; 17]
+fn row_bytes(marks: &[u32; 17], n: usize) -> [u8; 17]
     requires { ⌜ n ≤ 16 ⌝ }
     ensures { λ r. ⌜ ((v : ℕ) → v ≤ n → getD r v 0 ≡ byteOf (square (now (marks .entry)) v) 1 8) ⌝ }
 {

@@ -3,45 +3,41 @@ use Prim.Native.Nat.{ℕ, zero, suc, _+_, _-_, _≤_, _<_}
 use native.Mathlib.Omega.{arith}
 use native.Mathlib.Numerals.{add-one}
 use native.Mathlib.Nat.{eq-or-lt-of-le}
-use mathlib.Core.Path.{_≡_, refl, sym, ap, _∙_}
+use mathlib.Core.Path.{_≡_, refl, sym, ap, _∙_, fun-ext}
 use mathlib.Core.Logic.{⊎-elim}
 use mathlib.Core.Bool.{Bool, true, false, not, cond}
 use mathlib.Core.List.{List, map}
-use mathlib.Core.Option.{Option, none, some}
+use mathlib.Core.Option.{Option, none, some, Option·elim}
 use lib.Dec.{eqb, ltb}
 use borrow.Author.Tests.{eq-eqb, ne-eqb, lt-ltb, le-ltb}
 use Rattle.logic.specs.Search.{_and_, _or_, from, keep, any, orElse, firstOf, find}
 use Rattle.logic.specs.Heap.{iterate}
 use Rattle.logic.specs.Facts.{Graph, terms}
-use Rattle.logic.specs.Rules.{Rule, CYCLE, triple, move, equal, next, returns, round, conditions, alternatives, held}
+use Rattle.logic.specs.Rules.{Rule, CYCLE, Triple, triple, move, equal, next, returns, round, conditions, alternatives, held}
 use Rattle.logic.proofs.Basics.Compare.{eq-cases, le-cases}
-use Rattle.logic.proofs.Basics.Search.{firstOf-empty, from-mem}
+use Rattle.logic.proofs.Basics.Search.{firstOf-empty, find-some, from-mem}
 use Rattle.facts.specs.Path.{graphOf, linksIn}
-use Rattle.facts.proofs.Successors.{found-in}
-use Rattle.rules.specs.Tests.{looped}
-use Rattle.rules.proofs.Nested.{not-looped}
-use Rattle.rules.specs.Cycle.{stepsTo, cycleThird}
-use Rattle.rules.specs.Smallest.{allowed, inThird}
+use Rattle.rules.specs.Cycle.{stepsTo}
+use Rattle.rules.specs.Smallest.{allowed, inThird, inSecond}
+use Rattle.rules.proofs.Nested.{keep-through}
 
 -- the successor of a term, as a search finds it
 module _ (n : ℕ) (g : Graph) (c : ℕ) where
-  terms-from : n + 1 - 1 ≡ n
-  terms-from = omega arith
+  pub next-some : (a : ℕ) → find (g .link c) (terms n) ≡ some a → next n g c ≡ a
+  unfolding next
+  next-some a e = rw e
 
-  pub next-some : (a : ℕ) → find (g .link c) (from (n + 1 - 1) 1) ≡ some a → next n g c ≡ a
-  unfolding next terms
-  next-some a e = rw (rw terms-from at e)
-
-  pub next-none : find (g .link c) (from (n + 1 - 1) 1) ≡ none → next n g c ≡ 0
-  unfolding next terms
-  next-none e = rw (rw terms-from at e)
+  pub next-none : find (g .link c) (terms n) ≡ none → next n g c ≡ 0
+  unfolding next
+  next-none e = rw e
 
   pub next-le : next n g c ≤ n
-  next-le = go (find (g .link c) (from (n + 1 - 1) 1)) refl
+  unfolding terms
+  next-le = go (find (g .link c) (terms n)) refl
     where
-      go : (o : Option ℕ) → find (g .link c) (from (n + 1 - 1) 1) ≡ o → next n g c ≤ n
+      go : (o : Option ℕ) → find (g .link c) (terms n) ≡ o → next n g c ≤ n
       go none e = let h = next-none e in omega arith
-      go (some a) e = let h = next-some a e in let l = found-in (g .link c) (n + 1) 1 a e in omega arith
+      go (some a) e = let h = next-some a e in let l = from-mem n 1 a (find-some (g .link c) (from n 1) a e .0) in omega arith
 
 -- a search of the numbers below m that can succeed at k only
 module _ {B : Type 0} (f : ℕ → Option B) (m k : ℕ) (only : (i : ℕ) → i < m → (i ≡ k → ⊥) → f i ≡ none) where
@@ -96,6 +92,45 @@ module _ (n : ℕ) (g : Graph) (x : ℕ) where
 
   pub steps-bound : (left c s : ℕ) → s ≡ stepsTo n g x left c → s ≤ left
   steps-bound left c s e = let l = steps-le left c in omega arith
+
+  -- a link that leads back where it starts leads nowhere else
+  pub steps-stuck : (c : ℕ) → next n g c ≡ c → (c ≡ x → ⊥) → (left : ℕ) → stepsTo n g x left c ≡ left
+  unfolding stepsTo
+  steps-stuck c e d zero = refl
+  steps-stuck c e d (suc left) = rw (ne-eqb c x d, e) (ap suc (steps-stuck c e d left))
+
+  -- x is one of the terms from which the steps are made: of none, of the one that leads back, of one more
+  pub passed-none : (c : ℕ) → false ≡ ltb (stepsTo n g x 0 c) 0
+  passed-none c = sym (le-ltb (stepsTo n g x 0 c) 0 (omega arith))
+
+  pub passed-stuck : (c : ℕ) → next n g c ≡ c → (left : ℕ) → (left ≡ 0 → ⊥) → eqb x c ≡ ltb (stepsTo n g x left c) left
+  passed-stuck c e left h =
+      ⊎-elim
+      (λ p. rw (steps-here left c (sym p)) (eq-eqb x c p ∙ sym (lt-ltb 0 left (positive left h))))
+      (λ d. d .1 ∙ sym (rw (steps-stuck c e (λ p. d .0 (sym p)) left) (le-ltb left left (omega arith))))
+      (eq-cases x c)
+    where
+      positive : (m : ℕ) → (m ≡ 0 → ⊥) → 0 < m
+      positive zero q = absurd (q refl)
+      positive (suc m) q = omega arith
+
+  pub passed-on : (c s : ℕ) → ltb (stepsTo n g x s (next n g c)) s or eqb x c ≡ ltb (stepsTo n g x (s + 1) c) (s + 1)
+  unfolding _or_ stepsTo
+  passed-on c s = rw (add-one s) (⊎-elim here there (eq-cases c x))
+    where
+      either : (t : Bool) → t or true ≡ true
+      either true = refl
+      either false = refl
+
+      neither : (t : Bool) → t or false ≡ t
+      neither true = refl
+      neither false = refl
+
+      here : c ≡ x → ltb (stepsTo n g x s (next n g c)) s or eqb x c ≡ ltb (cond (eqb c x) 0 (suc (stepsTo n g x s (next n g c)))) (suc s)
+      here e = rw (eq-eqb c x e, eq-eqb x c (sym e)) (either (ltb (stepsTo n g x s (next n g c)) s) ∙ sym (lt-ltb 0 (suc s) (omega arith)))
+
+      there : (c ≡ x → ⊥) × (eqb c x ≡ false) → ltb (stepsTo n g x s (next n g c)) s or eqb x c ≡ ltb (cond (eqb c x) 0 (suc (stepsTo n g x s (next n g c)))) (suc s)
+      there d = rw (d .1, ne-eqb x c (λ q. d .0 (sym q))) (neither (ltb (stepsTo n g x s (next n g c)) s) ∙ sym (ltb-suc (stepsTo n g x s (next n g c)) s))
 
   -- to a number that is no term the links never lead
   pub steps-never : n < x → (left c : ℕ) → c < x → stepsTo n g x left c ≡ left
@@ -167,20 +202,35 @@ module _ (n : ℕ) (alive : ℕ → Bool) (g : Graph) (x y : ℕ) where
     unfolding inThird
     cycle-at = first-only _ (n + 1) k (λ i b e. cycle-not i (returns-not n g x n i x (omega arith) (λ p. e (p ∙ sym q)))) (n + 1 - 0) 0 (omega arith) (omega arith) (omega arith)
 
-    pub cycle-held : stepsTo n g y k x < k → inThird n alive g CYCLE x y ≡ none
-    unfolding allowed conditions alternatives keep _and_
-    cycle-held l = cycle-at ∙ rw (round-is n g y k x ∙ lt-ltb _ _ l) (go (returns n g x k x and g .reach x y))
-      where
-        go : (t : Bool) → keep (t and false) (triple x y k) ≡ none
-        go true = refl
-        go false = refl
+    pub cycle-third : inThird n alive g CYCLE x y ≡ keep (g .reach x y and not (ltb (stepsTo n g y k x) k)) (triple x y k)
+    unfolding allowed conditions alternatives _and_
+    cycle-third = cycle-at ∙ rw (round-is n g y k x, returns-at n g x n k x h q)
 
-    pub cycle-free : g .reach x y ≡ true → k ≤ stepsTo n g y k x → inThird n alive g CYCLE x y ≡ some (triple x y k)
-    unfolding allowed conditions alternatives keep _and_
-    cycle-free r l = cycle-at ∙ rw (round-is n g y k x ∙ le-ltb _ _ l, returns-at n g x n k x h q, r)
+-- CYCLE at x: nothing where x reaches nothing, or the links do not return; else the lowest that x reaches off the round
+module _ (n : ℕ) (alive : ℕ → Bool) (g : Graph) (x : ℕ) where
+  pub second-unreached : ((y : ℕ) → y ≤ n → g .reach x y ≡ false) → inSecond n alive g CYCLE x ≡ none
+  unfolding inSecond
+  second-unreached h = firstOf-empty _ _ (λ y m. cycle-unreached n alive g x y (h y (let b = from-mem _ _ y m in omega arith)))
+
+  pub second-open : n < stepsTo n g x n (next n g x) + 1 → inSecond n alive g CYCLE x ≡ none
+  unfolding inSecond
+  second-open h = firstOf-empty _ _ (λ y m. cycle-open n alive g x y h)
+
+  module _ (k : ℕ) (q : k ≡ stepsTo n g x n (next n g x) + 1) (h : k ≤ n) where
+    second-search : inSecond n alive g CYCLE x ≡ Option·elim (find (λ y. g .reach x y and not (ltb (stepsTo n g y k x) k)) (from (n + 1 - 0) 0)) none (λ y. some (triple x y k))
+    unfolding inSecond
+    second-search = ap (λ (f : ℕ → Option Triple). firstOf f (from (n + 1 - 0) 0)) (fun-ext (λ y. cycle-third n alive g x y k q h)) ∙ keep-through _ (λ y. triple x y k) (from (n + 1 - 0) 0)
+
+    pub second-none : find (λ y. g .reach x y and not (ltb (stepsTo n g y k x) k)) (from (n + 1 - 0) 0) ≡ none → inSecond n alive g CYCLE x ≡ none
+    unfolding Option·elim
+    second-none e = second-search ∙ rw e
+
+    pub second-some : (y : ℕ) → find (λ y. g .reach x y and not (ltb (stepsTo n g y k x) k)) (from (n + 1 - 0) 0) ≡ some y → inSecond n alive g CYCLE x ≡ some (triple x y k)
+    unfolding Option·elim
+    second-some y e = second-search ∙ rw e
 
 -- following reads the links alone
-module _ (n : ℕ) (link reach : List Bool) where
+module _ (n : ℕ) (link reach : List ℕ) where
   pub steps-links : (x k c : ℕ) → stepsTo n (linksIn link) x k c ≡ stepsTo n (graphOf link reach) x k c
   unfolding stepsTo next linksIn graphOf
   steps-links x zero c = refl
@@ -197,6 +247,11 @@ module _ (n : ℕ) (g : Graph) where
   unfolding iterate
   iterate-none k c e = rw e
 
+  pub iterate-stuck : (k c : ℕ) → next n g c ≡ c → iterate (next n g) k c ≡ c
+  unfolding iterate
+  iterate-stuck zero c e = refl
+  iterate-stuck (suc k) c e = ap (iterate (next n g) k) e ∙ iterate-stuck k c e
+
   pub iterate-on : (k c : ℕ) → iterate (next n g) (k + 1) c ≡ iterate (next n g) k (next n g c)
   unfolding iterate
   iterate-on k c = rw (add-one k)
@@ -205,8 +260,3 @@ module _ (n : ℕ) (g : Graph) where
   unfolding iterate
   iterate-le zero c m h l = l
   iterate-le (suc k) c m h l = iterate-le k (next n g c) m h (let b = next-le n g c in omega arith)
-
--- and CYCLE, the one rule that is not looped, does not ask which terms are replaced
-pub cycle-any : (n : ℕ) (alive : ℕ → Bool) (g : Graph) (r : Rule) → looped r ≡ false → (x y : ℕ) → cycleThird n g x y ≡ inThird n alive g r x y
-unfolding cycleThird inThird allowed conditions
-cycle-any n alive g r l x y = rw (not-looped r l)

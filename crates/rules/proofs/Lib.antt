@@ -1,2 +1,3 @@
 pub mod Nested
 pub mod Around
+pub mod Rows

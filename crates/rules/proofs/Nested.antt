@@ -3,7 +3,7 @@ use Prim.Native.Nat.{ℕ, suc, _+_, _-_, _≤_, _<_}
 use native.Mathlib.Omega.{arith}
 use native.Mathlib.Numerals.{add-one}
 use mathlib.Core.Path.{_≡_, refl, sym, ap, _∙_, fun-ext}
-use mathlib.Core.Bool.{Bool, true, false, not, cond, _&&_, true≢false, false≢true}
+use mathlib.Core.Bool.{Bool, true, false, not, cond, true≢false, false≢true}
 use mathlib.Core.List.{List, [], _∷_, _++_, map}
 use mathlib.Core.Option.{Option, none, some, Option·elim}
 use lib.ListN.{length, getD, drop, drop-of-length-le}
@@ -15,28 +15,28 @@ use Rattle.logic.specs.Rules.{Rule, REFLEX, TRANS1, TRANS2, FUNC, CYCLE, SCC, T
 use Rattle.logic.specs.Walk.{orderOf}
 use Rattle.logic.proofs.Basics.Search.{firstOf-empty}
 use Rattle.facts.specs.declared.Facts as code
-use Rattle.facts.specs.Square.{rowOf}
+use Rattle.facts.specs.Bits.{bit}
 use Rattle.facts.specs.Path.{graphOf, pathOf}
-use Rattle.facts.proofs.Loops.{first-end, first-here, first-next}
 use Rattle.rules.specs.Tests.{pairTest, thirdTest, looped}
 use Rattle.rules.specs.Smallest.{allowed, inThird, inSecond, inFirst, moveAt, triedAt}
 
 -- a rule's test is in two halves
 module _ (n : ℕ) (alive : ℕ → Bool) (g : Graph) (x y z : ℕ) where
-  pub halves : (r : Rule) → looped r ≡ true → allowed n alive g (move r (triple x y z)) ≡ (pairTest alive g x y r && thirdTest g x y z r)
+  pub halves : (r : Rule) → looped r ≡ true → allowed n alive g (move r (triple x y z)) ≡ (pairTest alive g x y r and thirdTest g x y z r)
   unfolding allowed conditions alternatives held any pairTest thirdTest looped _and_ _or_
   halves REFLEX h = table (alive x) (eqb y 0) (eqb z 0) (g .reach x x)
     where
-      table : (a b c d : Bool) → (a and b and c) and not (d or false) ≡ (a && b && not d && c)
+      table : (a b c d : Bool) → (a and b and c) and not (d or false) ≡ (a and not d and b and c)
       table true true true true = refl
       table true true true false = refl
       table true true false true = refl
       table true true false false = refl
-      table true false c d = refl
+      table true false c true = refl
+      table true false c false = refl
       table false b c d = refl
   halves TRANS1 h = table (g .link x y) (eqb z 0) (g .reach x y)
     where
-      table : (a b c : Bool) → (a and b) and not (c or false) ≡ (a && not c && b)
+      table : (a b c : Bool) → (a and b) and not (c or false) ≡ (a and not c and b)
       table true true true = refl
       table true true false = refl
       table true false true = refl
@@ -44,14 +44,14 @@ module _ (n : ℕ) (alive : ℕ → Bool) (g : Graph) (x y z : ℕ) where
       table false b c = refl
   halves TRANS2 h = table (g .reach x y) (g .reach y z) (g .reach x z)
     where
-      table : (a b c : Bool) → (a and b) and not (c or false) ≡ (a && (b && not c))
+      table : (a b c : Bool) → (a and b) and not (c or false) ≡ (a and (b and not c))
       table true true true = refl
       table true true false = refl
       table true false c = refl
       table false b c = refl
   halves FUNC h = table (g .link x y) (g .reach x z) (eqb x z) (g .reach y z)
     where
-      table : (a b c d : Bool) → (a and b) and not (c or (d or false)) ≡ (a && (b && not c && not d))
+      table : (a b c d : Bool) → (a and b) and not (c or (d or false)) ≡ (a and (b and not c and not d))
       table true true true d = refl
       table true true false true = refl
       table true true false false = refl
@@ -60,7 +60,7 @@ module _ (n : ℕ) (alive : ℕ → Bool) (g : Graph) (x y z : ℕ) where
   halves CYCLE h = absurd (false≢true h)
   halves SCC h = table (g .reach x y) (g .reach y x) (g .reach x z) (eqb x y) (g .reach z x)
     where
-      table : (a b c d e : Bool) → (a and b and c) and not (d or (e or false)) ≡ (a && b && not d && (c && not e))
+      table : (a b c d e : Bool) → (a and b and c) and not (d or (e or false)) ≡ (a and b and not d and (c and not e))
       table true true true true e = refl
       table true true true false true = refl
       table true true true false false = refl
@@ -70,7 +70,7 @@ module _ (n : ℕ) (alive : ℕ → Bool) (g : Graph) (x y z : ℕ) where
       table false b c d e = refl
   halves TOTAL h = table (g .reach x y) (g .reach x z) (g .reach y z) (g .reach z y)
     where
-      table : (a b c d : Bool) → (a and b) and not (c or (d or false)) ≡ (a && (b && not c && not d))
+      table : (a b c d : Bool) → (a and b) and not (c or (d or false)) ≡ (a and (b and not c and not d))
       table true true true d = refl
       table true true false true = refl
       table true true false false = refl
@@ -78,7 +78,7 @@ module _ (n : ℕ) (alive : ℕ → Bool) (g : Graph) (x y z : ℕ) where
       table false b c d = refl
   halves SHARE h = table (g .link x z) (g .link y z) (g .reach x y) (g .reach y x) (eqb x y)
     where
-      table : (a b c d e : Bool) → (a and b and c and d) and not (e or false) ≡ (c && d && not e && (a && b))
+      table : (a b c d e : Bool) → (a and b and c and d) and not (e or false) ≡ (c and d and not e and (a and b))
       table true true true true true = refl
       table true true true true false = refl
       table true true true false e = refl
@@ -102,24 +102,6 @@ not-looped CYCLE h = refl
 not-looped SCC h = absurd (true≢false h)
 not-looped TOTAL h = absurd (true≢false h)
 not-looped SHARE h = absurd (true≢false h)
-
--- the search for the third number, from k on
-abbrev pub thirdFrom : ℕ → (ℕ → Bool) → Graph → Rule → ℕ → ℕ → ℕ → Option Triple
-thirdFrom n alive g r x y k = firstOf (λ z. keep (allowed n alive g (move r (triple x y z))) (triple x y z)) (from (n + 1 - k) k)
-
-module _ (n : ℕ) (alive : ℕ → Bool) (g : Graph) (r : Rule) (l : looped r ≡ true) (x y : ℕ) where
-  pub third-none : pairTest alive g x y r ≡ false → inThird n alive g r x y ≡ none
-  unfolding inThird keep
-  third-none e = firstOf-empty _ _ (λ z m. rw (halves n alive g x y z r l, e))
-
-  module _ (e : pairTest alive g x y r ≡ true) (k : ℕ) where
-    pub third-here : k ≤ n → thirdTest g x y k r ≡ true → thirdFrom n alive g r x y k ≡ some (triple x y k)
-    unfolding keep
-    third-here h f = first-here _ (n + 1) k _ (omega arith) (rw (halves n alive g x y k r l, e, f))
-
-    pub third-next : k ≤ n → thirdTest g x y k r ≡ false → thirdFrom n alive g r x y k ≡ thirdFrom n alive g r x y (k + 1)
-    unfolding keep
-    third-next h f = first-next _ (n + 1) k (omega arith) (rw (halves n alive g x y k r l, e, f))
 
 -- Rows of triples
 
@@ -158,7 +140,7 @@ nested n f =
 
 -- where the triple is found, the move is; and where it is not, neither is
 module _ {A B : Type 0} (p : A → Bool) (h : A → B) where
-  keep-through : (xs : List A) → firstOf (λ x. keep (p x) (h x)) xs ≡ Option·elim (find p xs) none (λ x. some (h x))
+  pub keep-through : (xs : List A) → firstOf (λ x. keep (p x) (h x)) xs ≡ Option·elim (find p xs) none (λ x. some (h x))
   unfolding firstOf find keep orElse Option·elim
   keep-through [] = refl
   keep-through (x ∷ xs) = go (p x) (keep-through xs)
@@ -166,6 +148,25 @@ module _ {A B : Type 0} (p : A → Bool) (h : A → B) where
       go : (t : Bool) → firstOf (λ y. keep (p y) (h y)) xs ≡ Option·elim (find p xs) none (λ y. some (h y)) → orElse (keep t (h x)) (firstOf (λ y. keep (p y) (h y)) xs) ≡ Option·elim (orElse (keep t x) (find p xs)) none (λ y. some (h y))
       go true e = refl
       go false e = e
+
+-- the search for the third number: nothing where the first two numbers fail, else what passes the second half
+module _ (n : ℕ) (alive : ℕ → Bool) (g : Graph) (r : Rule) (l : looped r ≡ true) (x y : ℕ) where
+  pub third-none : pairTest alive g x y r ≡ false → inThird n alive g r x y ≡ none
+  unfolding inThird keep _and_
+  third-none e = firstOf-empty _ _ (λ z m. rw (halves n alive g x y z r l, e))
+
+  module _ (e : pairTest alive g x y r ≡ true) where
+    third-search : inThird n alive g r x y ≡ firstOf (λ z. keep (thirdTest g x y z r) (triple x y z)) (from (n + 1 - 0) 0)
+    unfolding inThird _and_
+    third-search = ap (λ (f : ℕ → Option Triple). firstOf f (from (n + 1 - 0) 0)) (fun-ext (λ z. rw (halves n alive g x y z r l, e)))
+
+    pub third-nowhere : find (λ z. thirdTest g x y z r) (from (n + 1 - 0) 0) ≡ none → inThird n alive g r x y ≡ none
+    unfolding Option·elim
+    third-nowhere f = third-search ∙ keep-through (λ z. thirdTest g x y z r) (triple x y) (from (n + 1 - 0) 0) ∙ rw f
+
+    pub third-at : (z : ℕ) → find (λ z. thirdTest g x y z r) (from (n + 1 - 0) 0) ≡ some z → inThird n alive g r x y ≡ some (triple x y z)
+    unfolding Option·elim
+    third-at z f = third-search ∙ keep-through (λ z. thirdTest g x y z r) (triple x y) (from (n + 1 - 0) 0) ∙ rw f
 
 module _ (n : ℕ) (alive : ℕ → Bool) (g : Graph) where
   first-find : (r : Rule) → inFirst n alive g r ≡ find (λ t. allowed n alive g (move r t)) (triples n)
@@ -198,7 +199,7 @@ choose-search : (n : ℕ) (s : Facts) (order : List ℕ) → choose n (orderOf o
 unfolding choose orderOf triedAt moveAt allowed applies
 choose-search n s order = firstOf-flatMap _ _ order ∙ ap (λ (f : ℕ → Option Move). firstOf f order) (fun-ext (λ k. firstOf-option _ (ruleOf k)))
 
-pub choose-lent : (n : ℕ) (s : code.Facts) (alive : List Bool) (order : List ℕ) → rowOf alive ≡ live n (pathOf s) → choose n (orderOf order) (pathOf s) ≡ firstOf (triedAt n (rowOf alive) (graphOf (s .link) (s .reach))) order
+pub choose-lent : (n : ℕ) (s : code.Facts) (alive : ℕ) (order : List ℕ) → bit alive ≡ live n (pathOf s) → choose n (orderOf order) (pathOf s) ≡ firstOf (triedAt n (bit alive) (graphOf (s .link) (s .reach))) order
 unfolding pathOf
 choose-lent n s alive order e = choose-search n (pathOf s) order ∙ ap (λ (a : ℕ → Bool). firstOf (triedAt n a (graphOf (s .link) (s .reach))) order) (sym e)
 

@@ -3,16 +3,18 @@ use facts::Facts;
 use facts::Found;
 use facts::Term;
 ghost use mathlib.Core.Path.{_≡_};
-ghost use mathlib.Core.Bool.{true, false};
+ghost use mathlib.Core.Bool.{Bool, true, false};
+ghost use lib.Dec.{ltb};
 ghost use Prim.Native.Nat.{ℕ, _+_, _-_, _≤_, _<_};
 ghost use Rattle.facts.specs.Path.{graphOf, linksIn, pathOf};
 ghost use Rattle.rules.specs.Answers.{kindOf, placeOf, numberedOf, choiceOf};
-ghost use Rattle.facts.specs.Square.{rowOf};
+ghost use Rattle.facts.specs.Bits.{bit};
+ghost use Rattle.facts.specs.Square.{Turned};
 ghost use Rattle.rules.specs.Tests.{pairTest, thirdTest, looped};
 ghost use Rattle.rules.specs.Smallest.{inThird, inSecond, inFirst, triedAt};
-ghost use Rattle.rules.specs.Cycle.{stepsTo, cycleThird};
+ghost use Rattle.rules.specs.Cycle.{stepsTo};
 ghost use Rattle.logic.specs.Heap.{iterate};
-ghost use Rattle.logic.specs.Rules.{next, ruleOf, choose};
+ghost use Rattle.logic.specs.Rules.{CYCLE, next, ruleOf, choose};
 ghost use Rattle.logic.specs.Walk.{orderOf};
 
 pub enum Rule {
@@ -47,10 +49,11 @@ pub enum Choice {
     Nothing,
 }
 
-// Where the links led, and after how many steps.
+// Where the links led, after how many steps, and the row of the terms from which a step was made.
 pub struct Followed {
     pub term: Term,
     pub steps: usize,
+    pub passed: u32,
 }
 
 // The third number of a triple that is a term's.
@@ -60,125 +63,164 @@ pub fn third_term(z: Third) -> Term
     Term(z.0)
 }
 
-// What a rule asks of its first two numbers alone.
-fn pair_test(
+// The row of the second numbers that a rule asks for beside x. `back` is `reach` turned round.
+fn pair_row(
     rule: Rule,
-    alive: &[bool; 17],
-    link: &[bool; 289],
-    reach: &[bool; 289],
+    alive: u32,
+    link: &[u32; 17],
+    reach: &[u32; 17],
+    back: &[u32; 17],
     x: Term,
-    y: Term,
-) -> bool
-    requires { ⌜ (x .0 ≤ 16) × (y .0 ≤ 16) ⌝ }
-    ensures { λ r. ⌜ r ≡ pairTest (rowOf (now (alive .entry))) (graphOf (now (link .entry)) (now (reach .entry))) (x .0) (y .0) (kindOf rule) ⌝ }
+) -> u32
+    requires { ⌜ (x .0 ≤ 16) × Turned (now back) (now reach) ⌝ }
+    ensures { λ r. ⌜ ((y : ℕ) → y ≤ 16 → bit r y ≡ pairTest (bit alive) (graphOf (now (link .entry)) (now (reach .entry))) (x .0) y (kindOf rule)) ⌝ }
 {
     let at = x.0;
-    let itself = facts::holds(reach, x, x);
-    let linked = facts::holds(link, x, y);
-    let forth = facts::holds(reach, x, y);
-    let back = facts::holds(reach, y, x);
+    let near = link[at];
+    let far = reach[at];
+    let both = far & back[at];
     match rule {
-        Rule::Reflex => alive[at] & (y.0 == 0) & !itself,
-        Rule::Trans1 => linked & !forth,
-        Rule::Trans2 => forth,
-        Rule::Func => linked,
-        Rule::Cycle => forth,
-        Rule::Scc => forth & back & !(x.0 == y.0),
-        Rule::Total => forth,
-        Rule::Share => forth & back & !(x.0 == y.0),
+        Rule::Reflex => (facts::without(alive, far) >> at) & 1,
+        Rule::Trans1 => facts::without(near, far),
+        Rule::Trans2 => far,
+        Rule::Func => near,
+        Rule::Cycle => far,
+        Rule::Scc => facts::without(both, facts::only(at)),
+        Rule::Total => far,
+        Rule::Share => facts::without(both, facts::only(at)),
     }
 }
 
-// What a rule asks of its third number, once its first two are as it asks.
-fn third_test(
+// The row of the third numbers that a rule asks for, once its first two are as it asks.
+fn third_row(
     rule: Rule,
-    link: &[bool; 289],
-    reach: &[bool; 289],
+    link: &[u32; 17],
+    reach: &[u32; 17],
+    back: &[u32; 17],
     x: Term,
     y: Term,
-    z: Third,
-) -> bool
-    requires { ⌜ (x .0 ≤ 16) × (y .0 ≤ 16) × (z .0 ≤ 16) ⌝ }
-    ensures { λ r. ⌜ r ≡ thirdTest (graphOf (now (link .entry)) (now (reach .entry))) (x .0) (y .0) (z .0) (kindOf rule) ⌝ }
+) -> u32
+    requires { ⌜ (x .0 ≤ 16) × (y .0 ≤ 16) × Turned (now back) (now reach) ⌝ }
+    ensures { λ r. ⌜ ((z : ℕ) → z ≤ 16 → bit r z ≡ thirdTest (graphOf (now (link .entry)) (now (reach .entry))) (x .0) (y .0) z (kindOf rule)) ⌝ }
 {
-    let t = third_term(z);
+    let first = x.0;
+    let second = y.0;
+    let far = reach[first];
+    let farther = reach[second];
     match rule {
-        Rule::Reflex => z.0 == 0,
-        Rule::Trans1 => z.0 == 0,
-        Rule::Trans2 => facts::holds(reach, y, t) & !facts::holds(reach, x, t),
-        Rule::Func => facts::holds(reach, x, t) & !(x.0 == t.0) & !facts::holds(reach, y, t),
-        Rule::Cycle => false,
-        Rule::Scc => facts::holds(reach, x, t) & !facts::holds(reach, t, x),
-        Rule::Total => {
-            facts::holds(reach, x, t) & !facts::holds(reach, y, t) & !facts::holds(reach, t, y)
-        }
-        Rule::Share => facts::holds(link, x, t) & facts::holds(link, y, t),
+        Rule::Reflex => 1,
+        Rule::Trans1 => 1,
+        Rule::Trans2 => facts::without(farther, far),
+        Rule::Func => facts::without(facts::without(far, facts::only(first)), farther),
+        Rule::Cycle => 0,
+        Rule::Scc => facts::without(far, back[first]),
+        Rule::Total => facts::without(facts::without(far, farther), back[second]),
+        Rule::Share => link[first] & link[second],
     }
 }
 
-// The smallest triple that begins with x and y, of a rule other than CYCLE.
-fn scan(
+// The smallest triple that begins with x and y, where these are as a rule other than CYCLE asks.
+fn in_third(
     rule: Rule,
-    alive: &[bool; 17],
-    link: &[bool; 289],
-    reach: &[bool; 289],
+    link: &[u32; 17],
+    reach: &[u32; 17],
+    back: &[u32; 17],
     n: usize,
     x: Term,
     y: Term,
 ) -> Place
-    requires { ⌜ (n ≤ 16) × (x .0 ≤ 16) × (y .0 ≤ 16) × (looped (kindOf rule) ≡ true) ⌝ }
-    ensures { λ r. ⌜ placeOf r ≡ inThird n (rowOf (now (alive .entry))) (graphOf (now (link .entry)) (now (reach .entry))) (kindOf rule) (x .0) (y .0) ⌝ }
+    requires { ⌜ (n ≤ 16) × (x .0 ≤ 16) × (y .0 ≤ 16) × (looped (kindOf rule) ≡ true) × Turned (now back) (now reach) ⌝ }
+    ensures { λ r. ⌜ ((alive : ℕ → Bool) → pairTest alive (graphOf (now (link .entry)) (now (reach .entry))) (x .0) (y .0) (kindOf rule) ≡ true → placeOf r ≡ inThird n alive (graphOf (now (link .entry)) (now (reach .entry))) (kindOf rule) (x .0) (y .0)) ⌝ }
 {
-    if !pair_test(rule, alive, link, reach, x, y) {
+    let row = third_row(rule, link, reach, back, x, y);
+    let Found::At(z) = facts::first(row & facts::up_to(n)) else {
         return Place::Nothing;
-    }
-    let mut z: usize = 0;
-    while z <= n {
-        if third_test(rule, link, reach, x, y, Third(z)) {
-            return Place::At(x, y, Third(z));
+    };
+    Place::At(x, y, Third(z.0))
+}
+
+// The smallest triple that begins with x, of a rule other than CYCLE.
+fn scan(
+    rule: Rule,
+    alive: u32,
+    link: &[u32; 17],
+    reach: &[u32; 17],
+    back: &[u32; 17],
+    n: usize,
+    x: Term,
+) -> Place
+    requires { ⌜ (n ≤ 16) × (x .0 ≤ 16) × (looped (kindOf rule) ≡ true) × Turned (now back) (now reach) ⌝ }
+    ensures { λ r. ⌜ placeOf r ≡ inSecond n (bit alive) (graphOf (now (link .entry)) (now (reach .entry))) (kindOf rule) (x .0) ⌝ }
+{
+    let row = pair_row(rule, alive, link, reach, back, x);
+    let mut left = row & facts::up_to(n);
+    loop {
+        let Found::At(y) = facts::first(left) else {
+            return Place::Nothing;
+        };
+        if let Place::At(a, b, c) = in_third(rule, link, reach, back, n, x, y) {
+            return Place::At(a, b, c);
         }
-        z += 1;
+        left = facts::rest(left);
     }
-    Place::Nothing
 }
 
 // The successor of c, or 0 where it has none.
-pub fn next(link: &[bool; 289], n: usize, c: Term) -> Term
+pub fn next(link: &[u32; 17], n: usize, c: Term) -> Term
     requires { ⌜ (n ≤ 16) × (c .0 ≤ 16) ⌝ }
     ensures { λ r. ⌜ r .0 ≡ next n (linksIn (now (link .entry))) (c .0) ⌝ }
 {
-    match facts::successor(link, n, c, 1) {
+    match facts::successor(link, n, c) {
         Found::At(t) => t,
         Found::Nothing => Term(0),
     }
 }
 
 // The steps round a cycle: the links from c are followed until they lead to `until`, or `left` of them are made.
-pub fn follow(link: &[bool; 289], n: usize, c: Term, until: Term, left: usize) -> Followed
+pub fn follow(link: &[u32; 17], n: usize, c: Term, until: Term, left: usize) -> Followed
     requires { ⌜ (n ≤ 16) × (c .0 ≤ 16) ⌝ }
-    ensures { λ r. ⌜ (r .steps ≡ stepsTo n (linksIn (now (link .entry))) (until .0) left (c .0)) × (r .term .0 ≡ iterate (next n (linksIn (now (link .entry)))) (r .steps) (c .0)) ⌝ }
+    ensures { λ r. ⌜ (r .steps ≡ stepsTo n (linksIn (now (link .entry))) (until .0) left (c .0)) × (r .term .0 ≡ iterate (next n (linksIn (now (link .entry)))) (r .steps) (c .0)) × ((y : ℕ) → bit (r .passed) y ≡ ltb (stepsTo n (linksIn (now (link .entry))) y (r .steps) (c .0)) (r .steps)) ⌝ }
 {
     if left == 0 {
-        return Followed { term: c, steps: 0 };
+        return Followed {
+            term: c,
+            steps: 0,
+            passed: 0,
+        };
     }
     if c.0 == until.0 {
-        return Followed { term: c, steps: 0 };
+        return Followed {
+            term: c,
+            steps: 0,
+            passed: 0,
+        };
     }
     let d = next(link, n, c);
+    let here = facts::only(c.0);
+    if d.0 == c.0 {
+        return Followed {
+            term: c,
+            steps: left,
+            passed: here,
+        };
+    }
     let rest = follow(link, n, d, until, left - 1);
     let term = rest.term;
     Followed {
         term,
         steps: rest.steps + 1,
+        passed: rest.passed | here,
     }
 }
 
-// The smallest triple of CYCLE that begins with x and y: the links lead back to x after k steps, and y is none of the k terms from x on.
-fn cycle(link: &[bool; 289], reach: &[bool; 289], n: usize, x: Term, y: Term) -> Place
-    requires { ⌜ (n ≤ 16) × (x .0 ≤ 16) × (y .0 ≤ 16) ⌝ }
-    ensures { λ r. ⌜ placeOf r ≡ cycleThird n (graphOf (now (link .entry)) (now (reach .entry))) (x .0) (y .0) ⌝ }
+// The smallest triple of CYCLE that begins with x: the links lead back to x after k steps, and y is none of the k terms from x on.
+fn cycle(link: &[u32; 17], reach: &[u32; 17], n: usize, x: Term) -> Place
+    requires { ⌜ (n ≤ 16) × (x .0 ≤ 16) ⌝ }
+    ensures { λ r. ⌜ ((alive : ℕ → Bool) → placeOf r ≡ inSecond n alive (graphOf (now (link .entry)) (now (reach .entry))) CYCLE (x .0)) ⌝ }
 {
-    if !facts::holds(reach, x, y) {
+    let at = x.0;
+    let far = reach[at] & facts::up_to(n);
+    if far == 0 {
         return Place::Nothing;
     }
     let first = next(link, n, x);
@@ -187,10 +229,10 @@ fn cycle(link: &[bool; 289], reach: &[bool; 289], n: usize, x: Term, y: Term) ->
     if n < k {
         return Place::Nothing;
     }
-    let met = follow(link, n, x, y, k);
-    if met.steps < k {
+    let round = back.passed | facts::only(at);
+    let Found::At(y) = facts::first(facts::without(far, round)) else {
         return Place::Nothing;
-    }
+    };
     Place::At(x, y, Third(k))
 }
 
@@ -210,61 +252,40 @@ fn looped(rule: Rule) -> bool
     }
 }
 
-// The smallest triple that begins with x and y.
-fn in_third(
-    rule: Rule,
-    alive: &[bool; 17],
-    link: &[bool; 289],
-    reach: &[bool; 289],
-    n: usize,
-    x: Term,
-    y: Term,
-) -> Place
-    requires { ⌜ (n ≤ 16) × (x .0 ≤ 16) × (y .0 ≤ 16) ⌝ }
-    ensures { λ r. ⌜ placeOf r ≡ inThird n (rowOf (now (alive .entry))) (graphOf (now (link .entry)) (now (reach .entry))) (kindOf rule) (x .0) (y .0) ⌝ }
-{
-    if looped(rule) {
-        return scan(rule, alive, link, reach, n, x, y);
-    }
-    cycle(link, reach, n, x, y)
-}
-
 // The smallest triple that begins with x.
 fn in_second(
     rule: Rule,
-    alive: &[bool; 17],
-    link: &[bool; 289],
-    reach: &[bool; 289],
+    alive: u32,
+    link: &[u32; 17],
+    reach: &[u32; 17],
+    back: &[u32; 17],
     n: usize,
     x: Term,
 ) -> Place
-    requires { ⌜ (n ≤ 16) × (x .0 ≤ 16) ⌝ }
-    ensures { λ r. ⌜ placeOf r ≡ inSecond n (rowOf (now (alive .entry))) (graphOf (now (link .entry)) (now (reach .entry))) (kindOf rule) (x .0) ⌝ }
+    requires { ⌜ (n ≤ 16) × (x .0 ≤ 16) × Turned (now back) (now reach) ⌝ }
+    ensures { λ r. ⌜ placeOf r ≡ inSecond n (bit alive) (graphOf (now (link .entry)) (now (reach .entry))) (kindOf rule) (x .0) ⌝ }
 {
-    let mut y: usize = 0;
-    while y <= n {
-        if let Place::At(a, b, c) = in_third(rule, alive, link, reach, n, x, Term(y)) {
-            return Place::At(a, b, c);
-        }
-        y += 1;
+    if looped(rule) {
+        return scan(rule, alive, link, reach, back, n, x);
     }
-    Place::Nothing
+    cycle(link, reach, n, x)
 }
 
 // The smallest triple at which a rule applies.
 pub fn smallest(
     rule: Rule,
-    alive: &[bool; 17],
-    link: &[bool; 289],
-    reach: &[bool; 289],
+    alive: u32,
+    link: &[u32; 17],
+    reach: &[u32; 17],
+    back: &[u32; 17],
     n: usize,
 ) -> Place
-    requires { ⌜ n ≤ 16 ⌝ }
-    ensures { λ r. ⌜ placeOf r ≡ inFirst n (rowOf (now (alive .entry))) (graphOf (now (link .entry)) (now (reach .entry))) (kindOf rule) ⌝ }
+    requires { ⌜ (n ≤ 16) × Turned (now back) (now reach) ⌝ }
+    ensures { λ r. ⌜ placeOf r ≡ inFirst n (bit alive) (graphOf (now (link .entry)) (now (reach .entry))) (kindOf rule) ⌝ }
 {
     let mut x: usize = 0;
     while x <= n {
-        if let Place::At(a, b, c) = in_second(rule, alive, link, reach, n, Term(x)) {
+        if let Place::At(a, b, c) = in_second(rule, alive, link, reach, back, n, Term(x)) {
             return Place::At(a, b, c);
         }
         x += 1;
@@ -290,14 +311,21 @@ pub fn rule_numbered(k: u8) -> Numbered
 }
 
 // The rule that has this number, at the smallest triple.
-fn tried(k: u8, alive: &[bool; 17], link: &[bool; 289], reach: &[bool; 289], n: usize) -> Choice
-    requires { ⌜ n ≤ 16 ⌝ }
-    ensures { λ r. ⌜ choiceOf r ≡ triedAt n (rowOf (now (alive .entry))) (graphOf (now (link .entry)) (now (reach .entry))) k ⌝ }
+fn tried(
+    k: u8,
+    alive: u32,
+    link: &[u32; 17],
+    reach: &[u32; 17],
+    back: &[u32; 17],
+    n: usize,
+) -> Choice
+    requires { ⌜ (n ≤ 16) × Turned (now back) (now reach) ⌝ }
+    ensures { λ r. ⌜ choiceOf r ≡ triedAt n (bit alive) (graphOf (now (link .entry)) (now (reach .entry))) k ⌝ }
 {
     let Numbered::Is(rule) = rule_numbered(k) else {
         return Choice::Nothing;
     };
-    let Place::At(x, y, z) = smallest(rule, alive, link, reach, n) else {
+    let Place::At(x, y, z) = smallest(rule, alive, link, reach, back, n) else {
         return Choice::Nothing;
     };
     Choice::Apply(rule, x, y, z)
@@ -311,9 +339,10 @@ pub fn choose(order: &[u8], s: Facts, n: usize) -> Choice
     let alive = facts::live(s, n);
     let link = s.link;
     let reach = s.reach;
+    let back = facts::turned(&reach);
     let mut i: usize = 0;
     while i < order.len() {
-        if let Choice::Apply(rule, x, y, z) = tried(order[i], &alive, &link, &reach, n) {
+        if let Choice::Apply(rule, x, y, z) = tried(order[i], alive, &link, &reach, &back, n) {
             return Choice::Apply(rule, x, y, z);
         }
         i += 1;

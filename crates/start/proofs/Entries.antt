@@ -9,12 +9,13 @@ use lib.ListN.{length, getD, take, drop, set, replicate, length-take, length-dro
 use lib.Seq.{getD-take, getD-drop}
 use lib.Dec.{ltb, eqb}
 use borrow.Author.Tests.{lt-ltb, le-ltb, ltb-true, ltb-false, eqb-true, eqb-false, eq-eqb, ne-eqb}
-use Rattle.logic.specs.Search.{_and_}
+use Rattle.logic.specs.Search.{_and_, _or_}
 use Rattle.logic.specs.Query.{entryOf}
 use Rattle.logic.specs.Facts.{linksOf}
 use Rattle.logic.proofs.Basics.Search.{bool-cases}
-use Rattle.facts.specs.Square.{square, update}
-use Rattle.facts.proofs.Square.{square-set}
+use Rattle.facts.specs.Bits.{bit}
+use Rattle.facts.specs.Square.{square}
+use Rattle.facts.proofs.Square.{row-none, square-with}
 use Rattle.facts.proofs.Fill.{ltb-next}
 
 abbrev linkIn : List ℕ → ℕ → ℕ → Bool
@@ -36,15 +37,15 @@ unfolding _and_
 variable-unlinked entries zero b e = refl
 variable-unlinked entries (suc a) b e = rw (e, ne-eqb 0 (suc a) (omega arith)) (and-false (ltb 0 (suc a)))
 
--- no cell is held
-nothing-at : (k i : ℕ) → getD (replicate k false) i false ≡ false
+-- nothing is held
+nothing-at : (k i : ℕ) → _≡_ {A = ℕ} (getD (replicate k 0) i 0) 0
 nothing-at zero i = refl
 nothing-at (suc k) zero = refl
 nothing-at (suc k) (suc i) = nothing-at k i
 
-pub nothing-held : (k a b : ℕ) → square (replicate k false) a b ≡ false
+pub nothing-held : (k a b : ℕ) → square (replicate k 0) a b ≡ false
 unfolding square
-nothing-held k a b = rw (nothing-at k (a * 17 + b)) (and-false _)
+nothing-held k a b = rw (nothing-at k a, row-none b) (and-false (ltb a 17))
 
 -- the links to the terms below t are held, and no other
 abbrev pub LinksTo : List ℕ → ℕ → (ℕ → ℕ → Bool) → Type 0
@@ -57,19 +58,21 @@ module _ (entries : List ℕ) where
   links-none cur none a (suc b) = none a (suc b) ∙ rw (le-ltb (suc b) 1 (omega arith))
 
   -- the links to t are held next
-  pub links-more : (t a : ℕ) (cells : List Bool) → length cells ≡ 289 → a ≤ 16 → t ≤ 16 → entryOf entries t ≡ a → LinksTo entries t (square cells) → LinksTo entries (t + 1) (square (set cells (a * 17 + t) (ltb 0 a)))
-  unfolding update _and_
-  links-more t a cells full h k e m x y = ap (λ (f : ℕ → ℕ → Bool). f x y) (square-set cells full a t h k (ltb 0 a)) ∙ go (eqb y t) refl
+  pub links-more : (t a w : ℕ) (rows : List ℕ) → length rows ≡ 17 → a ≤ 16 → t ≤ 16 → ((i : ℕ) → bit w i ≡ bit (getD rows a 0) i or (eqb i t and ltb 0 a)) → entryOf entries t ≡ a → LinksTo entries t (square rows) → LinksTo entries (t + 1) (square (set rows a w))
+  unfolding _and_ _or_
+  links-more t a w rows full h k f e m x y = square-with rows full a t w (ltb 0 a) h k f x y ∙ ap (λ (b : Bool). b or (eqb x a and (eqb y t and ltb 0 a))) (m x y) ∙ go (eqb y t) refl
     where
-      row : y ≡ t → (u : Bool) → eqb x a ≡ u → cond (u and true) (ltb 0 a) (square cells x y) ≡ linkIn entries x y
-      row p true i = let q = eqb-true x a i in rw (q, p, e, eq-eqb a a refl) (sym (and-true (ltb 0 a)))
-      row p false i =
-          m x y
-          ∙ rw (p, le-ltb t t (omega arith), e, ne-eqb a x (λ q. eqb-false x a i (sym q))) (sym (and-false (ltb 0 x)))
+      row : (u : Bool) → eqb x a ≡ u → (u and ltb 0 a) ≡ (ltb 0 x and eqb a x)
+      row true i = let q = eqb-true x a i in rw (q, eq-eqb a a refl) (sym (and-true (ltb 0 a)))
+      row false i = rw (ne-eqb a x (λ q. eqb-false x a i (sym q))) (sym (and-false (ltb 0 x)))
 
-      go : (v : Bool) → eqb y t ≡ v → cond (eqb x a and v) (ltb 0 a) (square cells x y) ≡ (ltb y (t + 1) and linkIn entries x y)
-      go true i = let p = eqb-true y t i in rw (lt-ltb y (t + 1) (omega arith)) (row p (eqb x a) refl)
-      go false i = rw (and-false (eqb x a), ltb-next y t (eqb-false y t i)) (m x y)
+      none : (b : Bool) → b or false ≡ b
+      none true = refl
+      none false = refl
+
+      go : (v : Bool) → eqb y t ≡ v → (ltb y t and linkIn entries x y) or (eqb x a and (v and ltb 0 a)) ≡ (ltb y (t + 1) and linkIn entries x y)
+      go true i = let p = eqb-true y t i in rw (p, le-ltb t t (omega arith), lt-ltb t (t + 1) (omega arith), e) (row (eqb x a) refl)
+      go false i = rw (and-false (eqb x a), ltb-next y t (eqb-false y t i)) (none (ltb y t and linkIn entries x y))
 
   -- all links are held
   pub links-all : (n : ℕ) (cur : ℕ → ℕ → Bool) → ((b : ℕ) → n < b → entryOf entries b ≡ 0) → LinksTo entries (n + 1) cur → cur ≡ linksOf entries .graph .link

@@ -28,15 +28,15 @@ fn unreplaced() -> [Term; 17]
 }
 
 // f(a) = b for each term b whose entry is a term a.
-fn links(query: &[u8], n: usize) -> [bool; 289]
+fn links(query: &[u8], n: usize) -> [u32; 17]
     requires { ⌜ (n ≤ 16) × (n < length (now query)) × EntriesIn (now query) n ⌝ }
     ensures { λ r. ⌜ square r ≡ linksOf (take n (drop 1 (now (query .entry)))) .graph .link ⌝ }
 {
-    let mut link = [false; 289];
+    let mut link = [0u32; 17];
     let mut b: usize = 1;
     while b <= n {
         let a = query::byte_at(query, b);
-        link[a * 17 + b] = 0 < a;
+        link[a] = facts::with(link[a], b, 0 < a);
         b += 1;
     }
     link
@@ -49,7 +49,7 @@ fn linked(query: &[u8], n: usize) -> Facts
 {
     let rep = unreplaced();
     let link = links(query, n);
-    let reach = [false; 289];
+    let reach = [0u32; 17];
     Facts { rep, link, reach }
 }
 

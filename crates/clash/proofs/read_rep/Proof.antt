@@ -1,8 +1,8 @@
--- A term of the array, or the number itself. Assumes nothing.
+-- A number of the array, or the number itself. Assumes nothing.
 use native.Mathlib.Omega.{arith}
 use borrow.Author.Needs.{needs}
 use mathlib.Core.Path.{sym}
-use Rattle.facts.proofs.Rep.{rep-in, rep-beyond}
+use Rattle.clash.proofs.Reps.{reps-in, reps-beyond}
 use Rattle.clash.proofs.read_rep.Statement.{statement}
 use Rattle.clash.proofs.read_rep.Tie as tie
 
@@ -10,11 +10,11 @@ pub read-rep-spec : {M : Type 1} → statement M
 read-rep-spec =
     tie.close
     (tie.spec
-    -- mul-result
+    -- mul-t
     (λ c. search needs)
-    -- array-copy-out-result
+    -- element-copy-out-t
     (λ c. search needs)
     -- returns
-    (λ c. sym (rep-in _ _ (omega arith)))
+    (λ c. sym (reps-in _ _ (omega arith)))
     -- returns-2
-    (λ c. sym (rep-beyond _ _ (omega arith))))
+    (λ c. sym (reps-beyond _ _ (omega arith))))

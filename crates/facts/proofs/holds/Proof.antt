@@ -1,7 +1,7 @@
--- The cell at a * 17 + b is the relation's answer. Assumes nothing.
+-- Bit b of row a. Assumes nothing.
 use borrow.Author.Needs.{needs}
 use native.Mathlib.Omega.{arith}
-use mathlib.Core.Path.{sym}
+use mathlib.Core.Path.{sym, _∙_}
 use Rattle.facts.proofs.Square.{square-in}
 use Rattle.facts.proofs.holds.Statement.{statement}
 use Rattle.facts.proofs.holds.Tie as tie
@@ -10,11 +10,11 @@ pub holds-spec : {M : Type 1} → statement M
 holds-spec =
     tie.close
     (tie.spec
-    -- mul-at
+    -- mul-has
     (λ c. search needs)
-    -- add-at
+    -- element-copy-out-has
     (λ c. search needs)
-    -- element-copy-out-result
-    (λ c. search needs)
+    -- has-requires
+    (λ c κs. search needs)
     -- returns
-    (λ c. sym (square-in _ _ _ (omega arith) (omega arith))))
+    (λ c. c .has .ensures ∙ sym (square-in _ _ _ (omega arith) (omega arith))))

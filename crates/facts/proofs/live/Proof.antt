@@ -1,17 +1,16 @@
 -- After t terms, those are told. Assumes nothing.
-use Prim.Native.Nat.{_+_, _-_, _≤_}
+use Prim.Native.Nat.{_-_, _≤_}
 use native.Mathlib.Omega.{arith}
 use borrow.Author.Needs.{needs}
-use mathlib.Core.Path.{_≡_}
-use lib.ListN.{length, length-set}
-use Rattle.facts.specs.Square.{rowOf}
+use mathlib.Core.Path.{_≡_, refl}
+use Rattle.facts.specs.Bits.{bit}
 use Rattle.facts.proofs.Fill.{Filled, filled-none}
 use Rattle.facts.proofs.Alive.{aliveIn, live-more, live-all}
 use Rattle.facts.proofs.live.Statement.{statement}
 use Rattle.facts.proofs.live.Tie as tie
 
 abbrev Inv-loop : tie.InvT-loop
-Inv-loop n rep out₀ t₀ out t = (t ≤ 17) × (length out ≡ 17) × Filled (aliveIn n rep) (rowOf out₀) t (rowOf out)
+Inv-loop n rep out₀ t₀ out t = (t ≤ 17) × Filled (aliveIn n rep) (bit 0) t (bit out)
 
 abbrev μ-loop : tie.MeasureT-loop
 μ-loop n rep out₀ t₀ out t = 17 - t
@@ -26,20 +25,20 @@ live-spec =
     Inv-loop
     μ-loop
     -- loop-holds
-    (λ c. (omega arith, search needs, filled-none _ _))
+    (λ c. (omega arith, filled-none _ _))
     -- mul-u
     (λ c. omega arith)
     -- array-copy-out-u
     (λ c. omega arith)
-    -- array-write-out
-    (λ c. omega arith)
+    -- with-requires
+    (λ c κs. omega arith)
     -- add-t
     (λ c. omega arith)
     -- loop-less
     (λ c. omega arith)
     -- loop-again
     (λ c.
-    let l = c .before .before .before .loop in
-    (omega arith, simp length-set (l .inv .1), live-more _ _ _ (l .t) (omega arith) (l .out) (l .inv .1) (l .inv .2)))
+    let l = c .before .before .before .before .loop in
+    (omega arith, live-more _ _ (l .t) (omega arith) (l .out) _ _ refl (c .with .ensures) (l .inv .1)))
     -- returns
-    (λ c. live-all _ (omega arith) _ _ _ (rw (whole c) at (c .before .loop .inv .2))))
+    (λ c. live-all _ (omega arith) _ _ (rw (whole c) at (c .before .loop .inv .1))))

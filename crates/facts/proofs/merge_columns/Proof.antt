@@ -1,19 +1,18 @@
 -- After a rows, those rows are merged. Assumes nothing.
-use Prim.Native.Nat.{ℕ, _+_, _*_, _-_, _≤_}
+use Prim.Native.Nat.{_-_, _≤_}
 use native.Mathlib.Omega.{arith}
 use borrow.Author.Needs.{needs}
-use mathlib.Core.Path.{_≡_, ap, _∙_}
-use mathlib.Core.Bool.{Bool}
+use mathlib.Core.Path.{_≡_}
 use lib.ListN.{length, length-set}
 use Rattle.facts.specs.Square.{square, columns}
-use Rattle.facts.proofs.Square.{column-merged, square-above}
+use Rattle.facts.proofs.Square.{square-above}
 use Rattle.facts.proofs.Fill.{Filled, filled-none}
 use Rattle.facts.proofs.Merge.{merge-more, merge-all}
 use Rattle.facts.proofs.merge_columns.Statement.{statement}
 use Rattle.facts.proofs.merge_columns.Tie as tie
 
 abbrev Inv-loop : tie.InvT-loop
-Inv-loop low high out₀ a₀ out a = (a ≤ 17) × (length out ≡ 289) × Filled (columns low high (square out₀)) (square out₀) a (square out)
+Inv-loop low high out₀ a₀ out a = (a ≤ 17) × (length out ≡ 17) × Filled (columns low high (square out₀)) (square out₀) a (square out)
 
 abbrev μ-loop : tie.MeasureT-loop
 μ-loop low high out₀ a₀ out a = 17 - a
@@ -29,23 +28,15 @@ merge-columns-spec =
     μ-loop
     -- loop-holds
     (λ c. (omega arith, search needs, filled-none _ _))
-    -- mul-at
+    -- mul-renamed-row
     (λ c. omega arith)
-    -- add-out
+    -- array-read-renamed-row
     (λ c. omega arith)
-    -- array-read-out
-    (λ c. omega arith)
-    -- add-out-2
-    (λ c. omega arith)
-    -- array-read-out-2
-    (λ c. omega arith)
-    -- add-out-3
+    -- renamed-row-requires
+    (λ c κs. (omega arith, omega arith))
+    -- mul-out
     (λ c. omega arith)
     -- array-write-out
-    (λ c. omega arith)
-    -- add-out-4
-    (λ c. omega arith)
-    -- array-write-out-2
     (λ c. omega arith)
     -- add-a
     (λ c. omega arith)
@@ -53,11 +44,10 @@ merge-columns-spec =
     (λ c. omega arith)
     -- loop-again
     (λ c.
-    let l = c .before .loop in (
+    let l = c .before .before .loop in (
       omega arith,
       simp length-set (l .inv .1),
-      λ x. ap (λ (f : ℕ → ℕ → Bool). f x) (column-merged (l .out) (l .inv .1) (l .a) _ _ (omega arith) (omega arith) (omega arith))
-          ∙ merge-more _ _ (omega arith) _ (l .a) (square (l .out)) (l .inv .2) x,
+      merge-more _ _ (omega arith) (omega arith) _ (l .a) (omega arith) (l .out) (l .inv .1) _ (c .renamed-row .ensures) (l .inv .2),
     ))
     -- returns
-    (λ c. merge-all _ _ (omega arith) _ _ (rw (whole c) at (c .before .loop .inv .2)) (square-above _)))
+    (λ c. merge-all _ _ (omega arith) (omega arith) _ _ (rw (whole c) at (c .before .loop .inv .2)) (square-above _)))

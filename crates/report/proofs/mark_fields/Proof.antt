@@ -6,30 +6,18 @@ use borrow.Author.Tests.{not-true, not-false}
 use mathlib.Core.Path.{_≡_, sym, ap, _∙_}
 use lib.ListN.{length, getD, length-set}
 use Rattle.facts.specs.Path.{repOf}
-use Rattle.facts.proofs.Rep.{rep-in}
 use Rattle.query.specs.LaysOut.{literalIn}
 use Rattle.query.proofs.Literals.{listed}
 use Rattle.report.specs.Bytes.{literalsAt}
-use Rattle.report.proofs.Held.{FieldMarks, fields-none, fields-skip, fields-here, fields-all}
+use Rattle.report.proofs.Held.{stands-in, FieldMarks, fields-none, fields-skip, fields-here, fields-all}
 use Rattle.report.proofs.mark_fields.Statement.{statement}
 use Rattle.report.proofs.mark_fields.Tie as tie
 
 abbrev Inv-loop : tie.InvT-loop
-Inv-loop query at count rep marks₀ i₀ marks i = (length marks ≡ 289) × FieldMarks (repOf rep) (literalIn query at) count i marks
+Inv-loop query at count rep marks₀ i₀ marks i = (length marks ≡ 17) × FieldMarks (repOf rep) (literalIn query at) count i marks
 
 abbrev μ-loop : tie.MeasureT-loop
 μ-loop query at count rep marks₀ i₀ marks i = count - i
-
--- the cell's row is the term that stands for the literal's
-stands : (c : tie.After-struct-known Inv-loop μ-loop) → getD (c .before .before .before .before .before .before .before .before .before .args .t4) (c .before .before .right .result .0) (record { 0 = 0 }) .0 ≡ repOf (c .before .before .before .before .before .before .before .before .before .args .t4) (literalIn (c .before .before .before .before .before .before .before .before .before .args .query .now) (c .before .before .before .before .before .before .before .before .before .args .at) (c .before .before .before .before .before .before .before .loop .i) .right)
-stands c =
-    let r = c .before .before .before .before .before .before .before .before .before .pre .1 (c .before .before .before .before .before .before .before .loop .i) (omega arith) in
-    sym (rep-in _ _ (omega (arith, c .before .before .right .ensures))) ∙ ap (repOf _) (c .before .before .right .ensures)
-
-cell : (c : tie.After-struct-known Inv-loop μ-loop) → (getD (c .before .before .before .before .before .before .before .before .before .args .t4) (c .before .before .right .result .0) (record { 0 = 0 }) .0 ≤ 16) × (c .before .before .before .field .result ≤ 8)
-cell c =
-    let r = c .before .before .before .before .before .before .before .before .before .pre .1 (c .before .before .before .before .before .before .before .loop .i) (omega arith) in
-    (omega (arith, stands c), omega (arith, c .before .before .before .field .ensures))
 
 returns : tie.Need-returns Inv-loop μ-loop
 unfolding literalsAt listed
@@ -59,21 +47,24 @@ mark-fields-spec =
     (λ c. let r = c .before .before .before .before .before .before .before .pre .1 (c .before .before .before .before .before .loop .i) (omega arith) in omega arith)
     -- array-copy-out-stands
     (λ c. let r = c .before .before .before .before .before .before .before .pre .1 (c .before .before .before .before .before .loop .i) (omega arith) in omega arith)
-    -- mul-cell
-    (λ c. omega (arith, cell c))
-    -- add-cell
-    (λ c. omega (arith, cell c))
+    -- mul-marks
+    (λ c. let s = c .before .before .before .before .before .before .before .before in let l = c .before .before .before .before .before .before .loop in let r = s .pre .1 (l .i) (omega arith) in let e = stands-in (s .args .t4) _ _ (c .before .right .ensures) (omega arith) in omega arith)
+    -- array-read-marks
+    (λ c. let s = c .before .before .before .before .before .before .before .before in let l = c .before .before .before .before .before .before .loop in let r = s .pre .1 (l .i) (omega arith) in let e = stands-in (s .args .t4) _ _ (c .before .right .ensures) (omega arith) in omega arith)
+    -- only-requires
+    (λ c κs. let r = c .before .before .before .before .before .before .before .before .pre .1 (c .before .before .before .before .before .before .loop .i) (omega arith) in omega (arith, c .before .before .field .ensures))
+    -- mul-marks-2
+    (λ c. let s = c .before .before .before .before .before .before .before .before .before in let l = c .before .before .before .before .before .before .before .loop in let r = s .pre .1 (l .i) (omega arith) in let e = stands-in (s .args .t4) _ _ (c .before .before .right .ensures) (omega arith) in omega arith)
     -- array-write-marks
-    (λ c. omega (arith, cell c))
+    (λ c. let s = c .before .before .before .before .before .before .before .before .before in let l = c .before .before .before .before .before .before .before .loop in let r = s .pre .1 (l .i) (omega arith) in let e = stands-in (s .args .t4) _ _ (c .before .before .right .ensures) (omega arith) in omega arith)
     -- add-i-2
     (λ c. omega arith)
     -- loop-less-2
     (λ c. omega arith)
     -- loop-again-2
     (λ c.
-    let l = c .before .before .before .before .before .before .before .loop in
-    let h = cell c in (
+    let s = c .before .before .before .before .before .before .before .before .before in let l = c .before .before .before .before .before .before .before .loop in let r = s .pre .1 (l .i) (omega arith) in let e = stands-in (s .args .t4) _ _ (c .before .before .right .ensures) (omega arith) in (
       simp length-set (l .inv .0),
-      fields-here _ _ _ (l .i) (l .marks) (l .inv .0) (omega arith) (sym (c .before .before .before .before .before .sign .ensures) ∙ not-false _ (c .before .before .before .before .if1 .left)) _ _ (h .0) (omega arith) (stands c) (c .before .before .before .field .ensures) (l .inv .1),
+      fields-here _ _ _ (l .i) (l .marks) (l .inv .0) (omega arith) (sym (c .before .before .before .before .before .sign .ensures) ∙ not-false _ (c .before .before .before .before .if1 .left)) _ _ _ (omega arith) (omega (arith, c .before .before .before .field .ensures)) (c .only .ensures) e (c .before .before .before .field .ensures) (l .inv .1),
     ))
     returns)

@@ -5,7 +5,7 @@ use borrow.Author.Needs.{needs}
 use mathlib.Core.Path.{_≡_, refl, sym, ap, _∙_}
 use lib.ListN.{length, drop}
 use Rattle.logic.specs.Search.{firstOf}
-use Rattle.facts.specs.Square.{rowOf}
+use Rattle.facts.specs.Bits.{bit}
 use Rattle.facts.specs.Path.{graphOf}
 use Rattle.rules.specs.Answers.{choiceOf}
 use Rattle.rules.specs.Smallest.{triedAt}
@@ -14,12 +14,12 @@ use Rattle.rules.proofs.choose.Statement.{statement}
 use Rattle.rules.proofs.choose.Tie as tie
 
 abbrev Inv-loop : tie.InvT-loop
-Inv-loop order n alive link reach i₀ i =
+Inv-loop order n alive link reach back i₀ i =
     (i ≤ length order)
-    × (firstOf (triedAt n (rowOf alive) (graphOf link reach)) order ≡ firstOf (triedAt n (rowOf alive) (graphOf link reach)) (drop i order))
+    × (firstOf (triedAt n (bit alive) (graphOf link reach)) order ≡ firstOf (triedAt n (bit alive) (graphOf link reach)) (drop i order))
 
 abbrev μ-loop : tie.MeasureT-loop
-μ-loop order n alive link reach i₀ i = length order - i
+μ-loop order n alive link reach back i₀ i = length order - i
 
 pub choose-spec : {M : Type 1} → statement M
 choose-spec =
@@ -28,6 +28,8 @@ choose-spec =
     Inv-loop
     μ-loop
     -- live-requires
+    (λ c κs. search needs)
+    -- turned-requires
     (λ c κs. search needs)
     -- loop-holds
     (λ c. (omega arith, refl))
@@ -40,9 +42,9 @@ choose-spec =
     -- returns
     (λ c.
     sym
-    (choose-lent _ (c .before .before .before .before .before .before .before .before .before .before .before .before .before .before .args .s) (c .before .before .before .before .before .before .before .before .before .before .before .before .live .result) (c .before .before .before .before .before .before .before .before .before .before .before .before .before .before .args .order .now) (c .before .before .before .before .before .before .before .before .before .before .before .before .live .ensures)
+    (choose-lent _ (c .before .before .before .before .before .before .before .before .before .before .before .before .before .before .before .before .args .s) (c .before .before .before .before .before .before .before .before .before .before .before .before .before .before .live .result) (c .before .before .before .before .before .before .before .before .before .before .before .before .before .before .before .before .args .order .now) (c .before .before .before .before .before .before .before .before .before .before .before .before .before .before .live .ensures)
     ∙ c .before .before .before .before .before .before .before .before .before .loop .inv .1
-    ∙ rest-here _ (c .before .before .before .before .before .before .before .before .before .before .before .before .before .before .args .order .now) (c .before .before .before .before .before .before .before .before .before .loop .i) _ (omega arith) (sym (c .before .before .before .tried .ensures) ∙ ap choiceOf (c .before .rule .given .1))))
+    ∙ rest-here _ (c .before .before .before .before .before .before .before .before .before .before .before .before .before .before .before .before .args .order .now) (c .before .before .before .before .before .before .before .before .before .loop .i) _ (omega arith) (sym (c .before .before .before .tried .ensures) ∙ ap choiceOf (c .before .rule .given .1))))
     -- enum-told
     (λ c. search needs)
     -- add-i
@@ -50,10 +52,10 @@ choose-spec =
     -- loop-less
     (λ c. omega arith)
     -- loop-again
-    (λ c. (omega arith, c .before .before .before .before .before .before .before .before .loop .inv .1 ∙ rest-next _ (c .before .before .before .before .before .before .before .before .before .before .before .before .before .args .order .now) (c .before .before .before .before .before .before .before .before .loop .i) (omega arith) (sym (c .before .before .tried .ensures) ∙ ap choiceOf (c .enum-told .given .1))))
+    (λ c. (omega arith, c .before .before .before .before .before .before .before .before .loop .inv .1 ∙ rest-next _ (c .before .before .before .before .before .before .before .before .before .before .before .before .before .before .before .args .order .now) (c .before .before .before .before .before .before .before .before .loop .i) (omega arith) (sym (c .before .before .tried .ensures) ∙ ap choiceOf (c .enum-told .given .1))))
     -- returns-2
     (λ c.
     sym
-    (choose-lent _ (c .before .before .before .before .before .before .args .s) (c .before .before .before .before .live .result) (c .before .before .before .before .before .before .args .order .now) (c .before .before .before .before .live .ensures)
+    (choose-lent _ (c .before .before .before .before .before .before .before .before .args .s) (c .before .before .before .before .before .before .live .result) (c .before .before .before .before .before .before .before .before .args .order .now) (c .before .before .before .before .before .before .live .ensures)
     ∙ c .before .loop .inv .1
-    ∙ rest-end _ (c .before .before .before .before .before .before .args .order .now) (c .before .loop .i) (omega arith))))
+    ∙ rest-end _ (c .before .before .before .before .before .before .before .before .args .order .now) (c .before .loop .i) (omega arith))))

@@ -1,60 +1,56 @@
 -- One law for each return. Assumes nothing.
-use native.Mathlib.Omega.{arith}
 use borrow.Author.Needs.{needs}
-use borrow.Author.Tests.{not-true, not-false}
-use mathlib.Core.Path.{sym, _∙_}
+use native.Mathlib.Omega.{arith}
+use mathlib.Core.Path.{refl, sym, ap, _∙_}
 use Rattle.facts.specs.Path.{graphOf, linksIn}
-use Rattle.rules.specs.Cycle.{cycleThird}
-use Rattle.rules.proofs.Around.{next-le, steps-bound, steps-links, back-links, cycle-unreached, cycle-open, cycle-held, cycle-free}
+use Rattle.facts.specs.Answers.{foundOf}
+use Rattle.rules.proofs.Around.{next-le, steps-bound, back-links, second-unreached, second-open, second-none, second-some}
+use Rattle.rules.proofs.Rows.{reach-none, round-find}
 use Rattle.rules.proofs.cycle.Statement.{statement}
 use Rattle.rules.proofs.cycle.Tie as tie
-
-returns : tie.Need-returns
-unfolding cycleThird graphOf
--- returns
-returns c = sym (cycle-unreached _ _ (graphOf (c .before .before .args .link .now) (c .before .before .args .reach .now)) _ _ (sym (c .before .holds .ensures) ∙ not-true _ (c .if1 .taken)))
-
-returns-2 : tie.Need-returns-2
-unfolding cycleThird
--- returns-2
-returns-2 c =
-    let a = c .before .before .before .before .before .before .args in
-    let q = back-links (a .n) (a .link .now) (a .reach .now) (a .x .0) _ _ (c .before .before .before .next .ensures) (c .before .before .follow .ensures .0) in
-    sym (cycle-open _ _ _ _ _ (omega arith))
-
-returns-3 : tie.Need-returns-3
-unfolding cycleThird
--- returns-3
-returns-3 c =
-    let a = c .before .before .before .before .before .before .before .before .before .args in
-    let q = back-links (a .n) (a .link .now) (a .reach .now) (a .x .0) _ _ (c .before .before .before .before .before .before .next .ensures) (c .before .before .before .before .before .follow .ensures .0) in
-    let m = c .before .before .follow2 .ensures .0 ∙ steps-links (a .n) (a .link .now) (a .reach .now) _ _ _ in
-    sym (cycle-held _ _ _ _ _ _ q (omega arith) (omega arith))
-
-returns-4 : tie.Need-returns-4
-unfolding cycleThird graphOf
--- returns-4
-returns-4 c =
-    let a = c .before .before .before .before .before .before .before .before .before .args in
-    let q = back-links (a .n) (a .link .now) (a .reach .now) (a .x .0) _ _ (c .before .before .before .before .before .before .next .ensures) (c .before .before .before .before .before .follow .ensures .0) in
-    let m = c .before .before .follow2 .ensures .0 ∙ steps-links (a .n) (a .link .now) (a .reach .now) _ _ _ in
-    sym (cycle-free _ _ _ _ _ _ q (omega arith) (sym (c .before .before .before .before .before .before .before .before .holds .ensures) ∙ not-false _ (c .before .before .before .before .before .before .before .if1 .left)) (omega arith))
 
 pub cycle-spec : {M : Type 1} → statement M
 cycle-spec =
     tie.close
     (tie.spec
-    -- holds-requires
+    -- mul-far
+    (λ c. search needs)
+    -- element-copy-out-far
+    (λ c. search needs)
+    -- up-to-requires
     (λ c κs. search needs)
-    returns
+    -- returns
+    (λ c alive.
+    let s = c .before .before .before in
+    sym (second-unreached _ _ _ _ (reach-none _ (s .pre .0) (s .args .link .now) (s .args .reach .now) _ (s .pre .1) _ (c .before .up-to .ensures) (c .if1 .taken))))
     -- next-requires
     (λ c κs. search needs)
     -- follow-requires
-    (λ c κs. let l = next-le (c .before .before .before .args .n) (linksIn (c .before .before .before .args .link .now)) (c .before .before .before .args .x .0) in let e = c .next .ensures in omega arith)
+    (λ c κs. let s = c .before .before .before .before in let l = next-le (s .args .n) (linksIn (s .args .link .now)) (s .args .x .0) in let e = c .next .ensures in (omega arith, omega arith))
     -- add-k
     (λ c. let l = steps-bound _ _ _ _ _ _ (c .before .follow .ensures .0) in omega arith)
-    returns-2
-    -- follow-requires-2
+    -- returns-2
+    (λ c alive.
+    let s = c .before .before .before .before .before .before .before in
+    let q = back-links (s .args .n) (s .args .link .now) (s .args .reach .now) (s .args .x .0) _ _ (c .before .before .before .next .ensures) (c .before .before .follow .ensures .0) in
+    sym (second-open _ alive (graphOf (s .args .link .now) (s .args .reach .now)) _ (omega arith)))
+    -- only-requires
     (λ c κs. search needs)
-    returns-3
-    returns-4)
+    -- without-requires
+    (λ c κs. search needs)
+    -- first-requires
+    (λ c κs. search needs)
+    -- enum-known-y
+    (λ c. search needs)
+    -- enum-told
+    (λ c. search needs)
+    -- returns-3
+    (λ c alive.
+    let s = c .before .before .before .before .before .before .before .before .before .before .before .before .before in
+    let q = back-links (s .args .n) (s .args .link .now) (s .args .reach .now) (s .args .x .0) _ _ (c .before .before .before .before .before .before .before .before .before .next .ensures) (c .before .before .before .before .before .before .before .before .follow .ensures .0) in
+    sym (second-none _ alive (graphOf (s .args .link .now) (s .args .reach .now)) _ _ q (omega arith) (sym (round-find (s .args .n) (s .pre .0) (s .args .link .now) (s .args .reach .now) (s .args .x .0) (s .pre .1) _ (c .before .before .before .before .before .before .before .before .before .before .before .up-to .ensures) _ _ _ _ _ _ (c .before .before .before .before .before .before .before .before .before .next .ensures) refl (c .before .before .before .before .before .before .before .before .follow .ensures .2) (c .before .before .before .before .before .only .ensures) (c .before .before .before .without .ensures)) ∙ sym (c .before .before .first .ensures) ∙ ap foundOf (c .enum-told .given .1))))
+    -- returns-4
+    (λ c alive.
+    let s = c .before .before .before .before .before .before .before .before .before .before .before .before .before .before in
+    let q = back-links (s .args .n) (s .args .link .now) (s .args .reach .now) (s .args .x .0) _ _ (c .before .before .before .before .before .before .before .before .before .before .next .ensures) (c .before .before .before .before .before .before .before .before .before .follow .ensures .0) in
+    sym (second-some _ alive (graphOf (s .args .link .now) (s .args .reach .now)) _ _ q (omega arith) _ (sym (round-find (s .args .n) (s .pre .0) (s .args .link .now) (s .args .reach .now) (s .args .x .0) (s .pre .1) _ (c .before .before .before .before .before .before .before .before .before .before .before .before .up-to .ensures) _ _ _ _ _ _ (c .before .before .before .before .before .before .before .before .before .before .next .ensures) refl (c .before .before .before .before .before .before .before .before .before .follow .ensures .2) (c .before .before .before .before .before .before .only .ensures) (c .before .before .before .before .without .ensures)) ∙ sym (c .before .before .before .first .ensures) ∙ ap foundOf (c .before .y .given .1)))))

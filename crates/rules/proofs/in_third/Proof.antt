@@ -1,8 +1,9 @@
--- CYCLE has its own search. Assumes nothing.
-use native.Mathlib.Omega.{arith}
+-- What the row has, or nothing. Assumes nothing.
 use borrow.Author.Needs.{needs}
-use mathlib.Core.Path.{sym, _∙_}
-use Rattle.rules.proofs.Around.{cycle-any}
+use mathlib.Core.Path.{sym, ap, _∙_}
+use Rattle.facts.specs.Answers.{foundOf}
+use Rattle.facts.proofs.Finds.{find-masked}
+use Rattle.rules.proofs.Nested.{third-nowhere, third-at}
 use Rattle.rules.proofs.in_third.Statement.{statement}
 use Rattle.rules.proofs.in_third.Tie as tie
 
@@ -10,13 +11,17 @@ pub in-third-spec : {M : Type 1} → statement M
 in-third-spec =
     tie.close
     (tie.spec
-    -- looped-requires
+    -- third-row-requires
     (λ c κs. search needs)
-    -- scan-requires
-    (λ c κs. (omega arith, omega arith, omega arith, sym (c .before .looped .ensures) ∙ c .if1 .taken))
+    -- up-to-requires
+    (λ c κs. search needs)
+    -- first-requires
+    (λ c κs. search needs)
+    -- enum-known-z
+    (λ c. search needs)
+    -- enum-told
+    (λ c. search needs)
     -- returns
-    (λ c. c .scan .ensures)
-    -- cycle-requires
-    (λ c κs. search needs)
+    (λ c alive e. sym (third-nowhere _ _ _ _ (c .before .before .before .before .before .pre .3) _ _ e (sym (find-masked _ _ _ _ (c .before .before .before .before .before .pre .0) (c .before .before .before .before .third-row .ensures) (c .before .before .before .up-to .ensures)) ∙ sym (c .before .before .first .ensures) ∙ ap foundOf (c .enum-told .given .1))))
     -- returns-2
-    (λ c. c .cycle .ensures ∙ cycle-any _ _ _ _ (sym (c .before .before .looped .ensures) ∙ c .before .if1 .left) _ _))
+    (λ c alive e. sym (third-at _ _ _ _ (c .before .before .before .before .before .before .pre .3) _ _ e _ (sym (find-masked _ _ _ _ (c .before .before .before .before .before .before .pre .0) (c .before .before .before .before .before .third-row .ensures) (c .before .before .before .before .up-to .ensures)) ∙ sym (c .before .before .before .first .ensures) ∙ ap foundOf (c .before .z .given .1)))))

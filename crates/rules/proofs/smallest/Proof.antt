@@ -7,16 +7,16 @@ use Rattle.logic.specs.Search.{from, firstOf}
 use Rattle.facts.specs.Path.{graphOf}
 use Rattle.facts.proofs.Loops.{first-end, first-here, first-next}
 use Rattle.rules.specs.Answers.{kindOf, placeOf}
-use Rattle.facts.specs.Square.{rowOf}
+use Rattle.facts.specs.Bits.{bit}
 use Rattle.rules.specs.Smallest.{inSecond, inFirst}
 use Rattle.rules.proofs.smallest.Statement.{statement}
 use Rattle.rules.proofs.smallest.Tie as tie
 
 abbrev Inv-loop : tie.InvT-loop
-Inv-loop rule alive link reach n x₀ x = inFirst n (rowOf alive) (graphOf link reach) (kindOf rule) ≡ firstOf (inSecond n (rowOf alive) (graphOf link reach) (kindOf rule)) (from (n + 1 - x) x)
+Inv-loop rule alive link reach back n x₀ x = inFirst n (bit alive) (graphOf link reach) (kindOf rule) ≡ firstOf (inSecond n (bit alive) (graphOf link reach) (kindOf rule)) (from (n + 1 - x) x)
 
 abbrev μ-loop : tie.MeasureT-loop
-μ-loop rule alive link reach n x₀ x = n + 1 - x
+μ-loop rule alive link reach back n x₀ x = n + 1 - x
 
 loop-holds : tie.Need-loop-holds Inv-loop μ-loop
 unfolding inFirst
@@ -31,7 +31,7 @@ smallest-spec =
     μ-loop
     loop-holds
     -- in-second-requires
-    (λ c κs. omega arith)
+    (λ c κs. let s = c .before .before in (s .pre .0, omega arith, s .pre .1))
     -- enum-known-a
     (λ c. search needs)
     -- returns

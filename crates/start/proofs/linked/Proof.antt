@@ -10,7 +10,7 @@ use Rattle.start.proofs.linked.Tie as tie
 
 returns : tie.Need-returns
 unfolding pathOf graphOf linksOf
-returns c = alike (fun-ext (c .before .unreplaced .ensures)) (c .links .ensures) (fun-ext (λ a. fun-ext (λ b. nothing-held 289 a b)))
+returns c = alike (fun-ext (c .before .unreplaced .ensures)) (c .links .ensures) (fun-ext (λ a. fun-ext (λ b. nothing-held 17 a b)))
 
 pub linked-spec : {M : Type 1} → statement M
 linked-spec = tie.close (tie.spec (λ c κs. search needs) (λ c κs. search needs) returns)

@@ -10,7 +10,7 @@ use Rattle.start.proofs.links.Statement.{statement}
 use Rattle.start.proofs.links.Tie as tie
 
 abbrev Inv-loop : tie.InvT-loop
-Inv-loop query n link₀ b₀ link b = (1 ≤ b) × (b ≤ n + 1) × (length link ≡ 289) × LinksTo (take n (drop 1 query)) b (square link)
+Inv-loop query n link₀ b₀ link b = (1 ≤ b) × (b ≤ n + 1) × (length link ≡ 17) × LinksTo (take n (drop 1 query)) b (square link)
 
 abbrev μ-loop : tie.MeasureT-loop
 μ-loop query n link₀ b₀ link b = n + 1 - b
@@ -31,27 +31,31 @@ links-spec =
     Inv-loop
     μ-loop
     -- loop-holds
-    (λ c. (omega arith, omega arith, search needs, links-none _ _ (nothing-held 289)))
+    (λ c. (omega arith, omega arith, search needs, links-none _ _ (nothing-held 17)))
     -- byte-at-requires
     (λ c κs. omega arith)
+    -- mul-with
+    (λ c. omega (arith, within c))
+    -- array-read-with
+    (λ c. omega (arith, within c))
+    -- with-requires
+    (λ c κs. omega arith)
     -- mul-link
-    (λ c. omega (arith, within c))
-    -- add-link
-    (λ c. omega (arith, within c))
+    (λ c. omega (arith, within (c .before)))
     -- array-write-link
-    (λ c. omega (arith, within c))
+    (λ c. omega (arith, within (c .before)))
     -- add-b
     (λ c. omega arith)
     -- loop-less
     (λ c. omega arith)
     -- loop-again
     (λ c.
-    let l = c .before .before .loop in
-    let p = c .before .before .before .before .pre in (
+    let l = c .before .before .before .loop in
+    let s = c .before .before .before .before .before in (
       omega arith,
       omega arith,
       simp length-set (l .inv .2),
-      links-more _ (l .b) _ _ (l .inv .2) (within c) (omega arith) (entry-in (c .before .before .before .before .args .query .now) _ (p .1) (l .b) (omega arith) (omega arith) ∙ sym (c .byte-at .ensures)) (l .inv .3),
+      links-more _ (l .b) _ _ _ (l .inv .2) (within (c .before)) (omega arith) (c .with .ensures) (entry-in (s .args .query .now) _ (s .pre .1) (l .b) (omega arith) (omega arith) ∙ sym (c .before .byte-at .ensures)) (l .inv .3),
     ))
     -- returns
     (λ c. links-all _ _ _ (entry-beyond (c .before .before .before .args .query .now) _ (c .before .before .before .pre .1)) (rw (whole c) at (c .before .loop .inv .3))))
