@@ -16,6 +16,7 @@ use Rattle.logic.specs.Facts.{Graph, terms}
 use Rattle.logic.specs.Rules.{Rule, CYCLE, Triple, triple, move, equal, next, returns, round, conditions, alternatives, held}
 use Rattle.logic.proofs.Basics.Compare.{eq-cases, le-cases}
 use Rattle.logic.proofs.Basics.Search.{firstOf-empty, find-some, from-mem}
+use Rattle.logic.proofs.Basics.Iterate.{iterate-suc, iterate-add}
 use Rattle.facts.specs.Path.{graphOf, linksIn}
 use Rattle.rules.specs.Cycle.{stepsTo}
 use Rattle.rules.specs.Smallest.{allowed, inThird, inSecond}
@@ -38,6 +39,32 @@ module _ (n : ℕ) (g : Graph) (c : ℕ) where
       go : (o : Option ℕ) → find (g .link c) (terms n) ≡ o → next n g c ≤ n
       go none e = let h = next-none e in omega arith
       go (some a) e = let h = next-some a e in let l = from-mem n 1 a (find-some (g .link c) (from n 1) a e .0) in omega arith
+
+-- the term that so many links lead to
+module _ (n : ℕ) (g : Graph) where
+  pub iterate-none : (k c : ℕ) → k ≡ 0 → iterate (next n g) k c ≡ c
+  unfolding iterate
+  iterate-none k c e = rw e
+
+  -- one link more, after k
+  pub iterate-turn : (k c t d : ℕ) → t ≡ iterate (next n g) k c → d ≡ next n g t → d ≡ iterate (next n g) (k + 1) c
+  iterate-turn k c t d e f = f ∙ ap (next n g) e ∙ sym (iterate-suc (next n g) k c) ∙ ap (λ (j : ℕ). iterate (next n g) j c) (sym (add-one k))
+
+  -- a link that leads back where it starts leads nowhere else
+  iterate-still : (k t : ℕ) → next n g t ≡ t → iterate (next n g) k t ≡ t
+  unfolding iterate
+  iterate-still zero t e = refl
+  iterate-still (suc k) t e = ap (iterate (next n g) k) e ∙ iterate-still k t e
+
+  pub iterate-stuck : (k m c t : ℕ) → k ≤ m → t ≡ iterate (next n g) k c → next n g t ≡ t → t ≡ iterate (next n g) m c
+  iterate-stuck k m c t l e s =
+      let j : k + (m - k) ≡ m = omega arith in
+      sym (iterate-still (m - k) t s) ∙ ap (iterate (next n g) (m - k)) e ∙ sym (iterate-add (next n g) k (m - k) c) ∙ ap (λ (i : ℕ). iterate (next n g) i c) j
+
+  pub iterate-le : (k c m : ℕ) → n ≤ m → c ≤ m → iterate (next n g) k c ≤ m
+  unfolding iterate
+  iterate-le zero c m h l = l
+  iterate-le (suc k) c m h l = iterate-le k (next n g c) m h (let b = next-le n g c in omega arith)
 
 -- a search of the numbers below m that can succeed at k only
 module _ {B : Type 0} (f : ℕ → Option B) (m k : ℕ) (only : (i : ℕ) → i < m → (i ≡ k → ⊥) → f i ≡ none) where
@@ -62,18 +89,32 @@ eqb-suc a b = ⊎-elim (λ e. eq-eqb (suc a) (suc b) (ap suc e) ∙ sym (eq-eqb 
 ltb-suc : (a b : ℕ) → ltb (suc a) (suc b) ≡ ltb a b
 ltb-suc a b = ⊎-elim (λ h. le-ltb (suc a) (suc b) (omega arith) ∙ sym (le-ltb a b h)) (λ h. lt-ltb (suc a) (suc b) (omega arith) ∙ sym (lt-ltb a b h)) (le-cases b a)
 
+or-swap : (a b c : Bool) → (a or b) or c ≡ (a or c) or b
+unfolding _or_
+or-swap true b c = refl
+or-swap false true true = refl
+or-swap false true false = refl
+or-swap false false true = refl
+or-swap false false false = refl
+
+or-again : (a b : Bool) → (a or b) or b ≡ a or b
+unfolding _or_
+or-again true b = refl
+or-again false true = refl
+or-again false false = refl
+
 module _ (n : ℕ) (g : Graph) (x : ℕ) where
   -- no step is made where none is left, or where x is; else one, and those from the next term on
-  pub steps-none : (left c : ℕ) → left ≡ 0 → stepsTo n g x left c ≡ 0
+  steps-none : (left c : ℕ) → left ≡ 0 → stepsTo n g x left c ≡ 0
   unfolding stepsTo
   steps-none left c e = rw e
 
-  pub steps-here : (left c : ℕ) → c ≡ x → stepsTo n g x left c ≡ 0
+  steps-here : (left c : ℕ) → c ≡ x → stepsTo n g x left c ≡ 0
   unfolding stepsTo
   steps-here zero c e = refl
   steps-here (suc left) c e = rw (eq-eqb c x e)
 
-  pub steps-on : (left c : ℕ) → (left ≡ 0 → ⊥) → (c ≡ x → ⊥) → stepsTo n g x left c ≡ stepsTo n g x (left - 1) (next n g c) + 1
+  steps-on : (left c : ℕ) → (left ≡ 0 → ⊥) → (c ≡ x → ⊥) → stepsTo n g x left c ≡ stepsTo n g x (left - 1) (next n g c) + 1
   unfolding stepsTo
   steps-on zero c h e = absurd (h refl)
   steps-on (suc left) c h e = rw (ne-eqb c x e, less, sym (add-one (stepsTo n g x left (next n g c))))
@@ -93,26 +134,37 @@ module _ (n : ℕ) (g : Graph) (x : ℕ) where
   pub steps-bound : (left c s : ℕ) → s ≡ stepsTo n g x left c → s ≤ left
   steps-bound left c s e = let l = steps-le left c in omega arith
 
-  -- a link that leads back where it starts leads nowhere else
-  pub steps-stuck : (c : ℕ) → next n g c ≡ c → (c ≡ x → ⊥) → (left : ℕ) → stepsTo n g x left c ≡ left
+  steps-stuck : (c : ℕ) → next n g c ≡ c → (c ≡ x → ⊥) → (left : ℕ) → stepsTo n g x left c ≡ left
   unfolding stepsTo
   steps-stuck c e d zero = refl
   steps-stuck c e d (suc left) = rw (ne-eqb c x d, e) (ap suc (steps-stuck c e d left))
 
-  -- x is one of the terms from which the steps are made: of none, of the one that leads back, of one more
+  -- k of the steps are made and t is where they lead: at first, there, at the end, at a link back to t, or one step on
+  pub follow-start : (left t : ℕ) → stepsTo n g x left t ≡ 0 + stepsTo n g x (left - 0) t
+  follow-start left t =
+      let e : left ≡ left - 0 = omega arith in
+      let f : stepsTo n g x left t ≡ stepsTo n g x (left - 0) t = ap (λ (j : ℕ). stepsTo n g x j t) e in
+      omega (arith, f)
+
+  pub follow-there : (left k t whole : ℕ) → whole ≡ k + stepsTo n g x (left - k) t → t ≡ x → k ≡ whole
+  follow-there left k t whole e h = omega (arith, e, steps-here (left - k) t h)
+
+  pub follow-end : (left k t whole : ℕ) → whole ≡ k + stepsTo n g x (left - k) t → left ≤ k → k ≡ whole
+  follow-end left k t whole e h = omega (arith, e, steps-none (left - k) t (omega arith))
+
+  pub follow-stuck : (left k t whole : ℕ) → whole ≡ k + stepsTo n g x (left - k) t → k < left → (t ≡ x → ⊥) → next n g t ≡ t → left ≡ whole
+  follow-stuck left k t whole e l h s = omega (arith, e, steps-stuck t s h (left - k))
+
+  pub follow-turn : (left k t d whole : ℕ) → whole ≡ k + stepsTo n g x (left - k) t → k < left → (t ≡ x → ⊥) → d ≡ next n g t → whole ≡ (k + 1) + stepsTo n g x (left - (k + 1)) d
+  follow-turn left k t d whole e l h f =
+      let s = steps-on (left - k) t (omega arith) h in
+      let m : left - k - 1 ≡ left - (k + 1) = omega arith in
+      let u : stepsTo n g x (left - k - 1) (next n g t) ≡ stepsTo n g x (left - (k + 1)) d = ap (λ (j : ℕ). stepsTo n g x j (next n g t)) m ∙ ap (stepsTo n g x (left - (k + 1))) (sym f) in
+      omega (arith, e, s, u)
+
+  -- x is one of the terms from which the steps are made: of none, of one more before them, of one more after them, of all after a link back
   pub passed-none : (c : ℕ) → false ≡ ltb (stepsTo n g x 0 c) 0
   passed-none c = sym (le-ltb (stepsTo n g x 0 c) 0 (omega arith))
-
-  pub passed-stuck : (c : ℕ) → next n g c ≡ c → (left : ℕ) → (left ≡ 0 → ⊥) → eqb x c ≡ ltb (stepsTo n g x left c) left
-  passed-stuck c e left h =
-      ⊎-elim
-      (λ p. rw (steps-here left c (sym p)) (eq-eqb x c p ∙ sym (lt-ltb 0 left (positive left h))))
-      (λ d. d .1 ∙ sym (rw (steps-stuck c e (λ p. d .0 (sym p)) left) (le-ltb left left (omega arith))))
-      (eq-cases x c)
-    where
-      positive : (m : ℕ) → (m ≡ 0 → ⊥) → 0 < m
-      positive zero q = absurd (q refl)
-      positive (suc m) q = omega arith
 
   pub passed-on : (c s : ℕ) → ltb (stepsTo n g x s (next n g c)) s or eqb x c ≡ ltb (stepsTo n g x (s + 1) c) (s + 1)
   unfolding _or_ stepsTo
@@ -131,6 +183,34 @@ module _ (n : ℕ) (g : Graph) (x : ℕ) where
 
       there : (c ≡ x → ⊥) × (eqb c x ≡ false) → ltb (stepsTo n g x s (next n g c)) s or eqb x c ≡ ltb (cond (eqb c x) 0 (suc (stepsTo n g x s (next n g c)))) (suc s)
       there d = rw (d .1, ne-eqb x c (λ q. d .0 (sym q))) (neither (ltb (stepsTo n g x s (next n g c)) s) ∙ sym (ltb-suc (stepsTo n g x s (next n g c)) s))
+
+  pub passed-turn : (k c : ℕ) → ltb (stepsTo n g x k c) k or eqb x (iterate (next n g) k c) ≡ ltb (stepsTo n g x (k + 1) c) (k + 1)
+  unfolding stepsTo iterate
+  passed-turn zero c = passed-on c 0
+  passed-turn (suc k) c =
+      ap (λ (t : Bool). t or eqb x (iterate (next n g) k (next n g c))) (sym before)
+      ∙ or-swap (ltb (stepsTo n g x k (next n g c)) k) (eqb x c) (eqb x (iterate (next n g) k (next n g c)))
+      ∙ ap (λ (t : Bool). t or eqb x c) (passed-turn k (next n g c) ∙ ap (λ (j : ℕ). ltb (stepsTo n g x j (next n g c)) j) (add-one k))
+      ∙ passed-on c (suc k)
+    where
+      before : ltb (stepsTo n g x k (next n g c)) k or eqb x c ≡ ltb (stepsTo n g x (suc k) c) (suc k)
+      before = passed-on c k ∙ ap (λ (j : ℕ). ltb (stepsTo n g x j c) j) (add-one k)
+
+  pub passed-stuck : (k c t : ℕ) → t ≡ iterate (next n g) k c → next n g t ≡ t → (left : ℕ) → k < left → ltb (stepsTo n g x k c) k or eqb x t ≡ ltb (stepsTo n g x left c) left
+  passed-stuck k c t e s zero l = absurd (omega arith)
+  passed-stuck k c t e s (suc left) l = ⊎-elim here (λ h. there (passed-stuck k c t e s left h)) (eq-or-lt-of-le within)
+    where
+      within : k ≤ left
+      within = omega arith
+
+      last : ltb (stepsTo n g x left c) left or eqb x t ≡ ltb (stepsTo n g x (suc left) c) (suc left)
+      last = ap (λ (u : ℕ). ltb (stepsTo n g x left c) left or eqb x u) (iterate-stuck n g k left c t within e s) ∙ passed-turn left c ∙ ap (λ (j : ℕ). ltb (stepsTo n g x j c) j) (add-one left)
+
+      here : k ≡ left → ltb (stepsTo n g x k c) k or eqb x t ≡ ltb (stepsTo n g x (suc left) c) (suc left)
+      here q = ap (λ (j : ℕ). ltb (stepsTo n g x j c) j or eqb x t) q ∙ last
+
+      there : ltb (stepsTo n g x k c) k or eqb x t ≡ ltb (stepsTo n g x left c) left → ltb (stepsTo n g x k c) k or eqb x t ≡ ltb (stepsTo n g x (suc left) c) (suc left)
+      there q = sym (or-again (ltb (stepsTo n g x k c) k) (eqb x t)) ∙ ap (λ (b : Bool). b or eqb x t) q ∙ last
 
   -- to a number that is no term the links never lead
   pub steps-never : n < x → (left c : ℕ) → c < x → stepsTo n g x left c ≡ left
@@ -240,23 +320,3 @@ module _ (n : ℕ) (link reach : List ℕ) where
   pub back-links : (x c s : ℕ) → c ≡ next n (linksIn link) x → s ≡ stepsTo n (linksIn link) x n c → s + 1 ≡ stepsTo n (graphOf link reach) x n (next n (graphOf link reach) x) + 1
   unfolding next linksIn graphOf
   back-links x c s e h = ap (λ (k : ℕ). k + 1) (h ∙ ap (stepsTo n (linksIn link) x n) e ∙ steps-links x n (next n (linksIn link) x))
-
--- the term that so many links lead to
-module _ (n : ℕ) (g : Graph) where
-  pub iterate-none : (k c : ℕ) → k ≡ 0 → iterate (next n g) k c ≡ c
-  unfolding iterate
-  iterate-none k c e = rw e
-
-  pub iterate-stuck : (k c : ℕ) → next n g c ≡ c → iterate (next n g) k c ≡ c
-  unfolding iterate
-  iterate-stuck zero c e = refl
-  iterate-stuck (suc k) c e = ap (iterate (next n g) k) e ∙ iterate-stuck k c e
-
-  pub iterate-on : (k c : ℕ) → iterate (next n g) (k + 1) c ≡ iterate (next n g) k (next n g c)
-  unfolding iterate
-  iterate-on k c = rw (add-one k)
-
-  pub iterate-le : (k c m : ℕ) → n ≤ m → c ≤ m → iterate (next n g) k c ≤ m
-  unfolding iterate
-  iterate-le zero c m h l = l
-  iterate-le (suc k) c m h l = iterate-le k (next n g c) m h (let b = next-le n g c in omega arith)

@@ -11,6 +11,7 @@ use lib.Bits.{bitAnd, bitOr}
 use lib.Dec.{eqb, ltb}
 use borrow.Author.Tests.{lt-ltb, ltb-true, ne-eqb}
 use Rattle.logic.specs.Search.{_and_, _or_, from, firstOf, find, orElse, select}
+use Rattle.logic.specs.Heap.{iterate}
 use Rattle.logic.specs.Facts.{Graph}
 use Rattle.logic.specs.Rules.{Rule, REFLEX, TRANS1, TRANS2, FUNC, CYCLE, SCC, TOTAL, SHARE, Triple, next}
 use Rattle.logic.proofs.Basics.Search.{none-some, and-left, and-right, and-false-cases, true-false, find-some, select-mem, select-intro}
@@ -27,7 +28,7 @@ use Rattle.rules.specs.Tests.{pairTest, thirdTest, looped}
 use Rattle.rules.specs.Smallest.{inThird, inSecond}
 use Rattle.rules.specs.Cycle.{stepsTo}
 use Rattle.rules.proofs.Nested.{third-none}
-use Rattle.rules.proofs.Around.{passed-on, steps-links}
+use Rattle.rules.proofs.Around.{passed-on, passed-turn, passed-stuck, steps-links}
 
 eqb-turned : (a b : ℕ) → eqb a b ≡ eqb b a
 eqb-turned a b = ⊎-elim (λ e. rw e) (λ d. d .1 ∙ sym (ne-eqb b a (λ e. d .0 (sym e)))) (eq-cases a b)
@@ -126,9 +127,16 @@ pub row-positive : (w a : ℕ) → find (bit w) (from 32 0) ≡ some a → 0 < w
 row-positive zero a e = absurd (none-some (sym find-no-bit ∙ e))
 row-positive (suc w) a e = omega arith
 
--- the terms passed, with one more
+-- the terms passed, with one more before them; with one more after them, from which the links lead on or back
 pub passed-more : (n : ℕ) (g : Graph) (y c d s passed o : ℕ) → d ≡ next n g c → bit passed y ≡ ltb (stepsTo n g y s d) s → bit o y ≡ eqb y c → bit (bitOr passed o) y ≡ ltb (stepsTo n g y (s + 1) c) (s + 1)
 passed-more n g y c d s passed o q e f = bit-or passed o y ∙ ap₂ _or_ (e ∙ ap (λ (t : ℕ). ltb (stepsTo n g y s t) s) q) f ∙ passed-on n g y c s
+
+module _ (n : ℕ) (g : Graph) (c k t passed o : ℕ) (e : t ≡ iterate (next n g) k c) (f : (y : ℕ) → bit passed y ≡ ltb (stepsTo n g y k c) k) (h : (y : ℕ) → bit o y ≡ eqb y t) where
+  pub passed-then : (y : ℕ) → bit (bitOr passed o) y ≡ ltb (stepsTo n g y (k + 1) c) (k + 1)
+  passed-then y = bit-or passed o y ∙ ap₂ _or_ (f y) (h y ∙ ap (eqb y) e) ∙ passed-turn n g y k c
+
+  pub passed-ever : (left : ℕ) → k < left → next n g t ≡ t → (y : ℕ) → bit (bitOr passed o) y ≡ ltb (stepsTo n g y left c) left
+  passed-ever left l s y = bit-or passed o y ∙ ap₂ _or_ (f y) (h y) ∙ passed-stuck n g y k c t e s left l
 
 -- CYCLE: the numbers that x reaches, off the round
 module _ (n : ℕ) (few : n ≤ 16) (link reach : List ℕ) (x : ℕ) (h : x ≤ 16) (m : ℕ) (f : (i : ℕ) → bit m i ≡ ltb i (n + 1)) where

@@ -181,35 +181,33 @@ pub fn follow(link: &[u32; 17], n: usize, c: Term, until: Term, left: usize) -> 
     requires { ⌜ (n ≤ 16) × (c .0 ≤ 16) ⌝ }
     ensures { λ r. ⌜ (r .steps ≡ stepsTo n (linksIn (now (link .entry))) (until .0) left (c .0)) × (r .term .0 ≡ iterate (next n (linksIn (now (link .entry)))) (r .steps) (c .0)) × ((y : ℕ) → bit (r .passed) y ≡ ltb (stepsTo n (linksIn (now (link .entry))) y (r .steps) (c .0)) (r .steps)) ⌝ }
 {
-    if left == 0 {
-        return Followed {
-            term: c,
-            steps: 0,
-            passed: 0,
-        };
+    let mut term = c;
+    let mut steps: usize = 0;
+    let mut passed: u32 = 0;
+    while steps < left {
+        if term.0 == until.0 {
+            return Followed {
+                term,
+                steps,
+                passed,
+            };
+        }
+        let d = next(link, n, term);
+        passed = passed | facts::only(term.0);
+        if d.0 == term.0 {
+            return Followed {
+                term,
+                steps: left,
+                passed,
+            };
+        }
+        term = d;
+        steps += 1;
     }
-    if c.0 == until.0 {
-        return Followed {
-            term: c,
-            steps: 0,
-            passed: 0,
-        };
-    }
-    let d = next(link, n, c);
-    let here = facts::only(c.0);
-    if d.0 == c.0 {
-        return Followed {
-            term: c,
-            steps: left,
-            passed: here,
-        };
-    }
-    let rest = follow(link, n, d, until, left - 1);
-    let term = rest.term;
     Followed {
         term,
-        steps: rest.steps + 1,
-        passed: rest.passed | here,
+        steps,
+        passed,
     }
 }
 
