@@ -16,6 +16,7 @@ use Rattle.logic.specs.Facts.{Graph, terms}
 use Rattle.logic.specs.Rules.{Rule, CYCLE, triple, move, equal, next, returns, round, conditions, alternatives, held}
 use Rattle.logic.proofs.Basics.Compare.{eq-cases, le-cases}
 use Rattle.logic.proofs.Basics.Search.{firstOf-empty, from-mem}
+use Rattle.logic.proofs.Basics.Iterate.{iterate-suc}
 use Rattle.facts.specs.Path.{graphOf, linksIn}
 use Rattle.facts.proofs.Successors.{found-in}
 use Rattle.rules.specs.Tests.{looped}
@@ -93,6 +94,26 @@ module _ (n : ℕ) (g : Graph) (x : ℕ) where
       go : (t : Bool) → stepsTo n g x left (next n g c) ≤ left → cond t 0 (suc (stepsTo n g x left (next n g c))) ≤ suc left
       go true h = omega arith
       go false h = omega arith
+
+  -- k of the steps are made and t is where they lead: at first, there, at the end, or one step on
+  pub follow-start : (left t : ℕ) → stepsTo n g x left t ≡ 0 + stepsTo n g x (left - 0) t
+  follow-start left t =
+      let e : left ≡ left - 0 = omega arith in
+      let f : stepsTo n g x left t ≡ stepsTo n g x (left - 0) t = ap (λ (j : ℕ). stepsTo n g x j t) e in
+      omega (arith, f)
+
+  pub follow-there : (left k t whole : ℕ) → whole ≡ k + stepsTo n g x (left - k) t → t ≡ x → k ≡ whole
+  follow-there left k t whole e h = omega (arith, e, steps-here (left - k) t h)
+
+  pub follow-end : (left k t whole : ℕ) → whole ≡ k + stepsTo n g x (left - k) t → left ≤ k → k ≡ whole
+  follow-end left k t whole e h = omega (arith, e, steps-none (left - k) t (omega arith))
+
+  pub follow-turn : (left k t d whole : ℕ) → whole ≡ k + stepsTo n g x (left - k) t → k < left → (t ≡ x → ⊥) → d ≡ next n g t → whole ≡ (k + 1) + stepsTo n g x (left - (k + 1)) d
+  follow-turn left k t d whole e l h f =
+      let s = steps-on (left - k) t (omega arith) h in
+      let m : left - k - 1 ≡ left - (k + 1) = omega arith in
+      let u : stepsTo n g x (left - k - 1) (next n g t) ≡ stepsTo n g x (left - (k + 1)) d = ap (λ (j : ℕ). stepsTo n g x j (next n g t)) m ∙ ap (stepsTo n g x (left - (k + 1))) (sym f) in
+      omega (arith, e, s, u)
 
   pub steps-bound : (left c s : ℕ) → s ≡ stepsTo n g x left c → s ≤ left
   steps-bound left c s e = let l = steps-le left c in omega arith
@@ -197,9 +218,9 @@ module _ (n : ℕ) (g : Graph) where
   unfolding iterate
   iterate-none k c e = rw e
 
-  pub iterate-on : (k c : ℕ) → iterate (next n g) (k + 1) c ≡ iterate (next n g) k (next n g c)
-  unfolding iterate
-  iterate-on k c = rw (add-one k)
+  -- one link more, after k
+  pub iterate-turn : (k c t d : ℕ) → t ≡ iterate (next n g) k c → d ≡ next n g t → d ≡ iterate (next n g) (k + 1) c
+  iterate-turn k c t d e f = f ∙ ap (next n g) e ∙ sym (iterate-suc (next n g) k c) ∙ ap (λ (j : ℕ). iterate (next n g) j c) (sym (add-one k))
 
   pub iterate-le : (k c m : ℕ) → n ≤ m → c ≤ m → iterate (next n g) k c ≤ m
   unfolding iterate

@@ -158,19 +158,16 @@ pub fn follow(link: &[bool; 289], n: usize, c: Term, until: Term, left: usize) -
     requires { ⌜ (n ≤ 16) × (c .0 ≤ 16) ⌝ }
     ensures { λ r. ⌜ (r .steps ≡ stepsTo n (linksIn (now (link .entry))) (until .0) left (c .0)) × (r .term .0 ≡ iterate (next n (linksIn (now (link .entry)))) (r .steps) (c .0)) ⌝ }
 {
-    if left == 0 {
-        return Followed { term: c, steps: 0 };
+    let mut term = c;
+    let mut steps: usize = 0;
+    while steps < left {
+        if term.0 == until.0 {
+            return Followed { term, steps };
+        }
+        term = next(link, n, term);
+        steps += 1;
     }
-    if c.0 == until.0 {
-        return Followed { term: c, steps: 0 };
-    }
-    let d = next(link, n, c);
-    let rest = follow(link, n, d, until, left - 1);
-    let term = rest.term;
-    Followed {
-        term,
-        steps: rest.steps + 1,
-    }
+    Followed { term, steps }
 }
 
 // The smallest triple of CYCLE that begins with x and y: the links lead back to x after k steps, and y is none of the k terms from x on.
