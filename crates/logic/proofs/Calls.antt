@@ -3,3 +3,4 @@ pub mod Verdicts
 pub mod CallLaws
 pub mod Demands
 pub mod Examples
+pub mod PathLimit

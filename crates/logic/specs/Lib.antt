@@ -5,8 +5,10 @@ pub mod Heap
 pub mod Facts
 pub mod Rules
 pub mod Walk
+pub mod Steps
 pub mod Derivation
 pub mod Shown
 pub mod Calls
 pub mod Examples
 pub mod Demands
+pub mod PathLimit
