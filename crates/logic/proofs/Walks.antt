@@ -2,5 +2,6 @@
 pub mod Order
 pub mod Derives
 pub mod Gains
+pub mod OurWalk
 pub mod Limit
 pub mod Follows

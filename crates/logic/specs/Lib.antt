@@ -5,6 +5,7 @@ pub mod Heap
 pub mod Facts
 pub mod Rules
 pub mod Walk
+pub mod OurWalk
 pub mod Steps
 pub mod Derivation
 pub mod Shown

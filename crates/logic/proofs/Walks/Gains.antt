@@ -3,12 +3,12 @@ use Prim.Native.Nat.{ℕ, _+_, _*_, _≤_, _<_, max}
 use native.Mathlib.Omega.{arith}
 use mathlib.Core.Path.{_≡_, refl, ap, ap₂, _∙_}
 use mathlib.Core.Bool.{Bool, true, false, not}
-use mathlib.Core.List.{List, map, List·Memᴰ, List·Memᴰ·head, Memᴰ·append-left, Memᴰ·append-right}
+use mathlib.Core.List.{List, _++_, map, List·Memᴰ, List·Memᴰ·head, Memᴰ·append-left, Memᴰ·append-right}
 use lib.ListN.{length, length-append, length-map}
-use Rattle.logic.specs.Search.{any, from, flatMap}
+use Rattle.logic.specs.Search.{any, from, select, flatMap}
 use Rattle.logic.specs.Facts.{Graph, Facts, terms, live, join, addReach}
 use Rattle.logic.specs.Rules.{REFLEX, TRANS1, TRANS2, FUNC, CYCLE, SCC, TOTAL, SHARE, triple, Move, move, Fact, equal, reaches, returns, conditions, alternatives, held, applies, add, branches}
-use Rattle.logic.specs.Steps.{Gain, reached, replaced, gains, lacks, gainsLeft}
+use Rattle.logic.specs.Steps.{Step, Steps, at-first, one-more, AtMost}
 use Rattle.logic.proofs.Basics.Search.{true-false, not-true, not-intro, not-of, and-left, and-right, and-intro, or-right, any-false, from-intro, flatMap-intro, map-mem, map-intro}
 use Rattle.logic.proofs.Basics.Compare.{eqb-intro, eqb-self}
 use Rattle.logic.proofs.Basics.Count.{length-from, length-flatMap, select-length, select-lt}
@@ -17,6 +17,24 @@ use Rattle.logic.proofs.Paths.Ranged.{InRange, live-range, live-rep}
 use Rattle.logic.proofs.Paths.Kept.{Sane, LiveFact, add-kept, join-kept, low-high, join-not-live}
 use Rattle.logic.proofs.Paths.Round.{round-head}
 use Rattle.logic.proofs.Paths.Invariant.{alternatives-live}
+
+-- What a path may come to hold: that a term reaches another, each read as what it became; and that a term is replaced.
+pub data Gain : Type 0 where
+  reached : ℕ → ℕ → Gain
+  replaced : ℕ → Gain
+
+-- all that n terms allow: n times n, and n
+gains : ℕ → List Gain
+gains n = flatMap (λ a. map (reached a) (terms n)) (terms n) ++ map replaced (terms n)
+
+-- the path does not hold it yet
+lacks : ℕ → Facts → Gain → Bool
+lacks n s (reached a b) = not (s .graph .reach (s .rep a) (s .rep b))
+lacks n s (replaced t) = live n s t
+
+-- how many facts a path can still gain
+pub gainsLeft : ℕ → Facts → ℕ
+gainsLeft n s = length (select (lacks n s) (gains n))
 
 module _ (n : ℕ) where
   -- What there is to gain
@@ -82,7 +100,7 @@ module _ (n : ℕ) where
   add-less s (reaches a b) l e h = addReach-less a b s (l .0) (l .1) e
 
   -- so each branch of a rule that applies can gain less
-  pub branch-less : (s : Facts) (m : Move) → Sane n s → applies n s m ≡ true → (s′ : Facts) → List·Memᴰ s′ (branches n s m) → Sane n s′ × (gainsLeft n s′ < gainsLeft n s)
+  branch-less : (s : Facts) (m : Move) → Sane n s → applies n s m ≡ true → (s′ : Facts) → List·Memᴰ s′ (branches n s m) → Sane n s′ × (gainsLeft n s′ < gainsLeft n s)
   unfolding applies branches
   branch-less s m h app s′ k =
       let alts = alternatives n (s .graph) m in
@@ -92,7 +110,7 @@ module _ (n : ℕ) where
       let l = alternatives-live n s (h .ranged) m met c i in
       rw e (add-kept n s c l h .sane, add-less s c l (any-false (held (s .graph)) c new i) h)
 
-  -- a rule that applies has a branch, so a path to which one does has something to gain
+  -- a rule that applies has a branch, so there is a step
   alternatives-some : (alive : ℕ → Bool) (g : Graph) (m : Move) → conditions n alive g m ≡ true → (c : Fact) × List·Memᴰ c (alternatives n g m)
   unfolding conditions alternatives
   alternatives-some alive g (move REFLEX (triple x y z)) h = (reaches x x, List·Memᴰ·head refl)
@@ -105,10 +123,21 @@ module _ (n : ℕ) where
   alternatives-some alive g (move TOTAL (triple x y z)) h = (reaches y z, List·Memᴰ·head refl)
   alternatives-some alive g (move SHARE (triple x y z)) h = (equal x y, List·Memᴰ·head refl)
 
-  pub applies-some : (s : Facts) (m : Move) → Sane n s → applies n s m ≡ true → 1 ≤ gainsLeft n s
+  pub applies-step : (s : Facts) (m : Move) → applies n s m ≡ true → (s′ : Facts) × Step n s s′
   unfolding applies branches
-  applies-some s m h app =
+  applies-step s m app =
       let alts = alternatives n (s .graph) m in
       let met = and-left (conditions n (live n s) (s .graph) m) (not (any (held (s .graph)) alts)) app in
       let (c, i) = alternatives-some (live n s) (s .graph) m met in
-      omega (arith, branch-less s m h app (add n s c) (map-intro (add n s) c i) .1)
+      (add n s c, record { rule-move = m; applicable = app; branch = map-intro (add n s) c i })
+
+  -- so k steps leave k facts fewer to gain, and there are no more steps than facts to gain
+  steps-less : (s : Facts) → Sane n s → {k : ℕ} {s′ : Facts} → Steps n s k s′ → Sane n s′ × (gainsLeft n s′ + k ≤ gainsLeft n s)
+  steps-less s h at-first = (h, omega arith)
+  steps-less s h (one-more {k = k} {s′ = s′} {s″ = s″} steps step) =
+      let (sane, less) = steps-less s h steps in
+      let (sane′, less′) = branch-less s′ (step .rule-move) sane (step .applicable) s″ (step .branch) in
+      (sane′, omega arith)
+
+  pub gains-atMost : (s : Facts) → Sane n s → AtMost n s (gainsLeft n s)
+  gains-atMost s h k s′ steps = omega (arith, steps-less s h steps .1)
