@@ -1,5 +1,5 @@
 -- Our walk as a relation: a path has one ending; and the walk with steps left computes it, where no more steps than that are possible.
-use Prim.Native.Nat.{ℕ, zero, suc, _≤_}
+use Prim.Native.Nat.{ℕ, zero, suc, _-_, _≤_}
 use native.Mathlib.Omega.{arith}
 use mathlib.Core.Path.{_≡_, refl, sym, ap, ap₂, _∙_, subst}
 use mathlib.Core.Logic.{_⊎_, ⊎-elim, inl, inr}
@@ -21,10 +21,10 @@ steps-first step at-first = one-more at-first step
 steps-first step (one-more steps last) = one-more (steps-first step steps) last
 
 -- one step leaves one fewer
-pub atMost-step : {n : ℕ} {s s′ : Facts} (k : ℕ) → AtMost n s (suc k) → Step n s s′ → AtMost n s′ k
+atMost-step : {n : ℕ} {s s′ : Facts} (k : ℕ) → AtMost n s k → Step n s s′ → AtMost n s′ (k - 1)
 atMost-step k most step j s″ steps = let l = most (suc j) s″ (steps-first step steps) in omega arith
 
-pub atMost-some : {n : ℕ} {s s′ : Facts} (k : ℕ) → AtMost n s k → Step n s s′ → 1 ≤ k
+atMost-some : {n : ℕ} {s s′ : Facts} (k : ℕ) → AtMost n s k → Step n s s′ → 1 ≤ k
 atMost-some {s′ = s′} k most step = most 1 s′ (one-more at-first step)
 
 refuted-lines : {ls ms : List Line} → refutation ls ≡ refutation ms → ls ≡ ms
@@ -97,6 +97,20 @@ module _ (q : Query) (order : List Rule) where
         | saturated-first (r → first) ↦ saturated-broken
       ]
 
+  -- What a look says of the steps left
+
+  look-applies : (s : Facts) (m : Move) → look q order s ≡ applying m → applies (termCount q) s m ≡ true
+  unfolding Seen
+  look-applies s m h = subst (Seen q order s) h (seen q order s) .1
+
+  -- where a rule is seen, a step is left, and each branch has one fewer
+  pub look-some : (k : ℕ) (s : Facts) (m : Move) → AtMost (termCount q) s k → look q order s ≡ applying m → 1 ≤ k
+  look-some k s m most h = let (s′, step) = applies-step (termCount q) s m (look-applies s m h) in atMost-some k most step
+
+  pub look-fewer : (k : ℕ) (s : Facts) (m : Move) → AtMost (termCount q) s k → look q order s ≡ applying m → (s′ : Facts) → List·Memᴰ s′ (branches (termCount q) s m) → AtMost (termCount q) s′ (k - 1)
+  look-fewer k s m most h s′ mem =
+      atMost-step k most (record { rule-move = m; applicable = look-applies s m h; branch = mem })
+
   -- The walk with steps left computes it
 
   then-walks : {s : Facts} {ss : List Facts} (e e′ : Ending) → Walks q order s e → WalksEach q order ss e′ → WalksEach q order (s ∷ ss) (thenEnding e e′)
@@ -110,10 +124,6 @@ module _ (q : Query) (order : List Rule) where
   walkEach-walks w [] each = all-tried
   walkEach-walks w (s ∷ ss) each = then-walks (w s) (walkEach w ss) (each s (List·Memᴰ·head refl)) (walkEach-walks w ss (λ s′ m. each s′ (List·Memᴰ·tail m)))
 
-  look-applies : (s : Facts) (m : Move) → look q order s ≡ applying m → applies (termCount q) s m ≡ true
-  unfolding Seen
-  look-applies s m h = subst (Seen q order s) h (seen q order s) .1
-
   -- what is seen decides, where it is known how a walk goes on
   endAt-walks : (s : Facts) (go : Move → Ending) → ((m : Move) → look q order s ≡ applying m → Walks q order s (go m)) → (v : Look) → look q order s ≡ v → Walks q order s (endAt s go v)
   unfolding endAt
@@ -123,12 +133,10 @@ module _ (q : Query) (order : List Rule) where
 
   pub walk-walks : (k : ℕ) (s : Facts) → AtMost (termCount q) s k → Walks q order s (walk q order k s)
   unfolding walk
-  walk-walks zero s most = endAt-walks s (λ m. broken-off) (λ m h. absurd (none-left m h)) (look q order s) refl
-    where
-      none-left : (m : Move) → look q order s ≡ applying m → ⊥
-      none-left m h = let (s′, step) = applies-step (termCount q) s m (look-applies s m h) in let l = atMost-some 0 most step in omega arith
+  walk-walks zero s most = endAt-walks s (λ m. broken-off) (λ m h. let l = look-some 0 s m most h in absurd (omega arith)) (look q order s) refl
   walk-walks (suc k) s most =
+      let e : suc k - 1 ≡ k = omega arith in
       endAt-walks s (λ m. after (moveLine m ∷ []) (walkEach (walk q order k) (branches (termCount q) s m)))
       (λ m h. goes-on m h (walkEach-walks (walk q order k) (branches (termCount q) s m)
-      (λ s′ mem. walk-walks k s′ (atMost-step k most (record { rule-move = m; applicable = look-applies s m h; branch = mem })))))
+      (λ s′ mem. walk-walks k s′ (subst (AtMost (termCount q) s′) e (look-fewer (suc k) s m most h s′ mem)))))
       (look q order s) refl
