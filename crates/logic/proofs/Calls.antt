@@ -1,6 +1,6 @@
 -- The calls, the demands and the examples.
+pub mod PathLimit
 pub mod Verdicts
 pub mod CallLaws
 pub mod Demands
 pub mod Examples
-pub mod PathLimit
