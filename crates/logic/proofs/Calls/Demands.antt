@@ -174,6 +174,6 @@ demand3 =
           right-unique (decode query) v w (our-right (decode query) (accepted query a) order o v h) (hand-right (decode query) (accepted query a) picks w h′);
       ours-right = λ query order v a o h. our-right (decode query) (accepted query a) order o v h;
       hand-right = λ query picks w a h. hand-right (decode query) (accepted query a) picks w h;
-      hand-follows = λ query order a o. hand-follows (decode query) order o;
+      hand-follows = λ query order a o. hand-follows (decode query) (accepted query a) order o;
       call-answers = λ i h. let a = answered i (verdictCall i) h (verdict-case i) in (a .0, a .1);
     }

@@ -17,7 +17,7 @@ use Rattle.logic.proofs.Walks.Order.{choose-some}
 
 -- The endings are told apart
 
-refuted-saturated : {ls : List Line} {s : Facts} → refutation ls ≡ saturation s → ⊥
+pub refuted-saturated : {ls : List Line} {s : Facts} → refutation ls ≡ saturation s → ⊥
 refuted-saturated e = let z : _≡_ {A = ℕ} 0 1 = cc in omega arith
 
 pub refuted-broken : {ls : List Line} → refutation ls ≡ broken-off → ⊥
@@ -54,12 +54,12 @@ thenEnding-saturation broken-off e′ t h = inl h
 
 module _ (q : Query) (order : List Rule) (s : Facts) where
   -- what each look says of the path
-  Seen : Look → Type 0
+  unfoldable pub Seen : Look → Type 0
   Seen (clashing l) = clash q s ≡ some l
   Seen (applying m) = (clash q s ≡ none) × (applies (termCount q) s m ≡ true)
   Seen saturated = (clash q s ≡ none) × (choose (termCount q) order s ≡ none)
 
-  seen : Seen (look q order s)
+  pub seen : Seen (look q order s)
   unfolding Seen look Option·elim
   seen = at-clash (clash q s) refl
     where

@@ -1,19 +1,21 @@
 -- A hand can follow our walk: picks that play its moves, at the place of the path that it walks, leave a row with our walk's verdict.
-use Prim.Native.Nat.{ℕ, zero, suc}
+use Prim.Native.Nat.{ℕ, suc}
 use mathlib.Core.Path.{_≡_, refl, sym, ap, _∙_, subst}
 use mathlib.Core.Bool.{true, cond}
 use mathlib.Core.List.{List, [], _∷_, _++_, append-assoc, append-nil, List·Memᴰ, List·Memᴰ·head, Memᴰ·append-right}
-use mathlib.Core.Option.{Option, none, some, Option·elim}
+use mathlib.Core.Option.{none, some, Option·elim}
 use lib.ListN.{length}
-use Rattle.logic.specs.Search.{_and_, _or_, all, any, isSome}
+use Rattle.logic.specs.Search.{_and_, all, any, isSome}
 use Rattle.logic.specs.Query.{Query, isOrder, termCount}
 use Rattle.logic.specs.Facts.{Facts, Line, start, clash}
 use Rattle.logic.specs.Rules.{Rule, ruleNumber, rules, Move, move, applies, branches, choose, moveLine}
-use Rattle.logic.specs.Walk.{orderOf, look, endAt, Ending, refutation, saturation, broken-off, after, thenEnding, walkEach, walk, limit, ourWalk, refuted, satisfiable, ourVerdict, Pick, isClashed, picked, splice, pickEach, handRow, isSaturated, handVerdict}
+use Rattle.logic.specs.Walk.{orderOf, Ending, refutation, saturation, broken-off, after, thenEnding, walkEach, walk, limit, ourWalk, refuted, satisfiable, ourVerdict, Pick, isClashed, picked, splice, pickEach, handRow, isSaturated, handVerdict}
 use Rattle.logic.proofs.Basics.Search.{not-of, true-false, all-true, all-append, any-intro}
 use Rattle.logic.proofs.Basics.Compare.{cond-true, cond-false}
-use Rattle.logic.proofs.Walks.Order.{ruleOf-number, rules-full, order-full, choose-nothing}
-use Rattle.logic.proofs.Walks.Derives.{refuted-broken, saturated-broken, walk-elim, our-saturation}
+use Rattle.logic.proofs.Query.Tied.{Accepted}
+use Rattle.logic.proofs.Walks.Order.{ruleOf-number, order-full, choose-nothing}
+use Rattle.logic.proofs.Walks.Derives.{walk-elim, our-saturation}
+use Rattle.logic.proofs.Walks.Limit.{never-broken}
 
 -- Picks in a row
 
@@ -128,47 +130,16 @@ module _ (q : Query) where
       cond-false (some refuted) (cond (any (isSaturated q) row) (some satisfiable) none) (not-of (λ h. true-false (all-true (isClashed q) t h m) (rw free refl)))
       ∙ cond-true (some satisfiable) none (any-intro (isSaturated q) t m (rw (free, e) refl))
 
-  -- a walk that is broken off has no clash at its first path, and a rule applies there; so the hand's is not finished there
-  walk-saturated : (order : List Rule) (k : ℕ) (s : Facts) → clash q s ≡ none → choose (termCount q) order s ≡ none → walk q order k s ≡ saturation s
-  unfolding walk look endAt Option·elim
-  walk-saturated order zero s free e = rw (free, e) refl
-  walk-saturated order (suc k) s free e = rw (free, e) refl
-
-  broken-free : (order : List Rule) (k : ℕ) (s : Facts) → walk q order k s ≡ broken-off → clash q s ≡ none
-  broken-free order =
-      walk-elim q order (λ k s e. e ≡ broken-off → clash q s ≡ none)
-      (record {
-        on-clash = λ k s l e h. absurd (refuted-broken h);
-        on-saturated = λ k s free e h. free;
-        on-limit = λ s m free app h. free;
-        on-rule = λ k s m free app below h. free;
-      })
-
-  broken-row : (order : List Rule) (k : ℕ) (s : Facts) → walk q order k s ≡ broken-off → handVerdict q (s ∷ []) ≡ none
-  unfolding handVerdict isClashed isSaturated isSome _and_ all any _or_
-  broken-row order k s h = go (choose (termCount q) rules s) refl
-    where
-      free : clash q s ≡ none
-      free = broken-free order k s h
-
-      go : (o : Option Move) → choose (termCount q) rules s ≡ o → handVerdict q (s ∷ []) ≡ none
-      go none e = absurd (saturated-broken (sym (walk-saturated order k s free (choose-nothing (termCount q) s rules order rules-full e)) ∙ h))
-      go (some m) e = rw (free, e) refl
-
-  broken-start : (order : List ℕ) → ourWalk order q ≡ broken-off → handVerdict q (handRow q []) ≡ none
-  unfolding ourWalk handRow pickEach
-  broken-start order h = broken-row (orderOf order) (limit q) (start q) h
-
   -- so for every list of every rule there are picks after which the hand's verdict is our walk's
-  followed-verdict : (order : List ℕ) → isOrder order ≡ true → (e : Ending) → ourWalk order q ≡ e → Followed [] (start q ∷ []) [] e → (picks : List Pick) × (handVerdict q (handRow q picks) ≡ ourVerdict e)
+  followed-verdict : Accepted q → (order : List ℕ) → isOrder order ≡ true → (e : Ending) → ourWalk order q ≡ e → Followed [] (start q ∷ []) [] e → (picks : List Pick) × (handVerdict q (handRow q picks) ≡ ourVerdict e)
   unfolding Followed ourVerdict handRow
-  followed-verdict order o (refutation ls) h (picks, clashed, cl, row) =
+  followed-verdict ok order o (refutation ls) h (picks, clashed, cl, row) =
       (picks, refuted-row (pickEach q picks (start q ∷ [])) (subst (λ (r : List Facts). all (isClashed q) r ≡ true) (sym (row ∙ append-nil clashed)) cl))
-  followed-verdict order o (saturation t) h (picks, m) =
+  followed-verdict ok order o (saturation t) h (picks, m) =
       let e = our-saturation q (λ s. Facts) (λ s s′ m p c a k. s) order t (start q) h in
       (picks, satisfiable-row (pickEach q picks (start q ∷ [])) t m (e .1) (choose-nothing (termCount q) t (orderOf order) rules (order-full order o) (e .2)))
-  followed-verdict order o broken-off h f = ([], broken-start order h)
+  followed-verdict ok order o broken-off h f = absurd (never-broken q ok order h)
 
-  pub hand-follows : (order : List ℕ) → isOrder order ≡ true → (picks : List Pick) × (handVerdict q (handRow q picks) ≡ ourVerdict (ourWalk order q))
+  pub hand-follows : Accepted q → (order : List ℕ) → isOrder order ≡ true → (picks : List Pick) × (handVerdict q (handRow q picks) ≡ ourVerdict (ourWalk order q))
   unfolding ourWalk
-  hand-follows order o = followed-verdict order o (ourWalk order q) refl (followed-walk (orderOf order) (limit q) (start q) [] [])
+  hand-follows ok order o = followed-verdict ok order o (ourWalk order q) refl (followed-walk (orderOf order) (limit q) (start q) [] [])
