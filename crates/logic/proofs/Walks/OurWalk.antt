@@ -3,15 +3,15 @@ use Prim.Native.Nat.{ℕ, zero, suc, _-_, _≤_}
 use native.Mathlib.Omega.{arith}
 use mathlib.Core.Path.{_≡_, refl, sym, ap, ap₂, _∙_, subst}
 use mathlib.Core.Logic.{_⊎_, ⊎-elim, inl, inr}
-use mathlib.Core.Bool.{true}
 use mathlib.Core.List.{List, [], _∷_, List·Memᴰ, List·Memᴰ·head, List·Memᴰ·tail}
+use mathlib.Core.Option.{Option·elim}
 use Rattle.logic.specs.Query.{Query, termCount}
-use Rattle.logic.specs.Facts.{Facts, Line}
-use Rattle.logic.specs.Rules.{Rule, Move, applies, branches, moveLine}
-use Rattle.logic.specs.Walk.{Look, clashing, applying, saturated, look, Ending, refutation, saturation, broken-off, after, thenEnding, walkEach, endAt, walk}
+use Rattle.logic.specs.Facts.{Facts, Line, clash}
+use Rattle.logic.specs.Rules.{Rule, Move, branches, moveLine}
+use Rattle.logic.specs.Walk.{Look, clashing, applying, saturated, look, Ending, refutation, saturation, after, thenEnding, walkEach, endAt, walk}
 use Rattle.logic.specs.Steps.{Step, Steps, at-first, one-more, AtMost}
 use Rattle.logic.specs.OurWalk.{Walks, clashes, saturates, goes-on, WalksEach, all-tried, refuted-first, saturated-first}
-use Rattle.logic.proofs.Walks.Derives.{refuted-saturated, refuted-broken, saturated-broken, Seen, seen}
+use Rattle.logic.proofs.Walks.Derives.{refuted-saturated, seen-clashing, seen-applying, seen-saturated}
 use Rattle.logic.proofs.Walks.Gains.{applies-step}
 
 -- Steps in front of others
@@ -79,37 +79,15 @@ module _ (q : Query) (order : List Rule) where
             (each-ended r′)
       ]
 
-  -- no ending is a walk broken off
-  after-finished : (ls : List Line) (e : Ending) → (e ≡ broken-off → ⊥) → after ls e ≡ broken-off → ⊥
-  unfolding after
-  after-finished ls (refutation ms) f h = refuted-broken h
-  after-finished ls (saturation s) f h = saturated-broken h
-  after-finished ls broken-off f h = f refl
-
-  pub walks-finished : {s : Facts} {e : Ending} → Walks q order s e → e ≡ broken-off → ⊥
-  walks-finished r =
-      elim r as (λ s e r. e ≡ broken-off → ⊥) (λ ss e r. e ≡ broken-off → ⊥) [
-        | clashes l h ↦ refuted-broken
-        | saturates h ↦ saturated-broken
-        | goes-on m {e = d} h (rs → rest) ↦ after-finished (moveLine m ∷ []) d rest
-        | all-tried ↦ refuted-broken
-        | refuted-first {ls = ls} {e = d} (r → first) (rs → rest) ↦ after-finished ls d rest
-        | saturated-first (r → first) ↦ saturated-broken
-      ]
-
   -- What a look says of the steps left
-
-  look-applies : (s : Facts) (m : Move) → look q order s ≡ applying m → applies (termCount q) s m ≡ true
-  unfolding Seen
-  look-applies s m h = subst (Seen q order s) h (seen q order s) .1
 
   -- where a rule is seen, a step is left, and each branch has one fewer
   pub look-some : (k : ℕ) (s : Facts) (m : Move) → AtMost (termCount q) s k → look q order s ≡ applying m → 1 ≤ k
-  look-some k s m most h = let (s′, step) = applies-step (termCount q) s m (look-applies s m h) in atMost-some k most step
+  look-some k s m most h = let (s′, step) = applies-step (termCount q) s m (seen-applying q order s h .1) in atMost-some k most step
 
   pub look-fewer : (k : ℕ) (s : Facts) (m : Move) → AtMost (termCount q) s k → look q order s ≡ applying m → (s′ : Facts) → List·Memᴰ s′ (branches (termCount q) s m) → AtMost (termCount q) s′ (k - 1)
   look-fewer k s m most h s′ mem =
-      atMost-step k most (record { rule-move = m; applicable = look-applies s m h; branch = mem })
+      atMost-step k most (record { rule-move = m; applicable = seen-applying q order s h .1; branch = mem })
 
   -- The walk with steps left computes it
 
@@ -117,7 +95,6 @@ module _ (q : Query) (order : List Rule) where
   unfolding thenEnding
   then-walks (refutation ls) e′ r rs = refuted-first r rs
   then-walks (saturation t) e′ r rs = saturated-first r
-  then-walks broken-off e′ r rs = absurd (walks-finished r refl)
 
   walkEach-walks : (w : Facts → Ending) (ss : List Facts) → ((s : Facts) → List·Memᴰ s ss → Walks q order s (w s)) → WalksEach q order ss (walkEach w ss)
   unfolding walkEach
@@ -131,9 +108,16 @@ module _ (q : Query) (order : List Rule) where
   endAt-walks s go step (applying m) h = step m h
   endAt-walks s go step saturated h = saturates h
 
+  -- where no step is left, no rule is seen
+  last-walks : (s : Facts) → AtMost (termCount q) s 0 → (v : Look) → look q order s ≡ v → Walks q order s (Option·elim (clash q s) (saturation s) (λ l. refutation (l ∷ [])))
+  unfolding Option·elim
+  last-walks s most (clashing l) h = rw (seen-clashing q order s h) (clashes l h)
+  last-walks s most (applying m) h = let l = look-some 0 s m most h in absurd (omega arith)
+  last-walks s most saturated h = rw (seen-saturated q order s h .0) (saturates h)
+
   pub walk-walks : (k : ℕ) (s : Facts) → AtMost (termCount q) s k → Walks q order s (walk q order k s)
   unfolding walk
-  walk-walks zero s most = endAt-walks s (λ m. broken-off) (λ m h. let l = look-some 0 s m most h in absurd (omega arith)) (look q order s) refl
+  walk-walks zero s most = last-walks s most (look q order s) refl
   walk-walks (suc k) s most =
       let e : suc k - 1 ≡ k = omega arith in
       endAt-walks s (λ m. after (moveLine m ∷ []) (walkEach (walk q order k) (branches (termCount q) s m)))
