@@ -1,126 +1,176 @@
-// What heapverdict prints of an input. A contract cannot say what is written to a file: what is printed here is held to stored output
-// by the test programs.
+// What heapverdict prints, made in a lent buffer and then written. What a system call reads or writes is all that no contract says.
 use lemitsaka::Answer;
 use libc::STDOUT_FILENO;
 ghost use mathlib.Core.Path.{_≡_};
-ghost use Prim.Native.Nat.{ℕ, _+_, _≤_, _<_};
-ghost use lib.ListN.{length};
+ghost use mathlib.Core.Bool.{true};
+ghost use Prim.Native.Nat.{ℕ, _+_, _*_, _≤_, _<_, min};
+ghost use lib.ListN.{length, getD};
+ghost use Rattle.logic.specs.Search.{flatMap};
+ghost use Rattle.logic.specs.Facts.{line};
+ghost use Rattle.logic.specs.Shown.{wellFormed};
+ghost use mathlib.Core.List.{_++_};
+ghost use Rattle.text.specs.Text.{Writes, ascii, decimal};
+ghost use Rattle.printing.specs.HeapverdictText.{reportSize, reportText, lineText, linesIn, refusalText, unsatText, textOf, heapverdictText};
 
 // A byte as a wider number.
 fn wide(x: u8) -> usize
-    ensures { λ r. ⌜ r < 256 ⌝ }
+    ensures { λ r. ⌜ (r ≡ x) × (r < 256) ⌝ }
 {
     x as usize
 }
 
-// How many bytes of a report are no padding: "2m+n+5", or all where the counts do not fit.
-fn report_size(report: &[u8; 53]) -> usize
-    ensures { λ r. ⌜ r ≤ 53 ⌝ }
+// "That is 2m+n+5 bytes; bytes past it are zero."
+fn report_size(report: &[u8]) -> usize
+    requires { ⌜ wellFormed (now report) ≡ true ⌝ }
+    ensures { λ r. ⌜ (r ≡ reportSize (now (report .entry))) × (r ≤ length (now (report .entry))) × (5 ≤ r) × (r ≤ 53) ⌝ }
 {
     let m = wide(report[0]);
-    if 24 < m {
-        return 53;
-    }
     let n = wide(report[m + 1]);
-    if 2 * m + n + 5 <= 53 {
-        return 2 * m + n + 5;
-    }
-    53
+    m + n + m + 5
 }
 
 // "the heap report's bytes .. as two lower-case hex digits each, separated by blanks"
-fn print_report(report: &[u8; 53]) {
+fn put_report(buffer: &mut [u8], at: usize, report: &[u8]) -> usize
+    requires { ⌜ (at ≤ 1000) × (wellFormed (now report) ≡ true) ⌝ }
+    ensures { λ r. ⌜ Writes (now (buffer .entry)) at (reportText (now (report .entry))) (now (buffer .exit)) r × (r ≤ at + 159) ⌝ }
+{
     let size = report_size(report);
-    let mut i: usize = 0;
+    let mut to = text::put_hex_byte(buffer, at, report[0]);
+    let mut i: usize = 1;
     while i < size {
-        if 0 < i {
-            io::write_all(STDOUT_FILENO, b" ");
-        }
-        io::print_hex(STDOUT_FILENO, wide(report[i]) as u64, 2);
+        to = text::put_byte(buffer, to, b' ');
+        to = text::put_hex_byte(buffer, to, report[i]);
         i += 1;
     }
-    io::write_all(STDOUT_FILENO, b"\n");
+    text::put_byte(buffer, to, b'\n')
+}
+
+// A byte in decimal digits.
+fn put_number(buffer: &mut [u8], at: usize, x: u8) -> usize
+    requires { ⌜ at ≤ 1000100 ⌝ }
+    ensures { λ r. ⌜ Writes (now (buffer .entry)) at (decimal x) (now (buffer .exit)) r × (r ≤ at + 3) ⌝ }
+{
+    text::put_decimal(buffer, at, wide(x))
+}
+
+// A blank, and a byte in decimal digits.
+fn put_next(buffer: &mut [u8], at: usize, x: u8) -> usize
+    requires { ⌜ at ≤ 1000099 ⌝ }
+    ensures { λ r. ⌜ Writes (now (buffer .entry)) at (ascii " " ++ decimal x) (now (buffer .exit)) r × (r ≤ at + 4) ⌝ }
+{
+    let to = text::put_byte(buffer, at, b' ');
+    put_number(buffer, to, x)
 }
 
 // "four decimal numbers separated by blanks"
-fn print_line(a: u8, b: u8, c: u8, d: u8) {
-    io::print_decimal(STDOUT_FILENO, a as u64);
-    io::write_all(STDOUT_FILENO, b" ");
-    io::print_decimal(STDOUT_FILENO, b as u64);
-    io::write_all(STDOUT_FILENO, b" ");
-    io::print_decimal(STDOUT_FILENO, c as u64);
-    io::write_all(STDOUT_FILENO, b" ");
-    io::print_decimal(STDOUT_FILENO, d as u64);
-    io::write_all(STDOUT_FILENO, b"\n");
+fn put_line(buffer: &mut [u8], at: usize, a: u8, b: u8, c: u8, d: u8) -> usize
+    requires { ⌜ at ≤ 1000000 ⌝ }
+    ensures { λ r. ⌜ Writes (now (buffer .entry)) at (lineText (line a b c d)) (now (buffer .exit)) r × (r ≤ at + 16) ⌝ }
+{
+    let first = put_number(buffer, at, a);
+    let second = put_next(buffer, first, b);
+    let third = put_next(buffer, second, c);
+    let fourth = put_next(buffer, third, d);
+    text::put_byte(buffer, fourth, b'\n')
 }
 
 // The lines of a derivation.
-fn print_lines(lines: &[u8; 64002]) {
-    let count = wide(lines[0]) * 256 + wide(lines[1]);
-    let mut at: usize = 2;
+fn put_lines(buffer: &mut [u8], at: usize, lines: &[u8]) -> usize
+    requires { ⌜ (at ≤ 1000) × (256 * getD (now lines) 0 0 + getD (now lines) 1 0 ≤ 16000) × (2 + 4 * (256 * getD (now lines) 0 0 + getD (now lines) 1 0) ≤ length (now lines)) ⌝ }
+    ensures { λ r. ⌜ Writes (now (buffer .entry)) at (flatMap lineText (linesIn (now (lines .entry)))) (now (buffer .exit)) r × (r ≤ at + 256000) ⌝ }
+{
+    let count = 256 * wide(lines[0]) + wide(lines[1]);
+    let mut to = at;
     let mut i: usize = 0;
     while i < count {
-        if 63998 < at {
-            return;
-        }
-        print_line(lines[at], lines[at + 1], lines[at + 2], lines[at + 3]);
-        at += 4;
+        let from = 2 + 4 * i;
+        to = put_line(
+            buffer,
+            to,
+            lines[from],
+            lines[from + 1],
+            lines[from + 2],
+            lines[from + 3],
+        );
         i += 1;
     }
+    to
 }
 
 // "refused N at P"
-fn print_refusal(k: usize, place: usize) {
-    io::write_all(STDOUT_FILENO, b"refused ");
-    io::print_decimal(STDOUT_FILENO, k as u64);
-    io::write_all(STDOUT_FILENO, b" at ");
-    io::print_decimal(STDOUT_FILENO, place as u64);
-    io::write_all(STDOUT_FILENO, b"\n");
+fn put_refusal(buffer: &mut [u8], at: usize, k: usize, place: usize) -> usize
+    requires { ⌜ at ≤ 1000 ⌝ }
+    ensures { λ r. ⌜ Writes (now (buffer .entry)) at (refusalText k place) (now (buffer .exit)) r × (r ≤ at + 53) ⌝ }
+{
+    let number = text::put_bytes(buffer, at, b"refused ");
+    let behind = text::put_decimal(buffer, number, k);
+    let where_from = text::put_bytes(buffer, behind, b" at ");
+    let end = text::put_decimal(buffer, where_from, place);
+    text::put_byte(buffer, end, b'\n')
 }
 
-// The derivation of a refuted query, "or `refused 12 at 0`".
-fn print_derivation(order: &[u8], query: &[u8]) {
+// What follows `unsat`: the derivation, "or `refused 12 at 0`".
+fn put_derivation(buffer: &mut [u8], at: usize, order: &[u8], query: &[u8]) -> usize
+    requires { ⌜ at ≤ 6 ⌝ }
+    ensures { λ r. ⌜ Writes (now (buffer .entry)) at (unsatText (now (order .entry)) (now (query .entry))) (now (buffer .exit)) r × (r ≤ at + 256000) ⌝ }
+{
     let mut lines = [0u8; 64002];
     match lemitsaka::derivation(order, query, &mut lines) {
-        Answer::Refused(k, place) => print_refusal(k, place),
-        Answer::Refuted => print_lines(&lines),
-        Answer::Satisfiable => {}
+        Answer::Refuted => put_lines(buffer, at, &lines),
+        Answer::Refused(k, place) => put_refusal(buffer, at, k, place),
+        Answer::Satisfiable => at,
     }
 }
 
 // The verdict and its evidence.
-fn print_answer(order: &[u8], query: &[u8]) {
+fn put_verdict(buffer: &mut [u8], order: &[u8], query: &[u8]) -> usize
+    ensures { λ r. ⌜ Writes (now (buffer .entry)) 0 (textOf (now (order .entry)) (now (query .entry))) (now (buffer .exit)) r × (r ≤ 256006) ⌝ }
+{
     let mut report = [0u8; 53];
     match lemitsaka::verdict(order, query, &mut report) {
         Answer::Satisfiable => {
-            io::write_all(STDOUT_FILENO, b"sat\n");
-            print_report(&report);
+            let to = text::put_bytes(buffer, 0, b"sat\n");
+            put_report(buffer, to, &report)
         }
         Answer::Refuted => {
-            io::write_all(STDOUT_FILENO, b"unsat\n");
-            print_derivation(order, query);
+            let to = text::put_bytes(buffer, 0, b"unsat\n");
+            put_derivation(buffer, to, order, query)
         }
-        Answer::Refused(k, place) => print_refusal(k, place),
+        Answer::Refused(k, place) => put_refusal(buffer, 0, k, place),
     }
 }
 
-// How many of n bytes are the order list.
-fn order_size(n: usize) -> usize
-    ensures { λ r. ⌜ r ≤ n ⌝ }
+// The smaller of two numbers.
+fn at_most(n: usize, most: usize) -> usize
+    ensures { λ r. ⌜ r ≡ min n most ⌝ }
 {
-    if 8 < n {
-        return 8;
+    if most < n {
+        return most;
     }
     n
 }
 
-// What heapverdict prints of its input: "the order list, then the query. Fewer than eight bytes are a bad order list." It answers how
-// many bytes it took.
-pub fn print_verdict(input: &[u8]) -> usize
-    ensures { λ r. ⌜ r ≡ length (now (input .entry)) ⌝ }
+// The text of these bytes: "at most the first 1,024 bytes .. the order list, then the query." It answers the length of the text, which
+// is stored as far as there is room. 256,006 bytes are always enough: `unsat`, and 16,000 lines of at most 16 bytes.
+pub fn put_text(buffer: &mut [u8], input: &[u8]) -> usize
+    ensures { λ r. ⌜ Writes (now (buffer .entry)) 0 (heapverdictText (now (input .entry))) (now (buffer .exit)) r × (r ≤ 256006) ⌝ }
 {
     let n = input.len();
-    let cut = order_size(n);
-    print_answer(&input[..cut], &input[cut..]);
-    n
+    let cut = at_most(n, 8);
+    let end = at_most(n, 1024);
+    put_verdict(buffer, &input[..cut], &input[cut..end])
+}
+
+// Prints the text of these bytes.
+pub fn print_text(input: &[u8]) {
+    let mut buffer = [0u8; 256006];
+    let n = put_text(&mut buffer, input);
+    io::write_all(STDOUT_FILENO, &buffer[..n]);
+}
+
+// The program heapverdict: it reads standard input up to 1,024 bytes, and prints their text.
+pub fn heapverdict() {
+    let mut input = [0u8; 1024];
+    let n = io::read_full(0, &mut input);
+    print_text(&input[..n]);
 }

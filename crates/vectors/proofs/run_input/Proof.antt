@@ -1,4 +1,5 @@
 -- Assumes nothing.
+use native.Mathlib.Omega.{arith}
 use borrow.Author.Needs.{needs}
 use mathlib.Core.Path.{sym}
 use lib.Seq.{length-take-le}
@@ -21,23 +22,17 @@ run-input-spec =
     (λ c. search needs)
     -- returns-2
     (λ c. search needs)
-    -- most-requires
-    (λ c κs. search needs)
-    -- same-length-2
+    -- slice-reshare-prefix-print-text
     (λ c. search needs)
-    -- returns-3
-    (λ c. search needs)
-    -- slice-reshare-prefix-print-verdict
-    (λ c. search needs)
-    -- slice-aggregate-print-verdict
-    (λ c. sym (length-take-le _ _ (c .before .if3 .left)))
-    -- print-verdict-requires
+    -- slice-aggregate-print-text
+    (λ c. sym (length-take-le _ _ (omega arith)))
+    -- print-text-requires
     (λ c κs. search needs)
     -- slice-aggregate-write-all
     (λ c. search needs)
     -- write-all-requires
     (λ c κs. search needs)
-    -- same-length-3
+    -- same-length-2
     (λ c. search needs)
-    -- returns-4
+    -- returns-3
     (λ c. search needs))

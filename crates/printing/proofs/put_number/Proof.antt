@@ -1,0 +1,25 @@
+-- Assumes nothing.
+use native.Mathlib.Omega.{arith}
+use borrow.Author.Needs.{needs}
+use mathlib.Core.Path.{ap}
+use Rattle.text.specs.Text.{decimal}
+use Rattle.text.proofs.Writing.{writes-as}
+use Rattle.text.proofs.Digits.{decimal-byte}
+use Rattle.printing.proofs.put_number.Statement.{statement}
+use Rattle.printing.proofs.put_number.Tie as tie
+
+pub put-number-spec : {M : Type 1} → statement M
+put-number-spec =
+    tie.close
+    (tie.spec
+    -- wide-requires
+    (λ c κs. search needs)
+    -- put-decimal-requires
+    (λ c κs. search needs)
+    -- same-length
+    (λ c. search needs)
+    -- returns
+    (λ c. (
+      writes-as (ap decimal (c .before .before .before .wide .ensures .0)) (c .before .before .put-decimal .ensures),
+      omega (arith, c .before .before .put-decimal .ensures .ends, decimal-byte (c .before .before .before .wide .result) (c .before .before .before .wide .ensures .1)),
+    )))

@@ -1,0 +1,32 @@
+-- The order list and the query among the bytes that are read. Assumes nothing.
+use native.Mathlib.Omega.{arith}
+use borrow.Author.Needs.{needs}
+use mathlib.Core.Path.{sym}
+use lib.Seq.{length-take-le}
+use Rattle.text.proofs.Writing.{writes-as}
+use Rattle.printing.proofs.Calls.{text-read}
+use Rattle.printing.proofs.put_text.Statement.{statement}
+use Rattle.printing.proofs.put_text.Tie as tie
+
+pub put-text-spec : {M : Type 1} → statement M
+put-text-spec =
+    tie.close
+    (tie.spec
+    -- at-most-requires
+    (λ c κs. search needs)
+    -- at-most-requires-2
+    (λ c κs. search needs)
+    -- slice-aggregate-put-verdict
+    (λ c. sym (length-take-le _ _ (omega arith)))
+    -- sub-put-verdict
+    (λ c. search needs)
+    -- part-put-verdict-start
+    (λ c. search needs)
+    -- part-put-verdict-end
+    (λ c. search needs)
+    -- put-verdict-requires
+    (λ c κs. search needs)
+    -- same-length
+    (λ c. search needs)
+    -- returns
+    (λ c. (writes-as (text-read _ _ _ (c .before .before .before .before .before .before .before .at-most .ensures) (c .before .before .before .before .before .before .at-most2 .ensures)) (c .before .before .put-verdict .ensures .0), c .before .before .put-verdict .ensures .1)))

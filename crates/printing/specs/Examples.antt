@@ -1,0 +1,40 @@
+-- What heapverdict prints of examples of 01, as one table and one statement.
+use Prim.Native.Nat.{ℕ}
+use mathlib.Core.Path.{_≡_}
+use mathlib.Core.List.{List, [], _∷_, _++_, map}
+use Rattle.logic.specs.Examples.{inOrder}
+use Rattle.text.specs.Text.{ascii}
+use Rattle.printing.specs.HeapverdictText.{heapverdictText}
+
+-- the input, and what is printed of it
+pub record Print : Type 0 where
+  pub input : List ℕ
+  pub text : List ℕ
+
+unfoldable pub prints : List Print
+prints =
+    -- E1
+    record { input = inOrder ++ (0 ∷ 0 ∷ 0 ∷ 0 ∷ 0 ∷ []); text = ascii "sat\n01 01 00 01 00 01 00\n" }
+    -- E3
+    ∷ record {
+      input = inOrder ++ (2 ∷ 0 ∷ 0 ∷ 1 ∷ 0 ∷ 1 ∷ 2 ∷ 2 ∷ 1 ∷ 1 ∷ 2 ∷ 1 ∷ 2 ∷ 1 ∷ 0 ∷ 0 ∷ []);
+      text = ascii "sat\n02 02 01 02 01 02 02 00 00 01 00\n";
+    }
+    -- E4: "With order 4 1 2 3 5 6 7 8 heapverdict prints, in full"
+    ∷ record {
+      input = 4 ∷ 1 ∷ 2 ∷ 3 ∷ 5 ∷ 6 ∷ 7 ∷ 8 ∷ 3 ∷ 0 ∷ 1 ∷ 0 ∷ 1 ∷ 0 ∷ 1 ∷ 3 ∷ 2 ∷ 1 ∷ 1 ∷ 3 ∷ 0 ∷ 2 ∷ 3 ∷ 0 ∷ 0 ∷ [];
+      text = ascii "unsat\n4 1 2 3\n9 2 1 0\n9 3 2 0\n";
+    }
+    -- E10: "Count 17 first"; "Empty query"; "Order 1 1 3 4 5 6 7 8"
+    ∷ record { input = inOrder ++ (17 ∷ []); text = ascii "refused 3 at 0\n" }
+    ∷ record { input = inOrder; text = ascii "refused 2 at 0\n" }
+    ∷ record { input = 1 ∷ 1 ∷ 3 ∷ 4 ∷ 5 ∷ 6 ∷ 7 ∷ 8 ∷ 0 ∷ 0 ∷ 0 ∷ 0 ∷ 0 ∷ []; text = ascii "refused 1 at 0\n" }
+    -- "Fewer than eight bytes are a bad order list."
+    ∷ record { input = 1 ∷ 2 ∷ 3 ∷ 4 ∷ 5 ∷ 6 ∷ 7 ∷ []; text = ascii "refused 1 at 0\n" }
+    ∷ record { input = []; text = ascii "refused 1 at 0\n" }
+    -- bytes after section 5
+    ∷ record { input = inOrder ++ (0 ∷ 0 ∷ 0 ∷ 0 ∷ 0 ∷ 0 ∷ []); text = ascii "refused 4 at 5\n" }
+    ∷ []
+
+abbrev pub PrintsHold : Type 0
+PrintsHold = map (λ (p : Print). heapverdictText (p .input)) prints ≡ map (λ (p : Print). p .text) prints

@@ -1,0 +1,2 @@
+pub mod HeapverdictText
+pub mod Examples
