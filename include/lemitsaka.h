@@ -56,11 +56,10 @@ extern "C" {
  *    7  a term number in sections 2 to 4 is 0 or above the term count
  *    8  a field or boolean number is not 1 to 8
  *    9  the report has fewer than 53 bytes
- *   10  a path would need more rule steps than n times n plus n, n being the term count
  *   11  a derivation was asked for and the query is satisfiable
  *   12  the derivation has more than 16,000 lines, or its buffer cannot hold it
  *
- * The place is 0 for 1 and 9 to 12. */
+ * There is no 10. The place is 0 for 1, 9, 11 and 12. */
 static inline unsigned lemitsaka_refusal(uint64_t answer)
 {
     return (unsigned)(answer / 65536 % 65536);
@@ -76,7 +75,7 @@ static inline unsigned lemitsaka_place(uint64_t answer)
  *
  *   LEMITSAKA_SATISFIABLE   there is, and the report shows one; the bytes past it are zero
  *   LEMITSAKA_REFUTED       there is none, of any size; the report is all zero
- *   refused                 1 to 10; 9 unless the report has LEMITSAKA_REPORT_SIZE bytes or more
+ *   refused                 1 to 9; 9 unless the report has LEMITSAKA_REPORT_SIZE bytes or more
  *
  * A report: the count of nodes and the successor of each; the count of terms and the node of each; the count of nodes and
  * a byte of data for each, field j in bit j-1; a 1 and one byte of booleans, likewise. Nodes and terms count from 1. */
@@ -87,7 +86,7 @@ uint64_t lemitsaka_verdict(const uint8_t *order, size_t order_len,
 /* Why is there no heap that meets every literal of the query?
  *
  *   LEMITSAKA_REFUTED       the derivation is in the buffer; the bytes past it are zero
- *   refused                 1 to 8 and 10 to 12; 11 where there is such a heap. Never LEMITSAKA_SATISFIABLE
+ *   refused                 1 to 8, 11 and 12; 11 where there is such a heap. Never LEMITSAKA_SATISFIABLE
  *
  * A derivation: the count of lines in two bytes, high byte first, then four bytes a line. */
 uint64_t lemitsaka_derivation(const uint8_t *order, size_t order_len,

@@ -585,8 +585,6 @@ impl Listener for Scribe {
 pub enum End {
     Satisfiable,
     Refuted,
-    /// Refusal 10.
-    TooManySteps,
     /// The listener broke it off; no part of the paper.
     Stopped,
 }
@@ -610,9 +608,8 @@ impl<L: Listener> Walk<'_, L> {
             let Some(step) = self.order.iter().find_map(|&rule| facts.find(rule)) else {
                 return End::Satisfiable;
             };
-            if left == 0 {
-                return End::TooManySteps;
-            }
+            // No path has more rule steps (02, R-5): a run that met this would say so.
+            assert!(left > 0, "a path of more than n times n plus n rule steps");
             left -= 1;
             if L::LINES && !self.listener.line(step.line()) {
                 return End::Stopped;
@@ -725,7 +722,6 @@ pub fn verdict(order: &[u8], query: &[u8], report: &mut [u8]) -> Answer {
             Ok(Verdict::Satisfiable)
         }
         End::Refuted => Ok(Verdict::Refuted),
-        End::TooManySteps => refuse(10, 0),
         End::Stopped => unreachable!("nothing stops this walk"),
     }
 }
@@ -737,7 +733,6 @@ pub fn derivation(order: &[u8], query: &[u8], buffer: &mut [u8]) -> Answer {
     let mut scribe = Scribe::new(u64::MAX);
     match walk(&order, &query, &mut scribe).0 {
         End::Satisfiable => refuse(11, 0),
-        End::TooManySteps => refuse(10, 0),
         End::Stopped => unreachable!("nothing stops this walk"),
         End::Refuted => {
             let bytes = 2 + 4 * scribe.count;

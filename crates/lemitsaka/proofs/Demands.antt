@@ -16,7 +16,7 @@ use Rattle.logic.specs.Derivation.{Refutes, derivationBytes, linesIn}
 use Rattle.logic.specs.Shown.{wellFormed}
 use Rattle.logic.specs.Calls.{Input, Check, Outcome, verdictChecks, derivationChecks, padded, verdictCall, derivationCall}
 use Rattle.logic.specs.Calls as calls
-use Rattle.logic.specs.Demands.{NotRefused, NoneStands, FirstStands, BrokenOff, Refusals, Fits, Exceeds, Shows, Right, answerOf}
+use Rattle.logic.specs.Demands.{NotRefused, NoneStands, FirstStands, Refusals, Fits, Exceeds, Shows, Right, answerOf}
 use Rattle.logic.proofs.Calls.Demands.{demand1, demand2, demand3, call-passed}
 use Rattle.lemitsaka.specs.Promise.{meaning, inputOf, Does}
 use Rattle.lemitsaka.specs.declared.Answer.{Answer}
@@ -57,7 +57,7 @@ module _ (o : Outcome) (r : Answer) (bytes : List ℕ) (does : Does o r bytes) w
 pub record Refuses (cs : List Check) (i : Input) (r : Answer) (bytes : List ℕ) : Type 0 where
   pub first-exactly : (k place : ℕ) → k ≤ 9 → (r ≡ answer.Refused k place) ↔ FirstStands cs i k place
   pub refusal-made : (c : Check) (place : ℕ) → List·Memᴰ c cs → c .place i ≡ some place → (k : ℕ) × (p : ℕ) × (k ≤ c .number) × (r ≡ answer.Refused k p)
-  pub limit-exactly : (place : ℕ) → (r ≡ answer.Refused 10 place) ↔ ((place ≡ 0) × NoneStands cs i × BrokenOff i)
+  pub never-ten : (place : ℕ) → r ≡ answer.Refused 10 place → ⊥
   pub refusal-numbered : (k place : ℕ) → r ≡ answer.Refused k place → (1 ≤ k) × (k ≤ 12)
   pub refusal-placed : (k place : ℕ) → r ≡ answer.Refused k place → (place ≤ length (i .query)) × (place ≤ 681)
   pub refusal-blank : (k place : ℕ) → r ≡ answer.Refused k place → bytes ≡ replicate (i .room) 0
@@ -68,7 +68,7 @@ refuses cs outcome law i r bytes does =
     record {
       first-exactly = λ k place u. exactly (outcome i) r bytes does (answer.Refused k place) (FirstStands cs i k place) (law .first-exactly i k place u);
       refusal-made = λ c place m s. let (k, p, l, e) = law .refusal-made i c place m s in (k, p, l, back (outcome i) r bytes does (answer.Refused k p) e);
-      limit-exactly = λ place. exactly (outcome i) r bytes does (answer.Refused 10 place) ((place ≡ 0) × NoneStands cs i × BrokenOff i) (law .limit-exactly i place);
+      never-ten = λ place e. law .never-ten i place (same (outcome i) r bytes does (answer.Refused 10 place) e);
       refusal-numbered = λ k place e. law .refusal-numbered i k place (same (outcome i) r bytes does (answer.Refused k place) e);
       refusal-placed = λ k place e. law .refusal-placed i k place (same (outcome i) r bytes does (answer.Refused k place) e);
       refusal-blank = λ k place e. does .leaves ∙ law .refusal-blank i k place (same (outcome i) r bytes does (answer.Refused k place) e);
@@ -87,7 +87,7 @@ module _ (order query before bytes : List ℕ) (r : Answer) (does : Does (verdic
   pub verdict-refuses : Refuses verdictChecks i r bytes
   verdict-refuses = refuses verdictChecks verdictCall (demand1 .verdict-refusals) i r bytes does
 
-  pub verdict-numbered : (k place : ℕ) → r ≡ answer.Refused k place → k ≤ 10
+  pub verdict-numbered : (k place : ℕ) → r ≡ answer.Refused k place → k ≤ 9
   verdict-numbered k place e = demand1 .verdict-numbered i k place (same _ r bytes does (answer.Refused k place) e)
 
   pub report-whole : length bytes ≡ length before
@@ -107,22 +107,20 @@ module _ (order query before bytes : List ℕ) (r : Answer) (does : Does (verdic
   refuted-exactly h = exactly _ r bytes does answer.Refuted (Satisfiable (decode query) → ⊥) (demand2 .refuted-exactly i (unrefused h))
 
   -- DEMAND 3: the call answers our walk's verdict, which is that of every hand's walk that is finished, and right
-  pub one-verdict : Unrefused r → (v : Verdict) × (meaning r ≡ answerOf v) × (ourVerdict (ourWalk order (decode query)) ≡ some v)
-  one-verdict h = let (v, (e, f)) = demand3 .call-answers i (unrefused h) in (v, does .answers ∙ f, e)
+  pub one-verdict : Unrefused r → meaning r ≡ answerOf (ourVerdict (ourWalk order (decode query)))
+  one-verdict h = does .answers ∙ demand3 .call-answers i (unrefused h)
 
   pub hand-agrees : Unrefused r → (picks : List Pick) (w : Verdict) → handVerdict (decode query) (handRow (decode query) picks) ≡ some w → meaning r ≡ answerOf w
   hand-agrees h picks w f =
-      let (v, e, g) = one-verdict h in
       let p = call-passed i (unrefused h) in
-      e ∙ ap answerOf (demand3 .one-verdict query order picks v w (p .query) (p .order) g f)
+      one-verdict h ∙ ap answerOf (demand3 .one-verdict query order picks w (p .query) (p .order) f)
 
   -- and some hand's walk is finished with it
   pub hand-follows : Unrefused r → (picks : List Pick) × (w : Verdict) × (handVerdict (decode query) (handRow (decode query) picks) ≡ some w) × (meaning r ≡ answerOf w)
   hand-follows h =
-      let (v, e, g) = one-verdict h in
       let p = call-passed i (unrefused h) in
       let (picks, f) = demand3 .hand-follows query order (p .query) (p .order) in
-      (picks, v, f ∙ g, e)
+      (picks, ourVerdict (ourWalk order (decode query)), f, one-verdict h)
 
 -- The derivation call
 module _ (order query before bytes : List ℕ) (r : Answer) (does : Does (derivationCall (inputOf order query before)) r bytes) where
@@ -133,8 +131,8 @@ module _ (order query before bytes : List ℕ) (r : Answer) (does : Does (deriva
   pub derivation-refuses : Refuses derivationChecks j r bytes
   derivation-refuses = refuses derivationChecks derivationCall (demand1 .derivation-refusals) j r bytes does
 
-  pub heap-exactly : (place : ℕ) → (r ≡ answer.Refused 11 place) ↔ ((place ≡ 0) × NoneStands derivationChecks j × (BrokenOff j → ⊥) × Satisfiable (decode query))
-  heap-exactly place = exactly _ r bytes does (answer.Refused 11 place) ((place ≡ 0) × NoneStands derivationChecks j × (BrokenOff j → ⊥) × Satisfiable (decode query)) (demand1 .heap-exactly j place)
+  pub heap-exactly : (place : ℕ) → (r ≡ answer.Refused 11 place) ↔ ((place ≡ 0) × NoneStands derivationChecks j × Satisfiable (decode query))
+  heap-exactly place = exactly _ r bytes does (answer.Refused 11 place) ((place ≡ 0) × NoneStands derivationChecks j × Satisfiable (decode query)) (demand1 .heap-exactly j place)
 
   abbrev Lines : (ℕ → List Line → Type 0) → Type 0
   Lines P = (ls : List Line) × (ourWalk order (decode query) ≡ refutation ls) × P (length before) ls

@@ -11,8 +11,9 @@ use borrow.Author.Tests.{lt-ltb, le-ltb}
 use Rattle.logic.specs.Search.{_or_}
 use Rattle.logic.specs.Query.{Query, termCount, decode}
 use Rattle.logic.specs.Facts.{Facts, Line, start}
-use Rattle.logic.specs.Walk.{Ending, refutation, saturation, broken-off, walk, orderOf, limit, ourWalk}
+use Rattle.logic.specs.Walk.{Ending, refutation, saturation, walk, orderOf, limit, ourWalk}
 use Rattle.logic.specs.Shown.{report}
+use Rattle.logic.specs.Steps.{AtMost}
 use Rattle.logic.specs.Calls.{Outcome, blank, padded, accepts, verdictOf, derivationOf}
 use Rattle.logic.specs.Calls as calls
 use Rattle.facts.specs.Path.{pathOf}
@@ -26,7 +27,7 @@ use Rattle.logic.proofs.Basics.Compare.{le-cases}
 use Rattle.logic.proofs.Query.AcceptedBytes.{accepted}
 use Rattle.logic.proofs.Paths.Ranged.{live-range}
 use Rattle.logic.proofs.Paths.Invariant.{Invariant, start-invariant, branch-invariant}
-use Rattle.logic.proofs.Walks.Derives.{our-saturation}
+use Rattle.logic.proofs.Walks.Limit.{start-atMost, our-saturation}
 use Rattle.lemitsaka.specs.Promise.{meaning, Does}
 use Rattle.lemitsaka.specs.declared.Answer.{Answer}
 use Rattle.lemitsaka.specs.declared.Answer.the-variants as answer
@@ -35,17 +36,10 @@ module _ (r : Walked) (before : List ℕ) (c : ℕ) (bytes : List ℕ) where
   pub saturated-at : (e : Ending) → Ends r e before c bytes → r .kind ≡ kind.Saturated → e ≡ saturation (pathOf (r .facts))
   saturated-at (refutation ls) h k = let z : _≡_ {A = ℕ} 0 1 = cc in absurd (omega arith)
   saturated-at (saturation t) h k = ap saturation (sym (h .1))
-  saturated-at broken-off h k = let z : _≡_ {A = ℕ} 0 1 = cc in absurd (omega arith)
 
   pub refuted-at : (e : Ending) → Ends r e before c bytes → r .kind ≡ kind.Refuted → (ls : List Line) × (e ≡ refutation ls) × (r .count ≡ countAll c ls) × (bytes ≡ putAll before c ls)
   refuted-at (refutation ls) h k = (ls, refl, h .1, h .2)
   refuted-at (saturation t) h k = let z : _≡_ {A = ℕ} 0 1 = cc in absurd (omega arith)
-  refuted-at broken-off h k = let z : _≡_ {A = ℕ} 0 1 = cc in absurd (omega arith)
-
-  pub broken-at : (e : Ending) → Ends r e before c bytes → r .kind ≡ kind.Broken → e ≡ broken-off
-  broken-at (refutation ls) h k = let z : _≡_ {A = ℕ} 0 1 = cc in absurd (omega arith)
-  broken-at (saturation t) h k = let z : _≡_ {A = ℕ} 0 1 = cc in absurd (omega arith)
-  broken-at broken-off h k = refl
 
 -- the count of the lines, which stops above 16,000
 count-short : (ls : List Line) (count : ℕ) → count ≡ countAll 0 ls → count ≤ 16000 → count ≡ length ls
@@ -69,6 +63,13 @@ our-walk q order n k s en ek es =
     ap (λ (t : Facts). walk q (orderOf order) k t) es
     ∙ ap (λ (j : ℕ). walk q (orderOf order) j (start q)) (ek ∙ ap (λ (m : ℕ). m * m + m) en)
 
+-- and no more rule steps are possible from its start than it counts
+pub start-steps : (bytes : List ℕ) (n k : ℕ) (s : Facts) → accepts bytes ≡ true → n ≡ termCount (decode bytes) → k ≡ n * n + n → s ≡ start (decode bytes) → AtMost (termCount (decode bytes)) s k
+unfolding limit
+start-steps bytes n k s ok en ek es =
+    let e : k ≡ termCount (decode bytes) * termCount (decode bytes) + termCount (decode bytes) = ek ∙ ap (λ (m : ℕ). m * m + m) en in
+    rw (es, e) (start-atMost (decode bytes) (accepted bytes ok))
+
 -- an outcome, done
 pub does-blank : (o : Outcome) (room : ℕ) (r : Answer) (bytes : List ℕ) → o ≡ blank room (meaning r) → bytes ≡ replicate room 0 → Does o r bytes
 unfolding blank
@@ -83,18 +84,10 @@ module _ (q : Query) (room : ℕ) (w : Ending) where
   unfolding verdictOf blank
   verdict-refuted ls bytes e f = rw e (record { answers = refl; leaves = f })
 
-  pub verdict-broken : (bytes : List ℕ) → w ≡ broken-off → bytes ≡ replicate room 0 → Does (verdictOf q room w) (answer.Refused 10 0) bytes
-  unfolding verdictOf blank
-  verdict-broken bytes e f = rw e (record { answers = refl; leaves = f })
-
 module _ (room : ℕ) (w : Ending) where
   pub derivation-satisfiable : (s : Facts) (bytes : List ℕ) → w ≡ saturation s → bytes ≡ replicate room 0 → Does (derivationOf room w) (answer.Refused 11 0) bytes
   unfolding derivationOf blank
   derivation-satisfiable s bytes e f = rw e (record { answers = refl; leaves = f })
-
-  pub derivation-broken : (bytes : List ℕ) → w ≡ broken-off → bytes ≡ replicate room 0 → Does (derivationOf room w) (answer.Refused 10 0) bytes
-  unfolding derivationOf blank
-  derivation-broken bytes e f = rw e (record { answers = refl; leaves = f })
 
   -- "more than 16,000 lines or its buffer cannot hold it"
   pub derivation-long : (ls : List Line) (count : ℕ) (bytes : List ℕ) → w ≡ refutation ls → count ≡ countAll 0 ls → 16000 < count → bytes ≡ replicate room 0 → Does (derivationOf room w) (answer.Refused 12 0) bytes
@@ -125,6 +118,6 @@ pub saturated-stands : (bytes order : List ℕ) (s : Facts) → accepts bytes �
 saturated-stands bytes order s ok h t lo hi =
     let q : Query = decode bytes in
     let acc = accepted bytes ok in
-    let i = our-saturation q (Invariant q) (λ s s′ m i c a k. branch-invariant q s m i a s′ k) order s (start-invariant q acc) h .0 in
+    let i = our-saturation q acc (Invariant q) (λ s s′ m i c a k. branch-invariant q s m i a s′ k) order s (start-invariant q acc) h .0 in
     let r = live-range (termCount q) s (s .rep t) (i .tied .rep-live t (lo, hi)) in
     omega (arith, acc .term-count)

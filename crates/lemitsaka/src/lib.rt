@@ -44,11 +44,10 @@ fn decide(order: &[u8], query: &[u8], layout: Layout, report: &mut [u8]) -> Answ
             Answer::Satisfiable
         }
         Kind::Refuted => Answer::Refuted,
-        Kind::Broken => Answer::Refused(10, 0),
     }
 }
 
-// The verdict call: "satisfiable" with the heap shown in the report, "refuted", or one of the refusals 1 to 10.
+// The verdict call: "satisfiable" with the heap shown in the report, "refuted", or one of the refusals 1 to 9.
 pub fn verdict(order: &[u8], query: &[u8], report: &mut [u8]) -> Answer
     ensures { λ r. ⌜ Does (verdictCall (inputOf (now (order .entry)) (now (query .entry)) (now (report .entry)))) r (now (report .exit)) ⌝ }
 {
@@ -82,10 +81,6 @@ fn derive(order: &[u8], query: &[u8], layout: Layout, buffer: &mut [u8]) -> Answ
             report::clear(buffer);
             Answer::Refused(11, 0)
         }
-        Kind::Broken => {
-            report::clear(buffer);
-            Answer::Refused(10, 0)
-        }
         Kind::Refuted => {
             if 16000 < count {
                 report::clear(buffer);
@@ -102,7 +97,7 @@ fn derive(order: &[u8], query: &[u8], layout: Layout, buffer: &mut [u8]) -> Answ
     }
 }
 
-// The derivation call: "refuted" with the derivation in the buffer, or one of the refusals 1 to 8 and 10 to 12.
+// The derivation call: "refuted" with the derivation in the buffer, or one of the refusals 1 to 8, 11 and 12.
 pub fn derivation(order: &[u8], query: &[u8], buffer: &mut [u8]) -> Answer
     ensures { λ r. ⌜ Does (derivationCall (inputOf (now (order .entry)) (now (query .entry)) (now (buffer .entry)))) r (now (buffer .exit)) ⌝ }
 {

@@ -1,4 +1,5 @@
 -- The calls, the demands and the examples.
+pub mod PathLimit
 pub mod Verdicts
 pub mod CheckingOrder
 pub mod CallLaws

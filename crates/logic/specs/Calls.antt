@@ -8,7 +8,7 @@ use lib.Dec.{ltb}
 use Rattle.logic.specs.Search.{_or_, keep, isSome, firstOf}
 use Rattle.logic.specs.Query.{Query, isOrder, layoutFault, byteFault, decode}
 use Rattle.logic.specs.Facts.{Line}
-use Rattle.logic.specs.Walk.{Ending, refutation, saturation, broken-off, ourWalk}
+use Rattle.logic.specs.Walk.{Ending, refutation, saturation, ourWalk}
 use Rattle.logic.specs.Derivation.{derivationBytes}
 use Rattle.logic.specs.Shown.{report}
 
@@ -43,7 +43,8 @@ unfoldable pub queryChecks : List Check
 queryChecks =
     layoutCheck 2 ∷ layoutCheck 3 ∷ layoutCheck 4 ∷ byteCheck 5 ∷ byteCheck 6 ∷ byteCheck 7 ∷ byteCheck 8 ∷ []
 
--- "The verdict call uses 1 to 10. The derivation call uses 1 to 8 and 10 to 12"; 10 to 12 are read off the walk.
+-- "The verdict call uses 1 to 10. The derivation call uses 1 to 8 and 10 to 12"; 10 is withdrawn (02, R-5), and 11 and 12 are read off
+-- the walk.
 unfoldable pub verdictChecks : List Check
 verdictChecks = orderCheck ∷ (queryChecks ++ (roomCheck ∷ []))
 
@@ -82,11 +83,10 @@ call cs result i =
     let walked : Outcome = result (ourWalk (i .order) (decode (i .query))) in
     Option·elim (refusalOf cs i) walked (blank (i .room))
 
--- "With "refuted" the whole heap report is zero." "10. A path would need more than n times n plus n rule steps"
+-- "With "refuted" the whole heap report is zero."
 unfoldable pub verdictOf : Query → ℕ → Ending → Outcome
 verdictOf q room (saturation s) = record { answer = satisfiable; lent = padded room (report q s) }
 verdictOf q room (refutation ls) = blank room refuted
-verdictOf q room broken-off = blank room (refused 10 0)
 
 unfoldable pub verdictCall : Input → Outcome
 verdictCall i = call verdictChecks (verdictOf (decode (i .query)) (i .room)) i
@@ -98,7 +98,6 @@ derivationOf room (saturation s) = blank room (refused 11 0)
 derivationOf room (refutation ls) =
     cond (ltb 16000 (length ls) or ltb room (2 + 4 * length ls)) (blank room (refused 12 0))
     (record { answer = refuted; lent = padded room (derivationBytes ls) })
-derivationOf room broken-off = blank room (refused 10 0)
 
 unfoldable pub derivationCall : Input → Outcome
 derivationCall i = call derivationChecks (derivationOf (i .room)) i

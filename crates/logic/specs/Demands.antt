@@ -3,14 +3,14 @@
 use Prim.Native.Nat.{ℕ, _+_, _*_, _≤_, _<_}
 use mathlib.Core.Path.{_≡_}
 use mathlib.Core.Logic.{_↔_, _⊎_}
-use mathlib.Core.Bool.{Bool, true, false}
+use mathlib.Core.Bool.{true}
 use mathlib.Core.List.{List, [], _∷_, map, List·Memᴰ}
-use mathlib.Core.Option.{Option, none, some}
-use lib.ListN.{length, take, replicate}
+use mathlib.Core.Option.{none, some}
+use lib.ListN.{length, replicate}
 use Rattle.logic.specs.Query.{Query, isOrder, decode, termCount}
-use Rattle.logic.specs.Heap.{Heap, Meets, Satisfiable, value}
+use Rattle.logic.specs.Heap.{Meets, Satisfiable, value}
 use Rattle.logic.specs.Facts.{Line, start}
-use Rattle.logic.specs.Walk.{Verdict, Pick, ourWalk, ourVerdict, handRow, handVerdict, Ending, refutation, broken-off}
+use Rattle.logic.specs.Walk.{Verdict, Pick, ourWalk, ourVerdict, handRow, handVerdict, Ending, refutation}
 use Rattle.logic.specs.Derivation.{Refutes, derivationBytes, linesIn}
 use Rattle.logic.specs.Shown.{heapIn, nodeIn, wellFormed}
 use Rattle.logic.specs.Calls.{Input, Check, Outcome, Answer, refused, verdictChecks, derivationChecks, accepts, padded, verdictCall, derivationCall}
@@ -31,12 +31,9 @@ pub record FirstStands (cs : List Check) (i : Input) (k place : ℕ) : Type 0 wh
   pub stands : check .place i ≡ some place
   pub none-before : (c : Check) → List·Memᴰ c cs → c .number < k → c .place i ≡ none
 
--- our walk of what a call is given; it is broken off at the path limit
+-- our walk of what a call is given
 abbrev pub walkOf : Input → Ending
 walkOf i = ourWalk (i .order) (decode (i .query))
-
-abbrev pub BrokenOff : Input → Type 0
-BrokenOff i = walkOf i ≡ broken-off
 
 -- How a call refuses whose checks are cs. For every input:
 pub record Refusals (cs : List Check) (outcome : Input → Outcome) : Type 0 where
@@ -44,8 +41,8 @@ pub record Refusals (cs : List Check) (outcome : Input → Outcome) : Type 0 whe
   pub first-exactly : (i : Input) (k place : ℕ) → k ≤ 9 → (outcome i .answer ≡ refused k place) ↔ FirstStands cs i k place
   -- where the condition of a check stands, there is a refusal, that one or one before it
   pub refusal-made : (i : Input) (c : Check) (place : ℕ) → List·Memᴰ c cs → c .place i ≡ some place → (k : ℕ) × (p : ℕ) × (k ≤ c .number) × (outcome i .answer ≡ refused k p)
-  -- 10: no check stands, and the walk is broken off
-  pub limit-exactly : (i : Input) (place : ℕ) → (outcome i .answer ≡ refused 10 place) ↔ ((place ≡ 0) × NoneStands cs i × BrokenOff i)
+  -- "10 is withdrawn" (02, R-5)
+  pub never-ten : (i : Input) (place : ℕ) → outcome i .answer ≡ refused 10 place → ⊥
   -- a number is 1 to 12, and a place is not past the query's end nor past that of the longest query
   pub refusal-numbered : (i : Input) (k place : ℕ) → outcome i .answer ≡ refused k place → (1 ≤ k) × (k ≤ 12)
   pub refusal-placed : (i : Input) (k place : ℕ) → outcome i .answer ≡ refused k place → (place ≤ length (i .query)) × (place ≤ 681)
@@ -68,18 +65,18 @@ Alike i j = (i .order ≡ j .order) × (i .query ≡ j .query)
 -- each refusal under its own stated condition only. A refusal leaves zero in all of the lent report. The caller vouches for nothing."
 -- An answer is one of the three by its type. As to the rest, for every input:
 pub record Demand1 : Type 0 where
-  -- "The verdict call uses 1 to 10. The derivation call uses 1 to 8 and 10 to 12", in checking order; 10 to 12 are no checks
+  -- "The verdict call uses 1 to 10. The derivation call uses 1 to 8 and 10 to 12", in checking order; 11 and 12 are no checks
   pub verdict-checks : map (λ (c : Check). c .number) verdictChecks ≡ 1 ∷ 2 ∷ 3 ∷ 4 ∷ 5 ∷ 6 ∷ 7 ∷ 8 ∷ 9 ∷ []
   pub derivation-checks : map (λ (c : Check). c .number) derivationChecks ≡ 1 ∷ 2 ∷ 3 ∷ 4 ∷ 5 ∷ 6 ∷ 7 ∷ 8 ∷ []
   -- each refusal under its own stated condition only, with all of the lent output zero
   pub verdict-refusals : Refusals verdictChecks verdictCall
   pub derivation-refusals : Refusals derivationChecks derivationCall
-  -- the verdict call: there is no refusal above 10, and a report that shows a heap is well formed
-  pub verdict-numbered : (i : Input) (k place : ℕ) → verdictCall i .answer ≡ refused k place → k ≤ 10
+  -- the verdict call: there is no refusal above 9, and a report that shows a heap is well formed
+  pub verdict-numbered : (i : Input) (k place : ℕ) → verdictCall i .answer ≡ refused k place → k ≤ 9
   pub report-formed : (i : Input) → verdictCall i .answer ≡ Answer.satisfiable → wellFormed (verdictCall i .lent) ≡ true
-  -- the derivation call: 11 exactly where no check stands, the walk is finished and some finite heap meets the query; 12 exactly where
+  -- the derivation call: 11 exactly where no check stands and some finite heap meets the query; 12 exactly where
   -- no check stands, none does, and the lines are too many; "refuted" exactly where no check stands and the lines are not too many
-  pub heap-exactly : (i : Input) (place : ℕ) → (derivationCall i .answer ≡ refused 11 place) ↔ ((place ≡ 0) × NoneStands derivationChecks i × (BrokenOff i → ⊥) × Satisfiable (decode (i .query)))
+  pub heap-exactly : (i : Input) (place : ℕ) → (derivationCall i .answer ≡ refused 11 place) ↔ ((place ≡ 0) × NoneStands derivationChecks i × Satisfiable (decode (i .query)))
   pub excess-exactly : (i : Input) (place : ℕ) → (derivationCall i .answer ≡ refused 12 place) ↔ ((place ≡ 0) × NoneStands derivationChecks i × (Satisfiable (decode (i .query)) → ⊥) × ((ls : List Line) × (walkOf i ≡ refutation ls) × Exceeds (i .room) ls))
   pub lines-exactly : (i : Input) → (derivationCall i .answer ≡ Answer.refuted) ↔ (NoneStands derivationChecks i × ((ls : List Line) × (walkOf i ≡ refutation ls) × Fits (i .room) ls))
   pub never-satisfiable : (i : Input) → derivationCall i .answer ≡ Answer.satisfiable → ⊥
@@ -117,13 +114,13 @@ answerOf Verdict.satisfiable = Answer.satisfiable
 answerOf Verdict.refuted = Answer.refuted
 
 -- DEMAND 3. "For every accepted query, every order list that passes check 1 and every list of picks that a hand may make from the
--- start, vain ones included: if our walk under that order is finished, and the hand's is finished after its list, both have one
--- verdict. It is "satisfiable" exactly when .., and "refuted" exactly when ..; a walk that is finished while the other is not has that
--- verdict too. A verdict call that is not refused answers our walk's verdict."
+-- start, vain ones included: if .. the hand's is finished after its list, both have one verdict. It is "satisfiable" exactly when ..,
+-- and "refuted" exactly when ..; a walk that is finished while the other is not has that verdict too. A verdict call that is not refused
+-- answers our walk's verdict." Our walk is always finished (02, R-5: "Agreement of walks drops its clause on broken-off ones").
 pub record Demand3 : Type 0 where
-  pub one-verdict : (query order : List ℕ) (picks : List Pick) (v w : Verdict) → accepts query ≡ true → isOrder order ≡ true → ourVerdict (ourWalk order (decode query)) ≡ some v → handVerdict (decode query) (handRow (decode query) picks) ≡ some w → v ≡ w
-  pub ours-right : (query order : List ℕ) (v : Verdict) → accepts query ≡ true → isOrder order ≡ true → ourVerdict (ourWalk order (decode query)) ≡ some v → Right (decode query) v
+  pub one-verdict : (query order : List ℕ) (picks : List Pick) (w : Verdict) → accepts query ≡ true → isOrder order ≡ true → handVerdict (decode query) (handRow (decode query) picks) ≡ some w → ourVerdict (ourWalk order (decode query)) ≡ w
+  pub ours-right : (query order : List ℕ) → accepts query ≡ true → isOrder order ≡ true → Right (decode query) (ourVerdict (ourWalk order (decode query)))
   pub hand-right : (query : List ℕ) (picks : List Pick) (w : Verdict) → accepts query ≡ true → handVerdict (decode query) (handRow (decode query) picks) ≡ some w → Right (decode query) w
-  -- and a hand can move: some list of picks leaves its walk finished exactly if ours is, with our verdict
-  pub hand-follows : (query order : List ℕ) → accepts query ≡ true → isOrder order ≡ true → (picks : List Pick) × (handVerdict (decode query) (handRow (decode query) picks) ≡ ourVerdict (ourWalk order (decode query)))
-  pub call-answers : (i : Input) → NotRefused (verdictCall i .answer) → (v : Verdict) × ((ourVerdict (ourWalk (i .order) (decode (i .query))) ≡ some v) × (verdictCall i .answer ≡ answerOf v))
+  -- and a hand can move: some list of picks leaves its walk finished with our verdict
+  pub hand-follows : (query order : List ℕ) → accepts query ≡ true → isOrder order ≡ true → (picks : List Pick) × (handVerdict (decode query) (handRow (decode query) picks) ≡ some (ourVerdict (ourWalk order (decode query))))
+  pub call-answers : (i : Input) → NotRefused (verdictCall i .answer) → verdictCall i .answer ≡ answerOf (ourVerdict (ourWalk (i .order) (decode (i .query))))

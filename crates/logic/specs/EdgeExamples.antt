@@ -8,8 +8,8 @@ use lib.ListN.{replicate, take, drop}
 use Rattle.logic.specs.Search.{from, all, flatMap}
 use Rattle.logic.specs.Query.{decode}
 use Rattle.logic.specs.Facts.{line, start}
-use Rattle.logic.specs.Walk.{Ending, refutation, broken-off, orderOf, walk, limit}
-use Rattle.logic.specs.Calls.{Input, Answer, Outcome, refused, satisfiable, refuted, accepts, verdictOf, verdictCall, derivationOf, derivationCall}
+use Rattle.logic.specs.Walk.{Ending, refutation, orderOf, walk, limit}
+use Rattle.logic.specs.Calls.{Input, Answer, Outcome, refused, satisfiable, refuted, accepts, verdictCall, derivationOf, derivationCall}
 use Rattle.logic.specs.Examples.{inOrder}
 
 -- An input, and what each call answers and leaves in as many bytes as are lent to it.
@@ -341,12 +341,9 @@ pub record EdgeExamplesHold : Type 0 where
   pub derivations-hold : Hold derivations
   pub bits-hold : Hold bits
   pub links-hold : Hold linksShown
-  -- "10. A path would need more than n times n plus n rule steps": two terms, a path that needs one step and has none, refused at 0
+  -- "no path of any walk .. has more than n times n plus n rule steps" (02, R-5): two terms; and a path that needs one step and has it
   pub limit-counted : limit (decode sample) ≡ 6
-  pub limit-met : endsAfter 0 ≡ broken-off
   pub limit-kept : endsAfter 1 ≡ refutation (line 1 1 0 0 ∷ line 9 3 1 0 ∷ [])
-  pub limit-refused : verdictOf (decode sample) 4 broken-off ≡ refusedIn 4 10 0
-  pub limit-refused-too : derivationOf 4 broken-off ≡ refusedIn 4 10 0
   -- "12. The derivation has more than 16,000 lines or its buffer cannot hold it": 64,002 bytes hold 16,000 lines
   pub lines-held : answerTo 16000 64002 ≡ refuted
   pub lines-not-held : answerTo 16000 64001 ≡ refused 12 0

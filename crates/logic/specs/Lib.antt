@@ -5,9 +5,12 @@ pub mod Heap
 pub mod Facts
 pub mod Rules
 pub mod Walk
+pub mod OurWalk
+pub mod Steps
 pub mod Derivation
 pub mod Shown
 pub mod Calls
 pub mod Examples
 pub mod EdgeExamples
 pub mod Demands
+pub mod PathLimit

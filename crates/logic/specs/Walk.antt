@@ -1,7 +1,7 @@
 -- Our walk, and the hand's (01, "The eight rules" and "The hand's walk and ours").
 use Prim.Native.Nat.{ℕ, zero, suc, _+_, _*_}
-use mathlib.Core.Bool.{Bool, true, false, not, cond}
-use mathlib.Core.List.{List, [], _∷_, _++_, map}
+use mathlib.Core.Bool.{Bool, not, cond}
+use mathlib.Core.List.{List, [], _∷_, _++_}
 use mathlib.Core.Option.{Option, none, some, Option·elim}
 use Rattle.logic.specs.Search.{_and_, any, all, isSome, flatMap}
 use Rattle.logic.specs.Query.{Query, termCount}
@@ -24,23 +24,20 @@ look q order s =
     let rest : Look = Option·elim (choose (termCount q) order s) saturated applying in
     Option·elim (clash q s) rest clashing
 
--- How our walk ends: all of its paths clash, and the lines say how; a path has no clash and no applicable rule; the limit breaks it off.
+-- How our walk ends: all of its paths clash, and the lines say how; or a path has no clash and no applicable rule.
 pub data Ending : Type 0 where
   refutation : List Line → Ending
   saturation : Facts → Ending
-  broken-off : Ending
 
 -- lines in front of those of a refutation
 unfoldable pub after : List Line → Ending → Ending
 after ls (refutation ms) = refutation (ls ++ ms)
 after ls (saturation s) = saturation s
-after ls broken-off = broken-off
 
 -- the ending of a branch and then, where it is refuted, of those to its right
 unfoldable pub thenEnding : Ending → Ending → Ending
 thenEnding (refutation ls) e = after ls e
 thenEnding (saturation s) e = saturation s
-thenEnding broken-off e = broken-off
 
 -- "tried left to right", until one is not refuted; w walks a branch
 unfoldable pub walkEach : (Facts → Ending) → List Facts → Ending
@@ -54,12 +51,13 @@ endAt s go (applying m) = go m
 endAt s go saturated = saturation s
 
 -- "The walk takes the first applicable rule of the order list, at the smallest triple .. Each branch is walked by the same routine
--- again, one step deeper." At most k rule steps are left to the path.
+-- again, one step deeper." At most k rule steps are possible from the path: where none is, no rule applies, and a clash is all that is
+-- looked for.
 unfoldable pub walk : Query → List Rule → ℕ → Facts → Ending
-walk q order zero s = endAt s (λ m. broken-off) (look q order s)
+walk q order zero s = Option·elim (clash q s) (saturation s) (λ l. refutation (l ∷ []))
 walk q order (suc k) s = endAt s (λ m. after (moveLine m ∷ []) (walkEach (walk q order k) (branches (termCount q) s m))) (look q order s)
 
--- "10. A path would need more than n times n plus n rule steps"
+-- "no path of any walk .. has more than n times n plus n rule steps" (02, R-5)
 unfoldable pub limit : Query → ℕ
 limit q = termCount q * termCount q + termCount q
 
@@ -69,11 +67,10 @@ ourWalk order q = walk q (orderOf order) (limit q) (start q)
 pub data Verdict : Type 0 where
   satisfiable refuted : Verdict
 
--- "It is finished unless the limit of refusal 10 breaks it off; its verdict is then read in the same way."
-unfoldable pub ourVerdict : Ending → Option Verdict
-ourVerdict (refutation ls) = some refuted
-ourVerdict (saturation s) = some satisfiable
-ourVerdict broken-off = none
+-- "its verdict is then read in the same way"
+unfoldable pub ourVerdict : Ending → Verdict
+ourVerdict (refutation ls) = refuted
+ourVerdict (saturation s) = satisfiable
 
 -- "A pick is a position in the row (from 1) and what a rule line holds, a rule number and its triple."
 pub record Pick : Type 0 where

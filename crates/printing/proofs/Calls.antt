@@ -12,7 +12,7 @@ use Rattle.logic.specs.Search.{_or_, flatMap}
 use Rattle.logic.specs.Facts.{Line}
 use Rattle.logic.specs.Derivation.{lineBytes, derivationBytes}
 use Rattle.logic.specs.Query.{decode}
-use Rattle.logic.specs.Walk.{Ending, refutation, saturation, broken-off, ourWalk}
+use Rattle.logic.specs.Walk.{Ending, refutation, saturation, ourWalk}
 use Rattle.logic.specs.Calls.{Input, Outcome, derivationChecks, padded, blank, verdictCall, derivationOf, derivationCall}
 use Rattle.logic.specs.Calls as calls
 use Rattle.logic.proofs.Basics.Compare.{le-cases}
@@ -31,7 +31,6 @@ Written o room = o .answer ≡ calls.refuted → (ls : List Line) × (o .lent �
 ending-written : (room : ℕ) (w : Ending) → Written (derivationOf room w) room
 unfolding derivationOf blank
 ending-written room (saturation s) e = let z : _≡_ {A = ℕ} 0 1 = cc in absurd (omega arith)
-ending-written room broken-off e = let z : _≡_ {A = ℕ} 0 1 = cc in absurd (omega arith)
 ending-written room (refutation ls) e = go (ltb 16000 (length ls) or ltb room (2 + 4 * length ls)) e
   where
     go : (b : Bool) → Written (cond b (blank room (calls.refused 12 0)) (record { answer = calls.refuted; lent = padded room (derivationBytes ls) })) room

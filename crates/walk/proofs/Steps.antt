@@ -3,12 +3,12 @@ use Prim.Native.Nat.{ℕ, zero, suc, _+_, _-_, _≤_, _<_}
 use native.Mathlib.Omega.{arith}
 use mathlib.Core.Path.{_≡_, refl, sym, ap, _∙_, subst}
 use mathlib.Core.Bool.{true, false, true≢false, false≢true}
-use mathlib.Core.List.{List}
+use mathlib.Core.List.{List, [], _∷_, List·Memᴰ, List·Memᴰ·head, List·Memᴰ·tail}
 use lib.ListN.{length, getD}
 use Rattle.logic.specs.Query.{Query, termCount, decode}
 use Rattle.logic.specs.Facts.{Facts, Line, line}
 use Rattle.logic.specs.Rules.{Rule, triple, Move, move, ruleNumber, moveLine, add, branches}
-use Rattle.logic.specs.Walk.{Look, clashing, applying, saturated, look, Ending, refutation, saturation, broken-off, walk}
+use Rattle.logic.specs.Walk.{Look, clashing, applying, saturated, look, Ending, refutation, saturation, walk}
 use Rattle.facts.specs.Path.{pathOf}
 use Rattle.query.specs.LaysOut.{LaysOut, literalIn, flagIn}
 use Rattle.query.specs.declared.Layout.{Layout}
@@ -22,8 +22,13 @@ use Rattle.walk.specs.declared.Walked.{Walked}
 use Rattle.walk.specs.declared.Kind.the-variants as kind
 use Rattle.walk.proofs.Lines.{putAll-length, countAll-bound, countAll-grows}
 use Rattle.walk.proofs.Looks.{move-range, clash-range}
-use Rattle.walk.proofs.Walks.{walk-clashing, walk-saturated, walk-broken, walk-applying}
+use Rattle.walk.proofs.Walks.{walk-clashing, walk-saturated, walk-applying}
 use Rattle.walk.proofs.Turns.{Turn, turn-next, turn-same, turn-stop, turn-whole, turn-last}
+
+getD-member : (bs : List Facts) (i : ℕ) (d : Facts) → i < length bs → List·Memᴰ (getD bs i d) bs
+getD-member [] i d h = absurd (omega arith)
+getD-member (b ∷ bs) zero d h = List·Memᴰ·head refl
+getD-member (b ∷ bs) (suc i) d h = List·Memᴰ·tail (getD-member bs i d (omega arith))
 
 -- what is seen, once the code's answer is known
 pub look-is : (v v′ : Seen) (l : Look) → lookOf v ≡ l → v ≡ v′ → l ≡ lookOf v′
@@ -57,27 +62,18 @@ module _ (q : Query) (order : List Rule) (k : ℕ) (s : Facts) (r : Walked) (bef
   pub ends-saturated : (t : Facts) → look q order s ≡ saturated → r .kind ≡ kind.Saturated → t ≡ s → pathOf (r .facts) ≡ t → bytes ≡ before → Ends r (walk q order k s) before c bytes
   ends-saturated t h e p f g = subst (λ (x : Ending). Ends r x before c bytes) (sym (walk-saturated q order k s h)) (e, f ∙ p, ap length g)
 
-  pub ends-broken : (m : Move) → look q order s ≡ applying m → k ≡ 0 → r .kind ≡ kind.Broken → bytes ≡ before → Ends r (walk q order k s) before c bytes
-  ends-broken m h z e g =
-      subst (λ (x : Ending). Ends r x before c bytes) (sym (ap (λ (j : ℕ). walk q order j s) z ∙ walk-broken q order s m h)) (e, ap length g)
-
 -- what it hands back besides
 module _ (q : Query) (order : List Rule) (k : ℕ) (s : Facts) (r : Walked) (c : ℕ) where
-  pub handed-clashing : (l : Line) → look q order s ≡ clashing l → pathOf (r .facts) ≡ s → Handed (look q order) r (walk q order k s) s c
-  handed-clashing l h f = subst (λ (x : Ending). Handed (look q order) r x s c) (sym (walk-clashing q order k s l h)) f
+  pub handed-clashing : (l : Line) → look q order s ≡ clashing l → pathOf (r .facts) ≡ s → Handed r (walk q order k s) s c
+  handed-clashing l h f = subst (λ (x : Ending). Handed r x s c) (sym (walk-clashing q order k s l h)) f
 
-  pub handed-saturated : look q order s ≡ saturated → r .count ≡ c → c ≤ 16001 → Handed (look q order) r (walk q order k s) s c
-  handed-saturated h e b = subst (λ (x : Ending). Handed (look q order) r x s c) (sym (walk-saturated q order k s h)) (omega arith, omega arith)
-
-  pub handed-broken : (m : Move) → look q order s ≡ applying m → k ≡ 0 → pathOf (r .facts) ≡ s → r .count ≡ c → c ≤ 16001 → Handed (look q order) r (walk q order k s) s c
-  handed-broken m h z f e b =
-      subst (λ (x : Ending). Handed (look q order) r x s c) (sym (ap (λ (j : ℕ). walk q order j s) z ∙ walk-broken q order s m h)) ((m, ap (look q order) f ∙ h), omega arith, omega arith)
+  pub handed-saturated : look q order s ≡ saturated → r .count ≡ c → c ≤ 16001 → Handed r (walk q order k s) s c
+  handed-saturated h e b = subst (λ (x : Ending). Handed r x s c) (sym (walk-saturated q order k s h)) (omega arith, omega arith)
 
 -- a walk that is not refuted hands the same back, whatever it was walked from
-handed-on : (see : Facts → Look) (r : Walked) (e : Ending) (before bytes : List ℕ) (c c₀ : ℕ) (p s : Facts) → Ends r e before c bytes → isRefuted (r .kind) ≡ false → c₀ ≤ c → Handed see r e p c → Handed see r e s c₀
-handed-on see r (refutation ls) before bytes c c₀ p s h k l g = absurd (true≢false (ap isRefuted (sym (h .0)) ∙ k))
-handed-on see r (saturation t) before bytes c c₀ p s h k l g = (omega arith, g .1)
-handed-on see r broken-off before bytes c c₀ p s h k l g = (g .0, omega arith, g .2)
+handed-on : (r : Walked) (e : Ending) (before bytes : List ℕ) (c c₀ : ℕ) (p s : Facts) → Ends r e before c bytes → isRefuted (r .kind) ≡ false → c₀ ≤ c → Handed r e p c → Handed r e s c₀
+handed-on r (refutation ls) before bytes c c₀ p s h k l g = absurd (true≢false (ap isRefuted (sym (h .0)) ∙ k))
+handed-on r (saturation t) before bytes c c₀ p s h k l g = (omega arith, g .1)
 
 -- the walk of a branch that the code makes
 pub branch-walked : (q : Query) (order : List Rule) (k n : ℕ) (s p : Facts) (r : Rule) (x y z i : ℕ) (d : Facts) → n ≡ termCount q → i < countOf r z → p ≡ add n s (alternativeAt n (s .graph) r x y z i) → walk q order k (getD (branches (termCount q) s (move r (triple x y z))) i d) ≡ walk q order k p
@@ -92,17 +88,14 @@ move-line r x y z a e = ap (λ (j : ℕ). line j x y z) e
 pub ends-length : (r : Walked) (e : Ending) (before : List ℕ) (c : ℕ) (bytes : List ℕ) → Ends r e before c bytes → length bytes ≡ length before
 ends-length r (refutation ls) before c bytes h = ap length (h .2) ∙ putAll-length before c ls
 ends-length r (saturation t) before c bytes h = h .2
-ends-length r broken-off before c bytes h = h .1
 
 pub ends-bound : (r : Walked) (e : Ending) (before : List ℕ) (c : ℕ) (bytes : List ℕ) → Ends r e before c bytes → isRefuted (r .kind) ≡ true → c ≤ 16001 → r .count ≤ 16001
 ends-bound r (refutation ls) before c bytes h k l = subst (λ (j : ℕ). j ≤ 16001) (sym (h .1)) (countAll-bound c ls l)
 ends-bound r (saturation t) before c bytes h k l = absurd (false≢true (ap isRefuted (sym (h .0)) ∙ k))
-ends-bound r broken-off before c bytes h k l = absurd (false≢true (ap isRefuted (sym (h .0)) ∙ k))
 
 pub ends-grows : (r : Walked) (e : Ending) (before : List ℕ) (c : ℕ) (bytes : List ℕ) → Ends r e before c bytes → isRefuted (r .kind) ≡ true → c ≤ r .count
 ends-grows r (refutation ls) before c bytes h k = subst (λ (j : ℕ). c ≤ j) (sym (h .1)) (countAll-grows c ls)
 ends-grows r (saturation t) before c bytes h k = absurd (false≢true (ap isRefuted (sym (h .0)) ∙ k))
-ends-grows r broken-off before c bytes h k = absurd (false≢true (ap isRefuted (sym (h .0)) ∙ k))
 
 -- A rule applies: its branches are walked with a step less
 module _ (q : Query) (order : List Rule) (k n : ℕ) (s : Facts) (rule : Rule) (x y z : ℕ) (seen : look q order s ≡ applying (move rule (triple x y z))) (some-left : 1 ≤ k) (terms-are : n ≡ termCount q) where
@@ -124,15 +117,15 @@ module _ (q : Query) (order : List Rule) (k n : ℕ) (s : Facts) (rule : Rule) (
         subst (λ (e : Ending). Ends r e old c₀ bytes′) (sym (walk-applying q order k s m some-left seen))
         (turn-stop (walk q order (k - 1)) (branches (termCount q) s m) before c i bytes bytes′ count t s r in-branches (moveLine m) old c₀ same (walk q order (k - 1) p) (branch-walked q order (k - 1) n s p rule x y z i s terms-are in-row p-is) ended h)
 
-    pub stopped-handed : (c₀ : ℕ) → c₀ ≤ count → isRefuted (r .kind) ≡ false → Handed (look q order) r (walk q order (k - 1) p) p count → Handed (look q order) r (walk q order k s) s c₀
+    pub stopped-handed : (c₀ : ℕ) → c₀ ≤ count → isRefuted (r .kind) ≡ false → Handed r (walk q order (k - 1) p) p count → Handed r (walk q order k s) s c₀
     stopped-handed c₀ l h g =
-        subst (λ (e : Ending). Handed (look q order) r e s c₀)
+        subst (λ (e : Ending). Handed r e s c₀)
         (sym (walk-applying q order k s m some-left seen ∙ turn-same (walk q order (k - 1)) (branches (termCount q) s m) before c i bytes bytes′ count t s r in-branches (moveLine m) (walk q order (k - 1) p) (branch-walked q order (k - 1) n s p rule x y z i s terms-are in-row p-is) ended h))
-        (handed-on (look q order) r (walk q order (k - 1) p) bytes bytes′ count c₀ p s ended h l g)
+        (handed-on r (walk q order (k - 1) p) bytes bytes′ count c₀ p s ended h l g)
 
-  pub all-handed : (before : List ℕ) (c i : ℕ) (bytes : List ℕ) (count : ℕ) → Turns before c i bytes count → countOf rule z ≤ i → (r : Walked) (c₀ : ℕ) → pathOf (r .facts) ≡ s → Handed (look q order) r (walk q order k s) s c₀
+  pub all-handed : (before : List ℕ) (c i : ℕ) (bytes : List ℕ) (count : ℕ) → Turns before c i bytes count → countOf rule z ≤ i → (r : Walked) (c₀ : ℕ) → pathOf (r .facts) ≡ s → Handed r (walk q order k s) s c₀
   all-handed before c i bytes count t past r c₀ f =
-      subst (λ (e : Ending). Handed (look q order) r e s c₀)
+      subst (λ (e : Ending). Handed r e s c₀)
       (sym (walk-applying q order k s m some-left seen ∙ turn-whole (walk q order (k - 1)) (branches (termCount q) s m) before c i bytes count t (omega (arith, branch-count (termCount q) s rule x y z)) (moveLine m)))
       f
 
@@ -141,10 +134,13 @@ module _ (q : Query) (order : List Rule) (k n : ℕ) (s : Facts) (rule : Rule) (
       subst (λ (e : Ending). Ends r e old c₀ bytes) (sym (walk-applying q order k s m some-left seen))
       (turn-last (walk q order (k - 1)) (branches (termCount q) s m) before c i bytes count t (omega (arith, branch-count (termCount q) s rule x y z)) r (moveLine m) old c₀ (eb ∙ ap (putLine old c₀) (move-line rule x y z a num)) ec e f)
 
--- a step is left
-pub some-left : (k : ℕ) → (k ≡ 0 → ⊥) → 1 ≤ k
-some-left zero h = absurd (h refl)
-some-left (suc k) h = omega arith
+-- the branch that the code makes is one of those of the definition
+pub branch-member : (q : Query) (n : ℕ) (s p : Facts) (r : Rule) (x y z i : ℕ) → n ≡ termCount q → i < countOf r z → p ≡ add n s (alternativeAt n (s .graph) r x y z i) → List·Memᴰ p (branches (termCount q) s (move r (triple x y z)))
+branch-member q n s p r x y z i e h f =
+    let bs = branches (termCount q) s (move r (triple x y z)) in
+    subst (λ (b : Facts). List·Memᴰ b bs) (branch-is (termCount q) s r x y z i s h ∙ ap (λ (j : ℕ). add j s (alternativeAt j (s .graph) r x y z i)) (sym e) ∙ sym f)
+    (getD-member bs i s (omega (arith, branch-count (termCount q) s r x y z)))
 
-pub less-left : (k t : ℕ) → (k ≡ 0 → ⊥) → k ≡ t → k - 1 < t
-less-left k t h e = let l = some-left k h in omega arith
+-- and it is walked with a step less
+pub less-left : (k t : ℕ) → 1 ≤ k → k ≡ t → k - 1 < t
+less-left k t l e = omega arith

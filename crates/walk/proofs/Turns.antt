@@ -5,13 +5,13 @@ use mathlib.Core.Bool.{true, false, true≢false, false≢true}
 use mathlib.Core.List.{List, [], _∷_, _++_, append-nil}
 use lib.ListN.{length, getD, drop}
 use Rattle.logic.specs.Facts.{Facts, Line}
-use Rattle.logic.specs.Walk.{Ending, refutation, saturation, broken-off, after, walkEach}
+use Rattle.logic.specs.Walk.{Ending, refutation, saturation, after, walkEach}
 use Rattle.walk.specs.Lines.{counted, countAll, putLine, putAll}
 use Rattle.walk.specs.Ends.{isRefuted, Ends}
 use Rattle.walk.specs.declared.Walked.{Walked}
 use Rattle.walk.specs.declared.Kind.the-variants as kind
 use Rattle.walk.proofs.Lines.{countAll-append, putAll-append, putAll-length}
-use Rattle.walk.proofs.Walks.{after-after, after-none, each-end, each-refuted, each-saturated, each-broken}
+use Rattle.walk.proofs.Walks.{after-after, after-none, each-end, each-refuted, each-saturated}
 
 -- After i branches, all refuted by lines that are written and counted.
 pub record Turn (w : Facts → Ending) (bs : List Facts) (before : List ℕ) (c : ℕ) (i : ℕ) (bytes : List ℕ) (count : ℕ) : Type 0 where
@@ -35,7 +35,6 @@ module _ (w : Facts → Ending) (bs : List Facts) (before : List ℕ) (c : ℕ) 
           counts = p .1 ∙ ap (λ (j : ℕ). countAll j ls) (t .counts) ∙ sym (countAll-append c (t .lines) ls);
         }
     turn-next (saturation s) h p k = absurd (false≢true (ap isRefuted (sym (p .0)) ∙ k))
-    turn-next broken-off h p k = absurd (false≢true (ap isRefuted (sym (p .0)) ∙ k))
 
     -- a branch that is not refuted ends the walk; e is its ending, which nothing in front changes
     ended : (l : Line) (e : Ending) → ((ls : List Line) → after ls e ≡ e) → walkEach w (drop i bs) ≡ e → after (l ∷ []) (walkEach w bs) ≡ e
@@ -48,12 +47,10 @@ module _ (w : Facts → Ending) (bs : List Facts) (before : List ℕ) (c : ℕ) 
     unfolding after
     turn-same l (refutation ls) h p k = absurd (true≢false (ap isRefuted (sym (p .0)) ∙ k))
     turn-same l (saturation s) h p k = ended l (saturation s) (λ ls. refl) (each-saturated w bs i d s in-row h)
-    turn-same l broken-off h p k = ended l broken-off (λ ls. refl) (each-broken w bs i d in-row h)
 
     stays : (old : List ℕ) (c₀ : ℕ) → length before ≡ length old → (e : Ending) → Ends r e bytes count bytes′ → isRefuted (r .kind) ≡ false → Ends r e old c₀ bytes′
     stays old c₀ same (refutation ls) p k = absurd (true≢false (ap isRefuted (sym (p .0)) ∙ k))
     stays old c₀ same (saturation s) p k = (p .0, p .1, kept-length old same (p .2))
-    stays old c₀ same broken-off p k = (p .0, kept-length old same (p .1))
 
     pub turn-stop : (l : Line) (old : List ℕ) (c₀ : ℕ) → length before ≡ length old → (e : Ending) → w (getD bs i d) ≡ e → Ends r e bytes count bytes′ → isRefuted (r .kind) ≡ false → Ends r (after (l ∷ []) (walkEach w bs)) old c₀ bytes′
     turn-stop l old c₀ same e h p k = subst (λ (e : Ending). Ends r e old c₀ bytes′) (sym (turn-same l e h p k)) (stays old c₀ same e p k)

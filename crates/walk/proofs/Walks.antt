@@ -4,27 +4,25 @@ use native.Mathlib.Omega.{arith}
 use native.Mathlib.Numerals.{add-one}
 use mathlib.Core.Path.{_≡_, refl, sym, ap, _∙_, subst}
 use mathlib.Core.List.{List, [], _∷_, _++_, map, append-nil, append-assoc}
+use mathlib.Core.Option.{Option·elim}
 use lib.ListN.{length, getD, drop, drop-of-length-le}
 use lib.Seq.{drop-cons}
 use Rattle.logic.specs.Query.{Query, termCount}
 use Rattle.logic.specs.Facts.{Facts, Line}
 use Rattle.logic.specs.Rules.{Rule, Move, branches, moveLine}
-use Rattle.logic.specs.Walk.{Look, clashing, applying, saturated, look, Ending, refutation, saturation, broken-off, after, thenEnding, walkEach, endAt, walk}
+use Rattle.logic.proofs.Walks.Derives.{seen-clashing, seen-saturated}
+use Rattle.logic.specs.Walk.{Look, clashing, applying, saturated, look, Ending, refutation, saturation, after, thenEnding, walkEach, endAt, walk}
 
 module _ (q : Query) (order : List Rule) where
   pub walk-clashing : (k : ℕ) (s : Facts) (l : Line) → look q order s ≡ clashing l → walk q order k s ≡ refutation (l ∷ [])
-  unfolding walk endAt
-  walk-clashing zero s l h = rw h
+  unfolding walk endAt Option·elim
+  walk-clashing zero s l h = rw (seen-clashing q order s h)
   walk-clashing (suc k) s l h = rw h
 
   pub walk-saturated : (k : ℕ) (s : Facts) → look q order s ≡ saturated → walk q order k s ≡ saturation s
-  unfolding walk endAt
-  walk-saturated zero s h = rw h
+  unfolding walk endAt Option·elim
+  walk-saturated zero s h = rw (seen-saturated q order s h .0)
   walk-saturated (suc k) s h = rw h
-
-  pub walk-broken : (s : Facts) (m : Move) → look q order s ≡ applying m → walk q order 0 s ≡ broken-off
-  unfolding walk endAt
-  walk-broken s m h = rw h
 
   pub walk-applying : (k : ℕ) (s : Facts) (m : Move) → 1 ≤ k → look q order s ≡ applying m → walk q order k s ≡ after (moveLine m ∷ []) (walkEach (walk q order (k - 1)) (branches (termCount q) s m))
   unfolding walk endAt
@@ -38,13 +36,11 @@ pub after-after : (ls ms : List Line) (e : Ending) → after ls (after ms e) ≡
 unfolding after
 after-after ls ms (refutation ns) = ap refutation (sym (append-assoc ls ms ns))
 after-after ls ms (saturation s) = refl
-after-after ls ms broken-off = refl
 
 pub after-none : (e : Ending) → after [] e ≡ e
 unfolding after
 after-none (refutation ls) = refl
 after-none (saturation s) = refl
-after-none broken-off = refl
 
 -- Of the branches from i on, the first and then the others
 module _ (w : Facts → Ending) (bs : List Facts) where
@@ -65,7 +61,3 @@ module _ (w : Facts → Ending) (bs : List Facts) where
   pub each-saturated : (i : ℕ) (d t : Facts) → i < length bs → w (getD bs i d) ≡ saturation t → walkEach w (drop i bs) ≡ saturation t
   unfolding thenEnding
   each-saturated i d t h p = each-at i d (saturation t) h p
-
-  pub each-broken : (i : ℕ) (d : Facts) → i < length bs → w (getD bs i d) ≡ broken-off → walkEach w (drop i bs) ≡ broken-off
-  unfolding thenEnding
-  each-broken i d h p = each-at i d broken-off h p

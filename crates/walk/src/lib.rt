@@ -9,7 +9,8 @@ use rules::Third;
 ghost use mathlib.Core.Path.{_≡_};
 ghost use Prim.Native.Nat.{_+_, _*_, _≤_, _<_};
 ghost use Rattle.logic.specs.Facts.{line};
-ghost use Rattle.logic.specs.Query.{decode};
+ghost use Rattle.logic.specs.Query.{decode, termCount};
+ghost use Rattle.logic.specs.Steps.{AtMost};
 ghost use Rattle.logic.specs.Rules.{ruleNumber};
 ghost use Rattle.logic.specs.Walk.{look, walk, orderOf};
 ghost use Rattle.facts.specs.Path.{pathOf};
@@ -54,7 +55,6 @@ pub enum Seen {
 pub enum Kind {
     Refuted,
     Saturated,
-    Broken,
 }
 
 // The ending of a walk, the path that is saturated or broken off (where neither is, the one that was given), and the count of lines.
@@ -70,7 +70,6 @@ fn is_refuted(kind: Kind) -> bool
     match kind {
         Kind::Refuted => true,
         Kind::Saturated => false,
-        Kind::Broken => false,
     }
 }
 
@@ -105,7 +104,8 @@ fn look(query: &[u8], layout: Layout, order: &[u8], s: Facts) -> Seen
     Seen::Applying(rule, x, y, z)
 }
 
-// "Each branch is walked by the same routine again, one step deeper": `left` rule steps are left to the path.
+// "Each branch is walked by the same routine again, one step deeper": at most `left` rule steps are possible from the path, so that
+// the count does not run out where a rule applies.
 pub fn walk(
     query: &[u8],
     layout: Layout,
@@ -115,9 +115,9 @@ pub fn walk(
     lines: &mut [u8],
     count: usize,
 ) -> Walked
-    requires { ⌜ LaysOut layout (now query) × (count ≤ 16001) ⌝ }
+    requires { ⌜ LaysOut layout (now query) × (count ≤ 16001) × AtMost (termCount (decode (now query))) (pathOf s) left ⌝ }
     ensures { λ r. ⌜ Ends r (walk (decode (now (query .entry))) (orderOf (now (order .entry))) left (pathOf s)) (now (lines .entry)) count (now (lines .exit)) ⌝ }
-    ensures { λ r. ⌜ Handed (look (decode (now (query .entry))) (orderOf (now (order .entry)))) r (walk (decode (now (query .entry))) (orderOf (now (order .entry))) left (pathOf s)) (pathOf s) count ⌝ }
+    ensures { λ r. ⌜ Handed r (walk (decode (now (query .entry))) (orderOf (now (order .entry))) left (pathOf s)) (pathOf s) count ⌝ }
 {
     let n = layout.terms;
     match look(query, layout, order, s) {
@@ -135,13 +135,6 @@ pub fn walk(
             }
         }
         Seen::Applying(rule, x, y, z) => {
-            if left == 0 {
-                return Walked {
-                    kind: Kind::Broken,
-                    facts: s,
-                    count,
-                };
-            }
             put_line(lines, count, number(rule), x.0, y.0, z.0);
             let total = branch::count(rule, z);
             let mut written = counted(count);

@@ -7,7 +7,7 @@ use lib.ListN.{length}
 use Rattle.logic.specs.Query.{decode}
 use Rattle.logic.specs.Walk.{walk, orderOf}
 use Rattle.facts.specs.Path.{pathOf}
-use Rattle.lemitsaka.proofs.Outcomes.{saturated-at, refuted-at, broken-at, our-walk, verdict-satisfiable, verdict-refuted, verdict-broken}
+use Rattle.lemitsaka.proofs.Outcomes.{saturated-at, refuted-at, our-walk, start-steps, verdict-satisfiable, verdict-refuted}
 use Rattle.lemitsaka.proofs.Answers.{report-fits, stands-at}
 use Rattle.lemitsaka.proofs.decide.Statement.{statement}
 use Rattle.lemitsaka.proofs.decide.Tie as tie
@@ -23,7 +23,9 @@ decide-spec =
     -- slice-aggregate-walk
     (λ c. search needs)
     -- walk-requires
-    (λ c κs. (c .before .before .before .before .before .before .pre .0, omega arith))
+    (λ c κs.
+    let p = c .before .before .before .before .before .before .pre in
+    (p .0, omega arith, start-steps _ _ _ _ (p .1) (p .0 .term-count) (c .before .limit .ensures) (c .before .before .start .ensures)))
     -- enum-told
     (λ c. search needs)
     -- write-report-requires
@@ -33,8 +35,6 @@ decide-spec =
     let e = saturated-at (c .before .before .before .before .before .walk .result) (0 ∷ []) 0 (c .before .before .before .before .before .walk .last .1 .1 .1 .1 .1 .0) _ (c .before .before .before .before .before .walk .ensures .0) (c .before .enum-told .given .1) in
     (p .2, record { laid = p .0; passes = p .1; stands = stands-at _ _ _ _ (p .0) (p .1) (sym w ∙ e) }))
     -- enum-told-2
-    (λ c. search needs)
-    -- enum-told-3
     (λ c. search needs)
     -- same-length
     (λ c. ap length (c .before .before .write-report .ensures) ∙ report-fits _ _ _ (c .before .before .before .before .before .before .before .before .before .before .before .before .before .before .before .pre .1) (c .before .before .before .before .before .before .before .before .before .before .before .before .before .before .before .pre .2))
@@ -49,10 +49,4 @@ decide-spec =
     let p = c .before .before .before .before .before .before .before .before .before .before .before .pre in
     let w = our-walk _ (c .before .before .before .before .before .before .before .before .before .before .before .args .order .now) _ _ _ (p .0 .term-count) (c .before .before .before .before .before .before .limit .ensures) (c .before .before .before .before .before .before .before .start .ensures) in
     let e = refuted-at (c .before .before .before .before .walk .result) (0 ∷ []) 0 (c .before .before .before .before .walk .last .1 .1 .1 .1 .1 .0) _ (c .before .before .before .before .walk .ensures .0) (c .enum-told2 .given .1) in
-    verdict-refuted _ _ _ (e .0) _ (sym w ∙ e .1) (p .3))
-    -- returns-3
-    (λ c.
-    let p = c .before .before .before .before .before .before .before .before .before .before .before .pre in
-    let w = our-walk _ (c .before .before .before .before .before .before .before .before .before .before .before .args .order .now) _ _ _ (p .0 .term-count) (c .before .before .before .before .before .before .limit .ensures) (c .before .before .before .before .before .before .before .start .ensures) in
-    let e = broken-at (c .before .before .before .before .walk .result) (0 ∷ []) 0 (c .before .before .before .before .walk .last .1 .1 .1 .1 .1 .0) _ (c .before .before .before .before .walk .ensures .0) (c .enum-told3 .given .1) in
-    verdict-broken _ _ _ _ (sym w ∙ e) (p .3)))
+    verdict-refuted _ _ _ (e .0) _ (sym w ∙ e .1) (p .3)))

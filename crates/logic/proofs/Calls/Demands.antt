@@ -5,22 +5,21 @@ use mathlib.Core.Path.{_≡_, refl, sym, ap, _∙_}
 use mathlib.Core.Logic.{_↔_}
 use mathlib.Core.Bool.{true}
 use mathlib.Core.List.{List}
-use mathlib.Core.Option.{some}
 use lib.ListN.{length, replicate}
 use Rattle.logic.specs.Query.{Query, decode}
 use Rattle.logic.specs.Heap.{Satisfiable}
 use Rattle.logic.specs.Facts.{Facts}
-use Rattle.logic.specs.Walk.{Verdict, ourWalk, ourVerdict}
+use Rattle.logic.specs.Walk.{Ending, Verdict, ourWalk, ourVerdict}
 use Rattle.logic.specs.Shown.{report, wellFormed}
 use Rattle.logic.specs.Calls.{Input, orderCheck, layoutCheck, byteCheck, roomCheck, queryChecks, verdictChecks, derivationChecks, Outcome, Answer, refused, padded, blank, verdictOf, verdictCall, derivationCall}
 use Rattle.logic.specs.Demands.{NotRefused, Alike, walkOf, Demand1, Demand2, Demand3, Shows, Right, answerOf}
 use Rattle.logic.proofs.Query.Tied.{Accepted}
 use Rattle.logic.proofs.Query.AcceptedBytes.{accepted}
-use Rattle.logic.proofs.Walks.Derives.{our-refutes}
+use Rattle.logic.proofs.Walks.Limit.{our-refutes}
 use Rattle.logic.proofs.Walks.Follows.{hand-follows}
 use Rattle.logic.proofs.Completeness.ShownHeap.{shown, formed}
 use Rattle.logic.proofs.Calls.Verdicts.{Model, our-model, completed, our-right, hand-right, right-unique}
-use Rattle.logic.proofs.Calls.CallLaws.{Passed, derivation-known, verdict-clear, verdict-passed, alike-clear}
+use Rattle.logic.proofs.Calls.CallLaws.{Passed, derivation-passed, derivation-known, verdict-clear, verdict-passed, alike-clear}
 use Rattle.logic.proofs.Calls.Refusals.{refused-one, blank-answer}
 use Rattle.logic.proofs.Calls.VerdictCall.{verdictAt, refused-satisfiable, refused-refuted, refuted-satisfiable, VerdictCase, by-refusal, by-lines, by-model, verdict-refusals, verdict-of, verdict-case}
 use Rattle.logic.proofs.Calls.DerivationCall.{derivation-refusals, never-satisfiable, heap-exactly, excess-exactly, lines-exactly, eleven-modelled, model-answered, unrefused-refuted, derived}
@@ -63,15 +62,15 @@ found-shown i o f =
     )
 
 -- where the call is not refused, it answers our walk's verdict
-answered : (i : Input) (o : Outcome) → NotRefused (o .answer) → VerdictCase i o → (v : Verdict) × ((ourVerdict (walkOf i) ≡ some v) × (o .answer ≡ answerOf v)) × Passed i
+answered : (i : Input) (o : Outcome) → NotRefused (o .answer) → VerdictCase i o → (o .answer ≡ answerOf (ourVerdict (walkOf i))) × Passed i
 unfolding blank ourVerdict
 answered i o h (by-refusal k p u e) = absurd (h k p (ap (λ (x : Outcome). x .answer) e))
-answered i o h (by-lines ls w e r) = (Verdict.refuted, (ap ourVerdict w, ap (λ (x : Outcome). x .answer) e), verdict-passed i r .0)
-answered i o h (by-model s w e r) = (Verdict.satisfiable, (ap ourVerdict w, ap (λ (x : Outcome). x .answer) e), verdict-passed i r .0)
+answered i o h (by-lines ls w e r) = (ap (λ (x : Outcome). x .answer) e ∙ sym (ap (λ (x : Ending). answerOf (ourVerdict x)) w), verdict-passed i r .0)
+answered i o h (by-model s w e r) = (ap (λ (x : Outcome). x .answer) e ∙ sym (ap (λ (x : Ending). answerOf (ourVerdict x)) w), verdict-passed i r .0)
 
 -- and its input has passed checks 1 to 8
 pub call-passed : (i : Input) → NotRefused (verdictCall i .answer) → Passed i
-call-passed i h = answered i (verdictCall i) h (verdict-case i) .2
+call-passed i h = answered i (verdictCall i) h (verdict-case i) .1
 
 -- an answer is a verdict's exactly as the verdicts are
 answer-verdict : (v w : Verdict) → (answerOf v ≡ answerOf w) ↔ (v ≡ w)
@@ -82,8 +81,8 @@ answer-verdict Verdict.refuted Verdict.refuted = (λ e. refl, λ e. refl)
 
 answer-right : (i : Input) → NotRefused (verdictCall i .answer) → (v : Verdict) × (verdictCall i .answer ≡ answerOf v) × Right (decode (i .query)) v
 answer-right i h =
-    let a = answered i (verdictCall i) h (verdict-case i) in
-    (a .0, a .1 .1, our-right (decode (i .query)) (call-accepted i (a .2)) (i .order) (a .2 .order) (a .0) (a .1 .0))
+    let (e, p) = answered i (verdictCall i) h (verdict-case i) in
+    (ourVerdict (walkOf i), e, our-right (decode (i .query)) (call-accepted i p) (i .order) (p .order))
 
 answer-exactly : (i : Input) (w : Verdict) (P : Type 0) → NotRefused (verdictCall i .answer) → ((v : Verdict) → Right (decode (i .query)) v → (v ≡ w) ↔ P) → (verdictCall i .answer ≡ answerOf w) ↔ P
 answer-exactly i w P h exactly =
@@ -93,8 +92,8 @@ answer-exactly i w P h exactly =
 
 -- Demand 1
 
--- the verdict call uses no refusal above 10
-verdict-numbered : (i : Input) (o : Outcome) (k place : ℕ) → o .answer ≡ refused k place → VerdictCase i o → k ≤ 10
+-- the verdict call uses no refusal above 9
+verdict-numbered : (i : Input) (o : Outcome) (k place : ℕ) → o .answer ≡ refused k place → VerdictCase i o → k ≤ 9
 verdict-numbered i o k place h (by-refusal j p u e) = omega (arith, u, refused-one (sym (blank-answer o (i .room) _ e) ∙ h) .0)
 verdict-numbered i o k place h (by-lines ls w e r) = absurd (refused-refuted (sym (blank-answer o (i .room) _ e) ∙ h))
 verdict-numbered i o k place h (by-model s w e r) = absurd (refused-satisfiable (sym (ap (λ (x : Outcome). x .answer) e) ∙ h))
@@ -112,12 +111,7 @@ unfolding ourVerdict
 one-verdict i j e h g =
     let d = unrefused-refuted j g in
     let (n, (ls, w, f)) = lines-exactly j .0 d in
-    let a = answered i (verdictCall i) h (verdict-case i) in
-    let v : some Verdict.refuted ≡ some (a .0) = sym (ap ourVerdict (alike-walk i j e ∙ w)) ∙ a .1 .0 in
-    a .1 .1 ∙ ap answerOf (some-one (sym v)) ∙ sym d
-  where
-    some-one : {v w : Verdict} → some v ≡ some w → v ≡ w
-    some-one e = cc
+    answered i (verdictCall i) h (verdict-case i) .0 ∙ ap (λ (x : Ending). answerOf (ourVerdict x)) (alike-walk i j e ∙ w) ∙ sym d
 
 one-heap : (i j : Input) → Alike i j → 53 ≤ i .room → (verdictCall i .answer ≡ Answer.satisfiable) ↔ (derivationCall j .answer ≡ refused 11 0)
 unfolding verdictOf
@@ -159,7 +153,7 @@ demand2 =
       satisfiable-exactly = λ i h. answer-exactly i Verdict.satisfiable (Satisfiable (decode (i .query))) h (λ v r. r .satisfiable-exactly);
       heap-shown = λ i h. found-shown i (verdictCall i) (found i (verdictCall i) h (verdict-case i)) .0;
       refuted-exactly = λ i h. answer-exactly i Verdict.refuted (Satisfiable (decode (i .query)) → ⊥) h (λ v r. r .refuted-exactly);
-      derivation-follows = λ i h. our-refutes (decode (i .query)) (i .order) _ (derived i h .walked);
+      derivation-follows = λ i h. our-refutes (decode (i .query)) (call-accepted i (derivation-passed i (lines-exactly i .0 h .0))) (i .order) _ (derived i h .walked);
       derivation-walked = λ i h. derived i h .walked;
       derivation-formed = λ i h. derived i h .formed;
       derivation-counted = λ i h. derived i h .fits;
@@ -170,10 +164,10 @@ demand2 =
 pub demand3 : Demand3
 demand3 =
     record {
-      one-verdict = λ query order picks v w a o h h′.
-          right-unique (decode query) v w (our-right (decode query) (accepted query a) order o v h) (hand-right (decode query) (accepted query a) picks w h′);
-      ours-right = λ query order v a o h. our-right (decode query) (accepted query a) order o v h;
+      one-verdict = λ query order picks w a o h.
+          right-unique (decode query) _ w (our-right (decode query) (accepted query a) order o) (hand-right (decode query) (accepted query a) picks w h);
+      ours-right = λ query order a o. our-right (decode query) (accepted query a) order o;
       hand-right = λ query picks w a h. hand-right (decode query) (accepted query a) picks w h;
-      hand-follows = λ query order a o. hand-follows (decode query) order o;
-      call-answers = λ i h. let a = answered i (verdictCall i) h (verdict-case i) in (a .0, a .1);
+      hand-follows = λ query order a o. hand-follows (decode query) (accepted query a) order o;
+      call-answers = λ i h. answered i (verdictCall i) h (verdict-case i) .0;
     }

@@ -12,10 +12,10 @@ use Rattle.logic.specs.Search.{_and_, _or_, all}
 use Rattle.logic.specs.Query.{decode}
 use Rattle.logic.specs.Heap.{Satisfiable}
 use Rattle.logic.specs.Facts.{Facts, Line}
-use Rattle.logic.specs.Walk.{Ending, refutation, saturation, broken-off}
+use Rattle.logic.specs.Walk.{Ending, refutation, saturation}
 use Rattle.logic.specs.Derivation.{derivationBytes, linesIn}
 use Rattle.logic.specs.Calls.{Input, Check, orderCheck, layoutCheck, byteCheck, queryChecks, derivationChecks, Outcome, Answer, refused, padded, blank, derivationOf, derivationCall}
-use Rattle.logic.specs.Demands.{NotRefused, NoneStands, walkOf, BrokenOff, Refusals, Fits, Exceeds}
+use Rattle.logic.specs.Demands.{NotRefused, NoneStands, walkOf, Refusals, Fits, Exceeds}
 use Rattle.logic.proofs.Basics.Search.{or-left, or-right}
 use Rattle.logic.proofs.Basics.Compare.{le-cases, cond-true}
 use Rattle.logic.proofs.Query.AcceptedBytes.{accepted}
@@ -47,7 +47,6 @@ fits-or-not room ls =
 
 -- What the walk's ending makes of the call.
 data Ends (room : ℕ) (w : Ending) (o : Outcome) : Type 0 where
-  at-limit : w ≡ broken-off → o ≡ blank room (refused 10 0) → Ends room w o
   at-model : (s : Facts) → w ≡ saturation s → o ≡ blank room (refused 11 0) → Ends room w o
   at-excess : (ls : List Line) → w ≡ refutation ls → Exceeds room ls → o ≡ blank room (refused 12 0) → Ends room w o
   at-lines : (ls : List Line) → w ≡ refutation ls → Fits room ls → o ≡ written room ls → Ends room w o
@@ -55,23 +54,20 @@ data Ends (room : ℕ) (w : Ending) (o : Outcome) : Type 0 where
 ends : (room : ℕ) (w : Ending) → Ends room w (derivationOf room w)
 unfolding derivationOf
 ends room (saturation s) = at-model s refl refl
-ends room broken-off = at-limit refl refl
 ends room (refutation ls) = ⊎-elim (λ f. at-lines ls refl f (lines-fit room ls f)) (λ x. at-excess ls refl x (lines-exceed room ls x)) (fits-or-not room ls)
 
--- refusals 10 to 12
-late : (room : ℕ) (w : Ending) (o : Outcome) (j k place : ℕ) → 10 ≤ j → j ≤ 12 → (j ≡ 10 → w ≡ broken-off) → o ≡ blank room (refused j 0) → o .answer ≡ refused k place → Late room w k place (o .lent)
-late room w o j k place l u b e h =
+-- refusals 11 and 12
+late : (room : ℕ) (o : Outcome) (j k place : ℕ) → 11 ≤ j → j ≤ 12 → o ≡ blank room (refused j 0) → o .answer ≡ refused k place → Late room k place (o .lent)
+late room o j k place l u e h =
     let q = refused-one (sym (blank-answer o room _ e) ∙ h) in
-    record { placed = sym (q .1); above = omega (arith, q .0, l); below = omega (arith, q .0, u); limit = λ x. b (q .0 ∙ x); zeros = blank-lent o room _ e }
+    record { placed = sym (q .1); above = omega (arith, q .0, l); below = omega (arith, q .0, u); zeros = blank-lent o room _ e }
 
-ends-late : (room : ℕ) (w : Ending) (o : Outcome) (k place : ℕ) → Ends room w o → o .answer ≡ refused k place → Late room w k place (o .lent)
-ends-late room w o k place (at-limit b e) h = late room w o 10 k place (omega arith) (omega arith) (λ x. b) e h
-ends-late room w o k place (at-model s m e) h = late room w o 11 k place (omega arith) (omega arith) (λ x. absurd (omega arith)) e h
-ends-late room w o k place (at-excess ls m x e) h = late room w o 12 k place (omega arith) (omega arith) (λ x. absurd (omega arith)) e h
+ends-late : (room : ℕ) (w : Ending) (o : Outcome) (k place : ℕ) → Ends room w o → o .answer ≡ refused k place → Late room k place (o .lent)
+ends-late room w o k place (at-model s m e) h = late room o 11 k place (omega arith) (omega arith) e h
+ends-late room w o k place (at-excess ls m x e) h = late room o 12 k place (omega arith) (omega arith) e h
 ends-late room w o k place (at-lines ls m f e) h = absurd (refused-refuted (sym (ap (λ (x : Outcome). x .answer) e) ∙ h))
 
 ends-whole : (room : ℕ) (w : Ending) (o : Outcome) → Ends room w o → length (o .lent) ≡ room
-ends-whole room w o (at-limit b e) = ap (λ (x : Outcome). length (x .lent)) e ∙ blank-length room _
 ends-whole room w o (at-model s m e) = ap (λ (x : Outcome). length (x .lent)) e ∙ blank-length room _
 ends-whole room w o (at-excess ls m x e) = ap (λ (x : Outcome). length (x .lent)) e ∙ blank-length room _
 ends-whole room w o (at-lines ls m f e) = ap (λ (x : Outcome). length (x .lent)) e ∙ derivation-fits room ls (f .1)
@@ -98,7 +94,6 @@ derivation-lawful =
       ascending = derivation-ascends;
       known = derivation-known;
       has = derivation-has;
-      at-limit = λ i. refl;
       late = λ i w k place h. ends-late (i .room) w _ k place (ends (i .room) w) h;
       whole = λ i h. derivation-whole (i .room) (walkOf i);
     }
@@ -119,12 +114,11 @@ abbrev Lines : (ℕ → List Line → Type 0) → Input → Type 0
 Lines P i = NoneStands derivationChecks i × ((ls : List Line) × (walkOf i ≡ refutation ls) × P (i .room) ls)
 
 abbrev pub Reason : Input → Answer → Type 0
-Reason i (refused k place) = (k ≤ 10) ⊎ ((place ≡ 0) × (((k ≡ 11) × Modelled i) ⊎ ((k ≡ 12) × Lines Exceeds i)))
+Reason i (refused k place) = (k ≤ 9) ⊎ ((place ≡ 0) × (((k ≡ 11) × Modelled i) ⊎ ((k ≡ 12) × Lines Exceeds i)))
 Reason i Answer.satisfiable = ⊥
 Reason i Answer.refuted = Lines Fits i
 
 ends-reason : (i : Input) (o : Outcome) → NoneStands derivationChecks i → Ends (i .room) (walkOf i) o → Reason i (o .answer)
-ends-reason i o n (at-limit b e) = subst (Reason i) (sym (blank-answer o (i .room) _ e)) (inl (omega arith))
 ends-reason i o n (at-model s w e) = subst (Reason i) (sym (blank-answer o (i .room) _ e)) (inr (refl, inl (refl, (n, (s, w)))))
 ends-reason i o n (at-excess ls w x e) = subst (Reason i) (sym (blank-answer o (i .room) _ e)) (inr (refl, inr (refl, (n, (ls, w, x)))))
 ends-reason i o n (at-lines ls w f e) = subst (Reason i) (sym (ap (λ (x : Outcome). x .answer) e)) (n, (ls, w, f))
@@ -158,7 +152,7 @@ module _ (i : Input) where
   lines : a ≡ Answer.refuted → Lines Fits i
   lines h = subst (Reason i) h (reason i)
 
-  -- a walk that is finished has a model or lines
+  -- a walk has a model or lines
   modelled-satisfiable : Modelled i → Satisfiable (decode (i .query))
   modelled-satisfiable (n, (s, w)) =
       let p = derivation-passed i n in
@@ -168,26 +162,22 @@ module _ (i : Input) where
   lines-unsatisfiable : NoneStands derivationChecks i → (ls : List Line) → walkOf i ≡ refutation ls → Satisfiable (decode (i .query)) → ⊥
   lines-unsatisfiable n ls w = our-refuted (decode (i .query)) (accepted (i .query) (derivation-passed i n .query)) (i .order) ls w
 
-  found : NoneStands derivationChecks i → (BrokenOff i → ⊥) → Satisfiable (decode (i .query)) → (s : Facts) × (walkOf i ≡ saturation s)
-  found n b h = go (walkOf i) refl
+  found : NoneStands derivationChecks i → Satisfiable (decode (i .query)) → (s : Facts) × (walkOf i ≡ saturation s)
+  found n h = go (walkOf i) refl
     where
       go : (w : Ending) → walkOf i ≡ w → (s : Facts) × (walkOf i ≡ saturation s)
       go (refutation ls) e = absurd (lines-unsatisfiable n ls e h)
       go (saturation s) e = (s, e)
-      go broken-off e = absurd (b e)
 
   pub model-answered : (s : Facts) → NoneStands derivationChecks i → walkOf i ≡ saturation s → a ≡ refused 11 0
   unfolding derivationOf
   model-answered s n w = blank-answer (derivationCall i) (i .room) _ (derivation-of i n ∙ ap (derivationAt i) w)
 
-  pub heap-exactly : (place : ℕ) → (a ≡ refused 11 place) ↔ ((place ≡ 0) × NoneStands derivationChecks i × (BrokenOff i → ⊥) × Satisfiable (decode (i .query)))
+  pub heap-exactly : (place : ℕ) → (a ≡ refused 11 place) ↔ ((place ≡ 0) × NoneStands derivationChecks i × Satisfiable (decode (i .query)))
   heap-exactly place = (
-    λ h. let (z, m) = eleven place h in (z, m .0, λ b. unbroken (m .1 .0) (sym (m .1 .1) ∙ b), modelled-satisfiable m),
-    λ h. let f = found (h .1) (h .2) (h .3) in model-answered (f .0) (h .1) (f .1) ∙ ap (refused 11) (sym (h .0)),
+    λ h. let (z, m) = eleven place h in (z, m .0, modelled-satisfiable m),
+    λ h. let f = found (h .1) (h .2) in model-answered (f .0) (h .1) (f .1) ∙ ap (refused 11) (sym (h .0)),
   )
-    where
-      unbroken : (s : Facts) → saturation s ≡ broken-off → ⊥
-      unbroken s e = let z : _≡_ {A = ℕ} 0 1 = cc in omega arith
 
   pub excess-exactly : (place : ℕ) → (a ≡ refused 12 place) ↔ ((place ≡ 0) × NoneStands derivationChecks i × (Satisfiable (decode (i .query)) → ⊥) × ((ls : List Line) × (walkOf i ≡ refutation ls) × Exceeds (i .room) ls))
   excess-exactly place = (

@@ -1,7 +1,7 @@
 -- How a call refuses: what either call's refusals have in common, from what its walk's ending makes of it.
 use Prim.Native.Nat.{ℕ, _≤_}
 use native.Mathlib.Omega.{arith}
-use mathlib.Core.Path.{_≡_, refl, sym, ap, _∙_, subst, subst₂}
+use mathlib.Core.Path.{_≡_, sym, ap, _∙_, subst, subst₂}
 use mathlib.Core.Logic.{_⊎_, ⊎-elim, inl, inr}
 use mathlib.Core.Bool.{Bool, true, not}
 use mathlib.Core.List.{List, List·Memᴰ, Memᴰ·append-left, map}
@@ -10,9 +10,9 @@ use lib.ListN.{length, replicate}
 use lib.Dec.{ltb}
 use Rattle.logic.specs.Search.{keep, from}
 use Rattle.logic.specs.Query.{isOrder, layoutFault}
-use Rattle.logic.specs.Walk.{Ending, broken-off}
+use Rattle.logic.specs.Walk.{Ending}
 use Rattle.logic.specs.Calls.{Input, Check, orderCheck, layoutCheck, byteCheck, roomCheck, queryChecks, verdictChecks, Answer, refused, Outcome, blank, call}
-use Rattle.logic.specs.Demands.{NoneStands, FirstStands, walkOf, BrokenOff, Refusals}
+use Rattle.logic.specs.Demands.{NoneStands, FirstStands, walkOf, Refusals}
 use Rattle.logic.proofs.Basics.Search.{none-some, keep-some, from-intro, map-intro}
 use Rattle.logic.proofs.Query.Places.{InQuery, layout-place, byte-place}
 use Rattle.logic.proofs.Calls.CheckingOrder.{ascends, first-unique, first-stands, first-lowest, refusal-first, check-elim, check-numbered}
@@ -48,12 +48,11 @@ layout-own : (k : ℕ) → 2 ≤ k → k ≤ 4 → List·Memᴰ (layoutCheck k) 
 unfolding queryChecks from
 layout-own k l u = Memᴰ·append-left (map byteCheck (from 4 5)) (map-intro layoutCheck k (from-intro 3 2 k l (omega arith)))
 
--- A refusal that the walk's ending gives: its place is 0, it is one of 10 to 12, and all that was lent is zero.
-pub record Late (room : ℕ) (w : Ending) (k place : ℕ) (lent : List ℕ) : Type 0 where
+-- A refusal that the walk's ending gives: its place is 0, it is 11 or 12, and all that was lent is zero.
+pub record Late (room k place : ℕ) (lent : List ℕ) : Type 0 where
   pub placed : place ≡ 0
-  pub above : 10 ≤ k
+  pub above : 11 ≤ k
   pub below : k ≤ 12
-  pub limit : k ≡ 10 → w ≡ broken-off
   pub zeros : lent ≡ replicate room 0
 
 -- What this asks of a call: its checks are some of the verdict call's, with all of the query's, in order; and what its walk's ending
@@ -62,8 +61,7 @@ pub record Lawful (cs : List Check) (result : Input → Ending → Outcome) : Ty
   pub ascending : ascends cs ≡ true
   pub known : (c : Check) → List·Memᴰ c cs → List·Memᴰ c verdictChecks
   pub has : (c : Check) → List·Memᴰ c queryChecks → List·Memᴰ c cs
-  pub at-limit : (i : Input) → result i broken-off ≡ blank (i .room) (refused 10 0)
-  pub late : (i : Input) (w : Ending) (k place : ℕ) → result i w .answer ≡ refused k place → Late (i .room) w k place (result i w .lent)
+  pub late : (i : Input) (w : Ending) (k place : ℕ) → result i w .answer ≡ refused k place → Late (i .room) k place (result i w .lent)
   pub whole : (i : Input) → NoneStands cs i → length (result i (walkOf i) .lent) ≡ i .room
 
 -- what a call does, by cases: the first of its checks that stands, or what its walk says
@@ -84,7 +82,7 @@ module _ (cs : List Check) (result : Input → Ending → Outcome) (lawful : Law
   abbrev RefusedBy : Input → Outcome → ℕ → ℕ → Type 0
   RefusedBy i o k place =
       (FirstStands cs i k place × (o .lent ≡ replicate (i .room) 0))
-      ⊎ (NoneStands cs i × Late (i .room) (walkOf i) k place (o .lent))
+      ⊎ (NoneStands cs i × Late (i .room) k place (o .lent))
 
   pub call-case : (i : Input) → CallCase cs result i (call cs (result i) i)
   call-case i =
@@ -110,7 +108,7 @@ module _ (cs : List Check) (result : Input → Ending → Outcome) (lawful : Law
         let q = refused-one (sym (blank-answer o (i .room) _ e) ∙ h) in
         inl (subst₂ (FirstStands cs i) (q .0) (q .1) f, blank-lent o (i .room) _ e)
     refused-by k place h (by-walk n e) =
-        inr (n, subst (λ (x : Outcome). x .answer ≡ refused k place → Late (i .room) (walkOf i) k place (x .lent)) (sym e) (lawful .late i (walkOf i) k place) h)
+        inr (n, subst (λ (x : Outcome). x .answer ≡ refused k place → Late (i .room) k place (x .lent)) (sym e) (lawful .late i (walkOf i) k place) h)
 
     first-answered : (k place : ℕ) → FirstStands cs i k place → CallCase cs result i o → o .answer ≡ refused k place
     first-answered k place f (by-check j p g e) =
@@ -122,10 +120,6 @@ module _ (cs : List Check) (result : Input → Ending → Outcome) (lawful : Law
     stands-answered c place m s (by-check j p g e) = (j, p, first-lowest cs i j p g c place m s, blank-answer o (i .room) _ e)
     stands-answered c place m s (by-walk n e) = absurd (none-some (sym (n c m) ∙ s))
 
-    limit-answered : NoneStands cs i → BrokenOff i → CallCase cs result i o → o .answer ≡ refused 10 0
-    limit-answered n b (by-check j p g e) = absurd (first-stands cs i j p n g)
-    limit-answered n b (by-walk m e) = blank-answer o (i .room) _ (e ∙ ap (result i) b ∙ lawful .at-limit i)
-
     case-whole : CallCase cs result i o → length (o .lent) ≡ i .room
     case-whole (by-check j p g e) = ap (λ (x : Outcome). length (x .lent)) e ∙ blank-length (i .room) _
     case-whole (by-walk n e) = ap (λ (x : Outcome). length (x .lent)) e ∙ lawful .whole i n
@@ -133,8 +127,8 @@ module _ (cs : List Check) (result : Input → Ending → Outcome) (lawful : Law
   by : (i : Input) (k place : ℕ) → outcome i .answer ≡ refused k place → RefusedBy i (outcome i) k place
   by i k place h = refused-by i (outcome i) k place h (call-case i)
 
-  -- the walk's ending where no check stands and the refusal is 10 or above
-  pub late-refusal : (i : Input) (k place : ℕ) → 10 ≤ k → outcome i .answer ≡ refused k place → NoneStands cs i × Late (i .room) (walkOf i) k place (outcome i .lent)
+  -- no check stands where the refusal is 10 or above
+  pub late-refusal : (i : Input) (k place : ℕ) → 10 ≤ k → outcome i .answer ≡ refused k place → NoneStands cs i × Late (i .room) k place (outcome i .lent)
   late-refusal i k place l h =
       ⊎-elim (λ f. absurd (omega (arith, first-number i k place (f .0), l))) (λ n. n) (by i k place h)
 
@@ -146,10 +140,7 @@ module _ (cs : List Check) (result : Input → Ending → Outcome) (lawful : Law
           λ f. first-answered i (outcome i) k place f (call-case i),
         );
         refusal-made = λ i c place m s. stands-answered i (outcome i) c place m s (call-case i);
-        limit-exactly = λ i place. (
-          λ h. let n = late-refusal i 10 place (omega arith) h in (n .1 .placed, n .0, n .1 .limit refl),
-          λ h. limit-answered i (outcome i) (h .1) (h .2) (call-case i) ∙ ap (refused 10) (sym (h .0)),
-        );
+        never-ten = λ i place h. omega (arith, late-refusal i 10 place (omega arith) h .1 .above);
         refusal-numbered = λ i k place h. ⊎-elim (λ f. let n = first-number i k place (f .0) in (n .0, omega (arith, n .1))) (λ n. (omega (arith, n .1 .above), n .1 .below)) (by i k place h);
         refusal-placed = λ i k place h. ⊎-elim (λ f. first-place i k place (f .0)) (λ n. (omega (arith, n .1 .placed), omega (arith, n .1 .placed))) (by i k place h);
         refusal-blank = λ i k place h. ⊎-elim (λ f. f .1) (λ n. n .1 .zeros) (by i k place h);

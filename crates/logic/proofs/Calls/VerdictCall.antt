@@ -8,7 +8,7 @@ use lib.ListN.{length}
 use Rattle.logic.specs.Search.{_and_, all}
 use Rattle.logic.specs.Query.{Query, decode}
 use Rattle.logic.specs.Facts.{Facts, Line}
-use Rattle.logic.specs.Walk.{Ending, refutation, saturation, broken-off}
+use Rattle.logic.specs.Walk.{Ending, refutation, saturation}
 use Rattle.logic.specs.Shown.{report}
 use Rattle.logic.specs.Calls.{Input, Check, orderCheck, layoutCheck, byteCheck, roomCheck, queryChecks, verdictChecks, Outcome, Answer, refused, padded, blank, verdictOf, verdictCall}
 use Rattle.logic.specs.Demands.{NoneStands, walkOf, Refusals}
@@ -16,7 +16,7 @@ use Rattle.logic.proofs.Query.AcceptedBytes.{accepted}
 use Rattle.logic.proofs.Completeness.ShownHeap.{report-length}
 use Rattle.logic.proofs.Calls.CheckingOrder.{ascends, check-numbered}
 use Rattle.logic.proofs.Calls.CallLaws.{verdict-passed, padded-length, blank-length}
-use Rattle.logic.proofs.Calls.Refusals.{refused-one, Late, Lawful, CallCase, by-check, by-walk, call-case, call-clear, refusals}
+use Rattle.logic.proofs.Calls.Refusals.{Late, Lawful, CallCase, by-check, by-walk, call-case, call-clear, refusals}
 
 -- what the walk's ending makes of the call
 abbrev pub verdictAt : Input → Ending → Outcome
@@ -40,13 +40,10 @@ verdict-has : (c : Check) → List·Memᴰ c queryChecks → List·Memᴰ c verd
 unfolding verdictChecks
 verdict-has c m = List·Memᴰ·tail (Memᴰ·append-left (roomCheck ∷ []) m)
 
-verdict-late : (i : Input) (w : Ending) (k place : ℕ) → verdictAt i w .answer ≡ refused k place → Late (i .room) w k place (verdictAt i w .lent)
+verdict-late : (i : Input) (w : Ending) (k place : ℕ) → verdictAt i w .answer ≡ refused k place → Late (i .room) k place (verdictAt i w .lent)
 unfolding verdictOf blank
 verdict-late i (refutation ls) k place h = absurd (refused-refuted h)
 verdict-late i (saturation s) k place h = absurd (refused-satisfiable h)
-verdict-late i broken-off k place h =
-    let q = refused-one h in
-    record { placed = sym (q .1); above = omega (arith, q .0); below = omega (arith, q .0); limit = λ e. refl; zeros = refl }
 
 verdict-whole : (i : Input) → NoneStands verdictChecks i → (w : Ending) → length (verdictAt i w .lent) ≡ i .room
 unfolding verdictOf
@@ -55,7 +52,6 @@ verdict-whole i h (saturation s) =
     let p = verdict-passed i h in
     let q : Query = decode (i .query) in
     padded-length (i .room) (report q s) (omega (arith, report-length q s (accepted (i .query) (p .0 .query)), p .1))
-verdict-whole i h broken-off = blank-length (i .room) _
 
 verdict-lawful : Lawful verdictChecks verdictAt
 unfolding verdictOf
@@ -64,7 +60,6 @@ verdict-lawful =
       ascending = verdict-ascends;
       known = λ c m. m;
       has = verdict-has;
-      at-limit = λ i. refl;
       late = verdict-late;
       whole = λ i h. verdict-whole i h (walkOf i);
     }
@@ -78,7 +73,7 @@ unfolding verdictCall
 verdict-of i h = call-clear verdictChecks (verdictAt i) i h
 
 pub data VerdictCase (i : Input) (o : Outcome) : Type 0 where
-  by-refusal : (k place : ℕ) → k ≤ 10 → o ≡ blank (i .room) (refused k place) → VerdictCase i o
+  by-refusal : (k place : ℕ) → k ≤ 9 → o ≡ blank (i .room) (refused k place) → VerdictCase i o
   by-lines : (ls : List Line) → walkOf i ≡ refutation ls → o ≡ blank (i .room) Answer.refuted → NoneStands verdictChecks i → VerdictCase i o
   by-model : (s : Facts) → walkOf i ≡ saturation s → o ≡ record { answer = Answer.satisfiable; lent = padded (i .room) (report (decode (i .query)) s) } → NoneStands verdictChecks i → VerdictCase i o
 
@@ -86,7 +81,6 @@ walked-case : (i : Input) (w : Ending) → walkOf i ≡ w → NoneStands verdict
 unfolding verdictOf
 walked-case i (refutation ls) e h = by-lines ls e refl h
 walked-case i (saturation s) e h = by-model s e refl h
-walked-case i broken-off e h = by-refusal 10 0 (omega arith) refl
 
 of-case : (i : Input) (o : Outcome) → CallCase verdictChecks verdictAt i o → VerdictCase i o
 of-case i o (by-check k place f e) = by-refusal k place (omega (arith, check-numbered (f .check) (f .own), f .numbered)) e

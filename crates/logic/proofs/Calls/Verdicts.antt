@@ -1,33 +1,31 @@
 -- A verdict that a finished walk gives is right, whether the walk is ours or a hand's.
-use Prim.Native.Nat.{ℕ, _+_, _-_, _≤_}
+use Prim.Native.Nat.{ℕ}
 use native.Mathlib.Omega.{arith}
-use mathlib.Core.Path.{_≡_, refl, sym, ap, _∙_, subst}
-use mathlib.Core.Logic.{_↔_, _⊎_, ⊎-elim, inl, inr}
+use mathlib.Core.Path.{_≡_, refl, sym}
 use mathlib.Core.Bool.{Bool, true, false, not, cond}
-use mathlib.Core.List.{List, [], _∷_, _++_, List·Memᴰ}
-use mathlib.Core.Option.{Option, none, some}
-use lib.ListN.{length, replicate}
-use Rattle.logic.specs.Search.{_and_, all, any, isSome}
+use mathlib.Core.List.{List, [], _++_}
+use mathlib.Core.Option.{none, some}
+use Rattle.logic.specs.Search.{all, any, isSome}
 use Rattle.logic.specs.Query.{Query, isOrder, termCount}
-use Rattle.logic.specs.Heap.{Heap, Meets, Satisfiable}
-use Rattle.logic.specs.Facts.{Facts, Line, liveTerms, start, clash}
+use Rattle.logic.specs.Heap.{Satisfiable}
+use Rattle.logic.specs.Facts.{Facts, Line, liveTerms, clash}
 use Rattle.logic.specs.Rules.{Rule, rules, choose}
-use Rattle.logic.specs.Walk.{Ending, refutation, saturation, broken-off, Verdict, Pick, orderOf, ourWalk, ourVerdict, isClashed, isSaturated, handRow, handVerdict}
-use Rattle.logic.specs.Shown.{report, wellFormed, heapIn}
-use Rattle.logic.specs.Demands.{Shows, Right}
-use Rattle.logic.proofs.Basics.Search.{none-some, and-left, and-right, not-true, isSome-false, any-true, bool-cases, true-false}
+use Rattle.logic.specs.Walk.{Ending, refutation, saturation, Verdict, Pick, orderOf, ourWalk, ourVerdict, isClashed, isSaturated, handRow, handVerdict}
+use Rattle.logic.specs.Shown.{report, heapIn}
+use Rattle.logic.specs.Demands.{Right}
+use Rattle.logic.proofs.Basics.Search.{none-some, and-left, and-right, not-true, isSome-false, any-true}
 use Rattle.logic.proofs.Query.Tied.{Accepted}
-use Rattle.logic.proofs.Paths.Kept.{Sane}
 use Rattle.logic.proofs.Paths.Invariant.{Invariant, start-invariant, branch-invariant}
 use Rattle.logic.proofs.Walks.Order.{HoldsAll, rules-full, order-full}
-use Rattle.logic.proofs.Walks.Derives.{our-refutes, our-saturation, row-all}
+use Rattle.logic.proofs.Walks.Derives.{row-all}
+use Rattle.logic.proofs.Walks.Limit.{our-refutes, our-saturation}
 use Rattle.logic.proofs.Soundness.FactsSound.{start-holds}
 use Rattle.logic.proofs.Soundness.Refuted.{refutes-sound, hand-refuted}
 use Rattle.logic.proofs.Completeness.Saturated.{Saturated}
 use Rattle.logic.proofs.Completeness.Saturation.{saturated}
 use Rattle.logic.proofs.Completeness.Completed.{Completed}
 use Rattle.logic.proofs.Completeness.Completion.{completed-in, completed-known, completed-reach}
-use Rattle.logic.proofs.Completeness.ShownHeap.{shown, formed}
+use Rattle.logic.proofs.Completeness.ShownHeap.{shown}
 
 -- the facts of a path that is saturated: the invariant, no clash, no rule
 pub record Model (q : Query) (s : Facts) : Type 0 where
@@ -50,11 +48,11 @@ module _ (q : Query) (ok : Accepted q) where
   -- our walk: where it is saturated the path found is a model; where it refutes there is no heap
   pub our-model : (order : List ℕ) → isOrder order ≡ true → (s : Facts) → ourWalk order q ≡ saturation s → Model q s
   our-model order o s h =
-      let e = our-saturation q (Invariant q) (λ s s′ m i c a k. branch-invariant q s m i a s′ k) order s (start-invariant q ok) h in
+      let e = our-saturation q ok (Invariant q) (λ s s′ m i c a k. branch-invariant q s m i a s′ k) order s (start-invariant q ok) h in
       model (orderOf order) (order-full order o) s (e .0) (e .1) (e .2)
 
   pub our-refuted : (order : List ℕ) (ls : List Line) → ourWalk order q ≡ refutation ls → Satisfiable q → ⊥
-  our-refuted order ls h (heap, meets) = refutes-sound q ok heap meets (our-refutes q order ls h) (start-holds q ok heap meets)
+  our-refuted order ls h (heap, meets) = refutes-sound q ok heap meets (our-refutes q ok order ls h) (start-holds q ok heap meets)
 
   -- the hand's walk: a path of its row that is saturated is a model
   saturated-model : (s : Facts) → Invariant q s → isSaturated q s ≡ true → Model q s
@@ -108,14 +106,13 @@ right-unique q Verdict.satisfiable w r r′ = sym (r′ .satisfiable-exactly .1 
 right-unique q Verdict.refuted w r r′ = sym (r′ .refuted-exactly .1 (r .refuted-exactly .0 refl))
 
 module _ (q : Query) (ok : Accepted q) where
-  pub our-right : (order : List ℕ) → isOrder order ≡ true → (v : Verdict) → ourVerdict (ourWalk order q) ≡ some v → Right q v
+  pub our-right : (order : List ℕ) → isOrder order ≡ true → Right q (ourVerdict (ourWalk order q))
   unfolding ourVerdict
-  our-right order o v h = go (ourWalk order q) refl h
+  our-right order o = go (ourWalk order q) refl
     where
-      go : (e : Ending) → ourWalk order q ≡ e → ourVerdict e ≡ some v → Right q v
-      go (refutation ls) e h = subst (Right q) (cc) (right-refuted q (our-refuted q ok order ls e))
-      go (saturation s) e h = subst (Right q) (cc) (right-satisfiable q (model-satisfiable q ok s (our-model q ok order o s e)))
-      go broken-off e h = absurd (none-some h)
+      go : (e : Ending) → ourWalk order q ≡ e → Right q (ourVerdict e)
+      go (refutation ls) e = right-refuted q (our-refuted q ok order ls e)
+      go (saturation s) e = right-satisfiable q (model-satisfiable q ok s (our-model q ok order o s e))
 
   pub hand-right : (picks : List Pick) (w : Verdict) → handVerdict q (handRow q picks) ≡ some w → Right q w
   hand-right picks Verdict.satisfiable h = let m = hand-model q ok picks h in right-satisfiable q (model-satisfiable q ok (m .0) (m .1))

@@ -12,6 +12,7 @@ use borrow.Author.Tests.{eqb-true, eq-eqb}
 use Rattle.logic.specs.Search.{at, from}
 use Rattle.logic.specs.Shown.{placeOf}
 use Rattle.logic.proofs.Basics.Search.{bool-cases}
+pub use Rattle.logic.proofs.Basics.Count.{length-from}
 
 -- a member stands at some place, counted from 1
 pub at-mem : {A : Type 0} {xs : List A} (x : A) → List·Memᴰ x xs → (i : ℕ) × (i < length xs) × (at xs (suc i) ≡ some x)
@@ -23,11 +24,6 @@ pub getD-mem : (ts : List ℕ) (i : ℕ) → i < length ts → List·Memᴰ (get
 getD-mem [] i h = absurd (omega arith)
 getD-mem (t ∷ ts) zero h = List·Memᴰ·head refl
 getD-mem (t ∷ ts) (suc i) h = List·Memᴰ·tail (getD-mem ts i (omega arith))
-
-pub length-from : (k i : ℕ) → length (from k i) ≡ k
-unfolding from
-length-from zero i = refl
-length-from (suc k) i = ap suc (length-from k (suc i))
 
 pub getD-from : (k i j : ℕ) → j < k → getD (from k i) j 0 ≡ i + j
 unfolding from

@@ -2,7 +2,7 @@
 use Prim.Native.Nat.{ℕ, zero, suc, _≤_}
 use native.Mathlib.Omega.{arith}
 use mathlib.Core.Path.{_≡_, refl}
-use mathlib.Core.Bool.{Bool, true, false, cond}
+use mathlib.Core.Bool.{true}
 use mathlib.Core.List.{List, [], _∷_, List·Memᴰ, List·Memᴰ·head, List·Memᴰ·not-nil}
 use lib.ListN.{length}
 use lib.Dec.{eqb, ltb}
@@ -12,17 +12,8 @@ use Rattle.logic.specs.Facts.{Facts, terms, live, liveTerms}
 use Rattle.logic.specs.Rules.{next}
 use Rattle.logic.specs.Shown.{linkEach, shownLink, orZero, nodes}
 use Rattle.logic.proofs.Basics.Search.{and-left, and-right, select-intro, from-intro}
-use Rattle.logic.proofs.Completeness.Placed.{length-from}
+use Rattle.logic.proofs.Basics.Count.{length-from, select-length}
 use Rattle.logic.proofs.Completeness.Completed.{Completed}
-
-select-length : {A : Type 0} (p : A → Bool) (xs : List A) → length (select p xs) ≤ length xs
-unfolding select
-select-length p [] = omega arith
-select-length p (x ∷ xs) = go (p x) (select-length p xs)
-  where
-    go : (b : Bool) → length (select p xs) ≤ length xs → length (cond b (x ∷ select p xs) (select p xs)) ≤ suc (length xs)
-    go true h = omega arith
-    go false h = omega arith
 
 orZero-length : (ts : List ℕ) → length ts ≤ 16 → (1 ≤ length (orZero ts)) × (length (orZero ts) ≤ 16)
 unfolding orZero

@@ -9,11 +9,11 @@ use lib.Dec.{eqb}
 use Rattle.logic.specs.Facts.{Graph, Facts, live, replace, doubled, successors, settle, join, addReach}
 use Rattle.logic.specs.Rules.{Fact, equal, reaches, add}
 use Rattle.logic.proofs.Basics.Search.{bool-cases}
-use Rattle.logic.proofs.Basics.Compare.{eqb-intro, eq-cases, le-cases}
+use Rattle.logic.proofs.Basics.Compare.{eqb-intro, eqb-false, eq-cases, le-cases}
 use Rattle.logic.proofs.Paths.Replace.{sub, sub-hit, sub-miss}
 use Rattle.logic.proofs.Paths.Extends.{Extends, extends-refl, extends-trans, extends-replace, extends-addReach, rep-same}
-use Rattle.logic.proofs.Paths.Ranged.{Ranged, ranged-replace, ranged-addReach}
-use Rattle.logic.proofs.Paths.Settle.{liveCount-le, ranged-settle, extends-settle, settle-done}
+use Rattle.logic.proofs.Paths.Ranged.{Ranged, replace-not-live, ranged-replace, ranged-addReach}
+use Rattle.logic.proofs.Paths.Settle.{liveCount-le, ranged-settle, extends-settle, settle-not-live, settle-done}
 
 -- facts in range, with single links
 pub record Sane (n : ℕ) (s : Facts) : Type 0 where
@@ -38,7 +38,7 @@ kept-settle n s r =
     }
 
 -- the lower and the higher of two different numbers, in either order
-low-high : (P : ℕ → ℕ → Type 0) (a b : ℕ) → P a b → P b a → P (min a b) (max a b)
+pub low-high : (P : ℕ → ℕ → Type 0) (a b : ℕ) → P a b → P b a → P (min a b) (max a b)
 low-high P a b p p′ =
     ⊎-elim
     (λ l. let e : min a b ≡ a = omega arith in let f : max a b ≡ b = omega arith in rw (e, f) p)
@@ -75,6 +75,17 @@ module _ (n a b : ℕ) (s : Facts) (la : live n s a ≡ true) (lb : live n s b �
       (λ e. rw (eqb-intro {m = a} {n = b} e) (kept-refl h, λ t u et eu. et ∙ e ∙ sym eu))
       (λ d. rw (d .1) (low-high Replaced a b (replaced a b la lb (d .0) (inl (refl, refl))) (replaced b a lb la (λ e. d .0 (sym e)) (inr (refl, refl))) (h .ranged)))
       (eq-cases a b)
+
+  -- a join of two different live terms replaces the higher, and no term that is replaced comes back
+  pub join-not-live : Ranged n s → (a ≡ b → ⊥) → (t : ℕ) → live n (join n a b s) t ≡ true → (live n s t ≡ true) × (t ≡ max a b → ⊥)
+  unfolding join
+  join-not-live r d = rw (eqb-false a b d) (low-high Gone a b (gone a b la lb d) (gone b a lb la (λ e. d (sym e))))
+    where
+      Gone : ℕ → ℕ → Type 0
+      Gone lo hi = (t : ℕ) → live n (settle n n (replace lo hi s)) t ≡ true → (live n s t ≡ true) × (t ≡ hi → ⊥)
+
+      gone : (lo hi : ℕ) → live n s lo ≡ true → live n s hi ≡ true → (lo ≡ hi → ⊥) → Gone lo hi
+      gone lo hi llo lhi d t h = replace-not-live n lo hi s llo lhi d t (settle-not-live n n (replace lo hi s) (ranged-replace n lo hi s llo lhi d r) t h)
 
   -- adding a reachability fact between live terms keeps
   pub addReach-kept : Sane n s → Kept n s (addReach a b s)

@@ -1,61 +1,17 @@
 -- Joining doubled successors: it comes to an end within as many replacements as there are live terms, and keeps what each one keeps.
-use Prim.Native.Nat.{ℕ, zero, suc, _≤_, _<_, min, max}
+use Prim.Native.Nat.{ℕ, zero, suc, _≤_, _<_}
 use native.Mathlib.Omega.{arith}
-use mathlib.Core.Path.{_≡_, refl, sym, ap, _∙_, subst}
-use mathlib.Core.Logic.{_⊎_, ⊎-elim, inl, inr}
-use mathlib.Core.Bool.{Bool, true, false, cond}
-use mathlib.Core.List.{List, [], _∷_, List·Memᴰ, List·Memᴰ·head, List·Memᴰ·tail, List·Memᴰ·not-nil, List·Memᴰ·cases-cons}
+use mathlib.Core.Path.{_≡_, refl}
+use mathlib.Core.Bool.{true}
 use mathlib.Core.Option.{Option, none, some, Option·elim}
 use lib.ListN.{length}
-use lib.Dec.{eqb}
-use Rattle.logic.specs.Search.{from, select}
-use Rattle.logic.specs.Facts.{Graph, Facts, terms, live, liveTerms, replace, doubled, settle, join, addReach}
-use Rattle.logic.proofs.Basics.Search.{bool-cases, true-false, not-of, select-intro, from-intro}
-use Rattle.logic.proofs.Basics.Compare.{eqb-true, eqb-intro, eq-cases, cond-true, cond-false}
+use Rattle.logic.specs.Search.{from}
+use Rattle.logic.specs.Facts.{Facts, terms, live, liveTerms, replace, doubled, settle}
+use Rattle.logic.proofs.Basics.Search.{not-of, from-intro}
+use Rattle.logic.proofs.Basics.Count.{length-from, select-length, select-lt}
 use Rattle.logic.proofs.Paths.Extends.{Extends, extends-refl, extends-trans, extends-replace}
 use Rattle.logic.proofs.Paths.Doubled.{doubled-some}
-use Rattle.logic.proofs.Paths.Ranged.{InRange, Ranged, live-range, live-mem, replace-not-live, ranged-replace}
-
--- how many are selected, by whether the first is
-select-more : (p : ℕ → Bool) (x : ℕ) (xs : List ℕ) → p x ≡ true → length (select p (x ∷ xs)) ≡ suc (length (select p xs))
-unfolding select
-select-more p x xs e = ap length (cond-true (x ∷ select p xs) (select p xs) e)
-
-select-same : (p : ℕ → Bool) (x : ℕ) (xs : List ℕ) → p x ≡ false → length (select p (x ∷ xs)) ≡ length (select p xs)
-unfolding select
-select-same p x xs e = ap length (cond-false (x ∷ select p xs) (select p xs) e)
-
--- fewer are selected by a test that passes less
-module _ (p p′ : ℕ → Bool) (less : (x : ℕ) → p′ x ≡ true → p x ≡ true) where
-  select-le : (xs : List ℕ) → length (select p′ xs) ≤ length (select p xs)
-  unfolding select
-  select-le [] = omega arith
-  select-le (x ∷ xs) =
-      let ih = select-le xs in
-      ⊎-elim
-      (λ e. omega (arith, select-more p′ x xs e, select-more p x xs (less x e)))
-      (λ e. ⊎-elim (λ f. omega (arith, select-same p′ x xs e, select-more p x xs f)) (λ f. omega (arith, select-same p′ x xs e, select-same p x xs f)) (bool-cases (p x)))
-      (bool-cases (p′ x))
-
-  select-lt : (y : ℕ) (xs : List ℕ) → List·Memᴰ y xs → p y ≡ true → p′ y ≡ false → length (select p′ xs) < length (select p xs)
-  select-lt y [] m h h′ = absurd (List·Memᴰ·not-nil m)
-  select-lt y (x ∷ xs) m h h′ =
-      let le = select-le xs in
-      ⊎-elim
-      (λ q. omega (arith, select-same p′ x xs (ap p′ (sym q) ∙ h′), select-more p x xs (ap p (sym q) ∙ h)))
-      (λ k. let ih = select-lt y xs k h h′ in
-      ⊎-elim
-      (λ e. omega (arith, select-more p′ x xs e, select-more p x xs (less x e)))
-      (λ e. ⊎-elim (λ f. omega (arith, select-same p′ x xs e, select-more p x xs f)) (λ f. omega (arith, select-same p′ x xs e, select-same p x xs f)) (bool-cases (p x)))
-      (bool-cases (p′ x)))
-      (List·Memᴰ·cases-cons m)
-
-select-count : (p : ℕ → Bool) (k i : ℕ) → length (select p (from k i)) ≤ k
-unfolding from select
-select-count p zero i = omega arith
-select-count p (suc k) i =
-    let ih = select-count p k (suc i) in
-    ⊎-elim (λ e. omega (arith, select-more p i (from k (suc i)) e)) (λ e. omega (arith, select-same p i (from k (suc i)) e)) (bool-cases (p i))
+use Rattle.logic.proofs.Paths.Ranged.{Ranged, live-range, replace-not-live, ranged-replace}
 
 module _ (n : ℕ) where
   pub liveCount : Facts → ℕ
@@ -63,7 +19,7 @@ module _ (n : ℕ) where
 
   pub liveCount-le : (s : Facts) → liveCount s ≤ n
   unfolding liveCount liveTerms terms
-  liveCount-le s = select-count (live n s) n 1
+  liveCount-le s = omega (arith, select-length (live n s) (from n 1), length-from n 1)
 
   -- each replacement leaves one live term fewer
   pub liveCount-replace : (lo hi : ℕ) (s : Facts) → live n s lo ≡ true → live n s hi ≡ true → (lo ≡ hi → ⊥) → liveCount (replace lo hi s) < liveCount s
@@ -99,6 +55,14 @@ module _ (n : ℕ) where
       (λ u ab p h. let l = doubled-live u ab (p .0) h in
       (ranged-replace n (ab .0) (ab .1) u (l .0) (l .1) (l .2) (p .0), extends-trans (p .1) (extends-replace (ab .0) (ab .1) u (l .2))))
       k s (r, extends-refl s) .1
+
+  -- a term that is replaced stays replaced
+  pub settle-not-live : (k : ℕ) (s : Facts) → Ranged n s → (t : ℕ) → live n (settle n k s) t ≡ true → live n s t ≡ true
+  settle-not-live k s r =
+      settle-keeps (λ u. Ranged n u × ((t : ℕ) → live n u t ≡ true → live n s t ≡ true))
+      (λ u ab p h. let l = doubled-live u ab (p .0) h in
+      (ranged-replace n (ab .0) (ab .1) u (l .0) (l .1) (l .2) (p .0), λ t h′. p .1 t (replace-not-live n (ab .0) (ab .1) u (l .0) (l .1) (l .2) t h′ .0)))
+      k s (r, λ t h. h) .1
 
   -- as many times as there are live terms are enough: then no term has two successors
   pub settle-done : (k : ℕ) (s : Facts) → Ranged n s → liveCount s ≤ k → doubled n (settle n k s .graph) ≡ none

@@ -1,19 +1,22 @@
 -- A hand can follow our walk: picks that play its moves, at the place of the path that it walks, leave a row with our walk's verdict.
-use Prim.Native.Nat.{ℕ, zero, suc}
+use Prim.Native.Nat.{ℕ, suc}
 use mathlib.Core.Path.{_≡_, refl, sym, ap, _∙_, subst}
 use mathlib.Core.Bool.{true, cond}
 use mathlib.Core.List.{List, [], _∷_, _++_, append-assoc, append-nil, List·Memᴰ, List·Memᴰ·head, Memᴰ·append-right}
-use mathlib.Core.Option.{Option, none, some, Option·elim}
+use mathlib.Core.Option.{none, some, Option·elim}
 use lib.ListN.{length}
-use Rattle.logic.specs.Search.{_and_, _or_, all, any, isSome}
+use Rattle.logic.specs.Search.{_and_, all, any, isSome}
 use Rattle.logic.specs.Query.{Query, isOrder, termCount}
 use Rattle.logic.specs.Facts.{Facts, Line, start, clash}
 use Rattle.logic.specs.Rules.{Rule, ruleNumber, rules, Move, move, applies, branches, choose, moveLine}
-use Rattle.logic.specs.Walk.{orderOf, look, endAt, Ending, refutation, saturation, broken-off, after, thenEnding, walkEach, walk, limit, ourWalk, refuted, satisfiable, ourVerdict, Pick, isClashed, picked, splice, pickEach, handRow, isSaturated, handVerdict}
+use Rattle.logic.specs.Walk.{orderOf, Ending, refutation, saturation, after, ourWalk, refuted, satisfiable, ourVerdict, Pick, isClashed, picked, splice, pickEach, handRow, isSaturated, handVerdict}
+use Rattle.logic.specs.OurWalk.{Walks, clashes, saturates, goes-on, all-tried, refuted-first, saturated-first}
 use Rattle.logic.proofs.Basics.Search.{not-of, true-false, all-true, all-append, any-intro}
 use Rattle.logic.proofs.Basics.Compare.{cond-true, cond-false}
-use Rattle.logic.proofs.Walks.Order.{ruleOf-number, rules-full, order-full, choose-nothing}
-use Rattle.logic.proofs.Walks.Derives.{refuted-broken, saturated-broken, walk-elim, our-saturation}
+use Rattle.logic.proofs.Query.Tied.{Accepted}
+use Rattle.logic.proofs.Walks.Order.{ruleOf-number, order-full, choose-nothing}
+use Rattle.logic.proofs.Walks.Derives.{seen-clashing, seen-applying}
+use Rattle.logic.proofs.Walks.Limit.{our-walks, our-saturation}
 
 -- Picks in a row
 
@@ -52,7 +55,6 @@ module _ (q : Query) where
   Followed left middle right (refutation ls) =
       (picks : List Pick) × (clashed : List Facts) × (all (isClashed q) clashed ≡ true) × (pickEach q picks (left ++ (middle ++ right)) ≡ left ++ (clashed ++ right))
   Followed left middle right (saturation t) = (picks : List Pick) × List·Memᴰ t (pickEach q picks (left ++ (middle ++ right)))
-  Followed left middle right broken-off = List Pick
 
   -- picks that change the middle first, and then what follows the changed one
   followed-after : (picks : List Pick) (left middle middle′ right : List Facts) → pickEach q picks (left ++ (middle ++ right)) ≡ left ++ (middle′ ++ right) → (ls : List Line) (e : Ending) → Followed left middle′ right e → Followed left middle right (after ls e)
@@ -61,7 +63,6 @@ module _ (q : Query) where
       (picks ++ f .0, f .1, f .2, pickEach-append picks (f .0) (left ++ (middle ++ right)) ∙ ap (pickEach q (f .0)) h ∙ f .3)
   followed-after picks left middle middle′ right h ls (saturation t) f =
       (picks ++ f .0, subst (λ (row : List Facts). List·Memᴰ t row) (sym (pickEach-append picks (f .0) (left ++ (middle ++ right)) ∙ ap (pickEach q (f .0)) h)) (f .1))
-  followed-after picks left middle middle′ right h ls broken-off f = f
 
   -- clashed paths to the left of the middle are clashed paths in its place
   behind : (left clashed : List Facts) → all (isClashed q) clashed ≡ true → (middle right : List Facts) (e : Ending) → Followed (left ++ clashed) middle right e → Followed left (clashed ++ middle) right e
@@ -72,21 +73,13 @@ module _ (q : Query) where
       nested : (m : List Facts) → left ++ ((clashed ++ m) ++ right) ≡ (left ++ clashed) ++ (m ++ right)
       nested m = simp append-assoc
   behind left clashed cl middle right (saturation t) f = (f .0, subst (λ (row : List Facts). List·Memᴰ t (pickEach q (f .0) row)) (simp append-assoc) (f .1))
-  behind left clashed cl middle right broken-off f = f
 
-  -- the ending of a path, and then that of those to its right
-  followed-then : (left : List Facts) (s : Facts) (ss right : List Facts) (e e′ : Ending) → ((right′ : List Facts) → Followed left (s ∷ []) right′ e) → ((left′ : List Facts) → Followed left′ ss right e′) → Followed left (s ∷ ss) right (thenEnding e e′)
-  unfolding thenEnding Followed
-  followed-then left s ss right (refutation ls) e′ f g =
+  -- a path that is refuted, and then those to its right
+  followed-then : (left : List Facts) (s : Facts) (ss right : List Facts) (ls : List Line) (e : Ending) → ((right′ : List Facts) → Followed left (s ∷ []) right′ (refutation ls)) → ((left′ : List Facts) → Followed left′ ss right e) → Followed left (s ∷ ss) right (after ls e)
+  unfolding Followed
+  followed-then left s ss right ls e f g =
       let (picks, clashed, cl, row) = f (ss ++ right) in
-      followed-after picks left (s ∷ ss) (clashed ++ ss) right (row ∙ ap (λ (r : List Facts). left ++ r) (sym (append-assoc clashed ss right))) ls e′ (behind left clashed cl ss right e′ (g (left ++ clashed)))
-  followed-then left s ss right (saturation t) e′ f g = f (ss ++ right)
-  followed-then left s ss right broken-off e′ f g = f right
-
-  followed-each : (w : Facts → Ending) → ((s : Facts) (left right : List Facts) → Followed left (s ∷ []) right (w s)) → (ss left right : List Facts) → Followed left ss right (walkEach w ss)
-  unfolding walkEach Followed all pickEach
-  followed-each w each [] left right = ([], [], refl, refl)
-  followed-each w each (s ∷ ss) left right = followed-then left s ss right (w s) (walkEach w ss) (each s left) (λ left′. followed-each w each ss left′ right)
+      followed-after picks left (s ∷ ss) (clashed ++ ss) right (row ∙ ap (λ (r : List Facts). left ++ r) (sym (append-assoc clashed ss right))) ls e (behind left clashed cl ss right e (g (left ++ clashed)))
 
   -- each way in which a walk ends, or goes on
   followed-clash : (s : Facts) (l : Line) → clash q s ≡ some l → (left right : List Facts) → Followed left (s ∷ []) right (refutation (l ∷ []))
@@ -97,24 +90,26 @@ module _ (q : Query) where
   unfolding Followed pickEach
   followed-saturated s left right = ([], Memᴰ·append-right left (List·Memᴰ·head refl))
 
-  followed-limit : (s : Facts) (left right : List Facts) → Followed left (s ∷ []) right broken-off
+  followed-none : (left right : List Facts) → Followed left [] right (refutation [])
+  unfolding Followed all pickEach
+  followed-none left right = ([], [], refl, refl)
+
+  followed-first : (s : Facts) (ss : List Facts) (t : Facts) → ((left right : List Facts) → Followed left (s ∷ []) right (saturation t)) → (left right : List Facts) → Followed left (s ∷ ss) right (saturation t)
   unfolding Followed
-  followed-limit s left right = []
+  followed-first s ss t f left right = f left (ss ++ right)
 
-  followed-rule : (s : Facts) (m : Move) → clash q s ≡ none → applies (termCount q) s m ≡ true → (w : Facts → Ending) → ((s′ : Facts) (left right : List Facts) → Followed left (s′ ∷ []) right (w s′)) → (left right : List Facts) → Followed left (s ∷ []) right (after (moveLine m ∷ []) (walkEach w (branches (termCount q) s m)))
-  followed-rule s m free app w below left right =
-      let ss = branches (termCount q) s m in
-      followed-after (pickOf (suc (length left)) m ∷ []) left (s ∷ []) ss right (pick-at left s right m free app) (moveLine m ∷ []) (walkEach w ss) (followed-each w below ss left right)
-
-  followed-walk : (order : List Rule) (k : ℕ) (s : Facts) (left right : List Facts) → Followed left (s ∷ []) right (walk q order k s)
-  followed-walk order =
-      walk-elim q order (λ k s e. (left right : List Facts) → Followed left (s ∷ []) right e)
-      (record {
-        on-clash = λ k. followed-clash;
-        on-saturated = λ k s free e. followed-saturated s;
-        on-limit = λ s m free app. followed-limit s;
-        on-rule = λ k s m free app. followed-rule s m free app (walk q order k);
-      })
+  followed-walk : (order : List Rule) {s : Facts} {e : Ending} → Walks q order s e → (left right : List Facts) → Followed left (s ∷ []) right e
+  followed-walk order r =
+      elim r as (λ s e r. (left right : List Facts) → Followed left (s ∷ []) right e) (λ ss e r. (left right : List Facts) → Followed left ss right e) [
+        | clashes {s = s} l h ↦ followed-clash s l (seen-clashing q order s h)
+        | saturates {s = s} h ↦ followed-saturated s
+        | goes-on {s = s} m {e = d} h (rs → below) ↦ λ left right.
+            let (free, app) = seen-applying q order s h in
+            followed-after (pickOf (suc (length left)) m ∷ []) left (s ∷ []) (branches (termCount q) s m) right (pick-at left s right m free app) (moveLine m ∷ []) d (below left right)
+        | all-tried ↦ followed-none
+        | refuted-first {s = s} {ss = ss} {ls = ls} {e = d} (r → first) (rs → rest) ↦ λ left right. followed-then left s ss right ls d (first left) (λ left′. rest left′ right)
+        | saturated-first {s = s} {ss = ss} {t = t} (r → first) ↦ followed-first s ss t first
+      ]
 
   -- What the hand's verdict then is
 
@@ -128,47 +123,14 @@ module _ (q : Query) where
       cond-false (some refuted) (cond (any (isSaturated q) row) (some satisfiable) none) (not-of (λ h. true-false (all-true (isClashed q) t h m) (rw free refl)))
       ∙ cond-true (some satisfiable) none (any-intro (isSaturated q) t m (rw (free, e) refl))
 
-  -- a walk that is broken off has no clash at its first path, and a rule applies there; so the hand's is not finished there
-  walk-saturated : (order : List Rule) (k : ℕ) (s : Facts) → clash q s ≡ none → choose (termCount q) order s ≡ none → walk q order k s ≡ saturation s
-  unfolding walk look endAt Option·elim
-  walk-saturated order zero s free e = rw (free, e) refl
-  walk-saturated order (suc k) s free e = rw (free, e) refl
-
-  broken-free : (order : List Rule) (k : ℕ) (s : Facts) → walk q order k s ≡ broken-off → clash q s ≡ none
-  broken-free order =
-      walk-elim q order (λ k s e. e ≡ broken-off → clash q s ≡ none)
-      (record {
-        on-clash = λ k s l e h. absurd (refuted-broken h);
-        on-saturated = λ k s free e h. free;
-        on-limit = λ s m free app h. free;
-        on-rule = λ k s m free app below h. free;
-      })
-
-  broken-row : (order : List Rule) (k : ℕ) (s : Facts) → walk q order k s ≡ broken-off → handVerdict q (s ∷ []) ≡ none
-  unfolding handVerdict isClashed isSaturated isSome _and_ all any _or_
-  broken-row order k s h = go (choose (termCount q) rules s) refl
-    where
-      free : clash q s ≡ none
-      free = broken-free order k s h
-
-      go : (o : Option Move) → choose (termCount q) rules s ≡ o → handVerdict q (s ∷ []) ≡ none
-      go none e = absurd (saturated-broken (sym (walk-saturated order k s free (choose-nothing (termCount q) s rules order rules-full e)) ∙ h))
-      go (some m) e = rw (free, e) refl
-
-  broken-start : (order : List ℕ) → ourWalk order q ≡ broken-off → handVerdict q (handRow q []) ≡ none
-  unfolding ourWalk handRow pickEach
-  broken-start order h = broken-row (orderOf order) (limit q) (start q) h
-
   -- so for every list of every rule there are picks after which the hand's verdict is our walk's
-  followed-verdict : (order : List ℕ) → isOrder order ≡ true → (e : Ending) → ourWalk order q ≡ e → Followed [] (start q ∷ []) [] e → (picks : List Pick) × (handVerdict q (handRow q picks) ≡ ourVerdict e)
+  followed-verdict : Accepted q → (order : List ℕ) → isOrder order ≡ true → (e : Ending) → ourWalk order q ≡ e → Followed [] (start q ∷ []) [] e → (picks : List Pick) × (handVerdict q (handRow q picks) ≡ some (ourVerdict e))
   unfolding Followed ourVerdict handRow
-  followed-verdict order o (refutation ls) h (picks, clashed, cl, row) =
+  followed-verdict ok order o (refutation ls) h (picks, clashed, cl, row) =
       (picks, refuted-row (pickEach q picks (start q ∷ [])) (subst (λ (r : List Facts). all (isClashed q) r ≡ true) (sym (row ∙ append-nil clashed)) cl))
-  followed-verdict order o (saturation t) h (picks, m) =
-      let e = our-saturation q (λ s. Facts) (λ s s′ m p c a k. s) order t (start q) h in
+  followed-verdict ok order o (saturation t) h (picks, m) =
+      let e = our-saturation q ok (λ s. Facts) (λ s s′ m p c a k. s) order t (start q) h in
       (picks, satisfiable-row (pickEach q picks (start q ∷ [])) t m (e .1) (choose-nothing (termCount q) t (orderOf order) rules (order-full order o) (e .2)))
-  followed-verdict order o broken-off h f = ([], broken-start order h)
 
-  pub hand-follows : (order : List ℕ) → isOrder order ≡ true → (picks : List Pick) × (handVerdict q (handRow q picks) ≡ ourVerdict (ourWalk order q))
-  unfolding ourWalk
-  hand-follows order o = followed-verdict order o (ourWalk order q) refl (followed-walk (orderOf order) (limit q) (start q) [] [])
+  pub hand-follows : Accepted q → (order : List ℕ) → isOrder order ≡ true → (picks : List Pick) × (handVerdict q (handRow q picks) ≡ some (ourVerdict (ourWalk order q)))
+  hand-follows ok order o = followed-verdict ok order o (ourWalk order q) refl (followed-walk (orderOf order) (our-walks q ok order) [] [])

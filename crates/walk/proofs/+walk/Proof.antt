@@ -1,7 +1,9 @@
 -- The branch walk: one look, and then each branch in order, with a step less left to it. Assumes nothing.
 use Prim.Native.Nat.{ℕ, _≤_, _<_, _-_}
+use native.Mathlib.Omega.{arith}
 use mathlib.Core.Path.{_≡_, refl, sym, ap, _∙_, subst}
 use mathlib.Core.Bool.{not}
+use mathlib.Core.List.{List}
 use native.Mathlib.Nat.{lt-of-le-of-lt, le-trans}
 use lib.ListN.{length}
 use lib.Dec.{lit<}
@@ -16,7 +18,8 @@ use Rattle.facts.specs.Path.{pathOf}
 use Rattle.rules.specs.Answers.{kindOf}
 use Rattle.walk.proofs.Turns.{Turn, turn-first}
 use Rattle.walk.proofs.Lines.{counted-bound, counted-grows, putLine-length}
-use Rattle.walk.proofs.Steps.{look-is, clash-fits, move-fits, ends-clashing, ends-saturated, ends-broken, handed-clashing, handed-saturated, handed-broken, ends-length, ends-bound, ends-grows, next-turn, stopped, stopped-handed, all-refuted, all-handed, some-left, less-left}
+use Rattle.walk.proofs.Steps.{look-is, clash-fits, move-fits, ends-clashing, ends-saturated, handed-clashing, handed-saturated, ends-length, ends-bound, ends-grows, next-turn, stopped, stopped-handed, all-refuted, all-handed, branch-member, less-left}
+use Rattle.logic.proofs.Walks.OurWalk.{look-some, look-fewer}
 use Rattle.walk.proofs.walk.Reads as walk
 use Rattle.walk.proofs.walk.Kinds as walk-kinds
 use Rattle.walk.proofs.+walk.Lts-walk as walk-lts
@@ -87,44 +90,43 @@ pub +walk-spec : {M : Type 1} → statement M
     (λ c κs. search needs)
     -- enum-known-rule
     (λ c. search needs)
-    -- returns
-    (λ c.
-    let s = pathOf (c .before .before .before .before .before .before .before .before .args .s) in
-    let h = look-is _ _ _ (c .before .before .before .before .look .ensures) (c .before .before .rule .given .1) in
-    (ends-broken _ _ _ _ _ _ _ _ _ h (c .if1 .taken) refl refl, handed-broken _ _ _ s _ _ _ h (c .if1 .taken) refl refl (c .before .before .before .before .before .before .before .before .pre .1 .1)))
     -- number-requires
     (λ c κs. search needs)
     -- put-line-requires-2
     (λ c κs.
-    let p = c .before .before .before .before .before .before .before .before .before .before .pre .1 in
-    let f = move-fits _ _ (p .0) _ _ _ _ _ _ (look-is _ _ _ (c .before .before .before .before .before .before .look .ensures) (c .before .before .before .before .rule .given .1)) in
+    let p = c .before .before .before .before .before .before .before .before .before .pre .1 in
+    let f = move-fits _ _ (p .0) _ _ _ _ _ _ (look-is _ _ _ (c .before .before .before .before .before .look .ensures) (c .before .before .before .rule .given .1)) in
     (p .1, c .number .ensures .1, lt-of-le-of-lt (f .0) (lit< tt), lt-of-le-of-lt (f .1) (lit< tt), lt-of-le-of-lt (f .2) (lit< tt)))
     -- count-requires
     (λ c κs. search needs)
     -- counted-requires-2
     (λ c κs. search needs)
     -- loop-holds
-    (λ c. (turn-first _ _ _ _, subst (λ (j : ℕ). j ≤ 16001) (sym (c .counted2 .ensures)) (counted-bound _ (c .before .before .before .before .before .before .before .before .before .before .before .before .before .before .before .pre .1 .1)), refl, subst (λ (j : ℕ). c .before .before .before .before .before .before .before .before .before .before .before .before .before .before .before .args .count ≤ j) (sym (c .counted2 .ensures)) (counted-grows _)))
+    (λ c. (turn-first _ _ _ _, subst (λ (j : ℕ). j ≤ 16001) (sym (c .counted2 .ensures)) (counted-bound _ (c .before .before .before .before .before .before .before .before .before .before .before .before .before .before .pre .1 .1)), refl, subst (λ (j : ℕ). c .before .before .before .before .before .before .before .before .before .before .before .before .before .before .args .count ≤ j) (sym (c .counted2 .ensures)) (counted-grows _)))
     -- branch-requires
     (λ c κs.
-    let p = c .before .before .before .before .before .before .before .before .before .before .before .before .before .before .before .before .before .pre .1 in
-    let f = move-fits _ _ (p .0) _ _ _ _ _ _ (look-is _ _ _ (c .before .before .before .before .before .before .before .before .before .before .before .before .before .look .ensures) (c .before .before .before .before .before .before .before .before .before .before .before .rule .given .1)) in
+    let p = c .before .before .before .before .before .before .before .before .before .before .before .before .before .before .before .before .pre .1 in
+    let f = move-fits _ _ (p .0) _ _ _ _ _ _ (look-is _ _ _ (c .before .before .before .before .before .before .before .before .before .before .before .before .look .ensures) (c .before .before .before .before .before .before .before .before .before .before .rule .given .1)) in
     (p .0 .terms-within, f .0, f .1, f .2))
     -- sub-walk
-    (λ c. some-left _ (c .before .before .before .before .before .before .before .before .before .before .if1 .left))
+    (λ c. look-some _ _ _ _ _ (c .before .before .before .before .before .before .before .before .before .before .before .before .before .before .before .before .before .pre .1 .2) (look-is _ _ _ (c .before .before .before .before .before .before .before .before .before .before .before .before .before .look .ensures) (c .before .before .before .before .before .before .before .before .before .before .before .rule .given .1)))
     -- walk-requires
-    (λ c κs. (less-left _ _ (c .before .before .before .before .before .before .before .before .before .before .before .if1 .left) (c .before .before .before .before .before .before .before .before .before .before .before .before .before .before .before .before .before .before .before .pre .0), (c .before .before .before .before .before .before .before .before .before .before .before .before .before .before .before .before .before .before .before .pre .1 .0, c .before .before .before .loop .inv .1)))
+    (λ c κs.
+    let p = c .before .before .before .before .before .before .before .before .before .before .before .before .before .before .before .before .before .before .pre in
+    let h = look-is _ _ _ (c .before .before .before .before .before .before .before .before .before .before .before .before .before .before .look .ensures) (c .before .before .before .before .before .before .before .before .before .before .before .before .rule .given .1) in
+    let m = branch-member _ _ _ _ _ _ _ _ _ (p .1 .0 .term-count) (subst (λ (j : ℕ). c .before .before .before .loop .i < j) (c .before .before .before .before .before .count .ensures) (c .before .before .loop-test .taken)) (c .before .branch .ensures) in
+    (less-left _ _ (look-some _ _ _ _ _ (p .1 .2) h) (p .0), (p .1 .0, c .before .before .before .loop .inv .1, look-fewer _ _ _ _ _ (p .1 .2) h _ m)))
     -- is-refuted-requires
     (λ c κs. search needs)
     -- same-length
-    (λ c. ends-length (c .before .before .before .before .walk .result) (walk (decode (c .before .before .before .before .before .before .before .before .before .before .before .before .before .before .before .before .before .before .before .before .before .before .before .before .args .query .now)) (orderOf (c .before .before .before .before .before .before .before .before .before .before .before .before .before .before .before .before .before .before .before .before .before .before .before .before .args .order .now)) (c .before .before .before .before .before .before .before .before .before .before .before .before .before .before .before .before .before .before .before .before .before .before .before .before .args .left - 1) (pathOf (c .before .before .before .before .before .before .branch .result))) (c .before .before .before .before .before .before .before .before .loop .lines) (c .before .before .before .before .before .before .before .before .loop .written) (c .before .before .before .before .walk .last .1 .1 .1 .1 .1 .0) (c .before .before .before .before .walk .ensures .0) ∙ c .before .before .before .before .before .before .before .before .loop .inv .2 ∙ ap length (c .before .before .before .before .before .before .before .before .before .before .before .before .before .put-line2 .ensures) ∙ putLine-length _ _ _)
+    (λ c. ends-length (c .before .before .before .before .walk .result) (walk (decode (c .before .before .before .before .before .before .before .before .before .before .before .before .before .before .before .before .before .before .before .before .before .before .before .args .query .now)) (orderOf (c .before .before .before .before .before .before .before .before .before .before .before .before .before .before .before .before .before .before .before .before .before .before .before .args .order .now)) (c .before .before .before .before .before .before .before .before .before .before .before .before .before .before .before .before .before .before .before .before .before .before .before .args .left - 1) (pathOf (c .before .before .before .before .before .before .branch .result))) (c .before .before .before .before .before .before .before .before .loop .lines) (c .before .before .before .before .before .before .before .before .loop .written) (c .before .before .before .before .walk .last .1 .1 .1 .1 .1 .0) (c .before .before .before .before .walk .ensures .0) ∙ c .before .before .before .before .before .before .before .before .loop .inv .2 ∙ ap length (c .before .before .before .before .before .before .before .before .before .before .before .before .before .put-line2 .ensures) ∙ putLine-length _ _ _)
     -- returns-2
     (λ c.
-    let k = sym (c .before .is-refuted .ensures) ∙ not-true _ (c .if2 .taken) in (
-      stopped _ _ _ _ _ _ _ _ _ (look-is _ _ _ (c .before .before .before .before .before .before .before .before .before .before .before .before .before .before .before .before .before .before .before .before .look .ensures) (c .before .before .before .before .before .before .before .before .before .before .before .before .before .before .before .before .before .before .rule .given .1)) (some-left _ (c .before .before .before .before .before .before .before .before .before .before .before .before .before .before .before .before .if1 .left)) (c .before .before .before .before .before .before .before .before .before .before .before .before .before .before .before .before .before .before .before .before .before .before .before .before .pre .1 .0 .term-count)
+    let k = sym (c .before .is-refuted .ensures) ∙ not-true _ (c .if1 .taken) in (
+      stopped _ _ _ _ _ _ _ _ _ (look-is _ _ _ (c .before .before .before .before .before .before .before .before .before .before .before .before .before .before .before .before .before .before .before .look .ensures) (c .before .before .before .before .before .before .before .before .before .before .before .before .before .before .before .before .before .rule .given .1)) (look-some _ _ _ _ _ (c .before .before .before .before .before .before .before .before .before .before .before .before .before .before .before .before .before .before .before .before .before .before .before .pre .1 .2) (look-is _ _ _ (c .before .before .before .before .before .before .before .before .before .before .before .before .before .before .before .before .before .before .before .look .ensures) (c .before .before .before .before .before .before .before .before .before .before .before .before .before .before .before .before .before .rule .given .1))) (c .before .before .before .before .before .before .before .before .before .before .before .before .before .before .before .before .before .before .before .before .before .before .before .pre .1 .0 .term-count)
           _ _ _ _ _ _ (c .before .before .before .before .before .before .before .before .loop .inv .0) (subst (λ (j : ℕ). c .before .before .before .before .before .before .before .before .loop .i < j) (c .before .before .before .before .before .before .before .before .before .before .count .ensures) (c .before .before .before .before .before .before .before .loop-test .taken)) _ (c .before .before .before .before .before .before .branch .ensures) _ (c .before .before .before .before .walk .ensures .0)
           _ _ (ap length (c .before .before .before .before .before .before .before .before .before .before .before .before .before .put-line2 .ensures) ∙ putLine-length _ _ _) k,
-      stopped-handed _ _ _ _ _ _ _ _ _ (look-is _ _ _ (c .before .before .before .before .before .before .before .before .before .before .before .before .before .before .before .before .before .before .before .before .look .ensures) (c .before .before .before .before .before .before .before .before .before .before .before .before .before .before .before .before .before .before .rule .given .1)) (some-left _ (c .before .before .before .before .before .before .before .before .before .before .before .before .before .before .before .before .if1 .left)) (c .before .before .before .before .before .before .before .before .before .before .before .before .before .before .before .before .before .before .before .before .before .before .before .before .pre .1 .0 .term-count)
+      stopped-handed _ _ _ _ _ _ _ _ _ (look-is _ _ _ (c .before .before .before .before .before .before .before .before .before .before .before .before .before .before .before .before .before .before .before .look .ensures) (c .before .before .before .before .before .before .before .before .before .before .before .before .before .before .before .before .before .rule .given .1)) (look-some _ _ _ _ _ (c .before .before .before .before .before .before .before .before .before .before .before .before .before .before .before .before .before .before .before .before .before .before .before .pre .1 .2) (look-is _ _ _ (c .before .before .before .before .before .before .before .before .before .before .before .before .before .before .before .before .before .before .before .look .ensures) (c .before .before .before .before .before .before .before .before .before .before .before .before .before .before .before .before .before .rule .given .1))) (c .before .before .before .before .before .before .before .before .before .before .before .before .before .before .before .before .before .before .before .before .before .before .before .pre .1 .0 .term-count)
           _ _ _ _ _ _ (c .before .before .before .before .before .before .before .before .loop .inv .0) (subst (λ (j : ℕ). c .before .before .before .before .before .before .before .before .loop .i < j) (c .before .before .before .before .before .before .before .before .before .before .count .ensures) (c .before .before .before .before .before .before .before .loop-test .taken)) _ (c .before .before .before .before .before .before .branch .ensures) _ (c .before .before .before .before .walk .ensures .0)
           _ (c .before .before .before .before .before .before .before .before .loop .inv .3) k (c .before .before .before .before .walk .ensures .1),
     ))
@@ -134,12 +136,12 @@ pub +walk-spec : {M : Type 1} → statement M
     (λ c. search needs)
     -- loop-again
     (λ c.
-    let k = sym (c .before .is-refuted .ensures) ∙ not-false _ (c .if2 .left) in (
-      next-turn _ _ _ _ _ _ _ _ _ (look-is _ _ _ (c .before .before .before .before .before .before .before .before .before .before .before .before .before .before .before .before .before .before .before .before .look .ensures) (c .before .before .before .before .before .before .before .before .before .before .before .before .before .before .before .before .before .before .rule .given .1)) (some-left _ (c .before .before .before .before .before .before .before .before .before .before .before .before .before .before .before .before .if1 .left)) (c .before .before .before .before .before .before .before .before .before .before .before .before .before .before .before .before .before .before .before .before .before .before .before .before .pre .1 .0 .term-count)
+    let k = sym (c .before .is-refuted .ensures) ∙ not-false _ (c .if1 .left) in (
+      next-turn _ _ _ _ _ _ _ _ _ (look-is _ _ _ (c .before .before .before .before .before .before .before .before .before .before .before .before .before .before .before .before .before .before .before .look .ensures) (c .before .before .before .before .before .before .before .before .before .before .before .before .before .before .before .before .before .rule .given .1)) (look-some _ _ _ _ _ (c .before .before .before .before .before .before .before .before .before .before .before .before .before .before .before .before .before .before .before .before .before .before .before .pre .1 .2) (look-is _ _ _ (c .before .before .before .before .before .before .before .before .before .before .before .before .before .before .before .before .before .before .before .look .ensures) (c .before .before .before .before .before .before .before .before .before .before .before .before .before .before .before .before .before .rule .given .1))) (c .before .before .before .before .before .before .before .before .before .before .before .before .before .before .before .before .before .before .before .before .before .before .before .pre .1 .0 .term-count)
           _ _ _ _ _ _ (c .before .before .before .before .before .before .before .before .loop .inv .0) (subst (λ (j : ℕ). c .before .before .before .before .before .before .before .before .loop .i < j) (c .before .before .before .before .before .before .before .before .before .before .count .ensures) (c .before .before .before .before .before .before .before .loop-test .taken)) _ (c .before .before .before .before .before .before .branch .ensures) _ (c .before .before .before .before .walk .ensures .0) k,
-      ends-bound (c .before .before .before .before .walk .result) (walk (decode (c .before .before .before .before .before .before .before .before .before .before .before .before .before .before .before .before .before .before .before .before .before .before .before .before .args .query .now)) (orderOf (c .before .before .before .before .before .before .before .before .before .before .before .before .before .before .before .before .before .before .before .before .before .before .before .before .args .order .now)) (c .before .before .before .before .before .before .before .before .before .before .before .before .before .before .before .before .before .before .before .before .before .before .before .before .args .left - 1) (pathOf (c .before .before .before .before .before .before .branch .result))) (c .before .before .before .before .before .before .before .before .loop .lines) (c .before .before .before .before .before .before .before .before .loop .written) (c .before .before .before .before .walk .last .1 .1 .1 .1 .1 .0) (c .before .before .before .before .walk .ensures .0) k (c .before .before .before .before .before .before .before .before .loop .inv .1),
-      ends-length (c .before .before .before .before .walk .result) (walk (decode (c .before .before .before .before .before .before .before .before .before .before .before .before .before .before .before .before .before .before .before .before .before .before .before .before .args .query .now)) (orderOf (c .before .before .before .before .before .before .before .before .before .before .before .before .before .before .before .before .before .before .before .before .before .before .before .before .args .order .now)) (c .before .before .before .before .before .before .before .before .before .before .before .before .before .before .before .before .before .before .before .before .before .before .before .before .args .left - 1) (pathOf (c .before .before .before .before .before .before .branch .result))) (c .before .before .before .before .before .before .before .before .loop .lines) (c .before .before .before .before .before .before .before .before .loop .written) (c .before .before .before .before .walk .last .1 .1 .1 .1 .1 .0) (c .before .before .before .before .walk .ensures .0) ∙ c .before .before .before .before .before .before .before .before .loop .inv .2,
-      le-trans (c .before .before .before .before .before .before .before .before .loop .inv .3) (ends-grows (c .before .before .before .before .walk .result) (walk (decode (c .before .before .before .before .before .before .before .before .before .before .before .before .before .before .before .before .before .before .before .before .before .before .before .before .args .query .now)) (orderOf (c .before .before .before .before .before .before .before .before .before .before .before .before .before .before .before .before .before .before .before .before .before .before .before .before .args .order .now)) (c .before .before .before .before .before .before .before .before .before .before .before .before .before .before .before .before .before .before .before .before .before .before .before .before .args .left - 1) (pathOf (c .before .before .before .before .before .before .branch .result))) (c .before .before .before .before .before .before .before .before .loop .lines) (c .before .before .before .before .before .before .before .before .loop .written) (c .before .before .before .before .walk .last .1 .1 .1 .1 .1 .0) (c .before .before .before .before .walk .ensures .0) k),
+      ends-bound (c .before .before .before .before .walk .result) (walk (decode (c .before .before .before .before .before .before .before .before .before .before .before .before .before .before .before .before .before .before .before .before .before .before .before .args .query .now)) (orderOf (c .before .before .before .before .before .before .before .before .before .before .before .before .before .before .before .before .before .before .before .before .before .before .before .args .order .now)) (c .before .before .before .before .before .before .before .before .before .before .before .before .before .before .before .before .before .before .before .before .before .before .before .args .left - 1) (pathOf (c .before .before .before .before .before .before .branch .result))) (c .before .before .before .before .before .before .before .before .loop .lines) (c .before .before .before .before .before .before .before .before .loop .written) (c .before .before .before .before .walk .last .1 .1 .1 .1 .1 .0) (c .before .before .before .before .walk .ensures .0) k (c .before .before .before .before .before .before .before .before .loop .inv .1),
+      ends-length (c .before .before .before .before .walk .result) (walk (decode (c .before .before .before .before .before .before .before .before .before .before .before .before .before .before .before .before .before .before .before .before .before .before .before .args .query .now)) (orderOf (c .before .before .before .before .before .before .before .before .before .before .before .before .before .before .before .before .before .before .before .before .before .before .before .args .order .now)) (c .before .before .before .before .before .before .before .before .before .before .before .before .before .before .before .before .before .before .before .before .before .before .before .args .left - 1) (pathOf (c .before .before .before .before .before .before .branch .result))) (c .before .before .before .before .before .before .before .before .loop .lines) (c .before .before .before .before .before .before .before .before .loop .written) (c .before .before .before .before .walk .last .1 .1 .1 .1 .1 .0) (c .before .before .before .before .walk .ensures .0) ∙ c .before .before .before .before .before .before .before .before .loop .inv .2,
+      le-trans (c .before .before .before .before .before .before .before .before .loop .inv .3) (ends-grows (c .before .before .before .before .walk .result) (walk (decode (c .before .before .before .before .before .before .before .before .before .before .before .before .before .before .before .before .before .before .before .before .before .before .before .args .query .now)) (orderOf (c .before .before .before .before .before .before .before .before .before .before .before .before .before .before .before .before .before .before .before .before .before .before .before .args .order .now)) (c .before .before .before .before .before .before .before .before .before .before .before .before .before .before .before .before .before .before .before .before .before .before .before .args .left - 1) (pathOf (c .before .before .before .before .before .before .branch .result))) (c .before .before .before .before .before .before .before .before .loop .lines) (c .before .before .before .before .before .before .before .before .loop .written) (c .before .before .before .before .walk .last .1 .1 .1 .1 .1 .0) (c .before .before .before .before .walk .ensures .0) k),
     ))
     -- returns-3
     (λ c. let s = pathOf (c .before .before .before .before .before .before .args .s) in let h = look-is _ _ _ (c .before .before .look .ensures) (c .enum-told .given .1) in (ends-saturated _ _ _ s _ _ _ _ s h refl refl refl refl, handed-saturated _ _ _ s _ _ h refl (c .before .before .before .before .before .before .pre .1 .1)))
@@ -154,8 +156,8 @@ pub +walk-spec : {M : Type 1} → statement M
     (λ c. c .before .loop .inv .2 ∙ ap length (c .before .before .before .before .before .before .put-line2 .ensures) ∙ putLine-length _ _ _)
     -- returns-5
     (λ c. (
-      all-refuted _ _ _ _ _ _ _ _ _ (look-is _ _ _ (c .before .before .before .before .before .before .before .before .before .before .before .before .before .look .ensures) (c .before .before .before .before .before .before .before .before .before .before .before .rule .given .1)) (some-left _ (c .before .before .before .before .before .before .before .before .before .if1 .left)) (c .before .before .before .before .before .before .before .before .before .before .before .before .before .before .before .before .before .pre .1 .0 .term-count)
+      all-refuted _ _ _ _ _ _ _ _ _ (look-is _ _ _ (c .before .before .before .before .before .before .before .before .before .before .before .before .look .ensures) (c .before .before .before .before .before .before .before .before .before .before .rule .given .1)) (look-some _ _ _ _ _ (c .before .before .before .before .before .before .before .before .before .before .before .before .before .before .before .before .pre .1 .2) (look-is _ _ _ (c .before .before .before .before .before .before .before .before .before .before .before .before .look .ensures) (c .before .before .before .before .before .before .before .before .before .before .rule .given .1))) (c .before .before .before .before .before .before .before .before .before .before .before .before .before .before .before .before .pre .1 .0 .term-count)
           _ _ _ _ _ (c .before .loop .inv .0) (subst (λ (j : ℕ). j ≤ c .before .loop .i) (c .before .before .before .count .ensures) (c .loop-test .left)) _ _ _ _ (c .before .before .before .before .before .before .before .number .ensures .0) (c .before .before .before .before .before .before .put-line2 .ensures) (c .before .before .counted2 .ensures) refl refl,
-      all-handed _ _ _ _ _ _ _ _ _ (look-is _ _ _ (c .before .before .before .before .before .before .before .before .before .before .before .before .before .look .ensures) (c .before .before .before .before .before .before .before .before .before .before .before .rule .given .1)) (some-left _ (c .before .before .before .before .before .before .before .before .before .if1 .left)) (c .before .before .before .before .before .before .before .before .before .before .before .before .before .before .before .before .before .pre .1 .0 .term-count)
+      all-handed _ _ _ _ _ _ _ _ _ (look-is _ _ _ (c .before .before .before .before .before .before .before .before .before .before .before .before .look .ensures) (c .before .before .before .before .before .before .before .before .before .before .rule .given .1)) (look-some _ _ _ _ _ (c .before .before .before .before .before .before .before .before .before .before .before .before .before .before .before .before .pre .1 .2) (look-is _ _ _ (c .before .before .before .before .before .before .before .before .before .before .before .before .look .ensures) (c .before .before .before .before .before .before .before .before .before .before .rule .given .1))) (c .before .before .before .before .before .before .before .before .before .before .before .before .before .before .before .before .pre .1 .0 .term-count)
           _ _ _ _ _ (c .before .loop .inv .0) (subst (λ (j : ℕ). j ≤ c .before .loop .i) (c .before .before .before .count .ensures) (c .loop-test .left)) _ _ refl,
     ))

@@ -1,0 +1,40 @@
+-- The path limit cannot bite (02, R-5): rule steps from the start are no more than what it can gain, whoever picks them; so our
+-- walk ends as it would without a limit.
+use Prim.Native.Nat.{ℕ, suc}
+use native.Mathlib.Omega.{arith}
+use mathlib.Core.Path.{_≡_}
+use mathlib.Core.List.{List, List·Memᴰ}
+use Rattle.logic.specs.Query.{Query, termCount}
+use Rattle.logic.specs.Facts.{Facts, Line, start}
+use Rattle.logic.specs.Walk.{orderOf, refutation, saturation, limit, ourWalk, Pick, handRow}
+use Rattle.logic.specs.Steps.{Steps, at-first, one-more, AtMost}
+use Rattle.logic.specs.OurWalk.{Walks}
+use Rattle.logic.specs.Derivation.{Refutes}
+use Rattle.logic.proofs.Query.Tied.{Accepted}
+use Rattle.logic.proofs.Paths.Start.{start-sane}
+use Rattle.logic.proofs.Walks.Derives.{walks-refutes, Kept, EndsIn, walks-saturation, row-all}
+use Rattle.logic.proofs.Walks.Gains.{gainsLeft-most, gains-atMost}
+use Rattle.logic.proofs.Walks.OurWalk.{walk-walks}
+
+pub start-atMost : (q : Query) → Accepted q → AtMost (termCount q) (start q) (limit q)
+unfolding limit
+start-atMost q ok k s steps = omega (arith, gains-atMost (termCount q) (start q) (start-sane q ok) k s steps, gainsLeft-most (termCount q) (start q))
+
+-- a path of a hand's row: steps lead to it from the start
+pub row-steps : (q : Query) (picks : List Pick) (s : Facts) → List·Memᴰ s (handRow q picks) → (k : ℕ) × Steps (termCount q) (start q) k s
+row-steps q =
+    row-all q (λ s. (k : ℕ) × Steps (termCount q) (start q) k s)
+    (λ s s′ m led free app mem. (suc (led .0), one-more (led .1) (record { rule-move = m; applicable = app; branch = mem })))
+    (0, at-first)
+
+-- our walk ends as its sentence says
+pub our-walks : (q : Query) → Accepted q → (order : List ℕ) → Walks q (orderOf order) (start q) (ourWalk order q)
+unfolding ourWalk
+our-walks q ok order = walk-walks q (orderOf order) (limit q) (start q) (start-atMost q ok)
+
+-- so its refutation follows the rules, and what the rules keep is kept to the path where it ends
+pub our-refutes : (q : Query) → Accepted q → (order : List ℕ) (ls : List Line) → ourWalk order q ≡ refutation ls → Refutes q (start q) ls
+our-refutes q ok order = walks-refutes q (orderOf order) (our-walks q ok order)
+
+pub our-saturation : (q : Query) → Accepted q → (P : Facts → Type 0) → Kept q P → (order : List ℕ) (t : Facts) → P (start q) → ourWalk order q ≡ saturation t → EndsIn q P (orderOf order) t
+our-saturation q ok P kept order = walks-saturation q P kept (orderOf order) (our-walks q ok order)
