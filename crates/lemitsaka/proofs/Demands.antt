@@ -23,7 +23,7 @@ use Rattle.lemitsaka.specs.declared.Answer.{Answer}
 use Rattle.lemitsaka.specs.declared.Answer.the-variants as answer
 
 -- the cases of the enum are told apart by what they mean
-meaning-one : (r b : Answer) → meaning r ≡ meaning b → r ≡ b
+pub meaning-one : (r b : Answer) → meaning r ≡ meaning b → r ≡ b
 meaning-one answer.Satisfiable answer.Satisfiable e = refl
 meaning-one answer.Satisfiable answer.Refuted e = let z : _≡_ {A = ℕ} 0 1 = cc in absurd (omega arith)
 meaning-one answer.Satisfiable (answer.Refused k p) e = let z : _≡_ {A = ℕ} 0 1 = cc in absurd (omega arith)

@@ -3,3 +3,4 @@ pub mod Header
 pub mod Checks
 pub mod Outcomes
 pub mod Answers
+pub mod Reordering

@@ -11,3 +11,4 @@ pub mod Demands
 pub mod Room
 pub mod Examples
 pub mod EdgeExamples
+pub mod Reordering

@@ -3,6 +3,7 @@ pub mod Basics
 pub mod Graph
 pub mod Query
 pub mod Paths
+pub mod Joins
 pub mod Walks
 pub mod Soundness
 pub mod Completeness

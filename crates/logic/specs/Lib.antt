@@ -14,3 +14,4 @@ pub mod Examples
 pub mod EdgeExamples
 pub mod Demands
 pub mod PathLimit
+pub mod Reordering

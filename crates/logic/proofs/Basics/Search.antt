@@ -170,6 +170,12 @@ module _ {A B : Type 0} (f : A → Option B) where
   firstOf-empty [] h = refl
   firstOf-empty (x ∷ xs) h = rw (h x (List·Memᴰ·head refl)) (firstOf-empty xs (λ y m. h y (List·Memᴰ·tail m)))
 
+  -- a search passes over elements that answer nothing
+  pub firstOf-skip : (xs ys : List A) → ((x : A) → List·Memᴰ x xs → f x ≡ none) → firstOf f (xs ++ ys) ≡ firstOf f ys
+  unfolding firstOf orElse
+  firstOf-skip [] ys h = refl
+  firstOf-skip (x ∷ xs) ys h = rw (h x (List·Memᴰ·head refl)) (firstOf-skip xs ys (λ y m. h y (List·Memᴰ·tail m)))
+
 module _ {A : Type 0} (p : A → Bool) where
   pub find-some : (xs : List A) (a : A) → find p xs ≡ some a → List·Memᴰ a xs × (p a ≡ true)
   unfolding find

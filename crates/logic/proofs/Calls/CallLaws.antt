@@ -14,7 +14,7 @@ use Rattle.logic.specs.Query.{isOrder, layoutFault, byteFault, decode}
 use Rattle.logic.specs.Walk.{Ending, ourWalk}
 use Rattle.logic.specs.Calls.{Input, Check, orderCheck, layoutCheck, byteCheck, roomCheck, queryChecks, verdictChecks, derivationChecks, Answer, refused, Outcome, refusalOf, accepts, padded, blank, call}
 use Rattle.logic.specs.Demands.{NoneStands, Alike}
-use Rattle.logic.proofs.Basics.Search.{none-some, firstOf-some, firstOf-none, firstOf-empty, keep-none, bool-cases, true-false}
+use Rattle.logic.proofs.Basics.Search.{none-some, firstOf-some, firstOf-none, firstOf-empty, isSome-false, keep-none, not-true, bool-cases, true-false}
 
 -- the answer that a check gives
 abbrev answers : Input → Check → Option Answer
@@ -88,6 +88,13 @@ unfolding accepts isSome
 accepts-clear i h =
     let j : Input = record { order = []; query = i .query; room = 0 } in
     rw (refusalOf-clear queryChecks j (λ c m. sym (local i j refl c m) ∙ h c m))
+
+-- and none of the query's checks stands in a call on an accepted query
+pub accepts-checks : (i : Input) → accepts (i .query) ≡ true → (c : Check) → List·Memᴰ c queryChecks → c .place i ≡ none
+unfolding accepts
+accepts-checks i h c m =
+    let j : Input = record { order = []; query = i .query; room = 0 } in
+    local i j refl c m ∙ refusalOf-none queryChecks j (isSome-false _ (not-true h)) c m
 
 -- what a call knows where none of its checks stands
 order-clear : (cs : List Check) (i : Input) → List·Memᴰ orderCheck cs → NoneStands cs i → isOrder (i .order) ≡ true
