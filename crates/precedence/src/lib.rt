@@ -1,0 +1,1 @@
+// Order lists from a precedence sheet.
