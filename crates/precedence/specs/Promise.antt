@@ -4,11 +4,12 @@ use mathlib.Core.Path.{_≡_}
 use mathlib.Core.Logic.{_⊎_}
 use mathlib.Core.Bool.{true, false}
 use mathlib.Core.List.{List}
-use lib.ListN.{replicate}
-use Rattle.logic.specs.Calls.{padded}
+use mathlib.Core.Option.{none}
+use lib.ListN.{take, replicate}
+use Rattle.logic.specs.Calls.{Input, orderCheck, padded}
 use Rattle.precedence.specs.Sheet.{pairs, laidOut, rulesOnly}
 use Rattle.precedence.specs.Kept.{SmallestOrder, ShortestRing, NoOrder}
-use Rattle.precedence.specs.Calls.{Answer, order, ring, refused, Outcome}
+use Rattle.precedence.specs.Calls.{Answer, order, ring, refused, Outcome, orderCall}
 
 -- Nothing is refused of the sheet and the buffer.
 pub record Passes (sheet : List ℕ) (room : ℕ) : Type 0 where
@@ -32,3 +33,12 @@ Means sheet room (refused k place) lent = StandsFirst k sheet room × (place ≡
 -- the promise
 pub record Promised (sheet : List ℕ) (room : ℕ) (o : Outcome) : Type 0 where
   pub means : Means sheet room (o .answer) (o .lent)
+
+-- An order that is answered passes check 1 of every call that it is given to.
+abbrev pub PassesCheckOne : Type 0
+PassesCheckOne =
+    (sheet : List ℕ) (room : ℕ)
+    → orderCall sheet room .answer ≡ order
+    → (i : Input)
+    → i .order ≡ take 8 (orderCall sheet room .lent)
+    → orderCheck .place i ≡ none
