@@ -2,6 +2,8 @@
 pub mod Lists
 pub mod Places
 pub mod Rings
+pub mod Sheets
 pub mod Orders
 pub mod Promised
 pub mod Examples
+pub mod Turns

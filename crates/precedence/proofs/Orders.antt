@@ -17,7 +17,7 @@ use Rattle.logic.proofs.Basics.Compare.{eqb-true, eqb-self, eqb-intro, eqb-fals
 use Rattle.logic.proofs.Graph.Pigeonhole.{pigeonhole}
 use Rattle.precedence.specs.Sheet.{Pair, isRule, paired}
 use Rattle.precedence.specs.Kept.{placeOf, keeps, smaller, eachOnce, SmallestOrder}
-use Rattle.precedence.specs.Finding.{ready, nextRule, grow, leads}
+use Rattle.precedence.specs.Finding.{free, ready, nextRule, grow, leads}
 use Rattle.precedence.proofs.Lists.{has, has-mem, mem-has, once-head, once-tail, once-intro, fewer, full-once, full-among, rules, is-rule, rule-mem, mem-rule, rules-once, rules-eight, order-eight, order-once, order-rules}
 use Rattle.precedence.proofs.Places.{place-has, has-place, place-left, place-right, place-start, kept, smaller-prefix, smaller-nil, smaller-from-nil, smaller-greater}
 use Rattle.precedence.proofs.Rings.{Numbered, pair-paired, leads-cons, leads-none}
@@ -56,11 +56,8 @@ module _ (ps : List Pair) (rules-of : Numbered ps) where
   abbrev Ready : List ℕ → ℕ → Type 0
   Ready placed r = (has placed r ≡ false) × ((p : Pair) → List·Memᴰ p ps → p .later ≡ r → has placed (p .earlier) ≡ true)
 
-  abbrev free : List ℕ → ℕ → Pair → Bool
-  free placed r p = not (eqb (p .later) r) or any (eqb (p .earlier)) placed
-
   ready-is : (placed : List ℕ) (r : ℕ) → ready ps placed r ≡ true → Ready placed r
-  unfolding ready
+  unfolding ready free
   ready-is placed r h = (not-true (and-left (not (has placed r)) (all (free placed r) ps) h), earlier)
     where
       earlier : (p : Pair) → List·Memᴰ p ps → p .later ≡ r → has placed (p .earlier) ≡ true
@@ -69,7 +66,7 @@ module _ (ps : List Pair) (rules-of : Numbered ps) where
           (or-cases (not (eqb (p .later) r)) (has placed (p .earlier)) (all-true (free placed r) p (and-right (not (has placed r)) (all (free placed r) ps) h) m))
 
   is-ready : (placed : List ℕ) (r : ℕ) → Ready placed r → ready ps placed r ≡ true
-  unfolding ready
+  unfolding ready free
   is-ready placed r (h, f) =
       and-intro (not-intro h)
       (all-intro (free placed r) ps (λ p m. ⊎-elim (λ e. or-right (not (eqb (p .later) r)) (f p m e)) (λ d. or-left (has placed (p .earlier)) (not-intro (d .1))) (eq-cases (p .later) r)))
@@ -225,7 +222,7 @@ module _ (ps : List Pair) (rules-of : Numbered ps) where
     Earlier x = (a : ℕ) × (isRule a ≡ true) × (has placed a ≡ false) × (paired ps a x ≡ true)
 
     earlier-left : (x : ℕ) → isRule x ≡ true → has placed x ≡ false → Earlier x
-    unfolding ready
+    unfolding ready free
     earlier-left x i h = ⊎-elim (λ t. absurd (true-false (and-intro (not-intro h) t) (find-none (ready ps placed) x end′ (rule-mem x i)))) (λ f. go (all-false (free placed x) ps f)) (bool-cases (all (free placed x) ps))
       where
         end′ : find (ready ps placed) rules ≡ none

@@ -1,66 +1,36 @@
 -- The call keeps its promise, no other answer does, and an order that it answers passes check 1.
-use Prim.Native.Nat.{ℕ, zero, suc, _+_, _*_, _-_, _≤_, _<_}
+use Prim.Native.Nat.{ℕ, _+_, _-_, _<_}
 use native.Mathlib.Omega.{arith}
 use mathlib.Core.Path.{_≡_, refl, sym, ap, _∙_, subst}
-use mathlib.Core.Logic.{_⊎_, ⊎-elim, inl, inr}
-use mathlib.Core.Bool.{Bool, true, false, not, cond, true≢false, false≢true}
-use mathlib.Core.List.{List, [], _∷_, _++_, map, List·Memᴰ, List·Memᴰ·head, List·Memᴰ·tail}
+use mathlib.Core.Logic.{inl, inr}
+use mathlib.Core.Bool.{Bool, true, false, not, cond}
+use mathlib.Core.List.{List, []}
 use mathlib.Core.Option.{Option, none, some, Option·elim}
-use lib.ListN.{length, getD, take, drop, replicate, length-drop}
-use lib.Seq.{getD-drop, take-at}
-use lib.Dec.{eqb, leb}
-use borrow.Author.Tests.{leb-true, leb-false, eqb-true}
-use Rattle.logic.specs.Search.{_and_, from, keep, all}
+use lib.ListN.{length, take, replicate}
+use lib.Seq.{take-at}
+use lib.Dec.{leb}
+use borrow.Author.Tests.{leb-true, leb-false}
+use Rattle.logic.specs.Search.{keep}
 use Rattle.logic.specs.Query.{isOrder}
 use Rattle.logic.specs.Calls.{Input, orderCheck, padded}
-use Rattle.logic.proofs.Basics.Search.{bool-cases, true-false, and-left, and-right, all-true, from-mem, map-mem}
-use Rattle.logic.proofs.Basics.Compare.{le-cases}
-use Rattle.precedence.specs.Sheet.{Pair, countOf, pairAt, pairs, laidOut, isRule, rulesOnly}
-use Rattle.precedence.specs.Kept.{keeps, smaller, NoOrder, isRing, fromLowest, SmallestOrder, ShortestRing}
-use Rattle.precedence.specs.Finding.{grow, shownRing}
+use Rattle.logic.proofs.Basics.Search.{true-false}
+use Rattle.precedence.specs.Sheet.{Pair, pairs, laidOut, rulesOnly}
+use Rattle.precedence.specs.Kept.{isRing, SmallestOrder, ShortestRing}
+use Rattle.precedence.specs.Finding.{nextRule, grow, shownRing}
 use Rattle.precedence.specs.Calls.{Answer, order, ring, refused, Outcome, refusal, answered, orderCall}
 use Rattle.precedence.specs.Promise.{Passes, StandsFirst, Means, Promised, PassesCheckOne}
 use Rattle.precedence.proofs.Lists.{order-eight}
 use Rattle.precedence.proofs.Places.{neither-smaller}
 use Rattle.precedence.proofs.Rings.{Numbered, ring-no-order, shown-right}
+use Rattle.precedence.proofs.Sheets.{sheet-numbered}
 use Rattle.precedence.proofs.Orders.{grown-smallest, stuck, stuck-round}
-
--- The pairs of a sheet that passes its checks
-
-getD-mem : (xs : List ℕ) (i : ℕ) → i < length xs → List·Memᴰ (getD xs i 0) xs
-getD-mem [] i h = absurd (omega arith)
-getD-mem (x ∷ xs) zero h = List·Memᴰ·head refl
-getD-mem (x ∷ xs) (suc i) h = List·Memᴰ·tail (getD-mem xs i (omega arith))
-
-pub laid-length : (sheet : List ℕ) → laidOut sheet ≡ true → length sheet ≡ 2 * countOf sheet + 1
-unfolding laidOut
-laid-length sheet h = eqb-true (length sheet) (2 * countOf sheet + 1) (and-right (leb (countOf sheet) 28) (eqb (length sheet) (2 * countOf sheet + 1)) h)
-
-pub number-rule : (sheet : List ℕ) → rulesOnly sheet ≡ true → (k : ℕ) → suc k < length sheet → isRule (getD sheet (1 + k) 0) ≡ true
-unfolding rulesOnly
-number-rule sheet n k h =
-    subst (λ (b : ℕ). isRule b ≡ true) (getD-drop 1 sheet k 0)
-    (all-true isRule (getD (drop 1 sheet) k 0) n (getD-mem (drop 1 sheet) k (omega (arith, length-drop 1 sheet))))
-
-pub sheet-numbered : (sheet : List ℕ) → laidOut sheet ≡ true → rulesOnly sheet ≡ true → Numbered (pairs sheet)
-unfolding pairs pairAt
-sheet-numbered sheet l n = record { earlier-rule = λ p m. go p (map-mem (pairAt sheet) p (from (countOf sheet) 0) m) .0; later-rule = λ p m. go p (map-mem (pairAt sheet) p (from (countOf sheet) 0) m) .1 }
-  where
-    at : (j k : ℕ) → j ≡ 1 + k → j < length sheet → isRule (getD sheet j 0) ≡ true
-    at j k e h = subst (λ (m : ℕ). isRule (getD sheet m 0) ≡ true) (sym e) (number-rule sheet n k (omega arith))
-
-    go : (p : Pair) → (i : ℕ) × List·Memᴰ i (from (countOf sheet) 0) × (p ≡ pairAt sheet i) → (isRule (p .earlier) ≡ true) × (isRule (p .later) ≡ true)
-    go p (i, m, e) =
-        let b = from-mem (countOf sheet) 0 i m in
-        let size = laid-length sheet l in
-        subst (λ (q : Pair). (isRule (q .earlier) ≡ true) × (isRule (q .later) ≡ true)) (sym e) (at (2 * i + 1) (2 * i) (omega arith) (omega arith), at (2 * i + 2) (2 * i + 1) (omega arith) (omega arith))
 
 -- "A sheet without a ring has an order", and one with a ring has none (`ring-no-order`).
 
 pub shown-ring : (ps : List Pair) → Numbered ps → grow ps 8 [] ≡ none → ShortestRing ps (shownRing ps)
 shown-ring ps n h = go (stuck ps n 8 [] h)
   where
-    go : (at : List ℕ) × (Rattle.precedence.specs.Finding.nextRule ps at ≡ none) × (length at < 0 + 8) → ShortestRing ps (shownRing ps)
+    go : (at : List ℕ) × (nextRule ps at ≡ none) × (length at < 0 + 8) → ShortestRing ps (shownRing ps)
     go (at, e, l) = let r = stuck-round ps n at e (omega arith) in shown-right ps n (r .0) (r .1) (r .2) (r .3)
 
 pub no-ring-order : (ps : List Pair) → Numbered ps → ((l : List ℕ) → isRing ps l ≡ false) → (l : List ℕ) × SmallestOrder ps l

@@ -7,10 +7,13 @@ use lib.Dec.{eqb}
 use Rattle.logic.specs.Search.{_and_, _or_, from, any, all, find, firstOf}
 use Rattle.precedence.specs.Sheet.{Pair, paired}
 
--- r can stand next after the numbers placed so far: it is none of them, and whatever is earlier than it is one of them
+-- a pair does not hold r back: r is not its later rule, or its earlier one is placed
+unfoldable pub free : List ℕ → ℕ → Pair → Bool
+free placed r p = not (eqb (p .later) r) or any (eqb (p .earlier)) placed
+
+-- r can stand next after the numbers placed so far: it is none of them, and no pair holds it back
 unfoldable pub ready : List Pair → List ℕ → ℕ → Bool
-ready ps placed r =
-    let free : Bool = all (λ p. not (eqb (p .later) r) or any (eqb (p .earlier)) placed) ps in not (any (eqb r) placed) and free
+ready ps placed r = let unheld : Bool = all (free placed r) ps in not (any (eqb r) placed) and unheld
 
 unfoldable pub nextRule : List Pair → List ℕ → Option ℕ
 nextRule ps placed = find (ready ps placed) (from 8 1)

@@ -5,3 +5,4 @@ pub mod Finding
 pub mod Calls
 pub mod Promise
 pub mod Examples
+pub mod Answers

@@ -12,10 +12,10 @@ pub record Pair : Type 0 where
   pub later : ℕ
 
 -- "A sheet is a count (0 to 28) and that many pairs": the count, pair i from 0 on, and all of them.
-unfoldable pub countOf : List ℕ → ℕ
+abbrev pub countOf : List ℕ → ℕ
 countOf sheet = getD sheet 0 0
 
-unfoldable pub pairAt : List ℕ → ℕ → Pair
+abbrev pub pairAt : List ℕ → ℕ → Pair
 pairAt sheet i = record { earlier = getD sheet (2 * i + 1) 0; later = getD sheet (2 * i + 2) 0 }
 
 unfoldable pub pairs : List ℕ → List Pair
