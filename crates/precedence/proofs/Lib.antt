@@ -7,3 +7,4 @@ pub mod Orders
 pub mod Promised
 pub mod Examples
 pub mod Turns
+pub mod Answered

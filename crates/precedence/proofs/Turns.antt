@@ -257,16 +257,17 @@ module _ (ps : List Pair) where
         within = omega arith;
         size = simp length-set (f .size);
         whole =
-          f .whole
-          ∙ ap (λ (j : ℕ). take n ring ++ follow ps s j a) left
-          ∙ ap (λ (x : ℕ). take n ring ++ x ∷ follow ps s (k - (n + 1)) x) (ap (λ (j : ℕ). nextOn ps s j a) (sym left) ∙ sym e)
-          ∙ sym (append-assoc (take n ring) (r ∷ []) (follow ps s (k - (n + 1)) r))
-          ∙ ap (λ (l : List ℕ). l ++ follow ps s (k - (n + 1)) r) (sym (take-suc-set ring n r (omega (arith, f .size))) ∙ ap (λ (j : ℕ). take j (set ring n r)) (sym (add-one n)));
+            f .whole
+            ∙ ap (λ (j : ℕ). take n ring ++ follow ps s j a) left
+            ∙ ap (λ (x : ℕ). take n ring ++ x ∷ follow ps s (k - (n + 1)) x) (ap (λ (j : ℕ). nextOn ps s j a) (sym left) ∙ sym e)
+            ∙ sym (append-assoc (take n ring) (r ∷ []) (follow ps s (k - (n + 1)) r))
+            ∙ ap (λ (l : List ℕ). l ++ follow ps s (k - (n + 1)) r) (sym (take-suc-set ring n r (omega (arith, f .size))) ∙ ap (λ (j : ℕ). take j (set ring n r)) (sym (add-one n)));
         blank = drop-set-lt (n + 1) ring n r (omega arith) ∙ sym (drop-drop 1 n ring) ∙ ap (drop 1) (f .blank ∙ ap (λ (j : ℕ). replicate j 0) more);
       }
     where
       left : k - n ≡ suc (k - (n + 1))
       left = omega arith
+
       more : 8 - n ≡ suc (8 - (n + 1))
       more = omega arith
 
@@ -278,8 +279,10 @@ module _ (ps : List Pair) where
     where
       none-left : k - n ≡ 0
       none-left = omega arith
+
       front : s ∷ follow ps s (k - 1) s ≡ take n ring
       front = f .whole ∙ ap (λ (j : ℕ). take n ring ++ follow ps s j a) none-left ∙ append-nil (take n ring)
+
       count : length (s ∷ follow ps s (k - 1) s) ≡ n
       count = ap length front ∙ length-take-le n ring (omega (arith, f .size, f .within))
 
@@ -295,5 +298,6 @@ module _ (out list : List ℕ) where
     where
       eight : i ≡ 8
       eight = omega arith
+
       split : length out ≡ 8 + (length out - 8)
       split = omega arith

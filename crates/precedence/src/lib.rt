@@ -259,7 +259,7 @@ fn next_on(sheet: &[u8], z: u8, k: usize, a: u8) -> u8
 // The ring of k numbers that is followed from s.
 fn follow_ring(sheet: &[u8], k: usize, s: u8) -> [u8; 8]
     requires { ⌜ (laidOut (now sheet) ≡ true) × (rulesOnly (now sheet) ≡ true) × (1 ≤ k) × (k ≤ 8) × (s ≤ 8) ⌝ }
-    ensures { λ r. ⌜ r ≡ padded 8 (s ∷ follow (pairs (now (sheet .entry))) s (k - 1) s) ⌝ }
+    ensures { λ r. ⌜ (length r ≡ 8) × (r ≡ padded 8 (s ∷ follow (pairs (now (sheet .entry))) s (k - 1) s)) ⌝ }
 {
     let mut ring = [0u8; 8];
     ring[0] = s;
@@ -291,7 +291,7 @@ fn ring_start(sheet: &[u8], k: usize) -> Found
 // The shortest ring, "zeros to eight".
 fn shown_ring(sheet: &[u8]) -> [u8; 8]
     requires { ⌜ (laidOut (now sheet) ≡ true) × (rulesOnly (now sheet) ≡ true) ⌝ }
-    ensures { λ r. ⌜ r ≡ padded 8 (shownRing (pairs (now (sheet .entry)))) ⌝ }
+    ensures { λ r. ⌜ (length r ≡ 8) × (r ≡ padded 8 (shownRing (pairs (now (sheet .entry))))) ⌝ }
 {
     let mut k: usize = 1;
     while k < 9 {

@@ -1,50 +1,18 @@
+-- The numbers written and those left to follow make the ring. Assumes nothing.
+use Prim.Native.Nat.{_-_, _≤_}
+use native.Mathlib.Omega.{arith}
+use borrow.Author.Needs.{needs}
+use mathlib.Core.Path.{_≡_, refl, sym, ap, _∙_}
+use Rattle.precedence.specs.Sheet.{pairs}
+use Rattle.precedence.proofs.Turns.{Followed, followed-start, followed-turn, followed-end}
 use Rattle.precedence.proofs.follow_ring.Statement.{statement}
 use Rattle.precedence.proofs.follow_ring.Tie as tie
-use Rattle.precedence.proofs.follow_ring.Reads as reads
-use Rattle.precedence.proofs.follow_ring.Lts as lts
-use Rattle.precedence.proofs.next_on.Reads as next-on-reads
 
 abbrev Inv-loop : tie.InvT-loop
-Inv-loop sheet k s ring₀ a₀ n₀ ring a n = ?
+Inv-loop sheet k s ring₀ a₀ n₀ ring a n = Followed (pairs sheet) k s n a ring
 
 abbrev μ-loop : tie.MeasureT-loop
-μ-loop sheet k s ring₀ a₀ n₀ ring a n = ?
-
--- src/lib.rt:265:5
-array-write-ring : tie.Need-array-write-ring Inv-loop μ-loop
-array-write-ring c = ?
-
--- src/lib.rt:268:5
-loop-holds : tie.Need-loop-holds Inv-loop μ-loop
-loop-holds c = ?
-
--- src/lib.rt:269:31
-sub-next-on : tie.Need-sub-next-on Inv-loop μ-loop
-sub-next-on c = ?
-
--- src/lib.rt:269:9
-next-on-requires : tie.Need-next-on-requires Inv-loop μ-loop
-next-on-requires c κs = ?
-
--- src/lib.rt:270:9
-array-write-ring-2 : tie.Need-array-write-ring-2 Inv-loop μ-loop
-array-write-ring-2 c = ?
-
--- src/lib.rt:271:9
-add-n : tie.Need-add-n Inv-loop μ-loop
-add-n c = ?
-
--- src/lib.rt:268:5
-loop-less : tie.Need-loop-less Inv-loop μ-loop
-loop-less c = ?
-
--- src/lib.rt:268:5
-loop-again : tie.Need-loop-again Inv-loop μ-loop
-loop-again c = ?
-
--- src/lib.rt:260:1
-returns : tie.Need-returns Inv-loop μ-loop
-returns c = ?
+μ-loop sheet k s ring₀ a₀ n₀ ring a n = k - n
 
 pub follow-ring-spec : {M : Type 1} → statement M
 follow-ring-spec =
@@ -52,12 +20,21 @@ follow-ring-spec =
     (tie.spec
     Inv-loop
     μ-loop
-    array-write-ring
-    loop-holds
-    sub-next-on
-    next-on-requires
-    array-write-ring-2
-    add-n
-    loop-less
-    loop-again
-    returns)
+    -- array-write-ring
+    (λ c. omega arith)
+    -- loop-holds
+    (λ c. followed-start _ _ (c .before .args .s) (c .before .pre .2))
+    -- sub-next-on
+    (λ c. omega arith)
+    -- next-on-requires
+    (λ c κs. (c .before .before .before .pre .0, c .before .before .before .pre .1, c .before .before .before .pre .4))
+    -- array-write-ring-2
+    (λ c. omega (arith, c .before .before .before .before .pre .3, c .before .loop-test .taken))
+    -- add-n
+    (λ c. omega arith)
+    -- loop-less
+    (λ c. omega arith)
+    -- loop-again
+    (λ c. followed-turn _ _ _ (c .before .before .loop .n) (c .before .before .loop .a) _ (c .before .before .loop .ring) (c .before .loop-test .taken) (c .before .before .before .before .pre .3) (c .next-on .ensures) (c .before .before .loop .inv))
+    -- returns
+    (λ c. (c .before .loop .inv .size, followed-end _ (c .before .before .before .args .k) (c .before .before .before .args .s) (c .before .loop .n) (c .before .loop .a) (c .before .loop .ring) (c .loop-test .left) (c .before .before .before .pre .3) (c .before .loop .inv))))
