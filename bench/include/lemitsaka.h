@@ -30,6 +30,13 @@ uint64_t lemitsaka_derivation(const uint8_t *order, size_t order_len,
                               const uint8_t *query, size_t query_len,
                               uint8_t *buffer, size_t buffer_len);
 
+/* The order list of a precedence sheet: a count of 0 to 28 and that many pairs of rule numbers, earlier then
+ * later. Answers 0 with the smallest order list that keeps every pair, or 1 where none does, with the shortest
+ * ring of pairs, zeros to eight. Eight bytes, else refused 14 at 0; bytes past the eighth are zero. Refused 15
+ * at 0: wrong length or count; 16 at 0: a rule number not 1 to 8. */
+uint64_t lemitsaka_order(const uint8_t *sheet, size_t sheet_len,
+                         uint8_t *order, size_t order_len);
+
 #ifdef __cplusplus
 }
 #endif
