@@ -18,7 +18,7 @@ print-pairs-spec =
     -- returns-2
     (λ c. search needs)
     -- slice-aggregate-print-answer
-    (λ c. sym (length-take-le _ _ (c .if2 .left)))
+    (λ c. sym (length-take-le _ _ (c .before .if2 .left)))
     -- print-answer-requires
     (λ c κs. search needs)
     -- returns-3
