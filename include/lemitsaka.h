@@ -58,8 +58,11 @@ extern "C" {
  *    9  the report has fewer than 53 bytes
  *   11  a derivation was asked for and the query is satisfiable
  *   12  the derivation has more than 16,000 lines, or its buffer cannot hold it
+ *   14  the lent bytes are too few (the call says how many are enough)
+ *   15  a precedence sheet has the wrong length or count
+ *   16  a rule number of a sheet is not 1 to 8
  *
- * There is no 10. The place is 0 for 1, 9, 11 and 12. */
+ * There is no 10. The place is 0 for 1 and from 9 on. */
 static inline unsigned lemitsaka_refusal(uint64_t answer)
 {
     return (unsigned)(answer / 65536 % 65536);
@@ -92,6 +95,18 @@ uint64_t lemitsaka_verdict(const uint8_t *order, size_t order_len,
 uint64_t lemitsaka_derivation(const uint8_t *order, size_t order_len,
                               const uint8_t *query, size_t query_len,
                               uint8_t *buffer, size_t buffer_len);
+
+/* Which order list keeps what is known of it?
+ *
+ * A precedence sheet: a count of 0 to 28 and that many pairs of rule numbers, earlier then later.
+ *
+ *   0         the order list is the smallest that keeps every pair
+ *   1         no order list keeps them all: the shortest ring of pairs, each rule once, from its lowest, zeros to eight
+ *   refused   15 a sheet of wrong length or count, 16 a rule number not 1 to 8, then 14 fewer than eight bytes lent; at 0
+ *
+ * Bytes past the eighth are zero. */
+uint64_t lemitsaka_order(const uint8_t *sheet, size_t sheet_len,
+                         uint8_t *order, size_t order_len);
 
 #ifdef __cplusplus
 }

@@ -1,0 +1,38 @@
+-- Assumes nothing.
+use Prim.Native.Nat.{_≤_, _-_}
+use borrow.Author.Needs.{needs}
+use Rattle.order_vectors.proofs.print_bytes.Statement.{statement}
+use Rattle.order_vectors.proofs.print_bytes.Tie as tie
+
+abbrev Inv-loop : tie.InvT-loop
+Inv-loop bytes i₀ t3 i = i ≤ 8
+
+abbrev μ-loop : tie.MeasureT-loop
+μ-loop bytes i₀ t3 i = 8 - i
+
+pub print-bytes-spec : {M : Type 1} → statement M
+print-bytes-spec =
+    tie.close
+    (tie.spec
+    Inv-loop
+    μ-loop
+    -- loop-holds
+    (λ c. search needs)
+    -- element-copy-out-wide
+    (λ c. search needs)
+    -- wide-requires
+    (λ c κs. search needs)
+    -- print-hex-requires
+    (λ c κs. search needs)
+    -- add-i
+    (λ c. search needs)
+    -- loop-less
+    (λ c. search needs)
+    -- loop-again
+    (λ c. search needs)
+    -- slice-aggregate-write-all
+    (λ c. search needs)
+    -- write-all-requires
+    (λ c κs. search needs)
+    -- returns
+    (λ c. search needs))

@@ -1,0 +1,42 @@
+-- What is left of the search equals the whole. Assumes nothing.
+use Prim.Native.Nat.{_-_, _≤_}
+use native.Mathlib.Omega.{arith}
+use borrow.Author.Needs.{needs}
+use mathlib.Core.Path.{_≡_, refl, sym, ap, _∙_}
+use Rattle.logic.specs.Search.{from, find}
+use Rattle.facts.proofs.Loops.{find-end, find-here, find-next}
+use lib.ListN.{take}
+use Rattle.precedence.specs.Sheet.{pairs}
+use Rattle.precedence.specs.Finding.{ready, nextRule}
+use Rattle.precedence.proofs.next_rule.Statement.{statement}
+use Rattle.precedence.proofs.next_rule.Tie as tie
+
+abbrev Inv-loop : tie.InvT-loop
+Inv-loop sheet list n r₀ r = nextRule (pairs sheet) (take n list) ≡ find (ready (pairs sheet) (take n list)) (from (9 - r) r)
+
+abbrev μ-loop : tie.MeasureT-loop
+μ-loop sheet list n r₀ r = 9 - r
+
+loop-holds : tie.Need-loop-holds Inv-loop μ-loop
+unfolding nextRule
+loop-holds c = refl
+
+pub next-rule-spec : {M : Type 1} → statement M
+next-rule-spec =
+    tie.close
+    (tie.spec
+    Inv-loop
+    μ-loop
+    loop-holds
+    -- is-ready-requires
+    (λ c κs. c .before .before .before .pre)
+    -- returns
+    (λ c. sym (c .before .before .before .loop .inv ∙ find-here _ _ _ (c .before .before .loop-test .taken) (sym (c .before .is-ready .ensures) ∙ c .if1 .taken)))
+    -- add-r
+    (λ c. omega arith)
+    -- loop-less
+    (λ c. omega arith)
+    -- loop-again
+    (λ c. c .before .before .before .loop .inv ∙ find-next _ _ _ (c .before .before .loop-test .taken) (sym (c .before .is-ready .ensures) ∙ c .if1 .left))
+    -- returns-2
+    (λ c. sym (c .before .loop .inv ∙ find-end _ _ _ (c .loop-test .left))))
