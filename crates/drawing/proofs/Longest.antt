@@ -11,10 +11,11 @@ use Rattle.logic.specs.Search.{_and_, from, all, select, flatMap}
 use Rattle.logic.specs.Shown.{sizeIn, nodeIn, isNode, wellFormed}
 use Rattle.logic.proofs.Basics.Search.{and-left, and-right, from-mem}
 use Rattle.logic.proofs.Completeness.Placed.{length-from}
-use Rattle.drawing.specs.Decimal.{decimal}
+use Rattle.text.specs.Text.{decimalWithin, decimal}
+use Rattle.text.proofs.Digits.{decimal-byte}
 use Rattle.drawing.specs.Text.{countIn, linkIn, datumIn, booleansIn, reportSize, opening, closing, commentOpen, newline, labelOpen, labelClose, arrow, lineEnd, slash, listed, termsAt, commentLine, nodeLine, arrowLine, text}
 use Rattle.drawing.specs.Claims.{Report, longest}
-use Rattle.drawing.proofs.Numbers.{decimal-most, decimal-short}
+use Rattle.drawing.proofs.Numbers.{decimal-pair}
 use Rattle.drawing.proofs.Sums.{total, total-add, total-most, total-one, total-same, partition, length-flat}
 use Rattle.drawing.proofs.Formed.{Formed, formed}
 
@@ -49,24 +50,26 @@ total-fewest w (suc k) (suc j) i h = omega (arith, total-fewest w k j (suc i) (o
 -- Sums over 16 numbers, by computation
 
 sixteen-digits : total digits (from 16 1) ≡ 23
-unfolding total from decimal
+unfolding total from decimal decimalWithin
 sixteen-digits = refl
 
 sixteen-nodes : total (λ v. digits v + 17) (from 16 1) ≡ 295
-unfolding total from decimal
+unfolding total from decimal decimalWithin
 sixteen-nodes = refl
 
 sixteen-arrows : total (λ v. digits v + 8) (from 16 1) ≡ 151
-unfolding total from decimal
+unfolding total from decimal decimalWithin
 sixteen-arrows = refl
 
-module _ (bytes : List ℕ) (f : Formed bytes) where
+module _ (bytes : List ℕ) (below : (i : ℕ) → getD bytes i 0 < 256) (f : Formed bytes) where
   comment-most : length (commentLine bytes) ≤ 7
-  unfolding commentLine
-  comment-most = omega (arith, length-append (decimal (booleansIn bytes)) newline, decimal-most (booleansIn bytes))
+  unfolding commentLine booleansIn
+  comment-most =
+      let b : ℕ = booleansIn bytes in
+      omega (arith, length-append (decimal b) newline, decimal-byte b (below (sizeIn bytes + countIn bytes + sizeIn bytes + 4)))
 
   node-length : (v : ℕ) → length (nodeLine bytes v) ≤ (digits v + 17) + (total digits (termsAt bytes v) + (length (termsAt bytes v) - 1))
-  unfolding nodeLine
+  unfolding nodeLine datumIn
   node-length v =
       let ts : List ℕ = termsAt bytes v in
       let datum : List ℕ = decimal (datumIn bytes v) ++ labelClose in
@@ -76,7 +79,7 @@ module _ (bytes : List ℕ) (f : Formed bytes) where
         length-append (listed true ts) (slash ++ datum),
         length-append (decimal (datumIn bytes v)) labelClose,
         listed-length ts,
-        decimal-most (datumIn bytes v),
+        decimal-byte (datumIn bytes v) (below (sizeIn bytes + countIn bytes + 2 + v)),
       )
 
   arrow-length : (v : ℕ) → linkIn bytes v ≤ 16 → length (arrowLine bytes v) ≤ digits v + 8
@@ -86,7 +89,7 @@ module _ (bytes : List ℕ) (f : Formed bytes) where
         arith,
         length-append (decimal v) (arrow ++ (decimal (linkIn bytes v) ++ lineEnd)),
         length-append (decimal (linkIn bytes v)) lineEnd,
-        decimal-short (linkIn bytes v) (omega arith),
+        decimal-pair (linkIn bytes v) (omega arith),
       )
 
   -- each term stands in exactly one label
@@ -143,9 +146,9 @@ text-longest a r =
       length-append (commentLine a) (flatMap (nodeLine a) vs ++ ends),
       length-append (flatMap (nodeLine a) vs) ends,
       length-append (flatMap (arrowLine a) vs) closing,
-      comment-most a f,
-      nodes-most a f,
-      arrows-most a f,
+      comment-most a (r .below) f,
+      nodes-most a (r .below) f,
+      arrows-most a (r .below) f,
     )
 
 -- A report whose text is as long
@@ -160,5 +163,5 @@ abbrev crowded : List ℕ
 crowded = (16 ∷ replicate 16 16) ++ ((16 ∷ replicate 16 16) ++ ((16 ∷ replicate 16 255) ++ (1 ∷ 255 ∷ [])))
 
 pub longest-reached : (a : List ℕ) × Report a × (length (text a) ≡ longest)
-unfolding text commentLine nodeLine arrowLine listed termsAt countIn linkIn datumIn booleansIn reportSize sizeIn nodeIn isNode wellFormed from all select flatMap _and_ decimal
+unfolding text commentLine nodeLine arrowLine listed termsAt countIn linkIn datumIn booleansIn reportSize sizeIn nodeIn isNode wellFormed from all select flatMap _and_ decimal decimalWithin
 longest-reached = (crowded, record { below = all-below crowded refl; formed = refl }, refl)

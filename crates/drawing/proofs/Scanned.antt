@@ -1,52 +1,39 @@
 -- The reader over the text of a report, part by part.
-use Prim.Native.Nat.{ℕ, _+_, _≤_, _<_}
-use native.Mathlib.Omega.{arith}
+use Prim.Native.Nat.{ℕ}
 use mathlib.Core.Path.{_≡_, refl, sym, ap, ap₂, _∙_}
 use mathlib.Core.Bool.{Bool, true, false}
-use mathlib.Core.List.{List, [], _∷_, _++_, map, append-assoc, append-nil, List·Memᴰ, List·Memᴰ·head, List·Memᴰ·tail}
+use mathlib.Core.List.{List, [], _∷_, _++_, map, append-assoc, append-nil}
 use mathlib.Core.Option.{Option, none, some}
-use lib.ListN.{getD}
 use lib.Seq.{append-snoc}
-use lib.Dec.{eqb}
 use Rattle.logic.specs.Search.{_and_, _or_, from, flatMap}
-use Rattle.logic.specs.Shown.{sizeIn, nodeIn}
-use Rattle.logic.proofs.Basics.Search.{from-mem, select-mem}
-use Rattle.drawing.specs.Decimal.{decimal}
-use Rattle.drawing.specs.Text.{countIn, linkIn, datumIn, booleansIn, opening, closing, commentOpen, newline, labelOpen, labelClose, arrow, lineEnd, slash, listed, termsAt, commentLine, nodeLine, arrowLine, text}
-use Rattle.drawing.specs.Reader.{Read, read, isDigit, atMark, step, run}
-use Rattle.drawing.proofs.Numbers.{number-read}
-
-pub run-append : (r : Read) (xs ys : List ℕ) → run r (xs ++ ys) ≡ run (run r xs) ys
-unfolding run
-run-append r [] ys = refl
-run-append r (x ∷ xs) ys = run-append (step r x) xs ys
+use Rattle.logic.specs.Shown.{sizeIn}
+use Rattle.text.specs.Text.{decimal, isDigit}
+use Rattle.drawing.specs.Text.{linkIn, datumIn, booleansIn, opening, closing, commentOpen, newline, labelOpen, labelClose, arrow, lineEnd, slash, listed, termsAt, commentLine, nodeLine, arrowLine, text}
+use Rattle.drawing.specs.Reader.{Read, read, atMark, step, run}
+use Rattle.drawing.proofs.Numbers.{run-append, number-read}
 
 -- over one part, and on with the rest
 run-then : (r s t : Read) (xs ys : List ℕ) → run r xs ≡ s → run s ys ≡ t → run r (xs ++ ys) ≡ t
 run-then r s t xs ys e h = run-append r xs ys ∙ ap (λ (q : Read). run q ys) e ∙ h
 
--- numbers that the reader can read
-abbrev Small : List ℕ → Type 0
-Small ts = (t : ℕ) → List·Memᴰ t ts → t < 1000
-
 -- A label's terms
 
 module _ (ls : List (List ℕ)) (bs ks : List ℕ) (f : ℕ) where
-  listed-more : (ts : List ℕ) (x : ℕ) (acc : List ℕ) → Small ts → run (read (some x) acc ls bs ks f) (listed false ts ++ slash) ≡ read none ((acc ++ (x ∷ [])) ++ ts) ls bs ks f
+  listed-more : (ts : List ℕ) (x : ℕ) (acc : List ℕ) → run (read (some x) acc ls bs ks f) (listed false ts ++ slash) ≡ read none ((acc ++ (x ∷ [])) ++ ts) ls bs ks f
   unfolding run step isDigit atMark _and_ _or_ listed
-  listed-more [] x acc h = ap (λ (ts : List ℕ). read none ts ls bs ks f) (sym (append-nil (acc ++ (x ∷ []))))
-  listed-more (t ∷ ts) x acc h =
+  listed-more [] x acc = ap (λ (ts : List ℕ). read none ts ls bs ks f) (sym (append-nil (acc ++ (x ∷ []))))
+  listed-more (t ∷ ts) x acc =
       let next : List ℕ = acc ++ (x ∷ []) in
       ap (run (read none next ls bs ks f)) (append-assoc (decimal t) (listed false ts) slash)
-      ∙ run-then _ _ _ (decimal t) (listed false ts ++ slash) (number-read next ls bs ks f t (h t (List·Memᴰ·head refl))) (listed-more ts t next (λ u m. h u (List·Memᴰ·tail m)))
+      ∙ run-then _ _ _ (decimal t) (listed false ts ++ slash) (number-read next ls bs ks f t) (listed-more ts t next)
       ∙ ap (λ (us : List ℕ). read none us ls bs ks f) (append-snoc next t ts)
 
-  listed-read : (ts : List ℕ) → Small ts → run (read none [] ls bs ks f) (listed true ts ++ slash) ≡ read none ts ls bs ks f
+  listed-read : (ts : List ℕ) → run (read none [] ls bs ks f) (listed true ts ++ slash) ≡ read none ts ls bs ks f
   unfolding run step isDigit atMark _and_ _or_ listed
-  listed-read [] h = refl
-  listed-read (t ∷ ts) h =
+  listed-read [] = refl
+  listed-read (t ∷ ts) =
       ap (run (read none [] ls bs ks f)) (append-assoc (decimal t) (listed false ts) slash)
-      ∙ run-then _ _ _ (decimal t) (listed false ts ++ slash) (number-read [] ls bs ks f t (h t (List·Memᴰ·head refl))) (listed-more ts t [] (λ u m. h u (List·Memᴰ·tail m)))
+      ∙ run-then _ _ _ (decimal t) (listed false ts ++ slash) (number-read [] ls bs ks f t) (listed-more ts t [])
 
   -- The fixed parts behind a number
 
@@ -82,74 +69,48 @@ comment-ends : (b : ℕ) → run (read (some b) [] [] [] [] 0) newline ≡ read 
 unfolding run step isDigit atMark _and_ _or_
 comment-ends b = refl
 
--- A report's bytes are bytes: each is below 256.
-abbrev pub AreBytes : List ℕ → Type 0
-AreBytes bytes = (i : ℕ) → getD bytes i 0 < 256
-
-module _ (bytes : List ℕ) (below : AreBytes bytes) where
-  terms-small : (v : ℕ) → Small (termsAt bytes v)
-  unfolding termsAt countIn
-  terms-small v t m =
-      let k = from-mem (countIn bytes) 1 t (select-mem (λ u. eqb (nodeIn bytes u) v) t (from (countIn bytes) 1) m .0) in
-      omega (arith, below (sizeIn bytes + 1))
-
-  datum-small : (v : ℕ) → datumIn bytes v < 1000
-  unfolding datumIn
-  datum-small v = omega (arith, below (sizeIn bytes + countIn bytes + 2 + v))
-
-  link-small : (v : ℕ) → linkIn bytes v < 1000
-  unfolding linkIn
-  link-small v = omega (arith, below v)
-
-  booleans-small : booleansIn bytes < 1000
-  unfolding booleansIn
-  booleans-small = omega (arith, below (sizeIn bytes + countIn bytes + sizeIn bytes + 4))
-
-  nodes-small : Small (from (sizeIn bytes) 1)
-  unfolding sizeIn
-  nodes-small v m = let k = from-mem (getD bytes 0 0) 1 v m in omega (arith, below 0)
-
+module _ (bytes : List ℕ) where
   -- A line, and the lines
 
   comment-read : run (read none [] [] [] [] 0) (commentLine bytes) ≡ read none [] [] [] [] (booleansIn bytes)
   unfolding commentLine
   comment-read =
       run-then _ _ _ commentOpen (decimal (booleansIn bytes) ++ newline) comment-begins
-      (run-then _ _ _ (decimal (booleansIn bytes)) newline (number-read [] [] [] [] 0 (booleansIn bytes) booleans-small) (comment-ends (booleansIn bytes)))
+      (run-then _ _ _ (decimal (booleansIn bytes)) newline (number-read [] [] [] [] 0 (booleansIn bytes)) (comment-ends (booleansIn bytes)))
 
-  module _ (ls : List (List ℕ)) (bs ks : List ℕ) (f v : ℕ) (small : v < 1000) where
+  module _ (ls : List (List ℕ)) (bs ks : List ℕ) (f v : ℕ) where
     node-read : run (read none [] ls bs ks f) (nodeLine bytes v) ≡ read none [] (ls ++ (termsAt bytes v ∷ [])) (bs ++ (datumIn bytes v ∷ [])) ks f
     unfolding nodeLine
     node-read =
         let ts : List ℕ = termsAt bytes v in
         let datum : List ℕ = decimal (datumIn bytes v) ++ labelClose in
-        run-then _ _ _ (decimal v) (labelOpen ++ (listed true ts ++ (slash ++ datum))) (number-read [] ls bs ks f v small)
+        run-then _ _ _ (decimal v) (labelOpen ++ (listed true ts ++ (slash ++ datum))) (number-read [] ls bs ks f v)
         (run-then _ _ _ labelOpen (listed true ts ++ (slash ++ datum)) (label-begins ls bs ks f v)
         (ap (run (read none [] ls bs ks f)) (sym (append-assoc (listed true ts) slash datum))
-        ∙ run-then _ _ _ (listed true ts ++ slash) datum (listed-read ls bs ks f ts (terms-small v))
-        (run-then _ _ _ (decimal (datumIn bytes v)) labelClose (number-read ts ls bs ks f (datumIn bytes v) (datum-small v)) (label-ends ls bs ks f ts (datumIn bytes v)))))
+        ∙ run-then _ _ _ (listed true ts ++ slash) datum (listed-read ls bs ks f ts)
+        (run-then _ _ _ (decimal (datumIn bytes v)) labelClose (number-read ts ls bs ks f (datumIn bytes v)) (label-ends ls bs ks f ts (datumIn bytes v)))))
 
     arrow-read : run (read none [] ls bs ks f) (arrowLine bytes v) ≡ read none [] ls bs (ks ++ (linkIn bytes v ∷ [])) f
     unfolding arrowLine
     arrow-read =
-        run-then _ _ _ (decimal v) (arrow ++ (decimal (linkIn bytes v) ++ lineEnd)) (number-read [] ls bs ks f v small)
+        run-then _ _ _ (decimal v) (arrow ++ (decimal (linkIn bytes v) ++ lineEnd)) (number-read [] ls bs ks f v)
         (run-then _ _ _ arrow (decimal (linkIn bytes v) ++ lineEnd) (arrow-begins ls bs ks f v)
-        (run-then _ _ _ (decimal (linkIn bytes v)) lineEnd (number-read (v ∷ []) ls bs ks f (linkIn bytes v) (link-small v)) (arrow-ends ls bs ks f (v ∷ []) (linkIn bytes v))))
+        (run-then _ _ _ (decimal (linkIn bytes v)) lineEnd (number-read (v ∷ []) ls bs ks f (linkIn bytes v)) (arrow-ends ls bs ks f (v ∷ []) (linkIn bytes v))))
 
-  nodes-read : (vs : List ℕ) (ls : List (List ℕ)) (bs ks : List ℕ) (f : ℕ) → Small vs → run (read none [] ls bs ks f) (flatMap (nodeLine bytes) vs) ≡ read none [] (ls ++ map (termsAt bytes) vs) (bs ++ map (datumIn bytes) vs) ks f
+  nodes-read : (vs : List ℕ) (ls : List (List ℕ)) (bs ks : List ℕ) (f : ℕ) → run (read none [] ls bs ks f) (flatMap (nodeLine bytes) vs) ≡ read none [] (ls ++ map (termsAt bytes) vs) (bs ++ map (datumIn bytes) vs) ks f
   unfolding flatMap run
-  nodes-read [] ls bs ks f h = ap₂ (λ (xs : List (List ℕ)) (ys : List ℕ). read none [] xs ys ks f) (sym (append-nil ls)) (sym (append-nil bs))
-  nodes-read (v ∷ vs) ls bs ks f h =
-      run-then _ _ _ (nodeLine bytes v) (flatMap (nodeLine bytes) vs) (node-read ls bs ks f v (h v (List·Memᴰ·head refl)))
-      (nodes-read vs (ls ++ (termsAt bytes v ∷ [])) (bs ++ (datumIn bytes v ∷ [])) ks f (λ u m. h u (List·Memᴰ·tail m)))
+  nodes-read [] ls bs ks f = ap₂ (λ (xs : List (List ℕ)) (ys : List ℕ). read none [] xs ys ks f) (sym (append-nil ls)) (sym (append-nil bs))
+  nodes-read (v ∷ vs) ls bs ks f =
+      run-then _ _ _ (nodeLine bytes v) (flatMap (nodeLine bytes) vs) (node-read ls bs ks f v)
+      (nodes-read vs (ls ++ (termsAt bytes v ∷ [])) (bs ++ (datumIn bytes v ∷ [])) ks f)
       ∙ ap₂ (λ (xs : List (List ℕ)) (ys : List ℕ). read none [] xs ys ks f) (append-snoc ls (termsAt bytes v) (map (termsAt bytes) vs)) (append-snoc bs (datumIn bytes v) (map (datumIn bytes) vs))
 
-  arrows-read : (vs : List ℕ) (ls : List (List ℕ)) (bs ks : List ℕ) (f : ℕ) → Small vs → run (read none [] ls bs ks f) (flatMap (arrowLine bytes) vs) ≡ read none [] ls bs (ks ++ map (linkIn bytes) vs) f
+  arrows-read : (vs : List ℕ) (ls : List (List ℕ)) (bs ks : List ℕ) (f : ℕ) → run (read none [] ls bs ks f) (flatMap (arrowLine bytes) vs) ≡ read none [] ls bs (ks ++ map (linkIn bytes) vs) f
   unfolding flatMap run
-  arrows-read [] ls bs ks f h = ap (λ (xs : List ℕ). read none [] ls bs xs f) (sym (append-nil ks))
-  arrows-read (v ∷ vs) ls bs ks f h =
-      run-then _ _ _ (arrowLine bytes v) (flatMap (arrowLine bytes) vs) (arrow-read ls bs ks f v (h v (List·Memᴰ·head refl)))
-      (arrows-read vs ls bs (ks ++ (linkIn bytes v ∷ [])) f (λ u m. h u (List·Memᴰ·tail m)))
+  arrows-read [] ls bs ks f = ap (λ (xs : List ℕ). read none [] ls bs xs f) (sym (append-nil ks))
+  arrows-read (v ∷ vs) ls bs ks f =
+      run-then _ _ _ (arrowLine bytes v) (flatMap (arrowLine bytes) vs) (arrow-read ls bs ks f v)
+      (arrows-read vs ls bs (ks ++ (linkIn bytes v ∷ [])) f)
       ∙ ap (λ (xs : List ℕ). read none [] ls bs xs f) (append-snoc ks (linkIn bytes v) (map (linkIn bytes) vs))
 
   -- the whole text
@@ -162,5 +123,5 @@ module _ (bytes : List ℕ) (below : AreBytes bytes) where
       let lines : List ℕ = flatMap (nodeLine bytes) vs ++ ends in
       run-then _ _ _ opening (commentLine bytes ++ lines) opening-read
       (run-then _ _ _ (commentLine bytes) lines comment-read
-      (run-then _ _ _ (flatMap (nodeLine bytes) vs) ends (nodes-read vs [] [] [] f nodes-small)
-      (run-then _ _ _ (flatMap (arrowLine bytes) vs) closing (arrows-read vs _ _ [] f nodes-small) (closing-read _ _ _ f))))
+      (run-then _ _ _ (flatMap (nodeLine bytes) vs) ends (nodes-read vs [] [] [] f)
+      (run-then _ _ _ (flatMap (arrowLine bytes) vs) closing (arrows-read vs _ _ [] f) (closing-read _ _ _ f))))

@@ -8,14 +8,14 @@ use Rattle.logic.specs.Shown.{wellFormed}
 use Rattle.drawing.specs.Text.{reportSize, text}
 use Rattle.drawing.specs.Reader.{reportIn}
 
--- A report is bytes, and well formed.
-pub record Report (bytes : List ℕ) : Type 0 where
-  pub below : (i : ℕ) → getD bytes i 0 < 256
-  pub formed : wellFormed bytes ≡ true
-
 -- "those zeros are not part of it": a report without the bytes past it
 abbrev pub unpadded : List ℕ → List ℕ
 unpadded bytes = take (reportSize bytes) bytes
+
+-- What the call is lent is bytes: each is below 256.
+pub record Report (bytes : List ℕ) : Type 0 where
+  pub formed : wellFormed bytes ≡ true
+  pub below : (i : ℕ) → getD bytes i 0 < 256
 
 -- The most bytes that a text has.
 abbrev pub longest : ℕ
@@ -23,10 +23,10 @@ longest = 508
 
 pub record Claims : Type 0 where
   -- "text and report determine each other": reports with one text are one report, and one report has one text
-  pub report-of-text : (a b : List ℕ) → Report a → Report b → text a ≡ text b → unpadded a ≡ unpadded b
-  pub text-of-report : (a b : List ℕ) → Report a → Report b → unpadded a ≡ unpadded b → text a ≡ text b
+  pub report-of-text : (a b : List ℕ) → wellFormed a ≡ true → wellFormed b ≡ true → text a ≡ text b → unpadded a ≡ unpadded b
+  pub text-of-report : (a b : List ℕ) → wellFormed a ≡ true → wellFormed b ≡ true → unpadded a ≡ unpadded b → text a ≡ text b
   -- the reader gives the report back, and zeros behind a report are not seen
-  pub text-gives-report : (a : List ℕ) → Report a → reportIn (text a) ≡ unpadded a
+  pub text-gives-report : (a : List ℕ) → wellFormed a ≡ true → reportIn (text a) ≡ unpadded a
   pub zeros-unseen : (bytes : List ℕ) (k : ℕ) → text (bytes ++ replicate k 0) ≡ text bytes
   -- no text is longer than `longest`, and one is as long
   pub text-longest : (a : List ℕ) → Report a → length (text a) ≤ longest

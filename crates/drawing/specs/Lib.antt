@@ -1,5 +1,4 @@
 -- What must be believed of the text of a heap report, in reading order.
-pub mod Decimal
 pub mod Text
 pub mod Call
 pub mod Samples

@@ -4,8 +4,9 @@ use mathlib.Core.Bool.{Bool, true, false, cond}
 use mathlib.Core.List.{List, [], _∷_, _++_, map}
 use mathlib.Core.Option.{Option, none, some, Option·getD}
 use lib.ListN.{length}
-use lib.Dec.{eqb, leb}
-use Rattle.logic.specs.Search.{_and_, _or_, from, any, flatMap}
+use lib.Dec.{eqb}
+use Rattle.logic.specs.Search.{_or_, from, any, flatMap}
+use Rattle.text.specs.Text.{isDigit}
 
 -- What is read so far: the number whose digits are being read, the terms of the label that is being read, and the parts of the report.
 pub record Read : Type 0 where
@@ -42,9 +43,6 @@ atNewline (some b) r = read none (r .terms) (r .labels) (r .bytes) (r .links) b
 abbrev pub atBlank : Option ℕ → Read → Read
 atBlank none r = r
 atBlank (some t) r = read none (r .terms ++ (t ∷ [])) (r .labels) (r .bytes) (r .links) (r .booleans)
-
-unfoldable pub isDigit : ℕ → Bool
-isDigit b = leb 48 b and leb b 57
 
 unfoldable pub atMark : ℕ → Read → Read
 atMark b r =

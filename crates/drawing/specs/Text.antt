@@ -6,7 +6,7 @@ use lib.ListN.{getD}
 use lib.Dec.{eqb}
 use Rattle.logic.specs.Search.{from, select, flatMap}
 use Rattle.logic.specs.Shown.{sizeIn, nodeIn}
-use Rattle.drawing.specs.Decimal.{decimal}
+use Rattle.text.specs.Text.{decimal}
 
 -- What stands where in a report (01, "The heap shown"): the term count, the link and the data byte of a node, the byte of booleans, and
 -- the report's length without "the bytes past it", 2m+n+5.
