@@ -54,11 +54,11 @@ module _ (ts : List ℕ) (ls : List (List ℕ)) (bs ks : List ℕ) (f : ℕ) whe
   number-below (suc below) b h =
       ⊎-elim
       (λ ten.
-          ap (run empty) (decimal-more b ten)
-          ∙ run-append empty (decimal (b / 10)) ((48 + b % 10) ∷ [])
-          ∙ ap (λ (r : Read). step r (48 + b % 10)) (number-below below (b / 10) (omega arith))
-          ∙ step-digit (at (b / 10)) (b % 10) (omega arith)
-          ∙ ap at (omega arith))
+      ap (run empty) (decimal-more b ten)
+      ∙ run-append empty (decimal (b / 10)) ((48 + b % 10) ∷ [])
+      ∙ ap (λ (r : Read). step r (48 + b % 10)) (number-below below (b / 10) (omega arith))
+      ∙ step-digit (at (b / 10)) (b % 10) (omega arith)
+      ∙ ap at (omega arith))
       (λ small. ap (run empty) (decimal-small b small) ∙ step-digit empty b small ∙ ap at (omega arith))
       (le-cases 10 b)
 

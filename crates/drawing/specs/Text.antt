@@ -6,7 +6,7 @@ use lib.ListN.{getD}
 use lib.Dec.{eqb}
 use Rattle.logic.specs.Search.{from, select, flatMap}
 use Rattle.logic.specs.Shown.{sizeIn, nodeIn}
-use Rattle.text.specs.Text.{decimal}
+use Rattle.text.specs.Text.{ascii, decimal}
 
 -- What stands where in a report (01, "The heap shown"): the term count, the link and the data byte of a node, the byte of booleans, and
 -- the report's length without "the bytes past it", 2m+n+5.
@@ -25,39 +25,38 @@ booleansIn bytes = getD bytes (sizeIn bytes + countIn bytes + sizeIn bytes + 4) 
 unfoldable pub reportSize : List ℕ → ℕ
 reportSize bytes = sizeIn bytes + countIn bytes + sizeIn bytes + 5
 
--- The fixed parts, as bytes: `digraph heap {` and `}`, each with a newline
+-- The fixed parts: what begins and ends the text, the comment, a node's line and an arrow's
 abbrev pub opening : List ℕ
-opening = 100 ∷ 105 ∷ 103 ∷ 114 ∷ 97 ∷ 112 ∷ 104 ∷ 32 ∷ 104 ∷ 101 ∷ 97 ∷ 112 ∷ 32 ∷ 123 ∷ 10 ∷ []
+opening = ascii "digraph heap {\n"
 
 abbrev pub closing : List ℕ
-closing = 125 ∷ 10 ∷ []
+closing = ascii "}\n"
 
--- `// ` and a newline; ` [label="` and `"];` with a newline; ` -> ` and `;` with a newline
 abbrev pub commentOpen : List ℕ
-commentOpen = 47 ∷ 47 ∷ 32 ∷ []
+commentOpen = ascii "// "
 
 abbrev pub newline : List ℕ
-newline = 10 ∷ []
+newline = ascii "\n"
 
 abbrev pub labelOpen : List ℕ
-labelOpen = 32 ∷ 91 ∷ 108 ∷ 97 ∷ 98 ∷ 101 ∷ 108 ∷ 61 ∷ 34 ∷ []
+labelOpen = ascii " [label=\""
 
 abbrev pub labelClose : List ℕ
-labelClose = 34 ∷ 93 ∷ 59 ∷ 10 ∷ []
+labelClose = ascii "\"];\n"
 
 abbrev pub arrow : List ℕ
-arrow = 32 ∷ 45 ∷ 62 ∷ 32 ∷ []
+arrow = ascii " -> "
 
 abbrev pub lineEnd : List ℕ
-lineEnd = 59 ∷ 10 ∷ []
+lineEnd = ascii ";\n"
 
 abbrev pub slash : List ℕ
-slash = 47 ∷ []
+slash = ascii "/"
 
 -- a blank before each number but the first
 abbrev pub blank : Bool → List ℕ
 blank true = []
-blank false = 32 ∷ []
+blank false = ascii " "
 
 -- "blanks between": numbers in decimal, of which the first is the first of all or not
 unfoldable pub listed : Bool → List ℕ → List ℕ
