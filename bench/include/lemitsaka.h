@@ -30,6 +30,11 @@ uint64_t lemitsaka_derivation(const uint8_t *order, size_t order_len,
                               const uint8_t *query, size_t query_len,
                               uint8_t *buffer, size_t buffer_len);
 
+/* The text of a heap report for Graphviz: answers its length, with zeros past it in the buffer. 508 bytes hold every text.
+ * Refusals, and then all of the buffer is zero: 13 the report is not well formed, then 14 the buffer is too short, both at 0. */
+uint64_t lemitsaka_dot(const uint8_t *report, size_t report_len,
+                       uint8_t *text, size_t text_len);
+
 #ifdef __cplusplus
 }
 #endif

@@ -2,7 +2,7 @@
 use Prim.Native.Nat.{ℕ}
 use mathlib.Core.Path.{_≡_}
 use mathlib.Core.List.{List, [], _∷_, map}
-use lib.ListN.{length}
+use lib.ListN.{length, replicate}
 use Rattle.logic.specs.Calls.{padded}
 use Rattle.text.specs.Text.{ascii}
 use Rattle.drawing.specs.Call.{Outcome, written, refusal, dotCall}
@@ -36,6 +36,8 @@ samples =
     -- a text that just fits
     ∷ draws (1 ∷ 1 ∷ 0 ∷ 1 ∷ 0 ∷ 1 ∷ 1 ∷ []) 46
     (ascii "digraph heap {\n// 1\n1 [label=\"/0\"];\n1 -> 1;\n}\n")
+    -- a byte too short
+    ∷ refuses (1 ∷ 1 ∷ 0 ∷ 1 ∷ 0 ∷ 1 ∷ 0 ∷ replicate 46 0) 45 14
     -- a buffer too short
     ∷ refuses (6 ∷ 1 ∷ 2 ∷ 4 ∷ 2 ∷ 6 ∷ 6 ∷ 7 ∷ 1 ∷ 1 ∷ 2 ∷ 3 ∷ 4 ∷ 5 ∷ 6 ∷ 6 ∷ 0 ∷ 16 ∷ 0 ∷ 0 ∷ 0 ∷ 0 ∷ 1 ∷ 0 ∷ []) 164 14
     -- zeros past the report

@@ -1,4 +1,6 @@
 // Lemitsaka's two calls: a verdict with its heap, and a derivation. Neither asks anything of its caller.
+mod dot_call;
+
 use query::Checked;
 use query::Layout;
 use walk::Kind;
