@@ -10,13 +10,13 @@ pub add-spec : {M : Type 1} → statement M
 add-spec =
     tie.close
     (tie.spec
-    -- put-bytes-requires
+    -- add-bytes-requires
     (λ c κs. search needs)
-    -- put-decimal-requires
+    -- add-number-requires
     (λ c κs. search needs)
-    -- put-bytes-requires-2
-    (λ c κs. omega (arith, c .before .before .before .put-decimal .ensures .ends, c .before .before .before .before .before .before .before .put-bytes .ensures .ends, decimal-machine (c .before .before .before .before .before .before .before .before .before .before .before .before .args .k) (omega arith)))
+    -- add-bytes-requires-2
+    (λ c κs. omega (arith, c .before .before .before .add-number .ensures .ends, c .before .before .before .before .before .before .before .add-bytes .ensures .ends, decimal-machine (c .before .before .before .before .before .before .before .before .before .before .before .before .args .k) (omega arith)))
     -- same-length
     (λ c. search needs)
     -- returns
-    (λ c. writes-then (c .before .before .before .before .before .before .before .before .before .before .put-bytes .ensures) (writes-then (c .before .before .before .before .before .before .put-decimal .ensures) (c .before .before .put-bytes2 .ensures))))
+    (λ c. writes-then (c .before .before .before .before .before .before .before .before .before .before .add-bytes .ensures) (writes-then (c .before .before .before .before .before .before .add-number .ensures) (c .before .before .add-bytes2 .ensures))))
