@@ -45,6 +45,9 @@ extern "C" {
 #define LEMITSAKA_REPORT_SIZE 53
 #define LEMITSAKA_DERIVATION_SIZE 64002
 
+/* The bytes that hold the text of every heap report. */
+#define LEMITSAKA_DOT_SIZE 508
+
 /* The number of the refusal in an answer, or 0 where the call was not refused:
  *
  *    1  the order list is not eight bytes with each of 1 to 8 once
@@ -58,6 +61,7 @@ extern "C" {
  *    9  the report has fewer than 53 bytes
  *   11  a derivation was asked for and the query is satisfiable
  *   12  the derivation has more than 16,000 lines, or its buffer cannot hold it
+ *   13  a report is not well formed
  *   14  the lent bytes are too few (the call says how many are enough)
  *   15  a precedence sheet has the wrong length or count
  *   16  a rule number of a sheet is not 1 to 8
@@ -95,6 +99,15 @@ uint64_t lemitsaka_verdict(const uint8_t *order, size_t order_len,
 uint64_t lemitsaka_derivation(const uint8_t *order, size_t order_len,
                               const uint8_t *query, size_t query_len,
                               uint8_t *buffer, size_t buffer_len);
+
+/* What does a heap report look like?
+ *
+ * The report's text for Graphviz: a line per node, then an arrow per link. The answer is the text's length, with zeros past it;
+ * LEMITSAKA_DOT_SIZE bytes hold every text.
+ *
+ *   refused   13 the report is not well formed, then 14 the text does not fit; at 0 */
+uint64_t lemitsaka_dot(const uint8_t *report, size_t report_len,
+                       uint8_t *text, size_t text_len);
 
 /* Which order list keeps what is known of it?
  *

@@ -1,0 +1,101 @@
+// A writer for text: it holds the caller's buffer and how much of it is filled (02, R-2: "Text and numbers are added through a writer
+// that holds the caller's buffer and its fill"). Each function over the struct takes it apart and calls one on the slice and the number,
+// which does the work; `add` and `add_bytes` above them have plain parameters, and serve every other caller.
+ghost use mathlib.Core.Path.{_≡_};
+ghost use mathlib.Core.List.{_++_};
+ghost use Prim.Native.Nat.{ℕ, _+_, _≤_};
+ghost use lib.ListN.{length};
+ghost use Rattle.text.specs.Text.{Writes, decimal};
+ghost use Rattle.dot_writer.specs.Written.{written};
+
+pub struct Writer<'a> {
+    pub out: &'a mut [u8],
+    pub fill: usize,
+}
+
+// The work: bytes behind the first `fill`.
+fn bytes_at(out: &mut [u8], fill: usize, bytes: &[u8]) -> usize
+    requires { ⌜ fill + length (now bytes) ≤ 18446744073709551615 ⌝ }
+    ensures { λ r. ⌜ Writes (now (out .entry)) fill (now (bytes .entry)) (now (out .exit)) r ⌝ }
+{
+    text::put_bytes(out, fill, bytes)
+}
+
+// The work: a number in decimal.
+fn number_at(out: &mut [u8], fill: usize, k: usize) -> usize
+    requires { ⌜ fill + 20 ≤ 18446744073709551615 ⌝ }
+    ensures { λ r. ⌜ Writes (now (out .entry)) fill (decimal k) (now (out .exit)) r ⌝ }
+{
+    text::put_decimal(out, fill, k)
+}
+
+// The borrow goes into the writer, beside how much of it is filled.
+pub fn new<'a>(out: &'a mut [u8], fill: usize) -> Writer<'a>
+    ensures { λ r. ⌜ (r .out ≡ out .entry) × (r .fill ≡ fill) ⌝ }
+{
+    Writer {
+        out: out,
+        fill: fill,
+    }
+}
+
+// How much is filled. The buffer is as it was.
+pub fn filled<'a>(w: Writer<'a>) -> usize
+    ensures { λ r. ⌜ (r ≡ w .entry .fill) × (now (w .exit .0) ≡ now (w .entry .out)) ⌝ }
+{
+    w.fill
+}
+
+// Bytes are added.
+pub fn put_bytes<'a, 'b>(w: Writer<'a>, bytes: &'b [u8]) -> Writer<'a>
+    requires { ⌜ w .fill + length (now bytes) ≤ 18446744073709551615 ⌝ }
+    ensures { λ r. ⌜ r ≡ written (w .entry) (now (bytes .entry)) ⌝ }
+{
+    let fill = w.fill;
+    let next = bytes_at(&mut *w.out, fill, bytes);
+    Writer {
+        out: w.out,
+        fill: next,
+    }
+}
+
+// A number in decimal is added.
+pub fn put_number<'a>(w: Writer<'a>, k: usize) -> Writer<'a>
+    requires { ⌜ w .fill + 20 ≤ 18446744073709551615 ⌝ }
+    ensures { λ r. ⌜ r ≡ written (w .entry) (decimal k) ⌝ }
+{
+    let fill = w.fill;
+    let next = number_at(&mut *w.out, fill, k);
+    Writer {
+        out: w.out,
+        fill: next,
+    }
+}
+
+// Bytes through a writer.
+pub fn add_bytes(out: &mut [u8], fill: usize, bytes: &[u8]) -> usize
+    requires { ⌜ fill + length (now bytes) ≤ 18446744073709551615 ⌝ }
+    ensures { λ r. ⌜ Writes (now (out .entry)) fill (now (bytes .entry)) (now (out .exit)) r ⌝ }
+{
+    let w = put_bytes(new(out, fill), bytes);
+    filled(w)
+}
+
+// A number in decimal through a writer.
+pub fn add_number(out: &mut [u8], fill: usize, k: usize) -> usize
+    requires { ⌜ fill + 20 ≤ 18446744073709551615 ⌝ }
+    ensures { λ r. ⌜ Writes (now (out .entry)) fill (decimal k) (now (out .exit)) r ⌝ }
+{
+    let w = put_number(new(out, fill), k);
+    filled(w)
+}
+
+// A number in decimal between two words.
+pub fn add(out: &mut [u8], fill: usize, before: &[u8], k: usize, after: &[u8]) -> usize
+    requires { ⌜ fill + length (now before) + 20 + length (now after) ≤ 18446744073709551615 ⌝ }
+    ensures { λ r. ⌜ Writes (now (out .entry)) fill (now (before .entry) ++ (decimal k ++ now (after .entry))) (now (out .exit)) r ⌝ }
+{
+    let first = add_bytes(out, fill, before);
+    let second = add_number(out, first, k);
+    add_bytes(out, second, after)
+}
