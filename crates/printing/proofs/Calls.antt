@@ -1,64 +1,22 @@
 -- The text of what the two calls answer and leave, and of the bytes that are read. Assumes nothing.
-use Prim.Native.Nat.{ℕ, zero, suc, _+_, _-_, _*_, _/_, _%_, _≤_, _<_, min}
+use Prim.Native.Nat.{ℕ, _+_, _-_, _≤_, _<_, min}
 use native.Mathlib.Omega.{arith}
 use mathlib.Core.Path.{_≡_, refl, sym, ap, _∙_, subst}
-use mathlib.Core.Bool.{Bool, true, false, cond}
 use mathlib.Core.Logic.{⊎-elim}
 use mathlib.Core.List.{List, [], _∷_, _++_}
-use lib.ListN.{length, getD, take, drop, replicate, length-append, length-replicate, drop-of-length-le}
+use lib.ListN.{length, take, drop, drop-of-length-le}
 use lib.Seq.{take-all, take-nil, take-take, take-add, drop-at, length-take-le}
-use lib.Dec.{ltb}
-use Rattle.logic.specs.Search.{_or_, flatMap}
-use Rattle.logic.specs.Facts.{Line}
-use Rattle.logic.specs.Derivation.{lineBytes, derivationBytes}
-use Rattle.logic.specs.Query.{decode}
-use Rattle.logic.specs.Walk.{Ending, refutation, saturation, ourWalk}
-use Rattle.logic.specs.Calls.{Input, Outcome, derivationChecks, padded, blank, verdictCall, derivationOf, derivationCall}
-use Rattle.logic.specs.Calls as calls
+use Rattle.logic.specs.Search.{flatMap}
+use Rattle.logic.specs.Derivation.{linesIn}
+use Rattle.logic.specs.Calls.{Input, Outcome, verdictCall, derivationCall}
+use Rattle.logic.specs.Demands.{Fits}
 use Rattle.logic.proofs.Basics.Compare.{le-cases}
-use Rattle.walk.proofs.Padded.{lines-length}
 use Rattle.lemitsaka.specs.Promise.{meaning, Does}
 use Rattle.lemitsaka.specs.declared.Answer.{Answer}
 use Rattle.lemitsaka.specs.declared.Answer.the-variants as answer
-use Rattle.logic.proofs.Calls.CallLaws.{call-cases, refusalOf-some}
+use Rattle.logic.proofs.Calls.Demands.{demand2}
 use Rattle.text.specs.Text.{ascii}
-use Rattle.printing.specs.HeapverdictText.{reportText, lineText, linesIn, refusalText, derivationText, verdictText, unsatText, textOf, heapverdictText}
-
--- A derivation call that answers "refuted" leaves the bytes of some lines.
-abbrev Written : Outcome → ℕ → Type 0
-Written o room = o .answer ≡ calls.refuted → (ls : List Line) × (o .lent ≡ padded room (derivationBytes ls))
-
-ending-written : (room : ℕ) (w : Ending) → Written (derivationOf room w) room
-unfolding derivationOf blank
-ending-written room (saturation s) e = let z : _≡_ {A = ℕ} 0 1 = cc in absurd (omega arith)
-ending-written room (refutation ls) e = go (ltb 16000 (length ls) or ltb room (2 + 4 * length ls)) e
-  where
-    go : (b : Bool) → Written (cond b (blank room (calls.refused 12 0)) (record { answer = calls.refuted; lent = padded room (derivationBytes ls) })) room
-    go true e = let z : _≡_ {A = ℕ} 0 1 = cc in absurd (omega arith)
-    go false e = (ls, refl)
-
-written : (i : Input) → Written (derivationCall i) (i .room)
-unfolding derivationCall blank
-written i e =
-    ⊎-elim
-    (λ h.
-    let found = refusalOf-some derivationChecks i (h .0) (h .1) in
-    let a : h .0 ≡ calls.refuted = sym (ap (λ (o : Outcome). o .answer) (h .2)) ∙ e in
-    let z : _≡_ {A = ℕ} 0 1 = cc (found .2 .2) in
-    absurd (omega arith))
-    (λ h. subst (λ (o : Outcome). Written o (i .room)) (sym (h .1)) (ending-written (i .room) (ourWalk (i .order) (decode (i .query)))) e)
-    (call-cases derivationChecks i (derivationOf (i .room)))
-
-lines-room : (room : ℕ) (ls : List Line) (bytes : List ℕ) → bytes ≡ padded room (derivationBytes ls) → length bytes ≡ room → room ≡ 64002 → (256 * getD bytes 0 0 + getD bytes 1 0 ≤ 16000) × (2 + 4 * (256 * getD bytes 0 0 + getD bytes 1 0) ≤ length bytes)
-unfolding padded derivationBytes
-lines-room room ls bytes e same full =
-    let lines : List ℕ = flatMap lineBytes ls in
-    let pad : ℕ = room - suc (suc (length lines)) in
-    let high : getD bytes 0 0 ≡ length ls / 256 = ap (λ (bs : List ℕ). getD bs 0 0) e in
-    let low : getD bytes 1 0 ≡ length ls % 256 = ap (λ (bs : List ℕ). getD bs 1 0) e in
-    let count : 256 * getD bytes 0 0 + getD bytes 1 0 ≡ length ls = omega arith in
-    let size : length bytes ≡ 2 + (length lines + pad) = ap length e ∙ omega (arith, length-append lines (replicate pad 0), length-replicate {A = ℕ} pad 0) in
-    (omega (arith, lines-length ls), omega (arith, lines-length ls))
+use Rattle.printing.specs.HeapverdictText.{reportText, lineText, refusalText, derivationText, verdictText, unsatText, textOf, heapverdictText}
 
 module _ (order query : List ℕ) (room : ℕ) (bytes : List ℕ) (r : Answer) where
   abbrev given : Input
@@ -112,10 +70,10 @@ module _ (order query : List ℕ) (room : ℕ) (bytes : List ℕ) (r : Answer) w
     no-text e = sym (derivation-told does full ∙ ap (λ (a : Answer). derivationText (meaning a) bytes) e)
 
     -- the lines that are counted are there
-    pub lines-fit : r ≡ answer.Refuted → length bytes ≡ room → (256 * getD bytes 0 0 + getD bytes 1 0 ≤ 16000) × (2 + 4 * (256 * getD bytes 0 0 + getD bytes 1 0) ≤ length bytes)
+    pub lines-fit : r ≡ answer.Refuted → length bytes ≡ room → Fits (length bytes) (linesIn bytes)
     lines-fit e same =
-        let found = written given (sym (does .answers) ∙ ap meaning e) in
-        lines-room room (found .0) bytes (does .leaves ∙ found .1) same full
+        subst (λ (k : ℕ). Fits k (linesIn bytes)) (sym same)
+        (subst (λ (b : List ℕ). Fits room (linesIn b)) (sym (does .leaves)) (demand2 .derivation-counted given (sym (does .answers) ∙ ap meaning e)))
 
 -- the order list and the query among the bytes that are read
 module _ (bytes : List ℕ) (cut end : ℕ) (c : cut ≡ min (length bytes) 8) (e : end ≡ min (length bytes) 1024) where

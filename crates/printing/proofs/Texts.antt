@@ -11,12 +11,12 @@ use lib.Seq.{length-take-le, drop-cons, drop-drop, getD-drop, getD-take}
 use borrow.Author.Tests.{leb-true}
 use Rattle.logic.specs.Search.{_and_, flatMap}
 use Rattle.logic.specs.Facts.{Line, line}
-use Rattle.logic.specs.Derivation.{lineBytes}
+use Rattle.logic.specs.Derivation.{lineBytes, linesFrom, linesIn}
 use Rattle.logic.specs.Shown.{sizeIn, isNode, wellFormed}
 use Rattle.logic.proofs.Basics.Search.{and-left, and-right}
 use Rattle.text.specs.Text.{ascii, decimal, hexByte, Writes}
 use Rattle.text.proofs.Digits.{decimal-machine, decimal-byte}
-use Rattle.printing.specs.HeapverdictText.{behind, lineOf, refusalText, reportSize, reportText, lineText, linesFrom, linesIn}
+use Rattle.printing.specs.HeapverdictText.{behind, lineOf, refusalText, reportSize, reportText, lineText}
 
 -- Refusals and lines, from their words
 
@@ -93,6 +93,15 @@ line-first : (bytes : List ℕ) (from k : ℕ) → flatMap lineText (linesFrom (
 unfolding linesFrom flatMap
 line-first bytes from k =
     rw (getD-drop from bytes 0 0, add-zero from, getD-drop from bytes 1 0, getD-drop from bytes 2 0, getD-drop from bytes 3 0, drop-drop 4 from bytes)
+
+linesFrom-length : (k : ℕ) (bytes : List ℕ) → length (linesFrom k bytes) ≡ k
+unfolding linesFrom
+linesFrom-length zero bytes = refl
+linesFrom-length (suc k) bytes = ap suc (linesFrom-length k (drop 4 bytes))
+
+pub lines-count : (bytes : List ℕ) → length (linesIn bytes) ≡ 256 * getD bytes 0 0 + getD bytes 1 0
+unfolding linesIn
+lines-count bytes = linesFrom-length (256 * getD bytes 0 0 + getD bytes 1 0) (drop 2 bytes)
 
 module _ (count : ℕ) (bytes : List ℕ) where
   pub lines-whole : count ≡ 256 * getD bytes 0 0 + getD bytes 1 0 → flatMap lineText (linesIn bytes) ≡ linesLeft count bytes 0

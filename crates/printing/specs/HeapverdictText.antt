@@ -1,10 +1,10 @@
 -- What heapverdict prints, byte for byte, as a function of the bytes that it is given (01, "The program heapverdict").
-use Prim.Native.Nat.{ℕ, zero, suc, _+_, _*_}
+use Prim.Native.Nat.{ℕ, _+_}
 use mathlib.Core.List.{List, [], _∷_, _++_, map}
 use lib.ListN.{getD, take, drop}
 use Rattle.logic.specs.Search.{flatMap}
-use Rattle.logic.specs.Facts.{Line, line}
-use Rattle.logic.specs.Derivation.{lineBytes}
+use Rattle.logic.specs.Facts.{Line}
+use Rattle.logic.specs.Derivation.{lineBytes, linesIn}
 use Rattle.logic.specs.Shown.{sizeIn}
 use Rattle.logic.specs.Calls.{Input, Outcome, Answer, refused, satisfiable, refuted, verdictCall, derivationCall}
 use Rattle.text.specs.Text.{ascii, decimal, hexByte}
@@ -33,14 +33,6 @@ reportText bytes = lineOf (map hexByte (take (reportSize bytes) bytes))
 -- "each derivation line as four decimal numbers separated by blanks"
 unfoldable pub lineText : Line → List ℕ
 lineText l = lineOf (map decimal (lineBytes l))
-
--- The lines in the bytes of a derivation: "Line count in two bytes, high byte first, then lines of four bytes"
-unfoldable pub linesFrom : ℕ → List ℕ → List Line
-linesFrom zero bytes = []
-linesFrom (suc k) bytes = line (getD bytes 0 0) (getD bytes 1 0) (getD bytes 2 0) (getD bytes 3 0) ∷ linesFrom k (drop 4 bytes)
-
-unfoldable pub linesIn : List ℕ → List Line
-linesIn bytes = linesFrom (256 * getD bytes 0 0 + getD bytes 1 0) (drop 2 bytes)
 
 -- what follows `unsat`, where the derivation call has this outcome: its lines, "or `refused 12 at 0`". It never answers "satisfiable".
 unfoldable pub derivationText : Answer → List ℕ → List ℕ

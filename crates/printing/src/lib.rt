@@ -3,14 +3,16 @@ use lemitsaka::Answer;
 use libc::STDOUT_FILENO;
 ghost use mathlib.Core.Path.{_≡_};
 ghost use mathlib.Core.Bool.{true};
-ghost use Prim.Native.Nat.{ℕ, _+_, _*_, _≤_, _<_, min};
-ghost use lib.ListN.{length, getD};
+ghost use Prim.Native.Nat.{ℕ, _+_, _≤_, _<_, min};
+ghost use lib.ListN.{length};
 ghost use Rattle.logic.specs.Search.{flatMap};
 ghost use Rattle.logic.specs.Facts.{line};
+ghost use Rattle.logic.specs.Derivation.{linesIn};
 ghost use Rattle.logic.specs.Shown.{wellFormed};
+ghost use Rattle.logic.specs.Demands.{Fits};
 ghost use mathlib.Core.List.{_++_};
 ghost use Rattle.text.specs.Text.{Writes, ascii, decimal};
-ghost use Rattle.printing.specs.HeapverdictText.{reportSize, reportText, lineText, linesIn, refusalText, unsatText, textOf, heapverdictText};
+ghost use Rattle.printing.specs.HeapverdictText.{reportSize, reportText, lineText, refusalText, unsatText, textOf, heapverdictText};
 
 // A byte as a wider number.
 fn wide(x: u8) -> usize
@@ -76,7 +78,7 @@ fn put_line(buffer: &mut [u8], at: usize, a: u8, b: u8, c: u8, d: u8) -> usize
 
 // The lines of a derivation.
 fn put_lines(buffer: &mut [u8], at: usize, lines: &[u8]) -> usize
-    requires { ⌜ (at ≤ 1000) × (256 * getD (now lines) 0 0 + getD (now lines) 1 0 ≤ 16000) × (2 + 4 * (256 * getD (now lines) 0 0 + getD (now lines) 1 0) ≤ length (now lines)) ⌝ }
+    requires { ⌜ (at ≤ 1000) × Fits (length (now lines)) (linesIn (now lines)) ⌝ }
     ensures { λ r. ⌜ Writes (now (buffer .entry)) at (flatMap lineText (linesIn (now (lines .entry)))) (now (buffer .exit)) r × (r ≤ at + 256000) ⌝ }
 {
     let count = 256 * wide(lines[0]) + wide(lines[1]);

@@ -23,7 +23,7 @@ put-derivation-spec =
     -- put-lines-requires
     (λ c κs.
     let fits = lines-fit _ _ _ _ _ (c .before .before .before .before .before .derivation .ensures) (length-replicate {A = ℕ} 64002 0) (c .before .before .enum-told .given .1) (c .before .before .before .before .before .derivation .kept .1 .1 .0) in
-    (omega arith, fits .0, fits .1))
+    (omega arith, fits))
     -- enum-known-k
     (λ c. search needs)
     -- put-refusal-requires

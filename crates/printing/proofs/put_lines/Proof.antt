@@ -2,16 +2,18 @@
 use Prim.Native.Nat.{_+_, _*_, _≤_, _-_}
 use native.Mathlib.Omega.{arith}
 use borrow.Author.Needs.{needs}
-use mathlib.Core.Path.{refl}
+use mathlib.Core.Path.{_≡_, refl}
+use lib.ListN.{length}
 use Rattle.logic.specs.Search.{flatMap}
+use Rattle.logic.specs.Derivation.{linesIn}
 use Rattle.text.proofs.Writing.{Part, part-from, part-more, part-all, part-length}
-use Rattle.printing.specs.HeapverdictText.{lineText, linesIn}
-use Rattle.printing.proofs.Texts.{linesLeft, lines-whole, lines-next, lines-end}
+use Rattle.printing.specs.HeapverdictText.{lineText}
+use Rattle.printing.proofs.Texts.{linesLeft, lines-whole, lines-next, lines-end, lines-count}
 use Rattle.printing.proofs.put_lines.Statement.{statement}
 use Rattle.printing.proofs.put_lines.Tie as tie
 
 abbrev Inv-loop : tie.InvT-loop
-Inv-loop buffer₀ at lines count to₀ i₀ buffer to i = (i ≤ count) × (to ≤ at + 16 * i) × Part buffer₀ at (flatMap lineText (linesIn lines)) buffer to (linesLeft count lines i)
+Inv-loop buffer₀ at lines count to₀ i₀ buffer to i = (i ≤ count) × (to ≤ at + 16 * i) × (count ≡ length (linesIn lines)) × Part buffer₀ at (flatMap lineText (linesIn lines)) buffer to (linesLeft count lines i)
 
 abbrev μ-loop : tie.MeasureT-loop
 μ-loop buffer₀ at lines count to₀ i₀ buffer to i = count - i
@@ -35,7 +37,7 @@ put-lines-spec =
     -- add-count
     (λ c. search needs)
     -- loop-holds
-    (λ c. (omega arith, omega arith, part-from _ _ (lines-whole _ _ (omega arith))))
+    (λ c. (omega arith, omega arith, omega (arith, lines-count (c .before .before .before .before .before .before .args .lines .now)), part-from _ _ (lines-whole _ _ (omega arith))))
     -- mul-from
     (λ c. omega arith)
     -- add-from
@@ -64,9 +66,10 @@ put-lines-spec =
     (λ c. (
       omega arith,
       omega (arith, c .before .before .put-line .ensures .1),
-      part-more (c .before .before .before .before .before .before .before .before .before .loop .inv .2) (lines-next _ _ (c .before .before .before .before .before .before .before .before .before .loop .i) _ refl (omega arith)) (c .before .before .put-line .ensures .0),
+      c .before .before .before .before .before .before .before .before .before .loop .inv .2,
+      part-more (c .before .before .before .before .before .before .before .before .before .loop .inv .3) (lines-next _ _ (c .before .before .before .before .before .before .before .before .before .loop .i) _ refl (omega arith)) (c .before .before .put-line .ensures .0),
     ))
     -- same-length
-    (λ c. part-length (c .before .loop .inv .2))
+    (λ c. part-length (c .before .loop .inv .3))
     -- returns
-    (λ c. (part-all (c .before .loop .inv .2) (lines-end _ _ _ (omega arith)), omega arith)))
+    (λ c. (part-all (c .before .loop .inv .3) (lines-end _ _ _ (omega arith)), omega arith)))
