@@ -1,0 +1,4 @@
+-- Why small heaps are enough, from its leaves up.
+pub mod Until
+pub mod FirstVisit
+pub mod SmallModel

@@ -1,0 +1,1 @@
+// Between literals, for queries of at most five terms.
