@@ -128,7 +128,11 @@ pub fn start(query: &[u8], layout: Layout) -> Joined
     ensures { λ r. ⌜ joinedOf r ≡ started (decode (now (query .entry))) ⌝ }
 {
     let n = layout.terms;
-    let settled = facts::settle(linked(query, n), n, facts::no_pairs());
+    let links = Joined {
+        pairs: facts::no_pairs(),
+        facts: linked(query, n),
+    };
+    let settled = facts::settle(links, n);
     let joined = join_each(settled, n, query, layout.equal_at, layout.equal_count);
     let pairs = joined.pairs;
     let s = joined.facts;

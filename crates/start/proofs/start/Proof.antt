@@ -12,19 +12,19 @@ use Rattle.start.proofs.start.Statement.{statement}
 use Rattle.start.proofs.start.Tie as tie
 
 linked-requires : tie.Need-linked-requires
-linked-requires c κs = let p = c .before .pre in (p .0 .terms-within, omega (arith, p .0 .entries-fit), entries-in (p .0) (p .1))
+linked-requires c κs = let p = c .before .before .pre in (p .0 .terms-within, omega (arith, p .0 .entries-fit), entries-in (p .0) (p .1))
 
 settle-requires : tie.Need-settle-requires
 settle-requires c κs =
     let p = c .before .before .before .pre in (
       p .0 .terms-within,
-      subst Fits (sym (settled-laid (p .0) _ _ _ _ (c .no-pairs .ensures) (c .before .linked .ensures))) (fits-left _ _ (joins-fit (p .0) (p .1))),
+      subst Fits (sym (settled-laid (p .0) _ _ _ _ (c .before .no-pairs .ensures) (c .linked .ensures))) (fits-left _ _ (joins-fit (p .0) (p .1))),
     )
 
 join-each-requires : tie.Need-join-each-requires
 join-each-requires c κs =
     let p = c .before .before .before .before .pre in
-    let e = c .settle .ensures ∙ settled-laid (p .0) _ _ _ _ (c .before .no-pairs .ensures) (c .before .before .linked .ensures) in (
+    let e = c .settle .ensures ∙ settled-laid (p .0) _ _ _ _ (c .before .before .no-pairs .ensures) (c .before .linked .ensures) in (
       (
         p .0 .terms-within,
         p .0 .equal-fit,
@@ -42,9 +42,9 @@ returns : tie.Need-returns
 returns c =
     let p = c .before .before .before .before .before .before .before .before .pre in
     start-laid (p .0) (joinedOf (c .before .before .before .join-each .result)) _
-    (c .before .before .before .join-each .ensures .0 ∙ ap (λ (j : Joined). andThen j (joinEach (c .before .before .before .before .before .before .before .before .args .layout .terms) (equalities (p .0)))) (c .before .before .before .before .settle .ensures ∙ settled-laid (p .0) _ _ _ _ (c .before .before .before .before .before .no-pairs .ensures) (c .before .before .before .before .before .before .linked .ensures)))
+    (c .before .before .before .join-each .ensures .0 ∙ ap (λ (j : Joined). andThen j (joinEach (c .before .before .before .before .before .before .before .before .args .layout .terms) (equalities (p .0)))) (c .before .before .before .before .settle .ensures ∙ settled-laid (p .0) _ _ _ _ (c .before .before .before .before .before .before .no-pairs .ensures) (c .before .before .before .before .before .linked .ensures)))
     (c .reach-each .ensures)
 
 pub start-spec : {M : Type 1} → statement M
 start-spec =
-    tie.close (tie.spec linked-requires (λ c κs. search needs) settle-requires join-each-requires reach-each-requires returns)
+    tie.close (tie.spec (λ c κs. search needs) linked-requires settle-requires join-each-requires reach-each-requires returns)
