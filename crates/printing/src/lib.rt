@@ -1,6 +1,5 @@
-// What heapverdict prints, made in a lent buffer and then written. What a system call reads or writes is all that no contract says.
+// What heapverdict prints, made in a lent buffer. The program reads, asks for the text and writes it.
 use lemitsaka::Answer;
-use libc::STDOUT_FILENO;
 ghost use mathlib.Core.Path.{_≡_};
 ghost use mathlib.Core.Bool.{true};
 ghost use Prim.Native.Nat.{ℕ, _+_, _≤_, _<_, min};
@@ -161,18 +160,4 @@ pub fn put_text(buffer: &mut [u8], input: &[u8]) -> usize
     let cut = at_most(n, 8);
     let end = at_most(n, 1024);
     put_verdict(buffer, &input[..cut], &input[cut..end])
-}
-
-// Prints the text of these bytes.
-pub fn print_text(input: &[u8]) {
-    let mut buffer = [0u8; 256006];
-    let n = put_text(&mut buffer, input);
-    io::write_all(STDOUT_FILENO, &buffer[..n]);
-}
-
-// The program heapverdict: it reads standard input up to 1,024 bytes, and prints their text.
-pub fn heapverdict() {
-    let mut input = [0u8; 1024];
-    let n = io::read_full(0, &mut input);
-    print_text(&input[..n]);
 }

@@ -17,7 +17,9 @@ fn run_input(room: &mut [u8], length: usize) -> bool {
     if got < length {
         return false;
     }
-    printing::print_text(&room[..length]);
+    let mut text = [0u8; 256006];
+    let n = printing::put_text(&mut text, &room[..length]);
+    io::write_all(STDOUT_FILENO, &text[..n]);
     io::write_all(STDOUT_FILENO, b"--\n");
     true
 }

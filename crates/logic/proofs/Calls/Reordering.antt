@@ -226,7 +226,7 @@ report-stays order query query′ room a a′ r =
     (ap (λ (o : Outcome). Option·elim (refusalOf verdictChecks j) o (blank room)) (walked order room (decode query) (decode query′) (accepted query a) (accepted query′ a′) r))
 
 -- facts that a walk can hold are sane
-held-sane : (q : Query) → Accepted q → (s : Facts) → Held q s → Sane (termCount q) s
+pub held-sane : (q : Query) → Accepted q → (s : Facts) → Held q s → Sane (termCount q) s
 held-sane q ok s h =
     row-all q (Invariant q) (λ s s′ m i c a k. branch-invariant q s m i a s′ k) (start-invariant q ok) (h .0) s (h .1) .sane
 

@@ -22,15 +22,23 @@ run-input-spec =
     (λ c. search needs)
     -- returns-2
     (λ c. search needs)
-    -- slice-reshare-prefix-print-text
+    -- slice-aggregate-put-text
     (λ c. search needs)
-    -- slice-aggregate-print-text
+    -- slice-reshare-prefix-put-text
+    (λ c. search needs)
+    -- slice-aggregate-put-text-2
     (λ c. sym (length-take-le _ _ (omega arith)))
-    -- print-text-requires
+    -- put-text-requires
     (λ c κs. search needs)
-    -- slice-aggregate-write-all
+    -- array-share-prefix-text
     (λ c. search needs)
+    -- slice-aggregate-write-all
+    (λ c. sym (length-take-le _ _ (omega arith)))
     -- write-all-requires
+    (λ c κs. search needs)
+    -- slice-aggregate-write-all-2
+    (λ c. search needs)
+    -- write-all-requires-2
     (λ c κs. search needs)
     -- same-length-2
     (λ c. search needs)
