@@ -12,3 +12,4 @@ pub mod Room
 pub mod Examples
 pub mod EdgeExamples
 pub mod Reordering
+pub mod JoinPairs

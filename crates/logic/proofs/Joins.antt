@@ -3,3 +3,4 @@ pub mod Quotient
 pub mod Congruence
 pub mod AnyOrder
 pub mod Reach
+pub mod Pairs

@@ -1,6 +1,7 @@
 -- What every step of a path keeps.
 pub mod Replace
 pub mod Extends
+pub mod Joined
 pub mod Doubled
 pub mod Ranged
 pub mod Settle

@@ -9,9 +9,9 @@ use mathlib.Core.Option.{none, some}
 use lib.ListN.{length, replicate}
 use Rattle.logic.specs.Query.{Query, isOrder, decode, termCount}
 use Rattle.logic.specs.Heap.{Meets, Satisfiable, value}
-use Rattle.logic.specs.Facts.{Line, start}
+use Rattle.logic.specs.Facts.{Line}
 use Rattle.logic.specs.Walk.{Verdict, Pick, ourWalk, ourVerdict, handRow, handVerdict, Ending, refutation}
-use Rattle.logic.specs.Derivation.{Refutes, derivationBytes, linesIn}
+use Rattle.logic.specs.Derivation.{Derivation, derivationBytes, linesIn}
 use Rattle.logic.specs.Shown.{heapIn, nodeIn, wellFormed}
 use Rattle.logic.specs.Calls.{Input, Check, Outcome, Answer, refused, verdictChecks, derivationChecks, accepts, padded, verdictCall, derivationCall}
 
@@ -97,7 +97,7 @@ pub record Demand2 : Type 0 where
   pub heap-shown : (i : Input) → verdictCall i .answer ≡ Answer.satisfiable → Shows (verdictCall i .lent) (decode (i .query))
   pub refuted-exactly : (i : Input) → NotRefused (verdictCall i .answer) → (verdictCall i .answer ≡ Answer.refuted) ↔ (Satisfiable (decode (i .query)) → ⊥)
   -- where a derivation is given, the lines in the bytes left are those of our walk, and they follow the rules
-  pub derivation-follows : (i : Input) → derivationCall i .answer ≡ Answer.refuted → Refutes (decode (i .query)) (start (decode (i .query))) (linesIn (derivationCall i .lent))
+  pub derivation-follows : (i : Input) → derivationCall i .answer ≡ Answer.refuted → Derivation (decode (i .query)) (linesIn (derivationCall i .lent))
   pub derivation-walked : (i : Input) → derivationCall i .answer ≡ Answer.refuted → ourWalk (i .order) (decode (i .query)) ≡ refutation (linesIn (derivationCall i .lent))
   -- they are written as 01 says, with zeros after them, and are no more than 16,000 and no more than the buffer holds
   pub derivation-formed : (i : Input) → derivationCall i .answer ≡ Answer.refuted → derivationCall i .lent ≡ padded (i .room) (derivationBytes (linesIn (derivationCall i .lent)))

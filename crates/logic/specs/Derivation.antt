@@ -7,18 +7,25 @@ use mathlib.Core.Option.{none}
 use lib.ListN.{length, getD, drop}
 use Rattle.logic.specs.Search.{flatMap}
 use Rattle.logic.specs.Query.{Query, termCount}
-use Rattle.logic.specs.Facts.{Facts, Line, line, isClash, clash}
-use Rattle.logic.specs.Rules.{Move, applies, branches, moveLine}
+use Rattle.logic.specs.Facts.{Facts, Line, line, joinLines, startJoins, start, isClash, clash}
+use Rattle.logic.specs.Rules.{Move, Fact, alternatives, applies, branch, add, moveLine}
 
--- Lines refute a path: a true clash ends it; or there is no clash, a rule applies, and the lines of all its branches follow in order.
+-- Lines refute a path: a true clash ends it; or there is no clash, a rule applies, and the lines of all its branches follow in order, each
+-- with the lines of its joins at its head (02, R-1).
 mutual
   pub data Refutes (q : Query) : Facts → List Line → Type 0 where
     ends : {s : Facts} (l : Line) → isClash q s l ≡ true → Refutes q s (l ∷ [])
-    follows : {s : Facts} (m : Move) {ls : List Line} → clash q s ≡ none → applies (termCount q) s m ≡ true → RefutesEach q (branches (termCount q) s m) ls → Refutes q s (moveLine m ∷ ls)
+    follows : {s : Facts} (m : Move) {ls : List Line} → clash q s ≡ none → applies (termCount q) s m ≡ true → RefutesEach q s (alternatives (termCount q) (s .graph) m) ls → Refutes q s (moveLine m ∷ ls)
 
-  pub data RefutesEach (q : Query) : List Facts → List Line → Type 0 where
-    none-left : RefutesEach q [] []
-    one-more : {s : Facts} {ss : List Facts} {ls ms : List Line} → Refutes q s ls → RefutesEach q ss ms → RefutesEach q (s ∷ ss) (ls ++ ms)
+  pub data RefutesEach (q : Query) : Facts → List Fact → List Line → Type 0 where
+    none-left : {s : Facts} → RefutesEach q s [] []
+    one-more : {s : Facts} {c : Fact} {cs : List Fact} {ls ms : List Line} → Refutes q (add (termCount q) s c) ls → RefutesEach q s cs ms → RefutesEach q s (c ∷ cs) ((joinLines (branch (termCount q) s c .pairs) ++ ls) ++ ms)
+
+-- Lines are a derivation of a query: the lines of the start's joins, and then lines that refute the start.
+pub record Derivation (q : Query) (lines : List Line) : Type 0 where
+  pub walked : List Line
+  pub headed : lines ≡ joinLines (startJoins q .pairs) ++ walked
+  pub refutes : Refutes q (start q) walked
 
 -- "then lines of four bytes in walk order"
 unfoldable pub lineBytes : Line → List ℕ

@@ -275,18 +275,35 @@ unfoldable pub derivations : List Edge
 derivations =
     -- "5. CYCLE (x,y,k)": f(1) = 1 and 1>3, not 1=3
     derives (5 ∷ 1 ∷ 2 ∷ 3 ∷ 4 ∷ 6 ∷ 7 ∷ 8 ∷ []) (3 ∷ 0 ∷ 1 ∷ 0 ∷ 2 ∷ 1 ∷ 1 ∷ 2 ∷ 0 ∷ 1 ∷ 3 ∷ 1 ∷ 1 ∷ 1 ∷ 3 ∷ 0 ∷ 0 ∷ [])
-    ((0 ∷ 2 ∷ 5 ∷ 1 ∷ 3 ∷ 1 ∷ 9 ∷ 2 ∷ 2 ∷ 0 ∷ []) ++ zeros 43)
+    ((0 ∷ 4 ∷ 10 ∷ 1 ∷ 2 ∷ 0 ∷ 5 ∷ 1 ∷ 3 ∷ 1 ∷ 10 ∷ 1 ∷ 3 ∷ 0 ∷ 9 ∷ 2 ∷ 2 ∷ 0 ∷ []) ++ zeros 35)
     -- "y equals x, or the next term round": f(f(1)) = 1 and 1>4, not 1=4, not f(1)=4
     ∷ derives (5 ∷ 1 ∷ 2 ∷ 3 ∷ 4 ∷ 6 ∷ 7 ∷ 8 ∷ []) (4 ∷ 0 ∷ 1 ∷ 2 ∷ 0 ∷ 3 ∷ 1 ∷ 3 ∷ 1 ∷ 0 ∷ 1 ∷ 4 ∷ 0 ∷ 2 ∷ 4 ∷ 1 ∷ 1 ∷ 1 ∷ 4 ∷ 0 ∷ 0 ∷ [])
-    ((0 ∷ 3 ∷ 5 ∷ 1 ∷ 4 ∷ 2 ∷ 9 ∷ 2 ∷ 2 ∷ 0 ∷ 9 ∷ 2 ∷ 3 ∷ 0 ∷ []) ++ zeros 39)
+    ((0 ∷ 6 ∷ 10 ∷ 1 ∷ 3 ∷ 0 ∷ 5 ∷ 1 ∷ 4 ∷ 2 ∷ 10 ∷ 1 ∷ 4 ∷ 0 ∷ 9 ∷ 2 ∷ 2 ∷ 0 ∷ 10 ∷ 2 ∷ 4 ∷ 0 ∷ 9 ∷ 2 ∷ 3 ∷ 0 ∷ []) ++ zeros 27)
     -- "6. SCC (x,y,z)": 1>2, 2>1 and 1>3, not 1=2, not 3>1
     ∷ derives (6 ∷ 1 ∷ 2 ∷ 3 ∷ 4 ∷ 5 ∷ 7 ∷ 8 ∷ []) (3 ∷ 0 ∷ 0 ∷ 0 ∷ 1 ∷ 0 ∷ 1 ∷ 2 ∷ 4 ∷ 1 ∷ 1 ∷ 2 ∷ 1 ∷ 2 ∷ 1 ∷ 1 ∷ 1 ∷ 3 ∷ 0 ∷ 3 ∷ 1 ∷ 0 ∷ 0 ∷ [])
-    ((0 ∷ 3 ∷ 6 ∷ 1 ∷ 2 ∷ 3 ∷ 9 ∷ 2 ∷ 1 ∷ 0 ∷ 9 ∷ 3 ∷ 4 ∷ 0 ∷ []) ++ zeros 39)
+    ((0 ∷ 4 ∷ 6 ∷ 1 ∷ 2 ∷ 3 ∷ 10 ∷ 1 ∷ 2 ∷ 0 ∷ 9 ∷ 2 ∷ 1 ∷ 0 ∷ 9 ∷ 3 ∷ 4 ∷ 0 ∷ []) ++ zeros 35)
     -- "7. TOTAL (x,y,z)", after REFLEX and before it: then (1,2,2) comes first, and both its branches say 2>2
     ∷ derives (1 ∷ 7 ∷ 2 ∷ 3 ∷ 4 ∷ 5 ∷ 6 ∷ 8 ∷ []) fork
     ((0 ∷ 6 ∷ 1 ∷ 1 ∷ 0 ∷ 0 ∷ 1 ∷ 2 ∷ 0 ∷ 0 ∷ 1 ∷ 3 ∷ 0 ∷ 0 ∷ 7 ∷ 1 ∷ 2 ∷ 3 ∷ 9 ∷ 3 ∷ 3 ∷ 0 ∷ 9 ∷ 3 ∷ 4 ∷ 0 ∷ []) ++ zeros 27)
     ∷ derives (7 ∷ 1 ∷ 2 ∷ 3 ∷ 4 ∷ 5 ∷ 6 ∷ 8 ∷ []) fork
     ((0 ∷ 7 ∷ 7 ∷ 1 ∷ 2 ∷ 2 ∷ 7 ∷ 1 ∷ 2 ∷ 3 ∷ 9 ∷ 3 ∷ 3 ∷ 0 ∷ 9 ∷ 3 ∷ 4 ∷ 0 ∷ 7 ∷ 1 ∷ 2 ∷ 3 ∷ 9 ∷ 3 ∷ 3 ∷ 0 ∷ 9 ∷ 3 ∷ 4 ∷ 0 ∷ []) ++ zeros 23)
+    ∷ []
+
+-- "every pair it joined, in order" (02, R-1)
+unfoldable pub joinsShown : List Edge
+joinsShown =
+    -- the pair asked for, then its doubled successors: 1=2, and f(1), f(2) differ
+    derives inOrder (4 ∷ 0 ∷ 0 ∷ 1 ∷ 2 ∷ 2 ∷ 1 ∷ 1 ∷ 2 ∷ 0 ∷ 3 ∷ 4 ∷ 0 ∷ 0 ∷ 0 ∷ [])
+    ((0 ∷ 3 ∷ 10 ∷ 1 ∷ 2 ∷ 0 ∷ 10 ∷ 3 ∷ 4 ∷ 0 ∷ 9 ∷ 2 ∷ 2 ∷ 0 ∷ []) ++ zeros 39)
+    -- the doubled links of section 1 before the equalities: f(1) twice, then 1=4
+    ∷ derives inOrder (4 ∷ 0 ∷ 1 ∷ 1 ∷ 0 ∷ 2 ∷ 1 ∷ 1 ∷ 4 ∷ 0 ∷ 2 ∷ 3 ∷ 0 ∷ 0 ∷ 0 ∷ [])
+    ((0 ∷ 3 ∷ 10 ∷ 2 ∷ 3 ∷ 0 ∷ 10 ∷ 1 ∷ 4 ∷ 0 ∷ 9 ∷ 2 ∷ 2 ∷ 0 ∷ []) ++ zeros 39)
+    -- 2=1 keeps 1
+    ∷ derives inOrder (2 ∷ 0 ∷ 0 ∷ 2 ∷ 1 ∷ 2 ∷ 1 ∷ 0 ∷ 1 ∷ 2 ∷ 0 ∷ 0 ∷ 0 ∷ [])
+    ((0 ∷ 2 ∷ 10 ∷ 1 ∷ 2 ∷ 0 ∷ 9 ∷ 2 ∷ 2 ∷ 0 ∷ []) ++ zeros 43)
+    -- at the head of a branch, before its own lines: SCC joins 1 and 2, and then f(1) and f(2)
+    ∷ derives (6 ∷ 1 ∷ 2 ∷ 3 ∷ 4 ∷ 5 ∷ 7 ∷ 8 ∷ []) (5 ∷ 0 ∷ 0 ∷ 1 ∷ 2 ∷ 0 ∷ 1 ∷ 0 ∷ 3 ∷ 4 ∷ 4 ∷ 1 ∷ 1 ∷ 2 ∷ 1 ∷ 2 ∷ 1 ∷ 1 ∷ 1 ∷ 5 ∷ 0 ∷ 5 ∷ 1 ∷ 0 ∷ 0 ∷ [])
+    ((0 ∷ 5 ∷ 6 ∷ 1 ∷ 2 ∷ 5 ∷ 10 ∷ 1 ∷ 2 ∷ 0 ∷ 10 ∷ 3 ∷ 4 ∷ 0 ∷ 9 ∷ 2 ∷ 1 ∷ 0 ∷ 9 ∷ 3 ∷ 4 ∷ 0 ∷ []) ++ zeros 31)
     ∷ []
 
 -- "m data bytes, field j in bit j-1, set exactly by a plain literal; one byte of booleans, set likewise."
@@ -339,6 +356,7 @@ pub record EdgeExamplesHold : Type 0 where
   pub rooms-hold : Hold rooms
   pub clashes-hold : Hold clashesShown
   pub derivations-hold : Hold derivations
+  pub joins-hold : Hold joinsShown
   pub bits-hold : Hold bits
   pub links-hold : Hold linksShown
   -- "no path of any walk .. has more than n times n plus n rule steps" (02, R-5): two terms; and a path that needs one step and has it

@@ -58,14 +58,29 @@ firstTwo (a ∷ b ∷ rest) = some (a, b)
 unfoldable pub doubled : ℕ → Graph → Option (ℕ × ℕ)
 doubled n g = firstOf (λ t. firstTwo (successors n g t)) (terms n)
 
--- "While a term has two successors, the two lowest successors of the lowest such term are joined", at most k times
-unfoldable pub settle : ℕ → ℕ → Facts → Facts
-settle n zero s = s
-settle n (suc k) s = Option·elim (doubled n (s .graph)) s (λ ab. settle n k (replace (ab .0) (ab .1) s))
+-- What joining hands back: "every pair it joined, in order" (02, R-1), each as the kept term and the replaced, and the facts then.
+pub record Joined : Type 0 where
+  pub pairs : List (ℕ × ℕ)
+  pub facts : Facts
 
--- "Joining a and b": each replacement leaves one term fewer, so n of them are enough
-unfoldable pub join : ℕ → ℕ → ℕ → Facts → Facts
-join n a b s = cond (eqb a b) s (settle n n (replace (min a b) (max a b) s))
+-- no pair, one pair, and joins one after the other
+unfoldable pub unjoined : Facts → Joined
+unjoined s = record { pairs = []; facts = s }
+
+unfoldable pub joinPair : ℕ × ℕ → Facts → Joined
+joinPair ab s = record { pairs = ab ∷ []; facts = replace (ab .0) (ab .1) s }
+
+unfoldable pub andThen : Joined → (Facts → Joined) → Joined
+andThen j f = record { pairs = j .pairs ++ f (j .facts) .pairs; facts = f (j .facts) .facts }
+
+-- "While a term has two successors, the two lowest successors of the lowest such term are joined", at most k times
+unfoldable pub settle : ℕ → ℕ → Facts → Joined
+settle n zero s = unjoined s
+settle n (suc k) s = Option·elim (doubled n (s .graph)) (unjoined s) (λ ab. andThen (joinPair ab s) (settle n k))
+
+-- "Joining a and b": each replacement leaves one term fewer, so n of them are enough. A term joined with itself is no pair.
+unfoldable pub join : ℕ → ℕ → ℕ → Facts → Joined
+join n a b s = cond (eqb a b) (unjoined s) (andThen (joinPair (min a b, max a b) s) (settle n n))
 
 -- a reachability fact added
 unfoldable pub addReach : ℕ → ℕ → Facts → Facts
@@ -84,23 +99,32 @@ linksOf entries =
     }
 
 -- "then each plain equality joined in query order"
-unfoldable pub joinEach : ℕ → List Literal → Facts → Facts
-joinEach n [] s = s
-joinEach n (l ∷ ls) s = joinEach n ls (cond (l .plain) (join n (s .rep (l .left)) (s .rep (l .right)) s) s)
+unfoldable pub joinEach : ℕ → List Literal → Facts → Joined
+joinEach n [] s = unjoined s
+joinEach n (l ∷ ls) s =
+    andThen (cond (l .plain) (join n (s .rep (l .left)) (s .rep (l .right)) s) (unjoined s)) (joinEach n ls)
 
 -- "then the plain reachability facts"
 unfoldable pub reachEach : List Literal → Facts → Facts
 reachEach [] s = s
 reachEach (l ∷ ls) s = reachEach ls (cond (l .plain) (addReach (s .rep (l .left)) (s .rep (l .right)) s) s)
 
-unfoldable pub start : Query → Facts
-start q =
+-- the joins of the start: doubled links of section 1, then the plain equalities
+unfoldable pub startJoins : Query → Joined
+startJoins q =
     let n : ℕ = termCount q in
-    reachEach (q .reachability) (joinEach n (q .equalities) (settle n n (linksOf (q .entries))))
+    andThen (settle n n (linksOf (q .entries))) (joinEach n (q .equalities))
+
+unfoldable pub start : Query → Facts
+start q = reachEach (q .reachability) (startJoins q .facts)
 
 -- A line of a derivation: four numbers.
 pub data Line : Type 0 where
   line : ℕ → ℕ → ℕ → ℕ → Line
+
+-- "a line 10, kept term, replaced term, 0 for each" pair (02, R-1)
+unfoldable pub joinLines : List (ℕ × ℕ) → List Line
+joinLines pairs = map (λ ab. line 10 (ab .0) (ab .1) 0) pairs
 
 -- the literal at a place is negated and passes the test; it is plain and passes the test
 unfoldable pub negatedAt : List Literal → ℕ → (Literal → Bool) → Bool

@@ -15,3 +15,4 @@ pub mod EdgeExamples
 pub mod Demands
 pub mod PathLimit
 pub mod Reordering
+pub mod JoinPairs

@@ -4,9 +4,9 @@ use mathlib.Core.Path.{_≡_}
 use mathlib.Core.Bool.{true}
 use mathlib.Core.List.{List, List·Memᴰ}
 use Rattle.logic.specs.Query.{Query, decode, termCount}
-use Rattle.logic.specs.Facts.{Facts, start}
+use Rattle.logic.specs.Facts.{Facts, joinLines, startJoins, start}
 use Rattle.logic.specs.Rules.{Rule}
-use Rattle.logic.specs.Walk.{orderOf, Ending, limit, ourWalk, Pick, handRow}
+use Rattle.logic.specs.Walk.{orderOf, Ending, after, limit, ourWalk, Pick, handRow}
 use Rattle.logic.specs.OurWalk.{Walks}
 use Rattle.logic.specs.Steps.{Steps, AtMost}
 use Rattle.logic.specs.Calls.{accepts}
@@ -17,5 +17,5 @@ pub record PathLimit : Type 0 where
   -- such steps lead to each path of a hand's row
   pub hand-path : (query : List ℕ) (picks : List Pick) (s : Facts) → List·Memᴰ s (handRow (decode query) picks) → (k : ℕ) × Steps (termCount (decode query)) (start (decode query)) k s
   -- so our walk, which counts them, has the one ending that it has without a count
-  pub our-walk : (query order : List ℕ) → accepts query ≡ true → Walks (decode query) (orderOf order) (start (decode query)) (ourWalk order (decode query))
+  pub our-walk : (query order : List ℕ) → accepts query ≡ true → (e : Ending) × Walks (decode query) (orderOf order) (start (decode query)) e × (ourWalk order (decode query) ≡ after (joinLines (startJoins (decode query) .pairs)) e)
   pub one-ending : (q : Query) (order : List Rule) (s : Facts) (e e′ : Ending) → Walks q order s e → Walks q order s e′ → e ≡ e′

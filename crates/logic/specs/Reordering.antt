@@ -11,7 +11,7 @@ use Rattle.logic.specs.Calls.{Input, accepts, verdictCall}
 
 -- "with replaced terms read as what they became": terms a and b joined, and a reachability fact about them added
 unfoldable pub joinTerms : ℕ → ℕ × ℕ → Facts → Facts
-joinTerms n ab s = join n (s .rep (ab .0)) (s .rep (ab .1)) s
+joinTerms n ab s = join n (s .rep (ab .0)) (s .rep (ab .1)) s .facts
 
 unfoldable pub reachTerms : ℕ × ℕ → Facts → Facts
 reachTerms ab s = addReach (s .rep (ab .0)) (s .rep (ab .1)) s

@@ -5,7 +5,7 @@ use mathlib.Core.List.{List, [], _∷_, map}
 use mathlib.Core.Option.{Option, none, some, Option·getD}
 use lib.Dec.{eqb}
 use Rattle.logic.specs.Search.{_and_, from, keep, any, firstOf, find, flatMap}
-use Rattle.logic.specs.Facts.{Graph, Facts, Line, line, terms, live, join, addReach}
+use Rattle.logic.specs.Facts.{Graph, Facts, Joined, Line, line, terms, live, unjoined, join, addReach}
 
 pub data Rule : Type 0 where
   REFLEX TRANS1 TRANS2 FUNC CYCLE SCC TOTAL SHARE : Rule
@@ -84,10 +84,13 @@ held g (reaches a b) = g .reach a b
 unfoldable pub applies : ℕ → Facts → Move → Bool
 applies n s m = conditions n (live n s) (s .graph) m and not (any (held (s .graph)) (alternatives n (s .graph) m))
 
--- "each with its alternative joined or added"
+-- "each with its alternative joined or added": what an alternative makes of a path, and the pairs joined to make it
+unfoldable pub branch : ℕ → Facts → Fact → Joined
+branch n s (equal a b) = join n a b s
+branch n s (reaches a b) = unjoined (addReach a b s)
+
 unfoldable pub add : ℕ → Facts → Fact → Facts
-add n s (equal a b) = join n a b s
-add n s (reaches a b) = addReach a b s
+add n s c = branch n s c .facts
 
 -- what becomes of a path: one for each alternative, left to right
 unfoldable pub branches : ℕ → Facts → Move → List Facts

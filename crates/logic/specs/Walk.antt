@@ -5,8 +5,8 @@ use mathlib.Core.List.{List, [], _∷_, _++_}
 use mathlib.Core.Option.{Option, none, some, Option·elim}
 use Rattle.logic.specs.Search.{_and_, any, all, isSome, flatMap}
 use Rattle.logic.specs.Query.{Query, termCount}
-use Rattle.logic.specs.Facts.{Facts, Line, start, clash}
-use Rattle.logic.specs.Rules.{Rule, rules, ruleOf, Triple, Move, move, applies, branches, choose, moveLine}
+use Rattle.logic.specs.Facts.{Facts, Joined, Line, joinLines, startJoins, start, clash}
+use Rattle.logic.specs.Rules.{Rule, rules, ruleOf, Triple, Move, move, Fact, alternatives, applies, branch, branches, choose, moveLine}
 
 -- What is seen at a path: its clash, the rule to apply, or neither (a saturated path).
 pub data Look : Type 0 where
@@ -39,10 +39,14 @@ unfoldable pub thenEnding : Ending → Ending → Ending
 thenEnding (refutation ls) e = after ls e
 thenEnding (saturation s) e = saturation s
 
--- "tried left to right", until one is not refuted; w walks a branch
-unfoldable pub walkEach : (Facts → Ending) → List Facts → Ending
-walkEach w [] = refutation []
-walkEach w (s ∷ ss) = let rest : Ending = walkEach w ss in thenEnding (w s) rest
+-- the ending of a branch, the lines of its joins "at the head of the branch" (02, R-1); w walks its facts
+unfoldable pub walkBranch : (Facts → Ending) → Joined → Ending
+walkBranch w j = after (joinLines (j .pairs)) (w (j .facts))
+
+-- the branches of s by these alternatives, "tried left to right", until one is not refuted
+unfoldable pub walkEach : ℕ → (Facts → Ending) → Facts → List Fact → Ending
+walkEach n w s [] = refutation []
+walkEach n w s (c ∷ cs) = let rest : Ending = walkEach n w s cs in thenEnding (walkBranch w (branch n s c)) rest
 
 -- how a path ends at what is seen there; `go` goes on where a rule applies
 unfoldable pub endAt : Facts → (Move → Ending) → Look → Ending
@@ -55,14 +59,17 @@ endAt s go saturated = saturation s
 -- looked for.
 unfoldable pub walk : Query → List Rule → ℕ → Facts → Ending
 walk q order zero s = Option·elim (clash q s) (saturation s) (λ l. refutation (l ∷ []))
-walk q order (suc k) s = endAt s (λ m. after (moveLine m ∷ []) (walkEach (walk q order k) (branches (termCount q) s m))) (look q order s)
+walk q order (suc k) s =
+    let n : ℕ = termCount q in
+    endAt s (λ m. after (moveLine m ∷ []) (walkEach n (walk q order k) s (alternatives n (s .graph) m))) (look q order s)
 
 -- "no path of any walk .. has more than n times n plus n rule steps" (02, R-5)
 unfoldable pub limit : Query → ℕ
 limit q = termCount q * termCount q + termCount q
 
+-- the lines of the start's joins stand at the head "of the listing" (02, R-1)
 unfoldable pub ourWalk : List ℕ → Query → Ending
-ourWalk order q = walk q (orderOf order) (limit q) (start q)
+ourWalk order q = after (joinLines (startJoins q .pairs)) (walk q (orderOf order) (limit q) (start q))
 
 pub data Verdict : Type 0 where
   satisfiable refuted : Verdict

@@ -8,9 +8,9 @@ use mathlib.Core.Option.{Option, none, some, Option·elim}
 use lib.Dec.{eqb}
 use Rattle.logic.specs.Search.{_and_, select, orElse, firstOf}
 use Rattle.logic.specs.Query.{Literal, Query, termCount, decode}
-use Rattle.logic.specs.Facts.{Facts, Line, line, negatedAt, plainAt, isClash, clashLines, clash, settle, join, linksOf, joinEach, reachEach, start}
-use Rattle.logic.specs.Rules.{Rule, Move, branches, choose, moveLine}
-use Rattle.logic.specs.Walk.{Look, clashing, applying, saturated, look, Ending, refutation, saturation, after, thenEnding, walkEach, endAt, walk, orderOf, limit, ourWalk}
+use Rattle.logic.specs.Facts.{Facts, Line, line, negatedAt, plainAt, isClash, clashLines, clash, unjoined, andThen, settle, join, linksOf, joinEach, reachEach, startJoins, start}
+use Rattle.logic.specs.Rules.{Rule, Move, Fact, alternatives, branch, choose, moveLine}
+use Rattle.logic.specs.Walk.{Look, clashing, applying, saturated, look, Ending, refutation, saturation, after, thenEnding, walkBranch, walkEach, endAt, walk, orderOf, limit, ourWalk}
 use Rattle.logic.specs.Shown.{fieldByte, booleanByte, report}
 use Rattle.logic.specs.Calls.{Input, Check, orderCheck, roomCheck, queryChecks, verdictChecks, Answer, refused, Outcome, refusalOf, accepts, blank, call, verdictOf, verdictCall}
 use Rattle.logic.specs.Reordering.{joinTerms, joinAll, SameElements, Reordered, Held, JoinsAgree}
@@ -18,6 +18,7 @@ use Rattle.logic.proofs.Basics.Search.{none-some, not-true, and-left, a
 use Rattle.logic.proofs.Basics.Compare.{eqb-true}
 use Rattle.logic.proofs.Query.Tied.{Accepted}
 use Rattle.logic.proofs.Query.AcceptedBytes.{accepted}
+use Rattle.logic.proofs.Paths.Joined.{joinEach-step}
 use Rattle.logic.proofs.Paths.Kept.{Sane, kept-settle}
 use Rattle.logic.proofs.Paths.Start.{linksOf-ranged}
 use Rattle.logic.proofs.Paths.Invariant.{Invariant, start-invariant, branch-invariant}
@@ -45,12 +46,12 @@ pairOf l = (l .left, l .right)
 plainPairs : List Literal → List (ℕ × ℕ)
 plainPairs ls = map pairOf (select (λ l. l .plain) ls)
 
-joinEach-pairs : (n : ℕ) (ls : List Literal) (s : Facts) → joinEach n ls s ≡ joinAll n (plainPairs ls) s
-unfolding joinEach joinAll joinTerms plainPairs select
+joinEach-pairs : (n : ℕ) (ls : List Literal) (s : Facts) → joinEach n ls s .facts ≡ joinAll n (plainPairs ls) s
+unfolding joinEach unjoined joinAll joinTerms plainPairs select
 joinEach-pairs n [] s = refl
-joinEach-pairs n (l ∷ ls) s = go (l .plain) refl (λ t. joinEach-pairs n ls t)
+joinEach-pairs n (l ∷ ls) s = joinEach-step n l ls s ∙ go (l .plain) refl (λ t. joinEach-pairs n ls t)
   where
-    go : (b : Bool) → l .plain ≡ b → ((t : Facts) → joinEach n ls t ≡ joinAll n (plainPairs ls) t) → joinEach n ls (cond b (joinTerms n (pairOf l) s) s) ≡ joinAll n (map pairOf (cond b (l ∷ select (λ k. k .plain) ls) (select (λ k. k .plain) ls))) s
+    go : (b : Bool) → l .plain ≡ b → ((t : Facts) → joinEach n ls t .facts ≡ joinAll n (plainPairs ls) t) → joinEach n ls (cond b (joinTerms n (pairOf l) s) s) .facts ≡ joinAll n (map pairOf (cond b (l ∷ select (λ k. k .plain) ls) (select (λ k. k .plain) ls))) s
     go true e ih = ih (joinTerms n (pairOf l) s)
     go false e ih = ih s
 
@@ -74,10 +75,10 @@ module _ (q : Query) (es : List Literal) (ok : Accepted q) (ok′ : Accepted (wi
 
   -- both begin with the same facts
   start-same : start q ≡ start q′
-  unfolding start termCount
+  unfolding start startJoins andThen termCount
   start-same =
       let n : ℕ = termCount q in
-      let linked : Facts = settle n n (linksOf (q .entries)) in
+      let linked : Facts = settle n n (linksOf (q .entries)) .facts in
       let h : Sane n linked = kept-settle n (linksOf (q .entries)) (linksOf-ranged q ok) .sane in
       ap (reachEach (q .reachability))
       (joinEach-pairs n (q .equalities) linked
@@ -139,10 +140,10 @@ unfolding thenEnding
 thenEnding-alike d d′ e e′ (both-refuted ls ms) a = after-alike ls ms e e′ a
 thenEnding-alike d d′ e e′ (both-saturated s) a = both-saturated s
 
-walkEach-alike : (w w′ : Facts → Ending) → ((s : Facts) → Alike (w s) (w′ s)) → (ss : List Facts) → Alike (walkEach w ss) (walkEach w′ ss)
-unfolding walkEach
-walkEach-alike w w′ each [] = both-refuted [] []
-walkEach-alike w w′ each (s ∷ ss) = thenEnding-alike (w s) (w′ s) _ _ (each s) (walkEach-alike w w′ each ss)
+walkEach-alike : (n : ℕ) (w w′ : Facts → Ending) → ((s : Facts) → Alike (w s) (w′ s)) → (s : Facts) (cs : List Fact) → Alike (walkEach n w s cs) (walkEach n w′ s cs)
+unfolding walkEach walkBranch
+walkEach-alike n w w′ each s [] = both-refuted [] []
+walkEach-alike n w w′ each s (c ∷ cs) = thenEnding-alike _ _ _ _ (after-alike _ _ _ _ (each (branch n s c .facts))) (walkEach-alike n w w′ each s cs)
 
 -- what is seen at a path without a clash
 abbrev rest : Option Move → Look
@@ -180,7 +181,7 @@ module _ (q : Query) (es : List Literal) (same : SameElements (q .equalities) es
   walk-alike : (k : ℕ) (s : Facts) → Alike (walk q order k s) (walk (withEqualities q es) order k s)
   unfolding walk walkEach termCount
   walk-alike zero s = clash-alike s (saturation s) (saturation s) (both-saturated s)
-  walk-alike (suc k) s = endAt-alike s _ _ (λ m. after-alike (moveLine m ∷ []) (moveLine m ∷ []) _ _ (walkEach-alike _ _ (λ t. walk-alike k t) (branches (termCount q) s m)))
+  walk-alike (suc k) s = endAt-alike s _ _ (λ m. after-alike (moveLine m ∷ []) (moveLine m ∷ []) _ _ (walkEach-alike (termCount q) _ _ (λ t. walk-alike k t) s (alternatives (termCount q) (s .graph) m)))
 
 -- The call
 
@@ -192,7 +193,8 @@ verdict-alike q es room e e′ (both-saturated s) = refl
 our-alike : (q : Query) (es : List Literal) → Accepted q → Accepted (withEqualities q es) → SameElements (q .equalities) es → (order : List ℕ) → Alike (ourWalk order q) (ourWalk order (withEqualities q es))
 unfolding ourWalk limit termCount
 our-alike q es ok ok′ same order =
-    subst (λ (s : Facts). Alike (ourWalk order q) (walk (withEqualities q es) (orderOf order) (limit q) s)) (start-same q es ok ok′ same) (walk-alike q es same (orderOf order) (limit q) (start q))
+    after-alike _ _ _ _
+    (subst (λ (s : Facts). Alike (walk q (orderOf order) (limit q) (start q)) (walk (withEqualities q es) (orderOf order) (limit q) s)) (start-same q es ok ok′ same) (walk-alike q es same (orderOf order) (limit q) (start q)))
 
 walked : (order : List ℕ) (room : ℕ) (q q′ : Query) → Accepted q → Accepted q′ → Reordered q q′ → verdictOf q room (ourWalk order q) ≡ verdictOf q′ room (ourWalk order q′)
 walked order room q q′ ok ok′ r =
@@ -224,7 +226,7 @@ report-stays order query query′ room a a′ r =
     (ap (λ (o : Outcome). Option·elim (refusalOf verdictChecks j) o (blank room)) (walked order room (decode query) (decode query′) (accepted query a) (accepted query′ a′) r))
 
 -- facts that a walk can hold are sane
-held-sane : (q : Query) → Accepted q → (s : Facts) → Held q s → Sane (termCount q) s
+pub held-sane : (q : Query) → Accepted q → (s : Facts) → Held q s → Sane (termCount q) s
 held-sane q ok s h =
     row-all q (Invariant q) (λ s s′ m i c a k. branch-invariant q s m i a s′ k) (start-invariant q ok) (h .0) s (h .1) .sane
 

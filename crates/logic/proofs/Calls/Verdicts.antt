@@ -19,8 +19,7 @@ use Rattle.logic.proofs.Paths.Invariant.{Invariant, start-invariant, br
 use Rattle.logic.proofs.Walks.Order.{HoldsAll, rules-full, order-full}
 use Rattle.logic.proofs.Walks.Derives.{row-all}
 use Rattle.logic.proofs.Walks.Limit.{our-refutes, our-saturation}
-use Rattle.logic.proofs.Soundness.FactsSound.{start-holds}
-use Rattle.logic.proofs.Soundness.Refuted.{refutes-sound, hand-refuted}
+use Rattle.logic.proofs.Soundness.Refuted.{derivation-sound, hand-refuted}
 use Rattle.logic.proofs.Completeness.Saturated.{Saturated}
 use Rattle.logic.proofs.Completeness.Saturation.{saturated}
 use Rattle.logic.proofs.Completeness.Completed.{Completed}
@@ -52,7 +51,7 @@ module _ (q : Query) (ok : Accepted q) where
       model (orderOf order) (order-full order o) s (e .0) (e .1) (e .2)
 
   pub our-refuted : (order : List ℕ) (ls : List Line) → ourWalk order q ≡ refutation ls → Satisfiable q → ⊥
-  our-refuted order ls h (heap, meets) = refutes-sound q ok heap meets (our-refutes q ok order ls h) (start-holds q ok heap meets)
+  our-refuted order ls h = derivation-sound q ok (our-refutes q ok order ls h)
 
   -- the hand's walk: a path of its row that is saturated is a model
   saturated-model : (s : Facts) → Invariant q s → isSaturated q s ≡ true → Model q s

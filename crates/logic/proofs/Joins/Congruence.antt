@@ -8,6 +8,7 @@ use mathlib.Core.List.{List, [], _∷_, List·Memᴰ, List·Memᴰ·head, List·
 use mathlib.Core.Option.{none, some}
 use Rattle.logic.specs.Facts.{Graph, Facts, live, replace, doubled, settle, join}
 use Rattle.logic.proofs.Basics.Compare.{eqb-intro, eq-cases}
+use Rattle.logic.proofs.Paths.Joined.{join-facts}
 use Rattle.logic.proofs.Paths.Replace.{sub, sub-hit, sub-miss}
 use Rattle.logic.proofs.Paths.Doubled.{doubled-some, doubled-none}
 use Rattle.logic.proofs.Paths.Ranged.{InRange, Ranged, live-range, ranged-replace}
@@ -69,7 +70,7 @@ module _ (n : ℕ) where
         }
 
     -- Settling and joining stay within E, where E holds the pair that is joined.
-    settle-within : (k : ℕ) (s′ : Facts) → Ranged n s′ → Within E s s′ → Within E s (settle n k s′)
+    settle-within : (k : ℕ) (s′ : Facts) → Ranged n s′ → Within E s s′ → Within E s (settle n k s′ .facts)
     settle-within k s′ r w =
         settle-keeps n (λ u. Ranged n u × Within E s u)
         (λ u ab h e. let l = doubled-live n u ab (h .0) e in
@@ -78,15 +79,14 @@ module _ (n : ℕ) where
         (ranged-replace n (ab .0) (ab .1) u (l .0) (l .1) (l .2) (h .0), within-trans (h .1) (within-replace (ab .0) (ab .1) u (l .0) (l .1) (d .3) held)))
         k s′ (r, w) .1
 
-    pub join-within : (a b : ℕ) (s′ : Facts) → live n s′ a ≡ true → live n s′ b ≡ true → E a b → Ranged n s′ → Within E s s′ → Within E s (join n a b s′)
-    unfolding join
+    pub join-within : (a b : ℕ) (s′ : Facts) → live n s′ a ≡ true → live n s′ b ≡ true → E a b → Ranged n s′ → Within E s s′ → Within E s (join n a b s′ .facts)
     join-within a b s′ la lb e r w =
         ⊎-elim
-        (λ q. rw (eqb-intro {m = a} {n = b} q) w)
-        (λ d. rw (d .1) (low-high (λ lo hi. lo < hi → Within E s (settle n n (replace lo hi s′))) a b (λ lt. step a b la lb lt e) (λ lt. step b a lb la lt (c .turned a b e)) (omega (arith, d .0))))
+        (λ q. rw (join-facts n a b s′, eqb-intro {m = a} {n = b} q) w)
+        (λ d. rw (join-facts n a b s′, d .1) (low-high (λ lo hi. lo < hi → Within E s (settle n n (replace lo hi s′) .facts)) a b (λ lt. step a b la lb lt e) (λ lt. step b a lb la lt (c .turned a b e)) (omega (arith, d .0))))
         (eq-cases a b)
       where
-        step : (lo hi : ℕ) → live n s′ lo ≡ true → live n s′ hi ≡ true → lo < hi → E lo hi → Within E s (settle n n (replace lo hi s′))
+        step : (lo hi : ℕ) → live n s′ lo ≡ true → live n s′ hi ≡ true → lo < hi → E lo hi → Within E s (settle n n (replace lo hi s′) .facts)
         step lo hi ll lh lt e =
             settle-within n (replace lo hi s′) (ranged-replace n lo hi s′ ll lh (λ q. omega arith) r) (within-trans w (within-replace lo hi s′ ll lh lt e))
 

@@ -8,10 +8,11 @@ use mathlib.Core.List.{List, [], _∷_}
 use mathlib.Core.Option.{Option, none, some, Option·elim}
 use lib.Dec.{eqb}
 use Rattle.logic.specs.Search.{_and_, _or_}
-use Rattle.logic.specs.Facts.{Graph, Facts, replaceIn, replace, doubled, successors, settle, join, addReach}
+use Rattle.logic.specs.Facts.{Graph, Facts, replaceIn, replace, doubled, successors, unjoined, settle, join, addReach}
 use Rattle.logic.specs.Reordering.{joinTerms, reachTerms, joinAll}
 use Rattle.logic.proofs.Basics.Search.{and-left, and-right, and-intro, or-cases, or-left, or-right}
 use Rattle.logic.proofs.Basics.Compare.{eqb-true, eqb-intro, eqb-self, eq-cases}
+use Rattle.logic.proofs.Paths.Joined.{settle-step, join-facts}
 use Rattle.logic.proofs.Paths.Replace.{sub, replaceIn-true, replaceIn-intro}
 use Rattle.logic.proofs.Paths.Doubled.{doubled-some}
 use Rattle.logic.proofs.Paths.Kept.{low-high}
@@ -65,27 +66,26 @@ module _ (n : ℕ) (ab : ℕ × ℕ) where
   unfolding doubled successors reachTerms addReach
   doubled-reach s = refl
 
-  settle-reach : (k : ℕ) (s : Facts) → settle n k (reachTerms ab s) ≡ reachTerms ab (settle n k s)
-  unfolding settle Option·elim
+  settle-reach : (k : ℕ) (s : Facts) → settle n k (reachTerms ab s) .facts ≡ reachTerms ab (settle n k s .facts)
+  unfolding settle unjoined Option·elim
   settle-reach zero s = refl
-  settle-reach (suc k) s = rw (doubled-reach s) (go (λ t. settle-reach k t) (doubled n (s .graph)) refl)
+  settle-reach (suc k) s = rw (settle-step n k (reachTerms ab s), settle-step n k s, doubled-reach s) (go (λ t. settle-reach k t) (doubled n (s .graph)) refl)
     where
-      go : ((t : Facts) → settle n k (reachTerms ab t) ≡ reachTerms ab (settle n k t)) → (o : Option (ℕ × ℕ)) → doubled n (s .graph) ≡ o → Option·elim o (reachTerms ab s) (λ p. settle n k (replace (p .0) (p .1) (reachTerms ab s))) ≡ reachTerms ab (Option·elim o s (λ p. settle n k (replace (p .0) (p .1) s)))
+      go : ((t : Facts) → settle n k (reachTerms ab t) .facts ≡ reachTerms ab (settle n k t .facts)) → (o : Option (ℕ × ℕ)) → doubled n (s .graph) ≡ o → Option·elim o (reachTerms ab s) (λ p. settle n k (replace (p .0) (p .1) (reachTerms ab s)) .facts) ≡ reachTerms ab (Option·elim o s (λ p. settle n k (replace (p .0) (p .1) s) .facts))
       go ih none e = refl
       go ih (some p) e =
           let d = doubled-some n (s .graph) p e in
-          ap (settle n k) (replace-reach (p .0) (p .1) (λ q. omega (arith, d .3, q)) ab s) ∙ ih (replace (p .0) (p .1) s)
+          ap (λ (t : Facts). settle n k t .facts) (replace-reach (p .0) (p .1) (λ q. omega (arith, d .3, q)) ab s) ∙ ih (replace (p .0) (p .1) s)
 
-  join-reach : (c d : ℕ) (s : Facts) → join n c d (reachTerms ab s) ≡ reachTerms ab (join n c d s)
-  unfolding join
+  join-reach : (c d : ℕ) (s : Facts) → join n c d (reachTerms ab s) .facts ≡ reachTerms ab (join n c d s .facts)
   join-reach c d s =
       ⊎-elim
-      (λ e. rw (eqb-intro {m = c} {n = d} e))
-      (λ e. rw (e .1) (low-high (λ lo hi. settle n n (replace lo hi (reachTerms ab s)) ≡ reachTerms ab (settle n n (replace lo hi s))) c d (step c d (e .0)) (step d c (λ q. e .0 (sym q)))))
+      (λ e. rw (join-facts n c d (reachTerms ab s), join-facts n c d s, eqb-intro {m = c} {n = d} e))
+      (λ e. rw (join-facts n c d (reachTerms ab s), join-facts n c d s, e .1) (low-high (λ lo hi. settle n n (replace lo hi (reachTerms ab s)) .facts ≡ reachTerms ab (settle n n (replace lo hi s) .facts)) c d (step c d (e .0)) (step d c (λ q. e .0 (sym q)))))
       (eq-cases c d)
     where
-      step : (lo hi : ℕ) → (lo ≡ hi → ⊥) → settle n n (replace lo hi (reachTerms ab s)) ≡ reachTerms ab (settle n n (replace lo hi s))
-      step lo hi apart = ap (settle n n) (replace-reach lo hi apart ab s) ∙ settle-reach n (replace lo hi s)
+      step : (lo hi : ℕ) → (lo ≡ hi → ⊥) → settle n n (replace lo hi (reachTerms ab s)) .facts ≡ reachTerms ab (settle n n (replace lo hi s) .facts)
+      step lo hi apart = ap (λ (t : Facts). settle n n t .facts) (replace-reach lo hi apart ab s) ∙ settle-reach n (replace lo hi s)
 
   -- "a reachability fact may be added before or after a join alike"
   pub reach-either-side : (cd : ℕ × ℕ) (s : Facts) → joinTerms n cd (reachTerms ab s) ≡ reachTerms ab (joinTerms n cd s)

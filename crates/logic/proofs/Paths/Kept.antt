@@ -6,12 +6,13 @@ use mathlib.Core.Logic.{_⊎_, ⊎-elim, inl, inr}
 use mathlib.Core.Bool.{Bool, true, false, cond}
 use mathlib.Core.Option.{Option, none, some}
 use lib.Dec.{eqb}
-use Rattle.logic.specs.Facts.{Graph, Facts, live, replace, doubled, successors, settle, join, addReach}
-use Rattle.logic.specs.Rules.{Fact, equal, reaches, add}
+use Rattle.logic.specs.Facts.{Graph, Facts, live, replace, doubled, successors, unjoined, settle, join, addReach}
+use Rattle.logic.specs.Rules.{Fact, equal, reaches, branch, add}
 use Rattle.logic.proofs.Basics.Search.{bool-cases}
 use Rattle.logic.proofs.Basics.Compare.{eqb-intro, eqb-false, eq-cases, le-cases}
 use Rattle.logic.proofs.Paths.Replace.{sub, sub-hit, sub-miss}
 use Rattle.logic.proofs.Paths.Extends.{Extends, extends-refl, extends-trans, extends-replace, extends-addReach, rep-same}
+use Rattle.logic.proofs.Paths.Joined.{join-facts}
 use Rattle.logic.proofs.Paths.Ranged.{Ranged, replace-not-live, ranged-replace, ranged-addReach}
 use Rattle.logic.proofs.Paths.Settle.{liveCount-le, ranged-settle, extends-settle, settle-not-live, settle-done}
 
@@ -30,7 +31,7 @@ kept-refl {s = s} h = record { sane = h; extends = extends-refl s }
 pub kept-trans : {n : ℕ} {s s′ s″ : Facts} → Kept n s s′ → Kept n s′ s″ → Kept n s s″
 kept-trans k k′ = record { sane = k′ .sane; extends = extends-trans (k .extends) (k′ .extends) }
 
-pub kept-settle : (n : ℕ) (s : Facts) → Ranged n s → Kept n s (settle n n s)
+pub kept-settle : (n : ℕ) (s : Facts) → Ranged n s → Kept n s (settle n n s .facts)
 kept-settle n s r =
     record {
       sane = record { ranged = ranged-settle n n s r; single = settle-done n n s r (liveCount-le n s) };
@@ -48,7 +49,7 @@ low-high P a b p p′ =
 module _ (n a b : ℕ) (s : Facts) (la : live n s a ≡ true) (lb : live n s b ≡ true) where
   -- a join of two different live terms: a replacement, and then settling
   abbrev Replaced : ℕ → ℕ → Type 0
-  Replaced lo hi = Ranged n s → Kept n s (settle n n (replace lo hi s)) × ((t u : ℕ) → s .rep t ≡ a → s .rep u ≡ b → settle n n (replace lo hi s) .rep t ≡ settle n n (replace lo hi s) .rep u)
+  Replaced lo hi = Ranged n s → Kept n s (settle n n (replace lo hi s) .facts) × ((t u : ℕ) → s .rep t ≡ a → s .rep u ≡ b → settle n n (replace lo hi s) .facts .rep t ≡ settle n n (replace lo hi s) .facts .rep u)
 
   -- a and b become one term where one replaces the other
   sub-both : (lo hi : ℕ) → (lo ≡ hi → ⊥) → ((a ≡ lo) × (b ≡ hi)) ⊎ ((a ≡ hi) × (b ≡ lo)) → sub lo hi a ≡ sub lo hi b
@@ -68,21 +69,19 @@ module _ (n a b : ℕ) (s : Facts) (la : live n s a ≡ true) (lb : live n s b �
       )
 
   -- joining two live terms keeps, and makes them one
-  pub join-kept : Sane n s → Kept n s (join n a b s) × ((t u : ℕ) → s .rep t ≡ a → s .rep u ≡ b → join n a b s .rep t ≡ join n a b s .rep u)
-  unfolding join
+  pub join-kept : Sane n s → Kept n s (join n a b s .facts) × ((t u : ℕ) → s .rep t ≡ a → s .rep u ≡ b → join n a b s .facts .rep t ≡ join n a b s .facts .rep u)
   join-kept h =
       ⊎-elim
-      (λ e. rw (eqb-intro {m = a} {n = b} e) (kept-refl h, λ t u et eu. et ∙ e ∙ sym eu))
-      (λ d. rw (d .1) (low-high Replaced a b (replaced a b la lb (d .0) (inl (refl, refl))) (replaced b a lb la (λ e. d .0 (sym e)) (inr (refl, refl))) (h .ranged)))
+      (λ e. rw (join-facts n a b s, eqb-intro {m = a} {n = b} e) (kept-refl h, λ t u et eu. et ∙ e ∙ sym eu))
+      (λ d. rw (join-facts n a b s, d .1) (low-high Replaced a b (replaced a b la lb (d .0) (inl (refl, refl))) (replaced b a lb la (λ e. d .0 (sym e)) (inr (refl, refl))) (h .ranged)))
       (eq-cases a b)
 
   -- a join of two different live terms replaces the higher, and no term that is replaced comes back
-  pub join-not-live : Ranged n s → (a ≡ b → ⊥) → (t : ℕ) → live n (join n a b s) t ≡ true → (live n s t ≡ true) × (t ≡ max a b → ⊥)
-  unfolding join
-  join-not-live r d = rw (eqb-false a b d) (low-high Gone a b (gone a b la lb d) (gone b a lb la (λ e. d (sym e))))
+  pub join-not-live : Ranged n s → (a ≡ b → ⊥) → (t : ℕ) → live n (join n a b s .facts) t ≡ true → (live n s t ≡ true) × (t ≡ max a b → ⊥)
+  join-not-live r d = rw (join-facts n a b s, eqb-false a b d) (low-high Gone a b (gone a b la lb d) (gone b a lb la (λ e. d (sym e))))
     where
       Gone : ℕ → ℕ → Type 0
-      Gone lo hi = (t : ℕ) → live n (settle n n (replace lo hi s)) t ≡ true → (live n s t ≡ true) × (t ≡ hi → ⊥)
+      Gone lo hi = (t : ℕ) → live n (settle n n (replace lo hi s) .facts) t ≡ true → (live n s t ≡ true) × (t ≡ hi → ⊥)
 
       gone : (lo hi : ℕ) → live n s lo ≡ true → live n s hi ≡ true → (lo ≡ hi → ⊥) → Gone lo hi
       gone lo hi llo lhi d t h = replace-not-live n lo hi s llo lhi d t (settle-not-live n n (replace lo hi s) (ranged-replace n lo hi s llo lhi d r) t h)
@@ -102,6 +101,6 @@ LiveFact n s (equal a b) = (live n s a ≡ true) × (live n s b ≡ true)
 LiveFact n s (reaches a b) = (live n s a ≡ true) × (live n s b ≡ true)
 
 pub add-kept : (n : ℕ) (s : Facts) (c : Fact) → LiveFact n s c → Sane n s → Kept n s (add n s c)
-unfolding LiveFact add
+unfolding LiveFact add branch unjoined
 add-kept n s (equal a b) l h = join-kept n a b s (l .0) (l .1) h .0
 add-kept n s (reaches a b) l h = addReach-kept n a b s (l .0) (l .1) h

@@ -6,10 +6,11 @@ use mathlib.Core.Bool.{true}
 use mathlib.Core.Option.{Option, none, some, Option·elim}
 use lib.ListN.{length}
 use Rattle.logic.specs.Search.{from}
-use Rattle.logic.specs.Facts.{Facts, terms, live, liveTerms, replace, doubled, settle}
+use Rattle.logic.specs.Facts.{Facts, terms, live, liveTerms, replace, doubled, unjoined, settle}
 use Rattle.logic.proofs.Basics.Search.{not-of, from-intro}
 use Rattle.logic.proofs.Basics.Count.{length-from, select-length, select-lt}
 use Rattle.logic.proofs.Paths.Extends.{Extends, extends-refl, extends-trans, extends-replace}
+use Rattle.logic.proofs.Paths.Joined.{settle-step}
 use Rattle.logic.proofs.Paths.Doubled.{doubled-some}
 use Rattle.logic.proofs.Paths.Ranged.{Ranged, live-range, replace-not-live, ranged-replace}
 
@@ -37,19 +38,19 @@ module _ (n : ℕ) where
       (r .link-live (f .0) (ab .0) (f .1) .1, r .link-live (f .0) (ab .1) (f .2) .1, λ e. omega (arith, f .3, e))
 
   -- what each such replacement keeps, settling keeps
-  pub settle-keeps : (P : Facts → Type 0) → ((s : Facts) (ab : ℕ × ℕ) → P s → doubled n (s .graph) ≡ some ab → P (replace (ab .0) (ab .1) s)) → (k : ℕ) (s : Facts) → P s → P (settle n k s)
-  unfolding settle Option·elim
+  pub settle-keeps : (P : Facts → Type 0) → ((s : Facts) (ab : ℕ × ℕ) → P s → doubled n (s .graph) ≡ some ab → P (replace (ab .0) (ab .1) s)) → (k : ℕ) (s : Facts) → P s → P (settle n k s .facts)
+  unfolding settle unjoined Option·elim
   settle-keeps P keep zero s h = h
-  settle-keeps P keep (suc k) s h = go (doubled n (s .graph)) refl (λ ab e. settle-keeps P keep k (replace (ab .0) (ab .1) s) (keep s ab h e))
+  settle-keeps P keep (suc k) s h = rw (settle-step n k s) (go (doubled n (s .graph)) refl (λ ab e. settle-keeps P keep k (replace (ab .0) (ab .1) s) (keep s ab h e)))
     where
-      go : (o : Option (ℕ × ℕ)) → doubled n (s .graph) ≡ o → ((ab : ℕ × ℕ) → doubled n (s .graph) ≡ some ab → P (settle n k (replace (ab .0) (ab .1) s))) → P (Option·elim o s (λ ab. settle n k (replace (ab .0) (ab .1) s)))
+      go : (o : Option (ℕ × ℕ)) → doubled n (s .graph) ≡ o → ((ab : ℕ × ℕ) → doubled n (s .graph) ≡ some ab → P (settle n k (replace (ab .0) (ab .1) s) .facts)) → P (Option·elim o s (λ ab. settle n k (replace (ab .0) (ab .1) s) .facts))
       go none e ih = h
       go (some ab) e ih = ih ab e
 
-  pub ranged-settle : (k : ℕ) (s : Facts) → Ranged n s → Ranged n (settle n k s)
+  pub ranged-settle : (k : ℕ) (s : Facts) → Ranged n s → Ranged n (settle n k s .facts)
   ranged-settle = settle-keeps (Ranged n) (λ s ab r h. let l = doubled-live s ab r h in ranged-replace n (ab .0) (ab .1) s (l .0) (l .1) (l .2) r)
 
-  pub extends-settle : (k : ℕ) (s : Facts) → Ranged n s → Extends s (settle n k s)
+  pub extends-settle : (k : ℕ) (s : Facts) → Ranged n s → Extends s (settle n k s .facts)
   extends-settle k s r =
       settle-keeps (λ u. Ranged n u × Extends s u)
       (λ u ab p h. let l = doubled-live u ab (p .0) h in
@@ -57,7 +58,7 @@ module _ (n : ℕ) where
       k s (r, extends-refl s) .1
 
   -- a term that is replaced stays replaced
-  pub settle-not-live : (k : ℕ) (s : Facts) → Ranged n s → (t : ℕ) → live n (settle n k s) t ≡ true → live n s t ≡ true
+  pub settle-not-live : (k : ℕ) (s : Facts) → Ranged n s → (t : ℕ) → live n (settle n k s .facts) t ≡ true → live n s t ≡ true
   settle-not-live k s r =
       settle-keeps (λ u. Ranged n u × ((t : ℕ) → live n u t ≡ true → live n s t ≡ true))
       (λ u ab p h. let l = doubled-live u ab (p .0) h in
@@ -65,8 +66,8 @@ module _ (n : ℕ) where
       k s (r, λ t h. h) .1
 
   -- as many times as there are live terms are enough: then no term has two successors
-  pub settle-done : (k : ℕ) (s : Facts) → Ranged n s → liveCount s ≤ k → doubled n (settle n k s .graph) ≡ none
-  unfolding settle Option·elim
+  pub settle-done : (k : ℕ) (s : Facts) → Ranged n s → liveCount s ≤ k → doubled n (settle n k s .facts .graph) ≡ none
+  unfolding settle unjoined Option·elim
   settle-done zero s r l = go (doubled n (s .graph)) refl
     where
       go : (o : Option (ℕ × ℕ)) → doubled n (s .graph) ≡ o → doubled n (s .graph) ≡ none
@@ -75,13 +76,13 @@ module _ (n : ℕ) where
           let d = doubled-live s ab r e in
           let lt = liveCount-replace (ab .0) (ab .1) s (d .0) (d .1) (d .2) in
           absurd (omega arith)
-  settle-done (suc k) s r l = go (doubled n (s .graph)) refl (λ ab e. step ab (doubled-live s ab r e) (λ r′ l′. settle-done k (replace (ab .0) (ab .1) s) r′ l′))
+  settle-done (suc k) s r l = rw (settle-step n k s) (go (doubled n (s .graph)) refl (λ ab e. step ab (doubled-live s ab r e) (λ r′ l′. settle-done k (replace (ab .0) (ab .1) s) r′ l′)))
     where
-      step : (ab : ℕ × ℕ) → (live n s (ab .0) ≡ true) × (live n s (ab .1) ≡ true) × (ab .0 ≡ ab .1 → ⊥) → (Ranged n (replace (ab .0) (ab .1) s) → liveCount (replace (ab .0) (ab .1) s) ≤ k → doubled n (settle n k (replace (ab .0) (ab .1) s) .graph) ≡ none) → doubled n (settle n k (replace (ab .0) (ab .1) s) .graph) ≡ none
+      step : (ab : ℕ × ℕ) → (live n s (ab .0) ≡ true) × (live n s (ab .1) ≡ true) × (ab .0 ≡ ab .1 → ⊥) → (Ranged n (replace (ab .0) (ab .1) s) → liveCount (replace (ab .0) (ab .1) s) ≤ k → doubled n (settle n k (replace (ab .0) (ab .1) s) .facts .graph) ≡ none) → doubled n (settle n k (replace (ab .0) (ab .1) s) .facts .graph) ≡ none
       step ab d ih =
           let lt = liveCount-replace (ab .0) (ab .1) s (d .0) (d .1) (d .2) in
           ih (ranged-replace n (ab .0) (ab .1) s (d .0) (d .1) (d .2) r) (omega arith)
 
-      go : (o : Option (ℕ × ℕ)) → doubled n (s .graph) ≡ o → ((ab : ℕ × ℕ) → doubled n (s .graph) ≡ some ab → doubled n (settle n k (replace (ab .0) (ab .1) s) .graph) ≡ none) → doubled n (Option·elim o s (λ ab. settle n k (replace (ab .0) (ab .1) s)) .graph) ≡ none
+      go : (o : Option (ℕ × ℕ)) → doubled n (s .graph) ≡ o → ((ab : ℕ × ℕ) → doubled n (s .graph) ≡ some ab → doubled n (settle n k (replace (ab .0) (ab .1) s) .facts .graph) ≡ none) → doubled n (Option·elim o s (λ ab. settle n k (replace (ab .0) (ab .1) s) .facts) .graph) ≡ none
       go none e ih = e
       go (some ab) e ih = ih ab e

@@ -10,10 +10,11 @@ use lib.ListN.{length, getD, List·getD-eq-default}
 use lib.Dec.{eqb, ltb}
 use Rattle.logic.specs.Search.{_and_}
 use Rattle.logic.specs.Query.{Literal, Query, entryOf, termCount}
-use Rattle.logic.specs.Facts.{Graph, Facts, live, settle, join, addReach, linksOf, joinEach, reachEach, start}
+use Rattle.logic.specs.Facts.{Graph, Facts, live, settle, join, addReach, linksOf, unjoined, andThen, joinEach, reachEach, startJoins, start}
 use Rattle.logic.proofs.Basics.Search.{bool-cases, true-false, and-left, and-right, and-intro, or-right}
 use Rattle.logic.proofs.Basics.Compare.{eqb-true, eqb-intro, ltb-true, ltb-intro, eqb-self, cond-true, cond-false}
 use Rattle.logic.proofs.Paths.Extends.{Extends, rep-same, link-rep, reach-rep}
+use Rattle.logic.proofs.Paths.Joined.{joinEach-step}
 use Rattle.logic.proofs.Paths.Ranged.{InRange, Ranged, live-intro}
 use Rattle.logic.proofs.Paths.Kept.{Sane, Kept, kept-refl, kept-trans, kept-settle, join-kept, addReach-kept}
 use Rattle.logic.proofs.Query.Tied.{InTerms, Accepted, Tied}
@@ -85,7 +86,7 @@ module _ (n : ℕ) (op : Literal → Facts → Facts) (Held : Literal → Facts 
 
 -- a plain equality joins its two terms
 abbrev joinLiteral : ℕ → Literal → Facts → Facts
-joinLiteral n l s = join n (s .rep (l .left)) (s .rep (l .right)) s
+joinLiteral n l s = join n (s .rep (l .left)) (s .rep (l .right)) s .facts
 
 abbrev pub EqualHeld : Literal → Facts → Type 0
 EqualHeld l s = s .rep (l .left) ≡ s .rep (l .right)
@@ -121,10 +122,10 @@ reachLiteral-takes n =
       stays = λ l s s′ e p. reach-rep e (l .left) (l .right) p;
     }
 
-joinEach-is : (n : ℕ) (ls : List Literal) (s : Facts) → joinEach n ls s ≡ takeEach (joinLiteral n) ls s
-unfolding joinEach takeEach
+joinEach-is : (n : ℕ) (ls : List Literal) (s : Facts) → joinEach n ls s .facts ≡ takeEach (joinLiteral n) ls s
+unfolding joinEach unjoined takeEach
 joinEach-is n [] s = refl
-joinEach-is n (l ∷ ls) s = joinEach-is n ls _
+joinEach-is n (l ∷ ls) s = joinEach-step n l ls s ∙ joinEach-is n ls _
 
 reachEach-is : (ls : List Literal) (s : Facts) → reachEach ls s ≡ takeEach reachLiteral ls s
 unfolding reachEach takeEach
@@ -147,10 +148,10 @@ module _ (q : Query) (acc : Accepted q) where
   count = termCount q
 
   abbrev linked : Facts
-  linked = settle count count (linksOf (q .entries))
+  linked = settle count count (linksOf (q .entries)) .facts
 
   abbrev joined : Facts
-  joined = joinEach count (q .equalities) linked
+  joined = joinEach count (q .equalities) linked .facts
 
   linked-kept : Kept count (linksOf (q .entries)) linked
   linked-kept = kept-settle count (linksOf (q .entries)) (linksOf-ranged q acc)
@@ -161,7 +162,7 @@ module _ (q : Query) (acc : Accepted q) where
       (takeEach-kept count (joinLiteral count) EqualHeld (joinLiteral-takes count) (q .equalities) linked (acc .equal-terms) (linked-kept .sane))
 
   reached-kept : Kept count joined (start q) × ((l : Literal) → List·Memᴰ l (q .reachability) → l .plain ≡ true → ReachHeld l (start q))
-  unfolding start
+  unfolding start startJoins andThen
   reached-kept =
       rw (reachEach-is (q .reachability) joined)
       (takeEach-kept count reachLiteral ReachHeld (reachLiteral-takes count) (q .reachability) joined (acc .reach-terms) (joined-kept .0 .sane))

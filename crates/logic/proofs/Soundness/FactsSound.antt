@@ -12,12 +12,13 @@ use lib.Dec.{eqb}
 use Rattle.logic.specs.Search.{_and_, _or_}
 use Rattle.logic.specs.Query.{Literal, Query, entryOf, termCount}
 use Rattle.logic.specs.Heap.{Heap, Reaches, Meets, value}
-use Rattle.logic.specs.Facts.{Graph, Facts, terms, replaceIn, replace, successors, firstTwo, doubled, settle, join, addReach, linksOf, joinEach, reachEach, start}
-use Rattle.logic.specs.Rules.{Fact, equal, reaches, add}
+use Rattle.logic.specs.Facts.{Graph, Facts, terms, replaceIn, replace, successors, firstTwo, doubled, unjoined, andThen, settle, join, addReach, linksOf, joinEach, reachEach, startJoins, start}
+use Rattle.logic.specs.Rules.{Fact, equal, reaches, branch, add}
 use Rattle.logic.proofs.Basics.Search.{none-some, and-left, and-right, or-cases, firstOf-some, select-mem}
 use Rattle.logic.proofs.Basics.Compare.{eqb-true, ltb-true, eq-cases, le-cases}
 use Rattle.logic.proofs.Query.Tied.{Accepted}
 use Rattle.logic.proofs.Paths.Replace.{sub, sub-hit, sub-miss, replaceIn-true}
+use Rattle.logic.proofs.Paths.Joined.{settle-step, join-facts, joinEach-step}
 use Rattle.logic.proofs.Soundness.Value.{accepted-below, entry-term, value-link, signed-true}
 use Rattle.logic.proofs.Soundness.Truth.{Between, between, Same, Linked, Reached, TrueGraph, True, Holds, same-refl, between-same, rep-between}
 
@@ -66,13 +67,14 @@ module _ (f val : ℕ → ℕ) (n : ℕ) where
       let l = h .link-true (p .0) (ab .1) (select-mem (g .link (p .0)) (ab .1) (terms n) (m .1) .1) in
       between (k .right-term) (l .right-term) (sym (k .stands) ∙ l .stands)
 
-  holds-settle : (k : ℕ) (s : Facts) → Holds f val s → Holds f val (settle n k s)
-  unfolding settle Option·elim
+  holds-settle : (k : ℕ) (s : Facts) → Holds f val s → Holds f val (settle n k s .facts)
+  unfolding settle unjoined Option·elim
   holds-settle zero s h = h
   holds-settle (suc k) s h =
-      go (doubled n (s .graph)) (λ ab e. holds-settle k (replace (ab .0) (ab .1) s) (holds-replace (ab .0) (ab .1) (doubled-same (s .graph) (h .graph-true) ab e) s h))
+      rw (settle-step n k s)
+      (go (doubled n (s .graph)) (λ ab e. holds-settle k (replace (ab .0) (ab .1) s) (holds-replace (ab .0) (ab .1) (doubled-same (s .graph) (h .graph-true) ab e) s h)))
     where
-      go : (o : Option (ℕ × ℕ)) → ((ab : ℕ × ℕ) → o ≡ some ab → Holds f val (settle n k (replace (ab .0) (ab .1) s))) → Holds f val (Option·elim o s (λ ab. settle n k (replace (ab .0) (ab .1) s)))
+      go : (o : Option (ℕ × ℕ)) → ((ab : ℕ × ℕ) → o ≡ some ab → Holds f val (settle n k (replace (ab .0) (ab .1) s) .facts)) → Holds f val (Option·elim o s (λ ab. settle n k (replace (ab .0) (ab .1) s) .facts))
       go none r = h
       go (some ab) r = r ab refl
 
@@ -92,11 +94,11 @@ module _ (f val : ℕ → ℕ) (n : ℕ) where
   holds-cond true s t p q = p refl
   holds-cond false s t p q = q refl
 
-  pub holds-join : (a b : ℕ) → Same val a b → (s : Facts) → Holds f val s → Holds f val (join n a b s)
-  unfolding join
+  pub holds-join : (a b : ℕ) → Same val a b → (s : Facts) → Holds f val s → Holds f val (join n a b s .facts)
   holds-join a b same s h =
-      holds-cond (eqb a b) s (settle n n (replace (min a b) (max a b) s)) (λ e. h)
-      (λ e. holds-settle n (replace (min a b) (max a b) s) (holds-replace (min a b) (max a b) (same-ordered a b same) s h))
+      rw (join-facts n a b s)
+      (holds-cond (eqb a b) s (settle n n (replace (min a b) (max a b) s) .facts) (λ e. h)
+      (λ e. holds-settle n (replace (min a b) (max a b) s) (holds-replace (min a b) (max a b) (same-ordered a b same) s h)))
 
   pub holds-addReach : (a b : ℕ) → Reached f val a b → (s : Facts) → Holds f val s → Holds f val (addReach a b s)
   unfolding addReach
@@ -110,17 +112,18 @@ module _ (f val : ℕ → ℕ) (n : ℕ) where
       here x y e = subst₂ (Reached f val) (sym (eqb-true x a (and-left _ _ e))) (sym (eqb-true y b (and-right _ _ e))) r
 
   pub holds-add : (c : Fact) → True f val c → (s : Facts) → Holds f val s → Holds f val (add n s c)
-  unfolding add
+  unfolding add branch unjoined
   holds-add (equal a b) t s h = holds-join a b t s h
   holds-add (reaches a b) t s h = holds-addReach a b t s h
 
   -- literals that are true, read through `rep`
-  holds-joinEach : (ls : List Literal) → ((l : Literal) → List·Memᴰ l ls → l .plain ≡ true → Same val (l .left) (l .right)) → (s : Facts) → Holds f val s → Holds f val (joinEach n ls s)
-  unfolding joinEach
+  holds-joinEach : (ls : List Literal) → ((l : Literal) → List·Memᴰ l ls → l .plain ≡ true → Same val (l .left) (l .right)) → (s : Facts) → Holds f val s → Holds f val (joinEach n ls s .facts)
+  unfolding joinEach unjoined
   holds-joinEach [] p s h = h
   holds-joinEach (l ∷ ls) p s h =
-      holds-joinEach ls (λ m i. p m (List·Memᴰ·tail i)) _
-      (holds-cond (l .plain) (join n (s .rep (l .left)) (s .rep (l .right)) s) s (λ e. holds-join _ _ (rep-between f val s h (p l (List·Memᴰ·head refl) e)) s h) (λ e. h))
+      rw (joinEach-step n l ls s)
+      (holds-joinEach ls (λ m i. p m (List·Memᴰ·tail i)) _
+      (holds-cond (l .plain) (join n (s .rep (l .left)) (s .rep (l .right)) s .facts) s (λ e. holds-join _ _ (rep-between f val s h (p l (List·Memᴰ·head refl) e)) s h) (λ e. h)))
 
   holds-reachEach : (ls : List Literal) → ((l : Literal) → List·Memᴰ l ls → l .plain ≡ true → Reached f val (l .left) (l .right)) → (s : Facts) → Holds f val s → Holds f val (reachEach ls s)
   unfolding reachEach
@@ -152,7 +155,7 @@ module _ (q : Query) (ok : Accepted q) (h : Heap) where
           (ap (λ (t : ℕ). h .link (val t)) (sym e) ∙ sym (value-link h (q .entries) (accepted-below q ok) b one))
 
   pub start-holds : Meets h q → Holds (h .link) (value h (q .entries)) (start q)
-  unfolding start
+  unfolding start startJoins andThen
   start-holds m =
       let n = termCount q in
       holds-reachEach (h .link) val n (q .reachability) (λ l i e. let t = ok .reach-terms l i in between (t .0 .0) (t .1 .0) (signed-true (l .plain) e (m .reachability l i))) _

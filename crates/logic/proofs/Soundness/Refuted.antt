@@ -5,7 +5,7 @@ use native.Mathlib.Omega.{arith}
 use mathlib.Core.Path.{_≡_, refl, subst}
 use mathlib.Core.Logic.{⊎-elim}
 use mathlib.Core.Bool.{Bool, true, false, not, cond}
-use mathlib.Core.List.{List, [], _∷_, List·Memᴰ, List·Memᴰ·head, List·Memᴰ·tail, List·Memᴰ·not-nil, List·Memᴰ·cases-cons, Memᴰ·append-left, Memᴰ·append-right}
+use mathlib.Core.List.{List, [], _∷_, map, List·Memᴰ, List·Memᴰ·head, List·Memᴰ·tail, List·Memᴰ·not-nil, List·Memᴰ·cases-cons, Memᴰ·append-left, Memᴰ·append-right}
 use mathlib.Core.Option.{Option, none, some, Option·elim}
 use Rattle.logic.specs.Search.{_and_, all, any}
 use Rattle.logic.specs.Query.{Query, termCount}
@@ -13,7 +13,7 @@ use Rattle.logic.specs.Heap.{Heap, Meets, Satisfiable, value}
 use Rattle.logic.specs.Facts.{Facts, Line, live, start, isClash, clashLines, clash}
 use Rattle.logic.specs.Rules.{Rule, ruleOf, Move, move, applies, add, branches}
 use Rattle.logic.specs.Walk.{refuted, satisfiable, Pick, isClashed, isSaturated, picked, splice, pickEach, handRow, handVerdict}
-use Rattle.logic.specs.Derivation.{Refutes, ends, follows, none-left, one-more}
+use Rattle.logic.specs.Derivation.{Derivation, Refutes, ends, follows, none-left, one-more}
 use Rattle.logic.proofs.Basics.Search.{none-some, isSome-true, and-left, and-right, all-true, find-some, map-intro}
 use Rattle.logic.proofs.Basics.Compare.{ltb-true}
 use Rattle.logic.proofs.Query.Tied.{Accepted}
@@ -44,8 +44,9 @@ module _ (q : Query) (h : Heap) where
 
 module _ (q : Query) (ok : Accepted q) (h : Heap) (meets : Meets h q) where
   pub refutes-sound : {s : Facts} {ls : List Line} → Refutes q s ls → HoldsIn q h s → ⊥
+  unfolding branches
   refutes-sound r =
-      elim r as (λ s ls r. HoldsIn q h s → ⊥) (λ row ls r. SomeHolds q h row → ⊥) [
+      elim r as (λ s ls r. HoldsIn q h s → ⊥) (λ s cs ls r. SomeHolds q h (map (add (termCount q) s) cs) → ⊥) [
         | ends {s = s} l e ↦ λ holds. clash-sound q ok h meets s holds l e
         | follows {s = s} m c e (rs → below) ↦ λ holds. below (branch-holds q h s holds m e)
         | none-left ↦ λ t. List·Memᴰ·not-nil (t .1)
@@ -58,9 +59,9 @@ module _ (q : Query) (ok : Accepted q) (h : Heap) (meets : Meets h q) where
       let (l, found) = isSome-true (clash q s) e in
       clash-sound q ok h meets s holds l (find-some (isClash q s) (clashLines q) l found .1)
 
--- lines that refute the start leave no heap
-pub refuted-start : (q : Query) → Accepted q → {ls : List Line} → Refutes q (start q) ls → Satisfiable q → ⊥
-refuted-start q ok r (h, meets) = refutes-sound q ok h meets r (start-holds q ok h meets)
+-- a derivation leaves no heap
+pub derivation-sound : (q : Query) → Accepted q → {ls : List Line} → Derivation q ls → Satisfiable q → ⊥
+derivation-sound q ok d (h, meets) = refutes-sound q ok h meets (d .refutes) (start-holds q ok h meets)
 
 -- The hand's row: some path of it holds, whatever is picked
 module _ (q : Query) (h : Heap) where

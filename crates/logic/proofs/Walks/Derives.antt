@@ -4,12 +4,12 @@ use native.Mathlib.Omega.{arith}
 use mathlib.Core.Path.{_≡_, refl, sym, subst}
 use mathlib.Core.Logic.{⊎-elim}
 use mathlib.Core.Bool.{Bool, true, false, not, cond}
-use mathlib.Core.List.{List, [], _∷_, _++_, List·Memᴰ, List·Memᴰ·head, List·Memᴰ·tail, List·Memᴰ·cases-cons, List·Memᴰ·append-cases, List·Memᴰ·eq-of-singleton}
+use mathlib.Core.List.{List, [], _∷_, _++_, map, List·Memᴰ, List·Memᴰ·head, List·Memᴰ·tail, List·Memᴰ·cases-cons, List·Memᴰ·append-cases, List·Memᴰ·eq-of-singleton}
 use mathlib.Core.Option.{Option, none, some, Option·elim}
 use Rattle.logic.specs.Search.{_and_}
 use Rattle.logic.specs.Query.{Query, termCount}
-use Rattle.logic.specs.Facts.{Facts, Line, start, isClash, clashLines, clash}
-use Rattle.logic.specs.Rules.{Rule, ruleOf, Move, move, applies, branches, choose, moveLine}
+use Rattle.logic.specs.Facts.{Facts, Line, joinLines, start, isClash, clashLines, clash}
+use Rattle.logic.specs.Rules.{Rule, ruleOf, Move, move, applies, branch, add, branches, choose, moveLine}
 use Rattle.logic.specs.Walk.{Look, clashing, applying, saturated, look, Ending, refutation, saturation, after, Pick, isClashed, picked, splice, pickEach, handRow}
 use Rattle.logic.specs.OurWalk.{Walks, clashes, saturates, goes-on, all-tried, refuted-first, saturated-first}
 use Rattle.logic.specs.Derivation.{Refutes, ends, follows, RefutesEach, none-left, one-more}
@@ -21,12 +21,12 @@ use Rattle.logic.proofs.Walks.Order.{choose-some}
 pub refuted-saturated : {ls : List Line} {s : Facts} → refutation ls ≡ saturation s → ⊥
 refuted-saturated e = let z : _≡_ {A = ℕ} 0 1 = cc in omega arith
 
-after-refutation : (ls : List Line) (e : Ending) (out : List Line) → after ls e ≡ refutation out → (ms : List Line) × (e ≡ refutation ms) × (ls ++ ms ≡ out)
+pub after-refutation : (ls : List Line) (e : Ending) (out : List Line) → after ls e ≡ refutation out → (ms : List Line) × (e ≡ refutation ms) × (ls ++ ms ≡ out)
 unfolding after
 after-refutation ls (refutation ms) out h = (ms, refl, cc)
 after-refutation ls (saturation s) out h = absurd (refuted-saturated (sym h))
 
-after-saturation : (ls : List Line) (e : Ending) (t : Facts) → after ls e ≡ saturation t → e ≡ saturation t
+pub after-saturation : (ls : List Line) (e : Ending) (t : Facts) → after ls e ≡ saturation t → e ≡ saturation t
 unfolding after
 after-saturation ls (refutation ms) t h = absurd (refuted-saturated h)
 after-saturation ls (saturation s) t h = h
@@ -74,17 +74,17 @@ clash-true q s l e = find-some (isClash q s) (clashLines q) l e .1
 
 pub walks-refutes : (q : Query) (order : List Rule) {s : Facts} {e : Ending} → Walks q order s e → (ls : List Line) → e ≡ refutation ls → Refutes q s ls
 walks-refutes q order r =
-    elim r as (λ s e r. (ls : List Line) → e ≡ refutation ls → Refutes q s ls) (λ ss e r. (ls : List Line) → e ≡ refutation ls → RefutesEach q ss ls) [
+    elim r as (λ s e r. (ls : List Line) → e ≡ refutation ls → Refutes q s ls) (λ s cs e r. (ls : List Line) → e ≡ refutation ls → RefutesEach q s cs ls) [
       | clashes {s = s} l h ↦ λ ls f. subst (Refutes q s) (cc) (ends l (clash-true q s l (seen-clashing q order s h)))
       | saturates h ↦ λ ls f. absurd (refuted-saturated (sym f))
       | goes-on {s = s} m {e = d} h (rs → below) ↦ λ ls f.
           let (ms, g, k) = after-refutation (moveLine m ∷ []) d ls f in
           let (free, app) = seen-applying q order s h in
           subst (Refutes q s) k (follows m free app (below ms g))
-      | all-tried ↦ λ ls f. subst (RefutesEach q []) (cc) none-left
-      | refuted-first {s = s} {ss = ss} {ls = ls} {e = d} (r → first) (rs → rest) ↦ λ out f.
-          let (ms, g, k) = after-refutation ls d out f in
-          subst (RefutesEach q (s ∷ ss)) k (one-more (first ls refl) (rest ms g))
+      | all-tried {s = s} ↦ λ ls f. subst (RefutesEach q s []) (cc) none-left
+      | refuted-first {s = s} {c = c} {cs = cs} {ls = ls} {e = d} (r → first) (rs → rest) ↦ λ out f.
+          let (ms, g, k) = after-refutation (joinLines (branch (termCount q) s c .pairs) ++ ls) d out f in
+          subst (RefutesEach q s (c ∷ cs)) k (one-more (first ls refl) (rest ms g))
       | saturated-first (r → first) ↦ λ out f. absurd (refuted-saturated (sym f))
     ]
 
@@ -104,8 +104,9 @@ Everywhere P row = (s : Facts) → List·Memᴰ s row → P s
 
 module _ (q : Query) (P : Facts → Type 0) (kept : Kept q P) where
   pub walks-saturation : (order : List Rule) {s : Facts} {e : Ending} → Walks q order s e → (t : Facts) → P s → e ≡ saturation t → EndsIn q P order t
+  unfolding branches
   walks-saturation order r =
-      elim r as (λ s e r. (t : Facts) → P s → e ≡ saturation t → EndsIn q P order t) (λ ss e r. (t : Facts) → Everywhere P ss → e ≡ saturation t → EndsIn q P order t) [
+      elim r as (λ s e r. (t : Facts) → P s → e ≡ saturation t → EndsIn q P order t) (λ s cs e r. (t : Facts) → Everywhere P (map (add (termCount q) s) cs) → e ≡ saturation t → EndsIn q P order t) [
         | clashes l h ↦ λ t p f. absurd (refuted-saturated f)
         | saturates {s = s} h ↦ λ t p f.
             let (free, e) = seen-saturated q order s h in
@@ -115,8 +116,9 @@ module _ (q : Query) (P : Facts → Type 0) (kept : Kept q P) where
             let (free, app) = seen-applying q order s h in
             below t (λ s′ mem. kept s s′ m p free app mem) (after-saturation (moveLine m ∷ []) d t f)
         | all-tried ↦ λ t p f. absurd (refuted-saturated f)
-        | refuted-first {ls = ls} {e = d} (r → first) (rs → rest) ↦ λ t p f. rest t (λ s mem. p s (List·Memᴰ·tail mem)) (after-saturation ls d t f)
-        | saturated-first {s = s} (r → first) ↦ λ t p f. first t (p s (List·Memᴰ·head refl)) f
+        | refuted-first {s = s} {c = c} {ls = ls} {e = d} (r → first) (rs → rest) ↦ λ t p f.
+            rest t (λ s′ mem. p s′ (List·Memᴰ·tail mem)) (after-saturation (joinLines (branch (termCount q) s c .pairs) ++ ls) d t f)
+        | saturated-first {s = s} {c = c} (r → first) ↦ λ t p f. first t (p (add (termCount q) s c) (List·Memᴰ·head refl)) f
       ]
 
   -- The hand's row

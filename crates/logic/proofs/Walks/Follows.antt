@@ -2,13 +2,13 @@
 use Prim.Native.Nat.{ℕ, suc}
 use mathlib.Core.Path.{_≡_, refl, sym, ap, _∙_, subst}
 use mathlib.Core.Bool.{true, cond}
-use mathlib.Core.List.{List, [], _∷_, _++_, append-assoc, append-nil, List·Memᴰ, List·Memᴰ·head, Memᴰ·append-right}
+use mathlib.Core.List.{List, [], _∷_, _++_, map, append-assoc, append-nil, List·Memᴰ, List·Memᴰ·head, Memᴰ·append-right}
 use mathlib.Core.Option.{none, some, Option·elim}
 use lib.ListN.{length}
 use Rattle.logic.specs.Search.{_and_, all, any, isSome}
 use Rattle.logic.specs.Query.{Query, isOrder, termCount}
-use Rattle.logic.specs.Facts.{Facts, Line, start, clash}
-use Rattle.logic.specs.Rules.{Rule, ruleNumber, rules, Move, move, applies, branches, choose, moveLine}
+use Rattle.logic.specs.Facts.{Facts, Line, joinLines, startJoins, start, clash}
+use Rattle.logic.specs.Rules.{Rule, ruleNumber, rules, Move, move, applies, branch, add, branches, choose, moveLine}
 use Rattle.logic.specs.Walk.{orderOf, Ending, refutation, saturation, after, ourWalk, refuted, satisfiable, ourVerdict, Pick, isClashed, picked, splice, pickEach, handRow, isSaturated, handVerdict}
 use Rattle.logic.specs.OurWalk.{Walks, clashes, saturates, goes-on, all-tried, refuted-first, saturated-first}
 use Rattle.logic.proofs.Basics.Search.{not-of, true-false, all-true, all-append, any-intro}
@@ -16,7 +16,13 @@ use Rattle.logic.proofs.Basics.Compare.{cond-true, cond-false}
 use Rattle.logic.proofs.Query.Tied.{Accepted}
 use Rattle.logic.proofs.Walks.Order.{ruleOf-number, order-full, choose-nothing}
 use Rattle.logic.proofs.Walks.Derives.{seen-clashing, seen-applying}
-use Rattle.logic.proofs.Walks.Limit.{our-walks, our-saturation}
+use Rattle.logic.proofs.Walks.Limit.{walked, our-walks, our-headed, our-saturation}
+
+-- lines in front of an ending leave its verdict
+headed-verdict : (ls : List Line) (e : Ending) → ourVerdict (after ls e) ≡ ourVerdict e
+unfolding ourVerdict after
+headed-verdict ls (refutation ms) = refl
+headed-verdict ls (saturation s) = refl
 
 -- Picks in a row
 
@@ -75,11 +81,11 @@ module _ (q : Query) where
   behind left clashed cl middle right (saturation t) f = (f .0, subst (λ (row : List Facts). List·Memᴰ t (pickEach q (f .0) row)) (simp append-assoc) (f .1))
 
   -- a path that is refuted, and then those to its right
-  followed-then : (left : List Facts) (s : Facts) (ss right : List Facts) (ls : List Line) (e : Ending) → ((right′ : List Facts) → Followed left (s ∷ []) right′ (refutation ls)) → ((left′ : List Facts) → Followed left′ ss right e) → Followed left (s ∷ ss) right (after ls e)
+  followed-then : (left : List Facts) (s : Facts) (ss right : List Facts) (ls ms : List Line) (e : Ending) → ((right′ : List Facts) → Followed left (s ∷ []) right′ (refutation ls)) → ((left′ : List Facts) → Followed left′ ss right e) → Followed left (s ∷ ss) right (after ms e)
   unfolding Followed
-  followed-then left s ss right ls e f g =
+  followed-then left s ss right ls ms e f g =
       let (picks, clashed, cl, row) = f (ss ++ right) in
-      followed-after picks left (s ∷ ss) (clashed ++ ss) right (row ∙ ap (λ (r : List Facts). left ++ r) (sym (append-assoc clashed ss right))) ls e (behind left clashed cl ss right e (g (left ++ clashed)))
+      followed-after picks left (s ∷ ss) (clashed ++ ss) right (row ∙ ap (λ (r : List Facts). left ++ r) (sym (append-assoc clashed ss right))) ms e (behind left clashed cl ss right e (g (left ++ clashed)))
 
   -- each way in which a walk ends, or goes on
   followed-clash : (s : Facts) (l : Line) → clash q s ≡ some l → (left right : List Facts) → Followed left (s ∷ []) right (refutation (l ∷ []))
@@ -99,16 +105,18 @@ module _ (q : Query) where
   followed-first s ss t f left right = f left (ss ++ right)
 
   followed-walk : (order : List Rule) {s : Facts} {e : Ending} → Walks q order s e → (left right : List Facts) → Followed left (s ∷ []) right e
+  unfolding branches
   followed-walk order r =
-      elim r as (λ s e r. (left right : List Facts) → Followed left (s ∷ []) right e) (λ ss e r. (left right : List Facts) → Followed left ss right e) [
+      elim r as (λ s e r. (left right : List Facts) → Followed left (s ∷ []) right e) (λ s cs e r. (left right : List Facts) → Followed left (map (add (termCount q) s) cs) right e) [
         | clashes {s = s} l h ↦ followed-clash s l (seen-clashing q order s h)
         | saturates {s = s} h ↦ followed-saturated s
         | goes-on {s = s} m {e = d} h (rs → below) ↦ λ left right.
             let (free, app) = seen-applying q order s h in
             followed-after (pickOf (suc (length left)) m ∷ []) left (s ∷ []) (branches (termCount q) s m) right (pick-at left s right m free app) (moveLine m ∷ []) d (below left right)
         | all-tried ↦ followed-none
-        | refuted-first {s = s} {ss = ss} {ls = ls} {e = d} (r → first) (rs → rest) ↦ λ left right. followed-then left s ss right ls d (first left) (λ left′. rest left′ right)
-        | saturated-first {s = s} {ss = ss} {t = t} (r → first) ↦ followed-first s ss t first
+        | refuted-first {s = s} {c = c} {cs = cs} {ls = ls} {e = d} (r → first) (rs → rest) ↦ λ left right.
+            followed-then left (add (termCount q) s c) (map (add (termCount q) s) cs) right ls (joinLines (branch (termCount q) s c .pairs) ++ ls) d (first left) (λ left′. rest left′ right)
+        | saturated-first {s = s} {c = c} {cs = cs} {t = t} (r → first) ↦ followed-first (add (termCount q) s c) (map (add (termCount q) s) cs) t first
       ]
 
   -- What the hand's verdict then is
@@ -124,13 +132,15 @@ module _ (q : Query) where
       ∙ cond-true (some satisfiable) none (any-intro (isSaturated q) t m (rw (free, e) refl))
 
   -- so for every list of every rule there are picks after which the hand's verdict is our walk's
-  followed-verdict : Accepted q → (order : List ℕ) → isOrder order ≡ true → (e : Ending) → ourWalk order q ≡ e → Followed [] (start q ∷ []) [] e → (picks : List Pick) × (handVerdict q (handRow q picks) ≡ some (ourVerdict e))
-  unfolding Followed ourVerdict handRow
+  followed-verdict : Accepted q → (order : List ℕ) → isOrder order ≡ true → (e : Ending) → walked order q ≡ e → Followed [] (start q ∷ []) [] e → (picks : List Pick) × (handVerdict q (handRow q picks) ≡ some (ourVerdict e))
+  unfolding Followed ourVerdict handRow after
   followed-verdict ok order o (refutation ls) h (picks, clashed, cl, row) =
       (picks, refuted-row (pickEach q picks (start q ∷ [])) (subst (λ (r : List Facts). all (isClashed q) r ≡ true) (sym (row ∙ append-nil clashed)) cl))
   followed-verdict ok order o (saturation t) h (picks, m) =
-      let e = our-saturation q ok (λ s. Facts) (λ s s′ m p c a k. s) order t (start q) h in
+      let e = our-saturation q ok (λ s. Facts) (λ s s′ m p c a k. s) order t (start q) (our-headed q order ∙ ap (after (joinLines (startJoins q .pairs))) h) in
       (picks, satisfiable-row (pickEach q picks (start q ∷ [])) t m (e .1) (choose-nothing (termCount q) t (orderOf order) rules (order-full order o) (e .2)))
 
   pub hand-follows : Accepted q → (order : List ℕ) → isOrder order ≡ true → (picks : List Pick) × (handVerdict q (handRow q picks) ≡ some (ourVerdict (ourWalk order q)))
-  hand-follows ok order o = followed-verdict ok order o (ourWalk order q) refl (followed-walk (orderOf order) (our-walks q ok order) [] [])
+  hand-follows ok order o =
+      let (picks, h) = followed-verdict ok order o (walked order q) refl (followed-walk (orderOf order) (our-walks q ok order) [] []) in
+      (picks, h ∙ ap some (sym (ap ourVerdict (our-headed q order) ∙ headed-verdict (joinLines (startJoins q .pairs)) (walked order q))))

@@ -6,8 +6,8 @@ use mathlib.Core.Bool.{Bool, true, false, not}
 use mathlib.Core.List.{List, _++_, map, List·Memᴰ, List·Memᴰ·head, Memᴰ·append-left, Memᴰ·append-right}
 use lib.ListN.{length, length-append, length-map}
 use Rattle.logic.specs.Search.{any, from, select, flatMap}
-use Rattle.logic.specs.Facts.{Graph, Facts, terms, live, join, addReach}
-use Rattle.logic.specs.Rules.{REFLEX, TRANS1, TRANS2, FUNC, CYCLE, SCC, TOTAL, SHARE, triple, Move, move, Fact, equal, reaches, returns, conditions, alternatives, held, applies, add, branches}
+use Rattle.logic.specs.Facts.{Graph, Facts, terms, live, unjoined, join, addReach}
+use Rattle.logic.specs.Rules.{REFLEX, TRANS1, TRANS2, FUNC, CYCLE, SCC, TOTAL, SHARE, triple, Move, move, Fact, equal, reaches, returns, conditions, alternatives, held, applies, branch, add, branches}
 use Rattle.logic.specs.Steps.{Step, Steps, at-first, one-more, AtMost}
 use Rattle.logic.proofs.Basics.Search.{true-false, not-true, not-intro, not-of, and-left, and-right, and-intro, or-right, any-false, from-intro, flatMap-intro, map-mem, map-intro}
 use Rattle.logic.proofs.Basics.Compare.{eqb-intro, eqb-self}
@@ -78,12 +78,12 @@ module _ (n : ℕ) where
 
   -- Each alternative that is not held gains
 
-  join-less : (a b : ℕ) (s : Facts) → live n s a ≡ true → live n s b ≡ true → (a ≡ b → ⊥) → Sane n s → gainsLeft n (join n a b s) < gainsLeft n s
+  join-less : (a b : ℕ) (s : Facts) → live n s a ≡ true → live n s b ≡ true → (a ≡ b → ⊥) → Sane n s → gainsLeft n (join n a b s .facts) < gainsLeft n s
   unfolding lacks
   join-less a b s la lb d h =
       let gone = join-not-live n a b s la lb (h .ranged) d in
       let lm : live n s (max a b) ≡ true = low-high (λ lo hi. live n s hi ≡ true) a b lb la in
-      gains-less s (join n a b s) (join-kept n a b s la lb h .0 .extends) (λ t l. gone t l .0) (replaced (max a b))
+      gains-less s (join n a b s .facts) (join-kept n a b s la lb h .0 .extends) (λ t l. gone t l .0) (replaced (max a b))
       (replaced-mem (max a b) (live-range n s (max a b) lm)) lm (not-of (λ l. gone (max a b) l .1 refl))
 
   addReach-less : (a b : ℕ) (s : Facts) → live n s a ≡ true → live n s b ≡ true → s .graph .reach a b ≡ false → gainsLeft n (addReach a b s) < gainsLeft n s
@@ -95,7 +95,7 @@ module _ (n : ℕ) where
       (rw (live-rep n s a la, live-rep n s b lb) (ap not (or-right (s .graph .reach a b) (and-intro (eqb-self a) (eqb-self b)))))
 
   add-less : (s : Facts) (c : Fact) → LiveFact n s c → held (s .graph) c ≡ false → Sane n s → gainsLeft n (add n s c) < gainsLeft n s
-  unfolding LiveFact held add
+  unfolding LiveFact held add branch unjoined
   add-less s (equal a b) l e h = join-less a b s (l .0) (l .1) (λ same. true-false (eqb-intro same) e) h
   add-less s (reaches a b) l e h = addReach-less a b s (l .0) (l .1) e
 

@@ -2,17 +2,17 @@
 -- walk ends as it would without a limit.
 use Prim.Native.Nat.{ℕ, suc}
 use native.Mathlib.Omega.{arith}
-use mathlib.Core.Path.{_≡_}
+use mathlib.Core.Path.{_≡_, refl, sym, _∙_}
 use mathlib.Core.List.{List, List·Memᴰ}
 use Rattle.logic.specs.Query.{Query, termCount}
-use Rattle.logic.specs.Facts.{Facts, Line, start}
-use Rattle.logic.specs.Walk.{orderOf, refutation, saturation, limit, ourWalk, Pick, handRow}
+use Rattle.logic.specs.Facts.{Facts, Line, joinLines, startJoins, start}
+use Rattle.logic.specs.Walk.{orderOf, Ending, refutation, saturation, after, walk, limit, ourWalk, Pick, handRow}
 use Rattle.logic.specs.Steps.{Steps, at-first, one-more, AtMost}
 use Rattle.logic.specs.OurWalk.{Walks}
-use Rattle.logic.specs.Derivation.{Refutes}
+use Rattle.logic.specs.Derivation.{Derivation}
 use Rattle.logic.proofs.Query.Tied.{Accepted}
 use Rattle.logic.proofs.Paths.Start.{start-sane}
-use Rattle.logic.proofs.Walks.Derives.{walks-refutes, Kept, EndsIn, walks-saturation, row-all}
+use Rattle.logic.proofs.Walks.Derives.{after-refutation, after-saturation, walks-refutes, Kept, EndsIn, walks-saturation, row-all}
 use Rattle.logic.proofs.Walks.Gains.{gainsLeft-most, gains-atMost}
 use Rattle.logic.proofs.Walks.OurWalk.{walk-walks}
 
@@ -27,14 +27,23 @@ row-steps q =
     (λ s s′ m led free app mem. (suc (led .0), one-more (led .1) (record { rule-move = m; applicable = app; branch = mem })))
     (0, at-first)
 
--- our walk ends as its sentence says
-pub our-walks : (q : Query) → Accepted q → (order : List ℕ) → Walks q (orderOf order) (start q) (ourWalk order q)
-unfolding ourWalk
+-- our walk of the start ends as its sentence says, and the lines of the start's joins stand before it
+abbrev pub walked : List ℕ → Query → Ending
+walked order q = walk q (orderOf order) (limit q) (start q)
+
+pub our-walks : (q : Query) → Accepted q → (order : List ℕ) → Walks q (orderOf order) (start q) (walked order q)
 our-walks q ok order = walk-walks q (orderOf order) (limit q) (start q) (start-atMost q ok)
 
+pub our-headed : (q : Query) (order : List ℕ) → ourWalk order q ≡ after (joinLines (startJoins q .pairs)) (walked order q)
+unfolding ourWalk
+our-headed q order = refl
+
 -- so its refutation follows the rules, and what the rules keep is kept to the path where it ends
-pub our-refutes : (q : Query) → Accepted q → (order : List ℕ) (ls : List Line) → ourWalk order q ≡ refutation ls → Refutes q (start q) ls
-our-refutes q ok order = walks-refutes q (orderOf order) (our-walks q ok order)
+pub our-refutes : (q : Query) → Accepted q → (order : List ℕ) (ls : List Line) → ourWalk order q ≡ refutation ls → Derivation q ls
+our-refutes q ok order ls h =
+    let (ms, e, f) = after-refutation (joinLines (startJoins q .pairs)) (walked order q) ls (sym (our-headed q order) ∙ h) in
+    record { walked = ms; headed = sym f; refutes = walks-refutes q (orderOf order) (our-walks q ok order) ms e }
 
 pub our-saturation : (q : Query) → Accepted q → (P : Facts → Type 0) → Kept q P → (order : List ℕ) (t : Facts) → P (start q) → ourWalk order q ≡ saturation t → EndsIn q P (orderOf order) t
-our-saturation q ok P kept order = walks-saturation q P kept (orderOf order) (our-walks q ok order)
+our-saturation q ok P kept order t p h =
+    walks-saturation q P kept (orderOf order) (our-walks q ok order) t p (after-saturation (joinLines (startJoins q .pairs)) (walked order q) t (sym (our-headed q order) ∙ h))
