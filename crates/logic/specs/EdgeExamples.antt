@@ -127,7 +127,7 @@ badBytes =
     spoilt 1 1 5
     ∷ spoilt 1 2 5
     ∷ spoilt 2 2 5
-    ∷ spoilt 2 255 5
+    ∷ spoilt 2 254 5
     -- "6. A sign is neither 0 nor 1", in each of sections 2 to 5
     ∷ spoilt 4 2 6
     ∷ spoilt 8 2 6
