@@ -57,6 +57,10 @@ module _ {l : Layout} {bytes : List ℕ} (laid : LaysOut l bytes) where
     pub joins-fit : Fits (andThen (andThen links (joinNil (l .terms) (nilFrom bytes (l .terms) 1))) (joinEach (l .terms) equalities))
     joins-fit = subst Fits joins-laid (omega (arith, start-pairs (decode bytes) (accepted bytes passes), laid .term-count, laid .terms-within))
 
+    pub started-fits : Fits (started (decode bytes))
+    unfolding started
+    started-fits = omega (arith, start-pairs (decode bytes) (accepted bytes passes), laid .term-count, laid .terms-within)
+
     pub equal-terms-in : TermsIn bytes (l .«equal_at») (l .«equal_count»)
     equal-terms-in =
         record {
