@@ -66,7 +66,7 @@ fn stored_data() {
 fn gate_data() {
     let root = Path::new(env!("CARGO_MANIFEST_DIR")).join("..");
     for (ending, joined) in [("bin", "stdin"), ("txt", "stdout")] {
-        let parts = ["base", "edges", "random", "long"]
+        let parts = ["base", "edges", "random", "long", "R-1"]
             .map(|name| std::fs::read(root.join(format!("tests/data/{name}.{ending}"))).unwrap());
         assert!(parts.concat() == std::fs::read(root.join("crates/vectors").join(joined)).unwrap(), "{joined}");
     }

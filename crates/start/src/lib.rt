@@ -125,7 +125,12 @@ fn join_nil(settled: Joined, n: usize, query: &[u8]) -> Joined
     let joined = join_others(settled, n, query, first);
     let s = joined.facts;
     let nil = s.rep[first];
-    facts::settle(facts::add_link(s, nil, nil), n, joined.pairs)
+    let pairs = joined.pairs;
+    let linked = Joined {
+        pairs,
+        facts: facts::add_link(s, nil, nil),
+    };
+    facts::settle(linked, n)
 }
 
 // Equality i is joined, where it is plain, after the pairs that were joined before.
@@ -196,7 +201,11 @@ pub fn start(query: &[u8], layout: Layout) -> Joined
     ensures { λ r. ⌜ joinedOf r ≡ started (decode (now (query .entry))) ⌝ }
 {
     let n = layout.terms;
-    let settled = facts::settle(linked(query, n), n, facts::no_pairs());
+    let links = Joined {
+        pairs: facts::no_pairs(),
+        facts: linked(query, n),
+    };
+    let settled = facts::settle(links, n);
     let linked = join_nil(settled, n, query);
     let joined = join_each(linked, n, query, layout.equal_at, layout.equal_count);
     let pairs = joined.pairs;
