@@ -95,7 +95,9 @@ uint64_t lemitsaka_verdict(const uint8_t *order, size_t order_len,
  *   LEMITSAKA_REFUTED       the derivation is in the buffer; the bytes past it are zero
  *   refused                 1 to 8, 11 and 12; 11 where there is such a heap. Never LEMITSAKA_SATISFIABLE
  *
- * A derivation: the count of lines in two bytes, high byte first, then four bytes a line. */
+ * A derivation: the count of lines in two bytes, high byte first, then four bytes a line: a rule's number, 1 to 8, and its
+ * triple; 9 and the clash that ends a path; or 10, a term, the term that it replaced and 0, for each two terms that were
+ * joined, at the head of the branch that the join made, or of the listing for what the query itself joins. */
 uint64_t lemitsaka_derivation(const uint8_t *order, size_t order_len,
                               const uint8_t *query, size_t query_len,
                               uint8_t *buffer, size_t buffer_len);
