@@ -125,9 +125,9 @@ fn join_nil(settled: Joined, n: usize, query: &[u8]) -> Joined
     let joined = join_others(settled, n, query, first);
     let s = joined.facts;
     let nil = s.rep[first];
-    let pairs = joined.pairs;
+    let before = joined.pairs;
     let linked = Joined {
-        pairs,
+        pairs: before,
         facts: facts::add_link(s, nil, nil),
     };
     facts::settle(linked, n)
