@@ -30,6 +30,15 @@ fn starred_examples() {
     assert_eq!(printed(&ORDER, "03 00 01 01 01 00 02 03 00 00 00"), "unsat\n10 2 3 0\n9 2 1 0\n");
     assert_eq!(printed(&ORDER, "00 00 00 00 02 01 01 00 01"), "unsat\n9 5 2 1\n");
     assert_eq!(printed(&ORDER, "02 00 00 01 01 01 02 00 02 01 01 01 00 01 02 00"), "unsat\n10 1 2 0\n9 4 2 1\n");
+    // Null in a live list (02, R-3): a heap for a variable, none for nil.
+    assert_eq!(
+        printed(&[1, 2, 3, 8, 4, 5, 6, 7], "02 00 00 01 00 01 02 02 01 01 02 01 02 01 00 00"),
+        "sat\n02 02 01 02 01 02 02 00 00 01 00\n"
+    );
+    assert_eq!(
+        printed(&[1, 2, 3, 8, 4, 5, 6, 7], "02 00 ff 01 00 01 02 02 01 01 02 01 02 01 00 00"),
+        "unsat\n1 1 0 0\n1 2 0 0\n5 2 1 1\n10 1 2 0\n9 2 1 0\n"
+    );
     let e9 = "04 00 00 01 02 02 01 03 04 00 01 02 02 01 01 02 01 02 01 00 00";
     assert!(printed(&ORDER, e9).starts_with("unsat\n"));
     assert!(printed(&ORDER, "04 00 00 01 02 02 01 03 04 00 01 02 01 01 01 02 00 00").starts_with("sat\n"));
@@ -66,7 +75,7 @@ fn stored_data() {
 fn gate_data() {
     let root = Path::new(env!("CARGO_MANIFEST_DIR")).join("..");
     for (ending, joined) in [("bin", "stdin"), ("txt", "stdout")] {
-        let parts = ["base", "edges", "random", "long", "R-1"]
+        let parts = ["base", "edges", "random", "long", "R-1", "R-3"]
             .map(|name| std::fs::read(root.join(format!("tests/data/{name}.{ending}"))).unwrap());
         assert!(parts.concat() == std::fs::read(root.join("crates/vectors").join(joined)).unwrap(), "{joined}");
     }

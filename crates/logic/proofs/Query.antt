@@ -1,5 +1,6 @@
 -- The bytes of a query: what their acceptance gives.
 pub mod Tied
+pub mod Entries
 pub mod Bytes
 pub mod AcceptedBytes
 pub mod Places

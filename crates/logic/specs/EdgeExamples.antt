@@ -127,7 +127,7 @@ badBytes =
     spoilt 1 1 5
     ∷ spoilt 1 2 5
     ∷ spoilt 2 2 5
-    ∷ spoilt 2 255 5
+    ∷ spoilt 2 254 5
     -- "6. A sign is neither 0 nor 1", in each of sections 2 to 5
     ∷ spoilt 4 2 6
     ∷ spoilt 8 2 6
@@ -306,6 +306,25 @@ joinsShown =
     ((0 ∷ 5 ∷ 6 ∷ 1 ∷ 2 ∷ 5 ∷ 10 ∷ 1 ∷ 2 ∷ 0 ∷ 10 ∷ 3 ∷ 4 ∷ 0 ∷ 9 ∷ 2 ∷ 1 ∷ 0 ∷ 9 ∷ 3 ∷ 4 ∷ 0 ∷ []) ++ zeros 31)
     ∷ []
 
+-- "all nil terms are one node and its link goes to itself" (02, R-3)
+unfoldable pub nilShown : List Edge
+nilShown =
+    -- null in a live list: f(nil) = 1, and 1 is not nil
+    derives inOrder (3 ∷ 0 ∷ 255 ∷ 2 ∷ 2 ∷ 1 ∷ 3 ∷ 1 ∷ 0 ∷ 1 ∷ 2 ∷ 0 ∷ 0 ∷ 0 ∷ [])
+    ((0 ∷ 3 ∷ 10 ∷ 2 ∷ 3 ∷ 0 ∷ 10 ∷ 1 ∷ 2 ∷ 0 ∷ 9 ∷ 2 ∷ 2 ∷ 0 ∷ []) ++ zeros 39)
+    -- "joins the nil terms to the lowest, ascending": 1, 3 and 4, and 3 and 4 differ
+    ∷ derives inOrder (4 ∷ 255 ∷ 0 ∷ 255 ∷ 255 ∷ 1 ∷ 0 ∷ 3 ∷ 4 ∷ 0 ∷ 0 ∷ 0 ∷ [])
+    ((0 ∷ 3 ∷ 10 ∷ 1 ∷ 3 ∷ 0 ∷ 10 ∷ 1 ∷ 4 ∷ 0 ∷ 9 ∷ 2 ∷ 1 ∷ 0 ∷ []) ++ zeros 39)
+    -- "between section 1 and the equalities": the nil terms 2 and 3 before 1=3
+    ∷ derives inOrder (3 ∷ 0 ∷ 255 ∷ 255 ∷ 2 ∷ 1 ∷ 1 ∷ 3 ∷ 0 ∷ 2 ∷ 3 ∷ 0 ∷ 0 ∷ 0 ∷ [])
+    ((0 ∷ 3 ∷ 10 ∷ 2 ∷ 3 ∷ 0 ∷ 10 ∷ 1 ∷ 2 ∷ 0 ∷ 9 ∷ 2 ∷ 2 ∷ 0 ∷ []) ++ zeros 39)
+    -- the doubled links f(nil) of section 1 before nil's own
+    ∷ derives inOrder (3 ∷ 255 ∷ 1 ∷ 1 ∷ 1 ∷ 0 ∷ 1 ∷ 3 ∷ 0 ∷ 0 ∷ 0 ∷ [])
+    ((0 ∷ 3 ∷ 10 ∷ 2 ∷ 3 ∷ 0 ∷ 10 ∷ 1 ∷ 2 ∷ 0 ∷ 9 ∷ 2 ∷ 1 ∷ 0 ∷ []) ++ zeros 39)
+    -- a heap: nil is node 1
+    ∷ shows (2 ∷ 255 ∷ 0 ∷ 0 ∷ 0 ∷ 0 ∷ 0 ∷ []) ((2 ∷ 1 ∷ 2 ∷ 2 ∷ 1 ∷ 2 ∷ 2 ∷ 0 ∷ 0 ∷ 1 ∷ 0 ∷ []) ++ zeros 42)
+    ∷ []
+
 -- "m data bytes, field j in bit j-1, set exactly by a plain literal; one byte of booleans, set likewise."
 unfoldable pub bits : List Edge
 bits =
@@ -357,6 +376,7 @@ pub record EdgeExamplesHold : Type 0 where
   pub clashes-hold : Hold clashesShown
   pub derivations-hold : Hold derivations
   pub joins-hold : Hold joinsShown
+  pub nil-holds : Hold nilShown
   pub bits-hold : Hold bits
   pub links-hold : Hold linksShown
   -- "no path of any walk .. has more than n times n plus n rule steps" (02, R-5): two terms; and a path that needs one step and has it

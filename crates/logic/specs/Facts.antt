@@ -6,7 +6,7 @@ use mathlib.Core.Option.{Option, none, some, Option·elim}
 use lib.ListN.{length}
 use lib.Dec.{eqb, ltb}
 use Rattle.logic.specs.Search.{_and_, _or_, from, any, select, at, holdsOf, firstOf, find, flatMap}
-use Rattle.logic.specs.Query.{Literal, Query, entryOf, termCount}
+use Rattle.logic.specs.Query.{Literal, Query, namesNil, argumentOf, termCount}
 
 -- The facts about one link field: f(a) = b, and "a>b", a reaches b. Facts speak of terms that are not replaced.
 pub record Graph : Type 0 where
@@ -95,7 +95,7 @@ unfoldable pub linksOf : List ℕ → Facts
 linksOf entries =
     record {
       rep = λ t. t;
-      graph = record { link = λ a b. ltb 0 a and eqb (entryOf entries b) a; reach = λ a b. false };
+      graph = record { link = λ a b. ltb 0 a and eqb (argumentOf entries b) a; reach = λ a b. false };
     }
 
 -- "then each plain equality joined in query order"
@@ -109,11 +109,34 @@ unfoldable pub reachEach : List Literal → Facts → Facts
 reachEach [] s = s
 reachEach (l ∷ ls) s = reachEach ls (cond (l .plain) (addReach (s .rep (l .left)) (s .rep (l .right)) s) s)
 
--- the joins of the start: doubled links of section 1, then the plain equalities
+-- the terms that name nil, ascending
+unfoldable pub nilTerms : Query → List ℕ
+nilTerms q = select (namesNil (q .entries)) (terms (termCount q))
+
+-- a link fact added
+unfoldable pub addLink : ℕ → ℕ → Facts → Facts
+addLink a b s =
+    record {
+      rep = s .rep;
+      graph = record { link = λ x y. s .graph .link x y or (eqb x a and eqb y b); reach = s .graph .reach };
+    }
+
+-- "the start joins the nil terms to the lowest, ascending, then adds nil's link and joins its doubled successors" (02, R-3)
+unfoldable pub equalTo : ℕ → List ℕ → List Literal
+equalTo t us = map (λ u. record { plain = true; left = t; right = u }) us
+
+unfoldable pub addNilLink : ℕ → Facts → Facts
+addNilLink t s = addLink (s .rep t) (s .rep t) s
+
+unfoldable pub joinNil : ℕ → List ℕ → Facts → Joined
+joinNil n [] s = unjoined s
+joinNil n (t ∷ us) s = andThen (joinEach n (equalTo t us) s) (λ s′. settle n n (addNilLink t s′))
+
+-- the joins of the start: doubled links of section 1, then nil, then the plain equalities
 unfoldable pub startJoins : Query → Joined
 startJoins q =
     let n : ℕ = termCount q in
-    andThen (settle n n (linksOf (q .entries))) (joinEach n (q .equalities))
+    andThen (andThen (settle n n (linksOf (q .entries))) (joinNil n (nilTerms q))) (joinEach n (q .equalities))
 
 unfoldable pub start : Query → Facts
 start q = reachEach (q .reachability) (startJoins q .facts)

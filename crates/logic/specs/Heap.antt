@@ -4,7 +4,7 @@ use mathlib.Core.Path.{_≡_}
 use mathlib.Core.Bool.{Bool, true, false, cond}
 use mathlib.Core.List.{List, List·Memᴰ}
 use lib.Dec.{eqb}
-use Rattle.logic.specs.Query.{Literal, Query, entryOf}
+use Rattle.logic.specs.Query.{Literal, Query, namesNil, argumentOf}
 
 -- "A heap is a finite set of at least one node, with one link f from every node to a node, a yes or no in each of 8 data fields at
 -- every node, and 8 booleans outside the nodes." The nodes are the numbers 1 to `size`. As in 000, a heap also says which node each
@@ -24,13 +24,14 @@ pub record IsHeap (h : Heap) : Type 0 where
   pub link-node : (v : ℕ) → Node h v → Node h (h .link v)
   pub variable-node : (t : ℕ) → Node h (h .variable t)
 
--- "A term is a variable or f of an earlier term." The value of term t, whose entry and theirs are followed at most k times.
+-- "A term is a variable or f of an earlier term", or nil, which the heap names as it does a variable. The value of term t, whose argument
+-- and theirs are followed at most k times.
 unfoldable pub valueWithin : Heap → List ℕ → ℕ → ℕ → ℕ
 valueWithin h entries zero t = h .variable t
 valueWithin h entries (suc k) t =
-    cond (eqb (entryOf entries t) 0) (h .variable t) (h .link (valueWithin h entries k (entryOf entries t)))
+    cond (eqb (argumentOf entries t) 0) (h .variable t) (h .link (valueWithin h entries k (argumentOf entries t)))
 
--- entries are below their term's number, so t times is enough
+-- arguments are below their term's number, so t times is enough
 unfoldable pub value : Heap → List ℕ → ℕ → ℕ
 value h entries t = valueWithin h entries t t
 
@@ -65,9 +66,15 @@ module _ (h : Heap) (entries : List ℕ) where
 abbrev pub Each : (Literal → Type 0) → List Literal → Type 0
 Each P ls = (l : Literal) → List·Memᴰ l ls → P l
 
--- the heap meets every literal of the query
+-- "all nil terms are one node and its link goes to itself" (02, R-3)
+pub record NilNode (h : Heap) (entries : List ℕ) : Type 0 where
+  pub one-node : (t u : ℕ) → namesNil entries t ≡ true → namesNil entries u ≡ true → value h entries t ≡ value h entries u
+  pub own-link : (t : ℕ) → namesNil entries t ≡ true → h .link (value h entries t) ≡ value h entries t
+
+-- the heap meets every literal of the query; "heaps for a query that names nil obey this" rule of nil
 pub record Meets (h : Heap) (q : Query) : Type 0 where
   pub is-heap : IsHeap h
+  pub nil-node : NilNode h (q .entries)
   pub equalities : Each (MeansEqual h (q .entries)) (q .equalities)
   pub reachability : Each (MeansReach h (q .entries)) (q .reachability)
   pub fields : Each (MeansField h (q .entries)) (q .fields)

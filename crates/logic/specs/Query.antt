@@ -5,7 +5,7 @@ use mathlib.Core.List.{List, [], _∷_, _++_}
 use mathlib.Core.Option.{Option, none, some}
 use lib.ListN.{length, getD, take, drop}
 use lib.Dec.{eqb, ltb, leb}
-use Rattle.logic.specs.Search.{_and_, from, all, any, orElse, flatMap, keep}
+use Rattle.logic.specs.Search.{_and_, _or_, from, all, any, orElse, flatMap, keep}
 
 -- "Sign 1 is plain, 0 negated." An equality or a reachability literal has two terms, a data literal a field and a term, and a boolean
 -- literal its number (and 0).
@@ -14,7 +14,7 @@ pub record Literal : Type 0 where
   pub left : ℕ
   pub right : ℕ
 
--- "Terms are numbered from 1." The entry of a term is 0 for a variable, and j for f of term j.
+-- "Terms are numbered from 1." The entry of a term is 0 for a variable, j for f of term j, and 255 for nil (02, R-3).
 pub record Query : Type 0 where
   pub entries : List ℕ
   pub equalities : List Literal
@@ -30,6 +30,14 @@ unfoldable pub entryOf : List ℕ → ℕ → ℕ
 entryOf entries zero = 0
 entryOf entries (suc i) = getD entries i 0
 
+-- "Term byte 255 now names nil" (02, R-3)
+unfoldable pub namesNil : List ℕ → ℕ → Bool
+namesNil entries t = eqb (entryOf entries t) 255
+
+-- the term that term t is f of, or 0 where t is a variable or names nil
+unfoldable pub argumentOf : List ℕ → ℕ → ℕ
+argumentOf entries t = cond (namesNil entries t) 0 (entryOf entries t)
+
 -- What a byte of the query is held to: the refusal that it meets where it is not allowed. A count is held to nothing here.
 pub record Role : Type 0 where
   pub refusal : ℕ
@@ -41,9 +49,9 @@ pub record Section : Type 0 where
   pub width : ℕ
   pub roles : ℕ → List Role
 
--- 5: "A term byte is not below its own term's number."
+-- 5: "A term byte is not below its own term's number." "5 lets 255 through" (02, R-3).
 unfoldable pub entryRole : ℕ → Role
-entryRole i = record { refusal = 5; allows = λ b. ltb b i }
+entryRole i = record { refusal = 5; allows = λ b. ltb b i or eqb b 255 }
 
 -- 6: "A sign is neither 0 nor 1."
 unfoldable pub signRole : Role

@@ -1,4 +1,4 @@
--- What heapverdict prints of examples of 01, as one table and one statement.
+-- What heapverdict prints of examples of 01 and 02, as one table and one statement.
 use Prim.Native.Nat.{ℕ}
 use mathlib.Core.Path.{_≡_}
 use mathlib.Core.List.{List, [], _∷_, _++_, map}
@@ -24,6 +24,15 @@ prints =
     ∷ record {
       input = 4 ∷ 1 ∷ 2 ∷ 3 ∷ 5 ∷ 6 ∷ 7 ∷ 8 ∷ 3 ∷ 0 ∷ 1 ∷ 0 ∷ 1 ∷ 0 ∷ 1 ∷ 3 ∷ 2 ∷ 1 ∷ 1 ∷ 3 ∷ 0 ∷ 2 ∷ 3 ∷ 0 ∷ 0 ∷ [];
       text = ascii "unsat\n4 1 2 3\n10 1 3 0\n9 2 1 0\n9 3 2 0\n";
+    }
+    -- 02, R-3: null in a live list. A variable in its place is given a heap, and nil is given none.
+    ∷ record {
+      input = 1 ∷ 2 ∷ 3 ∷ 8 ∷ 4 ∷ 5 ∷ 6 ∷ 7 ∷ 2 ∷ 0 ∷ 0 ∷ 1 ∷ 0 ∷ 1 ∷ 2 ∷ 2 ∷ 1 ∷ 1 ∷ 2 ∷ 1 ∷ 2 ∷ 1 ∷ 0 ∷ 0 ∷ [];
+      text = ascii "sat\n02 02 01 02 01 02 02 00 00 01 00\n";
+    }
+    ∷ record {
+      input = 1 ∷ 2 ∷ 3 ∷ 8 ∷ 4 ∷ 5 ∷ 6 ∷ 7 ∷ 2 ∷ 0 ∷ 255 ∷ 1 ∷ 0 ∷ 1 ∷ 2 ∷ 2 ∷ 1 ∷ 1 ∷ 2 ∷ 1 ∷ 2 ∷ 1 ∷ 0 ∷ 0 ∷ [];
+      text = ascii "unsat\n1 1 0 0\n1 2 0 0\n5 2 1 1\n10 1 2 0\n9 2 1 0\n";
     }
     -- E10: "Count 17 first"; "Empty query"; "Order 1 1 3 4 5 6 7 8"
     ∷ record { input = inOrder ++ (17 ∷ []); text = ascii "refused 3 at 0\n" }

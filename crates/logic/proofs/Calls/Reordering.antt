@@ -8,7 +8,7 @@ use mathlib.Core.Option.{Option, none, some, Option·elim}
 use lib.Dec.{eqb}
 use Rattle.logic.specs.Search.{_and_, select, orElse, firstOf}
 use Rattle.logic.specs.Query.{Literal, Query, termCount, decode}
-use Rattle.logic.specs.Facts.{Facts, Line, line, negatedAt, plainAt, isClash, clashLines, clash, unjoined, andThen, settle, join, linksOf, joinEach, reachEach, startJoins, start}
+use Rattle.logic.specs.Facts.{Facts, Line, line, negatedAt, plainAt, isClash, clashLines, clash, unjoined, andThen, settle, join, linksOf, joinEach, reachEach, nilTerms, joinNil, startJoins, start}
 use Rattle.logic.specs.Rules.{Rule, Move, Fact, alternatives, branch, choose, moveLine}
 use Rattle.logic.specs.Walk.{Look, clashing, applying, saturated, look, Ending, refutation, saturation, after, thenEnding, walkBranch, walkEach, endAt, walk, orderOf, limit, ourWalk}
 use Rattle.logic.specs.Shown.{fieldByte, booleanByte, report}
@@ -19,8 +19,8 @@ use Rattle.logic.proofs.Basics.Compare.{eqb-true}
 use Rattle.logic.proofs.Query.Tied.{Accepted}
 use Rattle.logic.proofs.Query.AcceptedBytes.{accepted}
 use Rattle.logic.proofs.Paths.Joined.{joinEach-step}
-use Rattle.logic.proofs.Paths.Kept.{Sane, kept-settle}
-use Rattle.logic.proofs.Paths.Start.{linksOf-ranged}
+use Rattle.logic.proofs.Paths.Kept.{Sane}
+use Rattle.logic.proofs.Paths.Start.{nilled-sane}
 use Rattle.logic.proofs.Paths.Invariant.{Invariant, start-invariant, branch-invariant}
 use Rattle.logic.proofs.Joins.AnyOrder.{PairsIn, joins-any-order, two-joins}
 use Rattle.logic.proofs.Joins.Reach.{reach-either-side, reach-any-side}
@@ -75,16 +75,16 @@ module _ (q : Query) (es : List Literal) (ok : Accepted q) (ok′ : Accepted (wi
 
   -- both begin with the same facts
   start-same : start q ≡ start q′
-  unfolding start startJoins andThen termCount
+  unfolding start startJoins nilTerms andThen termCount
   start-same =
       let n : ℕ = termCount q in
-      let linked : Facts = settle n n (linksOf (q .entries)) .facts in
-      let h : Sane n linked = kept-settle n (linksOf (q .entries)) (linksOf-ranged q ok) .sane in
+      let nilled : Facts = joinNil n (nilTerms q) (settle n n (linksOf (q .entries)) .facts) .facts in
+      let h : Sane n nilled = nilled-sane q ok in
       ap (reachEach (q .reachability))
-      (joinEach-pairs n (q .equalities) linked
-      ∙ joins-any-order n (plainPairs (q .equalities)) (plainPairs es) linked (plainPairs-in q ok) (plainPairs-in q′ ok′)
+      (joinEach-pairs n (q .equalities) nilled
+      ∙ joins-any-order n (plainPairs (q .equalities)) (plainPairs es) nilled (plainPairs-in q ok) (plainPairs-in q′ ok′)
       (λ ab. (plainPairs-same (q .equalities) es (λ l. same l .0) ab, plainPairs-same es (q .equalities) (λ l. same l .1) ab)) h
-      ∙ sym (joinEach-pairs n es linked))
+      ∙ sym (joinEach-pairs n es nilled))
 
 -- The clash: one path has a clash under both, or under neither
 

@@ -11,13 +11,14 @@ use lib.ListN.{length, getD, replicate}
 use lib.Dec.{eqb}
 use borrow.Author.Tests.{eqb-true, eqb-false, eq-eqb}
 use Rattle.logic.specs.Search.{_and_, any}
-use Rattle.logic.specs.Query.{Literal, Query, entryOf, termCount}
+use Rattle.logic.specs.Query.{Literal, Query, namesNil, argumentOf, termCount}
 use Rattle.logic.specs.Heap.{Heap, Reaches, Signed, Each, MeansEqual, MeansReach, MeansField, MeansBoolean, value, valueWithin}
 use Rattle.logic.specs.Facts.{Facts, liveTerms, clash}
 use Rattle.logic.specs.Shown.{shownLink, bitOf, fieldByte, booleanByte, report, heapIn, nodeIn, wellFormed}
 use Rattle.logic.specs.Demands.{Shows}
 use Rattle.logic.proofs.Basics.Search.{and-left, and-right, and-intro, bool-cases, any-true, any-intro}
 use Rattle.logic.proofs.Query.Tied.{InTerms, ToEight, Accepted, Tied}
+use Rattle.logic.proofs.Query.Entries.{nil-range}
 use Rattle.logic.proofs.Completeness.Completed.{Completed}
 use Rattle.logic.proofs.Completeness.Byte.{byte-bit}
 use Rattle.logic.proofs.Completeness.Placed.{getD-mem, placeOf-mem, placeOf-range, placeOf-injective}
@@ -83,8 +84,13 @@ module _ (q : Query) (s : Facts) (acc : Accepted q) (tied : Tied q s) (comp : Co
   rep-node t h = live-node (termCount q) s (s .rep t) (tied .rep-live t h)
 
   -- a term byte that is not 0 is the number of an earlier term
-  entry-in : (t : ℕ) → InTerms q t → eqb (entryOf (q .entries) t) 0 ≡ false → InTerms q (entryOf (q .entries) t)
-  entry-in t h e = let below = acc .entry-below t h in (omega (arith, eqb-false (entryOf (q .entries) t) 0 e), omega arith)
+  entry-in : (t : ℕ) → InTerms q t → eqb (argumentOf (q .entries) t) 0 ≡ false → InTerms q (argumentOf (q .entries) t)
+  entry-in t h e = let below = acc .entry-below t h in (omega (arith, eqb-false (argumentOf (q .entries) t) 0 e), omega arith)
+
+  -- nil terms are terms of the query
+  nil-in : (t : ℕ) → namesNil (q .entries) t ≡ true → InTerms q t
+  unfolding termCount
+  nil-in t h = nil-range (q .entries) t h
 
   link-node : (v : ℕ) → IsNode q s v → IsNode q s (linkOf q s v)
   link-node = shownLink-node (termCount q) s (λ t l h. tied .rep-live t (l, h)) comp
@@ -129,10 +135,10 @@ module _ (q : Query) (s : Facts) (acc : Accepted q) (tied : Tied q s) (comp : Co
     listed-place (suc i) h = node-listed (report-laid q s rest) i (h .1)
 
     -- the link fact of f of a term is kept
-    entry-place : (t : ℕ) → InTerms q t → InTerms q (entryOf (q .entries) t) → heapOf q s rest .link (place q s (s .rep (entryOf (q .entries) t))) ≡ place q s (s .rep t)
+    entry-place : (t : ℕ) → InTerms q t → InTerms q (argumentOf (q .entries) t) → heapOf q s rest .link (place q s (s .rep (argumentOf (q .entries) t))) ≡ place q s (s .rep t)
     unfolding shownLink
     entry-place t h k =
-        let j : ℕ = entryOf (q .entries) t in
+        let j : ℕ = argumentOf (q .entries) t in
         link-place (s .rep j) (rep-node j k) ∙ ap (place q s) (comp .completed-known (s .rep j) (s .rep t) (tied .entry-link t h (k .0)))
 
     -- the value of a term is the node of what it was replaced by
@@ -140,7 +146,7 @@ module _ (q : Query) (s : Facts) (acc : Accepted q) (tied : Tied q s) (comp : Co
     unfolding valueWithin
     value-within zero t h l = absurd (omega arith)
     value-within (suc k) t h l =
-        let j : ℕ = entryOf (q .entries) t in
+        let j : ℕ = argumentOf (q .entries) t in
         let below = acc .entry-below t h in
         ⊎-elim
         (λ e. rw e (variable-place t h))
@@ -150,6 +156,13 @@ module _ (q : Query) (s : Facts) (acc : Accepted q) (tied : Tied q s) (comp : Co
     value-place : (t : ℕ) → InTerms q t → valueOf q s rest t ≡ place q s (s .rep t)
     unfolding value
     value-place t h = value-within t t h (omega arith)
+
+    -- nil's link fact is kept
+    nil-place : (t : ℕ) → namesNil (q .entries) t ≡ true → heapOf q s rest .link (valueOf q s rest t) ≡ valueOf q s rest t
+    unfolding shownLink
+    nil-place t h =
+        let k = nil-in t h in
+        rw (value-place t k) (link-place (s .rep t) (rep-node t k) ∙ ap (place q s) (comp .completed-known (s .rep t) (s .rep t) (tied .nil-link t h)))
 
     -- the values of two terms are equal exactly where the terms were joined
     equal-exactly : (a b : ℕ) → InTerms q a → InTerms q b → (s .rep a ≡ s .rep b) ↔ (valueOf q s rest a ≡ valueOf q s rest b)
@@ -206,6 +219,11 @@ module _ (q : Query) (s : Facts) (acc : Accepted q) (tied : Tied q s) (comp : Co
         meets =
             record {
               is-heap = is-heap (report-laid q s rest) nonempty links-in listed-in;
+              nil-node =
+                  record {
+                    one-node = λ t u h k. equal-exactly rest t u (nil-in t h) (nil-in u k) .0 (tied .nil-same t u h k);
+                    own-link = λ t h. nil-place rest t h;
+                  };
               equalities = equal-meant rest clean;
               reachability = reach-meant rest clean;
               fields = field-meant rest clean;

@@ -10,17 +10,18 @@ use lib.ListN.{length, length-append}
 use lib.Dec.{eqb}
 use Rattle.logic.specs.Search.{_and_, select}
 use Rattle.logic.specs.Query.{Literal, Query, termCount}
-use Rattle.logic.specs.Facts.{Facts, Joined, live, replace, doubled, unjoined, joinPair, andThen, settle, join, joinEach, addReach, linksOf, reachEach, startJoins, start}
+use Rattle.logic.specs.Facts.{Facts, Joined, live, replace, doubled, unjoined, joinPair, andThen, settle, join, joinEach, addReach, linksOf, reachEach, nilTerms, addLink, equalTo, addNilLink, joinNil, startJoins, start}
 use Rattle.logic.specs.Rules.{Fact, equal, reaches, branch}
 use Rattle.logic.specs.JoinPairs.{followPairs, timesReplaced, Accounts}
-use Rattle.logic.proofs.Basics.Search.{not-of, true-false}
+use Rattle.logic.proofs.Basics.Search.{not-of, true-false, map-mem}
 use Rattle.logic.proofs.Basics.Compare.{eqb-intro, eqb-false, eq-cases}
 use Rattle.logic.proofs.Query.Tied.{Accepted}
+use Rattle.logic.proofs.Query.Entries.{nilTerms-names}
 use Rattle.logic.proofs.Paths.Doubled.{doubled-some}
-use Rattle.logic.proofs.Paths.Ranged.{InRange, Ranged, replace-live, replace-not-live, ranged-replace}
+use Rattle.logic.proofs.Paths.Ranged.{InRange, Ranged, replace-live, replace-not-live, ranged-replace, ranged-addLink}
 use Rattle.logic.proofs.Paths.Settle.{doubled-live}
 use Rattle.logic.proofs.Paths.Kept.{Sane, LiveFact, kept-settle, low-high, join-kept}
-use Rattle.logic.proofs.Paths.Start.{linksOf-ranged}
+use Rattle.logic.proofs.Paths.Start.{linksOf-ranged, joinEach-kept, nilled-sane}
 
 -- Pairs behind others
 
@@ -106,6 +107,25 @@ module _ (n : ℕ) where
           go true e = rw (replace-live n lo hi s ll lh apart t e d) refl
           go false e = refl
 
+  -- facts that differ in what they hold, and not in what became of the terms
+  accounts-from : (s s′ : Facts) (j : Joined) → s′ .rep ≡ s .rep → Accounts n s′ j → Accounts n s j
+  unfolding live
+  accounts-from s s′ j e a =
+      record {
+        followed = λ t. a .followed t ∙ ap (λ (r : ℕ → ℕ). followPairs (j .pairs) (r t)) e;
+        once = λ t. a .once t ∙ ap (λ (r : ℕ → ℕ). cond (live n (record { rep = r; graph = s .graph }) t and not (live n (j .facts) t)) 1 0) e;
+        stays = λ t h. subst (λ (r : ℕ → ℕ). live n (record { rep = r; graph = s .graph }) t ≡ true) e (a .stays t h);
+        lower = a .lower;
+      }
+
+  nil-rep : (t : ℕ) (s : Facts) → addNilLink t s .rep ≡ s .rep
+  unfolding addNilLink addLink
+  nil-rep t s = refl
+
+  nil-ranged : (t : ℕ) (s : Facts) → live n s (s .rep t) ≡ true → Ranged n s → Ranged n (addNilLink t s)
+  unfolding addNilLink
+  nil-ranged t s l r = ranged-addLink n (s .rep t) (s .rep t) s l l r
+
   accounts-then : (s : Facts) (j : Joined) (f : Facts → Joined) → Accounts n s j → Accounts n (j .facts) (f (j .facts)) → Accounts n s (andThen j f)
   unfolding andThen goneOf
   accounts-then s j f a b =
@@ -158,6 +178,21 @@ module _ (n : ℕ) where
           (ih _ (join-kept n (s .rep (l .left)) (s .rep (l .right)) s la lb h .0 .sane))
       go false ih = accounts-then s (unjoined s) (joinEach n ls) (accounts-unjoined s s refl) (ih s h)
 
+  pub accounts-joinNil : (ts : List ℕ) (s : Facts) → ((t : ℕ) → List·Memᴰ t ts → InRange n t) → Sane n s → Accounts n s (joinNil n ts s)
+  unfolding joinNil equalTo
+  accounts-joinNil [] s r h = accounts-unjoined s s refl
+  accounts-joinNil (t ∷ us) s r h =
+      let nilPair : ℕ → Literal = λ u. record { plain = true; left = t; right = u } in
+      let rt = r t (List·Memᴰ·head refl) in
+      let in-range : (l : Literal) → List·Memᴰ l (equalTo t us) → InRange n (l .left) × InRange n (l .right) = λ l m.
+      let (u, k, p) = map-mem nilPair l us m in
+      subst (λ (x : Literal). InRange n (x .left) × InRange n (x .right)) (sym p) (rt, r u (List·Memᴰ·tail k)) in
+      let j : Facts = joinEach n (equalTo t us) s .facts in
+      let k = joinEach-kept n (equalTo t us) s in-range h .0 in
+      let lt = k .sane .ranged .rep-live t rt in
+      accounts-then s (joinEach n (equalTo t us) s) (λ s′. settle n n (addNilLink t s′)) (accounts-joinEach (equalTo t us) s in-range h)
+      (accounts-from j (addNilLink t j) (settle n n (addNilLink t j)) (nil-rep t j) (accounts-settle n (addNilLink t j) (nil-ranged t j lt (k .sane .ranged))))
+
   pub accounts-branch : (s : Facts) (c : Fact) → LiveFact n s c → Ranged n s → Accounts n s (branch n s c)
   unfolding branch LiveFact addReach
   accounts-branch s (equal a b) l r = accounts-join a b s (l .0) (l .1) r
@@ -165,12 +200,16 @@ module _ (n : ℕ) where
 
 -- the start
 pub accounts-start : (q : Query) → Accepted q → Accounts (termCount q) (linksOf (q .entries)) (startJoins q)
-unfolding startJoins
+unfolding startJoins andThen
 accounts-start q ok =
     let n = termCount q in
+    let links : Facts = linksOf (q .entries) in
     let r = linksOf-ranged q ok in
-    accounts-then n (linksOf (q .entries)) (settle n n (linksOf (q .entries))) (joinEach n (q .equalities)) (accounts-settle n n (linksOf (q .entries)) r)
-    (accounts-joinEach n (q .equalities) (settle n n (linksOf (q .entries)) .facts) (ok .equal-terms) (kept-settle n (linksOf (q .entries)) r .sane))
+    let settled = accounts-settle n n links r in
+    let nil = accounts-joinNil n (nilTerms q) (settle n n links .facts) (λ t m. nilTerms-names q t m .0) (kept-settle n links r .sane) in
+    accounts-then n links (andThen (settle n n links) (joinNil n (nilTerms q))) (joinEach n (q .equalities))
+    (accounts-then n links (settle n n links) (joinNil n (nilTerms q)) settled nil)
+    (accounts-joinEach n (q .equalities) (joinNil n (nilTerms q) (settle n n links .facts) .facts) (ok .equal-terms) (nilled-sane q ok))
 
 -- reachability facts rename nothing
 reachEach-rep : (ls : List Literal) (s : Facts) → reachEach ls s .rep ≡ s .rep

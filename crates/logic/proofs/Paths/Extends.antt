@@ -8,7 +8,7 @@ use mathlib.Core.List.{List, [], _∷_}
 use mathlib.Core.Option.{Option, none, some, Option·elim}
 use lib.Dec.{eqb}
 use Rattle.logic.specs.Search.{_and_, _or_}
-use Rattle.logic.specs.Facts.{Graph, Facts, replace, doubled, settle, join, addReach}
+use Rattle.logic.specs.Facts.{Graph, Facts, replace, doubled, settle, join, addReach, addLink}
 use Rattle.logic.specs.Rules.{Fact, equal, reaches, add}
 use Rattle.logic.proofs.Basics.Search.{or-left}
 use Rattle.logic.proofs.Basics.Compare.{eq-cases}
@@ -61,4 +61,14 @@ extends-addReach a b s =
       rep-renamed = λ t. refl;
       link-kept = λ x y h. h;
       reach-kept = λ x y h. or-left (eqb x a and eqb y b) h;
+    }
+
+pub extends-addLink : (a b : ℕ) (s : Facts) → Extends s (addLink a b s)
+unfolding addLink
+extends-addLink a b s =
+    record {
+      renames = λ t. t;
+      rep-renamed = λ t. refl;
+      link-kept = λ x y h. or-left (eqb x a and eqb y b) h;
+      reach-kept = λ x y h. h;
     }

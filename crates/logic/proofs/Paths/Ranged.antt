@@ -8,7 +8,7 @@ use mathlib.Core.List.{List, [], _∷_, List·Memᴰ}
 use lib.ListN.{length}
 use lib.Dec.{eqb, ltb}
 use Rattle.logic.specs.Search.{_and_, _or_, from, select}
-use Rattle.logic.specs.Facts.{Graph, Facts, terms, live, liveTerms, replaceIn, replace, addReach}
+use Rattle.logic.specs.Facts.{Graph, Facts, terms, live, liveTerms, replaceIn, replace, addReach, addLink}
 use Rattle.logic.proofs.Basics.Search.{bool-cases, true-false, not-of, and-left, and-right, and-intro, or-cases, select-mem, select-intro, from-mem, from-intro}
 use Rattle.logic.proofs.Basics.Compare.{eqb-true, eqb-intro, eqb-self, eq-cases, ltb-true, ltb-intro, cond-true, cond-false}
 use Rattle.logic.proofs.Paths.Replace.{sub, sub-hit, sub-miss, replaceIn-true}
@@ -96,17 +96,22 @@ module _ (n lo hi : ℕ) (s : Facts) (llo : live n s lo ≡ true) (lhi : live n 
         reach-live = replaced-live (s .graph .reach) (r .reach-live);
       }
 
+-- a relation with one more pair of live terms
+plus-live : (n a b : ℕ) (s : Facts) (R : ℕ → ℕ → Bool) → live n s a ≡ true → live n s b ≡ true → ((x y : ℕ) → R x y ≡ true → (live n s x ≡ true) × (live n s y ≡ true)) → (x y : ℕ) → R x y or (eqb x a and eqb y b) ≡ true → (live n s x ≡ true) × (live n s y ≡ true)
+plus-live n a b s R la lb r x y h =
+    ⊎-elim (r x y)
+    (λ e. (
+      subst (λ (u : ℕ). live n s u ≡ true) (sym (eqb-true x a (and-left (eqb x a) (eqb y b) e))) la,
+      subst (λ (u : ℕ). live n s u ≡ true) (sym (eqb-true y b (and-right (eqb x a) (eqb y b) e))) lb,
+    ))
+    (or-cases (R x y) (eqb x a and eqb y b) h)
+
 pub ranged-addReach : (n a b : ℕ) (s : Facts) → live n s a ≡ true → live n s b ≡ true → Ranged n s → Ranged n (addReach a b s)
 unfolding addReach live
 ranged-addReach n a b s la lb r =
-    record {
-      rep-live = r .rep-live;
-      link-live = r .link-live;
-      reach-live = λ x y h.
-          ⊎-elim (r .reach-live x y)
-          (λ e. (
-            subst (λ (u : ℕ). live n s u ≡ true) (sym (eqb-true x a (and-left (eqb x a) (eqb y b) e))) la,
-            subst (λ (u : ℕ). live n s u ≡ true) (sym (eqb-true y b (and-right (eqb x a) (eqb y b) e))) lb,
-          ))
-          (or-cases (s .graph .reach x y) (eqb x a and eqb y b) h);
-    }
+    record { rep-live = r .rep-live; link-live = r .link-live; reach-live = plus-live n a b s (s .graph .reach) la lb (r .reach-live) }
+
+pub ranged-addLink : (n a b : ℕ) (s : Facts) → live n s a ≡ true → live n s b ≡ true → Ranged n s → Ranged n (addLink a b s)
+unfolding addLink live
+ranged-addLink n a b s la lb r =
+    record { rep-live = r .rep-live; link-live = plus-live n a b s (s .graph .link) la lb (r .link-live); reach-live = r .reach-live }

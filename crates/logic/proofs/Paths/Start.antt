@@ -9,24 +9,16 @@ use mathlib.Core.List.{List, [], _∷_, List·Memᴰ, List·Memᴰ·head, List·
 use lib.ListN.{length, getD, List·getD-eq-default}
 use lib.Dec.{eqb, ltb}
 use Rattle.logic.specs.Search.{_and_}
-use Rattle.logic.specs.Query.{Literal, Query, entryOf, termCount}
-use Rattle.logic.specs.Facts.{Graph, Facts, live, settle, join, addReach, linksOf, unjoined, andThen, joinEach, reachEach, startJoins, start}
-use Rattle.logic.proofs.Basics.Search.{bool-cases, true-false, and-left, and-right, and-intro, or-right}
+use Rattle.logic.specs.Query.{Literal, Query, argumentOf, termCount}
+use Rattle.logic.specs.Facts.{Graph, Facts, live, settle, join, addReach, linksOf, unjoined, andThen, joinEach, reachEach, nilTerms, addLink, equalTo, addNilLink, joinNil, startJoins, start}
+use Rattle.logic.proofs.Basics.Search.{bool-cases, true-false, and-left, and-right, and-intro, or-right, map-mem, map-intro}
 use Rattle.logic.proofs.Basics.Compare.{eqb-true, eqb-intro, ltb-true, ltb-intro, eqb-self, cond-true, cond-false}
-use Rattle.logic.proofs.Paths.Extends.{Extends, rep-same, link-rep, reach-rep}
+use Rattle.logic.proofs.Paths.Extends.{Extends, extends-trans, extends-addLink, rep-same, link-rep, reach-rep}
 use Rattle.logic.proofs.Paths.Joined.{joinEach-step}
-use Rattle.logic.proofs.Paths.Ranged.{InRange, Ranged, live-intro}
+use Rattle.logic.proofs.Paths.Ranged.{InRange, Ranged, live-intro, ranged-addLink}
 use Rattle.logic.proofs.Paths.Kept.{Sane, Kept, kept-refl, kept-trans, kept-settle, join-kept, addReach-kept}
 use Rattle.logic.proofs.Query.Tied.{InTerms, Accepted, Tied}
-
--- a term with an entry is a term of the query
-pub entry-range : (entries : List ℕ) (t : ℕ) → 1 ≤ entryOf entries t → (1 ≤ t) × (t ≤ length entries)
-unfolding entryOf
-entry-range entries zero h = absurd (omega arith)
-entry-range entries (suc i) h = (omega arith, elim (decLe (suc i) (length entries)) [ yes p ↦ p | no p ↦ absurd (past p) ])
-  where
-    past : (suc i ≤ length entries → ⊥) → ⊥
-    past p = let l : length entries ≤ i = omega arith in omega (arith, List·getD-eq-default entries 0 l)
+use Rattle.logic.proofs.Query.Entries.{argument-range, nilTerms-mem, nilTerms-names}
 
 -- the links of section 1 are in range
 pub linksOf-ranged : (q : Query) → Accepted q → Ranged (termCount q) (linksOf (q .entries))
@@ -35,9 +27,9 @@ linksOf-ranged q acc =
     record {
       rep-live = λ t r. live-intro (termCount q) (linksOf (q .entries)) t r refl;
       link-live = λ a b h.
-          let pos : 1 ≤ a = ltb-true 0 a (and-left (ltb 0 a) (eqb (entryOf (q .entries) b) a) h) in
-          let e = eqb-true (entryOf (q .entries) b) a (and-right (ltb 0 a) (eqb (entryOf (q .entries) b) a) h) in
-          let r = entry-range (q .entries) b (subst (λ (x : ℕ). 1 ≤ x) (sym e) pos) in
+          let pos : 1 ≤ a = ltb-true 0 a (and-left (ltb 0 a) (eqb (argumentOf (q .entries) b) a) h) in
+          let e = eqb-true (argumentOf (q .entries) b) a (and-right (ltb 0 a) (eqb (argumentOf (q .entries) b) a) h) in
+          let r = argument-range (q .entries) b (subst (λ (x : ℕ). 1 ≤ x) (sym e) pos) in
           let below = acc .entry-below b r in (
             live-intro (termCount q) (linksOf (q .entries)) a (pos, omega arith) refl,
             live-intro (termCount q) (linksOf (q .entries)) b r refl,
@@ -113,6 +105,10 @@ addReach-held : (a b : ℕ) (s : Facts) → addReach a b s .graph .reach a b ≡
 unfolding addReach
 addReach-held a b s = or-right (s .graph .reach a b) (and-intro (eqb-self a) (eqb-self b))
 
+addLink-held : (a b : ℕ) (s : Facts) → addLink a b s .graph .link a b ≡ true
+unfolding addLink
+addLink-held a b s = or-right (s .graph .link a b) (and-intro (eqb-self a) (eqb-self b))
+
 reachLiteral-takes : (n : ℕ) → Takes n reachLiteral ReachHeld
 unfolding addReach
 reachLiteral-takes n =
@@ -127,17 +123,79 @@ unfolding joinEach unjoined takeEach
 joinEach-is n [] s = refl
 joinEach-is n (l ∷ ls) s = joinEach-step n l ls s ∙ joinEach-is n ls _
 
+-- joining plain equalities keeps, and makes them held
+pub joinEach-kept : (n : ℕ) (ls : List Literal) (s : Facts) → ((l : Literal) → List·Memᴰ l ls → InRange n (l .left) × InRange n (l .right)) → Sane n s → Kept n s (joinEach n ls s .facts) × ((l : Literal) → List·Memᴰ l ls → l .plain ≡ true → EqualHeld l (joinEach n ls s .facts))
+joinEach-kept n ls s r h = rw (joinEach-is n ls s) (takeEach-kept n (joinLiteral n) EqualHeld (joinLiteral-takes n) ls s r h)
+
 reachEach-is : (ls : List Literal) (s : Facts) → reachEach ls s ≡ takeEach reachLiteral ls s
 unfolding reachEach takeEach
 reachEach-is [] s = refl
 reachEach-is (l ∷ ls) s = reachEach-is ls _
+
+-- nil: each other nil term is joined to the first, and then the link is added and its doubled successors are joined
+
+-- these terms are one, and their link goes to themselves
+pub record NilHeld (ts : List ℕ) (s : Facts) : Type 0 where
+  pub same : (t u : ℕ) → List·Memᴰ t ts → List·Memᴰ u ts → s .rep t ≡ s .rep u
+  pub linked : (t : ℕ) → List·Memᴰ t ts → s .graph .link (s .rep t) (s .rep t) ≡ true
+
+pub nilHeld-extends : {ts : List ℕ} {s s′ : Facts} → Extends s s′ → NilHeld ts s → NilHeld ts s′
+nilHeld-extends e h =
+    record {
+      same = λ t u m k. rep-same e t u (h .same t u m k);
+      linked = λ t m. link-rep e t t (h .linked t m);
+    }
+
+module _ (n : ℕ) where
+  equalTo-mem : (t : ℕ) (us : List ℕ) (l : Literal) → List·Memᴰ l (equalTo t us) → (u : ℕ) × List·Memᴰ u us × (l ≡ record { plain = true; left = t; right = u })
+  unfolding equalTo
+  equalTo-mem t us l m = map-mem (λ u. record { plain = true; left = t; right = u }) l us m
+
+  equalTo-intro : (t : ℕ) (us : List ℕ) (u : ℕ) → List·Memᴰ u us → List·Memᴰ (record { plain = true; left = t; right = u }) (equalTo t us)
+  unfolding equalTo
+  equalTo-intro t us u m = map-intro (λ u. record { plain = true; left = t; right = u }) u m
+
+  -- the first of the terms is as good as each
+  first-held : (t : ℕ) (us : List ℕ) (s : Facts) → ((u : ℕ) → List·Memᴰ u us → s .rep t ≡ s .rep u) → s .graph .link (s .rep t) (s .rep t) ≡ true → NilHeld (t ∷ us) s
+  first-held t us s same linked =
+      let each : (u : ℕ) → List·Memᴰ u (t ∷ us) → s .rep t ≡ s .rep u = λ u m. ⊎-elim (λ e. ap (s .rep) (sym e)) (same u) (List·Memᴰ·cases-cons m) in
+      record {
+        same = λ u v m k. sym (each u m) ∙ each v k;
+        linked = λ u m. subst (λ (r : ℕ). s .graph .link r r ≡ true) (each u m) linked;
+      }
+
+  pub joinNil-kept : (ts : List ℕ) (s : Facts) → ((t : ℕ) → List·Memᴰ t ts → InRange n t) → Sane n s → Kept n s (joinNil n ts s .facts) × NilHeld ts (joinNil n ts s .facts)
+  unfolding joinNil unjoined andThen addNilLink addLink
+  joinNil-kept [] s r h = (kept-refl h, record { same = λ t u m. absurd (List·Memᴰ·not-nil m); linked = λ t m. absurd (List·Memᴰ·not-nil m) })
+  joinNil-kept (t ∷ us) s r h =
+      let joined : Facts = joinEach n (equalTo t us) s .facts in
+      let (k, held) = joined-kept in
+      let lt = k .sane .ranged .rep-live t (r t (List·Memᴰ·head refl)) in
+      let linked : Facts = addNilLink t joined in
+      let e : Extends joined linked = extends-addLink (joined .rep t) (joined .rep t) joined in
+      let settled = kept-settle n linked (ranged-addLink n (joined .rep t) (joined .rep t) joined lt lt (k .sane .ranged)) in (
+        record { sane = settled .sane; extends = extends-trans (k .extends) (extends-trans e (settled .extends)) },
+        nilHeld-extends (settled .extends) (first-held t us linked (λ u m. held u m) (addLink-held (joined .rep t) (joined .rep t) joined)),
+      )
+    where
+      in-range : (l : Literal) → List·Memᴰ l (equalTo t us) → InRange n (l .left) × InRange n (l .right)
+      in-range l m =
+          let (u, k, e) = equalTo-mem t us l m in
+          subst (λ (x : Literal). InRange n (x .left) × InRange n (x .right)) (sym e) (r t (List·Memᴰ·head refl), r u (List·Memᴰ·tail k))
+
+      joined-kept : Kept n s (joinEach n (equalTo t us) s .facts) × ((u : ℕ) → List·Memᴰ u us → joinEach n (equalTo t us) s .facts .rep t ≡ joinEach n (equalTo t us) s .facts .rep u)
+      joined-kept =
+          let (k, held) = joinEach-kept n (equalTo t us) s in-range h in
+          (k, λ u m. held (record { plain = true; left = t; right = u }) (equalTo-intro t us u m) refl)
 
 -- What an extension of a path that holds the query keeps
 pub tied-kept : (q : Query) (s s′ : Facts) → Tied q s → Kept (termCount q) s s′ → Tied q s′
 tied-kept q s s′ t k =
     record {
       rep-live = k .sane .ranged .rep-live;
-      entry-link = λ u r h. link-rep (k .extends) (entryOf (q .entries) u) u (t .entry-link u r h);
+      entry-link = λ u r h. link-rep (k .extends) (argumentOf (q .entries) u) u (t .entry-link u r h);
+      nil-same = λ u v h h′. rep-same (k .extends) u v (t .nil-same u v h h′);
+      nil-link = λ u h. link-rep (k .extends) u u (t .nil-link u h);
       equal-held = λ l m p. rep-same (k .extends) (l .left) (l .right) (t .equal-held l m p);
       reach-held = λ l m p. reach-rep (k .extends) (l .left) (l .right) (t .reach-held l m p);
     }
@@ -150,16 +208,24 @@ module _ (q : Query) (acc : Accepted q) where
   abbrev linked : Facts
   linked = settle count count (linksOf (q .entries)) .facts
 
+  abbrev nilled : Facts
+  nilled = joinNil count (nilTerms q) linked .facts
+
   abbrev joined : Facts
-  joined = joinEach count (q .equalities) linked .facts
+  joined = joinEach count (q .equalities) nilled .facts
 
   linked-kept : Kept count (linksOf (q .entries)) linked
   linked-kept = kept-settle count (linksOf (q .entries)) (linksOf-ranged q acc)
 
-  joined-kept : Kept count linked joined × ((l : Literal) → List·Memᴰ l (q .equalities) → l .plain ≡ true → EqualHeld l joined)
-  joined-kept =
-      rw (joinEach-is count (q .equalities) linked)
-      (takeEach-kept count (joinLiteral count) EqualHeld (joinLiteral-takes count) (q .equalities) linked (acc .equal-terms) (linked-kept .sane))
+  nilled-kept : Kept count linked nilled × NilHeld (nilTerms q) nilled
+  nilled-kept = joinNil-kept count (nilTerms q) linked (λ t m. nilTerms-names q t m .0) (linked-kept .sane)
+
+  -- the facts before the equalities are sane
+  pub nilled-sane : Sane count nilled
+  nilled-sane = nilled-kept .0 .sane
+
+  joined-kept : Kept count nilled joined × ((l : Literal) → List·Memᴰ l (q .equalities) → l .plain ≡ true → EqualHeld l joined)
+  joined-kept = joinEach-kept count (q .equalities) nilled (acc .equal-terms) nilled-sane
 
   reached-kept : Kept count joined (start q) × ((l : Literal) → List·Memᴰ l (q .reachability) → l .plain ≡ true → ReachHeld l (start q))
   unfolding start startJoins andThen
@@ -167,13 +233,19 @@ module _ (q : Query) (acc : Accepted q) where
       rw (reachEach-is (q .reachability) joined)
       (takeEach-kept count reachLiteral ReachHeld (reachLiteral-takes count) (q .reachability) joined (acc .reach-terms) (joined-kept .0 .sane))
 
+  nil-held-kept : Kept count nilled (start q)
+  nil-held-kept = kept-trans (joined-kept .0) (reached-kept .0)
+
   start-kept : Kept count (linksOf (q .entries)) (start q)
-  start-kept = kept-trans linked-kept (kept-trans (joined-kept .0) (reached-kept .0))
+  start-kept = kept-trans linked-kept (kept-trans (nilled-kept .0) nil-held-kept)
+
+  start-nil : NilHeld (nilTerms q) (start q)
+  start-nil = nilHeld-extends (nil-held-kept .extends) (nilled-kept .1)
 
   -- the links of section 1 are held from the first
-  entry-linked : (t : ℕ) → 1 ≤ entryOf (q .entries) t → linksOf (q .entries) .graph .link (entryOf (q .entries) t) t ≡ true
+  entry-linked : (t : ℕ) → 1 ≤ argumentOf (q .entries) t → linksOf (q .entries) .graph .link (argumentOf (q .entries) t) t ≡ true
   unfolding linksOf
-  entry-linked t h = and-intro (ltb-intro h) (eqb-self (entryOf (q .entries) t))
+  entry-linked t h = and-intro (ltb-intro h) (eqb-self (argumentOf (q .entries) t))
 
   pub start-sane : Sane count (start q)
   start-sane = start-kept .sane
@@ -183,7 +255,9 @@ module _ (q : Query) (acc : Accepted q) where
   start-tied =
       record {
         rep-live = start-sane .ranged .rep-live;
-        entry-link = λ t r h. link-rep (start-kept .extends) (entryOf (q .entries) t) t (entry-linked t h);
+        entry-link = λ t r h. link-rep (start-kept .extends) (argumentOf (q .entries) t) t (entry-linked t h);
+        nil-same = λ t u h k. start-nil .same t u (nilTerms-mem q t h) (nilTerms-mem q u k);
+        nil-link = λ t h. start-nil .linked t (nilTerms-mem q t h);
         equal-held = λ l m p. rep-same (reached-kept .0 .extends) (l .left) (l .right) (joined-kept .1 l m p);
         reach-held = reached-kept .1;
       }

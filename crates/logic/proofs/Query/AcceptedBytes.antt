@@ -3,16 +3,17 @@ use Prim.Native.Nat.{ℕ, zero, suc, _+_, _≤_, _<_}
 use native.Mathlib.Omega.{arith}
 use native.Mathlib.Nat.{mul-one}
 use mathlib.Core.Path.{_≡_, refl, sym, ap, _∙_, subst}
-use mathlib.Core.Bool.{true}
+use mathlib.Core.Logic.{⊎-elim}
+use mathlib.Core.Bool.{Bool, true, false, cond, false≢true}
 use mathlib.Core.List.{List, [], _∷_, map, List·Memᴰ, Memᴰ·append-left, Memᴰ·append-right}
 use mathlib.Core.Option.{Option, none, some, Option·elim}
 use lib.ListN.{length, getD}
 use lib.Dec.{eqb, ltb, leb}
 use borrow.Author.Tests.{ltb-true, leb-true, eq-eqb}
-use Rattle.logic.specs.Search.{_and_, from, at}
-use Rattle.logic.specs.Query.{Literal, entryOf, termCount, Role, Section, entryRole, signRole, termRole, numberRole, sections, Layout, faulty, parts, rolesOf, firstByte, layoutOf, faultIn, layoutFault, byteFault, literals, section, queryOf, decode}
+use Rattle.logic.specs.Search.{_and_, _or_, from, at}
+use Rattle.logic.specs.Query.{Literal, entryOf, namesNil, argumentOf, termCount, Role, Section, entryRole, signRole, termRole, numberRole, sections, Layout, faulty, parts, rolesOf, firstByte, layoutOf, faultIn, layoutFault, byteFault, literals, section, queryOf, decode}
 use Rattle.logic.specs.Calls.{Check, layoutCheck, byteCheck, queryChecks, refused, refusalOf, accepts}
-use Rattle.logic.proofs.Basics.Search.{true-false, and-left, and-right, not-true, none-some, keep-none, isSome-false, firstOf-none, from-intro, map-intro}
+use Rattle.logic.proofs.Basics.Search.{true-false, and-left, and-right, or-cases, not-true, none-some, keep-none, isSome-false, firstOf-none, from-intro, map-intro}
 use Rattle.logic.proofs.Query.Tied.{InTerms, ToEight, Accepted}
 use Rattle.logic.proofs.Query.Bytes.{Allows, faultless-allowed, Regular, Part, part-at, first-sized, Numbered, layout-numbered, entry-allowed, literals-allowed, flags-allowed}
 
@@ -53,9 +54,14 @@ laid-out bytes passed = at-layout (layoutOf bytes) refl (layout-numbered (sectio
 up-to : (n b : ℕ) → ltb 0 b and leb b n ≡ true → (1 ≤ b) × (b ≤ n)
 up-to n b h = (ltb-true 0 b (and-left (ltb 0 b) (leb b n) h), leb-true b n (and-right (ltb 0 b) (leb b n) h))
 
-entry-allows : (t b : ℕ) → Allows (entryRole t) b → b < t
+-- an entry that is not nil's is below its own term
+entry-allows : (t b : ℕ) → 1 ≤ t → Allows (entryRole t) b → cond (eqb b 255) 0 b < t
 unfolding entryRole
-entry-allows t b h = ltb-true b t (h (omega arith))
+entry-allows t b one h = go (eqb b 255) (h (omega arith))
+  where
+    go : (c : Bool) → ltb b t or c ≡ true → cond c 0 b < t
+    go true e = one
+    go false e = ltb-true b t (⊎-elim (λ p. p) (λ p. absurd (false≢true p)) (or-cases (ltb b t) false e))
 
 term-allows : (n b : ℕ) → Allows (termRole n) b → (1 ≤ b) × (b ≤ n)
 unfolding termRole
@@ -77,7 +83,7 @@ module _ (n : ℕ) (ps : List (List ℕ)) (count : length (section ps 0) ≡ n) 
   in-terms b h = rw count (term-allows n b h)
 
   parts-accepted : Accepted (queryOf (parts ps))
-  unfolding queryOf termCount entryOf sections at
+  unfolding queryOf termCount entryOf namesNil argumentOf sections at
   parts-accepted =
       record {
         term-count = let p = part 0 _ refl in omega (arith, p .within, p .sized);
@@ -90,12 +96,12 @@ module _ (n : ℕ) (ps : List (List ℕ)) (count : length (section ps 0) ≡ n) 
             λ l m. let p = part 4 _ refl in number-allows (l .left) (flags-allowed signRole numberRole (p .count) 1 (section ps 4) (p .sized) (p .allowed) l m);
       }
     where
-      entry-of : (t : ℕ) → 1 ≤ t → t ≤ length (section ps 0) → entryOf (section ps 0) t < t
+      entry-of : (t : ℕ) → 1 ≤ t → t ≤ length (section ps 0) → argumentOf (section ps 0) t < t
       entry-of zero l u = absurd (omega arith)
       entry-of (suc t) l u =
           let p = part 0 _ refl in
           let sized = p .sized in
-          omega (arith, entry-allows (1 + t) (getD (section ps 0) t 0) (entry-allowed entryRole (p .count) 1 (section ps 0) (p .allowed) t (omega arith) u))
+          omega (arith, entry-allows (1 + t) (getD (section ps 0) t 0) (omega arith) (entry-allowed entryRole (p .count) 1 (section ps 0) (p .allowed) t (omega arith) u))
 
       literals-of : (left right : Role) (i : ℕ) → at (sections n) (suc i) ≡ some (record { limit = 60; width = 3; roles = λ j. signRole ∷ left ∷ right ∷ [] }) → (l : Literal) → List·Memᴰ l (literals (section ps i)) → Allows left (l .left) × Allows right (l .right)
       literals-of left right i e = let p = part i _ e in literals-allowed signRole left right (p .count) 1 (section ps i) (p .sized) (p .allowed)

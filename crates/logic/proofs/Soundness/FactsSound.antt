@@ -10,16 +10,17 @@ use mathlib.Core.List.{List, [], _∷_, List·Memᴰ, List·Memᴰ·head, List·
 use mathlib.Core.Option.{Option, none, some, Option·elim, Option·some-injective}
 use lib.Dec.{eqb}
 use Rattle.logic.specs.Search.{_and_, _or_}
-use Rattle.logic.specs.Query.{Literal, Query, entryOf, termCount}
+use Rattle.logic.specs.Query.{Literal, Query, argumentOf, termCount}
 use Rattle.logic.specs.Heap.{Heap, Reaches, Meets, value}
-use Rattle.logic.specs.Facts.{Graph, Facts, terms, replaceIn, replace, successors, firstTwo, doubled, unjoined, andThen, settle, join, addReach, linksOf, joinEach, reachEach, startJoins, start}
+use Rattle.logic.specs.Facts.{Graph, Facts, terms, replaceIn, replace, successors, firstTwo, doubled, unjoined, andThen, settle, join, addReach, linksOf, joinEach, reachEach, nilTerms, addLink, equalTo, addNilLink, joinNil, startJoins, start}
 use Rattle.logic.specs.Rules.{Fact, equal, reaches, branch, add}
-use Rattle.logic.proofs.Basics.Search.{none-some, and-left, and-right, or-cases, firstOf-some, select-mem}
+use Rattle.logic.proofs.Basics.Search.{none-some, and-left, and-right, or-cases, firstOf-some, select-mem, map-mem}
 use Rattle.logic.proofs.Basics.Compare.{eqb-true, ltb-true, eq-cases, le-cases}
 use Rattle.logic.proofs.Query.Tied.{Accepted}
+use Rattle.logic.proofs.Query.Entries.{argument-range, nilTerms-names}
 use Rattle.logic.proofs.Paths.Replace.{sub, sub-hit, sub-miss, replaceIn-true}
 use Rattle.logic.proofs.Paths.Joined.{settle-step, join-facts, joinEach-step}
-use Rattle.logic.proofs.Soundness.Value.{accepted-below, entry-term, value-link, signed-true}
+use Rattle.logic.proofs.Soundness.Value.{accepted-below, value-link, signed-true}
 use Rattle.logic.proofs.Soundness.Truth.{Between, between, Same, Linked, Reached, TrueGraph, True, Holds, same-refl, between-same, rep-between}
 
 -- A term replaced by one of the same value
@@ -111,6 +112,17 @@ module _ (f val : ℕ → ℕ) (n : ℕ) where
       here : (x y : ℕ) → eqb x a and eqb y b ≡ true → Reached f val x y
       here x y e = subst₂ (Reached f val) (sym (eqb-true x a (and-left _ _ e))) (sym (eqb-true y b (and-right _ _ e))) r
 
+  holds-addLink : (a b : ℕ) → Linked f val a b → (s : Facts) → Holds f val s → Holds f val (addLink a b s)
+  unfolding addLink
+  holds-addLink a b r s h =
+      record {
+        rep-true = h .rep-true;
+        graph-true = record { link-true = λ x y e. ⊎-elim (h .graph-true .link-true x y) (here x y) (or-cases (s .graph .link x y) (eqb x a and eqb y b) e); reach-true = h .graph-true .reach-true };
+      }
+    where
+      here : (x y : ℕ) → eqb x a and eqb y b ≡ true → Linked f val x y
+      here x y e = subst₂ (Linked f val) (sym (eqb-true x a (and-left _ _ e))) (sym (eqb-true y b (and-right _ _ e))) r
+
   pub holds-add : (c : Fact) → True f val c → (s : Facts) → Holds f val s → Holds f val (add n s c)
   unfolding add branch unjoined
   holds-add (equal a b) t s h = holds-join a b t s h
@@ -124,6 +136,17 @@ module _ (f val : ℕ → ℕ) (n : ℕ) where
       rw (joinEach-step n l ls s)
       (holds-joinEach ls (λ m i. p m (List·Memᴰ·tail i)) _
       (holds-cond (l .plain) (join n (s .rep (l .left)) (s .rep (l .right)) s .facts) s (λ e. holds-join _ _ (rep-between f val s h (p l (List·Memᴰ·head refl) e)) s h) (λ e. h)))
+
+  -- nil terms of one value, whose link goes to itself
+  holds-joinNil : (ts : List ℕ) → ((t u : ℕ) → List·Memᴰ t ts → List·Memᴰ u ts → Same val t u) → ((t : ℕ) → List·Memᴰ t ts → Linked f val t t) → (s : Facts) → Holds f val s → Holds f val (joinNil n ts s .facts)
+  unfolding joinNil unjoined andThen addNilLink equalTo
+  holds-joinNil [] same own s h = h
+  holds-joinNil (t ∷ us) same own s h =
+      let equal : (l : Literal) → List·Memᴰ l (equalTo t us) → l .plain ≡ true → Same val (l .left) (l .right) = λ l m e.
+      let (u, k, p) = map-mem (λ u. record { plain = true; left = t; right = u }) l us m in
+      subst (λ (x : Literal). Same val (x .left) (x .right)) (sym p) (same t u (List·Memᴰ·head refl) (List·Memᴰ·tail k)) in
+      let j = holds-joinEach (equalTo t us) equal s h in
+      holds-settle n _ (holds-addLink _ _ (rep-between f val _ j (own t (List·Memᴰ·head refl))) _ j)
 
   holds-reachEach : (ls : List Literal) → ((l : Literal) → List·Memᴰ l ls → l .plain ≡ true → Reached f val (l .left) (l .right)) → (s : Facts) → Holds f val s → Holds f val (reachEach ls s)
   unfolding reachEach
@@ -143,15 +166,15 @@ module _ (q : Query) (ok : Accepted q) (h : Heap) where
       record {
         rep-true = same-refl val;
         graph-true = record {
-          link-true = λ a b e. linked a b (ltb-true 0 a (and-left _ _ e)) (eqb-true (entryOf (q .entries) b) a (and-right _ _ e));
+          link-true = λ a b e. linked a b (ltb-true 0 a (and-left _ _ e)) (eqb-true (argumentOf (q .entries) b) a (and-right _ _ e));
           reach-true = λ a b e. absurd (false≢true e);
         };
       }
     where
-      linked : (a b : ℕ) → 1 ≤ a → entryOf (q .entries) b ≡ a → Linked (h .link) val a b
+      linked : (a b : ℕ) → 1 ≤ a → argumentOf (q .entries) b ≡ a → Linked (h .link) val a b
       linked a b l e =
-          let one : 1 ≤ entryOf (q .entries) b = omega arith in
-          between l (entry-term (q .entries) b one)
+          let one : 1 ≤ argumentOf (q .entries) b = omega arith in
+          between l (argument-range (q .entries) b one .0)
           (ap (λ (t : ℕ). h .link (val t)) (sym e) ∙ sym (value-link h (q .entries) (accepted-below q ok) b one))
 
   pub start-holds : Meets h q → Holds (h .link) (value h (q .entries)) (start q)
@@ -160,4 +183,7 @@ module _ (q : Query) (ok : Accepted q) (h : Heap) where
       let n = termCount q in
       holds-reachEach (h .link) val n (q .reachability) (λ l i e. let t = ok .reach-terms l i in between (t .0 .0) (t .1 .0) (signed-true (l .plain) e (m .reachability l i))) _
       (holds-joinEach (h .link) val n (q .equalities) (λ l i e. let t = ok .equal-terms l i in between (t .0 .0) (t .1 .0) (signed-true (l .plain) e (m .equalities l i))) _
-      (holds-settle (h .link) val n n (linksOf (q .entries)) links-hold))
+      (holds-joinNil (h .link) val n (nilTerms q)
+      (λ t u i k. let (r, e) = nilTerms-names q t i in let (r′, e′) = nilTerms-names q u k in between (r .0) (r′ .0) (m .nil-node .one-node t u e e′))
+      (λ t i. let (r, e) = nilTerms-names q t i in between (r .0) (r .0) (m .nil-node .own-link t e)) _
+      (holds-settle (h .link) val n n (linksOf (q .entries)) links-hold)))
