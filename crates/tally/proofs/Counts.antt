@@ -16,7 +16,7 @@ use Rattle.logic.specs.Facts.{Line, line}
 use Rattle.logic.specs.Derivation.{linesFrom, linesIn}
 use Rattle.logic.proofs.Basics.Search.{and-left, and-right}
 use Rattle.logic.proofs.Basics.Compare.{le-cases}
-use Rattle.tally.specs.Counting.{kindOf, ruleLines, raisedFrom, raised, plus, fits, refusalBy, grownBy, refusalOf, tallied, noLines, Below}
+use Rattle.tally.specs.Counting.{kindOf, ruleLines, raisedFrom, raised, plus, fits, refusalOf, tallied, noLines, Below, Adds}
 
 -- Rule lines: those of the first line, and those of the others. Only the number that a line begins with counts.
 one-more : (r k b c d : ℕ) (ls : List Line) → ruleLines r (line k 0 0 0 ∷ []) + ruleLines r ls ≡ ruleLines r (line k b c d ∷ ls)
@@ -257,15 +257,18 @@ count-starts {p} {q} bytes e f =
 pub count-again : {next : List ℕ} (count : ℕ) (bytes cs : List ℕ) (i kind : ℕ) → next ≡ raised cs (line kind 0 0 0 ∷ []) → kind ≡ getD bytes (2 + 4 * i) 0 → i < count → raised next (left count bytes (i + 1)) ≡ raised cs (left count bytes i)
 count-again count bytes cs i kind e q h = ap (λ (ns : List ℕ). raised ns (left count bytes (i + 1))) e ∙ count-next count bytes cs i (2 + 4 * i) kind refl q h
 
--- either outcome of the test
-pub refused-not : {b t : Bool} → t ≡ b → t ≡ true → 0 ≡ refusalBy b
-refused-not {b} {t} e f = ap refusalBy (sym f ∙ e)
+-- either outcome of the test, where `more` are the lines of each rule
+module _ {t : Bool} {more : List ℕ} (counts : List ℕ) (ls : List Line) (eight : length counts ≡ 8) (lines : more ≡ raised noLines ls) (test : t ≡ fits (plus counts more)) where
+  grown : plus counts more ≡ raised counts ls
+  grown = ap (plus counts) lines ∙ raised-plus counts ls eight
 
-pub refused-so : {b t : Bool} → t ≡ b → t ≡ false → 28 ≡ refusalBy b
-refused-so {b} {t} e f = ap refusalBy (sym f ∙ e)
+  tested : (b : Bool) → t ≡ b → fits (raised counts ls) ≡ b
+  tested b e = ap fits (sym grown) ∙ sym test ∙ e
 
-pub grown-more : {b t : Bool} {next : List ℕ} (cs ds : List ℕ) → t ≡ b → t ≡ true → next ≡ ds → next ≡ grownBy b cs ds
-grown-more cs ds e f g = g ∙ ap (λ (u : Bool). grownBy u cs ds) (sym f ∙ e)
+  pub adds-more : {next : List ℕ} → t ≡ true → next ≡ plus counts more → Adds counts ls next 0
+  unfolding tallied refusalOf
+  adds-more e n = record { leaves = n ∙ grown ∙ sym (ap (λ (b : Bool). cond b (raised counts ls) counts) (tested true e)); answers = sym (ap (λ (b : Bool). cond b 0 28) (tested true e)) }
 
-pub grown-not : {b t : Bool} (cs ds : List ℕ) → t ≡ b → t ≡ false → cs ≡ grownBy b cs ds
-grown-not cs ds e f = ap (λ (u : Bool). grownBy u cs ds) (sym f ∙ e)
+  pub adds-not : t ≡ false → Adds counts ls counts 28
+  unfolding tallied refusalOf
+  adds-not e = record { leaves = sym (ap (λ (b : Bool). cond b (raised counts ls) counts) (tested false e)); answers = sym (ap (λ (b : Bool). cond b 0 28) (tested false e)) }

@@ -1,5 +1,6 @@
 -- A tally of eight counts, rule 1 first, and what a derivation adds to it (02, R-14).
 use Prim.Native.Nat.{ℕ, suc, _+_, _<_}
+use mathlib.Core.Path.{_≡_}
 use mathlib.Core.Bool.{Bool, cond}
 use mathlib.Core.List.{List, [], _∷_}
 use lib.ListN.{replicate, getD}
@@ -29,19 +30,17 @@ unfoldable pub fits : List ℕ → Bool
 fits counts = all (λ c. leb c 4294967295) counts
 
 -- what the call answers: 0, or the refusal's number; its place is 0
-abbrev pub refusalBy : Bool → ℕ
-refusalBy enough = cond enough 0 28
-
--- "the tally then stays unchanged"
-abbrev pub grownBy : Bool → List ℕ → List ℕ → List ℕ
-grownBy enough counts more = cond enough more counts
-
 unfoldable pub refusalOf : List ℕ → List Line → ℕ
-refusalOf counts ls = refusalBy (fits (raised counts ls))
+refusalOf counts ls = cond (fits (raised counts ls)) 0 28
 
--- "A tally of eight 32-bit counts is lent to the call for each result and changed there"
+-- "A tally of eight 32-bit counts is lent to the call for each result and changed there"; "the tally then stays unchanged"
 unfoldable pub tallied : List ℕ → List Line → List ℕ
-tallied counts ls = grownBy (fits (raised counts ls)) counts (raised counts ls)
+tallied counts ls = cond (fits (raised counts ls)) (raised counts ls) counts
+
+-- what the call leaves in the tally, and answers
+pub record Adds (counts : List ℕ) (ls : List Line) (after : List ℕ) (r : ℕ) : Type 0 where
+  pub leaves : after ≡ tallied counts ls
+  pub answers : r ≡ refusalOf counts ls
 
 -- no lines yet
 unfoldable pub noLines : List ℕ

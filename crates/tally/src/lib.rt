@@ -6,7 +6,7 @@ ghost use Prim.Native.Nat.{ℕ, _+_, _≤_, _<_};
 ghost use lib.ListN.{length, getD};
 ghost use Rattle.logic.specs.Facts.{line};
 ghost use Rattle.logic.specs.Derivation.{linesIn};
-ghost use Rattle.tally.specs.Counting.{raised, plus, fits, refusalBy, grownBy, refusalOf, tallied, noLines, Below};
+ghost use Rattle.tally.specs.Counting.{raised, plus, fits, noLines, Below, Adds};
 
 // The counts of rules 1 to 8.
 pub struct Tally {
@@ -76,7 +76,7 @@ fn wide_count(x: u32) -> u64
 
 // Whether no sum of two counts would pass the limit.
 fn sums_fit(counts: [u32; 8], more: [u32; 8]) -> bool
-    ensures { λ r. ⌜ r ≡ fits (plus counts more) ⌝ }
+    ensures { λ r. ⌜ (r ≡ fits (plus counts more)) × (length counts ≡ 8) ⌝ }
 {
     let mut k: usize = 0;
     while k < 8 {
@@ -102,27 +102,46 @@ fn sums(counts: [u32; 8], more: [u32; 8]) -> [u32; 8]
     next
 }
 
-// "28 a count would pass 4,294,967,295", else 0.
-fn refusal(tally: Tally, more: Tally) -> usize
-    ensures { λ r. ⌜ r ≡ refusalBy (fits (plus (tally .counts) (more .counts))) ⌝ }
-{
-    let a = tally.counts;
-    let b = more.counts;
-    if sums_fit(a, b) {
-        return 0;
-    }
-    28
+// What a derivation makes of a tally, and the refusal: 0, or 28 with the tally as it was.
+pub struct Step {
+    pub tally: Tally,
+    pub refused: usize,
 }
 
-// The tally with more counts added, and as it was where they do not fit.
-fn grown(tally: Tally, more: Tally) -> Tally
-    ensures { λ r. ⌜ r .counts ≡ grownBy (fits (plus (tally .counts) (more .counts))) (tally .counts) (plus (tally .counts) (more .counts)) ⌝ }
+// The work: "28 a count would pass 4,294,967,295; the tally then stays unchanged".
+fn sum_up(tally: Tally, derivation: &[u8]) -> Step
+    ensures { λ r. ⌜ Adds (tally .counts) (linesIn (now (derivation .entry))) (r .tally .counts) (r .refused) ⌝ }
 {
-    let a = tally.counts;
-    let b = more.counts;
-    if sums_fit(a, b) {
-        let next = sums(a, b);
-        return Tally { counts: next };
+    let fresh = rule_lines(derivation);
+    let counts = tally.counts;
+    let more = fresh.counts;
+    if sums_fit(counts, more) {
+        let next = sums(counts, more);
+        return Step {
+            tally: Tally { counts: next },
+            refused: 0,
+        };
     }
-    tally
+    Step {
+        tally: tally,
+        refused: 28,
+    }
+}
+
+fn tally_of(s: Step) -> Tally
+    ensures { λ r. ⌜ r ≡ s .tally ⌝ }
+{
+    s.tally
+}
+
+fn refused_of(s: Step) -> usize
+    ensures { λ r. ⌜ r ≡ s .refused ⌝ }
+{
+    s.refused
+}
+
+pub fn added(tally: Tally, derivation: &[u8]) -> Step
+    ensures { λ r. ⌜ Adds (tally .counts) (linesIn (now (derivation .entry))) (r .tally .counts) (r .refused) ⌝ }
+{
+    sum_up(tally, derivation)
 }

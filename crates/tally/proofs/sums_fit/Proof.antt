@@ -38,7 +38,7 @@ sums-fit-spec =
     -- add-if1
     (λ c. search needs)
     -- returns
-    (λ c. sym (fits-not (c .before .before .before .before .before .args .t1) (c .before .before .before .before .before .args .t2) (c .before .before .before .before .loop .k) (omega arith) (omega arith) (omega arith)) ∙ c .before .before .before .before .loop .inv .3)
+    (λ c. (sym (fits-not (c .before .before .before .before .before .args .t1) (c .before .before .before .before .before .args .t2) (c .before .before .before .before .loop .k) (omega arith) (omega arith) (omega arith)) ∙ c .before .before .before .before .loop .inv .3, c .before .before .before .before .loop .inv .1))
     -- add-k
     (λ c. search needs)
     -- loop-less
@@ -46,4 +46,4 @@ sums-fit-spec =
     -- loop-again
     (λ c. (omega arith, omega arith, omega arith, sym (fits-here (c .before .before .before .before .before .args .t1) (c .before .before .before .before .before .args .t2) (c .before .before .before .before .loop .k) (omega arith) (omega arith) (omega arith)) ∙ c .before .before .before .before .loop .inv .3))
     -- returns-2
-    (λ c. sym (fits-end (c .before .before .args .t1) (c .before .before .args .t2) (c .before .loop .k) (omega arith)) ∙ c .before .loop .inv .3))
+    (λ c. (sym (fits-end (c .before .before .args .t1) (c .before .before .args .t2) (c .before .loop .k) (omega arith)) ∙ c .before .loop .inv .3, c .before .loop .inv .1)))
