@@ -28,7 +28,7 @@ fn wide(x: u8) -> usize
 }
 
 // The byte at a place, and 0 behind the end, as the definitions read a derivation.
-fn byte_at(bytes: &[u8], at: usize) -> usize
+pub fn byte_at(bytes: &[u8], at: usize) -> usize
     ensures { λ r. ⌜ (r ≡ getD (now (bytes .entry)) at 0) × (r < 256) ⌝ }
 {
     if at < bytes.len() {
