@@ -2,11 +2,11 @@
 use Prim.Native.Nat.{ℕ, _+_, _*_, _/_, _%_, _≤_, _<_}
 use native.Mathlib.Omega.{arith}
 use mathlib.Core.Path.{_≡_, refl, sym, ap, subst, _∙_}
-use mathlib.Core.Bool.{Bool, true, false, cond}
+use mathlib.Core.Bool.{Bool, true, false, cond, false≢true}
 use mathlib.Core.List.{List, [], _∷_, _++_}
 use lib.ListN.{length, getD, replicate}
 use lib.Dec.{ltb}
-use borrow.Author.Tests.{lt-ltb, le-ltb}
+use borrow.Author.Tests.{lt-ltb, le-ltb, ltb-false}
 use Rattle.logic.specs.Search.{_or_}
 use Rattle.logic.specs.Facts.{Line}
 use Rattle.logic.specs.Derivation.{linesFrom, linesIn}
@@ -16,8 +16,10 @@ use Rattle.logic.proofs.Calls.Demands.{demand1}
 use Rattle.lemitsaka.specs.Promise.{meaning, inputOf, Does}
 use Rattle.lemitsaka.specs.declared.Answer.{Answer}
 use Rattle.lemitsaka.specs.declared.Answer.the-variants as answer
-use Rattle.text.specs.Text.{ascii, decimal, hexByte}
+use Rattle.text.specs.Text.{ascii, decimal, hexByte, Writes}
+use Rattle.text.proofs.Writing.{writes-none}
 use Rattle.printing.specs.HeapverdictText.{answerText}
+use Rattle.printing.proofs.Texts.{lines-count}
 use Rattle.fnv.specs.Mark.{markOf}
 use Rattle.tally.specs.Counting.{tallied}
 use Rattle.shares.specs.Output.{Turn, hexWord, linesOf, answerOf, writtenLines, queryLine, lengthIn, isBad, wanted, turnOf}
@@ -89,3 +91,50 @@ module _ (head : List ℕ) where
   pub wanted-all : {p q : ℕ} {b : Bool} → b ≡ isBad head → b ≡ false → p ≡ getD head 0 0 → q ≡ getD head 1 0 → 256 * p + q ≡ wanted head
   unfolding wanted lengthIn
   wanted-all {p} {q} e f g h = let n : 256 * p + q ≡ 256 * getD head 0 0 + getD head 1 0 = omega arith in n ∙ ap (λ (t : Bool). cond t 0 (lengthIn head)) (sym f ∙ e)
+
+-- the end of a line, of lines that are equal
+pub finishes-as : {before after counts left : List ℕ} {at r : ℕ} {goes : Bool} {ls ms : List Line} → ls ≡ ms → Finishes before at ls counts after r left goes → Finishes before at ms counts after r left goes
+finishes-as {before} {after} {counts} {left} {at} {r} {goes} e f = subst (λ (ls : List Line). Finishes before at ls counts after r left goes) e f
+
+pub count-words : {p q : ℕ} (bytes : List ℕ) → p ≡ getD bytes 0 0 → q ≡ getD bytes 1 0 → decimal (256 * p + q) ++ ascii "\n" ≡ decimal (length (linesIn bytes)) ++ ascii "\n"
+count-words {p} {q} bytes e f =
+    let n : 256 * p + q ≡ length (linesIn bytes) = omega (arith, lines-count bytes) in ap (λ (k : ℕ). decimal k ++ ascii "\n") n
+
+-- a turn, case by case
+module _ (order counts query : List ℕ) where
+  turn-none : (head : List ℕ) → length head < 1 → turnOf order counts head query ≡ record { text = []; counts = counts; goes = false }
+  unfolding turnOf
+  turn-none [] h = refl
+  turn-none (b ∷ head) h = absurd (omega arith)
+
+  turn-bad : (head : List ℕ) → 1 ≤ length head → isBad head ≡ true → turnOf order counts head query ≡ record { text = ascii "bad length\n"; counts = counts; goes = false }
+  unfolding turnOf
+  turn-bad [] h e = absurd (omega arith)
+  turn-bad (b ∷ head) h e = rw e
+
+  turn-query : (head : List ℕ) → 1 ≤ length head → isBad head ≡ false → turnOf order counts head query ≡ record { text = queryLine order query; counts = tallied counts (writtenLines order query); goes = true }
+  unfolding turnOf
+  turn-query [] h e = absurd (omega arith)
+  turn-query (b ∷ head) h e = rw e
+
+  pub takes-none : (head before : List ℕ) → length head < 1 → Takes (turnOf order counts head query) before before 0 counts false
+  takes-none head before h =
+      subst (λ (t : Turn). Takes t before before 0 counts false) (sym (turn-none head h)) (record { wrote = writes-none before 0; short = omega arith; leaves = refl; going = refl })
+
+  pub takes-bad : {before after : List ℕ} {r : ℕ} {b : Bool} (head : List ℕ) → 1 ≤ length head → b ≡ isBad head → b ≡ true → Writes before 0 (ascii "bad length\n") after r → Takes (turnOf order counts head query) before after r counts false
+  takes-bad {before} {after} {r} head h e f w =
+      subst (λ (t : Turn). Takes t before after r counts false) (sym (turn-bad head h (sym e ∙ f))) (record { wrote = w; short = omega (arith, w .ends); leaves = refl; going = refl })
+
+  pub takes-query : {before after left : List ℕ} {r : ℕ} {b goes : Bool} (head : List ℕ) → 1 ≤ length head → b ≡ isBad head → b ≡ false → Prints before order query counts after r left goes → Takes (turnOf order counts head query) before after r left goes
+  takes-query {before} {after} {left} {r} {b} {goes} head h e f p =
+      subst (λ (t : Turn). Takes t before after r left goes) (sym (turn-query head h (sym e ∙ f))) (record { wrote = p .wrote; short = p .short; leaves = p .leaves; going = p .going })
+
+or-false : (a c : Bool) → a or c ≡ false → c ≡ false
+unfolding _or_
+or-false false c e = e
+or-false true c e = absurd (false≢true (sym e))
+
+pub wanted-few : {p q : ℕ} {b : Bool} (head : List ℕ) → b ≡ isBad head → b ≡ false → p ≡ getD head 0 0 → q ≡ getD head 1 0 → 256 * p + q ≤ 681
+unfolding isBad lengthIn
+wanted-few {p} {q} head e f g h =
+    let l = ltb-false 681 (256 * getD head 0 0 + getD head 1 0) (or-false (ltb (length head) 2) _ (sym e ∙ f)) in omega arith
