@@ -12,15 +12,20 @@ struct Turned {
     goes: bool,
 }
 
-// Reads a length and the query behind it, and prints its line.
-fn turn(order: &[u8], tally: Tally) -> Turned {
-    let mut head = [0u8; 2];
-    let mut query = [0u8; 681];
+// No more than this.
+fn at_most(n: usize, most: usize) -> usize
+    ensures { λ r. ⌜ r ≤ most ⌝ }
+{
+    if most < n {
+        return most;
+    }
+    n
+}
+
+// Prints the line of a turn.
+fn print_turn(order: &[u8], head: &[u8], query: &[u8], tally: Tally) -> Turned {
     let mut text = [0u8; 128];
-    let got = io::read_full(STDIN_FILENO, &mut head);
-    let most = shares::query_length(&head[..got]);
-    let read = io::read_full(STDIN_FILENO, &mut query[..most]);
-    let taken = shares::take_turn(&mut text, order, &head[..got], &query[..read], tally);
+    let taken = shares::take_turn(&mut text, order, head, query, tally);
     let made = taken.length;
     let next = taken.tally;
     let goes = taken.goes;
@@ -29,6 +34,21 @@ fn turn(order: &[u8], tally: Tally) -> Turned {
         tally: next,
         goes: goes,
     }
+}
+
+// Reads the query behind a length, as far as it goes.
+fn read_query(order: &[u8], head: &[u8], room: &mut [u8], tally: Tally) -> Turned {
+    let most = at_most(shares::query_length(head), room.len());
+    let read = at_most(io::read_full(STDIN_FILENO, &mut room[..most]), most);
+    print_turn(order, head, &room[..read], tally)
+}
+
+// Reads a length and the query behind it, and prints its line.
+fn turn(order: &[u8], tally: Tally) -> Turned {
+    let mut head = [0u8; 2];
+    let mut room = [0u8; 681];
+    let got = io::read_full(STDIN_FILENO, &mut head);
+    read_query(order, &head[..got], &mut room, tally)
 }
 
 // "rule 1 first, one a line"
@@ -40,8 +60,8 @@ fn print_shares(tally: Tally) {
 }
 
 // A line for whoever watches a long run: where standard error is a terminal, after each 65,536 queries.
-fn show_progress(turns: u64) {
-    if turns % 65536 != 0 {
+fn show_progress(left: u64) {
+    if left % 65536 != 0 {
         return;
     }
     if libc::isatty(STDERR_FILENO) == 1 {
@@ -53,13 +73,14 @@ fn show_progress(turns: u64) {
 fn run(order: &[u8]) {
     let mut tally = tally::new();
     let mut left: u64 = 18446744073709551615;
-    let mut goes = true;
-    while goes && left > 0 {
+    while left > 0 {
         let t = turn(order, tally);
         tally = t.tally;
-        goes = t.goes;
         left -= 1;
-        show_progress(18446744073709551615 - left);
+        show_progress(left);
+        if !t.goes {
+            left = 0;
+        }
     }
     print_shares(tally);
 }
