@@ -36,7 +36,10 @@ fn main() {
         counts: [4294967293, 0, 0, 0, 0, 0, 0, 4294967295],
     };
     // 10 1 2 0, 1 1 0 0, 1 2 0 0, 9 2 1 0: a join, two lines of rule 1, a clash
-    let first = print_step(full, b"\0\x04\x0a\x01\x02\0\x01\x01\0\0\x01\x02\0\0\x09\x02\x01\0");
+    let first = print_step(
+        full,
+        b"\0\x04\x0a\x01\x02\0\x01\x01\0\0\x01\x02\0\0\x09\x02\x01\0",
+    );
     // 1 1 0 0: a count would pass
     let second = print_step(first, b"\0\x01\x01\x01\0\0");
     // 2 1 2 0 and 8 1 2 3: the second would pass, so neither is counted

@@ -58,7 +58,14 @@ fn finish(buffer: &mut [u8], at: usize, derivation: &[u8], tally: Tally) -> Take
 }
 
 // What stands behind the answer. A satisfiable query has no derivation, and none is asked for.
-fn count_lines(buffer: &mut [u8], at: usize, order: &[u8], query: &[u8], answer: Answer, tally: Tally) -> Taken
+fn count_lines(
+    buffer: &mut [u8],
+    at: usize,
+    order: &[u8],
+    query: &[u8],
+    answer: Answer,
+    tally: Tally,
+) -> Taken
     requires { ⌜ (at ≤ 1000) × (meaning answer ≡ answerOf (now order) (now query)) ⌝ }
     ensures { λ r. ⌜ Finishes (now (buffer .entry)) at (writtenLines (now (order .entry)) (now (query .entry))) (tally .counts) (now (buffer .exit)) (r .length) (r .tally .counts) (r .goes) ⌝ }
 {

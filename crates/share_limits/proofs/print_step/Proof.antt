@@ -6,10 +6,10 @@ use Rattle.share_limits.proofs.print_step.Statement.{statement}
 use Rattle.share_limits.proofs.print_step.Tie as tie
 
 abbrev Inv-loop : tie.InvT-loop
-Inv-loop next counts k₀ k = k ≤ 8
+Inv-loop derivation next counts k₀ k = k ≤ 8
 
 abbrev μ-loop : tie.MeasureT-loop
-μ-loop next counts k₀ k = 8 - k
+μ-loop derivation next counts k₀ k = 8 - k
 
 pub print-step-spec : {M : Type 1} → statement M
 print-step-spec =
