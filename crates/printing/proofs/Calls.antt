@@ -9,6 +9,7 @@ use lib.Seq.{take-all, take-nil, take-take, take-add, drop-at, length-take-le}
 use Rattle.logic.specs.Search.{flatMap}
 use Rattle.logic.specs.Derivation.{linesIn}
 use Rattle.logic.specs.Calls.{Input, Outcome, verdictCall, derivationCall}
+use Rattle.logic.specs.Calls as calls
 use Rattle.logic.specs.Demands.{Fits}
 use Rattle.logic.proofs.Basics.Compare.{le-cases}
 use Rattle.lemitsaka.specs.Promise.{meaning, Does}
@@ -16,7 +17,7 @@ use Rattle.lemitsaka.specs.declared.Answer.{Answer}
 use Rattle.lemitsaka.specs.declared.Answer.the-variants as answer
 use Rattle.logic.proofs.Calls.Demands.{demand2}
 use Rattle.text.specs.Text.{ascii}
-use Rattle.printing.specs.HeapverdictText.{reportText, lineText, refusalText, derivationText, verdictText, unsatText, textOf, heapverdictText}
+use Rattle.printing.specs.HeapverdictText.{reportText, lineText, answerText, firstLine, derivationText, verdictText, unsatText, textOf, heapverdictText}
 
 module _ (order query : List ℕ) (room : ℕ) (bytes : List ℕ) (r : Answer) where
   abbrev given : Input
@@ -45,14 +46,14 @@ module _ (order query : List ℕ) (room : ℕ) (bytes : List ℕ) (r : Answer) w
 
   module _ (does : Does (verdictCall given) r bytes) (full : room ≡ 53) where
     pub sat-text : r ≡ answer.Satisfiable → ascii "sat\n" ++ reportText bytes ≡ textOf order query
-    unfolding verdictText
+    unfolding verdictText firstLine answerText
     sat-text e = sym (verdict-told does full ∙ ap (λ (a : Answer). verdictText (meaning a) bytes (unsatText order query)) e)
 
     pub unsat-text : r ≡ answer.Refuted → ascii "unsat\n" ++ unsatText order query ≡ textOf order query
-    unfolding verdictText
+    unfolding verdictText firstLine answerText
     unsat-text e = sym (verdict-told does full ∙ ap (λ (a : Answer). verdictText (meaning a) bytes (unsatText order query)) e)
 
-    pub refused-text : (k place : ℕ) → r ≡ answer.Refused k place → refusalText k place ≡ textOf order query
+    pub refused-text : (k place : ℕ) → r ≡ answer.Refused k place → firstLine (calls.refused k place) ≡ textOf order query
     unfolding verdictText
     refused-text k place e = sym (verdict-told does full ∙ ap (λ (a : Answer). verdictText (meaning a) bytes (unsatText order query)) e)
 
@@ -61,7 +62,7 @@ module _ (order query : List ℕ) (room : ℕ) (bytes : List ℕ) (r : Answer) w
     unfolding derivationText
     lines-text e = sym (derivation-told does full ∙ ap (λ (a : Answer). derivationText (meaning a) bytes) e)
 
-    pub no-lines-text : (k place : ℕ) → r ≡ answer.Refused k place → refusalText k place ≡ unsatText order query
+    pub no-lines-text : (k place : ℕ) → r ≡ answer.Refused k place → firstLine (calls.refused k place) ≡ unsatText order query
     unfolding derivationText
     no-lines-text k place e = sym (derivation-told does full ∙ ap (λ (a : Answer). derivationText (meaning a) bytes) e)
 

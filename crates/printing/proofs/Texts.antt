@@ -13,16 +13,24 @@ use Rattle.logic.specs.Search.{_and_, flatMap}
 use Rattle.logic.specs.Facts.{Line, line}
 use Rattle.logic.specs.Derivation.{lineBytes, linesFrom, linesIn}
 use Rattle.logic.specs.Shown.{sizeIn, isNode, wellFormed}
+use Rattle.logic.specs.Calls.{refused}
 use Rattle.logic.proofs.Basics.Search.{and-left, and-right}
+use Rattle.lemitsaka.specs.Promise.{meaning}
+use Rattle.lemitsaka.specs.declared.Answer.{Answer}
+use Rattle.lemitsaka.specs.declared.Answer.the-variants as answer
 use Rattle.text.specs.Text.{ascii, decimal, hexByte, Writes}
 use Rattle.text.proofs.Digits.{decimal-machine, decimal-byte}
-use Rattle.printing.specs.HeapverdictText.{behind, lineOf, refusalText, reportSize, reportText, lineText}
+use Rattle.printing.specs.HeapverdictText.{behind, lineOf, refusedText, answerText, firstLine, reportSize, reportText, lineText}
 
 -- Refusals and lines, from their words
 
-pub refusal-words : (k place : ℕ) → ascii "refused " ++ (decimal k ++ (ascii " at " ++ (decimal place ++ ascii "\n"))) ≡ refusalText k place
-unfolding refusalText
-refusal-words k place = refl
+pub refused-words : (k place : ℕ) → ascii "refused " ++ (decimal k ++ (ascii " at " ++ decimal place)) ≡ refusedText k place
+unfolding refusedText
+refused-words k place = refl
+
+pub refusal-line : (k place : ℕ) → refusedText k place ++ ascii "\n" ≡ firstLine (refused k place)
+unfolding firstLine answerText
+refusal-line k place = refl
 
 pub line-words : (a b c d : ℕ) → decimal a ++ ((ascii " " ++ decimal b) ++ ((ascii " " ++ decimal c) ++ ((ascii " " ++ decimal d) ++ ascii "\n"))) ≡ lineText (line a b c d)
 unfolding lineText lineOf behind lineBytes
@@ -122,3 +130,17 @@ module _ (count : ℕ) (bytes : List ℕ) where
   pub lines-end : (i : ℕ) → count ≤ i → linesLeft count bytes i ≡ []
   unfolding linesFrom flatMap
   lines-end i h = let z : count - i ≡ 0 = omega arith in ap (λ (k : ℕ). flatMap lineText (linesFrom k (drop (2 + 4 * i) bytes))) z
+
+-- the words of an answer, case by case
+module _ (a : Answer) where
+  pub sat-words : a ≡ answer.Satisfiable → ascii "sat" ≡ answerText (meaning a)
+  unfolding answerText
+  sat-words e = sym (ap (λ (b : Answer). answerText (meaning b)) e)
+
+  pub unsat-words : a ≡ answer.Refuted → ascii "unsat" ≡ answerText (meaning a)
+  unfolding answerText
+  unsat-words e = sym (ap (λ (b : Answer). answerText (meaning b)) e)
+
+  pub refusal-words : (k place : ℕ) → a ≡ answer.Refused k place → refusedText k place ≡ answerText (meaning a)
+  unfolding answerText
+  refusal-words k place e = sym (ap (λ (b : Answer). answerText (meaning b)) e)

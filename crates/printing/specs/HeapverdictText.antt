@@ -18,9 +18,17 @@ unfoldable pub lineOf : List (List ℕ) → List ℕ
 lineOf [] = ascii "\n"
 lineOf (w ∷ ws) = w ++ behind ws
 
--- "`refused N at P`"
-unfoldable pub refusalText : ℕ → ℕ → List ℕ
-refusalText k place = ascii "refused " ++ (decimal k ++ (ascii " at " ++ (decimal place ++ ascii "\n")))
+-- "It prints `sat`, `unsat` or `refused N at P`": the words of an answer, and the first line
+unfoldable pub refusedText : ℕ → ℕ → List ℕ
+refusedText k place = ascii "refused " ++ (decimal k ++ (ascii " at " ++ decimal place))
+
+unfoldable pub answerText : Answer → List ℕ
+answerText satisfiable = ascii "sat"
+answerText refuted = ascii "unsat"
+answerText (refused k place) = refusedText k place
+
+unfoldable pub firstLine : Answer → List ℕ
+firstLine a = answerText a ++ ascii "\n"
 
 -- "That is 2m+n+5 bytes"
 unfoldable pub reportSize : List ℕ → ℕ
@@ -37,14 +45,14 @@ lineText l = lineOf (map decimal (lineBytes l))
 -- what follows `unsat`, where the derivation call has this outcome: its lines, "or `refused 12 at 0`". It never answers "satisfiable".
 unfoldable pub derivationText : Answer → List ℕ → List ℕ
 derivationText refuted bytes = flatMap lineText (linesIn bytes)
-derivationText (refused k place) bytes = refusalText k place
+derivationText (refused k place) bytes = firstLine (refused k place)
 derivationText satisfiable bytes = []
 
--- "It prints `sat`, `unsat` or `refused N at P`. After `sat`: one line ... After `unsat`: each derivation line .."
+-- "After `sat`: one line ... After `unsat`: each derivation line .."
 unfoldable pub verdictText : Answer → List ℕ → List ℕ → List ℕ
-verdictText satisfiable bytes derivation = ascii "sat\n" ++ reportText bytes
-verdictText refuted bytes derivation = ascii "unsat\n" ++ derivation
-verdictText (refused k place) bytes derivation = refusalText k place
+verdictText satisfiable bytes derivation = firstLine satisfiable ++ reportText bytes
+verdictText refuted bytes derivation = firstLine refuted ++ derivation
+verdictText (refused k place) bytes derivation = firstLine (refused k place)
 
 -- "Its derivation buffer has 64,002 bytes."
 unfoldable pub unsatText : List ℕ → List ℕ → List ℕ

@@ -8,10 +8,12 @@ ghost use Rattle.logic.specs.Search.{flatMap};
 ghost use Rattle.logic.specs.Facts.{line};
 ghost use Rattle.logic.specs.Derivation.{linesIn};
 ghost use Rattle.logic.specs.Shown.{wellFormed};
+ghost use Rattle.logic.specs.Calls.{refused};
 ghost use Rattle.logic.specs.Demands.{Fits};
+ghost use Rattle.lemitsaka.specs.Promise.{meaning};
 ghost use mathlib.Core.List.{_++_};
 ghost use Rattle.text.specs.Text.{Writes, ascii, decimal};
-ghost use Rattle.printing.specs.HeapverdictText.{reportSize, reportText, lineText, refusalText, unsatText, textOf, heapverdictText};
+ghost use Rattle.printing.specs.HeapverdictText.{reportSize, reportText, lineText, refusedText, answerText, firstLine, unsatText, textOf, heapverdictText};
 
 // A byte as a wider number.
 fn wide(x: u8) -> usize
@@ -99,14 +101,34 @@ fn put_lines(buffer: &mut [u8], at: usize, lines: &[u8]) -> usize
 }
 
 // "refused N at P"
-fn put_refusal(buffer: &mut [u8], at: usize, k: usize, place: usize) -> usize
+fn put_refused(buffer: &mut [u8], at: usize, k: usize, place: usize) -> usize
     requires { ⌜ at ≤ 1000 ⌝ }
-    ensures { λ r. ⌜ Writes (now (buffer .entry)) at (refusalText k place) (now (buffer .exit)) r × (r ≤ at + 53) ⌝ }
+    ensures { λ r. ⌜ Writes (now (buffer .entry)) at (refusedText k place) (now (buffer .exit)) r × (r ≤ at + 52) ⌝ }
 {
     let number = text::put_bytes(buffer, at, b"refused ");
     let behind = text::put_decimal(buffer, number, k);
     let where_from = text::put_bytes(buffer, behind, b" at ");
-    let end = text::put_decimal(buffer, where_from, place);
+    text::put_decimal(buffer, where_from, place)
+}
+
+// The words of an answer: heapverdict's first line without its newline.
+pub fn put_answer(buffer: &mut [u8], at: usize, answer: Answer) -> usize
+    requires { ⌜ at ≤ 1000 ⌝ }
+    ensures { λ r. ⌜ Writes (now (buffer .entry)) at (answerText (meaning answer)) (now (buffer .exit)) r × (r ≤ at + 52) ⌝ }
+{
+    match answer {
+        Answer::Satisfiable => text::put_bytes(buffer, at, b"sat"),
+        Answer::Refuted => text::put_bytes(buffer, at, b"unsat"),
+        Answer::Refused(k, place) => put_refused(buffer, at, k, place),
+    }
+}
+
+// A refusal on a line of its own.
+fn put_refusal(buffer: &mut [u8], at: usize, k: usize, place: usize) -> usize
+    requires { ⌜ at ≤ 1000 ⌝ }
+    ensures { λ r. ⌜ Writes (now (buffer .entry)) at (firstLine (refused k place)) (now (buffer .exit)) r × (r ≤ at + 53) ⌝ }
+{
+    let end = put_refused(buffer, at, k, place);
     text::put_byte(buffer, end, b'\n')
 }
 

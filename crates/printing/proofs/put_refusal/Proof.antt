@@ -1,9 +1,8 @@
--- Two words, two numbers and a newline. Assumes nothing.
+-- The words, and a newline. Assumes nothing.
 use native.Mathlib.Omega.{arith}
 use borrow.Author.Needs.{needs}
 use Rattle.text.proofs.Writing.{writes-as, writes-then}
-use Rattle.text.proofs.Digits.{decimal-machine}
-use Rattle.printing.proofs.Texts.{refusal-words}
+use Rattle.printing.proofs.Texts.{refusal-line}
 use Rattle.printing.proofs.put_refusal.Statement.{statement}
 use Rattle.printing.proofs.put_refusal.Tie as tie
 
@@ -11,30 +10,11 @@ pub put-refusal-spec : {M : Type 1} → statement M
 put-refusal-spec =
     tie.close
     (tie.spec
-    -- slice-aggregate-put-bytes
-    (λ c. search needs)
-    -- put-bytes-requires
+    -- put-refused-requires
     (λ c κs. search needs)
-    -- put-decimal-requires
-    (λ c κs. search needs)
-    -- slice-aggregate-put-bytes-2
-    (λ c. search needs)
-    -- put-bytes-requires-2
-    (λ c κs. let k = decimal-machine (c .before .before .before .before .before .before .before .before .before .before .before .before .args .k) (omega arith) in omega arith)
-    -- put-decimal-requires-2
-    (λ c κs. let k = decimal-machine (c .before .before .before .before .before .before .before .before .before .before .before .before .before .before .before .before .args .k) (omega arith) in omega arith)
     -- put-byte-requires
-    (λ c κs.
-    let k = decimal-machine (c .before .before .before .before .before .before .before .before .before .before .before .before .before .before .before .before .before .before .before .before .args .k) (omega arith) in
-    let p = decimal-machine (c .before .before .before .before .before .before .before .before .before .before .before .before .before .before .before .before .before .before .before .before .args .place) (omega arith) in
-    omega arith)
+    (λ c κs. omega arith)
     -- same-length
     (λ c. search needs)
     -- returns
-    (λ c.
-    let k = decimal-machine (c .before .before .before .before .before .before .before .before .before .before .before .before .before .before .before .before .before .before .before .before .before .before .before .args .k) (omega arith) in
-    let p = decimal-machine (c .before .before .before .before .before .before .before .before .before .before .before .before .before .before .before .before .before .before .before .before .before .before .before .args .place) (omega arith) in (
-      writes-as (refusal-words _ _)
-          (writes-then (c .before .before .before .before .before .before .before .before .before .before .before .before .before .before .before .before .before .before .before .put-bytes .ensures) (writes-then (c .before .before .before .before .before .before .before .before .before .before .before .before .before .before .before .put-decimal .ensures) (writes-then (c .before .before .before .before .before .before .before .before .before .before .put-bytes2 .ensures) (writes-then (c .before .before .before .before .before .before .put-decimal2 .ensures) (c .before .before .put-byte .ensures))))),
-      omega (arith, c .before .before .before .before .before .before .before .before .before .before .before .before .before .before .before .before .before .before .before .put-bytes .ensures .ends, c .before .before .before .before .before .before .before .before .before .before .before .before .before .before .before .put-decimal .ensures .ends),
-    )))
+    (λ c. (writes-as (refusal-line _ _) (writes-then (c .before .before .before .before .before .before .put-refused .ensures .0) (c .before .before .put-byte .ensures)), omega (arith, c .before .before .before .before .before .before .put-refused .ensures .1, c .before .before .put-byte .ensures .ends))))

@@ -1,0 +1,46 @@
+-- The shares from k on are left. Assumes nothing.
+use Prim.Native.Nat.{_+_, _-_, _*_, _≤_}
+use native.Mathlib.Omega.{arith}
+use borrow.Author.Needs.{needs}
+use mathlib.Core.Path.{_≡_, refl, ap, _∙_}
+use lib.ListN.{length, getD}
+use Rattle.text.proofs.Writing.{Part, part-from, part-more, part-all, part-length, writes-as}
+use Rattle.fractions.specs.Fractions.{totalOf, fractionText, share, sharesText}
+use Rattle.fractions.proofs.Shares.{sharesLeft, shares-whole, shares-next, shares-end, part-at-most, share-as}
+use Rattle.fractions.proofs.put_shares.Statement.{statement}
+use Rattle.fractions.proofs.put_shares.Tie as tie
+
+abbrev Inv-loop : tie.InvT-loop
+Inv-loop buffer₀ counts total to₀ k₀ buffer to k = (k ≤ 8) × (length counts ≡ 8) × (to ≤ 42 * k) × (total ≡ totalOf counts) × Part buffer₀ 0 (sharesText counts) buffer to (sharesLeft total counts k)
+
+abbrev μ-loop : tie.MeasureT-loop
+μ-loop buffer₀ counts total to₀ k₀ buffer to k = 8 - k
+
+pub put-shares-spec : {M : Type 1} → statement M
+put-shares-spec =
+    tie.close
+    (tie.spec
+    Inv-loop
+    μ-loop
+    -- total-of-requires
+    (λ c κs. search needs)
+    -- loop-holds
+    (λ c. (omega arith, c .total-of .ensures .1, omega arith, c .total-of .ensures .0, part-from _ _ (shares-whole _ _ (c .total-of .ensures .0))))
+    -- mul-wide
+    (λ c. search needs)
+    -- array-read-wide
+    (λ c. search needs)
+    -- wide-requires
+    (λ c κs. search needs)
+    -- put-share-requires
+    (λ c κs. (omega arith, omega (arith, part-at-most (c .before .before .before .before .before .before .args .t2) (c .before .before .before .loop .k) (omega arith))))
+    -- add-k
+    (λ c. omega arith)
+    -- loop-less
+    (λ c. omega arith)
+    -- loop-again
+    (λ c. (omega arith, c .before .before .before .before .before .before .loop .inv .1, omega (arith, c .before .before .put-share .ensures .1), c .before .before .before .before .before .before .loop .inv .3, part-more (c .before .before .before .before .before .before .loop .inv .4) (shares-next _ _ (c .before .before .before .before .before .before .loop .k) (omega arith)) (writes-as (share-as _ (c .before .before .before .wide .ensures .0)) (c .before .before .put-share .ensures .0))))
+    -- same-length
+    (λ c. part-length (c .before .loop .inv .4))
+    -- returns
+    (λ c. (part-all (c .before .loop .inv .4) (shares-end _ _ (c .before .loop .k) (omega arith)), omega arith)))

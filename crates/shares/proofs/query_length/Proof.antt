@@ -1,0 +1,25 @@
+-- Assumes nothing.
+use native.Mathlib.Omega.{arith}
+use borrow.Author.Needs.{needs}
+use Rattle.shares.proofs.Turns.{wanted-none, wanted-all, wanted-few}
+use Rattle.shares.proofs.query_length.Statement.{statement}
+use Rattle.shares.proofs.query_length.Tie as tie
+
+pub query-length-spec : {M : Type 1} → statement M
+query-length-spec =
+    tie.close
+    (tie.spec
+    -- bad-length-requires
+    (λ c κs. search needs)
+    -- returns
+    (λ c. (wanted-none _ (c .before .bad-length .ensures) (c .if1 .taken), omega arith))
+    -- byte-at-requires
+    (λ c κs. search needs)
+    -- mul-result
+    (λ c. search needs)
+    -- byte-at-requires-2
+    (λ c κs. search needs)
+    -- add-result
+    (λ c. search needs)
+    -- returns-2
+    (λ c. (wanted-all _ (c .before .before .before .bad-length .ensures) (c .before .before .if1 .left) (c .before .byte-at .ensures .0) (c .byte-at2 .ensures .0), wanted-few _ (c .before .before .before .bad-length .ensures) (c .before .before .if1 .left) (c .before .byte-at .ensures .0) (c .byte-at2 .ensures .0))))

@@ -1,0 +1,28 @@
+-- A rule's own count is raised, and no other. Assumes nothing.
+use native.Mathlib.Omega.{arith}
+use borrow.Author.Needs.{needs}
+use mathlib.Core.Path.{refl}
+use Rattle.tally.proofs.Counts.{at-most, raised-low, raised-high, raised-own}
+use Rattle.tally.proofs.count_line.Statement.{statement}
+use Rattle.tally.proofs.count_line.Tie as tie
+
+pub count-line-spec : {M : Type 1} → statement M
+count-line-spec =
+    tie.close
+    (tie.spec
+    -- returns
+    (λ c. raised-low _ _ (c .if1 .taken))
+    -- returns-2
+    (λ c. raised-high (c .before .before .args .counts .now) (c .before .before .args .kind) (omega arith) (c .if2 .taken))
+    -- mul-counts
+    (λ c. search needs)
+    -- element-copy-out-counts
+    (λ c. search needs)
+    -- add-counts
+    (λ c. omega (arith, at-most (c .before .before .before .args .counts .now) (c .before .before .before .pre .0) (c .before .before .before .args .kind)))
+    -- mul-counts-2
+    (λ c. search needs)
+    -- element-write-counts
+    (λ c. search needs)
+    -- returns-3
+    (λ c. raised-own (c .before .before .before .args .counts .now) (c .before .before .before .args .kind) _ _ (omega arith) (omega arith) (omega arith) refl))
