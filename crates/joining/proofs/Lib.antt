@@ -1,0 +1,2 @@
+-- The theorems, from the leaves up.
+pub mod Samples
