@@ -1,2 +1,4 @@
 -- The theorems, from the leaves up.
+pub mod Encoded
+pub mod Terms
 pub mod Samples
