@@ -1,4 +1,6 @@
 -- The theorems, from the leaves up.
 pub mod Encoded
 pub mod Terms
+pub mod Accepted
+pub mod OneHeap
 pub mod Samples
