@@ -3,4 +3,7 @@ pub mod Encoded
 pub mod Terms
 pub mod Accepted
 pub mod OneHeap
+pub mod Places
+pub mod HandBack
+pub mod Claims
 pub mod Samples

@@ -317,9 +317,9 @@ module _ (a b : Query) (ps : List Pair) (first : Accepted a) (second : Accepted 
       let (h, names, m) = s in
       let v : ℕ → ℕ = merged (h .variable) names in
       let is : IsHeap (naming h v) =
-          record {
-            nonempty = m .meets-first .is-heap .nonempty;
-            link-node = m .meets-first .is-heap .link-node;
-            variable-node = merged-node h (h .variable) names (m .meets-first .is-heap .variable-node) (m .meets-second .is-heap .variable-node);
-          } in
+      record {
+        nonempty = m .meets-first .is-heap .nonempty;
+        link-node = m .meets-first .is-heap .link-node;
+        variable-node = merged-node h (h .variable) names (m .meets-first .is-heap .variable-node) (m .meets-second .is-heap .variable-node);
+      } in
       (naming h v, to-whole h v (h .variable) names (merged-first (h .variable) names) (merged-second (h .variable) names) (m .meets-first) (m .meets-second) (m .pairs-equal) (m .nils-equal) is)
