@@ -1,13 +1,13 @@
 -- Where the literals of a query stand in its bytes. Assumes nothing.
 use Prim.Native.Nat.{ℕ, zero, suc, _+_, _-_, _*_, _≤_, _<_}
 use native.Mathlib.Omega.{arith}
-use native.Mathlib.Nat.{mul-one}
+use native.Mathlib.Nat.{min-le-right}
 use mathlib.Core.Path.{_≡_, refl, sym, ap, _∙_, subst}
 use mathlib.Core.Logic.{⊎-elim}
 use mathlib.Core.Bool.{Bool, true, false, cond}
 use mathlib.Core.List.{List, [], _∷_, _++_, map, Memᴰ·append-left}
 use mathlib.Core.Option.{Option, none, some, Option·elim}
-use lib.ListN.{length, take, drop, length-drop, take-append-drop}
+use lib.ListN.{length, take, drop, length-take, length-drop, take-append-drop}
 use lib.Seq.{length-take-le, drop-append-add, drop-drop}
 use lib.Dec.{eqb, leb}
 use borrow.Author.Tests.{leb-true}
@@ -317,3 +317,39 @@ literal-stands bytes h s (suc k) one u =
   where
     less : suc k - 1 ≡ k
     less = omega arith
+
+-- a part that reads as a literal is as long as one, so that it lies in the bytes
+literals-three : (xs : List ℕ) (l : Literal) → literals xs ≡ l ∷ [] → 3 ≤ length xs
+unfolding literals
+literals-three [] l e = absurd (omega (arith, ap length e))
+literals-three (s ∷ []) l e = absurd (omega (arith, ap length e))
+literals-three (s ∷ a ∷ []) l e = absurd (omega (arith, ap length e))
+literals-three (s ∷ a ∷ b ∷ xs) l e = omega arith
+
+flags-two : (xs : List ℕ) (l : Literal) → flags xs ≡ l ∷ [] → 2 ≤ length xs
+unfolding flags
+flags-two [] l e = absurd (omega (arith, ap length e))
+flags-two (s ∷ []) l e = absurd (omega (arith, ap length e))
+flags-two (s ∷ a ∷ xs) l e = omega arith
+
+reads-width : (s : ℕ) (xs : List ℕ) (l : Literal) → readIn s xs ≡ l ∷ [] → widthIn s ≤ length xs
+unfolding readIn widthIn
+reads-width s xs l h = go (eqb s 5) h
+  where
+    go : (c : Bool) → cond c (flags xs) (literals xs) ≡ l ∷ [] → cond c 2 3 ≤ length xs
+    go true e = flags-two xs l e
+    go false e = literals-three xs l e
+
+pub literal-fits : (bytes : List ℕ) → accepts bytes ≡ true → (s k : ℕ) → 1 ≤ k → k ≤ length (literalsIn (decode bytes) s) → placeIn (decode bytes) s k + widthIn s ≤ length bytes
+unfolding widthIn
+literal-fits bytes h s k one u =
+    let (l, own, reads) = literal-stands bytes h s k one u in
+    let wide = reads-width s (take (widthIn s) (drop (placeIn (decode bytes) s k) bytes)) l reads in
+    fits (widthIn s) (some-wide (eqb s 5)) wide
+  where
+    some-wide : (c : Bool) → 1 ≤ cond c 2 3
+    some-wide true = omega arith
+    some-wide false = omega arith
+
+    fits : (w : ℕ) → 1 ≤ w → w ≤ length (take w (drop (placeIn (decode bytes) s k) bytes)) → placeIn (decode bytes) s k + w ≤ length bytes
+    fits w one-wide e = omega (arith, length-take w (drop (placeIn (decode bytes) s k) bytes), min-le-right w (length (drop (placeIn (decode bytes) s k) bytes)), length-drop (placeIn (decode bytes) s k) bytes)
