@@ -28,9 +28,9 @@ use Rattle.joiner.specs.declared.HandBack.the-variants as back
 
 -- The pair list
 
-and-first : {a b : Bool} (c : Bool) → a ≡ false → a and b and c ≡ false
+and-first : {a : Bool} (b c : Bool) → a ≡ false → a and b and c ≡ false
 unfolding _and_
-and-first c e = rw e
+and-first b c e = rw e
 
 and-second : (a : Bool) {b : Bool} (c : Bool) → b ≡ false → a and b and c ≡ false
 unfolding _and_
@@ -44,7 +44,7 @@ module _ (n m : ℕ) (bytes : List ℕ) where
 
   pub list-high : {k : ℕ} → k ≡ getD bytes 0 0 → 60 < k → false ≡ isPairList n m bytes
   unfolding isPairList firstByte
-  list-high e h = sym (and-first _ (lt-leb (getD bytes 0 0) 60 (omega arith)))
+  list-high e h = sym (and-first _ _ (lt-leb (getD bytes 0 0) 60 (omega arith)))
 
   pub list-wrong : {k : ℕ} → k ≡ getD bytes 0 0 → (length bytes ≡ 1 + 2 * k → ⊥) → false ≡ isPairList n m bytes
   unfolding isPairList firstByte
@@ -176,7 +176,7 @@ module _ (first second line : List ℕ) (ok₁ : accepts first ≡ true) (ok₂ 
       (sym (of-tests (decode first) (decode second) line true false false (eq-eqb (getD line 0 0) 9 (sym e₀ ∙ h)) (among-low 0 _ (getD line 2 0) (omega arith)) (among-low _ _ (getD line 2 0) (omega arith))), tt)
 
   pub back-first : nine ≡ 9 → {i p size : ℕ} → i ≡ length (literalsIn (decode first) s) → (k ≡ 0 → ⊥) → k ≤ i → p ≡ placeIn (decode first) s k → size ≡ widthIn s → Answers (back.InFirst p size)
-  back-first h {i} ei one low ep ez =
+  back-first h {i} {p} {size} ei one low ep ez =
       let inside = moved (decode first) ei in
       let at-place : p ≡ placeIn (decode first) (getD line 1 0) (getD line 2 0) = ep ∙ ap (λ (t : ℕ). placeIn (decode first) t k) e₁ ∙ ap (placeIn (decode first) (getD line 1 0)) e₂ in
       let at-size : size ≡ widthIn (getD line 1 0) = ez ∙ ap widthIn e₁ in (
@@ -238,3 +238,29 @@ module _ (first second line : List ℕ) where
   -- the bytes of the part
   pub part-found : {r w : HandBack} {xs : List ℕ} → handed r ≡ handBackCall first second line → r ≡ w → xs ≡ partOf (handed w) first second → xs ≡ partOf (handBackCall first second line) first second
   part-found e q h = h ∙ ap (λ (x : HandBack). partOf (handed x) first second) (sym q) ∙ ap (λ (x : Handed). partOf x first second) e
+
+  pub part-first : {r : HandBack} {at size : ℕ} → handed r ≡ handBackCall first second line → r ≡ back.InFirst at size → take (at + size - at) (drop at first) ≡ partOf (handBackCall first second line) first second
+  unfolding partOf
+  part-first {at = at} {size = size} e q = part-found e q (ap (λ (k : ℕ). take k (drop at first)) (left))
+    where
+      left : at + size - at ≡ size
+      left = omega arith
+
+  pub part-second : {r : HandBack} {at size : ℕ} → handed r ≡ handBackCall first second line → r ≡ back.InSecond at size → take (at + size - at) (drop at second) ≡ partOf (handBackCall first second line) first second
+  unfolding partOf
+  part-second {at = at} {size = size} e q = part-found e q (ap (λ (k : ℕ). take k (drop at second)) (left))
+    where
+      left : at + size - at ≡ size
+      left = omega arith
+
+  pub empty-first : {r : HandBack} {k place : ℕ} → handed r ≡ handBackCall first second line → r ≡ back.FirstRefused k place → [] ≡ partOf (handBackCall first second line) first second
+  unfolding partOf
+  empty-first e q = part-found e q refl
+
+  pub empty-second : {r : HandBack} {k place : ℕ} → handed r ≡ handBackCall first second line → r ≡ back.SecondRefused k place → [] ≡ partOf (handBackCall first second line) first second
+  unfolding partOf
+  empty-second e q = part-found e q refl
+
+  pub empty-other : {r : HandBack} {k place : ℕ} → handed r ≡ handBackCall first second line → r ≡ back.Refused k place → [] ≡ partOf (handBackCall first second line) first second
+  unfolding partOf
+  empty-other e q = part-found e q refl
