@@ -1,0 +1,57 @@
+-- The tests in their order. Assumes nothing.
+use Prim.Native.Nat.{ℕ, suc, _+_, _-_, _*_, _≤_, _<_}
+use native.Mathlib.Omega.{arith}
+use borrow.Author.Needs.{needs}
+use borrow.Author.Tests.{not-true, not-false}
+use mathlib.Core.Path.{_≡_, refl, sym, ap, _∙_, subst}
+use mathlib.Core.List.{List, [], _∷_, _++_, map}
+use lib.ListN.{length, getD, take, drop, replicate}
+use Rattle.logic.specs.Query.{decode}
+use Rattle.query.specs.Answers.{CheckedAs}
+use Rattle.query.specs.declared.Checked.{Checked}
+use Rattle.query.proofs.Ranges.{checked-accepts}
+use Rattle.text.proofs.Writing.{writes-as, writes-then, writes-length}
+use Rattle.joining.specs.Pairs.{pairsOf}
+use Rattle.joining.specs.Joined.{raisedEntry}
+use Rattle.joiner.specs.Promise.{handed}
+use Rattle.joiner.specs.declared.HandBack.{HandBack}
+use Rattle.joiner.specs.Bytes.{keepsLimits}
+use Rattle.joiner.proofs.Laws.{entries-long, literals-long, flags-long}
+use Rattle.joiner.proofs.Answers as law
+use Rattle.joiner.proofs.find_literal.Statement.{statement}
+use Rattle.joiner.proofs.find_literal.Tie as tie
+
+pub find-literal-spec : {M : Type 1} → statement M
+find-literal-spec =
+    tie.close
+    (tie.spec
+    -- byte-of-requires
+    (λ c κs. search needs)
+    -- byte-of-requires-2
+    (λ c κs. search needs)
+    -- byte-of-requires-3
+    (λ c κs. search needs)
+    -- returns
+    (λ c. law.back-other (c .before .before .before .before .before .before .before .args .first .now) (c .before .before .before .before .before .before .before .args .second .now) (c .before .before .before .before .before .before .before .args .line .now) (c .before .before .before .before .before .before .before .pre .0 .accepted) (c .before .before .before .before .before .before .before .pre .1 .accepted) (c .before .before .before .byte-of .ensures .0) (c .before .before .byte-of2 .ensures .0) (c .before .byte-of3 .ensures .0) (c .if1 .taken))
+    -- count-in-requires
+    (λ c κs. c .before .before .before .before .before .before .before .pre .0 .laid)
+    -- count-in-requires-2
+    (λ c κs. c .before .before .before .before .before .before .before .before .pre .1 .laid)
+    -- width-in-requires
+    (λ c κs. search needs)
+    -- returns-2
+    (λ c. law.back-zero (c .before .before .before .before .before .before .before .before .before .before .before .args .first .now) (c .before .before .before .before .before .before .before .before .before .before .before .args .second .now) (c .before .before .before .before .before .before .before .before .before .before .before .args .line .now) (c .before .before .before .before .before .before .before .before .before .before .before .pre .0 .accepted) (c .before .before .before .before .before .before .before .before .before .before .before .pre .1 .accepted) (c .before .before .before .before .before .before .before .byte-of .ensures .0) (c .before .before .before .before .before .before .byte-of2 .ensures .0) (c .before .before .before .before .before .byte-of3 .ensures .0) (c .before .before .before .before .if1 .left) (c .if2 .taken))
+    -- place-in-requires
+    (λ c κs. (c .before .before .before .before .before .before .before .before .before .before .before .before .pre .0 .laid, omega (arith, c .before .if2 .left), omega (arith, c .if3 .taken, c .before .before .before .before .count-in .ensures .1)))
+    -- returns-3
+    (λ c. law.back-first (c .before .before .before .before .before .before .before .before .before .before .before .before .before .args .first .now) (c .before .before .before .before .before .before .before .before .before .before .before .before .before .args .second .now) (c .before .before .before .before .before .before .before .before .before .before .before .before .before .args .line .now) (c .before .before .before .before .before .before .before .before .before .before .before .before .before .pre .0 .accepted) (c .before .before .before .before .before .before .before .before .before .before .before .before .before .pre .1 .accepted) (c .before .before .before .before .before .before .before .before .before .byte-of .ensures .0) (c .before .before .before .before .before .before .before .before .byte-of2 .ensures .0) (c .before .before .before .before .before .before .before .byte-of3 .ensures .0) (c .before .before .before .before .before .before .if1 .left) (c .before .before .before .before .before .count-in .ensures .0) (c .before .before .if2 .left) (c .before .if3 .taken) (c .place-in .ensures) (c .before .before .before .width-in .ensures))
+    -- add-if4
+    (λ c. omega (arith, c .before .before .before .before .count-in .ensures .1, c .before .before .before .count-in2 .ensures .1))
+    -- sub-place-in
+    (λ c. omega (arith, c .before .if3 .left))
+    -- place-in-requires-2
+    (λ c κs. (c .before .before .before .before .before .before .before .before .before .before .before .before .before .pre .1 .laid, omega (arith, c .before .if3 .left), omega (arith, c .if4 .taken, c .before .if3 .left, c .before .before .before .before .count-in2 .ensures .1)))
+    -- returns-4
+    (λ c. law.back-second (c .before .before .before .before .before .before .before .before .before .before .before .before .before .before .args .first .now) (c .before .before .before .before .before .before .before .before .before .before .before .before .before .before .args .second .now) (c .before .before .before .before .before .before .before .before .before .before .before .before .before .before .args .line .now) (c .before .before .before .before .before .before .before .before .before .before .before .before .before .before .pre .0 .accepted) (c .before .before .before .before .before .before .before .before .before .before .before .before .before .before .pre .1 .accepted) (c .before .before .before .before .before .before .before .before .before .before .byte-of .ensures .0) (c .before .before .before .before .before .before .before .before .before .byte-of2 .ensures .0) (c .before .before .before .before .before .before .before .before .byte-of3 .ensures .0) (c .before .before .before .before .before .before .before .if1 .left) (c .before .before .before .before .before .before .count-in .ensures .0) (c .before .before .before .before .before .count-in2 .ensures .0) (c .before .before .if3 .left) (c .before .if4 .taken) (c .place-in2 .ensures) (c .before .before .before .before .width-in .ensures))
+    -- returns-5
+    (λ c. law.back-past (c .before .before .before .before .before .before .before .before .before .before .before .before .before .args .first .now) (c .before .before .before .before .before .before .before .before .before .before .before .before .before .args .second .now) (c .before .before .before .before .before .before .before .before .before .before .before .before .before .args .line .now) (c .before .before .before .before .before .before .before .before .before .before .before .before .before .pre .0 .accepted) (c .before .before .before .before .before .before .before .before .before .before .before .before .before .pre .1 .accepted) (c .before .before .before .before .before .before .before .before .before .byte-of .ensures .0) (c .before .before .before .before .before .before .before .before .byte-of2 .ensures .0) (c .before .before .before .before .before .before .before .byte-of3 .ensures .0) (c .before .before .before .before .before .before .if1 .left) (c .before .before .before .before .before .count-in .ensures .0) (c .before .before .before .before .count-in2 .ensures .0) (c .before .if3 .left) (c .if4 .left)))

@@ -1,0 +1,52 @@
+-- The pair list, the limits, and then the query. Assumes nothing.
+use Prim.Native.Nat.{ℕ, suc, _+_, _-_, _*_, _≤_, _<_}
+use native.Mathlib.Omega.{arith}
+use borrow.Author.Needs.{needs}
+use borrow.Author.Tests.{not-true, not-false}
+use mathlib.Core.Path.{_≡_, refl, sym, ap, _∙_, subst}
+use mathlib.Core.List.{List, [], _∷_, _++_, map}
+use lib.ListN.{length, getD, take, drop, replicate}
+use Rattle.logic.specs.Query.{decode}
+use Rattle.query.specs.Answers.{CheckedAs}
+use Rattle.query.specs.declared.Checked.{Checked}
+use Rattle.query.proofs.Ranges.{checked-accepts}
+use Rattle.text.proofs.Writing.{writes-as, writes-then, writes-length}
+use Rattle.joining.specs.Pairs.{pairsOf}
+use Rattle.joining.specs.Joined.{raisedEntry}
+use Rattle.joiner.specs.Promise.{handed}
+use Rattle.joiner.specs.declared.HandBack.{HandBack}
+use Rattle.joiner.specs.Bytes.{keepsLimits}
+use Rattle.joiner.proofs.Laws.{entries-long, literals-long, flags-long}
+use Rattle.joiner.proofs.Answers as law
+use lib.ListN.{length-replicate}
+use Rattle.joiner.proofs.Query as made
+use Rattle.joiner.proofs.Joins as call
+use Rattle.joiner.proofs.join_checked.Statement.{statement}
+use Rattle.joiner.proofs.join_checked.Tie as tie
+
+pub join-checked-spec : {M : Type 1} → statement M
+join-checked-spec =
+    tie.close
+    (tie.spec
+    -- is-pair-list-requires
+    (λ c κs. search needs)
+    -- returns
+    (λ c. call.not-listed (c .before .before .before .before .before .before .args .first .now) (c .before .before .before .before .before .before .args .second .now) (c .before .before .before .before .before .before .args .pairs .now) (c .before .before .before .before .before .before .args .f) (c .before .before .before .before .before .before .args .s) (c .before .before .before .before .before .before .pre .0) (c .before .before .before .before .before .before .pre .1) _ _ (sym (c .before .is-pair-list .ensures) ∙ not-true _ (c .if1 .taken)) (c .before .before .before .before .before .before .pre .2))
+    -- byte-at-requires
+    (λ c κs. omega (arith, made.pairs-long (c .before .before .before .before .before .before .args .first .now) (c .before .before .before .before .before .before .args .second .now) (c .before .before .before .before .before .before .args .pairs .now) (c .before .before .before .before .before .before .args .f) (c .before .before .before .before .before .before .args .s) (c .before .before .before .before .before .before .pre .0) (c .before .before .before .before .before .before .pre .1) (sym (c .before .is-pair-list .ensures) ∙ not-false _ (c .if1 .left))))
+    -- keeps-limits-requires
+    (λ c κs. (made.first-bounded (c .before .before .before .before .before .before .before .args .first .now) (c .before .before .before .before .before .before .before .args .second .now) (c .before .before .before .before .before .before .before .args .pairs .now) (c .before .before .before .before .before .before .before .args .f) (c .before .before .before .before .before .before .before .args .s) (c .before .before .before .before .before .before .before .pre .0) (c .before .before .before .before .before .before .before .pre .1) (sym (c .before .before .is-pair-list .ensures) ∙ not-false _ (c .before .if1 .left)), made.second-bounded (c .before .before .before .before .before .before .before .args .first .now) (c .before .before .before .before .before .before .before .args .second .now) (c .before .before .before .before .before .before .before .args .pairs .now) (c .before .before .before .before .before .before .before .args .f) (c .before .before .before .before .before .before .before .args .s) (c .before .before .before .before .before .before .before .pre .0) (c .before .before .before .before .before .before .before .pre .1) (sym (c .before .before .is-pair-list .ensures) ∙ not-false _ (c .before .if1 .left)), omega (arith, made.pairs-few (c .before .before .before .before .before .before .before .args .first .now) (c .before .before .before .before .before .before .before .args .second .now) (c .before .before .before .before .before .before .before .args .pairs .now) (c .before .before .before .before .before .before .before .args .f) (c .before .before .before .before .before .before .before .args .s) (c .before .before .before .before .before .before .before .pre .0) (c .before .before .before .before .before .before .before .pre .1) (sym (c .before .before .is-pair-list .ensures) ∙ not-false _ (c .before .if1 .left)), c .byte-at .ensures)))
+    -- returns-2
+    (λ c. call.limit-passed (c .before .before .before .before .before .before .before .before .before .args .first .now) (c .before .before .before .before .before .before .before .before .before .args .second .now) (c .before .before .before .before .before .before .before .before .before .args .pairs .now) (c .before .before .before .before .before .before .before .before .before .args .f) (c .before .before .before .before .before .before .before .before .before .args .s) (c .before .before .before .before .before .before .before .before .before .pre .0) (c .before .before .before .before .before .before .before .before .before .pre .1) (sym (c .before .before .before .before .is-pair-list .ensures) ∙ not-false _ (c .before .before .before .if1 .left)) _ _ (sym (made.limits-same (c .before .before .before .before .before .before .before .before .before .args .first .now) (c .before .before .before .before .before .before .before .before .before .args .second .now) (c .before .before .before .before .before .before .before .before .before .args .pairs .now) (c .before .before .before .before .before .before .before .before .before .args .f) (c .before .before .before .before .before .before .before .before .before .args .s) (c .before .before .before .before .before .before .before .before .before .pre .0) (c .before .before .before .before .before .before .before .before .before .pre .1) (sym (c .before .before .before .before .is-pair-list .ensures) ∙ not-false _ (c .before .before .before .if1 .left)) _ (c .before .before .byte-at .ensures)) ∙ (sym (c .before .keeps-limits .ensures) ∙ not-true _ (c .if2 .taken))) (c .before .before .before .before .before .before .before .before .before .pre .2))
+    -- put-query-requires
+    (λ c κs. (c .before .before .before .before .before .before .before .before .before .before .pre .0, c .before .before .before .before .before .before .before .before .before .before .pre .1, (sym (c .before .before .before .before .before .is-pair-list .ensures) ∙ not-false _ (c .before .before .before .before .if1 .left)), (sym (made.limits-same (c .before .before .before .before .before .before .before .before .before .before .args .first .now) (c .before .before .before .before .before .before .before .before .before .before .args .second .now) (c .before .before .before .before .before .before .before .before .before .before .args .pairs .now) (c .before .before .before .before .before .before .before .before .before .before .args .f) (c .before .before .before .before .before .before .before .before .before .before .args .s) (c .before .before .before .before .before .before .before .before .before .before .pre .0) (c .before .before .before .before .before .before .before .before .before .before .pre .1) (sym (c .before .before .before .before .before .is-pair-list .ensures) ∙ not-false _ (c .before .before .before .before .if1 .left)) _ (c .before .before .before .byte-at .ensures)) ∙ (sym (c .before .before .keeps-limits .ensures) ∙ not-false _ (c .before .if2 .left)))))
+    -- clear-requires
+    (λ c κs. search needs)
+    -- same-length
+    (λ c. call.blank-long _ _ (c .before .before .clear .ensures) ∙ writes-length (c .before .before .before .before .before .before .before .put-query .ensures))
+    -- returns-3
+    (λ c. call.too-short (c .before .before .before .before .before .before .before .before .before .before .before .before .before .before .before .before .before .before .args .first .now) (c .before .before .before .before .before .before .before .before .before .before .before .before .before .before .before .before .before .before .args .second .now) (c .before .before .before .before .before .before .before .before .before .before .before .before .before .before .before .before .before .before .args .pairs .now) (c .before .before .before .before .before .before .before .before .before .before .before .before .before .before .before .before .before .before .args .f) (c .before .before .before .before .before .before .before .before .before .before .before .before .before .before .before .before .before .before .args .s) (c .before .before .before .before .before .before .before .before .before .before .before .before .before .before .before .before .before .before .pre .0) (c .before .before .before .before .before .before .before .before .before .before .before .before .before .before .before .before .before .before .pre .1) (sym (c .before .before .before .before .before .before .before .before .before .before .before .before .before .is-pair-list .ensures) ∙ not-false _ (c .before .before .before .before .before .before .before .before .before .before .before .before .if1 .left)) (sym (made.limits-same (c .before .before .before .before .before .before .before .before .before .before .before .before .before .before .before .before .before .before .args .first .now) (c .before .before .before .before .before .before .before .before .before .before .before .before .before .before .before .before .before .before .args .second .now) (c .before .before .before .before .before .before .before .before .before .before .before .before .before .before .before .before .before .before .args .pairs .now) (c .before .before .before .before .before .before .before .before .before .before .before .before .before .before .before .before .before .before .args .f) (c .before .before .before .before .before .before .before .before .before .before .before .before .before .before .before .before .before .before .args .s) (c .before .before .before .before .before .before .before .before .before .before .before .before .before .before .before .before .before .before .pre .0) (c .before .before .before .before .before .before .before .before .before .before .before .before .before .before .before .before .before .before .pre .1) (sym (c .before .before .before .before .before .before .before .before .before .before .before .before .before .is-pair-list .ensures) ∙ not-false _ (c .before .before .before .before .before .before .before .before .before .before .before .before .if1 .left)) _ (c .before .before .before .before .before .before .before .before .before .before .before .byte-at .ensures)) ∙ (sym (c .before .before .before .before .before .before .before .before .before .before .keeps-limits .ensures) ∙ not-false _ (c .before .before .before .before .before .before .before .before .before .if2 .left))) _ _ _ (c .before .before .before .before .before .before .before .before .before .before .before .before .before .before .before .before .before .before .pre .2) (c .before .before .before .before .before .before .before .put-query .ensures) _ (c .before .before .before .before .if3 .taken) (c .before .before .clear .ensures))
+    -- same-length-2
+    (λ c. writes-length (c .before .before .before .put-query .ensures))
+    -- returns-4
+    (λ c. call.fits (c .before .before .before .before .before .before .before .before .before .before .before .before .before .before .args .first .now) (c .before .before .before .before .before .before .before .before .before .before .before .before .before .before .args .second .now) (c .before .before .before .before .before .before .before .before .before .before .before .before .before .before .args .pairs .now) (c .before .before .before .before .before .before .before .before .before .before .before .before .before .before .args .f) (c .before .before .before .before .before .before .before .before .before .before .before .before .before .before .args .s) (c .before .before .before .before .before .before .before .before .before .before .before .before .before .before .pre .0) (c .before .before .before .before .before .before .before .before .before .before .before .before .before .before .pre .1) (sym (c .before .before .before .before .before .before .before .before .before .is-pair-list .ensures) ∙ not-false _ (c .before .before .before .before .before .before .before .before .if1 .left)) (sym (made.limits-same (c .before .before .before .before .before .before .before .before .before .before .before .before .before .before .args .first .now) (c .before .before .before .before .before .before .before .before .before .before .before .before .before .before .args .second .now) (c .before .before .before .before .before .before .before .before .before .before .before .before .before .before .args .pairs .now) (c .before .before .before .before .before .before .before .before .before .before .before .before .before .before .args .f) (c .before .before .before .before .before .before .before .before .before .before .before .before .before .before .args .s) (c .before .before .before .before .before .before .before .before .before .before .before .before .before .before .pre .0) (c .before .before .before .before .before .before .before .before .before .before .before .before .before .before .pre .1) (sym (c .before .before .before .before .before .before .before .before .before .is-pair-list .ensures) ∙ not-false _ (c .before .before .before .before .before .before .before .before .if1 .left)) _ (c .before .before .before .before .before .before .before .byte-at .ensures)) ∙ (sym (c .before .before .before .before .before .before .keeps-limits .ensures) ∙ not-false _ (c .before .before .before .before .before .if2 .left))) _ _ _ (c .before .before .before .before .before .before .before .before .before .before .before .before .before .before .pre .2) (c .before .before .before .put-query .ensures) (c .if3 .left)))

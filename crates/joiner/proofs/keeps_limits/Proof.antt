@@ -1,0 +1,45 @@
+-- The limits, one behind the other. Assumes nothing.
+use Prim.Native.Nat.{ℕ, suc, _+_, _-_, _*_, _≤_, _<_}
+use native.Mathlib.Omega.{arith}
+use borrow.Author.Needs.{needs}
+use borrow.Author.Tests.{not-true, not-false}
+use mathlib.Core.Path.{_≡_, refl, sym, ap, _∙_, subst}
+use mathlib.Core.List.{List, [], _∷_, _++_, map}
+use lib.ListN.{length, getD, take, drop, replicate}
+use Rattle.logic.specs.Query.{decode}
+use Rattle.query.specs.Answers.{CheckedAs}
+use Rattle.query.specs.declared.Checked.{Checked}
+use Rattle.query.proofs.Ranges.{checked-accepts}
+use Rattle.text.proofs.Writing.{writes-as, writes-then, writes-length}
+use Rattle.joining.specs.Pairs.{pairsOf}
+use Rattle.joining.specs.Joined.{raisedEntry}
+use Rattle.joiner.specs.Promise.{handed}
+use Rattle.joiner.specs.declared.HandBack.{HandBack}
+use Rattle.joiner.specs.Bytes.{keepsLimits}
+use Rattle.joiner.proofs.Laws.{entries-long, literals-long, flags-long}
+use Rattle.joiner.proofs.Answers as law
+use Rattle.joiner.proofs.keeps_limits.Statement.{statement}
+use Rattle.joiner.proofs.keeps_limits.Tie as tie
+
+-- returns
+returns : tie.Need-returns
+unfolding keepsLimits
+returns c = refl
+
+pub keeps-limits-spec : {M : Type 1} → statement M
+keeps-limits-spec =
+    tie.close
+    (tie.spec
+    -- add-terms
+    (λ c. omega (arith, c .before .before .pre .0 .terms-within, c .before .before .pre .1 .terms-within))
+    -- add-equal
+    (λ c. omega (arith, c .before .before .before .before .pre .0 .equal-within, c .before .before .before .before .pre .1 .equal-within))
+    -- add-equal-2
+    (λ c. omega (arith, c .before .before .before .before .pre .0 .equal-within, c .before .before .before .before .pre .1 .equal-within, c .before .before .before .before .pre .2))
+    -- add-reach
+    (λ c. omega (arith, c .before .before .before .before .before .before .pre .0 .reach-within, c .before .before .before .before .before .before .pre .1 .reach-within))
+    -- add-field
+    (λ c. omega (arith, c .before .before .before .before .before .before .before .before .pre .0 .field-within, c .before .before .before .before .before .before .before .before .pre .1 .field-within))
+    -- add-boolean
+    (λ c. omega (arith, c .before .before .before .before .before .before .before .before .before .before .pre .0 .boolean-within, c .before .before .before .before .before .before .before .before .before .before .pre .1 .boolean-within))
+    returns)

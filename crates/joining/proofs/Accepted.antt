@@ -1,0 +1,152 @@
+-- A joined query's numbers are as they should be. Assumes nothing.
+use Prim.Native.Nat.{ℕ, zero, suc, _+_, _≤_, _<_}
+use native.Mathlib.Omega.{arith}
+use native.Mathlib.Nat.{zero-add}
+use mathlib.Core.Path.{_≡_, refl, sym, ap, _∙_, subst}
+use mathlib.Core.Logic.{⊎-elim}
+use mathlib.Core.Bool.{true}
+use mathlib.Core.List.{List, [], _∷_, _++_, map, List·Memᴰ, List·Memᴰ·append-cases, List·Memᴰ·cases-cons, List·Memᴰ·not-nil}
+use lib.ListN.{length, length-append, length-map}
+use lib.Dec.{ltb, leb}
+use borrow.Author.Tests.{ltb-true, leb-true}
+use Rattle.logic.specs.Search.{_and_, all}
+use Rattle.logic.specs.Query.{Literal, Query, termCount, argumentOf, faulty, parts, Layout, flags, section, queryOf, decode, layoutOf}
+use Rattle.logic.specs.Calls.{accepts}
+use Rattle.logic.proofs.Basics.Search.{and-left, and-right, map-mem, all-true}
+use Rattle.logic.proofs.Basics.Compare.{le-cases}
+use Rattle.logic.proofs.Query.Tied.{Accepted, InTerms}
+use Rattle.logic.proofs.Query.AcceptedBytes.{accepted}
+use Rattle.joining.specs.Pairs.{Pair, pairsOf, hasTerms, isPairList}
+use Rattle.joining.specs.Joined.{raised, raisedEntry, pairLiteral, joined, withinLimits}
+use Rattle.joining.specs.Claims.{Joinable}
+use Rattle.joining.proofs.Terms.{Among, first-among, second-among, whose}
+use Rattle.joining.proofs.Encoded.{Encodable}
+
+-- a pair names a term of either query
+abbrev pub Paired : Query → Query → Pair → Type 0
+Paired a b p = InTerms a (p .first) × InTerms b (p .second)
+
+pub pair-terms : (n m : ℕ) (p : Pair) → hasTerms n m p ≡ true → ((1 ≤ p .first) × (p .first ≤ n)) × ((1 ≤ p .second) × (p .second ≤ m))
+unfolding hasTerms
+pair-terms n m p h =
+    let left = and-left _ _ h in
+    let right = and-right _ _ h in (
+      (ltb-true 0 (p .first) (and-left _ _ left), leb-true (p .first) n (and-right _ _ left)),
+      (ltb-true 0 (p .second) (and-left _ _ right), leb-true (p .second) m (and-right _ _ right)),
+    )
+
+-- "flags" have nothing on the right
+flags-right : (bytes : List ℕ) (l : Literal) → List·Memᴰ l (flags bytes) → l .right ≡ 0
+unfolding flags
+flags-right [] l m = absurd (List·Memᴰ·not-nil m)
+flags-right (s ∷ []) l m = absurd (List·Memᴰ·not-nil m)
+flags-right (s ∷ a ∷ rest) l m = ⊎-elim (λ e. ap (λ (x : Literal). x .right) e) (flags-right rest l) (List·Memᴰ·cases-cons m)
+
+pub booleans-right : (bytes : List ℕ) (l : Literal) → List·Memᴰ l (decode bytes .booleans) → l .right ≡ 0
+unfolding decode queryOf
+booleans-right bytes l m = go (layoutOf bytes) m
+  where
+    go : (k : Layout) → List·Memᴰ l (queryOf k .booleans) → l .right ≡ 0
+    go (faulty k place) m = absurd (List·Memᴰ·not-nil m)
+    go (parts ps) m = flags-right (section ps 4) l m
+
+module _ (a b : Query) (ps : List Pair) (first : Accepted a) (second : Accepted b) (paired : (p : Pair) → List·Memᴰ p ps → Paired a b p) where
+  pub count-joined : termCount (joined a b ps) ≡ termCount a + termCount b
+  unfolding joined termCount
+  count-joined = length-append (a .entries) (map (raisedEntry (length (a .entries))) (b .entries)) ∙ ap (λ (k : ℕ). length (a .entries) + k) (length-map (b .entries) (raisedEntry (length (a .entries))))
+
+  -- a term of the first, and one of the second raised
+  in-first : (t : ℕ) → InTerms a t → InTerms (joined a b ps) t
+  in-first t h = omega (arith, count-joined, h .0, h .1)
+
+  in-second : (t : ℕ) → InTerms b t → InTerms (joined a b ps) (termCount a + t)
+  in-second t h = (omega (arith, h .0), omega (arith, count-joined, h .1))
+
+  module _ (small : termCount (joined a b ps) ≤ 16) where
+    pub of-first : Among (λ t. t) (joined a b ps .entries) (a .entries) (termCount a)
+    unfolding joined termCount
+    of-first = first-among (a .entries) (map (raisedEntry (termCount a)) (b .entries))
+
+    pub of-second : Among (λ t. termCount a + t) (joined a b ps .entries) (b .entries) (termCount b)
+    unfolding joined termCount
+    of-second = second-among (termCount a) (a .entries) (b .entries) refl (second .entry-below) (omega (arith, count-joined))
+
+    entry-below : (t : ℕ) → InTerms (joined a b ps) t → argumentOf (joined a b ps .entries) t < t
+    entry-below t h = ⊎-elim low high (whose (termCount a) (termCount b) t (h .0) (omega (arith, count-joined, h .1)))
+      where
+        low : t ≤ termCount a → argumentOf (joined a b ps .entries) t < t
+        low u =
+            ⊎-elim
+            (λ one. omega (arith, of-first .argument t (h .0) u one, first .entry-below t (h .0, u)))
+            (λ none. omega (arith, of-first .no-argument t (h .0) u (omega arith), h .0))
+            (le-cases 1 (argumentOf (a .entries) t))
+
+        high : (u : ℕ) × (t ≡ termCount a + u) × (1 ≤ u) × (u ≤ termCount b) → argumentOf (joined a b ps .entries) t < t
+        high r =
+            let (u, e, l, m) = r in
+            subst (λ (k : ℕ). argumentOf (joined a b ps .entries) k < k) (sym e)
+            (⊎-elim
+            (λ one. omega (arith, of-second .argument u l m one, second .entry-below u (l, m)))
+            (λ none. omega (arith, of-second .no-argument u l m (omega arith), l))
+            (le-cases 1 (argumentOf (b .entries) u)))
+
+    -- what a raised literal and a pair's name are terms
+    both-raised : (l : Literal) (ls : List Literal) → ((k : Literal) → List·Memᴰ k ls → InTerms b (k .left) × InTerms b (k .right)) → List·Memᴰ l (map (raised (termCount a) (termCount a)) ls) → InTerms (joined a b ps) (l .left) × InTerms (joined a b ps) (l .right)
+    unfolding raised
+    both-raised l ls h m =
+        let (k, own, e) = map-mem (raised (termCount a) (termCount a)) l ls m in
+        let r = h k own in
+        rw e (in-second (k .left) (r .0), in-second (k .right) (r .1))
+
+    right-raised : (l : Literal) → List·Memᴰ l (map (raised 0 (termCount a)) (b .fields)) → ((1 ≤ l .left) × (l .left ≤ 8)) × InTerms (joined a b ps) (l .right)
+    unfolding raised
+    right-raised l m =
+        let (k, own, e) = map-mem (raised 0 (termCount a)) l (b .fields) m in
+        rw (e, zero-add (k .left)) (second .field-number k own, in-second (k .right) (second .field-term k own))
+
+    of-pair : (l : Literal) → List·Memᴰ l (map (pairLiteral (termCount a)) ps) → InTerms (joined a b ps) (l .left) × InTerms (joined a b ps) (l .right)
+    unfolding pairLiteral
+    of-pair l m =
+        let (p, own, e) = map-mem (pairLiteral (termCount a)) l ps m in
+        let r = paired p own in
+        rw e (in-first (p .first) (r .0), in-second (p .second) (r .1))
+
+    both-first : (l : Literal) → InTerms a (l .left) × InTerms a (l .right) → InTerms (joined a b ps) (l .left) × InTerms (joined a b ps) (l .right)
+    both-first l h = (in-first (l .left) (h .0), in-first (l .right) (h .1))
+
+    pub joined-accepted : Accepted (joined a b ps)
+    unfolding joined
+    joined-accepted =
+        record {
+          term-count = small;
+          entry-below = entry-below;
+          equal-terms =
+              λ l m. ⊎-elim (λ x. both-first l (first .equal-terms l x))
+              (λ x. ⊎-elim (both-raised l (b .equalities) (second .equal-terms)) (of-pair l) (List·Memᴰ·append-cases (map (raised (termCount a) (termCount a)) (b .equalities)) x))
+              (List·Memᴰ·append-cases (a .equalities) m);
+          reach-terms =
+              λ l m. ⊎-elim (λ x. both-first l (first .reach-terms l x)) (both-raised l (b .reachability) (second .reach-terms)) (List·Memᴰ·append-cases (a .reachability) m);
+          field-number = λ l m. ⊎-elim (first .field-number l) (λ x. right-raised l x .0) (List·Memᴰ·append-cases (a .fields) m);
+          field-term = λ l m. ⊎-elim (λ x. in-first (l .right) (first .field-term l x)) (λ x. right-raised l x .1) (List·Memᴰ·append-cases (a .fields) m);
+          boolean-number = λ l m. ⊎-elim (first .boolean-number l) (second .boolean-number l) (List·Memᴰ·append-cases (a .booleans) m);
+        }
+
+-- two queries and a pair list that can be joined
+module _ (first second pairs : List ℕ) (ok : Joinable first second pairs) where
+  pub all-paired : (p : Pair) → List·Memᴰ p (pairsOf pairs) → Paired (decode first) (decode second) p
+  unfolding isPairList
+  all-paired p m =
+      pair-terms (termCount (decode first)) (termCount (decode second)) p (all-true (hasTerms (termCount (decode first)) (termCount (decode second))) p (and-right _ _ (ok .pairs-listed)) m)
+
+  pub joined-small : termCount (joined (decode first) (decode second) (pairsOf pairs)) ≤ 16
+  unfolding withinLimits
+  joined-small = leb-true _ 16 (and-left _ _ (and-left _ _ (and-left _ _ (and-left _ _ (ok .within-limits)))))
+
+  pub encodable : Encodable (joined (decode first) (decode second) (pairsOf pairs))
+  unfolding joined
+  encodable =
+      record {
+        accepted = joined-accepted (decode first) (decode second) (pairsOf pairs) (accepted first (ok .first-accepted)) (accepted second (ok .second-accepted)) all-paired joined-small;
+        within = ok .within-limits;
+        booleans-right = λ l m. ⊎-elim (booleans-right first l) (booleans-right second l) (List·Memᴰ·append-cases (decode first .booleans) m);
+      }

@@ -1,0 +1,9 @@
+-- The theorems, from the leaves up.
+pub mod Encoded
+pub mod Terms
+pub mod Accepted
+pub mod OneHeap
+pub mod Places
+pub mod HandBack
+pub mod Claims
+pub mod Samples

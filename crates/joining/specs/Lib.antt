@@ -1,0 +1,7 @@
+pub mod Pairs
+pub mod Joined
+pub mod Heaps
+pub mod Call
+pub mod HandBack
+pub mod Claims
+pub mod Samples
