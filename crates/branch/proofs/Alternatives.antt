@@ -7,8 +7,8 @@ use mathlib.Core.List.{List, [], _∷_, map}
 use lib.ListN.{length, getD, length-map, List·getD-map}
 use lib.Dec.{eqb}
 use Rattle.logic.specs.Heap.{iterate}
-use Rattle.logic.specs.Facts.{Graph, Facts}
-use Rattle.logic.specs.Rules.{Rule, REFLEX, TRANS1, TRANS2, FUNC, CYCLE, SCC, TOTAL, SHARE, Triple, triple, Move, move, Fact, equal, reaches, next, round, alternatives, add, branches}
+use Rattle.logic.specs.Facts.{Graph}
+use Rattle.logic.specs.Rules.{Rule, REFLEX, TRANS1, TRANS2, FUNC, CYCLE, SCC, TOTAL, SHARE, Triple, triple, move, Fact, equal, reaches, next, round, alternatives}
 use Rattle.branch.specs.Alternatives.{countOf, alternativeAt}
 
 round-length : (n : ℕ) (g : Graph) (k c : ℕ) → length (round n g k c) ≡ k
@@ -23,7 +23,7 @@ round-at n g (suc k) c zero d h = refl
 round-at n g (suc k) c (suc i) d h = round-at n g k (next n g c) i d (omega arith)
 
 -- within a list, what stands past its end does not matter
-pub getD-other {ℓ} : {A : Type ℓ} (xs : List A) (i : ℕ) (d e : A) → i < length xs → getD xs i d ≡ getD xs i e
+getD-other {ℓ} : {A : Type ℓ} (xs : List A) (i : ℕ) (d e : A) → i < length xs → getD xs i d ≡ getD xs i e
 getD-other [] i d e h = absurd (omega arith)
 getD-other (x ∷ xs) zero d e h = refl
 getD-other (x ∷ xs) (suc i) d e h = getD-other xs i d e (omega arith)
@@ -62,19 +62,3 @@ module _ (n : ℕ) (g : Graph) where
   alternative-is SCC x y z i d h = at-two _ _ d i h
   alternative-is TOTAL x y z i d h = at-two _ _ d i h
   alternative-is SHARE x y z i d h = at-one _ d i h
-
--- and the branch that it makes
-pub branch-is : (n : ℕ) (s : Facts) (r : Rule) (x y z i : ℕ) (d : Facts) → i < countOf r z → getD (branches n s (move r (triple x y z))) i d ≡ add n s (alternativeAt n (s .graph) r x y z i)
-unfolding branches
-branch-is n s r x y z i d h =
-    let m : Move = move r (triple x y z) in
-    let alts : List Fact = alternatives n (s .graph) m in
-    let l : i < length alts = omega (arith, count-is n (s .graph) r x y z) in
-    getD-other (map (add n s) alts) i d (add n s (equal 0 0)) (omega (arith, length-map alts (add n s)))
-    ∙ List·getD-map (add n s) alts i (equal 0 0)
-    ∙ ap (add n s) (alternative-is n (s .graph) r x y z i (equal 0 0) h)
-
-pub branch-count : (n : ℕ) (s : Facts) (r : Rule) (x y z : ℕ) → length (branches n s (move r (triple x y z))) ≡ countOf r z
-unfolding branches
-branch-count n s r x y z =
-    length-map (alternatives n (s .graph) (move r (triple x y z))) (add n s) ∙ count-is n (s .graph) r x y z

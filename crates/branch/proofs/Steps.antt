@@ -1,8 +1,8 @@
 -- What the code's steps come to, by the cases of its enums.
 use Prim.Native.Nat.{ℕ, _-_, _≤_}
 use native.Mathlib.Omega.{arith}
-use mathlib.Core.Path.{_≡_, refl, sym, ap, _∙_}
-use mathlib.Core.List.{List}
+use mathlib.Core.Path.{_≡_, refl, sym, ap, ap₂, _∙_}
+use mathlib.Core.List.{List, []}
 use mathlib.Core.Bool.{Bool, cond}
 use lib.Dec.{eqb}
 use borrow.Author.Tests.{eq-eqb, ne-eqb}
@@ -12,22 +12,29 @@ use Rattle.rules.specs.Cycle.{stepsTo}
 use Rattle.rules.proofs.Around.{steps-never, iterate-le}
 use Rattle.branch.specs.Alternatives.{alternativeAt}
 use Rattle.logic.specs.Heap.{iterate}
-use Rattle.logic.specs.Facts.{Graph, Facts, join, addReach}
-use Rattle.logic.specs.Rules.{Rule, REFLEX, TRANS1, TRANS2, FUNC, CYCLE, SCC, TOTAL, SHARE, Fact, next, add}
+use Rattle.logic.specs.Facts.{Graph, Facts, Joined, unjoined, andThen, join, addReach}
+use Rattle.logic.specs.Rules.{Rule, REFLEX, TRANS1, TRANS2, FUNC, CYCLE, SCC, TOTAL, SHARE, Fact, next, branch}
 use Rattle.facts.specs.Path.{linksIn, graphOf, pathOf}
+use Rattle.facts.specs.Pairs.{Fits}
+use Rattle.facts.proofs.Joins.{join-pairs}
 use Rattle.branch.specs.Answers.{factOf}
 use Rattle.branch.specs.declared.Fact as code
 use Rattle.branch.specs.declared.Fact.the-variants as fact
 use Rattle.facts.specs.declared.Term.{Term}
 use Rattle.facts.specs.declared.Facts as paths
 
-pub added-equal : (n : ℕ) (f : code.Fact) (a b : Term) (s p : Facts) → f ≡ fact.Equal a b → p ≡ join n (a .0) (b .0) s → p ≡ add n s (factOf f)
-unfolding add
-added-equal n f a b s p e h = h ∙ ap (λ (x : code.Fact). add n s (factOf x)) (sym e)
+-- no pair stands in front of a single join
+pub alone-fits : (n a b : ℕ) (s : Facts) (ps : List (ℕ × ℕ)) → n ≤ 16 → ps ≡ [] → Fits (andThen (record { pairs = ps; facts = s }) (join n a b))
+unfolding andThen
+alone-fits n a b s ps h e = rw e (omega (arith, join-pairs n a b s))
 
-pub added-reaches : (n : ℕ) (f : code.Fact) (a b : Term) (s p : Facts) → f ≡ fact.Reaches a b → p ≡ addReach (a .0) (b .0) s → p ≡ add n s (factOf f)
-unfolding add
-added-reaches n f a b s p e h = h ∙ ap (λ (x : code.Fact). add n s (factOf x)) (sym e)
+pub added-equal : (n : ℕ) (f : code.Fact) (a b : Term) (s : Facts) (ps : List (ℕ × ℕ)) (j : Joined) → f ≡ fact.Equal a b → ps ≡ [] → j ≡ andThen (record { pairs = ps; facts = s }) (join n (a .0) (b .0)) → j ≡ branch n s (factOf f)
+unfolding branch andThen
+added-equal n f a b s ps j e p h = h ∙ ap (λ (qs : List (ℕ × ℕ)). andThen (record { pairs = qs; facts = s }) (join n (a .0) (b .0))) p ∙ ap (λ (x : code.Fact). branch n s (factOf x)) (sym e)
+
+pub added-reaches : (n : ℕ) (f : code.Fact) (a b : Term) (s p : Facts) (ps : List (ℕ × ℕ)) → f ≡ fact.Reaches a b → ps ≡ [] → p ≡ addReach (a .0) (b .0) s → record { pairs = ps; facts = p } ≡ branch n s (factOf f)
+unfolding branch unjoined
+added-reaches n f a b s p ps e q h = ap₂ (λ (qs : List (ℕ × ℕ)) (t : Facts). record { pairs = qs; facts = t }) q h ∙ ap (λ (x : code.Fact). branch n s (factOf x)) (sym e)
 
 -- the term that all i links lead to: 17 is met on no way
 pub followed : (n : ℕ) (g : Graph) (c i s t : ℕ) → n ≤ 16 → c ≤ 16 → s ≡ stepsTo n g 17 i c → t ≡ iterate (next n g) s c → (t ≡ iterate (next n g) i c) × (t ≤ 16)
@@ -55,6 +62,6 @@ alternative-links n link reach SCC x y z i = refl
 alternative-links n link reach TOTAL x y z i = refl
 alternative-links n link reach SHARE x y z i = refl
 
-pub branch-made : (n : ℕ) (s : paths.Facts) (r : Rule) (x y z i : ℕ) (f : Fact) (p : Facts) → f ≡ alternativeAt n (linksIn (s .link)) r x y z i → p ≡ add n (pathOf s) f → p ≡ add n (pathOf s) (alternativeAt n (pathOf s .graph) r x y z i)
+pub branch-made : (n : ℕ) (s : paths.Facts) (r : Rule) (x y z i : ℕ) (f : Fact) (j : Joined) → f ≡ alternativeAt n (linksIn (s .link)) r x y z i → j ≡ branch n (pathOf s) f → j ≡ branch n (pathOf s) (alternativeAt n (pathOf s .graph) r x y z i)
 unfolding pathOf
-branch-made n s r x y z i f p e h = h ∙ ap (add n (pathOf s)) (e ∙ alternative-links n (s .link) (s .reach) r x y z i)
+branch-made n s r x y z i f j e h = h ∙ ap (branch n (pathOf s)) (e ∙ alternative-links n (s .link) (s .reach) r x y z i)

@@ -1,12 +1,14 @@
 // The branches of a rule: its alternatives, left to right, each joined or added.
 use facts::Facts;
+use facts::Joined;
 use facts::Term;
 use rules::Rule;
 use rules::Third;
 ghost use mathlib.Core.Path.{_≡_};
 ghost use Prim.Native.Nat.{_≤_};
-ghost use Rattle.logic.specs.Rules.{alternatives, add, triple, branches};
+ghost use Rattle.logic.specs.Rules.{branch};
 ghost use Rattle.facts.specs.Path.{pathOf, linksIn};
+ghost use Rattle.facts.specs.Pairs.{joinedOf};
 ghost use Rattle.rules.specs.Answers.{kindOf};
 ghost use Rattle.branch.specs.Answers.{factOf, InRange};
 ghost use Rattle.branch.specs.Alternatives.{countOf, alternativeAt};
@@ -70,21 +72,25 @@ fn alternative(link: &[u32; 17], n: usize, rule: Rule, x: Term, y: Term, z: Thir
     }
 }
 
-// A path with a fact joined or added.
-fn added(s: Facts, n: usize, fact: Fact) -> Facts
+// A path with a fact joined or added, and the pairs joined to make it.
+fn added(s: Facts, n: usize, fact: Fact) -> Joined
     requires { ⌜ (n ≤ 16) × InRange fact ⌝ }
-    ensures { λ r. ⌜ pathOf r ≡ add n (pathOf s) (factOf fact) ⌝ }
+    ensures { λ r. ⌜ joinedOf r ≡ branch n (pathOf s) (factOf fact) ⌝ }
 {
+    let pairs = facts::no_pairs();
     match fact {
-        Fact::Equal(a, b) => facts::join(s, n, a, b),
-        Fact::Reaches(a, b) => facts::add_reach(s, a, b),
+        Fact::Equal(a, b) => facts::join(s, n, a, b, pairs),
+        Fact::Reaches(a, b) => Joined {
+            pairs,
+            facts: facts::add_reach(s, a, b),
+        },
     }
 }
 
 // The branch of a rule at i, from 0.
-pub fn branch(s: Facts, n: usize, rule: Rule, x: Term, y: Term, z: Third, i: usize) -> Facts
+pub fn branch(s: Facts, n: usize, rule: Rule, x: Term, y: Term, z: Third, i: usize) -> Joined
     requires { ⌜ (n ≤ 16) × (x .0 ≤ 16) × (y .0 ≤ 16) × (z .0 ≤ 16) ⌝ }
-    ensures { λ r. ⌜ pathOf r ≡ add n (pathOf s) (alternativeAt n (pathOf s .graph) (kindOf rule) (x .0) (y .0) (z .0) i) ⌝ }
+    ensures { λ r. ⌜ joinedOf r ≡ branch n (pathOf s) (alternativeAt n (pathOf s .graph) (kindOf rule) (x .0) (y .0) (z .0) i) ⌝ }
 {
     let fact = alternative(&s.link, n, rule, x, y, z, i);
     added(s, n, fact)

@@ -9,4 +9,5 @@ pub mod Turning
 pub mod Rep
 pub mod Path
 pub mod Successors
+pub mod Joins
 pub mod Alive

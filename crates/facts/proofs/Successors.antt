@@ -1,4 +1,4 @@
--- The two lowest successors, found by two searches; and what settling does at each turn.
+-- The two lowest successors, found by two searches.
 use Prim.Native.Nat.{ℕ, zero, suc, _+_, _-_, _^_, _≤_, _<_}
 use native.Mathlib.Omega.{arith}
 use mathlib.Core.Path.{_≡_, refl, sym, ap, ap₂, _∙_}
@@ -12,7 +12,7 @@ use lib.Bits.{bitAnd}
 use lib.Dec.{ltb, eqb}
 use borrow.Author.Tests.{eq-eqb, ne-eqb, eqb-false, lt-ltb, ltb-true}
 use Rattle.logic.specs.Search.{_and_, from, keep, orElse, firstOf, find, select}
-use Rattle.logic.specs.Facts.{Graph, Facts, terms, firstTwo, successors, doubled, replace, settle, join}
+use Rattle.logic.specs.Facts.{Graph, Facts, terms, firstTwo, successors, doubled}
 use Rattle.logic.proofs.Basics.Search.{bool-cases, true-false, not-true, and-left, and-right, none-some, find-some, find-lowest, from-mem, firstOf-some}
 use Rattle.logic.proofs.Basics.Compare.{le-cases}
 use Rattle.facts.specs.Bits.{bit}
@@ -163,34 +163,3 @@ pub doubled-below : (n : ℕ) (g : Graph) (a b : ℕ) → doubled n g ≡ some (
 unfolding doubled successors
 doubled-below n g a b e =
     let r = firstOf-some (λ t. firstTwo (successors n g t)) (terms n) (a, b) e in two-below (g .link (r .0)) n a b (r .2)
-
-module _ (n : ℕ) (s : Facts) where
-  pub settle-none : (k : ℕ) → k ≤ 0 → settle n k s ≡ s
-  unfolding settle
-  settle-none zero h = refl
-  settle-none (suc k) h = absurd (omega arith)
-
-  pub settle-done : (k : ℕ) → doubled n (s .graph) ≡ none → settle n k s ≡ s
-  unfolding settle Option·elim
-  settle-done zero e = refl
-  settle-done (suc k) e = rw e
-
-  pub settle-turn : (k a b : ℕ) → 0 < k → doubled n (s .graph) ≡ some (a, b) → settle n k s ≡ settle n (k - 1) (replace a b s)
-  unfolding settle Option·elim
-  settle-turn zero a b h e = absurd (omega arith)
-  settle-turn (suc k) a b h e = rw (e, left)
-    where
-      left : suc k - 1 ≡ k
-      left = omega arith
-
-  pub join-same : (a b : ℕ) → a ≡ b → join n a b s ≡ s
-  unfolding join
-  join-same a b e = rw (eq-eqb a b e)
-
-  pub join-lower : (a b : ℕ) → a < b → join n a b s ≡ settle n n (replace a b s)
-  unfolding join
-  join-lower a b h = rw (ne-eqb a b (omega arith)) (ap₂ (λ lo hi. settle n n (replace lo hi s)) (omega arith) (omega arith))
-
-  pub join-higher : (a b : ℕ) → b < a → join n a b s ≡ settle n n (replace b a s)
-  unfolding join
-  join-higher a b h = rw (ne-eqb a b (omega arith)) (ap₂ (λ lo hi. settle n n (replace lo hi s)) (omega arith) (omega arith))

@@ -2,3 +2,4 @@ pub mod Bits
 pub mod Square
 pub mod Path
 pub mod Answers
+pub mod Pairs

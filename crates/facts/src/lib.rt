@@ -7,10 +7,12 @@ ghost use Rattle.facts.specs.Bits.{bit};
 ghost use Rattle.facts.specs.Square.{square, Turned, renamedRow, columns, rows};
 ghost use Rattle.facts.specs.Path.{pathOf, repOf, replaceRep, linksIn};
 ghost use Rattle.facts.specs.Answers.{foundOf, twoOf};
-ghost use mathlib.Core.List.{_∷_};
+ghost use Rattle.facts.specs.Pairs.{pairsOf, joinedAs, joinedOf, Fits};
+ghost use mathlib.Core.List.{[], _∷_, _++_};
+ghost use lib.ListN.{length};
 ghost use mathlib.Core.Option.{some};
 ghost use Rattle.logic.specs.Search.{_and_, _or_, from, find, select};
-ghost use Rattle.logic.specs.Facts.{terms, addReach, replaceIn, replace, firstTwo, successors, doubled, settle, join, live};
+ghost use Rattle.logic.specs.Facts.{terms, addReach, replaceIn, replace, firstTwo, successors, doubled, andThen, settle, join, live};
 
 // A term by its number.
 pub struct Term(pub usize);
@@ -20,6 +22,20 @@ pub struct Facts {
     pub rep: [Term; 17],
     pub link: [u32; 17],
     pub reach: [u32; 17],
+}
+
+// The pairs that were joined, in order, `count` of them: the term that was kept, and the one that it replaced. One join of at most
+// 16 terms makes no more than 17.
+pub struct Pairs {
+    pub kept: [u8; 17],
+    pub replaced: [u8; 17],
+    pub count: usize,
+}
+
+// What joining hands back.
+pub struct Joined {
+    pub pairs: Pairs,
+    pub facts: Facts,
 }
 
 // A term that was looked for.
@@ -246,35 +262,66 @@ pub fn doubled(link: &[u32; 17], n: usize) -> Two
     Two::Nothing
 }
 
-// "While a term has two successors, the two lowest successors of the lowest such term are joined"
-pub fn settle(s: Facts, n: usize) -> Facts
-    requires { ⌜ n ≤ 16 ⌝ }
-    ensures { λ r. ⌜ pathOf r ≡ settle n n (pathOf s) ⌝ }
+// No pair.
+pub fn no_pairs() -> Pairs
+    ensures { λ r. ⌜ pairsOf r ≡ [] ⌝ }
+{
+    let kept = [0u8; 17];
+    let replaced = [0u8; 17];
+    Pairs {
+        kept,
+        replaced,
+        count: 0,
+    }
+}
+
+// One pair more, behind the others.
+fn and_pair(pairs: Pairs, kept: Term, replaced: Term) -> Pairs
+    requires { ⌜ (length (pairsOf pairs) < 17) × (kept .0 ≤ 16) × (replaced .0 ≤ 16) ⌝ }
+    ensures { λ r. ⌜ pairsOf r ≡ pairsOf pairs ++ ((kept .0, replaced .0) ∷ []) ⌝ }
+{
+    let mut out = pairs;
+    let last = out.count;
+    out.kept[last] = kept.0 as u8;
+    out.replaced[last] = replaced.0 as u8;
+    out.count = last + 1;
+    out
+}
+
+// "While a term has two successors, the two lowest successors of the lowest such term are joined", after the pairs that were joined before
+pub fn settle(s: Facts, n: usize, before: Pairs) -> Joined
+    requires { ⌜ (n ≤ 16) × Fits (andThen (joinedAs before s) (settle n n)) ⌝ }
+    ensures { λ r. ⌜ joinedOf r ≡ andThen (joinedAs before s) (settle n n) ⌝ }
 {
     let mut t = s;
+    let mut pairs = before;
     let mut left = n;
     while 0 < left {
         let Two::Of(a, b) = doubled(&t.link, n) else {
-            return t;
+            return Joined { pairs, facts: t };
         };
         t = replace(t, a, b);
+        pairs = and_pair(pairs, a, b);
         left -= 1;
     }
-    t
+    Joined { pairs, facts: t }
 }
 
-// "Joining a and b"
-pub fn join(s: Facts, n: usize, a: Term, b: Term) -> Facts
-    requires { ⌜ (n ≤ 16) × (a .0 ≤ 16) × (b .0 ≤ 16) ⌝ }
-    ensures { λ r. ⌜ pathOf r ≡ join n (a .0) (b .0) (pathOf s) ⌝ }
+// "Joining a and b", after the pairs that were joined before. A term joined with itself is no pair.
+pub fn join(s: Facts, n: usize, a: Term, b: Term, before: Pairs) -> Joined
+    requires { ⌜ (n ≤ 16) × (a .0 ≤ 16) × (b .0 ≤ 16) × Fits (andThen (joinedAs before s) (join n (a .0) (b .0))) ⌝ }
+    ensures { λ r. ⌜ joinedOf r ≡ andThen (joinedAs before s) (join n (a .0) (b .0)) ⌝ }
 {
     if a.0 == b.0 {
-        return s;
+        return Joined {
+            pairs: before,
+            facts: s,
+        };
     }
     if a.0 < b.0 {
-        return settle(replace(s, a, b), n);
+        return settle(replace(s, a, b), n, and_pair(before, a, b));
     }
-    settle(replace(s, b, a), n)
+    settle(replace(s, b, a), n, and_pair(before, b, a))
 }
 
 // A row with t, where it is to have it.

@@ -1,4 +1,5 @@
 pub mod Bounded
+pub mod Room
 pub mod Each
 pub mod Entries
 pub mod Itself

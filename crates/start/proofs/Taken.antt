@@ -2,13 +2,15 @@
 use Prim.Native.Nat.{ℕ, _≤_}
 use mathlib.Core.Path.{_≡_, refl, sym, ap, ap₂, _∙_}
 use mathlib.Core.Bool.{true, false, cond}
+use mathlib.Core.List.{List}
 use lib.ListN.{getD}
 use Rattle.logic.specs.Query.{Literal}
-use Rattle.logic.specs.Facts.{join, addReach}
+use Rattle.logic.specs.Facts.{Joined, unjoined, andThen, join, addReach}
 use Rattle.logic.proofs.Basics.Compare.{cond-true, cond-false}
 use Rattle.facts.specs.declared.Facts as code
 use Rattle.facts.specs.Path.{pathOf}
 use Rattle.facts.proofs.Rep.{rep-in}
+use Rattle.facts.proofs.Joins.{andThen-at, andThen-unjoined}
 use Rattle.start.specs.Taken.{joinOne, reachOne, Bounded, Terms}
 
 -- what the array has for a term
@@ -26,11 +28,12 @@ module _ (s : code.Facts) where
 
   -- the numbers x and y that are read of a literal are its terms
   module _ (l : Literal) (x y : ℕ) (e : x ≡ l .left) (f : y ≡ l .right) (t : Terms l) where
-    pub join-plain : (n : ℕ) → l .plain ≡ true → join n (repAt s x) (repAt s y) (pathOf s) ≡ joinOne n l (pathOf s)
+    pub join-plain : (n : ℕ) (ps : List (ℕ × ℕ)) → l .plain ≡ true → andThen (record { pairs = ps; facts = pathOf s }) (join n (repAt s x) (repAt s y)) ≡ andThen (record { pairs = ps; facts = pathOf s }) (joinOne n l)
     unfolding joinOne
-    join-plain n p =
-        ap₂ (λ a b. join n a b (pathOf s)) (rep-read x (l .left) e (t .left-within)) (rep-read y (l .right) f (t .right-within))
-        ∙ sym (cond-true _ _ p)
+    join-plain n ps p =
+        andThen-at (record { pairs = ps; facts = pathOf s }) (join n (repAt s x) (repAt s y)) (joinOne n l)
+        (ap₂ (λ a b. join n a b (pathOf s)) (rep-read x (l .left) e (t .left-within)) (rep-read y (l .right) f (t .right-within))
+        ∙ sym (cond-true _ _ p))
 
     pub reach-plain : l .plain ≡ true → addReach (repAt s x) (repAt s y) (pathOf s) ≡ reachOne l (pathOf s)
     unfolding reachOne
@@ -39,9 +42,11 @@ module _ (s : code.Facts) where
         ∙ sym (cond-true _ _ p)
 
   module _ (l : Literal) where
-    pub join-negated : (n : ℕ) → l .plain ≡ false → pathOf s ≡ joinOne n l (pathOf s)
+    pub join-negated : (n : ℕ) (ps : List (ℕ × ℕ)) → l .plain ≡ false → record { pairs = ps; facts = pathOf s } ≡ andThen (record { pairs = ps; facts = pathOf s }) (joinOne n l)
     unfolding joinOne
-    join-negated n p = sym (cond-false _ _ p)
+    join-negated n ps p =
+        let j : Joined = record { pairs = ps; facts = pathOf s } in
+        sym (andThen-at j (joinOne n l) unjoined (cond-false _ _ p) ∙ andThen-unjoined j)
 
     pub reach-negated : l .plain ≡ false → pathOf s ≡ reachOne l (pathOf s)
     unfolding reachOne

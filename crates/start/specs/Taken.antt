@@ -3,16 +3,20 @@ use Prim.Native.Nat.{ℕ, _≤_, _<_}
 use mathlib.Core.Bool.{cond}
 use mathlib.Core.List.{List}
 use lib.ListN.{getD}
-use Rattle.logic.specs.Query.{Literal}
-use Rattle.logic.specs.Facts.{Facts, join, addReach}
+use Rattle.logic.specs.Query.{Literal, Query}
+use Rattle.logic.specs.Facts.{Facts, Joined, unjoined, join, addReach, startJoins, start}
 use Rattle.query.specs.LaysOut.{literalIn}
 
 -- a plain equality is joined, and a plain reachability fact is added; both are read through `rep`
-unfoldable pub joinOne : ℕ → Literal → Facts → Facts
-joinOne n l s = cond (l .plain) (join n (s .rep (l .left)) (s .rep (l .right)) s) s
+unfoldable pub joinOne : ℕ → Literal → Facts → Joined
+joinOne n l s = cond (l .plain) (join n (s .rep (l .left)) (s .rep (l .right)) s) (unjoined s)
 
 unfoldable pub reachOne : Literal → Facts → Facts
 reachOne l s = cond (l .plain) (addReach (s .rep (l .left)) (s .rep (l .right)) s) s
+
+-- the start of a query, and the pairs joined to make it
+unfoldable pub started : Query → Joined
+started q = record { pairs = startJoins q .pairs; facts = start q }
 
 -- each number up to 16 was replaced by such a one
 pub record Bounded (s : Facts) : Type 0 where

@@ -1,5 +1,6 @@
 // The start of a query: the path that holds its links, its plain equalities and its plain reachability facts.
 use facts::Facts;
+use facts::Joined;
 use facts::Term;
 use query::Layout;
 ghost use mathlib.Core.Path.{_≡_};
@@ -7,12 +8,13 @@ ghost use mathlib.Core.Bool.{true};
 ghost use Prim.Native.Nat.{ℕ, _+_, _*_, _≤_, _<_};
 ghost use lib.ListN.{length, take, drop};
 ghost use Rattle.logic.specs.Query.{literals, decode};
-ghost use Rattle.logic.specs.Facts.{linksOf, joinEach, reachEach, start};
+ghost use Rattle.logic.specs.Facts.{linksOf, andThen, joinEach, reachEach};
 ghost use Rattle.logic.specs.Calls.{accepts};
 ghost use Rattle.facts.specs.Square.{square};
 ghost use Rattle.facts.specs.Path.{pathOf, repOf};
+ghost use Rattle.facts.specs.Pairs.{joinedOf, Fits};
 ghost use Rattle.query.specs.LaysOut.{LaysOut, literalIn};
-ghost use Rattle.start.specs.Taken.{joinOne, reachOne, Bounded, Terms, TermsIn, EntriesIn};
+ghost use Rattle.start.specs.Taken.{joinOne, reachOne, started, Bounded, Terms, TermsIn, EntriesIn};
 
 // No term is replaced.
 fn unreplaced() -> [Term; 17]
@@ -53,29 +55,33 @@ fn linked(query: &[u8], n: usize) -> Facts
     Facts { rep, link, reach }
 }
 
-// Equality i is joined, where it is plain.
-fn join_one(s: Facts, n: usize, query: &[u8], at: usize, i: usize) -> Facts
-    requires { ⌜ (n ≤ 16) × (at + 3 * i + 3 ≤ length (now query)) × Terms (literalIn (now query) at i) × Bounded (pathOf s) ⌝ }
-    ensures { λ r. ⌜ pathOf r ≡ joinOne n (literalIn (now (query .entry)) at i) (pathOf s) ⌝ }
+// Equality i is joined, where it is plain, after the pairs that were joined before.
+fn join_one(t: Joined, n: usize, query: &[u8], at: usize, i: usize) -> Joined
+    requires { ⌜ (n ≤ 16) × (at + 3 * i + 3 ≤ length (now query)) × Terms (literalIn (now query) at i) × Bounded (pathOf (t .facts)) ⌝ }
+    requires { ⌜ Fits (andThen (joinedOf t) (joinOne n (literalIn (now query) at i))) ⌝ }
+    ensures { λ r. ⌜ joinedOf r ≡ andThen (joinedOf t) (joinOne n (literalIn (now (query .entry)) at i)) ⌝ }
 {
     if !query::sign(query, at, i) {
-        return s;
+        return t;
     }
     let left = query::left(query, at, i);
     let right = query::right(query, at, i);
     let l = left.0;
     let r = right.0;
+    let s = t.facts;
     let a = s.rep[l];
     let b = s.rep[r];
-    facts::join(s, n, a, b)
+    facts::join(s, n, a, b, t.pairs)
 }
 
 // "then each plain equality joined in query order"
-fn join_each(s: Facts, n: usize, query: &[u8], at: usize, count: usize) -> Facts
-    requires { ⌜ (n ≤ 16) × (at + 3 * count ≤ length (now query)) × TermsIn (now query) at count × Bounded (pathOf s) ⌝ }
-    ensures { λ r. ⌜ (pathOf r ≡ joinEach n (literals (take (3 * count) (drop at (now (query .entry))))) (pathOf s)) × Bounded (pathOf r) ⌝ }
+fn join_each(settled: Joined, n: usize, query: &[u8], at: usize, count: usize) -> Joined
+    requires { ⌜ (n ≤ 16) × (at + 3 * count ≤ length (now query)) × TermsIn (now query) at count × Bounded (pathOf (settled .facts)) ⌝ }
+    requires { ⌜ Fits (andThen (joinedOf settled) (joinEach n (literals (take (3 * count) (drop at (now query)))))) ⌝ }
+    ensures { λ r. ⌜ joinedOf r ≡ andThen (joinedOf settled) (joinEach n (literals (take (3 * count) (drop at (now (query .entry)))))) ⌝ }
+    ensures { λ r. ⌜ Bounded (pathOf (r .facts)) ⌝ }
 {
-    let mut t = s;
+    let mut t = settled;
     let mut i: usize = 0;
     while i < count {
         t = join_one(t, n, query, at, i);
@@ -116,13 +122,18 @@ fn reach_each(s: Facts, query: &[u8], at: usize, count: usize) -> Facts
     t
 }
 
-// The start of an accepted query.
-pub fn start(query: &[u8], layout: Layout) -> Facts
+// The start of an accepted query, and the pairs joined to make it.
+pub fn start(query: &[u8], layout: Layout) -> Joined
     requires { ⌜ LaysOut layout (now query) × (accepts (now query) ≡ true) ⌝ }
-    ensures { λ r. ⌜ pathOf r ≡ start (decode (now (query .entry))) ⌝ }
+    ensures { λ r. ⌜ joinedOf r ≡ started (decode (now (query .entry))) ⌝ }
 {
     let n = layout.terms;
-    let settled = facts::settle(linked(query, n), n);
+    let settled = facts::settle(linked(query, n), n, facts::no_pairs());
     let joined = join_each(settled, n, query, layout.equal_at, layout.equal_count);
-    reach_each(joined, query, layout.reach_at, layout.reach_count)
+    let pairs = joined.pairs;
+    let s = joined.facts;
+    Joined {
+        pairs,
+        facts: reach_each(s, query, layout.reach_at, layout.reach_count),
+    }
 }

@@ -2,7 +2,7 @@
 use borrow.Author.Needs.{needs}
 use mathlib.Core.Path.{subst}
 use Rattle.branch.specs.Answers.{InRange}
-use Rattle.branch.proofs.Steps.{added-equal, added-reaches}
+use Rattle.branch.proofs.Steps.{alone-fits, added-equal, added-reaches}
 use Rattle.branch.proofs.added.Statement.{statement}
 use Rattle.branch.proofs.added.Tie as tie
 
@@ -10,15 +10,20 @@ pub added-spec : {M : Type 1} → statement M
 added-spec =
     tie.close
     (tie.spec
+    -- no-pairs-requires
+    (λ c κs. search needs)
     -- enum-known-fact
     (λ c. search needs)
     -- join-requires
-    (λ c κs. let h = subst InRange (c .before .fact .given .1) (c .before .before .before .pre .1) in (c .before .before .before .pre .0, h .0, h .1))
+    (λ c κs.
+    let a = c .before .before .before .before in
+    let h = subst InRange (c .before .fact .given .1) (a .pre .1) in
+    (a .pre .0, h .0, h .1, alone-fits _ _ _ _ _ (a .pre .0) (c .before .before .before .no-pairs .ensures)))
     -- enum-known-fact-2
     (λ c. search needs)
     -- add-reach-requires
-    (λ c κs. subst InRange (c .before .fact2 .given .1) (c .before .before .before .pre .1))
+    (λ c κs. subst InRange (c .before .fact2 .given .1) (c .before .before .before .before .pre .1))
     -- returns
-    (λ c. added-equal _ _ _ _ _ _ (c .before .before .fact .given .1) (c .join .ensures))
+    (λ c. added-equal _ _ _ _ _ _ _ (c .before .before .fact .given .1) (c .before .before .before .before .no-pairs .ensures) (c .join .ensures))
     -- returns-2
-    (λ c. added-reaches _ _ _ _ _ _ (c .before .before .fact2 .given .1) (c .add-reach .ensures)))
+    (λ c. added-reaches _ _ _ _ _ _ _ (c .before .before .fact2 .given .1) (c .before .before .before .before .no-pairs .ensures) (c .add-reach .ensures)))

@@ -1,21 +1,21 @@
 -- What is left to settle comes out as the whole. Assumes nothing.
-use Prim.Native.Nat.{_≤_}
 use native.Mathlib.Omega.{arith}
 use borrow.Author.Needs.{needs}
-use mathlib.Core.Path.{_≡_, refl, sym, ap, _∙_}
-use Rattle.logic.specs.Facts.{settle}
-use Rattle.facts.specs.Path.{pathOf}
+use mathlib.Core.Path.{_≡_, refl, sym, ap, _∙_, subst}
+use Rattle.logic.specs.Facts.{andThen, settle}
 use Rattle.facts.specs.Answers.{twoOf}
+use Rattle.facts.specs.Pairs.{joinedAs, Fits}
 use Rattle.facts.proofs.Path.{doubled-links}
-use Rattle.facts.proofs.Successors.{doubled-below, settle-none, settle-done, settle-turn}
+use Rattle.facts.proofs.Successors.{doubled-below}
+use Rattle.facts.proofs.Joins.{fits-pair, made-behind, settle-none, settle-done, settle-turn}
 use Rattle.facts.proofs.settle.Statement.{statement}
 use Rattle.facts.proofs.settle.Tie as tie
 
 abbrev Inv-loop : tie.InvT-loop
-Inv-loop n t₀ left₀ t left = settle n n (pathOf t₀) ≡ settle n left (pathOf t)
+Inv-loop n t₀ pairs₀ left₀ t pairs left = andThen (joinedAs pairs₀ t₀) (settle n n) ≡ andThen (joinedAs pairs t) (settle n left)
 
 abbrev μ-loop : tie.MeasureT-loop
-μ-loop n t₀ left₀ t left = left
+μ-loop n t₀ pairs₀ left₀ t pairs left = left
 
 pub settle-spec : {M : Type 1} → statement M
 settle-spec =
@@ -39,15 +39,22 @@ settle-spec =
     (λ c κs.
     let h = doubled-below _ _ _ _ (sym (c .before .before .before .doubled .ensures) ∙ ap twoOf (c .before .a .given .1)) in
     (h .0, omega arith))
+    -- and-pair-requires
+    (λ c κs.
+    let l = c .before .before .before .before .before .before .before .before .loop in
+    let e = sym (doubled-links _ (l .t)) ∙ sym (c .before .before .before .before .doubled .ensures) ∙ ap twoOf (c .before .before .a .given .1) in
+    let h = doubled-below _ _ _ _ e in
+    let turn = l .inv ∙ settle-turn _ (joinedAs (l .pairs) (l .t)) (l .left) _ _ (omega arith) e in
+    (fits-pair (joinedAs (l .pairs) (l .t)) _ _ _ (subst Fits turn (c .before .before .before .before .before .before .before .before .before .pre .1)), omega arith, omega arith))
     -- sub-left
     (λ c. search needs)
     -- loop-less
     (λ c. omega arith)
     -- loop-again
     (λ c.
-    let l = c .before .before .before .before .before .before .before .before .loop in
+    let l = c .before .before .before .before .before .before .before .before .before .loop in
     l .inv
-    ∙ settle-turn _ _ (l .left) _ _ (omega arith) (sym (doubled-links _ (l .t)) ∙ sym (c .before .before .before .before .doubled .ensures) ∙ ap twoOf (c .before .before .a .given .1))
-    ∙ ap (settle _ _) (sym (c .replace .ensures)))
+    ∙ settle-turn _ (joinedAs (l .pairs) (l .t)) (l .left) _ _ (omega arith) (sym (doubled-links _ (l .t)) ∙ sym (c .before .before .before .before .before .doubled .ensures) ∙ ap twoOf (c .before .before .before .a .given .1))
+    ∙ made-behind (joinedAs (l .pairs) (l .t)) _ _ _ _ _ (c .and-pair .ensures) (c .before .replace .ensures))
     -- returns-2
     (λ c. sym (c .before .loop .inv ∙ settle-none _ _ _ (omega arith))))

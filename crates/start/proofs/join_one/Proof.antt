@@ -1,8 +1,9 @@
 -- A negated literal changes nothing; a plain one is taken through rep. Assumes nothing.
 use native.Mathlib.Omega.{arith}
 use borrow.Author.Needs.{needs}
-use mathlib.Core.Path.{sym, _∙_}
+use mathlib.Core.Path.{sym, _∙_, subst}
 use borrow.Author.Tests.{not-true, not-false}
+use Rattle.facts.specs.Pairs.{Fits}
 use Rattle.start.proofs.Taken.{read-bounded, join-plain, join-negated}
 use Rattle.start.proofs.join_one.Statement.{statement}
 use Rattle.start.proofs.join_one.Tie as tie
@@ -14,7 +15,7 @@ join-one-spec =
     -- sign-requires
     (λ c κs. search needs)
     -- returns
-    (λ c. join-negated _ _ _ (sym (c .before .sign .ensures) ∙ not-true _ (c .if1 .taken)))
+    (λ c. join-negated _ _ _ _ (sym (c .before .sign .ensures) ∙ not-true _ (c .if1 .taken)))
     -- left-requires
     (λ c κs. search needs)
     -- right-requires
@@ -29,9 +30,12 @@ join-one-spec =
     (λ c. search needs)
     -- join-requires
     (λ c κs.
-    let p = c .before .before .before .before .before .before .before .pre in
-    omega (arith, read-bounded _ (p .3) (c .before .before .before .left .result .0) (omega arith), read-bounded _ (p .3) (c .before .before .right .result .0) (omega arith)))
+    let p = c .before .before .before .before .before .before .before .before .pre .0 in
+    let t = c .before .before .before .before .before .before .before .before .args .t in
+    let x = read-bounded (t .facts) (p .3) (c .before .before .before .before .left .result .0) (omega arith) in
+    let y = read-bounded (t .facts) (p .3) (c .before .before .before .right .result .0) (omega arith) in
+    (p .0, x, y, subst Fits (sym (join-plain (t .facts) _ _ _ (c .before .before .before .before .left .ensures) (c .before .before .before .right .ensures) (p .2) _ _ (sym (c .before .before .before .before .before .before .sign .ensures) ∙ not-false _ (c .before .before .before .before .before .if1 .left)))) (c .before .before .before .before .before .before .before .before .pre .1)))
     -- returns-2
     (λ c.
     c .join .ensures
-    ∙ join-plain _ _ _ _ (c .before .before .before .before .left .ensures) (c .before .before .before .right .ensures) (c .before .before .before .before .before .before .before .before .pre .2) _ (sym (c .before .before .before .before .before .before .sign .ensures) ∙ not-false _ (c .before .before .before .before .before .if1 .left))))
+    ∙ join-plain (c .before .before .before .before .before .before .before .before .before .args .t .facts) _ _ _ (c .before .before .before .before .before .left .ensures) (c .before .before .before .before .right .ensures) (c .before .before .before .before .before .before .before .before .before .pre .0 .2) _ _ (sym (c .before .before .before .before .before .before .before .sign .ensures) ∙ not-false _ (c .before .before .before .before .before .before .if1 .left))))

@@ -1,0 +1,28 @@
+-- The pairs that the code hands back, as the definitions'.
+use Prim.Native.Nat.{ℕ, _≤_}
+use mathlib.Core.List.{List, map}
+use lib.ListN.{length, getD}
+use Rattle.logic.specs.Search.{from}
+use Rattle.logic.specs.Facts.{Joined}
+use Rattle.facts.specs.Path.{pathOf}
+use Rattle.facts.specs.declared.Pairs.{Pairs}
+use Rattle.facts.specs.declared.Facts as code
+use Rattle.facts.specs.declared.Joined as joined
+
+-- the pair at a place: the term kept, and the one replaced
+abbrev pub pairAt : List ℕ → List ℕ → ℕ → ℕ × ℕ
+pairAt kept replaced i = (getD kept i 0, getD replaced i 0)
+
+unfoldable pub pairsOf : Pairs → List (ℕ × ℕ)
+pairsOf p = map (pairAt (p .kept) (p .replaced)) (from (p .count) 0)
+
+-- pairs that were joined, and the facts then
+abbrev pub joinedAs : Pairs → code.Facts → Joined
+joinedAs pairs s = record { pairs = pairsOf pairs; facts = pathOf s }
+
+abbrev pub joinedOf : joined.Joined → Joined
+joinedOf j = joinedAs (j .pairs) (j .facts)
+
+-- the array has room for the pairs
+abbrev pub Fits : Joined → Type 0
+Fits j = length (j .pairs) ≤ 17
