@@ -8,7 +8,7 @@
  * Every slice is a pointer and a length in bytes:
  *
  *   order    the order in which the rules are tried: eight bytes, each of 1 to 8 once
- *   query    the statements, at most 681 bytes
+ *   query    the statements, at most 681 bytes; the term byte 255 names null, one node whose link goes to itself
  *   report, buffer    lent to the call, which writes every byte of it, whatever it answers
  *
  * Any bytes and any lengths will do: what is no order list or no query is refused. What the library cannot see for itself,
@@ -54,7 +54,7 @@ extern "C" {
  *    2  the query ends before a count or inside a section (place: its length)
  *    3  a count is above its section's limit (place: that count)
  *    4  bytes follow section 5 (place: the first of them)
- *    5  a term byte is not below its own term's number (place: that byte, here and in 6 to 8)
+ *    5  a term byte is not below its own term's number, and not 255 (place: that byte, here and in 6 to 8)
  *    6  a sign is neither 0 nor 1
  *    7  a term number in sections 2 to 4 is 0 or above the term count
  *    8  a field or boolean number is not 1 to 8

@@ -21,9 +21,17 @@ struct Literal {
     second: usize,
 }
 
-/// `parents[t]` is what term t is f of, if it is not a variable; terms are counted from 0 here.
+/// Terms are counted from 0 here.
+#[derive(Clone, Copy, PartialEq)]
+enum Term {
+    Variable,
+    Nil,
+    LinkOf(usize),
+}
+use Term::{LinkOf, Nil, Variable};
+
 struct Query {
-    parents: Vec<Option<usize>>,
+    terms: Vec<Term>,
     equalities: Vec<Literal>,
     reachability: Vec<Literal>,
     data: Vec<Literal>,
@@ -49,7 +57,13 @@ fn literals(random: &mut Random, count: usize, first: usize, second: usize) -> V
 
 fn random_query(random: &mut Random) -> Query {
     let n = (random.below(16) + 3) / 4;
-    let parents = (1..=n).map(|t| random.below(t).checked_sub(1)).collect();
+    let terms = (0..n)
+        .map(|t| match random.below(t + 2) {
+            0 => Variable,
+            drawn if drawn > t => Nil,
+            drawn => LinkOf(drawn - 1),
+        })
+        .collect();
     let about_terms = |count: usize| if n == 0 { 0 } else { count };
     let count = about_terms(random.below(3));
     let equalities = literals(random, count, n, n);
@@ -59,7 +73,7 @@ fn random_query(random: &mut Random) -> Query {
     let data = literals(random, count, 2, n);
     let count = random.below(3);
     let booleans = literals(random, count, 2, 0);
-    Query { parents, equalities, reachability, data, booleans }
+    Query { terms, equalities, reachability, data, booleans }
 }
 
 /// Example E9 with up to three bytes of its literals drawn anew: few queries at random need SHARE.
@@ -75,8 +89,8 @@ fn near_share(random: &mut Random) -> Query {
         }
     }
     let reachability = literals.split_off(2);
-    let parents = vec![None, None, Some(0), Some(1)];
-    Query { parents, equalities: literals, reachability, data: vec![], booleans: vec![] }
+    let terms = vec![Variable, Variable, LinkOf(0), LinkOf(1)];
+    Query { terms, equalities: literals, reachability, data: vec![], booleans: vec![] }
 }
 
 /// One query in eight is near E9.
@@ -128,26 +142,38 @@ fn meets(query: &Query, reach: &[Vec<bool>], nodes: &[usize]) -> bool {
         && !conflict(&query.booleans, |p, q| p.first == q.first)
 }
 
-/// The node of every term, for a choice of nodes for the variables.
-fn nodes_of(query: &Query, links: &[usize], variables: &[usize]) -> Vec<usize> {
+/// The node of every term, for a choice of nodes for nil and the variables.
+fn nodes_of(query: &Query, links: &[usize], nil: usize, variables: &[usize]) -> Vec<usize> {
     let mut nodes: Vec<usize> = vec![];
     let mut free = variables.iter();
-    for parent in &query.parents {
-        nodes.push(match parent {
-            Some(t) => links[nodes[*t]],
-            None => *free.next().unwrap(),
+    for term in &query.terms {
+        nodes.push(match *term {
+            LinkOf(t) => links[nodes[t]],
+            Nil => nil,
+            Variable => *free.next().unwrap(),
         });
     }
     nodes
 }
 
+/// Where nil can be: at a node whose link goes to itself. A query that does not name nil asks for no such node.
+fn places_of_nil(query: &Query, links: &[usize]) -> Vec<usize> {
+    if query.terms.contains(&Nil) {
+        (0..links.len()).filter(|&x| links[x] == x).collect()
+    } else {
+        vec![0]
+    }
+}
+
 fn satisfiable(query: &Query, heaps: &[Vec<(Vec<usize>, Vec<Vec<bool>>)>]) -> bool {
-    let variables = query.parents.iter().filter(|p| p.is_none()).count();
-    (1..=query.parents.len() + 1).any(|size| {
+    let variables = query.terms.iter().filter(|&&t| t == Variable).count();
+    (1..=query.terms.len() + 1).any(|size| {
         let choices = rows(variables, size);
-        heaps[size]
-            .iter()
-            .any(|(links, reach)| choices.iter().any(|v| meets(query, reach, &nodes_of(query, links, v))))
+        heaps[size].iter().any(|(links, reach)| {
+            places_of_nil(query, links)
+                .iter()
+                .any(|&nil| choices.iter().any(|v| meets(query, reach, &nodes_of(query, links, nil, v))))
+        })
     })
 }
 

@@ -48,6 +48,7 @@ pub fn inputs() -> Vec<Vec<u8>> {
     clashes(&mut all);
     cycles(&mut all);
     deep(&mut all);
+    nil(&mut all);
     all
 }
 
@@ -187,7 +188,7 @@ fn counts(all: &mut Vec<Vec<u8>>) {
 fn single_faults(all: &mut Vec<Vec<u8>>) {
     let query = middle();
     for at in 0..query.len() {
-        for value in [0, 1, 2, 3, 4, 8, 9, 17, 61, 255] {
+        for value in [0, 1, 2, 3, 4, 8, 9, 17, 61, 254, 255] {
             if query[at] != value {
                 let mut bad = query.clone();
                 bad[at] = value;
@@ -196,7 +197,7 @@ fn single_faults(all: &mut Vec<Vec<u8>>) {
         }
     }
     // The last term's byte, and terms of literals, with 16 terms.
-    for value in [14, 15, 16, 17, 255] {
+    for value in [14, 15, 16, 17, 254, 255] {
         let mut bad = [&[16][..], &[0; 16], &[0; 4]].concat();
         bad[16] = value;
         all.push(plain(&bad));
@@ -349,5 +350,48 @@ fn deep(all: &mut Vec<Vec<u8>>) {
         let mut fan = Draft { terms: vec![0; 4], ..Draft::default() };
         fan.reachability = vec![[1, 4, 1], [1, 4, 2], [1, 4, 3], [0, 1, 4], [0, 2, 1], [0, 3, 2]];
         all.push(under(&order, &fan.bytes()));
+    }
+}
+
+/// Nil (02, R-3): one node, whose link goes to itself.
+fn nil(all: &mut Vec<Vec<u8>>) {
+    // Null in a live list: 1 reaches nil and nil reaches 2, which is not nil. Then the same with a variable in nil's place.
+    for null in [255, 0] {
+        let list = Draft {
+            terms: vec![0, 0, null],
+            equalities: vec![[0, 2, 3]],
+            reachability: vec![[1, 1, 3], [1, 3, 2]],
+            ..Draft::default()
+        };
+        all.push(plain(&list.bytes()));
+    }
+    let mut terms: Vec<Vec<u8>> = vec![
+        vec![255],
+        vec![255; 16],
+        vec![255, 1, 2, 3],
+        // f of nil twice: nil's own link doubles its successors.
+        vec![255, 1, 1],
+        vec![0, 255, 2, 1, 2],
+        // f of nil stands below nil's other name; the nil terms have links before they are joined.
+        vec![255, 1, 255, 3, 255, 5],
+        vec![0, 1, 255, 0, 255, 3, 5, 1],
+        vec![254],
+        vec![0, 254],
+        vec![255, 254, 255],
+    ];
+    terms.push((0..16u8).map(|i| if i % 2 == 0 { 255 } else { i }).collect());
+    for terms in terms {
+        let n = terms.len() as u8;
+        let bare = Draft { terms, ..Draft::default() };
+        all.push(plain(&bare.bytes()));
+        for equal in [[1, 1, n], [0, 1, n], [1, n / 2 + 1, n], [0, n / 2 + 1, n]] {
+            for reach in [[1, n, 1], [0, n, 1], [1, n / 2 + 1, n], [0, 1, n / 2 + 1]] {
+                let mut more = bare.clone();
+                more.equalities.push(equal);
+                more.reachability.push(reach);
+                all.push(plain(&more.bytes()));
+                all.push(under(&[8, 7, 6, 5, 4, 3, 2, 1], &more.bytes()));
+            }
+        }
     }
 }

@@ -7,7 +7,7 @@
 
 /// An accepted query, taken apart. Terms, fields and booleans count from 1, as in the bytes.
 pub struct Literals {
-    /// 0 for a variable, j for f of term j.
+    /// 0 for a variable, j for f of term j, 255 for nil.
     pub terms: Vec<usize>,
     pub equal: Vec<(bool, usize, usize)>,
     pub reach: Vec<(bool, usize, usize)>,
@@ -55,8 +55,9 @@ fn advance(digits: &mut [usize], base: usize) -> bool {
     false
 }
 
+/// The nodes of the variables are chosen; the last choice is nil's, if some term names it.
 fn some_heap(query: &Literals, nodes: usize) -> bool {
-    let variables = query.terms.iter().filter(|&&t| t == 0).count();
+    let variables = query.terms.iter().filter(|&&t| t == 0).count() + usize::from(query.terms.contains(&255));
     let mut link = vec![0; nodes];
     loop {
         let paths = all_paths(&link);
@@ -94,7 +95,14 @@ fn placed(query: &Literals, link: &[usize], paths: &[Vec<bool>], choice: &[usize
     let mut node = [usize::MAX; 17];
     let mut variables = choice.iter();
     for (i, &term) in query.terms.iter().enumerate() {
-        node[i + 1] = if term == 0 { *variables.next().unwrap() } else { link[node[term]] };
+        node[i + 1] = match term {
+            0 => *variables.next().unwrap(),
+            255 => *choice.last().unwrap(),
+            _ => link[node[term]],
+        };
+        if term == 255 && link[node[i + 1]] != node[i + 1] {
+            return false;
+        }
     }
     query.equal.iter().all(|&(sign, a, b)| (node[a] == node[b]) == sign)
         && query.reach.iter().all(|&(sign, a, b)| paths[node[a]][node[b]] == sign)
@@ -143,8 +151,17 @@ pub fn check_report(bytes: &[u8], report: &[u8]) -> Result<(), String> {
     let node_of = |term: usize| node[term - 1];
     let next_of = |x: usize| link[x - 1];
     for (i, &term) in query.terms.iter().enumerate() {
-        if term > 0 && node_of(i + 1) != next_of(node_of(term)) {
+        if term > 0 && term < 255 && node_of(i + 1) != next_of(node_of(term)) {
             return Err(format!("term {} is not where the link of term {term} leads", i + 1));
+        }
+        if term == 255 && next_of(node_of(i + 1)) != node_of(i + 1) {
+            return Err(format!("the link of nil, term {}, leads elsewhere", i + 1));
+        }
+    }
+    let mut nil_nodes = (0..n).filter(|&i| query.terms[i] == 255).map(|i| node[i]);
+    if let Some(nil) = nil_nodes.next() {
+        if nil_nodes.any(|x| x != nil) {
+            return Err("nil is more than one node".into());
         }
     }
     for &(sign, a, b) in &query.equal {

@@ -72,8 +72,9 @@ impl Draft {
 #[derive(Clone, Copy)]
 pub struct Shape {
     pub terms: usize,
-    /// Of 100 terms, how many are f of an earlier one.
+    /// Of 100 terms, how many are f of an earlier one; of the others, how many name nil.
     pub links: usize,
+    pub nil: usize,
     pub equalities: usize,
     pub reachability: usize,
     pub data: usize,
@@ -88,7 +89,13 @@ pub fn draft(random: &mut Random, shape: &Shape) -> Draft {
     let n = shape.terms;
     let mut draft = Draft::default();
     for i in 0..n {
-        draft.terms.push(if random.percent(shape.links) { random.below(i + 1) as u8 } else { 0 });
+        draft.terms.push(if random.percent(shape.links) {
+            random.below(i + 1) as u8
+        } else if random.percent(shape.nil) {
+            reference::NIL
+        } else {
+            0
+        });
     }
     let term = |random: &mut Random| random.between(1, n) as u8;
     if n > 0 {
@@ -122,6 +129,7 @@ pub fn shape(random: &mut Random, most: usize) -> Shape {
     Shape {
         terms,
         links: [0, 30, 60, 100][random.below(4)],
+        nil: [0, 0, 15, 40][random.below(4)],
         equalities: random.below(big),
         reachability: if random.percent(30) { random.below(4) } else { random.below(2 * big) },
         data: if random.percent(50) { 0 } else { random.below(big) },
@@ -168,7 +176,7 @@ pub fn damage(random: &mut Random, bytes: &mut Vec<u8>) {
             _ if length > 0 => {
                 // Near misses.
                 let at = random.below(length);
-                bytes[at] = [0, 1, 2, 8, 9, 16, 17, 60, 61, 255][random.below(10)];
+                bytes[at] = [0, 1, 2, 8, 9, 16, 17, 60, 61, 254, 255][random.below(11)];
             }
             _ => {}
         }
@@ -209,6 +217,7 @@ pub fn crowded(random: &mut Random) -> Vec<u8> {
     let shape = Shape {
         terms: random.between(1, 16),
         links: random.below(101),
+        nil: [0, 0, 15, 40][random.below(4)],
         equalities: most(random),
         reachability: most(random),
         data: most(random),

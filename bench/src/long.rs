@@ -11,6 +11,7 @@ fn begin(random: &mut Random) -> ([u8; 8], Draft) {
     let shape = Shape {
         terms: random.between(8, 14),
         links: random.between(10, 70),
+        nil: 0,
         equalities: random.between(1, 8),
         reachability: random.between(6, 24),
         data: 0,

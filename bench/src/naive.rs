@@ -6,6 +6,8 @@ use std::collections::BTreeSet;
 #[derive(Clone)]
 struct Path {
     live: BTreeSet<usize>,
+    /// The lowest term that names nil, or what it became.
+    nil: Option<usize>,
     /// (x, y): f(x) = y.
     links: BTreeSet<(usize, usize)>,
     /// (x, y): x reaches y.
@@ -33,6 +35,7 @@ impl Path {
         let (low, high) = (a.min(b), a.max(b));
         let by = |x: usize| if x == high { low } else { x };
         self.live.remove(&high);
+        self.nil = self.nil.map(by);
         self.links = self.links.iter().map(|&(x, y)| (by(x), by(y))).collect();
         self.reach = self.reach.iter().map(|&(x, y)| (by(x), by(y))).collect();
         for (_, x, y) in self.differ.iter_mut().chain(self.unreached.iter_mut()) {
@@ -60,6 +63,7 @@ impl Path {
         let n = sections[0].len();
         let mut path = Path {
             live: (1..=n).collect(),
+            nil: None,
             links: BTreeSet::new(),
             reach: BTreeSet::new(),
             differ: Vec::new(),
@@ -70,10 +74,14 @@ impl Path {
         // A literal that is put in before the joins is renamed by them, as every fact is; the plain
         // equalities wait in `differ` under place 0 until they are joined.
         for (i, entry) in sections[0].iter().enumerate() {
-            if entry[0] > 0 {
+            if entry[0] > 0 && entry[0] < 255 {
                 path.links.insert((entry[0], i + 1));
             }
         }
+        // So do the pairs of nil terms, before them.
+        let nil_terms: Vec<usize> = (1..=n).filter(|&t| sections[0][t - 1][0] == 255).collect();
+        path.nil = nil_terms.first().copied();
+        path.differ.extend(nil_terms.iter().skip(1).map(|&t| (0, nil_terms[0], t)));
         let mut waiting = 0;
         for (i, entry) in sections[1].iter().enumerate() {
             let place = if entry[0] == 1 { 0 } else { i + 1 };
@@ -96,12 +104,21 @@ impl Path {
             path.booleans.push((i + 1, entry[0] == 1, entry[1]));
         }
         path.join_doubled();
-        for _ in 0..waiting {
-            let at = path.differ.iter().position(|literal| literal.0 == 0).unwrap();
-            let (_, a, b) = path.differ.remove(at);
-            path.join(a, b);
+        path.join_waiting(nil_terms.len().saturating_sub(1));
+        if let Some(nil) = path.nil {
+            path.links.insert((nil, nil));
+            path.join_doubled();
         }
+        path.join_waiting(waiting);
         path
+    }
+
+    fn join_waiting(&mut self, count: usize) {
+        for _ in 0..count {
+            let at = self.differ.iter().position(|literal| literal.0 == 0).unwrap();
+            let (_, a, b) = self.differ.remove(at);
+            self.join(a, b);
+        }
     }
 
     fn clash(&self) -> Option<[usize; 4]> {

@@ -10,6 +10,9 @@ pub const LINE_LIMIT: u64 = 16_000;
 pub const DERIVATION_BYTES: usize = 64_002;
 pub const INPUT_BYTES: usize = 1_024;
 
+/// The term byte that names nil (02, R-3).
+pub const NIL: u8 = 255;
+
 /// Largest count and bytes per entry of sections 1 to 5.
 pub const SECTION_LIMIT: [usize; 5] = [16, 60, 60, 60, 60];
 pub const SECTION_WIDTH: [usize; 5] = [1, 3, 3, 3, 2];
@@ -102,9 +105,9 @@ pub fn check_query(bytes: &[u8]) -> Result<Query<'_>, Refusal> {
     }
     let part = |section: usize| &bytes[begin[section]..end[section]];
     let query = Query { terms: part(0), equalities: part(1), reachability: part(2), data: part(3), booleans: part(4) };
-    // 5: a term byte is below its own term's number.
+    // 5: a term byte is below its own term's number, or names nil.
     for (i, &byte) in query.terms.iter().enumerate() {
-        if usize::from(byte) > i {
+        if usize::from(byte) > i && byte != NIL {
             return refuse(5, begin[0] + i);
         }
     }
@@ -276,11 +279,12 @@ impl Facts {
             negated_booleans: 0,
         };
         for (x, &byte) in query.terms.iter().enumerate() {
-            if byte > 0 {
+            if byte > 0 && byte != NIL {
                 facts.link[usize::from(byte) - 1] |= bit(x);
             }
         }
         facts.settle();
+        facts.join_nil(query);
         for entry in query.equalities.chunks_exact(3) {
             if entry[0] == 1 {
                 facts.join(facts.named(entry[1]), facts.named(entry[2]));
@@ -316,6 +320,20 @@ impl Facts {
             }
         }
         facts
+    }
+
+    /// The nil terms are joined to the lowest, and nil's link goes to itself.
+    fn join_nil(&mut self, query: &Query) {
+        let mut nil_terms = (0..query.term_count()).filter(|&x| query.terms[x] == NIL);
+        let Some(first) = nil_terms.next() else {
+            return;
+        };
+        for other in nil_terms {
+            self.join(usize::from(self.name[first]), usize::from(self.name[other]));
+        }
+        let nil = usize::from(self.name[first]);
+        self.link[nil] |= bit(nil);
+        self.settle();
     }
 
     fn has_clash(&self) -> bool {

@@ -9,8 +9,8 @@ use mathlib.Core.List.{List, [], _∷_, map, List·Memᴰ, List·Memᴰ·head, L
 use lib.ListN.{length, getD, length-map}
 use lib.Dec.{eqb}
 use Rattle.logic.specs.Search.{any, from}
-use Rattle.logic.specs.Query.{Literal, Query, entryOf, termCount}
-use Rattle.logic.specs.Heap.{Heap, Node, IsHeap, iterate, Reaches, Signed, Each, Meets, value}
+use Rattle.logic.specs.Query.{Literal, Query, namesNil, argumentOf, termCount}
+use Rattle.logic.specs.Heap.{Heap, Node, IsHeap, iterate, Reaches, Signed, Each, NilNode, Meets, value}
 use Rattle.logic.specs.Facts.{terms}
 use Rattle.logic.specs.Shown.{placeOf}
 use Rattle.logic.proofs.Basics.Search.{any-true, any-intro, from-intro, from-mem, map-mem, map-intro}
@@ -18,6 +18,7 @@ use Rattle.logic.proofs.Basics.Compare.{eqb-true, eqb-self, le-cases, cond-true
 use Rattle.logic.proofs.Graph.Orbit.{reaches-keeps}
 use Rattle.logic.proofs.Graph.Cycles.{Within}
 use Rattle.logic.proofs.Query.Tied.{Accepted}
+use Rattle.logic.proofs.Query.Entries.{nil-range}
 use Rattle.logic.proofs.Soundness.Value.{Below, accepted-below, value-variable, value-link, value-node}
 use Rattle.logic.proofs.Completeness.Placed.{Stands, placeOf-mem, placeOf-range, placeOf-injective, getD-mem, length-from}
 use Rattle.between.specs.Meaning.{BetweenLiteral, BetweenQuery, Between, MeetsBetween}
@@ -138,10 +139,10 @@ module _ (q : Query) (ok : Accepted q) (h : Heap) (is : IsHeap h) where
   variable-place t r = cond-true (place (val t)) 1 (mem-chosen (val t) (term-named t r))
 
   -- f of a term: the hop from what the term names is its own link
-  linked : (t : ℕ) → (1 ≤ t) × (t ≤ termCount q) → 1 ≤ entryOf (q .entries) t → value small (q .entries) (entryOf (q .entries) t) ≡ place (val (entryOf (q .entries) t)) → value small (q .entries) t ≡ place (val t)
+  linked : (t : ℕ) → (1 ≤ t) × (t ≤ termCount q) → 1 ≤ argumentOf (q .entries) t → value small (q .entries) (argumentOf (q .entries) t) ≡ place (val (argumentOf (q .entries) t)) → value small (q .entries) t ≡ place (val t)
   linked t r one ih =
       let below = accepted-below q ok in
-      let e : ℕ = entryOf (q .entries) t in
+      let e : ℕ = argumentOf (q .entries) t in
       let b = below t one in
       let m = term-named e (one, omega arith) in
       let v = value-link h (q .entries) below t one in
@@ -171,10 +172,28 @@ module _ (q : Query) (ok : Accepted q) (h : Heap) (is : IsHeap h) where
       go (suc k) t r l =
           ⊎-elim
           (λ one. let b = accepted-below q ok t one in
-          let e : ℕ = entryOf (q .entries) t in
+          let e : ℕ = argumentOf (q .entries) t in
           linked t r one (go k e (one, omega arith) (omega arith)))
-          (λ none. let z : entryOf (q .entries) t ≡ 0 = omega arith in value-variable small (q .entries) t z ∙ variable-place t r)
-          (le-cases 1 (entryOf (q .entries) t))
+          (λ none. let z : argumentOf (q .entries) t ≡ 0 = omega arith in value-variable small (q .entries) t z ∙ variable-place t r)
+          (le-cases 1 (argumentOf (q .entries) t))
+
+  -- nil's node is named, so that its own link stays
+  nil-in : (t : ℕ) → namesNil (q .entries) t ≡ true → (1 ≤ t) × (t ≤ termCount q)
+  unfolding termCount
+  nil-in t e = nil-range (q .entries) t e
+
+  small-nil : NilNode h (q .entries) → NilNode small (q .entries)
+  small-nil nil =
+      record {
+        one-node = λ t u a b. small-value t (nil-in t a) ∙ ap place (nil .one-node t u a b) ∙ sym (small-value u (nil-in u b));
+        own-link = λ t a.
+            let r = nil-in t a in
+            let m = term-named t r in
+            let first : First (h .link) chosen (h .link (val t)) (val t) = subst (λ (x : ℕ). First (h .link) chosen x (val t)) (sym (nil .own-link t a)) (found (mem-chosen (val t) m)) in
+            ap (small .link) (small-value t r) ∙ link-place (val t) m
+            ∙ ap place (hop-first (h .link) chosen (h .size) (val t) (val t) (followed (h .link (val t)) (is .link-node (val t) (named-node (val t) m))) first)
+            ∙ sym (small-value t r);
+      }
 
   -- Until in the heap and in the small one
   module _ (Avoid Avoid′ : ℕ → Type 0) (only : (v : ℕ) → Avoid v → List·Memᴰ v named) (forth : (v : ℕ) → List·Memᴰ v named → Avoid v → Avoid′ (place v)) (back : (v : ℕ) → List·Memᴰ v named → Avoid′ (place v) → Avoid v) where
@@ -260,6 +279,7 @@ small-meets q ok h m =
     record {
       meets = record {
         is-heap = small-is b acc h is;
+        nil-node = small-nil b acc h is (m .meets .nil-node);
         equalities = λ l k. let r = acc .equal-terms l k in signed-same (l .plain) (same-equal b acc h is (l .left) (l .right) (r .0) (r .1)) (m .meets .equalities l k);
         reachability = λ l k. let r = acc .reach-terms l k in signed-same (l .plain) (same-reach b acc h is (l .left) (l .right) (r .0) (r .1)) (m .meets .reachability l k);
         fields = λ l k. signed-same (l .plain) (same-test (same-field b acc h is (l .left) (l .right) (acc .field-term l k))) (m .meets .fields l k);

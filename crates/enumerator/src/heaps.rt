@@ -10,6 +10,7 @@ use crate::literals::Term;
 use crate::literals::booleans_at;
 use crate::literals::data_at;
 use crate::literals::flag_at;
+use crate::literals::is_link;
 use crate::literals::is_plain;
 use crate::literals::literal_at;
 use crate::literals::literal_count;
@@ -36,7 +37,7 @@ fn first_heap(query: &Room, m: usize) -> Room
     heap
 }
 
-// The byte at a place is chosen freely: a node's successor, or the node of a variable.
+// The byte at a place is chosen freely: a node's successor, or the node of a variable or of nil.
 fn is_free(query: &Room, m: usize, at: usize) -> bool {
     if at <= m {
         return true;
@@ -44,7 +45,7 @@ fn is_free(query: &Room, m: usize, at: usize) -> bool {
     if at == m + 1 {
         return false;
     }
-    byte(query, at - m - 1) == 0
+    !is_link(query, at - m - 1)
 }
 
 // The next choice of successors and variables, as an odometer counts; false after the last.
@@ -70,8 +71,8 @@ fn next_heap(query: &Room, heap: &mut Room) -> bool {
 fn place_term(query: &Room, heap: &mut Room, t: usize)
     requires { ⌜ t < 256 ⌝ }
 {
-    let of = byte(query, t);
-    if of != 0 {
+    if is_link(query, t) {
+        let of = byte(query, t);
         let x = successor(heap, node_of(heap, Term(of)));
         put(heap, node_at(heap, Term(t)), x.0);
     }

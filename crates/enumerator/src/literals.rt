@@ -15,6 +15,15 @@ pub fn term_count(query: &Room) -> usize
     byte(query, 0)
 }
 
+pub fn names_nil(query: &Room, t: usize) -> bool {
+    byte(query, t) == 255
+}
+
+// A term that is no variable and does not name nil is f of an earlier one.
+pub fn is_link(query: &Room, t: usize) -> bool {
+    !((byte(query, t) == 0) | names_nil(query, t))
+}
+
 // The place of a section's count: sections 2 to 4 have literals of three bytes.
 pub fn section_at(query: &Room, section: usize) -> usize
     ensures { λ r. ⌜ r < 3000 ⌝ }
@@ -158,8 +167,29 @@ fn section_holds(query: &Room, heap: &Room, section: usize) -> bool {
     true
 }
 
-// Every literal of the query holds.
+// "All nil terms are one node and its link goes to itself" (02, R-3).
+fn nil_holds(query: &Room, heap: &Room) -> bool {
+    let n = term_count(query);
+    let mut nil: usize = 0;
+    let mut t: usize = 0;
+    while t < n {
+        t += 1;
+        if names_nil(query, t) {
+            let x = node_of(heap, Term(t));
+            if (successor(heap, x).0 != x.0) | ((nil != 0) & (nil != x.0)) {
+                return false;
+            }
+            nil = x.0;
+        }
+    }
+    true
+}
+
+// The heap obeys the rule of nil, and every literal of the query holds.
 pub fn literals_hold(query: &Room, heap: &Room) -> bool {
+    if !nil_holds(query, heap) {
+        return false;
+    }
     let mut section: usize = 2;
     while section < 6 {
         if !section_holds(query, heap, section) {

@@ -41,12 +41,22 @@ pub fn random_order(seed: &mut u64) -> [u8; 8] {
     order
 }
 
-// The section of n terms: each a variable, or f of an earlier term.
-fn add_terms(seed: &mut u64, query: &mut Room, n: usize) -> usize {
+// What term t + 1 is: 0 for a variable, f of an earlier term, or 255, which names nil.
+fn term(seed: &mut u64, t: usize) -> usize
+    requires { ⌜ t < 10 ⌝ }
+{
+    let drawn = pick(seed, t + 2);
+    if drawn == t + 1 { 255 } else { drawn }
+}
+
+// The section of n terms.
+fn add_terms(seed: &mut u64, query: &mut Room, n: usize) -> usize
+    requires { ⌜ n < 10 ⌝ }
+{
     let mut at = add(query, 0, n);
     let mut t: usize = 0;
     while t < n {
-        at = add(query, at, pick(seed, t + 1));
+        at = add(query, at, term(seed, t));
         t += 1;
     }
     at

@@ -12,7 +12,7 @@ ghost use mathlib.Core.List.{[], _∷_, _++_};
 ghost use lib.ListN.{length};
 ghost use mathlib.Core.Option.{some};
 ghost use Rattle.logic.specs.Search.{_and_, _or_, from, find, select};
-ghost use Rattle.logic.specs.Facts.{terms, addReach, replaceIn, replace, firstTwo, successors, doubled, andThen, settle, join, live};
+ghost use Rattle.logic.specs.Facts.{terms, addReach, addLink, replaceIn, replace, firstTwo, successors, doubled, andThen, settle, join, live};
 
 // A term by its number.
 pub struct Term(pub usize);
@@ -125,6 +125,18 @@ pub fn add_reach(s: Facts, a: Term, b: Term) -> Facts
     let added = only(b.0);
     let mut t = s;
     t.reach[at] = t.reach[at] | added;
+    t
+}
+
+// The link fact is added.
+pub fn add_link(s: Facts, a: Term, b: Term) -> Facts
+    requires { ⌜ (a .0 ≤ 16) × (b .0 ≤ 16) ⌝ }
+    ensures { λ r. ⌜ pathOf r ≡ addLink (a .0) (b .0) (pathOf s) ⌝ }
+{
+    let at = a.0;
+    let added = only(b.0);
+    let mut t = s;
+    t.link[at] = t.link[at] | added;
     t
 }
 

@@ -1,11 +1,10 @@
--- What acceptance says of the bytes that are read in place: terms are below their own numbers, and numbers are in their ranges.
+-- What acceptance says of the bytes that are read in place: arguments are below their terms, and numbers are in their ranges.
 use Prim.Native.Nat.{ℕ, _≤_, _<_}
 use mathlib.Core.Path.{_≡_, refl, sym, subst}
 use mathlib.Core.Bool.{true}
 use mathlib.Core.List.{List, [], List·Memᴰ}
-use lib.ListN.{getD}
 use Rattle.logic.specs.Search.{isSome}
-use Rattle.logic.specs.Query.{Literal, decode}
+use Rattle.logic.specs.Query.{Literal, argumentOf, decode}
 use Rattle.logic.specs.Calls.{accepts}
 use Rattle.logic.proofs.Query.Tied.{InTerms, Accepted}
 use Rattle.logic.proofs.Query.AcceptedBytes.{accepted}
@@ -13,7 +12,7 @@ use Rattle.query.specs.declared.Layout.{Layout}
 use Rattle.query.specs.declared.Checked.the-variants as checked
 use Rattle.query.specs.LaysOut.{LaysOut, literalIn, flagIn}
 use Rattle.query.specs.Answers.{CheckedAs}
-use Rattle.query.proofs.Literals.{listed, listed-mem, equalities-listed, reachability-listed, fields-listed, booleans-listed, entry-is}
+use Rattle.query.proofs.Literals.{listed, listed-mem, equalities-listed, reachability-listed, fields-listed, booleans-listed}
 
 pub checked-accepts : (l : Layout) (bytes : List ℕ) → CheckedAs (checked.Accepted l) bytes → accepts bytes ≡ true
 unfolding accepts isSome
@@ -32,8 +31,8 @@ module _ (l : Layout) (bytes : List ℕ) (laid : LaysOut l bytes) (passes : acce
   member : {ls : List Literal} (f : ℕ → Literal) (count i : ℕ) → ls ≡ listed f count 0 → i < count → List·Memᴰ (f i) ls
   member f count i e h = subst (List·Memᴰ (f i)) (sym e) (listed-mem f count i h)
 
-  pub entry-below : (t : ℕ) → 1 ≤ t → t ≤ l .terms → getD bytes t 0 < t
-  entry-below t h u = rw (entry-is l bytes laid t h u) (known .entry-below t (h, rw (sym (laid .term-count)) u))
+  pub entry-below : (t : ℕ) → 1 ≤ t → t ≤ l .terms → argumentOf (decode bytes .entries) t < t
+  entry-below t h u = known .entry-below t (h, rw (sym (laid .term-count)) u)
 
   pub equal-terms : (i : ℕ) → i < l .«equal_count» → UpTo (l .terms) (literalIn bytes (l .«equal_at») i .left) × UpTo (l .terms) (literalIn bytes (l .«equal_at») i .right)
   equal-terms i h = let r = known .equal-terms _ (member (literalIn bytes (l .«equal_at»)) (l .«equal_count») i (equalities-listed l bytes laid) h) in (in-terms (r .0), in-terms (r .1))

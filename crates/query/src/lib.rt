@@ -161,11 +161,11 @@ pub fn byte_at(query: &[u8], place: usize) -> usize
     query[place] as usize
 }
 
-// "A term byte is not below its own term's number."
+// "A term byte is not below its own term's number." 255 names nil (02, R-3).
 fn entry_refused(k: usize, t: Term, byte: usize) -> bool
     ensures { λ b. ⌜ b ≡ meets (entryRole (t .0)) k byte ⌝ }
 {
-    (5 == k) & !(byte < t.0)
+    (5 == k) & !((byte < t.0) | (byte == 255))
 }
 
 // "A sign is neither 0 nor 1."

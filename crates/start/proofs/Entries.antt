@@ -10,7 +10,7 @@ use lib.Seq.{getD-take, getD-drop}
 use lib.Dec.{ltb, eqb}
 use borrow.Author.Tests.{lt-ltb, le-ltb, ltb-true, ltb-false, eqb-true, eqb-false, eq-eqb, ne-eqb}
 use Rattle.logic.specs.Search.{_and_, _or_}
-use Rattle.logic.specs.Query.{entryOf}
+use Rattle.logic.specs.Query.{entryOf, namesNil, argumentOf}
 use Rattle.logic.specs.Facts.{linksOf}
 use Rattle.logic.proofs.Basics.Search.{bool-cases}
 use Rattle.facts.specs.Bits.{bit}
@@ -19,7 +19,7 @@ use Rattle.facts.proofs.Square.{row-none, square-with}
 use Rattle.facts.proofs.Fill.{ltb-next}
 
 abbrev linkIn : List ℕ → ℕ → ℕ → Bool
-linkIn entries a b = ltb 0 a and eqb (entryOf entries b) a
+linkIn entries a b = ltb 0 a and eqb (argumentOf entries b) a
 
 and-false : (t : Bool) → t and false ≡ false
 unfolding _and_
@@ -31,8 +31,8 @@ unfolding _and_
 and-true true = refl
 and-true false = refl
 
--- a variable is nobody's successor
-variable-unlinked : (entries : List ℕ) (a b : ℕ) → entryOf entries b ≡ 0 → linkIn entries a b ≡ false
+-- a variable is nobody's successor, and nil has no argument either
+variable-unlinked : (entries : List ℕ) (a b : ℕ) → argumentOf entries b ≡ 0 → linkIn entries a b ≡ false
 unfolding _and_
 variable-unlinked entries zero b e = refl
 variable-unlinked entries (suc a) b e = rw (e, ne-eqb 0 (suc a) (omega arith)) (and-false (ltb 0 (suc a)))
@@ -53,12 +53,12 @@ LinksTo entries t cur = (a b : ℕ) → cur a b ≡ (ltb b t and linkIn entries 
 
 module _ (entries : List ℕ) where
   pub links-none : (cur : ℕ → ℕ → Bool) → ((a b : ℕ) → cur a b ≡ false) → LinksTo entries 1 cur
-  unfolding _and_ entryOf
+  unfolding _and_ entryOf namesNil argumentOf
   links-none cur none a zero = none a zero ∙ sym (variable-unlinked entries a zero refl)
   links-none cur none a (suc b) = none a (suc b) ∙ rw (le-ltb (suc b) 1 (omega arith))
 
   -- the links to t are held next
-  pub links-more : (t a w : ℕ) (rows : List ℕ) → length rows ≡ 17 → a ≤ 16 → t ≤ 16 → ((i : ℕ) → bit w i ≡ bit (getD rows a 0) i or (eqb i t and ltb 0 a)) → entryOf entries t ≡ a → LinksTo entries t (square rows) → LinksTo entries (t + 1) (square (set rows a w))
+  pub links-more : (t a w : ℕ) (rows : List ℕ) → length rows ≡ 17 → a ≤ 16 → t ≤ 16 → ((i : ℕ) → bit w i ≡ bit (getD rows a 0) i or (eqb i t and ltb 0 a)) → argumentOf entries t ≡ a → LinksTo entries t (square rows) → LinksTo entries (t + 1) (square (set rows a w))
   unfolding _and_ _or_
   links-more t a w rows full h k f e m x y = square-with rows full a t w (ltb 0 a) h k f x y ∙ ap (λ (b : Bool). b or (eqb x a and (eqb y t and ltb 0 a))) (m x y) ∙ go (eqb y t) refl
     where
@@ -75,13 +75,20 @@ module _ (entries : List ℕ) where
       go false i = rw (and-false (eqb x a), ltb-next y t (eqb-false y t i)) (none (ltb y t and linkIn entries x y))
 
   -- all links are held
-  pub links-all : (n : ℕ) (cur : ℕ → ℕ → Bool) → ((b : ℕ) → n < b → entryOf entries b ≡ 0) → LinksTo entries (n + 1) cur → cur ≡ linksOf entries .graph .link
+  pub links-all : (n : ℕ) (cur : ℕ → ℕ → Bool) → ((b : ℕ) → n < b → argumentOf entries b ≡ 0) → LinksTo entries (n + 1) cur → cur ≡ linksOf entries .graph .link
   unfolding linksOf _and_
   links-all n cur beyond m = fun-ext (λ a. fun-ext (λ b. m a b ∙ ⊎-elim (λ t. rw t) (λ t. let l = ltb-false b (n + 1) t in rw t (sym (variable-unlinked entries a b (beyond b (omega arith))))) (bool-cases (ltb b (n + 1)))))
 
+-- a term's argument by its byte: 255 names nil, which has none
+unfoldable pub argumentBy : ℕ → ℕ
+argumentBy byte = cond (eqb byte 255) 0 byte
+
 -- the entries of n terms in the query's bytes
 module _ (bytes : List ℕ) (n : ℕ) (fits : n < length bytes) where
-  pub entry-in : (t : ℕ) → 1 ≤ t → t ≤ n → entryOf (take n (drop 1 bytes)) t ≡ getD bytes t 0
+  abbrev entries : List ℕ
+  entries = take n (drop 1 bytes)
+
+  entry-in : (t : ℕ) → 1 ≤ t → t ≤ n → entryOf entries t ≡ getD bytes t 0
   unfolding entryOf
   entry-in zero h k = absurd (omega arith)
   entry-in (suc i) h k = getD-take n (drop 1 bytes) i 0 (omega arith) ∙ getD-drop 1 bytes i 0 ∙ ap (λ (j : ℕ). getD bytes j 0) one-more
@@ -89,7 +96,19 @@ module _ (bytes : List ℕ) (n : ℕ) (fits : n < length bytes) where
       one-more : 1 + i ≡ suc i
       one-more = omega arith
 
-  pub entry-beyond : (t : ℕ) → n < t → entryOf (take n (drop 1 bytes)) t ≡ 0
+  entry-beyond : (t : ℕ) → n < t → entryOf entries t ≡ 0
   unfolding entryOf
   entry-beyond zero h = refl
   entry-beyond (suc i) h = List·getD-eq-default (take n (drop 1 bytes)) 0 (simp (length-take, length-drop) (omega arith))
+
+  pub argument-in : (t : ℕ) → 1 ≤ t → t ≤ n → argumentOf entries t ≡ argumentBy (getD bytes t 0)
+  unfolding argumentOf namesNil argumentBy
+  argument-in t h k = rw (entry-in t h k)
+
+  pub argument-beyond : (t : ℕ) → n < t → argumentOf entries t ≡ 0
+  unfolding argumentOf namesNil
+  argument-beyond t h = rw (entry-beyond t h)
+
+  pub nil-in : (t : ℕ) → 1 ≤ t → t ≤ n → namesNil entries t ≡ eqb (getD bytes t 0) 255
+  unfolding namesNil
+  nil-in t h k = rw (entry-in t h k)

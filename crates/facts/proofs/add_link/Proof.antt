@@ -1,0 +1,30 @@
+-- One bit of `link` is set, and nothing else changes. Assumes nothing.
+use borrow.Author.Needs.{needs}
+use native.Mathlib.Omega.{arith}
+use mathlib.Core.Path.{refl}
+use Rattle.logic.specs.Facts.{addLink}
+use Rattle.facts.specs.Path.{pathOf, graphOf}
+use Rattle.facts.proofs.Square.{square-add}
+use Rattle.facts.proofs.Path.{alike}
+use Rattle.facts.proofs.add_link.Statement.{statement}
+use Rattle.facts.proofs.add_link.Tie as tie
+
+returns : tie.Need-returns
+unfolding addLink pathOf graphOf
+returns c = alike refl (square-add _ (search needs) _ _ _ (omega arith) (omega arith) (c .before .only .ensures)) refl
+
+pub add-link-spec : {M : Type 1} → statement M
+add-link-spec =
+    tie.close
+    (tie.spec
+    -- only-requires
+    (λ c κs. search needs)
+    -- mul-t
+    (λ c. search needs)
+    -- element-copy-out-t
+    (λ c. search needs)
+    -- mul-t-2
+    (λ c. search needs)
+    -- element-write-t
+    (λ c. search needs)
+    returns)
