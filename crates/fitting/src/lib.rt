@@ -10,10 +10,10 @@ ghost use lib.ListN.{length};
 ghost use lib.Dec.{eqb};
 ghost use Rattle.logic.specs.Search.{_and_};
 ghost use Rattle.logic.specs.Query.{decode};
-ghost use Rattle.logic.specs.Facts.{Facts, live, line, negatedAt, plainAt, isClash};
+ghost use Rattle.logic.specs.Facts.{live, line, negatedAt, plainAt, isClash};
 ghost use Rattle.logic.specs.Rules.{CYCLE, triple, move, applies};
 ghost use Rattle.facts.specs.Square.{square};
-ghost use Rattle.facts.specs.Path.{graphOf, pathOf, repOf};
+ghost use Rattle.facts.specs.Path.{graphOf, pathOf};
 ghost use Rattle.query.specs.LaysOut.{LaysOut};
 ghost use Rattle.rules.specs.Answers.{kindOf};
 ghost use Rattle.rules.specs.Tests.{pairTest, thirdTest, looped};
@@ -35,9 +35,9 @@ fn is_held(rows: &[u32; 17], a: usize, b: usize) -> bool
 }
 
 // Term t is not replaced.
-fn is_live(rep: [Term; 17], n: usize, t: usize) -> bool
+fn is_live(s: Facts, n: usize, t: usize) -> bool
     requires { ⌜ n ≤ 16 ⌝ }
-    ensures { λ r. ⌜ ((s : Facts) → s .rep ≡ repOf rep → r ≡ live n s t) ⌝ }
+    ensures { λ r. ⌜ r ≡ live n (pathOf s) t ⌝ }
 {
     if t == 0 {
         return false;
@@ -45,6 +45,7 @@ fn is_live(rep: [Term; 17], n: usize, t: usize) -> bool
     if n < t {
         return false;
     }
+    let rep = s.rep;
     let u = rep[t];
     u.0 == t
 }
@@ -100,15 +101,12 @@ fn is_round(link: &[u32; 17], reach: &[u32; 17], n: usize, x: usize, y: usize, k
     if !is_held(reach, x, y) {
         return false;
     }
-    if 16 < x {
-        return false;
-    }
     if k == 0 {
         return false;
     }
     let first = rules::next(link, n, Term(x));
     let back = rules::follow(link, n, first, Term(x), k);
-    if k != back.steps + 1 {
+    if back.steps != k - 1 {
         return false;
     }
     let round = rules::follow(link, n, Term(x), Term(y), k);
@@ -120,12 +118,13 @@ pub fn applies(s: Facts, n: usize, rule: Rule, x: usize, y: usize, z: usize) -> 
     requires { ⌜ n ≤ 16 ⌝ }
     ensures { λ r. ⌜ r ≡ applies n (pathOf s) (move (kindOf rule) (triple x y z)) ⌝ }
 {
-    let rep = s.rep;
+    let link = s.link;
+    let reach = s.reach;
     if rules::looped(rule) {
-        let alive = is_live(rep, n, x);
-        return is_allowed(rule, alive, &s.link, &s.reach, x, y, z);
+        let alive = is_live(s, n, x);
+        return is_allowed(rule, alive, &link, &reach, x, y, z);
     }
-    is_round(&s.link, &s.reach, n, x, y, z)
+    is_round(&link, &reach, n, x, y, z)
 }
 
 // Equality i, from 1, is negated, and its terms have one representative.
