@@ -62,13 +62,13 @@ fn refuted_lines(order: &[u8; 8], draft: &Draft, budget: u64) -> Option<u64> {
     }
 }
 
-/// How many lines of each kind, 1 to 9.
-fn kinds(order: &[u8; 8], draft: &Draft) -> [usize; 9] {
+/// How many lines of each kind, 1 to 10.
+fn kinds(order: &[u8; 8], draft: &Draft) -> [usize; 10] {
     let bytes = draft.bytes();
     let query = reference::check_query(&bytes).expect("drafts are accepted");
     let mut scribe = Scribe::new(u64::MAX);
     reference::walk(order, &query, &mut scribe);
-    let mut kinds = [0; 9];
+    let mut kinds = [0; 10];
     for line in scribe.lines {
         kinds[usize::from(line[0]) - 1] += 1;
     }
@@ -107,7 +107,7 @@ pub fn search(low: u64, high: u64, variety: usize, found: usize, seed: u64) {
         }
         let kinds = kinds(&order, &draft);
         if away(best) == 0 && kinds.iter().filter(|&&k| k > 0).count() >= variety {
-            println!("# {best} lines, of kinds 1 to 9 (in the first 16,000): {kinds:?}");
+            println!("# {best} lines, of kinds 1 to 10 (in the first 16,000): {kinds:?}");
             println!("{}", hex(&[&order[..], &draft.bytes()].concat()));
             left -= 1;
         }

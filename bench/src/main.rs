@@ -26,7 +26,7 @@ program EXECUTABLE DIR        compare an executable heapverdict with them
 check N SEED                  compare the reference with the enumerator of small heaps on N queries
 slow N SEED                   compare the reference with the slow walk, line by line, on N queries and the edges
 slow long                     the same on the long derivations
-data DIR                      write edges, random and long .bin and .txt into DIR
+data DIR                      write edges, random and long .bin and .txt into DIR, and base.txt from its base.bin
 search LOW HIGH KINDS N SEED  print N inputs whose derivation has LOW to HIGH lines, of KINDS kinds or more
 time DIR                      time the workloads in DIR (with feature library: the library too)
 differential N SEED           (feature library) compare library and reference on N random inputs
@@ -61,6 +61,7 @@ fn run(words: &[&str]) -> Result<bool, String> {
         ["slow", count, seed] => check::slow(number(count)? as usize, number(seed)?),
         ["data", directory] => {
             let directory = Path::new(directory);
+            vectors::write(directory, "base", &vectors::read_bin(&directory.join("base.bin"))?)?;
             vectors::write(directory, "edges", &edges::inputs())?;
             vectors::write(directory, "random", &generate::inputs(400, 20))?;
             vectors::write(directory, "long", &long::inputs())?;

@@ -28,11 +28,13 @@ enum Alternative {
 use Alternative::{Add, Join};
 
 impl Path {
-    fn join(&mut self, a: usize, b: usize) {
+    /// Every pair that is joined is said by a line (02, R-1).
+    fn join(&mut self, a: usize, b: usize, lines: &mut Vec<[usize; 4]>) {
         if a == b {
             return;
         }
         let (low, high) = (a.min(b), a.max(b));
+        lines.push([10, low, high, 0]);
         let by = |x: usize| if x == high { low } else { x };
         self.live.remove(&high);
         self.nil = self.nil.map(by);
@@ -44,21 +46,21 @@ impl Path {
         for (_, _, _, x) in self.data.iter_mut() {
             *x = by(*x);
         }
-        self.join_doubled();
+        self.join_doubled(lines);
     }
 
     /// The two lowest successors of the lowest term that has two, as long as there is one.
-    fn join_doubled(&mut self) {
+    fn join_doubled(&mut self, lines: &mut Vec<[usize; 4]>) {
         let doubled = self.live.iter().find_map(|&x| {
             let next: Vec<usize> = self.links.iter().filter(|link| link.0 == x).map(|link| link.1).collect();
             (next.len() >= 2).then(|| (next[0], next[1]))
         });
         if let Some((a, b)) = doubled {
-            self.join(a, b);
+            self.join(a, b, lines);
         }
     }
 
-    fn start(bytes: &[u8]) -> Path {
+    fn start(bytes: &[u8], lines: &mut Vec<[usize; 4]>) -> Path {
         let sections = cut(bytes);
         let n = sections[0].len();
         let mut path = Path {
@@ -103,21 +105,21 @@ impl Path {
         for (i, entry) in sections[4].iter().enumerate() {
             path.booleans.push((i + 1, entry[0] == 1, entry[1]));
         }
-        path.join_doubled();
-        path.join_waiting(nil_terms.len().saturating_sub(1));
+        path.join_doubled(lines);
+        path.join_waiting(nil_terms.len().saturating_sub(1), lines);
         if let Some(nil) = path.nil {
             path.links.insert((nil, nil));
-            path.join_doubled();
+            path.join_doubled(lines);
         }
-        path.join_waiting(waiting);
+        path.join_waiting(waiting, lines);
         path
     }
 
-    fn join_waiting(&mut self, count: usize) {
+    fn join_waiting(&mut self, count: usize, lines: &mut Vec<[usize; 4]>) {
         for _ in 0..count {
             let at = self.differ.iter().position(|literal| literal.0 == 0).unwrap();
             let (_, a, b) = self.differ.remove(at);
-            self.join(a, b);
+            self.join(a, b, lines);
         }
     }
 
@@ -213,7 +215,7 @@ impl Path {
         alternatives.iter().any(|alternative| {
             let mut branch = self.clone();
             match *alternative {
-                Join(a, b) => branch.join(a, b),
+                Join(a, b) => branch.join(a, b, lines),
                 Add(a, b) => {
                     branch.reach.insert((a, b));
                 }
@@ -239,6 +241,6 @@ fn cut(bytes: &[u8]) -> Vec<Vec<Vec<usize>>> {
 /// Whether our walk calls an accepted query satisfiable, and all its lines.
 pub fn walk(order: &[u8], query: &[u8]) -> (bool, Vec<[usize; 4]>) {
     let mut lines = Vec::new();
-    let satisfiable = Path::start(query).satisfiable(order, &mut lines);
+    let satisfiable = Path::start(query, &mut lines).satisfiable(order, &mut lines);
     (satisfiable, lines)
 }

@@ -1,4 +1,4 @@
-//! The whole of the scope paper (01) for the base, read afresh and written plainly.
+//! The whole of the scope paper (01) for the base, with the join lines of 02's R-1, read afresh and written plainly.
 //!
 //! Facts are rows of 16 bits: bit `y` of row `x` says something about the terms `x` and `y`. Inside this
 //! file terms count from 0; in every byte that comes in or goes out they count from 1.
@@ -211,21 +211,24 @@ fn rename(rows: &mut Rows, low: usize, high: usize) {
 }
 
 impl Facts {
-    /// Joins two terms that are not replaced, and what must be joined with them.
-    fn join(&mut self, a: usize, b: usize) {
+    /// Joins two terms that are not replaced, and what must be joined with them. `joined` hears of each
+    /// pair: the term kept, and the one replaced.
+    fn join(&mut self, a: usize, b: usize, joined: &mut impl FnMut(usize, usize)) {
         if a == b {
             return;
         }
         self.replace(a.min(b), a.max(b));
-        self.settle();
+        joined(a.min(b), a.max(b));
+        self.settle(joined);
     }
 
     /// Joins successors while some term has two.
-    fn settle(&mut self) {
+    fn settle(&mut self, joined: &mut impl FnMut(usize, usize)) {
         while let Some(x) = (0..TERMS).find(|&x| self.link[x] & self.link[x].wrapping_sub(1) != 0) {
             let first = lowest(self.link[x]);
             let second = lowest(self.link[x] & (self.link[x] - 1));
             self.replace(first, second);
+            joined(first, second);
         }
     }
 
@@ -263,7 +266,7 @@ impl Facts {
         usize::from(self.name[usize::from(byte) - 1])
     }
 
-    pub fn start(query: &Query) -> Facts {
+    pub fn start(query: &Query, joined: &mut impl FnMut(usize, usize)) -> Facts {
         let n = query.term_count();
         let mut facts = Facts {
             alive: ((1u32 << n) - 1) as Row,
@@ -283,11 +286,11 @@ impl Facts {
                 facts.link[usize::from(byte) - 1] |= bit(x);
             }
         }
-        facts.settle();
-        facts.join_nil(query);
+        facts.settle(joined);
+        facts.join_nil(query, joined);
         for entry in query.equalities.chunks_exact(3) {
             if entry[0] == 1 {
-                facts.join(facts.named(entry[1]), facts.named(entry[2]));
+                facts.join(facts.named(entry[1]), facts.named(entry[2]), joined);
             }
         }
         for entry in query.equalities.chunks_exact(3) {
@@ -323,17 +326,17 @@ impl Facts {
     }
 
     /// The nil terms are joined to the lowest, and nil's link goes to itself.
-    fn join_nil(&mut self, query: &Query) {
+    fn join_nil(&mut self, query: &Query, joined: &mut impl FnMut(usize, usize)) {
         let mut nil_terms = (0..query.term_count()).filter(|&x| query.terms[x] == NIL);
         let Some(first) = nil_terms.next() else {
             return;
         };
         for other in nil_terms {
-            self.join(usize::from(self.name[first]), usize::from(self.name[other]));
+            self.join(usize::from(self.name[first]), usize::from(self.name[other]), joined);
         }
         let nil = usize::from(self.name[first]);
         self.link[nil] |= bit(nil);
-        self.settle();
+        self.settle(joined);
     }
 
     fn has_clash(&self) -> bool {
@@ -528,26 +531,26 @@ impl Facts {
     }
 
     /// Joins or adds the alternative with this number, from 0.
-    fn take(&mut self, step: &Step, number: usize) {
+    fn take(&mut self, step: &Step, number: usize, joined: &mut impl FnMut(usize, usize)) {
         let Step { rule, x, y, z } = *step;
         match (rule, number) {
             (1, _) => self.add(x, x),
             (2, _) => self.add(x, y),
             (3, _) => self.add(x, z),
-            (4, 0) => self.join(x, z),
+            (4, 0) => self.join(x, z, joined),
             (4, _) => self.add(y, z),
             (5, _) => {
                 let mut at = x;
                 for _ in 0..number {
                     at = lowest(self.link[at]);
                 }
-                self.join(y, at);
+                self.join(y, at, joined);
             }
-            (6, 0) => self.join(x, y),
+            (6, 0) => self.join(x, y, joined),
             (6, _) => self.add(z, x),
             (7, 0) => self.add(y, z),
             (7, _) => self.add(z, y),
-            _ => self.join(x, y),
+            _ => self.join(x, y, joined),
         }
     }
 }
@@ -577,13 +580,14 @@ impl Listener for Deaf {
 pub struct Scribe {
     pub lines: Vec<Line>,
     pub count: u64,
-    pub clashes: u64,
+    /// Rule lines alone.
+    pub steps: u64,
     pub budget: u64,
 }
 
 impl Scribe {
     pub fn new(budget: u64) -> Scribe {
-        Scribe { lines: Vec::new(), count: 0, clashes: 0, budget }
+        Scribe { lines: Vec::new(), count: 0, steps: 0, budget }
     }
 }
 
@@ -594,7 +598,7 @@ impl Listener for Scribe {
             self.lines.push(line);
         }
         self.count += 1;
-        self.clashes += u64::from(line[0] == 9);
+        self.steps += u64::from(line[0] <= 8);
         self.count <= self.budget
     }
 }
@@ -613,7 +617,23 @@ struct Walk<'a, L> {
     listener: &'a mut L,
 }
 
+/// The line of two terms that were joined (02, R-1).
+fn join_line(kept: usize, replaced: usize) -> Line {
+    [10, kept as u8 + 1, replaced as u8 + 1, 0]
+}
+
 impl<L: Listener> Walk<'_, L> {
+    /// Takes an alternative, its join lines at the head of the branch. Answers `false` if the walk is broken off.
+    fn branch(&mut self, facts: &mut Facts, step: &Step, number: usize) -> bool {
+        let mut on = true;
+        facts.take(step, number, &mut |kept, replaced| {
+            if L::LINES {
+                on &= self.listener.line(join_line(kept, replaced));
+            }
+        });
+        on
+    }
+
     /// Walks on from these facts; if the end is `Satisfiable` they are those of the path that ended it.
     fn path(&mut self, facts: &mut Facts, mut left: usize) -> End {
         loop {
@@ -635,7 +655,9 @@ impl<L: Listener> Walk<'_, L> {
             let last = facts.alternatives(&step) - 1;
             for number in 0..last {
                 let mut branch = facts.clone();
-                branch.take(&step, number);
+                if !self.branch(&mut branch, &step, number) {
+                    return End::Stopped;
+                }
                 match self.path(&mut branch, left) {
                     End::Refuted => {}
                     End::Satisfiable => {
@@ -645,7 +667,9 @@ impl<L: Listener> Walk<'_, L> {
                     broken => return broken,
                 }
             }
-            facts.take(&step, last);
+            if !self.branch(facts, &step, last) {
+                return End::Stopped;
+            }
         }
     }
 }
@@ -653,7 +677,15 @@ impl<L: Listener> Walk<'_, L> {
 /// Our walk from the start; also hands back the facts of the path that ended it.
 pub fn walk<L: Listener>(order: &Order, query: &Query, listener: &mut L) -> (End, Facts) {
     let n = query.term_count();
-    let mut facts = Facts::start(query);
+    let mut on = true;
+    let mut facts = Facts::start(query, &mut |kept, replaced| {
+        if L::LINES {
+            on &= listener.line(join_line(kept, replaced));
+        }
+    });
+    if !on {
+        return (End::Stopped, facts);
+    }
     let mut walk = Walk { query: *query, order: *order, listener };
     let end = walk.path(&mut facts, n * n + n);
     (end, facts)

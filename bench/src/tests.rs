@@ -24,12 +24,12 @@ fn starred_examples() {
         printed(&ORDER, "02 00 00 01 00 01 02 02 01 01 02 01 02 01 00 00"),
         "sat\n02 02 01 02 01 02 02 00 00 01 00\n"
     );
-    assert_eq!(printed(&ORDER, e4).lines().count(), 8);
-    assert_eq!(printed(&[4, 1, 2, 3, 5, 6, 7, 8], e4), "unsat\n4 1 2 3\n9 2 1 0\n9 3 2 0\n");
+    assert_eq!(printed(&ORDER, e4).lines().count(), 9);
+    assert_eq!(printed(&[4, 1, 2, 3, 5, 6, 7, 8], e4), "unsat\n4 1 2 3\n10 1 3 0\n9 2 1 0\n9 3 2 0\n");
     assert_eq!(printed(&ORDER, "01 00 00 01 00 01 01 00 00"), "unsat\n1 1 0 0\n9 3 1 0\n");
-    assert_eq!(printed(&ORDER, "03 00 01 01 01 00 02 03 00 00 00"), "unsat\n9 2 1 0\n");
+    assert_eq!(printed(&ORDER, "03 00 01 01 01 00 02 03 00 00 00"), "unsat\n10 2 3 0\n9 2 1 0\n");
     assert_eq!(printed(&ORDER, "00 00 00 00 02 01 01 00 01"), "unsat\n9 5 2 1\n");
-    assert_eq!(printed(&ORDER, "02 00 00 01 01 01 02 00 02 01 01 01 00 01 02 00"), "unsat\n9 4 2 1\n");
+    assert_eq!(printed(&ORDER, "02 00 00 01 01 01 02 00 02 01 01 01 00 01 02 00"), "unsat\n10 1 2 0\n9 4 2 1\n");
     let e9 = "04 00 00 01 02 02 01 03 04 00 01 02 02 01 01 02 01 02 01 00 00";
     assert!(printed(&ORDER, e9).starts_with("unsat\n"));
     assert!(printed(&ORDER, "04 00 00 01 02 02 01 03 04 00 01 02 01 01 01 02 00 00").starts_with("sat\n"));
@@ -66,7 +66,7 @@ fn stored_data() {
 fn gate_data() {
     let root = Path::new(env!("CARGO_MANIFEST_DIR")).join("..");
     for (ending, joined) in [("bin", "stdin"), ("txt", "stdout")] {
-        let parts = ["base", "edges", "random", "long"]
+        let parts = ["base", "edges", "random", "long", "R-1"]
             .map(|name| std::fs::read(root.join(format!("tests/data/{name}.{ending}"))).unwrap());
         assert!(parts.concat() == std::fs::read(root.join("crates/vectors").join(joined)).unwrap(), "{joined}");
     }

@@ -39,7 +39,7 @@ pub fn run(directory: &Path, others: &[(&str, Verdict)]) -> Result<bool, String>
             let mut scribe = reference::Scribe::new(u64::MAX);
             let (end, _) = reference::walk(&order, &query, &mut scribe);
             satisfiable += usize::from(end == reference::End::Satisfiable);
-            steps += scribe.count - scribe.clashes;
+            steps += scribe.steps;
         }
         println!("{name}: {} queries, {satisfiable} satisfiable, {steps} rule steps", inputs.len());
         let own: Verdict = &|order, query, report| reference::encode(reference::verdict(order, query, report));

@@ -13,7 +13,7 @@ use Rattle.rules.proofs.Around.{steps-never, iterate-le}
 use Rattle.branch.specs.Alternatives.{alternativeAt}
 use Rattle.logic.specs.Heap.{iterate}
 use Rattle.logic.specs.Facts.{Graph, Facts, Joined, unjoined, andThen, join, addReach}
-use Rattle.logic.specs.Rules.{Rule, REFLEX, TRANS1, TRANS2, FUNC, CYCLE, SCC, TOTAL, SHARE, Fact, next, branch}
+use Rattle.logic.specs.Rules.{Rule, REFLEX, TRANS1, TRANS2, FUNC, CYCLE, SCC, TOTAL, SHARE, Fact, equal, reaches, next, branch}
 use Rattle.facts.specs.Path.{linksIn, graphOf, pathOf}
 use Rattle.facts.specs.Pairs.{Fits}
 use Rattle.facts.proofs.Joins.{join-pairs}
@@ -27,6 +27,11 @@ use Rattle.facts.specs.declared.Facts as paths
 pub alone-fits : (n a b : ℕ) (s : Facts) (ps : List (ℕ × ℕ)) → n ≤ 16 → ps ≡ [] → Fits (andThen (record { pairs = ps; facts = s }) (join n a b))
 unfolding andThen
 alone-fits n a b s ps h e = rw e (omega (arith, join-pairs n a b s))
+
+pub branch-fits : (n : ℕ) (s : Facts) (c : Fact) → n ≤ 16 → Fits (branch n s c)
+unfolding branch unjoined
+branch-fits n s (equal a b) h = omega (arith, join-pairs n a b s)
+branch-fits n s (reaches a b) h = omega arith
 
 pub added-equal : (n : ℕ) (f : code.Fact) (a b : Term) (s : Facts) (ps : List (ℕ × ℕ)) (j : Joined) → f ≡ fact.Equal a b → ps ≡ [] → j ≡ andThen (record { pairs = ps; facts = s }) (join n (a .0) (b .0)) → j ≡ branch n s (factOf f)
 unfolding branch andThen

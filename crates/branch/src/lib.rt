@@ -77,13 +77,15 @@ fn added(s: Facts, n: usize, fact: Fact) -> Joined
     requires { ⌜ (n ≤ 16) × InRange fact ⌝ }
     ensures { λ r. ⌜ joinedOf r ≡ branch n (pathOf s) (factOf fact) ⌝ }
 {
-    let pairs = facts::no_pairs();
     match fact {
-        Fact::Equal(a, b) => facts::join(s, n, a, b, pairs),
-        Fact::Reaches(a, b) => Joined {
-            pairs,
-            facts: facts::add_reach(s, a, b),
-        },
+        Fact::Equal(a, b) => facts::join(s, n, a, b, facts::no_pairs()),
+        Fact::Reaches(a, b) => {
+            let reached = facts::add_reach(s, a, b);
+            Joined {
+                pairs: facts::no_pairs(),
+                facts: reached,
+            }
+        }
     }
 }
 
@@ -92,6 +94,7 @@ pub fn branch(s: Facts, n: usize, rule: Rule, x: Term, y: Term, z: Third, i: usi
     requires { ⌜ (n ≤ 16) × (x .0 ≤ 16) × (y .0 ≤ 16) × (z .0 ≤ 16) ⌝ }
     ensures { λ r. ⌜ joinedOf r ≡ branch n (pathOf s) (alternativeAt n (pathOf s .graph) (kindOf rule) (x .0) (y .0) (z .0) i) ⌝ }
 {
-    let fact = alternative(&s.link, n, rule, x, y, z, i);
+    let link = s.link;
+    let fact = alternative(&link, n, rule, x, y, z, i);
     added(s, n, fact)
 }

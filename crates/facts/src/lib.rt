@@ -300,23 +300,26 @@ fn and_pair(pairs: Pairs, kept: Term, replaced: Term) -> Pairs
     out
 }
 
-// "While a term has two successors, the two lowest successors of the lowest such term are joined", after the pairs that were joined before
-pub fn settle(s: Facts, n: usize, before: Pairs) -> Joined
-    requires { ⌜ (n ≤ 16) × Fits (andThen (joinedAs before s) (settle n n)) ⌝ }
-    ensures { λ r. ⌜ joinedOf r ≡ andThen (joinedAs before s) (settle n n) ⌝ }
+// "While a term has two successors, the two lowest successors of the lowest such term are joined", after what was joined before
+pub fn settle(before: Joined, n: usize) -> Joined
+    requires { ⌜ (n ≤ 16) × Fits (andThen (joinedOf before) (settle n n)) ⌝ }
+    ensures { λ r. ⌜ joinedOf r ≡ andThen (joinedOf before) (settle n n) ⌝ }
 {
-    let mut t = s;
-    let mut pairs = before;
+    let mut j = before;
     let mut left = n;
     while 0 < left {
-        let Two::Of(a, b) = doubled(&t.link, n) else {
-            return Joined { pairs, facts: t };
+        let Two::Of(a, b) = doubled(&j.facts.link, n) else {
+            return j;
         };
-        t = replace(t, a, b);
-        pairs = and_pair(pairs, a, b);
+        let s = j.facts;
+        let pairs = j.pairs;
+        j = Joined {
+            pairs: and_pair(pairs, a, b),
+            facts: replace(s, a, b),
+        };
         left -= 1;
     }
-    Joined { pairs, facts: t }
+    j
 }
 
 // "Joining a and b", after the pairs that were joined before. A term joined with itself is no pair.
@@ -331,9 +334,17 @@ pub fn join(s: Facts, n: usize, a: Term, b: Term, before: Pairs) -> Joined
         };
     }
     if a.0 < b.0 {
-        return settle(replace(s, a, b), n, and_pair(before, a, b));
+        let lower = Joined {
+            pairs: and_pair(before, a, b),
+            facts: replace(s, a, b),
+        };
+        return settle(lower, n);
     }
-    settle(replace(s, b, a), n, and_pair(before, b, a))
+    let higher = Joined {
+        pairs: and_pair(before, b, a),
+        facts: replace(s, b, a),
+    };
+    settle(higher, n)
 }
 
 // A row with t, where it is to have it.

@@ -10,9 +10,9 @@ use mathlib.Core.Option.{some}
 use lib.ListN.{length, replicate}
 use Rattle.logic.specs.Query.{decode}
 use Rattle.logic.specs.Heap.{Satisfiable}
-use Rattle.logic.specs.Facts.{Line, start}
+use Rattle.logic.specs.Facts.{Line}
 use Rattle.logic.specs.Walk.{refutation, Verdict, Pick, ourWalk, ourVerdict, handRow, handVerdict}
-use Rattle.logic.specs.Derivation.{Refutes, derivationBytes, linesIn}
+use Rattle.logic.specs.Derivation.{Derivation, derivationBytes, linesIn}
 use Rattle.logic.specs.Shown.{wellFormed}
 use Rattle.logic.specs.Calls.{Input, Check, Outcome, verdictChecks, derivationChecks, padded, verdictCall, derivationCall}
 use Rattle.logic.specs.Calls as calls
@@ -150,8 +150,8 @@ module _ (order query before bytes : List ℕ) (r : Answer) (does : Does (deriva
   of-lines : (P : List ℕ → Type 0) → (derivationCall j .answer ≡ calls.refuted → P (derivationCall j .lent)) → r ≡ answer.Refuted → P bytes
   of-lines P h e = subst P (sym (does .leaves)) (h (same _ r bytes does answer.Refuted e))
 
-  pub derivation-follows : r ≡ answer.Refuted → Refutes (decode query) (start (decode query)) (linesIn bytes)
-  derivation-follows = of-lines (λ b. Refutes (decode query) (start (decode query)) (linesIn b)) (demand2 .derivation-follows j)
+  pub derivation-follows : r ≡ answer.Refuted → Derivation (decode query) (linesIn bytes)
+  derivation-follows = of-lines (λ b. Derivation (decode query) (linesIn b)) (demand2 .derivation-follows j)
 
   pub derivation-walked : r ≡ answer.Refuted → ourWalk order (decode query) ≡ refutation (linesIn bytes)
   derivation-walked = of-lines (λ b. ourWalk order (decode query) ≡ refutation (linesIn b)) (demand2 .derivation-walked j)

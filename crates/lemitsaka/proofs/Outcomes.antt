@@ -10,13 +10,14 @@ use lib.ListN.{length, set, replicate}
 use borrow.Author.Tests.{lt-ltb, le-ltb}
 use Rattle.logic.specs.Search.{_or_}
 use Rattle.logic.specs.Query.{Query, termCount, decode}
-use Rattle.logic.specs.Facts.{Facts, Line, start}
-use Rattle.logic.specs.Walk.{Ending, refutation, saturation, walk, orderOf, limit, ourWalk}
+use Rattle.logic.specs.Facts.{Facts, Joined, Line, start}
+use Rattle.logic.specs.Walk.{Ending, refutation, saturation, walkBranch, walk, orderOf, limit, ourWalk}
 use Rattle.logic.specs.Shown.{report}
 use Rattle.logic.specs.Steps.{AtMost}
 use Rattle.logic.specs.Calls.{Outcome, blank, padded, accepts, verdictOf, derivationOf}
 use Rattle.logic.specs.Calls as calls
 use Rattle.facts.specs.Path.{pathOf}
+use Rattle.start.specs.Taken.{started}
 use Rattle.walk.specs.Lines.{countAll, putAll}
 use Rattle.walk.specs.Ends.{Ends}
 use Rattle.walk.specs.declared.Walked.{Walked}
@@ -57,17 +58,18 @@ count-long ls count c l =
     (le-cases (length ls) 16000)
 
 -- the walk that the code makes is our walk
-pub our-walk : (q : Query) (order : List ℕ) (n k : ℕ) (s : Facts) → n ≡ termCount q → k ≡ n * n + n → s ≡ start q → walk q (orderOf order) k s ≡ ourWalk order q
-unfolding ourWalk limit
-our-walk q order n k s en ek es =
-    ap (λ (t : Facts). walk q (orderOf order) k t) es
-    ∙ ap (λ (j : ℕ). walk q (orderOf order) j (start q)) (ek ∙ ap (λ (m : ℕ). m * m + m) en)
+pub our-walk : (q : Query) (order : List ℕ) (n k : ℕ) (j : Joined) → n ≡ termCount q → k ≡ n * n + n → j ≡ started q → walkBranch (walk q (orderOf order) k) j ≡ ourWalk order q
+unfolding ourWalk limit walkBranch started
+our-walk q order n k j en ek ej =
+    ap (λ (i : Joined). walkBranch (walk q (orderOf order) k) i) ej
+    ∙ ap (λ (i : ℕ). walkBranch (walk q (orderOf order) i) (started q)) (ek ∙ ap (λ (m : ℕ). m * m + m) en)
 
 -- and no more rule steps are possible from its start than it counts
-pub start-steps : (bytes : List ℕ) (n k : ℕ) (s : Facts) → accepts bytes ≡ true → n ≡ termCount (decode bytes) → k ≡ n * n + n → s ≡ start (decode bytes) → AtMost (termCount (decode bytes)) s k
-unfolding limit
-start-steps bytes n k s ok en ek es =
+pub start-steps : (bytes : List ℕ) (n k : ℕ) (j : Joined) → accepts bytes ≡ true → n ≡ termCount (decode bytes) → k ≡ n * n + n → j ≡ started (decode bytes) → AtMost (termCount (decode bytes)) (j .facts) k
+unfolding limit started
+start-steps bytes n k j ok en ek ej =
     let e : k ≡ termCount (decode bytes) * termCount (decode bytes) + termCount (decode bytes) = ek ∙ ap (λ (m : ℕ). m * m + m) en in
+    let es : j .facts ≡ start (decode bytes) = ap (λ (i : Joined). i .facts) ej in
     rw (es, e) (start-atMost (decode bytes) (accepted bytes ok))
 
 -- an outcome, done

@@ -37,8 +37,8 @@ fn decide(order: &[u8], query: &[u8], layout: Layout, report: &mut [u8]) -> Answ
 {
     let n = layout.terms;
     let mut no_lines = [0u8; 1];
-    let s = start::start(query, layout);
-    let w = walk::walk(query, layout, order, limit(n), s, &mut no_lines, 0);
+    let first = start::start(query, layout);
+    let w = walk::walk(query, layout, order, limit(n), first, &mut no_lines, 0);
     let kind = w.kind;
     let path = w.facts;
     match kind {
@@ -75,8 +75,8 @@ fn derive(order: &[u8], query: &[u8], layout: Layout, buffer: &mut [u8]) -> Answ
     ensures { λ r. ⌜ Does (derivationOf (length (now (buffer .entry))) (ourWalk (now (order .entry)) (decode (now (query .entry))))) r (now (buffer .exit)) ⌝ }
 {
     let n = layout.terms;
-    let s = start::start(query, layout);
-    let w = walk::walk(query, layout, order, limit(n), s, buffer, 0);
+    let first = start::start(query, layout);
+    let w = walk::walk(query, layout, order, limit(n), first, buffer, 0);
     let kind = w.kind;
     let count = w.count;
     match kind {

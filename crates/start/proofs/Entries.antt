@@ -17,6 +17,7 @@ use Rattle.facts.specs.Bits.{bit}
 use Rattle.facts.specs.Square.{square}
 use Rattle.facts.proofs.Square.{row-none, square-with}
 use Rattle.facts.proofs.Fill.{ltb-next}
+use Rattle.start.specs.Nil.{argumentBy}
 
 abbrev linkIn : List ℕ → ℕ → ℕ → Bool
 linkIn entries a b = ltb 0 a and eqb (argumentOf entries b) a
@@ -78,10 +79,6 @@ module _ (entries : List ℕ) where
   pub links-all : (n : ℕ) (cur : ℕ → ℕ → Bool) → ((b : ℕ) → n < b → argumentOf entries b ≡ 0) → LinksTo entries (n + 1) cur → cur ≡ linksOf entries .graph .link
   unfolding linksOf _and_
   links-all n cur beyond m = fun-ext (λ a. fun-ext (λ b. m a b ∙ ⊎-elim (λ t. rw t) (λ t. let l = ltb-false b (n + 1) t in rw t (sym (variable-unlinked entries a b (beyond b (omega arith))))) (bool-cases (ltb b (n + 1)))))
-
--- a term's argument by its byte: 255 names nil, which has none
-unfoldable pub argumentBy : ℕ → ℕ
-argumentBy byte = cond (eqb byte 255) 0 byte
 
 -- the entries of n terms in the query's bytes
 module _ (bytes : List ℕ) (n : ℕ) (fits : n < length bytes) where

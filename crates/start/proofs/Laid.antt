@@ -1,12 +1,12 @@
 -- The start of a query, from its sections where the query's bytes have them.
-use Prim.Native.Nat.{ℕ, _+_, _*_, _≤_, _<_}
+use Prim.Native.Nat.{ℕ, _+_, _-_, _*_, _≤_, _<_}
 use native.Mathlib.Omega.{arith}
 use mathlib.Core.Path.{_≡_, refl, sym, ap, ap₂, _∙_, subst}
 use mathlib.Core.Bool.{true}
 use mathlib.Core.List.{List, []}
 use lib.ListN.{take, drop}
-use Rattle.logic.specs.Query.{Literal, termCount, literals, decode}
-use Rattle.logic.specs.Facts.{Facts, Joined, unjoined, linksOf, andThen, settle, joinEach, reachEach, startJoins, start}
+use Rattle.logic.specs.Query.{Literal, argumentOf, termCount, literals, decode}
+use Rattle.logic.specs.Facts.{Facts, Joined, unjoined, linksOf, andThen, settle, terms, nilTerms, joinNil, joinEach, reachEach, startJoins, start}
 use Rattle.logic.specs.Calls.{accepts}
 use Rattle.query.specs.declared.Layout.{Layout}
 use Rattle.query.specs.LaysOut.{LaysOut}
@@ -15,15 +15,26 @@ use Rattle.logic.proofs.Query.AcceptedBytes.{accepted}
 use Rattle.facts.specs.Pairs.{Fits}
 use Rattle.facts.proofs.Joins.{unjoined-andThen}
 use Rattle.start.proofs.Room.{start-pairs}
+use Rattle.start.specs.Nil.{nilFrom}
 use Rattle.start.specs.Taken.{started, TermsIn, EntriesIn}
 
 module _ {l : Layout} {bytes : List ℕ} (laid : LaysOut l bytes) where
   abbrev pub equalities : List Literal
   equalities = literals (take (3 * l .«equal_count») (drop (l .«equal_at») bytes))
 
-  pub joins-laid : startJoins (decode bytes) ≡ andThen (settle (l .terms) (l .terms) (linksOf (take (l .terms) (drop 1 bytes)))) (joinEach (l .terms) equalities)
+  abbrev pub links : Joined
+  links = settle (l .terms) (l .terms) (linksOf (take (l .terms) (drop 1 bytes)))
+
+  nil-laid : nilTerms (decode bytes) ≡ nilFrom bytes (l .terms) 1
+  unfolding nilTerms terms nilFrom
+  nil-laid = rw (← laid .term-count, laid .entries-are, all)
+    where
+      all : l .terms + 1 - 1 ≡ l .terms
+      all = omega arith
+
+  pub joins-laid : startJoins (decode bytes) ≡ andThen (andThen links (joinNil (l .terms) (nilFrom bytes (l .terms) 1))) (joinEach (l .terms) equalities)
   unfolding startJoins
-  joins-laid = rw (← laid .term-count, laid .entries-are, laid .equal-are)
+  joins-laid = rw (nil-laid, ← laid .term-count, laid .entries-are, laid .equal-are)
 
   -- the links are settled behind no pair
   pub settled-laid : (n : ℕ) (s t : Facts) (ps : List (ℕ × ℕ)) → ps ≡ [] → s ≡ t → andThen (record { pairs = ps; facts = s }) (settle n n) ≡ settle n n t
@@ -31,7 +42,7 @@ module _ {l : Layout} {bytes : List ℕ} (laid : LaysOut l bytes) where
   settled-laid n s t ps e h =
       ap₂ (λ (ps : List (ℕ × ℕ)) (s : Facts). andThen (record { pairs = ps; facts = s }) (settle n n)) e h ∙ unjoined-andThen t (settle n n)
 
-  pub start-laid : (j : Joined) (s : Facts) → j ≡ andThen (settle (l .terms) (l .terms) (linksOf (take (l .terms) (drop 1 bytes)))) (joinEach (l .terms) equalities) → s ≡ reachEach (literals (take (3 * l .«reach_count») (drop (l .«reach_at») bytes))) (j .facts) → record { pairs = j .pairs; facts = s } ≡ started (decode bytes)
+  pub start-laid : (j : Joined) (s : Facts) → j ≡ andThen (andThen links (joinNil (l .terms) (nilFrom bytes (l .terms) 1))) (joinEach (l .terms) equalities) → s ≡ reachEach (literals (take (3 * l .«reach_count») (drop (l .«reach_at») bytes))) (j .facts) → record { pairs = j .pairs; facts = s } ≡ started (decode bytes)
   unfolding started start
   start-laid j s e h =
       let f : j ≡ startJoins (decode bytes) = e ∙ sym joins-laid in
@@ -40,11 +51,15 @@ module _ {l : Layout} {bytes : List ℕ} (laid : LaysOut l bytes) where
 
   module _ (passes : accepts bytes ≡ true) where
     pub entries-in : EntriesIn bytes (l .terms)
-    entries-in = record { entry = λ t h k. omega (arith, entry-below l bytes laid passes t h k, laid .terms-within) }
+    entries-in = record { argument = λ t h k. subst (λ (es : List ℕ). argumentOf es t ≤ 16) (laid .entries-are) (omega (arith, entry-below l bytes laid passes t h k, laid .terms-within)) }
 
     -- there is room for all pairs
-    pub joins-fit : Fits (andThen (settle (l .terms) (l .terms) (linksOf (take (l .terms) (drop 1 bytes)))) (joinEach (l .terms) equalities))
+    pub joins-fit : Fits (andThen (andThen links (joinNil (l .terms) (nilFrom bytes (l .terms) 1))) (joinEach (l .terms) equalities))
     joins-fit = subst Fits joins-laid (omega (arith, start-pairs (decode bytes) (accepted bytes passes), laid .term-count, laid .terms-within))
+
+    pub started-fits : Fits (started (decode bytes))
+    unfolding started
+    started-fits = omega (arith, start-pairs (decode bytes) (accepted bytes passes), laid .term-count, laid .terms-within)
 
     pub equal-terms-in : TermsIn bytes (l .«equal_at») (l .«equal_count»)
     equal-terms-in =

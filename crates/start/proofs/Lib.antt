@@ -5,3 +5,4 @@ pub mod Entries
 pub mod Itself
 pub mod Taken
 pub mod Laid
+pub mod Nil

@@ -1,86 +1,103 @@
--- Every pair that is joined leaves one live term fewer, so that all joins of a start are no more pairs than terms.
-use Prim.Native.Nat.{ℕ, zero, suc, _+_, _≤_, _<_, min, max}
+-- Every pair of a start replaces another term, so that its joins are no more pairs than terms.
+use Prim.Native.Nat.{ℕ, zero, suc, _+_, _≤_, _<_}
 use native.Mathlib.Omega.{arith}
-use mathlib.Core.Path.{_≡_, refl, sym, ap, _∙_, subst}
-use mathlib.Core.Logic.{⊎-elim}
-use mathlib.Core.Bool.{Bool, true, false, cond}
-use mathlib.Core.List.{List, [], _∷_, List·Memᴰ, List·Memᴰ·head, List·Memᴰ·tail}
-use mathlib.Core.Option.{Option, none, some, Option·elim}
-use lib.ListN.{length, length-append}
-use Rattle.logic.specs.Query.{Literal, Query, termCount}
-use Rattle.logic.specs.Facts.{Facts, Joined, live, unjoined, joinPair, andThen, replace, doubled, linksOf, settle, join, joinEach, startJoins}
-use Rattle.logic.proofs.Basics.Compare.{eq-cases, eqb-intro}
-use Rattle.logic.proofs.Paths.Ranged.{InRange, Ranged, ranged-replace}
-use Rattle.logic.proofs.Paths.Settle.{liveCount, liveCount-le, liveCount-replace, doubled-live}
-use Rattle.logic.proofs.Paths.Kept.{Sane, low-high, kept-settle, join-kept}
-use Rattle.logic.proofs.Paths.Start.{linksOf-ranged}
+use mathlib.Core.Path.{_≡_, refl, sym, ap, subst}
+use mathlib.Core.Logic.{_⊎_, ⊎-elim, inl, inr}
+use mathlib.Core.Bool.{Bool, true, false, not, cond, false≢true}
+use mathlib.Core.List.{List, [], _∷_, List·Memᴰ, List·Memᴰ·head, List·Memᴰ·tail, List·Memᴰ·not-nil}
+use lib.ListN.{length}
+use lib.Dec.{eqb, ltb}
+use borrow.Author.Tests.{le-ltb, lt-ltb}
+use Rattle.logic.specs.Search.{_and_, select}
+use Rattle.logic.specs.Query.{Query, termCount}
+use Rattle.logic.specs.Facts.{Facts, Joined, live, linksOf, startJoins}
+use Rattle.logic.specs.JoinPairs.{timesReplaced, Accounts}
+use Rattle.logic.proofs.Basics.Search.{select-intro}
+use Rattle.logic.proofs.Basics.Compare.{eqb-self, eqb-intro, eq-cases, le-cases, ltb-true, ltb-intro}
+use Rattle.logic.proofs.Paths.Ranged.{InRange, live-range}
 use Rattle.logic.proofs.Query.Tied.{Accepted}
+use Rattle.logic.proofs.Joins.Pairs.{accounts-start}
 
-module _ (n : ℕ) where
-  -- pairs and live terms together do not grow
-  pub Spent : Facts → Joined → Type 0
-  Spent s j = length (j .pairs) + liveCount n (j .facts) ≤ liveCount n s
+-- the pairs whose replaced term is below k
+below : ℕ → List (ℕ × ℕ) → ℕ
+below k ps = length (select (λ ab. ltb (ab .1) k) ps)
 
-  spent-none : (s : Facts) → Spent s (unjoined s)
-  unfolding unjoined Spent
-  spent-none s = omega arith
+-- those below k + 1 replace k or a term below it
+below-next : (k : ℕ) (ps : List (ℕ × ℕ)) → below (suc k) ps ≤ below k ps + timesReplaced k ps
+unfolding below select timesReplaced
+below-next k [] = omega arith
+below-next k (ab ∷ ps) = go _ _ _ (ltb (ab .1) (suc k)) (ltb (ab .1) k) (eqb (ab .1) k) split (below-next k ps)
+  where
+    lower : (x k : ℕ) → x < suc k → (x ≡ k → ⊥) → x < k
+    lower x k l d = omega arith
 
-  spent-then : (s : Facts) (j : Joined) (f : Facts → Joined) → Spent s j → Spent (j .facts) (f (j .facts)) → Spent s (andThen j f)
-  unfolding andThen Spent
-  spent-then s j f h k = omega (arith, h, k, length-append (j .pairs) (f (j .facts) .pairs))
+    split : ltb (ab .1) (suc k) ≡ true → (ltb (ab .1) k ≡ true) ⊎ (eqb (ab .1) k ≡ true)
+    split h =
+        let l = ltb-true (ab .1) (suc k) h in
+        ⊎-elim (λ e. inr (eqb-intro {m = ab .1} {n = k} e)) (λ d. inl (ltb-intro {m = ab .1} {n = k} (lower (ab .1) k l (d .0)))) (eq-cases (ab .1) k)
 
-  spent-pair : (s : Facts) (lo hi : ℕ) → live n s lo ≡ true → live n s hi ≡ true → (lo ≡ hi → ⊥) → Spent s (joinPair (lo, hi) s)
-  unfolding joinPair Spent
-  spent-pair s lo hi l h d = omega (arith, liveCount-replace n lo hi s l h d)
+    go : (xs ys zs : List (ℕ × ℕ)) (b c d : Bool) → (b ≡ true → (c ≡ true) ⊎ (d ≡ true)) → length xs ≤ length ys + length zs → length (cond b (ab ∷ xs) xs) ≤ length (cond c (ab ∷ ys) ys) + length (cond d (ab ∷ zs) zs)
+    go xs ys zs true true true s h = omega (arith, h)
+    go xs ys zs true true false s h = omega (arith, h)
+    go xs ys zs true false true s h = omega (arith, h)
+    go xs ys zs true false false s h = ⊎-elim (λ e. absurd (false≢true e)) (λ e. absurd (false≢true e)) (s refl)
+    go xs ys zs false true true s h = omega (arith, h)
+    go xs ys zs false true false s h = omega (arith, h)
+    go xs ys zs false false true s h = omega (arith, h)
+    go xs ys zs false false false s h = omega (arith, h)
 
-  pub spent-settle : (k : ℕ) (s : Facts) → Ranged n s → Spent s (settle n k s)
-  unfolding settle Option·elim joinPair
-  spent-settle zero s r = spent-none s
-  spent-settle (suc k) s r = go (doubled n (s .graph)) refl (λ ab r′. spent-settle k (replace (ab .0) (ab .1) s) r′)
-    where
-      go : (o : Option (ℕ × ℕ)) → doubled n (s .graph) ≡ o → ((ab : ℕ × ℕ) → Ranged n (replace (ab .0) (ab .1) s) → Spent (replace (ab .0) (ab .1) s) (settle n k (replace (ab .0) (ab .1) s))) → Spent s (Option·elim o (unjoined s) (λ ab. andThen (joinPair ab s) (settle n k)))
-      go none e ih = spent-none s
-      go (some ab) e ih =
-          let d = doubled-live n s ab r e in
-          spent-then s (joinPair ab s) (settle n k) (spent-pair s (ab .0) (ab .1) (d .0) (d .1) (d .2))
-          (ih ab (ranged-replace n (ab .0) (ab .1) s (d .0) (d .1) (d .2) r))
+below-none : (ps : List (ℕ × ℕ)) → below 0 ps ≡ 0
+unfolding below select
+below-none [] = refl
+below-none (ab ∷ ps) = rw (le-ltb (ab .1) 0 (omega arith)) (below-none ps)
 
-  spent-replaced : (s : Facts) (lo hi : ℕ) → live n s lo ≡ true → live n s hi ≡ true → (lo ≡ hi → ⊥) → Ranged n s → Spent s (andThen (joinPair (lo, hi) s) (settle n n))
-  unfolding joinPair
-  spent-replaced s lo hi l h d r =
-      spent-then s (joinPair (lo, hi) s) (settle n n) (spent-pair s lo hi l h d)
-      (spent-settle n (replace lo hi s) (ranged-replace n lo hi s l h d r))
+-- all pairs replace terms below k
+below-all : (k : ℕ) (ps : List (ℕ × ℕ)) → ((ab : ℕ × ℕ) → List·Memᴰ ab ps → ab .1 < k) → below k ps ≡ length ps
+unfolding below select
+below-all k [] h = refl
+below-all k (ab ∷ ps) h = rw (lt-ltb (ab .1) k (h ab (List·Memᴰ·head refl))) (ap suc (below-all k ps (λ x m. h x (List·Memᴰ·tail m))))
 
-  spent-join : (a b : ℕ) (s : Facts) → live n s a ≡ true → live n s b ≡ true → Ranged n s → Spent s (join n a b s)
-  unfolding join
-  spent-join a b s la lb r =
-      ⊎-elim
-      (λ e. rw (eqb-intro {m = a} {n = b} e) (spent-none s))
-      (λ d. rw (d .1) (low-high (λ lo hi. Spent s (andThen (joinPair (lo, hi) s) (settle n n))) a b (spent-replaced s a b la lb (d .0) r) (spent-replaced s b a lb la (λ e. d .0 (sym e)) r)))
-      (eq-cases a b)
+-- none is replaced twice, and 0 not at all
+few : (k : ℕ) (ps : List (ℕ × ℕ)) → timesReplaced 0 ps ≡ 0 → ((t : ℕ) → timesReplaced t ps ≤ 1) → below (suc k) ps ≤ k
+few zero ps z h = omega (arith, below-next 0 ps, below-none ps, z)
+few (suc k) ps z h = omega (arith, below-next (suc k) ps, few k ps z h, h (suc k))
 
-  spent-each : (ls : List Literal) (s : Facts) → ((l : Literal) → List·Memᴰ l ls → InRange n (l .left) × InRange n (l .right)) → Sane n s → Spent s (joinEach n ls s)
-  unfolding joinEach unjoined
-  spent-each [] s r h = spent-none s
-  spent-each (l ∷ ls) s r h =
-      spent-then s _ (joinEach n ls) (one .0) (spent-each ls _ (λ l′ m. r l′ (List·Memᴰ·tail m)) (one .1))
-    where
-      go : (b : Bool) → Spent s (cond b (join n (s .rep (l .left)) (s .rep (l .right)) s) (unjoined s)) × Sane n (cond b (join n (s .rep (l .left)) (s .rep (l .right)) s) (unjoined s) .facts)
-      go true =
-          let la = h .ranged .rep-live (l .left) (r l (List·Memᴰ·head refl) .0) in
-          let lb = h .ranged .rep-live (l .right) (r l (List·Memᴰ·head refl) .1) in
-          (spent-join _ _ s la lb (h .ranged), join-kept n _ _ s la lb h .0 .sane)
-      go false = (spent-none s, h)
+counted : (ps : List (ℕ × ℕ)) (ab : ℕ × ℕ) → List·Memᴰ ab ps → 1 ≤ timesReplaced (ab .1) ps
+unfolding timesReplaced
+counted ps ab m = some-length _ (select-intro (λ x. eqb (x .1) (ab .1)) ab m (eqb-self (ab .1)))
+  where
+    some-length : (xs : List (ℕ × ℕ)) → List·Memᴰ ab xs → 1 ≤ length xs
+    some-length [] k = absurd (List·Memᴰ·not-nil k)
+    some-length (x ∷ xs) k = omega arith
 
-      one : Spent s (cond (l .plain) (join n (s .rep (l .left)) (s .rep (l .right)) s) (unjoined s)) × Sane n (cond (l .plain) (join n (s .rep (l .left)) (s .rep (l .right)) s) (unjoined s) .facts)
-      one = go (l .plain)
+one : (b : Bool) → cond b 1 0 ≤ 1
+one true = omega arith
+one false = omega arith
 
--- the pairs of a start are no more than its terms
+gone : (x y : Bool) → 1 ≤ cond (x and y) 1 0 → x ≡ true
+unfolding _and_
+gone true y h = refl
+gone false y h = absurd (omega (arith, h))
+
+module _ (n : ℕ) (s : Facts) (j : Joined) (a : Accounts n s j) where
+  left : ℕ → Bool
+  left t = not (live n (j .facts) t)
+
+  once-at-most : (t : ℕ) → timesReplaced t (j .pairs) ≤ 1
+  unfolding left
+  once-at-most t = subst (λ (k : ℕ). k ≤ 1) (sym (a .once t)) (one (live n s t and left t))
+
+  -- a term that is replaced is one of n
+  in-range : (t : ℕ) → 1 ≤ timesReplaced t (j .pairs) → InRange n t
+  unfolding left
+  in-range t h = live-range n s t (gone (live n s t) (left t) (subst (λ (k : ℕ). 1 ≤ k) (a .once t) h))
+
+  zero-none : timesReplaced 0 (j .pairs) ≡ 0
+  zero-none = ⊎-elim (λ h. absurd (let r = in-range 0 h in omega (arith, r .0))) (λ l. omega (arith, l)) (le-cases 1 (timesReplaced 0 (j .pairs)))
+
+  no-more : length (j .pairs) ≤ n
+  no-more =
+      omega (arith, below-all (suc n) (j .pairs) (λ ab m. let r = in-range (ab .1) (counted (j .pairs) ab m) in omega (arith, r .1)), few n (j .pairs) zero-none once-at-most)
+
 pub start-pairs : (q : Query) → Accepted q → length (startJoins q .pairs) ≤ termCount q
-unfolding startJoins Spent
-start-pairs q acc =
-    let n : ℕ = termCount q in
-    let s : Facts = linksOf (q .entries) in
-    let r = linksOf-ranged q acc in
-    let h = spent-then n s (settle n n s) (joinEach n (q .equalities)) (spent-settle n n s r) (spent-each n (q .equalities) (settle n n s .facts) (acc .equal-terms) (kept-settle n s r .sane)) in
-    omega (arith, h, liveCount-le n s)
+start-pairs q acc = no-more (termCount q) (linksOf (q .entries)) (startJoins q) (accounts-start q acc)

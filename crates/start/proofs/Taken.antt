@@ -1,7 +1,7 @@
 -- One literal taken, as the code reads it through the array of representatives.
 use Prim.Native.Nat.{ℕ, _≤_}
 use mathlib.Core.Path.{_≡_, refl, sym, ap, ap₂, _∙_}
-use mathlib.Core.Bool.{true, false, cond}
+use mathlib.Core.Bool.{Bool, true, false, cond}
 use mathlib.Core.List.{List}
 use lib.ListN.{getD}
 use Rattle.logic.specs.Query.{Literal}
@@ -11,6 +11,7 @@ use Rattle.facts.specs.declared.Facts as code
 use Rattle.facts.specs.Path.{pathOf}
 use Rattle.facts.proofs.Rep.{rep-in}
 use Rattle.facts.proofs.Joins.{andThen-at, andThen-unjoined}
+use Rattle.start.specs.Nil.{same}
 use Rattle.start.specs.Taken.{joinOne, reachOne, Bounded, Terms}
 
 -- what the array has for a term
@@ -22,7 +23,7 @@ module _ (s : code.Facts) where
   unfolding pathOf
   read-bounded b t h = rw (rep-in (s .rep) t h) at (b .within t h)
 
-  rep-read : (t u : ℕ) → t ≡ u → u ≤ 16 → repAt s t ≡ pathOf s .rep u
+  pub rep-read : (t u : ℕ) → t ≡ u → u ≤ 16 → repAt s t ≡ pathOf s .rep u
   unfolding pathOf
   rep-read t u e h = ap (repAt s) e ∙ sym (rep-in (s .rep) u h)
 
@@ -51,3 +52,7 @@ module _ (s : code.Facts) where
     pub reach-negated : l .plain ≡ false → pathOf s ≡ reachOne l (pathOf s)
     unfolding reachOne
     reach-negated p = sym (cond-false _ _ p)
+
+-- a plain equality says that its terms are equal
+pub plain-is : (l : Literal) (x y : ℕ) → l .plain ≡ true → x ≡ l .left → y ≡ l .right → l ≡ same x y
+plain-is l x y p e f = ap₂ (λ (b : Bool) (xy : ℕ × ℕ). record { plain = b; left = xy .0; right = xy .1 }) p (ap₂ (λ (a b : ℕ). (a, b)) (sym e) (sym f))

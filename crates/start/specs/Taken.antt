@@ -2,8 +2,8 @@
 use Prim.Native.Nat.{ℕ, _≤_, _<_}
 use mathlib.Core.Bool.{cond}
 use mathlib.Core.List.{List}
-use lib.ListN.{getD}
-use Rattle.logic.specs.Query.{Literal, Query}
+use lib.ListN.{take, drop}
+use Rattle.logic.specs.Query.{Literal, Query, argumentOf}
 use Rattle.logic.specs.Facts.{Facts, Joined, unjoined, join, addReach, startJoins, start}
 use Rattle.query.specs.LaysOut.{literalIn}
 
@@ -27,9 +27,9 @@ pub record Terms (l : Literal) : Type 0 where
   pub left-within : l .left ≤ 16
   pub right-within : l .right ≤ 16
 
--- those of `count` literals that stand at a place of the query's bytes, and the entries of n terms
+-- those of `count` literals that stand at a place of the query's bytes, and the arguments of n terms
 pub record TermsIn (bytes : List ℕ) (at count : ℕ) : Type 0 where
   pub terms : (i : ℕ) → i < count → Terms (literalIn bytes at i)
 
 pub record EntriesIn (bytes : List ℕ) (n : ℕ) : Type 0 where
-  pub entry : (t : ℕ) → 1 ≤ t → t ≤ n → getD bytes t 0 ≤ 16
+  pub argument : (t : ℕ) → 1 ≤ t → t ≤ n → argumentOf (take n (drop 1 bytes)) t ≤ 16

@@ -1,4 +1,4 @@
-// The start of a query: the path that holds its links, its plain equalities and its plain reachability facts.
+// The start of a query: the path that holds its links, nil's, its plain equalities and its plain reachability facts.
 use facts::Facts;
 use facts::Joined;
 use facts::Term;
@@ -8,12 +8,13 @@ ghost use mathlib.Core.Bool.{true};
 ghost use Prim.Native.Nat.{ℕ, _+_, _*_, _≤_, _<_};
 ghost use lib.ListN.{length, take, drop};
 ghost use Rattle.logic.specs.Query.{literals, decode};
-ghost use Rattle.logic.specs.Facts.{linksOf, andThen, joinEach, reachEach};
+ghost use Rattle.logic.specs.Facts.{linksOf, andThen, joinEach, reachEach, equalTo, joinNil};
 ghost use Rattle.logic.specs.Calls.{accepts};
 ghost use Rattle.facts.specs.Square.{square};
 ghost use Rattle.facts.specs.Path.{pathOf, repOf};
 ghost use Rattle.facts.specs.Pairs.{joinedOf, Fits};
 ghost use Rattle.query.specs.LaysOut.{LaysOut, literalIn};
+ghost use Rattle.start.specs.Nil.{argumentBy, nilFrom, NextNil, same};
 ghost use Rattle.start.specs.Taken.{joinOne, reachOne, started, Bounded, Terms, TermsIn, EntriesIn};
 
 // No term is replaced.
@@ -29,7 +30,17 @@ fn unreplaced() -> [Term; 17]
     rep
 }
 
-// f(a) = b for each term b whose entry is a term a.
+// The term that a term is f of, by its byte: none (0) for a variable and for nil.
+fn argument(byte: usize) -> usize
+    ensures { λ r. ⌜ r ≡ argumentBy byte ⌝ }
+{
+    if byte == 255 {
+        return 0;
+    }
+    byte
+}
+
+// f(a) = b for each term b that is f of a term a.
 fn links(query: &[u8], n: usize) -> [u32; 17]
     requires { ⌜ (n ≤ 16) × (n < length (now query)) × EntriesIn (now query) n ⌝ }
     ensures { λ r. ⌜ square r ≡ linksOf (take n (drop 1 (now (query .entry)))) .graph .link ⌝ }
@@ -37,7 +48,7 @@ fn links(query: &[u8], n: usize) -> [u32; 17]
     let mut link = [0u32; 17];
     let mut b: usize = 1;
     while b <= n {
-        let a = query::byte_at(query, b);
+        let a = argument(query::byte_at(query, b));
         link[a] = facts::with(link[a], b, 0 < a);
         b += 1;
     }
@@ -55,6 +66,73 @@ fn linked(query: &[u8], n: usize) -> Facts
     Facts { rep, link, reach }
 }
 
+// Two terms are joined, as what they became, after the pairs that were joined before.
+fn join_terms(t: Joined, n: usize, left: Term, right: Term) -> Joined
+    requires { ⌜ (n ≤ 16) × Terms (same (left .0) (right .0)) × Bounded (pathOf (t .facts)) ⌝ }
+    requires { ⌜ Fits (andThen (joinedOf t) (joinOne n (same (left .0) (right .0)))) ⌝ }
+    ensures { λ r. ⌜ joinedOf r ≡ andThen (joinedOf t) (joinOne n (same (left .0) (right .0))) ⌝ }
+{
+    let l = left.0;
+    let r = right.0;
+    let s = t.facts;
+    let a = s.rep[l];
+    let b = s.rep[r];
+    facts::join(s, n, a, b, t.pairs)
+}
+
+// The first term from `start` on that names nil, or one above n.
+fn next_nil(query: &[u8], n: usize, start: usize) -> usize
+    requires { ⌜ (n ≤ 16) × (n < length (now query)) × (1 ≤ start) ⌝ }
+    ensures { λ r. ⌜ NextNil (now (query .entry)) n start r ⌝ }
+{
+    let mut t = start;
+    while t <= n {
+        if query::byte_at(query, t) == 255 {
+            return t;
+        }
+        t += 1;
+    }
+    t
+}
+
+// "joins the nil terms to the lowest, ascending" (02, R-3)
+fn join_others(settled: Joined, n: usize, query: &[u8], first: usize) -> Joined
+    requires { ⌜ (n ≤ 16) × (n < length (now query)) × (first ≤ n) × Bounded (pathOf (settled .facts)) ⌝ }
+    requires { ⌜ Fits (andThen (joinedOf settled) (joinEach n (equalTo first (nilFrom (now query) n (first + 1))))) ⌝ }
+    ensures { λ r. ⌜ joinedOf r ≡ andThen (joinedOf settled) (joinEach n (equalTo first (nilFrom (now (query .entry)) n (first + 1)))) ⌝ }
+    ensures { λ r. ⌜ Bounded (pathOf (r .facts)) ⌝ }
+{
+    let mut t = settled;
+    let mut u = next_nil(query, n, first + 1);
+    while u <= n {
+        t = join_terms(t, n, Term(first), Term(u));
+        u = next_nil(query, n, u + 1);
+    }
+    t
+}
+
+// "then adds nil's link and joins its doubled successors"
+fn join_nil(settled: Joined, n: usize, query: &[u8]) -> Joined
+    requires { ⌜ (n ≤ 16) × (n < length (now query)) × Bounded (pathOf (settled .facts)) ⌝ }
+    requires { ⌜ Fits (andThen (joinedOf settled) (joinNil n (nilFrom (now query) n 1))) ⌝ }
+    ensures { λ r. ⌜ joinedOf r ≡ andThen (joinedOf settled) (joinNil n (nilFrom (now (query .entry)) n 1)) ⌝ }
+    ensures { λ r. ⌜ Bounded (pathOf (r .facts)) ⌝ }
+{
+    let first = next_nil(query, n, 1);
+    if n < first {
+        return settled;
+    }
+    let joined = join_others(settled, n, query, first);
+    let s = joined.facts;
+    let nil = s.rep[first];
+    let pairs = joined.pairs;
+    let linked = Joined {
+        pairs,
+        facts: facts::add_link(s, nil, nil),
+    };
+    facts::settle(linked, n)
+}
+
 // Equality i is joined, where it is plain, after the pairs that were joined before.
 fn join_one(t: Joined, n: usize, query: &[u8], at: usize, i: usize) -> Joined
     requires { ⌜ (n ≤ 16) × (at + 3 * i + 3 ≤ length (now query)) × Terms (literalIn (now query) at i) × Bounded (pathOf (t .facts)) ⌝ }
@@ -66,12 +144,7 @@ fn join_one(t: Joined, n: usize, query: &[u8], at: usize, i: usize) -> Joined
     }
     let left = query::left(query, at, i);
     let right = query::right(query, at, i);
-    let l = left.0;
-    let r = right.0;
-    let s = t.facts;
-    let a = s.rep[l];
-    let b = s.rep[r];
-    facts::join(s, n, a, b, t.pairs)
+    join_terms(t, n, left, right)
 }
 
 // "then each plain equality joined in query order"
@@ -128,8 +201,13 @@ pub fn start(query: &[u8], layout: Layout) -> Joined
     ensures { λ r. ⌜ joinedOf r ≡ started (decode (now (query .entry))) ⌝ }
 {
     let n = layout.terms;
-    let settled = facts::settle(linked(query, n), n, facts::no_pairs());
-    let joined = join_each(settled, n, query, layout.equal_at, layout.equal_count);
+    let links = Joined {
+        pairs: facts::no_pairs(),
+        facts: linked(query, n),
+    };
+    let settled = facts::settle(links, n);
+    let linked = join_nil(settled, n, query);
+    let joined = join_each(linked, n, query, layout.equal_at, layout.equal_count);
     let pairs = joined.pairs;
     let s = joined.facts;
     Joined {

@@ -1,13 +1,17 @@
 -- Laws of the lines in a lent buffer.
 use Prim.Native.Nat.{ℕ, zero, suc, _+_, _*_, _-_, _≤_, _<_}
 use native.Mathlib.Omega.{arith}
-use mathlib.Core.Path.{_≡_, refl, sym, ap, _∙_}
+use mathlib.Core.Path.{_≡_, refl, sym, ap, ap₂, _∙_}
 use mathlib.Core.Logic.{⊎-elim}
 use mathlib.Core.Bool.{cond}
-use mathlib.Core.List.{List, [], _∷_, _++_}
-use lib.ListN.{length, set, length-set}
+use mathlib.Core.List.{List, [], _∷_, _++_, map}
+use lib.ListN.{length, getD, set, length-set}
 use borrow.Author.Tests.{lt-ltb, le-ltb, le-leb, lt-leb}
-use Rattle.logic.specs.Facts.{Line, line}
+use Rattle.logic.specs.Search.{from}
+use Rattle.logic.specs.Facts.{Line, line, joinLines}
+use Rattle.facts.specs.Pairs.{pairAt, pairsOf}
+use Rattle.facts.specs.declared.Pairs.{Pairs}
+use Rattle.facts.proofs.Loops.{from-end, from-next}
 use Rattle.logic.proofs.Basics.Compare.{le-cases}
 use Rattle.walk.specs.Lines.{counted, countAll, putLine, putAll}
 
@@ -84,3 +88,50 @@ countAll-large c (l ∷ ls) h k =
     (λ m. let e = counted-more c m in countAll-large (counted c) ls (omega arith) (omega arith))
     (λ m. let e = counted-full c m in countAll-large (counted c) ls (omega arith) (omega arith))
     (le-cases c 16000)
+
+-- The lines of pairs, one after the other: what is left from pair i on comes out as the whole
+module _ (p : Pairs) where
+  -- the pairs from i on
+  pub pairsFrom : ℕ → List (ℕ × ℕ)
+  pairsFrom i = map (pairAt (p .kept) (p .replaced)) (from (p .count - i) i)
+
+  pub pairs-whole : pairsOf p ≡ pairsFrom 0
+  unfolding pairsOf pairsFrom
+  pairs-whole = ap (λ (k : ℕ). map (pairAt (p .kept) (p .replaced)) (from k 0)) all
+    where
+      all : p .count ≡ p .count - 0
+      all = omega arith
+
+  pub pairs-end : (i : ℕ) → p .count ≤ i → pairsFrom i ≡ []
+  unfolding pairsFrom
+  pairs-end i h = ap (map (pairAt (p .kept) (p .replaced))) (from-end (p .count) i h)
+
+  pub pairs-next : (i : ℕ) → i < p .count → pairsFrom i ≡ pairAt (p .kept) (p .replaced) i ∷ pairsFrom (i + 1)
+  unfolding pairsFrom
+  pairs-next i h = ap (map (pairAt (p .kept) (p .replaced))) (from-next (p .count) i h)
+
+  -- after i pairs, the buffer and the count are those from which the others come out as the whole
+  pub record PairsLeft (before : List ℕ) (first : ℕ) (i : ℕ) (bytes : List ℕ) (count : ℕ) : Type 0 where
+    pub counts : countAll first (joinLines (pairsOf p)) ≡ countAll count (joinLines (pairsFrom i))
+    pub writes : putAll before first (joinLines (pairsOf p)) ≡ putAll bytes count (joinLines (pairsFrom i))
+
+  module _ (before : List ℕ) (first : ℕ) where
+    pub left-begin : PairsLeft before first 0 before first
+    left-begin = record { counts = ap (λ (ps : List (ℕ × ℕ)). countAll first (joinLines ps)) pairs-whole; writes = ap (λ (ps : List (ℕ × ℕ)). putAll before first (joinLines ps)) pairs-whole }
+
+    module _ (i : ℕ) (bytes : List ℕ) (count : ℕ) (l : PairsLeft before first i bytes count) where
+      pub left-next : (bytes′ : List ℕ) (count′ a b : ℕ) → i < p .count → a ≡ getD (p .kept) i 0 → b ≡ getD (p .replaced) i 0 → bytes′ ≡ putLine bytes count (line 10 a b 0) → count′ ≡ counted count → PairsLeft before first (i + 1) bytes′ count′
+      unfolding joinLines countAll putAll
+      left-next bytes′ count′ a b h ea er em ec =
+          let eb = em ∙ ap₂ (λ (x y : ℕ). putLine bytes count (line 10 x y 0)) ea er in
+          record {
+            counts = l .counts ∙ ap (λ (ps : List (ℕ × ℕ)). countAll count (joinLines ps)) (pairs-next i h) ∙ ap (λ (c : ℕ). countAll c (joinLines (pairsFrom (i + 1)))) (sym ec);
+            writes = l .writes ∙ ap (λ (ps : List (ℕ × ℕ)). putAll bytes count (joinLines ps)) (pairs-next i h) ∙ ap₂ (λ (b : List ℕ) (c : ℕ). putAll b c (joinLines (pairsFrom (i + 1)))) (sym eb) (sym ec);
+          }
+
+      pub left-end : p .count ≤ i → (count ≡ countAll first (joinLines (pairsOf p))) × (bytes ≡ putAll before first (joinLines (pairsOf p)))
+      unfolding joinLines countAll putAll
+      left-end h = (
+        sym (l .counts ∙ ap (λ (ps : List (ℕ × ℕ)). countAll count (joinLines ps)) (pairs-end i h)),
+        sym (l .writes ∙ ap (λ (ps : List (ℕ × ℕ)). putAll bytes count (joinLines ps)) (pairs-end i h)),
+      )

@@ -1,6 +1,8 @@
 // The branch walk, and the lines that it writes.
 use clash::Clash;
 use facts::Facts;
+use facts::Joined;
+use facts::Pairs;
 use facts::Term;
 use query::Layout;
 use rules::Choice;
@@ -8,15 +10,17 @@ use rules::Rule;
 use rules::Third;
 ghost use mathlib.Core.Path.{_≡_};
 ghost use Prim.Native.Nat.{_+_, _*_, _≤_, _<_};
-ghost use Rattle.logic.specs.Facts.{line};
+ghost use lib.ListN.{length};
+ghost use Rattle.logic.specs.Facts.{line, joinLines};
 ghost use Rattle.logic.specs.Query.{decode, termCount};
 ghost use Rattle.logic.specs.Steps.{AtMost};
 ghost use Rattle.logic.specs.Rules.{ruleNumber};
-ghost use Rattle.logic.specs.Walk.{look, walk, orderOf};
+ghost use Rattle.logic.specs.Walk.{look, walkBranch, walk, orderOf};
 ghost use Rattle.facts.specs.Path.{pathOf};
+ghost use Rattle.facts.specs.Pairs.{pairsOf, joinedOf, Fits};
 ghost use Rattle.query.specs.LaysOut.{LaysOut};
 ghost use Rattle.rules.specs.Answers.{kindOf};
-ghost use Rattle.walk.specs.Lines.{counted, putLine};
+ghost use Rattle.walk.specs.Lines.{counted, countAll, putLine, putAll};
 ghost use Rattle.walk.specs.Ends.{isRefuted, lookOf, Ends, Handed};
 
 // One line more, up to one above 16,000.
@@ -42,6 +46,32 @@ pub fn put_line(lines: &mut [u8], count: usize, a: usize, b: usize, c: usize, d:
     lines[at + 1] = b as u8;
     lines[at + 2] = c as u8;
     lines[at + 3] = d as u8;
+}
+
+// A byte as a number.
+fn wide(byte: u8) -> usize
+    ensures { λ r. ⌜ (r ≡ byte) × (r < 256) ⌝ }
+{
+    byte as usize
+}
+
+// "A line 10, kept term, replaced term, 0 for each" pair; the count of lines then. Where there is no room only the count moves.
+pub fn put_joins(lines: &mut [u8], first: usize, pairs: Pairs) -> usize
+    requires { ⌜ (length (pairsOf pairs) ≤ 17) × (first ≤ 16001) ⌝ }
+    ensures { λ r. ⌜ r ≡ countAll first (joinLines (pairsOf pairs)) ⌝ }
+    ensures { λ r. ⌜ now (lines .exit) ≡ putAll (now (lines .entry)) first (joinLines (pairsOf pairs)) ⌝ }
+{
+    let total = pairs.count;
+    let mut count = first;
+    let mut i: usize = 0;
+    while i < total {
+        let kept = wide(pairs.kept[i]);
+        let replaced = wide(pairs.replaced[i]);
+        put_line(lines, count, 10, kept, replaced, 0);
+        count = counted(count);
+        i += 1;
+    }
+    count
 }
 
 // What is seen at a path: its clash, the rule to apply, or neither.
@@ -104,22 +134,24 @@ fn look(query: &[u8], layout: Layout, order: &[u8], s: Facts) -> Seen
     Seen::Applying(rule, x, y, z)
 }
 
-// "Each branch is walked by the same routine again, one step deeper": at most `left` rule steps are possible from the path, so that
-// the count does not run out where a rule applies.
+// "Each branch is walked by the same routine again, one step deeper", the lines of its joins at its head: at most `left` rule steps are
+// possible from the path, so that the count does not run out where a rule applies.
 pub fn walk(
     query: &[u8],
     layout: Layout,
     order: &[u8],
     left: usize,
-    s: Facts,
+    path: Joined,
     lines: &mut [u8],
-    count: usize,
+    first: usize,
 ) -> Walked
-    requires { ⌜ LaysOut layout (now query) × (count ≤ 16001) × AtMost (termCount (decode (now query))) (pathOf s) left ⌝ }
-    ensures { λ r. ⌜ Ends r (walk (decode (now (query .entry))) (orderOf (now (order .entry))) left (pathOf s)) (now (lines .entry)) count (now (lines .exit)) ⌝ }
-    ensures { λ r. ⌜ Handed r (walk (decode (now (query .entry))) (orderOf (now (order .entry))) left (pathOf s)) (pathOf s) count ⌝ }
+    requires { ⌜ LaysOut layout (now query) × Fits (joinedOf path) × (first ≤ 16001) × AtMost (termCount (decode (now query))) (pathOf (path .facts)) left ⌝ }
+    ensures { λ r. ⌜ Ends r (walkBranch (walk (decode (now (query .entry))) (orderOf (now (order .entry))) left) (joinedOf path)) (now (lines .entry)) first (now (lines .exit)) ⌝ }
+    ensures { λ r. ⌜ Handed r (walkBranch (walk (decode (now (query .entry))) (orderOf (now (order .entry))) left) (joinedOf path)) (pathOf (path .facts)) first ⌝ }
 {
     let n = layout.terms;
+    let s = path.facts;
+    let count = put_joins(lines, first, path.pairs);
     match look(query, layout, order, s) {
         Seen::Saturated => Walked {
             kind: Kind::Saturated,
@@ -140,8 +172,8 @@ pub fn walk(
             let mut written = counted(count);
             let mut i: usize = 0;
             while i < total {
-                let path = branch::branch(s, n, rule, x, y, z, i);
-                let w = walk(query, layout, order, left - 1, path, lines, written);
+                let branch = branch::branch(s, n, rule, x, y, z, i);
+                let w = walk(query, layout, order, left - 1, branch, lines, written);
                 let kind = w.kind;
                 if !is_refuted(kind) {
                     return w;

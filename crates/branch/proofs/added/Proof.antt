@@ -10,20 +10,21 @@ pub added-spec : {M : Type 1} → statement M
 added-spec =
     tie.close
     (tie.spec
-    -- no-pairs-requires
-    (λ c κs. search needs)
     -- enum-known-fact
     (λ c. search needs)
+    -- no-pairs-requires
+    (λ c κs. search needs)
     -- join-requires
     (λ c κs.
-    let a = c .before .before .before .before in
-    let h = subst InRange (c .before .fact .given .1) (a .pre .1) in
-    (a .pre .0, h .0, h .1, alone-fits _ _ _ _ _ (a .pre .0) (c .before .before .before .no-pairs .ensures)))
+    let h = subst InRange (c .before .before .fact .given .1) (c .before .before .before .before .pre .1) in
+    (c .before .before .before .before .pre .0, h .0, h .1, alone-fits _ _ _ _ _ (c .before .before .before .before .pre .0) (c .no-pairs .ensures)))
     -- enum-known-fact-2
     (λ c. search needs)
     -- add-reach-requires
-    (λ c κs. subst InRange (c .before .fact2 .given .1) (c .before .before .before .before .pre .1))
+    (λ c κs. subst InRange (c .before .fact2 .given .1) (c .before .before .before .pre .1))
+    -- no-pairs-requires-2
+    (λ c κs. search needs)
     -- returns
-    (λ c. added-equal _ _ _ _ _ _ _ (c .before .before .fact .given .1) (c .before .before .before .before .no-pairs .ensures) (c .join .ensures))
+    (λ c. added-equal _ _ _ _ _ _ _ (c .before .before .before .fact .given .1) (c .before .no-pairs .ensures) (c .join .ensures))
     -- returns-2
-    (λ c. added-reaches _ _ _ _ _ _ _ (c .before .before .fact2 .given .1) (c .before .before .before .before .no-pairs .ensures) (c .add-reach .ensures)))
+    (λ c. added-reaches _ _ _ _ _ _ _ (c .before .before .before .fact2 .given .1) (c .no-pairs2 .ensures) (c .before .add-reach .ensures)))

@@ -12,8 +12,8 @@ branch-spec =
     -- alternative-requires
     (λ c κs. search needs)
     -- added-requires
-    (λ c κs. search needs)
+    (λ c κs. (c .before .before .before .pre .0, c .alternative .ensures .1))
     -- returns
     (λ c.
     let a = c .before .before .before .before .args in
-    branch-made (a .n) (a .t1) (kindOf (a .rule)) (a .x .0) (a .y .0) (a .z .0) (a .i) _ _ (c .before .alternative .ensures .0) (c .added .ensures)))
+    branch-made (a .n) (a .s) (kindOf (a .rule)) (a .x .0) (a .y .0) (a .z .0) (a .i) _ _ (c .before .alternative .ensures .0) (c .added .ensures)))

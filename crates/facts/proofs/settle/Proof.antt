@@ -4,7 +4,7 @@ use borrow.Author.Needs.{needs}
 use mathlib.Core.Path.{_≡_, refl, sym, ap, _∙_, subst}
 use Rattle.logic.specs.Facts.{andThen, settle}
 use Rattle.facts.specs.Answers.{twoOf}
-use Rattle.facts.specs.Pairs.{joinedAs, Fits}
+use Rattle.facts.specs.Pairs.{joinedOf, Fits}
 use Rattle.facts.proofs.Path.{doubled-links}
 use Rattle.facts.proofs.Successors.{doubled-below}
 use Rattle.facts.proofs.Joins.{fits-pair, made-behind, settle-none, settle-done, settle-turn}
@@ -12,10 +12,10 @@ use Rattle.facts.proofs.settle.Statement.{statement}
 use Rattle.facts.proofs.settle.Tie as tie
 
 abbrev Inv-loop : tie.InvT-loop
-Inv-loop n t₀ pairs₀ left₀ t pairs left = andThen (joinedAs pairs₀ t₀) (settle n n) ≡ andThen (joinedAs pairs t) (settle n left)
+Inv-loop n j₀ left₀ j left = andThen (joinedOf j₀) (settle n n) ≡ andThen (joinedOf j) (settle n left)
 
 abbrev μ-loop : tie.MeasureT-loop
-μ-loop n t₀ pairs₀ left₀ t pairs left = left
+μ-loop n j₀ left₀ j left = left
 
 pub settle-spec : {M : Type 1} → statement M
 settle-spec =
@@ -34,27 +34,27 @@ settle-spec =
     -- returns
     (λ c.
     let l = c .before .before .before .before .before .before .loop in
-    sym (l .inv ∙ settle-done _ _ (l .left) (sym (doubled-links _ (l .t)) ∙ sym (c .before .before .doubled .ensures) ∙ ap twoOf (c .enum-told .given .1))))
-    -- replace-requires
-    (λ c κs.
-    let h = doubled-below _ _ _ _ (sym (c .before .before .before .doubled .ensures) ∙ ap twoOf (c .before .a .given .1)) in
-    (h .0, omega arith))
+    sym (l .inv ∙ settle-done _ _ (l .left) (sym (doubled-links _ (l .j .facts)) ∙ sym (c .before .before .doubled .ensures) ∙ ap twoOf (c .enum-told .given .1))))
     -- and-pair-requires
     (λ c κs.
-    let l = c .before .before .before .before .before .before .before .before .loop in
-    let e = sym (doubled-links _ (l .t)) ∙ sym (c .before .before .before .before .doubled .ensures) ∙ ap twoOf (c .before .before .a .given .1) in
+    let l = c .before .before .before .before .before .before .before .before .before .loop in
+    let e = sym (doubled-links _ (l .j .facts)) ∙ sym (c .before .before .before .before .before .doubled .ensures) ∙ ap twoOf (c .before .before .before .a .given .1) in
     let h = doubled-below _ _ _ _ e in
-    let turn = l .inv ∙ settle-turn _ (joinedAs (l .pairs) (l .t)) (l .left) _ _ (omega arith) e in
-    (fits-pair (joinedAs (l .pairs) (l .t)) _ _ _ (subst Fits turn (c .before .before .before .before .before .before .before .before .before .pre .1)), omega arith, omega arith))
+    let turn = l .inv ∙ settle-turn _ (joinedOf (l .j)) (l .left) _ _ (omega arith) e in
+    (fits-pair (joinedOf (l .j)) _ _ _ (subst Fits turn (c .before .before .before .before .before .before .before .before .before .before .pre .1)), omega arith, omega arith))
+    -- replace-requires
+    (λ c κs.
+    let h = doubled-below _ _ _ _ (sym (c .before .before .before .before .before .before .doubled .ensures) ∙ ap twoOf (c .before .before .before .before .a .given .1)) in
+    (h .0, omega arith))
     -- sub-left
     (λ c. search needs)
     -- loop-less
     (λ c. omega arith)
     -- loop-again
     (λ c.
-    let l = c .before .before .before .before .before .before .before .before .before .loop in
+    let l = c .before .before .before .before .before .before .before .before .before .before .before .loop in
     l .inv
-    ∙ settle-turn _ (joinedAs (l .pairs) (l .t)) (l .left) _ _ (omega arith) (sym (doubled-links _ (l .t)) ∙ sym (c .before .before .before .before .before .doubled .ensures) ∙ ap twoOf (c .before .before .before .a .given .1))
-    ∙ made-behind (joinedAs (l .pairs) (l .t)) _ _ _ _ _ (c .and-pair .ensures) (c .before .replace .ensures))
+    ∙ settle-turn _ (joinedOf (l .j)) (l .left) _ _ (omega arith) (sym (doubled-links _ (l .j .facts)) ∙ sym (c .before .before .before .before .before .before .before .doubled .ensures) ∙ ap twoOf (c .before .before .before .before .before .a .given .1))
+    ∙ made-behind (joinedOf (l .j)) _ _ _ _ _ (c .before .and-pair .ensures) (c .replace .ensures))
     -- returns-2
     (λ c. sym (c .before .loop .inv ∙ settle-none _ _ _ (omega arith))))

@@ -1,12 +1,11 @@
 -- The verdict is the walk's, and the heap is the saturated path's. Assumes nothing.
 use native.Mathlib.Omega.{arith}
 use borrow.Author.Needs.{needs}
-use mathlib.Core.Path.{refl, sym, ap, _∙_}
+use mathlib.Core.Path.{refl, sym, ap, _∙_, subst}
 use mathlib.Core.List.{[], _∷_}
 use lib.ListN.{length}
-use Rattle.logic.specs.Query.{decode}
-use Rattle.logic.specs.Walk.{walk, orderOf}
-use Rattle.facts.specs.Path.{pathOf}
+use Rattle.facts.specs.Pairs.{Fits}
+use Rattle.start.proofs.Laid.{started-fits}
 use Rattle.lemitsaka.proofs.Outcomes.{saturated-at, refuted-at, our-walk, start-steps, verdict-satisfiable, verdict-refuted}
 use Rattle.lemitsaka.proofs.Answers.{report-fits, stands-at}
 use Rattle.lemitsaka.proofs.decide.Statement.{statement}
@@ -25,7 +24,7 @@ decide-spec =
     -- walk-requires
     (λ c κs.
     let p = c .before .before .before .before .before .before .pre in
-    (p .0, omega arith, start-steps _ _ _ _ (p .1) (p .0 .term-count) (c .before .limit .ensures) (c .before .before .start .ensures)))
+    (p .0, subst Fits (sym (c .before .before .start .ensures)) (started-fits (p .0) (p .1)), omega arith, start-steps _ _ _ _ (p .1) (p .0 .term-count) (c .before .limit .ensures) (c .before .before .start .ensures)))
     -- enum-told
     (λ c. search needs)
     -- write-report-requires

@@ -1,12 +1,21 @@
--- A negated literal changes nothing; a plain one is taken through rep. Assumes nothing.
-use native.Mathlib.Omega.{arith}
+-- A negated literal changes nothing; the terms of a plain one are joined. Assumes nothing.
 use borrow.Author.Needs.{needs}
-use mathlib.Core.Path.{sym, _∙_, subst}
+use mathlib.Core.Path.{_≡_, sym, ap, _∙_, subst}
 use borrow.Author.Tests.{not-true, not-false}
-use Rattle.facts.specs.Pairs.{Fits}
-use Rattle.start.proofs.Taken.{read-bounded, join-plain, join-negated}
+use Rattle.logic.specs.Query.{Literal}
+use Rattle.logic.specs.Facts.{andThen}
+use Rattle.facts.specs.Pairs.{joinedOf, Fits}
+use Rattle.query.specs.LaysOut.{literalIn}
+use Rattle.start.specs.Nil.{same}
+use Rattle.start.specs.Taken.{joinOne, Terms}
+use Rattle.start.proofs.Taken.{join-negated, plain-is}
 use Rattle.start.proofs.join_one.Statement.{statement}
 use Rattle.start.proofs.join_one.Tie as tie
+
+-- the literal that was read
+is : (c : tie.After-right) → literalIn (c .before .before .before .before .before .args .query .now) (c .before .before .before .before .before .args .at) (c .before .before .before .before .before .args .i) ≡ same (c .before .left .result .0) (c .right .result .0)
+is c =
+    plain-is _ _ _ (sym (c .before .before .before .sign .ensures) ∙ not-false _ (c .before .before .if1 .left)) (c .before .left .ensures) (c .right .ensures)
 
 pub join-one-spec : {M : Type 1} → statement M
 join-one-spec =
@@ -20,22 +29,14 @@ join-one-spec =
     (λ c κs. search needs)
     -- right-requires
     (λ c κs. search needs)
-    -- mul-a
-    (λ c. search needs)
-    -- element-copy-out-a
-    (λ c. search needs)
-    -- mul-b
-    (λ c. search needs)
-    -- element-copy-out-b
-    (λ c. search needs)
-    -- join-requires
+    -- join-terms-requires
     (λ c κs.
-    let p = c .before .before .before .before .before .before .before .before .pre .0 in
-    let t = c .before .before .before .before .before .before .before .before .args .t in
-    let x = read-bounded (t .facts) (p .3) (c .before .before .before .before .left .result .0) (omega arith) in
-    let y = read-bounded (t .facts) (p .3) (c .before .before .before .right .result .0) (omega arith) in
-    (p .0, x, y, subst Fits (sym (join-plain (t .facts) _ _ _ (c .before .before .before .before .left .ensures) (c .before .before .before .right .ensures) (p .2) _ _ (sym (c .before .before .before .before .before .before .sign .ensures) ∙ not-false _ (c .before .before .before .before .before .if1 .left)))) (c .before .before .before .before .before .before .before .before .pre .1)))
+    let a = c .before .before .before .before .before in
+    let p = a .pre in (
+      (p .0 .0, subst Terms (is c) (p .0 .2), p .0 .3),
+      subst (λ (l : Literal). Fits (andThen (joinedOf (a .args .t)) (joinOne (a .args .n) l))) (is c) (p .1),
+    ))
     -- returns-2
     (λ c.
-    c .join .ensures
-    ∙ join-plain (c .before .before .before .before .before .before .before .before .before .args .t .facts) _ _ _ (c .before .before .before .before .before .left .ensures) (c .before .before .before .before .right .ensures) (c .before .before .before .before .before .before .before .before .before .pre .0 .2) _ _ (sym (c .before .before .before .before .before .before .before .sign .ensures) ∙ not-false _ (c .before .before .before .before .before .before .if1 .left))))
+    let a = c .before .before .before .before .before .before in
+    c .join-terms .ensures ∙ ap (λ (l : Literal). andThen (joinedOf (a .args .t)) (joinOne (a .args .n) l)) (sym (is (c .before)))))

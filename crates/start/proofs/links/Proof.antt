@@ -2,10 +2,12 @@
 use native.Mathlib.Omega.{arith}
 use borrow.Author.Needs.{needs}
 use Prim.Native.Nat.{_+_, _-_, _≤_}
-use mathlib.Core.Path.{_≡_, sym, _∙_}
+use mathlib.Core.Path.{_≡_, sym, ap, _∙_}
 use lib.ListN.{length, take, drop, length-set}
+use Rattle.logic.specs.Query.{argumentOf}
 use Rattle.facts.specs.Square.{square}
-use Rattle.start.proofs.Entries.{nothing-held, LinksTo, links-none, links-more, links-all, entry-in, entry-beyond}
+use Rattle.start.specs.Nil.{argumentBy}
+use Rattle.start.proofs.Entries.{nothing-held, LinksTo, links-none, links-more, links-all, argument-in, argument-beyond}
 use Rattle.start.proofs.links.Statement.{statement}
 use Rattle.start.proofs.links.Tie as tie
 
@@ -15,11 +17,17 @@ Inv-loop query n link₀ b₀ link b = (1 ≤ b) × (b ≤ n + 1) × (length lin
 abbrev μ-loop : tie.MeasureT-loop
 μ-loop query n link₀ b₀ link b = n + 1 - b
 
--- the entry that was read is a term or 0
-within : (c : tie.After-byte-at Inv-loop μ-loop) → c .byte-at .result ≤ 16
+-- what the byte makes the term f of is a term or 0
+is : (c : tie.After-argument Inv-loop μ-loop) → argumentOf (take (c .before .before .before .before .before .args .n) (drop 1 (c .before .before .before .before .before .args .query .now))) (c .before .before .before .loop .b) ≡ c .argument .result
+is c =
+    let l = c .before .before .before .loop in
+    argument-in (c .before .before .before .before .before .args .query .now) _ (c .before .before .before .before .before .pre .1) (l .b) (omega arith) (omega arith)
+    ∙ ap argumentBy (sym (c .before .byte-at .ensures)) ∙ sym (c .argument .ensures)
+
+within : (c : tie.After-argument Inv-loop μ-loop) → c .argument .result ≤ 16
 within c =
-    let l = c .before .before .loop in
-    omega (arith, c .byte-at .ensures, c .before .before .before .before .pre .2 .entry (l .b) (omega arith) (omega arith))
+    let l = c .before .before .before .loop in
+    omega (arith, is c, c .before .before .before .before .before .pre .2 .argument (l .b) (omega arith) (omega arith))
 
 whole : (c : tie.After-loop Inv-loop μ-loop) → c .before .loop .b ≡ c .before .before .before .args .n + 1
 whole c = omega arith
@@ -34,6 +42,8 @@ links-spec =
     (λ c. (omega arith, omega arith, search needs, links-none _ _ (nothing-held 17)))
     -- byte-at-requires
     (λ c κs. omega arith)
+    -- argument-requires
+    (λ c κs. search needs)
     -- mul-with
     (λ c. omega (arith, within c))
     -- array-read-with
@@ -50,12 +60,11 @@ links-spec =
     (λ c. omega arith)
     -- loop-again
     (λ c.
-    let l = c .before .before .before .loop in
-    let s = c .before .before .before .before .before in (
+    let l = c .before .before .before .before .loop in (
       omega arith,
       omega arith,
       simp length-set (l .inv .2),
-      links-more _ (l .b) _ _ _ (l .inv .2) (within (c .before)) (omega arith) (c .with .ensures) (entry-in (s .args .query .now) _ (s .pre .1) (l .b) (omega arith) (omega arith) ∙ sym (c .before .byte-at .ensures)) (l .inv .3),
+      links-more _ (l .b) _ _ _ (l .inv .2) (within (c .before)) (omega arith) (c .with .ensures) (is (c .before)) (l .inv .3),
     ))
     -- returns
-    (λ c. links-all _ _ _ (entry-beyond (c .before .before .before .args .query .now) _ (c .before .before .before .pre .1)) (rw (whole c) at (c .before .loop .inv .3))))
+    (λ c. links-all _ _ _ (argument-beyond (c .before .before .before .args .query .now) _ (c .before .before .before .pre .1)) (rw (whole c) at (c .before .loop .inv .3))))

@@ -16,11 +16,15 @@ literals-hold-spec =
     (tie.spec
     Inv-loop
     μ-loop
+    -- nil-holds-requires
+    (λ c κs. search needs)
+    -- returns
+    (λ c. search needs)
     -- loop-holds
     (λ c. search needs)
     -- section-holds-requires
     (λ c κs. search needs)
-    -- returns
+    -- returns-2
     (λ c. search needs)
     -- add-section
     (λ c. search needs)
@@ -28,5 +32,5 @@ literals-hold-spec =
     (λ c. search needs)
     -- loop-again
     (λ c. search needs)
-    -- returns-2
+    -- returns-3
     (λ c. search needs))

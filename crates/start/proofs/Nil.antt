@@ -1,0 +1,81 @@
+-- The terms that name nil as loops meet them, and nil joined behind what was joined before.
+use Prim.Native.Nat.{ℕ, zero, suc, _+_, _-_, _≤_, _<_}
+use native.Mathlib.Omega.{arith}
+use mathlib.Core.Path.{_≡_, refl, sym, ap, _∙_, subst}
+use mathlib.Core.Bool.{Bool, true, false, cond}
+use mathlib.Core.List.{List, [], _∷_}
+use lib.ListN.{length, getD, take, drop}
+use lib.Dec.{eqb}
+use borrow.Author.Tests.{eq-eqb, ne-eqb}
+use Rattle.logic.specs.Search.{select, from}
+use Rattle.logic.specs.Query.{Literal, namesNil}
+use Rattle.logic.specs.Facts.{Facts, Joined, unjoined, andThen, settle, joinEach, equalTo, addLink, addNilLink, joinNil}
+use Rattle.facts.specs.Pairs.{Fits}
+use Rattle.facts.proofs.Loops.{from-end, from-next}
+use Rattle.facts.proofs.Joins.{andThen-unjoined, andThen-andThen, fits-left}
+use Rattle.start.specs.Taken.{joinOne, Bounded, Terms}
+use Rattle.start.specs.Nil.{nilFrom, NextNil, same}
+use Rattle.start.proofs.Bounded.{settled, behind-bounded}
+use Rattle.start.proofs.Each.{joins}
+use Rattle.start.proofs.Entries.{nil-in}
+
+module _ (bytes : List ℕ) (n : ℕ) where
+  pub nil-end : (t : ℕ) → n < t → nilFrom bytes n t ≡ []
+  unfolding nilFrom select
+  nil-end t h = rw (from-end (n + 1) t (omega arith))
+
+  module _ (fits : n < length bytes) (t : ℕ) (one : 1 ≤ t) (within : t ≤ n) (byte : ℕ) (read : byte ≡ getD bytes t 0) where
+    named : namesNil (take n (drop 1 bytes)) t ≡ eqb byte 255
+    named = nil-in bytes n fits t one within ∙ ap (λ (x : ℕ). eqb x 255) (sym read)
+
+    pub nil-here : byte ≡ 255 → nilFrom bytes n t ≡ t ∷ nilFrom bytes n (t + 1)
+    unfolding nilFrom select
+    nil-here e = rw (from-next (n + 1) t (omega arith), named, eq-eqb byte 255 e)
+
+    pub nil-next : (byte ≡ 255 → ⊥) → nilFrom bytes n t ≡ nilFrom bytes n (t + 1)
+    unfolding nilFrom select
+    nil-next d = rw (from-next (n + 1) t (omega arith), named, ne-eqb byte 255 d)
+
+-- the terms that are left are joined to the first
+abbrev pub others : ℕ → ℕ → List ℕ → Joined → Joined
+others n first us j = andThen j (joinEach n (equalTo first us))
+
+module _ (n first : ℕ) (j : Joined) where
+  pub others-end : others n first [] j ≡ j
+  unfolding equalTo
+  others-end = joins n .done j
+
+  pub others-next : (u : ℕ) (us : List ℕ) → others n first (u ∷ us) j ≡ others n first us (andThen j (joinOne n (same first u)))
+  unfolding equalTo
+  others-next u us = joins n .next (same first u) (equalTo first us) j
+
+-- what is left of the others, where u is the next of them or there is none
+pub record OthersLeft (bytes : List ℕ) (n first : ℕ) (whole : Joined) (u : ℕ) (j : Joined) : Type 0 where
+  pub start : ℕ
+  pub next : NextNil bytes n start u
+  pub left : whole ≡ others n first (nilFrom bytes n start) j
+
+module _ (bytes : List ℕ) (n first : ℕ) (whole : Joined) (u : ℕ) (j : Joined) (o : OthersLeft bytes n first whole u j) where
+  pub others-step : u ≤ n → whole ≡ others n first (nilFrom bytes n (u + 1)) (andThen j (joinOne n (same first u)))
+  others-step h = o .left ∙ ap (λ (us : List ℕ). others n first us j) (o .next .found h) ∙ others-next n first j u (nilFrom bytes n (u + 1))
+
+  pub others-done : n < u → whole ≡ j
+  others-done h = o .left ∙ ap (λ (us : List ℕ). others n first us j) (o .next .nothing h) ∙ others-end n first j
+
+-- nil's link behind the joins
+pub nil-none : (n : ℕ) (j : Joined) → andThen j (joinNil n []) ≡ j
+unfolding joinNil
+nil-none n j = andThen-unjoined j
+
+pub nil-some : (n t : ℕ) (us : List ℕ) (j : Joined) → andThen j (joinNil n (t ∷ us)) ≡ andThen (others n t us j) (λ s. settle n n (addNilLink t s))
+unfolding joinNil
+nil-some n t us j = andThen-andThen j (joinEach n (equalTo t us)) (λ s. settle n n (addNilLink t s))
+
+-- nil's link is that of what nil became
+pub linked-behind : (n t r : ℕ) (j : Joined) (s : Facts) → r ≡ j .facts .rep t → s ≡ addLink r r (j .facts) → andThen (record { pairs = j .pairs; facts = s }) (settle n n) ≡ andThen j (λ s. settle n n (addNilLink t s))
+unfolding andThen addNilLink
+linked-behind n t r j s e h = rw (h, e)
+
+pub nil-bounded : (n t : ℕ) (j : Joined) → n ≤ 16 → Bounded (j .facts) → Bounded (andThen j (λ s. settle n n (addNilLink t s)) .facts)
+unfolding andThen addNilLink addLink
+nil-bounded n t j h b = settled n h n _ (record { within = b .within })
