@@ -11,7 +11,7 @@ use rules::Rule;
 use rules::Third;
 ghost use mathlib.Core.Path.{_≡_};
 ghost use mathlib.Core.Bool.{true};
-ghost use Prim.Native.Nat.{_+_, _*_, _≤_};
+ghost use Prim.Native.Nat.{_+_, _*_, _≤_, _<_};
 ghost use lib.ListN.{length};
 ghost use Rattle.logic.specs.Query.{decode};
 ghost use Rattle.logic.specs.Facts.{line};
@@ -21,7 +21,7 @@ ghost use Rattle.facts.specs.Pairs.{pairsOf, joinedOf, Fits};
 ghost use Rattle.query.specs.LaysOut.{LaysOut};
 ghost use Rattle.logic.specs.Derivation.{linesIn};
 ghost use Rattle.checking.specs.Fitting.{goalOf, wrongLine};
-ghost use Rattle.checking.specs.CheckCall.{byWrong, checkCall};
+ghost use Rattle.checking.specs.CheckCall.{countIn, byWrong, checkCall};
 ghost use Rattle.checker.specs.Reading.{lineAt, isLine, readAt, readingOf, shapely, Shaped};
 ghost use Rattle.checker.specs.Judging.{JudgesHead, JudgesGoal, Ahead};
 ghost use Rattle.checker.specs.Promise.{meaning};
@@ -171,6 +171,16 @@ pub fn check_goal(
     }
 }
 
+// "Line count in two bytes, high byte first"
+fn count_of(derivation: &[u8]) -> usize
+    requires { ⌜ 2 ≤ length (now derivation) ⌝ }
+    ensures { λ r. ⌜ (r ≡ countIn (now (derivation .entry))) × (r < 65536) ⌝ }
+{
+    let high = query::byte_at(derivation, 0);
+    let low = query::byte_at(derivation, 1);
+    256 * high + low
+}
+
 // The length is 2 plus 4 times the count, and the count is at most 16,000.
 fn is_shaped(derivation: &[u8]) -> bool
     ensures { λ r. ⌜ r ≡ shapely (now (derivation .entry)) ⌝ }
@@ -179,7 +189,7 @@ fn is_shaped(derivation: &[u8]) -> bool
     if length < 2 {
         return false;
     }
-    let count = 256 * (derivation[0] as usize) + (derivation[1] as usize);
+    let count = count_of(derivation);
     (length == 2 + 4 * count) & (count <= 16000)
 }
 
@@ -196,7 +206,7 @@ fn judge(query: &[u8], layout: Layout, derivation: &[u8]) -> CheckAnswer
     requires { ⌜ LaysOut layout (now query) × (accepts (now query) ≡ true) × (shapely (now derivation) ≡ true) ⌝ }
     ensures { λ r. ⌜ meaning r ≡ byWrong (wrongLine (decode (now (query .entry))) (linesIn (now (derivation .entry)))) ⌝ }
 {
-    let count = 256 * (derivation[0] as usize) + (derivation[1] as usize);
+    let count = count_of(derivation);
     let n = layout.terms;
     let goal = start::start(query, layout);
     let judged = check_goal(query, layout, derivation, count, limit(n), goal, 0);

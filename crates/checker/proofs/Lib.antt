@@ -1,0 +1,4 @@
+pub mod Lines
+pub mod Judging
+pub mod Readings
+pub mod Range
