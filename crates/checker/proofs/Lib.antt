@@ -2,3 +2,4 @@ pub mod Lines
 pub mod Judging
 pub mod Readings
 pub mod Range
+pub mod Goals
