@@ -77,6 +77,7 @@ module _ (q : Query) (bytes : List ℕ) (count : ℕ) (shape : Shaped bytes coun
         record {
           judges = λ gs. path-ends q bytes at s gs e ∙ resumed-true q bytes gs r (at + 1) f g;
           within = λ t. let l = read-within s at ending e (omega arith) in omega arith;
+          numbered = λ t. absurd (true≢false (sym f ∙ t));
         }
 
     pub goal-wrong : readAt q s (lineAt bytes at) ≡ unfit → (r : Judged) → r .fits ≡ false → r .at ≡ at + 1 → JudgesGoal q bytes count bare at r
@@ -84,6 +85,7 @@ module _ (q : Query) (bytes : List ℕ) (count : ℕ) (shape : Shaped bytes coun
         record {
           judges = λ gs. path-wrong q bytes at s gs e ∙ resumed-false q bytes gs r (at + 1) f g;
           within = λ t. absurd (true≢false (sym t ∙ f));
+          numbered = λ t. omega (arith, g);
         }
 
     pub branches-begin : (m : Move) → readAt q s (lineAt bytes at) ≡ ruling m → BranchesLeft q bytes count s at m 0 (at + 1)
@@ -100,6 +102,7 @@ module _ (q : Query) (bytes : List ℕ) (count : ℕ) (pairs : List (ℕ × ℕ)
       record {
         judges = λ gs. h .judges q s gs ∙ sym (resumed-false q bytes (record { heading = []; facts = s } ∷ gs) head (head .at) f refl) ∙ resumed-false q bytes gs head (head .at) f refl;
         within = λ t. absurd (true≢false (sym t ∙ f));
+        numbered = h .numbered;
       }
 
   pub after-head : head .fits ≡ true → (r : Judged) → JudgesGoal q bytes count (record { heading = []; facts = s }) (head .at) r → JudgesGoal q bytes count goal first r
@@ -107,6 +110,7 @@ module _ (q : Query) (bytes : List ℕ) (count : ℕ) (pairs : List (ℕ × ℕ)
       record {
         judges = λ gs. h .judges q s gs ∙ sym (resumed-true q bytes (record { heading = []; facts = s } ∷ gs) head (head .at) f refl) ∙ j .judges gs;
         within = j .within;
+        numbered = j .numbered;
       }
 
 -- a rule line, and its branches from i on
@@ -144,6 +148,7 @@ module _ (q : Query) (bytes : List ℕ) (count : ℕ) (s : Facts) (at : ℕ) (ru
         record {
           judges = λ gs. at-branch gs ∙ sym (resumed-false q bytes (drop (i + 1) (goalsOf (termCount q) s m) ++ gs) r (r .at) f refl) ∙ resumed-false q bytes gs r (r .at) f refl;
           within = λ t. absurd (true≢false (sym t ∙ f));
+          numbered = judged .numbered;
         }
 
   pub branches-end : (i to : ℕ) → BranchesLeft q bytes count s at m i to → countOf rule z ≤ i → (r : Judged) → r .fits ≡ true → r .at ≡ to → JudgesGoal q bytes count (record { heading = []; facts = s }) at r
@@ -152,6 +157,7 @@ module _ (q : Query) (bytes : List ℕ) (count : ℕ) (s : Facts) (at : ℕ) (ru
       record {
         judges = λ gs. b .left gs ∙ ap (λ (hs : List Goal). wrongAt q bytes (hs ++ gs) to) (drop-all (goalsOf (termCount q) s m) i (omega (arith, many, length-map (alternatives (termCount q) (s .graph) m) (λ c. goalOf (branch (termCount q) s c))))) ∙ resumed-true q bytes gs r to f g;
         within = λ t. subst (λ (k : ℕ). k ≤ count) (sym g) (b .inside);
+        numbered = λ t. absurd (true≢false (sym f ∙ t));
       }
 
   -- a branch is one step deeper

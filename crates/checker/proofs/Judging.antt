@@ -29,7 +29,7 @@ module _ (q : Query) (bytes : List ℕ) (i : ℕ) where
   unfolding wrongAt wrongFrom shortOf lineAt
   wrong-none g gs h = rw (drop-none (linesIn bytes) i h) refl
 
-  wrong-unfit : (gs : List Goal) (l : Line) → lineAt bytes i ≡ some l → step q gs l ≡ none → wrongAt q bytes gs i ≡ i + 1
+  pub wrong-unfit : (gs : List Goal) (l : Line) → lineAt bytes i ≡ some l → step q gs l ≡ none → wrongAt q bytes gs i ≡ i + 1
   unfolding wrongAt lineAt
   wrong-unfit gs l h e = ap (wrongFrom q gs (i + 1)) (drop-some (linesIn bytes) i l h) ∙ wrong-here q gs (i + 1) l (drop (suc i) (linesIn bytes)) e
 
@@ -143,6 +143,7 @@ module _ (bytes : List ℕ) (count : ℕ) (p : Pairs) (first : ℕ) where
       record {
         judges = λ q s gs. headed-at i to h l q s gs ∙ join-unfit q bytes to (joinOf i) (joinLines (pairsFrom p (i + 1))) s gs e ∙ sym (rw (f, g) refl);
         within = λ t. absurd (true≢false (sym t ∙ f));
+        numbered = λ t. omega (arith, g);
       }
 
   pub head-end : (i to : ℕ) → p .count ≤ i → HeadLeft i to → (r : Judged) → r .fits ≡ true → r .at ≡ to → JudgesHead bytes count (pairsOf p) first r
@@ -151,4 +152,5 @@ module _ (bytes : List ℕ) (count : ℕ) (p : Pairs) (first : ℕ) where
       record {
         judges = λ q s gs. l .left q s gs ∙ ap (λ (ps : List (ℕ × ℕ)). wrongAt q bytes (record { heading = joinLines ps; facts = s } ∷ gs) to) (pairs-end p i h) ∙ sym (rw (f, g) refl);
         within = λ t. subst (λ (k : ℕ). k ≤ count) (sym g) (l .inside);
+        numbered = λ t. absurd (true≢false (sym f ∙ t));
       }

@@ -122,3 +122,6 @@ module _ (bytes : List ℕ) where
           let u = ltb-false 16000 (countIn bytes) g in
           record { long = omega (arith, l, e); counted = e; bounded = omega (arith, u, e) }
       go false d f g h = let z : _≡_ {A = ℕ} 0 1 = cc in absurd (omega arith)
+
+  pub shaped-long : shapely bytes ≡ true → 2 ≤ length bytes
+  shaped-long h = let s = shaped h (countIn bytes) refl in omega (arith, s .long)

@@ -2,6 +2,7 @@
 use Prim.Native.Nat.{ℕ, _≤_, _<_, _-_}
 use native.Mathlib.Omega.{arith}
 use mathlib.Core.Path.{_≡_, refl, sym, ap, _∙_, subst}
+use mathlib.Core.List.{[]}
 use borrow.Author.Needs.{needs}
 use borrow.Author.Tests.{not-true, not-false}
 use borrow.Fn.Kinds.{In}
@@ -101,7 +102,7 @@ unfolding goalOf
         p .0,
         p .1,
         p .2,
-        branch-ahead _ _ _ _ _ _ _ _ _ _ (p .0 .term-count) (accepted _ (p .1)) _ (p .3) app _ _ (subst (λ (j : ℕ). c .before .before .loop .i < j) (c .before .before .before .count .ensures) (c .before .loop-test .taken)) (c .branch .ensures),
+        branch-ahead _ [] 0 _ 0 _ _ _ _ _ (p .0 .term-count) (accepted _ (p .1)) _ (p .3) app _ _ (subst (λ (j : ℕ). c .before .before .loop .i < j) (c .before .before .before .count .ensures) (c .before .loop-test .taken)) (c .branch .ensures),
         subst Fits (sym (c .branch .ensures)) (branch-fits _ _ _ (p .0 .terms-within)),
         c .before .before .loop .inv .inside,
       ),
