@@ -70,11 +70,11 @@ module _ (f : ℕ → Literal) (count : ℕ) (ls : List Literal) (are : ls ≡ l
   literal-is : (i : ℕ) → i < count → at ls (i + 1) ≡ some (f i)
   literal-is i h = ap (λ (xs : List Literal). at xs (i + 1)) are ∙ listed-at f count i h
 
-  negated-at : (i : ℕ) (p : Literal → Bool) → i < count → negatedAt ls (i + 1) p ≡ (not (f i .plain) and p (f i))
+  pub negated-at : (i : ℕ) (p : Literal → Bool) → i < count → negatedAt ls (i + 1) p ≡ (not (f i .plain) and p (f i))
   unfolding negatedAt holdsOf
   negated-at i p h = rw (literal-is i h)
 
-  plain-at : (i : ℕ) (p : Literal → Bool) → i < count → plainAt ls (i + 1) p ≡ (f i .plain and p (f i))
+  pub plain-at : (i : ℕ) (p : Literal → Bool) → i < count → plainAt ls (i + 1) p ≡ (f i .plain and p (f i))
   unfolding plainAt holdsOf
   plain-at i p h = rw (literal-is i h)
 

@@ -29,7 +29,7 @@ enum Place {
 }
 
 // What each term was replaced by, as numbers: these can be lent.
-fn numbers(rep: [Term; 17]) -> [usize; 17]
+pub fn numbers(rep: [Term; 17]) -> [usize; 17]
     ensures { λ r. ⌜ repsOf r ≡ repOf rep ⌝ }
 {
     let mut out = [0usize; 17];
@@ -43,7 +43,7 @@ fn numbers(rep: [Term; 17]) -> [usize; 17]
 }
 
 // What the term t was replaced by; a number above 16 is no term, and is not replaced.
-fn read_rep(reps: &[usize; 17], t: Term) -> Term
+pub fn read_rep(reps: &[usize; 17], t: Term) -> Term
     ensures { λ r. ⌜ r .0 ≡ repsOf (now (reps .entry)) (t .0) ⌝ }
 {
     let at = t.0;
@@ -67,7 +67,7 @@ fn reaches(reach: &[u32; 17], a: Term, b: Term) -> bool
 }
 
 // Equality i is negated, and its terms have one representative.
-fn is_unequal_to_itself(query: &[u8], at: usize, i: usize, reps: &[usize; 17]) -> bool
+pub fn is_unequal_to_itself(query: &[u8], at: usize, i: usize, reps: &[usize; 17]) -> bool
     requires { ⌜ at + 3 * i + 3 ≤ length (now query) ⌝ }
     ensures { λ r. ⌜ r ≡ (not (literalIn (now (query .entry)) at i .plain) and oneTerm (repsOf (now (reps .entry))) (literalIn (now (query .entry)) at i)) ⌝ }
 {
@@ -95,7 +95,13 @@ fn equality_clash(query: &[u8], at: usize, count: usize, reps: &[usize; 17]) -> 
 }
 
 // Reachability literal i is negated, and its fact is held.
-fn is_held_negated(query: &[u8], at: usize, i: usize, reps: &[usize; 17], reach: &[u32; 17]) -> bool
+pub fn is_held_negated(
+    query: &[u8],
+    at: usize,
+    i: usize,
+    reps: &[usize; 17],
+    reach: &[u32; 17],
+) -> bool
     requires { ⌜ at + 3 * i + 3 ≤ length (now query) ⌝ }
     ensures { λ r. ⌜ r ≡ (not (literalIn (now (query .entry)) at i .plain) and reachHeld (repsOf (now (reps .entry))) (square (now (reach .entry))) (literalIn (now (query .entry)) at i)) ⌝ }
 {
@@ -129,7 +135,7 @@ fn reach_clash(
 }
 
 // Data literal j is plain, and says this field of a term with this representative.
-fn is_field_partner(
+pub fn is_field_partner(
     query: &[u8],
     at: usize,
     j: usize,
@@ -187,7 +193,7 @@ fn field_clash(query: &[u8], at: usize, count: usize, reps: &[usize; 17]) -> Cla
 }
 
 // Boolean literal j is plain and has this number.
-fn is_boolean_partner(query: &[u8], at: usize, j: usize, number: usize) -> bool
+pub fn is_boolean_partner(query: &[u8], at: usize, j: usize, number: usize) -> bool
     requires { ⌜ at + 2 * j + 2 ≤ length (now query) ⌝ }
     ensures { λ r. ⌜ r ≡ (flagIn (now (query .entry)) at j .plain and eqb number (flagIn (now (query .entry)) at j .left)) ⌝ }
 {

@@ -2,3 +2,4 @@ pub mod Promise
 pub mod PrecedenceCall
 pub mod DotPromise
 pub mod JoinPromise
+pub mod CheckPromise

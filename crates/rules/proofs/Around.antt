@@ -122,7 +122,7 @@ module _ (n : ℕ) (g : Graph) (x : ℕ) where
       less : suc left - 1 ≡ left
       less = omega arith
 
-  steps-le : (left c : ℕ) → stepsTo n g x left c ≤ left
+  pub steps-le : (left c : ℕ) → stepsTo n g x left c ≤ left
   unfolding stepsTo
   steps-le zero c = omega arith
   steps-le (suc left) c = go (eqb c x) (steps-le left (next n g c))
@@ -219,7 +219,7 @@ module _ (n : ℕ) (g : Graph) (x : ℕ) where
   steps-never h (suc left) c l = rw (ne-eqb c x (omega arith)) (ap suc (steps-never h left (next n g c) (let b = next-le n g c in omega arith)))
 
   -- the links from c lead to x after as many steps as lead there from the next term, and one; not after any other number of them
-  returns-is : (left k c : ℕ) → k < left → returns n g x (suc k) c ≡ eqb k (stepsTo n g x left (next n g c))
+  pub returns-is : (left k c : ℕ) → k < left → returns n g x (suc k) c ≡ eqb k (stepsTo n g x left (next n g c))
   unfolding returns stepsTo
   returns-is zero k c h = absurd (omega arith)
   returns-is (suc left) zero c h = go (eqb (next n g c) x)
@@ -237,11 +237,11 @@ module _ (n : ℕ) (g : Graph) (x : ℕ) where
   unfolding returns
   returns-zero c = refl
 
-  returns-not : (left k c : ℕ) → k ≤ left → (k ≡ stepsTo n g x left (next n g c) + 1 → ⊥) → returns n g x k c ≡ false
+  pub returns-not : (left k c : ℕ) → k ≤ left → (k ≡ stepsTo n g x left (next n g c) + 1 → ⊥) → returns n g x k c ≡ false
   returns-not left zero c h e = returns-zero c
   returns-not left (suc k) c h e = returns-is left k c (omega arith) ∙ ne-eqb k _ (λ q. e (omega arith))
 
-  returns-at : (left k c : ℕ) → k ≤ left → k ≡ stepsTo n g x left (next n g c) + 1 → returns n g x k c ≡ true
+  pub returns-at : (left k c : ℕ) → k ≤ left → k ≡ stepsTo n g x left (next n g c) + 1 → returns n g x k c ≡ true
   returns-at left zero c h e = absurd (omega arith)
   returns-at left (suc k) c h e = returns-is left k c (omega arith) ∙ eq-eqb k _ (omega arith)
 

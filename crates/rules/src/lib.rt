@@ -235,7 +235,7 @@ fn cycle(link: &[u32; 17], reach: &[u32; 17], n: usize, x: Term) -> Place
 }
 
 // The rule is not CYCLE.
-fn looped(rule: Rule) -> bool
+pub fn looped(rule: Rule) -> bool
     ensures { λ r. ⌜ r ≡ looped (kindOf rule) ⌝ }
 {
     match rule {

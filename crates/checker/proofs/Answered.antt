@@ -1,0 +1,98 @@
+-- What the call answers, by the start's goal.
+use Prim.Native.Nat.{ℕ, zero, suc, _+_, _*_, _≤_, _<_}
+use native.Mathlib.Omega.{arith}
+use native.Mathlib.Numerals.{add-one}
+use mathlib.Core.Path.{_≡_, refl, sym, ap, _∙_, subst}
+use mathlib.Core.Bool.{Bool, true, false, not, true≢false, false≢true}
+use mathlib.Core.List.{List, [], _∷_}
+use mathlib.Core.Option.{none, some}
+use lib.ListN.{length, drop}
+use Rattle.logic.specs.Query.{Query, decode, termCount}
+use Rattle.logic.specs.Facts.{Facts, Joined}
+use Rattle.logic.specs.Walk.{limit}
+use Rattle.logic.specs.Derivation.{linesIn}
+use Rattle.logic.specs.Calls.{accepts}
+use Rattle.logic.specs.Calls as calls
+use Rattle.logic.proofs.Query.AcceptedBytes as acceptance
+use Rattle.query.specs.Answers.{CheckedAs}
+use Rattle.query.specs.declared.Layout.{Layout}
+use Rattle.query.specs.declared.Checked.the-variants as checked
+use Rattle.start.specs.Taken.{started}
+use Rattle.checking.specs.Fitting.{Goal, goalOf, startGoal, step, shortOf, wrongFrom, wrongLine}
+use Rattle.checking.specs.CheckCall.{Checked, accepted, wrong, refused, misshapen, byWrong, queryRefusal, checkCall}
+use Rattle.checking.proofs.Claims.{check-refused, check-misshapen, check-judged}
+use Rattle.checker.specs.declared.Judged.{Judged}
+use Rattle.checker.specs.Reading.{Shaped, shapely, lineAt}
+use Rattle.checker.specs.Judging.{wrongAt, resumed, JudgesGoal, Ahead}
+use Rattle.checker.proofs.Lines.{lineFrom, line-there, line-past, drop-none}
+use Rattle.checker.proofs.Judging.{wrong-unfit}
+use Rattle.checker.proofs.Range.{ahead-start}
+
+by-some : (k : ℕ) → 1 ≤ k → wrong k ≡ byWrong k
+unfolding byWrong
+by-some zero h = absurd (omega arith)
+by-some (suc k) h = refl
+
+pub start-goal : (q : Query) (j : Joined) → j ≡ started q → goalOf j ≡ startGoal q
+unfolding goalOf startGoal started
+start-goal q j e = ap goalOf e
+
+pub start-ahead : (query : List ℕ) (j : Joined) (n k : ℕ) → accepts query ≡ true → j ≡ started (decode query) → n ≡ termCount (decode query) → k ≡ n * n + n → Ahead (decode query) (j .facts) k
+unfolding started limit
+start-ahead query j n k a e f g =
+    subst (λ (i : Joined). Ahead (decode query) (i .facts) k) (sym e)
+    (ahead-start (decode query) (acceptance.accepted query a) k (g ∙ ap (λ (m : ℕ). m * m + m) f))
+
+module _ (q : Query) (bytes : List ℕ) (count : ℕ) (shape : Shaped bytes count) (j : Joined) (j-is : j ≡ started q) (r : Judged) (h : JudgesGoal q bytes count (goalOf j) 0 r) where
+  whole : wrongLine q (linesIn bytes) ≡ resumed q bytes [] r
+  unfolding wrongLine wrongAt
+  whole = ap (λ (g : Goal). wrongFrom q (g ∷ []) 1 (linesIn bytes)) (sym (start-goal q j j-is)) ∙ h .judges []
+
+  abbrev Answers : Checked → Type 0
+  Answers a = a ≡ byWrong (wrongLine q (linesIn bytes))
+
+  pub judged-wrong : r .fits ≡ false → Answers (wrong (r .at))
+  unfolding resumed
+  judged-wrong f = by-some (r .at) (h .numbered f) ∙ sym (ap byWrong (whole ∙ rw f refl))
+
+  pub judged-more : r .fits ≡ true → r .at < count → Answers (wrong (r .at + 1))
+  unfolding resumed step
+  judged-more f l =
+      by-some (r .at + 1) (omega arith)
+      ∙ sym (ap byWrong (whole ∙ rw f (wrong-unfit q bytes (r .at) [] (lineFrom bytes (4 * r .at + 2)) (line-there bytes count (r .at) shape l) refl)))
+
+  past-zero : r .fits ≡ true → count ≤ r .at → resumed q bytes [] r ≡ 0
+  unfolding resumed wrongAt wrongFrom shortOf lineAt
+  past-zero f l = rw (f, drop-none (linesIn bytes) (r .at) (line-past bytes count (r .at) shape l)) refl
+
+  pub judged-all : r .fits ≡ true → count ≤ r .at → Answers accepted
+  unfolding byWrong
+  judged-all f l = sym (ap byWrong (whole ∙ past-zero f l))
+
+-- the checks
+
+misshapen-not : (bytes : List ℕ) (b : Bool) → shapely bytes ≡ not b → misshapen bytes ≡ b
+unfolding shapely
+misshapen-not bytes b e = go (misshapen bytes) b e
+  where
+    go : (a b : Bool) → not a ≡ not b → a ≡ b
+    go true true e = refl
+    go true false e = absurd (false≢true e)
+    go false true e = absurd (true≢false e)
+    go false false e = refl
+
+module _ (query derivation : List ℕ) where
+  pub call-refused : (k p : ℕ) → CheckedAs (checked.Refused k p) query → refused k p ≡ checkCall query derivation
+  unfolding queryRefusal
+  call-refused k p h = sym (check-refused query derivation k p (h (record { order = []; query = query; room = 0 }) refl))
+
+  module _ (l : Layout) (h : CheckedAs (checked.Accepted l) query) where
+    clear : queryRefusal query ≡ none
+    unfolding queryRefusal
+    clear = h .0 (record { order = []; query = query; room = 0 }) refl
+
+    pub call-misshapen : shapely derivation ≡ false → refused 20 0 ≡ checkCall query derivation
+    call-misshapen e = sym (check-misshapen query derivation clear (misshapen-not derivation true e))
+
+    pub call-judged : shapely derivation ≡ true → (a : Checked) → a ≡ byWrong (wrongLine (decode query) (linesIn derivation)) → a ≡ checkCall query derivation
+    call-judged e a f = f ∙ sym (check-judged query derivation clear (misshapen-not derivation false e))

@@ -1,0 +1,6 @@
+pub mod Lines
+pub mod Judging
+pub mod Readings
+pub mod Range
+pub mod Goals
+pub mod Answered

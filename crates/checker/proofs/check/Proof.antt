@@ -1,0 +1,31 @@
+-- The checks in their order, and then the lines. Assumes nothing.
+use borrow.Author.Needs.{needs}
+use borrow.Author.Tests.{not-true, not-false}
+use mathlib.Core.Path.{sym, _∙_, subst}
+use Rattle.query.specs.Answers.{CheckedAs}
+use Rattle.query.specs.declared.Checked.{Checked}
+use Rattle.query.proofs.Ranges.{checked-accepts}
+use Rattle.checker.proofs.Answered.{call-refused, call-misshapen, call-judged}
+use Rattle.checker.proofs.check.Statement.{statement}
+use Rattle.checker.proofs.check.Tie as tie
+
+pub check-spec : {M : Type 1} → statement M
+check-spec =
+    tie.close
+    (tie.spec
+    -- check-requires
+    (λ c κs. search needs)
+    -- enum-known-k
+    (λ c. search needs)
+    -- enum-known-layout
+    (λ c. search needs)
+    -- is-shaped-requires
+    (λ c κs. search needs)
+    -- returns
+    (λ c. call-misshapen _ _ _ (subst (λ (x : Checked). CheckedAs x (c .before .before .before .before .before .before .before .before .args .query .now)) (c .before .before .before .layout .given .1) (c .before .before .before .before .before .check .ensures)) (sym (c .before .is-shaped .ensures) ∙ not-true _ (c .if1 .taken)))
+    -- judge-requires
+    (λ c κs. let h = (subst (λ (x : Checked). CheckedAs x (c .before .before .before .before .before .before .before .before .args .query .now)) (c .before .before .before .layout .given .1) (c .before .before .before .before .before .check .ensures)) in (h .1, checked-accepts _ _ h, sym (c .before .is-shaped .ensures) ∙ not-false _ (c .if1 .left)))
+    -- returns-2
+    (λ c. call-refused _ _ _ _ (subst (λ (x : Checked). CheckedAs x (c .before .before .before .before .before .before .args .query .now)) (c .before .k .given .1) (c .before .before .before .check .ensures)))
+    -- returns-3
+    (λ c. call-judged _ _ _ (subst (λ (x : Checked). CheckedAs x (c .before .before .before .before .before .before .before .before .before .args .query .now)) (c .before .before .before .before .layout .given .1) (c .before .before .before .before .before .before .check .ensures)) (sym (c .before .before .is-shaped .ensures) ∙ not-false _ (c .before .if1 .left)) _ (c .judge .ensures)))

@@ -1,0 +1,59 @@
+-- One line of a derivation's bytes, and what it is at a path.
+use Prim.Native.Nat.{ℕ, suc, _+_, _*_, _≤_}
+use mathlib.Core.Path.{_≡_}
+use mathlib.Core.Bool.{Bool, false, not, cond}
+use mathlib.Core.List.{List}
+use mathlib.Core.Option.{Option, none, some, Option·elim}
+use lib.ListN.{length}
+use Rattle.logic.specs.Search.{at}
+use Rattle.logic.specs.Query.{Query, termCount}
+use Rattle.logic.specs.Facts.{Facts, Line, isClash}
+use Rattle.logic.specs.Rules.{triple, Move, move, applies}
+use Rattle.logic.specs.Walk.{isClashed}
+use Rattle.logic.specs.Derivation.{linesIn}
+use Rattle.rules.specs.Answers.{kindOf}
+use Rattle.checking.specs.Fitting.{sameLine, moveIn}
+use Rattle.checking.specs.CheckCall.{countIn, misshapen}
+use Rattle.checker.specs.declared.Reading.{Reading}
+use Rattle.checker.specs.declared.Reading.the-variants as reading
+
+-- the bytes of a derivation of `count` lines
+pub record Shaped (bytes : List ℕ) (count : ℕ) : Type 0 where
+  pub long : length bytes ≡ 2 + 4 * count
+  pub counted : count ≡ countIn bytes
+  pub bounded : count ≤ 16000
+
+-- no refusal 20
+unfoldable pub shapely : List ℕ → Bool
+shapely bytes = not (misshapen bytes)
+
+-- line i, from 0, where there is one
+unfoldable pub lineAt : List ℕ → ℕ → Option Line
+lineAt bytes i = at (linesIn bytes) (suc i)
+
+-- it is there and is this line
+unfoldable pub isLine : Option Line → Line → Bool
+isLine none h = false
+isLine (some l) h = sameLine l h
+
+-- What a line is at a path: its end, a rule that applies there, or wrong.
+pub data Read : Type 0 where
+  ending : Read
+  ruling : Move → Read
+  unfit : Read
+
+unfoldable pub readRule : Query → Facts → Option Move → Read
+readRule q s none = unfit
+readRule q s (some m) = cond (applies (termCount q) s m) (ruling m) unfit
+
+unfoldable pub readLine : Query → Facts → Line → Read
+readLine q s l = cond (isClash q s l) ending (cond (isClashed q s) unfit (readRule q s (moveIn l)))
+
+unfoldable pub readAt : Query → Facts → Option Line → Read
+readAt q s none = unfit
+readAt q s (some l) = readLine q s l
+
+abbrev pub readingOf : Reading → Read
+readingOf reading.Ends = ending
+readingOf (reading.Applies r x y z) = ruling (move (kindOf r) (triple (x .0) (y .0) (z .0)))
+readingOf reading.Wrong = unfit

@@ -1,0 +1,236 @@
+// Derivations from elsewhere: their lines are read in place, one after the other, each where it stands.
+use clash::Clash;
+use facts::Facts;
+use facts::Joined;
+use facts::Pairs;
+use facts::Term;
+use query::Checked;
+use query::Layout;
+use rules::Numbered;
+use rules::Rule;
+use rules::Third;
+ghost use mathlib.Core.Path.{_≡_};
+ghost use mathlib.Core.Bool.{true};
+ghost use Prim.Native.Nat.{_+_, _*_, _≤_, _<_};
+ghost use lib.ListN.{length};
+ghost use Rattle.logic.specs.Query.{decode};
+ghost use Rattle.logic.specs.Facts.{line};
+ghost use Rattle.logic.specs.Calls.{accepts};
+ghost use Rattle.facts.specs.Path.{pathOf};
+ghost use Rattle.facts.specs.Pairs.{pairsOf, joinedOf, Fits};
+ghost use Rattle.query.specs.LaysOut.{LaysOut};
+ghost use Rattle.logic.specs.Derivation.{linesIn};
+ghost use Rattle.checking.specs.Fitting.{goalOf, wrongLine};
+ghost use Rattle.checking.specs.CheckCall.{countIn, byWrong, checkCall};
+ghost use Rattle.checker.specs.Reading.{lineAt, isLine, readAt, readingOf, shapely, Shaped};
+ghost use Rattle.checker.specs.Judging.{JudgesHead, JudgesGoal, Ahead};
+ghost use Rattle.checker.specs.Promise.{meaning};
+
+// How far lines fit: `at` of them were read and all fit; or the first wrong line has number `at`.
+pub struct Judged {
+    pub fits: bool,
+    pub at: usize,
+}
+
+// What a line is at a path: its end, a rule that applies, or wrong.
+pub enum Reading {
+    Ends,
+    Applies(Rule, Term, Term, Third),
+    Wrong,
+}
+
+// What the call answers: no fault, the first wrong line's number, or a refusal's number and place.
+pub enum CheckAnswer {
+    Accepted,
+    Wrong(usize),
+    Refused(usize, usize),
+}
+
+// Line `at`, from 0, is there and is the join line 10, kept, replaced, 0.
+fn is_join(derivation: &[u8], count: usize, at: usize, kept: u8, replaced: u8) -> bool
+    requires { ⌜ Shaped (now derivation) count ⌝ }
+    ensures { λ r. ⌜ r ≡ isLine (lineAt (now (derivation .entry)) at) (line 10 kept replaced 0) ⌝ }
+{
+    if count <= at {
+        return false;
+    }
+    let place = 4 * at + 2;
+    (derivation[place] == 10)
+        & (derivation[place + 1] == kept)
+        & (derivation[place + 2] == replaced)
+        & (derivation[place + 3] == 0)
+}
+
+// The lines of the joins at the head of a branch.
+fn check_head(derivation: &[u8], count: usize, pairs: Pairs, first: usize) -> Judged
+    requires { ⌜ Shaped (now derivation) count × (length (pairsOf pairs) ≤ 17) × (first ≤ count) ⌝ }
+    ensures { λ r. ⌜ JudgesHead (now (derivation .entry)) count (pairsOf pairs) first r ⌝ }
+{
+    let total = pairs.count;
+    let mut at = first;
+    let mut i: usize = 0;
+    while i < total {
+        let kept = pairs.kept[i];
+        let replaced = pairs.replaced[i];
+        if !is_join(derivation, count, at, kept, replaced) {
+            return Judged {
+                fits: false,
+                at: at + 1,
+            };
+        }
+        at += 1;
+        i += 1;
+    }
+    Judged { fits: true, at }
+}
+
+// What line `at` is at a path: "each path ends in a true clash .. as soon as a clash stands", and each rule line applies.
+fn read_line(
+    query: &[u8],
+    layout: Layout,
+    derivation: &[u8],
+    count: usize,
+    at: usize,
+    s: Facts,
+) -> Reading
+    requires { ⌜ LaysOut layout (now query) × Shaped (now derivation) count ⌝ }
+    ensures { λ r. ⌜ readingOf r ≡ readAt (decode (now (query .entry))) (pathOf s) (lineAt (now (derivation .entry)) at) ⌝ }
+{
+    if count <= at {
+        return Reading::Wrong;
+    }
+    let place = 4 * at + 2;
+    let k = derivation[place];
+    let x = query::byte_at(derivation, place + 1);
+    let y = query::byte_at(derivation, place + 2);
+    let z = query::byte_at(derivation, place + 3);
+    if k == 9 {
+        if fitting::is_clash(query, layout, s, x, y, z) {
+            return Reading::Ends;
+        }
+        return Reading::Wrong;
+    }
+    let rep = s.rep;
+    if let Clash::At(section, i, j) = clash::find_clash(query, layout, rep, &s.reach) {
+        return Reading::Wrong;
+    }
+    let Numbered::Is(rule) = rules::rule_numbered(k) else {
+        return Reading::Wrong;
+    };
+    if fitting::applies(s, layout.terms, rule, x, y, z) {
+        return Reading::Applies(rule, Term(x), Term(y), Third(z));
+    }
+    Reading::Wrong
+}
+
+// A branch: the lines of its joins, then its own, and then those of its branches in order, each checked by the same routine, one step
+// deeper. `left` of the rule steps that a path can have are left, so that the routine is at most 272 deep.
+pub fn check_goal(
+    query: &[u8],
+    layout: Layout,
+    derivation: &[u8],
+    count: usize,
+    left: usize,
+    goal: Joined,
+    first: usize,
+) -> Judged
+    requires { ⌜ LaysOut layout (now query) × (accepts (now query) ≡ true) × Shaped (now derivation) count × Ahead (decode (now query)) (pathOf (goal .facts)) left × Fits (joinedOf goal) × (first ≤ count) ⌝ }
+    ensures { λ r. ⌜ JudgesGoal (decode (now (query .entry))) (now (derivation .entry)) count (goalOf (joinedOf goal)) first r ⌝ }
+{
+    let n = layout.terms;
+    let s = goal.facts;
+    let head = check_head(derivation, count, goal.pairs, first);
+    if !head.fits {
+        return head;
+    }
+    let at = head.at;
+    match read_line(query, layout, derivation, count, at, s) {
+        Reading::Wrong => Judged {
+            fits: false,
+            at: at + 1,
+        },
+        Reading::Ends => Judged {
+            fits: true,
+            at: at + 1,
+        },
+        Reading::Applies(rule, x, y, z) => {
+            let total = branch::count(rule, z);
+            let mut to = at + 1;
+            let mut i: usize = 0;
+            while i < total {
+                let branch = branch::branch(s, n, rule, x, y, z, i);
+                let judged = check_goal(query, layout, derivation, count, left - 1, branch, to);
+                if !judged.fits {
+                    return judged;
+                }
+                to = judged.at;
+                i += 1;
+            }
+            Judged { fits: true, at: to }
+        }
+    }
+}
+
+// "Line count in two bytes, high byte first"
+fn count_of(derivation: &[u8]) -> usize
+    requires { ⌜ 2 ≤ length (now derivation) ⌝ }
+    ensures { λ r. ⌜ (r ≡ countIn (now (derivation .entry))) × (r < 65536) ⌝ }
+{
+    let high = query::byte_at(derivation, 0);
+    let low = query::byte_at(derivation, 1);
+    256 * high + low
+}
+
+// The length is 2 plus 4 times the count, and the count is at most 16,000.
+fn is_shaped(derivation: &[u8]) -> bool
+    ensures { λ r. ⌜ r ≡ shapely (now (derivation .entry)) ⌝ }
+{
+    let length = derivation.len();
+    if length < 2 {
+        return false;
+    }
+    let count = count_of(derivation);
+    (length == 2 + 4 * count) & (count <= 16000)
+}
+
+// "n times n plus n rule steps"
+fn limit(n: usize) -> usize
+    requires { ⌜ n ≤ 16 ⌝ }
+    ensures { λ r. ⌜ r ≡ n * n + n ⌝ }
+{
+    n * n + n
+}
+
+// The lines of a query that passes its checks, from its start.
+fn judge(query: &[u8], layout: Layout, derivation: &[u8]) -> CheckAnswer
+    requires { ⌜ LaysOut layout (now query) × (accepts (now query) ≡ true) × (shapely (now derivation) ≡ true) ⌝ }
+    ensures { λ r. ⌜ meaning r ≡ byWrong (wrongLine (decode (now (query .entry))) (linesIn (now (derivation .entry)))) ⌝ }
+{
+    let count = count_of(derivation);
+    let n = layout.terms;
+    let goal = start::start(query, layout);
+    let judged = check_goal(query, layout, derivation, count, limit(n), goal, 0);
+    let at = judged.at;
+    if !judged.fits {
+        return CheckAnswer::Wrong(at);
+    }
+    if at < count {
+        return CheckAnswer::Wrong(at + 1);
+    }
+    CheckAnswer::Accepted
+}
+
+// The checking call: "accept exactly the full trees", else the first wrong line's number, or one of the refusals 2 to 8 and 20.
+pub fn check(query: &[u8], derivation: &[u8]) -> CheckAnswer
+    ensures { λ r. ⌜ meaning r ≡ checkCall (now (query .entry)) (now (derivation .entry)) ⌝ }
+{
+    match query::check(query) {
+        Checked::Refused(k, place) => CheckAnswer::Refused(k, place),
+        Checked::Accepted(layout) => {
+            if !is_shaped(derivation) {
+                return CheckAnswer::Refused(20, 0);
+            }
+            judge(query, layout, derivation)
+        }
+    }
+}

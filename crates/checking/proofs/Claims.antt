@@ -1,0 +1,262 @@
+-- What is claimed of the call holds.
+use Prim.Native.Nat.{ℕ, zero, suc, _+_, _*_, _-_, _/_, _%_, _≤_, _<_}
+use native.Mathlib.Omega.{arith}
+use borrow.Author.Tests.{le-ltb, leb-true}
+use mathlib.Core.Path.{_≡_, refl, sym, ap, ap₂, _∙_, subst}
+use mathlib.Core.Logic.{_⊎_, ⊎-elim, inl, inr, _↔_}
+use mathlib.Core.Bool.{Bool, true, false, not, cond}
+use mathlib.Core.List.{List, [], _∷_, _++_, append-nil, List·Memᴰ}
+use mathlib.Core.Option.{Option, none, some, Option·elim}
+use lib.ListN.{length, getD, take, replicate}
+use lib.Dec.{eqb, ltb, leb}
+use Rattle.logic.specs.Search.{_and_, _or_, all, isSome}
+use Rattle.logic.specs.Query.{decode}
+use Rattle.logic.specs.Heap.{Satisfiable}
+use Rattle.logic.specs.Facts.{Line}
+use Rattle.logic.specs.Derivation.{Derivation, derivationBytes, linesFrom, linesIn}
+use Rattle.logic.specs.Calls.{Input, Check, layoutCheck, byteCheck, queryChecks, Answer, accepts, padded, derivationCall}
+use Rattle.logic.specs.Calls as calls
+use Rattle.logic.specs.Demands.{FirstStands}
+use Rattle.logic.proofs.Basics.Search.{bool-cases, true-false, not-true, and-left, and-right, all-true, isSome-false}
+use Rattle.logic.proofs.Basics.Compare.{eqb-self, ltb-true}
+use Rattle.logic.proofs.Query.AcceptedBytes as acceptance
+use Rattle.logic.proofs.Soundness.Refuted.{derivation-sound}
+use Rattle.logic.proofs.Calls.CheckingOrder.{ascends, refusal-first, first-unique, first-stands}
+use Rattle.logic.proofs.Calls.CallLaws.{derivation-passed, refusalOf-none}
+use Rattle.logic.proofs.Calls.DerivationBytes.{derivation-length, lines-read}
+use Rattle.logic.proofs.Calls.Demands.{demand1, demand2}
+use Rattle.checking.specs.Fitting.{FirstWrong, wrongLine}
+use Rattle.checking.specs.CheckCall.{Checked, accepted, wrong, refused, countIn, misshapen, byWrong, refusedQuery, queryRefusal, checkCall}
+use Rattle.checking.specs.Claims.{queryAlone, unpadded, Taken, Claims}
+use Rattle.checking.proofs.Judged.{zero-exactly, wrong-number, first-placed}
+
+-- The answers are told apart
+
+accepted-wrong : {k : ℕ} → accepted ≡ wrong k → ⊥
+accepted-wrong e = let z : _≡_ {A = ℕ} 0 1 = cc in omega arith
+
+accepted-refused : {k p : ℕ} → accepted ≡ refused k p → ⊥
+accepted-refused e = let z : _≡_ {A = ℕ} 0 1 = cc in omega arith
+
+wrong-refused : {j k p : ℕ} → wrong j ≡ refused k p → ⊥
+wrong-refused e = let z : _≡_ {A = ℕ} 0 1 = cc in omega arith
+
+refused-same : {j k p r : ℕ} → refused j p ≡ refused k r → (j ≡ k) × (p ≡ r)
+refused-same e = (cc, cc)
+
+wrong-same : {j k : ℕ} → wrong j ≡ wrong k → j ≡ k
+wrong-same e = cc
+
+-- The checks of the query
+
+numbered : Check → Bool
+numbered c = leb 2 (c .number) and leb (c .number) 8
+
+query-numbered : all numbered queryChecks ≡ true
+unfolding all numbered queryChecks layoutCheck byteCheck _and_
+query-numbered = refl
+
+query-ascends : ascends queryChecks ≡ true
+unfolding ascends all queryChecks layoutCheck byteCheck _and_
+query-ascends = refl
+
+first-numbered : (i : Input) (k p : ℕ) → FirstStands queryChecks i k p → (2 ≤ k) × (k ≤ 8)
+unfolding numbered
+first-numbered i k p f =
+    let h = all-true numbered (f .check) query-numbered (f .own) in
+    let l = and-left (leb 2 (f .check .number)) (leb (f .check .number) 8) h in
+    let u = and-right (leb 2 (f .check .number)) (leb (f .check .number) 8) h in
+    (subst (λ (x : ℕ). 2 ≤ x) (f .numbered) (leb-true _ _ l), subst (λ (x : ℕ). x ≤ 8) (f .numbered) (leb-true _ _ u))
+
+-- a query is accepted exactly where none of them stands
+accepts-none : (query : List ℕ) → accepts query ≡ true → queryRefusal query ≡ none
+unfolding accepts queryRefusal
+accepts-none query h = isSome-false _ (not-true h)
+
+none-accepts : (query : List ℕ) → queryRefusal query ≡ none → accepts query ≡ true
+unfolding accepts queryRefusal isSome
+none-accepts query h = rw h
+
+-- a refusal is that of the first that stands
+refusal-by : (query : List ℕ) (a : Answer) → queryRefusal query ≡ some a → (k : ℕ) × (p : ℕ) × FirstStands queryChecks (queryAlone query) k p × (a ≡ calls.refused k p)
+unfolding queryRefusal
+refusal-by query a h = refusal-first queryChecks (queryAlone query) query-ascends a h
+
+none-stands : (query : List ℕ) → queryRefusal query ≡ none → (k p : ℕ) → FirstStands queryChecks (queryAlone query) k p → ⊥
+unfolding queryRefusal
+none-stands query h k p f = first-stands queryChecks (queryAlone query) k p (refusalOf-none queryChecks (queryAlone query) h) f
+
+-- What the call answers, by cases
+
+module _ (query derivation : List ℕ) where
+  abbrev number : ℕ
+  number = wrongLine (decode query) (linesIn derivation)
+
+  pub check-refused : (k p : ℕ) → queryRefusal query ≡ some (calls.refused k p) → checkCall query derivation ≡ refused k p
+  unfolding checkCall Option·elim refusedQuery
+  check-refused k p h = rw h
+
+  pub check-misshapen : queryRefusal query ≡ none → misshapen derivation ≡ true → checkCall query derivation ≡ refused 20 0
+  unfolding checkCall Option·elim
+  check-misshapen h m = rw (h, m)
+
+  pub check-judged : queryRefusal query ≡ none → misshapen derivation ≡ false → checkCall query derivation ≡ byWrong number
+  unfolding checkCall Option·elim
+  check-judged h m = rw (h, m)
+
+  data Case : Type 0 where
+    by-query : (k p : ℕ) → FirstStands queryChecks (queryAlone query) k p → checkCall query derivation ≡ refused k p → Case
+    by-shape : accepts query ≡ true → misshapen derivation ≡ true → checkCall query derivation ≡ refused 20 0 → Case
+    by-lines : Taken query derivation → number ≡ 0 → checkCall query derivation ≡ accepted → Case
+    by-line : Taken query derivation → (k : ℕ) → number ≡ suc k → checkCall query derivation ≡ wrong (suc k) → Case
+
+  cases : Case
+  unfolding byWrong
+  cases = at-query (queryRefusal query) refl
+    where
+      at-number : queryRefusal query ≡ none → misshapen derivation ≡ false → (k : ℕ) → number ≡ k → Case
+      at-number h m zero e = by-lines (none-accepts query h, m) e (check-judged h m ∙ ap byWrong e)
+      at-number h m (suc k) e = by-line (none-accepts query h, m) k e (check-judged h m ∙ ap byWrong e)
+
+      at-shape : queryRefusal query ≡ none → (b : Bool) → misshapen derivation ≡ b → Case
+      at-shape h true m = by-shape (none-accepts query h) m (check-misshapen h m)
+      at-shape h false m = at-number h m number refl
+
+      at-query : (o : Option Answer) → queryRefusal query ≡ o → Case
+      at-query none h = at-shape h (misshapen derivation) refl
+      at-query (some a) h = let (k, p, f, e) = refusal-by query a h in by-query k p f (check-refused k p (h ∙ ap some e))
+
+  taken-judged : Taken query derivation → checkCall query derivation ≡ byWrong number
+  taken-judged t = check-judged (accepts-none query (t .0)) (t .1)
+
+  accepted-exactly : (checkCall query derivation ≡ accepted) ↔ (Taken query derivation × Derivation (decode query) (linesIn derivation))
+  unfolding byWrong
+  accepted-exactly = (λ h. there h cases, λ d. taken-judged (d .0) ∙ ap byWrong (zero-exactly (decode query) (linesIn derivation) .1 (d .1)))
+    where
+      there : checkCall query derivation ≡ accepted → Case → Taken query derivation × Derivation (decode query) (linesIn derivation)
+      there h (by-query k p f e) = absurd (accepted-refused (sym h ∙ e))
+      there h (by-shape a m e) = absurd (accepted-refused (sym h ∙ e))
+      there h (by-lines t n e) = (t, zero-exactly (decode query) (linesIn derivation) .0 n)
+      there h (by-line t k n e) = absurd (accepted-wrong (sym h ∙ e))
+
+  wrong-exactly : (k : ℕ) → (checkCall query derivation ≡ wrong k) ↔ (Taken query derivation × FirstWrong (decode query) (linesIn derivation) k)
+  unfolding byWrong
+  wrong-exactly k = (λ h. there h cases, λ d. back k (d .0) (d .1))
+    where
+      there : checkCall query derivation ≡ wrong k → Case → Taken query derivation × FirstWrong (decode query) (linesIn derivation) k
+      there h (by-query j p f e) = absurd (wrong-refused (sym h ∙ e))
+      there h (by-shape a m e) = absurd (wrong-refused (sym h ∙ e))
+      there h (by-lines t n e) = absurd (accepted-wrong (sym e ∙ h))
+      there h (by-line t j n e) = (t, subst (FirstWrong (decode query) (linesIn derivation)) (wrong-same (sym e ∙ h)) (wrong-number (decode query) (linesIn derivation) j .0 n))
+
+      back : (k : ℕ) → Taken query derivation → FirstWrong (decode query) (linesIn derivation) k → checkCall query derivation ≡ wrong k
+      back zero t w = absurd (omega (arith, w .number))
+      back (suc j) t w = taken-judged t ∙ ap byWrong (wrong-number (decode query) (linesIn derivation) j .1 w)
+
+  refused-exactly : (k place : ℕ) → k < 20 → (checkCall query derivation ≡ refused k place) ↔ FirstStands queryChecks (queryAlone query) k place
+  refused-exactly k place l = (λ h. there h cases, λ f. back f cases)
+    where
+      there : checkCall query derivation ≡ refused k place → Case → FirstStands queryChecks (queryAlone query) k place
+      there h (by-query j p f e) = let (a, b) = refused-same (sym e ∙ h) in subst (λ (x : ℕ). FirstStands queryChecks (queryAlone query) x place) a (subst (FirstStands queryChecks (queryAlone query) j) b f)
+      there h (by-shape a m e) = absurd (omega (arith, l, refused-same (sym e ∙ h) .0))
+      there h (by-lines t n e) = absurd (accepted-refused (sym e ∙ h))
+      there h (by-line t j n e) = absurd (wrong-refused (sym e ∙ h))
+
+      back : FirstStands queryChecks (queryAlone query) k place → Case → checkCall query derivation ≡ refused k place
+      back f (by-query j p g e) = let (a, b) = first-unique queryChecks (queryAlone query) query-ascends j p k place g f in e ∙ ap₂ refused a b
+      back f (by-shape a m e) = absurd (none-stands query (accepts-none query a) k place f)
+      back f (by-lines t n e) = absurd (none-stands query (accepts-none query (t .0)) k place f)
+      back f (by-line t j n e) = absurd (none-stands query (accepts-none query (t .0)) k place f)
+
+  shape-exactly : (place : ℕ) → (checkCall query derivation ≡ refused 20 place) ↔ ((place ≡ 0) × (accepts query ≡ true) × (misshapen derivation ≡ true))
+  shape-exactly place = (λ h. there h cases, λ d. check-misshapen (accepts-none query (d .1)) (d .2) ∙ ap (refused 20) (sym (d .0)))
+    where
+      there : checkCall query derivation ≡ refused 20 place → Case → (place ≡ 0) × (accepts query ≡ true) × (misshapen derivation ≡ true)
+      there h (by-query j p f e) = absurd (omega (arith, refused-same (sym e ∙ h) .0, first-numbered (queryAlone query) j p f .1))
+      there h (by-shape a m e) = (sym (refused-same (sym e ∙ h) .1), a, m)
+      there h (by-lines t n e) = absurd (accepted-refused (sym e ∙ h))
+      there h (by-line t j n e) = absurd (wrong-refused (sym e ∙ h))
+
+  refusal-numbered : (k place : ℕ) → checkCall query derivation ≡ refused k place → (2 ≤ k) × (k ≤ 20)
+  refusal-numbered k place h = there cases
+    where
+      there : Case → (2 ≤ k) × (k ≤ 20)
+      there (by-query j p f e) =
+          let s = refused-same (sym e ∙ h) .0 in
+          let r = first-numbered (queryAlone query) j p f in
+          (omega (arith, s, r .0), omega (arith, s, r .1))
+      there (by-shape a m e) = let s = refused-same (sym e ∙ h) .0 in (omega arith, omega arith)
+      there (by-lines t n e) = absurd (accepted-refused (sym e ∙ h))
+      there (by-line t j n e) = absurd (wrong-refused (sym e ∙ h))
+
+  accepted-sound : checkCall query derivation ≡ accepted → Satisfiable (decode query) → ⊥
+  accepted-sound h =
+      let (t, d) = accepted-exactly .0 h in
+      derivation-sound (decode query) (acceptance.accepted query (t .0)) d
+
+-- The lines in the bytes, and how many
+
+lines-count : (k : ℕ) (bytes : List ℕ) → length (linesFrom k bytes) ≡ k
+unfolding linesFrom
+lines-count zero bytes = refl
+lines-count (suc k) bytes = ap suc (lines-count k _)
+
+pub count-lines : (bytes : List ℕ) → length (linesIn bytes) ≡ countIn bytes
+unfolding linesIn countIn
+count-lines bytes = lines-count _ _
+
+wrong-placed : (query derivation : List ℕ) (k : ℕ) → checkCall query derivation ≡ wrong k → (1 ≤ k) × (k ≤ countIn derivation + 1)
+wrong-placed query derivation k h =
+    let r = first-placed (decode query) (linesIn derivation) k (wrong-exactly query derivation k .0 h .1) in
+    (r .0, omega (arith, r .1, count-lines derivation))
+
+-- Derivations as they are written
+
+counted : (lines : List Line) (rest : List ℕ) → countIn (derivationBytes lines ++ rest) ≡ length lines
+unfolding countIn derivationBytes
+counted lines rest = omega arith
+
+take-all : (xs ys : List ℕ) → take (length xs) (xs ++ ys) ≡ xs
+take-all [] ys = refl
+take-all (x ∷ xs) ys = ap (λ (r : List ℕ). x ∷ r) (take-all xs ys)
+
+written-taken : (lines : List Line) → length lines ≤ 16000 → misshapen (derivationBytes lines) ≡ false
+unfolding misshapen _or_
+written-taken lines l =
+    let c : countIn (derivationBytes lines) ≡ length lines = ap countIn (sym (append-nil (derivationBytes lines))) ∙ counted lines [] in
+    rw (c, derivation-length lines, eqb-self (2 + 4 * length lines)) (le-ltb 16000 (length lines) l)
+
+hand-accepted : (query : List ℕ) (lines : List Line) → accepts query ≡ true → Derivation (decode query) lines → length lines ≤ 16000 → checkCall query (derivationBytes lines) ≡ accepted
+hand-accepted query lines a d l =
+    let e : linesIn (derivationBytes lines) ≡ lines = ap linesIn (sym (append-nil (derivationBytes lines))) ∙ lines-read lines [] in
+    accepted-exactly query (derivationBytes lines) .1 ((a, written-taken lines l), subst (Derivation (decode query)) (sym e) d)
+
+-- what is left of a padded derivation without the zeros
+unpadded-written : (room : ℕ) (lines : List Line) → unpadded (padded room (derivationBytes lines)) ≡ derivationBytes lines
+unfolding padded
+unpadded-written room lines =
+    let zeros : List ℕ = replicate (room - length (derivationBytes lines)) 0 in
+    ap (λ (k : ℕ). take (2 + 4 * k) (derivationBytes lines ++ zeros)) (counted lines zeros)
+    ∙ ap (λ (k : ℕ). take k (derivationBytes lines ++ zeros)) (sym (derivation-length lines))
+    ∙ take-all (derivationBytes lines) zeros
+
+ours-accepted : (i : Input) → derivationCall i .answer ≡ calls.refuted → checkCall (i .query) (unpadded (derivationCall i .lent)) ≡ accepted
+ours-accepted i h =
+    let lent = derivationCall i .lent in
+    let e : unpadded lent ≡ derivationBytes (linesIn lent) = ap unpadded (demand2 .derivation-formed i h) ∙ unpadded-written (i .room) (linesIn lent) in
+    ap (checkCall (i .query)) e
+    ∙ hand-accepted (i .query) (linesIn lent) (derivation-passed i (demand1 .lines-exactly i .0 h .0) .query) (demand2 .derivation-follows i h) (demand2 .derivation-counted i h .0)
+
+pub claims : Claims
+claims =
+    record {
+      accepted-exactly = accepted-exactly;
+      wrong-exactly = wrong-exactly;
+      wrong-placed = wrong-placed;
+      refused-exactly = refused-exactly;
+      shape-exactly = shape-exactly;
+      refusal-numbered = refusal-numbered;
+      accepted-sound = accepted-sound;
+      ours-accepted = ours-accepted;
+      hand-accepted = hand-accepted;
+    }

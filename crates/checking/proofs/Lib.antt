@@ -1,0 +1,4 @@
+mod Samples
+pub mod Trees
+pub mod Judged
+pub mod Claims

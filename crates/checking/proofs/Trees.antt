@@ -1,0 +1,201 @@
+-- Lines fit to the end exactly if they are a derivation: one line after the other, and the whole tree.
+use Prim.Native.Nat.{ℕ, zero, suc, _+_}
+use native.Mathlib.Omega.{arith}
+use mathlib.Core.Path.{_≡_, refl, sym, ap, ap₂, _∙_, subst}
+use mathlib.Core.Logic.{_⊎_, ⊎-elim, inl, inr}
+use mathlib.Core.Bool.{Bool, true, false, cond, false≢true}
+use mathlib.Core.List.{List, [], _∷_, _++_, map, append-assoc, append-nil}
+use mathlib.Core.Option.{Option, none, some, Option·elim}
+use lib.Dec.{eqb}
+use Rattle.logic.specs.Search.{_and_, keep, isSome, orElse, firstOf, find}
+use Rattle.logic.specs.Query.{Query, termCount}
+use Rattle.logic.specs.Facts.{Facts, Joined, Line, line, joinLines, startJoins, start, isClash, clash}
+use Rattle.logic.specs.Rules.{Rule, REFLEX, TRANS1, TRANS2, FUNC, CYCLE, SCC, TOTAL, SHARE, rules, ruleNumber, ruleOf, triple, Move, move, Fact, alternatives, applies, branch, add, moveLine}
+use Rattle.logic.specs.Walk.{isClashed}
+use Rattle.logic.specs.Derivation.{Derivation, Refutes, ends, follows, RefutesEach, none-left, one-more}
+use Rattle.logic.proofs.Basics.Search.{none-some, keep-some, keep-none, and-left, and-right, and-intro, bool-cases, true-false, isSome-false, find-some}
+use Rattle.logic.proofs.Basics.Compare.{eqb-true, eqb-self}
+use Rattle.checking.specs.Fitting.{Goal, goalOf, sameLine, moveIn, goalsOf, afterRule, atPath, atGoal, step, startGoal, Fit}
+use Rattle.checking.specs.Fitting as fitting
+
+-- Lines by their numbers
+
+pub same-line : (l m : Line) → sameLine l m ≡ true → l ≡ m
+unfolding sameLine
+same-line (line a b c d) (line w x y z) h =
+    let abc = and-left (eqb a w and eqb b x and eqb c y) (eqb d z) h in
+    let ab = and-left (eqb a w and eqb b x) (eqb c y) abc in
+    let e = eqb-true a w (and-left (eqb a w) (eqb b x) ab) in
+    let f = eqb-true b x (and-right (eqb a w) (eqb b x) ab) in
+    let g = eqb-true c y (and-right (eqb a w and eqb b x) (eqb c y) abc) in
+    let i = eqb-true d z (and-right (eqb a w and eqb b x and eqb c y) (eqb d z) h) in
+    cc
+
+pub line-same : (l : Line) → sameLine l l ≡ true
+unfolding sameLine
+line-same (line a b c d) = and-intro (and-intro (and-intro (eqb-self a) (eqb-self b)) (eqb-self c)) (eqb-self d)
+
+-- the move in a line is the one whose line it is
+rule-numbered : (r : Rule) → ruleOf (ruleNumber r) ≡ some r
+unfolding ruleOf ruleNumber rules find firstOf keep orElse
+rule-numbered REFLEX = refl
+rule-numbered TRANS1 = refl
+rule-numbered TRANS2 = refl
+rule-numbered FUNC = refl
+rule-numbered CYCLE = refl
+rule-numbered SCC = refl
+rule-numbered TOTAL = refl
+rule-numbered SHARE = refl
+
+pub move-in : (m : Move) → moveIn (moveLine m) ≡ some m
+unfolding moveIn moveLine Option·elim
+move-in (move r (triple x y z)) = rw (rule-numbered r)
+
+pub in-move : (l : Line) (m : Move) → moveIn l ≡ some m → moveLine m ≡ l
+unfolding moveIn moveLine Option·elim ruleOf
+in-move (line k x y z) m h = go (ruleOf k) refl h
+  where
+    go : (o : Option Rule) → ruleOf k ≡ o → Option·elim o none (λ r. some (move r (triple x y z))) ≡ some m → moveLine m ≡ line k x y z
+    go none e h = absurd (none-some h)
+    go (some r) e h =
+        let n = eqb-true (ruleNumber r) k (find-some (λ (x : Rule). eqb (ruleNumber x) k) rules r e .1) in
+        let f : move r (triple x y z) ≡ m = cc in
+        ap moveLine (sym f) ∙ ap (λ (j : ℕ). line j x y z) n
+
+-- Lines that fit, one row after another
+
+pub fit-append : (q : Query) {gs hs ks : List Goal} {ls ms : List Line} → Fit q gs ls hs → Fit q hs ms ks → Fit q gs (ls ++ ms) ks
+fit-append q fitting.no-line g = g
+fit-append q (fitting.one-more l e f) g = fitting.one-more l e (fit-append q f g)
+
+-- A derivation fits
+
+module _ (q : Query) where
+  step-heading : (h : Line) (hs : List Line) (s : Facts) (gs : List Goal) → step q (record { heading = h ∷ hs; facts = s } ∷ gs) h ≡ some (record { heading = hs; facts = s } ∷ gs)
+  unfolding step atGoal Option·elim keep
+  step-heading h hs s gs = rw (line-same h)
+
+  heading-fits : (hs : List Line) (s : Facts) (gs : List Goal) → Fit q (record { heading = hs; facts = s } ∷ gs) hs (record { heading = []; facts = s } ∷ gs)
+  heading-fits [] s gs = fitting.no-line
+  heading-fits (h ∷ hs) s gs = fitting.one-more h (step-heading h hs s gs) (heading-fits hs s gs)
+
+  pub step-clash : (s : Facts) (gs : List Goal) (l : Line) → isClash q s l ≡ true → step q (record { heading = []; facts = s } ∷ gs) l ≡ some gs
+  unfolding step atGoal atPath Option·elim
+  step-clash s gs l e = rw e
+
+  pub step-rule : (s : Facts) (gs : List Goal) (l : Line) (m : Move) → isClash q s l ≡ false → clash q s ≡ none → moveIn l ≡ some m → applies (termCount q) s m ≡ true → step q (record { heading = []; facts = s } ∷ gs) l ≡ some (goalsOf (termCount q) s m ++ gs)
+  unfolding step atGoal atPath afterRule Option·elim isClashed isSome keep
+  step-rule s gs l m e f g h = rw (e, f, g, h)
+
+  -- a rule line is no clash line
+  rule-no-clash : (s : Facts) (m : Move) → isClash q s (moveLine m) ≡ false
+  unfolding isClash moveLine ruleNumber _and_
+  rule-no-clash s (move REFLEX (triple x y z)) = refl
+  rule-no-clash s (move TRANS1 (triple x y z)) = refl
+  rule-no-clash s (move TRANS2 (triple x y z)) = refl
+  rule-no-clash s (move FUNC (triple x y z)) = refl
+  rule-no-clash s (move CYCLE (triple x y z)) = refl
+  rule-no-clash s (move SCC (triple x y z)) = refl
+  rule-no-clash s (move TOTAL (triple x y z)) = refl
+  rule-no-clash s (move SHARE (triple x y z)) = refl
+
+  -- the goals of some alternatives, before others
+  goalsBy : Facts → List Fact → List Goal
+  goalsBy s cs = map (λ c. goalOf (branch (termCount q) s c)) cs
+
+  pub refutes-fit : {s : Facts} {ls : List Line} → Refutes q s ls → (gs : List Goal) → Fit q (record { heading = []; facts = s } ∷ gs) ls gs
+  unfolding goalsBy goalsOf goalOf add
+  refutes-fit r =
+      elim r as (λ s ls r. (gs : List Goal) → Fit q (record { heading = []; facts = s } ∷ gs) ls gs) (λ s cs ls r. (gs : List Goal) → Fit q (goalsBy s cs ++ gs) ls gs) [
+        | ends {s = s} l e ↦ λ gs. fitting.one-more l (step-clash s gs l e) fitting.no-line
+        | follows {s = s} m free app (rs → below) ↦ λ gs.
+            fitting.one-more (moveLine m) (step-rule s gs (moveLine m) m (rule-no-clash s m) free (move-in m) app) (below gs)
+        | none-left ↦ λ gs. fitting.no-line
+        | one-more {s = s} {c = c} {cs = cs} {ls = ls} {ms = ms} (r → first) (rs → rest) ↦ λ gs.
+            fit-append q (fit-append q (heading-fits (joinLines (branch (termCount q) s c .pairs)) (branch (termCount q) s c .facts) (goalsBy s cs ++ gs)) (first (goalsBy s cs ++ gs))) (rest gs)
+      ]
+
+  pub derivation-fits : {lines : List Line} → Derivation q lines → Fit q (startGoal q ∷ []) lines []
+  unfolding startGoal
+  derivation-fits d =
+      subst (λ (ls : List Line). Fit q (startGoal q ∷ []) ls []) (sym (d .headed))
+      (fit-append q (heading-fits (joinLines (startJoins q .pairs)) (start q) []) (refutes-fit (d .refutes) []))
+
+-- What fits to the end is a derivation
+
+module _ (q : Query) where
+  -- lines refute all goals, one after the other, the lines still to come at the head of each before it
+  RefutesAll : List Goal → List Line → Type 0
+  RefutesAll [] ls = ls ≡ []
+  RefutesAll (g ∷ gs) ls = (ms : List Line) × (rest : List Line) × (ls ≡ (g .heading ++ ms) ++ rest) × Refutes q (g .facts) ms × RefutesAll gs rest
+
+  -- the goals of a rule's branches, and others after them
+  each-of : (s : Facts) (cs : List Fact) (gs : List Goal) (ls : List Line) → RefutesAll (goalsBy q s cs ++ gs) ls → (ms : List Line) × (rest : List Line) × (ls ≡ ms ++ rest) × RefutesEach q s cs ms × RefutesAll gs rest
+  unfolding goalsBy RefutesAll goalOf add
+  each-of s [] gs ls r = ([], ls, refl, none-left, r)
+  each-of s (c ∷ cs) gs ls (ms, rest, e, r, rs) =
+      let (ns, last, f, each, all) = each-of s cs gs rest rs in
+      let head = joinLines (branch (termCount q) s c .pairs) ++ ms in
+      (head ++ ns, last, e ∙ ap (λ (x : List Line). head ++ x) f ∙ sym (append-assoc head ns last), one-more r each, all)
+
+  -- what a line that fits leaves, by cases
+  pub data Left (s : Facts) (gs : List Goal) (l : Line) : List Goal → Type 0 where
+    clashed : isClash q s l ≡ true → Left s gs l gs
+    ruled : (m : Move) → clash q s ≡ none → moveLine m ≡ l → applies (termCount q) s m ≡ true → Left s gs l (goalsOf (termCount q) s m ++ gs)
+
+  pub left-by : (s : Facts) (gs : List Goal) (l : Line) (hs : List Goal) → step q (record { heading = []; facts = s } ∷ gs) l ≡ some hs → Left s gs l hs
+  unfolding step atGoal atPath afterRule Option·elim isClashed keep
+  left-by s gs l hs h = at-clash (isClash q s l) refl h
+    where
+      at-applies : (m : Move) (b : Bool) → clash q s ≡ none → moveLine m ≡ l → applies (termCount q) s m ≡ b → Option·elim (keep b (goalsOf (termCount q) s m)) none (λ new. some (new ++ gs)) ≡ some hs → Left s gs l hs
+      at-applies m true free e a h = let f : goalsOf (termCount q) s m ++ gs ≡ hs = cc in subst (Left s gs l) f (ruled m free e a)
+      at-applies m false free e a h = absurd (none-some h)
+
+      at-move : (o : Option Move) → clash q s ≡ none → moveIn l ≡ o → Option·elim (Option·elim o none (λ m. keep (applies (termCount q) s m) (goalsOf (termCount q) s m))) none (λ new. some (new ++ gs)) ≡ some hs → Left s gs l hs
+      at-move none free e h = absurd (none-some h)
+      at-move (some m) free e h = at-applies m (applies (termCount q) s m) free (in-move l m e) refl h
+
+      at-free : (b : Bool) → isClashed q s ≡ b → Option·elim (cond b none (afterRule q s l)) none (λ new. some (new ++ gs)) ≡ some hs → Left s gs l hs
+      at-free true e h = absurd (none-some h)
+      at-free false e h = at-move (moveIn l) (isSome-false (clash q s) e) refl h
+
+      at-clash : (b : Bool) → isClash q s l ≡ b → Option·elim (cond b (some []) (cond (isClashed q s) none (afterRule q s l))) none (λ new. some (new ++ gs)) ≡ some hs → Left s gs l hs
+      at-clash true e h = let f : gs ≡ hs = cc in subst (Left s gs l) f (clashed e)
+      at-clash false e h = at-free (isClashed q s) refl h
+
+  all-after : (s : Facts) (gs : List Goal) (l : Line) {hs : List Goal} (ls : List Line) → Left s gs l hs → RefutesAll hs ls → RefutesAll (record { heading = []; facts = s } ∷ gs) (l ∷ ls)
+  unfolding RefutesAll goalsOf goalsBy
+  all-after s gs l ls (clashed e) r = (l ∷ [], ls, refl, ends l e, r)
+  all-after s gs l ls (ruled m free e a) r =
+      let (ms, rest, f, each, all) = each-of s (alternatives (termCount q) (s .graph) m) gs ls r in
+      (moveLine m ∷ ms, rest, ap₂ (λ (x : Line) (y : List Line). x ∷ y) (sym e) f, follows m free a each, all)
+
+  all-headed : (h : Line) (head : List Line) (s : Facts) (gs : List Goal) (l : Line) (ls : List Line) → l ≡ h → RefutesAll (record { heading = head; facts = s } ∷ gs) ls → RefutesAll (record { heading = h ∷ head; facts = s } ∷ gs) (l ∷ ls)
+  unfolding RefutesAll
+  all-headed h head s gs l ls e (ms, rest, f, r, all) = (ms, rest, ap₂ (λ (x : Line) (y : List Line). x ∷ y) e f, r, all)
+
+  all-before : (gs : List Goal) (l : Line) (hs : List Goal) (ls : List Line) → step q gs l ≡ some hs → RefutesAll hs ls → RefutesAll gs (l ∷ ls)
+  unfolding step RefutesAll atGoal Option·elim keep
+  all-before [] l hs ls e r = absurd (none-some e)
+  all-before (g ∷ gs) l hs ls e r = at-heading (g .heading) (g .facts) e
+    where
+      at-heading : (head : List Line) (s : Facts) → step q (record { heading = head; facts = s } ∷ gs) l ≡ some hs → RefutesAll (record { heading = head; facts = s } ∷ gs) (l ∷ ls)
+      at-heading [] s e = all-after s gs l ls (left-by s gs l hs e) r
+      at-heading (h ∷ head) s e = at-same (sameLine l h) refl e
+        where
+          at-same : (b : Bool) → sameLine l h ≡ b → Option·elim (keep b (record { heading = head; facts = s } ∷ [])) none (λ new. some (new ++ gs)) ≡ some hs → RefutesAll (record { heading = h ∷ head; facts = s } ∷ gs) (l ∷ ls)
+          at-same true f e =
+              let k : record { heading = head; facts = s } ∷ gs ≡ hs = cc in
+              all-headed h head s gs l ls (same-line l h f) (subst (λ (x : List Goal). RefutesAll x ls) (sym k) r)
+          at-same false f e = absurd (none-some e)
+
+  fit-all : {gs hs : List Goal} {ls : List Line} → Fit q gs ls hs → hs ≡ [] → RefutesAll gs ls
+  unfolding RefutesAll
+  fit-all (fitting.no-line {gs = gs}) e = subst (λ (x : List Goal). RefutesAll x []) (sym e) refl
+  fit-all (fitting.one-more {gs = gs} {hs = hs} l {ls = ls} e f) g = all-before gs l hs ls e (fit-all f g)
+
+  pub fit-derivation : (lines : List Line) → Fit q (startGoal q ∷ []) lines [] → Derivation q lines
+  unfolding RefutesAll startGoal
+  fit-derivation lines f =
+      let (ms, rest, e, r, past) = fit-all f refl in
+      record { walked = ms; headed = e ∙ ap (λ (x : List Line). (joinLines (startJoins q .pairs) ++ ms) ++ x) past ∙ append-nil _; refutes = r }

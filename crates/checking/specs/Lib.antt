@@ -1,0 +1,4 @@
+pub mod Fitting
+pub mod CheckCall
+pub mod Claims
+pub mod Samples

@@ -1,0 +1,1 @@
+// Derivations from elsewhere: definitions in specs/, theorems in proofs/. There is no code in this crate.

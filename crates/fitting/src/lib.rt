@@ -1,0 +1,251 @@
+// One line at one path, whatever numbers it holds: whether a rule applies at a triple, and whether a clash is a true one.
+use facts::Facts;
+use facts::Term;
+use query::Layout;
+use rules::Rule;
+ghost use mathlib.Core.Path.{_≡_};
+ghost use mathlib.Core.Bool.{Bool, true};
+ghost use Prim.Native.Nat.{ℕ, _+_, _*_, _≤_, _<_};
+ghost use lib.ListN.{length};
+ghost use lib.Dec.{eqb};
+ghost use Rattle.logic.specs.Search.{_and_};
+ghost use Rattle.logic.specs.Query.{decode};
+ghost use Rattle.logic.specs.Facts.{live, line, negatedAt, plainAt, isClash};
+ghost use Rattle.logic.specs.Rules.{CYCLE, triple, move, applies};
+ghost use Rattle.facts.specs.Square.{square};
+ghost use Rattle.facts.specs.Path.{graphOf, pathOf};
+ghost use Rattle.query.specs.LaysOut.{LaysOut};
+ghost use Rattle.rules.specs.Answers.{kindOf};
+ghost use Rattle.rules.specs.Tests.{pairTest, thirdTest, looped};
+ghost use Rattle.rules.specs.Smallest.{allowed};
+ghost use Rattle.clash.specs.Sections.{literalsIn, flagsIn, oneTerm, reachHeld, sameField, sameNumber};
+ghost use Rattle.clash.specs.Reps.{repsOf};
+
+// The fact about a and b is held; a number above 16 has none.
+fn is_held(rows: &[u32; 17], a: usize, b: usize) -> bool
+    ensures { λ r. ⌜ r ≡ square (now (rows .entry)) a b ⌝ }
+{
+    if 16 < a {
+        return false;
+    }
+    if 16 < b {
+        return false;
+    }
+    facts::holds(rows, Term(a), Term(b))
+}
+
+// Term t is not replaced.
+fn is_live(s: Facts, n: usize, t: usize) -> bool
+    requires { ⌜ n ≤ 16 ⌝ }
+    ensures { λ r. ⌜ r ≡ live n (pathOf s) t ⌝ }
+{
+    if t == 0 {
+        return false;
+    }
+    if n < t {
+        return false;
+    }
+    let rep = s.rep;
+    let u = rep[t];
+    u.0 == t
+}
+
+// A rule other than CYCLE applies at a triple; `alive` says whether x is not replaced.
+fn is_allowed(
+    rule: Rule,
+    alive: bool,
+    link: &[u32; 17],
+    reach: &[u32; 17],
+    x: usize,
+    y: usize,
+    z: usize,
+) -> bool
+    ensures { λ r. ⌜ ((lives : ℕ → Bool) → alive ≡ lives x → looped (kindOf rule) ≡ true → r ≡ (pairTest lives (graphOf (now (link .entry)) (now (reach .entry))) x y (kindOf rule) and thirdTest (graphOf (now (link .entry)) (now (reach .entry))) x y z (kindOf rule))) ⌝ }
+{
+    match rule {
+        Rule::Reflex => alive & !is_held(reach, x, x) & (y == 0) & (z == 0),
+        Rule::Trans1 => is_held(link, x, y) & !is_held(reach, x, y) & (z == 0),
+        Rule::Trans2 => is_held(reach, x, y) & is_held(reach, y, z) & !is_held(reach, x, z),
+        Rule::Func => {
+            is_held(link, x, y) & is_held(reach, x, z) & (x != z) & !is_held(reach, y, z)
+        }
+        Rule::Cycle => false,
+        Rule::Scc => {
+            is_held(reach, x, y)
+                & is_held(reach, y, x)
+                & (x != y)
+                & is_held(reach, x, z)
+                & !is_held(reach, z, x)
+        }
+        Rule::Total => {
+            is_held(reach, x, y)
+                & is_held(reach, x, z)
+                & !is_held(reach, y, z)
+                & !is_held(reach, z, y)
+        }
+        Rule::Share => {
+            is_held(reach, x, y)
+                & is_held(reach, y, x)
+                & (x != y)
+                & is_held(link, x, z)
+                & is_held(link, y, z)
+        }
+    }
+}
+
+// CYCLE applies at x, y and k: the links return to x after k steps and not before, x reaches y, and y is none of the k terms from x on.
+fn is_round(link: &[u32; 17], reach: &[u32; 17], n: usize, x: usize, y: usize, k: usize) -> bool
+    requires { ⌜ n ≤ 16 ⌝ }
+    ensures { λ r. ⌜ ((lives : ℕ → Bool) → r ≡ allowed n lives (graphOf (now (link .entry)) (now (reach .entry))) (move CYCLE (triple x y k))) ⌝ }
+{
+    if !is_held(reach, x, y) {
+        return false;
+    }
+    if k == 0 {
+        return false;
+    }
+    let first = rules::next(link, n, Term(x));
+    let back = rules::follow(link, n, first, Term(x), k);
+    if back.steps != k - 1 {
+        return false;
+    }
+    let round = rules::follow(link, n, Term(x), Term(y), k);
+    round.steps == k
+}
+
+// The rule applies to the path at this triple.
+pub fn applies(s: Facts, n: usize, rule: Rule, x: usize, y: usize, z: usize) -> bool
+    requires { ⌜ n ≤ 16 ⌝ }
+    ensures { λ r. ⌜ r ≡ applies n (pathOf s) (move (kindOf rule) (triple x y z)) ⌝ }
+{
+    let link = s.link;
+    let reach = s.reach;
+    if rules::looped(rule) {
+        let alive = is_live(s, n, x);
+        return is_allowed(rule, alive, &link, &reach, x, y, z);
+    }
+    is_round(&link, &reach, n, x, y, z)
+}
+
+// Equality i, from 1, is negated, and its terms have one representative.
+fn is_equality_clash(query: &[u8], at: usize, count: usize, reps: &[usize; 17], i: usize) -> bool
+    requires { ⌜ at + 3 * count ≤ length (now query) ⌝ }
+    ensures { λ r. ⌜ r ≡ negatedAt (literalsIn (now (query .entry)) at count) i (oneTerm (repsOf (now (reps .entry)))) ⌝ }
+{
+    if i == 0 {
+        return false;
+    }
+    if count < i {
+        return false;
+    }
+    clash::is_unequal_to_itself(query, at, i - 1, reps)
+}
+
+// Reachability literal i, from 1, is negated, and its fact is held.
+fn is_reach_clash(
+    query: &[u8],
+    at: usize,
+    count: usize,
+    reps: &[usize; 17],
+    reach: &[u32; 17],
+    i: usize,
+) -> bool
+    requires { ⌜ at + 3 * count ≤ length (now query) ⌝ }
+    ensures { λ r. ⌜ r ≡ negatedAt (literalsIn (now (query .entry)) at count) i (reachHeld (repsOf (now (reps .entry))) (square (now (reach .entry)))) ⌝ }
+{
+    if i == 0 {
+        return false;
+    }
+    if count < i {
+        return false;
+    }
+    clash::is_held_negated(query, at, i - 1, reps, reach)
+}
+
+// Data literal i, from 1, is negated, and literal j is a plain one of the same field and term.
+fn is_field_clash(
+    query: &[u8],
+    at: usize,
+    count: usize,
+    reps: &[usize; 17],
+    i: usize,
+    j: usize,
+) -> bool
+    requires { ⌜ at + 3 * count ≤ length (now query) ⌝ }
+    ensures { λ r. ⌜ r ≡ negatedAt (literalsIn (now (query .entry)) at count) i (λ l. plainAt (literalsIn (now (query .entry)) at count) j (sameField (repsOf (now (reps .entry))) l)) ⌝ }
+{
+    if i == 0 {
+        return false;
+    }
+    if count < i {
+        return false;
+    }
+    if query::sign(query, at, i - 1) {
+        return false;
+    }
+    if j == 0 {
+        return false;
+    }
+    if count < j {
+        return false;
+    }
+    let field = query::field(query, at, i - 1);
+    let term = clash::read_rep(reps, query::right(query, at, i - 1));
+    clash::is_field_partner(query, at, j - 1, reps, field, term)
+}
+
+// Boolean literal i, from 1, is negated, and literal j is a plain one of the same number.
+fn is_boolean_clash(query: &[u8], at: usize, count: usize, i: usize, j: usize) -> bool
+    requires { ⌜ at + 2 * count ≤ length (now query) ⌝ }
+    ensures { λ r. ⌜ r ≡ negatedAt (flagsIn (now (query .entry)) at count) i (λ l. plainAt (flagsIn (now (query .entry)) at count) j (sameNumber l)) ⌝ }
+{
+    if i == 0 {
+        return false;
+    }
+    if count < i {
+        return false;
+    }
+    if query::flag_sign(query, at, i - 1) {
+        return false;
+    }
+    if j == 0 {
+        return false;
+    }
+    if count < j {
+        return false;
+    }
+    let number = query::flag_number(query, at, i - 1);
+    clash::is_boolean_partner(query, at, j - 1, number)
+}
+
+// The clash line 9, section, i, j is a true one at the path.
+pub fn is_clash(query: &[u8], layout: Layout, s: Facts, section: usize, i: usize, j: usize) -> bool
+    requires { ⌜ LaysOut layout (now query) ⌝ }
+    ensures { λ r. ⌜ r ≡ isClash (decode (now (query .entry))) (pathOf s) (line 9 section i j) ⌝ }
+{
+    let rep = s.rep;
+    let reps = clash::numbers(rep);
+    if section == 4 {
+        return is_field_clash(query, layout.field_at, layout.field_count, &reps, i, j);
+    }
+    if section == 5 {
+        return is_boolean_clash(query, layout.boolean_at, layout.boolean_count, i, j);
+    }
+    if j != 0 {
+        return false;
+    }
+    if section == 2 {
+        return is_equality_clash(query, layout.equal_at, layout.equal_count, &reps, i);
+    }
+    if section == 3 {
+        return is_reach_clash(
+            query,
+            layout.reach_at,
+            layout.reach_count,
+            &reps,
+            &s.reach,
+            i,
+        );
+    }
+    false
+}

@@ -1,0 +1,25 @@
+-- Assumes nothing.
+use borrow.Author.Needs.{needs}
+use Rattle.lemitsaka.proofs.check_call.coded_check.Statement.{statement}
+use Rattle.lemitsaka.proofs.check_call.coded_check.Tie as tie
+
+pub coded-check-spec : {M : Type 1} → statement M
+coded-check-spec =
+    tie.close
+    (tie.spec
+    -- enum-told
+    (λ c. search needs)
+    -- enum-known-line
+    (λ c. search needs)
+    -- enum-known-k
+    (λ c. search needs)
+    -- mul-result
+    (λ c. search needs)
+    -- add-result
+    (λ c. search needs)
+    -- returns
+    (λ c. rw (c .enum-told .given .1))
+    -- returns-2
+    (λ c. rw (c .before .line .given .1))
+    -- returns-3
+    (λ c. rw (c .before .k .given .1)))
