@@ -102,7 +102,17 @@ fn read_part(buffer: &mut [u8], size: usize) -> bool {
 }
 
 // Parts of these sizes, and a room: whether they have place.
-fn run_sized<'a>(kind: u8, a: &'a [u8], i: usize, b: &'a [u8], j: usize, c: &[u8], k: usize, out: &mut [u8], room: usize) -> bool {
+fn run_sized<'a>(
+    kind: u8,
+    a: &'a [u8],
+    i: usize,
+    b: &'a [u8],
+    j: usize,
+    c: &[u8],
+    k: usize,
+    out: &mut [u8],
+    room: usize,
+) -> bool {
     if a.len() < i {
         return false;
     }

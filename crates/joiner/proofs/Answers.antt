@@ -181,7 +181,7 @@ module _ (first second line : List ℕ) (ok₁ : accepts first ≡ true) (ok₂ 
       let at-place : p ≡ placeIn (decode first) (getD line 1 0) (getD line 2 0) = ep ∙ ap (λ (t : ℕ). placeIn (decode first) t k) e₁ ∙ ap (placeIn (decode first) (getD line 1 0)) e₂ in
       let at-size : size ≡ widthIn (getD line 1 0) = ez ∙ ap widthIn e₁ in (
         ap (λ (t : ℕ). hand.inFirst t size) at-place ∙ ap (hand.inFirst (placeIn (decode first) (getD line 1 0) (getD line 2 0))) at-size
-        ∙ sym (of-tests (decode first) (decode second) line true true _ (eq-eqb (getD line 0 0) 9 (sym e₀ ∙ h)) (among-inside 0 _ (getD line 2 0) (positive one) (omega arith)) refl),
+            ∙ sym (of-tests (decode first) (decode second) line true true _ (eq-eqb (getD line 0 0) 9 (sym e₀ ∙ h)) (among-inside 0 _ (getD line 2 0) (positive one) (omega arith)) refl),
         omega (arith, ep, ez, literal-fits first ok₁ s k (positive-own one) (omega (arith, low, ei))),
       )
     where
@@ -196,10 +196,10 @@ module _ (first second line : List ℕ) (ok₁ : accepts first ≡ true) (ok₂ 
       let first-count = moved (decode first) ei in
       let second-count = moved (decode second) em in
       let at-place : p ≡ placeIn (decode second) (getD line 1 0) (getD line 2 0 - length (literalsIn (decode first) (getD line 1 0))) =
-          ep ∙ ap (λ (t : ℕ). placeIn (decode second) t (k - i)) e₁ ∙ ap (λ (t : ℕ). placeIn (decode second) (getD line 1 0) (t - i)) e₂ ∙ ap (λ (t : ℕ). placeIn (decode second) (getD line 1 0) (getD line 2 0 - t)) first-count in
+      ep ∙ ap (λ (t : ℕ). placeIn (decode second) t (k - i)) e₁ ∙ ap (λ (t : ℕ). placeIn (decode second) (getD line 1 0) (t - i)) e₂ ∙ ap (λ (t : ℕ). placeIn (decode second) (getD line 1 0) (getD line 2 0 - t)) first-count in
       let at-size : size ≡ widthIn (getD line 1 0) = ez ∙ ap widthIn e₁ in (
         ap (λ (t : ℕ). hand.inSecond t size) at-place ∙ ap (hand.inSecond (placeIn (decode second) (getD line 1 0) (getD line 2 0 - length (literalsIn (decode first) (getD line 1 0))))) at-size
-        ∙ sym (of-tests (decode first) (decode second) line true false true (eq-eqb (getD line 0 0) 9 (sym e₀ ∙ h)) (among-high 0 _ (getD line 2 0) (omega arith)) (among-inside _ _ (getD line 2 0) (omega arith) (omega arith))),
+            ∙ sym (of-tests (decode first) (decode second) line true false true (eq-eqb (getD line 0 0) 9 (sym e₀ ∙ h)) (among-high 0 _ (getD line 2 0) (omega arith)) (among-inside _ _ (getD line 2 0) (omega arith) (omega arith))),
         omega (arith, ep, ez, literal-fits second ok₂ s (k - i) (omega arith) (omega (arith, em))),
       )
 

@@ -50,7 +50,7 @@ put-entries-spec =
     -- loop-again
     (λ c. (
       part-more (c .before .before .before .before .before .before .before .loop .inv .0) (rest-next one (entryAt (c .before .before .before .before .before .before .before .before .before .before .args .query .now) (c .before .before .before .before .before .before .before .before .before .before .args .n)) (c .before .before .before .before .before .before .before .before .before .before .args .count) (c .before .before .before .before .before .before .before .loop .t) (c .before .before .before .before .before .before .loop-test .taken))
-      (writes-as (ap one (c .before .before .before .raised-entry .ensures ∙ ap (raisedEntry (c .before .before .before .before .before .before .before .before .before .before .args .n)) (c .before .before .before .before .before .byte-at .ensures))) (c .before .before .put-byte .ensures)),
+          (writes-as (ap one (c .before .before .before .raised-entry .ensures ∙ ap (raisedEntry (c .before .before .before .before .before .before .before .before .before .before .args .n)) (c .before .before .before .before .before .byte-at .ensures))) (c .before .before .put-byte .ensures)),
       omega (arith, c .before .before .before .before .before .before .before .loop .inv .1, c .before .before .put-byte .ensures .ends),
       omega (arith, c .before .before .before .before .before .before .loop-test .taken),
     ))

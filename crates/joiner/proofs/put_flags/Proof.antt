@@ -50,7 +50,7 @@ put-flags-spec =
     -- loop-again
     (λ c. (
       part-more (c .before .before .before .before .before .before .before .loop .inv .0) (rest-next flagBytes (flagIn (c .before .before .before .before .before .before .before .before .before .before .args .query .now) (c .before .before .before .before .before .before .before .before .before .before .args .at)) (c .before .before .before .before .before .before .before .before .before .before .args .count) (c .before .before .before .before .before .before .before .loop .k) (c .before .before .before .before .before .before .loop-test .taken))
-      (writes-as (flag-bytes (flagIn (c .before .before .before .before .before .before .before .before .before .before .args .query .now) (c .before .before .before .before .before .before .before .before .before .before .args .at) (c .before .before .before .before .before .before .before .loop .k)) (c .before .before .before .before .before .flag-sign .ensures) (c .before .before .before .before .flag-number .ensures)) (c .before .before .put-flag .ensures)),
+          (writes-as (flag-bytes (flagIn (c .before .before .before .before .before .before .before .before .before .before .args .query .now) (c .before .before .before .before .before .before .before .before .before .before .args .at) (c .before .before .before .before .before .before .before .loop .k)) (c .before .before .before .before .before .flag-sign .ensures) (c .before .before .before .before .flag-number .ensures)) (c .before .before .put-flag .ensures)),
       omega (arith, c .before .before .before .before .before .before .before .loop .inv .1, c .before .before .put-flag .ensures .ends),
       omega (arith, c .before .before .before .before .before .before .loop-test .taken),
     ))

@@ -57,7 +57,7 @@ put-literals-spec =
     -- loop-again
     (λ c. (
       part-more (c .before .before .before .before .before .before .before .before .before .loop .inv .0) (rest-next literalBytes (raisedAt (c .before .before .before .before .before .before .before .before .before .before .before .before .args .query .now) (c .before .before .before .before .before .before .before .before .before .before .before .before .args .at) (c .before .before .before .before .before .before .before .before .before .before .before .before .args .i) (c .before .before .before .before .before .before .before .before .before .before .before .before .args .j)) (c .before .before .before .before .before .before .before .before .before .before .before .before .args .count) (c .before .before .before .before .before .before .before .before .before .loop .k) (c .before .before .before .before .before .before .before .before .loop-test .taken))
-      (writes-as (literal-bytes (c .before .before .before .before .before .before .before .before .before .before .before .before .args .i) (c .before .before .before .before .before .before .before .before .before .before .before .before .args .j) (literalIn (c .before .before .before .before .before .before .before .before .before .before .before .before .args .query .now) (c .before .before .before .before .before .before .before .before .before .before .before .before .args .at) (c .before .before .before .before .before .before .before .before .before .loop .k)) (c .before .before .before .before .before .before .before .sign .ensures) (c .before .before .before .before .before .before .field .ensures) (c .before .before .before .before .before .right .ensures)) (c .before .before .put-literal .ensures)),
+          (writes-as (literal-bytes (c .before .before .before .before .before .before .before .before .before .before .before .before .args .i) (c .before .before .before .before .before .before .before .before .before .before .before .before .args .j) (literalIn (c .before .before .before .before .before .before .before .before .before .before .before .before .args .query .now) (c .before .before .before .before .before .before .before .before .before .before .before .before .args .at) (c .before .before .before .before .before .before .before .before .before .loop .k)) (c .before .before .before .before .before .before .before .sign .ensures) (c .before .before .before .before .before .before .field .ensures) (c .before .before .before .before .before .right .ensures)) (c .before .before .put-literal .ensures)),
       omega (arith, c .before .before .before .before .before .before .before .before .before .loop .inv .1, c .before .before .put-literal .ensures .ends),
       omega (arith, c .before .before .before .before .before .before .before .before .loop-test .taken),
     ))

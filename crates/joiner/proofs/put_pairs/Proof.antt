@@ -61,7 +61,7 @@ put-pairs-spec =
     -- loop-again
     (λ c. (
       part-more (c .before .before .before .before .before .before .before .loop .inv .0) (rest-next literalBytes (λ i. pairLiteral (c .before .before .before .before .before .before .before .before .before .before .args .n) (pairIn (c .before .before .before .before .before .before .before .before .before .before .args .pairs .now) i)) (c .before .before .before .before .before .before .before .before .before .before .args .count) (c .before .before .before .before .before .before .before .loop .k) (c .before .before .before .before .before .before .loop-test .taken))
-      (writes-as (pair-bytes (c .before .before .before .before .before .before .before .before .before .before .args .n) (pairIn (c .before .before .before .before .before .before .before .before .before .before .args .pairs .now) (c .before .before .before .before .before .before .before .loop .k)) (c .before .before .before .before .before .byte-at .ensures) (c .before .before .before .before .byte-at2 .ensures)) (c .before .before .put-literal .ensures)),
+          (writes-as (pair-bytes (c .before .before .before .before .before .before .before .before .before .before .args .n) (pairIn (c .before .before .before .before .before .before .before .before .before .before .args .pairs .now) (c .before .before .before .before .before .before .before .loop .k)) (c .before .before .before .before .before .byte-at .ensures) (c .before .before .before .before .byte-at2 .ensures)) (c .before .before .put-literal .ensures)),
       omega (arith, c .before .before .before .before .before .before .before .loop .inv .1, c .before .before .put-literal .ensures .ends),
       omega (arith, c .before .before .before .before .before .before .loop-test .taken),
     ))
