@@ -257,18 +257,20 @@ count-starts {p} {q} bytes e f =
 pub count-again : {next : List ℕ} (count : ℕ) (bytes cs : List ℕ) (i kind : ℕ) → next ≡ raised cs (line kind 0 0 0 ∷ []) → kind ≡ getD bytes (2 + 4 * i) 0 → i < count → raised next (left count bytes (i + 1)) ≡ raised cs (left count bytes i)
 count-again count bytes cs i kind e q h = ap (λ (ns : List ℕ). raised ns (left count bytes (i + 1))) e ∙ count-next count bytes cs i (2 + 4 * i) kind refl q h
 
--- either outcome of the test, where `more` are the lines of each rule
-module _ {t : Bool} {more : List ℕ} (counts : List ℕ) (ls : List Line) (eight : length counts ≡ 8) (lines : more ≡ raised noLines ls) (test : t ≡ fits (plus counts more)) where
-  grown : plus counts more ≡ raised counts ls
-  grown = ap (plus counts) lines ∙ raised-plus counts ls eight
+-- what a derivation adds, where `more` are the lines of each rule
+pub adds-lines : {more left : List ℕ} {r : ℕ} (counts : List ℕ) (ls : List Line) → length counts ≡ 8 → more ≡ raised noLines ls
+    → (r ≡ cond (fits (plus counts more)) 0 28) × (left ≡ cond (fits (plus counts more)) (plus counts more) counts) → Adds counts ls left r
+unfolding tallied refusalOf
+adds-lines {more} counts ls eight lines (e, f) =
+    let grown : plus counts more ≡ raised counts ls = ap (plus counts) lines ∙ raised-plus counts ls eight in
+    record {
+      leaves = f ∙ ap (λ (cs : List ℕ). cond (fits cs) cs counts) grown;
+      answers = e ∙ ap (λ (cs : List ℕ). cond (fits cs) 0 28) grown;
+    }
 
-  tested : (b : Bool) → t ≡ b → fits (raised counts ls) ≡ b
-  tested b e = ap fits (sym grown) ∙ sym test ∙ e
+-- either outcome of a test
+pub test-true : {A : Type 0} {b t : Bool} {r : A} (x y : A) → t ≡ b → t ≡ true → r ≡ x → r ≡ cond b x y
+test-true x y e f g = g ∙ ap (λ (u : Bool). cond u x y) (sym f ∙ e)
 
-  pub adds-more : {next : List ℕ} → t ≡ true → next ≡ plus counts more → Adds counts ls next 0
-  unfolding tallied refusalOf
-  adds-more e n = record { leaves = n ∙ grown ∙ sym (ap (λ (b : Bool). cond b (raised counts ls) counts) (tested true e)); answers = sym (ap (λ (b : Bool). cond b 0 28) (tested true e)) }
-
-  pub adds-not : t ≡ false → Adds counts ls counts 28
-  unfolding tallied refusalOf
-  adds-not e = record { leaves = sym (ap (λ (b : Bool). cond b (raised counts ls) counts) (tested false e)); answers = sym (ap (λ (b : Bool). cond b 0 28) (tested false e)) }
+pub test-false : {A : Type 0} {b t : Bool} {r : A} (x y : A) → t ≡ b → t ≡ false → r ≡ y → r ≡ cond b x y
+test-false x y e f g = g ∙ ap (λ (u : Bool). cond u x y) (sym f ∙ e)
