@@ -9,9 +9,9 @@ coded-check-spec =
     (tie.spec
     -- enum-told
     (λ c. search needs)
-    -- enum-known-line
+    -- enum-known-answer
     (λ c. search needs)
-    -- enum-known-k
+    -- enum-known-answer-2
     (λ c. search needs)
     -- mul-result
     (λ c. search needs)
@@ -20,6 +20,6 @@ coded-check-spec =
     -- returns
     (λ c. rw (c .enum-told .given .1))
     -- returns-2
-    (λ c. rw (c .before .line .given .1))
+    (λ c. rw (c .before .answer .given .1))
     -- returns-3
-    (λ c. rw (c .before .k .given .1)))
+    (λ c. rw (c .before .answer2 .given .1)))
