@@ -8,14 +8,14 @@ use Rattle.logic.specs.Search.{_or_, from, any}
 use Rattle.logic.specs.Query.{Literal, namesNil}
 use Rattle.between.specs.Meaning.{BetweenLiteral, BetweenQuery}
 
--- "least step count" from v to w, looked for up to k links: k + 1 where w is not met
+-- "least step count" from v to w, looked for at k nodes: k where w is not met
 unfoldable pub stepCount : (ℕ → ℕ) → ℕ → ℕ → ℕ → ℕ
-stepCount f zero v w = cond (eqb v w) 0 1
+stepCount f zero v w = 0
 stepCount f (suc k) v w = let rest : ℕ = suc (stepCount f k (f v) w) in cond (eqb v w) 0 rest
 
--- in heaps of at most five nodes, five links are enough
+-- in heaps of at most five nodes, five links are enough: 6 where w is not met
 unfoldable pub steps : (ℕ → ℕ) → ℕ → ℕ → ℕ
-steps link v w = stepCount link 5 v w
+steps link v w = stepCount link 6 v w
 
 -- what is held is what the sign asks for
 unfoldable pub agrees : Bool → Bool → Bool
