@@ -4,3 +4,4 @@ pub mod Tests
 pub mod Search
 pub mod Calls
 pub mod Samples
+pub mod Promise
