@@ -12,4 +12,5 @@ pub mod Sizes
 pub mod Report
 pub mod Accepted
 pub mod Layouts
+pub mod SixLayout
 pub mod Promised

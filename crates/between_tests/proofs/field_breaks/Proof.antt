@@ -51,8 +51,11 @@ field-breaks-spec =
     -- loop-less
     (λ c. omega arith)
     -- loop-again
-    (λ c. (λ fields o.
-    let low : c .before .before .before .before .before .before .before .loop .u ≤ 5 = omega (arith, c .before .before .before .before .before .before .before .before .before .before .pre .1, c .before .before .before .before .before .before .loop-test .taken) in
-    c .before .before .before .before .before .before .before .loop .inv .0 fields o ∙ any-next _ _ _ (c .before .before .before .before .before .before .loop-test .taken) (ap₂ (λ (x : ℕ) (b : Bool). eqb x (c .before .before .before .before .before .before .before .before .before .node-of .result .0) && b) (sym (c .before .before .before .before .before .node-of2 .ensures)) (ap₂ (λ (x y : Bool). x || y) (sym (c .before .before .before .before .opposed-of .ensures ∙ o _ _ low (c .before .before .before .before .before .before .before .before .before .before .pre .1))) (sym (c .before .before .before .opposed-of2 .ensures ∙ o _ _ (c .before .before .before .before .before .before .before .before .before .before .pre .1) low))) ∙ c .if1 .left), omega arith))
+    (λ c. (
+      λ fields o.
+          let low : c .before .before .before .before .before .before .before .loop .u ≤ 5 = omega (arith, c .before .before .before .before .before .before .before .before .before .before .pre .1, c .before .before .before .before .before .before .loop-test .taken) in
+          c .before .before .before .before .before .before .before .loop .inv .0 fields o ∙ any-next _ _ _ (c .before .before .before .before .before .before .loop-test .taken) (ap₂ (λ (x : ℕ) (b : Bool). eqb x (c .before .before .before .before .before .before .before .before .before .node-of .result .0) && b) (sym (c .before .before .before .before .before .node-of2 .ensures)) (ap₂ (λ (x y : Bool). x || y) (sym (c .before .before .before .before .opposed-of .ensures ∙ o _ _ low (c .before .before .before .before .before .before .before .before .before .before .pre .1))) (sym (c .before .before .before .opposed-of2 .ensures ∙ o _ _ (c .before .before .before .before .before .before .before .before .before .before .pre .1) low))) ∙ c .if1 .left),
+      omega arith,
+    ))
     -- returns-2
     (λ c fields o. sym (breaks-begin fields _ _ _ (c .before .before .before .node-of .ensures) ∙ c .before .loop .inv .0 fields o ∙ any-end _ _ _ (c .loop-test .left))))
