@@ -1,5 +1,6 @@
 //! Tests, test data and timing by a second reading of the scope paper. See README.md.
 
+mod between;
 mod check;
 #[cfg(feature = "library")]
 mod differential;
@@ -30,7 +31,9 @@ data DIR                      write edges, random and long .bin and .txt into DI
 search LOW HIGH KINDS N SEED  print N inputs whose derivation has LOW to HIGH lines, of KINDS kinds or more
 time DIR                      time the workloads in DIR (with feature library: the library too)
 differential N SEED           (feature library) compare library and reference on N random inputs
-heapverdict                   be the program heapverdict";
+heapverdict                   be the program heapverdict
+between FILE                  compare the plain search of R-10 with its vectors
+between                       time it on slow queries";
 
 fn main() -> ExitCode {
     let words: Vec<String> = std::env::args().skip(1).collect();
@@ -73,6 +76,11 @@ fn run(words: &[&str]) -> Result<bool, String> {
         }
         ["time", directory] => time(Path::new(directory)),
         ["differential", count, seed] => differential(number(count)? as usize, number(seed)?),
+        ["between", file] => between::compare(Path::new(file)),
+        ["between"] => {
+            between::time();
+            Ok(true)
+        }
         ["heapverdict"] => {
             let mut input = Vec::new();
             std::io::stdin().take(reference::INPUT_BYTES as u64).read_to_end(&mut input).map_err(|e| e.to_string())?;

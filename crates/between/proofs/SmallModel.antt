@@ -23,6 +23,7 @@ use Rattle.logic.proofs.Soundness.Value.{Below, accepted-below, value-variable,
 use Rattle.logic.proofs.Completeness.Placed.{Stands, placeOf-mem, placeOf-range, placeOf-injective, getD-mem, length-from}
 use Rattle.between.specs.Meaning.{BetweenLiteral, BetweenQuery, Between, MeetsBetween}
 use Rattle.between.proofs.Until.{Until, here, on, Nothing, reaches-until, between-until}
+use Rattle.between.proofs.Firsts.{firsts, firsts-has, firsts-all, firsts-short}
 use Rattle.between.proofs.FirstVisit.{First, found, hop, hop-first, hop-chosen, links-hops, hops-links}
 
 -- Following f and f′ alike, where e carries one to the other and makes no two of the nodes S one.
@@ -65,8 +66,8 @@ module _ (q : Query) (ok : Accepted q) (h : Heap) (is : IsHeap h) where
   val = value h (q .entries)
 
   -- the nodes that the terms name
-  named : List ℕ
-  named = orOne (map val (terms (termCount q)))
+  pub named : List ℕ
+  named = orOne (firsts val (termCount q))
 
   chosen : ℕ → Bool
   chosen v = any (eqb v) named
@@ -82,12 +83,12 @@ module _ (q : Query) (ok : Accepted q) (h : Heap) (is : IsHeap h) where
   named-node : (v : ℕ) → List·Memᴰ v named → Node h v
   unfolding named
   named-node v m =
-      orOne-all (Node h) (omega arith, is .nonempty) (map val (terms (termCount q)))
-      (λ x k. let r = map-mem val x (terms (termCount q)) k in subst (Node h) (sym (r .2)) (value-node h (q .entries) is (r .0))) v m
+      orOne-all (Node h) (omega arith, is .nonempty) (firsts val (termCount q))
+      (firsts-all val (Node h) (termCount q) (λ u a b. value-node h (q .entries) is u)) v m
 
   term-named : (t : ℕ) → (1 ≤ t) × (t ≤ termCount q) → List·Memᴰ (val t) named
-  unfolding named terms
-  term-named t r = orOne-keeps (map val (terms (termCount q))) (val t) (map-intro val t (from-intro (termCount q) 1 t (r .0) (omega arith)))
+  unfolding named
+  term-named t r = orOne-keeps (firsts val (termCount q)) (val t) (firsts-has val (termCount q) t (r .0) (r .1))
 
   abbrev place : ℕ → ℕ
   place v = placeOf v named
@@ -132,7 +133,7 @@ module _ (q : Query) (ok : Accepted q) (h : Heap) (is : IsHeap h) where
 
   some-named : 1 ≤ length named
   unfolding named
-  some-named = orOne-some (map val (terms (termCount q)))
+  some-named = orOne-some (firsts val (termCount q))
 
   variable-place : (t : ℕ) → (1 ≤ t) × (t ≤ termCount q) → small .variable t ≡ place (val t)
   unfolding small
@@ -164,7 +165,7 @@ module _ (q : Query) (ok : Accepted q) (h : Heap) (is : IsHeap h) where
       go t false c = (omega arith, some-named)
 
   -- a term's node is the place of the node that it named
-  small-value : (t : ℕ) → (1 ≤ t) × (t ≤ termCount q) → value small (q .entries) t ≡ place (val t)
+  pub small-value : (t : ℕ) → (1 ≤ t) × (t ≤ termCount q) → value small (q .entries) t ≡ place (val t)
   small-value t r = go t t r (omega arith)
     where
       go : (k t : ℕ) → (1 ≤ t) × (t ≤ termCount q) → t ≤ k → value small (q .entries) t ≡ place (val t)
@@ -258,7 +259,11 @@ module _ (q : Query) (ok : Accepted q) (h : Heap) (is : IsHeap h) where
   unfolding small
   same-boolean j = refl
 
-  pub small-size : small .size ≡ length (orOne (map val (terms (termCount q))))
+  pub small-named : named ≡ orOne (firsts val (termCount q))
+  unfolding named
+  small-named = refl
+
+  pub small-size : small .size ≡ length (orOne (firsts val (termCount q)))
   unfolding small named
   small-size = refl
 
@@ -288,18 +293,19 @@ small-meets q ok h m =
       betweens = λ l k. let r = ok .between-terms l k in signed-same (l .plain) (same-between b acc h is (l .from) (l .middle) (l .to) (r .0) (r .1) (r .2)) (m .betweens l k);
     }
 
--- THE SMALL-MODEL THEOREM: a query that some finite heap meets is met by one of just as many nodes as it has terms, or of one node if it
--- has none.
+-- THE SMALL-MODEL THEOREM: a query that some finite heap meets is met by one of no more nodes than it has terms, or of one node if it has
+-- none.
 abbrev pub nodesFor : ℕ → ℕ
 nodesFor n = length (orOne (from n 1))
 
-orOne-length : (f : ℕ → ℕ) (xs : List ℕ) → length (orOne (map f xs)) ≡ length (orOne xs)
-unfolding orOne
-orOne-length f [] = refl
-orOne-length f (x ∷ xs) = ap suc (length-map xs f)
+orOne-short : (xs : List ℕ) (n : ℕ) → length xs ≤ n → length (orOne xs) ≤ nodesFor n
+unfolding orOne from
+orOne-short [] zero h = omega arith
+orOne-short [] (suc n) h = omega arith
+orOne-short (x ∷ xs) zero h = absurd (omega arith)
+orOne-short (x ∷ xs) (suc n) h = omega (arith, length-from n 2)
 
-pub small-model : (q : BetweenQuery) → AcceptedBetween q → (h : Heap) → MeetsBetween h q → (h′ : Heap) × MeetsBetween h′ q × (h′ .size ≡ nodesFor (termCount (q .base)))
-unfolding terms
+pub small-model : (q : BetweenQuery) → AcceptedBetween q → (h : Heap) → MeetsBetween h q → (h′ : Heap) × MeetsBetween h′ q × (h′ .size ≤ nodesFor (termCount (q .base)))
 small-model q ok h m =
     let s : Heap = small (q .base) (ok .base) h (m .meets .is-heap) in
-    (s, small-meets q ok h m, small-size (q .base) (ok .base) h (m .meets .is-heap) ∙ orOne-length (value h (q .base .entries)) (from (termCount (q .base)) 1))
+    (s, small-meets q ok h m, subst (λ (k : ℕ). k ≤ nodesFor (termCount (q .base))) (sym (small-size (q .base) (ok .base) h (m .meets .is-heap))) (orOne-short (firsts (value h (q .base .entries)) (termCount (q .base))) (termCount (q .base)) (firsts-short (value h (q .base .entries)) (termCount (q .base)))))

@@ -1,0 +1,16 @@
+pub mod Samples
+pub mod Seek
+pub mod StepCounts
+pub mod Due
+pub mod Alike
+pub mod Tested
+pub mod Growing
+pub mod Sound
+pub mod Complete
+pub mod Searching
+pub mod Sizes
+pub mod Report
+pub mod Accepted
+pub mod Layouts
+pub mod SixLayout
+pub mod Promised

@@ -1,0 +1,141 @@
+-- The report of what is found: where its bytes stand, and the heap that they show.
+use Prim.Native.Nat.{ℕ, zero, suc, _+_, _-_, _≤_, _<_}
+use native.Mathlib.Omega.{arith}
+use mathlib.Core.Path.{_≡_, refl, sym, ap, ap₂, _∙_, subst}
+use mathlib.Core.Logic.{⊎-elim}
+use mathlib.Core.Bool.{Bool, true, false, _&&_}
+use mathlib.Core.List.{List, [], _∷_, _++_, map, append-assoc}
+use lib.ListN.{length, getD, replicate, length-append, length-map, List·getD-append}
+use lib.Seq.{getD-append-add}
+use lib.Dec.{eqb}
+use Rattle.logic.specs.Search.{_and_, from, any}
+use Rattle.logic.specs.Query.{Literal, termCount}
+use Rattle.logic.specs.Facts.{terms}
+use Rattle.logic.specs.Heap.{IsHeap}
+use Rattle.logic.specs.Shown.{byteOf, bitOf, booleanByte, sizeIn, heapIn, nodeIn}
+use Rattle.logic.specs.Calls.{padded}
+use Rattle.logic.proofs.Completeness.Placed.{length-from, getD-from}
+use Rattle.logic.proofs.Completeness.Byte.{byte-bit}
+use Rattle.logic.proofs.Completeness.ReportBytes.{Laid}
+use Rattle.logic.proofs.Completeness.ReportHeap.{heap-link, heap-field, heap-boolean, heap-listed, node-listed, is-heap}
+use Rattle.between.specs.Meaning.{BetweenQuery}
+use Rattle.between_search.specs.Search.{Found, entry, dataByte, reportOf}
+use Rattle.between_search.proofs.Due.{any-alike}
+
+-- the elements of a list that is made from 1 to k
+listed-size : (f : ℕ → ℕ) (k : ℕ) → length (map f (terms k)) ≡ k
+unfolding terms
+listed-size f k = length-map (from k 1) f ∙ length-from k 1
+
+listed-each : (f : ℕ → ℕ) (k i : ℕ) → i < k → getD (map f (terms k)) i 0 ≡ f (suc i)
+unfolding terms
+listed-each f k i h = go (from k 1) i (omega (arith, length-from k 1)) ∙ ap f (let e = getD-from k 1 i h in e ∙ plus)
+  where
+    plus : 1 + i ≡ suc i
+    plus = omega arith
+
+    go : (xs : List ℕ) (i : ℕ) → i < length xs → getD (map f xs) i 0 ≡ f (getD xs i 0)
+    go [] i h = absurd (omega arith)
+    go (x ∷ xs) zero h = refl
+    go (x ∷ xs) (suc i) h = go xs i (omega arith)
+
+past : (xs ys : List ℕ) (i k : ℕ) → k ≡ length xs + i → getD (xs ++ ys) k 0 ≡ getD ys i 0
+past xs ys i k e = ap (λ (j : ℕ). getD (xs ++ ys) j 0) e ∙ getD-append-add xs ys i 0
+
+module _ (m n flags : ℕ) (link node datum : ℕ → ℕ) (rest : List ℕ) where
+  abbrev behind-data : List ℕ
+  behind-data = 1 ∷ flags ∷ rest
+
+  abbrev behind-nodes : List ℕ
+  behind-nodes = (m ∷ map datum (terms m)) ++ behind-data
+
+  abbrev behind-links : List ℕ
+  behind-links = (n ∷ map node (terms n)) ++ behind-nodes
+
+  abbrev bytes : List ℕ
+  bytes = (m ∷ map link (terms m)) ++ behind-links
+
+  past-links : (i k : ℕ) → k ≡ m + 1 + i → getD bytes k 0 ≡ getD behind-links i 0
+  past-links i k e = past (m ∷ map link (terms m)) behind-links i k (omega (arith, listed-size link m))
+
+  past-nodes : (i k : ℕ) → k ≡ m + n + 2 + i → getD bytes k 0 ≡ getD behind-nodes i 0
+  past-nodes i k e = past-links (n + 1 + i) k (omega arith) ∙ past (n ∷ map node (terms n)) behind-nodes i (n + 1 + i) (omega (arith, listed-size node n))
+
+  past-data : (i k : ℕ) → k ≡ m + n + m + 3 + i → getD bytes k 0 ≡ getD behind-data i 0
+  past-data i k e = past-nodes (m + 1 + i) k (omega arith) ∙ past (m ∷ map datum (terms m)) behind-data i (m + 1 + i) (omega (arith, listed-size datum m))
+
+  pub laid : Laid bytes m n (λ i. link (suc i)) (λ i. node (suc i)) (λ i. datum (suc i)) flags rest
+  laid =
+      record {
+        total = simp length-append (omega (arith, listed-size link m, listed-size node n, listed-size datum m));
+        size-at = refl;
+        link-at = λ i h. List·getD-append (map link (terms m)) behind-links 0 i (omega (arith, listed-size link m)) ∙ listed-each link m i h;
+        count-at = past-links 0 (m + 1) (omega arith);
+        node-at = λ i h. past-links (suc i) (m + 2 + i) (omega arith) ∙ List·getD-append (map node (terms n)) behind-nodes 0 i (omega (arith, listed-size node n)) ∙ listed-each node n i h;
+        third-at = past-nodes 0 (m + n + 2) (omega arith);
+        datum-at = λ i h. past-nodes (suc i) (m + n + 3 + i) (omega arith) ∙ List·getD-append (map datum (terms m)) behind-data 0 i (omega (arith, listed-size datum m)) ∙ listed-each datum m i h;
+        fourth-at = past-data 0 (m + n + m + 3) (omega arith);
+        flags-at = past-data 1 (m + n + m + 4) (omega arith);
+        past-at = λ i. past-data (suc (suc i)) (m + n + m + 5 + i) (omega arith);
+      }
+
+regroup : (ls ns ds es rest : List ℕ) → (ls ++ (ns ++ (ds ++ es))) ++ rest ≡ ls ++ (ns ++ (ds ++ (es ++ rest)))
+regroup ls ns ds es rest = simp append-assoc
+
+module _ (q : BetweenQuery) (c : Found) (room m : ℕ) (size : entry (c .links) 0 ≡ m) where
+  abbrev n : ℕ
+  n = termCount (q .base)
+
+  abbrev link : ℕ → ℕ
+  link = entry (c .links)
+
+  abbrev node : ℕ → ℕ
+  node = entry (c .nodes)
+
+  abbrev datum : ℕ → ℕ
+  datum = dataByte (q .base .fields) node
+
+  abbrev rest : List ℕ
+  rest = replicate (room - length (reportOf q c)) 0
+
+  abbrev shown : List ℕ
+  shown = padded room (reportOf q c)
+
+  pub report-laid : Laid shown m n (λ i. link (suc i)) (λ i. node (suc i)) (λ i. datum (suc i)) (booleanByte (q .base)) rest
+  unfolding reportOf padded
+  report-laid =
+      subst (λ (k : ℕ). Laid shown k n (λ i. link (suc i)) (λ i. node (suc i)) (λ i. datum (suc i)) (booleanByte (q .base)) rest) size
+      (rw (regroup (entry (c .links) 0 ∷ map link (terms (entry (c .links) 0))) (n ∷ map node (terms n)) (entry (c .links) 0 ∷ map datum (terms (entry (c .links) 0))) (1 ∷ booleanByte (q .base) ∷ []) (replicate (room - length (reportOf q c)) 0))
+      (laid (entry (c .links) 0) n (booleanByte (q .base)) link node datum (replicate (room - length (reportOf q c)) 0)))
+
+  pub shown-size : heapIn shown .size ≡ m
+  unfolding heapIn sizeIn
+  shown-size = report-laid .size-at
+
+  pub shown-link : (v : ℕ) → (1 ≤ v) × (v ≤ m) → heapIn shown .link v ≡ link v
+  shown-link zero r = absurd (omega (arith, r .0))
+  shown-link (suc i) r = heap-link report-laid i (r .1)
+
+  pub shown-variable : (t : ℕ) → 1 ≤ t → t ≤ n → heapIn shown .variable t ≡ node t
+  shown-variable zero a b = absurd (omega arith)
+  shown-variable (suc i) a b = heap-listed report-laid i b
+
+  pub shown-node : (t : ℕ) → 1 ≤ t → t ≤ n → nodeIn shown t ≡ node t
+  shown-node zero a b = absurd (omega arith)
+  shown-node (suc i) a b = node-listed report-laid i b
+
+  pub shown-is : 1 ≤ m → ((v : ℕ) → (1 ≤ v) × (v ≤ m) → (1 ≤ link v) × (link v ≤ m)) → ((t : ℕ) → 1 ≤ t → t ≤ n → (1 ≤ node t) × (node t ≤ m)) → IsHeap (heapIn shown)
+  shown-is one links nodes = is-heap report-laid one (λ i h. links (suc i) (omega arith, h)) (λ i h. nodes (suc i) (omega arith) h)
+
+  pub shown-field : (j v : ℕ) → (1 ≤ j) × (j ≤ 8) → (1 ≤ v) × (v ≤ m) → heapIn shown .field j v ≡ any (λ k. k .plain && eqb (k .left) j && eqb (node (k .right)) v) (q .base .fields)
+  unfolding dataByte
+  shown-field j zero r s = absurd (omega (arith, s .0))
+  shown-field j (suc i) r s = heap-field report-laid i j (s .1) ∙ byte-bit (λ x. any (λ k. k .plain && eqb (k .left) x && eqb (node (k .right)) (suc i)) (q .base .fields)) j (r .0) (r .1)
+
+  pub shown-boolean : (j : ℕ) → (1 ≤ j) × (j ≤ 8) → heapIn shown .boolean j ≡ any (λ k. k .plain && eqb (k .left) j) (q .base .booleans)
+  unfolding booleanByte _and_
+  shown-boolean j r = heap-boolean report-laid j ∙ byte-bit (λ x. any (λ l. l .plain and eqb (l .left) x) (q .base .booleans)) j (r .0) (r .1) ∙ any-alike _ _ (q .base .booleans) (λ l m. same (l .plain) (eqb (l .left) j))
+    where
+      same : (a b : Bool) → a and b ≡ a && b
+      same true b = refl
+      same false b = refl

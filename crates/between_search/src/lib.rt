@@ -1,0 +1,1 @@
+// The search for the first small heap: definitions and theory.

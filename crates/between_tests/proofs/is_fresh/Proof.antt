@@ -1,0 +1,43 @@
+-- What is left of the lower terms answers for all. Assumes nothing.
+use Prim.Native.Nat.{ℕ, _+_, _-_, _*_, _≤_, _<_}
+use native.Mathlib.Omega.{arith}
+use borrow.Author.Needs.{needs}
+use borrow.Author.Tests.{not-true, not-false, eq-eqb, ne-eqb}
+use mathlib.Core.Path.{_≡_, refl, sym, ap, ap₂, _∙_}
+use mathlib.Core.Bool.{Bool, true, false, not, _&&_, _||_}
+use lib.Dec.{eqb}
+use Rattle.between_tests.proofs.is_fresh.Statement.{statement}
+use Rattle.between_tests.proofs.is_fresh.Tie as tie
+use Rattle.logic.specs.Search.{from, any}
+use Rattle.report.proofs.Loops.{any-end, any-here, any-next}
+use Rattle.between_search.specs.Search.{entry}
+use Rattle.between_tests.proofs.Laws.{fresh-is}
+
+abbrev Inv-loop : tie.InvT-loop
+Inv-loop nodes v end u₀ u = any (λ x. eqb (entry nodes x) (v .0)) (from (end - 1) 1) ≡ any (λ x. eqb (entry nodes x) (v .0)) (from (end - u) u)
+
+abbrev μ-loop : tie.MeasureT-loop
+μ-loop nodes v end u₀ u = end - u
+
+pub is-fresh-spec : {M : Type 1} → statement M
+is-fresh-spec =
+    tie.close
+    (tie.spec
+    Inv-loop
+    μ-loop
+    -- node-of-requires
+    (λ c κs. omega arith)
+    -- loop-holds
+    (λ c. refl)
+    -- node-of-requires-2
+    (λ c κs. omega (arith, c .before .before .before .pre .1, c .loop-test .taken))
+    -- returns
+    (λ c. fresh-is _ _ _ true (c .before .before .before .before .before .before .node-of .ensures) (c .before .before .before .before .before .loop .inv ∙ any-here _ _ _ (c .before .before .before .before .loop-test .taken) (eq-eqb _ _ (sym (c .before .before .before .node-of2 .ensures) ∙ c .if1 .taken))))
+    -- add-u
+    (λ c. omega arith)
+    -- loop-less
+    (λ c. omega arith)
+    -- loop-again
+    (λ c. c .before .before .before .before .before .loop .inv ∙ any-next _ _ _ (c .before .before .before .before .loop-test .taken) (ne-eqb _ _ (λ e. c .if1 .left (c .before .before .before .node-of2 .ensures ∙ e))))
+    -- returns-2
+    (λ c. fresh-is _ _ _ false (c .before .before .node-of .ensures) (c .before .loop .inv ∙ any-end _ _ _ (c .loop-test .left))))

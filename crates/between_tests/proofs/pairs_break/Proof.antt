@@ -1,0 +1,45 @@
+-- What is left of the literals answers for all. Assumes nothing.
+use Prim.Native.Nat.{ℕ, _+_, _-_, _*_, _≤_, _<_}
+use native.Mathlib.Omega.{arith}
+use borrow.Author.Needs.{needs}
+use borrow.Author.Tests.{not-true, not-false, eq-eqb, ne-eqb}
+use mathlib.Core.Path.{_≡_, refl, sym, ap, ap₂, _∙_}
+use mathlib.Core.Bool.{Bool, true, false, not, _&&_, _||_}
+use lib.Dec.{eqb}
+use Rattle.between_tests.proofs.pairs_break.Statement.{statement}
+use Rattle.between_tests.proofs.pairs_break.Tie as tie
+use Rattle.logic.specs.Search.{any}
+use Rattle.query.specs.LaysOut.{literalIn}
+use Rattle.query.proofs.Literals.{listed, any-listed-end, any-listed-here, any-listed-next}
+use Rattle.between_search.specs.Tests.{pairBreaks}
+use Rattle.between_search.specs.Search.{entry}
+use Rattle.between_tests.specs.Tables.{Stepped, literalsIn}
+use Rattle.between_tests.proofs.Laws.{literals-begin}
+
+abbrev Inv-loop : tie.InvT-loop
+Inv-loop query at count most table nodes t i₀ i =
+    (link : ℕ → ℕ) → Stepped table link → any (pairBreaks link (entry nodes) most (t .0)) (literalsIn query at count) ≡ any (pairBreaks link (entry nodes) most (t .0)) (listed (literalIn query at) count i)
+
+abbrev μ-loop : tie.MeasureT-loop
+μ-loop query at count most table nodes t i₀ i = count - i
+
+pub pairs-break-spec : {M : Type 1} → statement M
+pairs-break-spec =
+    tie.close
+    (tie.spec
+    Inv-loop
+    μ-loop
+    -- loop-holds
+    (λ c link s. literals-begin _ _ _ (c .before .pre .0) _)
+    -- pair-breaks-requires
+    (λ c κs. (omega (arith, c .before .before .before .pre .0, c .loop-test .taken), c .before .before .before .pre .1, c .before .before .before .pre .2))
+    -- returns
+    (λ c link s. sym (c .before .before .before .loop .inv link s ∙ any-listed-here _ _ _ _ (c .before .before .loop-test .taken) (sym (c .before .pair-breaks .ensures link s) ∙ c .if1 .taken)))
+    -- add-i
+    (λ c. omega arith)
+    -- loop-less
+    (λ c. omega arith)
+    -- loop-again
+    (λ c link s. c .before .before .before .loop .inv link s ∙ any-listed-next _ _ _ _ (c .before .before .loop-test .taken) (sym (c .before .pair-breaks .ensures link s) ∙ c .if1 .left))
+    -- returns-2
+    (λ c link s. sym (c .before .loop .inv link s ∙ any-listed-end _ _ _ _ (c .loop-test .left))))

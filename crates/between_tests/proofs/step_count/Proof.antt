@@ -1,0 +1,41 @@
+-- What is counted and what is left make the whole. Assumes nothing.
+use Prim.Native.Nat.{ℕ, _+_, _-_, _*_, _≤_, _<_}
+use native.Mathlib.Omega.{arith}
+use borrow.Author.Needs.{needs}
+use borrow.Author.Tests.{not-true, not-false, eq-eqb, ne-eqb}
+use mathlib.Core.Path.{_≡_, refl, sym, ap, ap₂, _∙_}
+use mathlib.Core.Bool.{Bool, true, false, not, _&&_, _||_}
+use lib.Dec.{eqb}
+use Rattle.between_tests.proofs.step_count.Statement.{statement}
+use Rattle.between_tests.proofs.step_count.Tie as tie
+use Rattle.between_search.specs.Tests.{stepCount, steps}
+use Rattle.between_search.specs.Search.{entry}
+use Rattle.between_tests.specs.Tables.{Small}
+use Rattle.between_tests.proofs.Laws.{steps-begin, steps-here, steps-next, steps-end}
+
+abbrev Inv-loop : tie.InvT-loop
+Inv-loop links w at₀ k₀ at k = (k ≤ 6) × (at .0 ≤ 5) × (steps (entry links) (at₀ .0) (w .0) ≡ k + stepCount (entry links) (6 - k) (at .0) (w .0))
+
+abbrev μ-loop : tie.MeasureT-loop
+μ-loop links w at₀ k₀ at k = 6 - k
+
+pub step-count-spec : {M : Type 1} → statement M
+step-count-spec =
+    tie.close
+    (tie.spec
+    Inv-loop
+    μ-loop
+    -- loop-holds
+    (λ c. (omega arith, c .pre .1, steps-begin _ _ _))
+    -- returns
+    (λ c. (sym (c .before .before .before .before .loop .inv .2 ∙ steps-here _ _ _ _ (c .before .before .before .loop-test .taken) (c .if1 .taken)), omega arith))
+    -- link-of-requires
+    (λ c κs. omega (arith, c .before .before .before .before .loop .inv .1))
+    -- add-k
+    (λ c. omega arith)
+    -- loop-less
+    (λ c. omega arith)
+    -- loop-again
+    (λ c. (omega arith, rw (c .link-of .ensures) (c .before .before .before .before .before .before .pre .0 (c .before .before .before .before .before .loop .at .0)), c .before .before .before .before .before .loop .inv .2 ∙ steps-next _ _ _ _ _ (c .before .before .before .before .loop-test .taken) (c .before .if1 .left) (c .link-of .ensures)))
+    -- returns-2
+    (λ c. (sym (c .before .loop .inv .2 ∙ steps-end _ _ _ _ (c .loop-test .left) (c .before .loop .inv .0)), omega arith)))

@@ -1,0 +1,42 @@
+-- The count of the terms before. Assumes nothing.
+use Prim.Native.Nat.{ℕ, _+_, _-_, _*_, _/_, _%_, _≤_, _<_}
+use native.Mathlib.Omega.{arith}
+use borrow.Author.Needs.{needs}
+use borrow.Author.Tests.{not-true, not-false, eq-eqb, ne-eqb}
+use mathlib.Core.Path.{_≡_, refl, sym, ap, ap₂, _∙_}
+use mathlib.Core.Bool.{Bool, true, false, not, cond, _&&_, _||_}
+use lib.Dec.{eqb}
+use Rattle.between_tests.proofs.used.Statement.{statement}
+use Rattle.between_tests.proofs.used.Tie as tie
+use Rattle.between_search.specs.Tests.{used, isFresh}
+use Rattle.between_search.specs.Search.{entry}
+use Rattle.between_tests.proofs.Laws.{used-none, used-more}
+
+abbrev Inv-loop : tie.InvT-loop
+Inv-loop nodes end count₀ u₀ count u = (u ≤ end) × (count ≤ u) × (count ≡ used (entry nodes) u)
+
+abbrev μ-loop : tie.MeasureT-loop
+μ-loop nodes end count₀ u₀ count u = end - u
+
+pub used-spec : {M : Type 1} → statement M
+used-spec =
+    tie.close
+    (tie.spec
+    Inv-loop
+    μ-loop
+    -- loop-holds
+    (λ c. (omega arith, omega arith, used-none _))
+    -- add-u
+    (λ c. omega arith)
+    -- is-fresh-requires
+    (λ c κs. (omega arith, omega (arith, c .before .before .pre, c .loop-test .taken)))
+    -- one-requires
+    (λ c κs. search needs)
+    -- add-count
+    (λ c. omega (arith, c .one .ensures .1, c .before .before .before .loop .inv .1, c .before .before .before .loop .inv .0, c .before .before .before .before .pre))
+    -- loop-less
+    (λ c. omega (arith, c .before .before .loop-test .taken))
+    -- loop-again
+    (λ c. (omega (arith, c .before .before .loop-test .taken), omega (arith, c .one .ensures .1, c .before .before .before .loop .inv .1), used-more _ _ _ _ (c .before .before .before .loop .inv .2) (c .one .ensures .0 ∙ ap (λ (b : Bool). cond b 1 0) (c .before .is-fresh .ensures))))
+    -- returns
+    (λ c. let e : c .before .loop .u ≡ c .before .before .args .t .0 = omega (arith, c .before .loop .inv .0, c .loop-test .left) in (c .before .loop .inv .2 ∙ ap (used (entry (c .before .before .args .nodes .now))) e, omega (arith, c .before .loop .inv .0, c .before .loop .inv .1, c .before .before .pre))))
