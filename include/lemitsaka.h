@@ -65,6 +65,10 @@ extern "C" {
  *   14  the lent bytes are too few (the call says how many are enough)
  *   15  a precedence sheet has the wrong length or count
  *   16  a rule number of a sheet is not 1 to 8
+ *   20  a derivation to check is not 2 plus 4 times its count long, or its count is above 16,000
+ *   23  a pair list has the wrong length or count, or a term that its query lacks
+ *   24  the joined query passes a limit, or the lent bytes are too few for it
+ *   25  the line does not begin with 9, or names no literal of either query
  *
  * There is no 10. The place is 0 for 1 and from 9 on. */
 static inline unsigned lemitsaka_refusal(uint64_t answer)
@@ -122,6 +126,41 @@ uint64_t lemitsaka_dot(const uint8_t *report, size_t report_len,
  * Bytes past the eighth are zero. */
 uint64_t lemitsaka_order(const uint8_t *sheet, size_t sheet_len,
                          uint8_t *order, size_t order_len);
+
+/* Is this a derivation, whoever wrote it?
+ *
+ * The lines are a full tree for the query: each rule line applies where it stands, its branches are all there in order, the
+ * lines of joins are those that lemitsaka_derivation writes, each path ends in a true clash as soon as one stands, and
+ * nothing follows. Then no heap of any size meets every literal of the query.
+ *
+ *   0          accepted
+ *   1 to 16001 the number of the first wrong line; one more than the count of lines if they run out
+ *   refused    2 to 8 of the query, then 20; at 0 */
+uint64_t lemitsaka_check(const uint8_t *query, size_t query_len,
+                         const uint8_t *derivation, size_t derivation_len);
+
+/* What do two teams say together?
+ *
+ * One query of two: in each section the first's entries, then the second's with its term numbers raised, then an equality for
+ * each pair. A pair list: a count of 0 to 60 and that many pairs, a term of the first query and a term of the second. All
+ * nil terms of both are one. The answer is the length of the query written, with zeros past it.
+ *
+ *   refused   2 to 8 of the first query; 2 to 8 of the second, with LEMITSAKA_SECOND added; then 23 and 24, at 0 */
+#define LEMITSAKA_SECOND 4294967296u
+uint64_t lemitsaka_join(const uint8_t *first, size_t first_len,
+                        const uint8_t *second, size_t second_len,
+                        const uint8_t *pairs, size_t pairs_len,
+                        uint8_t *query, size_t query_len);
+
+/* Whose literal does a clash line of the joined query name?
+ *
+ * The answer is 65,536 times the offset of the literal's own bytes in the first query, plus their length; for the second query
+ * LEMITSAKA_SECOND is added. From LEMITSAKA_NO_PART on the call was refused: LEMITSAKA_NO_PART is added to what
+ * lemitsaka_refusal and lemitsaka_place take apart: 2 to 8 of the first query, of the second, then 25. */
+#define LEMITSAKA_NO_PART 1099511627776u
+uint64_t lemitsaka_hand_back(const uint8_t *first, size_t first_len,
+                             const uint8_t *second, size_t second_len,
+                             const uint8_t *line, size_t line_len);
 
 #ifdef __cplusplus
 }
