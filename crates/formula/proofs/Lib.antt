@@ -1,0 +1,5 @@
+pub mod Marks
+pub mod Scan
+pub mod Reading
+pub mod Complete
+pub mod Contexts
