@@ -33,4 +33,4 @@ abbrev pub Pickable : List ℕ → ℕ → ℕ → Type 0
 Pickable nodes i k = (f : Formula) × Picks nodes i k f
 
 abbrev pub Picked : List ℕ → ℕ → ℕ → List Bool → List Bool → Type 0
-Picked nodes i k before after = (f : Formula) → Picks nodes i k f → Marks before (getD (expand f) k []) after
+Picked nodes i k before after = (length after ≡ length before) × ((f : Formula) → Picks nodes i k f → Marks before (getD (expand f) k []) after)

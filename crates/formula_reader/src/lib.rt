@@ -318,7 +318,7 @@ pub fn read_text(text: &[u8], counts: &[usize; 4], nodes: &mut [usize; 2048]) ->
 
 // The literals of conjunction k, counted from 0, of the formula at node i: "an and varies its right side fastest".
 pub fn mark_literals(nodes: &[usize; 2048], i: usize, k: usize, marks: &mut [bool; 256])
-    requires { ⌜ Pickable (now nodes) i k ⌝ }
+    requires { ⌜ Pickable (now nodes) i k × (length (now marks) ≡ 256) ⌝ }
     ensures { λ _. ⌜ Picked (now (nodes .entry)) i k (now (marks .entry)) (now (marks .exit)) ⌝ }
 {
     let kind = nodes[4 * i];
