@@ -79,7 +79,7 @@ Wanting d t = (u r : List ℕ) (f : Formula) → Reads disjunction u f → Follo
 abbrev pub Ended : ℕ → List ℕ → Type 0
 Ended d t = (r : List ℕ) → Follows d r → Text (t ++ r)
 
-textual : {a b : List ℕ} → a ≡ b → Text a → Text b
+pub textual : {a b : List ℕ} → a ≡ b → Text a → Text b
 textual e t = subst Text e t
 
 pub wanting-start : (u r : List ℕ) (f : Formula) → Reads disjunction u f → Follows 0 r → Text (u ++ r)
@@ -106,7 +106,7 @@ Passed (after d) t = Ended d t
 name-text : (l : Letter) (ds : List ℕ) → isPlace ds ≡ true → Reads disjunction (letterByte l ∷ ds) (literal l (shown 0 ds))
 name-text l ds p = subst (λ (w : List ℕ). Reads disjunction (letterByte l ∷ w) (literal l (shown 0 ds))) (append-nil ds) (one-and (one-item (name l [] ds [] (unfold all in refl) p (unfold all in refl))))
 
-name-ended : (d : ℕ) (s : List ℕ) (l : Letter) (ds : List ℕ) → isPlace ds ≡ true → Wanting d s → Ended d (s ++ (letterByte l ∷ ds))
+pub name-ended : (d : ℕ) (s : List ℕ) (l : Letter) (ds : List ℕ) → isPlace ds ≡ true → Wanting d s → Ended d (s ++ (letterByte l ∷ ds))
 name-ended d s l ds p h r z = textual (sym (append-assoc s (letterByte l ∷ ds) r)) (h (letterByte l ∷ ds) r (literal l (shown 0 ds)) (name-text l ds p) z)
 
 closers : (d : ℕ) → (r : List ℕ) × Follows d r

@@ -3,3 +3,4 @@ pub mod Scan
 pub mod Reading
 pub mod Complete
 pub mod Contexts
+pub mod Faults

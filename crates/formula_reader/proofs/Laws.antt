@@ -62,7 +62,7 @@ module _ (text : List ℕ) (i : ℕ) (h : i < length text) where
 
   pub blank-not : (getD text i 0 ≡ 32 → ⊥) → pastBlanks (drop i text) ≡ drop i text
   unfolding pastBlanks
-  blank-not n = ap pastBlanks next-byte ∙ (rw (ne-eqb _ _ n) ) ∙ sym next-byte
+  blank-not n = ap pastBlanks next-byte ∙ (rw (ne-eqb _ _ n)) ∙ sym next-byte
 
   -- Digits
 

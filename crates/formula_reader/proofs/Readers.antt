@@ -130,11 +130,11 @@ module _ (next : Formula → List ℕ → Reading) where
 -- An or over ands, and an and over items
 
 module _ (counts : List ℕ) (left separator : ℕ) (join : Formula → Formula → Formula) (low up : Level)
-  (step : (k : ℕ) (bs : List ℕ) → read (has counts) (suc k) up left bs ≡ andThen (read (has counts) k low left bs) (further separator join (read (has counts) k up left)))
-  (fewer : (n k : ℕ) → calls up n ≤ suc k → calls low n ≤ k)
-  (later : (m n k : ℕ) → m < n → calls low n ≤ k → calls up m ≤ k)
-  (some : (n k : ℕ) → calls up n ≤ k → 1 ≤ k)
-  (text : List ℕ) (at : ℕ) where
+    (step : (k : ℕ) (bs : List ℕ) → read (has counts) (suc k) up left bs ≡ andThen (read (has counts) k low left bs) (further separator join (read (has counts) k up left)))
+    (fewer : (n k : ℕ) → calls up n ≤ suc k → calls low n ≤ k)
+    (later : (m n k : ℕ) → m < n → calls low n ≤ k → calls up m ≤ k)
+    (some : (n k : ℕ) → calls up n ≤ k → 1 ≤ k)
+    (text : List ℕ) (at : ℕ) where
   -- at any number of calls that is enough
   by-step : (r : Found) (nodes : List ℕ) → ((k : ℕ) → calls low (length text - at) ≤ k → FoundAs r text nodes (andThen (read (has counts) k low left (drop at text)) (further separator join (read (has counts) k up left)))) → ReadAs r up text at left counts nodes
   by-step r nodes h zero l = absurd (no (some _ _ l))

@@ -29,7 +29,6 @@ mark-literals-below t =
     (falls 2 mark-literals-kinds.ps _<_ μ-mark-literals t)
     mark-literals.Pre
 
-
 pub +mark-literals-spec : {M : Type 1} → statement M
 +mark-literals-spec = close μ-mark-literals λ t. mark-literals-lts.spec (
   count-at-reads.Asked,

@@ -61,20 +61,19 @@ read-or-at t = and 3 read-or-kinds.ps (is 3 read-or-kinds.ps μ-read-or t) read-
 abbrev read-or-below : ℕ → In 3 read-or-kinds.ps
 read-or-below t = and 3 read-or-kinds.ps (falls 3 read-or-kinds.ps _<_ μ-read-or t) read-or.Pre
 
-
 pub +read-and+read-item+read-or-spec : {M : Type 1} → statement M
 +read-and+read-item+read-or-spec =
     close μ-read-and μ-read-item μ-read-or
     (λ t. read-and-lts.spec (
-  read-item-below t,
-  read-item.Post,
-  stands-reads.Asked,
-  stands-reads.Learnt,
-  read-and-below t,
-  read-and.Post,
-  put-both-reads.Asked,
-  put-both-reads.Learnt,
-)
+      read-item-below t,
+      read-item.Post,
+      stands-reads.Asked,
+      stands-reads.Learnt,
+      read-and-below t,
+      read-and.Post,
+      put-both-reads.Asked,
+      put-both-reads.Learnt,
+    )
     (read-and-at t)
     read-and.Post
     -- read-and-read-item-requires
@@ -125,17 +124,17 @@ pub +read-and+read-item+read-or-spec : {M : Type 1} → statement M
     (grown-joined (c .before .before .before .before .before .before .before .before .before .before .before .before .before .before .before .args .text .now) (c .before .before .before .before .before .before .before .before .before .before .before .before .before .before .before .args .at) (c .before .before .before .before .before .before .before .before .before .before .before .before .before .before .before .args .used) (c .before .before .before .before .before .before .before .before .before .before .next .given .0 .0) (c .before .before .before .before .before .before .before .before .before .before .next .given .0 .1 .0) (c .before .before .before .end .given .0 .0) (c .before .before .before .end .given .0 .1 .0) (c .before .before .before .before .before .before .before .before .before .before .before .before .before .before .before .args .nodes .now) (c .before .before .before .before .before .before .before .before .before .before .before .before .read-item .last .1 .1 .1 .1 .0) (c .before .before .before .before .before .read-and .last .1 .1 .1 .1 .0) (c .put-both .last .0) g h (c .before .before .before .before .before .before .before .before .before .before .before .before .before .before .before .pre .1 .2) (c .before .before .before .before .before .before .before .before .before .before .before .before .before .before .before .pre .1 .1) (c .before .before .before .before .before .before .before .before .before .before .before .before .before .before .before .pre .1 .4) _ _ _ _ (c .put-both .ensures), both-read (c .before .before .before .before .before .before .before .before .before .before .before .before .before .before .before .args .counts .now) (c .before .before .before .before .before .before .before .before .before .before .before .before .before .before .before .args .left) 38 both item conjunction (and-step (c .before .before .before .before .before .before .before .before .before .before .before .before .before .before .before .args .counts .now) (c .before .before .before .before .before .before .before .before .before .before .before .before .before .before .before .args .left)) and-fewer and-later and-some (c .before .before .before .before .before .before .before .before .before .before .before .before .before .before .before .args .text .now) (c .before .before .before .before .before .before .before .before .before .before .before .before .before .before .before .args .at) (c .before .before .before .before .before .before .before .before .before .before .next .given .0 .0) (c .before .before .before .before .before .before .before .before .before .before .next .given .0 .1 .0) (c .before .before .before .before .before .before .before .before .before .before .before .before .read-item .last .1 .1 .1 .1 .0) (subst (λ (r : Found). ReadAs r item (c .before .before .before .before .before .before .before .before .before .before .before .before .before .before .before .args .text .now) (c .before .before .before .before .before .before .before .before .before .before .before .before .before .before .before .args .at) (c .before .before .before .before .before .before .before .before .before .before .before .before .before .before .before .args .left) (c .before .before .before .before .before .before .before .before .before .before .before .before .before .before .before .args .counts .now) (c .before .before .before .before .before .before .before .before .before .before .before .before .read-item .last .1 .1 .1 .1 .0)) (c .before .before .before .before .before .before .before .before .before .before .next .given .1) (c .before .before .before .before .before .before .before .before .before .before .before .before .read-item .ensures .1)) (sym (c .before .before .before .before .before .before .before .before .stands .ensures) ∙ not-false _ (c .before .before .before .before .before .before .before .if1 .left)) (g .advanced) (c .before .before .before .end .given .0 .0) (c .before .before .before .end .given .0 .1 .0) (c .before .before .before .before .before .read-and .last .1 .1 .1 .1 .0) (c .put-both .last .0) (subst (λ (r : Found). ReadAs r conjunction (c .before .before .before .before .before .before .before .before .before .before .before .before .before .before .before .args .text .now) ((c .before .before .before .before .before .before .before .before .before .before .next .given .0 .0) + 1) (c .before .before .before .before .before .before .before .before .before .before .before .before .before .before .before .args .left) (c .before .before .before .before .before .before .before .before .before .before .before .before .before .before .before .args .counts .now) (c .before .before .before .before .before .read-and .last .1 .1 .1 .1 .0)) (c .before .before .before .end .given .1) (c .before .before .before .before .before .read-and .ensures .1)) (both-joined (c .before .before .before .before .before .before .before .before .before .before .before .before .before .before .before .args .text .now) (c .before .before .before .before .before .before .before .before .before .before .before .before .before .before .before .args .at) (c .before .before .before .before .before .before .before .before .before .before .before .before .before .before .before .args .used) (c .before .before .before .before .before .before .before .before .before .before .next .given .0 .0) (c .before .before .before .before .before .before .before .before .before .before .next .given .0 .1 .0) (c .before .before .before .end .given .0 .0) (c .before .before .before .end .given .0 .1 .0) (c .before .before .before .before .before .before .before .before .before .before .before .before .before .before .before .args .nodes .now) (c .before .before .before .before .before .before .before .before .before .before .before .before .read-item .last .1 .1 .1 .1 .0) (c .before .before .before .before .before .read-and .last .1 .1 .1 .1 .0) (c .put-both .last .0) g h (c .before .before .before .before .before .before .before .before .before .before .before .before .before .before .before .pre .1 .2) (c .before .before .before .before .before .before .before .before .before .before .before .before .before .before .before .pre .1 .1) (c .before .before .before .before .before .before .before .before .before .before .before .before .before .before .before .pre .1 .4) (c .put-both .ensures))))
     )
     (λ t. read-item-lts.spec (
-  past-blanks-reads.Asked,
-  past-blanks-reads.Learnt,
-  start-of-reads.Asked,
-  start-of-reads.Learnt,
-  read-name-reads.Asked,
-  read-name-reads.Learnt,
-  read-or-below t,
-  read-or.Post,
-  close-item-reads.Asked,
-  close-item-reads.Learnt,
-)
+      past-blanks-reads.Asked,
+      past-blanks-reads.Learnt,
+      start-of-reads.Asked,
+      start-of-reads.Learnt,
+      read-name-reads.Asked,
+      read-name-reads.Learnt,
+      read-or-below t,
+      read-or.Post,
+      close-item-reads.Asked,
+      close-item-reads.Learnt,
+    )
     (read-item-at t)
     read-item.Post
     -- read-item-past-blanks-requires
@@ -180,15 +179,15 @@ pub +read-and+read-item+read-or-spec : {M : Type 1} → statement M
     (λ c. (grown-closed (c .close-item .result) (c .before .before .before .before .before .before .before .before .before .before .before .before .past-blanks .ensures .0) (subst (λ (r : Found). Ranged r (c .before .before .before .before .before .before .before .before .before .before .before .before .before .before .args .text .now) ((c .before .before .before .before .before .before .before .before .before .before .before .before .past-blanks .result) + 1) (c .before .before .before .before .before .before .before .before .before .before .before .before .before .before .args .used) (c .before .before .before .before .before .before .before .before .before .before .before .before .before .before .args .nodes .now) (c .before .before .before .before .read-or .last .1 .1 .1 .1 .0)) (c .before .before .next .given .1) (c .before .before .before .before .read-or .ensures .0)) (c .close-item .ensures), inner-closed (c .before .before .before .before .before .before .before .before .before .before .before .before .before .before .args .text .now) (c .before .before .before .before .before .before .before .before .before .before .before .before .before .before .args .at) (c .before .before .before .before .before .before .before .before .before .before .before .before .before .before .args .left) (c .before .before .before .before .before .before .before .before .before .before .before .before .before .before .args .counts .now) (c .before .before .before .before .before .before .before .before .before .before .before .before .past-blanks .result) (c .before .before .before .before .before .before .before .before .before .before .before .before .past-blanks .ensures .2) (inside (c .before .before .before .before .before .before .before .before .before .before .before .before .past-blanks .ensures .1) (c .before .before .before .before .before .before .before .before .before .before .before .if1 .left)) (subst (λ (s : Start). StartsAs s (mark (getD (c .before .before .before .before .before .before .before .before .before .before .before .before .before .before .args .text .now) (c .before .before .before .before .before .before .before .before .before .before .before .before .past-blanks .result) 0))) (c .before .before .before .before .before .before .before .enum-told2 .given .1) (c .before .before .before .before .before .before .before .before .before .start-of .ensures)) (c .before .before .before .before .before .before .if2 .left) (c .before .before .before .before .before .before .before .before .before .before .before .before .past-blanks .ensures .0) (c .before .before .next .given .0 .0) (c .before .before .next .given .0 .1 .0) (c .close-item .result) (c .before .before .before .before .read-or .last .1 .1 .1 .1 .0) (subst (λ (r : Found). ReadAs r disjunction (c .before .before .before .before .before .before .before .before .before .before .before .before .before .before .args .text .now) ((c .before .before .before .before .before .before .before .before .before .before .before .before .past-blanks .result) + 1) (c .before .before .before .before .before .before .before .before .before .before .before .before .before .before .args .left - 1) (c .before .before .before .before .before .before .before .before .before .before .before .before .before .before .args .counts .now) (c .before .before .before .before .read-or .last .1 .1 .1 .1 .0)) (c .before .before .next .given .1) (c .before .before .before .before .read-or .ensures .1)) (c .close-item .ensures)))
     )
     (λ t. read-or-lts.spec (
-  read-and-below t,
-  read-and.Post,
-  stands-reads.Asked,
-  stands-reads.Learnt,
-  read-or-below t,
-  read-or.Post,
-  put-either-reads.Asked,
-  put-either-reads.Learnt,
-)
+      read-and-below t,
+      read-and.Post,
+      stands-reads.Asked,
+      stands-reads.Learnt,
+      read-or-below t,
+      read-or.Post,
+      put-either-reads.Asked,
+      put-either-reads.Learnt,
+    )
     (read-or-at t)
     read-or.Post
     -- read-or-read-and-requires
