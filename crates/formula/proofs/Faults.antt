@@ -36,13 +36,13 @@ text-clean t (f, x) most l = by (read always (calls disjunction (length t)) disj
 
 -- Moves
 
-not-to : {k : ℕ} {t : State} → Path Move (stop k) (to t) → ⊥
+pub not-to : {k : ℕ} {t : State} → Path Move (stop k) (to t) → ⊥
 not-to e = let z : _≡_ {A = ℕ} 0 1 = cc in omega arith
 
-not-clean : {k : ℕ} {x : List ℕ} → Path Result (fault k x) clean → ⊥
+pub not-clean : {k : ℕ} {x : List ℕ} → Path Result (fault k x) clean → ⊥
 not-clean e = let z : _≡_ {A = ℕ} 0 1 = cc in omega arith
 
-to-same : {s t : State} → Path Move (to s) (to t) → s ≡ t
+pub to-same : {s t : State} → Path Move (to s) (to t) → s ≡ t
 to-same e = cc
 
 stop-same : {j k : ℕ} → Path Move (stop j) (stop k) → j ≡ k

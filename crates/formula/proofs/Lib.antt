@@ -4,3 +4,4 @@ pub mod Reading
 pub mod Complete
 pub mod Contexts
 pub mod Faults
+pub mod FirstFault

@@ -1,3 +1,4 @@
 pub mod Promise
 pub mod PrecedenceCall
 pub mod DotPromise
+pub mod FormulaPromise

@@ -1,5 +1,6 @@
 // Lemitsaka's two calls: a verdict with its heap, and a derivation. Neither asks anything of its caller.
 mod dot_call;
+pub mod formula_call;
 mod precedence_call;
 
 use query::Checked;
