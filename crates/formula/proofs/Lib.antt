@@ -1,0 +1,7 @@
+pub mod Marks
+pub mod Scan
+pub mod Reading
+pub mod Complete
+pub mod Contexts
+pub mod Faults
+pub mod FirstFault

@@ -1,0 +1,6 @@
+pub mod Grammar
+pub mod Expansion
+pub mod Meaning
+pub mod Places
+pub mod Reader
+pub mod Call

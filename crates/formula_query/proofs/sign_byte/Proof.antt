@@ -1,0 +1,16 @@
+-- By cases. Assumes nothing.
+use mathlib.Core.Path.{_≡_, refl, sym, ap}
+use Prim.Native.Nat.{ℕ}
+use borrow.Author.Tests.{eq-eqb, ne-eqb}
+use mathlib.Core.Bool.{Bool, cond}
+use Rattle.formula_query.proofs.sign_byte.Statement.{statement}
+use Rattle.formula_query.proofs.sign_byte.Tie as tie
+
+pub sign-byte-spec : {M : Type 1} → statement M
+sign-byte-spec =
+    tie.close
+    (tie.spec
+    -- returns
+    (λ c. sym (ap (λ (b : Bool). cond b 1 0) (eq-eqb _ _ (c .if1 .taken))))
+    -- returns-2
+    (λ c. sym (ap (λ (b : Bool). cond b 1 0) (ne-eqb _ _ (c .if1 .left)))))

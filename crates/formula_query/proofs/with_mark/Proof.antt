@@ -1,0 +1,18 @@
+-- By cases. Assumes nothing.
+use native.Mathlib.Omega.{arith}
+use mathlib.Core.Path.{_≡_, refl, sym, ap}
+use Prim.Native.Nat.{ℕ, _+_}
+use mathlib.Core.Bool.{Bool, cond}
+use Rattle.formula_query.proofs.with_mark.Statement.{statement}
+use Rattle.formula_query.proofs.with_mark.Tie as tie
+
+pub with-mark-spec : {M : Type 1} → statement M
+with-mark-spec =
+    tie.close
+    (tie.spec
+    -- add-result
+    (λ c. omega arith)
+    -- returns
+    (λ c. ap (λ (b : Bool). cond b (c .before .args .kept + 1) (c .before .args .kept)) (sym (c .if1 .taken)))
+    -- returns-2
+    (λ c. ap (λ (b : Bool). cond b (c .before .args .kept + 1) (c .before .args .kept)) (sym (c .if1 .left))))

@@ -1,0 +1,4 @@
+pub mod Laws
+pub mod Trees
+pub mod Readers
+pub mod Picking

@@ -1,0 +1,38 @@
+-- What is past the digits from i on is past those from the place on. Assumes nothing.
+use Prim.Native.Nat.{_-_, _≤_}
+use native.Mathlib.Omega.{arith}
+use mathlib.Core.Path.{_≡_, refl, sym, _∙_}
+use lib.ListN.{length, drop}
+use Rattle.formula.specs.Places.{pastDigits}
+use Rattle.formula_reader.proofs.Laws.{digit-here, digit-not, digit-end, digit-low, digit-high, digit-in}
+use Rattle.formula_reader.proofs.past_digits.Statement.{statement}
+use Rattle.formula_reader.proofs.past_digits.Tie as tie
+
+abbrev Inv-loop : tie.InvT-loop
+Inv-loop text at i₀ i = (at ≤ i) × (i ≤ length text) × (pastDigits (drop i text) ≡ pastDigits (drop at text))
+
+abbrev μ-loop : tie.MeasureT-loop
+μ-loop text at i₀ i = length text - i
+
+pub past-digits-spec : {M : Type 1} → statement M
+past-digits-spec =
+    tie.close
+    (tie.spec
+    Inv-loop
+    μ-loop
+    -- loop-holds
+    (λ c. (omega arith, c .pre, refl))
+    -- shared-slice-read-b
+    (λ c. omega arith)
+    -- returns
+    (λ c. (c .before .before .before .loop .inv .0, c .before .before .before .loop .inv .1, sym (digit-not _ _ (c .before .before .loop-test .taken) (digit-low _ (c .if1 .taken))) ∙ c .before .before .before .loop .inv .2))
+    -- returns-2
+    (λ c. (c .before .before .before .before .loop .inv .0, c .before .before .before .before .loop .inv .1, sym (digit-not _ _ (c .before .before .before .loop-test .taken) (digit-high _ (c .if2 .taken))) ∙ c .before .before .before .before .loop .inv .2))
+    -- add-i
+    (λ c. omega arith)
+    -- loop-less
+    (λ c. omega arith)
+    -- loop-again
+    (λ c. (omega arith, omega arith, sym (digit-here _ _ (c .before .before .before .loop-test .taken) (digit-in _ (c .before .if1 .left) (c .if2 .left))) ∙ c .before .before .before .before .loop .inv .2))
+    -- returns-3
+    (λ c. (c .before .loop .inv .0, c .before .loop .inv .1, sym (digit-end _ _ (c .loop-test .left)) ∙ c .before .loop .inv .2)))

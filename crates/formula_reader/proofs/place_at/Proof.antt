@@ -1,0 +1,44 @@
+-- The digits from i on, behind the number read so far, show what all of them show. Assumes nothing.
+use Prim.Native.Nat.{ℕ, _+_, _-_, _≤_}
+use native.Mathlib.Omega.{arith}
+use mathlib.Core.Path.{_≡_, refl, sym, ap, _∙_}
+use lib.ListN.{length, drop}
+use lib.Dec.{lit≤}
+use Rattle.formula.specs.Grammar.{shown}
+use Rattle.formula.specs.Places.{digitsAt}
+use Rattle.formula_reader.specs.Answers.{saturated}
+use Rattle.formula_reader.proofs.Laws.{shown-next, shown-end, digits-not, digits-end, digit-low, digit-high, digit-in, saturated-bound}
+use Rattle.formula_reader.proofs.place_at.Statement.{statement}
+use Rattle.formula_reader.proofs.place_at.Tie as tie
+
+abbrev Inv-loop : tie.InvT-loop
+Inv-loop text at v₀ i₀ v i =
+    (v ≤ 100) × (at ≤ i) × (i ≤ length text) × (saturated (shown v (digitsAt (drop i text))) ≡ saturated (shown 0 (digitsAt (drop at text))))
+
+abbrev μ-loop : tie.MeasureT-loop
+μ-loop text at v₀ i₀ v i = length text - i
+
+pub place-at-spec : {M : Type 1} → statement M
+place-at-spec =
+    tie.close
+    (tie.spec
+    Inv-loop
+    μ-loop
+    -- loop-holds
+    (λ c. (omega arith, omega arith, c .before .pre, refl))
+    -- shared-slice-read-b
+    (λ c. omega arith)
+    -- returns
+    (λ c. sym (shown-end (c .before .before .before .before .before .args .text .now) (c .before .before .before .loop .i) (c .before .before .before .loop .v) (digits-not (c .before .before .before .before .before .args .text .now) (c .before .before .before .loop .i) (c .before .before .loop-test .taken) (digit-low _ (c .if1 .taken))) (c .before .before .before .loop .inv .0)) ∙ c .before .before .before .loop .inv .3)
+    -- returns-2
+    (λ c. sym (shown-end (c .before .before .before .before .before .before .args .text .now) (c .before .before .before .before .loop .i) (c .before .before .before .before .loop .v) (digits-not (c .before .before .before .before .before .before .args .text .now) (c .before .before .before .before .loop .i) (c .before .before .before .loop-test .taken) (digit-high _ (c .if2 .taken))) (c .before .before .before .before .loop .inv .0)) ∙ c .before .before .before .before .loop .inv .3)
+    -- with-digit-requires
+    (λ c κs. (c .before .before .before .before .loop .inv .0, c .before .if1 .left, c .if2 .left))
+    -- add-i
+    (λ c. omega arith)
+    -- loop-less
+    (λ c. omega arith)
+    -- loop-again
+    (λ c. (saturated-bound _ (c .with-digit .ensures), omega arith, omega arith, ap (λ (v : ℕ). saturated (shown v (digitsAt (drop (c .before .before .before .before .before .loop .i + 1) (c .before .before .before .before .before .before .before .args .text .now))))) (c .with-digit .ensures) ∙ sym (shown-next (c .before .before .before .before .before .before .before .args .text .now) (c .before .before .before .before .before .loop .i) (c .before .before .before .before .before .loop .v) (c .before .before .before .before .loop-test .taken) (digit-in _ (c .before .before .if1 .left) (c .before .if2 .left))) ∙ c .before .before .before .before .before .loop .inv .3))
+    -- returns-3
+    (λ c. sym (shown-end (c .before .before .before .args .text .now) (c .before .loop .i) (c .before .loop .v) (digits-end (c .before .before .before .args .text .now) (c .before .loop .i) (c .loop-test .left)) (c .before .loop .inv .0)) ∙ c .before .loop .inv .3))

@@ -1,0 +1,33 @@
+-- Counts are at most 65. Assumes nothing.
+use native.Mathlib.Omega.{arith}
+use borrow.Author.Needs.{needs}
+use mathlib.Core.Path.{_≡_, ap, ap₂, _∙_}
+use Prim.Native.Nat.{ℕ, _+_, _*_, _≤_}
+use native.Mathlib.Nat.{mul-le-mul, lt-of-le-of-lt}
+use lib.Dec.{lit<}
+use Rattle.formula_reader.specs.Tree.{putNode, capped}
+use Rattle.formula_reader.proofs.put_either.Statement.{statement}
+use Rattle.formula_reader.proofs.put_either.Tie as tie
+
+pub put-either-spec : {M : Type 1} → statement M
+put-either-spec =
+    tie.close
+    (tie.spec
+    -- count-at-requires
+    (λ c κs. omega arith)
+    -- capped-requires
+    (λ c κs. search needs)
+    -- count-at-requires-2
+    (λ c κs. omega arith)
+    -- capped-requires-2
+    (λ c κs. search needs)
+    -- add-capped
+    (λ c. omega arith)
+    -- capped-requires-3
+    (λ c κs. search needs)
+    -- add-put-node
+    (λ c. omega arith)
+    -- put-node-requires
+    (λ c κs. omega arith)
+    -- returns
+    (λ c. c .put-node .ensures ∙ ap (putNode (c .before .before .before .before .before .before .before .before .before .args .nodes .now) (c .before .before .before .before .before .before .before .before .before .args .b + 1) 5 (c .before .before .before .before .before .before .before .before .before .args .a) (c .before .before .before .before .before .before .before .before .before .args .b)) (c .before .before .capped3 .ensures .0 ∙ ap capped (ap₂ (λ (x y : ℕ). x + y) (c .before .before .before .before .before .before .capped .ensures .0 ∙ ap capped (c .before .before .before .before .before .before .before .count-at .ensures)) (c .before .before .before .capped2 .ensures .0 ∙ ap capped (c .before .before .before .before .count-at2 .ensures))))))
