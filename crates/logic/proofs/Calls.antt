@@ -13,3 +13,4 @@ pub mod Examples
 pub mod EdgeExamples
 pub mod Reordering
 pub mod JoinPairs
+pub mod Decision

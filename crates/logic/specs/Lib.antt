@@ -16,3 +16,4 @@ pub mod Demands
 pub mod PathLimit
 pub mod Reordering
 pub mod JoinPairs
+pub mod Decision

@@ -119,7 +119,7 @@ fn number(rule: Rule) -> usize
 }
 
 // "It is looked for before any rule and ends the path."
-fn look(query: &[u8], layout: Layout, order: &[u8], s: Facts) -> Seen
+pub fn look(query: &[u8], layout: Layout, order: &[u8], s: Facts) -> Seen
     requires { ⌜ LaysOut layout (now query) ⌝ }
     ensures { λ r. ⌜ lookOf r ≡ look (decode (now (query .entry))) (orderOf (now (order .entry))) (pathOf s) ⌝ }
 {

@@ -80,7 +80,7 @@ abbrev valueOf : Query → Facts → List ℕ → ℕ → ℕ
 valueOf q s rest = value (heapOf q s rest) (q .entries)
 
 module _ (q : Query) (s : Facts) (acc : Accepted q) (tied : Tied q s) (comp : Completed (termCount q) (liveTerms (termCount q) s) (s .graph)) where
-  rep-node : (t : ℕ) → InTerms q t → IsNode q s (s .rep t)
+  pub rep-node : (t : ℕ) → InTerms q t → IsNode q s (s .rep t)
   rep-node t h = live-node (termCount q) s (s .rep t) (tied .rep-live t h)
 
   -- a term byte that is not 0 is the number of an earlier term
@@ -107,7 +107,7 @@ module _ (q : Query) (s : Facts) (acc : Accepted q) (tied : Tied q s) (comp : Co
 
   -- What the heap says at the nodes of terms. A node's place is that of an equal element of the list, and there the report is read.
   module _ (rest : List ℕ) where
-    link-place : (v : ℕ) → IsNode q s v → heapOf q s rest .link (place q s v) ≡ place q s (linkOf q s v)
+    pub link-place : (v : ℕ) → IsNode q s v → heapOf q s rest .link (place q s v) ≡ place q s (linkOf q s v)
     link-place v m =
         let r = placeOf-mem v m in
         ap (heapOf q s rest .link) (r .placed) ∙ heap-link (report-laid q s rest) (r .index) (r .within) ∙ ap (λ (u : ℕ). place q s (linkOf q s u)) (r .element)
@@ -153,7 +153,7 @@ module _ (q : Query) (s : Facts) (acc : Accepted q) (tied : Tied q s) (comp : Co
         (λ e. rw e (ap (heapOf q s rest .link) (value-within k j (entry-in t h e) (omega arith)) ∙ entry-place t h (entry-in t h e)))
         (bool-cases (eqb j 0))
 
-    value-place : (t : ℕ) → InTerms q t → valueOf q s rest t ≡ place q s (s .rep t)
+    pub value-place : (t : ℕ) → InTerms q t → valueOf q s rest t ≡ place q s (s .rep t)
     unfolding value
     value-place t h = value-within t t h (omega arith)
 
@@ -170,7 +170,7 @@ module _ (q : Query) (s : Facts) (acc : Accepted q) (tied : Tied q s) (comp : Co
         rw (value-place a h, value-place b k) (λ e. ap (place q s) e, placeOf-injective (s .rep a) (s .rep b) (rep-node a h) (rep-node b k))
 
     -- one reaches the other exactly where the path holds it
-    reach-exactly : (a b : ℕ) → InTerms q a → InTerms q b → (s .graph .reach (s .rep a) (s .rep b) ≡ true) ↔ Reaches (heapOf q s rest .link) (valueOf q s rest a) (valueOf q s rest b)
+    pub reach-exactly : (a b : ℕ) → InTerms q a → InTerms q b → (s .graph .reach (s .rep a) (s .rep b) ≡ true) ↔ Reaches (heapOf q s rest .link) (valueOf q s rest a) (valueOf q s rest b)
     unfolding shownLink
     reach-exactly a b h k =
         let held = comp .completed-reach (s .rep a) (s .rep b) (live-mem (termCount q) s (s .rep a) (tied .rep-live a h)) in

@@ -1,0 +1,19 @@
+-- The rows that follow stand in place of the path's own. Assumes nothing.
+use borrow.Author.Needs.{needs}
+use mathlib.Core.Path.{refl}
+use Rattle.closing.proofs.Rows.{closes}
+use Rattle.closing.proofs.close.Statement.{statement}
+use Rattle.closing.proofs.close.Tie as tie
+
+pub close-spec : {M : Type 1} → statement M
+close-spec =
+    tie.close
+    (tie.spec
+    -- live-requires
+    (λ c κs. search needs)
+    -- seeded-requires
+    (λ c κs. search needs)
+    -- closed-rows-requires
+    (λ c κs. search needs)
+    -- returns
+    (λ c. closes _ _ _ _ (c .before .seeded .result) (c .before .before .before .before .before .live .ensures) refl refl (c .closed-rows .ensures .0 _ _ _ (c .before .seeded .ensures .0)) (λ a b e. c .closed-rows .ensures .1 a b (c .before .seeded .ensures .1 a b e))))

@@ -1,0 +1,41 @@
+-- Each turn closes the rows through one more term. Assumes nothing.
+use Prim.Native.Nat.{ℕ, _-_, _≤_}
+use native.Mathlib.Omega.{arith}
+use borrow.Author.Needs.{needs}
+use mathlib.Core.Path.{_≡_, refl}
+use mathlib.Core.Bool.{Bool}
+use lib.ListN.{length}
+use Rattle.facts.specs.Square.{square}
+use Rattle.closing.specs.Rows.{Within, Above}
+use Rattle.closing.proofs.closed_rows.Statement.{statement}
+use Rattle.closing.proofs.closed_rows.Tie as tie
+
+abbrev Inv-loop : tie.InvT-loop
+Inv-loop out₀ y₀ out y = (y ≤ 17) × ((alive : ℕ → Bool) (link reach : ℕ → ℕ → Bool) → Within alive link reach out₀ → Within alive link reach out) × Above (square out₀) out
+
+abbrev μ-loop : tie.MeasureT-loop
+μ-loop out₀ y₀ out y = 17 - y
+
+pub closed-rows-spec : {M : Type 1} → statement M
+closed-rows-spec =
+    tie.close
+    (tie.spec
+    Inv-loop
+    μ-loop
+    -- loop-holds
+    (λ c. (omega arith, λ alive link reach h. h, λ a b e. e))
+    -- through-requires
+    (λ c κs. omega arith)
+    -- add-y
+    (λ c. omega arith)
+    -- loop-less
+    (λ c. omega arith)
+    -- loop-again
+    (λ c.
+    let l = c .before .before .loop in (
+      omega arith,
+      λ alive link reach h. c .through .ensures .0 alive link reach (l .inv .1 alive link reach h),
+      λ a b e. c .through .ensures .1 a b (l .inv .2 a b e),
+    ))
+    -- returns
+    (λ c. (c .before .loop .inv .1, c .before .loop .inv .2)))

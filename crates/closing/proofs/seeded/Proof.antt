@@ -1,0 +1,55 @@
+-- Each turn adds to a row what REFLEX and TRANS1 give. Assumes nothing.
+use Prim.Native.Nat.{_-_, _≤_}
+use native.Mathlib.Omega.{arith}
+use borrow.Author.Needs.{needs}
+use mathlib.Core.Path.{_≡_, refl}
+use lib.ListN.{length, length-set}
+use Rattle.facts.specs.Bits.{bit}
+use Rattle.facts.specs.Square.{square}
+use Rattle.closing.specs.Rows.{Within, Above}
+use Rattle.closing.proofs.Rows.{within-first, within-more, above-more, seed-follows}
+use Rattle.closing.proofs.seeded.Statement.{statement}
+use Rattle.closing.proofs.seeded.Tie as tie
+
+abbrev Inv-loop : tie.InvT-loop
+Inv-loop alive link out₀ a₀ out a = (a ≤ 17) × (length out ≡ 17) × Within (bit alive) (square link) (square out₀) out × Above (square out₀) out
+
+abbrev μ-loop : tie.MeasureT-loop
+μ-loop alive link out₀ a₀ out a = 17 - a
+
+pub seeded-spec : {M : Type 1} → statement M
+seeded-spec =
+    tie.close
+    (tie.spec
+    Inv-loop
+    μ-loop
+    -- loop-holds
+    (λ c. (omega arith, search needs, within-first _ _ _, λ a b e. e))
+    -- only-requires
+    (λ c κs. omega arith)
+    -- mul-out
+    (λ c. omega arith)
+    -- array-read-out
+    (λ c. omega arith)
+    -- mul-out-2
+    (λ c. omega arith)
+    -- element-copy-out-out
+    (λ c. omega arith)
+    -- mul-out-3
+    (λ c. omega arith)
+    -- array-write-out
+    (λ c. omega arith)
+    -- add-a
+    (λ c. omega arith)
+    -- loop-less
+    (λ c. omega arith)
+    -- loop-again
+    (λ c.
+    let l = c .before .before .before .loop in (
+      omega arith,
+      simp length-set (l .inv .1),
+      within-more _ (l .inv .1) _ _ (omega arith) _ _ _ (l .inv .2) (seed-follows _ _ _ _ _ (omega arith) (c .before .only .ensures)),
+      above-more _ (l .inv .1) _ _ (omega arith) _ (l .inv .3),
+    ))
+    -- returns
+    (λ c. (c .before .loop .inv .2, c .before .loop .inv .3)))

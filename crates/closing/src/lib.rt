@@ -1,0 +1,79 @@
+// A path closed under the rules that neither branch nor join: REFLEX, TRANS1 and TRANS2, all at once.
+use facts::Facts;
+ghost use mathlib.Core.Path.{_≡_};
+ghost use mathlib.Core.Bool.{Bool, true};
+ghost use Prim.Native.Nat.{ℕ, _≤_};
+ghost use Rattle.logic.specs.Decision.{Closes};
+ghost use Rattle.facts.specs.Bits.{bit};
+ghost use Rattle.facts.specs.Square.{square};
+ghost use Rattle.facts.specs.Path.{pathOf};
+ghost use Rattle.closing.specs.Rows.{Within, Above};
+
+// REFLEX and TRANS1: each row with its own term, where that is not replaced, and with what it is linked to.
+fn seeded(alive: u32, link: &[u32; 17], reach: [u32; 17]) -> [u32; 17]
+    ensures { λ r. ⌜ Within (bit alive) (square (now (link .entry))) (square reach) r × Above (square reach) r ⌝ }
+{
+    let mut out = reach;
+    let mut a: usize = 0;
+    while a < 17 {
+        let own = facts::only(a) & alive;
+        out[a] = out[a] | (link[a] | own);
+        a += 1;
+    }
+    out
+}
+
+// What y reaches, for a row that has y.
+fn passed_on(row: u32, y: usize, far: u32) -> u32
+    requires { ⌜ y ≤ 16 ⌝ }
+    ensures { λ r. ⌜ ((i : ℕ) → bit r i ≡ true → (bit row y ≡ true) × (bit far i ≡ true)) ⌝ }
+{
+    if facts::has(row, y) {
+        return far;
+    }
+    0
+}
+
+// TRANS2 through y: whoever reaches y reaches what y does.
+fn through(rows: [u32; 17], y: usize) -> [u32; 17]
+    requires { ⌜ y ≤ 16 ⌝ }
+    ensures { λ r. ⌜ ((alive : ℕ → Bool) (link reach : ℕ → ℕ → Bool) → Within alive link reach rows → Within alive link reach r) × Above (square rows) r ⌝ }
+{
+    let far = rows[y];
+    let mut out = rows;
+    let mut a: usize = 0;
+    while a < 17 {
+        let more = passed_on(out[a], y, far);
+        out[a] = out[a] | more;
+        a += 1;
+    }
+    out
+}
+
+// TRANS2 through each term.
+fn closed_rows(rows: [u32; 17]) -> [u32; 17]
+    ensures { λ r. ⌜ ((alive : ℕ → Bool) (link reach : ℕ → ℕ → Bool) → Within alive link reach rows → Within alive link reach r) × Above (square rows) r ⌝ }
+{
+    let mut out = rows;
+    let mut y: usize = 0;
+    while y < 17 {
+        let next = through(out, y);
+        out = next;
+        y += 1;
+    }
+    out
+}
+
+// The path with the facts that REFLEX, TRANS1 and TRANS2 give. That they are all there is not promised, and nobody needs it.
+pub fn close(s: Facts, n: usize) -> Facts
+    requires { ⌜ n ≤ 16 ⌝ }
+    ensures { λ r. ⌜ Closes n (pathOf s) (pathOf r) ⌝ }
+{
+    let alive = facts::live(s, n);
+    let reach = s.reach;
+    let rows = seeded(alive, &s.link, reach);
+    let mut t = s;
+    let closed = closed_rows(rows);
+    t.reach = closed;
+    t
+}

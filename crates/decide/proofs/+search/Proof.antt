@@ -1,0 +1,106 @@
+-- One law for each return: what is said of the closed path is said of the path. Assumes nothing.
+use borrow.Author.Needs.{needs}
+use Prim.Native.Nat.{ℕ, _+_, _-_, _≤_, _<_}
+use native.Mathlib.Omega.{arith}
+use mathlib.Core.Path.{_≡_, refl, sym, ap, _∙_, subst}
+use borrow.Fn.Kinds.{In}
+use borrow.Fn.PlainCycle.{Measures, is, falls, and}
+use borrow.Author.Tests.{not-true, not-false}
+use Rattle.logic.specs.Query.{decode}
+use Rattle.logic.specs.Rules.{triple, move}
+use Rattle.logic.specs.Decision.{Struck}
+use Rattle.facts.specs.Path.{pathOf}
+use Rattle.rules.specs.Answers.{kindOf}
+use Rattle.decide.specs.Tells.{Sees}
+use Rattle.decide.proofs.Tells.{fewer-left, seen-as, struck-none, tells-nothing, tells-clash, tells-saturated, known-branch, struck-more, tells-branch, tells-struck}
+use Rattle.decide.proofs.search.Reads as search′
+use Rattle.decide.proofs.search.Kinds as search-kinds
+use Rattle.decide.proofs.+search.Lts-search as search-lts
+use Rattle.branch.proofs.branch.Reads as branch-reads
+use Rattle.branch.proofs.count.Reads as count-reads
+use Rattle.closing.proofs.close.Reads as close-reads
+use Rattle.decide.proofs.is_refuted.Reads as is-refuted-reads
+use Rattle.decide.proofs.sees.Reads as sees-reads
+use Rattle.decide.proofs.+search.{statement}
+use Rattle.decide.proofs.+search.Tie.{close}
+
+abbrev μ-search : Measures 1 search-kinds.ps ℕ
+μ-search κs a = a .1 .1 .1 .0
+
+abbrev search-at : ℕ → In 1 search-kinds.ps
+search-at t = and 1 search-kinds.ps (is 1 search-kinds.ps μ-search t) search′.Pre
+
+abbrev search-below : ℕ → In 1 search-kinds.ps
+search-below t = and 1 search-kinds.ps (falls 1 search-kinds.ps _<_ μ-search t) search′.Pre
+
+abbrev search-Inv-loop : search-lts.InvT-loop
+search-Inv-loop query layout how left budget n t rule x y z total fuel₀ i₀ fuel i = (i ≤ total) × Struck (decode query) (pathOf t) (move (kindOf rule) (triple (x .0) (y .0) (z .0))) i
+
+abbrev search-μ-loop : search-lts.MeasureT-loop
+search-μ-loop query layout how left budget n t rule x y z total fuel₀ i₀ fuel i = total - i
+
+pub +search-spec : {M : Type 1} → statement M
++search-spec = close μ-search λ t. search-lts.spec (
+  close-reads.Asked,
+  close-reads.Learnt,
+  sees-reads.Asked,
+  sees-reads.Learnt,
+  count-reads.Asked,
+  count-reads.Learnt,
+  branch-reads.Asked,
+  branch-reads.Learnt,
+  search-below t,
+  search′.Post,
+  is-refuted-reads.Asked,
+  is-refuted-reads.Learnt,
+)
+    (search-at t)
+    search′.Post
+    search-Inv-loop
+    search-μ-loop
+    -- returns
+    (λ c. tells-nothing _ _)
+    -- returns-2
+    (λ c. tells-nothing _ _)
+    -- close-requires
+    (λ c κs. c .before .before .before .pre .1 .0 .terms-within)
+    -- sees-requires
+    (λ c κs. c .before .before .before .before .pre .1 .0)
+    -- enum-told
+    (λ c. search needs)
+    -- sub-t26
+    (λ c. omega arith)
+    -- enum-told-2
+    (λ c. search needs)
+    -- sub-t28
+    (λ c. omega arith)
+    -- enum-known-rule
+    (λ c. search needs)
+    -- count-requires
+    (λ c κs. search needs)
+    -- sub-fuel
+    (λ c. omega arith)
+    -- loop-holds
+    (λ c. (omega arith, struck-none _ _ _ _ refl))
+    -- branch-requires
+    (λ c κs. let a = seen-as _ _ _ _ (c .before .before .before .before .before .before .sees .ensures) (c .before .before .before .before .rule .given .1) in (c .before .before .before .before .before .before .before .before .before .before .before .pre .1 .0 .terms-within, a .1, a .2, a .3))
+    -- sub-search
+    (λ c. omega arith)
+    -- search-requires
+    (λ c κs. let a = seen-as _ _ _ _ (c .before .before .before .before .before .before .before .before .sees .ensures) (c .before .before .before .before .before .before .rule .given .1) in (fewer-left _ _ (c .before .before .before .before .before .before .before .before .before .before .before .if1 .left) (c .before .before .before .before .before .before .before .before .before .before .before .before .before .pre .0), (c .before .before .before .before .before .before .before .before .before .before .before .before .before .pre .1 .0, c .before .before .before .before .before .before .before .before .before .before .before .before .before .pre .1 .1, known-branch (c .before .before .before .before .before .before .before .before .before .before .before .before .before .args .query .now) (c .before .before .before .before .before .before .before .before .before .before .before .before .before .pre .1 .1) _ _ (c .before .before .before .before .before .before .before .before .before .before .before .before .before .pre .1 .2) _ (c .before .before .before .before .before .before .before .before .before .before .before .before .before .pre .1 .0 .term-count) (c .before .before .before .before .before .before .before .before .before .close .ensures) _ _ _ _ (a .0) _ (subst (λ (j : ℕ). c .before .before .before .loop .i < j) (c .before .before .before .before .count .ensures) (c .before .before .loop-test .taken)) _ (c .before .branch .ensures))))
+    -- is-refuted-requires
+    (λ c κs. search needs)
+    -- returns-3
+    (λ c. let a = seen-as _ _ _ _ (c .before .before .before .before .before .before .before .before .before .before .before .sees .ensures) (c .before .before .before .before .before .before .before .before .before .rule .given .1) in tells-branch (c .before .before .before .before .before .before .before .before .before .before .before .before .before .before .before .before .args .query .now) (c .before .before .before .before .before .before .before .before .before .before .before .before .before .before .before .before .pre .1 .1) _ _ (c .before .before .before .before .before .before .before .before .before .before .before .before .before .before .before .before .pre .1 .2) _ (c .before .before .before .before .before .before .before .before .before .before .before .before .before .before .before .before .pre .1 .0 .term-count) (c .before .before .before .before .before .before .before .before .before .before .before .before .close .ensures) _ _ _ _ (a .0) _ (subst (λ (j : ℕ). c .before .before .before .before .before .before .loop .i < j) (c .before .before .before .before .before .before .before .count .ensures) (c .before .before .before .before .before .loop-test .taken)) _ (c .before .before .before .before .branch .ensures) _ (c .before .before .search .ensures) (sym (c .before .is-refuted .ensures) ∙ not-true _ (c .if3 .taken)))
+    -- add-i
+    (λ c. search needs)
+    -- loop-less
+    (λ c. search needs)
+    -- loop-again
+    (λ c. let a = seen-as _ _ _ _ (c .before .before .before .before .before .before .before .before .before .before .before .sees .ensures) (c .before .before .before .before .before .before .before .before .before .rule .given .1) in (omega arith, struck-more (c .before .before .before .before .before .before .before .before .before .before .before .before .before .before .before .before .args .query .now) (c .before .before .before .before .before .before .before .before .before .before .before .before .before .before .before .before .pre .1 .1) _ _ (c .before .before .before .before .before .before .before .before .before .before .before .before .before .before .before .before .pre .1 .2) _ (c .before .before .before .before .before .before .before .before .before .before .before .before .before .before .before .before .pre .1 .0 .term-count) (c .before .before .before .before .before .before .before .before .before .before .before .before .close .ensures) _ _ _ _ (a .0) _ (subst (λ (j : ℕ). c .before .before .before .before .before .before .loop .i < j) (c .before .before .before .before .before .before .before .count .ensures) (c .before .before .before .before .before .loop-test .taken)) _ (c .before .before .before .before .branch .ensures) (c .before .before .before .before .before .before .loop .inv .1) _ (c .before .before .search .ensures) (sym (c .before .is-refuted .ensures) ∙ not-false _ (c .if3 .left))))
+    -- returns-4
+    (λ c. let a = seen-as _ _ _ _ (c .before .before .sees .ensures) (c .enum-told .given .1) in tells-saturated (c .before .before .before .before .before .before .before .args .query .now) (c .before .before .before .before .before .before .before .pre .1 .1) _ _ (c .before .before .before .before .before .before .before .pre .1 .2) _ (c .before .before .before .before .before .before .before .pre .1 .0 .term-count) (c .before .before .before .close .ensures) (a .0) (a .1))
+    -- returns-5
+    (λ c. let a = seen-as _ _ _ _ (c .before .before .sees .ensures) (c .enum-told2 .given .1) in tells-clash (c .before .before .before .before .before .before .before .args .query .now) (c .before .before .before .before .before .before .before .pre .1 .1) _ _ (c .before .before .before .before .before .before .before .pre .1 .2) _ (c .before .before .before .before .before .before .before .pre .1 .0 .term-count) (c .before .before .before .close .ensures) (a .0) (a .1))
+    -- returns-6
+    (λ c. let a = seen-as _ _ _ _ (c .before .before .before .before .before .before .sees .ensures) (c .before .before .before .before .rule .given .1) in tells-struck (c .before .before .before .before .before .before .before .before .before .before .before .args .query .now) (c .before .before .before .before .before .before .before .before .before .before .before .pre .1 .1) _ _ (c .before .before .before .before .before .before .before .before .before .before .before .pre .1 .2) _ (c .before .before .before .before .before .before .before .before .before .before .before .pre .1 .0 .term-count) (c .before .before .before .before .before .before .before .close .ensures) _ _ _ _ (a .0) _ (c .before .loop .inv .1) (subst (λ (j : ℕ). j ≤ c .before .loop .i) (c .before .before .count .ensures) (c .loop-test .left)))

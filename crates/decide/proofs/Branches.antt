@@ -1,0 +1,31 @@
+-- The branch that the code makes is the one of the definition.
+use Prim.Native.Nat.{ℕ, zero, suc, _+_, _≤_, _<_}
+use native.Mathlib.Omega.{arith}
+use mathlib.Core.Path.{_≡_, refl, sym, ap, _∙_, subst}
+use mathlib.Core.List.{List, [], _∷_, map}
+use lib.ListN.{length, getD, length-map}
+use Rattle.logic.specs.Query.{Query, termCount}
+use Rattle.logic.specs.Facts.{Facts, Joined}
+use Rattle.logic.specs.Rules.{Rule, triple, Move, move, Fact, equal, alternatives, branch, add, branches}
+use Rattle.branch.specs.Alternatives.{countOf, alternativeAt}
+use Rattle.branch.proofs.Alternatives.{count-is, alternative-is}
+
+getD-map : {A B : Type 0} (f : A → B) (xs : List A) (i : ℕ) (d : A) (e : B) → i < length xs → getD (map f xs) i e ≡ f (getD xs i d)
+getD-map f [] i d e l = absurd (omega arith)
+getD-map f (x ∷ xs) zero d e l = refl
+getD-map f (x ∷ xs) (suc i) d e l = getD-map f xs i d e (omega arith)
+
+module _ (q : Query) (n : ℕ) (s : Facts) (r : Rule) (x y z : ℕ) (terms-are : n ≡ termCount q) where
+  pub row-length : length (branches (termCount q) s (move r (triple x y z))) ≡ countOf r z
+  unfolding branches
+  row-length = length-map (alternatives (termCount q) (s .graph) (move r (triple x y z))) (add (termCount q) s) ∙ count-is (termCount q) (s .graph) r x y z
+
+  pub row-at : (i : ℕ) (j : Joined) → i < countOf r z → j ≡ branch n s (alternativeAt n (s .graph) r x y z i) → j .facts ≡ getD (branches (termCount q) s (move r (triple x y z))) i s
+  unfolding branches add
+  row-at i j l e =
+      let cs : List Fact = alternatives (termCount q) (s .graph) (move r (triple x y z)) in
+      let long : i < length cs = omega (arith, count-is (termCount q) (s .graph) r x y z) in
+      ap (λ (k : Joined). k .facts) e
+      ∙ ap (λ (m : ℕ). branch m s (alternativeAt m (s .graph) r x y z i) .facts) terms-are
+      ∙ ap (λ (c : Fact). branch (termCount q) s c .facts) (sym (alternative-is (termCount q) (s .graph) r x y z i (equal 0 0) l))
+      ∙ sym (getD-map (add (termCount q) s) cs i (equal 0 0) s long)

@@ -1,0 +1,88 @@
+-- What plain steps find at a path that is seen through, and what the decision says.
+use Prim.Native.Nat.{ℕ, zero, suc, _+_, _-_, _≤_, _<_}
+use native.Mathlib.Omega.{arith}
+use mathlib.Core.Path.{_≡_, refl, sym, ap, _∙_, subst}
+use mathlib.Core.Bool.{Bool, true, false, not, true≢false, false≢true}
+use mathlib.Core.List.{List, [], _∷_, List·Memᴰ, List·Memᴰ·head, List·Memᴰ·tail}
+use mathlib.Core.Option.{none, some}
+use lib.ListN.{length, getD}
+use Rattle.logic.specs.Query.{Query, termCount, isOrder, decode}
+use Rattle.logic.specs.Facts.{Facts, Line, Joined, clash}
+use Rattle.logic.specs.Rules.{Rule, rules, triple, Move, move, applies, alternatives, add, branch, branches, choose}
+use Rattle.logic.specs.Walk.{Look, clashing, applying, saturated, look, orderOf, walk, saturation}
+use Rattle.logic.specs.Steps.{AtMost}
+use Rattle.logic.specs.Calls.{accepts}
+use Rattle.logic.specs.Decision.{HasHeap, NoHeap, Reachable, Closes, Struck}
+use Rattle.logic.proofs.Basics.Search.{map-mem}
+use Rattle.logic.proofs.Query.AcceptedBytes.{accepted}
+use Rattle.logic.proofs.Query.Tied.{Accepted}
+use Rattle.logic.proofs.Walks.Order.{HoldsAll, rules-full, order-full}
+use Rattle.logic.proofs.Walks.Derives.{seen-applying, seen-clashing, seen-saturated}
+use Rattle.logic.proofs.Walks.OurWalk.{look-some, look-fewer}
+use Rattle.logic.proofs.Calls.Decision.{Known, reachable-known, clash-none, saturated-heap, struck-next, struck-all, open-branch, branch-at, walk-first, walk-saturation, closed-known, closed-heap, heap-closed}
+use Rattle.walk.proofs.Walks.{walk-saturated}
+use Rattle.branch.specs.Alternatives.{countOf, alternativeAt}
+use Rattle.facts.specs.Path.{pathOf}
+use Rattle.decide.specs.Tells.{isRefuted, isUnknown, Sees, Tells, Walks, Decides}
+use Rattle.decide.specs.declared.Kind.{Kind}
+use Rattle.decide.specs.declared.Kind.the-variants as kind
+use Rattle.decide.specs.declared.Walked.{Walked}
+use Rattle.decide.proofs.Branches.{row-length, row-at}
+use Rattle.decide.proofs.Tells.{refuted-open, refuted-unknown, open-unknown, refuted-is}
+
+-- of plain steps
+module _ (bytes order : List ℕ) (acc : accepts bytes ≡ true) (o : isOrder order ≡ true) (k : ℕ) (s : Facts) (known : Known (decode bytes) s) (limited : Bool) (w : Walked) where
+  abbrev q : Query
+  q = decode bytes
+
+  ok : Accepted q
+  ok = accepted bytes acc
+
+  full : HoldsAll (orderOf order)
+  full = order-full order o
+
+  pub walks-nothing : w .kind ≡ kind.Unknown → limited ≡ true → Walks q order k s limited w
+  walks-nothing e l =
+      record {
+        refuted = λ f. absurd (refuted-unknown (sym f ∙ e));
+        ends = λ f. absurd (open-unknown (sym f ∙ e));
+        gives-up = λ f. l;
+      }
+
+  walks-refuted : w .kind ≡ kind.Refuted → NoHeap q s → Walks q order k s limited w
+  walks-refuted e free =
+      record {
+        refuted = λ f. free;
+        ends = λ f. absurd (refuted-open (sym e ∙ f));
+        gives-up = λ f. absurd (refuted-unknown (sym e ∙ f));
+      }
+
+  pub walks-clash : (l : Line) → look q (orderOf order) s ≡ clashing l → w .kind ≡ kind.Refuted → Walks q order k s limited w
+  walks-clash l h e = walks-refuted e (clash-none q ok s known l (seen-clashing q (orderOf order) s h))
+
+  pub walks-saturated : look q (orderOf order) s ≡ saturated → w .kind ≡ kind.Open → pathOf (w .facts) ≡ s → Walks q order k s limited w
+  walks-saturated h e f =
+      record {
+        refuted = λ g. absurd (refuted-open (sym g ∙ e));
+        ends = λ g. walk-saturated q (orderOf order) k s h ∙ ap saturation (sym f);
+        gives-up = λ g. absurd (open-unknown (sym e ∙ g));
+      }
+
+-- the decision
+module _ (bytes : List ℕ) (acc : accepts bytes ≡ true) (s : Facts) where
+  pub decides-open : (k : Kind) → Tells (decode bytes) s k → k ≡ kind.Open → Decides (decode bytes) s true
+  decides-open k told e = record { yes-right = λ f. told .has e; no-right = λ f. absurd (true≢false f) }
+
+  pub decides-refuted : (k : Kind) → Tells (decode bytes) s k → k ≡ kind.Refuted → Decides (decode bytes) s false
+  decides-refuted k told e = record { yes-right = λ f. absurd (false≢true f); no-right = λ f. told .refuted e }
+
+  pub decides-walked : (order : List ℕ) → isOrder order ≡ true → (k : ℕ) → Reachable (decode bytes) s → AtMost (termCount (decode bytes)) s k → (w : Walked) → Walks (decode bytes) order k s false w → (b : Bool) → b ≡ isRefuted (w .kind) → Decides (decode bytes) s (not b)
+  decides-walked order o k reach most w told b e = go (w .kind) refl (e)
+    where
+      known : Known (decode bytes) s
+      known = reachable-known (decode bytes) (accepted bytes acc) s reach
+
+      go : (c : Kind) → w .kind ≡ c → b ≡ isRefuted c → Decides (decode bytes) s (not b)
+      go kind.Refuted f g = rw g (record { yes-right = λ z. absurd (false≢true z); no-right = λ z. told .refuted f })
+      go kind.Open f g = rw g (record { yes-right = λ z. walk-saturation (decode bytes) (accepted bytes acc) (orderOf order) (order-full order o) k s known most (pathOf (w .facts)) (told .ends f); no-right = λ z. absurd (true≢false z) })
+      go kind.Unknown f g = absurd (false≢true (told .gives-up f))

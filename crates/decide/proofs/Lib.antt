@@ -1,0 +1,5 @@
+pub mod Branches
+pub mod Seeing
+pub mod Tells
+pub mod Ended
+pub mod Turns

@@ -1,0 +1,118 @@
+-- What each return of the strategies says. The laws are those of the decision of a path, stated once of any pick.
+use Prim.Native.Nat.{ℕ, zero, suc, _+_, _-_, _≤_, _<_}
+use native.Mathlib.Omega.{arith}
+use mathlib.Core.Path.{_≡_, refl, sym, ap, _∙_, subst}
+use mathlib.Core.Bool.{Bool, true, false, not, _&&_, true≢false, false≢true}
+use mathlib.Core.List.{List, [], _∷_, List·Memᴰ, List·Memᴰ·head, List·Memᴰ·tail}
+use mathlib.Core.Option.{none, some}
+use lib.ListN.{length, getD}
+use Rattle.logic.specs.Query.{Query, termCount, isOrder, decode}
+use Rattle.logic.specs.Facts.{Facts, Line, Joined, clash}
+use Rattle.logic.specs.Rules.{Rule, rules, triple, Move, move, applies, alternatives, add, branch, branches, choose}
+use Rattle.logic.specs.Walk.{Look, clashing, applying, saturated, look, orderOf, walk, saturation}
+use Rattle.logic.specs.Steps.{AtMost}
+use Rattle.logic.specs.Calls.{accepts}
+use Rattle.logic.specs.Decision.{HasHeap, NoHeap, Reachable, Closes, Struck}
+use Rattle.logic.proofs.Basics.Search.{map-mem}
+use Rattle.logic.proofs.Query.AcceptedBytes.{accepted}
+use Rattle.logic.proofs.Query.Tied.{Accepted}
+use Rattle.logic.proofs.Walks.Order.{HoldsAll, rules-full, order-full}
+use Rattle.logic.proofs.Walks.Derives.{seen-applying, seen-clashing, seen-saturated}
+use Rattle.logic.proofs.Walks.OurWalk.{look-some, look-fewer}
+use Rattle.logic.proofs.Calls.Decision.{Known, reachable-known, clash-none, saturated-heap, struck-next, struck-all, open-branch, branch-at, walk-first, walk-saturation, closed-known, closed-heap, heap-closed}
+use Rattle.walk.proofs.Walks.{walk-saturated}
+use Rattle.branch.specs.Alternatives.{countOf, alternativeAt}
+use Rattle.facts.specs.Path.{pathOf}
+use Rattle.decide.specs.Tells.{isRefuted, isUnknown, Sees, Tells, Walks, Decides}
+use Rattle.decide.specs.declared.Kind.{Kind}
+use Rattle.decide.specs.declared.Kind.the-variants as kind
+use Rattle.decide.specs.declared.Walked.{Walked}
+use Rattle.decide.specs.declared.Seen.{Seen}
+use Rattle.decide.proofs.Branches.{row-length, row-at}
+
+-- the cases of what is found out differ
+pub refuted-open : kind.Refuted ≡ kind.Open → ⊥
+refuted-open e = true≢false (ap isRefuted e)
+
+pub refuted-unknown : kind.Refuted ≡ kind.Unknown → ⊥
+refuted-unknown e = true≢false (ap isRefuted e)
+
+pub open-unknown : kind.Open ≡ kind.Unknown → ⊥
+open-unknown e = false≢true (ap isUnknown e)
+
+pub refuted-is : (k : Kind) → isRefuted k ≡ true → k ≡ kind.Refuted
+refuted-is kind.Refuted e = refl
+refuted-is kind.Open e = absurd (false≢true e)
+refuted-is kind.Unknown e = absurd (false≢true e)
+
+-- what is seen, once the code's answer is known
+pub seen-as : (q : Query) (s : Facts) (v v′ : Seen) → Sees q s v → v ≡ v′ → Sees q s v′
+seen-as q s v v′ h e = subst (Sees q s) e h
+
+pub struck-none : (q : Query) (s : Facts) (m : Move) (i : ℕ) → i ≡ 0 → Struck q s m i
+struck-none q s m i e j l = absurd (omega arith)
+
+pub both-left : (a b : Bool) → a && b ≡ true → a ≡ true
+both-left true b e = refl
+both-left false b e = absurd (false≢true e)
+
+pub fewer-left : (k t : ℕ) → (k ≡ 0 → ⊥) → k ≡ t → k - 1 < t
+fewer-left k t ne e = omega arith
+
+-- of a strategy
+module _ (q : Query) (s : Facts) where
+  pub tells-refuted : NoHeap q s → Tells q s kind.Refuted
+  tells-refuted free = record { refuted = λ e. free; has = λ e. absurd (refuted-open e) }
+
+  pub tells-open : HasHeap q s → Tells q s kind.Open
+  tells-open h = record { refuted = λ e. absurd (refuted-open (sym e)); has = λ e. h }
+
+  pub tells-nothing : Tells q s kind.Unknown
+  tells-nothing = record { refuted = λ e. absurd (refuted-unknown (sym e)); has = λ e. absurd (open-unknown (sym e)) }
+
+module _ (bytes : List ℕ) (acc : accepts bytes ≡ true) (s t : Facts) (known : Known (decode bytes) s) (n : ℕ) (terms-are : n ≡ termCount (decode bytes)) (cl : Closes n s t) where
+  abbrev q : Query
+  q = decode bytes
+
+  ok : Accepted q
+  ok = accepted bytes acc
+
+  closes : Closes (termCount q) s t
+  closes = subst (λ (m : ℕ). Closes m s t) terms-are cl
+
+  pub known-closed : Known q t
+  known-closed = closed-known q ok s t known closes
+
+  pub tells-clash : (l : Line) → clash q t ≡ some l → Tells q s kind.Refuted
+  tells-clash l e = tells-refuted q s (λ h. clash-none q ok t known-closed l e (closed-heap q ok s t known closes h))
+
+  pub tells-saturated : clash q t ≡ none → choose (termCount q) rules t ≡ none → Tells q s kind.Open
+  tells-saturated free idle = tells-open q s (heap-closed q ok s t known closes (saturated-heap q ok t known-closed rules rules-full free idle))
+
+  module _ (r : Rule) (x y z : ℕ) (app : applies (termCount q) t (move r (triple x y z)) ≡ true) where
+    abbrev m : Move
+    m = move r (triple x y z)
+
+    module _ (i : ℕ) (l : i < countOf r z) (j : Joined) (e : j ≡ branch n t (alternativeAt n (t .graph) r x y z i)) where
+      in-row : i < length (branches (termCount q) t m)
+      in-row = omega (arith, row-length q n t r x y z terms-are)
+
+      at : getD (branches (termCount q) t m) i t ≡ j .facts
+      at = sym (row-at q n t r x y z terms-are i j l e)
+
+      pub known-branch : Known q (j .facts)
+      known-branch = subst (Known q) at (branch-at q ok t known-closed m app i in-row)
+
+      pub struck-more : Struck q t m i → (k : Kind) → Tells q (j .facts) k → isRefuted k ≡ true → Struck q t m (i + 1)
+      struck-more st k told f = struck-next q ok t m i st (subst (NoHeap q) (sym at) (told .refuted (refuted-is k f)))
+
+      pub tells-branch : (k : Kind) → Tells q (j .facts) k → isRefuted k ≡ false → Tells q s k
+      tells-branch k told f =
+          record {
+            refuted = λ g. absurd (true≢false (sym (ap isRefuted g) ∙ f));
+            has = λ g. heap-closed q ok s t known closes (open-branch q ok t known-closed m app i in-row (subst (HasHeap q) (sym at) (told .has g)));
+          }
+
+    pub tells-struck : (i : ℕ) → Struck q t m i → countOf r z ≤ i → Tells q s kind.Refuted
+    tells-struck i st past =
+        tells-refuted q s (λ h. struck-all q ok t known-closed m app i st (omega (arith, row-length q n t r x y z terms-are)) (closed-heap q ok s t known closes h))

@@ -1,0 +1,29 @@
+-- What is seen is what the searches find, the clash first. Assumes nothing.
+use borrow.Author.Needs.{needs}
+use mathlib.Core.Path.{refl, ap}
+use Rattle.decide.proofs.Seeing.{sees-clash, sees-rule, sees-none}
+use Rattle.decide.proofs.sees.Statement.{statement}
+use Rattle.decide.proofs.sees.Tie as tie
+
+pub sees-spec : {M : Type 1} → statement M
+sees-spec =
+    tie.close
+    (tie.spec
+    -- find-clash-requires
+    (λ c κs. search needs)
+    -- enum-told
+    (λ c. search needs)
+    -- returns
+    (λ c. sees-clash _ _ _ (c .before .before .before .before .before .before .before .pre .term-count) (c .before .before .find-clash .result) (c .before .before .find-clash .ensures) _ _ _ (c .enum-told .given .1))
+    -- enum-told-2
+    (λ c. search needs)
+    -- plain-requires
+    (λ c κs. c .before .before .before .before .before .before .before .pre .terms-within)
+    -- enum-known-rule
+    (λ c. search needs)
+    -- enum-told-3
+    (λ c. search needs)
+    -- returns-2
+    (λ c. sees-none _ _ _ (c .before .before .before .before .before .before .before .before .before .before .pre .term-count) (c .before .before .before .before .before .find-clash .result) (c .before .before .before .before .before .find-clash .ensures) (c .before .before .plain .result) (c .before .before .plain .ensures) (c .before .before .before .enum-told2 .given .1) (c .enum-told3 .given .1))
+    -- returns-3
+    (λ c. sees-rule _ _ _ (c .before .before .before .before .before .before .before .before .before .before .before .pre .term-count) (c .before .before .before .before .before .before .find-clash .result) (c .before .before .before .before .before .before .find-clash .ensures) (c .before .before .before .plain .result) (c .before .before .before .plain .ensures) _ _ _ _ (c .before .rule .given .1)))

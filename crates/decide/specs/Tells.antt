@@ -1,0 +1,50 @@
+-- What a strategy may say of a path, and what the decision of a path says.
+use Prim.Native.Nat.{ℕ, _≤_}
+use mathlib.Core.Path.{_≡_}
+use mathlib.Core.Bool.{Bool, true, false}
+use mathlib.Core.List.{List}
+use mathlib.Core.Option.{none, some}
+use Rattle.logic.specs.Query.{Query, termCount}
+use Rattle.logic.specs.Facts.{Facts, Line, clash}
+use Rattle.logic.specs.Rules.{triple, move, applies, rules, choose}
+use Rattle.logic.specs.Walk.{orderOf, walk, saturation}
+use Rattle.logic.specs.Decision.{HasHeap, NoHeap}
+use Rattle.facts.specs.Path.{pathOf}
+use Rattle.rules.specs.Answers.{kindOf}
+use Rattle.decide.specs.declared.Kind.{Kind}
+use Rattle.decide.specs.declared.Kind.the-variants as kind
+use Rattle.decide.specs.declared.Walked.{Walked}
+use Rattle.decide.specs.declared.Seen.{Seen}
+use Rattle.decide.specs.declared.Seen.the-variants as seen
+
+abbrev pub isRefuted : Kind → Bool
+isRefuted kind.Refuted = true
+isRefuted kind.Open = false
+isRefuted kind.Unknown = false
+
+abbrev pub isUnknown : Kind → Bool
+isUnknown kind.Refuted = false
+isUnknown kind.Open = false
+isUnknown kind.Unknown = true
+
+-- what is seen at a path: a clash; a rule that applies, whichever; or that there is neither
+abbrev pub Sees : Query → Facts → Seen → Type 0
+Sees q s seen.Clashing = (l : Line) × (clash q s ≡ some l)
+Sees q s (seen.Applying r x y z) = (applies (termCount q) s (move (kindOf r) (triple (x .0) (y .0) (z .0))) ≡ true) × (x .0 ≤ 16) × (y .0 ≤ 16) × (z .0 ≤ 16)
+Sees q s seen.Saturated = (clash q s ≡ none) × (choose (termCount q) rules s ≡ none)
+
+-- "refuted" only if no finite heap meets the query and the facts of the path, "open" only if some does; "unknown" says nothing
+pub record Tells (q : Query) (s : Facts) (k : Kind) : Type 0 where
+  pub refuted : k ≡ kind.Refuted → NoHeap q s
+  pub has : k ≡ kind.Open → HasHeap q s
+
+-- the same of plain steps: where they find the path open, they end where our walk does; they give up only where they are limited
+pub record Walks (q : Query) (order : List ℕ) (k : ℕ) (s : Facts) (limited : Bool) (r : Walked) : Type 0 where
+  pub refuted : r .kind ≡ kind.Refuted → NoHeap q s
+  pub ends : r .kind ≡ kind.Open → walk q (orderOf order) k s ≡ saturation (pathOf (r .facts))
+  pub gives-up : r .kind ≡ kind.Unknown → limited ≡ true
+
+-- the decision: "yes" exactly if some finite heap meets the query and the facts of the path, "no" exactly if none of any size does
+pub record Decides (q : Query) (s : Facts) (r : Bool) : Type 0 where
+  pub yes-right : r ≡ true → HasHeap q s
+  pub no-right : r ≡ false → NoHeap q s

@@ -1,0 +1,251 @@
+// Whether some finite heap meets the query and the facts of a path. How it is found out is free: a budget of plain steps, or strategies of
+// our own. What each of them says is right whatever it picks, and one that runs out says nothing.
+use clash::Clash;
+use facts::Facts;
+use facts::Term;
+use query::Layout;
+use rules::Choice;
+use rules::Rule;
+use rules::Third;
+ghost use mathlib.Core.Path.{_≡_};
+ghost use mathlib.Core.Bool.{true, not};
+ghost use mathlib.Core.Logic.{_⊎_};
+ghost use Prim.Native.Nat.{ℕ, _*_, _≤_};
+ghost use Rattle.logic.specs.Query.{decode, termCount, isOrder};
+ghost use Rattle.logic.specs.Steps.{AtMost};
+ghost use Rattle.logic.specs.Calls.{accepts};
+ghost use Rattle.logic.specs.Decision.{Reachable};
+ghost use Rattle.logic.proofs.Calls.Decision.{Known};
+ghost use Rattle.facts.specs.Path.{pathOf};
+ghost use Rattle.query.specs.LaysOut.{LaysOut};
+ghost use Rattle.decide.specs.Tells.{isRefuted, isUnknown, Sees, Tells, Walks, Decides};
+
+// What is found out of a path.
+pub enum Kind {
+    Refuted,
+    Open,
+    Unknown,
+}
+
+// What a strategy finds out, and the budget that it leaves.
+pub struct Tried {
+    pub kind: Kind,
+    pub budget: usize,
+}
+
+// What plain steps find out, the path where they end (where they do not, the one that was given), and the budget left.
+pub struct Walked {
+    pub kind: Kind,
+    pub facts: Facts,
+    pub budget: usize,
+}
+
+// What a strategy sees at a path.
+pub enum Seen {
+    Clashing,
+    Applying(Rule, Term, Term, Third),
+    Saturated,
+}
+
+pub fn is_refuted(kind: Kind) -> bool
+    ensures { λ r. ⌜ r ≡ isRefuted kind ⌝ }
+{
+    match kind {
+        Kind::Refuted => true,
+        Kind::Open => false,
+        Kind::Unknown => false,
+    }
+}
+
+pub fn is_unknown(kind: Kind) -> bool
+    ensures { λ r. ⌜ r ≡ isUnknown kind ⌝ }
+{
+    match kind {
+        Kind::Refuted => false,
+        Kind::Open => false,
+        Kind::Unknown => true,
+    }
+}
+
+// One step less.
+fn spent(budget: usize) -> usize
+    ensures { λ r. ⌜ r ≤ budget ⌝ }
+{
+    if 0 < budget {
+        return budget - 1;
+    }
+    0
+}
+
+// Plain steps: our walk under the order list, without its lines. Where it is limited it gives up as its budget runs out; where it is not, it
+// always ends, since at most `left` rule steps are possible from the path.
+pub fn plain(
+    query: &[u8],
+    layout: Layout,
+    order: &[u8],
+    left: usize,
+    s: Facts,
+    limited: bool,
+    budget: usize,
+) -> Walked
+    requires { ⌜ LaysOut layout (now query) × (accepts (now query) ≡ true) × (isOrder (now order) ≡ true) × Known (decode (now query)) (pathOf s) × AtMost (termCount (decode (now query))) (pathOf s) left ⌝ }
+    ensures { λ r. ⌜ Walks (decode (now (query .entry))) (now (order .entry)) left (pathOf s) limited r ⌝ }
+{
+    let n = layout.terms;
+    if limited & (budget == 0) {
+        return Walked {
+            kind: Kind::Unknown,
+            facts: s,
+            budget: 0,
+        };
+    }
+    match walk::look(query, layout, order, s) {
+        walk::Seen::Saturated => Walked {
+            kind: Kind::Open,
+            facts: s,
+            budget: spent(budget),
+        },
+        walk::Seen::Clashing(_, _, _) => Walked {
+            kind: Kind::Refuted,
+            facts: s,
+            budget: spent(budget),
+        },
+        walk::Seen::Applying(rule, x, y, z) => {
+            let total = branch::count(rule, z);
+            let mut fuel = spent(budget);
+            let mut i: usize = 0;
+            while i < total {
+                let joined = branch::branch(s, n, rule, x, y, z, i);
+                let path = joined.facts;
+                let w = plain(query, layout, order, left - 1, path, limited, fuel);
+                let kind = w.kind;
+                if !is_refuted(kind) {
+                    return w;
+                }
+                fuel = w.budget;
+                i += 1;
+            }
+            Walked {
+                kind: Kind::Refuted,
+                facts: s,
+                budget: fuel,
+            }
+        }
+    }
+}
+
+// What strategy `how` sees at a path: its clash, the rule that it picks, or neither.
+fn sees(query: &[u8], layout: Layout, how: usize, s: Facts) -> Seen
+    requires { ⌜ LaysOut layout (now query) ⌝ }
+    ensures { λ r. ⌜ Sees (decode (now (query .entry))) (pathOf s) r ⌝ }
+{
+    let n = layout.terms;
+    let rep = s.rep;
+    if let Clash::At(_, _, _) = clash::find_clash(query, layout, rep, &s.reach) {
+        return Seen::Clashing;
+    }
+    let Choice::Apply(rule, x, y, z) = picking::plain(s, n) else {
+        return Seen::Saturated;
+    };
+    Seen::Applying(rule, x, y, z)
+}
+
+// A strategy: the path is closed, and then branches where the strategy picks.
+fn search(query: &[u8], layout: Layout, how: usize, left: usize, s: Facts, budget: usize) -> Tried
+    requires { ⌜ LaysOut layout (now query) × (accepts (now query) ≡ true) × Known (decode (now query)) (pathOf s) ⌝ }
+    ensures { λ r. ⌜ Tells (decode (now (query .entry))) (pathOf s) (r .kind) ⌝ }
+{
+    let n = layout.terms;
+    if left == 0 {
+        return Tried {
+            kind: Kind::Unknown,
+            budget: 0,
+        };
+    }
+    if budget == 0 {
+        return Tried {
+            kind: Kind::Unknown,
+            budget: 0,
+        };
+    }
+    let t = closing::close(s, n);
+    match sees(query, layout, how, t) {
+        Seen::Saturated => Tried {
+            kind: Kind::Open,
+            budget: budget - 1,
+        },
+        Seen::Clashing => Tried {
+            kind: Kind::Refuted,
+            budget: budget - 1,
+        },
+        Seen::Applying(rule, x, y, z) => {
+            let total = branch::count(rule, z);
+            let mut fuel = budget - 1;
+            let mut i: usize = 0;
+            while i < total {
+                let joined = branch::branch(t, n, rule, x, y, z, i);
+                let path = joined.facts;
+                let w = search(query, layout, how, left - 1, path, fuel);
+                let kind = w.kind;
+                if !is_refuted(kind) {
+                    return w;
+                }
+                fuel = w.budget;
+                i += 1;
+            }
+            Tried {
+                kind: Kind::Refuted,
+                budget: fuel,
+            }
+        }
+    }
+}
+
+// Four times the budget once all three strategies had theirs.
+fn grown(budget: usize, turn: usize) -> usize
+    ensures { λ r. ⌜ (r ≡ budget) ⊎ ((budget ≤ 1000000000000) × (r ≡ 4 * budget)) ⌝ }
+{
+    if turn % 3 != 2 {
+        return budget;
+    }
+    if 1000000000000 < budget {
+        return budget;
+    }
+    4 * budget
+}
+
+// The strategies in turn, each with a budget; then all again with four times the budget, until one is done.
+fn in_turn(query: &[u8], layout: Layout, s: Facts) -> Kind
+    requires { ⌜ LaysOut layout (now query) × (accepts (now query) ≡ true) × Known (decode (now query)) (pathOf s) ⌝ }
+    ensures { λ r. ⌜ Tells (decode (now (query .entry))) (pathOf s) r ⌝ }
+{
+    let mut budget: usize = 50;
+    let mut turn: usize = 0;
+    while turn < 36 {
+        let tried = search(query, layout, turn % 3, 300, s, budget);
+        let kind = tried.kind;
+        if !is_unknown(kind) {
+            return kind;
+        }
+        budget = grown(budget, turn);
+        turn += 1;
+    }
+    Kind::Unknown
+}
+
+// Some finite heap meets the query and the facts of a path that a walk can reach. Should every strategy have run out, plain steps without a
+// limit settle it.
+pub fn has_heap(query: &[u8], layout: Layout, order: &[u8], left: usize, s: Facts) -> bool
+    requires { ⌜ LaysOut layout (now query) × (accepts (now query) ≡ true) × (isOrder (now order) ≡ true) × Reachable (decode (now query)) (pathOf s) × AtMost (termCount (decode (now query))) (pathOf s) left ⌝ }
+    ensures { λ r. ⌜ Decides (decode (now (query .entry))) (pathOf s) r ⌝ }
+{
+    match in_turn(query, layout, s) {
+        Kind::Open => true,
+        Kind::Refuted => false,
+        Kind::Unknown => {
+            let w = plain(query, layout, order, left, s, false, 0);
+            let kind = w.kind;
+            !is_refuted(kind)
+        }
+    }
+}

@@ -1,0 +1,97 @@
+-- The first branch with a heap, and the walk that goes into it.
+use Prim.Native.Nat.{ℕ, zero, suc, _+_, _-_, _≤_, _<_}
+use native.Mathlib.Omega.{arith}
+use mathlib.Core.Path.{_≡_, refl, sym, ap, _∙_, subst}
+use mathlib.Core.Bool.{Bool, true, false}
+use mathlib.Core.List.{List, [], _∷_, List·Memᴰ, List·Memᴰ·head, List·Memᴰ·tail, List·Memᴰ·not-nil}
+use lib.ListN.{length, getD}
+use Rattle.logic.specs.Query.{Query, termCount, isOrder, decode}
+use Rattle.logic.specs.Facts.{Facts, Line, Joined}
+use Rattle.logic.specs.Rules.{Rule, triple, Move, move, applies, branch, branches}
+use Rattle.logic.specs.Walk.{Look, clashing, applying, saturated, look, orderOf, walk, saturation}
+use Rattle.logic.specs.Steps.{Steps, Step, one-more, AtMost}
+use Rattle.logic.specs.Calls.{accepts}
+use Rattle.logic.specs.Decision.{HasHeap, NoHeap, Reachable, Struck}
+use Rattle.logic.proofs.Query.AcceptedBytes.{accepted}
+use Rattle.logic.proofs.Query.Tied.{Accepted}
+use Rattle.logic.proofs.Walks.Order.{order-full}
+use Rattle.logic.proofs.Walks.Derives.{seen-applying, seen-clashing}
+use Rattle.logic.proofs.Calls.Decision.{Known, reachable-known, clash-none, heap-branch, struck-next, last-open, walk-first}
+use Rattle.branch.specs.Alternatives.{countOf, alternativeAt}
+use Rattle.decide.specs.Tells.{Decides}
+use Rattle.decide.proofs.Branches.{row-length, row-at}
+use Rattle.decide.proofs.Turns.{some-left, row-fewer}
+use Rattle.walk.proofs.Walks.{walk-saturated}
+use Rattle.open_path.specs.First.{FirstOpen}
+
+getD-mem : {A : Type 0} (xs : List A) (i : ℕ) (d : A) → i < length xs → List·Memᴰ (getD xs i d) xs
+getD-mem [] i d h = absurd (omega arith)
+getD-mem (x ∷ xs) zero d h = List·Memᴰ·head refl
+getD-mem (x ∷ xs) (suc i) d h = List·Memᴰ·tail (getD-mem xs i d (omega arith))
+
+mem-some : {A : Type 0} (xs : List A) (x : A) → List·Memᴰ x xs → 0 < length xs
+mem-some [] x m = absurd (List·Memᴰ·not-nil m)
+mem-some (y ∷ ys) x m = omega arith
+
+-- each branch of a rule that applies is one that a walk can reach
+reach-branch : (q : Query) (s : Facts) (m : Move) → Reachable q s → applies (termCount q) s m ≡ true → (i : ℕ) → i < length (branches (termCount q) s m) → Reachable q (getD (branches (termCount q) s m) i s)
+reach-branch q s m (k, steps) app i l = (suc k, one-more steps (record { rule-move = m; applicable = app; branch = getD-mem (branches (termCount q) s m) i s l }))
+
+-- a path with a heap has no clash
+pub never-clashes : (bytes order : List ℕ) → accepts bytes ≡ true → (s : Facts) → Reachable (decode bytes) s → HasHeap (decode bytes) s → (l : Line) → look (decode bytes) (orderOf order) s ≡ clashing l → ⊥
+never-clashes bytes order acc s reach has l h =
+    let ok = accepted bytes acc in
+    clash-none (decode bytes) ok s (reachable-known (decode bytes) ok s reach) l (seen-clashing (decode bytes) (orderOf order) s h) has
+
+module _ (bytes order : List ℕ) (acc : accepts bytes ≡ true) (k : ℕ) (s : Facts) (reach : Reachable (decode bytes) s) (most : AtMost (termCount (decode bytes)) s k) (n : ℕ) (terms-are : n ≡ termCount (decode bytes)) (r : Rule) (x y z : ℕ) (h : look (decode bytes) (orderOf order) s ≡ applying (move r (triple x y z))) where
+  abbrev q : Query
+  q = decode bytes
+
+  ok : Accepted q
+  ok = accepted bytes acc
+
+  known : Known q s
+  known = reachable-known q ok s reach
+
+  abbrev m : Move
+  m = move r (triple x y z)
+
+  app : applies (termCount q) s m ≡ true
+  app = seen-applying q (orderOf order) s h .1
+
+  module _ (i : ℕ) (l : i < countOf r z) (j : Joined) (e : j ≡ branch n s (alternativeAt n (s .graph) r x y z i)) where
+    in-row : i < length (branches (termCount q) s m)
+    in-row = omega (arith, row-length q n s r x y z terms-are)
+
+    at : getD (branches (termCount q) s m) i s ≡ j .facts
+    at = sym (row-at q n s r x y z terms-are i j l e)
+
+    pub open-reach : Reachable q (j .facts)
+    open-reach = subst (Reachable q) at (reach-branch q s m reach app i in-row)
+
+    pub open-fewer : AtMost (termCount q) (j .facts) (k - 1)
+    open-fewer = subst (λ (t : Facts). AtMost (termCount q) t (k - 1)) at (row-fewer q (orderOf order) k s m most h i in-row)
+
+    pub open-struck : Struck q s m i → Decides q (j .facts) false → Struck q s m (i + 1)
+    open-struck st d = struck-next q ok s m i st (subst (NoHeap q) (sym at) (d .no-right refl))
+
+    pub open-here : Struck q s m i → Decides q (j .facts) true → FirstOpen q s m (j .facts)
+    open-here st d = record { place = i; in-row = in-row; struck = st; branch-at = at; has-heap = d .yes-right refl }
+
+    pub open-last : Struck q s m i → countOf r z ≤ i + 1 → HasHeap q s → FirstOpen q s m (j .facts)
+    open-last st last has = record { place = i; in-row = in-row; struck = st; branch-at = at; has-heap = subst (HasHeap q) at (last-open q ok s known m app i st (omega (arith, row-length q n s r x y z terms-are)) has) }
+
+  -- a path with a heap has a branch
+  pub some-branch : HasHeap q s → 0 < countOf r z
+  some-branch has = let (t, mem, has′) = heap-branch q ok s known m app has in omega (arith, mem-some (branches (termCount q) s m) t mem, row-length q n s r x y z terms-are)
+
+  -- the walk goes there
+  module _ (t : Facts) (f : FirstOpen q s m t) where
+    pub first-reach : Reachable q t
+    first-reach = subst (Reachable q) (f .branch-at) (reach-branch q s m reach app (f .place) (f .in-row))
+
+    pub first-fewer : AtMost (termCount q) t (k - 1)
+    first-fewer = subst (λ (u : Facts). AtMost (termCount q) u (k - 1)) (f .branch-at) (row-fewer q (orderOf order) k s m most h (f .place) (f .in-row))
+
+    pub first-ends : isOrder order ≡ true → (u : Facts) → walk q (orderOf order) (k - 1) t ≡ saturation u → walk q (orderOf order) k s ≡ saturation u
+    first-ends o u e = walk-first q ok (orderOf order) (order-full order o) k s known most m h (f .place) (f .in-row) (f .struck) u (subst (λ (v : Facts). walk q (orderOf order) (k - 1) v ≡ saturation u) (sym (f .branch-at)) e)

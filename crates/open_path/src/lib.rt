@@ -1,0 +1,95 @@
+// The first open path under the customer's order, without turning back: at each rule its branches are decided from left to right, and
+// the walk goes into the first that is not refuted.
+use decide::Kind;
+use decide::Walked;
+use facts::Facts;
+use facts::Term;
+use query::Layout;
+use rules::Rule;
+use rules::Third;
+ghost use mathlib.Core.Path.{_≡_};
+ghost use mathlib.Core.Bool.{true, false};
+ghost use Prim.Native.Nat.{ℕ, _-_, _≤_, _<_};
+ghost use Rattle.logic.specs.Query.{decode, termCount, isOrder};
+ghost use Rattle.logic.specs.Rules.{triple, move, applies};
+ghost use Rattle.logic.specs.Walk.{look, applying, orderOf, walk, saturation};
+ghost use Rattle.logic.specs.Steps.{AtMost};
+ghost use Rattle.logic.specs.Calls.{accepts};
+ghost use Rattle.logic.specs.Decision.{Reachable, HasHeap};
+ghost use Rattle.facts.specs.Path.{pathOf};
+ghost use Rattle.rules.specs.Answers.{kindOf};
+ghost use Rattle.query.specs.LaysOut.{LaysOut};
+ghost use Rattle.decide.specs.Tells.{Walks};
+ghost use Rattle.open_path.specs.First.{FirstOpen};
+
+// The first branch of a rule that has a heap, of a path that has one: the last needs no decision.
+fn first_open(
+    query: &[u8],
+    layout: Layout,
+    order: &[u8],
+    left: usize,
+    s: Facts,
+    rule: Rule,
+    x: Term,
+    y: Term,
+    z: Third,
+) -> Facts
+    requires { ⌜ LaysOut layout (now query) × (accepts (now query) ≡ true) × (isOrder (now order) ≡ true) × Reachable (decode (now query)) (pathOf s) × AtMost (termCount (decode (now query))) (pathOf s) left × HasHeap (decode (now query)) (pathOf s) × (look (decode (now query)) (orderOf (now order)) (pathOf s) ≡ applying (move (kindOf rule) (triple (x .0) (y .0) (z .0)))) ⌝ }
+    ensures { λ r. ⌜ FirstOpen (decode (now (query .entry))) (pathOf s) (move (kindOf rule) (triple (x .0) (y .0) (z .0))) (pathOf r) ⌝ }
+{
+    let n = layout.terms;
+    let total = branch::count(rule, z);
+    let mut i: usize = 0;
+    loop {
+        let joined = branch::branch(s, n, rule, x, y, z, i);
+        let path = joined.facts;
+        if total <= i + 1 {
+            return path;
+        }
+        if decide::has_heap(query, layout, order, left - 1, path) {
+            return path;
+        }
+        i += 1;
+    }
+}
+
+// The path where our walk of a path with a heap ends.
+pub fn descend(query: &[u8], layout: Layout, order: &[u8], left: usize, s: Facts) -> Facts
+    requires { ⌜ LaysOut layout (now query) × (accepts (now query) ≡ true) × (isOrder (now order) ≡ true) × Reachable (decode (now query)) (pathOf s) × AtMost (termCount (decode (now query))) (pathOf s) left × HasHeap (decode (now query)) (pathOf s) ⌝ }
+    ensures { λ r. ⌜ walk (decode (now (query .entry))) (orderOf (now (order .entry))) left (pathOf s) ≡ saturation (pathOf r) ⌝ }
+{
+    match walk::look(query, layout, order, s) {
+        walk::Seen::Saturated => s,
+        walk::Seen::Clashing(_, _, _) => s,
+        walk::Seen::Applying(rule, x, y, z) => {
+            let path = first_open(query, layout, order, left, s, rule, x, y, z);
+            descend(query, layout, order, left - 1, path)
+        }
+    }
+}
+
+// How our walk of a path ends: plain steps first, which is all that most queries need; where these run out, the path is decided, and where
+// it has a heap the walk goes down to its end.
+pub fn settle(query: &[u8], layout: Layout, order: &[u8], left: usize, s: Facts) -> Walked
+    requires { ⌜ LaysOut layout (now query) × (accepts (now query) ≡ true) × (isOrder (now order) ≡ true) × Reachable (decode (now query)) (pathOf s) × AtMost (termCount (decode (now query))) (pathOf s) left ⌝ }
+    ensures { λ r. ⌜ Walks (decode (now (query .entry))) (now (order .entry)) left (pathOf s) false r ⌝ }
+{
+    let w = decide::plain(query, layout, order, left, s, true, 200);
+    let kind = w.kind;
+    if !decide::is_unknown(kind) {
+        return w;
+    }
+    if !decide::has_heap(query, layout, order, left, s) {
+        return Walked {
+            kind: Kind::Refuted,
+            facts: s,
+            budget: 0,
+        };
+    }
+    let path = descend(query, layout, order, left, s);
+    Walked {
+        kind: Kind::Open,
+        facts: path,
+        budget: 0,
+    }
+}

@@ -1,0 +1,54 @@
+-- What a choice by an order list is.
+use Prim.Native.Nat.{ℕ, zero, suc, _≤_}
+use native.Mathlib.Omega.{arith}
+use mathlib.Core.Path.{_≡_, refl, sym, ap, _∙_, subst}
+use mathlib.Core.Bool.{true, not, cond}
+use mathlib.Core.List.{List, [], _∷_, map, List·Memᴰ}
+use mathlib.Core.Option.{Option, none, some}
+use Rattle.logic.specs.Search.{_and_, _or_, all, any, from, keep, firstOf, flatMap}
+use Rattle.logic.specs.Query.{isOrder}
+use Rattle.logic.specs.Facts.{Facts}
+use Rattle.logic.specs.Rules.{Rule, rules, Triple, triple, Move, move, applies, triples, choose}
+use Rattle.logic.specs.Walk.{orderOf}
+use Rattle.logic.proofs.Basics.Search.{keep-some, firstOf-some, from-mem, flatMap-mem, map-mem, none-some}
+use Rattle.logic.proofs.Walks.Order.{order-full, choose-some, choose-nothing}
+use Rattle.rules.specs.Answers.{choiceOf}
+use Rattle.rules.specs.declared.Choice.{Choice}
+use Rattle.rules.specs.declared.Choice.the-variants as choice
+use Rattle.picking.specs.Picks.{Picks}
+
+-- a triple that is searched is of numbers up to n
+triple-range : (n x y z : ℕ) → List·Memᴰ (triple x y z) (triples n) → (x ≤ n) × (y ≤ n) × (z ≤ n)
+unfolding triples
+triple-range n x y z m =
+    let a = flatMap-mem (λ x. flatMap (λ y. map (triple x y) (from (suc n) 0)) (from (suc n) 0)) (triple x y z) (from (suc n) 0) m in
+    let b = flatMap-mem (λ y. map (triple (a .0) y) (from (suc n) 0)) (triple x y z) (from (suc n) 0) (a .2) in
+    let c = map-mem (triple (a .0) (b .0)) (triple x y z) (from (suc n) 0) (b .2) in
+    let ra = from-mem (suc n) 0 (a .0) (a .1) in
+    let rb = from-mem (suc n) 0 (b .0) (b .1) in
+    let rc = from-mem (suc n) 0 (c .0) (c .1) in
+    let e = c .2 in
+    let ex : x ≡ a .0 = cc in
+    let ey : y ≡ b .0 = cc in
+    let ez : z ≡ c .0 = cc in
+    (omega arith, omega arith, omega arith)
+
+pub choose-range : (n : ℕ) (order : List Rule) (s : Facts) (r : Rule) (x y z : ℕ) → choose n order s ≡ some (move r (triple x y z)) → (x ≤ n) × (y ≤ n) × (z ≤ n)
+unfolding choose
+choose-range n order s r x y z h =
+    let f = firstOf-some (λ r. firstOf (λ t. keep (applies n s (move r t)) (move r t)) (triples n)) order (move r (triple x y z)) h in
+    let g = firstOf-some (λ t. keep (applies n s (move (f .0) t)) (move (f .0) t)) (triples n) (move r (triple x y z)) (f .2) in
+    let k = keep-some (applies n s (move (f .0) (g .0))) (g .2) .1 in
+    let e : g .0 ≡ triple x y z = cc in
+    triple-range n x y z (subst (λ (t : Triple). List·Memᴰ t (triples n)) e (g .1))
+
+-- a choice by an order list picks
+pub chosen-picks : (n : ℕ) → n ≤ 16 → (order : List ℕ) → isOrder order ≡ true → (s : Facts) (r : Choice) → choiceOf r ≡ choose n (orderOf order) s → Picks n s r
+chosen-picks n few order o s (choice.Apply r x y z) h =
+    let (lx, ly, lz) = choose-range n (orderOf order) s _ _ _ _ (sym h) in
+    (choose-some n s (orderOf order) _ (sym h), omega arith, omega arith, omega arith)
+chosen-picks n few order o s choice.Nothing h = choose-nothing n s (orderOf order) rules (order-full order o) (sym h)
+
+pub plain-order : isOrder (1 ∷ 2 ∷ 3 ∷ 8 ∷ 4 ∷ 5 ∷ 6 ∷ 7 ∷ []) ≡ true
+unfolding isOrder all any from _and_ _or_
+plain-order = refl
