@@ -14,8 +14,8 @@ use Rattle.formula_reader.specs.Tree.{Tree}
 use Rattle.formula_reader.specs.Marked.{fits, Picks}
 use Rattle.lemitsaka.specs.Promise.{Does}
 use Rattle.lemitsaka.specs.declared.Answer.{Answer}
-use Rattle.lemitsaka.specs.declared.FormulaAnswer.{FormulaAnswer}
-use Rattle.lemitsaka.specs.declared.FormulaAnswer.the-variants as answer
+use Rattle.lemitsaka.specs.declared.formula_call.FormulaAnswer.{FormulaAnswer}
+use Rattle.lemitsaka.specs.declared.formula_call.FormulaAnswer.the-variants as answer
 
 -- the definition's answer for each case of the enum
 abbrev pub formulaMeaning : FormulaAnswer → formula.Answer
