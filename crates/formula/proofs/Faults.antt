@@ -264,7 +264,7 @@ place-one b h = unfold isPlace all _and_ in rw h refl
 module _ (has : Letter → ℕ → Bool) (most : ℕ) where
   ended-on : (d : ℕ) (w : List ℕ) (t : State) (b : ℕ) (m : Mark) → Marked b m → Ended d w → afterBy has most d m ≡ to t → Passed t (w ++ (b ∷ []))
   unfolding afterBy closes
-  ended-on d w t b blank (is-blank x) h e = subst (λ (s : State). Passed s (w ++ (b ∷ []))) (to-same e) (λ r z. textual (sym (append-assoc w (b ∷ []) r) ) (subst (λ (c : ℕ). Text (w ++ (c ∷ r))) (sym x) (h (32 ∷ r) (a-blank z))))
+  ended-on d w t b blank (is-blank x) h e = subst (λ (s : State). Passed s (w ++ (b ∷ []))) (to-same e) (λ r z. textual (sym (append-assoc w (b ∷ []) r)) (subst (λ (c : ℕ). Text (w ++ (c ∷ r))) (sym x) (h (32 ∷ r) (a-blank z))))
   ended-on d w t b ampersand (is-ampersand x) h e = subst (λ (s : State). Passed s (w ++ (b ∷ []))) (to-same e) (λ u r f y z. textual (sym (append-assoc w (b ∷ []) (u ++ r))) (subst (λ (c : ℕ). Text (w ++ (c ∷ (u ++ r)))) (sym x) (h (38 ∷ (u ++ r)) (an-and y z))))
   ended-on d w t b bar (is-bar x) h e = subst (λ (s : State). Passed s (w ++ (b ∷ []))) (to-same e) (λ u r f y z. textual (sym (append-assoc w (b ∷ []) (u ++ r))) (subst (λ (c : ℕ). Text (w ++ (c ∷ (u ++ r)))) (sym x) (h (124 ∷ (u ++ r)) (an-or y z))))
   ended-on zero w t b closing (is-closing x) h e = absurd (not-to e)

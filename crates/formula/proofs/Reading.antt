@@ -148,13 +148,13 @@ module _ (has : Letter → ℕ → Bool) (most : ℕ) where
   -- An or of ands, and an and of items
 
   module _ (separator : ℕ) (join : Formula → Formula → Formula) (low up : Level)
-    (one : (t : List ℕ) (f : Formula) → Reads low t f → Reads up t f)
-    (two : (t u : List ℕ) (f g : Formula) → Reads low t f → Reads up u g → Reads up (t ++ (separator ∷ u)) (join f g))
-    (onward : (d : ℕ) (bs : List ℕ) → go-on (after d) (separator ∷ bs) ≡ go-on (wants d) bs)
-    (ends : Stops up [])
-    (stop-more : (b : ℕ) (bs : List ℕ) → Stops low (b ∷ bs) → (b ≡ separator → ⊥) → Stops up (b ∷ bs))
-    (there-both : (f g : Formula) → AllPresent has f → AllPresent has g → AllPresent has (join f g))
-    (d : ℕ) (bs : List ℕ) where
+      (one : (t : List ℕ) (f : Formula) → Reads low t f → Reads up t f)
+      (two : (t u : List ℕ) (f g : Formula) → Reads low t f → Reads up u g → Reads up (t ++ (separator ∷ u)) (join f g))
+      (onward : (d : ℕ) (bs : List ℕ) → go-on (after d) (separator ∷ bs) ≡ go-on (wants d) bs)
+      (ends : Stops up [])
+      (stop-more : (b : ℕ) (bs : List ℕ) → Stops low (b ∷ bs) → (b ≡ separator → ⊥) → Stops up (b ∷ bs))
+      (there-both : (f g : Formula) → AllPresent has f → AllPresent has g → AllPresent has (join f g))
+      (d : ℕ) (bs : List ℕ) where
     second : (f : Formula) (b : ℕ) (s : List ℕ) → Found low d bs f (b ∷ s) → b ≡ separator → (m : Reading) → As up d s m → As up d bs (andThen m (joined join f))
     unfolding andThen joined
     second f b s h e (refused n x) a = h .goes ∙ ap (λ (c : ℕ). go-on (after d) (c ∷ s)) e ∙ onward d s ∙ a

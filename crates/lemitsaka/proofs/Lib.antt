@@ -4,3 +4,4 @@ pub mod Checks
 pub mod Outcomes
 pub mod Answers
 pub mod Reordering
+pub mod FormulaLaws

@@ -3,3 +3,4 @@ pub mod PrecedenceCall
 pub mod DotPromise
 pub mod JoinPromise
 pub mod CheckPromise
+pub mod FormulaPromise

@@ -1,0 +1,26 @@
+-- By cases. Assumes nothing.
+use borrow.Author.Needs.{needs}
+use mathlib.Core.Path.{refl}
+use Rattle.lemitsaka.proofs.formula_call.coded_formula.Statement.{statement}
+use Rattle.lemitsaka.proofs.formula_call.coded_formula.Tie as tie
+
+pub coded-formula-spec : {M : Type 1} → statement M
+coded-formula-spec =
+    tie.close
+    (tie.spec
+    -- enum-told
+    (λ c. search needs)
+    -- enum-known-answer
+    (λ c. search needs)
+    -- enum-known-answer-2
+    (λ c. search needs)
+    -- mul-result
+    (λ c. search needs)
+    -- add-result
+    (λ c. search needs)
+    -- returns
+    (λ c. search needs)
+    -- returns-2
+    (λ c. rw (c .before .answer .given .1) refl)
+    -- returns-3
+    (λ c. rw (c .before .answer2 .given .1) refl))
