@@ -1,7 +1,7 @@
 // Lemitsaka's two calls: a verdict with its heap, and a derivation. Neither asks anything of its caller.
 mod check_call;
 mod dot_call;
-mod formula_call;
+pub mod formula_call;
 mod join_call;
 mod precedence_call;
 
