@@ -65,12 +65,15 @@ extern "C" {
  *   14  the lent bytes are too few (the call says how many are enough)
  *   15  a precedence sheet has the wrong length or count
  *   16  a rule number of a sheet is not 1 to 8
+ *   17  a formula's text is too long, outside the grammar, or names a literal that the query lacks (place in the text)
+ *   18  a formula's 33rd parenthesis open at once (place in the text)
+ *   19  a formula has more than 64 conjunctions
  *   20  a derivation to check is not 2 plus 4 times its count long, or its count is above 16,000
  *   23  a pair list has the wrong length or count, or a term that its query lacks
  *   24  the joined query passes a limit, or the lent bytes are too few for it
  *   25  the line does not begin with 9, or names no literal of either query
  *
- * There is no 10. The place is 0 for 1 and from 9 on. */
+ * There is no 10. The place is 0 for 1 and from 9 on, but for 17 and 18. */
 static inline unsigned lemitsaka_refusal(uint64_t answer)
 {
     return (unsigned)(answer / 65536 % 65536);
@@ -126,6 +129,18 @@ uint64_t lemitsaka_dot(const uint8_t *report, size_t report_len,
  * Bytes past the eighth are zero. */
 uint64_t lemitsaka_order(const uint8_t *sheet, size_t sheet_len,
                          uint8_t *order, size_t order_len);
+
+/* Is there a heap that meets a formula over the query's literals?
+ *
+ * The text, at most 512 bytes, names literals, E, R, D or B with a place from 1, joined by & and |, with parentheses, & binding
+ * tighter. Literals that it does not name do not count. The answer is the number of the first satisfiable conjunction, from 1,
+ * and the report shows its heap; 0 where there is none, and the report is all zero.
+ *
+ *   refused   1 to 9 as of lemitsaka_verdict, then 17 and 18, then 19 */
+uint64_t lemitsaka_formula(const uint8_t *order, size_t order_len,
+                           const uint8_t *query, size_t query_len,
+                           const uint8_t *text, size_t text_len,
+                           uint8_t *report, size_t report_len);
 
 /* Is this a derivation, whoever wrote it?
  *
