@@ -12,6 +12,8 @@ mod library;
 mod long;
 mod naive;
 mod reference;
+#[cfg(feature = "library")]
+mod shares;
 #[cfg(test)]
 mod tests;
 mod timing;
@@ -33,7 +35,8 @@ time DIR                      time the workloads in DIR (with feature library: t
 differential N SEED           (feature library) compare library and reference on N random inputs
 heapverdict                   be the program heapverdict
 between FILE                  compare the plain search of R-10 with its vectors
-between                       time it on slow queries";
+between                       time it on slow queries
+shares RULESHARES DIR N       (feature library) time ruleshares on N queries of workload-programs, beside the calls";
 
 fn main() -> ExitCode {
     let words: Vec<String> = std::env::args().skip(1).collect();
@@ -76,6 +79,7 @@ fn run(words: &[&str]) -> Result<bool, String> {
         }
         ["time", directory] => time(Path::new(directory)),
         ["differential", count, seed] => differential(number(count)? as usize, number(seed)?),
+        ["shares", program, directory, count] => shares(Path::new(program), Path::new(directory), number(count)? as usize),
         ["between", file] => between::compare(Path::new(file)),
         ["between"] => {
             between::time();
@@ -108,5 +112,15 @@ fn differential(count: usize, seed: u64) -> Result<bool, String> {
 
 #[cfg(not(feature = "library"))]
 fn differential(_: usize, _: u64) -> Result<bool, String> {
+    Err("built without the feature library".into())
+}
+
+#[cfg(feature = "library")]
+fn shares(program: &Path, directory: &Path, count: usize) -> Result<bool, String> {
+    shares::run(program, directory, count)
+}
+
+#[cfg(not(feature = "library"))]
+fn shares(_: &Path, _: &Path, _: usize) -> Result<bool, String> {
     Err("built without the feature library".into())
 }
