@@ -1,0 +1,3 @@
+-- The theorems, from the leaves up.
+pub mod Encoded
+pub mod Decoded
