@@ -5,3 +5,5 @@ pub mod Complete
 pub mod Contexts
 pub mod Faults
 pub mod FirstFault
+pub mod ReadingClaims
+pub mod RefusalClaims

@@ -4,3 +4,4 @@ pub mod Meaning
 pub mod Places
 pub mod Reader
 pub mod Call
+pub mod ReadingClaims
