@@ -7,3 +7,4 @@ pub mod Faults
 pub mod FirstFault
 pub mod ReadingClaims
 pub mod RefusalClaims
+pub mod ReadingSamples

@@ -5,3 +5,4 @@ pub mod Places
 pub mod Reader
 pub mod Call
 pub mod ReadingClaims
+pub mod ReadingSamples
