@@ -5,5 +5,8 @@ pub mod Complete
 pub mod Contexts
 pub mod Faults
 pub mod FirstFault
+pub mod ReadingClaims
+pub mod RefusalClaims
+pub mod ReadingSamples
 pub mod Conjunctions
 pub mod Answers

@@ -129,7 +129,7 @@ module _ (has : Letter → ℕ → Bool) (most : ℕ) where
 
   -- What follows an item that has ended
 
-  ends-wrong : (d b : ℕ) (bs : List ℕ) → (b ≡ 32 → ⊥) → (b ≡ 38 → ⊥) → (b ≡ 124 → ⊥) → (b ≡ 41 → ⊥) → go-on (after d) (b ∷ bs) ≡ fault 17 (b ∷ bs)
+  pub ends-wrong : (d b : ℕ) (bs : List ℕ) → (b ≡ 32 → ⊥) → (b ≡ 38 → ⊥) → (b ≡ 124 → ⊥) → (b ≡ 41 → ⊥) → go-on (after d) (b ∷ bs) ≡ fault 17 (b ∷ bs)
   ends-wrong d b bs n₁ n₂ n₃ n₄ = scan-stop has most (after d) 17 b bs (after-move has most d b bs refl ∙ go (mark b) (marked b))
     where
       go : (m : Mark) → Marked b m → afterBy has most d m ≡ stop 17
