@@ -10,3 +10,5 @@ pub mod RefusalClaims
 pub mod ReadingSamples
 pub mod Conjunctions
 pub mod Answers
+pub mod AnswerClaims
+pub mod AnswerSamples

@@ -5,15 +5,17 @@ use mathlib.Core.Logic.{_↔_}
 use mathlib.Core.Bool.{true}
 use mathlib.Core.List.{List, List·Memᴰ}
 use mathlib.Core.Option.{some}
-use lib.ListN.{replicate}
+use lib.ListN.{length, replicate}
 use Rattle.logic.specs.Search.{at}
 use Rattle.logic.specs.Query.{Query, decode, termCount}
 use Rattle.logic.specs.Heap.{Heap, Meets, Satisfiable, value}
 use Rattle.logic.specs.Shown.{heapIn, nodeIn, wellFormed}
+use Rattle.logic.specs.Demands.{NotRefused}
 use Rattle.formula.specs.Grammar.{Formula, literal}
 use Rattle.formula.specs.Expansion.{Name, Conjunction, expand}
 use Rattle.formula.specs.Meaning.{Holds, bare, MeetsFormula, present, AllPresent, restricted}
-use Rattle.formula.specs.Call.{Input, Outcome, refuted, conjunction, verdictOn}
+use Rattle.formula.specs.Call.{Input, Outcome, refuted, conjunction, verdictOn, formulaCall}
+use Rattle.formula.specs.ReadingClaims.{Taken}
 
 -- every literal that a conjunction names holds
 abbrev pub HoldsAll : Heap → Query → Conjunction → Type 0
@@ -56,3 +58,18 @@ pub record AnswerClaims (i : Input) (f : Formula) (o : Outcome) : Type 0 where
   pub report-is : (k : ℕ) (c : Conjunction) → o .answer ≡ conjunction k → at (expand f) k ≡ some c → o .lent ≡ verdictOn i c .lent
   -- "With "refuted" the whole heap report is zero." (01)
   pub refuted-blank : o .answer ≡ refuted → o .lent ≡ replicate (i .room) 0
+
+-- For every order list, query, text and room, bytes of any number: `Taken i f` says that nothing is refused and f is the text's formula.
+pub record FormulaClaims (i : Input) : Type 0 where
+  pub conjunctions : (f : Formula) → Taken i f → ConjunctionClaims (decode (i .query)) f
+  pub answers : (f : Formula) → Taken i f → AnswerClaims i f (formulaCall i)
+  -- a number is that of one of at most 64 conjunctions
+  pub answer-numbered : (k : ℕ) → formulaCall i .answer ≡ conjunction k → (1 ≤ k) × (k ≤ 64)
+  -- the verdict call has nothing to refuse of a conjunction's query
+  pub conjunction-decided : (f : Formula) → Taken i f → (c : Conjunction) → NotRefused (verdictOn i c .answer)
+  -- the call writes as many bytes as are lent, whatever it answers
+  pub lent-whole : length (formulaCall i .lent) ≡ i .room
+
+-- The order list chooses the heap that is shown, and never the answer: two calls on one query and one text that are not refused answer alike.
+abbrev pub OneAnswer : Type 0
+OneAnswer = (i j : Input) (f g : Formula) → i .query ≡ j .query → i .text ≡ j .text → Taken i f → Taken j g → formulaCall i .answer ≡ formulaCall j .answer

@@ -7,3 +7,4 @@ pub mod Call
 pub mod ReadingClaims
 pub mod ReadingSamples
 pub mod AnswerClaims
+pub mod AnswerSamples
