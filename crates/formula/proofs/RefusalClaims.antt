@@ -1,5 +1,5 @@
 -- What is claimed of the formula call's refusals holds.
-use Prim.Native.Nat.{ℕ, zero, suc, _-_, _≤_, _<_}
+use Prim.Native.Nat.{ℕ, suc, _≤_, _<_}
 use native.Mathlib.Omega.{arith}
 use borrow.Author.Tests.{ltb-true, ltb-false, lt-ltb, le-ltb}
 use mathlib.Core.Path.{_≡_, refl, sym, ap, ap₂, _∙_, subst}
@@ -10,7 +10,7 @@ use mathlib.Core.Option.{Option, none, some, Option·elim}
 use lib.ListN.{length, replicate}
 use lib.Dec.{ltb}
 use Rattle.logic.specs.Search.{_and_, all}
-use Rattle.logic.specs.Calls.{Check, orderCheck, layoutCheck, byteCheck, roomCheck, queryChecks, verdictChecks, refusalOf}
+use Rattle.logic.specs.Calls.{orderCheck, layoutCheck, byteCheck, roomCheck, queryChecks, verdictChecks, refusalOf}
 use Rattle.logic.specs.Calls as calls
 use Rattle.logic.specs.Demands.{FirstStands}
 use Rattle.logic.proofs.Calls.CheckingOrder.{ascends, refusal-first, first-stands, check-numbered}

@@ -10,7 +10,7 @@ use Rattle.logic.specs.Query.{decode}
 use Rattle.logic.specs.Calls.{verdictChecks, refusalOf}
 use Rattle.logic.specs.Calls as calls
 use Rattle.logic.specs.Demands.{FirstStands}
-use Rattle.formula.specs.Grammar.{Letter, Formula, disjunction, Reads}
+use Rattle.formula.specs.Grammar.{Letter, Formula, disjunction, Reads, Within}
 use Rattle.formula.specs.Expansion.{expand}
 use Rattle.formula.specs.Meaning.{present, AllPresent}
 use Rattle.formula.specs.Places.{TooDeep, FirstFault}
@@ -34,6 +34,8 @@ pub record ReadingClaims (has : Letter → ℕ → Bool) (text : List ℕ) : Typ
   pub accepted-exactly : (f : Formula) → (readText has 32 text ≡ reader.done f []) ↔ Accepted has text f
   pub nothing-behind : (f : Formula) (rest : List ℕ) → readText has 32 text ≡ reader.done f rest → rest ≡ []
   pub one-formula : (f g : Formula) → Accepted has text f → Accepted has text g → f ≡ g
+  -- "to a depth of 32": these are the texts that are read with no more than 32 parentheses round any part
+  pub depth-exactly : (f : Formula) → (Reads disjunction text f × ((p : ℕ) → TooDeep 32 text p → ⊥)) ↔ ((x : Reads disjunction text f) × Within 32 x)
   -- "17 outside the grammar .. or naming an absent literal (its letter), and 18 too deep .., lowest place first, 17 on a tie"
   pub refused-exactly : (k p : ℕ) → RefusedAt has text k p ↔ FirstFault has text k p
   pub refused-as : (k p : ℕ) → FirstFault has text k p → ((k ≡ 17) ⊎ (k ≡ 18)) × (p ≤ length text)
