@@ -48,6 +48,12 @@ flags-count c (s ∷ []) e = omega arith
 flags-count zero (s ∷ a ∷ rest) e = absurd (omega arith)
 flags-count (suc c) (s ∷ a ∷ rest) e = omega (arith, flags-count c rest (omega arith))
 
+-- the parts of bytes that are laid out and allowed, section by section
+pub record Parts (bytes : List ℕ) : Type 0 where
+  pub found : List (List ℕ)
+  pub laid : layoutOf bytes ≡ parts found
+  pub part : (i : ℕ) (s : Section) → at (sections (firstByte bytes)) (suc i) ≡ some s → Part s (section found i)
+
 module _ (bytes : List ℕ) (h : accepts bytes ≡ true) where
   abbrev input : Input
   input = record { order = []; query = bytes; room = 0 }
@@ -71,14 +77,23 @@ module _ (bytes : List ℕ) (h : accepts bytes ≡ true) where
         booleans = let p = part 4 _ refl in omega (arith, p .within, flags-count (p .count) (section ps 4) (p .sized));
       }
 
-  pub accepted-limits : Limits (decode bytes)
-  unfolding decode layoutOf byteFault sections
-  accepted-limits =
+  pub accepted-parts : Parts bytes
+  unfolding layoutOf byteFault sections
+  accepted-parts =
       let l = laid-out bytes layout-passed in
       let n : ℕ = firstByte bytes in
       let allowed = faultless-allowed 0 (rolesOf (sections n) bytes) bytes byte-passed in
-      subst Limits (ap queryOf (sym (l .1)))
-      (parts-limited n (l .0) (part-at (sections n) 0 bytes (l .0) (λ i. refl, (λ i. refl, (λ i. refl, (λ i. refl, (λ i. refl, tt))))) (l .1) allowed))
+      record {
+        found = l .0;
+        laid = l .1;
+        part = part-at (sections n) 0 bytes (l .0) (λ i. refl, (λ i. refl, (λ i. refl, (λ i. refl, (λ i. refl, tt))))) (l .1) allowed;
+      }
+
+  pub accepted-limits : Limits (decode bytes)
+  unfolding decode
+  accepted-limits =
+      let p = accepted-parts in
+      subst Limits (ap queryOf (sym (p .laid))) (parts-limited (firstByte bytes) (p .found) (p .part))
 
   -- what accepted bytes say can be written
   pub accepted-encodable : Encodable (decode bytes)

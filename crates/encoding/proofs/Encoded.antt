@@ -1,22 +1,21 @@
 -- The bytes of a query whose numbers are as they should be: they are accepted, and say the query. Assumes nothing.
-use Prim.Native.Nat.{ℕ, zero, suc, _+_, _*_, _≤_, _<_}
+use Prim.Native.Nat.{ℕ, suc, _+_, _*_, _≤_, _<_}
 use native.Mathlib.Omega.{arith}
 use native.Mathlib.Nat.{add-zero, add-suc, suc-add, mul-one}
 use mathlib.Core.Path.{_≡_, refl, sym, ap, _∙_}
 use mathlib.Core.Bool.{Bool, true, false, not, cond}
 use mathlib.Core.List.{List, [], _∷_, _++_, append-nil, List·Memᴰ, List·Memᴰ·head, List·Memᴰ·tail}
 use mathlib.Core.Option.{Option·elim, none}
-use lib.ListN.{length, getD, take, drop, length-append}
+use lib.ListN.{length, getD, length-append}
 use lib.Seq.{take-at, drop-at}
-use lib.Dec.{eqb, ltb, leb}
+use lib.Dec.{eqb, ltb}
 use borrow.Author.Tests.{le-leb, leb-true, eqb-true, lt-ltb}
 use Rattle.logic.specs.Search.{_and_, _or_, from, keep, orElse, firstOf, flatMap}
 use Rattle.logic.specs.Query.{Literal, Query, termCount, entryOf, namesNil, argumentOf, Role, Section, entryRole, signRole, termRole, numberRole, countRole, sections, parts, withPart, layout, rolesOf, firstByte, layoutOf, faultIn, layoutFault, roleFault, byteFault, literals, flags, section, queryOf, decode}
 use Rattle.logic.specs.Calls.{Input, layoutCheck, byteCheck, queryChecks, refusalOf}
-use Rattle.logic.proofs.Basics.Search.{and-left, and-right, and-intro, or-left, or-right, bool-cases}
+use Rattle.logic.proofs.Basics.Search.{and-left, and-right, and-intro, or-left, or-right}
 use Rattle.logic.proofs.Basics.Count.{length-from, length-flatMap}
-use Rattle.logic.proofs.Basics.Compare.{eq-cases, eqb-intro, cond-false}
-use Rattle.logic.proofs.Query.Bytes.{Checked, Allows, Allowed}
+use Rattle.logic.proofs.Query.Bytes.{Allows, Allowed}
 use Rattle.logic.proofs.Query.Tied.{Accepted, InTerms, ToEight}
 use Rattle.encoding.specs.QueryBytes.{signByte, literalBytes, flagBytes, sectionBytes, encode, withinLimits}
 

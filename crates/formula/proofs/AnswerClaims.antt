@@ -3,17 +3,16 @@ use Prim.Native.Nat.{ℕ, zero, suc, _≤_}
 use native.Mathlib.Omega.{arith}
 use mathlib.Core.Path.{_≡_, refl, sym, ap, _∙_, subst}
 use mathlib.Core.List.{List, [], _∷_}
-use mathlib.Core.Option.{none, some}
+use mathlib.Core.Option.{some}
 use lib.ListN.{length, replicate, length-replicate}
 use Rattle.logic.specs.Search.{at}
 use Rattle.logic.specs.Query.{Query, decode}
-use Rattle.logic.specs.Calls.{verdictCall}
 use Rattle.logic.proofs.Basics.Search.{none-some}
 use Rattle.logic.proofs.Calls.Demands.{demand1}
 use Rattle.formula.specs.Grammar.{Formula, disjunction, Reads}
 use Rattle.formula.specs.Expansion.{Conjunction, expand}
-use Rattle.formula.specs.Call.{Input, Outcome, Answer, refused, refuted, conjunction, queryOf, verdictOn, formulaCall}
-use Rattle.formula.specs.ReadingClaims.{Accepted, Taken}
+use Rattle.formula.specs.Call.{Input, Answer, refused, refuted, conjunction, queryOf, verdictOn, formulaCall}
+use Rattle.formula.specs.ReadingClaims.{Taken}
 use Rattle.formula.specs.AnswerClaims.{SatisfiableFormula, FirstSatisfiable, AnswerClaims, FormulaClaims, OneAnswer}
 use Rattle.formula.proofs.Complete as complete
 use Rattle.formula.proofs.RefusalClaims.{refusal-claims}

@@ -2,30 +2,27 @@
 use Prim.Native.Nat.{ℕ, zero, suc, _+_, _≤_, _<_}
 use native.Mathlib.Omega.{arith}
 use mathlib.Core.Path.{_≡_, refl, sym, ap, _∙_, subst}
-use mathlib.Core.Logic.{_⊎_, ⊎-elim, inl, inr, _↔_}
+use mathlib.Core.Logic.{⊎-elim}
 use mathlib.Core.Bool.{Bool, true, false, cond, false≢true}
-use mathlib.Core.List.{List, [], _∷_, List·Memᴰ, List·Memᴰ·head, List·Memᴰ·tail, List·Memᴰ·not-nil, List·Memᴰ·cases-cons}
+use mathlib.Core.List.{List, [], _∷_, List·Memᴰ, List·Memᴰ·head, List·Memᴰ·not-nil, List·Memᴰ·cases-cons}
 use mathlib.Core.Option.{none, some}
-use lib.ListN.{length, replicate}
-use Rattle.logic.specs.Search.{at, keep}
-use Rattle.logic.specs.Query.{Query, isOrder, decode, termCount}
+use Rattle.logic.specs.Search.{at}
+use Rattle.logic.specs.Query.{Query, decode, termCount}
 use Rattle.logic.specs.Heap.{Heap, Meets, Satisfiable, value}
 use Rattle.logic.specs.Shown.{heapIn, nodeIn, wellFormed}
-use Rattle.logic.specs.Calls.{Check, orderCheck, queryChecks, derivationChecks, verdictChecks, refusalOf, accepts, verdictCall}
+use Rattle.logic.specs.Calls.{Check, orderCheck, derivationChecks, verdictChecks, refusalOf, accepts, verdictCall}
 use Rattle.logic.specs.Calls as calls
 use Rattle.logic.specs.Demands.{NotRefused, NoneStands}
 use Rattle.logic.proofs.Basics.Search.{none-some, true-false, bool-cases}
 use Rattle.logic.proofs.Basics.Compare.{le-cases, cond-true, cond-false}
-use Rattle.logic.proofs.Completeness.Placed.{at-mem}
 use Rattle.logic.proofs.Calls.CheckingOrder.{first-stands}
 use Rattle.logic.proofs.Calls.CallLaws.{refusalOf-none, accepts-checks, derivation-known, verdict-clear, verdict-passed}
 use Rattle.logic.proofs.Calls.Demands.{demand1, demand2}
-use Rattle.encoding.specs.QueryBytes.{encode}
 use Rattle.encoding.proofs.Encoded.{Encodable, decoded}
 use Rattle.encoding.proofs.Decoded.{accepted-encodable, part-encodable, encoded-accepts}
 use Rattle.formula.specs.Grammar.{Formula}
 use Rattle.formula.specs.Expansion.{Conjunction, expand}
-use Rattle.formula.specs.Meaning.{Holds, bare, MeetsFormula, present, AllPresent, restricted}
+use Rattle.formula.specs.Meaning.{MeetsFormula, present, AllPresent, restricted}
 use Rattle.formula.specs.Call.{Input, Outcome, Answer, refused, refuted, conjunction, blank, queryOf, verdictOn, isSatisfiable, firstOf}
 use Rattle.formula.specs.AnswerClaims.{SatisfiableFormula, FirstSatisfiable, ShowsFormula, AnswerClaims}
 use Rattle.formula.proofs.Conjunctions.{holds-some, some-holds, all-named, at-own, restricted-part, meets-bare, meets-named, named-meets}

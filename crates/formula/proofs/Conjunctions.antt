@@ -3,18 +3,17 @@
 use Prim.Native.Nat.{ℕ, zero, suc, _+_, _≤_}
 use native.Mathlib.Omega.{arith}
 use mathlib.Core.Path.{_≡_, refl, sym, ap, _∙_, subst}
-use mathlib.Core.Logic.{_⊎_, ⊎-elim, inl, inr, _↔_}
+use mathlib.Core.Logic.{⊎-elim, inl, inr}
 use mathlib.Core.Bool.{Bool, true, false, cond}
 use mathlib.Core.List.{List, [], _∷_, _++_, map, List·Memᴰ, List·Memᴰ·head, List·Memᴰ·tail, List·Memᴰ·not-nil, List·Memᴰ·cases-cons, List·Memᴰ·append-cases, Memᴰ·append-left, Memᴰ·append-right}
 use mathlib.Core.Option.{some}
 use lib.ListN.{length}
-use lib.Dec.{eqb, leb}
+use lib.Dec.{eqb}
 use borrow.Author.Tests.{eqb-true, eq-eqb, leb-true}
 use Rattle.logic.specs.Search.{_and_, at}
 use Rattle.logic.specs.Query.{Literal, Query}
 use Rattle.logic.specs.Heap.{Heap, Meets, Each}
 use Rattle.logic.proofs.Basics.Search.{none-some, and-left, and-right, and-intro, any-true, any-intro, flatMap-mem, flatMap-intro, map-mem, map-intro}
-use Rattle.logic.proofs.Completeness.Placed.{at-mem}
 use Rattle.encoding.proofs.Decoded.{Fewer, Part-of}
 use Rattle.formula.specs.Grammar.{Letter, E, R, D, B, letterByte, Formula, literal, both, either}
 use Rattle.formula.specs.Expansion.{Name, Conjunction, expand}

@@ -13,7 +13,7 @@ use Rattle.logic.specs.Shown.{heapIn, nodeIn, wellFormed}
 use Rattle.logic.specs.Demands.{NotRefused}
 use Rattle.formula.specs.Grammar.{Formula, literal}
 use Rattle.formula.specs.Expansion.{Name, Conjunction, expand}
-use Rattle.formula.specs.Meaning.{Holds, bare, MeetsFormula, present, AllPresent, restricted}
+use Rattle.formula.specs.Meaning.{Holds, bare, MeetsFormula, restricted}
 use Rattle.formula.specs.Call.{Input, Outcome, refuted, conjunction, verdictOn, formulaCall}
 use Rattle.formula.specs.ReadingClaims.{Taken}
 

@@ -4,7 +4,7 @@ use mathlib.Core.Path.{_≡_}
 use mathlib.Core.List.{List, [], _∷_, map}
 use Rattle.logic.specs.Calls.{padded}
 use Rattle.formula.specs.Grammar.{Letter, E, R, D, Formula, literal, both, either}
-use Rattle.formula.specs.Expansion.{Name, Conjunction, expand}
+use Rattle.formula.specs.Expansion.{Name, expand}
 use Rattle.formula.specs.Call.{Input, Outcome, refuted, conjunction, blank, formulaCall}
 
 unfoldable pub name : Letter → ℕ → Name
