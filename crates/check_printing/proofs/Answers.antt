@@ -77,7 +77,7 @@ module _ (c : ℕ) (cs ns : List ℕ) (place value : ℕ) (begun : Bool) (l : pl
   unfolding newlines
   end-counted ms e f ih = omega (arith, ih, ends-place place begun c l e, ap length f)
 
-numbers-length : (text ns : List ℕ) (place value : ℕ) (begun : Bool) → place ≤ 3 → numbersFrom place value begun text ≡ some ns → length ns + place ≡ 4 * newlines text
+pub numbers-length : (text ns : List ℕ) (place value : ℕ) (begun : Bool) → place ≤ 3 → numbersFrom place value begun text ≡ some ns → length ns + place ≡ 4 * newlines text
 unfolding numbersFrom newlines
 numbers-length [] ns place value begun l h =
     let (b, e) = keep-some (isBetween place begun) h in omega (arith, between-place place begun b, ap length e)
@@ -153,7 +153,7 @@ size-is bytes e f = omega arith
 
 -- the query and what stands behind it among the bytes that are read
 module _ (bytes : List ℕ) (size from to : ℕ) (s : size ≡ countIn bytes) (f : from ≡ min (length bytes) 2) (t : to ≡ min (length bytes) (2 + size)) where
-  query-read : take (to - from) (drop from bytes) ≡ take size (drop 2 bytes)
+  pub query-read : take (to - from) (drop from bytes) ≡ take size (drop 2 bytes)
   query-read = ⊎-elim long short (le-cases 2 (length bytes))
     where
       short : length bytes < 2 → take (to - from) (drop from bytes) ≡ take size (drop 2 bytes)
@@ -179,7 +179,7 @@ module _ (bytes : List ℕ) (size from to : ℕ) (s : size ≡ countIn bytes) (f
       (λ (m : length bytes < 2 + size). drop-of-length-le bytes {i = to} (omega arith) ∙ sym (drop-of-length-le bytes {i = 2 + size} (omega arith)))
       (le-cases (2 + size) (length bytes))
 
-  rest-whole : take (length bytes - to) (drop to bytes) ≡ drop (2 + size) bytes
+  pub rest-whole : take (length bytes - to) (drop to bytes) ≡ drop (2 + size) bytes
   rest-whole = take-all (length bytes - to) (drop to bytes) (omega (arith, length-drop to bytes)) ∙ rest-read
 
   pub input-read : checkedText (checkCall (take (to - from) (drop from bytes)) (derivationIn (take (length bytes - to) (drop to bytes)))) ≡ checkderivationText bytes

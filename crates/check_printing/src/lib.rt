@@ -19,7 +19,7 @@ fn wide(x: u8) -> usize
 }
 
 // The bytes begin with this word.
-fn begins(bytes: &[u8], word: &[u8]) -> bool
+pub fn begins(bytes: &[u8], word: &[u8]) -> bool
     ensures { λ r. ⌜ r ≡ begins (now (word .entry)) (now (bytes .entry)) ⌝ }
 {
     let mut i: usize = 0;
@@ -78,7 +78,7 @@ fn is_between(place: usize, begun: bool) -> bool
 }
 
 // The numbers of the lines of a text, a byte each; 0 where it is no text of lines.
-fn put_numbers(buffer: &mut [u8], at: usize, text: &[u8]) -> usize
+pub fn put_numbers(buffer: &mut [u8], at: usize, text: &[u8]) -> usize
     requires { ⌜ (at ≤ 1000) × (length (now text) ≤ 256000) ⌝ }
     ensures { λ r. ⌜ Puts (now (buffer .entry)) at (numbersFrom 0 0 false (now (text .entry))) (now (buffer .exit)) r ⌝ }
 {
@@ -191,7 +191,7 @@ fn put_checked(buffer: &mut [u8], query: &[u8], rest: &[u8]) -> usize
 }
 
 // The smaller of two numbers.
-fn at_most(n: usize, most: usize) -> usize
+pub fn at_most(n: usize, most: usize) -> usize
     ensures { λ r. ⌜ r ≡ min n most ⌝ }
 {
     if most < n {
