@@ -1,4 +1,4 @@
-//! The proved library behind its two C functions (../include/lemitsaka.h).
+//! The proved library behind its C functions (../include/lemitsaka.h).
 
 extern "C" {
     fn lemitsaka_verdict(
@@ -17,6 +17,12 @@ extern "C" {
         buffer: *mut u8,
         buffer_len: usize,
     ) -> u64;
+    fn lemitsaka_check(query: *const u8, query_len: usize, derivation: *const u8, derivation_len: usize) -> u64;
+}
+
+pub fn check(query: &[u8], derivation: &[u8]) -> u64 {
+    // Sound: two live slices.
+    unsafe { lemitsaka_check(query.as_ptr(), query.len(), derivation.as_ptr(), derivation.len()) }
 }
 
 pub fn verdict(order: &[u8], query: &[u8], report: &mut [u8]) -> u64 {

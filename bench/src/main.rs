@@ -3,6 +3,8 @@
 mod between;
 mod check;
 #[cfg(feature = "library")]
+mod derivations;
+#[cfg(feature = "library")]
 mod differential;
 mod edges;
 mod enumerate;
@@ -36,6 +38,7 @@ differential N SEED           (feature library) compare library and reference on
 heapverdict                   be the program heapverdict
 between FILE                  compare the plain search of R-10 with its vectors
 between                       time it on slow queries
+derivations DIR               (feature library) time the checking call on 16,000 lines, beside a rule step of the workloads in DIR
 shares RULESHARES DIR N       (feature library) time ruleshares on N queries of workload-programs, beside the calls";
 
 fn main() -> ExitCode {
@@ -79,7 +82,10 @@ fn run(words: &[&str]) -> Result<bool, String> {
         }
         ["time", directory] => time(Path::new(directory)),
         ["differential", count, seed] => differential(number(count)? as usize, number(seed)?),
-        ["shares", program, directory, count] => shares(Path::new(program), Path::new(directory), number(count)? as usize),
+        ["shares", program, directory, count] => {
+            shares(Path::new(program), Path::new(directory), number(count)? as usize)
+        }
+        ["derivations", directory] => derivations(Path::new(directory)),
         ["between", file] => between::compare(Path::new(file)),
         ["between"] => {
             between::time();
@@ -112,6 +118,16 @@ fn differential(count: usize, seed: u64) -> Result<bool, String> {
 
 #[cfg(not(feature = "library"))]
 fn differential(_: usize, _: u64) -> Result<bool, String> {
+    Err("built without the feature library".into())
+}
+
+#[cfg(feature = "library")]
+fn derivations(directory: &Path) -> Result<bool, String> {
+    derivations::run(directory)
+}
+
+#[cfg(not(feature = "library"))]
+fn derivations(_: &Path) -> Result<bool, String> {
     Err("built without the feature library".into())
 }
 

@@ -26,21 +26,27 @@ pub fn best(inputs: &[Vec<u8>], rounds: usize, verdict: Verdict) -> f64 {
     best * 1e6 / inputs.len() as f64
 }
 
+/// The rule steps of all walks, and how many queries are satisfiable.
+pub fn counts(name: &str, inputs: &[Vec<u8>]) -> Result<(u64, usize), String> {
+    let mut steps = 0;
+    let mut satisfiable = 0;
+    for input in inputs {
+        let (order, query) = input.split_at(8);
+        let order = reference::check_order(order).map_err(|r| format!("{name}: {r:?}"))?;
+        let query = reference::check_query(query).map_err(|r| format!("{name}: {r:?}"))?;
+        let mut scribe = reference::Scribe::new(u64::MAX);
+        let (end, _) = reference::walk(&order, &query, &mut scribe);
+        satisfiable += usize::from(end == reference::End::Satisfiable);
+        steps += scribe.steps;
+    }
+    Ok((steps, satisfiable))
+}
+
 pub fn run(directory: &Path, others: &[(&str, Verdict)]) -> Result<bool, String> {
     const ROUNDS: usize = 400;
     for name in WORKLOADS {
         let inputs = vectors::read_bin(&directory.join(format!("{name}.bin")))?;
-        let mut steps = 0;
-        let mut satisfiable = 0;
-        for input in &inputs {
-            let (order, query) = input.split_at(8);
-            let order = reference::check_order(order).map_err(|r| format!("{name}: {r:?}"))?;
-            let query = reference::check_query(query).map_err(|r| format!("{name}: {r:?}"))?;
-            let mut scribe = reference::Scribe::new(u64::MAX);
-            let (end, _) = reference::walk(&order, &query, &mut scribe);
-            satisfiable += usize::from(end == reference::End::Satisfiable);
-            steps += scribe.steps;
-        }
+        let (steps, satisfiable) = counts(name, &inputs)?;
         println!("{name}: {} queries, {satisfiable} satisfiable, {steps} rule steps", inputs.len());
         let own: Verdict = &|order, query, report| reference::encode(reference::verdict(order, query, report));
         let mut base = 0.0;

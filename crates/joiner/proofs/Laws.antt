@@ -214,21 +214,5 @@ flags-long bytes at count h =
     length-flatMap flagBytes 2 (λ l. refl) (flags (take (2 * count) (drop at bytes)))
     ∙ ap (λ (k : ℕ). k * 2) (ap length (flags-are bytes at count h) ∙ listed-length (flagIn bytes at) count)
 
--- Clearing
-
-zeros-more : (i : ℕ) (xs : List ℕ) → replicate i 0 ++ (0 ∷ xs) ≡ replicate (suc i) 0 ++ xs
-zeros-more zero xs = refl
-zeros-more (suc i) xs = ap (λ (ys : List ℕ). 0 ∷ ys) (zeros-more i xs)
-
-module _ (xs : List ℕ) (i : ℕ) where
-  pub clear-more : i < length xs → set (replicate i 0 ++ drop i xs) i 0 ≡ replicate (i + 1) 0 ++ drop (i + 1) xs
-  clear-more h =
-      rw (add-one i, drop-cons xs i 0 h) (set-at (replicate i 0) (getD xs i 0) (drop (suc i) xs) 0 i (length-replicate i 0) ∙ zeros-more i (drop (suc i) xs))
-
-  pub clear-all : length xs ≤ i → i ≤ length xs → replicate i 0 ++ drop i xs ≡ replicate (length xs) 0
-  clear-all h k =
-      let e : i ≡ length xs = omega arith in
-      ap (λ (ys : List ℕ). replicate i 0 ++ ys) (drop-of-length-le xs h) ∙ append-nil (replicate i 0) ∙ ap (λ (j : ℕ). replicate j 0) e
-
 pub pair-is : {a b i j : ℕ} → a ≡ i → b ≡ j → pairOf a b ≡ pairOf i j
 pair-is e f = rw (e, f)

@@ -326,17 +326,6 @@ fn keeps_limits(f: Layout, s: Layout, count: usize) -> bool
     terms & equal & reach & field & boolean
 }
 
-// All bytes are zero.
-fn clear(buffer: &mut [u8])
-    ensures { λ r. ⌜ now (buffer .exit) ≡ replicate (length (now (buffer .entry))) 0 ⌝ }
-{
-    let mut i: usize = 0;
-    while i < buffer.len() {
-        buffer[i] = 0;
-        i += 1;
-    }
-}
-
 // Two queries that pass their checks, joined in a blank buffer.
 fn join_checked(
     first: &[u8],
@@ -360,7 +349,7 @@ fn join_checked(
     }
     let length = put_query(first, f, second, s, pairs, out);
     if out.len() < length {
-        clear(out);
+        report::clear(out);
         return JoinAnswer::Refused(24, 0);
     }
     JoinAnswer::Written(length)
@@ -371,7 +360,7 @@ fn join_checked(
 pub fn join(first: &[u8], second: &[u8], pairs: &[u8], out: &mut [u8]) -> JoinAnswer
     ensures { λ r. ⌜ Does (joinCall (now (first .entry)) (now (second .entry)) (now (pairs .entry)) (length (now (out .entry)))) r (now (out .exit)) ⌝ }
 {
-    clear(out);
+    report::clear(out);
     match query::check(first) {
         Checked::Refused(k, place) => JoinAnswer::FirstRefused(k, place),
         Checked::Accepted(f) => match query::check(second) {

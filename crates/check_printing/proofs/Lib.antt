@@ -1,0 +1,4 @@
+pub mod Reading
+pub mod Answers
+pub mod RoundTrip
+pub mod Examples

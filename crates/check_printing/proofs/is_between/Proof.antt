@@ -1,0 +1,14 @@
+-- Assumes nothing.
+use borrow.Author.Needs.{needs}
+use Rattle.check_printing.proofs.Reading.{between-not, between-place}
+use Rattle.check_printing.proofs.is_between.Statement.{statement}
+use Rattle.check_printing.proofs.is_between.Tie as tie
+
+pub is-between-spec : {M : Type 1} → statement M
+is-between-spec =
+    tie.close
+    (tie.spec
+    -- returns
+    (λ c. between-not _ (c .if1 .taken))
+    -- returns-2
+    (λ c. between-place _ (c .if1 .left)))

@@ -1,0 +1,17 @@
+-- Assumes nothing.
+use borrow.Author.Needs.{needs}
+use native.Mathlib.Omega.{arith}
+use Rattle.check_printing.proofs.Reading.{place-on, place-back}
+use Rattle.check_printing.proofs.next_place.Statement.{statement}
+use Rattle.check_printing.proofs.next_place.Tie as tie
+
+pub next-place-spec : {M : Type 1} → statement M
+next-place-spec =
+    tie.close
+    (tie.spec
+    -- add-result
+    (λ c. omega arith)
+    -- returns
+    (λ c. (place-on _ (c .if1 .taken), omega arith))
+    -- returns-2
+    (λ c. (place-back _ (c .if1 .left), omega arith)))

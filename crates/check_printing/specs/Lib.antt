@@ -1,0 +1,3 @@
+pub mod CheckText
+pub mod Puts
+pub mod Examples

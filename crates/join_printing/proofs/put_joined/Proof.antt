@@ -1,0 +1,64 @@
+-- Assumes nothing.
+use borrow.Author.Needs.{needs}
+use Prim.Native.Nat.{ℕ}
+use native.Mathlib.Omega.{arith}
+use mathlib.Core.Path.{sym}
+use lib.ListN.{length-replicate}
+use lib.Seq.{length-take-le}
+use Rattle.text.proofs.Writing.{writes-as}
+use Rattle.join_printing.proofs.Texts.{taken-within, written-text, first-text, second-text, refused-text}
+use Rattle.join_printing.proofs.put_joined.Statement.{statement}
+use Rattle.join_printing.proofs.put_joined.Tie as tie
+
+pub put-joined-spec : {M : Type 1} → statement M
+put-joined-spec =
+    tie.close
+    (tie.spec
+    -- slice-aggregate-join
+    (λ c. search needs)
+    -- join-requires
+    (λ c κs. search needs)
+    -- enum-known-length
+    (λ c. search needs)
+    -- at-most-requires
+    (λ c κs. search needs)
+    -- array-share-prefix-out
+    (λ c. omega arith)
+    -- slice-aggregate-put-hex-line
+    (λ c. sym (length-take-le _ _ (omega arith)))
+    -- put-hex-line-requires
+    (λ c κs. (omega arith, taken-within (c .before .before .at-most .result) _ _ (omega arith)))
+    -- enum-known-k
+    (λ c. search needs)
+    -- slice-aggregate-put-refusal
+    (λ c. search needs)
+    -- put-refusal-requires
+    (λ c κs. search needs)
+    -- enum-known-k-2
+    (λ c. search needs)
+    -- slice-aggregate-put-refusal-2
+    (λ c. search needs)
+    -- put-refusal-requires-2
+    (λ c κs. search needs)
+    -- enum-known-k-3
+    (λ c. search needs)
+    -- slice-aggregate-put-refusal-3
+    (λ c. search needs)
+    -- put-refusal-requires-3
+    (λ c κs. search needs)
+    -- same-length
+    (λ c. search needs)
+    -- returns
+    (λ c. writes-as (written-text _ _ _ _ _ _ (c .before .before .before .before .before .before .before .before .before .before .join .ensures) (length-replicate {A = ℕ} 681 0) _ _ (c .before .before .before .before .before .before .before .length .given .1) (c .before .before .before .before .before .at-most .ensures) (c .before .before .before .before .before .before .before .before .before .before .join .kept .1 .1 .1 .0)) (c .before .before .put-hex-line .ensures))
+    -- same-length-2
+    (λ c. search needs)
+    -- returns-2
+    (λ c. writes-as (first-text _ _ _ _ _ _ (c .before .before .before .before .before .before .before .before .before .join .ensures) (length-replicate {A = ℕ} 681 0) _ _ (c .before .before .before .before .before .before .k .given .1)) (c .before .before .put-refusal .ensures))
+    -- same-length-3
+    (λ c. search needs)
+    -- returns-3
+    (λ c. writes-as (second-text _ _ _ _ _ _ (c .before .before .before .before .before .before .before .before .before .join .ensures) (length-replicate {A = ℕ} 681 0) _ _ (c .before .before .before .before .before .before .k2 .given .1)) (c .before .before .put-refusal2 .ensures))
+    -- same-length-4
+    (λ c. search needs)
+    -- returns-4
+    (λ c. writes-as (refused-text _ _ _ _ _ _ (c .before .before .before .before .before .before .before .before .before .join .ensures) (length-replicate {A = ℕ} 681 0) _ _ (c .before .before .before .before .before .before .k3 .given .1)) (c .before .before .put-refusal3 .ensures)))

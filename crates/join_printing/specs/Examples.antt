@@ -1,0 +1,35 @@
+-- What joinqueries prints of samples: the two teams of README, and refusals.
+use Prim.Native.Nat.{ℕ}
+use mathlib.Core.Path.{_≡_}
+use mathlib.Core.List.{List, [], _∷_, _++_, map}
+use Rattle.text.specs.Text.{ascii}
+use Rattle.join_printing.specs.JoinText.{joinqueriesText}
+
+pub record Print : Type 0 where
+  pub input : List ℕ
+  pub text : List ℕ
+
+-- term 1 the head, term 2 nil, 1 = 2; and term 1 the argument, term 2 its link, not 2 = 1
+unfoldable pub teams : List ℕ
+teams =
+    0 ∷ 10 ∷ 2 ∷ 0 ∷ 255 ∷ 1 ∷ 1 ∷ 1 ∷ 2 ∷ 0 ∷ 0 ∷ 0
+    ∷ 0 ∷ 10 ∷ 2 ∷ 0 ∷ 1 ∷ 1 ∷ 0 ∷ 2 ∷ 1 ∷ 0 ∷ 0 ∷ 0 ∷ []
+
+unfoldable pub prints : List Print
+prints =
+    record { input = teams ++ (1 ∷ 1 ∷ 1 ∷ []); text = ascii "04 00 ff 00 03 03 01 01 02 00 04 03 01 01 03 00 00 00\n" }
+    ∷ record { input = teams ++ ascii "9 2 2 0\n"; text = ascii "second query at 4: 00 02 01\n" }
+    ∷ record { input = teams ++ ascii "9 2 1 0\n"; text = ascii "first query at 4: 01 01 02\n" }
+    -- the equality of the pair is no literal of either; a line that is cut
+    ∷ record { input = teams ++ ascii "9 2 3 0\n"; text = ascii "refused 25 at 0\n" }
+    ∷ record { input = teams ++ ascii "9 2 2\n"; text = ascii "refused 25 at 0\n" }
+    -- a pair with a term that the second lacks; none
+    ∷ record { input = teams ++ (1 ∷ 1 ∷ 3 ∷ []); text = ascii "refused 23 at 0\n" }
+    ∷ record { input = teams; text = ascii "refused 23 at 0\n" }
+    -- which query a refusal is about
+    ∷ record { input = 0 ∷ 1 ∷ 17 ∷ []; text = ascii "refused 3 at 0 of the first query\n" }
+    ∷ record { input = 0 ∷ 5 ∷ 0 ∷ 0 ∷ 0 ∷ 0 ∷ 0 ∷ 0 ∷ 1 ∷ 17 ∷ ascii "9 2 2 0\n"; text = ascii "refused 3 at 0 of the second query\n" }
+    ∷ []
+
+abbrev pub PrintsHold : Type 0
+PrintsHold = map (λ (p : Print). joinqueriesText (p .input)) prints ≡ map (λ (p : Print). p .text) prints

@@ -1,0 +1,2 @@
+pub mod JoinText
+pub mod Examples
