@@ -3,9 +3,9 @@ use Prim.Native.Nat.{ℕ, zero, suc, _+_, _-_, _/_, _^_, _≤_, _<_}
 use native.Mathlib.Omega.{arith}
 use mathlib.Core.Path.{_≡_, refl, sym, ap, ap₂, _∙_, subst}
 use mathlib.Core.Logic.{⊎-elim}
-use mathlib.Core.Bool.{Bool, true, false, not}
+use mathlib.Core.Bool.{Bool, true, false, not, _&&_, _||_}
 use mathlib.Core.List.{List, [], _∷_, List·Memᴰ, List·Memᴰ·tail}
-use mathlib.Core.Option.{Option, none, some}
+use mathlib.Core.Option.{Option, none, some, Option·elim}
 use lib.ListN.{getD}
 use lib.Bits.{bitAnd, bitOr}
 use lib.Dec.{eqb, ltb}
@@ -13,7 +13,7 @@ use borrow.Author.Tests.{lt-ltb, ltb-true, ne-eqb}
 use Rattle.logic.specs.Search.{_and_, _or_, from, firstOf, find, orElse, select}
 use Rattle.logic.specs.Heap.{iterate}
 use Rattle.logic.specs.Facts.{Graph}
-use Rattle.logic.specs.Rules.{Rule, REFLEX, TRANS1, TRANS2, FUNC, CYCLE, SCC, TOTAL, SHARE, Triple, next}
+use Rattle.logic.specs.Rules.{Rule, REFLEX, TRANS1, TRANS2, FUNC, CYCLE, SCC, TOTAL, SHARE, Triple, next, ruleOf}
 use Rattle.logic.proofs.Basics.Search.{none-some, and-left, and-right, and-false-cases, true-false, find-some, select-mem, select-intro}
 use Rattle.logic.proofs.Basics.Compare.{eq-cases}
 use Rattle.facts.specs.Bits.{bit}
@@ -24,7 +24,7 @@ use Rattle.facts.proofs.Words.{bit-single}
 use Rattle.facts.proofs.Square.{square-in}
 use Rattle.facts.proofs.Finds.{find-in, find-no-bit, first-masked, select-rest}
 use Rattle.facts.proofs.Successors.{select-none}
-use Rattle.rules.specs.Tests.{pairTest, thirdTest, looped}
+use Rattle.rules.specs.Tests.{pairTest, thirdTest, looped, twoWay, looksBack}
 use Rattle.rules.specs.Smallest.{inThird, inSecond}
 use Rattle.rules.specs.Cycle.{stepsTo}
 use Rattle.rules.proofs.Nested.{third-none}
@@ -33,7 +33,7 @@ use Rattle.rules.proofs.Around.{passed-on, passed-turn, passed-stuck, s
 eqb-turned : (a b : ℕ) → eqb a b ≡ eqb b a
 eqb-turned a b = ⊎-elim (λ e. rw e) (λ d. d .1 ∙ sym (ne-eqb b a (λ e. d .0 (sym e)))) (eq-cases a b)
 
-module _ (link reach back : List ℕ) (t : Turned back reach) where
+module _ (link reach : List ℕ) where
   -- what the rows of x have, as the graph says it
   module _ (x y : ℕ) (h : x ≤ 16) (k : y ≤ 16) where
     pub near-bit : bit (getD link x 0) y ≡ graphOf link reach .link x y
@@ -43,10 +43,6 @@ module _ (link reach back : List ℕ) (t : Turned back reach) where
     pub far-bit : bit (getD reach x 0) y ≡ graphOf link reach .reach x y
     unfolding graphOf
     far-bit = sym (square-in reach x y h k)
-
-    pub back-bit : bit (getD back x 0) y ≡ graphOf link reach .reach y x
-    unfolding graphOf
-    back-bit = sym (square-in back x y h k) ∙ t x y
 
   -- the second number
   module _ (alive : ℕ) (x : ℕ) (h : x ≤ 16) (y : ℕ) (k : y ≤ 16) where
@@ -58,9 +54,6 @@ module _ (link reach back : List ℕ) (t : Turned back reach) where
     unfolding pairTest
     pair-trans1 w e = e y ∙ ap₂ (λ a b. a and not b) (near-bit x y h k) (far-bit x y h k)
 
-    pub pair-mutual : (o w : ℕ) → ((i : ℕ) → bit o i ≡ eqb i x) → ((i : ℕ) → bit w i ≡ bit (bitAnd (getD reach x 0) (getD back x 0)) i and not (bit o i)) → bit w y ≡ (graphOf link reach .reach x y and graphOf link reach .reach y x and not (eqb x y))
-    pair-mutual o w f e = e y ∙ ap₂ (λ a b. a and not b) (bit-and (getD reach x 0) (getD back x 0) y ∙ ap₂ _and_ (far-bit x y h k) (back-bit x y h k)) (f y ∙ eqb-turned y x)
-
   -- the third
   module _ (x y z : ℕ) (h : x ≤ 16) (k : y ≤ 16) (l : z ≤ 16) where
     pub third-trans2 : (w : ℕ) → ((i : ℕ) → bit w i ≡ bit (getD reach y 0) i and not (bit (getD reach x 0) i)) → bit w z ≡ thirdTest (graphOf link reach) x y z TRANS2
@@ -71,17 +64,27 @@ module _ (link reach back : List ℕ) (t : Turned back reach) where
     unfolding thirdTest
     third-func o v w f d e = e z ∙ ap₂ (λ a b. a and not b) (d z ∙ ap₂ (λ a b. a and not b) (far-bit x z h l) (f z ∙ eqb-turned z x)) (far-bit y z k l)
 
-    pub third-scc : (w : ℕ) → ((i : ℕ) → bit w i ≡ bit (getD reach x 0) i and not (bit (getD back x 0) i)) → bit w z ≡ thirdTest (graphOf link reach) x y z SCC
-    unfolding thirdTest
-    third-scc w e = e z ∙ ap₂ (λ a b. a and not b) (far-bit x z h l) (back-bit x z h l)
-
-    pub third-total : (v w : ℕ) → ((i : ℕ) → bit v i ≡ bit (getD reach x 0) i and not (bit (getD reach y 0) i)) → ((i : ℕ) → bit w i ≡ bit v i and not (bit (getD back y 0) i)) → bit w z ≡ thirdTest (graphOf link reach) x y z TOTAL
-    unfolding thirdTest
-    third-total v w d e = e z ∙ ap₂ (λ a b. a and not b) (d z ∙ ap₂ (λ a b. a and not b) (far-bit x z h l) (far-bit y z k l)) (back-bit y z k l)
-
     pub third-share : bit (bitAnd (getD link x 0) (getD link y 0)) z ≡ thirdTest (graphOf link reach) x y z SHARE
     unfolding thirdTest
     third-share = bit-and (getD link x 0) (getD link y 0) z ∙ ap₂ _and_ (near-bit x z h l) (near-bit y z k l)
+
+  -- with reachability turned round
+  module _ (back : List ℕ) (t : Turned back reach) where
+    back-bit : (x y : ℕ) → x ≤ 16 → y ≤ 16 → bit (getD back x 0) y ≡ graphOf link reach .reach y x
+    unfolding graphOf
+    back-bit x y h k = sym (square-in back x y h k) ∙ t x y
+
+    pub pair-mutual : (x : ℕ) (h : x ≤ 16) (y : ℕ) (k : y ≤ 16) (o w : ℕ) → ((i : ℕ) → bit o i ≡ eqb i x) → ((i : ℕ) → bit w i ≡ bit (bitAnd (getD reach x 0) (getD back x 0)) i and not (bit o i)) → bit w y ≡ (graphOf link reach .reach x y and graphOf link reach .reach y x and not (eqb x y))
+    pair-mutual x h y k o w f e = e y ∙ ap₂ (λ a b. a and not b) (bit-and (getD reach x 0) (getD back x 0) y ∙ ap₂ _and_ (far-bit x y h k) (back-bit x y h k)) (f y ∙ eqb-turned y x)
+
+    module _ (x y z : ℕ) (h : x ≤ 16) (k : y ≤ 16) (l : z ≤ 16) where
+      pub third-scc : (w : ℕ) → ((i : ℕ) → bit w i ≡ bit (getD reach x 0) i and not (bit (getD back x 0) i)) → bit w z ≡ thirdTest (graphOf link reach) x y z SCC
+      unfolding thirdTest
+      third-scc w e = e z ∙ ap₂ (λ a b. a and not b) (far-bit x z h l) (back-bit x z h l)
+
+      pub third-total : (v w : ℕ) → ((i : ℕ) → bit v i ≡ bit (getD reach x 0) i and not (bit (getD reach y 0) i)) → ((i : ℕ) → bit w i ≡ bit v i and not (bit (getD back y 0) i)) → bit w z ≡ thirdTest (graphOf link reach) x y z TOTAL
+      unfolding thirdTest
+      third-total v w d e = e z ∙ ap₂ (λ a b. a and not b) (d z ∙ ap₂ (λ a b. a and not b) (far-bit x z h l) (far-bit y z k l)) (back-bit y z k l)
 
 -- a search over the numbers of a row, one after the other
 module _ (n : ℕ) (few : n ≤ 16) (alive : ℕ → Bool) (g : Graph) (r : Rule) (l : looped r ≡ true) (x : ℕ) where
@@ -121,6 +124,38 @@ module _ (n : ℕ) (few : n ≤ 16) (alive : ℕ → Bool) (g : Graph) (r : Rule
   pub left-here : (w a : ℕ) → 0 < w → w < 2 ^ 32 → find (bit w) (from 32 0) ≡ some a → Left w → (t : Triple) → inThird n alive g r x a ≡ some t → inSecond n alive g r x ≡ some t
   unfolding firstOf orElse
   left-here w a p h e m t f = m .1 ∙ ap (firstOf (inThird n alive g r x)) (select-rest w a p h e) ∙ rw f
+
+-- a rule's number says whether it reads reachability both ways
+pub looks-as : (k : ℕ) (o : Option Rule) → ruleOf k ≡ o → looksBack k ≡ Option·elim o false twoWay
+unfolding looksBack
+looks-as k o e = ap (λ (p : Option Rule). Option·elim p false twoWay) e
+
+pub looks-some : (k : ℕ) (r : Rule) → ruleOf k ≡ some r → looksBack k ≡ twoWay r
+unfolding Option·elim
+looks-some k r e = looks-as k (some r) e
+
+-- once it was turned round it stays so
+pub turned-kept : (reach before back : List ℕ) (t w : Bool) → (t ≡ true → Turned before reach) → ((w && not t) ≡ true → Turned back reach) → ((w && not t) ≡ false → back ≡ before) → (t || w) ≡ true → Turned back reach
+turned-kept reach before back true true old new same e = subst (λ (b : List ℕ). Turned b reach) (sym (same refl)) (old refl)
+turned-kept reach before back true false old new same e = subst (λ (b : List ℕ). Turned b reach) (sym (same refl)) (old refl)
+turned-kept reach before back false true old new same e = new refl
+turned-kept reach before back false false old new same e = absurd (true-false e refl)
+
+or-right : (t w : Bool) → w ≡ true → (t || w) ≡ true
+or-right true w e = refl
+or-right false w e = e
+
+pub turned-now : (reach before back : List ℕ) (t w : Bool) → (t ≡ true → Turned before reach) → ((w && not t) ≡ true → Turned back reach) → ((w && not t) ≡ false → back ≡ before) → w ≡ true → Turned back reach
+turned-now reach before back t w old new same e = turned-kept reach before back t w old new same (or-right t w e)
+
+-- TRANS2, which has its own search
+pub onward-looped : looped TRANS2 ≡ true
+unfolding looped
+onward-looped = refl
+
+pub pair-onward : (link reach : List ℕ) (alive : ℕ → Bool) (x : ℕ) → x ≤ 16 → (y : ℕ) → y ≤ 16 → bit (getD reach x 0) y ≡ pairTest alive (graphOf link reach) x y TRANS2
+unfolding pairTest
+pair-onward link reach alive x h y k = far-bit link reach x y h k
 
 -- a row with a number is not 0
 pub row-positive : (w a : ℕ) → find (bit w) (from 32 0) ≡ some a → 0 < w

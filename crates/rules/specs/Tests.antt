@@ -1,10 +1,11 @@
 -- Each rule's test in two halves: what it asks of the first two numbers, and what it asks of the third.
 use Prim.Native.Nat.{ℕ, zero}
 use mathlib.Core.Bool.{Bool, true, false, not}
+use mathlib.Core.Option.{Option·elim}
 use lib.Dec.{eqb}
 use Rattle.logic.specs.Search.{_and_}
 use Rattle.logic.specs.Facts.{Graph}
-use Rattle.logic.specs.Rules.{Rule, REFLEX, TRANS1, TRANS2, FUNC, CYCLE, SCC, TOTAL, SHARE}
+use Rattle.logic.specs.Rules.{Rule, REFLEX, TRANS1, TRANS2, FUNC, CYCLE, SCC, TOTAL, SHARE, ruleOf}
 
 -- the third number of every rule but CYCLE is looked for among all numbers
 unfoldable pub looped : Rule → Bool
@@ -16,6 +17,20 @@ looped CYCLE = false
 looped SCC = true
 looped TOTAL = true
 looped SHARE = true
+
+-- a rule whose test reads what reaches a term, beside what a term reaches
+unfoldable pub twoWay : Rule → Bool
+twoWay REFLEX = false
+twoWay TRANS1 = false
+twoWay TRANS2 = false
+twoWay FUNC = false
+twoWay CYCLE = false
+twoWay SCC = true
+twoWay TOTAL = true
+twoWay SHARE = true
+
+unfoldable pub looksBack : ℕ → Bool
+looksBack k = Option·elim (ruleOf k) false twoWay
 
 module _ (alive : ℕ → Bool) (g : Graph) (x y : ℕ) where
   unfoldable pub pairTest : Rule → Bool

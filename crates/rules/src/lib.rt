@@ -4,17 +4,18 @@ use facts::Found;
 use facts::Term;
 ghost use mathlib.Core.Path.{_≡_};
 ghost use mathlib.Core.Bool.{Bool, true, false};
+ghost use mathlib.Core.List.{List};
 ghost use lib.Dec.{ltb};
 ghost use Prim.Native.Nat.{ℕ, _+_, _-_, _≤_, _<_};
 ghost use Rattle.facts.specs.Path.{graphOf, linksIn, pathOf};
 ghost use Rattle.rules.specs.Answers.{kindOf, placeOf, numberedOf, choiceOf};
 ghost use Rattle.facts.specs.Bits.{bit};
 ghost use Rattle.facts.specs.Square.{Turned};
-ghost use Rattle.rules.specs.Tests.{pairTest, thirdTest, looped};
+ghost use Rattle.rules.specs.Tests.{pairTest, thirdTest, looped, twoWay, looksBack};
 ghost use Rattle.rules.specs.Smallest.{inThird, inSecond, inFirst, triedAt};
 ghost use Rattle.rules.specs.Cycle.{stepsTo};
 ghost use Rattle.logic.specs.Heap.{iterate};
-ghost use Rattle.logic.specs.Rules.{CYCLE, next, ruleOf, choose};
+ghost use Rattle.logic.specs.Rules.{CYCLE, TRANS2, next, ruleOf, choose};
 ghost use Rattle.logic.specs.Walk.{orderOf};
 
 pub enum Rule {
@@ -63,7 +64,7 @@ pub fn third_term(z: Third) -> Term
     Term(z.0)
 }
 
-// The row of the second numbers that a rule asks for beside x. `back` is `reach` turned round.
+// The row of the second numbers that a rule asks for beside x. `back` is `reach` turned round, for the rules that read it.
 fn pair_row(
     rule: Rule,
     alive: u32,
@@ -72,7 +73,7 @@ fn pair_row(
     back: &[u32; 17],
     x: Term,
 ) -> u32
-    requires { ⌜ (x .0 ≤ 16) × Turned (now back) (now reach) ⌝ }
+    requires { ⌜ (x .0 ≤ 16) × (twoWay (kindOf rule) ≡ true → Turned (now back) (now reach)) ⌝ }
     ensures { λ r. ⌜ ((y : ℕ) → y ≤ 16 → bit r y ≡ pairTest (bit alive) (graphOf (now (link .entry)) (now (reach .entry))) (x .0) y (kindOf rule)) ⌝ }
 {
     let at = x.0;
@@ -100,7 +101,7 @@ fn third_row(
     x: Term,
     y: Term,
 ) -> u32
-    requires { ⌜ (x .0 ≤ 16) × (y .0 ≤ 16) × Turned (now back) (now reach) ⌝ }
+    requires { ⌜ (x .0 ≤ 16) × (y .0 ≤ 16) × (twoWay (kindOf rule) ≡ true → Turned (now back) (now reach)) ⌝ }
     ensures { λ r. ⌜ ((z : ℕ) → z ≤ 16 → bit r z ≡ thirdTest (graphOf (now (link .entry)) (now (reach .entry))) (x .0) (y .0) z (kindOf rule)) ⌝ }
 {
     let first = x.0;
@@ -129,7 +130,7 @@ fn in_third(
     x: Term,
     y: Term,
 ) -> Place
-    requires { ⌜ (n ≤ 16) × (x .0 ≤ 16) × (y .0 ≤ 16) × (looped (kindOf rule) ≡ true) × Turned (now back) (now reach) ⌝ }
+    requires { ⌜ (n ≤ 16) × (x .0 ≤ 16) × (y .0 ≤ 16) × (looped (kindOf rule) ≡ true) × (twoWay (kindOf rule) ≡ true → Turned (now back) (now reach)) ⌝ }
     ensures { λ r. ⌜ ((alive : ℕ → Bool) → pairTest alive (graphOf (now (link .entry)) (now (reach .entry))) (x .0) (y .0) (kindOf rule) ≡ true → placeOf r ≡ inThird n alive (graphOf (now (link .entry)) (now (reach .entry))) (kindOf rule) (x .0) (y .0)) ⌝ }
 {
     let row = third_row(rule, link, reach, back, x, y);
@@ -149,7 +150,7 @@ fn scan(
     n: usize,
     x: Term,
 ) -> Place
-    requires { ⌜ (n ≤ 16) × (x .0 ≤ 16) × (looped (kindOf rule) ≡ true) × Turned (now back) (now reach) ⌝ }
+    requires { ⌜ (n ≤ 16) × (x .0 ≤ 16) × (looped (kindOf rule) ≡ true) × (twoWay (kindOf rule) ≡ true → Turned (now back) (now reach)) ⌝ }
     ensures { λ r. ⌜ placeOf r ≡ inSecond n (bit alive) (graphOf (now (link .entry)) (now (reach .entry))) (kindOf rule) (x .0) ⌝ }
 {
     let row = pair_row(rule, alive, link, reach, back, x);
@@ -160,6 +161,28 @@ fn scan(
         };
         if let Place::At(a, b, c) = in_third(rule, link, reach, back, n, x, y) {
             return Place::At(a, b, c);
+        }
+        left = facts::rest(left);
+    }
+}
+
+// The same of TRANS2, which is tried most: y is reached from x, and z from y and not from x.
+fn scan_onward(reach: &[u32; 17], n: usize, x: Term) -> Place
+    requires { ⌜ (n ≤ 16) × (x .0 ≤ 16) ⌝ }
+    ensures { λ r. ⌜ ((alive : ℕ → Bool) (link : List ℕ) → placeOf r ≡ inSecond n alive (graphOf link (now (reach .entry))) TRANS2 (x .0)) ⌝ }
+{
+    let at = x.0;
+    let far = reach[at];
+    let among = facts::up_to(n);
+    let mut left = far & among;
+    loop {
+        let Found::At(y) = facts::first(left) else {
+            return Place::Nothing;
+        };
+        let second = y.0;
+        let row = facts::without(reach[second], far);
+        if let Found::At(z) = facts::first(row & among) {
+            return Place::At(x, y, Third(z.0));
         }
         left = facts::rest(left);
     }
@@ -260,9 +283,12 @@ fn in_second(
     n: usize,
     x: Term,
 ) -> Place
-    requires { ⌜ (n ≤ 16) × (x .0 ≤ 16) × Turned (now back) (now reach) ⌝ }
+    requires { ⌜ (n ≤ 16) × (x .0 ≤ 16) × (twoWay (kindOf rule) ≡ true → Turned (now back) (now reach)) ⌝ }
     ensures { λ r. ⌜ placeOf r ≡ inSecond n (bit alive) (graphOf (now (link .entry)) (now (reach .entry))) (kindOf rule) (x .0) ⌝ }
 {
+    if let Rule::Trans2 = rule {
+        return scan_onward(reach, n, x);
+    }
     if looped(rule) {
         return scan(rule, alive, link, reach, back, n, x);
     }
@@ -278,7 +304,7 @@ pub fn smallest(
     back: &[u32; 17],
     n: usize,
 ) -> Place
-    requires { ⌜ (n ≤ 16) × Turned (now back) (now reach) ⌝ }
+    requires { ⌜ (n ≤ 16) × (twoWay (kindOf rule) ≡ true → Turned (now back) (now reach)) ⌝ }
     ensures { λ r. ⌜ placeOf r ≡ inFirst n (bit alive) (graphOf (now (link .entry)) (now (reach .entry))) (kindOf rule) ⌝ }
 {
     let mut x: usize = 0;
@@ -317,7 +343,7 @@ fn tried(
     back: &[u32; 17],
     n: usize,
 ) -> Choice
-    requires { ⌜ (n ≤ 16) × Turned (now back) (now reach) ⌝ }
+    requires { ⌜ (n ≤ 16) × (looksBack k ≡ true → Turned (now back) (now reach)) ⌝ }
     ensures { λ r. ⌜ choiceOf r ≡ triedAt n (bit alive) (graphOf (now (link .entry)) (now (reach .entry))) k ⌝ }
 {
     let Numbered::Is(rule) = rule_numbered(k) else {
@@ -329,6 +355,42 @@ fn tried(
     Choice::Apply(rule, x, y, z)
 }
 
+// The rule asks what is reached from where, and from where what is: it reads reachability turned round.
+fn two_way(rule: Rule) -> bool
+    ensures { λ r. ⌜ r ≡ twoWay (kindOf rule) ⌝ }
+{
+    match rule {
+        Rule::Reflex => false,
+        Rule::Trans1 => false,
+        Rule::Trans2 => false,
+        Rule::Func => false,
+        Rule::Cycle => false,
+        Rule::Scc => true,
+        Rule::Total => true,
+        Rule::Share => true,
+    }
+}
+
+// The same of the rule that has this number.
+fn looks_back(k: u8) -> bool
+    ensures { λ r. ⌜ r ≡ looksBack k ⌝ }
+{
+    match rule_numbered(k) {
+        Numbered::Is(rule) => two_way(rule),
+        Numbered::Nothing => false,
+    }
+}
+
+// Reachability turned round, once it is wanted.
+fn turned_once(reach: &[u32; 17], wanted: bool, before: [u32; 17]) -> [u32; 17]
+    ensures { λ r. ⌜ ((wanted ≡ true) → Turned r (now (reach .entry))) × ((wanted ≡ false) → r ≡ before) ⌝ }
+{
+    if wanted {
+        return facts::turned(reach);
+    }
+    before
+}
+
 // "the first applicable rule of the order list, at the smallest triple"
 pub fn choose(order: &[u8], s: Facts, n: usize) -> Choice
     requires { ⌜ n ≤ 16 ⌝ }
@@ -337,9 +399,13 @@ pub fn choose(order: &[u8], s: Facts, n: usize) -> Choice
     let alive = facts::live(s, n);
     let link = s.link;
     let reach = s.reach;
-    let back = facts::turned(&reach);
+    let mut back = [0u32; 17];
+    let mut turned = false;
     let mut i: usize = 0;
     while i < order.len() {
+        let wanted = looks_back(order[i]);
+        back = turned_once(&reach, wanted & !turned, back);
+        turned = turned | wanted;
         if let Choice::Apply(rule, x, y, z) = tried(order[i], alive, &link, &reach, &back, n) {
             return Choice::Apply(rule, x, y, z);
         }

@@ -3,23 +3,27 @@ use Prim.Native.Nat.{_+_, _-_, _≤_}
 use native.Mathlib.Omega.{arith}
 use borrow.Author.Needs.{needs}
 use mathlib.Core.Path.{_≡_, refl, sym, ap, _∙_}
+use mathlib.Core.Bool.{true, false≢true}
 use lib.ListN.{length, drop}
 use Rattle.logic.specs.Search.{firstOf}
 use Rattle.facts.specs.Bits.{bit}
+use Rattle.facts.specs.Square.{Turned}
 use Rattle.facts.specs.Path.{graphOf}
 use Rattle.rules.specs.Answers.{choiceOf}
 use Rattle.rules.specs.Smallest.{triedAt}
 use Rattle.rules.proofs.Nested.{choose-lent, rest-end, rest-here, rest-next}
+use Rattle.rules.proofs.Rows.{turned-kept, turned-now}
 use Rattle.rules.proofs.choose.Statement.{statement}
 use Rattle.rules.proofs.choose.Tie as tie
 
 abbrev Inv-loop : tie.InvT-loop
-Inv-loop order n alive link reach back i₀ i =
+Inv-loop order n alive link reach back₀ turned₀ i₀ back turned i =
     (i ≤ length order)
     × (firstOf (triedAt n (bit alive) (graphOf link reach)) order ≡ firstOf (triedAt n (bit alive) (graphOf link reach)) (drop i order))
+    × (turned ≡ true → Turned back reach)
 
 abbrev μ-loop : tie.MeasureT-loop
-μ-loop order n alive link reach back i₀ i = length order - i
+μ-loop order n alive link reach back₀ turned₀ i₀ back turned i = length order - i
 
 pub choose-spec : {M : Type 1} → statement M
 choose-spec =
@@ -29,22 +33,26 @@ choose-spec =
     μ-loop
     -- live-requires
     (λ c κs. search needs)
-    -- turned-requires
-    (λ c κs. search needs)
     -- loop-holds
-    (λ c. (omega arith, refl))
+    (λ c. (omega arith, refl, λ e. absurd (false≢true e)))
+    -- shared-slice-read-looks-back
+    (λ c. omega arith)
+    -- looks-back-requires
+    (λ c κs. search needs)
+    -- turned-once-requires
+    (λ c κs. search needs)
     -- shared-slice-read-tried
     (λ c. omega arith)
     -- tried-requires
-    (λ c κs. search needs)
+    (λ c κs. (c .before .before .before .before .before .before .before .before .before .before .before .before .before .before .pre, λ e. turned-now _ _ _ _ _ (c .before .before .before .before .before .before .before .before .before .loop .inv .2) (c .before .before .before .before .turned-once .ensures .0) (c .before .before .before .before .turned-once .ensures .1) (c .before .before .before .before .before .before .looks-back .ensures ∙ e)))
     -- enum-known-rule
     (λ c. search needs)
     -- returns
     (λ c.
     sym
-    (choose-lent _ (c .before .before .before .before .before .before .before .before .before .before .before .before .before .before .before .before .args .s) (c .before .before .before .before .before .before .before .before .before .before .before .before .before .before .live .result) (c .before .before .before .before .before .before .before .before .before .before .before .before .before .before .before .before .args .order .now) (c .before .before .before .before .before .before .before .before .before .before .before .before .before .before .live .ensures)
-    ∙ c .before .before .before .before .before .before .before .before .before .loop .inv .1
-    ∙ rest-here _ (c .before .before .before .before .before .before .before .before .before .before .before .before .before .before .before .before .args .order .now) (c .before .before .before .before .before .before .before .before .before .loop .i) _ (omega arith) (sym (c .before .before .before .tried .ensures) ∙ ap choiceOf (c .before .rule .given .1))))
+    (choose-lent _ (c .before .before .before .before .before .before .before .before .before .before .before .before .before .before .before .before .before .before .args .s) (c .before .before .before .before .before .before .before .before .before .before .before .before .before .before .before .before .live .result) (c .before .before .before .before .before .before .before .before .before .before .before .before .before .before .before .before .before .before .args .order .now) (c .before .before .before .before .before .before .before .before .before .before .before .before .before .before .before .before .live .ensures)
+    ∙ c .before .before .before .before .before .before .before .before .before .before .before .before .before .loop .inv .1
+    ∙ rest-here _ (c .before .before .before .before .before .before .before .before .before .before .before .before .before .before .before .before .before .before .args .order .now) (c .before .before .before .before .before .before .before .before .before .before .before .before .before .loop .i) _ (omega arith) (sym (c .before .before .before .tried .ensures) ∙ ap choiceOf (c .before .rule .given .1))))
     -- enum-told
     (λ c. search needs)
     -- add-i
@@ -52,10 +60,10 @@ choose-spec =
     -- loop-less
     (λ c. omega arith)
     -- loop-again
-    (λ c. (omega arith, c .before .before .before .before .before .before .before .before .loop .inv .1 ∙ rest-next _ (c .before .before .before .before .before .before .before .before .before .before .before .before .before .before .before .args .order .now) (c .before .before .before .before .before .before .before .before .loop .i) (omega arith) (sym (c .before .before .tried .ensures) ∙ ap choiceOf (c .enum-told .given .1))))
+    (λ c. (omega arith, c .before .before .before .before .before .before .before .before .before .before .before .before .loop .inv .1 ∙ rest-next _ (c .before .before .before .before .before .before .before .before .before .before .before .before .before .before .before .before .before .args .order .now) (c .before .before .before .before .before .before .before .before .before .before .before .before .loop .i) (omega arith) (sym (c .before .before .tried .ensures) ∙ ap choiceOf (c .enum-told .given .1)), turned-kept _ _ _ _ _ (c .before .before .before .before .before .before .before .before .before .before .before .before .loop .inv .2) (c .before .before .before .before .before .before .before .turned-once .ensures .0) (c .before .before .before .before .before .before .before .turned-once .ensures .1)))
     -- returns-2
     (λ c.
     sym
-    (choose-lent _ (c .before .before .before .before .before .before .before .before .args .s) (c .before .before .before .before .before .before .live .result) (c .before .before .before .before .before .before .before .before .args .order .now) (c .before .before .before .before .before .before .live .ensures)
+    (choose-lent _ (c .before .before .before .before .before .before .args .s) (c .before .before .before .before .live .result) (c .before .before .before .before .before .before .args .order .now) (c .before .before .before .before .live .ensures)
     ∙ c .before .loop .inv .1
-    ∙ rest-end _ (c .before .before .before .before .before .before .before .before .args .order .now) (c .before .loop .i) (omega arith))))
+    ∙ rest-end _ (c .before .before .before .before .before .before .args .order .now) (c .before .loop .i) (omega arith))))

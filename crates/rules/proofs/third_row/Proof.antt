@@ -1,7 +1,9 @@
 -- Each arm is the row of its rule's own test. Assumes nothing.
 use borrow.Author.Needs.{needs}
 use Rattle.facts.proofs.Bits.{bit-none, bit-power}
-use Rattle.rules.specs.Tests.{thirdTest}
+use mathlib.Core.Path.{ap}
+use Rattle.rules.specs.Answers.{kindOf}
+use Rattle.rules.specs.Tests.{thirdTest, twoWay}
 use Rattle.rules.proofs.Rows.{third-trans2, third-func, third-scc, third-total, third-share}
 use Rattle.rules.proofs.third_row.Statement.{statement}
 use Rattle.rules.proofs.third_row.Tie as tie
@@ -16,27 +18,27 @@ returns-2 c = λ z l. rw (c .enum-told2 .given .1) (bit-power 0 z)
 
 returns-3 : tie.Need-returns-3
 unfolding thirdTest
-returns-3 c = λ z l. let s = c .before .before .before .before .before in rw (c .before .enum-told3 .given .1) (third-trans2 (s .args .link .now) (s .args .reach .now) (s .args .back .now) (s .pre .2) (s .args .x .0) (s .args .y .0) z (s .pre .0) (s .pre .1) l _ (c .without .ensures))
+returns-3 c = λ z l. let s = c .before .before .before .before .before in rw (c .before .enum-told3 .given .1) (third-trans2 (s .args .link .now) (s .args .reach .now) (s .args .x .0) (s .args .y .0) z (s .pre .0) (s .pre .1) l _ (c .without .ensures))
 
 returns-4 : tie.Need-returns-4
 unfolding thirdTest
-returns-4 c = λ z l. let s = c .before .before .before .before .before .before .before in rw (c .before .before .before .enum-told4 .given .1) (third-func (s .args .link .now) (s .args .reach .now) (s .args .back .now) (s .pre .2) (s .args .x .0) (s .args .y .0) z (s .pre .0) (s .pre .1) l _ _ _ (c .before .before .only .ensures) (c .before .without2 .ensures) (c .without3 .ensures))
+returns-4 c = λ z l. let s = c .before .before .before .before .before .before .before in rw (c .before .before .before .enum-told4 .given .1) (third-func (s .args .link .now) (s .args .reach .now) (s .args .x .0) (s .args .y .0) z (s .pre .0) (s .pre .1) l _ _ _ (c .before .before .only .ensures) (c .before .without2 .ensures) (c .without3 .ensures))
 
 returns-5 : tie.Need-returns-5
 unfolding thirdTest
 returns-5 c = λ z l. rw (c .enum-told5 .given .1) (bit-none z)
 
 returns-6 : tie.Need-returns-6
-unfolding thirdTest
-returns-6 c = λ z l. let s = c .before .before .before .before .before .before in rw (c .before .before .enum-told6 .given .1) (third-scc (s .args .link .now) (s .args .reach .now) (s .args .back .now) (s .pre .2) (s .args .x .0) (s .args .y .0) z (s .pre .0) (s .pre .1) l _ (c .without4 .ensures))
+unfolding thirdTest twoWay
+returns-6 c = λ z l. let s = c .before .before .before .before .before .before in rw (c .before .before .enum-told6 .given .1) (third-scc (s .args .link .now) (s .args .reach .now) (s .args .back .now) (s .pre .2 (ap (λ (r : _). twoWay (kindOf r)) (c .before .before .enum-told6 .given .1))) (s .args .x .0) (s .args .y .0) z (s .pre .0) (s .pre .1) l _ (c .without4 .ensures))
 
 returns-7 : tie.Need-returns-7
-unfolding thirdTest
-returns-7 c = λ z l. let s = c .before .before .before .before .before .before .before in rw (c .before .before .before .enum-told7 .given .1) (third-total (s .args .link .now) (s .args .reach .now) (s .args .back .now) (s .pre .2) (s .args .x .0) (s .args .y .0) z (s .pre .0) (s .pre .1) l _ _ (c .before .before .without5 .ensures) (c .without6 .ensures))
+unfolding thirdTest twoWay
+returns-7 c = λ z l. let s = c .before .before .before .before .before .before .before in rw (c .before .before .before .enum-told7 .given .1) (third-total (s .args .link .now) (s .args .reach .now) (s .args .back .now) (s .pre .2 (ap (λ (r : _). twoWay (kindOf r)) (c .before .before .before .enum-told7 .given .1))) (s .args .x .0) (s .args .y .0) z (s .pre .0) (s .pre .1) l _ _ (c .before .before .without5 .ensures) (c .without6 .ensures))
 
 returns-8 : tie.Need-returns-8
 unfolding thirdTest
-returns-8 c = λ z l. let s = c .before .before .before .before .before .before in rw (c .before .before .enum-told8 .given .1) (third-share (s .args .link .now) (s .args .reach .now) (s .args .back .now) (s .pre .2) (s .args .x .0) (s .args .y .0) z (s .pre .0) (s .pre .1) l)
+returns-8 c = λ z l. let s = c .before .before .before .before .before .before in rw (c .before .before .enum-told8 .given .1) (third-share (s .args .link .now) (s .args .reach .now) (s .args .x .0) (s .args .y .0) z (s .pre .0) (s .pre .1) l)
 
 pub third-row-spec : {M : Type 1} → statement M
 third-row-spec =

@@ -2,6 +2,7 @@
 use borrow.Author.Needs.{needs}
 use mathlib.Core.Path.{sym, ap, _∙_}
 use Rattle.rules.specs.Answers.{numberedOf, placeOf}
+use Rattle.rules.proofs.Rows.{looks-some}
 use Rattle.rules.proofs.Nested.{tried-none, tried-nowhere, tried-at}
 use Rattle.rules.proofs.tried.Statement.{statement}
 use Rattle.rules.proofs.tried.Tie as tie
@@ -19,7 +20,7 @@ tried-spec =
     -- returns
     (λ c. sym (tried-none _ _ _ _ (sym (c .before .before .rule-numbered .ensures) ∙ ap numberedOf (c .enum-told .given .1))))
     -- smallest-requires
-    (λ c κs. search needs)
+    (λ c κs. (c .before .before .before .before .pre .0, λ e. c .before .before .before .before .pre .1 (looks-some _ _ (sym (c .before .before .before .rule-numbered .ensures) ∙ ap numberedOf (c .before .rule .given .1)) ∙ e)))
     -- enum-known-x
     (λ c. search needs)
     -- enum-told-2
