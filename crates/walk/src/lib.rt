@@ -103,7 +103,7 @@ fn is_refuted(kind: Kind) -> bool
     }
 }
 
-fn number(rule: Rule) -> usize
+pub fn number(rule: Rule) -> usize
     ensures { λ r. ⌜ (r ≡ ruleNumber (kindOf rule)) × (r < 256) ⌝ }
 {
     match rule {
