@@ -46,8 +46,8 @@ fn marked(rows: [u32; 17], a: usize, more: u32) -> [u32; 17] {
     out
 }
 
-// What the negated literals of a section deny, of the terms that stand for theirs.
-fn denied(query: &[u8], at: usize, count: usize, reps: &[usize; 17]) -> [u32; 17]
+// What the negated literals of a section deny, of the terms that stand for theirs; an equality denies it both ways.
+fn denied(query: &[u8], at: usize, count: usize, reps: &[usize; 17], both: bool) -> [u32; 17]
     requires { ⌜ at + 3 * count ≤ length (now query) ⌝ }
 {
     let mut out = [0u32; 17];
@@ -57,6 +57,10 @@ fn denied(query: &[u8], at: usize, count: usize, reps: &[usize; 17]) -> [u32; 17
             let b = clash::read_rep(reps, query::right(query, at, i));
             let next = marked(out, a.0, alone(b.0));
             out = next;
+            if both {
+                let also = marked(out, b.0, alone(a.0));
+                out = also;
+            }
         }
     }
     out
@@ -290,7 +294,7 @@ fn place(
 fn apart(query: &[u8], layout: Layout, reps: &[usize; 17]) -> [u32; 17]
     requires { ⌜ LaysOut layout (now query) ⌝ }
 {
-    let differ = denied(query, layout.equal_at, layout.equal_count, reps);
+    let differ = denied(query, layout.equal_at, layout.equal_count, reps, true);
     if layout.field_count == 0 {
         return differ;
     }
@@ -309,7 +313,7 @@ pub fn unit(query: &[u8], layout: Layout, s: Facts) -> Choice
     let reps = clash::numbers(rep);
     let link = s.link;
     let reach = s.reach;
-    let no = denied(query, layout.reach_at, layout.reach_count, &reps);
+    let no = denied(query, layout.reach_at, layout.reach_count, &reps, false);
     let behind = denied_behind(&reach, &no);
     let no_reach = unreachable(&reach, &behind);
     let no_back = facts::turned(&no_reach);
