@@ -69,7 +69,21 @@ pub fn run(directory: &Path) -> Result<bool, String> {
     println!("  workload-sixteen {unit:.2} us a query");
     println!("  verdict    mean {:.2} us, {:.1} times that; worst {worst:.0} us (input {at}), {:.0} times", sum / count, sum / count / unit, worst / unit);
     println!("  derivation mean {:.0} us; worst {lines_worst:.0} us (input {lines_at})", lines_sum / count);
+    for input in worst_found() {
+        let (order, query) = input.split_at(8);
+        let time = seconds(3, &mut || library::verdict(order, query, &mut report));
+        let answer = library::verdict(order, query, &mut report);
+        println!("  found by climb: {:.1} ms, {}", 1e3 * time, if answer == 0 { "satisfiable" } else { "refuted" });
+    }
     Ok(agree == inputs.len())
+}
+
+/// The worst inputs that `climb` found, as it prints them.
+const WORST: &str = include_str!("../worst.txt");
+
+fn worst_found() -> Vec<Vec<u8>> {
+    let byte = |word: &str| u8::from_str_radix(word, 16).expect("a byte in hex");
+    WORST.lines().filter(|line| !line.starts_with('#')).map(|line| line.split_whitespace().map(byte).collect()).collect()
 }
 
 /// A query as a draft again, so that it can be changed.
@@ -130,10 +144,12 @@ fn change(random: &mut Random, order: &mut [u8; 8], draft: &mut Draft) {
     }
 }
 
-/// Hill climbing over queries and order lists by the time of the verdict call, from random queries and from those of workload-luck: prints
-/// each new worst, with its bytes.
+/// Hill climbing over queries and order lists by the time of the verdict call, from random queries, from those of workload-luck and from the
+/// worst found before: prints each new worst, with its bytes.
 pub fn climb(directory: &Path, limit: u64, seed: u64) -> Result<bool, String> {
-    let starts = vectors::read_bin(&directory.join("workload-luck.bin"))?;
+    let mut starts = vectors::read_bin(&directory.join("workload-luck.bin"))?;
+    let found = worst_found();
+    starts.extend(found.iter().cycle().take(if found.is_empty() { 0 } else { 30 }).cloned());
     let mut random = Random::new(seed);
     let mut report = [0u8; reference::REPORT_BYTES];
     let mut cost = |order: &[u8], query: &[u8]| {

@@ -225,13 +225,21 @@ fn grown(budget: usize, turn: usize) -> usize
     4 * budget
 }
 
+// The paths that a strategy may look at: one that probes takes longer at each.
+fn share(budget: usize, how: usize) -> usize {
+    if how == 2 {
+        return budget / 8 + 1;
+    }
+    budget
+}
+
 // The strategies in turn, each with a budget; then all again with four times the budget, until one is done. Strategy `first` has a try
 // before them: the one that was done with the path before is often done with this one too.
 fn in_turn(query: &[u8], layout: Layout, s: Facts, first: usize) -> Settled
     requires { ⌜ LaysOut layout (now query) × (accepts (now query) ≡ true) × Known (decode (now query)) (pathOf s) ⌝ }
     ensures { λ r. ⌜ Tells (decode (now (query .entry))) (pathOf s) (r .kind) ⌝ }
 {
-    let soon = search(query, layout, first, 300, s, 400);
+    let soon = search(query, layout, first, 300, s, share(400, first));
     let found = soon.kind;
     if !is_unknown(found) {
         return Settled {
@@ -242,13 +250,11 @@ fn in_turn(query: &[u8], layout: Layout, s: Facts, first: usize) -> Settled
     let mut budget: usize = 50;
     let mut turn: usize = 0;
     while turn < 36 {
-        let tried = search(query, layout, turn % 3, 300, s, budget);
+        let how = turn % 3;
+        let tried = search(query, layout, how, 300, s, share(budget, how));
         let kind = tried.kind;
         if !is_unknown(kind) {
-            return Settled {
-                kind,
-                how: turn % 3,
-            };
+            return Settled { kind, how };
         }
         budget = grown(budget, turn);
         turn += 1;

@@ -49,22 +49,37 @@ fn fits(s: Facts, n: usize, rule: Rule, x: Term, y: Term, z: Third) -> bool
     fitting::applies(s, n, rule, x.0, y.0, z.0)
 }
 
-// What strategy `how` picks: 1 goes by an order list alone; 0 and 2 look for a place with at most one alternative left first.
+// Where strategies other than 1 look next.
+fn other(query: &[u8], layout: Layout, how: usize, s: Facts) -> Choice
+    requires { ⌜ LaysOut layout (now query) ⌝ }
+{
+    if how == 2 {
+        if let Choice::Apply(rule, x, y, z) = probing::failing(query, layout, s) {
+            return Choice::Apply(rule, x, y, z);
+        }
+    }
+    gains::most(s, layout.terms)
+}
+
+// What strategy `how` picks. Each of them looks for a place with at most one alternative left first. Then 1 goes by an order list, 2 to a
+// place with an alternative that soon clashes, and else to where most facts would be added.
 pub fn pick(query: &[u8], layout: Layout, how: usize, s: Facts) -> Choice
     requires { ⌜ LaysOut layout (now query) ⌝ }
     ensures { λ r. ⌜ Picks (layout .terms) (pathOf s) r ⌝ }
 {
     let n = layout.terms;
-    if how == 1 {
-        return plain(s, n);
-    }
     if let Choice::Apply(rule, x, y, z) = units::unit(query, layout, s) {
         if fits(s, n, rule, x, y, z) {
             return Choice::Apply(rule, x, y, z);
         }
     }
-    if how == 0 {
-        return plain(s, n);
+    if how == 1 {
+        return total_first(s, n);
     }
-    total_first(s, n)
+    if let Choice::Apply(rule, x, y, z) = other(query, layout, how, s) {
+        if fits(s, n, rule, x, y, z) {
+            return Choice::Apply(rule, x, y, z);
+        }
+    }
+    plain(s, n)
 }

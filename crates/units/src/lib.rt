@@ -12,7 +12,7 @@ ghost use lib.ListN.{length};
 ghost use Rattle.query.specs.LaysOut.{LaysOut};
 
 // A term's number, or 0.
-fn within(t: Term) -> Term
+pub fn within(t: Term) -> Term
     ensures { λ r. ⌜ r .0 ≤ 16 ⌝ }
 {
     if t.0 <= 16 {
@@ -22,7 +22,7 @@ fn within(t: Term) -> Term
 }
 
 // Row a; a number above 16 has none.
-fn row(rows: &[u32; 17], a: usize) -> u32 {
+pub fn row(rows: &[u32; 17], a: usize) -> u32 {
     if a < 17 {
         return rows[a];
     }
@@ -30,7 +30,7 @@ fn row(rows: &[u32; 17], a: usize) -> u32 {
 }
 
 // The row of b alone; a number above 16 is in none.
-fn alone(b: usize) -> u32 {
+pub fn alone(b: usize) -> u32 {
     if b < 17 {
         return facts::only(b);
     }

@@ -18,6 +18,8 @@ in-turn-spec =
     (tie.spec
     Inv-loop
     μ-loop
+    -- share-requires
+    (λ c κs. search needs)
     -- search-requires
     (λ c κs. search needs)
     -- is-unknown-requires
@@ -26,6 +28,8 @@ in-turn-spec =
     (λ c. c .before .before .search .ensures)
     -- loop-holds
     (λ c. omega arith)
+    -- share-requires-2
+    (λ c κs. search needs)
     -- search-requires-2
     (λ c κs. search needs)
     -- is-unknown-requires-2
