@@ -1,24 +1,23 @@
 -- The bytes of a query whose numbers are as they should be: they are accepted, and say the query. Assumes nothing.
-use Prim.Native.Nat.{ℕ, zero, suc, _+_, _*_, _≤_, _<_}
+use Prim.Native.Nat.{ℕ, suc, _+_, _*_, _≤_, _<_}
 use native.Mathlib.Omega.{arith}
 use native.Mathlib.Nat.{add-zero, add-suc, suc-add, mul-one}
 use mathlib.Core.Path.{_≡_, refl, sym, ap, _∙_}
 use mathlib.Core.Bool.{Bool, true, false, not, cond}
 use mathlib.Core.List.{List, [], _∷_, _++_, append-nil, List·Memᴰ, List·Memᴰ·head, List·Memᴰ·tail}
 use mathlib.Core.Option.{Option·elim, none}
-use lib.ListN.{length, getD, take, drop, length-append}
+use lib.ListN.{length, getD, length-append}
 use lib.Seq.{take-at, drop-at}
-use lib.Dec.{eqb, ltb, leb}
+use lib.Dec.{eqb, ltb}
 use borrow.Author.Tests.{le-leb, leb-true, eqb-true, lt-ltb}
 use Rattle.logic.specs.Search.{_and_, _or_, from, keep, orElse, firstOf, flatMap}
 use Rattle.logic.specs.Query.{Literal, Query, termCount, entryOf, namesNil, argumentOf, Role, Section, entryRole, signRole, termRole, numberRole, countRole, sections, parts, withPart, layout, rolesOf, firstByte, layoutOf, faultIn, layoutFault, roleFault, byteFault, literals, flags, section, queryOf, decode}
 use Rattle.logic.specs.Calls.{Input, layoutCheck, byteCheck, queryChecks, refusalOf}
-use Rattle.logic.proofs.Basics.Search.{and-left, and-right, and-intro, or-left, or-right, bool-cases}
+use Rattle.logic.proofs.Basics.Search.{and-left, and-right, and-intro, or-left, or-right}
 use Rattle.logic.proofs.Basics.Count.{length-from, length-flatMap}
-use Rattle.logic.proofs.Basics.Compare.{eq-cases, eqb-intro, cond-false}
-use Rattle.logic.proofs.Query.Bytes.{Checked, Allows, Allowed}
+use Rattle.logic.proofs.Query.Bytes.{Allows, Allowed}
 use Rattle.logic.proofs.Query.Tied.{Accepted, InTerms, ToEight}
-use Rattle.joining.specs.Joined.{signByte, literalBytes, flagBytes, sectionBytes, bytesOf, withinLimits}
+use Rattle.encoding.specs.QueryBytes.{signByte, literalBytes, flagBytes, sectionBytes, encode, withinLimits}
 
 -- Literals read back
 
@@ -132,6 +131,34 @@ roles-none = tt
 
 -- Queries
 
+-- the five limits, one by one and together
+pub record Limits (q : Query) : Type 0 where
+  pub terms : termCount q ≤ 16
+  pub equalities : length (q .equalities) ≤ 60
+  pub reachability : length (q .reachability) ≤ 60
+  pub fields : length (q .fields) ≤ 60
+  pub booleans : length (q .booleans) ≤ 60
+
+pub limits-within : (q : Query) → Limits q → withinLimits q ≡ true
+unfolding withinLimits
+limits-within q l =
+    and-intro (and-intro (and-intro (and-intro (le-leb _ 16 (l .terms)) (le-leb _ 60 (l .equalities))) (le-leb _ 60 (l .reachability))) (le-leb _ 60 (l .fields)))
+    (le-leb _ 60 (l .booleans))
+
+pub within-limits : (q : Query) → withinLimits q ≡ true → Limits q
+unfolding withinLimits
+within-limits q h =
+    let four = and-left _ _ h in
+    let three = and-left _ _ four in
+    let two = and-left _ _ three in
+    record {
+      terms = leb-true _ 16 (and-left _ _ two);
+      equalities = leb-true _ 60 (and-right _ _ two);
+      reachability = leb-true _ 60 (and-right _ _ three);
+      fields = leb-true _ 60 (and-right _ _ four);
+      booleans = leb-true _ 60 (and-right _ _ h);
+    }
+
 -- the numbers of a query are as they should be, and it keeps the limits
 pub record Encodable (q : Query) : Type 0 where
   pub accepted : Accepted q
@@ -163,35 +190,25 @@ module _ (q : Query) (ok : Encodable q) where
   unfoldable tail2 : List ℕ
   tail2 = length (q .equalities) ∷ (equal ++ tail3)
 
-  bytes-are : bytesOf q ≡ termCount q ∷ (q .entries ++ tail2)
-  unfolding bytesOf sectionBytes equal reach field boolean tail5 tail4 tail3 tail2
+  bytes-are : encode q ≡ termCount q ∷ (q .entries ++ tail2)
+  unfolding encode sectionBytes equal reach field boolean tail5 tail4 tail3 tail2
   bytes-are = rw (append-nil (flatMap flagBytes (q .booleans)))
 
-  limits : (termCount q ≤ 16) × (length (q .equalities) ≤ 60) × (length (q .reachability) ≤ 60) × (length (q .fields) ≤ 60) × (length (q .booleans) ≤ 60)
-  unfolding withinLimits
-  limits =
-      let four = and-left _ _ (ok .within) in
-      let three = and-left _ _ four in
-      let two = and-left _ _ three in (
-        leb-true _ 16 (and-left _ _ two),
-        leb-true _ 60 (and-right _ _ two),
-        leb-true _ 60 (and-right _ _ three),
-        leb-true _ 60 (and-right _ _ four),
-        leb-true _ 60 (and-right _ _ (ok .within)),
-      )
+  limits : Limits q
+  limits = within-limits q (ok .within)
 
-  layout-are : layoutOf (bytesOf q) ≡ parts (q .entries ∷ equal ∷ reach ∷ field ∷ boolean ∷ [])
+  layout-are : layoutOf (encode q) ≡ parts (q .entries ∷ equal ∷ reach ∷ field ∷ boolean ∷ [])
   unfolding layoutOf sections firstByte termCount equal reach field boolean tail5 tail4 tail3 tail2
   layout-are =
       ap layoutOf bytes-are
-      ∙ layout-part _ _ 0 (termCount q) (q .entries) tail2 _ (limits .0) (sym (mul-one (termCount q)))
-      (layout-part _ _ _ (length (q .equalities)) equal tail3 _ (limits .1) (literal-bytes (q .equalities))
-      (layout-part _ _ _ (length (q .reachability)) reach tail4 _ (limits .2) (literal-bytes (q .reachability))
-      (layout-part _ _ _ (length (q .fields)) field tail5 _ (limits .3) (literal-bytes (q .fields))
-      (layout-part _ _ _ (length (q .booleans)) boolean [] _ (limits .4) (flag-bytes (q .booleans)) (layout-none _)))))
+      ∙ layout-part _ _ 0 (termCount q) (q .entries) tail2 _ (limits .terms) (sym (mul-one (termCount q)))
+      (layout-part _ _ _ (length (q .equalities)) equal tail3 _ (limits .equalities) (literal-bytes (q .equalities))
+      (layout-part _ _ _ (length (q .reachability)) reach tail4 _ (limits .reachability) (literal-bytes (q .reachability))
+      (layout-part _ _ _ (length (q .fields)) field tail5 _ (limits .fields) (literal-bytes (q .fields))
+      (layout-part _ _ _ (length (q .booleans)) boolean [] _ (limits .booleans) (flag-bytes (q .booleans)) (layout-none _)))))
 
   -- "the bytes say the query"
-  pub decoded : decode (bytesOf q) ≡ q
+  pub decoded : decode (encode q) ≡ q
   unfolding decode queryOf section equal reach field boolean
   decoded =
       ap queryOf layout-are
@@ -213,7 +230,7 @@ module _ (q : Query) (ok : Encodable q) where
   unfolding numberRole
   number-allowed j h checked = and-intro (lt-ltb 0 j (h .0)) (le-leb j 8 (h .1))
 
-  allowed : Allowed (rolesOf (sections (firstByte (bytesOf q))) (bytesOf q)) (bytesOf q)
+  allowed : Allowed (rolesOf (sections (firstByte (encode q))) (encode q)) (encode q)
   unfolding sections firstByte termCount equal reach field boolean tail5 tail4 tail3 tail2
   allowed =
       rw bytes-are
@@ -223,16 +240,16 @@ module _ (q : Query) (ok : Encodable q) where
       (section-allowed _ _ (length (q .fields)) field tail5 (λ i. refl) (literal-bytes (q .fields)) (literals-allowed _ _ 1 (q .fields) (λ l m. (number-allowed (l .left) (ok .accepted .field-number l m), term-allowed (l .right) (ok .accepted .field-term l m))))
       (section-allowed _ _ (length (q .booleans)) boolean [] (λ i. refl) (flag-bytes (q .booleans)) (flags-allowed _ 1 (q .booleans) (λ l m. number-allowed (l .left) (ok .accepted .boolean-number l m))) roles-none)))))
 
-  layout-passed : (k : ℕ) → layoutFault k (bytesOf q) ≡ none
+  layout-passed : (k : ℕ) → layoutFault k (encode q) ≡ none
   unfolding layoutFault faultIn
   layout-passed k = rw layout-are
 
-  byte-passed : (k : ℕ) → 5 ≤ k → k ≤ 8 → byteFault k (bytesOf q) ≡ none
+  byte-passed : (k : ℕ) → 5 ≤ k → k ≤ 8 → byteFault k (encode q) ≡ none
   unfolding byteFault
-  byte-passed k low high = allowed-faultless 0 _ (bytesOf q) allowed k low high
+  byte-passed k low high = allowed-faultless 0 _ (encode q) allowed k low high
 
   -- the bytes pass the checks of every call
-  pub passed : (i : Input) → i .query ≡ bytesOf q → refusalOf queryChecks i ≡ none
+  pub passed : (i : Input) → i .query ≡ encode q → refusalOf queryChecks i ≡ none
   unfolding refusalOf queryChecks layoutCheck byteCheck firstOf orElse Option·elim
   passed i e =
       rw (e, layout-passed 2, layout-passed 3, layout-passed 4, byte-passed 5 (omega arith) (omega arith), byte-passed 6 (omega arith) (omega arith), byte-passed 7 (omega arith) (omega arith), byte-passed 8 (omega arith) (omega arith))
