@@ -19,8 +19,8 @@
  *     them during the call.
  *
  * The calls keep nothing: no statics, no heap memory, no locks, no input or output. They may run in several threads at a
- * time. A call needs less than 900 kB of stack. It always returns; but queries of many terms can be made, on purpose or by an
- * order list that does not suit them, whose walk takes minutes and more.
+ * time. A call needs less than 900 kB of stack. It always returns, and no order list makes a verdict slow; queries of many
+ * terms can still be made on purpose that take a second or more.
  *
  * The answer is one number. Below 65,536 it is the call's own answer; else the call was refused, and it is the refusal's
  * number times 65,536, plus its place, counted from 0 in the query. After a refusal all of the lent bytes are zero.

@@ -12,6 +12,8 @@ mod generate;
 #[cfg(feature = "library")]
 mod library;
 mod long;
+#[cfg(feature = "library")]
+mod luck;
 mod naive;
 mod reference;
 #[cfg(feature = "library")]
@@ -34,6 +36,8 @@ slow long                     the same on the long derivations
 data DIR                      write edges, random and long .bin and .txt into DIR, and base.txt from its base.bin
 search LOW HIGH KINDS N SEED  print N inputs whose derivation has LOW to HIGH lines, of KINDS kinds or more
 time DIR                      time the workloads in DIR (with feature library: the library too)
+luck DIR                      (feature library) workload-luck: every answer as stored, and the time of both calls
+climb DIR SECONDS SEED        (feature library) look for queries that are bad for the verdict call
 differential N SEED           (feature library) compare library and reference on N random inputs
 heapverdict                   be the program heapverdict
 between FILE                  compare the plain search of R-10 with its vectors
@@ -81,6 +85,8 @@ fn run(words: &[&str]) -> Result<bool, String> {
             Ok(true)
         }
         ["time", directory] => time(Path::new(directory)),
+        ["luck", directory] => luck(Path::new(directory)),
+        ["climb", directory, seconds, seed] => climb(Path::new(directory), number(seconds)?, number(seed)?),
         ["differential", count, seed] => differential(number(count)? as usize, number(seed)?),
         ["shares", program, directory, count] => {
             shares(Path::new(program), Path::new(directory), number(count)? as usize)
@@ -138,5 +144,25 @@ fn shares(program: &Path, directory: &Path, count: usize) -> Result<bool, String
 
 #[cfg(not(feature = "library"))]
 fn shares(_: &Path, _: &Path, _: usize) -> Result<bool, String> {
+    Err("built without the feature library".into())
+}
+
+#[cfg(feature = "library")]
+fn luck(directory: &Path) -> Result<bool, String> {
+    luck::run(directory)
+}
+
+#[cfg(not(feature = "library"))]
+fn luck(_: &Path) -> Result<bool, String> {
+    Err("built without the feature library".into())
+}
+
+#[cfg(feature = "library")]
+fn climb(directory: &Path, seconds: u64, seed: u64) -> Result<bool, String> {
+    luck::climb(directory, seconds, seed)
+}
+
+#[cfg(not(feature = "library"))]
+fn climb(_: &Path, _: u64, _: u64) -> Result<bool, String> {
     Err("built without the feature library".into())
 }

@@ -33,6 +33,18 @@ pub struct Tried {
     pub budget: usize,
 }
 
+// What is found out of a path, and by which strategy.
+pub struct Settled {
+    pub kind: Kind,
+    pub how: usize,
+}
+
+// Whether a path has a heap, and which strategy found out.
+pub struct Decided {
+    pub has: bool,
+    pub how: usize,
+}
+
 // What plain steps find out, the path where they end (where they do not, the one that was given), and the budget left.
 pub struct Walked {
     pub kind: Kind,
@@ -139,12 +151,11 @@ fn sees(query: &[u8], layout: Layout, how: usize, s: Facts) -> Seen
     requires { ⌜ LaysOut layout (now query) ⌝ }
     ensures { λ r. ⌜ Sees (decode (now (query .entry))) (pathOf s) r ⌝ }
 {
-    let n = layout.terms;
     let rep = s.rep;
     if let Clash::At(_, _, _) = clash::find_clash(query, layout, rep, &s.reach) {
         return Seen::Clashing;
     }
-    let Choice::Apply(rule, x, y, z) = picking::plain(s, n) else {
+    let Choice::Apply(rule, x, y, z) = picking::pick(query, layout, how, s) else {
         return Seen::Saturated;
     };
     Seen::Applying(rule, x, y, z)
@@ -214,38 +225,72 @@ fn grown(budget: usize, turn: usize) -> usize
     4 * budget
 }
 
-// The strategies in turn, each with a budget; then all again with four times the budget, until one is done.
-fn in_turn(query: &[u8], layout: Layout, s: Facts) -> Kind
+// The paths that a strategy may look at: one that probes takes longer at each.
+fn share(budget: usize, how: usize) -> usize {
+    if how == 2 {
+        return budget / 8 + 1;
+    }
+    budget
+}
+
+// The strategies in turn, each with a budget; then all again with four times the budget, until one is done. Strategy `first` has a try
+// before them: the one that was done with the path before is often done with this one too.
+fn in_turn(query: &[u8], layout: Layout, s: Facts, first: usize) -> Settled
     requires { ⌜ LaysOut layout (now query) × (accepts (now query) ≡ true) × Known (decode (now query)) (pathOf s) ⌝ }
-    ensures { λ r. ⌜ Tells (decode (now (query .entry))) (pathOf s) r ⌝ }
+    ensures { λ r. ⌜ Tells (decode (now (query .entry))) (pathOf s) (r .kind) ⌝ }
 {
+    let soon = search(query, layout, first, 300, s, share(400, first));
+    let found = soon.kind;
+    if !is_unknown(found) {
+        return Settled {
+            kind: found,
+            how: first,
+        };
+    }
     let mut budget: usize = 50;
     let mut turn: usize = 0;
     while turn < 36 {
-        let tried = search(query, layout, turn % 3, 300, s, budget);
+        let how = turn % 3;
+        let tried = search(query, layout, how, 300, s, share(budget, how));
         let kind = tried.kind;
         if !is_unknown(kind) {
-            return kind;
+            return Settled { kind, how };
         }
         budget = grown(budget, turn);
         turn += 1;
     }
-    Kind::Unknown
+    Settled {
+        kind: Kind::Unknown,
+        how: first,
+    }
 }
 
 // Some finite heap meets the query and the facts of a path that a walk can reach. Should every strategy have run out, plain steps without a
 // limit settle it.
-pub fn has_heap(query: &[u8], layout: Layout, order: &[u8], left: usize, s: Facts) -> bool
+pub fn has_heap(
+    query: &[u8],
+    layout: Layout,
+    order: &[u8],
+    left: usize,
+    s: Facts,
+    first: usize,
+) -> Decided
     requires { ⌜ LaysOut layout (now query) × (accepts (now query) ≡ true) × (isOrder (now order) ≡ true) × Reachable (decode (now query)) (pathOf s) × AtMost (termCount (decode (now query))) (pathOf s) left ⌝ }
-    ensures { λ r. ⌜ Decides (decode (now (query .entry))) (pathOf s) r ⌝ }
+    ensures { λ r. ⌜ Decides (decode (now (query .entry))) (pathOf s) (r .has) ⌝ }
 {
-    match in_turn(query, layout, s) {
-        Kind::Open => true,
-        Kind::Refuted => false,
+    let settled = in_turn(query, layout, s, first);
+    let found = settled.kind;
+    let how = settled.how;
+    match found {
+        Kind::Open => Decided { has: true, how },
+        Kind::Refuted => Decided { has: false, how },
         Kind::Unknown => {
             let w = plain(query, layout, order, left, s, false, 0);
             let kind = w.kind;
-            !is_refuted(kind)
+            Decided {
+                has: !is_refuted(kind),
+                how,
+            }
         }
     }
 }

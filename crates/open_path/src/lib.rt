@@ -22,6 +22,12 @@ ghost use Rattle.query.specs.LaysOut.{LaysOut};
 ghost use Rattle.decide.specs.Tells.{Walks};
 ghost use Rattle.open_path.specs.First.{FirstOpen};
 
+// A branch, and the strategy that was done with it or with the one before.
+struct Chosen {
+    pub facts: Facts,
+    pub how: usize,
+}
+
 // The first branch of a rule that has a heap, of a path that has one: the last needs no decision.
 fn first_open(
     query: &[u8],
@@ -33,28 +39,39 @@ fn first_open(
     x: Term,
     y: Term,
     z: Third,
-) -> Facts
+    first: usize,
+) -> Chosen
     requires { ⌜ LaysOut layout (now query) × (accepts (now query) ≡ true) × (isOrder (now order) ≡ true) × Reachable (decode (now query)) (pathOf s) × AtMost (termCount (decode (now query))) (pathOf s) left × HasHeap (decode (now query)) (pathOf s) × (look (decode (now query)) (orderOf (now order)) (pathOf s) ≡ applying (move (kindOf rule) (triple (x .0) (y .0) (z .0)))) ⌝ }
-    ensures { λ r. ⌜ FirstOpen (decode (now (query .entry))) (pathOf s) (move (kindOf rule) (triple (x .0) (y .0) (z .0))) (pathOf r) ⌝ }
+    ensures { λ r. ⌜ FirstOpen (decode (now (query .entry))) (pathOf s) (move (kindOf rule) (triple (x .0) (y .0) (z .0))) (pathOf (r .facts)) ⌝ }
 {
     let n = layout.terms;
     let total = branch::count(rule, z);
+    let mut how = first;
     let mut i: usize = 0;
     loop {
         let joined = branch::branch(s, n, rule, x, y, z, i);
         let path = joined.facts;
         if total <= i + 1 {
-            return path;
+            return Chosen { facts: path, how };
         }
-        if decide::has_heap(query, layout, order, left - 1, path) {
-            return path;
+        let d = decide::has_heap(query, layout, order, left - 1, path, how);
+        how = d.how;
+        if d.has {
+            return Chosen { facts: path, how };
         }
         i += 1;
     }
 }
 
 // The path where our walk of a path with a heap ends.
-pub fn descend(query: &[u8], layout: Layout, order: &[u8], left: usize, s: Facts) -> Facts
+pub fn descend(
+    query: &[u8],
+    layout: Layout,
+    order: &[u8],
+    left: usize,
+    s: Facts,
+    first: usize,
+) -> Facts
     requires { ⌜ LaysOut layout (now query) × (accepts (now query) ≡ true) × (isOrder (now order) ≡ true) × Reachable (decode (now query)) (pathOf s) × AtMost (termCount (decode (now query))) (pathOf s) left × HasHeap (decode (now query)) (pathOf s) ⌝ }
     ensures { λ r. ⌜ walk (decode (now (query .entry))) (orderOf (now (order .entry))) left (pathOf s) ≡ saturation (pathOf r) ⌝ }
 {
@@ -62,8 +79,9 @@ pub fn descend(query: &[u8], layout: Layout, order: &[u8], left: usize, s: Facts
         walk::Seen::Saturated => s,
         walk::Seen::Clashing(_, _, _) => s,
         walk::Seen::Applying(rule, x, y, z) => {
-            let path = first_open(query, layout, order, left, s, rule, x, y, z);
-            descend(query, layout, order, left - 1, path)
+            let chosen = first_open(query, layout, order, left, s, rule, x, y, z, first);
+            let path = chosen.facts;
+            descend(query, layout, order, left - 1, path, chosen.how)
         }
     }
 }
@@ -79,14 +97,15 @@ pub fn settle(query: &[u8], layout: Layout, order: &[u8], left: usize, s: Facts)
     if !decide::is_unknown(kind) {
         return w;
     }
-    if !decide::has_heap(query, layout, order, left, s) {
+    let d = decide::has_heap(query, layout, order, left, s, 0);
+    if !d.has {
         return Walked {
             kind: Kind::Refuted,
             facts: s,
             budget: 0,
         };
     }
-    let path = descend(query, layout, order, left, s);
+    let path = descend(query, layout, order, left, s, d.how);
     Walked {
         kind: Kind::Open,
         facts: path,

@@ -52,3 +52,7 @@ chosen-picks n few order o s choice.Nothing h = choose-nothing n s (orderOf orde
 pub plain-order : isOrder (1 ∷ 2 ∷ 3 ∷ 8 ∷ 4 ∷ 5 ∷ 6 ∷ 7 ∷ []) ≡ true
 unfolding isOrder all any from _and_ _or_
 plain-order = refl
+
+pub total-order : isOrder (1 ∷ 2 ∷ 3 ∷ 8 ∷ 7 ∷ 6 ∷ 5 ∷ 4 ∷ []) ≡ true
+unfolding isOrder all any from _and_ _or_
+total-order = refl

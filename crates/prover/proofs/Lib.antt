@@ -1,5 +1,6 @@
 pub mod Demands
 pub mod Checks
 pub mod Outcomes
+pub mod Endings
 pub mod Answers
 pub mod Reordering

@@ -3,7 +3,7 @@ use Prim.Native.Nat.{ℕ, _+_, _*_, _/_, _%_, _≤_, _<_}
 use native.Mathlib.Omega.{arith}
 use native.Mathlib.Nat.{zero-add}
 use mathlib.Core.Path.{_≡_, refl, sym, ap, _∙_}
-use mathlib.Core.Logic.{⊎-elim}
+use mathlib.Core.Logic.{_⊎_, ⊎-elim}
 use mathlib.Core.Bool.{true}
 use mathlib.Core.List.{List}
 use lib.ListN.{length, set, replicate}
@@ -19,9 +19,6 @@ use Rattle.logic.specs.Calls as calls
 use Rattle.facts.specs.Path.{pathOf}
 use Rattle.start.specs.Taken.{started}
 use Rattle.walk.specs.Lines.{countAll, putAll}
-use Rattle.walk.specs.Ends.{Ends}
-use Rattle.walk.specs.declared.Walked.{Walked}
-use Rattle.walk.specs.declared.Kind.the-variants as kind
 use Rattle.walk.proofs.Lines.{countAll-small, countAll-large}
 use Rattle.walk.proofs.Padded.{derivation-written}
 use Rattle.logic.proofs.Basics.Compare.{le-cases}
@@ -32,15 +29,6 @@ use Rattle.logic.proofs.Walks.Limit.{start-atMost, our-saturation}
 use Rattle.prover.specs.Promise.{meaning, Does}
 use Rattle.prover.specs.declared.Answer.{Answer}
 use Rattle.prover.specs.declared.Answer.the-variants as answer
-
-module _ (r : Walked) (before : List ℕ) (c : ℕ) (bytes : List ℕ) where
-  pub saturated-at : (e : Ending) → Ends r e before c bytes → r .kind ≡ kind.Saturated → e ≡ saturation (pathOf (r .facts))
-  saturated-at (refutation ls) h k = let z : _≡_ {A = ℕ} 0 1 = cc in absurd (omega arith)
-  saturated-at (saturation t) h k = ap saturation (sym (h .1))
-
-  pub refuted-at : (e : Ending) → Ends r e before c bytes → r .kind ≡ kind.Refuted → (ls : List Line) × (e ≡ refutation ls) × (r .count ≡ countAll c ls) × (bytes ≡ putAll before c ls)
-  refuted-at (refutation ls) h k = (ls, refl, h .1, h .2)
-  refuted-at (saturation t) h k = let z : _≡_ {A = ℕ} 0 1 = cc in absurd (omega arith)
 
 -- the count of the lines, which stops above 16,000
 count-short : (ls : List Line) (count : ℕ) → count ≡ countAll 0 ls → count ≤ 16000 → count ≡ length ls
@@ -92,16 +80,36 @@ module _ (room : ℕ) (w : Ending) where
   derivation-satisfiable s bytes e f = rw e (record { answers = refl; leaves = f })
 
   -- "more than 16,000 lines or its buffer cannot hold it"
-  pub derivation-long : (ls : List Line) (count : ℕ) (bytes : List ℕ) → w ≡ refutation ls → count ≡ countAll 0 ls → 16000 < count → bytes ≡ replicate room 0 → Does (derivationOf room w) (answer.Refused 12 0) bytes
+  derivation-long : (ls : List Line) (count : ℕ) (bytes : List ℕ) → w ≡ refutation ls → count ≡ countAll 0 ls → 16000 < count → bytes ≡ replicate room 0 → Does (derivationOf room w) (answer.Refused 12 0) bytes
   unfolding derivationOf blank _or_
   derivation-long ls count bytes e c l f = rw (e, lt-ltb 16000 (length ls) (count-long ls count c l)) (record { answers = refl; leaves = f })
 
-  pub derivation-large : (ls : List Line) (count : ℕ) (bytes : List ℕ) → w ≡ refutation ls → count ≡ countAll 0 ls → count ≤ 16000 → room < 2 + 4 * count → bytes ≡ replicate room 0 → Does (derivationOf room w) (answer.Refused 12 0) bytes
+  derivation-large : (ls : List Line) (count : ℕ) (bytes : List ℕ) → w ≡ refutation ls → count ≡ countAll 0 ls → count ≤ 16000 → room < 2 + 4 * count → bytes ≡ replicate room 0 → Does (derivationOf room w) (answer.Refused 12 0) bytes
   unfolding derivationOf blank _or_
   derivation-large ls count bytes e c l h f =
       let n = count-short ls count c l in
       let g : room < 2 + 4 * length ls = omega arith in
       rw (e, le-ltb 16000 (length ls) (omega arith), lt-ltb room (2 + 4 * length ls) g) (record { answers = refl; leaves = f })
+
+  -- either way: more lines than the most that may be
+  pub derivation-over : (ls : List Line) (count most : ℕ) (bytes : List ℕ) → w ≡ refutation ls → count ≡ countAll 0 ls → most < count → (most ≡ 16000) ⊎ (room < 2 + 4 * (most + 1)) → bytes ≡ replicate room 0 → Does (derivationOf room w) (answer.Refused 12 0) bytes
+  derivation-over ls count most bytes e c l h f =
+      ⊎-elim
+      (λ k.
+      ⊎-elim
+      (λ g. absurd (omega arith))
+      (λ g. derivation-large ls count bytes e c k (omega arith) f)
+      h)
+      (λ k. derivation-long ls count bytes e c k f)
+      (le-cases count 16000)
+
+  -- a buffer that does not even hold the count
+  pub derivation-none : (ls : List Line) (bytes : List ℕ) → w ≡ refutation ls → room < 2 → bytes ≡ replicate room 0 → Does (derivationOf room w) (answer.Refused 12 0) bytes
+  derivation-none ls bytes e h f =
+      ⊎-elim
+      (λ k. derivation-large ls (countAll 0 ls) bytes e refl k (omega arith) f)
+      (λ k. derivation-long ls (countAll 0 ls) bytes e refl k f)
+      (le-cases (countAll 0 ls) 16000)
 
   pub derivation-refuted : (ls : List Line) (count : ℕ) (bytes : List ℕ) → w ≡ refutation ls → count ≡ countAll 0 ls → count ≤ 16000 → 2 + 4 * count ≤ room → bytes ≡ set (set (putAll (replicate room 0) 0 ls) 0 (count / 256)) 1 (count % 256) → Does (derivationOf room w) answer.Refuted bytes
   unfolding derivationOf _or_

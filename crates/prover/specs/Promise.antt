@@ -1,10 +1,15 @@
 -- What the two calls promise, on every input: the answer, and every byte of what is lent.
 use Prim.Native.Nat.{ℕ}
 use mathlib.Core.Path.{_≡_}
+use mathlib.Core.Bool.{true, false}
 use mathlib.Core.List.{List}
 use lib.ListN.{length}
+use Rattle.logic.specs.Walk.{Ending, saturation, Verdict, ourVerdict}
 use Rattle.logic.specs.Calls.{Input, Outcome}
 use Rattle.logic.specs.Calls as calls
+use Rattle.facts.specs.Path.{pathOf}
+use Rattle.decide.specs.Tells.{isRefuted}
+use Rattle.decide.specs.declared.Walked.{Walked}
 use Rattle.prover.specs.declared.Answer.{Answer}
 use Rattle.prover.specs.declared.Answer.the-variants as answer
 
@@ -22,3 +27,8 @@ inputOf order query before = record { order = order; query = query; room = lengt
 pub record Does (outcome : Outcome) (r : Answer) (bytes : List ℕ) : Type 0 where
   pub answers : meaning r ≡ outcome .answer
   pub leaves : bytes ≡ outcome .lent
+
+-- how a walk ends: refuted, or with this path saturated
+pub record Settles (e : Ending) (r : Walked) : Type 0 where
+  pub refuted : isRefuted (r .kind) ≡ true → ourVerdict e ≡ Verdict.refuted
+  pub shown : isRefuted (r .kind) ≡ false → e ≡ saturation (pathOf (r .facts))

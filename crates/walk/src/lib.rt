@@ -1,7 +1,6 @@
-// The branch walk, and the lines that it writes.
+// One look of the branch walk, and the lines that it writes.
 use clash::Clash;
 use facts::Facts;
-use facts::Joined;
 use facts::Pairs;
 use facts::Term;
 use query::Layout;
@@ -12,16 +11,15 @@ ghost use mathlib.Core.Path.{_≡_};
 ghost use Prim.Native.Nat.{_+_, _*_, _≤_, _<_};
 ghost use lib.ListN.{length};
 ghost use Rattle.logic.specs.Facts.{line, joinLines};
-ghost use Rattle.logic.specs.Query.{decode, termCount};
-ghost use Rattle.logic.specs.Steps.{AtMost};
+ghost use Rattle.logic.specs.Query.{decode};
 ghost use Rattle.logic.specs.Rules.{ruleNumber};
-ghost use Rattle.logic.specs.Walk.{look, walkBranch, walk, orderOf};
+ghost use Rattle.logic.specs.Walk.{look, orderOf};
 ghost use Rattle.facts.specs.Path.{pathOf};
-ghost use Rattle.facts.specs.Pairs.{pairsOf, joinedOf, Fits};
+ghost use Rattle.facts.specs.Pairs.{pairsOf};
 ghost use Rattle.query.specs.LaysOut.{LaysOut};
 ghost use Rattle.rules.specs.Answers.{kindOf};
 ghost use Rattle.walk.specs.Lines.{counted, countAll, putLine, putAll};
-ghost use Rattle.walk.specs.Ends.{isRefuted, lookOf, Ends, Handed};
+ghost use Rattle.walk.specs.Looks.{lookOf};
 
 // One line more, up to one above 16,000.
 pub fn counted(count: usize) -> usize
@@ -81,29 +79,8 @@ pub enum Seen {
     Saturated,
 }
 
-// How a walk ends.
-pub enum Kind {
-    Refuted,
-    Saturated,
-}
-
-// The ending of a walk, the path that is saturated or broken off (where neither is, the one that was given), and the count of lines.
-pub struct Walked {
-    pub kind: Kind,
-    pub facts: Facts,
-    pub count: usize,
-}
-
-fn is_refuted(kind: Kind) -> bool
-    ensures { λ r. ⌜ r ≡ isRefuted kind ⌝ }
-{
-    match kind {
-        Kind::Refuted => true,
-        Kind::Saturated => false,
-    }
-}
-
-fn number(rule: Rule) -> usize
+// The number of a rule, as a line has it.
+pub fn number(rule: Rule) -> usize
     ensures { λ r. ⌜ (r ≡ ruleNumber (kindOf rule)) × (r < 256) ⌝ }
 {
     match rule {
@@ -132,60 +109,4 @@ pub fn look(query: &[u8], layout: Layout, order: &[u8], s: Facts) -> Seen
         return Seen::Saturated;
     };
     Seen::Applying(rule, x, y, z)
-}
-
-// "Each branch is walked by the same routine again, one step deeper", the lines of its joins at its head: at most `left` rule steps are
-// possible from the path, so that the count does not run out where a rule applies.
-pub fn walk(
-    query: &[u8],
-    layout: Layout,
-    order: &[u8],
-    left: usize,
-    path: Joined,
-    lines: &mut [u8],
-    first: usize,
-) -> Walked
-    requires { ⌜ LaysOut layout (now query) × Fits (joinedOf path) × (first ≤ 16001) × AtMost (termCount (decode (now query))) (pathOf (path .facts)) left ⌝ }
-    ensures { λ r. ⌜ Ends r (walkBranch (walk (decode (now (query .entry))) (orderOf (now (order .entry))) left) (joinedOf path)) (now (lines .entry)) first (now (lines .exit)) ⌝ }
-    ensures { λ r. ⌜ Handed r (walkBranch (walk (decode (now (query .entry))) (orderOf (now (order .entry))) left) (joinedOf path)) (pathOf (path .facts)) first ⌝ }
-{
-    let n = layout.terms;
-    let s = path.facts;
-    let count = put_joins(lines, first, path.pairs);
-    match look(query, layout, order, s) {
-        Seen::Saturated => Walked {
-            kind: Kind::Saturated,
-            facts: s,
-            count,
-        },
-        Seen::Clashing(section, place, partner) => {
-            put_line(lines, count, 9, section, place, partner);
-            Walked {
-                kind: Kind::Refuted,
-                facts: s,
-                count: counted(count),
-            }
-        }
-        Seen::Applying(rule, x, y, z) => {
-            put_line(lines, count, number(rule), x.0, y.0, z.0);
-            let total = branch::count(rule, z);
-            let mut written = counted(count);
-            let mut i: usize = 0;
-            while i < total {
-                let branch = branch::branch(s, n, rule, x, y, z, i);
-                let w = walk(query, layout, order, left - 1, branch, lines, written);
-                let kind = w.kind;
-                if !is_refuted(kind) {
-                    return w;
-                }
-                written = w.count;
-                i += 1;
-            }
-            Walked {
-                kind: Kind::Refuted,
-                facts: s,
-                count: written,
-            }
-        }
-    }
 }

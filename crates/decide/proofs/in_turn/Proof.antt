@@ -1,16 +1,16 @@
 -- Whatever strategy is done is right. Assumes nothing.
 use borrow.Author.Needs.{needs}
-use Prim.Native.Nat.{_-_, _%_, _≤_}
+use Prim.Native.Nat.{_-_, _≤_}
 use native.Mathlib.Omega.{arith}
 use Rattle.decide.proofs.Tells.{tells-nothing}
 use Rattle.decide.proofs.in_turn.Statement.{statement}
 use Rattle.decide.proofs.in_turn.Tie as tie
 
 abbrev Inv-loop : tie.InvT-loop
-Inv-loop query layout s budget₀ turn₀ budget turn = turn ≤ 36
+Inv-loop query layout s first budget₀ turn₀ budget turn = turn ≤ 36
 
 abbrev μ-loop : tie.MeasureT-loop
-μ-loop query layout s budget₀ turn₀ budget turn = 36 - turn
+μ-loop query layout s first budget₀ turn₀ budget turn = 36 - turn
 
 pub in-turn-spec : {M : Type 1} → statement M
 in-turn-spec =
@@ -18,14 +18,24 @@ in-turn-spec =
     (tie.spec
     Inv-loop
     μ-loop
-    -- loop-holds
-    (λ c. omega arith)
+    -- share-requires
+    (λ c κs. search needs)
     -- search-requires
-    (λ c κs. c .before .before .before .pre)
+    (λ c κs. search needs)
     -- is-unknown-requires
     (λ c κs. search needs)
     -- returns
     (λ c. c .before .before .search .ensures)
+    -- loop-holds
+    (λ c. omega arith)
+    -- share-requires-2
+    (λ c κs. search needs)
+    -- search-requires-2
+    (λ c κs. search needs)
+    -- is-unknown-requires-2
+    (λ c κs. search needs)
+    -- returns-2
+    (λ c. c .before .before .search2 .ensures)
     -- grown-requires
     (λ c κs. search needs)
     -- add-turn
@@ -34,5 +44,5 @@ in-turn-spec =
     (λ c. omega arith)
     -- loop-again
     (λ c. omega arith)
-    -- returns-2
+    -- returns-3
     (λ c. tells-nothing _ _))

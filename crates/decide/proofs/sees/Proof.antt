@@ -17,13 +17,13 @@ sees-spec =
     (λ c. sees-clash _ _ _ (c .before .before .before .before .before .before .before .pre .term-count) (c .before .before .find-clash .result) (c .before .before .find-clash .ensures) _ _ _ (c .enum-told .given .1))
     -- enum-told-2
     (λ c. search needs)
-    -- plain-requires
-    (λ c κs. c .before .before .before .before .before .before .before .pre .terms-within)
+    -- pick-requires
+    (λ c κs. search needs)
     -- enum-known-rule
     (λ c. search needs)
     -- enum-told-3
     (λ c. search needs)
     -- returns-2
-    (λ c. sees-none _ _ _ (c .before .before .before .before .before .before .before .before .before .before .pre .term-count) (c .before .before .before .before .before .find-clash .result) (c .before .before .before .before .before .find-clash .ensures) (c .before .before .plain .result) (c .before .before .plain .ensures) (c .before .before .before .enum-told2 .given .1) (c .enum-told3 .given .1))
+    (λ c. sees-none _ _ _ (c .before .before .before .before .before .before .before .before .before .before .pre .term-count) (c .before .before .before .before .before .find-clash .result) (c .before .before .before .before .before .find-clash .ensures) (c .before .before .pick .result) (c .before .before .pick .ensures) (c .before .before .before .enum-told2 .given .1) (c .enum-told3 .given .1))
     -- returns-3
-    (λ c. sees-rule _ _ _ (c .before .before .before .before .before .before .before .before .before .before .before .pre .term-count) (c .before .before .before .before .before .before .find-clash .result) (c .before .before .before .before .before .before .find-clash .ensures) (c .before .before .before .plain .result) (c .before .before .before .plain .ensures) _ _ _ _ (c .before .rule .given .1)))
+    (λ c. sees-rule _ _ _ (c .before .before .before .before .before .before .before .before .before .before .before .pre .term-count) (c .before .before .before .before .before .before .find-clash .result) (c .before .before .before .before .before .before .find-clash .ensures) (c .before .before .before .pick .result) (c .before .before .before .pick .ensures) _ _ _ _ (c .before .rule .given .1)))

@@ -32,7 +32,7 @@ derivation-spec =
     -- derive-requires
     (λ c κs.
     let h = subst (λ (x : Checked). CheckedAs x (c .before .before .before .before .before .before .before .before .before .before .before .before .before .before .args .query .now)) (c .before .before .layout .given .1) (c .before .before .before .before .check .ensures) in
-    (h .1, checked-accepts _ _ h, blank-again _ (length (c .before .before .before .before .before .before .before .before .before .before .before .before .before .before .args .buffer .now)) (c .before .before .before .before .before .before .before .before .before .clear .ensures)))
+    (h .1, checked-accepts _ _ h, sym (c .before .before .before .before .before .before .is-order .ensures) ∙ not-false _ (c .before .before .before .before .before .if1 .left), blank-again _ (length (c .before .before .before .before .before .before .before .before .before .before .before .before .before .before .args .buffer .now)) (c .before .before .before .before .before .before .before .before .before .clear .ensures)))
     -- same-length-2
     (λ c. blank-long _ (length (c .before .before .before .before .before .before .before .before .before .before .before .before .before .args .buffer .now)) (c .before .before .before .before .before .before .before .before .clear .ensures))
     -- returns-2

@@ -38,7 +38,7 @@ verdict-spec =
     -- decide-requires
     (λ c κs.
     let h = subst (λ (x : Checked). CheckedAs x (c .before .before .before .before .before .before .before .before .before .before .before .before .before .before .before .args .query .now)) (c .before .before .before .layout .given .1) (c .before .before .before .before .before .check .ensures) in
-    (h .1, checked-accepts _ _ h, c .before .if2 .left, blank-again _ (length (c .before .before .before .before .before .before .before .before .before .before .before .before .before .before .before .args .report .now)) (c .before .before .before .before .before .before .before .before .before .before .clear .ensures)))
+    (h .1, checked-accepts _ _ h, sym (c .before .before .before .before .before .before .before .is-order .ensures) ∙ not-false _ (c .before .before .before .before .before .before .if1 .left), c .before .if2 .left, blank-again _ (length (c .before .before .before .before .before .before .before .before .before .before .before .before .before .before .before .args .report .now)) (c .before .before .before .before .before .before .before .before .before .before .clear .ensures)))
     -- same-length-3
     (λ c. blank-long _ (length (c .before .before .before .before .before .before .before .before .before .before .before .before .before .args .report .now)) (c .before .before .before .before .before .before .before .before .clear .ensures))
     -- returns-3

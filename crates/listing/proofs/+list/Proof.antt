@@ -1,0 +1,129 @@
+-- The branch walk with its lines: one look, and then each branch in order, with a step less left to it. Assumes nothing.
+use Prim.Native.Nat.{ℕ, _≤_, _<_, _-_}
+use mathlib.Core.Path.{_≡_, refl, sym, ap, _∙_, subst}
+use native.Mathlib.Nat.{lt-of-le-of-lt}
+use lib.ListN.{length}
+use lib.Dec.{lit<}
+use borrow.Author.Needs.{needs}
+use borrow.Fn.Kinds.{In}
+use borrow.Fn.PlainCycle.{Measures, is, falls, and}
+use Rattle.logic.specs.Query.{decode, termCount}
+use Rattle.logic.specs.Walk.{orderOf}
+use Rattle.logic.proofs.Walks.OurWalk.{look-some}
+use Rattle.facts.specs.Path.{pathOf}
+use Rattle.facts.specs.Pairs.{joinedOf, Fits}
+use Rattle.branch.proofs.Steps.{branch-fits}
+use Rattle.rules.specs.Answers.{kindOf}
+use Rattle.walk.proofs.Lines.{counted-bound, putLine-length, putAll-length}
+use Rattle.walk.proofs.Steps.{look-is, clash-fits, move-fits, branch-fewer, headed-bound, less-left}
+use Rattle.listing.proofs.Listing.{Going, going-first, going-next, going-stop, going-last, lists-clash, lists-saturated, lists-after, lists-early}
+use Rattle.listing.proofs.list.Reads as list
+use Rattle.listing.proofs.list.Kinds as list-kinds
+use Rattle.listing.proofs.+list.Lts-list as list-lts
+use Rattle.branch.proofs.branch.Reads as branch-reads
+use Rattle.branch.proofs.count.Reads as count-reads
+use Rattle.walk.proofs.counted.Reads as counted-reads
+use Rattle.walk.proofs.look.Reads as look-reads
+use Rattle.walk.proofs.number.Reads as number-reads
+use Rattle.walk.proofs.put_joins.Reads as put-joins-reads
+use Rattle.walk.proofs.put_line.Reads as put-line-reads
+use Rattle.listing.proofs.+list.{statement}
+use Rattle.listing.proofs.+list.Tie.{close}
+
+abbrev μ-list : Measures 3 list-kinds.ps ℕ
+μ-list κs a = a .1 .1 .1 .0
+
+abbrev list-at : ℕ → In 3 list-kinds.ps
+list-at t = and 3 list-kinds.ps (is 3 list-kinds.ps μ-list t) list.Pre
+
+abbrev list-below : ℕ → In 3 list-kinds.ps
+list-below t = and 3 list-kinds.ps (falls 3 list-kinds.ps _<_ μ-list t) list.Pre
+
+abbrev list-Inv-loop : list-lts.InvT-loop
+list-Inv-loop query layout order left lines₀ first most n s count rule x y z total written₀ i₀ lines written i =
+    Going (decode query) (orderOf order) left (pathOf s) (kindOf rule) (x .0) (y .0) (z .0) lines₀ written₀ i lines written
+    × (written ≤ 16001)
+    × (length lines ≡ length lines₀)
+
+abbrev list-μ-loop : list-lts.MeasureT-loop
+list-μ-loop query layout order left lines₀ first most n s count rule x y z total written₀ i₀ lines written i = total - i
+
+pub +list-spec : {M : Type 1} → statement M
++list-spec = close μ-list λ t. list-lts.spec (
+  put-joins-reads.Asked,
+  put-joins-reads.Learnt,
+  look-reads.Asked,
+  look-reads.Learnt,
+  put-line-reads.Asked,
+  put-line-reads.Learnt,
+  counted-reads.Asked,
+  counted-reads.Learnt,
+  number-reads.Asked,
+  number-reads.Learnt,
+  count-reads.Asked,
+  count-reads.Learnt,
+  branch-reads.Asked,
+  branch-reads.Learnt,
+  list-below t,
+  list.Post,
+)
+    (list-at t)
+    list.Post
+    list-Inv-loop
+    list-μ-loop
+    -- put-joins-requires
+    (λ c κs. (c .before .before .before .before .before .pre .1 .1, c .before .before .before .before .before .pre .1 .2))
+    -- same-length
+    (λ c. ap length (c .before .before .before .put-joins .ensures .1) ∙ putAll-length _ _ _)
+    -- returns
+    (λ c. lists-early _ (joinedOf (c .before .before .before .before .before .before .before .before .before .args .path)) _ _ _ _ _ _ (c .before .before .before .put-joins .ensures .0) (c .before .before .before .put-joins .ensures .1) (c .if1 .taken) (c .before .before .before .before .before .before .before .before .before .pre .1 .2) refl refl)
+    -- look-requires
+    (λ c κs. c .before .before .before .before .before .before .before .before .before .pre .1 .0)
+    -- enum-told
+    (λ c. search needs)
+    -- enum-known-section
+    (λ c. search needs)
+    -- put-line-requires
+    (λ c κs. let f = clash-fits _ _ (c .before .before .before .before .before .before .before .before .before .before .before .before .before .before .pre .1 .0) _ _ _ _ _ (look-is _ _ _ (c .before .before .before .before .look .ensures) (c .before .before .section .given .1)) in ((headed-bound _ _ _ (c .before .before .before .before .before .before .before .before .put-joins .ensures .0) (c .before .before .before .before .before .before .before .before .before .before .before .before .before .before .pre .1 .2)), lit< tt, f .0, f .1, f .2))
+    -- counted-requires
+    (λ c κs. search needs)
+    -- enum-known-rule
+    (λ c. search needs)
+    -- number-requires
+    (λ c κs. search needs)
+    -- put-line-requires-2
+    (λ c κs. let f = move-fits _ _ (c .before .before .before .before .before .before .before .before .before .before .before .before .before .before .before .pre .1 .0) _ _ _ _ _ _ (look-is _ _ _ (c .before .before .before .before .before .look .ensures) (c .before .before .before .rule .given .1)) in ((headed-bound _ _ _ (c .before .before .before .before .before .before .before .before .before .put-joins .ensures .0) (c .before .before .before .before .before .before .before .before .before .before .before .before .before .before .before .pre .1 .2)), c .number .ensures .1, lt-of-le-of-lt (f .0) (lit< tt), lt-of-le-of-lt (f .1) (lit< tt), lt-of-le-of-lt (f .2) (lit< tt)))
+    -- count-requires
+    (λ c κs. search needs)
+    -- counted-requires-2
+    (λ c κs. search needs)
+    -- loop-holds
+    (λ c. (going-first _ _ _ _ _ _ _ _ _ _, subst (λ (j : ℕ). j ≤ 16001) (sym (c .counted2 .ensures)) (counted-bound _ (headed-bound _ _ _ (c .before .before .before .before .before .before .before .before .before .before .before .before .before .before .put-joins .ensures .0) (c .before .before .before .before .before .before .before .before .before .before .before .before .before .before .before .before .before .before .before .before .pre .1 .2))), refl))
+    -- branch-requires
+    (λ c κs. let f = move-fits _ _ (c .before .before .before .before .before .before .before .before .before .before .before .before .before .before .before .before .before .before .before .before .before .before .pre .1 .0) _ _ _ _ _ _ (look-is _ _ _ (c .before .before .before .before .before .before .before .before .before .before .before .before .look .ensures) (c .before .before .before .before .before .before .before .before .before .before .rule .given .1)) in (c .before .before .before .before .before .before .before .before .before .before .before .before .before .before .before .before .before .before .before .before .before .before .pre .1 .0 .terms-within, f .0, f .1, f .2))
+    -- sub-list
+    (λ c. look-some _ _ _ _ _ (c .before .before .before .before .before .before .before .before .before .before .before .before .before .before .before .before .before .before .before .before .before .before .before .pre .1 .3) (look-is _ _ _ (c .before .before .before .before .before .before .before .before .before .before .before .before .before .look .ensures) (c .before .before .before .before .before .before .before .before .before .before .before .rule .given .1)))
+    -- list-requires
+    (λ c κs. let h = (look-is _ _ _ (c .before .before .before .before .before .before .before .before .before .before .before .before .before .before .look .ensures) (c .before .before .before .before .before .before .before .before .before .before .before .before .rule .given .1)) in let p = c .before .before .before .before .before .before .before .before .before .before .before .before .before .before .before .before .before .before .before .before .before .before .before .before .pre in let some-left = look-some _ _ _ _ _ (p .1 .3) h in (less-left _ _ some-left (p .0), (p .1 .0, subst Fits (sym (c .before .branch .ensures)) (branch-fits _ _ _ (p .1 .0 .terms-within)), c .before .before .before .loop .inv .1, branch-fewer _ _ _ _ _ _ _ _ _ h some-left (p .1 .0 .term-count) (p .1 .3) (joinedOf (c .before .branch .result)) _ (subst (λ (j : ℕ). c .before .before .before .loop .i < j) (c .before .before .before .before .before .count .ensures) (c .before .before .loop-test .taken)) (c .before .branch .ensures))))
+    -- same-length-2
+    (λ c. c .before .before .before .list .ensures .same-length ∙ c .before .before .before .before .before .before .before .loop .inv .2 ∙ ap length (c .before .before .before .before .before .before .before .before .before .before .before .before .put-line2 .ensures) ∙ putLine-length _ _ _ ∙ ap length (c .before .before .before .before .before .before .before .before .before .before .before .before .before .before .before .before .before .before .before .before .before .before .put-joins .ensures .1) ∙ putAll-length _ _ _)
+    -- returns-2
+    (λ c. lists-after _ (joinedOf (c .before .before .before .before .before .before .before .before .before .before .before .before .before .before .before .before .before .before .before .before .before .before .before .before .before .before .before .before .args .path)) _ _ _ _ _ _ (c .before .before .before .before .before .before .before .before .before .before .before .before .before .before .before .before .before .before .before .before .before .before .put-joins .ensures .0) (c .before .before .before .before .before .before .before .before .before .before .before .before .before .before .before .before .before .before .before .before .before .before .put-joins .ensures .1) _ (going-stop _ _ _ _ _ _ _ _ _ (c .before .before .before .before .before .before .before .before .before .before .before .before .before .before .before .before .before .before .before .before .before .before .before .before .before .before .before .before .pre .1 .0 .term-count) _ _ _ _ _ _ _ (subst (λ (j : ℕ). c .before .before .before .before .before .before .before .loop .i < j) (c .before .before .before .before .before .before .before .before .before .count .ensures) (c .before .before .before .before .before .before .loop-test .taken)) _ (c .before .before .before .before .before .branch .ensures) _ (c .before .before .before .list .ensures) (look-is _ _ _ (c .before .before .before .before .before .before .before .before .before .before .before .before .before .before .before .before .before .before .look .ensures) (c .before .before .before .before .before .before .before .before .before .before .before .before .before .before .before .before .rule .given .1)) (look-some _ _ _ _ _ (c .before .before .before .before .before .before .before .before .before .before .before .before .before .before .before .before .before .before .before .before .before .before .before .before .before .before .before .before .pre .1 .3) (look-is _ _ _ (c .before .before .before .before .before .before .before .before .before .before .before .before .before .before .before .before .before .before .look .ensures) (c .before .before .before .before .before .before .before .before .before .before .before .before .before .before .before .before .rule .given .1))) _ _ (c .before .before .before .before .before .before .before .before .counted2 .ensures) (c .before .before .before .before .before .before .before .loop .inv .2 ∙ ap length (c .before .before .before .before .before .before .before .before .before .before .before .before .put-line2 .ensures) ∙ putLine-length _ _ _) (c .before .before .before .before .before .before .before .loop .inv .0) (c .if2 .taken)))
+    -- add-i
+    (λ c. search needs)
+    -- loop-less
+    (λ c. search needs)
+    -- loop-again
+    (λ c. (going-next _ _ _ _ _ _ _ _ _ (c .before .before .before .before .before .before .before .before .before .before .before .before .before .before .before .before .before .before .before .before .before .before .before .before .before .before .before .before .pre .1 .0 .term-count) _ _ _ _ _ _ _ (subst (λ (j : ℕ). c .before .before .before .before .before .before .before .loop .i < j) (c .before .before .before .before .before .before .before .before .before .count .ensures) (c .before .before .before .before .before .before .loop-test .taken)) _ (c .before .before .before .before .before .branch .ensures) _ (c .before .before .before .list .ensures) (c .before .before .before .before .before .before .before .loop .inv .0) (c .if2 .left), c .before .before .before .list .ensures .bounded, c .before .before .before .list .ensures .same-length ∙ c .before .before .before .before .before .before .before .loop .inv .2))
+    -- same-length-3
+    (λ c. ap length (c .before .before .before .before .before .before .put-joins .ensures .1) ∙ putAll-length _ _ _)
+    -- returns-3
+    (λ c. lists-after _ (joinedOf (c .before .before .before .before .before .before .before .before .before .before .before .before .args .path)) _ _ _ _ _ _ (c .before .before .before .before .before .before .put-joins .ensures .0) (c .before .before .before .before .before .before .put-joins .ensures .1) _ (lists-saturated _ _ _ (pathOf (c .before .before .before .before .before .before .before .before .before .before .before .before .args .path .facts)) _ _ _ _ _ (look-is _ _ _ (c .before .before .look .ensures) (c .enum-told .given .1)) refl (headed-bound _ _ _ (c .before .before .before .before .before .before .put-joins .ensures .0) (c .before .before .before .before .before .before .before .before .before .before .before .before .pre .1 .2))))
+    -- same-length-4
+    (λ c. ap length (c .before .before .before .put-line .ensures) ∙ putLine-length _ _ _ ∙ ap length (c .before .before .before .before .before .before .before .before .before .before .before .before .put-joins .ensures .1) ∙ putAll-length _ _ _)
+    -- returns-4
+    (λ c. lists-after _ (joinedOf (c .before .before .before .before .before .before .before .before .before .before .before .before .before .before .before .before .before .before .args .path)) _ _ _ _ _ _ (c .before .before .before .before .before .before .before .before .before .before .before .before .put-joins .ensures .0) (c .before .before .before .before .before .before .before .before .before .before .before .before .put-joins .ensures .1) _ (lists-clash _ _ _ (pathOf (c .before .before .before .before .before .before .before .before .before .before .before .before .before .before .before .before .before .before .args .path .facts)) _ _ _ _ _ _ (look-is _ _ _ (c .before .before .before .before .before .before .before .before .look .ensures) (c .before .before .before .before .before .before .section .given .1)) (headed-bound _ _ _ (c .before .before .before .before .before .before .before .before .before .before .before .before .put-joins .ensures .0) (c .before .before .before .before .before .before .before .before .before .before .before .before .before .before .before .before .before .before .pre .1 .2)) refl (c .counted .ensures) (c .before .before .before .put-line .ensures)))
+    -- same-length-5
+    (λ c. c .before .loop .inv .2 ∙ ap length (c .before .before .before .before .before .before .put-line2 .ensures) ∙ putLine-length _ _ _ ∙ ap length (c .before .before .before .before .before .before .before .before .before .before .before .before .before .before .before .before .put-joins .ensures .1) ∙ putAll-length _ _ _)
+    -- returns-5
+    (λ c. lists-after _ (joinedOf (c .before .before .before .before .before .before .before .before .before .before .before .before .before .before .before .before .before .before .before .before .before .before .args .path)) _ _ _ _ _ _ (c .before .before .before .before .before .before .before .before .before .before .before .before .before .before .before .before .put-joins .ensures .0) (c .before .before .before .before .before .before .before .before .before .before .before .before .before .before .before .before .put-joins .ensures .1) _ (going-last _ _ _ _ _ _ _ _ (look-is _ _ _ (c .before .before .before .before .before .before .before .before .before .before .before .before .look .ensures) (c .before .before .before .before .before .before .before .before .before .before .rule .given .1)) (look-some _ _ _ _ _ (c .before .before .before .before .before .before .before .before .before .before .before .before .before .before .before .before .before .before .before .before .before .before .pre .1 .3) (look-is _ _ _ (c .before .before .before .before .before .before .before .before .before .before .before .before .look .ensures) (c .before .before .before .before .before .before .before .before .before .before .rule .given .1))) _ _ _ _ _ _ (c .before .loop .inv .0) (subst (λ (j : ℕ). j ≤ c .before .loop .i) (c .before .before .before .count .ensures) (c .loop-test .left)) _ _ _ _ (c .before .before .before .before .before .before .before .number .ensures .0) (c .before .before .before .before .before .before .put-line2 .ensures) (c .before .before .counted2 .ensures) (c .before .loop .inv .2 ∙ ap length (c .before .before .before .before .before .before .put-line2 .ensures) ∙ putLine-length _ _ _) (c .before .loop .inv .1) refl refl))

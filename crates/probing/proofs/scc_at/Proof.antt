@@ -1,0 +1,35 @@
+-- Each turn looks at one number more. Assumes nothing.
+use Prim.Native.Nat.{_-_, _≤_}
+use native.Mathlib.Omega.{arith}
+use borrow.Author.Needs.{needs}
+use Rattle.probing.proofs.scc_at.Statement.{statement}
+use Rattle.probing.proofs.scc_at.Tie as tie
+
+abbrev Inv-loop : tie.InvT-loop
+Inv-loop query layout s both x z y₀ y = y ≤ 17
+
+abbrev μ-loop : tie.MeasureT-loop
+μ-loop query layout s both x z y₀ y = 17 - y
+
+pub scc-at-spec : {M : Type 1} → statement M
+scc-at-spec =
+    tie.close
+    (tie.spec
+    Inv-loop
+    μ-loop
+    -- loop-holds
+    (λ c. omega arith)
+    -- has-requires
+    (λ c κs. omega arith)
+    -- fails-requires
+    (λ c κs. search needs)
+    -- returns
+    (λ c. search needs)
+    -- add-y
+    (λ c. omega arith)
+    -- loop-less
+    (λ c. omega arith)
+    -- loop-again
+    (λ c. omega arith)
+    -- returns-2
+    (λ c. search needs))

@@ -1,0 +1,47 @@
+-- Each turn looks at one number more. Assumes nothing.
+use Prim.Native.Nat.{_-_, _≤_}
+use native.Mathlib.Omega.{arith}
+use borrow.Author.Needs.{needs}
+use Rattle.probing.proofs.sinks.Statement.{statement}
+use Rattle.probing.proofs.sinks.Tie as tie
+
+abbrev Inv-loop : tie.InvT-loop
+Inv-loop query layout t₀ turn₀ t turn = turn ≤ 30
+
+abbrev μ-loop : tie.MeasureT-loop
+μ-loop query layout t₀ turn₀ t turn = 30 - turn
+
+pub sinks-spec : {M : Type 1} → statement M
+sinks-spec =
+    tie.close
+    (tie.spec
+    Inv-loop
+    μ-loop
+    -- loop-holds
+    (λ c. omega arith)
+    -- clashes-requires
+    (λ c κs. search needs)
+    -- returns
+    (λ c. search needs)
+    -- unit-requires
+    (λ c κs. search needs)
+    -- enum-known-rule
+    (λ c. search needs)
+    -- enum-told
+    (λ c. search needs)
+    -- returns-2
+    (λ c. search needs)
+    -- still-left-requires
+    (λ c κs. search needs)
+    -- returns-3
+    (λ c. search needs)
+    -- returns-4
+    (λ c. search needs)
+    -- add-turn
+    (λ c. omega arith)
+    -- loop-less
+    (λ c. omega arith)
+    -- loop-again
+    (λ c. omega arith)
+    -- returns-5
+    (λ c. search needs))

@@ -1,0 +1,41 @@
+-- Each turn looks at one number more. Assumes nothing.
+use Prim.Native.Nat.{_-_, _≤_}
+use native.Mathlib.Omega.{arith}
+use borrow.Author.Needs.{needs}
+use Rattle.units.proofs.total.Statement.{statement}
+use Rattle.units.proofs.total.Tie as tie
+
+abbrev Inv-loop : tie.InvT-loop
+Inv-loop reach back no-reach no-back x₀ x = x ≤ 17
+
+abbrev μ-loop : tie.MeasureT-loop
+μ-loop reach back no-reach no-back x₀ x = 17 - x
+
+pub total-spec : {M : Type 1} → statement M
+total-spec =
+    tie.close
+    (tie.spec
+    Inv-loop
+    μ-loop
+    -- loop-holds
+    (λ c. omega arith)
+    -- mul-far
+    (λ c. omega arith)
+    -- element-copy-out-far
+    (λ c. omega arith)
+    -- total-at-requires
+    (λ c κs. search needs)
+    -- enum-known-rule
+    (λ c. search needs)
+    -- returns
+    (λ c. search needs)
+    -- enum-told
+    (λ c. search needs)
+    -- add-x
+    (λ c. omega arith)
+    -- loop-less
+    (λ c. omega arith)
+    -- loop-again
+    (λ c. omega arith)
+    -- returns-2
+    (λ c. search needs))

@@ -1,0 +1,37 @@
+-- Each turn looks at one number more. Assumes nothing.
+use Prim.Native.Nat.{_-_, _≤_}
+use native.Mathlib.Omega.{arith}
+use borrow.Author.Needs.{needs}
+use Rattle.units.proofs.unreachable.Statement.{statement}
+use Rattle.units.proofs.unreachable.Tie as tie
+
+abbrev Inv-loop : tie.InvT-loop
+Inv-loop reach behind out₀ a₀ out a = a ≤ 17
+
+abbrev μ-loop : tie.MeasureT-loop
+μ-loop reach behind out₀ a₀ out a = 17 - a
+
+pub unreachable-spec : {M : Type 1} → statement M
+unreachable-spec =
+    tie.close
+    (tie.spec
+    Inv-loop
+    μ-loop
+    -- loop-holds
+    (λ c. omega arith)
+    -- mul-no
+    (λ c. omega arith)
+    -- element-copy-out-no
+    (λ c. omega arith)
+    -- having-requires
+    (λ c κs. search needs)
+    -- marked-requires
+    (λ c κs. search needs)
+    -- add-a
+    (λ c. omega arith)
+    -- loop-less
+    (λ c. omega arith)
+    -- loop-again
+    (λ c. omega arith)
+    -- returns
+    (λ c. search needs))
