@@ -6,7 +6,7 @@ use libc::STDOUT_FILENO;
 use tally::Tally;
 ghost use mathlib.Core.Path.{_≡_};
 ghost use Prim.Native.Nat.{_+_, _≤_, min};
-ghost use lib.ListN.{length};
+ghost use lib.ListN.{length, take, drop};
 
 // What is held of the input: `at` of `filled` bytes are taken, and no more will come if it has ended.
 struct Held {
@@ -33,10 +33,10 @@ fn at_most(n: usize, most: usize) -> usize
     n
 }
 
-// Moves bytes to the front.
+// Moves `kept` bytes to the front.
 fn move_front(input: &mut [u8], at: usize, kept: usize)
     requires { ⌜ at + kept ≤ length (now input) ⌝ }
-    ensures { λ r. ⌜ length (now (input .exit)) ≡ length (now (input .entry)) ⌝ }
+    ensures { λ r. ⌜ (length (now (input .exit)) ≡ length (now (input .entry))) × (take kept (now (input .exit)) ≡ take kept (drop at (now (input .entry)))) ⌝ }
 {
     let mut i: usize = 0;
     while i < kept {
