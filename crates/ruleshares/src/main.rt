@@ -5,8 +5,9 @@ use libc::STDIN_FILENO;
 use libc::STDOUT_FILENO;
 use tally::Tally;
 ghost use mathlib.Core.Path.{_≡_};
-ghost use Prim.Native.Nat.{_+_, _≤_, min};
+ghost use Prim.Native.Nat.{_+_, _-_, _≤_, min};
 ghost use lib.ListN.{length, take, drop};
+ghost use Rattle.ruleshares.specs.Streaming.{TakesAt};
 
 // What is held of the input: `at` of `filled` bytes are taken, and no more will come if it has ended.
 struct Held {
@@ -101,6 +102,7 @@ fn turn(
 ) -> Turned
     requires { ⌜ (at ≤ filled) × (filled ≤ length (now input)) × (filled ≤ 65536) × (made + 128 ≤ length (now text)) ⌝ }
     ensures { λ r. ⌜ (r .at ≤ filled) × (r .made ≤ length (now (text .entry))) ⌝ }
+    ensures { λ r. ⌜ TakesAt (now (order .entry)) (tally .counts) (take (filled - at) (drop at (now (input .entry)))) (drop made (now (text .entry))) (drop made (now (text .exit))) made (r .made) (r .tally .counts) (r .goes) at (r .at) ⌝ }
 {
     let behind = at_most(at + 2, filled);
     let wanted = shares::query_length(&input[at..behind]);
