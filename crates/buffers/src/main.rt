@@ -1,7 +1,7 @@
 // Buffers of no bytes, a byte too short, just large enough and longer, lent to both calls for a query that is satisfiable (E2), one that is
 // refuted (E5, whose two lines are ten bytes) and one that is refused 8. Each is lent full of 255; after a refusal all of it is zero.
-use lemitsaka::Answer;
 use libc::STDOUT_FILENO;
+use prover::Answer;
 ghost use Prim.Native.Nat.{_≤_};
 ghost use lib.ListN.{length};
 
@@ -48,13 +48,13 @@ fn print_outcome(answer: Answer, bytes: &[u8]) {
 
 fn try_verdict(query: &[u8], report: &mut [u8]) {
     io::write_all(STDOUT_FILENO, b"verdict, ");
-    let answer = lemitsaka::verdict(&[1, 2, 3, 4, 5, 6, 7, 8], query, report);
+    let answer = prover::verdict(&[1, 2, 3, 4, 5, 6, 7, 8], query, report);
     print_outcome(answer, report);
 }
 
 fn try_derivation(query: &[u8], buffer: &mut [u8]) {
     io::write_all(STDOUT_FILENO, b"derivation, ");
-    let answer = lemitsaka::derivation(&[1, 2, 3, 4, 5, 6, 7, 8], query, buffer);
+    let answer = prover::derivation(&[1, 2, 3, 4, 5, 6, 7, 8], query, buffer);
     print_outcome(answer, buffer);
 }
 

@@ -8,8 +8,8 @@ mod queries;
 mod reports;
 
 use bytes::Room;
-use lemitsaka::Answer;
 use libc::STDOUT_FILENO;
+use prover::Answer;
 ghost use Prim.Native.Nat.{_+_, _≤_, _<_};
 
 const QUERIES: u64 = 6000;
@@ -54,7 +54,7 @@ fn is_reported(query: &Room, report: &Room, satisfiable: bool) -> bool {
 
 // The prover's answer to a query.
 fn verdict(order: &[u8; 8], query: &Room, length: usize, report: &mut Room) -> Answer {
-    lemitsaka::verdict(order, bytes::prefix(query, length), report)
+    prover::verdict(order, bytes::prefix(query, length), report)
 }
 
 fn print_bytes(bytes: &[u8]) {

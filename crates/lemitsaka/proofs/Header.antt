@@ -15,7 +15,8 @@ use Rattle.logic.specs.Calls as calls
 use Rattle.logic.specs.Demands.{Refusals}
 use Rattle.logic.proofs.Calls.Demands.{demand1}
 use Rattle.logic.proofs.Calls.Room.{room-enough, report-short}
-use Rattle.lemitsaka.specs.Promise.{inputOf, codeOf, answerIn, Codes}
+use Rattle.prover.specs.Promise.{inputOf}
+use Rattle.lemitsaka.specs.VerdictPromise.{codeOf, answerIn, Codes}
 
 -- "The number gives back the answer." A refusal's number is small, and its place.
 refused-back : (k place : ℕ) → 1 ≤ k → k ≤ 12 → place ≤ 681 → answerIn (codeOf (calls.refused k place)) ≡ calls.refused k place

@@ -1,13 +1,10 @@
 -- What the joining call and the hand-back promise to C.
-use Prim.Native.Nat.{ℕ, _+_, _*_, _%_}
+use Prim.Native.Nat.{ℕ, _+_, _%_}
 use mathlib.Core.Path.{_≡_}
 use mathlib.Core.List.{List}
 use Rattle.joining.specs.Call.{Outcome, Answer, written, firstRefused, secondRefused, refused}
 use Rattle.joining.specs.HandBack as hand
-
--- a number and a place: a query has at most 681 bytes
-abbrev pub numberedCode : ℕ → ℕ → ℕ
-numberedCode k place = k % 65536 * 65536 + place % 65536
+use Rattle.lemitsaka.specs.Codes.{numberedCode}
 
 -- an answer as a number, for C: 4,294,967,296 is added to a refusal that is about the second query
 abbrev pub codeOfJoin : Answer → ℕ

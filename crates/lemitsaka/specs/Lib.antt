@@ -1,6 +1,7 @@
-pub mod Promise
-pub mod PrecedenceCall
+pub mod Codes
+pub mod VerdictPromise
 pub mod DotPromise
-pub mod JoinPromise
-pub mod CheckPromise
+pub mod PrecedencePromise
 pub mod FormulaPromise
+pub mod CheckPromise
+pub mod JoinPromise

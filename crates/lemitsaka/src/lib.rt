@@ -1,145 +1,17 @@
-// Lemitsaka's two calls: a verdict with its heap, and a derivation. Neither asks anything of its caller.
-mod check_call;
-mod dot_call;
-pub mod formula_call;
-mod join_call;
-mod precedence_call;
+// Every call, exported for C (include/lemitsaka.h). Each answers one number: below 65,536 the call's own answer, else a refusal.
+mod check_export;
+mod dot_export;
+mod formula_export;
+mod join_export;
+mod precedence_export;
+pub mod verdict_export;
 
-use query::Checked;
-use query::Layout;
-use walk::Kind;
 ghost use mathlib.Core.Path.{_≡_};
-ghost use mathlib.Core.Bool.{true};
-ghost use Prim.Native.Nat.{ℕ, _+_, _*_, _≤_};
-ghost use lib.ListN.{length, replicate};
-ghost use Rattle.logic.specs.Query.{decode};
-ghost use Rattle.logic.specs.Walk.{ourWalk};
-ghost use Rattle.logic.specs.Calls.{accepts, verdictOf, verdictCall, derivationOf, derivationCall};
-ghost use Rattle.query.specs.LaysOut.{LaysOut};
-ghost use Rattle.lemitsaka.specs.Promise.{meaning, inputOf, Does, codeOf, Codes};
+ghost use Rattle.lemitsaka.specs.Codes.{numberedCode};
 
-// What a call answers: a verdict, or a refusal's number and place.
-pub enum Answer {
-    Satisfiable,
-    Refuted,
-    Refused(usize, usize),
-}
-
-// "n times n plus n rule steps"
-fn limit(n: usize) -> usize
-    requires { ⌜ n ≤ 16 ⌝ }
-    ensures { λ r. ⌜ r ≡ n * n + n ⌝ }
+// A number and a place in one: the number times 65,536, and the place.
+fn numbered(k: usize, place: usize) -> u64
+    ensures { λ r. ⌜ r ≡ numberedCode k place ⌝ }
 {
-    n * n + n
-}
-
-// The verdict of a query that passes its checks, and the heap shown in a blank report.
-fn decide(order: &[u8], query: &[u8], layout: Layout, report: &mut [u8]) -> Answer
-    requires { ⌜ LaysOut layout (now query) × (accepts (now query) ≡ true) × (53 ≤ length (now report)) × (now report ≡ replicate (length (now report)) 0) ⌝ }
-    ensures { λ r. ⌜ Does (verdictOf (decode (now (query .entry))) (length (now (report .entry))) (ourWalk (now (order .entry)) (decode (now (query .entry))))) r (now (report .exit)) ⌝ }
-{
-    let n = layout.terms;
-    let mut no_lines = [0u8; 1];
-    let first = start::start(query, layout);
-    let w = walk::walk(query, layout, order, limit(n), first, &mut no_lines, 0);
-    let kind = w.kind;
-    let path = w.facts;
-    match kind {
-        Kind::Saturated => {
-            report::write_report(report, query, layout, path);
-            Answer::Satisfiable
-        }
-        Kind::Refuted => Answer::Refuted,
-    }
-}
-
-// The verdict call: "satisfiable" with the heap shown in the report, "refuted", or one of the refusals 1 to 9.
-pub fn verdict(order: &[u8], query: &[u8], report: &mut [u8]) -> Answer
-    ensures { λ r. ⌜ Does (verdictCall (inputOf (now (order .entry)) (now (query .entry)) (now (report .entry)))) r (now (report .exit)) ⌝ }
-{
-    report::clear(report);
-    if !query::is_order(order) {
-        return Answer::Refused(1, 0);
-    }
-    match query::check(query) {
-        Checked::Refused(k, place) => Answer::Refused(k, place),
-        Checked::Accepted(layout) => {
-            if report.len() < 53 {
-                return Answer::Refused(9, 0);
-            }
-            decide(order, query, layout, report)
-        }
-    }
-}
-
-// The derivation of a query that passes its checks, in a blank buffer.
-fn derive(order: &[u8], query: &[u8], layout: Layout, buffer: &mut [u8]) -> Answer
-    requires { ⌜ LaysOut layout (now query) × (accepts (now query) ≡ true) × (now buffer ≡ replicate (length (now buffer)) 0) ⌝ }
-    ensures { λ r. ⌜ Does (derivationOf (length (now (buffer .entry))) (ourWalk (now (order .entry)) (decode (now (query .entry))))) r (now (buffer .exit)) ⌝ }
-{
-    let n = layout.terms;
-    let first = start::start(query, layout);
-    let w = walk::walk(query, layout, order, limit(n), first, buffer, 0);
-    let kind = w.kind;
-    let count = w.count;
-    match kind {
-        Kind::Saturated => {
-            report::clear(buffer);
-            Answer::Refused(11, 0)
-        }
-        Kind::Refuted => {
-            if 16000 < count {
-                report::clear(buffer);
-                return Answer::Refused(12, 0);
-            }
-            if buffer.len() < 2 + 4 * count {
-                report::clear(buffer);
-                return Answer::Refused(12, 0);
-            }
-            buffer[0] = (count / 256) as u8;
-            buffer[1] = (count % 256) as u8;
-            Answer::Refuted
-        }
-    }
-}
-
-// The derivation call: "refuted" with the derivation in the buffer, or one of the refusals 1 to 8, 11 and 12.
-pub fn derivation(order: &[u8], query: &[u8], buffer: &mut [u8]) -> Answer
-    ensures { λ r. ⌜ Does (derivationCall (inputOf (now (order .entry)) (now (query .entry)) (now (buffer .entry)))) r (now (buffer .exit)) ⌝ }
-{
-    report::clear(buffer);
-    if !query::is_order(order) {
-        return Answer::Refused(1, 0);
-    }
-    match query::check(query) {
-        Checked::Refused(k, place) => Answer::Refused(k, place),
-        Checked::Accepted(layout) => derive(order, query, layout, buffer),
-    }
-}
-
-// An answer as a number, for C: 0 satisfiable, 1 refuted, else the refusal's number times 65,536, and its place.
-fn coded(answer: Answer) -> u64
-    ensures { λ r. ⌜ r ≡ codeOf (meaning answer) ⌝ }
-{
-    match answer {
-        Answer::Satisfiable => 0,
-        Answer::Refuted => 1,
-        Answer::Refused(k, place) => ((k % 65536) as u64) * 65536 + ((place % 65536) as u64),
-    }
-}
-
-// The verdict call for C.
-#[no_mangle]
-pub extern "C" fn lemitsaka_verdict(order: &[u8], query: &[u8], report: &mut [u8]) -> u64
-    ensures { λ r. ⌜ Codes (verdictCall (inputOf (now (order .entry)) (now (query .entry)) (now (report .entry)))) r (now (report .exit)) ⌝ }
-{
-    coded(verdict(order, query, report))
-}
-
-// The derivation call for C.
-#[no_mangle]
-pub extern "C" fn lemitsaka_derivation(order: &[u8], query: &[u8], buffer: &mut [u8]) -> u64
-    ensures { λ r. ⌜ Codes (derivationCall (inputOf (now (order .entry)) (now (query .entry)) (now (buffer .entry)))) r (now (buffer .exit)) ⌝ }
-{
-    coded(derivation(order, query, buffer))
+    ((k % 65536) as u64) * 65536 + ((place % 65536) as u64)
 }

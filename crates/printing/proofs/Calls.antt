@@ -12,9 +12,9 @@ use Rattle.logic.specs.Calls.{Input, Outcome, verdictCall, derivationCall}
 use Rattle.logic.specs.Calls as calls
 use Rattle.logic.specs.Demands.{Fits}
 use Rattle.logic.proofs.Basics.Compare.{le-cases}
-use Rattle.lemitsaka.specs.Promise.{meaning, Does}
-use Rattle.lemitsaka.specs.declared.Answer.{Answer}
-use Rattle.lemitsaka.specs.declared.Answer.the-variants as answer
+use Rattle.prover.specs.Promise.{meaning, Does}
+use Rattle.prover.specs.declared.Answer.{Answer}
+use Rattle.prover.specs.declared.Answer.the-variants as answer
 use Rattle.logic.proofs.Calls.Demands.{demand2}
 use Rattle.text.specs.Text.{ascii}
 use Rattle.printing.specs.HeapverdictText.{reportText, lineText, answerText, firstLine, derivationText, verdictText, unsatText, textOf, heapverdictText}

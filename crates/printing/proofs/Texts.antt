@@ -15,9 +15,9 @@ use Rattle.logic.specs.Derivation.{lineBytes, linesFrom, linesIn}
 use Rattle.logic.specs.Shown.{sizeIn, isNode, wellFormed}
 use Rattle.logic.specs.Calls.{refused}
 use Rattle.logic.proofs.Basics.Search.{and-left, and-right}
-use Rattle.lemitsaka.specs.Promise.{meaning}
-use Rattle.lemitsaka.specs.declared.Answer.{Answer}
-use Rattle.lemitsaka.specs.declared.Answer.the-variants as answer
+use Rattle.prover.specs.Promise.{meaning}
+use Rattle.prover.specs.declared.Answer.{Answer}
+use Rattle.prover.specs.declared.Answer.the-variants as answer
 use Rattle.text.specs.Text.{ascii, decimal, hexByte, Writes}
 use Rattle.text.proofs.Digits.{decimal-machine, decimal-byte}
 use Rattle.printing.specs.HeapverdictText.{behind, lineOf, refusedText, answerText, firstLine, reportSize, reportText, lineText}

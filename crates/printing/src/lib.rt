@@ -1,5 +1,5 @@
 // What heapverdict prints, made in a lent buffer. The program reads, asks for the text and writes it.
-use lemitsaka::Answer;
+use prover::Answer;
 ghost use mathlib.Core.Path.{_≡_};
 ghost use mathlib.Core.Bool.{true};
 ghost use Prim.Native.Nat.{ℕ, _+_, _≤_, _<_, min};
@@ -10,7 +10,7 @@ ghost use Rattle.logic.specs.Derivation.{linesIn};
 ghost use Rattle.logic.specs.Shown.{wellFormed};
 ghost use Rattle.logic.specs.Calls.{refused};
 ghost use Rattle.logic.specs.Demands.{Fits};
-ghost use Rattle.lemitsaka.specs.Promise.{meaning};
+ghost use Rattle.prover.specs.Promise.{meaning};
 ghost use mathlib.Core.List.{_++_};
 ghost use Rattle.text.specs.Text.{Writes, ascii, decimal};
 ghost use Rattle.printing.specs.HeapverdictText.{reportSize, reportText, lineText, refusedText, answerText, firstLine, unsatText, textOf, heapverdictText};
@@ -138,7 +138,7 @@ fn put_derivation(buffer: &mut [u8], at: usize, order: &[u8], query: &[u8]) -> u
     ensures { λ r. ⌜ Writes (now (buffer .entry)) at (unsatText (now (order .entry)) (now (query .entry))) (now (buffer .exit)) r × (r ≤ at + 256000) ⌝ }
 {
     let mut lines = [0u8; 64002];
-    match lemitsaka::derivation(order, query, &mut lines) {
+    match prover::derivation(order, query, &mut lines) {
         Answer::Refuted => put_lines(buffer, at, &lines),
         Answer::Refused(k, place) => put_refusal(buffer, at, k, place),
         Answer::Satisfiable => at,
@@ -150,7 +150,7 @@ fn put_verdict(buffer: &mut [u8], order: &[u8], query: &[u8]) -> usize
     ensures { λ r. ⌜ Writes (now (buffer .entry)) 0 (textOf (now (order .entry)) (now (query .entry))) (now (buffer .exit)) r × (r ≤ 256006) ⌝ }
 {
     let mut report = [0u8; 53];
-    match lemitsaka::verdict(order, query, &mut report) {
+    match prover::verdict(order, query, &mut report) {
         Answer::Satisfiable => {
             let to = text::put_bytes(buffer, 0, b"sat\n");
             put_report(buffer, to, &report)

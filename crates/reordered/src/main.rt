@@ -110,8 +110,8 @@ fn agrees(order: &[u8], query: &[u8], at: usize, count: usize, by: usize, backwa
     }
     copy(query, &mut room);
     reorder(query, &mut room, at, count, by, backwards);
-    let answer = lemitsaka::lemitsaka_verdict(order, query, &mut report);
-    let other = lemitsaka::lemitsaka_verdict(order, &room[..n], &mut again);
+    let answer = lemitsaka::verdict_export::lemitsaka_verdict(order, query, &mut report);
+    let other = lemitsaka::verdict_export::lemitsaka_verdict(order, &room[..n], &mut again);
     (answer == other) & is_same(&report, &again)
 }
 
@@ -127,7 +127,7 @@ fn ask(order: &[u8], query: &[u8], t: Tally) -> Tally {
     let at = byte(query, 0) + 1;
     let count = byte(query, at);
     let mut report = [0u8; 53];
-    let answer = lemitsaka::lemitsaka_verdict(order, query, &mut report);
+    let answer = lemitsaka::verdict_export::lemitsaka_verdict(order, query, &mut report);
     if (count < 2) | (65535 < answer) {
         return t;
     }

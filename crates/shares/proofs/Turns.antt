@@ -13,9 +13,9 @@ use Rattle.logic.specs.Derivation.{linesFrom, linesIn}
 use Rattle.logic.specs.Calls.{Input, Outcome, verdictCall, derivationCall}
 use Rattle.logic.specs.Calls as calls
 use Rattle.logic.proofs.Calls.Demands.{demand1}
-use Rattle.lemitsaka.specs.Promise.{meaning, inputOf, Does}
-use Rattle.lemitsaka.specs.declared.Answer.{Answer}
-use Rattle.lemitsaka.specs.declared.Answer.the-variants as answer
+use Rattle.prover.specs.Promise.{meaning, inputOf, Does}
+use Rattle.prover.specs.declared.Answer.{Answer}
+use Rattle.prover.specs.declared.Answer.the-variants as answer
 use Rattle.text.specs.Text.{ascii, decimal, hexByte, Writes}
 use Rattle.text.proofs.Writing.{writes-none}
 use Rattle.printing.specs.HeapverdictText.{answerText}

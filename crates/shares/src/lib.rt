@@ -1,6 +1,6 @@
 // What ruleshares prints, turn by turn (02, R-14). A turn is the bytes read for a length and those read behind it: the line of a query, and the
 // tally after it. The program reads, takes turns and writes.
-use lemitsaka::Answer;
+use prover::Answer;
 use tally::Tally;
 ghost use mathlib.Core.Path.{_≡_};
 ghost use mathlib.Core.Bool.{true};
@@ -9,7 +9,7 @@ ghost use Prim.Native.Nat.{ℕ, _+_, _/_, _%_, _≤_};
 ghost use lib.ListN.{length};
 ghost use Rattle.logic.specs.Derivation.{linesIn};
 ghost use Rattle.logic.specs.Calls.{verdictCall};
-ghost use Rattle.lemitsaka.specs.Promise.{meaning};
+ghost use Rattle.prover.specs.Promise.{meaning};
 ghost use Rattle.text.specs.Text.{Writes, ascii, decimal};
 ghost use Rattle.tally.specs.Counting.{tallied};
 ghost use Rattle.shares.specs.Output.{hexWord, answerOf, writtenLines, queryLine, isBad, wanted, turnOf};
@@ -73,7 +73,7 @@ fn count_lines(
         return finish(buffer, at, b"\0\0", tally);
     }
     let mut lines = [0u8; 64002];
-    lemitsaka::derivation(order, query, &mut lines);
+    prover::derivation(order, query, &mut lines);
     finish(buffer, at, &lines, tally)
 }
 
@@ -82,7 +82,7 @@ fn put_query(buffer: &mut [u8], order: &[u8], query: &[u8], tally: Tally) -> Tak
     ensures { λ r. ⌜ Prints (now (buffer .entry)) (now (order .entry)) (now (query .entry)) (tally .counts) (now (buffer .exit)) (r .length) (r .tally .counts) (r .goes) ⌝ }
 {
     let mut report = [0u8; 53];
-    let answer = lemitsaka::verdict(order, query, &mut report);
+    let answer = prover::verdict(order, query, &mut report);
     let marked = put_hex_word(buffer, 0, fnv::mark(query));
     let answered = text::put_byte(buffer, marked, b' ');
     let worded = printing::put_answer(buffer, answered, answer);

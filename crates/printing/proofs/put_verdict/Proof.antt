@@ -4,7 +4,7 @@ use native.Mathlib.Omega.{arith}
 use borrow.Author.Needs.{needs}
 use lib.ListN.{replicate, length-replicate}
 use Rattle.text.proofs.Writing.{writes-then, writes-as}
-use Rattle.lemitsaka.proofs.Demands.{report-formed}
+use Rattle.prover.proofs.Demands.{report-formed}
 use Rattle.printing.proofs.Calls.{sat-text, unsat-text, refused-text}
 use Rattle.printing.proofs.put_verdict.Statement.{statement}
 use Rattle.printing.proofs.put_verdict.Tie as tie

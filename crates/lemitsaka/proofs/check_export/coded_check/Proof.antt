@@ -1,0 +1,23 @@
+-- Each case by itself. Assumes nothing.
+use borrow.Author.Needs.{needs}
+use Rattle.lemitsaka.proofs.check_export.coded_check.Statement.{statement}
+use Rattle.lemitsaka.proofs.check_export.coded_check.Tie as tie
+
+pub coded-check-spec : {M : Type 1} → statement M
+coded-check-spec =
+    tie.close
+    (tie.spec
+    -- enum-told
+    (λ c. search needs)
+    -- enum-known-answer
+    (λ c. search needs)
+    -- enum-known-answer-2
+    (λ c. search needs)
+    -- numbered-requires
+    (λ c κs. search needs)
+    -- returns
+    (λ c. rw (c .enum-told .given .1))
+    -- returns-2
+    (λ c. rw (c .before .answer .given .1))
+    -- returns-3
+    (λ c. rw (c .before .before .answer2 .given .1) (c .numbered .ensures)))

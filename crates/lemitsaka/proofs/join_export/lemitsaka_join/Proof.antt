@@ -1,0 +1,19 @@
+-- The call's answer, as a number. Assumes nothing.
+use borrow.Author.Needs.{needs}
+use mathlib.Core.Path.{ap, _∙_}
+use Rattle.lemitsaka.specs.JoinPromise.{codeOfJoin}
+use Rattle.lemitsaka.proofs.join_export.lemitsaka_join.Statement.{statement}
+use Rattle.lemitsaka.proofs.join_export.lemitsaka_join.Tie as tie
+
+pub lemitsaka-join-spec : {M : Type 1} → statement M
+lemitsaka-join-spec =
+    tie.close
+    (tie.spec
+    -- join-requires
+    (λ c κs. search needs)
+    -- coded-join-requires
+    (λ c κs. search needs)
+    -- same-length
+    (λ c. search needs)
+    -- returns
+    (λ c. record { answers = c .coded-join .ensures ∙ ap codeOfJoin (c .before .before .before .join .ensures .answers); leaves = c .before .before .before .join .ensures .leaves }))

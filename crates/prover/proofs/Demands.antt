@@ -1,0 +1,174 @@
+-- The three demands, of what the library's calls answer and write. `order`, `query` and `before` are what a call is given, `r` is what
+-- it answers and `bytes` what it leaves in the lent output: its contract is the hypothesis `does`.
+use Prim.Native.Nat.{ℕ, _≤_}
+use native.Mathlib.Omega.{arith}
+use mathlib.Core.Path.{_≡_, refl, sym, ap, _∙_, subst}
+use mathlib.Core.Logic.{_↔_}
+use mathlib.Core.Bool.{true}
+use mathlib.Core.List.{List, List·Memᴰ}
+use mathlib.Core.Option.{some}
+use lib.ListN.{length, replicate}
+use Rattle.logic.specs.Query.{decode}
+use Rattle.logic.specs.Heap.{Satisfiable}
+use Rattle.logic.specs.Facts.{Line}
+use Rattle.logic.specs.Walk.{refutation, Verdict, Pick, ourWalk, ourVerdict, handRow, handVerdict}
+use Rattle.logic.specs.Derivation.{Derivation, derivationBytes, linesIn}
+use Rattle.logic.specs.Shown.{wellFormed}
+use Rattle.logic.specs.Calls.{Input, Check, Outcome, verdictChecks, derivationChecks, padded, verdictCall, derivationCall}
+use Rattle.logic.specs.Calls as calls
+use Rattle.logic.specs.Demands.{NotRefused, NoneStands, FirstStands, Refusals, Fits, Exceeds, Shows, Right, answerOf}
+use Rattle.logic.proofs.Calls.Demands.{demand1, demand2, demand3, call-passed}
+use Rattle.prover.specs.Promise.{meaning, inputOf, Does}
+use Rattle.prover.specs.declared.Answer.{Answer}
+use Rattle.prover.specs.declared.Answer.the-variants as answer
+
+-- the cases of the enum are told apart by what they mean
+pub meaning-one : (r b : Answer) → meaning r ≡ meaning b → r ≡ b
+meaning-one answer.Satisfiable answer.Satisfiable e = refl
+meaning-one answer.Satisfiable answer.Refuted e = let z : _≡_ {A = ℕ} 0 1 = cc in absurd (omega arith)
+meaning-one answer.Satisfiable (answer.Refused k p) e = let z : _≡_ {A = ℕ} 0 1 = cc in absurd (omega arith)
+meaning-one answer.Refuted answer.Satisfiable e = let z : _≡_ {A = ℕ} 0 1 = cc in absurd (omega arith)
+meaning-one answer.Refuted answer.Refuted e = refl
+meaning-one answer.Refuted (answer.Refused k p) e = let z : _≡_ {A = ℕ} 0 1 = cc in absurd (omega arith)
+meaning-one (answer.Refused k p) answer.Satisfiable e = let z : _≡_ {A = ℕ} 0 1 = cc in absurd (omega arith)
+meaning-one (answer.Refused k p) answer.Refuted e = let z : _≡_ {A = ℕ} 0 1 = cc in absurd (omega arith)
+meaning-one (answer.Refused k p) (answer.Refused k′ p′) e = let a : k ≡ k′ = cc in let b : p ≡ p′ = cc in cc
+
+-- no refusal
+abbrev pub Unrefused : Answer → Type 0
+Unrefused r = (k place : ℕ) → r ≡ answer.Refused k place → ⊥
+
+-- an answer of the enum is the definition's, and the other way round
+module _ (o : Outcome) (r : Answer) (bytes : List ℕ) (does : Does o r bytes) where
+  same : (b : Answer) → r ≡ b → o .answer ≡ meaning b
+  same b e = sym (does .answers) ∙ ap meaning e
+
+  back : (b : Answer) → o .answer ≡ meaning b → r ≡ b
+  back b e = meaning-one r b (does .answers ∙ e)
+
+  not-refused : Unrefused r → NotRefused (o .answer)
+  not-refused h k place e = h k place (back (answer.Refused k place) e)
+
+  exactly : (b : Answer) (P : Type 0) → (o .answer ≡ meaning b) ↔ P → (r ≡ b) ↔ P
+  exactly b P h = (λ e. h .0 (same b e), λ p. back b (h .1 p))
+
+-- DEMAND 1, of either call: each refusal under its own stated condition only, the first in checking order; all of the lent output is
+-- then zero, and the call writes just what it was lent
+pub record Refuses (cs : List Check) (i : Input) (r : Answer) (bytes : List ℕ) : Type 0 where
+  pub first-exactly : (k place : ℕ) → k ≤ 9 → (r ≡ answer.Refused k place) ↔ FirstStands cs i k place
+  pub refusal-made : (c : Check) (place : ℕ) → List·Memᴰ c cs → c .place i ≡ some place → (k : ℕ) × (p : ℕ) × (k ≤ c .number) × (r ≡ answer.Refused k p)
+  pub never-ten : (place : ℕ) → r ≡ answer.Refused 10 place → ⊥
+  pub refusal-numbered : (k place : ℕ) → r ≡ answer.Refused k place → (1 ≤ k) × (k ≤ 12)
+  pub refusal-placed : (k place : ℕ) → r ≡ answer.Refused k place → (place ≤ length (i .query)) × (place ≤ 681)
+  pub refusal-blank : (k place : ℕ) → r ≡ answer.Refused k place → bytes ≡ replicate (i .room) 0
+  pub lent-whole : length bytes ≡ i .room
+
+refuses : (cs : List Check) (outcome : Input → Outcome) → Refusals cs outcome → (i : Input) (r : Answer) (bytes : List ℕ) → Does (outcome i) r bytes → Refuses cs i r bytes
+refuses cs outcome law i r bytes does =
+    record {
+      first-exactly = λ k place u. exactly (outcome i) r bytes does (answer.Refused k place) (FirstStands cs i k place) (law .first-exactly i k place u);
+      refusal-made = λ c place m s. let (k, p, l, e) = law .refusal-made i c place m s in (k, p, l, back (outcome i) r bytes does (answer.Refused k p) e);
+      never-ten = λ place e. law .never-ten i place (same (outcome i) r bytes does (answer.Refused 10 place) e);
+      refusal-numbered = λ k place e. law .refusal-numbered i k place (same (outcome i) r bytes does (answer.Refused k place) e);
+      refusal-placed = λ k place e. law .refusal-placed i k place (same (outcome i) r bytes does (answer.Refused k place) e);
+      refusal-blank = λ k place e. does .leaves ∙ law .refusal-blank i k place (same (outcome i) r bytes does (answer.Refused k place) e);
+      lent-whole = ap length (does .leaves) ∙ law .lent-whole i;
+    }
+
+-- The verdict call
+module _ (order query before bytes : List ℕ) (r : Answer) (does : Does (verdictCall (inputOf order query before)) r bytes) where
+  abbrev i : Input
+  i = inputOf order query before
+
+  unrefused : Unrefused r → NotRefused (verdictCall i .answer)
+  unrefused = not-refused _ r bytes does
+
+  -- DEMAND 1
+  pub verdict-refuses : Refuses verdictChecks i r bytes
+  verdict-refuses = refuses verdictChecks verdictCall (demand1 .verdict-refusals) i r bytes does
+
+  pub verdict-numbered : (k place : ℕ) → r ≡ answer.Refused k place → k ≤ 9
+  verdict-numbered k place e = demand1 .verdict-numbered i k place (same _ r bytes does (answer.Refused k place) e)
+
+  pub report-whole : length bytes ≡ length before
+  report-whole = verdict-refuses .lent-whole
+
+  pub report-formed : r ≡ answer.Satisfiable → wellFormed bytes ≡ true
+  report-formed e = ap wellFormed (does .leaves) ∙ demand1 .report-formed i (same _ r bytes does answer.Satisfiable e)
+
+  -- DEMAND 2: "satisfiable" exactly when some finite heap meets every literal, and the heap shown is one; "refuted" exactly when none
+  pub satisfiable-exactly : Unrefused r → (r ≡ answer.Satisfiable) ↔ Satisfiable (decode query)
+  satisfiable-exactly h = exactly _ r bytes does answer.Satisfiable (Satisfiable (decode query)) (demand2 .satisfiable-exactly i (unrefused h))
+
+  pub heap-shown : r ≡ answer.Satisfiable → Shows bytes (decode query)
+  heap-shown e = subst (λ (b : List ℕ). Shows b (decode query)) (sym (does .leaves)) (demand2 .heap-shown i (same _ r bytes does answer.Satisfiable e))
+
+  pub refuted-exactly : Unrefused r → (r ≡ answer.Refuted) ↔ (Satisfiable (decode query) → ⊥)
+  refuted-exactly h = exactly _ r bytes does answer.Refuted (Satisfiable (decode query) → ⊥) (demand2 .refuted-exactly i (unrefused h))
+
+  -- DEMAND 3: the call answers our walk's verdict, which is that of every hand's walk that is finished, and right
+  pub one-verdict : Unrefused r → meaning r ≡ answerOf (ourVerdict (ourWalk order (decode query)))
+  one-verdict h = does .answers ∙ demand3 .call-answers i (unrefused h)
+
+  pub hand-agrees : Unrefused r → (picks : List Pick) (w : Verdict) → handVerdict (decode query) (handRow (decode query) picks) ≡ some w → meaning r ≡ answerOf w
+  hand-agrees h picks w f =
+      let p = call-passed i (unrefused h) in
+      one-verdict h ∙ ap answerOf (demand3 .one-verdict query order picks w (p .query) (p .order) f)
+
+  -- and some hand's walk is finished with it
+  pub hand-follows : Unrefused r → (picks : List Pick) × (w : Verdict) × (handVerdict (decode query) (handRow (decode query) picks) ≡ some w) × (meaning r ≡ answerOf w)
+  hand-follows h =
+      let p = call-passed i (unrefused h) in
+      let (picks, f) = demand3 .hand-follows query order (p .query) (p .order) in
+      (picks, ourVerdict (ourWalk order (decode query)), f, one-verdict h)
+
+-- The derivation call
+module _ (order query before bytes : List ℕ) (r : Answer) (does : Does (derivationCall (inputOf order query before)) r bytes) where
+  abbrev j : Input
+  j = inputOf order query before
+
+  -- DEMAND 1
+  pub derivation-refuses : Refuses derivationChecks j r bytes
+  derivation-refuses = refuses derivationChecks derivationCall (demand1 .derivation-refusals) j r bytes does
+
+  pub heap-exactly : (place : ℕ) → (r ≡ answer.Refused 11 place) ↔ ((place ≡ 0) × NoneStands derivationChecks j × Satisfiable (decode query))
+  heap-exactly place = exactly _ r bytes does (answer.Refused 11 place) ((place ≡ 0) × NoneStands derivationChecks j × Satisfiable (decode query)) (demand1 .heap-exactly j place)
+
+  abbrev Lines : (ℕ → List Line → Type 0) → Type 0
+  Lines P = (ls : List Line) × (ourWalk order (decode query) ≡ refutation ls) × P (length before) ls
+
+  pub excess-exactly : (place : ℕ) → (r ≡ answer.Refused 12 place) ↔ ((place ≡ 0) × NoneStands derivationChecks j × (Satisfiable (decode query) → ⊥) × Lines Exceeds)
+  excess-exactly place = exactly _ r bytes does (answer.Refused 12 place) ((place ≡ 0) × NoneStands derivationChecks j × (Satisfiable (decode query) → ⊥) × Lines Exceeds) (demand1 .excess-exactly j place)
+
+  pub lines-exactly : (r ≡ answer.Refuted) ↔ (NoneStands derivationChecks j × Lines Fits)
+  lines-exactly = exactly _ r bytes does answer.Refuted (NoneStands derivationChecks j × Lines Fits) (demand1 .lines-exactly j)
+
+  pub never-satisfiable : r ≡ answer.Satisfiable → ⊥
+  never-satisfiable e = demand1 .never-satisfiable j (same _ r bytes does answer.Satisfiable e)
+
+  -- DEMAND 2's last sentence, of the bytes left: what holds of the bytes that the definition leaves where it says "refuted" holds of the bytes left
+  of-lines : (P : List ℕ → Type 0) → (derivationCall j .answer ≡ calls.refuted → P (derivationCall j .lent)) → r ≡ answer.Refuted → P bytes
+  of-lines P h e = subst P (sym (does .leaves)) (h (same _ r bytes does answer.Refuted e))
+
+  pub derivation-follows : r ≡ answer.Refuted → Derivation (decode query) (linesIn bytes)
+  derivation-follows = of-lines (λ b. Derivation (decode query) (linesIn b)) (demand2 .derivation-follows j)
+
+  pub derivation-walked : r ≡ answer.Refuted → ourWalk order (decode query) ≡ refutation (linesIn bytes)
+  derivation-walked = of-lines (λ b. ourWalk order (decode query) ≡ refutation (linesIn b)) (demand2 .derivation-walked j)
+
+  pub derivation-formed : r ≡ answer.Refuted → bytes ≡ padded (length before) (derivationBytes (linesIn bytes))
+  derivation-formed = of-lines (λ b. b ≡ padded (length before) (derivationBytes (linesIn b))) (demand2 .derivation-formed j)
+
+  pub derivation-counted : r ≡ answer.Refuted → Fits (length before) (linesIn bytes)
+  derivation-counted = of-lines (λ b. Fits (length before) (linesIn b)) (demand2 .derivation-counted j)
+
+-- Both calls, with one order list and one query: one verdict
+module _ (order query before before′ bytes bytes′ : List ℕ) (r r′ : Answer) (does : Does (verdictCall (inputOf order query before)) r bytes) (does′ : Does (derivationCall (inputOf order query before′)) r′ bytes′) where
+  pub both-one-verdict : Unrefused r → Unrefused r′ → r ≡ r′
+  both-one-verdict h h′ =
+      meaning-one r r′ (does .answers ∙ demand1 .one-verdict (inputOf order query before) (inputOf order query before′) (refl, refl) (not-refused _ r bytes does h) (not-refused _ r′ bytes′ does′ h′) ∙ sym (does′ .answers))
+
+  pub both-one-heap : 53 ≤ length before → (r ≡ answer.Satisfiable) ↔ (r′ ≡ answer.Refused 11 0)
+  both-one-heap l =
+      let h = demand1 .one-heap (inputOf order query before) (inputOf order query before′) (refl, refl) l in
+      (λ e. back _ r′ bytes′ does′ (answer.Refused 11 0) (h .0 (same _ r bytes does answer.Satisfiable e)), λ e. back _ r bytes does answer.Satisfiable (h .1 (same _ r′ bytes′ does′ (answer.Refused 11 0) e)))

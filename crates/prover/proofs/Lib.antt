@@ -1,0 +1,5 @@
+pub mod Demands
+pub mod Checks
+pub mod Outcomes
+pub mod Answers
+pub mod Reordering

@@ -1,0 +1,125 @@
+-- What the walk's ending makes of a call.
+use Prim.Native.Nat.{ℕ, _+_, _*_, _/_, _%_, _≤_, _<_}
+use native.Mathlib.Omega.{arith}
+use native.Mathlib.Nat.{zero-add}
+use mathlib.Core.Path.{_≡_, refl, sym, ap, _∙_}
+use mathlib.Core.Logic.{⊎-elim}
+use mathlib.Core.Bool.{true}
+use mathlib.Core.List.{List}
+use lib.ListN.{length, set, replicate}
+use borrow.Author.Tests.{lt-ltb, le-ltb}
+use Rattle.logic.specs.Search.{_or_}
+use Rattle.logic.specs.Query.{Query, termCount, decode}
+use Rattle.logic.specs.Facts.{Facts, Joined, Line, start}
+use Rattle.logic.specs.Walk.{Ending, refutation, saturation, walkBranch, walk, orderOf, limit, ourWalk}
+use Rattle.logic.specs.Shown.{report}
+use Rattle.logic.specs.Steps.{AtMost}
+use Rattle.logic.specs.Calls.{Outcome, blank, padded, accepts, verdictOf, derivationOf}
+use Rattle.logic.specs.Calls as calls
+use Rattle.facts.specs.Path.{pathOf}
+use Rattle.start.specs.Taken.{started}
+use Rattle.walk.specs.Lines.{countAll, putAll}
+use Rattle.walk.specs.Ends.{Ends}
+use Rattle.walk.specs.declared.Walked.{Walked}
+use Rattle.walk.specs.declared.Kind.the-variants as kind
+use Rattle.walk.proofs.Lines.{countAll-small, countAll-large}
+use Rattle.walk.proofs.Padded.{derivation-written}
+use Rattle.logic.proofs.Basics.Compare.{le-cases}
+use Rattle.logic.proofs.Query.AcceptedBytes.{accepted}
+use Rattle.logic.proofs.Paths.Ranged.{live-range}
+use Rattle.logic.proofs.Paths.Invariant.{Invariant, start-invariant, branch-invariant}
+use Rattle.logic.proofs.Walks.Limit.{start-atMost, our-saturation}
+use Rattle.prover.specs.Promise.{meaning, Does}
+use Rattle.prover.specs.declared.Answer.{Answer}
+use Rattle.prover.specs.declared.Answer.the-variants as answer
+
+module _ (r : Walked) (before : List ℕ) (c : ℕ) (bytes : List ℕ) where
+  pub saturated-at : (e : Ending) → Ends r e before c bytes → r .kind ≡ kind.Saturated → e ≡ saturation (pathOf (r .facts))
+  saturated-at (refutation ls) h k = let z : _≡_ {A = ℕ} 0 1 = cc in absurd (omega arith)
+  saturated-at (saturation t) h k = ap saturation (sym (h .1))
+
+  pub refuted-at : (e : Ending) → Ends r e before c bytes → r .kind ≡ kind.Refuted → (ls : List Line) × (e ≡ refutation ls) × (r .count ≡ countAll c ls) × (bytes ≡ putAll before c ls)
+  refuted-at (refutation ls) h k = (ls, refl, h .1, h .2)
+  refuted-at (saturation t) h k = let z : _≡_ {A = ℕ} 0 1 = cc in absurd (omega arith)
+
+-- the count of the lines, which stops above 16,000
+count-short : (ls : List Line) (count : ℕ) → count ≡ countAll 0 ls → count ≤ 16000 → count ≡ length ls
+count-short ls count c l =
+    ⊎-elim
+    (λ h. c ∙ countAll-small 0 ls (omega arith) ∙ zero-add (length ls))
+    (λ h. let e = countAll-large 0 ls (omega arith) (omega arith) in absurd (omega arith))
+    (le-cases (length ls) 16000)
+
+count-long : (ls : List Line) (count : ℕ) → count ≡ countAll 0 ls → 16000 < count → 16000 < length ls
+count-long ls count c l =
+    ⊎-elim
+    (λ h. let e = countAll-small 0 ls (omega arith) in absurd (omega arith))
+    (λ h. h)
+    (le-cases (length ls) 16000)
+
+-- the walk that the code makes is our walk
+pub our-walk : (q : Query) (order : List ℕ) (n k : ℕ) (j : Joined) → n ≡ termCount q → k ≡ n * n + n → j ≡ started q → walkBranch (walk q (orderOf order) k) j ≡ ourWalk order q
+unfolding ourWalk limit walkBranch started
+our-walk q order n k j en ek ej =
+    ap (λ (i : Joined). walkBranch (walk q (orderOf order) k) i) ej
+    ∙ ap (λ (i : ℕ). walkBranch (walk q (orderOf order) i) (started q)) (ek ∙ ap (λ (m : ℕ). m * m + m) en)
+
+-- and no more rule steps are possible from its start than it counts
+pub start-steps : (bytes : List ℕ) (n k : ℕ) (j : Joined) → accepts bytes ≡ true → n ≡ termCount (decode bytes) → k ≡ n * n + n → j ≡ started (decode bytes) → AtMost (termCount (decode bytes)) (j .facts) k
+unfolding limit started
+start-steps bytes n k j ok en ek ej =
+    let e : k ≡ termCount (decode bytes) * termCount (decode bytes) + termCount (decode bytes) = ek ∙ ap (λ (m : ℕ). m * m + m) en in
+    let es : j .facts ≡ start (decode bytes) = ap (λ (i : Joined). i .facts) ej in
+    rw (es, e) (start-atMost (decode bytes) (accepted bytes ok))
+
+-- an outcome, done
+pub does-blank : (o : Outcome) (room : ℕ) (r : Answer) (bytes : List ℕ) → o ≡ blank room (meaning r) → bytes ≡ replicate room 0 → Does o r bytes
+unfolding blank
+does-blank o room r bytes e f = record { answers = sym (ap (λ (x : Outcome). x .answer) e); leaves = f ∙ sym (ap (λ (x : Outcome). x .lent) e) }
+
+module _ (q : Query) (room : ℕ) (w : Ending) where
+  pub verdict-satisfiable : (s : Facts) (bytes : List ℕ) → w ≡ saturation s → bytes ≡ padded room (report q s) → Does (verdictOf q room w) answer.Satisfiable bytes
+  unfolding verdictOf
+  verdict-satisfiable s bytes e f = rw e (record { answers = refl; leaves = f })
+
+  pub verdict-refuted : (ls : List Line) (bytes : List ℕ) → w ≡ refutation ls → bytes ≡ replicate room 0 → Does (verdictOf q room w) answer.Refuted bytes
+  unfolding verdictOf blank
+  verdict-refuted ls bytes e f = rw e (record { answers = refl; leaves = f })
+
+module _ (room : ℕ) (w : Ending) where
+  pub derivation-satisfiable : (s : Facts) (bytes : List ℕ) → w ≡ saturation s → bytes ≡ replicate room 0 → Does (derivationOf room w) (answer.Refused 11 0) bytes
+  unfolding derivationOf blank
+  derivation-satisfiable s bytes e f = rw e (record { answers = refl; leaves = f })
+
+  -- "more than 16,000 lines or its buffer cannot hold it"
+  pub derivation-long : (ls : List Line) (count : ℕ) (bytes : List ℕ) → w ≡ refutation ls → count ≡ countAll 0 ls → 16000 < count → bytes ≡ replicate room 0 → Does (derivationOf room w) (answer.Refused 12 0) bytes
+  unfolding derivationOf blank _or_
+  derivation-long ls count bytes e c l f = rw (e, lt-ltb 16000 (length ls) (count-long ls count c l)) (record { answers = refl; leaves = f })
+
+  pub derivation-large : (ls : List Line) (count : ℕ) (bytes : List ℕ) → w ≡ refutation ls → count ≡ countAll 0 ls → count ≤ 16000 → room < 2 + 4 * count → bytes ≡ replicate room 0 → Does (derivationOf room w) (answer.Refused 12 0) bytes
+  unfolding derivationOf blank _or_
+  derivation-large ls count bytes e c l h f =
+      let n = count-short ls count c l in
+      let g : room < 2 + 4 * length ls = omega arith in
+      rw (e, le-ltb 16000 (length ls) (omega arith), lt-ltb room (2 + 4 * length ls) g) (record { answers = refl; leaves = f })
+
+  pub derivation-refuted : (ls : List Line) (count : ℕ) (bytes : List ℕ) → w ≡ refutation ls → count ≡ countAll 0 ls → count ≤ 16000 → 2 + 4 * count ≤ room → bytes ≡ set (set (putAll (replicate room 0) 0 ls) 0 (count / 256)) 1 (count % 256) → Does (derivationOf room w) answer.Refuted bytes
+  unfolding derivationOf _or_
+  derivation-refuted ls count bytes e c l h f =
+      let n = count-short ls count c l in
+      let k : length ls ≤ 16000 = omega arith in
+      let g : 2 + 4 * length ls ≤ room = omega arith in
+      rw (e, le-ltb 16000 (length ls) k, le-ltb room (2 + 4 * length ls) g)
+      (record {
+        answers = refl;
+        leaves = f ∙ ap (λ (j : ℕ). set (set (putAll (replicate room 0) 0 ls) 0 (j / 256)) 1 (j % 256)) n ∙ derivation-written room ls k g;
+      })
+
+-- the terms of a path that our walk finds saturated stand for terms of the query
+pub saturated-stands : (bytes order : List ℕ) (s : Facts) → accepts bytes ≡ true → ourWalk order (decode bytes) ≡ saturation s → (t : ℕ) → 1 ≤ t → t ≤ termCount (decode bytes) → s .rep t ≤ 16
+saturated-stands bytes order s ok h t lo hi =
+    let q : Query = decode bytes in
+    let acc = accepted bytes ok in
+    let i = our-saturation q acc (Invariant q) (λ s s′ m i c a k. branch-invariant q s m i a s′ k) order s (start-invariant q acc) h .0 in
+    let r = live-range (termCount q) s (s .rep t) (i .tied .rep-live t (lo, hi)) in
+    omega (arith, acc .term-count)

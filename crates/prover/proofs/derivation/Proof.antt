@@ -1,0 +1,43 @@
+-- The checks in their order, and then the derivation. Assumes nothing.
+use borrow.Author.Needs.{needs}
+use borrow.Author.Tests.{not-true, not-false}
+use mathlib.Core.Path.{refl, sym, ap, _∙_, subst}
+use lib.ListN.{length}
+use Rattle.query.specs.Answers.{CheckedAs}
+use Rattle.query.specs.declared.Checked.{Checked}
+use Rattle.query.proofs.Ranges.{checked-accepts}
+use Rattle.logic.proofs.Calls.DerivationCall.{derivation-whole}
+use Rattle.prover.proofs.Answers.{blank-again, blank-long, derivation-order, derivation-query, derivation-walked}
+use Rattle.prover.proofs.derivation.Statement.{statement}
+use Rattle.prover.proofs.derivation.Tie as tie
+
+pub derivation-spec : {M : Type 1} → statement M
+derivation-spec =
+    tie.close
+    (tie.spec
+    -- clear-requires
+    (λ c κs. search needs)
+    -- is-order-requires
+    (λ c κs. search needs)
+    -- same-length
+    (λ c. blank-long _ (length (c .before .before .before .before .before .before .before .before .before .args .buffer .now)) (c .before .before .before .before .clear .ensures))
+    -- returns
+    (λ c. derivation-order (c .before .before .before .before .before .before .before .before .before .args .order .now) (c .before .before .before .before .before .before .before .before .before .args .query .now) (c .before .before .before .before .before .before .before .before .before .args .buffer .now) _ (sym (c .before .is-order .ensures) ∙ not-true _ (c .if1 .taken)) (c .before .before .before .before .clear .ensures))
+    -- check-requires
+    (λ c κs. search needs)
+    -- enum-known-k
+    (λ c. search needs)
+    -- enum-known-layout
+    (λ c. search needs)
+    -- derive-requires
+    (λ c κs.
+    let h = subst (λ (x : Checked). CheckedAs x (c .before .before .before .before .before .before .before .before .before .before .before .before .before .before .args .query .now)) (c .before .before .layout .given .1) (c .before .before .before .before .check .ensures) in
+    (h .1, checked-accepts _ _ h, blank-again _ (length (c .before .before .before .before .before .before .before .before .before .before .before .before .before .before .args .buffer .now)) (c .before .before .before .before .before .before .before .before .before .clear .ensures)))
+    -- same-length-2
+    (λ c. blank-long _ (length (c .before .before .before .before .before .before .before .before .before .before .before .before .before .args .buffer .now)) (c .before .before .before .before .before .before .before .before .clear .ensures))
+    -- returns-2
+    (λ c. derivation-query (c .before .before .before .before .before .before .before .before .before .before .before .before .before .args .order .now) (c .before .before .before .before .before .before .before .before .before .before .before .before .before .args .query .now) (c .before .before .before .before .before .before .before .before .before .before .before .before .before .args .buffer .now) _ _ _ (sym (c .before .before .before .before .before .is-order .ensures) ∙ not-false _ (c .before .before .before .before .if1 .left)) (subst (λ (x : Checked). CheckedAs x (c .before .before .before .before .before .before .before .before .before .before .before .before .before .args .query .now)) (c .before .k .given .1) (c .before .before .before .check .ensures)) (c .before .before .before .before .before .before .before .before .clear .ensures))
+    -- same-length-3
+    (λ c. ap length (c .before .before .derive .ensures .leaves) ∙ derivation-whole _ _ ∙ blank-long _ (length (c .before .before .before .before .before .before .before .before .before .before .before .before .before .before .before .before .before .args .buffer .now)) (c .before .before .before .before .before .before .before .before .before .before .before .before .clear .ensures))
+    -- returns-3
+    (λ c. derivation-walked (c .before .before .before .before .before .before .before .before .before .before .before .before .before .before .before .before .before .args .order .now) (c .before .before .before .before .before .before .before .before .before .before .before .before .before .before .before .before .before .args .query .now) (c .before .before .before .before .before .before .before .before .before .before .before .before .before .before .before .before .before .args .buffer .now) _ _ _ _ (sym (c .before .before .before .before .before .before .before .before .before .is-order .ensures) ∙ not-false _ (c .before .before .before .before .before .before .before .before .if1 .left)) (subst (λ (x : Checked). CheckedAs x (c .before .before .before .before .before .before .before .before .before .before .before .before .before .before .before .before .before .args .query .now)) (c .before .before .before .before .before .layout .given .1) (c .before .before .before .before .before .before .before .check .ensures)) (blank-long _ (length (c .before .before .before .before .before .before .before .before .before .before .before .before .before .before .before .before .before .args .buffer .now)) (c .before .before .before .before .before .before .before .before .before .before .before .before .clear .ensures)) (c .before .before .derive .ensures)))
