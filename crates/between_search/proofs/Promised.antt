@@ -161,6 +161,13 @@ module _ (query : List ℕ) (room : ℕ) (passed : refusalOf betweenChecks (give
     few-nodes : m ≤ 5
     few-nodes = ⊎-elim (λ z. omega (arith, f .within, z .1)) (λ l. omega (arith, f .within, l .1, few)) (most-cases (termCount (decodeSix query .base)))
 
+    -- the numbers of what is found are small
+    pub size-small : entry (c .links) 0 ≤ 5
+    size-small = omega (arith, size-is, few-nodes)
+
+    pub node-small : (t : ℕ) → 1 ≤ t → t ≤ n → entry (c .nodes) t ≤ 5
+    node-small t a b = let r = nodes-inside t a b in omega (arith, node-is t, r .1, few-nodes)
+
     linked : (v : ℕ) → (1 ≤ v) × (v ≤ m) → shown .link v ≡ entry (f .search .links) v
     linked v r = shown-link (decodeSix query) c room m size-is v r ∙ link-is v
 

@@ -6,9 +6,9 @@ use borrow.Author.Tests.{not-true, not-false}
 use mathlib.Core.Path.{_≡_, refl, sym, ap, ap₂, _∙_, subst}
 use mathlib.Core.Bool.{Bool, true, false, not, _&&_}
 use Rattle.between_search.specs.Search.{entry}
-use Rattle.between_call.proofs.lowest.Statement.{statement}
-use Rattle.between_call.proofs.lowest.Tie as tie
-use Rattle.between_call.proofs.Laws.{lowest-any, lowest-link}
+use Rattle.between_seek.proofs.lowest.Statement.{statement}
+use Rattle.between_seek.proofs.lowest.Tie as tie
+use Rattle.between_seek.proofs.Laws.{lowest-any, lowest-link}
 
 pub lowest-spec : {M : Type 1} → statement M
 lowest-spec =

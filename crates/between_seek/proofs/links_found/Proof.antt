@@ -6,11 +6,11 @@ use borrow.Author.Tests.{not-true, not-false}
 use mathlib.Core.Path.{_≡_, refl, sym, ap, ap₂, _∙_, subst}
 use mathlib.Core.Bool.{Bool, true, false, not, _&&_}
 use Rattle.between_search.specs.Search.{entry}
-use Rattle.between_call.proofs.links_found.Statement.{statement}
-use Rattle.between_call.proofs.links_found.Tie as tie
+use Rattle.between_seek.proofs.links_found.Statement.{statement}
+use Rattle.between_seek.proofs.links_found.Tie as tie
 use lib.ListN.{replicate}
 use Rattle.between_tests.proofs.Laws.{small-set}
-use Rattle.between_call.proofs.Laws.{links-begin, chosen-first, small-zeros}
+use Rattle.between_seek.proofs.Laws.{links-begin, chosen-first, small-zeros}
 
 pub links-found-spec : {M : Type 1} → statement M
 links-found-spec =

@@ -6,14 +6,14 @@ use borrow.Author.Tests.{not-true, not-false}
 use mathlib.Core.Path.{_≡_, refl, sym, ap, ap₂, _∙_, subst}
 use mathlib.Core.Bool.{Bool, true, false, not, _&&_}
 use Rattle.between_search.specs.Search.{entry}
-use Rattle.between_call.proofs.nodes_found.Statement.{statement}
-use Rattle.between_call.proofs.nodes_found.Tie as tie
+use Rattle.between_seek.proofs.nodes_found.Statement.{statement}
+use Rattle.between_seek.proofs.nodes_found.Tie as tie
 use lib.ListN.{replicate, take}
 use mathlib.Core.List.{[], _∷_}
 use Rattle.between_search.specs.Search.{seekNodes}
 use Rattle.between_tests.proofs.Laws.{small-set}
-use Rattle.between_call.specs.Answers.{queryIn}
-use Rattle.between_call.proofs.Laws.{nodes-begin, chosen-first, small-zeros}
+use Rattle.between_seek.specs.Answers.{queryIn}
+use Rattle.between_seek.proofs.Laws.{nodes-begin, chosen-first, small-zeros}
 
 pub nodes-found-spec : {M : Type 1} → statement M
 nodes-found-spec =

@@ -6,15 +6,15 @@ use borrow.Author.Tests.{not-true, not-false}
 use mathlib.Core.Path.{_≡_, refl, sym, ap, ap₂, _∙_, subst}
 use mathlib.Core.Bool.{Bool, true, false, not, _&&_}
 use Rattle.between_search.specs.Search.{entry}
-use Rattle.between_call.proofs.heap_found.Statement.{statement}
-use Rattle.between_call.proofs.heap_found.Tie as tie
+use Rattle.between_seek.proofs.heap_found.Statement.{statement}
+use Rattle.between_seek.proofs.heap_found.Tie as tie
 use Rattle.logic.specs.Search.{from, firstOf}
 use Rattle.facts.proofs.Loops.{first-end, first-here, first-next}
 use Rattle.between_search.specs.Tests.{flagsClash}
 use Rattle.between_search.specs.Search.{sizeFound, mostNodes}
-use Rattle.between_call.specs.Answers.{queryIn}
-use Rattle.between_call.proofs.Sections.{flag-section}
-use Rattle.between_call.proofs.Laws.{clash-none, heap-sizes, most-few, kept, not-kept}
+use Rattle.between_seek.specs.Answers.{queryIn}
+use Rattle.between_seek.proofs.Sections.{flag-section}
+use Rattle.between_seek.proofs.Laws.{clash-none, heap-sizes, most-few, kept, not-kept}
 
 abbrev Inv-loop : tie.InvT-loop
 Inv-loop base l between count apart nothing end m₀ m =

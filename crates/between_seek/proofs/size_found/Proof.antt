@@ -6,9 +6,9 @@ use borrow.Author.Tests.{not-true, not-false}
 use mathlib.Core.Path.{_≡_, refl, sym, ap, ap₂, _∙_, subst}
 use mathlib.Core.Bool.{Bool, true, false, not, _&&_}
 use Rattle.between_search.specs.Search.{entry}
-use Rattle.between_call.proofs.size_found.Statement.{statement}
-use Rattle.between_call.proofs.size_found.Tie as tie
-use Rattle.between_call.proofs.Laws.{size-none, size-some, kept, not-kept}
+use Rattle.between_seek.proofs.size_found.Statement.{statement}
+use Rattle.between_seek.proofs.size_found.Tie as tie
+use Rattle.between_seek.proofs.Laws.{size-none, size-some, kept, not-kept}
 
 pub size-found-spec : {M : Type 1} → statement M
 size-found-spec =

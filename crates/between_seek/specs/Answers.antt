@@ -7,16 +7,14 @@ use mathlib.Core.Option.{Option, none, some}
 use lib.ListN.{length, getD, take, drop}
 use Rattle.logic.specs.Search.{keep}
 use Rattle.logic.specs.Query.{decode, argumentOf}
-use Rattle.logic.specs.Calls.{padded, Answer, refused, satisfiable, refuted, Outcome}
+use Rattle.logic.specs.Calls.{padded}
 use Rattle.query.specs.declared.Layout.{Layout}
 use Rattle.query.specs.LaysOut.{LaysOut}
 use Rattle.between.specs.Meaning.{BetweenQuery}
 use Rattle.between_search.specs.Bytes.{triples}
 use Rattle.between_search.specs.Search.{Found, entry}
 use Rattle.between_tests.specs.Tables.{Small, Stepped, Opposed, literalsIn}
-use Rattle.between_call.specs.declared.Searched.{Searched}
-use Rattle.between_call.specs.declared.BetweenAnswer.{BetweenAnswer}
-use Rattle.between_call.specs.declared.BetweenAnswer.the-variants as answer
+use Rattle.between_seek.specs.declared.Searched.{Searched}
 
 -- a query whose first five sections and whose between literals stand in two slices
 abbrev pub queryIn : List ℕ → List ℕ → BetweenQuery
@@ -36,14 +34,3 @@ pub record Given (base : List ℕ) (l : Layout) (between : List ℕ) (count : �
   pub below : (t : ℕ) → 1 ≤ t → t ≤ l .terms → argumentOf (decode base .entries) t < t
   pub between-fit : 4 * count ≡ length between
   pub opposed : Opposed apart (literalsIn base (l .«field_at») (l .«field_count»))
-
--- what each case of the enum says
-abbrev pub meaning : BetweenAnswer → Answer
-meaning answer.Heap = satisfiable
-meaning answer.Nothing = refuted
-meaning (answer.Refused k place) = refused k place
-
--- the call does what a definition says: it answers so, and leaves these bytes
-pub record Does (outcome : Outcome) (r : BetweenAnswer) (bytes : List ℕ) : Type 0 where
-  pub answers : meaning r ≡ outcome .answer
-  pub leaves : bytes ≡ outcome .lent

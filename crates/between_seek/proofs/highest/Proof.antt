@@ -6,9 +6,9 @@ use borrow.Author.Tests.{not-true, not-false}
 use mathlib.Core.Path.{_≡_, refl, sym, ap, ap₂, _∙_, subst}
 use mathlib.Core.Bool.{Bool, true, false, not, _&&_}
 use Rattle.between_search.specs.Search.{entry}
-use Rattle.between_call.proofs.highest.Statement.{statement}
-use Rattle.between_call.proofs.highest.Tie as tie
-use Rattle.between_call.proofs.Laws.{highest-any, highest-link, fewer}
+use Rattle.between_seek.proofs.highest.Statement.{statement}
+use Rattle.between_seek.proofs.highest.Tie as tie
+use Rattle.between_seek.proofs.Laws.{highest-any, highest-link, fewer}
 
 pub highest-spec : {M : Type 1} → statement M
 highest-spec =

@@ -10,16 +10,16 @@ use Rattle.logic.specs.Search.{from, firstOf}
 use Rattle.facts.proofs.Loops.{first-end, first-here, first-next}
 use Rattle.between_search.specs.Search.{seekNodes}
 use Rattle.between_tests.proofs.Laws.{small-set}
-use Rattle.between_call.specs.Answers.{queryIn}
-use Rattle.between_call.proofs.Laws.{nodeTried, nodes-step, step-breaks, step-fits, nodes-all, chosen-next, chosen-size, kept, not-kept}
-use Rattle.between_call.proofs.seek_nodes.Reads as seek-nodes
-use Rattle.between_call.proofs.seek_nodes.Kinds as seek-nodes-kinds
-use Rattle.between_call.proofs.+seek_nodes.Lts-seek_nodes as seek-nodes-lts
-use Rattle.between_call.proofs.lowest.Reads as lowest-reads
-use Rattle.between_call.proofs.highest.Reads as highest-reads
-use Rattle.between_call.proofs.breaks.Reads as breaks-reads
-use Rattle.between_call.proofs.+seek_nodes.{statement}
-use Rattle.between_call.proofs.+seek_nodes.Tie.{close}
+use Rattle.between_seek.specs.Answers.{queryIn}
+use Rattle.between_seek.proofs.Laws.{nodeTried, nodes-step, step-breaks, step-fits, nodes-all, chosen-next, chosen-size, kept, not-kept}
+use Rattle.between_seek.proofs.seek_nodes.Reads as seek-nodes
+use Rattle.between_seek.proofs.seek_nodes.Kinds as seek-nodes-kinds
+use Rattle.between_seek.proofs.+seek_nodes.Lts-seek_nodes as seek-nodes-lts
+use Rattle.between_seek.proofs.lowest.Reads as lowest-reads
+use Rattle.between_seek.proofs.highest.Reads as highest-reads
+use Rattle.between_seek.proofs.breaks.Reads as breaks-reads
+use Rattle.between_seek.proofs.+seek_nodes.{statement}
+use Rattle.between_seek.proofs.+seek_nodes.Tie.{close}
 
 abbrev μ-seek-nodes : Measures 4 seek-nodes-kinds.ps ℕ
 μ-seek-nodes κs a = a .0

@@ -10,14 +10,14 @@ use Rattle.logic.specs.Search.{from, firstOf}
 use Rattle.facts.proofs.Loops.{first-end, first-here, first-next}
 use Rattle.between_search.specs.Search.{seekLinks}
 use Rattle.between_tests.proofs.Laws.{small-set}
-use Rattle.between_call.specs.Answers.{queryIn, Chosen}
-use Rattle.between_call.proofs.Laws.{linkTried, links-step, link-tried, links-all, chosen-next, chosen-size, kept, not-kept}
-use Rattle.between_call.proofs.seek_links.Reads as seek-links
-use Rattle.between_call.proofs.seek_links.Kinds as seek-links-kinds
-use Rattle.between_call.proofs.+seek_links.Lts-seek_links as seek-links-lts
-use Rattle.between_call.proofs.nodes_found.Reads as nodes-found-reads
-use Rattle.between_call.proofs.+seek_links.{statement}
-use Rattle.between_call.proofs.+seek_links.Tie.{close}
+use Rattle.between_seek.specs.Answers.{queryIn, Chosen}
+use Rattle.between_seek.proofs.Laws.{linkTried, links-step, link-tried, links-all, chosen-next, chosen-size, kept, not-kept}
+use Rattle.between_seek.proofs.seek_links.Reads as seek-links
+use Rattle.between_seek.proofs.seek_links.Kinds as seek-links-kinds
+use Rattle.between_seek.proofs.+seek_links.Lts-seek_links as seek-links-lts
+use Rattle.between_seek.proofs.nodes_found.Reads as nodes-found-reads
+use Rattle.between_seek.proofs.+seek_links.{statement}
+use Rattle.between_seek.proofs.+seek_links.Tie.{close}
 
 abbrev μ-seek-links : Measures 3 seek-links-kinds.ps ℕ
 μ-seek-links κs a = a .0

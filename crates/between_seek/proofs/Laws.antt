@@ -18,7 +18,7 @@ use Rattle.between.specs.Meaning.{BetweenQuery}
 use Rattle.between_search.specs.Tests.{used, breaks, nilBreaks, fieldBreaks, pairBreaks, tripleBreaks, flagsClash}
 use Rattle.between_search.specs.Search.{Found, seek, entry, lowestNode, highestNode, seekNodes, nodesFound, seekLinks, linksFound, sizeFound, mostNodes, heapFound}
 use Rattle.between_tests.specs.Tables.{Small}
-use Rattle.between_call.specs.Answers.{Chosen}
+use Rattle.between_seek.specs.Answers.{Chosen}
 
 -- Lists that are chosen up to a place
 
