@@ -17,7 +17,9 @@ use Rattle.prover.specs.declared.Answer.{Answer}
 use Rattle.prover.specs.declared.Answer.the-variants as answer
 use Rattle.logic.proofs.Calls.Demands.{demand2}
 use Rattle.text.specs.Text.{ascii}
-use Rattle.printing.specs.HeapverdictText.{reportText, lineText, answerText, firstLine, derivationText, verdictText, unsatText, textOf, heapverdictText}
+use Rattle.wording.specs.Words.{refusalText, reportText, lineText}
+use Rattle.printing.specs.HeapverdictText.{answerText, firstLine, derivationText, verdictText, unsatText, textOf, heapverdictText}
+use Rattle.printing.proofs.Texts.{refusal-line}
 
 module _ (order query : List ℕ) (room : ℕ) (bytes : List ℕ) (r : Answer) where
   abbrev given : Input
@@ -53,18 +55,18 @@ module _ (order query : List ℕ) (room : ℕ) (bytes : List ℕ) (r : Answer) w
     unfolding verdictText firstLine answerText
     unsat-text e = sym (verdict-told does full ∙ ap (λ (a : Answer). verdictText (meaning a) bytes (unsatText order query)) e)
 
-    pub refused-text : (k place : ℕ) → r ≡ answer.Refused k place → firstLine (calls.refused k place) ≡ textOf order query
+    pub refused-text : (k place : ℕ) → r ≡ answer.Refused k place → refusalText k place ≡ textOf order query
     unfolding verdictText
-    refused-text k place e = sym (verdict-told does full ∙ ap (λ (a : Answer). verdictText (meaning a) bytes (unsatText order query)) e)
+    refused-text k place e = refusal-line k place ∙ sym (verdict-told does full ∙ ap (λ (a : Answer). verdictText (meaning a) bytes (unsatText order query)) e)
 
   module _ (does : Does (derivationCall given) r bytes) (full : room ≡ 64002) where
     pub lines-text : r ≡ answer.Refuted → flatMap lineText (linesIn bytes) ≡ unsatText order query
     unfolding derivationText
     lines-text e = sym (derivation-told does full ∙ ap (λ (a : Answer). derivationText (meaning a) bytes) e)
 
-    pub no-lines-text : (k place : ℕ) → r ≡ answer.Refused k place → firstLine (calls.refused k place) ≡ unsatText order query
+    pub no-lines-text : (k place : ℕ) → r ≡ answer.Refused k place → refusalText k place ≡ unsatText order query
     unfolding derivationText
-    no-lines-text k place e = sym (derivation-told does full ∙ ap (λ (a : Answer). derivationText (meaning a) bytes) e)
+    no-lines-text k place e = refusal-line k place ∙ sym (derivation-told does full ∙ ap (λ (a : Answer). derivationText (meaning a) bytes) e)
 
     pub no-text : r ≡ answer.Satisfiable → [] ≡ unsatText order query
     unfolding derivationText

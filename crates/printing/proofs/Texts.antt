@@ -18,77 +18,14 @@ use Rattle.logic.proofs.Basics.Search.{and-left, and-right}
 use Rattle.prover.specs.Promise.{meaning}
 use Rattle.prover.specs.declared.Answer.{Answer}
 use Rattle.prover.specs.declared.Answer.the-variants as answer
-use Rattle.text.specs.Text.{ascii, decimal, hexByte, Writes}
-use Rattle.text.proofs.Digits.{decimal-machine, decimal-byte}
-use Rattle.printing.specs.HeapverdictText.{behind, lineOf, refusedText, answerText, firstLine, reportSize, reportText, lineText}
+use Rattle.text.specs.Text.{ascii}
+use Rattle.wording.specs.Words.{refusedText, refusalText, lineText}
+use Rattle.printing.specs.HeapverdictText.{answerText, firstLine}
 
--- Refusals and lines, from their words
-
-pub refused-words : (k place : ℕ) → ascii "refused " ++ (decimal k ++ (ascii " at " ++ decimal place)) ≡ refusedText k place
-unfolding refusedText
-refused-words k place = refl
-
-pub refusal-line : (k place : ℕ) → refusedText k place ++ ascii "\n" ≡ firstLine (refused k place)
-unfolding firstLine answerText
+-- A refusal's line
+pub refusal-line : (k place : ℕ) → refusalText k place ≡ firstLine (refused k place)
+unfolding firstLine answerText refusalText
 refusal-line k place = refl
-
-pub line-words : (a b c d : ℕ) → decimal a ++ ((ascii " " ++ decimal b) ++ ((ascii " " ++ decimal c) ++ ((ascii " " ++ decimal d) ++ ascii "\n"))) ≡ lineText (line a b c d)
-unfolding lineText lineOf behind lineBytes
-line-words a b c d = refl
-
--- Reports. The counts of a well-formed one, as they are read.
-pub record Sized (bytes : List ℕ) (m n : ℕ) : Type 0 where
-  pub nodes : m ≤ 16
-  pub terms : n ≤ 16
-  pub whole : m + n + m + 5 ≤ length bytes
-  pub counted : m + n + m + 5 ≡ reportSize bytes
-
-pub report-sized : (bytes : List ℕ) (m n : ℕ) → wellFormed bytes ≡ true → m ≡ getD bytes 0 0 → n ≡ getD bytes (m + 1) 0 → Sized bytes m n
-unfolding wellFormed isNode sizeIn reportSize
-report-sized bytes m n h em en =
-    let sizes = and-left _ _ (and-left _ _ (and-left _ _ (and-left _ _ (and-left _ _ h)))) in
-    let counts = and-left _ _ sizes in
-    let e : n ≡ getD bytes (getD bytes 0 0 + 1) 0 = en ∙ ap (λ (k : ℕ). getD bytes (k + 1) 0) em in
-    let small : getD bytes 0 0 ≤ 16 = leb-true _ 16 (and-right _ _ (and-left _ _ counts)) in
-    let few : getD bytes (getD bytes 0 0 + 1) 0 ≤ 16 = leb-true _ 16 (and-right _ _ counts) in
-    let fits : getD bytes 0 0 + getD bytes (getD bytes 0 0 + 1) 0 + getD bytes 0 0 + 5 ≤ length bytes = leb-true _ _ (and-right _ _ sizes) in
-    record { nodes = omega arith; terms = omega arith; whole = omega arith; counted = omega arith }
-
--- the bytes of a report from i on
-abbrev pub left : ℕ → List ℕ → ℕ → List ℕ
-left size bytes i = behind (map hexByte (drop i (take size bytes)))
-
-behind-length : (xs : List ℕ) → length (behind (map hexByte xs)) ≡ 3 * length xs + 1
-unfolding behind hexByte
-behind-length [] = refl
-behind-length (x ∷ xs) = let ih = behind-length xs in omega arith
-
-module _ (size : ℕ) (bytes : List ℕ) (fits : size ≤ length bytes) where
-  taken : length (take size bytes) ≡ size
-  taken = length-take-le size bytes fits
-
-  from-here : (i : ℕ) → i < size → drop i (take size bytes) ≡ getD bytes i 0 ∷ drop (i + 1) (take size bytes)
-  from-here i h =
-      drop-cons (take size bytes) i 0 (omega (arith, taken))
-      ∙ ap (λ (b : ℕ). b ∷ drop (suc i) (take size bytes)) (getD-take size bytes i 0 h)
-      ∙ ap (λ (k : ℕ). getD bytes i 0 ∷ drop k (take size bytes)) (sym (add-one i))
-
-  pub report-first : size ≡ reportSize bytes → 0 < size → reportText bytes ≡ hexByte (getD bytes 0 0) ++ left size bytes 1
-  unfolding reportText lineOf
-  report-first e h = ap (λ (k : ℕ). lineOf (map hexByte (take k bytes))) (sym e) ∙ ap (λ (xs : List ℕ). lineOf (map hexByte xs)) (from-here 0 h)
-
-  pub report-next : (i : ℕ) → i < size → left size bytes i ≡ (ascii " " ++ hexByte (getD bytes i 0)) ++ left size bytes (i + 1)
-  unfolding behind
-  report-next i h = ap (λ (xs : List ℕ). behind (map hexByte xs)) (from-here i h)
-
-  pub report-end : (i : ℕ) → size ≤ i → left size bytes i ≡ ascii "\n"
-  unfolding behind
-  report-end i h = ap (λ (xs : List ℕ). behind (map hexByte xs)) (drop-of-length-le (take size bytes) {i = i} (omega (arith, taken)))
-
-  -- three bytes for each, the blank in front or the newline at the end with it
-  pub left-length : (i : ℕ) → length (left size bytes i) ≡ 3 * (size - i) + 1
-  left-length i =
-      behind-length (drop i (take size bytes)) ∙ ap (λ (k : ℕ). 3 * k + 1) (length-drop i (take size bytes) ∙ ap (λ (k : ℕ). k - i) taken)
 
 -- Lines. Those of a derivation from line i on.
 abbrev pub linesLeft : ℕ → List ℕ → ℕ → List ℕ

@@ -1,27 +1,14 @@
 -- What heapverdict prints, byte for byte, as a function of the bytes that it is given (01, "The program heapverdict").
-use Prim.Native.Nat.{ℕ, _+_}
-use mathlib.Core.List.{List, [], _∷_, _++_, map}
-use lib.ListN.{getD, take, drop}
+use Prim.Native.Nat.{ℕ}
+use mathlib.Core.List.{List, [], _++_}
+use lib.ListN.{take, drop}
 use Rattle.logic.specs.Search.{flatMap}
-use Rattle.logic.specs.Facts.{Line}
-use Rattle.logic.specs.Derivation.{lineBytes, linesIn}
-use Rattle.logic.specs.Shown.{sizeIn}
+use Rattle.logic.specs.Derivation.{linesIn}
 use Rattle.logic.specs.Calls.{Input, Outcome, Answer, refused, satisfiable, refuted, verdictCall, derivationCall}
-use Rattle.text.specs.Text.{ascii, decimal, hexByte}
-
--- "separated by blanks": a line of words
-unfoldable pub behind : List (List ℕ) → List ℕ
-behind [] = ascii "\n"
-behind (w ∷ ws) = (ascii " " ++ w) ++ behind ws
-
-unfoldable pub lineOf : List (List ℕ) → List ℕ
-lineOf [] = ascii "\n"
-lineOf (w ∷ ws) = w ++ behind ws
+use Rattle.text.specs.Text.{ascii}
+use Rattle.wording.specs.Words.{refusedText, reportText, lineText}
 
 -- "It prints `sat`, `unsat` or `refused N at P`": the words of an answer, and the first line
-unfoldable pub refusedText : ℕ → ℕ → List ℕ
-refusedText k place = ascii "refused " ++ (decimal k ++ (ascii " at " ++ decimal place))
-
 unfoldable pub answerText : Answer → List ℕ
 answerText satisfiable = ascii "sat"
 answerText refuted = ascii "unsat"
@@ -29,18 +16,6 @@ answerText (refused k place) = refusedText k place
 
 unfoldable pub firstLine : Answer → List ℕ
 firstLine a = answerText a ++ ascii "\n"
-
--- "That is 2m+n+5 bytes"
-unfoldable pub reportSize : List ℕ → ℕ
-reportSize bytes = sizeIn bytes + getD bytes (sizeIn bytes + 1) 0 + sizeIn bytes + 5
-
--- "one line, the heap report's bytes (without the zeros past it) as two lower-case hex digits each, separated by blanks"
-unfoldable pub reportText : List ℕ → List ℕ
-reportText bytes = lineOf (map hexByte (take (reportSize bytes) bytes))
-
--- "each derivation line as four decimal numbers separated by blanks"
-unfoldable pub lineText : Line → List ℕ
-lineText l = lineOf (map decimal (lineBytes l))
 
 -- what follows `unsat`, where the derivation call has this outcome: its lines, "or `refused 12 at 0`". It never answers "satisfiable".
 unfoldable pub derivationText : Answer → List ℕ → List ℕ

@@ -1,93 +1,27 @@
 // What heapverdict prints, made in a lent buffer. The program reads, asks for the text and writes it.
 use prover::Answer;
 ghost use mathlib.Core.Path.{_≡_};
-ghost use mathlib.Core.Bool.{true};
 ghost use Prim.Native.Nat.{ℕ, _+_, _≤_, _<_, min};
 ghost use lib.ListN.{length};
 ghost use Rattle.logic.specs.Search.{flatMap};
-ghost use Rattle.logic.specs.Facts.{line};
 ghost use Rattle.logic.specs.Derivation.{linesIn};
-ghost use Rattle.logic.specs.Shown.{wellFormed};
-ghost use Rattle.logic.specs.Calls.{refused};
 ghost use Rattle.logic.specs.Demands.{Fits};
 ghost use Rattle.prover.specs.Promise.{meaning};
-ghost use mathlib.Core.List.{_++_};
-ghost use Rattle.text.specs.Text.{Writes, ascii, decimal};
-ghost use Rattle.printing.specs.HeapverdictText.{reportSize, reportText, lineText, refusedText, answerText, firstLine, unsatText, textOf, heapverdictText};
-
-// A byte as a wider number.
-fn wide(x: u8) -> usize
-    ensures { λ r. ⌜ (r ≡ x) × (r < 256) ⌝ }
-{
-    x as usize
-}
-
-// "That is 2m+n+5 bytes; bytes past it are zero."
-fn report_size(report: &[u8]) -> usize
-    requires { ⌜ wellFormed (now report) ≡ true ⌝ }
-    ensures { λ r. ⌜ (r ≡ reportSize (now (report .entry))) × (r ≤ length (now (report .entry))) × (5 ≤ r) × (r ≤ 53) ⌝ }
-{
-    let m = wide(report[0]);
-    let n = wide(report[m + 1]);
-    m + n + m + 5
-}
-
-// "the heap report's bytes .. as two lower-case hex digits each, separated by blanks"
-fn put_report(buffer: &mut [u8], at: usize, report: &[u8]) -> usize
-    requires { ⌜ (at ≤ 1000) × (wellFormed (now report) ≡ true) ⌝ }
-    ensures { λ r. ⌜ Writes (now (buffer .entry)) at (reportText (now (report .entry))) (now (buffer .exit)) r × (r ≤ at + 159) ⌝ }
-{
-    let size = report_size(report);
-    let mut to = text::put_hex_byte(buffer, at, report[0]);
-    let mut i: usize = 1;
-    while i < size {
-        to = text::put_byte(buffer, to, b' ');
-        to = text::put_hex_byte(buffer, to, report[i]);
-        i += 1;
-    }
-    text::put_byte(buffer, to, b'\n')
-}
-
-// A byte in decimal digits.
-fn put_number(buffer: &mut [u8], at: usize, x: u8) -> usize
-    requires { ⌜ at ≤ 1000100 ⌝ }
-    ensures { λ r. ⌜ Writes (now (buffer .entry)) at (decimal x) (now (buffer .exit)) r × (r ≤ at + 3) ⌝ }
-{
-    text::put_decimal(buffer, at, wide(x))
-}
-
-// A blank, and a byte in decimal digits.
-fn put_next(buffer: &mut [u8], at: usize, x: u8) -> usize
-    requires { ⌜ at ≤ 1000099 ⌝ }
-    ensures { λ r. ⌜ Writes (now (buffer .entry)) at (ascii " " ++ decimal x) (now (buffer .exit)) r × (r ≤ at + 4) ⌝ }
-{
-    let to = text::put_byte(buffer, at, b' ');
-    put_number(buffer, to, x)
-}
-
-// "four decimal numbers separated by blanks"
-fn put_line(buffer: &mut [u8], at: usize, a: u8, b: u8, c: u8, d: u8) -> usize
-    requires { ⌜ at ≤ 1000000 ⌝ }
-    ensures { λ r. ⌜ Writes (now (buffer .entry)) at (lineText (line a b c d)) (now (buffer .exit)) r × (r ≤ at + 16) ⌝ }
-{
-    let first = put_number(buffer, at, a);
-    let second = put_next(buffer, first, b);
-    let third = put_next(buffer, second, c);
-    let fourth = put_next(buffer, third, d);
-    text::put_byte(buffer, fourth, b'\n')
-}
+ghost use Rattle.text.specs.Text.{Writes};
+ghost use Rattle.wording.specs.Words.{lineText};
+ghost use Rattle.printing.specs.HeapverdictText.{answerText, unsatText, textOf, heapverdictText};
 
 // The lines of a derivation.
 fn put_lines(buffer: &mut [u8], at: usize, lines: &[u8]) -> usize
     requires { ⌜ (at ≤ 1000) × Fits (length (now lines)) (linesIn (now lines)) ⌝ }
     ensures { λ r. ⌜ Writes (now (buffer .entry)) at (flatMap lineText (linesIn (now (lines .entry)))) (now (buffer .exit)) r × (r ≤ at + 256000) ⌝ }
 {
-    let count = 256 * wide(lines[0]) + wide(lines[1]);
+    let count = 256 * wording::wide(lines[0]) + wording::wide(lines[1]);
     let mut to = at;
     let mut i: usize = 0;
     while i < count {
         let from = 2 + 4 * i;
-        to = put_line(
+        to = wording::put_line(
             buffer,
             to,
             lines[from],
@@ -100,17 +34,6 @@ fn put_lines(buffer: &mut [u8], at: usize, lines: &[u8]) -> usize
     to
 }
 
-// "refused N at P"
-fn put_refused(buffer: &mut [u8], at: usize, k: usize, place: usize) -> usize
-    requires { ⌜ at ≤ 1000 ⌝ }
-    ensures { λ r. ⌜ Writes (now (buffer .entry)) at (refusedText k place) (now (buffer .exit)) r × (r ≤ at + 52) ⌝ }
-{
-    let number = text::put_bytes(buffer, at, b"refused ");
-    let behind = text::put_decimal(buffer, number, k);
-    let where_from = text::put_bytes(buffer, behind, b" at ");
-    text::put_decimal(buffer, where_from, place)
-}
-
 // The words of an answer: heapverdict's first line without its newline.
 pub fn put_answer(buffer: &mut [u8], at: usize, answer: Answer) -> usize
     requires { ⌜ at ≤ 1000 ⌝ }
@@ -119,17 +42,8 @@ pub fn put_answer(buffer: &mut [u8], at: usize, answer: Answer) -> usize
     match answer {
         Answer::Satisfiable => text::put_bytes(buffer, at, b"sat"),
         Answer::Refuted => text::put_bytes(buffer, at, b"unsat"),
-        Answer::Refused(k, place) => put_refused(buffer, at, k, place),
+        Answer::Refused(k, place) => wording::put_refused(buffer, at, k, place),
     }
-}
-
-// A refusal on a line of its own.
-fn put_refusal(buffer: &mut [u8], at: usize, k: usize, place: usize) -> usize
-    requires { ⌜ at ≤ 1000 ⌝ }
-    ensures { λ r. ⌜ Writes (now (buffer .entry)) at (firstLine (refused k place)) (now (buffer .exit)) r × (r ≤ at + 53) ⌝ }
-{
-    let end = put_refused(buffer, at, k, place);
-    text::put_byte(buffer, end, b'\n')
 }
 
 // What follows `unsat`: the derivation, "or `refused 12 at 0`".
@@ -140,7 +54,7 @@ fn put_derivation(buffer: &mut [u8], at: usize, order: &[u8], query: &[u8]) -> u
     let mut lines = [0u8; 64002];
     match prover::derivation(order, query, &mut lines) {
         Answer::Refuted => put_lines(buffer, at, &lines),
-        Answer::Refused(k, place) => put_refusal(buffer, at, k, place),
+        Answer::Refused(k, place) => wording::put_refusal(buffer, at, k, place),
         Answer::Satisfiable => at,
     }
 }
@@ -153,13 +67,13 @@ fn put_verdict(buffer: &mut [u8], order: &[u8], query: &[u8]) -> usize
     match prover::verdict(order, query, &mut report) {
         Answer::Satisfiable => {
             let to = text::put_bytes(buffer, 0, b"sat\n");
-            put_report(buffer, to, &report)
+            wording::put_report(buffer, to, &report)
         }
         Answer::Refuted => {
             let to = text::put_bytes(buffer, 0, b"unsat\n");
             put_derivation(buffer, to, order, query)
         }
-        Answer::Refused(k, place) => put_refusal(buffer, 0, k, place),
+        Answer::Refused(k, place) => wording::put_refusal(buffer, 0, k, place),
     }
 }
 

@@ -8,7 +8,8 @@ use Rattle.logic.specs.Query.{isOrder}
 use Rattle.logic.specs.Calls.{orderCheck, layoutCheck, byteCheck, roomCheck, queryChecks, verdictChecks, derivationChecks, refusalOf, blank, call, verdictCall, derivationCall}
 use Rattle.logic.specs.Examples.{inOrder}
 use Rattle.text.specs.Text.{ascii, decimal, decimalWithin, hexByte, hexDigit}
-use Rattle.printing.specs.HeapverdictText.{answerText, refusedText}
+use Rattle.wording.specs.Words.{refusedText}
+use Rattle.printing.specs.HeapverdictText.{answerText}
 use Rattle.fnv.specs.Mark.{marked, markFrom, markOf}
 use Rattle.tally.specs.Counting.{kindOf, ruleLines, raisedFrom, raised, fits, tallied, noLines}
 use Rattle.fractions.specs.Fractions.{gcdWithin, gcd, share, totalOf, sharesOf, fractionText, sharesText}

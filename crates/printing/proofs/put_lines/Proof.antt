@@ -7,7 +7,7 @@ use lib.ListN.{length}
 use Rattle.logic.specs.Search.{flatMap}
 use Rattle.logic.specs.Derivation.{linesIn}
 use Rattle.text.proofs.Writing.{Part, part-from, part-more, part-all, part-length}
-use Rattle.printing.specs.HeapverdictText.{lineText}
+use Rattle.wording.specs.Words.{lineText}
 use Rattle.printing.proofs.Texts.{linesLeft, lines-whole, lines-next, lines-end, lines-count}
 use Rattle.printing.proofs.put_lines.Statement.{statement}
 use Rattle.printing.proofs.put_lines.Tie as tie

@@ -6,9 +6,9 @@ use mathlib.Core.Path.{refl, sym, _∙_}
 use lib.ListN.{getD}
 use Rattle.text.proofs.Writing.{Part, writes-then, writes-as, part-from, part-more, part-last, part-place, part-length, writes-length}
 use Rattle.text.proofs.Digits.{hex-two}
-use Rattle.printing.proofs.Texts.{left, left-length, report-first, report-next, report-end}
-use Rattle.printing.proofs.put_report.Statement.{statement}
-use Rattle.printing.proofs.put_report.Tie as tie
+use Rattle.wording.proofs.Texts.{left, left-length, report-first, report-next, report-end}
+use Rattle.wording.proofs.put_report.Statement.{statement}
+use Rattle.wording.proofs.put_report.Tie as tie
 
 abbrev Inv-loop : tie.InvT-loop
 Inv-loop buffer₀ at report size to₀ i₀ buffer to i = (1 ≤ i) × (i ≤ size) × Part buffer₀ to₀ (left size report 1) buffer to (left size report i)

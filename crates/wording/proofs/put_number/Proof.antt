@@ -5,8 +5,8 @@ use mathlib.Core.Path.{ap}
 use Rattle.text.specs.Text.{decimal}
 use Rattle.text.proofs.Writing.{writes-as}
 use Rattle.text.proofs.Digits.{decimal-byte}
-use Rattle.printing.proofs.put_number.Statement.{statement}
-use Rattle.printing.proofs.put_number.Tie as tie
+use Rattle.wording.proofs.put_number.Statement.{statement}
+use Rattle.wording.proofs.put_number.Tie as tie
 
 pub put-number-spec : {M : Type 1} → statement M
 put-number-spec =

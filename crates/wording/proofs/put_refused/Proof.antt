@@ -3,9 +3,9 @@ use native.Mathlib.Omega.{arith}
 use borrow.Author.Needs.{needs}
 use Rattle.text.proofs.Writing.{writes-as, writes-then}
 use Rattle.text.proofs.Digits.{decimal-machine}
-use Rattle.printing.proofs.Texts.{refused-words}
-use Rattle.printing.proofs.put_refused.Statement.{statement}
-use Rattle.printing.proofs.put_refused.Tie as tie
+use Rattle.wording.proofs.Texts.{refused-words}
+use Rattle.wording.proofs.put_refused.Statement.{statement}
+use Rattle.wording.proofs.put_refused.Tie as tie
 
 pub put-refused-spec : {M : Type 1} → statement M
 put-refused-spec =

@@ -2,9 +2,9 @@
 use native.Mathlib.Omega.{arith}
 use borrow.Author.Needs.{needs}
 use mathlib.Core.Path.{refl}
-use Rattle.printing.proofs.Texts.{report-sized}
-use Rattle.printing.proofs.report_size.Statement.{statement}
-use Rattle.printing.proofs.report_size.Tie as tie
+use Rattle.wording.proofs.Texts.{report-sized}
+use Rattle.wording.proofs.report_size.Statement.{statement}
+use Rattle.wording.proofs.report_size.Tie as tie
 
 pub report-size-spec : {M : Type 1} → statement M
 report-size-spec =

@@ -2,8 +2,8 @@
 use native.Mathlib.Omega.{arith}
 use borrow.Author.Needs.{needs}
 use Rattle.text.proofs.Writing.{writes-then}
-use Rattle.printing.proofs.put_next.Statement.{statement}
-use Rattle.printing.proofs.put_next.Tie as tie
+use Rattle.wording.proofs.put_next.Statement.{statement}
+use Rattle.wording.proofs.put_next.Tie as tie
 
 pub put-next-spec : {M : Type 1} → statement M
 put-next-spec =

@@ -2,9 +2,9 @@
 use native.Mathlib.Omega.{arith}
 use borrow.Author.Needs.{needs}
 use Rattle.text.proofs.Writing.{writes-as, writes-then}
-use Rattle.printing.proofs.Texts.{line-words}
-use Rattle.printing.proofs.put_line.Statement.{statement}
-use Rattle.printing.proofs.put_line.Tie as tie
+use Rattle.wording.proofs.Texts.{line-words}
+use Rattle.wording.proofs.put_line.Statement.{statement}
+use Rattle.wording.proofs.put_line.Tie as tie
 
 pub put-line-spec : {M : Type 1} → statement M
 put-line-spec =
