@@ -89,7 +89,9 @@ impl Search<'_> {
         let node = |b: u8| self.nodes[b as usize - 1];
         let due = |terms: &[u8]| terms.iter().copied().max() == Some(t as u8 + 1);
         let nil = |u: usize| self.entry(u) == 255;
-        if nil(t) && (self.links[self.nodes[t]] != self.nodes[t] || (0..t).any(|u| nil(u) && self.nodes[u] != self.nodes[t])) {
+        if nil(t)
+            && (self.links[self.nodes[t]] != self.nodes[t] || (0..t).any(|u| nil(u) && self.nodes[u] != self.nodes[t]))
+        {
             return false;
         }
         let count = |a: u8, b: u8| self.counts[node(a)][node(b)];
@@ -115,7 +117,11 @@ impl Search<'_> {
             return true;
         }
         let e = self.entry(t);
-        let options = if e == 0 || e == 255 { 0..self.links.len() } else { self.links[self.nodes[e - 1]]..self.links[self.nodes[e - 1]] + 1 };
+        let options = if e == 0 || e == 255 {
+            0..self.links.len()
+        } else {
+            self.links[self.nodes[e - 1]]..self.links[self.nodes[e - 1]] + 1
+        };
         for v in options {
             self.nodes.push(v);
             if self.holds(t) && self.choose() {
@@ -145,7 +151,18 @@ fn search(sections: &Sections<'_>) -> Option<Vec<u8>> {
                 }
                 let booleans = flags.iter().filter(|l| l[0] == 1).fold(0, |b, l| b | 1u8 << (l[1] - 1));
                 let numbers = |xs: &[usize]| xs.iter().map(|&x| x as u8 + 1).collect::<Vec<_>>();
-                return Some([vec![m as u8], numbers(&links), vec![n as u8], numbers(&s.nodes), vec![m as u8], data, vec![1, booleans]].concat());
+                return Some(
+                    [
+                        vec![m as u8],
+                        numbers(&links),
+                        vec![n as u8],
+                        numbers(&s.nodes),
+                        vec![m as u8],
+                        data,
+                        vec![1, booleans],
+                    ]
+                    .concat(),
+                );
             }
             let Some(i) = (0..m).rev().find(|&i| links[i] + 1 < m) else { break };
             links[i] += 1;
@@ -187,7 +204,10 @@ pub fn compare(path: &Path) -> Result<bool, String> {
     for line in lines.lines() {
         let (given, expected) = line.split_once(" = ").ok_or("no answer")?;
         let (hex, room) = given.split_once(' ').ok_or("no room")?;
-        let query: Vec<u8> = (0..hex.len() / 2).map(|i| u8::from_str_radix(&hex[2 * i..2 * i + 2], 16)).collect::<Result<_, _>>().map_err(|e| e.to_string())?;
+        let query: Vec<u8> = (0..hex.len() / 2)
+            .map(|i| u8::from_str_radix(&hex[2 * i..2 * i + 2], 16))
+            .collect::<Result<_, _>>()
+            .map_err(|e| e.to_string())?;
         let found = text(&answer(&query, room.parse().map_err(|_| "room")?));
         if found != expected {
             wrong += 1;
@@ -214,24 +234,66 @@ pub fn slow() -> Vec<(&'static str, Vec<u8>)> {
         ]
         .concat()
     };
-    let distinct = |last: Vec<Vec<u8>>| {
-        let pairs: Vec<Vec<u8>> = (1..=5).flat_map(|a| (a + 1..=5).map(move |b| vec![0, a, b])).collect();
+    let distinct = |true_ones: usize, last: Vec<Vec<u8>>| {
+        let mut pairs = vec![vec![1, 5, 5]; true_ones];
+        pairs.extend((1..=5).flat_map(|a| (a + 1..=5).map(move |b| vec![0, a, b])));
         let mut between = vec![vec![1, 5, 5, 5]; 60 - last.len()];
         between.extend(last);
-        [section(vec![vec![0]; 5]), section(pairs), section(vec![vec![1, 5, 5]; 60]), section(vec![]), section(vec![]), section(between)].concat()
+        [
+            section(vec![vec![0]; 5]),
+            section(pairs),
+            section(vec![vec![1, 5, 5]; 60]),
+            section(vec![]),
+            section(vec![]),
+            section(between),
+        ]
+        .concat()
     };
-    let ring = (1..=4).flat_map(|a| [vec![1, 5, a, a], vec![1, a, 5, 5]]).collect();
+    let ring: Vec<Vec<u8>> = (1..=4).flat_map(|a| [vec![1, 5, a, a], vec![1, a, 5, 5]]).collect();
     vec![
         ("none, the last literal fails", with(vec![0, 5, 5, 5])),
-        ("none, five apart", distinct(vec![vec![0, 5, 5, 5]])),
-        ("a ring of five, told by the last literals", distinct(ring)),
+        ("none, five apart", distinct(0, vec![vec![0, 5, 5, 5]])),
+        ("a ring of five, told by the last literals", distinct(0, ring.clone())),
+        ("the same, every section full", distinct(50, ring)),
     ]
 }
 
-pub fn time() {
-    for (name, query) in slow() {
+/// The best of three runs, in milliseconds.
+fn best(run: &mut dyn FnMut()) -> f64 {
+    let mut least = f64::INFINITY;
+    for _ in 0..3 {
         let start = Instant::now();
-        let answer = answer(&query, 53);
-        println!("{name}: {}, {:.1} ms", text(&answer).split(' ').next().unwrap_or(""), start.elapsed().as_secs_f64() * 1000.0);
+        run();
+        least = least.min(start.elapsed().as_secs_f64() * 1000.0);
     }
+    least
+}
+
+/// Each slow query by the plain search and by the others; whether all answer alike.
+pub fn time(others: &[(&str, &dyn Fn(&[u8], &mut [u8]) -> u64)]) -> bool {
+    let mut alike = true;
+    for (name, query) in slow() {
+        let expected = answer(&query, 53);
+        let plain = best(&mut || {
+            std::hint::black_box(answer(&query, 53));
+        });
+        println!("{name}: {}, plain {plain:.1} ms", text(&expected).split(' ').next().unwrap_or(""));
+        for (other, call) in others {
+            let mut report = [0; 53];
+            let number = call(&query, &mut report);
+            let same = match &expected {
+                Answer::Heap(bytes) => {
+                    number == 0 && report[..bytes.len()] == bytes[..] && report[bytes.len()..].iter().all(|&b| b == 0)
+                }
+                Answer::Nothing => number == 1 && report == [0; 53],
+                Answer::Refused(k, place) => number == (k * 65536 + place) as u64 && report == [0; 53],
+            };
+            let spent = best(&mut || {
+                std::hint::black_box(call(&query, &mut report));
+            });
+            println!("    {other} {spent:.1} ms{}", if same { "" } else { ", and another answer" });
+            alike &= same;
+        }
+    }
+    alike
 }

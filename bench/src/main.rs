@@ -35,7 +35,7 @@ time DIR                      time the workloads in DIR (with feature library: t
 differential N SEED           (feature library) compare library and reference on N random inputs
 heapverdict                   be the program heapverdict
 between FILE                  compare the plain search of R-10 with its vectors
-between                       time it on slow queries
+between                       time it on slow queries (with feature library: the library too)
 shares RULESHARES DIR N       (feature library) time ruleshares on N queries of workload-programs, beside the calls";
 
 fn main() -> ExitCode {
@@ -79,12 +79,11 @@ fn run(words: &[&str]) -> Result<bool, String> {
         }
         ["time", directory] => time(Path::new(directory)),
         ["differential", count, seed] => differential(number(count)? as usize, number(seed)?),
-        ["shares", program, directory, count] => shares(Path::new(program), Path::new(directory), number(count)? as usize),
-        ["between", file] => between::compare(Path::new(file)),
-        ["between"] => {
-            between::time();
-            Ok(true)
+        ["shares", program, directory, count] => {
+            shares(Path::new(program), Path::new(directory), number(count)? as usize)
         }
+        ["between", file] => between::compare(Path::new(file)),
+        ["between"] => Ok(between_time()),
         ["heapverdict"] => {
             let mut input = Vec::new();
             std::io::stdin().take(reference::INPUT_BYTES as u64).read_to_end(&mut input).map_err(|e| e.to_string())?;
@@ -103,6 +102,16 @@ fn time(directory: &Path) -> Result<bool, String> {
 #[cfg(not(feature = "library"))]
 fn time(directory: &Path) -> Result<bool, String> {
     timing::run(directory, &[])
+}
+
+#[cfg(feature = "library")]
+fn between_time() -> bool {
+    between::time(&[("library", &library::between)])
+}
+
+#[cfg(not(feature = "library"))]
+fn between_time() -> bool {
+    between::time(&[])
 }
 
 #[cfg(feature = "library")]
