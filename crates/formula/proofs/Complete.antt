@@ -12,7 +12,7 @@ use borrow.Author.Tests.{eqb-true, eqb-false, eq-eqb, ne-eqb}
 use Rattle.logic.specs.Search.{_and_, all}
 use Rattle.logic.proofs.Basics.Search.{true-false, and-left, and-right}
 use Rattle.text.specs.Text.{isDigit}
-use Rattle.formula.specs.Grammar.{Letter, E, R, D, B, letterByte, Formula, literal, both, either, isBlank, isPlace, shown, Level, disjunction, conjunction, item, Reads, one-and, one-item, name, parentheses}
+use Rattle.formula.specs.Grammar.{Letter, E, R, D, B, letterByte, Formula, literal, both, either, isBlank, isPlace, shown, Level, disjunction, conjunction, item, Reads, one-and, one-item, name, parentheses, Within}
 use Rattle.formula.specs.Meaning.{AllPresent}
 use Rattle.formula.specs.Places.{digitsAt, pastDigits}
 use Rattle.formula.specs.Reader.{Mark, mark, letter, opening, pastBlanks, Reading, refused, done, andThen, joined, further, closed, named, itemBy, itemAt, read, calls, ended, readText}
@@ -118,6 +118,16 @@ item-depth before t after left h =
     let b : length (t ++ (41 ∷ after)) ≡ length t + suc (length after) = length-append t (41 ∷ after) in
     omega arith
 
+-- a text is not deeper than it is long
+pub short-within : (level : Level) {t : List ℕ} {f : Formula} (x : Reads level t f) (most : ℕ) → length t ≤ most → Within most x
+unfolding Within
+short-within disjunction (one-and x) most l = short-within conjunction x most l
+short-within disjunction (Reads.or {t} {u} x y) most l = (short-within conjunction x most (len-left t (124 ∷ u) most l), short-within disjunction y most (le-of-lt (len-right 124 t u most l)))
+short-within conjunction (one-item x) most l = short-within item x most l
+short-within conjunction (Reads.and {t} {u} x y) most l = (short-within item x most (len-left t (38 ∷ u) most l), short-within conjunction y most (le-of-lt (len-right 38 t u most l)))
+short-within item (name q before digits behind i p o) most l = tt
+short-within item (parentheses {t} before behind i x o) most l = let h : suc (length t) ≤ most = item-depth before t behind most l in (omega arith, short-within disjunction x (most - 1) (omega arith))
+
 heads : {b c : ℕ} {bs cs : List ℕ} → c ∷ cs ≡ b ∷ bs → c ≡ b
 heads e = cc
 
@@ -193,35 +203,37 @@ module _ (has : Letter → ℕ → Bool) where
   unfolding calls
   and-fewer n k h = omega arith
 
-  pub complete : (level : Level) {t : List ℕ} {f : Formula} → Reads level t f → AllPresent has f → (r : List ℕ) → Stops level r → NoDigit r → (left : ℕ) → length t ≤ left → (k : ℕ) → calls level (length t + length r) ≤ k → read has k level left (t ++ r) ≡ done f r
+  pub complete : (level : Level) {t : List ℕ} {f : Formula} (x : Reads level t f) → AllPresent has f → (r : List ℕ) → Stops level r → NoDigit r → (left : ℕ) → Within left x → (k : ℕ) → calls level (length t + length r) ≤ k → read has k level left (t ++ r) ≡ done f r
   complete disjunction {t} {f} (one-and x) a r s n left l k₀ c =
       let (k, e) = split k₀ (some-or (length t + length r) k₀ c) in
       ap (λ (m : ℕ). read has m disjunction left (t ++ r)) e
       ∙ or-step k left (t ++ r)
-      ∙ then-done (further 124 either (read has k disjunction left)) (complete conjunction x a r (conj-weaker r s) n left l k (or-fewer (length t + length r) k (subst (λ (m : ℕ). calls disjunction (length t + length r) ≤ m) e c)))
+      ∙ then-done (further 124 either (read has k disjunction left)) (complete conjunction x a r (conj-weaker r s) n left (unfold Within in l) k (or-fewer (length t + length r) k (subst (λ (m : ℕ). calls disjunction (length t + length r) ≤ m) e c)))
       ∙ further-stops 124 either (read has k disjunction left) f r (no-bar r s)
   complete disjunction (Reads.or {t} {u} {f} {g} x y) a r s n left l k₀ c =
       let p : AllPresent has f × AllPresent has g = (unfold AllPresent in a) in
+      let w : Within left x × Within left y = (unfold Within in l) in
       let (k, e) = split k₀ (some-or (length (t ++ (124 ∷ u)) + length r) k₀ c) in
       ap (λ (m : ℕ). read has m disjunction left ((t ++ (124 ∷ u)) ++ r)) e
       ∙ ap (read has (suc k) disjunction left) (append-assoc t (124 ∷ u) r)
       ∙ or-step k left (t ++ (124 ∷ (u ++ r)))
-      ∙ then-done (further 124 either (read has k disjunction left)) (complete conjunction x (p .0) (124 ∷ (u ++ r)) ((λ e. omega arith), (λ e. omega arith)) (unfold isDigit _and_ in refl) left (len-left t (124 ∷ u) left l) k (or-size t u r k (subst (λ (m : ℕ). calls disjunction (length (t ++ (124 ∷ u)) + length r) ≤ m) e c)))
-      ∙ further-on 124 either (read has k disjunction left) f g (u ++ r) r (complete disjunction y (p .1) r s n left (le-of-lt (len-right 124 t u left l)) k (or-rest t u r k (subst (λ (m : ℕ). calls disjunction (length (t ++ (124 ∷ u)) + length r) ≤ m) e c)))
+      ∙ then-done (further 124 either (read has k disjunction left)) (complete conjunction x (p .0) (124 ∷ (u ++ r)) ((λ e. omega arith), (λ e. omega arith)) (unfold isDigit _and_ in refl) left (w .0) k (or-size t u r k (subst (λ (m : ℕ). calls disjunction (length (t ++ (124 ∷ u)) + length r) ≤ m) e c)))
+      ∙ further-on 124 either (read has k disjunction left) f g (u ++ r) r (complete disjunction y (p .1) r s n left (w .1) k (or-rest t u r k (subst (λ (m : ℕ). calls disjunction (length (t ++ (124 ∷ u)) + length r) ≤ m) e c)))
   complete conjunction {t} {f} (one-item x) a r s n left l k₀ c =
       let (k, e) = split k₀ (some-and (length t + length r) k₀ c) in
       ap (λ (m : ℕ). read has m conjunction left (t ++ r)) e
       ∙ and-step k left (t ++ r)
-      ∙ then-done (further 38 both (read has k conjunction left)) (complete item x a r (item-weaker r s) n left l k (and-fewer (length t + length r) k (subst (λ (m : ℕ). calls conjunction (length t + length r) ≤ m) e c)))
+      ∙ then-done (further 38 both (read has k conjunction left)) (complete item x a r (item-weaker r s) n left (unfold Within in l) k (and-fewer (length t + length r) k (subst (λ (m : ℕ). calls conjunction (length t + length r) ≤ m) e c)))
       ∙ further-stops 38 both (read has k conjunction left) f r (no-ampersand r s)
   complete conjunction (Reads.and {t} {u} {f} {g} x y) a r s n left l k₀ c =
       let p : AllPresent has f × AllPresent has g = (unfold AllPresent in a) in
+      let w : Within left x × Within left y = (unfold Within in l) in
       let (k, e) = split k₀ (some-and (length (t ++ (38 ∷ u)) + length r) k₀ c) in
       ap (λ (m : ℕ). read has m conjunction left ((t ++ (38 ∷ u)) ++ r)) e
       ∙ ap (read has (suc k) conjunction left) (append-assoc t (38 ∷ u) r)
       ∙ and-step k left (t ++ (38 ∷ (u ++ r)))
-      ∙ then-done (further 38 both (read has k conjunction left)) (complete item x (p .0) (38 ∷ (u ++ r)) (λ e. omega arith) (unfold isDigit _and_ in refl) left (len-left t (38 ∷ u) left l) k (and-size t u r k (subst (λ (m : ℕ). calls conjunction (length (t ++ (38 ∷ u)) + length r) ≤ m) e c)))
-      ∙ further-on 38 both (read has k conjunction left) f g (u ++ r) r (complete conjunction y (p .1) r s n left (le-of-lt (len-right 38 t u left l)) k (and-rest t u r k (subst (λ (m : ℕ). calls conjunction (length (t ++ (38 ∷ u)) + length r) ≤ m) e c)))
+      ∙ then-done (further 38 both (read has k conjunction left)) (complete item x (p .0) (38 ∷ (u ++ r)) (λ e. omega arith) (unfold isDigit _and_ in refl) left (w .0) k (and-size t u r k (subst (λ (m : ℕ). calls conjunction (length (t ++ (38 ∷ u)) + length r) ≤ m) e c)))
+      ∙ further-on 38 both (read has k conjunction left) f g (u ++ r) r (complete conjunction y (p .1) r s n left (w .1) k (and-rest t u r k (subst (λ (m : ℕ). calls conjunction (length (t ++ (38 ∷ u)) + length r) ≤ m) e c)))
   complete item (name q before digits behind i p o) a r s n left l k₀ c =
       let (k, e) = split k₀ (some-item (length (before ++ (letterByte q ∷ (digits ++ behind))) + length r) k₀ c) in
       let m : NoDigit (behind ++ r) = blank-no-digit behind r o n in
@@ -235,17 +247,18 @@ module _ (has : Letter → ℕ → Bool) where
       ∙ ap (λ (w : List ℕ). done (literal q (shown 0 w)) (pastBlanks (pastDigits (digits ++ (behind ++ r))))) d
       ∙ ap (done (literal q (shown 0 digits))) (ap pastBlanks (digits-passed (behind ++ r) m digits (place-digits digits p)) ∙ blanks-passed behind r o ∙ stops-here r s)
   complete item (parentheses {t} {f} before behind i x o) a r s n left l k₀ c =
+      let w : (1 ≤ left) × Within (left - 1) x = (unfold Within in l) in
       let (k, e) = split k₀ (some-item (length (before ++ (40 ∷ (t ++ (41 ∷ behind)))) + length r) k₀ c) in
       ap (λ (m : ℕ). read has m item left ((before ++ (40 ∷ (t ++ (41 ∷ behind)))) ++ r)) e
       ∙ ap (read has (suc k) item left) (append-assoc before (40 ∷ (t ++ (41 ∷ behind))) r ∙ ap (λ (w : List ℕ). before ++ (40 ∷ w)) (append-assoc t (41 ∷ behind) r))
       ∙ item-step k left (before ++ (40 ∷ (t ++ (41 ∷ (behind ++ r)))))
       ∙ ap (itemAt has (read has k disjunction (left - 1)) left) (blanks-passed before (40 ∷ (t ++ (41 ∷ (behind ++ r)))) i ∙ no-blank 40 (t ++ (41 ∷ (behind ++ r))) (λ e. omega arith))
-      ∙ item-open (read has k disjunction (left - 1)) left (t ++ (41 ∷ (behind ++ r))) (λ e. let h : suc (length t) ≤ left = item-depth before t behind left l in omega arith)
-      ∙ then-done closed (complete disjunction x a (41 ∷ (behind ++ r)) ((λ e. omega arith), (λ e. omega arith), (λ e. omega arith)) (unfold isDigit _and_ in refl) (left - 1) (let h : suc (length t) ≤ left = item-depth before t behind left l in omega arith) k (item-size before t behind r k (subst (λ (m : ℕ). calls item (length (before ++ (40 ∷ (t ++ (41 ∷ behind)))) + length r) ≤ m) e c)))
+      ∙ item-open (read has k disjunction (left - 1)) left (t ++ (41 ∷ (behind ++ r))) (λ e. let h : 1 ≤ left = w .0 in omega arith)
+      ∙ then-done closed (complete disjunction x a (41 ∷ (behind ++ r)) ((λ e. omega arith), (λ e. omega arith), (λ e. omega arith)) (unfold isDigit _and_ in refl) (left - 1) (w .1) k (item-size before t behind r k (subst (λ (m : ℕ). calls item (length (before ++ (40 ∷ (t ++ (41 ∷ behind)))) + length r) ≤ m) e c)))
       ∙ closed-here f (behind ++ r)
       ∙ ap (done f) (blanks-passed behind r o ∙ stops-here r s)
 
-  pub whole-complete : (t : List ℕ) (f : Formula) → Reads disjunction t f → AllPresent has f → (left : ℕ) → length t ≤ left → read has (calls disjunction (length t)) disjunction left t ≡ done f []
+  pub whole-complete : (t : List ℕ) (f : Formula) (x : Reads disjunction t f) → AllPresent has f → (left : ℕ) → Within left x → read has (calls disjunction (length t)) disjunction left t ≡ done f []
   whole-complete t f x a left l = ap (read has (calls disjunction (length t)) disjunction left) (sym (append-nil t)) ∙ complete disjunction x a [] tt tt left l (calls disjunction (length t)) (same (length t))
     where
       same : (m : ℕ) → calls disjunction (m + 0) ≤ calls disjunction m
@@ -263,7 +276,7 @@ all-always (either f g) = (all-always f, all-always g)
 
 -- "Each text has at most one formula."
 pub one-formula : (t : List ℕ) (f g : Formula) → Reads disjunction t f → Reads disjunction t g → f ≡ g
-one-formula t f g x y = same (sym (whole-complete always t f x (all-always f) (length t) (omega arith)) ∙ whole-complete always t g y (all-always g) (length t) (omega arith))
+one-formula t f g x y = same (sym (whole-complete always t f x (all-always f) (length t) (short-within disjunction x (length t) (omega arith))) ∙ whole-complete always t g y (all-always g) (length t) (short-within disjunction y (length t) (omega arith)))
   where
     same : done f [] ≡ done g [] → f ≡ g
     same e = cc

@@ -19,20 +19,23 @@ use Rattle.formula.specs.Reader.{Mark, mark, blank, opening, closing, am
 use Rattle.formula.proofs.Marks.{Marked, marked, is-blank, is-opening, is-closing, is-ampersand, is-bar, is-letter, is-digit, is-other, mark-letter}
 use Rattle.formula.proofs.Scan.{State, wants, named, counted, after, Result, clean, fault, Move, to, stop, closes, wantsBy, afterBy, move, endOf, follow, scan, scan-to, scan-stop}
 use Rattle.formula.proofs.Reading.{Found, As, reads-as}
-use Rattle.formula.proofs.Complete.{always, all-always, whole-complete}
+use Rattle.formula.proofs.Complete.{always, all-always, short-within, whole-complete}
 use Rattle.formula.proofs.Contexts.{Passed, passed-begins, Wanting, Ended, Follows, nothing, an-and, an-or, a-close, a-blank, wanting-start, wanting-open, name-ended, textual, blank-before}
 
--- A text of the grammar is scanned without a fault, whatever is open to it
+-- A text of the grammar whose literals are there is scanned without a fault, if enough parentheses may be open
 
-pub text-clean : (t : List ℕ) → Text t → (most : ℕ) → length t ≤ most → scan always most (wants 0) t ≡ clean
-text-clean t (f, x) most l = by (read always (calls disjunction (length t)) disjunction most t) (whole-complete always t f x (all-always f) most l) (reads-as always most (calls disjunction (length t)) disjunction 0 most (omega arith) t (omega arith))
+pub read-clean : (has : Letter → ℕ → Bool) (t : List ℕ) (f : Formula) → Reads disjunction t f → AllPresent has f → (most : ℕ) → length t ≤ most → scan has most (wants 0) t ≡ clean
+read-clean has t f x a most l = by (read has (calls disjunction (length t)) disjunction most t) (whole-complete has t f x a most (short-within disjunction x most l)) (reads-as has most (calls disjunction (length t)) disjunction 0 most (omega arith) t (omega arith))
   where
-    by : (r : Reading) → r ≡ done f [] → As always most disjunction 0 t r → scan always most (wants 0) t ≡ clean
+    by : (r : Reading) → r ≡ done f [] → As has most disjunction 0 t r → scan has most (wants 0) t ≡ clean
     by (refused k s) e a = absurd (let z : _≡_ {A = ℕ} 0 1 = cc in omega arith)
-    by (done g rest) e a = a .goes ∙ ap (scan always most (after 0)) (rests e) ∙ (unfold scan endOf in refl)
+    by (done g rest) e a = a .goes ∙ ap (scan has most (after 0)) (rests e) ∙ (unfold scan endOf in refl)
       where
         rests : done g rest ≡ done f [] → rest ≡ []
         rests y = cc
+
+pub text-clean : (t : List ℕ) → Text t → (most : ℕ) → length t ≤ most → scan always most (wants 0) t ≡ clean
+text-clean t (f, x) most l = read-clean always t f x (all-always f) most l
 
 -- Moves
 

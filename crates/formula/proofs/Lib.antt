@@ -5,3 +5,10 @@ pub mod Complete
 pub mod Contexts
 pub mod Faults
 pub mod FirstFault
+pub mod ReadingClaims
+pub mod RefusalClaims
+pub mod ReadingSamples
+pub mod Conjunctions
+pub mod Answers
+pub mod AnswerClaims
+pub mod AnswerSamples

@@ -11,7 +11,7 @@ use borrow.Author.Tests.{eqb-true, eqb-false, ltb-true, ltb-false, lt-ltb, le-lt
 use Rattle.logic.specs.Search.{_and_, all}
 use Rattle.logic.proofs.Basics.Search.{bool-cases, true-false, and-left, and-right}
 use Rattle.text.specs.Text.{isDigit}
-use Rattle.formula.specs.Grammar.{Letter, letterByte, Formula, literal, both, either, isBlank, isPlace, shown, Level, disjunction, conjunction, item, Reads, one-and, one-item, name, parentheses}
+use Rattle.formula.specs.Grammar.{Letter, letterByte, Formula, literal, both, either, isBlank, isPlace, shown, Level, disjunction, conjunction, item, Reads, one-and, one-item, name, parentheses, Within}
 use Rattle.formula.specs.Meaning.{AllPresent}
 use Rattle.formula.specs.Places.{digitsAt, pastDigits}
 use Rattle.formula.specs.Reader.{Mark, mark, blank, opening, closing, ampersand, bar, other, letter, digit, pastBlanks, Reading, refused, done, andThen, joined, further, closed, named, itemBy, itemAt, read, calls}
@@ -118,6 +118,7 @@ module _ (has : Letter → ℕ → Bool) (most : ℕ) where
     pub text : List ℕ
     pub splits : bs ≡ text ++ rest
     pub reads : Reads level text f
+    pub shallow : Within (most - d) reads
     pub goes : go-on (wants d) bs ≡ go-on (after d) rest
     pub stops : Stops level rest
     pub there : AllPresent has f
@@ -129,7 +130,7 @@ module _ (has : Letter → ℕ → Bool) (most : ℕ) where
 
   -- What follows an item that has ended
 
-  ends-wrong : (d b : ℕ) (bs : List ℕ) → (b ≡ 32 → ⊥) → (b ≡ 38 → ⊥) → (b ≡ 124 → ⊥) → (b ≡ 41 → ⊥) → go-on (after d) (b ∷ bs) ≡ fault 17 (b ∷ bs)
+  pub ends-wrong : (d b : ℕ) (bs : List ℕ) → (b ≡ 32 → ⊥) → (b ≡ 38 → ⊥) → (b ≡ 124 → ⊥) → (b ≡ 41 → ⊥) → go-on (after d) (b ∷ bs) ≡ fault 17 (b ∷ bs)
   ends-wrong d b bs n₁ n₂ n₃ n₄ = scan-stop has most (after d) 17 b bs (after-move has most d b bs refl ∙ go (mark b) (marked b))
     where
       go : (m : Mark) → Marked b m → afterBy has most d m ≡ stop 17
@@ -150,6 +151,8 @@ module _ (has : Letter → ℕ → Bool) (most : ℕ) where
   module _ (separator : ℕ) (join : Formula → Formula → Formula) (low up : Level)
       (one : (t : List ℕ) (f : Formula) → Reads low t f → Reads up t f)
       (two : (t u : List ℕ) (f g : Formula) → Reads low t f → Reads up u g → Reads up (t ++ (separator ∷ u)) (join f g))
+      (one-within : (n : ℕ) (t : List ℕ) (f : Formula) (x : Reads low t f) → Within n x → Within n (one t f x))
+      (two-within : (n : ℕ) (t u : List ℕ) (f g : Formula) (x : Reads low t f) (y : Reads up u g) → Within n x → Within n y → Within n (two t u f g x y))
       (onward : (d : ℕ) (bs : List ℕ) → go-on (after d) (separator ∷ bs) ≡ go-on (wants d) bs)
       (ends : Stops up [])
       (stop-more : (b : ℕ) (bs : List ℕ) → Stops low (b ∷ bs) → (b ≡ separator → ⊥) → Stops up (b ∷ bs))
@@ -163,6 +166,7 @@ module _ (has : Letter → ℕ → Bool) (most : ℕ) where
           text = h .text ++ (separator ∷ a .text);
           splits = h .splits ∙ ap (λ (c : ℕ). h .text ++ (c ∷ s)) e ∙ ap (λ (x : List ℕ). h .text ++ (separator ∷ x)) (a .splits) ∙ sym (append-assoc (h .text) (separator ∷ a .text) rest);
           reads = two _ _ _ _ (h .reads) (a .reads);
+          shallow = two-within (most - d) _ _ _ _ (h .reads) (a .reads) (h .shallow) (a .shallow);
           goes = h .goes ∙ ap (λ (c : ℕ). go-on (after d) (c ∷ s)) e ∙ onward d s ∙ a .goes;
           stops = a .stops;
           there = there-both f g (h .there) (a .there);
@@ -172,12 +176,12 @@ module _ (has : Letter → ℕ → Bool) (most : ℕ) where
     pub joins : (r : Reading) (more : List ℕ → Reading) → As low d bs r → ((s : List ℕ) → length s < length bs → As up d s (more s)) → As up d bs (andThen r (further separator join more))
     unfolding andThen further
     joins (refused n s) more a h = a
-    joins (done f []) more a h = record { text = a .text; splits = a .splits; reads = one _ _ (a .reads); goes = a .goes; stops = ends; there = a .there; shorter = a .shorter }
+    joins (done f []) more a h = record { text = a .text; splits = a .splits; reads = one _ _ (a .reads); shallow = one-within (most - d) _ _ (a .reads) (a .shallow); goes = a .goes; stops = ends; there = a .there; shorter = a .shorter }
     joins (done f (b ∷ s)) more a h = go (eqb b separator) refl
       where
         go : (t : Bool) → eqb b separator ≡ t → As up d bs (cond t (andThen (more s) (joined join f)) (done f (b ∷ s)))
         go true e = second f b s a (eqb-true b separator e) (more s) (h s (let p : length (b ∷ s) < length bs = a .shorter in omega arith))
-        go false e = record { text = a .text; splits = a .splits; reads = one _ _ (a .reads); goes = a .goes; stops = stop-more b s (a .stops) (eqb-false b separator e); there = a .there; shorter = a .shorter }
+        go false e = record { text = a .text; splits = a .splits; reads = one _ _ (a .reads); shallow = one-within (most - d) _ _ (a .reads) (a .shallow); goes = a .goes; stops = stop-more b s (a .stops) (eqb-false b separator e); there = a .there; shorter = a .shorter }
 
   -- An item
 
@@ -197,11 +201,17 @@ module _ (has : Letter → ℕ → Bool) (most : ℕ) where
     moved : (t : State) {m : Mark} → mark b ≡ m → wantsBy has most d m s ≡ to t → go-on (wants d) bs ≡ go-on t s
     moved t e w = from-here ∙ scan-to has most (wants d) t b s (want-move has most d b s e ∙ w)
 
-    closed-as : (f : Formula) (rest : List ℕ) → b ≡ 40 → go-on (wants d) bs ≡ go-on (wants (suc d)) s → Found disjunction (suc d) s f rest → As item d bs (closed f rest)
+    closed-as : (f : Formula) (rest : List ℕ) → d < most → b ≡ 40 → go-on (wants d) bs ≡ go-on (wants (suc d)) s → Found disjunction (suc d) s f rest → As item d bs (closed f rest)
     unfolding closed
-    closed-as f [] e g a = g ∙ a .goes ∙ after-end d
-    closed-as f (x ∷ xs) e g a = go (eqb x 41) refl
+    closed-as f [] l e g a = g ∙ a .goes ∙ after-end d
+    closed-as f (x ∷ xs) l e g a = go (eqb x 41) refl
       where
+        fewer : most - suc d ≡ (most - d) - 1
+        fewer = omega arith
+
+        deeper : {t : List ℕ} (r : Reads disjunction t f) → Within (most - suc d) r → Within (most - d) (parentheses (blanksAt bs) (blanksAt xs) (blanks-are bs) r (blanks-are xs))
+        deeper r w = unfold Within in (omega arith, subst (λ (n : ℕ). Within n r) fewer w)
+
         go : (t : Bool) → eqb x 41 ≡ t → As item d bs (cond t (done f (pastBlanks xs)) (refused 17 (x ∷ xs)))
         go true y =
             record {
@@ -212,6 +222,7 @@ module _ (has : Letter → ℕ → Bool) (most : ℕ) where
                   ∙ ap (λ (w : List ℕ). blanksAt bs ++ (40 ∷ w)) (a .splits ∙ ap (λ (c : ℕ). a .text ++ (c ∷ xs)) (eqb-true x 41 y) ∙ ap (λ (w : List ℕ). a .text ++ (41 ∷ w)) (blanks-split xs) ∙ sym (append-assoc (a .text) (41 ∷ blanksAt xs) (pastBlanks xs)))
                   ∙ sym (append-assoc (blanksAt bs) (40 ∷ (a .text ++ (41 ∷ blanksAt xs))) (pastBlanks xs));
               reads = parentheses (blanksAt bs) (blanksAt xs) (blanks-are bs) (a .reads) (blanks-are xs);
+              shallow = deeper (a .reads) (a .shallow);
               goes = g ∙ a .goes ∙ scan-to has most (after (suc d)) (after d) x xs (after-move has most (suc d) x xs (mark-closing (eqb-true x 41 y)) ∙ (unfold afterBy closes in refl)) ∙ after-blanks has most d xs;
               stops = past-stops xs;
               there = a .there;
@@ -219,10 +230,10 @@ module _ (has : Letter → ℕ → Bool) (most : ℕ) where
             }
         go false y = g ∙ a .goes ∙ ends-wrong (suc d) x xs (a .stops .0) (a .stops .1) (a .stops .2) (eqb-false x 41 y)
 
-    inner-as : (r : Reading) → b ≡ 40 → go-on (wants d) bs ≡ go-on (wants (suc d)) s → As disjunction (suc d) s r → As item d bs (andThen r closed)
+    inner-as : (r : Reading) → d < most → b ≡ 40 → go-on (wants d) bs ≡ go-on (wants (suc d)) s → As disjunction (suc d) s r → As item d bs (andThen r closed)
     unfolding andThen
-    inner-as (refused n x) e g a = g ∙ a
-    inner-as (done f rest) e g a = closed-as f rest e g a
+    inner-as (refused n x) l e g a = g ∙ a
+    inner-as (done f rest) l e g a = closed-as f rest l e g a
 
     name-wrong : (xs : List ℕ) → isPlace (digitsAt xs) ≡ false → go-on (scans.named d) xs ≡ fault 17 xs
     name-wrong [] p = unfold scan endOf in refl
@@ -255,6 +266,7 @@ module _ (has : Letter → ℕ → Bool) (most : ℕ) where
                   ∙ ap (λ (w : List ℕ). blanksAt bs ++ (letterByte l ∷ w)) (digits-split s ∙ ap (λ (w : List ℕ). digitsAt s ++ w) (blanks-split (pastDigits s)) ∙ sym (append-assoc (digitsAt s) (blanksAt (pastDigits s)) (pastBlanks (pastDigits s))))
                   ∙ sym (append-assoc (blanksAt bs) (letterByte l ∷ (digitsAt s ++ blanksAt (pastDigits s))) (pastBlanks (pastDigits s)));
               reads = name l (blanksAt bs) (digitsAt s) (blanksAt (pastDigits s)) (blanks-are bs) q (blanks-are (pastDigits s));
+              shallow = unfold Within in tt;
               goes = moved (scans.named d) m (letters true true q r ∙ (unfold _and_ in refl)) ∙ name-right s q ∙ after-blanks has most d (pastDigits s);
               stops = past-stops (pastDigits s);
               there = unfold AllPresent in r;
@@ -272,7 +284,7 @@ module _ (has : Letter → ℕ → Bool) (most : ℕ) where
           where
             go : (t : Bool) → eqb left 0 ≡ t → As item d bs (itemBy has inner left opening (b ∷ s) s)
             go true y = unfold itemBy in rw y (stopped 18 e (unfold wantsBy in rw (le-ltb d most (let z : left ≡ 0 = eqb-true left 0 y in omega arith)) refl))
-            go false y = unfold itemBy in rw y (inner-as (inner s) x (moved (wants (suc d)) e (unfold wantsBy in rw (lt-ltb d most (below y)) refl)) (h (eqb-false left 0 y)))
+            go false y = unfold itemBy in rw y (inner-as (inner s) (below y) x (moved (wants (suc d)) e (unfold wantsBy in rw (lt-ltb d most (below y)) refl)) (h (eqb-false left 0 y)))
               where
                 below : eqb left 0 ≡ false → d < most
                 below z = ⊎-elim (λ (k : ltb d most ≡ true). ltb-true d most k) (λ k. absurd (eqb-false left 0 z (let q : most ≤ d = ltb-false d most k in omega arith))) (bool-cases (ltb d most))
@@ -302,15 +314,15 @@ module _ (has : Letter → ℕ → Bool) (most : ℕ) where
   there-pair join h f g a b = h f g (a, b)
 
   pub reads-as : (k : ℕ) (level : Level) (d left : ℕ) → d + left ≡ most → (bs : List ℕ) → calls level (length bs) ≤ k → As level d bs (read has k level left bs)
-  unfolding read calls AllPresent
+  unfolding read calls AllPresent Within
   reads-as zero disjunction d left e bs h = absurd (omega arith)
   reads-as zero conjunction d left e bs h = absurd (omega arith)
   reads-as zero item d left e bs h = absurd (omega arith)
   reads-as (suc k) disjunction d left e bs h =
-      joins 124 either conjunction disjunction (λ t f r. one-and r) (λ t u f g r q. Reads.or r q) or-onward tt (λ b s p q. (p .0, p .1, q)) (λ f g a b. (a, b)) d bs (read has k conjunction left bs) (read has k disjunction left) (reads-as k conjunction d left e bs (omega arith))
+      joins 124 either conjunction disjunction (λ t f r. one-and r) (λ t u f g r q. Reads.or r q) (λ n t f x w. w) (λ n t u f g x y v w. (v, w)) or-onward tt (λ b s p q. (p .0, p .1, q)) (λ f g a b. (a, b)) d bs (read has k conjunction left bs) (read has k disjunction left) (reads-as k conjunction d left e bs (omega arith))
       (λ s l. reads-as k disjunction d left e s (omega arith))
   reads-as (suc k) conjunction d left e bs h =
-      joins 38 both item conjunction (λ t f r. one-item r) (λ t u f g r q. Reads.and r q) and-onward tt (λ b s p q. (p, q)) (λ f g a b. (a, b)) d bs (read has k item left bs) (read has k conjunction left) (reads-as k item d left e bs (omega arith)) (λ s l. reads-as k conjunction d left e s (omega arith))
+      joins 38 both item conjunction (λ t f r. one-item r) (λ t u f g r q. Reads.and r q) (λ n t f x w. w) (λ n t u f g x y v w. (v, w)) and-onward tt (λ b s p q. (p, q)) (λ f g a b. (a, b)) d bs (read has k item left bs) (read has k conjunction left) (reads-as k item d left e bs (omega arith)) (λ s l. reads-as k conjunction d left e s (omega arith))
   reads-as (suc k) item d left e bs h =
       item-as d left e bs (read has k disjunction (left - 1)) (λ s l n. reads-as k disjunction (suc d) (left - 1) (less n) s (omega arith))
     where

@@ -1,35 +1,19 @@
 -- What the formula call answers, and every byte of what is lent, on every input (02, R-7).
-use Prim.Native.Nat.{ℕ, zero, suc, _-_}
+use Prim.Native.Nat.{ℕ, suc, _-_}
 use mathlib.Core.Bool.{Bool, true, false, cond}
-use mathlib.Core.List.{List, [], _∷_, _++_}
+use mathlib.Core.List.{List, [], _∷_}
 use mathlib.Core.Option.{Option, Option·elim}
 use lib.ListN.{length, replicate}
 use lib.Dec.{ltb}
-use Rattle.logic.specs.Search.{flatMap}
-use Rattle.logic.specs.Query.{Literal, Query, decode}
+use Rattle.logic.specs.Query.{decode}
 use Rattle.logic.specs.Calls.{verdictChecks, refusalOf, verdictCall}
 use Rattle.logic.specs.Calls as calls
+use Rattle.encoding.specs.QueryBytes.{encode}
 use Rattle.formula.specs.Grammar.{Formula}
 use Rattle.formula.specs.Expansion.{Conjunction, expand}
 use Rattle.formula.specs.Meaning.{present, restricted}
 use Rattle.formula.specs.Reader.{Reading, readText}
 use Rattle.formula.specs.Reader as reader
-
--- the bytes of a query (01, "Query bytes"), "Sign 1 is plain, 0 negated"
-unfoldable pub literalBytes : Literal → List ℕ
-literalBytes l = cond (l .plain) 1 0 ∷ l .left ∷ l .right ∷ []
-
-unfoldable pub flagBytes : Literal → List ℕ
-flagBytes l = cond (l .plain) 1 0 ∷ l .left ∷ []
-
-unfoldable pub sectionBytes : (Literal → List ℕ) → List Literal → List ℕ
-sectionBytes bytes ls = length ls ∷ flatMap bytes ls
-
-unfoldable pub encode : Query → List ℕ
-encode q =
-    (length (q .entries) ∷ q .entries)
-    ++ (sectionBytes literalBytes (q .equalities)
-    ++ (sectionBytes literalBytes (q .reachability) ++ (sectionBytes literalBytes (q .fields) ++ sectionBytes flagBytes (q .booleans))))
 
 -- What the call is given: the order list, the query bytes, the text, and how many bytes are lent for the report.
 pub record Input : Type 0 where

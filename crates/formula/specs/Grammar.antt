@@ -1,5 +1,5 @@
 -- The texts of formulas (02, R-7), of any length and depth.
-use Prim.Native.Nat.{ℕ, zero, suc, _+_, _-_, _*_}
+use Prim.Native.Nat.{ℕ, zero, suc, _+_, _-_, _*_, _≤_}
 use mathlib.Core.Path.{_≡_}
 use mathlib.Core.Bool.{Bool, true, false, not}
 use mathlib.Core.List.{List, [], _∷_, _++_}
@@ -50,6 +50,15 @@ pub data Reads : Level → List ℕ → Formula → Type 0 where
   and : {t u : List ℕ} {f g : Formula} → Reads item t f → Reads conjunction u g → Reads conjunction (t ++ (38 ∷ u)) (both f g)
   name : (l : Letter) (before digits after : List ℕ) → all isBlank before ≡ true → isPlace digits ≡ true → all isBlank after ≡ true → Reads item (before ++ (letterByte l ∷ (digits ++ after))) (literal l (shown 0 digits))
   parentheses : {t : List ℕ} {f : Formula} (before after : List ℕ) → all isBlank before ≡ true → Reads disjunction t f → all isBlank after ≡ true → Reads item (before ++ (40 ∷ (t ++ (41 ∷ after)))) f
+
+-- "an item in parentheses is an or again, to a depth of 32": no more than `most` parentheses stand round any part
+unfoldable pub Within : ℕ → {level : Level} {t : List ℕ} {f : Formula} → Reads level t f → Type 0
+Within most (one-and x) = Within most x
+Within most (Reads.or x y) = Within most x × Within most y
+Within most (one-item x) = Within most x
+Within most (Reads.and x y) = Within most x × Within most y
+Within most (name l before digits after a p c) = Unit
+Within most (parentheses before after a x c) = (1 ≤ most) × Within (most - 1) x
 
 -- a text of the grammar, and what begins one
 abbrev pub Text : List ℕ → Type 0

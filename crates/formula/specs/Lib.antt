@@ -4,3 +4,7 @@ pub mod Meaning
 pub mod Places
 pub mod Reader
 pub mod Call
+pub mod ReadingClaims
+pub mod ReadingSamples
+pub mod AnswerClaims
+pub mod AnswerSamples

@@ -29,7 +29,8 @@ use Rattle.formula.specs.Expansion.{Conjunction, expand}
 use Rattle.formula.specs.Meaning.{names, literalsOf, present, AllPresent, restricted}
 use Rattle.formula.specs.Reader.{Reading, readText, read, andThen, ended, calls}
 use Rattle.formula.specs.Reader as reader
-use Rattle.formula.specs.Call.{encode, queryOf, verdictOn, isSatisfiable, firstOf, decided, afterReading, textOutcome, asRefusal, formulaCall}
+use Rattle.encoding.specs.QueryBytes.{encode}
+use Rattle.formula.specs.Call.{queryOf, verdictOn, isSatisfiable, firstOf, decided, afterReading, textOutcome, asRefusal, formulaCall}
 use Rattle.formula.specs.Call as formula
 use Rattle.formula.proofs.Reading.{Found, As, reads-as}
 use Rattle.formula_reader.specs.Tree.{letterCode, capped, conjunctions, has, Tree}

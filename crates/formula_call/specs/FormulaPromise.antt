@@ -8,7 +8,8 @@ use Rattle.logic.specs.Calls.{verdictCall}
 use Rattle.formula.specs.Grammar.{Formula}
 use Rattle.formula.specs.Expansion.{expand}
 use Rattle.formula.specs.Meaning.{AllPresent, restricted}
-use Rattle.formula.specs.Call.{Input, Outcome, encode, firstOf}
+use Rattle.encoding.specs.QueryBytes.{encode}
+use Rattle.formula.specs.Call.{Input, Outcome, firstOf}
 use Rattle.formula.specs.Call as formula
 use Rattle.formula_reader.specs.Tree.{Tree}
 use Rattle.formula_reader.specs.Marked.{fits, Picks}

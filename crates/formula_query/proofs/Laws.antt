@@ -20,7 +20,7 @@ use Rattle.query.proofs.Literals.{listed, listed-end, listed-next, listed-lengt
 use Rattle.formula.specs.Grammar.{Letter, E, R, D, B}
 use Rattle.formula.specs.Expansion.{Conjunction}
 use Rattle.formula.specs.Meaning.{names, chosen, restricted}
-use Rattle.formula.specs.Call.{literalBytes, flagBytes, sectionBytes, encode}
+use Rattle.encoding.specs.QueryBytes.{signByte, literalBytes, flagBytes, sectionBytes, encode}
 use Rattle.formula_reader.specs.Tree.{letterCode}
 use Rattle.formula_reader.specs.Marked.{marked}
 use Rattle.formula_query.specs.Kept.{mark}
@@ -116,10 +116,10 @@ put-none b bytes e = rw e refl
 pub put-some : (b : Bool) (bytes : List ℕ) → b ≡ true → bytes ≡ cond b bytes []
 put-some b bytes e = rw e refl
 
-pub literal-bytes : (bytes : List ℕ) (at i s : ℕ) → s ≡ cond (eqb (getD bytes (at + 3 * i) 0) 1) 1 0 → ((s ∷ []) ++ (getD bytes (at + 3 * i + 1) 0 ∷ [])) ++ (getD bytes (at + 3 * i + 2) 0 ∷ []) ≡ literalBytes (literalIn bytes at i)
+pub literal-bytes : (bytes : List ℕ) (at i s : ℕ) → s ≡ signByte (eqb (getD bytes (at + 3 * i) 0) 1) → ((s ∷ []) ++ (getD bytes (at + 3 * i + 1) 0 ∷ [])) ++ (getD bytes (at + 3 * i + 2) 0 ∷ []) ≡ literalBytes (literalIn bytes at i)
 literal-bytes bytes at i s e = unfold literalBytes in ap (λ (x : ℕ). x ∷ getD bytes (at + 3 * i + 1) 0 ∷ getD bytes (at + 3 * i + 2) 0 ∷ []) e
 
-pub flag-bytes : (bytes : List ℕ) (at i s : ℕ) → s ≡ cond (eqb (getD bytes (at + 2 * i) 0) 1) 1 0 → (s ∷ []) ++ (getD bytes (at + 2 * i + 1) 0 ∷ []) ≡ flagBytes (flagIn bytes at i)
+pub flag-bytes : (bytes : List ℕ) (at i s : ℕ) → s ≡ signByte (eqb (getD bytes (at + 2 * i) 0) 1) → (s ∷ []) ++ (getD bytes (at + 2 * i + 1) 0 ∷ []) ≡ flagBytes (flagIn bytes at i)
 flag-bytes bytes at i s e = unfold flagBytes in ap (λ (x : ℕ). x ∷ getD bytes (at + 2 * i + 1) 0 ∷ []) e
 
 -- The whole query
@@ -133,10 +133,10 @@ module _ (query : List ℕ) (marks : List Bool) (c : Conjunction) (same : (l : L
   section-same : (l : Letter) (code : ℕ) → code ≡ letterCode l → (ls : List Literal) → length ls ≤ 60 → chosen (mark marks code) 1 ls ≡ chosen (names c l) 1 ls
   section-same l code e ls h = same-chosen (mark marks code) (names c l) 1 ls (λ m k. ap (λ (x : ℕ). mark marks x m) e ∙ same l m (omega arith))
 
-  pub query-bytes : (n : ℕ) (es : List ℕ) (equal reach field boolean : List Literal) → n ≡ length es → decode query .entries ≡ es → decode query .equalities ≡ equal → decode query .reachability ≡ reach → decode query .fields ≡ field → decode query .booleans ≡ boolean → length equal ≤ 60 → length reach ≤ 60 → length field ≤ 60 → length boolean ≤ 60 → (((((n ∷ []) ++ es) ++ sectionBytes literalBytes (chosen (mark marks 0) 1 equal)) ++ sectionBytes literalBytes (chosen (mark marks 1) 1 reach)) ++ sectionBytes literalBytes (chosen (mark marks 2) 1 field)) ++ sectionBytes flagBytes (chosen (mark marks 3) 1 boolean) ≡ encode (restricted (decode query) c)
+  pub query-bytes : (n : ℕ) (es : List ℕ) (equal reach field boolean : List Literal) → n ≡ termCount (decode query) → decode query .entries ≡ es → decode query .equalities ≡ equal → decode query .reachability ≡ reach → decode query .fields ≡ field → decode query .booleans ≡ boolean → length equal ≤ 60 → length reach ≤ 60 → length field ≤ 60 → length boolean ≤ 60 → (((((n ∷ []) ++ es) ++ sectionBytes literalBytes (chosen (mark marks 0) 1 equal)) ++ sectionBytes literalBytes (chosen (mark marks 1) 1 reach)) ++ sectionBytes literalBytes (chosen (mark marks 2) 1 field)) ++ sectionBytes flagBytes (chosen (mark marks 3) 1 boolean) ≡ encode (restricted (decode query) c)
   query-bytes n es equal reach field boolean e₀ e₁ e₂ e₃ e₄ e₅ l₂ l₃ l₄ l₅ =
       simp append-assoc
-      (ap₂ (λ (x : List ℕ) (y : List ℕ). x ++ y) (ap₂ (λ (x : ℕ) (y : List ℕ). x ∷ y) (e₀ ∙ ap length (sym e₁)) (sym e₁))
+      (ap₂ (λ (x : List ℕ) (y : List ℕ). x ++ y) (ap₂ (λ (x : ℕ) (y : List ℕ). x ∷ y) e₀ (sym e₁))
       (ap₂ (λ (x : List ℕ) (y : List ℕ). x ++ y) (part E 0 (unfold letterCode in refl) literalBytes equal (decode query .equalities) e₂ l₂)
       (ap₂ (λ (x : List ℕ) (y : List ℕ). x ++ y) (part R 1 (unfold letterCode in refl) literalBytes reach (decode query .reachability) e₃ l₃)
       (ap₂ (λ (x : List ℕ) (y : List ℕ). x ++ y) (part D 2 (unfold letterCode in refl) literalBytes field (decode query .fields) e₄ l₄)
@@ -146,8 +146,8 @@ module _ (query : List ℕ) (marks : List Bool) (c : Conjunction) (same : (l : L
       part : (l : Letter) (code : ℕ) → code ≡ letterCode l → (bytes : Literal → List ℕ) (ls ms : List Literal) → ms ≡ ls → length ls ≤ 60 → sectionBytes bytes (chosen (mark marks code) 1 ls) ≡ sectionBytes bytes (chosen (names c l) 1 ms)
       part l code e bytes ls ms d h = ap (sectionBytes bytes) (section-same l code e ls h ∙ ap (chosen (names c l) 1) (sym d))
 
-      whole : (length (decode query .entries) ∷ decode query .entries) ++ (sectionBytes literalBytes (chosen (names c E) 1 (decode query .equalities)) ++ (sectionBytes literalBytes (chosen (names c R) 1 (decode query .reachability)) ++ (sectionBytes literalBytes (chosen (names c D) 1 (decode query .fields)) ++ sectionBytes flagBytes (chosen (names c B) 1 (decode query .booleans))))) ≡ encode (restricted (decode query) c)
-      whole = unfold encode restricted in refl
+      whole : (termCount (decode query) ∷ decode query .entries) ++ (sectionBytes literalBytes (chosen (names c E) 1 (decode query .equalities)) ++ (sectionBytes literalBytes (chosen (names c R) 1 (decode query .reachability)) ++ (sectionBytes literalBytes (chosen (names c D) 1 (decode query .fields)) ++ sectionBytes flagBytes (chosen (names c B) 1 (decode query .booleans))))) ≡ encode (restricted (decode query) c)
+      whole = unfold encode restricted termCount in refl
 
 pub take-bound : (n : ℕ) (xs : List ℕ) → length (take n xs) ≤ n
 take-bound zero xs = omega arith
@@ -164,12 +164,6 @@ module _ (layout : Layout) (query : List ℕ) (laid : LaysOut layout query) (mar
       number : layout .terms ≡ layout .terms + 1 - 1
       number = omega arith
 
-  counted-put : layout .terms ≡ length (take (layout .terms + 1 - 1) (drop 1 query))
-  counted-put = laid .term-count ∙ count ∙ ap length entries-put
-    where
-      count : termCount (decode query) ≡ length (decode query .entries)
-      count = unfold termCount in refl
-
   literals-count : (at count : ℕ) → at + 3 * count ≤ length query → count ≤ 60 → length (literals (take (3 * count) (drop at query))) ≤ 60
   literals-count at count h l = subst (λ (n : ℕ). n ≤ 60) (sym (ap length (literals-are query at count h) ∙ listed-length (literalIn query at) count)) l
 
@@ -178,5 +172,5 @@ module _ (layout : Layout) (query : List ℕ) (laid : LaysOut layout query) (mar
 
   pub whole-bytes : (((((layout .terms ∷ []) ++ take (layout .terms + 1 - 1) (drop 1 query)) ++ sectionBytes literalBytes (chosen (mark marks 0) 1 (literals (take (3 * layout .«equal_count») (drop (layout .«equal_at») query))))) ++ sectionBytes literalBytes (chosen (mark marks 1) 1 (literals (take (3 * layout .«reach_count») (drop (layout .«reach_at») query))))) ++ sectionBytes literalBytes (chosen (mark marks 2) 1 (literals (take (3 * layout .«field_count») (drop (layout .«field_at») query))))) ++ sectionBytes flagBytes (chosen (mark marks 3) 1 (flags (take (2 * layout .«boolean_count») (drop (layout .«boolean_at») query)))) ≡ encode (restricted (decode query) c)
   whole-bytes =
-      query-bytes query marks c same (layout .terms) _ _ _ _ _ counted-put entries-put (laid .equal-are) (laid .reach-are) (laid .field-are) (laid .boolean-are) (literals-count (layout .«equal_at») (layout .«equal_count») (laid .equal-fit) (laid .equal-within))
+      query-bytes query marks c same (layout .terms) _ _ _ _ _ (laid .term-count) entries-put (laid .equal-are) (laid .reach-are) (laid .field-are) (laid .boolean-are) (literals-count (layout .«equal_at») (layout .«equal_count») (laid .equal-fit) (laid .equal-within))
       (literals-count (layout .«reach_at») (layout .«reach_count») (laid .reach-fit) (laid .reach-within)) (literals-count (layout .«field_at») (layout .«field_count») (laid .field-fit) (laid .field-within)) (flags-count (layout .«boolean_at») (layout .«boolean_count») (laid .boolean-fit) (laid .boolean-within))

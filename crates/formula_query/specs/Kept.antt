@@ -9,7 +9,7 @@ use Rattle.text.specs.Text.{Writes}
 use Rattle.formula.specs.Grammar.{Letter}
 use Rattle.formula.specs.Expansion.{Conjunction}
 use Rattle.formula.specs.Meaning.{names, chosen, restricted}
-use Rattle.formula.specs.Call.{encode}
+use Rattle.encoding.specs.QueryBytes.{encode}
 use Rattle.formula_reader.specs.Marked.{marked}
 
 -- literal n of the section with this code is marked

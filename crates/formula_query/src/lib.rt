@@ -10,7 +10,7 @@ ghost use Rattle.logic.specs.Query.{literals, flags};
 ghost use Rattle.text.specs.Text.{Writes};
 ghost use Rattle.query.specs.LaysOut.{LaysOut, literalIn, flagIn};
 ghost use Rattle.formula.specs.Meaning.{chosen};
-ghost use Rattle.formula.specs.Call.{literalBytes, flagBytes, sectionBytes};
+ghost use Rattle.encoding.specs.QueryBytes.{signByte, literalBytes, flagBytes, sectionBytes};
 ghost use Rattle.formula_query.specs.Kept.{mark, Counted, PutsQuery};
 
 // Literal n of a section is marked.
@@ -46,7 +46,7 @@ fn count_marked(marks: &[bool; 256], code: usize, count: usize) -> usize
 
 // "Sign 1 is plain, 0 negated."
 fn sign_byte(b: u8) -> u8
-    ensures { λ r. ⌜ r ≡ cond (eqb b 1) 1 0 ⌝ }
+    ensures { λ r. ⌜ r ≡ signByte (eqb b 1) ⌝ }
 {
     if b == 1 {
         return 1;

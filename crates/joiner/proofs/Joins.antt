@@ -16,7 +16,8 @@ use Rattle.query.specs.Answers.{CheckedAs}
 use Rattle.query.specs.declared.Layout.{Layout}
 use Rattle.query.specs.declared.Checked.the-variants as checked
 use Rattle.joining.specs.Pairs.{pairsOf, isPairList}
-use Rattle.joining.specs.Joined.{joined, bytesOf, withinLimits}
+use Rattle.encoding.specs.QueryBytes.{encode, withinLimits}
+use Rattle.joining.specs.Joined.{joined}
 use Rattle.joining.specs.Call.{Outcome, written, blank, fitted, joinOf, joinCall}
 use Rattle.joining.specs.Call as call
 use Rattle.joiner.specs.Promise.{Does, Passing}
@@ -46,22 +47,22 @@ module _ (first second pairs : List ℕ) (f s : Layout) (pf : Passing f first) (
     unfolding joinOf fitted blank _and_
     limit-passed room bytes h e = rw (sym list-same ∙ listed, h) (record { answers = refl; leaves = e })
 
-    module _ (within : withinLimits (joined (decode first) (decode second) (pairsOf pairs)) ≡ true) (before after : List ℕ) (r : ℕ) (clean : before ≡ replicate (length before) 0) (w : Writes before 0 (bytesOf (joined (decode first) (decode second) (pairsOf pairs))) after r) where
-      size : r ≡ length (bytesOf (joined (decode first) (decode second) (pairsOf pairs)))
+    module _ (within : withinLimits (joined (decode first) (decode second) (pairsOf pairs)) ≡ true) (before after : List ℕ) (r : ℕ) (clean : before ≡ replicate (length before) 0) (w : Writes before 0 (encode (joined (decode first) (decode second) (pairsOf pairs))) after r) where
+      size : r ≡ length (encode (joined (decode first) (decode second) (pairsOf pairs)))
       size = w .ends ∙ omega arith
 
       pub too-short : (bytes : List ℕ) → length after < r → bytes ≡ replicate (length after) 0 → Does (joinOf (decode first) (decode second) pairs (length before)) (answer.Refused 24 0) bytes
       unfolding joinOf fitted blank _and_
       too-short bytes h e =
-          rw (sym list-same ∙ listed, within, lt-leb (length (bytesOf (joined (decode first) (decode second) (pairsOf pairs)))) (length before) (omega (arith, h, size, writes-length w)))
+          rw (sym list-same ∙ listed, within, lt-leb (length (encode (joined (decode first) (decode second) (pairsOf pairs)))) (length before) (omega (arith, h, size, writes-length w)))
           (record { answers = refl; leaves = e ∙ ap (λ (k : ℕ). replicate k 0) (writes-length w) })
 
       pub fits : r ≤ length after → Does (joinOf (decode first) (decode second) pairs (length before)) (answer.Written r) after
       unfolding joinOf fitted _and_
       fits h =
-          let low : length (bytesOf (joined (decode first) (decode second) (pairsOf pairs))) ≤ length before = omega (arith, h, size, writes-length w) in
-          let done = writes-blank (subst (λ (xs : List ℕ). Writes xs 0 (bytesOf (joined (decode first) (decode second) (pairsOf pairs))) after r) clean w) low in
-          rw (sym list-same ∙ listed, within, le-leb (length (bytesOf (joined (decode first) (decode second) (pairsOf pairs)))) (length before) low)
+          let low : length (encode (joined (decode first) (decode second) (pairsOf pairs))) ≤ length before = omega (arith, h, size, writes-length w) in
+          let done = writes-blank (subst (λ (xs : List ℕ). Writes xs 0 (encode (joined (decode first) (decode second) (pairsOf pairs))) after r) clean w) low in
+          rw (sym list-same ∙ listed, within, le-leb (length (encode (joined (decode first) (decode second) (pairsOf pairs)))) (length before) low)
           (record { answers = ap written (done .1); leaves = done .0 })
 
 -- The checks

@@ -20,7 +20,8 @@ use Rattle.query.specs.LaysOut.{literalIn, flagIn}
 use Rattle.query.proofs.Literals.{listed, listed-end, listed-next, listed-mem, listed-length, literals-are, flags-are}
 use Rattle.query.proofs.Loops.{drop-next}
 use Rattle.joining.specs.Pairs.{Pair, pairs, pairsOf, hasTerms}
-use Rattle.joining.specs.Joined.{raisedEntry, raised, pairLiteral, signByte, literalBytes, flagBytes}
+use Rattle.encoding.specs.QueryBytes.{signByte, literalBytes, flagBytes}
+use Rattle.joining.specs.Joined.{raisedEntry, raised, pairLiteral}
 use Rattle.joiner.specs.Bytes.{Small, SmallEntries, SmallPairs, pairOf}
 
 -- What is left of a list that is read by its places, as bytes

@@ -21,8 +21,10 @@ use Rattle.query.specs.LaysOut.{LaysOut}
 use Rattle.query.specs.declared.Layout.{Layout}
 use Rattle.query.proofs.Literals.{listed-length}
 use Rattle.joining.specs.Pairs.{Pair, pairsOf, hasTerms, isPairList}
-use Rattle.joining.specs.Joined.{raisedEntry, raised, pairLiteral, joined, literalBytes, flagBytes, sectionBytes, bytesOf, withinLimits}
-use Rattle.joining.proofs.Accepted.{Paired, pair-terms, count-joined, booleans-right}
+use Rattle.encoding.specs.QueryBytes.{literalBytes, flagBytes, sectionBytes, encode, withinLimits}
+use Rattle.joining.specs.Joined.{raisedEntry, raised, pairLiteral, joined}
+use Rattle.encoding.proofs.Decoded.{booleans-right}
+use Rattle.joining.proofs.Accepted.{Paired, pair-terms, count-joined}
 use Rattle.joiner.specs.Bytes.{Small, SmallEntries, SmallPairs, keepsLimits, Bounded}
 use Rattle.joiner.specs.Promise.{Passing}
 use Rattle.joiner.proofs.Laws.{pairIn, pairs-are, entries-long, literals-long}
@@ -364,8 +366,8 @@ module _ (first second pairs : List ℕ) (f s : Layout) (pf : Passing f first) (
         section-is flagBytes _ _ _ (whole .booleans) (sym boolean-sum)
         (ap (λ (zs : List Literal). zs ++ decode second .booleans) (pf .laid .boolean-are) ∙ ap (λ (zs : List Literal). flags (take (2 * f .«boolean_count») (drop (f .«boolean_at») first)) ++ zs) (ps .laid .boolean-are))
 
-    pub query-bytes : termBytes ++ (equalBytes ++ (pairBytes ++ (reachBytes ++ (fieldBytes ++ booleanBytes)))) ≡ bytesOf whole
-    unfolding bytesOf
+    pub query-bytes : termBytes ++ (equalBytes ++ (pairBytes ++ (reachBytes ++ (fieldBytes ++ booleanBytes)))) ≡ encode whole
+    unfolding encode
     query-bytes =
         ap (λ (zs : List ℕ). termBytes ++ zs) (sym (append-assoc equalBytes pairBytes (reachBytes ++ (fieldBytes ++ booleanBytes))))
         ∙ five terms-are equal-are reach-are field-are boolean-are

@@ -11,7 +11,8 @@ ghost use Rattle.logic.specs.Query.{termCount, literals, flags, decode};
 ghost use Rattle.query.specs.LaysOut.{LaysOut};
 ghost use Rattle.text.specs.Text.{Writes};
 ghost use Rattle.joining.specs.Pairs.{pairsOf, hasTerms, isPairList};
-ghost use Rattle.joining.specs.Joined.{raisedEntry, raised, pairLiteral, joined, signByte, literalBytes, flagBytes, sectionBytes, bytesOf, withinLimits};
+ghost use Rattle.encoding.specs.QueryBytes.{signByte, literalBytes, flagBytes, sectionBytes, encode, withinLimits};
+ghost use Rattle.joining.specs.Joined.{raisedEntry, raised, pairLiteral, joined};
 ghost use Rattle.joining.specs.Call.{joinOf, joinCall};
 ghost use Rattle.joining.specs.HandBack.{literalsIn, widthIn, startIn, placeIn, handBackOf, handBackCall, partOf};
 ghost use Rattle.joiner.specs.Bytes.{Small, SmallEntries, SmallPairs, pairOf, Bounded, keepsLimits};
@@ -213,7 +214,7 @@ fn put_query(
     out: &mut [u8],
 ) -> usize
     requires { ⌜ Passing f (now first) × Passing s (now second) × (isPairList (f .terms) (s .terms) (now pairs) ≡ true) × (withinLimits (joined (decode (now first)) (decode (now second)) (pairsOf (now pairs))) ≡ true) ⌝ }
-    ensures { λ r. ⌜ Writes (now (out .entry)) 0 (bytesOf (joined (decode (now (first .entry))) (decode (now (second .entry))) (pairsOf (now (pairs .entry))))) (now (out .exit)) r ⌝ }
+    ensures { λ r. ⌜ Writes (now (out .entry)) 0 (encode (joined (decode (now (first .entry))) (decode (now (second .entry))) (pairsOf (now (pairs .entry))))) (now (out .exit)) r ⌝ }
 {
     let n = f.terms;
     let m = s.terms;

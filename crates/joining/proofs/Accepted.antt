@@ -5,22 +5,23 @@ use native.Mathlib.Nat.{zero-add}
 use mathlib.Core.Path.{_≡_, refl, sym, ap, _∙_, subst}
 use mathlib.Core.Logic.{⊎-elim}
 use mathlib.Core.Bool.{true}
-use mathlib.Core.List.{List, [], _∷_, _++_, map, List·Memᴰ, List·Memᴰ·append-cases, List·Memᴰ·cases-cons, List·Memᴰ·not-nil}
+use mathlib.Core.List.{List, [], _∷_, _++_, map, List·Memᴰ, List·Memᴰ·append-cases}
 use lib.ListN.{length, length-append, length-map}
 use lib.Dec.{ltb, leb}
 use borrow.Author.Tests.{ltb-true, leb-true}
 use Rattle.logic.specs.Search.{_and_, all}
-use Rattle.logic.specs.Query.{Literal, Query, termCount, argumentOf, faulty, parts, Layout, flags, section, queryOf, decode, layoutOf}
+use Rattle.logic.specs.Query.{Literal, Query, termCount, argumentOf, decode}
 use Rattle.logic.specs.Calls.{accepts}
 use Rattle.logic.proofs.Basics.Search.{and-left, and-right, map-mem, all-true}
 use Rattle.logic.proofs.Basics.Compare.{le-cases}
 use Rattle.logic.proofs.Query.Tied.{Accepted, InTerms}
 use Rattle.logic.proofs.Query.AcceptedBytes.{accepted}
 use Rattle.joining.specs.Pairs.{Pair, pairsOf, hasTerms, isPairList}
-use Rattle.joining.specs.Joined.{raised, raisedEntry, pairLiteral, joined, withinLimits}
+use Rattle.joining.specs.Joined.{raised, raisedEntry, pairLiteral, joined}
 use Rattle.joining.specs.Claims.{Joinable}
 use Rattle.joining.proofs.Terms.{Among, first-among, second-among, whose}
-use Rattle.joining.proofs.Encoded.{Encodable}
+use Rattle.encoding.proofs.Encoded.{within-limits, Encodable}
+use Rattle.encoding.proofs.Decoded.{booleans-right}
 
 -- a pair names a term of either query
 abbrev pub Paired : Query → Query → Pair → Type 0
@@ -34,21 +35,6 @@ pair-terms n m p h =
       (ltb-true 0 (p .first) (and-left _ _ left), leb-true (p .first) n (and-right _ _ left)),
       (ltb-true 0 (p .second) (and-left _ _ right), leb-true (p .second) m (and-right _ _ right)),
     )
-
--- "flags" have nothing on the right
-flags-right : (bytes : List ℕ) (l : Literal) → List·Memᴰ l (flags bytes) → l .right ≡ 0
-unfolding flags
-flags-right [] l m = absurd (List·Memᴰ·not-nil m)
-flags-right (s ∷ []) l m = absurd (List·Memᴰ·not-nil m)
-flags-right (s ∷ a ∷ rest) l m = ⊎-elim (λ e. ap (λ (x : Literal). x .right) e) (flags-right rest l) (List·Memᴰ·cases-cons m)
-
-pub booleans-right : (bytes : List ℕ) (l : Literal) → List·Memᴰ l (decode bytes .booleans) → l .right ≡ 0
-unfolding decode queryOf
-booleans-right bytes l m = go (layoutOf bytes) m
-  where
-    go : (k : Layout) → List·Memᴰ l (queryOf k .booleans) → l .right ≡ 0
-    go (faulty k place) m = absurd (List·Memᴰ·not-nil m)
-    go (parts ps) m = flags-right (section ps 4) l m
 
 module _ (a b : Query) (ps : List Pair) (first : Accepted a) (second : Accepted b) (paired : (p : Pair) → List·Memᴰ p ps → Paired a b p) where
   pub count-joined : termCount (joined a b ps) ≡ termCount a + termCount b
@@ -139,8 +125,7 @@ module _ (first second pairs : List ℕ) (ok : Joinable first second pairs) wher
       pair-terms (termCount (decode first)) (termCount (decode second)) p (all-true (hasTerms (termCount (decode first)) (termCount (decode second))) p (and-right _ _ (ok .pairs-listed)) m)
 
   pub joined-small : termCount (joined (decode first) (decode second) (pairsOf pairs)) ≤ 16
-  unfolding withinLimits
-  joined-small = leb-true _ 16 (and-left _ _ (and-left _ _ (and-left _ _ (and-left _ _ (ok .within-limits)))))
+  joined-small = within-limits _ (ok .within-limits) .terms
 
   pub encodable : Encodable (joined (decode first) (decode second) (pairsOf pairs))
   unfolding joined

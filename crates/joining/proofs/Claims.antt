@@ -6,7 +6,7 @@ use Rattle.logic.proofs.Query.AcceptedBytes.{accepted}
 use Rattle.joining.specs.Pairs.{pairsOf}
 use Rattle.joining.specs.Joined.{joined}
 use Rattle.joining.specs.Claims.{Joinable, JoinClaims}
-use Rattle.joining.proofs.Encoded.{decoded, passed}
+use Rattle.encoding.proofs.Encoded.{decoded, passed}
 use Rattle.joining.proofs.Accepted.{all-paired, joined-small, encodable}
 use Rattle.joining.proofs.OneHeap.{joined-only, joined-if}
 

@@ -1,5 +1,4 @@
 -- The theorems, from the leaves up.
-pub mod Encoded
 pub mod Terms
 pub mod Accepted
 pub mod OneHeap

@@ -10,7 +10,8 @@ use Rattle.logic.specs.Query.{Query, termCount, decode}
 use Rattle.logic.specs.Calls.{queryChecks, refusalOf, padded}
 use Rattle.logic.specs.Calls as calls
 use Rattle.joining.specs.Pairs.{pairsOf, isPairList}
-use Rattle.joining.specs.Joined.{joined, bytesOf, withinLimits}
+use Rattle.encoding.specs.QueryBytes.{encode, withinLimits}
+use Rattle.joining.specs.Joined.{joined}
 
 -- The length of the query that is written, or a refusal's number and place. Refusals 2 to 8 have a place in one of two queries, so that
 -- the answer says in which.
@@ -44,7 +45,7 @@ blank room a = record { answer = a; lent = replicate room 0 }
 -- "24 a limit passed or output buffer too short". "Later calls that write a text or a query answer its length, with zeros past it." (01)
 unfoldable pub fitted : ℕ → Query → Outcome
 fitted room q =
-    let bytes : List ℕ = bytesOf q in
+    let bytes : List ℕ = encode q in
     cond (withinLimits q and leb (length bytes) room) (record { answer = written (length bytes); lent = padded room bytes })
     (blank room (refused 24 0))
 

@@ -11,7 +11,8 @@ use Rattle.logic.specs.Facts.{Facts, line, isClash}
 use Rattle.logic.specs.Heap.{Satisfiable}
 use Rattle.logic.specs.Calls.{Input, queryChecks, refusalOf, accepts}
 use Rattle.joining.specs.Pairs.{Pair, pairsOf, isPairList}
-use Rattle.joining.specs.Joined.{joined, pairLiteral, bytesOf, withinLimits}
+use Rattle.encoding.specs.QueryBytes.{encode, withinLimits}
+use Rattle.joining.specs.Joined.{joined, pairLiteral}
 use Rattle.joining.specs.Heaps.{OneHeap}
 use Rattle.joining.specs.HandBack.{Handed, inFirst, inSecond, firstRefused, secondRefused, refused, literalsIn, readIn, raisedIn, handBackCall}
 
@@ -24,9 +25,9 @@ pub record Joinable (first second pairs : List ℕ) : Type 0 where
 
 pub record JoinClaims (first second pairs : List ℕ) : Type 0 where
   -- what is written is accepted by every call: it passes checks 2 to 8
-  pub passes : (i : Input) → i .query ≡ bytesOf (joined (decode first) (decode second) (pairsOf pairs)) → refusalOf queryChecks i ≡ none
+  pub passes : (i : Input) → i .query ≡ encode (joined (decode first) (decode second) (pairsOf pairs)) → refusalOf queryChecks i ≡ none
   -- and says the joined query
-  pub says : decode (bytesOf (joined (decode first) (decode second) (pairsOf pairs))) ≡ joined (decode first) (decode second) (pairsOf pairs)
+  pub says : decode (encode (joined (decode first) (decode second) (pairsOf pairs))) ≡ joined (decode first) (decode second) (pairsOf pairs)
   -- "The result is satisfiable exactly if one heap meets both with the pairs, and all nil terms of both, equal."
   pub satisfiable-only : Satisfiable (joined (decode first) (decode second) (pairsOf pairs)) → OneHeap (decode first) (decode second) (pairsOf pairs)
   pub satisfiable-if : OneHeap (decode first) (decode second) (pairsOf pairs) → Satisfiable (joined (decode first) (decode second) (pairsOf pairs))

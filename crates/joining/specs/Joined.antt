@@ -1,10 +1,9 @@
--- The query that is written for two queries and a pair list, and its bytes (02, R-12).
+-- The query that is written for two queries and a pair list (02, R-12).
 use Prim.Native.Nat.{ℕ, _+_, _-_}
-use mathlib.Core.Bool.{Bool, true, false, cond}
-use mathlib.Core.List.{List, [], _∷_, _++_, map}
-use lib.ListN.{length}
-use lib.Dec.{eqb, leb}
-use Rattle.logic.specs.Search.{_and_, _or_, flatMap}
+use mathlib.Core.Bool.{true, cond}
+use mathlib.Core.List.{List, _++_, map}
+use lib.Dec.{eqb}
+use Rattle.logic.specs.Search.{_or_}
 use Rattle.logic.specs.Query.{Literal, Query, termCount}
 use Rattle.joining.specs.Pairs.{Pair}
 
@@ -32,32 +31,3 @@ joined a b ps =
       fields = a .fields ++ map (raised 0 n) (b .fields);
       booleans = a .booleans ++ b .booleans;
     }
-
--- "Sign 1 is plain, 0 negated." (01, "Query bytes")
-unfoldable pub signByte : Bool → ℕ
-signByte plain = cond plain 1 0
-
--- a literal of three bytes, and of two
-unfoldable pub literalBytes : Literal → List ℕ
-literalBytes l = signByte (l .plain) ∷ l .left ∷ l .right ∷ []
-
-unfoldable pub flagBytes : Literal → List ℕ
-flagBytes l = signByte (l .plain) ∷ l .left ∷ []
-
--- a section's literals "after a one-byte count"
-unfoldable pub sectionBytes : (Literal → List ℕ) → List Literal → List ℕ
-sectionBytes f ls = length ls ∷ flatMap f ls
-
--- "Five sections in this order, each after a one-byte count"
-unfoldable pub bytesOf : Query → List ℕ
-bytesOf q =
-    (termCount q ∷ q .entries)
-    ++ (sectionBytes literalBytes (q .equalities)
-    ++ (sectionBytes literalBytes (q .reachability)
-    ++ (sectionBytes literalBytes (q .fields) ++ sectionBytes flagBytes (q .booleans))))
-
--- the limits of the sections: 16 terms, 60 literals
-unfoldable pub withinLimits : Query → Bool
-withinLimits q =
-    leb (termCount q) 16 and leb (length (q .equalities)) 60 and leb (length (q .reachability)) 60 and leb (length (q .fields)) 60
-    and leb (length (q .booleans)) 60

@@ -10,7 +10,8 @@ use Rattle.logic.specs.Calls.{verdictCall}
 use Rattle.formula.specs.Grammar.{Formula}
 use Rattle.formula.specs.Expansion.{expand}
 use Rattle.formula.specs.Meaning.{restricted}
-use Rattle.formula.specs.Call.{encode, firstOf}
+use Rattle.encoding.specs.QueryBytes.{encode}
+use Rattle.formula.specs.Call.{firstOf}
 use Rattle.prover.specs.Promise.{Does}
 use Rattle.formula_call.specs.FormulaPromise.{formulaInput, Formulas}
 use Rattle.formula_call.proofs.FormulaLaws.{unsatisfiable-blank, turn-passed, turn-taken, turns-over, picks-at}

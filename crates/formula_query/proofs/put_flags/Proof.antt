@@ -7,7 +7,7 @@ use mathlib.Core.List.{List, [], _∷_, _++_}
 use lib.ListN.{length}
 use Rattle.query.specs.LaysOut.{flagIn}
 use Rattle.query.proofs.Literals.{flags-are}
-use Rattle.formula.specs.Call.{flagBytes}
+use Rattle.encoding.specs.QueryBytes.{flagBytes}
 use Rattle.formula_query.specs.Kept.{mark}
 use Rattle.text.proofs.Writing.{Part, part-from, part-more, part-all, part-length, writes-as, writes-then, writes-length}
 use Rattle.formula_query.proofs.Laws.{kept, kept-next, kept-end, section-kept, flag-size}

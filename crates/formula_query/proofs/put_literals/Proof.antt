@@ -7,7 +7,7 @@ use mathlib.Core.List.{List, [], _∷_, _++_}
 use lib.ListN.{length}
 use Rattle.query.specs.LaysOut.{literalIn}
 use Rattle.query.proofs.Literals.{literals-are}
-use Rattle.formula.specs.Call.{literalBytes}
+use Rattle.encoding.specs.QueryBytes.{literalBytes}
 use Rattle.formula_query.specs.Kept.{mark}
 use Rattle.text.proofs.Writing.{Part, part-from, part-more, part-all, part-length, writes-as, writes-then, writes-length}
 use Rattle.formula_query.proofs.Laws.{kept, kept-next, kept-end, section-kept, literal-size}

@@ -1,0 +1,4 @@
+-- The theorems, from the leaves up.
+pub mod Encoded
+pub mod Decoded
+pub mod Recovered

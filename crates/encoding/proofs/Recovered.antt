@@ -1,0 +1,113 @@
+-- Bytes that are accepted are those that are written for what they say: no two accepted queries say the same. Assumes nothing.
+use Prim.Native.Nat.{ℕ, zero, suc, _+_, _*_, _≤_, _<_}
+use native.Mathlib.Omega.{arith}
+use mathlib.Core.Path.{_≡_, refl, sym, ap, ap₂, _∙_, subst}
+use mathlib.Core.Bool.{Bool, true, false}
+use mathlib.Core.List.{List, [], _∷_, _++_, append-nil}
+use mathlib.Core.Option.{some}
+use lib.ListN.{length, take, drop, take-append-drop}
+use lib.Seq.{length-take-le}
+use lib.Dec.{eqb, leb}
+use borrow.Author.Tests.{ltb-true, leb-true, eqb-true, eqb-false}
+use Rattle.logic.specs.Search.{from, at, flatMap}
+use Rattle.logic.specs.Query.{termCount, Role, Section, signRole, termRole, numberRole, sections, Layout, faulty, parts, withPart, layout, firstByte, layoutOf, literals, flags, section, queryOf, decode}
+use Rattle.logic.specs.Calls.{accepts}
+use Rattle.logic.proofs.Query.Bytes.{Allows, Allowed, Part, cond-elim}
+use Rattle.encoding.specs.QueryBytes.{signByte, literalBytes, flagBytes, sectionBytes, encode}
+use Rattle.encoding.proofs.Decoded.{accepted-parts}
+
+-- a sign that is allowed reads back
+sign-allowed : (s : ℕ) → Allows signRole s → signByte (eqb s 1) ≡ s
+unfolding signRole signByte
+sign-allowed s h = go (eqb s 1) refl (ltb-true s 2 (h (omega arith, omega arith)))
+  where
+    go : (b : Bool) → eqb s 1 ≡ b → s < 2 → signByte b ≡ s
+    go true e l = sym (eqb-true s 1 e)
+    go false e l = zero-of (eqb-false s 1 e)
+      where
+        zero-of : (s ≡ 1 → ⊥) → 0 ≡ s
+        zero-of n = omega arith
+
+-- the bytes of a section's literals
+literals-written : (left right : Role) (c i : ℕ) (bytes : List ℕ) → length bytes ≡ c * 3 → Allowed (flatMap (λ j. signRole ∷ left ∷ right ∷ []) (from c i)) bytes → (flatMap literalBytes (literals bytes) ≡ bytes) × (length (literals bytes) ≡ c)
+unfolding flatMap from literals literalBytes
+literals-written left right zero i [] e h = (refl, refl)
+literals-written left right zero i (s ∷ bytes) e h = absurd (omega arith)
+literals-written left right (suc c) i [] e h = absurd (omega arith)
+literals-written left right (suc c) i (s ∷ []) e h = absurd (omega arith)
+literals-written left right (suc c) i (s ∷ a ∷ []) e h = absurd (omega arith)
+literals-written left right (suc c) i (s ∷ a ∷ b ∷ rest) e h =
+    let r = literals-written left right c (suc i) rest (omega arith) (h .1 .1 .1) in
+    (ap₂ (λ (x : ℕ) (ys : List ℕ). x ∷ a ∷ b ∷ ys) (sign-allowed s (h .0)) (r .0), ap suc (r .1))
+
+flags-written : (left : Role) (c i : ℕ) (bytes : List ℕ) → length bytes ≡ c * 2 → Allowed (flatMap (λ j. signRole ∷ left ∷ []) (from c i)) bytes → (flatMap flagBytes (flags bytes) ≡ bytes) × (length (flags bytes) ≡ c)
+unfolding flatMap from flags flagBytes
+flags-written left zero i [] e h = (refl, refl)
+flags-written left zero i (s ∷ bytes) e h = absurd (omega arith)
+flags-written left (suc c) i [] e h = absurd (omega arith)
+flags-written left (suc c) i (s ∷ []) e h = absurd (omega arith)
+flags-written left (suc c) i (s ∷ a ∷ rest) e h =
+    let r = flags-written left c (suc i) rest (omega arith) (h .1 .1) in
+    (ap₂ (λ (x : ℕ) (ys : List ℕ). x ∷ a ∷ ys) (sign-allowed s (h .0)) (r .0), ap suc (r .1))
+
+-- Bytes that are laid out: each section's count, then its part
+
+data Laid : List Section → List ℕ → List (List ℕ) → Type 0 where
+  none-left : Laid [] [] []
+  one-more : {s : Section} {ss : List Section} {rest : List ℕ} {ps : List (List ℕ)} (c : ℕ) (p : List ℕ) → length p ≡ c * s .width → Laid ss rest ps → Laid (s ∷ ss) (c ∷ (p ++ rest)) (p ∷ ps)
+
+faulty-parts : {k place : ℕ} {ps : List (List ℕ)} → faulty k place ≡ parts ps → ⊥
+faulty-parts e = let z : _≡_ {A = ℕ} 0 1 = cc in omega arith
+
+laid : (ss : List Section) (place : ℕ) (bytes : List ℕ) (ps : List (List ℕ)) → layout ss place bytes ≡ parts ps → Laid ss bytes ps
+unfolding layout withPart
+laid [] place [] ps e = let q : ps ≡ [] = cc in subst (Laid [] []) (sym q) none-left
+laid [] place (b ∷ bytes) ps e = absurd (faulty-parts e)
+laid (s ∷ ss) place [] ps e = absurd (faulty-parts e)
+laid (s ∷ ss) place (c ∷ more) ps e =
+    cond-elim Leads (leb c (s .limit)) (λ within. cond-elim Leads (leb size (length more)) (λ fits. split (leb-true size (length more) fits) (λ qs. laid ss (suc place + size) (drop size more) qs) (layout ss (suc place + size) (drop size more)) refl) (λ f e. absurd (faulty-parts e)))
+    (λ f e. absurd (faulty-parts e)) e
+  where
+    size : ℕ
+    size = c * s .width
+
+    Leads : Layout → Type 0
+    Leads l = l ≡ parts ps → Laid (s ∷ ss) (c ∷ more) ps
+
+    split : size ≤ length more → ((qs : List (List ℕ)) → layout ss (suc place + size) (drop size more) ≡ parts qs → Laid ss (drop size more) qs) → (l : Layout) → layout ss (suc place + size) (drop size more) ≡ l → Leads (withPart (take size more) l)
+    split fits behind (faulty k place′) r e = absurd (faulty-parts e)
+    split fits behind (parts qs) r e =
+        let q : ps ≡ take size more ∷ qs = cc in
+        subst (Laid (s ∷ ss) (c ∷ more)) (sym q)
+        (subst (λ (xs : List ℕ). Laid (s ∷ ss) (c ∷ xs) (take size more ∷ qs)) (take-append-drop size more) (one-more c (take size more) (length-take-le size more fits) (behind qs r)))
+
+-- one section behind the other
+piece : {c c′ : ℕ} {p p′ rest rest′ : List ℕ} → c ≡ c′ → p ≡ p′ → rest ≡ rest′ → c ∷ (p ++ rest) ≡ c′ ∷ (p′ ++ rest′)
+piece e f g = ap₂ (λ (x : ℕ) (xs : List ℕ). x ∷ xs) e (ap₂ (λ (x : List ℕ) (y : List ℕ). x ++ y) f g)
+
+-- the count of a section's literals, and their bytes
+literals-of : (left right : Role) (c : ℕ) (p : List ℕ) → length p ≡ c * 3 → Part (record { limit = 60; width = 3; roles = λ j. signRole ∷ left ∷ right ∷ [] }) p → (length (literals p) ≡ c) × (flatMap literalBytes (literals p) ≡ p)
+literals-of left right c p e part = let r = literals-written left right (part .count) 1 p (part .sized) (part .allowed) in (omega (arith, r .1, part .sized, e), r .0)
+
+flags-of : (left : Role) (c : ℕ) (p : List ℕ) → length p ≡ c * 2 → Part (record { limit = 60; width = 2; roles = λ j. signRole ∷ left ∷ [] }) p → (length (flags p) ≡ c) × (flatMap flagBytes (flags p) ≡ p)
+flags-of left c p e part = let r = flags-written left (part .count) 1 p (part .sized) (part .allowed) in (omega (arith, r .1, part .sized, e), r .0)
+
+module _ (n : ℕ) where
+  written : (bytes : List ℕ) (ps : List (List ℕ)) → Laid (sections n) bytes ps → ((i : ℕ) (s : Section) → at (sections n) (suc i) ≡ some s → Part s (section ps i)) → encode (queryOf (parts ps)) ≡ bytes
+  unfolding sections queryOf section encode sectionBytes termCount at
+  written bytes ps (one-more c₁ p₁ e₁ (one-more c₂ p₂ e₂ (one-more c₃ p₃ e₃ (one-more c₄ p₄ e₄ (one-more c₅ p₅ e₅ none-left))))) part =
+      let l₂ = literals-of (termRole n) (termRole n) c₂ p₂ e₂ (part 1 _ refl) in
+      let l₃ = literals-of (termRole n) (termRole n) c₃ p₃ e₃ (part 2 _ refl) in
+      let l₄ = literals-of numberRole (termRole n) c₄ p₄ e₄ (part 3 _ refl) in
+      let l₅ = flags-of numberRole c₅ p₅ e₅ (part 4 _ refl) in
+      piece {p = p₁} {p′ = p₁} (omega (arith, e₁)) refl (piece (l₂ .0) (l₂ .1) (piece (l₃ .0) (l₃ .1) (piece (l₄ .0) (l₄ .1) (ap₂ (λ (x : ℕ) (xs : List ℕ). x ∷ xs) (l₅ .0) (l₅ .1 ∙ sym (append-nil p₅))))))
+
+pub recovered : (bytes : List ℕ) → accepts bytes ≡ true → encode (decode bytes) ≡ bytes
+unfolding decode layoutOf
+recovered bytes h =
+    let p = accepted-parts bytes h in
+    ap (λ (l : Layout). encode (queryOf l)) (p .laid) ∙ written (firstByte bytes) bytes (p .found) (laid (sections (firstByte bytes)) 0 bytes (p .found) (p .laid)) (p .part)
+
+-- accepted queries that say the same are the same bytes
+pub one-encoding : (a b : List ℕ) → accepts a ≡ true → accepts b ≡ true → decode a ≡ decode b → a ≡ b
+one-encoding a b x y e = sym (recovered a x) ∙ ap encode e ∙ recovered b y

@@ -1,0 +1,37 @@
+-- The bytes of a query that a call writes or hands on (01, "Query bytes"): what `decode` reads back.
+use Prim.Native.Nat.{ℕ}
+use mathlib.Core.Bool.{Bool, cond}
+use mathlib.Core.List.{List, [], _∷_, _++_}
+use lib.ListN.{length}
+use lib.Dec.{leb}
+use Rattle.logic.specs.Search.{_and_, flatMap}
+use Rattle.logic.specs.Query.{Literal, Query, termCount}
+
+-- "Sign 1 is plain, 0 negated."
+unfoldable pub signByte : Bool → ℕ
+signByte plain = cond plain 1 0
+
+-- a literal of three bytes, and of two
+unfoldable pub literalBytes : Literal → List ℕ
+literalBytes l = signByte (l .plain) ∷ l .left ∷ l .right ∷ []
+
+unfoldable pub flagBytes : Literal → List ℕ
+flagBytes l = signByte (l .plain) ∷ l .left ∷ []
+
+-- a section's literals "after a one-byte count"
+unfoldable pub sectionBytes : (Literal → List ℕ) → List Literal → List ℕ
+sectionBytes f ls = length ls ∷ flatMap f ls
+
+-- "Five sections in this order, each after a one-byte count"
+unfoldable pub encode : Query → List ℕ
+encode q =
+    (termCount q ∷ q .entries)
+    ++ (sectionBytes literalBytes (q .equalities)
+    ++ (sectionBytes literalBytes (q .reachability)
+    ++ (sectionBytes literalBytes (q .fields) ++ sectionBytes flagBytes (q .booleans))))
+
+-- the limits of the sections: 16 terms, 60 literals
+unfoldable pub withinLimits : Query → Bool
+withinLimits q =
+    leb (termCount q) 16 and leb (length (q .equalities)) 60 and leb (length (q .reachability)) 60 and leb (length (q .fields)) 60
+    and leb (length (q .booleans)) 60
