@@ -1,5 +1,7 @@
 //! A second reading of request R-10: checks over six sections, and a plain search of small heaps. It shares no line with the proved code.
 
+#[cfg(feature = "library")]
+use crate::generate::{self, Random};
 use std::fmt::Write;
 use std::path::Path;
 use std::time::Instant;
@@ -258,6 +260,63 @@ pub fn slow() -> Vec<(&'static str, Vec<u8>)> {
     ]
 }
 
+/// A call does what was expected: its number, and every byte that was lent.
+fn agrees(expected: &Answer, number: u64, report: &[u8]) -> bool {
+    let blank = |bytes: &[u8]| bytes.iter().all(|&b| b == 0);
+    match expected {
+        Answer::Heap(bytes) => number == 0 && report[..bytes.len()] == bytes[..] && blank(&report[bytes.len()..]),
+        Answer::Nothing => number == 1 && blank(report),
+        Answer::Refused(k, place) => number == (k * 65536 + place) as u64 && blank(report),
+    }
+}
+
+/// A query of six sections of few literals, sometimes damaged.
+#[cfg(feature = "library")]
+fn query(random: &mut Random) -> Vec<u8> {
+    let n = random.between(0, 5) + usize::from(random.percent(5));
+    let mut bytes = vec![n as u8];
+    for t in 0..n {
+        bytes.push(if random.percent(10) { 255 } else { random.below(t + 1) as u8 });
+    }
+    for roles in &ROLES[1..] {
+        let count = if n == 0 && *roles != b"sn" { 0 } else { random.below(4) };
+        bytes.push(count as u8);
+        for role in roles.repeat(count) {
+            bytes.push(match role {
+                b's' => random.below(2) as u8,
+                b't' => random.between(1, n) as u8,
+                _ => random.between(1, 8) as u8,
+            });
+        }
+    }
+    if random.percent(20) {
+        generate::damage(random, &mut bytes);
+    }
+    bytes
+}
+
+/// A call beside the plain search, on random queries and rooms, with junk in the report: whether all agree.
+#[cfg(feature = "library")]
+pub fn differ(count: usize, seed: u64, call: &dyn Fn(&[u8], &mut [u8]) -> u64) -> bool {
+    let mut random = Random::new(seed);
+    let (mut wrong, mut heaps, mut refused) = (0, 0, 0);
+    for _ in 0..count {
+        let query = query(&mut random);
+        let room = [52, 53, 53, 53, 54, 60][random.below(6)];
+        let mut report: Vec<u8> = (0..room).map(|_| random.byte()).collect();
+        let expected = answer(&query, room);
+        let number = call(&query, &mut report);
+        heaps += usize::from(matches!(expected, Answer::Heap(_)));
+        refused += usize::from(matches!(expected, Answer::Refused(..)));
+        if !agrees(&expected, number, &report) {
+            wrong += 1;
+            println!("{query:?} {room}: {}, not {number} {report:?}", text(&expected));
+        }
+    }
+    println!("{count} queries, {heaps} heaps, {refused} refused, {wrong} differ");
+    wrong == 0
+}
+
 /// The best of three runs, in milliseconds.
 fn best(run: &mut dyn FnMut()) -> f64 {
     let mut least = f64::INFINITY;
@@ -281,13 +340,7 @@ pub fn time(others: &[(&str, &dyn Fn(&[u8], &mut [u8]) -> u64)]) -> bool {
         for (other, call) in others {
             let mut report = [0; 53];
             let number = call(&query, &mut report);
-            let same = match &expected {
-                Answer::Heap(bytes) => {
-                    number == 0 && report[..bytes.len()] == bytes[..] && report[bytes.len()..].iter().all(|&b| b == 0)
-                }
-                Answer::Nothing => number == 1 && report == [0; 53],
-                Answer::Refused(k, place) => number == (k * 65536 + place) as u64 && report == [0; 53],
-            };
+            let same = agrees(&expected, number, &report);
             let spent = best(&mut || {
                 std::hint::black_box(call(&query, &mut report));
             });

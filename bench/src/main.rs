@@ -36,6 +36,7 @@ differential N SEED           (feature library) compare library and reference on
 heapverdict                   be the program heapverdict
 between FILE                  compare the plain search of R-10 with its vectors
 between                       time it on slow queries (with feature library: the library too)
+between N SEED                (feature library) compare it with the library on N random queries
 shares RULESHARES DIR N       (feature library) time ruleshares on N queries of workload-programs, beside the calls";
 
 fn main() -> ExitCode {
@@ -84,6 +85,7 @@ fn run(words: &[&str]) -> Result<bool, String> {
         }
         ["between", file] => between::compare(Path::new(file)),
         ["between"] => Ok(between_time()),
+        ["between", count, seed] => between_differ(number(count)? as usize, number(seed)?),
         ["heapverdict"] => {
             let mut input = Vec::new();
             std::io::stdin().take(reference::INPUT_BYTES as u64).read_to_end(&mut input).map_err(|e| e.to_string())?;
@@ -112,6 +114,16 @@ fn between_time() -> bool {
 #[cfg(not(feature = "library"))]
 fn between_time() -> bool {
     between::time(&[])
+}
+
+#[cfg(feature = "library")]
+fn between_differ(count: usize, seed: u64) -> Result<bool, String> {
+    Ok(between::differ(count, seed, &library::between))
+}
+
+#[cfg(not(feature = "library"))]
+fn between_differ(_: usize, _: u64) -> Result<bool, String> {
+    Err("built without the feature library".into())
 }
 
 #[cfg(feature = "library")]
