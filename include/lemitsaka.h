@@ -69,6 +69,7 @@ extern "C" {
  *   18  a formula's 33rd parenthesis open at once (place in the text)
  *   19  a formula has more than 64 conjunctions
  *   20  a derivation to check is not 2 plus 4 times its count long, or its count is above 16,000
+ *   21  a query with between literals has more than five terms
  *   23  a pair list has the wrong length or count, or a term that its query lacks
  *   24  the joined query passes a limit, or the lent bytes are too few for it
  *   25  the line does not begin with 9, or names no literal of either query
@@ -153,6 +154,18 @@ uint64_t lemitsaka_formula(const uint8_t *order, size_t order_len,
  *   refused    2 to 8 of the query, then 20; at 0 */
 uint64_t lemitsaka_check(const uint8_t *query, size_t query_len,
                          const uint8_t *derivation, size_t derivation_len);
+
+/* Is there a heap that meets every literal of a small query, between literals too?
+ *
+ * A query of six sections, at most five terms: the five of a query, and a count of 0 to 60 and that many between literals, each a
+ * sign and three terms x, y, z: following links from x both y and z are met, and y after no more links than z. The report shows the
+ * first heap that meets them all, by node count, then successors, then nodes of terms.
+ *
+ *   LEMITSAKA_SATISFIABLE   there is one; the bytes past the report are zero
+ *   LEMITSAKA_REFUTED       there is none, of any size; the report is all zero
+ *   refused                 2 to 9 over six sections (4: bytes follow section 6; 7: sections 2 to 4 and 6), then 21 */
+uint64_t lemitsaka_between(const uint8_t *query, size_t query_len,
+                           uint8_t *report, size_t report_len);
 
 /* What do two teams say together?
  *

@@ -1,5 +1,7 @@
 //! A second reading of request R-10: checks over six sections, and a plain search of small heaps. It shares no line with the proved code.
 
+#[cfg(feature = "library")]
+use crate::generate::{self, Random};
 use std::fmt::Write;
 use std::path::Path;
 use std::time::Instant;
@@ -89,7 +91,9 @@ impl Search<'_> {
         let node = |b: u8| self.nodes[b as usize - 1];
         let due = |terms: &[u8]| terms.iter().copied().max() == Some(t as u8 + 1);
         let nil = |u: usize| self.entry(u) == 255;
-        if nil(t) && (self.links[self.nodes[t]] != self.nodes[t] || (0..t).any(|u| nil(u) && self.nodes[u] != self.nodes[t])) {
+        if nil(t)
+            && (self.links[self.nodes[t]] != self.nodes[t] || (0..t).any(|u| nil(u) && self.nodes[u] != self.nodes[t]))
+        {
             return false;
         }
         let count = |a: u8, b: u8| self.counts[node(a)][node(b)];
@@ -115,7 +119,11 @@ impl Search<'_> {
             return true;
         }
         let e = self.entry(t);
-        let options = if e == 0 || e == 255 { 0..self.links.len() } else { self.links[self.nodes[e - 1]]..self.links[self.nodes[e - 1]] + 1 };
+        let options = if e == 0 || e == 255 {
+            0..self.links.len()
+        } else {
+            self.links[self.nodes[e - 1]]..self.links[self.nodes[e - 1]] + 1
+        };
         for v in options {
             self.nodes.push(v);
             if self.holds(t) && self.choose() {
@@ -145,7 +153,18 @@ fn search(sections: &Sections<'_>) -> Option<Vec<u8>> {
                 }
                 let booleans = flags.iter().filter(|l| l[0] == 1).fold(0, |b, l| b | 1u8 << (l[1] - 1));
                 let numbers = |xs: &[usize]| xs.iter().map(|&x| x as u8 + 1).collect::<Vec<_>>();
-                return Some([vec![m as u8], numbers(&links), vec![n as u8], numbers(&s.nodes), vec![m as u8], data, vec![1, booleans]].concat());
+                return Some(
+                    [
+                        vec![m as u8],
+                        numbers(&links),
+                        vec![n as u8],
+                        numbers(&s.nodes),
+                        vec![m as u8],
+                        data,
+                        vec![1, booleans],
+                    ]
+                    .concat(),
+                );
             }
             let Some(i) = (0..m).rev().find(|&i| links[i] + 1 < m) else { break };
             links[i] += 1;
@@ -187,7 +206,10 @@ pub fn compare(path: &Path) -> Result<bool, String> {
     for line in lines.lines() {
         let (given, expected) = line.split_once(" = ").ok_or("no answer")?;
         let (hex, room) = given.split_once(' ').ok_or("no room")?;
-        let query: Vec<u8> = (0..hex.len() / 2).map(|i| u8::from_str_radix(&hex[2 * i..2 * i + 2], 16)).collect::<Result<_, _>>().map_err(|e| e.to_string())?;
+        let query: Vec<u8> = (0..hex.len() / 2)
+            .map(|i| u8::from_str_radix(&hex[2 * i..2 * i + 2], 16))
+            .collect::<Result<_, _>>()
+            .map_err(|e| e.to_string())?;
         let found = text(&answer(&query, room.parse().map_err(|_| "room")?));
         if found != expected {
             wrong += 1;
@@ -214,24 +236,117 @@ pub fn slow() -> Vec<(&'static str, Vec<u8>)> {
         ]
         .concat()
     };
-    let distinct = |last: Vec<Vec<u8>>| {
-        let pairs: Vec<Vec<u8>> = (1..=5).flat_map(|a| (a + 1..=5).map(move |b| vec![0, a, b])).collect();
+    let distinct = |true_ones: usize, last: Vec<Vec<u8>>| {
+        let mut pairs = vec![vec![1, 5, 5]; true_ones];
+        pairs.extend((1..=5).flat_map(|a| (a + 1..=5).map(move |b| vec![0, a, b])));
         let mut between = vec![vec![1, 5, 5, 5]; 60 - last.len()];
         between.extend(last);
-        [section(vec![vec![0]; 5]), section(pairs), section(vec![vec![1, 5, 5]; 60]), section(vec![]), section(vec![]), section(between)].concat()
+        [
+            section(vec![vec![0]; 5]),
+            section(pairs),
+            section(vec![vec![1, 5, 5]; 60]),
+            section(vec![]),
+            section(vec![]),
+            section(between),
+        ]
+        .concat()
     };
-    let ring = (1..=4).flat_map(|a| [vec![1, 5, a, a], vec![1, a, 5, 5]]).collect();
+    let ring: Vec<Vec<u8>> = (1..=4).flat_map(|a| [vec![1, 5, a, a], vec![1, a, 5, 5]]).collect();
     vec![
         ("none, the last literal fails", with(vec![0, 5, 5, 5])),
-        ("none, five apart", distinct(vec![vec![0, 5, 5, 5]])),
-        ("a ring of five, told by the last literals", distinct(ring)),
+        ("none, five apart", distinct(0, vec![vec![0, 5, 5, 5]])),
+        ("a ring of five, told by the last literals", distinct(0, ring.clone())),
+        ("the same, every section full", distinct(50, ring)),
     ]
 }
 
-pub fn time() {
-    for (name, query) in slow() {
-        let start = Instant::now();
-        let answer = answer(&query, 53);
-        println!("{name}: {}, {:.1} ms", text(&answer).split(' ').next().unwrap_or(""), start.elapsed().as_secs_f64() * 1000.0);
+/// A call does what was expected: its number, and every byte that was lent.
+fn agrees(expected: &Answer, number: u64, report: &[u8]) -> bool {
+    let blank = |bytes: &[u8]| bytes.iter().all(|&b| b == 0);
+    match expected {
+        Answer::Heap(bytes) => number == 0 && report[..bytes.len()] == bytes[..] && blank(&report[bytes.len()..]),
+        Answer::Nothing => number == 1 && blank(report),
+        Answer::Refused(k, place) => number == (k * 65536 + place) as u64 && blank(report),
     }
+}
+
+/// A query of six sections of few literals, sometimes damaged.
+#[cfg(feature = "library")]
+fn query(random: &mut Random) -> Vec<u8> {
+    let n = random.between(0, 5) + usize::from(random.percent(5));
+    let mut bytes = vec![n as u8];
+    for t in 0..n {
+        bytes.push(if random.percent(10) { 255 } else { random.below(t + 1) as u8 });
+    }
+    for roles in &ROLES[1..] {
+        let count = if n == 0 && *roles != b"sn" { 0 } else { random.below(4) };
+        bytes.push(count as u8);
+        for role in roles.repeat(count) {
+            bytes.push(match role {
+                b's' => random.below(2) as u8,
+                b't' => random.between(1, n) as u8,
+                _ => random.between(1, 8) as u8,
+            });
+        }
+    }
+    if random.percent(20) {
+        generate::damage(random, &mut bytes);
+    }
+    bytes
+}
+
+/// A call beside the plain search, on random queries and rooms, with junk in the report: whether all agree.
+#[cfg(feature = "library")]
+pub fn differ(count: usize, seed: u64, call: &dyn Fn(&[u8], &mut [u8]) -> u64) -> bool {
+    let mut random = Random::new(seed);
+    let (mut wrong, mut heaps, mut refused) = (0, 0, 0);
+    for _ in 0..count {
+        let query = query(&mut random);
+        let room = [52, 53, 53, 53, 54, 60][random.below(6)];
+        let mut report: Vec<u8> = (0..room).map(|_| random.byte()).collect();
+        let expected = answer(&query, room);
+        let number = call(&query, &mut report);
+        heaps += usize::from(matches!(expected, Answer::Heap(_)));
+        refused += usize::from(matches!(expected, Answer::Refused(..)));
+        if !agrees(&expected, number, &report) {
+            wrong += 1;
+            println!("{query:?} {room}: {}, not {number} {report:?}", text(&expected));
+        }
+    }
+    println!("{count} queries, {heaps} heaps, {refused} refused, {wrong} differ");
+    wrong == 0
+}
+
+/// The best of three runs, in milliseconds.
+fn best(run: &mut dyn FnMut()) -> f64 {
+    let mut least = f64::INFINITY;
+    for _ in 0..3 {
+        let start = Instant::now();
+        run();
+        least = least.min(start.elapsed().as_secs_f64() * 1000.0);
+    }
+    least
+}
+
+/// Each slow query by the plain search and by the others; whether all answer alike.
+pub fn time(others: &[(&str, &dyn Fn(&[u8], &mut [u8]) -> u64)]) -> bool {
+    let mut alike = true;
+    for (name, query) in slow() {
+        let expected = answer(&query, 53);
+        let plain = best(&mut || {
+            std::hint::black_box(answer(&query, 53));
+        });
+        println!("{name}: {}, plain {plain:.1} ms", text(&expected).split(' ').next().unwrap_or(""));
+        for (other, call) in others {
+            let mut report = [0; 53];
+            let number = call(&query, &mut report);
+            let same = agrees(&expected, number, &report);
+            let spent = best(&mut || {
+                std::hint::black_box(call(&query, &mut report));
+            });
+            println!("    {other} {spent:.1} ms{}", if same { "" } else { ", and another answer" });
+            alike &= same;
+        }
+    }
+    alike
 }

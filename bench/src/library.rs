@@ -1,6 +1,7 @@
 //! The proved library behind its C functions (../include/lemitsaka.h).
 
 extern "C" {
+    fn lemitsaka_between(query: *const u8, query_len: usize, report: *mut u8, report_len: usize) -> u64;
     fn lemitsaka_verdict(
         order: *const u8,
         order_len: usize,
@@ -44,4 +45,9 @@ pub fn derivation(order: &[u8], query: &[u8], buffer: &mut [u8]) -> u64 {
             buffer.len(),
         )
     }
+}
+
+pub fn between(query: &[u8], report: &mut [u8]) -> u64 {
+    // Sound: two live slices, the last one lent to this call alone.
+    unsafe { lemitsaka_between(query.as_ptr(), query.len(), report.as_mut_ptr(), report.len()) }
 }

@@ -41,7 +41,8 @@ climb DIR SECONDS SEED        (feature library) look for queries that are bad fo
 differential N SEED           (feature library) compare library and reference on N random inputs
 heapverdict                   be the program heapverdict
 between FILE                  compare the plain search of R-10 with its vectors
-between                       time it on slow queries
+between                       time it on slow queries (with feature library: the library too)
+between N SEED                (feature library) compare it with the library on N random queries
 derivations DIR               (feature library) time the checking call on 16,000 lines, beside a rule step of the workloads in DIR
 shares RULESHARES DIR N       (feature library) time ruleshares on N queries of workload-programs, beside the calls";
 
@@ -93,10 +94,8 @@ fn run(words: &[&str]) -> Result<bool, String> {
         }
         ["derivations", directory] => derivations(Path::new(directory)),
         ["between", file] => between::compare(Path::new(file)),
-        ["between"] => {
-            between::time();
-            Ok(true)
-        }
+        ["between"] => Ok(between_time()),
+        ["between", count, seed] => between_differ(number(count)? as usize, number(seed)?),
         ["heapverdict"] => {
             let mut input = Vec::new();
             std::io::stdin().take(reference::INPUT_BYTES as u64).read_to_end(&mut input).map_err(|e| e.to_string())?;
@@ -115,6 +114,26 @@ fn time(directory: &Path) -> Result<bool, String> {
 #[cfg(not(feature = "library"))]
 fn time(directory: &Path) -> Result<bool, String> {
     timing::run(directory, &[])
+}
+
+#[cfg(feature = "library")]
+fn between_time() -> bool {
+    between::time(&[("library", &library::between)])
+}
+
+#[cfg(not(feature = "library"))]
+fn between_time() -> bool {
+    between::time(&[])
+}
+
+#[cfg(feature = "library")]
+fn between_differ(count: usize, seed: u64) -> Result<bool, String> {
+    Ok(between::differ(count, seed, &library::between))
+}
+
+#[cfg(not(feature = "library"))]
+fn between_differ(_: usize, _: u64) -> Result<bool, String> {
+    Err("built without the feature library".into())
 }
 
 #[cfg(feature = "library")]

@@ -1,2 +1,2 @@
-pub mod Sections
-pub mod Laws
+pub mod Reporting
+pub mod Answering

@@ -19,15 +19,15 @@ unfoldable pub prepend : List (List ℕ) → Layout → Layout
 prepend [] l = l
 prepend (p ∷ ps) l = withPart p (prepend ps l)
 
-faulty-parts : {k place : ℕ} {ps : List (List ℕ)} → faulty k place ≡ parts ps → ⊥
+pub faulty-parts : {k place : ℕ} {ps : List (List ℕ)} → faulty k place ≡ parts ps → ⊥
 faulty-parts e = let z : _≡_ {A = ℕ} 0 1 = cc in omega arith
 
-withPart-parts : (p : List ℕ) (l : Layout) (ps : List (List ℕ)) → withPart p l ≡ parts ps → (qs : List (List ℕ)) × (l ≡ parts qs) × (ps ≡ p ∷ qs)
+pub withPart-parts : (p : List ℕ) (l : Layout) (ps : List (List ℕ)) → withPart p l ≡ parts ps → (qs : List (List ℕ)) × (l ≡ parts qs) × (ps ≡ p ∷ qs)
 unfolding withPart
 withPart-parts p (faulty k place) ps h = absurd (faulty-parts h)
 withPart-parts p (parts qs) ps h = (qs, refl, cc)
 
-cond-parts : (b : Bool) (l : Layout) (k place : ℕ) (ps : List (List ℕ)) → cond b l (faulty k place) ≡ parts ps → (b ≡ true) × (l ≡ parts ps)
+pub cond-parts : (b : Bool) (l : Layout) (k place : ℕ) (ps : List (List ℕ)) → cond b l (faulty k place) ≡ parts ps → (b ≡ true) × (l ≡ parts ps)
 cond-parts true l k place ps h = (refl, h)
 cond-parts false l k place ps h = absurd (faulty-parts h)
 
@@ -52,12 +52,12 @@ layout-append (s ∷ ss) ts place (c ∷ more) back ps h =
     (ap (withPart (take (c * s .width) more)) (ih ∙ ap (λ (p : ℕ). prepend (w .0) (layout ts p back)) at)
     ∙ ap (λ (xs : List (List ℕ)). prepend xs (layout ts (place + suc (length more)) back)) (sym (w .2)))
 
-prepend-parts : (ps qs : List (List ℕ)) → prepend ps (parts qs) ≡ parts (ps ++ qs)
+pub prepend-parts : (ps qs : List (List ℕ)) → prepend ps (parts qs) ≡ parts (ps ++ qs)
 unfolding prepend withPart
 prepend-parts [] qs = refl
 prepend-parts (p ∷ ps) qs = ap (withPart p) (prepend-parts ps qs)
 
-parts-length : (ss : List Section) (place : ℕ) (bytes : List ℕ) (ps : List (List ℕ)) → layout ss place bytes ≡ parts ps → length ps ≡ length ss
+pub parts-length : (ss : List Section) (place : ℕ) (bytes : List ℕ) (ps : List (List ℕ)) → layout ss place bytes ≡ parts ps → length ps ≡ length ss
 unfolding layout
 parts-length [] place [] ps h = let e : [] ≡ ps = cc in ap length (sym e)
 parts-length [] place (c ∷ more) ps h = absurd (faulty-parts h)

@@ -14,7 +14,7 @@ use Rattle.logic.specs.Search.{_and_, from, any, all, keep}
 use Rattle.logic.specs.Query.{Layout, parts, firstByte, faultIn, layoutOf, layoutFault, decode, termCount}
 use Rattle.logic.specs.Facts.{terms}
 use Rattle.logic.specs.Heap.{Heap, IsHeap, Meets, Satisfiable, value}
-use Rattle.logic.specs.Shown.{heapIn, nodeIn}
+use Rattle.logic.specs.Shown.{heapIn, nodeIn, wellFormed}
 use Rattle.logic.specs.Calls.{Input, Check, layoutCheck, byteCheck, roomCheck, queryChecks, verdictChecks, Answer, refused, satisfiable, refuted, Outcome, refusalOf, accepts, padded, blank, verdictCall}
 use Rattle.logic.specs.Demands.{NotRefused, NoneStands, FirstStands}
 use Rattle.logic.proofs.Basics.Search.{none-some, keep-none, map-intro, from-intro}
@@ -35,7 +35,7 @@ use Rattle.between_search.proofs.Due.{any-alike}
 use Rattle.between_search.proofs.Complete.{list-entry}
 use Rattle.between_search.proofs.Sound.{links-in, nodes-in, value-is, found-meets}
 use Rattle.between_search.proofs.Sizes.{FoundFirst, none-right, some-right, first-right, most-cases}
-use Rattle.between_search.proofs.Report.{shown-size, shown-link, shown-variable, shown-node, shown-is, shown-field, shown-boolean}
+use Rattle.between_search.proofs.Report.{shown-size, shown-link, shown-variable, shown-node, shown-is, shown-formed, shown-field, shown-boolean}
 use Rattle.between_search.proofs.Accepted.{accepted-six, terms-first}
 use Rattle.between_search.proofs.Layouts.{base-same, betweens-none}
 
@@ -161,6 +161,19 @@ module _ (query : List ℕ) (room : ℕ) (passed : refusalOf betweenChecks (give
     few-nodes : m ≤ 5
     few-nodes = ⊎-elim (λ z. omega (arith, f .within, z .1)) (λ l. omega (arith, f .within, l .1, few)) (most-cases (termCount (decodeSix query .base)))
 
+    pub formed : wellFormed lent ≡ true
+    formed =
+        shown-formed (decodeSix query) c room m size-is (f .some-node) (omega (arith, few-nodes)) (omega (arith, few))
+        (λ v r. subst (λ (x : ℕ). (1 ≤ x) × (x ≤ m)) (sym (link-is v)) (links-inside v r))
+        (λ t a b. subst (λ (x : ℕ). (1 ≤ x) × (x ≤ m)) (sym (node-is t)) (nodes-inside t a b))
+
+    -- the numbers of what is found are small
+    pub size-small : entry (c .links) 0 ≤ 5
+    size-small = omega (arith, size-is, few-nodes)
+
+    pub node-small : (t : ℕ) → 1 ≤ t → t ≤ n → entry (c .nodes) t ≤ 5
+    node-small t a b = let r = nodes-inside t a b in omega (arith, node-is t, r .1, few-nodes)
+
     linked : (v : ℕ) → (1 ≤ v) × (v ≤ m) → shown .link v ≡ entry (f .search .links) v
     linked v r = shown-link (decodeSix query) c room m size-is v r ∙ link-is v
 
@@ -260,6 +273,14 @@ heap-first query room h = go (done query room)
     go (is-heap c e f o) = subst (ShowsFirst (decodeSix query)) (sym (lent-of o)) (shows-first query room e c f)
     go (is-none e f o) = absurd (heap-none (sym h ∙ answer-of o ∙ blank-answer room refuted))
 
+report-formed : (query : List ℕ) (room : ℕ) → betweenCall query room .answer ≡ satisfiable → wellFormed (betweenCall query room .lent) ≡ true
+report-formed query room h = go (done query room)
+  where
+    go : Done query room → wellFormed (betweenCall query room .lent) ≡ true
+    go (is-refused a e o) = let r = refusal-is query room a e in absurd (refused-heap (sym h ∙ answer-of o ∙ blank-answer room a ∙ r .2))
+    go (is-heap c e f o) = subst (λ (bytes : List ℕ). wellFormed bytes ≡ true) (sym (lent-of o)) (formed query room e c f)
+    go (is-none e f o) = absurd (heap-none (sym h ∙ answer-of o ∙ blank-answer room refuted))
+
 none-blank : (query : List ℕ) (room : ℕ) → betweenCall query room .answer ≡ refuted → betweenCall query room .lent ≡ replicate room 0
 none-blank query room h = go (done query room)
   where
@@ -319,6 +340,7 @@ between-promised =
       refusal-blank = refusal-blank;
       heap-exactly = heap-exactly;
       heap-first = heap-first;
+      report-formed = report-formed;
       none-exactly = none-exactly;
       none-blank = none-blank;
       shares-verdict = shares-verdict;

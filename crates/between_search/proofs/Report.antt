@@ -12,12 +12,12 @@ use Rattle.logic.specs.Search.{_and_, from, any}
 use Rattle.logic.specs.Query.{Literal, termCount}
 use Rattle.logic.specs.Facts.{terms}
 use Rattle.logic.specs.Heap.{IsHeap}
-use Rattle.logic.specs.Shown.{byteOf, bitOf, booleanByte, sizeIn, heapIn, nodeIn}
+use Rattle.logic.specs.Shown.{byteOf, bitOf, booleanByte, sizeIn, heapIn, nodeIn, wellFormed}
 use Rattle.logic.specs.Calls.{padded}
 use Rattle.logic.proofs.Completeness.Placed.{length-from, getD-from}
 use Rattle.logic.proofs.Completeness.Byte.{byte-bit}
 use Rattle.logic.proofs.Completeness.ReportBytes.{Laid}
-use Rattle.logic.proofs.Completeness.ReportHeap.{heap-link, heap-field, heap-boolean, heap-listed, node-listed, is-heap}
+use Rattle.logic.proofs.Completeness.ReportHeap.{heap-link, heap-field, heap-boolean, heap-listed, node-listed, is-heap, is-formed}
 use Rattle.between.specs.Meaning.{BetweenQuery}
 use Rattle.between_search.specs.Search.{Found, entry, dataByte, reportOf}
 use Rattle.between_search.proofs.Due.{any-alike}
@@ -126,6 +126,15 @@ module _ (q : BetweenQuery) (c : Found) (room m : ℕ) (size : entry (c .links) 
 
   pub shown-is : 1 ≤ m → ((v : ℕ) → (1 ≤ v) × (v ≤ m) → (1 ≤ link v) × (link v ≤ m)) → ((t : ℕ) → 1 ≤ t → t ≤ n → (1 ≤ node t) × (node t ≤ m)) → IsHeap (heapIn shown)
   shown-is one links nodes = is-heap report-laid one (λ i h. links (suc i) (omega arith, h)) (λ i h. nodes (suc i) (omega arith) h)
+
+  pub shown-formed : 1 ≤ m → m ≤ 16 → n ≤ 16 → ((v : ℕ) → (1 ≤ v) × (v ≤ m) → (1 ≤ link v) × (link v ≤ m)) → ((t : ℕ) → 1 ≤ t → t ≤ n → (1 ≤ node t) × (node t ≤ m)) → wellFormed shown ≡ true
+  shown-formed one few-nodes few-terms links nodes =
+      is-formed report-laid one (λ i h. links (suc i) (omega arith, h)) (λ i h. nodes (suc i) (omega arith) h) few-nodes few-terms (zeros (room - length (reportOf q c)))
+    where
+      zeros : (k i : ℕ) → _≡_ {A = ℕ} (getD (replicate k 0) i 0) 0
+      zeros zero i = refl
+      zeros (suc k) zero = refl
+      zeros (suc k) (suc i) = zeros k i
 
   pub shown-field : (j v : ℕ) → (1 ≤ j) × (j ≤ 8) → (1 ≤ v) × (v ≤ m) → heapIn shown .field j v ≡ any (λ k. k .plain && eqb (k .left) j && eqb (node (k .right)) v) (q .base .fields)
   unfolding dataByte

@@ -2,13 +2,14 @@
 use Prim.Native.Nat.{ℕ, _≤_, _<_}
 use mathlib.Core.Path.{_≡_}
 use mathlib.Core.Logic.{_↔_}
+use mathlib.Core.Bool.{true}
 use mathlib.Core.List.{List, [], _∷_, _++_, map}
 use lib.ListN.{replicate}
 use Rattle.logic.specs.Search.{from}
 use Rattle.logic.specs.Query.{decode, termCount}
 use Rattle.logic.specs.Facts.{terms}
 use Rattle.logic.specs.Heap.{Heap, value}
-use Rattle.logic.specs.Shown.{heapIn, nodeIn}
+use Rattle.logic.specs.Shown.{heapIn, nodeIn, wellFormed}
 use Rattle.logic.specs.Calls.{Answer, Input, Outcome, verdictCall}
 use Rattle.logic.specs.Demands.{NotRefused, NoneStands, FirstStands}
 use Rattle.between.specs.Meaning.{BetweenQuery, MeetsBetween, SatisfiableBetween}
@@ -40,6 +41,7 @@ pub record BetweenPromised : Type 0 where
   -- a heap exactly where some finite heap of any size meets the query, and the one shown is the first
   pub heap-exactly : (query : List ℕ) (room : ℕ) → NotRefused (betweenCall query room .answer) → (betweenCall query room .answer ≡ Answer.satisfiable) ↔ SatisfiableBetween (decodeSix query)
   pub heap-first : (query : List ℕ) (room : ℕ) → betweenCall query room .answer ≡ Answer.satisfiable → ShowsFirst (decodeSix query) (betweenCall query room .lent)
+  pub report-formed : (query : List ℕ) (room : ℕ) → betweenCall query room .answer ≡ Answer.satisfiable → wellFormed (betweenCall query room .lent) ≡ true
   -- ""None", with an all-zero report, must mean no finite heap of any size"
   pub none-exactly : (query : List ℕ) (room : ℕ) → NotRefused (betweenCall query room .answer) → (betweenCall query room .answer ≡ Answer.refuted) ↔ (SatisfiableBetween (decodeSix query) → ⊥)
   pub none-blank : (query : List ℕ) (room : ℕ) → betweenCall query room .answer ≡ Answer.refuted → betweenCall query room .lent ≡ replicate room 0

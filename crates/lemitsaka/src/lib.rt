@@ -1,4 +1,5 @@
 // Every call, exported for C (include/lemitsaka.h). Each answers one number: below 65,536 the call's own answer, else a refusal.
+mod between_export;
 mod check_export;
 mod dot_export;
 mod formula_export;

@@ -328,7 +328,7 @@ pub fn clear(buffer: &mut [u8])
 }
 
 // One byte more.
-fn put(buffer: &mut [u8], at: usize, byte: u8) -> usize
+pub fn put(buffer: &mut [u8], at: usize, byte: u8) -> usize
     requires { ⌜ at < length (now buffer) ⌝ }
     ensures { λ r. ⌜ (r ≡ at + 1) × Appends (now (buffer .entry)) (now (buffer .exit)) at (byte ∷ []) ⌝ }
 {
@@ -419,7 +419,7 @@ fn row_byte(marks: &[u32; 17], v: usize) -> u8
 }
 
 // The data bytes, at the numbers to n.
-fn row_bytes(marks: &[u32; 17], n: usize) -> [u8; 17]
+pub fn row_bytes(marks: &[u32; 17], n: usize) -> [u8; 17]
     requires { ⌜ n ≤ 16 ⌝ }
     ensures { λ r. ⌜ ((v : ℕ) → v ≤ n → getD r v 0 ≡ byteOf (square (now (marks .entry)) v) 1 8) ⌝ }
 {
@@ -451,7 +451,7 @@ fn data_bytes(query: &[u8], at: usize, count: usize, rep: [Term; 17], n: usize) 
 }
 
 // "one byte of booleans, set likewise"
-fn boolean_byte(query: &[u8], at: usize, count: usize) -> u8
+pub fn boolean_byte(query: &[u8], at: usize, count: usize) -> u8
     requires { ⌜ (at + 2 * count ≤ length (now query)) × FlagsIn (now query) at count ⌝ }
     ensures { λ r. ⌜ r ≡ byteOf (booleanHeld (flagsAt (now (query .entry)) at count)) 1 8 ⌝ }
 {
@@ -478,7 +478,7 @@ fn put_node_section(
 }
 
 // A section of one byte for each term: their count, and the bytes.
-fn put_term_section(buffer: &mut [u8], at: usize, n: usize, bytes: &[u8; 17]) -> usize
+pub fn put_term_section(buffer: &mut [u8], at: usize, n: usize, bytes: &[u8; 17]) -> usize
     requires { ⌜ (n ≤ 16) × (at + 1 + n ≤ length (now buffer)) ⌝ }
     ensures { λ r. ⌜ (r ≡ at + 1 + n) × Appends (now (buffer .entry)) (now (buffer .exit)) at (n ∷ map (λ t. getD (now (bytes .entry)) t 0) (terms n)) ⌝ }
 {

@@ -1,0 +1,78 @@
+-- The report's bytes are those of the heap that was found.
+use Prim.Native.Nat.{ℕ, _+_, _≤_, _<_}
+use native.Mathlib.Omega.{arith}
+use mathlib.Core.Path.{_≡_, refl, sym, ap, ap₂, _∙_}
+use mathlib.Core.Bool.{Bool, true, false, _&&_}
+use mathlib.Core.List.{List, [], _∷_, _++_, map, List·Memᴰ, List·Memᴰ·head, List·Memᴰ·tail}
+use lib.ListN.{length, getD}
+use lib.Dec.{eqb}
+use Rattle.logic.specs.Search.{_and_, from, any}
+use Rattle.logic.specs.Query.{Literal, decode, termCount}
+use Rattle.logic.specs.Facts.{terms}
+use Rattle.logic.specs.Shown.{byteOf, booleanByte}
+use Rattle.logic.proofs.Basics.Search.{from-mem}
+use Rattle.logic.proofs.Completeness.Placed.{length-from}
+use Rattle.facts.specs.Square.{square}
+use Rattle.query.specs.declared.Layout.{Layout}
+use Rattle.query.proofs.Literals.{listed, fields-listed, booleans-listed}
+use Rattle.query.proofs.Ranges.{field-number-term, boolean-number}
+use Rattle.report.specs.Bytes.{fieldHeld, booleanHeld, literalsAt, flagsAt, FieldsIn, FlagsIn, sections}
+use Rattle.report.proofs.Held.{byte-alike}
+use Rattle.between_search.specs.Search.{Found, entry, dataByte, reportOf}
+use Rattle.between_search.proofs.Due.{any-alike}
+use Rattle.between_seek.specs.Answers.{queryIn}
+use Rattle.between_call.specs.Promise.{Reportable}
+
+pub node-in : (nodes : List ℕ) (t u : ℕ) → t ≡ u → getD nodes t 0 ≡ entry nodes u
+unfolding entry
+node-in nodes t u e = ap (λ (x : ℕ). getD nodes x 0) e
+
+-- the tests of a data literal, in the report's words and in the search's
+and-are : (a b c : Bool) → a and b and c ≡ (a && b && c)
+unfolding _and_
+and-are true true c = refl
+and-are true false c = refl
+and-are false b c = refl
+
+map-alike : (f g : ℕ → ℕ) (xs : List ℕ) → ((x : ℕ) → List·Memᴰ x xs → f x ≡ g x) → map f xs ≡ map g xs
+map-alike f g [] h = refl
+map-alike f g (x ∷ xs) h = ap₂ (λ (y : ℕ) (ys : List ℕ). y ∷ ys) (h x (List·Memᴰ·head refl)) (map-alike f g xs (λ y m. h y (List·Memᴰ·tail m)))
+
+pub terms-length : (m : ℕ) → length (terms m) ≡ m
+unfolding terms
+terms-length m = length-from m 1
+
+module _ (l : Layout) (base links nodes : List ℕ) (ready : Reportable l base links nodes) where
+  -- what the parts ask
+  pub fields-in : FieldsIn base (l .«field_at») (l .«field_count») (entry nodes)
+  fields-in i h =
+      let r = field-number-term l base (ready .laid) (ready .passes) i h in
+      let v = ready .few-nodes _ (r .1 .0) (r .1 .1) in
+      (r .0 .1, omega (arith, r .1 .1, ready .laid .terms-within), omega (arith, v))
+
+  pub flags-in : FlagsIn base (l .«boolean_at») (l .«boolean_count»)
+  flags-in i h = boolean-number l base (ready .laid) (ready .passes) i h .1
+
+  pub few-successors : getD links 0 0 ≤ 5
+  unfolding entry
+  few-successors = ready .few-links
+
+  module _ (marks fields : List ℕ) (booleans m : ℕ) (counted : m ≡ getD links 0 0) (held : (v j : ℕ) → v ≤ 16 → j ≤ 16 → square marks v j ≡ fieldHeld (entry nodes) (literalsAt base (l .«field_at») (l .«field_count»)) v j) (rows : (v : ℕ) → v ≤ m → getD fields v 0 ≡ byteOf (square marks v) 1 8) (flagged : booleans ≡ byteOf (booleanHeld (flagsAt base (l .«boolean_at») (l .«boolean_count»))) 1 8) where
+    datum : (v : ℕ) → List·Memᴰ v (terms m) → getD fields v 0 ≡ dataByte (decode base .fields) (entry nodes) v
+    unfolding terms dataByte fieldHeld literalsAt listed
+    datum v h =
+        let r = from-mem m 1 v h in
+        let small : v ≤ 16 = omega (arith, r .1, few-successors, counted) in
+        rows v (omega (arith, r .1))
+        ∙ byte-alike (square marks v) _ 1 8 (λ j a b. held v j small (omega arith))
+        ∙ ap (λ (ls : List Literal). byteOf (fieldHeld (entry nodes) ls v) 1 8) (sym (fields-listed l base (ready .laid)))
+        ∙ byte-alike _ _ 1 8 (λ j a b. any-alike _ _ (decode base .fields) (λ k i. and-are (k .plain) (eqb (k .left) j) (eqb (entry nodes (k .right)) v)))
+
+    flag : booleans ≡ booleanByte (decode base)
+    unfolding booleanByte booleanHeld flagsAt listed
+    flag = flagged ∙ ap (λ (ls : List Literal). byteOf (booleanHeld ls) 1 8) (sym (booleans-listed l base (ready .laid)))
+
+    pub report-is : (between : List ℕ) → sections (l .terms) (terms m) (λ t. getD links t 0) (λ t. getD nodes t 0) (λ t. getD fields t 0) booleans ≡ reportOf (queryIn base between) (record { links = links; nodes = nodes })
+    unfolding reportOf entry
+    report-is between =
+        rw (terms-length m, map-alike _ _ (terms m) datum, flag, ready .laid .term-count, counted)

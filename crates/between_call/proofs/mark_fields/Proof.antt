@@ -1,0 +1,72 @@
+-- The marks so far and the literals left make the whole. Assumes nothing.
+use Prim.Native.Nat.{_-_, _≤_}
+use native.Mathlib.Omega.{arith}
+use borrow.Author.Needs.{needs}
+use borrow.Author.Tests.{not-true, not-false}
+use mathlib.Core.Path.{_≡_, sym, ap, _∙_}
+use lib.ListN.{length, getD, length-set}
+use Rattle.query.specs.LaysOut.{literalIn}
+use Rattle.query.proofs.Literals.{listed}
+use Rattle.report.specs.Bytes.{literalsAt}
+use Rattle.report.proofs.Held.{FieldMarks, fields-none, fields-skip, fields-here, fields-all}
+use Rattle.between_search.specs.Search.{entry}
+use Rattle.between_call.proofs.Reporting.{node-in}
+use Rattle.between_call.proofs.mark_fields.Statement.{statement}
+use Rattle.between_call.proofs.mark_fields.Tie as tie
+
+abbrev Inv-loop : tie.InvT-loop
+Inv-loop query at count nodes marks₀ i₀ marks i = (length marks ≡ 17) × FieldMarks (entry nodes) (literalIn query at) count i marks
+
+abbrev μ-loop : tie.MeasureT-loop
+μ-loop query at count nodes marks₀ i₀ marks i = count - i
+
+returns : tie.Need-returns Inv-loop μ-loop
+unfolding literalsAt listed
+-- returns
+returns c = fields-all _ _ _ _ _ (omega arith) (c .before .loop .inv .1)
+
+pub mark-fields-spec : {M : Type 1} → statement M
+mark-fields-spec =
+    tie.close
+    (tie.spec
+    Inv-loop
+    μ-loop
+    -- loop-holds
+    (λ c. (search needs, fields-none _ _ _))
+    -- sign-requires
+    (λ c κs. omega arith)
+    -- add-i
+    (λ c. omega arith)
+    -- loop-less
+    (λ c. omega arith)
+    -- loop-again
+    (λ c. (c .before .before .before .loop .inv .0, fields-skip _ _ _ _ _ (omega arith) (sym (c .before .sign .ensures) ∙ not-true _ (c .if1 .taken)) (c .before .before .before .loop .inv .1)))
+    -- field-requires
+    (λ c κs. omega arith)
+    -- right-requires
+    (λ c κs. omega arith)
+    -- element-copy-out-v
+    (λ c. let r = c .before .before .before .before .before .before .before .pre .1 (c .before .before .before .before .before .loop .i) (omega arith) in omega (arith, c .right .ensures))
+    -- cast-v
+    (λ c. let r = c .before .before .before .before .before .before .before .before .pre .1 (c .before .before .before .before .before .before .loop .i) (omega arith) in let e = node-in (c .before .before .before .before .before .before .before .before .args .nodes .now) _ _ (c .before .right .ensures) in omega arith)
+    -- mul-marks
+    (λ c. let r = c .before .before .before .before .before .before .before .before .pre .1 (c .before .before .before .before .before .before .loop .i) (omega arith) in let e = node-in (c .before .before .before .before .before .before .before .before .args .nodes .now) _ _ (c .before .right .ensures) in omega arith)
+    -- array-read-marks
+    (λ c. let r = c .before .before .before .before .before .before .before .before .pre .1 (c .before .before .before .before .before .before .loop .i) (omega arith) in let e = node-in (c .before .before .before .before .before .before .before .before .args .nodes .now) _ _ (c .before .right .ensures) in omega arith)
+    -- only-requires
+    (λ c κs. let r = c .before .before .before .before .before .before .before .before .pre .1 (c .before .before .before .before .before .before .loop .i) (omega arith) in omega (arith, c .before .before .field .ensures))
+    -- mul-marks-2
+    (λ c. let r = c .before .before .before .before .before .before .before .before .before .pre .1 (c .before .before .before .before .before .before .before .loop .i) (omega arith) in let e = node-in (c .before .before .before .before .before .before .before .before .before .args .nodes .now) _ _ (c .before .before .right .ensures) in omega arith)
+    -- array-write-marks
+    (λ c. let r = c .before .before .before .before .before .before .before .before .before .pre .1 (c .before .before .before .before .before .before .before .loop .i) (omega arith) in let e = node-in (c .before .before .before .before .before .before .before .before .before .args .nodes .now) _ _ (c .before .before .right .ensures) in omega arith)
+    -- add-i-2
+    (λ c. omega arith)
+    -- loop-less-2
+    (λ c. omega arith)
+    -- loop-again-2
+    (λ c.
+    let l = c .before .before .before .before .before .before .before .loop in let r = c .before .before .before .before .before .before .before .before .before .pre .1 (l .i) (omega arith) in let e = node-in (c .before .before .before .before .before .before .before .before .before .args .nodes .now) _ _ (c .before .before .right .ensures) in (
+      simp length-set (l .inv .0),
+      fields-here _ _ _ (l .i) (l .marks) (l .inv .0) (omega arith) (sym (c .before .before .before .before .before .sign .ensures) ∙ not-false _ (c .before .before .before .before .if1 .left)) _ _ _ (omega arith) (omega (arith, c .before .before .before .field .ensures)) (c .only .ensures) e (c .before .before .before .field .ensures) (l .inv .1),
+    ))
+    returns)

@@ -1,0 +1,37 @@
+-- Each section behind the one before, into zeros. Assumes nothing.
+use native.Mathlib.Omega.{arith}
+use borrow.Author.Needs.{needs}
+use mathlib.Core.Path.{sym}
+use lib.ListN.{getD}
+use Rattle.logic.specs.Facts.{terms}
+use Rattle.report.proofs.Report.{sections-written}
+use Rattle.between_call.proofs.Reporting.{terms-length}
+use Rattle.between_call.proofs.write_sections.Statement.{statement}
+use Rattle.between_call.proofs.write_sections.Tie as tie
+
+pub write-sections-spec : {M : Type 1} → statement M
+write-sections-spec =
+    tie.close
+    (tie.spec
+    -- clear-requires
+    (λ c κs. search needs)
+    -- put-term-section-requires
+    (λ c κs. search needs)
+    -- put-term-section-requires-2
+    (λ c κs. search needs)
+    -- put-term-section-requires-3
+    (λ c κs. search needs)
+    -- put-requires
+    (λ c κs. search needs)
+    -- put-requires-2
+    (λ c κs. search needs)
+    -- same-length
+    (λ c. search needs)
+    -- returns
+    (λ c.
+    let a = c .before .before .before .before .before .before .before .before .before .before .before .before .before .before .before .before .before .before .before .before .before .before .before .before .before .args in
+    sections-written _ (c .before .before .before .before .before .before .before .before .before .before .before .before .before .before .before .before .before .before .before .before .before .before .clear .last .0) (c .before .before .before .before .before .before .before .before .before .before .before .before .before .before .before .before .before .before .put-term-section .last .0) (c .before .before .before .before .before .before .before .before .before .before .before .before .before .before .put-term-section2 .last .0) (c .before .before .before .before .before .before .before .before .before .before .put-term-section3 .last .0) (c .before .before .before .before .before .before .put .last .0) (c .before .before .put2 .last .0)
+    _ _ (terms (a .m)) (λ t. getD (a .links .now) t 0) (λ t. getD (a .nodes .now) t 0) (λ t. getD (a .fields .now) t 0) _ _ _ _ _
+    (sym (terms-length (a .m))) (c .before .before .before .before .before .before .before .before .before .before .before .before .before .before .before .before .before .before .before .before .before .before .clear .ensures)
+    (c .before .before .before .before .before .before .before .before .before .before .before .before .before .before .before .before .before .before .put-term-section .kept .0) (c .before .before .before .before .before .before .before .before .before .before .before .before .before .before .put-term-section2 .kept .0) (c .before .before .before .before .before .before .before .before .before .before .put-term-section3 .kept .0) (c .before .before .before .before .before .before .put .kept .0)
+    (c .before .before .before .before .before .before .before .before .before .before .before .before .before .before .before .before .before .before .put-term-section .ensures) (c .before .before .before .before .before .before .before .before .before .before .before .before .before .before .put-term-section2 .ensures) (c .before .before .before .before .before .before .before .before .before .before .put-term-section3 .ensures) (c .before .before .before .before .before .before .put .ensures) (c .before .before .put2 .ensures .1)))

@@ -1,0 +1,26 @@
+-- A variable names any node. Assumes nothing.
+use Prim.Native.Nat.{ℕ, _+_, _-_, _*_, _≤_, _<_}
+use native.Mathlib.Omega.{arith}
+use borrow.Author.Needs.{needs}
+use borrow.Author.Tests.{not-true, not-false}
+use mathlib.Core.Path.{_≡_, refl, sym, ap, ap₂, _∙_, subst}
+use mathlib.Core.Bool.{Bool, true, false, not, _&&_}
+use Rattle.between_search.specs.Search.{entry}
+use Rattle.between_seek.proofs.lowest.Statement.{statement}
+use Rattle.between_seek.proofs.lowest.Tie as tie
+use Rattle.between_seek.proofs.Laws.{lowest-any, lowest-link}
+
+pub lowest-spec : {M : Type 1} → statement M
+lowest-spec =
+    tie.close
+    (tie.spec
+    -- argument-requires
+    (λ c κs. (c .before .before .pre .0 .laid, c .before .before .pre .3, c .before .before .pre .4))
+    -- returns
+    (λ c. (lowest-any _ _ _ _ (sym (c .before .before .argument .ensures) ∙ c .if1 .taken), omega arith))
+    -- node-of-requires
+    (λ c κs. let b = c .before .before .before .before .before .pre .0 .below _ (c .before .before .before .before .before .pre .3) (c .before .before .before .before .before .pre .4) in omega (arith, b, c .before .before .argument .ensures, c .before .before .before .before .before .pre .4, c .before .before .before .before .before .pre .0 .few))
+    -- link-of-requires
+    (λ c κs. let s = c .before .before .before .before .before .before .pre .2 (c .before .before .before .argument .result .0) in omega (arith, s, c .node-of .ensures))
+    -- returns-2
+    (λ c. (lowest-link _ _ _ _ _ _ _ (c .before .before .before .before .argument .ensures) (c .before .before .if1 .left) (c .before .node-of .ensures) (c .link-of .ensures), let s = c .before .before .before .before .before .before .before .pre .1 (c .before .node-of .result .0) in omega (arith, s, c .link-of .ensures))))

@@ -1,0 +1,20 @@
+-- One node where there is no term. Assumes nothing.
+use Prim.Native.Nat.{ℕ, _+_, _-_, _*_, _≤_, _<_}
+use native.Mathlib.Omega.{arith}
+use borrow.Author.Needs.{needs}
+use borrow.Author.Tests.{not-true, not-false}
+use mathlib.Core.Path.{_≡_, refl, sym, ap, ap₂, _∙_, subst}
+use mathlib.Core.Bool.{Bool, true, false, not, _&&_}
+use Rattle.between_search.specs.Search.{entry}
+use Rattle.between_seek.proofs.most_nodes.Statement.{statement}
+use Rattle.between_seek.proofs.most_nodes.Tie as tie
+use Rattle.between_seek.proofs.Laws.{most-one, most-all}
+
+pub most-nodes-spec : {M : Type 1} → statement M
+most-nodes-spec =
+    tie.close
+    (tie.spec
+    -- returns
+    (λ c. most-one _ (c .if1 .taken))
+    -- returns-2
+    (λ c. most-all _ (c .if1 .left)))

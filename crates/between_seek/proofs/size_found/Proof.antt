@@ -1,0 +1,24 @@
+-- Where there is none numbered as first named, there is none. Assumes nothing.
+use Prim.Native.Nat.{ℕ, _+_, _-_, _*_, _≤_, _<_}
+use native.Mathlib.Omega.{arith}
+use borrow.Author.Needs.{needs}
+use borrow.Author.Tests.{not-true, not-false}
+use mathlib.Core.Path.{_≡_, refl, sym, ap, ap₂, _∙_, subst}
+use mathlib.Core.Bool.{Bool, true, false, not, _&&_}
+use Rattle.between_search.specs.Search.{entry}
+use Rattle.between_seek.proofs.size_found.Statement.{statement}
+use Rattle.between_seek.proofs.size_found.Tie as tie
+use Rattle.between_seek.proofs.Laws.{size-none, size-some, kept, not-kept}
+
+pub size-found-spec : {M : Type 1} → statement M
+size-found-spec =
+    tie.close
+    (tie.spec
+    -- links-found-requires
+    (λ c κs. c .before .before .pre)
+    -- returns
+    (λ c. not-kept _ (not-true _ (c .if1 .taken)) ∙ size-none _ _ (sym (c .before .before .links-found .ensures) ∙ not-kept _ (not-true _ (c .if1 .taken))))
+    -- links-found-requires-2
+    (λ c κs. c .before .before .before .before .before .pre)
+    -- returns-2
+    (λ c. c .links-found2 .ensures ∙ size-some _ _ _ (sym (c .before .before .before .links-found .ensures) ∙ kept _ (not-false _ (c .before .if1 .left)))))

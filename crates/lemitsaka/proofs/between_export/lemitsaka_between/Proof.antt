@@ -1,0 +1,19 @@
+-- The call's answer, as a number. Assumes nothing.
+use borrow.Author.Needs.{needs}
+use mathlib.Core.Path.{ap, _∙_}
+use Rattle.lemitsaka.specs.VerdictPromise.{codeOf}
+use Rattle.lemitsaka.proofs.between_export.lemitsaka_between.Statement.{statement}
+use Rattle.lemitsaka.proofs.between_export.lemitsaka_between.Tie as tie
+
+pub lemitsaka-between-spec : {M : Type 1} → statement M
+lemitsaka-between-spec =
+    tie.close
+    (tie.spec
+    -- between-requires
+    (λ c κs. search needs)
+    -- coded-between-requires
+    (λ c κs. search needs)
+    -- same-length
+    (λ c. search needs)
+    -- returns
+    (λ c. record { answers = c .coded-between .ensures ∙ ap codeOf (c .before .before .before .between .ensures .answers); leaves = c .before .before .before .between .ensures .leaves }))
