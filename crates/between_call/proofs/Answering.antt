@@ -1,5 +1,5 @@
 -- The checks in their order, and what the search says, as the call's outcome.
-use Prim.Native.Nat.{ℕ, _+_, _-_, _*_, _≤_, _<_}
+use Prim.Native.Nat.{ℕ, _+_, _-_, _≤_, _<_}
 use native.Mathlib.Omega.{arith}
 use mathlib.Core.Path.{_≡_, refl, sym, ap, _∙_, subst}
 use mathlib.Core.Bool.{Bool, true, false}
@@ -7,16 +7,15 @@ use mathlib.Core.List.{List, [], _∷_, _++_}
 use mathlib.Core.Option.{Option, none, some, Option·elim}
 use lib.ListN.{length, take, drop, replicate, length-drop}
 use lib.Seq.{take-length}
-use lib.Dec.{ltb}
 use borrow.Author.Tests.{lt-ltb, le-ltb}
 use Rattle.logic.specs.Search.{keep, orElse, firstOf}
 use Rattle.logic.specs.Query.{firstByte, termCount}
-use Rattle.logic.specs.Calls.{Input, Check, roomCheck, Answer, refused, satisfiable, refuted, refusalOf, padded, blank, Outcome}
+use Rattle.logic.specs.Calls.{Input, Check, roomCheck, Answer, refused, refusalOf, padded, blank}
 use Rattle.query.specs.declared.Layout.{Layout}
 use Rattle.query.proofs.Ranges.{entry-below}
 use Rattle.between.specs.Meaning.{BetweenQuery}
 use Rattle.between_search.specs.Bytes.{decodeSix, fiveTermsCheck, sixChecks, betweenChecks}
-use Rattle.between_search.specs.Search.{Found, entry, heapFound, reportOf}
+use Rattle.between_search.specs.Search.{Found, heapFound, reportOf}
 use Rattle.between_search.specs.Calls.{given, searched, betweenCall}
 use Rattle.between_search.proofs.Promised.{size-small, node-small}
 use Rattle.between_tests.specs.Tables.{Opposed, literalsIn}
@@ -26,7 +25,7 @@ use Rattle.between_seek.specs.declared.Searched.{Searched}
 use Rattle.between_seek.specs.Answers.{queryIn, foundOf, Given}
 use Rattle.between_call.specs.declared.BetweenAnswer.{BetweenAnswer}
 use Rattle.between_call.specs.declared.BetweenAnswer.the-variants as answer
-use Rattle.between_call.specs.Promise.{meaning, Does, Reportable, Asked}
+use Rattle.between_call.specs.Promise.{Does, Reportable, Asked}
 
 -- The checks
 

@@ -1,13 +1,13 @@
 -- The report's bytes are those of the heap that was found.
-use Prim.Native.Nat.{ℕ, _+_, _≤_, _<_}
+use Prim.Native.Nat.{ℕ, _≤_}
 use native.Mathlib.Omega.{arith}
 use mathlib.Core.Path.{_≡_, refl, sym, ap, ap₂, _∙_}
 use mathlib.Core.Bool.{Bool, true, false, _&&_}
-use mathlib.Core.List.{List, [], _∷_, _++_, map, List·Memᴰ, List·Memᴰ·head, List·Memᴰ·tail}
+use mathlib.Core.List.{List, [], _∷_, map, List·Memᴰ, List·Memᴰ·head, List·Memᴰ·tail}
 use lib.ListN.{length, getD}
 use lib.Dec.{eqb}
-use Rattle.logic.specs.Search.{_and_, from, any}
-use Rattle.logic.specs.Query.{Literal, decode, termCount}
+use Rattle.logic.specs.Search.{_and_}
+use Rattle.logic.specs.Query.{Literal, decode}
 use Rattle.logic.specs.Facts.{terms}
 use Rattle.logic.specs.Shown.{byteOf, booleanByte}
 use Rattle.logic.proofs.Basics.Search.{from-mem}
@@ -18,7 +18,7 @@ use Rattle.query.proofs.Literals.{listed, fields-listed, booleans-listed}
 use Rattle.query.proofs.Ranges.{field-number-term, boolean-number}
 use Rattle.report.specs.Bytes.{fieldHeld, booleanHeld, literalsAt, flagsAt, FieldsIn, FlagsIn, sections}
 use Rattle.report.proofs.Held.{byte-alike}
-use Rattle.between_search.specs.Search.{Found, entry, dataByte, reportOf}
+use Rattle.between_search.specs.Search.{entry, dataByte, reportOf}
 use Rattle.between_search.proofs.Due.{any-alike}
 use Rattle.between_seek.specs.Answers.{queryIn}
 use Rattle.between_call.specs.Promise.{Reportable}

@@ -1,28 +1,26 @@
 -- The bytes of the sixth section, literal by literal; and refusals 2 to 8 of six sections from those of the five and of the sixth.
-use Prim.Native.Nat.{ℕ, suc, _+_, _-_, _*_, _≤_, _<_}
+use Prim.Native.Nat.{ℕ, suc, _+_, _-_, _≤_, _<_}
 use native.Mathlib.Omega.{arith}
 use native.Mathlib.Nat.{sub-zero, sub-eq-zero-of-le}
 use native.Mathlib.Numerals.{add-one}
-use mathlib.Core.Path.{_≡_, refl, sym, ap, ap₂, _∙_, subst}
+use mathlib.Core.Path.{_≡_, refl, sym, ap, _∙_, subst}
 use mathlib.Core.Logic.{⊎-elim}
 use mathlib.Core.List.{List, [], _∷_, _++_}
 use mathlib.Core.Option.{Option, none, some, Option·elim}
 use lib.ListN.{length, getD, take, drop}
-use Rattle.logic.specs.Search.{from, flatMap, keep, orElse, firstOf, isSome}
-use Rattle.logic.specs.Query.{Role, sections, Layout, faulty, parts, layout, layoutOf, firstByte, faultIn, roleFault, byteFault, termCount, decode}
+use Rattle.logic.specs.Search.{from, flatMap, keep, orElse, firstOf}
+use Rattle.logic.specs.Query.{Role, sections, Layout, faulty, parts, layout, layoutOf, firstByte, faultIn, roleFault, byteFault}
 use Rattle.logic.specs.Calls.{Input, refused, refusalOf}
 use Rattle.logic.proofs.Query.Bytes.{Numbered, layout-numbered}
 use Rattle.query.specs.declared.Layout as code
-use Rattle.query.specs.LaysOut.{LaysOut}
 use Rattle.query.specs.declared.Checked.the-variants as five-checked
 use Rattle.query.specs.Answers.{CheckedAs}
 use Rattle.query.proofs.Ranges.{checked-accepts}
 use Rattle.query.proofs.Faults.{orElse-some, orElse-next, append-here, append-next, entriesLeft}
 use Rattle.between_search.specs.Bytes.{betweenSection, sixSections, sixLayout, sixLayoutCheck, sixByteFault, sixByteCheck, sixChecks}
 use Rattle.between_checks.specs.declared.Met.the-variants as met
-use Rattle.between_checks.specs.declared.SixLayout.{SixLayout}
 use Rattle.between_checks.specs.declared.SixChecked.the-variants as checked
-use Rattle.between_checks.specs.Answers.{tripleRoles, sixthFault, SixthBelow, Sixth, SixSections, SixCheckedAs}
+use Rattle.between_checks.specs.Answers.{tripleRoles, sixthFault, SixthBelow, Sixth, SixCheckedAs}
 use Rattle.between_checks.proofs.Told.{nat-cases, answerAt, First, first-is, none-is, told-refused, told-accepted}
 use Rattle.between_checks.proofs.Six.{early, ended, Five, five, sixth-other, sixth-refused, laid-five, terms-five, six-laid, six-says, six-fault}
 

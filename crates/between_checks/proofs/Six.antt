@@ -3,25 +3,23 @@ use Prim.Native.Nat.{ℕ, zero, suc, _+_, _-_, _*_, _≤_, _<_}
 use native.Mathlib.Omega.{arith}
 use native.Mathlib.Nat.{mul-one, zero-mul, suc-mul, zero-add}
 use native.Mathlib.Numerals.{add-one}
-use mathlib.Core.Path.{_≡_, refl, sym, ap, ap₂, _∙_, subst}
-use mathlib.Core.Logic.{⊎-elim}
-use mathlib.Core.Bool.{Bool, true, false, not, cond}
+use mathlib.Core.Path.{_≡_, refl, sym, ap, ap₂, _∙_}
+use mathlib.Core.Bool.{Bool, true, false, not}
 use mathlib.Core.List.{List, [], _∷_, _++_, append-assoc, append-nil}
-use mathlib.Core.Option.{Option, none, some}
+use mathlib.Core.Option.{none}
 use lib.ListN.{length, getD, take, drop, length-append, length-drop, take-append-drop}
 use lib.Seq.{take-length, length-take-le, take-at, drop-length, drop-append-le}
 use lib.Dec.{eqb, leb}
-use borrow.Author.Tests.{leb-true, le-leb}
+use borrow.Author.Tests.{leb-true}
 use Rattle.logic.specs.Search.{_and_, from, flatMap, keep, orElse}
-use Rattle.logic.specs.Query.{Role, Section, countRole, signRole, termRole, sections, Layout, faulty, parts, withPart, layout, rolesOf, firstByte, layoutOf, roleFault, byteFault, section, queryOf, decode, termCount}
+use Rattle.logic.specs.Query.{Role, Section, countRole, signRole, termRole, sections, faulty, parts, withPart, layout, rolesOf, firstByte, layoutOf, roleFault, byteFault, section, queryOf, decode, termCount}
 use Rattle.logic.proofs.Query.Bytes.{Regular, first-sized}
 use Rattle.query.proofs.Reading.{above, short, passed}
 use Rattle.query.proofs.Loops.{drop-next}
 use Rattle.query.specs.Sections.{Stands}
-use Rattle.between.specs.Meaning.{BetweenLiteral, BetweenQuery}
 use Rattle.between_search.specs.Bytes.{betweenSection, sixSections, sixLayout, triples, betweensOf, decodeSix, sixByteFault}
 use Rattle.between_search.proofs.Layouts.{prepend, faulty-parts, withPart-parts, cond-parts, parts-length, prepend-parts, layout-append}
-use Rattle.between_search.proofs.SixLayout.{Followed, followed, early-fault, ends-early, role-append}
+use Rattle.between_search.proofs.SixLayout.{followed, early-fault, ends-early, role-append}
 use Rattle.between_checks.specs.Answers.{tripleRoles, sixthFault, Sixth}
 
 prepend-faulty : (ps : List (List ℕ)) (k place : ℕ) → prepend ps (faulty k place) ≡ faulty k place

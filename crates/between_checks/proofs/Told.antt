@@ -3,9 +3,8 @@ use Prim.Native.Nat.{ℕ, zero, suc, _+_, _-_, _≤_, _<_}
 use native.Mathlib.Omega.{arith}
 use mathlib.Core.Path.{_≡_, refl, sym, ap, ap₂, _∙_, subst}
 use mathlib.Core.Logic.{_⊎_, ⊎-elim, inl, inr}
-use mathlib.Core.List.{List, [], _∷_}
+use mathlib.Core.List.{List, []}
 use mathlib.Core.Option.{Option, none, some, Option·elim}
-use lib.ListN.{length}
 use Rattle.logic.specs.Search.{from, firstOf, orElse}
 use Rattle.logic.specs.Query.{Layout, faulty, parts, layoutOf, faultIn, layoutFault, byteFault}
 use Rattle.logic.specs.Calls.{Input, Answer, refused, layoutCheck, byteCheck, queryChecks, refusalOf}

@@ -5,9 +5,9 @@ ghost use mathlib.Core.Path.{_≡_};
 ghost use mathlib.Core.List.{[], _∷_};
 ghost use Prim.Native.Nat.{_+_, _*_, _≤_, _<_};
 ghost use lib.ListN.{length, drop};
-ghost use Rattle.logic.specs.Query.{signRole, termRole, roleFault, faulty, layoutOf, firstByte};
+ghost use Rattle.logic.specs.Query.{signRole, termRole, roleFault, faulty, layoutOf};
 ghost use Rattle.query.specs.Sections.{meets};
-ghost use Rattle.between_checks.specs.Answers.{faultOf, tripleRoles, sixthFault, SixthBelow, SixthRead, Sixth, SixCheckedAs};
+ghost use Rattle.between_checks.specs.Answers.{faultOf, sixthFault, SixthBelow, SixthRead, Sixth, SixCheckedAs};
 
 // Where six sections stand: the first five, which end at `at`, and how many between literals follow the count that stands there.
 pub struct SixLayout {

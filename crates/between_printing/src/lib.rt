@@ -1,6 +1,5 @@
 // What betweenverdict prints, made in a lent buffer. The program reads, asks for the text and writes it.
 use between_call::BetweenAnswer;
-ghost use mathlib.Core.Path.{_≡_};
 ghost use Prim.Native.Nat.{_≤_};
 ghost use Rattle.text.specs.Text.{Writes};
 ghost use Rattle.between_printing.specs.BetweenverdictText.{textOf, betweenverdictText};

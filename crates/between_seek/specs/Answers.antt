@@ -1,10 +1,10 @@
 -- The code's answers in the words of the definitions.
-use Prim.Native.Nat.{ℕ, _+_, _*_, _≤_, _<_}
+use Prim.Native.Nat.{ℕ, _*_, _≤_, _<_}
 use mathlib.Core.Path.{_≡_}
 use mathlib.Core.Bool.{Bool}
 use mathlib.Core.List.{List}
-use mathlib.Core.Option.{Option, none, some}
-use lib.ListN.{length, getD, take, drop}
+use mathlib.Core.Option.{Option}
+use lib.ListN.{length, take}
 use Rattle.logic.specs.Search.{keep}
 use Rattle.logic.specs.Query.{decode, argumentOf}
 use Rattle.logic.specs.Calls.{padded}
@@ -12,8 +12,8 @@ use Rattle.query.specs.declared.Layout.{Layout}
 use Rattle.query.specs.LaysOut.{LaysOut}
 use Rattle.between.specs.Meaning.{BetweenQuery}
 use Rattle.between_search.specs.Bytes.{triples}
-use Rattle.between_search.specs.Search.{Found, entry}
-use Rattle.between_tests.specs.Tables.{Small, Stepped, Opposed, literalsIn}
+use Rattle.between_search.specs.Search.{Found}
+use Rattle.between_tests.specs.Tables.{Opposed, literalsIn}
 use Rattle.between_seek.specs.declared.Searched.{Searched}
 
 -- a query whose first five sections and whose between literals stand in two slices

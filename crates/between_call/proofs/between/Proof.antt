@@ -1,7 +1,7 @@
 -- The checks in their order, and then the search. Assumes nothing.
 use native.Mathlib.Omega.{arith}
 use borrow.Author.Needs.{needs}
-use mathlib.Core.Path.{refl, sym, subst}
+use mathlib.Core.Path.{refl, sym}
 use lib.Seq.{length-take-le}
 use Rattle.between_call.proofs.Answering.{six-does, room-does, terms-does, none-stands, few-terms, many-terms, at-within, asked-of, answer-does}
 use Rattle.between_call.proofs.between.Statement.{statement}

@@ -1,5 +1,4 @@
 -- Each section behind the one before, into zeros. Assumes nothing.
-use native.Mathlib.Omega.{arith}
 use borrow.Author.Needs.{needs}
 use mathlib.Core.Path.{sym}
 use lib.ListN.{getD}

@@ -1,7 +1,7 @@
 -- The first number that the five or the sixth meet. Assumes nothing.
 use native.Mathlib.Omega.{arith}
 use borrow.Author.Needs.{needs}
-use mathlib.Core.Path.{_≡_, sym, ap, _∙_}
+use mathlib.Core.Path.{sym}
 use lib.Seq.{length-take-le}
 use Rattle.between_checks.proofs.Merged.{sixth-met, five-met, five-refused, five-accepted, all-passed}
 use Rattle.between_checks.proofs.check_bytes.Statement.{statement}
