@@ -228,17 +228,25 @@ fn grown(budget: usize, turn: usize) -> usize
 // The paths that a strategy may look at: one that probes takes longer at each.
 fn share(budget: usize, how: usize) -> usize {
     if how == 2 {
-        return budget / 8 + 1;
+        return budget / 32 + 1;
     }
     budget
 }
 
-// The strategies in turn, each with a budget; then all again with four times the budget, until one is done. Strategy `first` has a try
-// before them: the one that was done with the path before is often done with this one too.
+// The strategies in turn, each with a budget; then all again with four times the budget, until one is done. Before them the cheapest has a
+// short try, and then strategy `first`: the one that was done with a path before this is often done with this one too.
 fn in_turn(query: &[u8], layout: Layout, s: Facts, first: usize) -> Settled
     requires { ⌜ LaysOut layout (now query) × (accepts (now query) ≡ true) × Known (decode (now query)) (pathOf s) ⌝ }
     ensures { λ r. ⌜ Tells (decode (now (query .entry))) (pathOf s) (r .kind) ⌝ }
 {
+    let quick = search(query, layout, 0, 300, s, 50);
+    let known = quick.kind;
+    if !is_unknown(known) {
+        return Settled {
+            kind: known,
+            how: first,
+        };
+    }
     let soon = search(query, layout, first, 300, s, share(400, first));
     let found = soon.kind;
     if !is_unknown(found) {

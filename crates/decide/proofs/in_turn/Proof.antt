@@ -18,17 +18,13 @@ in-turn-spec =
     (tie.spec
     Inv-loop
     μ-loop
-    -- share-requires
-    (λ c κs. search needs)
     -- search-requires
     (λ c κs. search needs)
     -- is-unknown-requires
     (λ c κs. search needs)
     -- returns
     (λ c. c .before .before .search .ensures)
-    -- loop-holds
-    (λ c. omega arith)
-    -- share-requires-2
+    -- share-requires
     (λ c κs. search needs)
     -- search-requires-2
     (λ c κs. search needs)
@@ -36,6 +32,16 @@ in-turn-spec =
     (λ c κs. search needs)
     -- returns-2
     (λ c. c .before .before .search2 .ensures)
+    -- loop-holds
+    (λ c. omega arith)
+    -- share-requires-2
+    (λ c κs. search needs)
+    -- search-requires-3
+    (λ c κs. search needs)
+    -- is-unknown-requires-3
+    (λ c κs. search needs)
+    -- returns-3
+    (λ c. c .before .before .search3 .ensures)
     -- grown-requires
     (λ c κs. search needs)
     -- add-turn
@@ -44,5 +50,5 @@ in-turn-spec =
     (λ c. omega arith)
     -- loop-again
     (λ c. omega arith)
-    -- returns-3
+    -- returns-4
     (λ c. tells-nothing _ _))
