@@ -67,7 +67,12 @@ pub fn run(directory: &Path) -> Result<bool, String> {
     let count = inputs.len() as f64;
     println!("workload-luck: {agree} of {} verdicts and reports as stored", inputs.len());
     println!("  workload-sixteen {unit:.2} us a query");
-    println!("  verdict    mean {:.2} us, {:.1} times that; worst {worst:.0} us (input {at}), {:.0} times", sum / count, sum / count / unit, worst / unit);
+    println!(
+        "  verdict    mean {:.2} us, {:.1} times that; worst {worst:.0} us (input {at}), {:.0} times",
+        sum / count,
+        sum / count / unit,
+        worst / unit
+    );
     println!("  derivation mean {:.0} us; worst {lines_worst:.0} us (input {lines_at})", lines_sum / count);
     for input in worst_found() {
         let (order, query) = input.split_at(8);
@@ -83,7 +88,11 @@ const WORST: &str = include_str!("../worst.txt");
 
 fn worst_found() -> Vec<Vec<u8>> {
     let byte = |word: &str| u8::from_str_radix(word, 16).expect("a byte in hex");
-    WORST.lines().filter(|line| !line.starts_with('#')).map(|line| line.split_whitespace().map(byte).collect()).collect()
+    WORST
+        .lines()
+        .filter(|line| !line.starts_with('#'))
+        .map(|line| line.split_whitespace().map(byte).collect())
+        .collect()
 }
 
 /// A query as a draft again, so that it can be changed.

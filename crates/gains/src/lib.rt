@@ -106,11 +106,13 @@ fn cycle(link: &[u32; 17], reach: &[u32; 17], terms: usize, before: Best) -> Bes
             let first = units::within(rules::next(link, n, Term(x)));
             let k = rules::follow(link, n, first, Term(x), n);
             let steps = k.steps;
-            if steps < 16 {
-                let round = k.passed | units::alone(x);
-                if let Found::At(y) = facts::first(facts::without(reach[x], round)) {
-                    let next = better(best, 50, Rule::Cycle, x, y.0, steps + 1);
-                    best = next;
+            if steps < n {
+                if steps < 16 {
+                    let round = k.passed | units::alone(x);
+                    if let Found::At(y) = facts::first(facts::without(reach[x], round)) {
+                        let next = better(best, 50, Rule::Cycle, x, y.0, steps + 1);
+                        best = next;
+                    }
                 }
             }
         }

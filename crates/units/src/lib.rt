@@ -201,11 +201,13 @@ fn cycle(link: &[u32; 17], reach: &[u32; 17], no_equal: &[u32; 17], terms: usize
             let first = within(rules::next(link, n, Term(x)));
             let k = rules::follow(link, n, first, Term(x), n);
             let steps = k.steps;
-            if steps < 16 {
-                let round = k.passed | alone(x);
-                let far = facts::without(reach[x], round);
-                if let Found::At(y) = cycle_at(far, round, no_equal) {
-                    return Choice::Apply(Rule::Cycle, Term(x), y, Third(steps + 1));
+            if steps < n {
+                if steps < 16 {
+                    let round = k.passed | alone(x);
+                    let far = facts::without(reach[x], round);
+                    if let Found::At(y) = cycle_at(far, round, no_equal) {
+                        return Choice::Apply(Rule::Cycle, Term(x), y, Third(steps + 1));
+                    }
                 }
             }
         }
