@@ -1,39 +1,28 @@
-// The place of a branching rule whose alternatives would add most facts, as far as counting tells. Nothing is promised of it but that the
-// search is safe and ends: whoever takes the place tests that the rule applies there.
+// The place of a branching rule whose alternatives would add most facts, as far as counting tells. That the rule applies there is proved; that
+// no other place would add more is not, since no verdict rests on it.
 use facts::Facts;
 use facts::Found;
 use facts::Term;
 use rules::Choice;
 use rules::Rule;
 use rules::Third;
-ghost use Prim.Native.Nat.{_≤_};
+ghost use mathlib.Core.Path.{_≡_};
+ghost use mathlib.Core.List.{List};
+ghost use Prim.Native.Nat.{ℕ, _≤_};
+ghost use Rattle.facts.specs.Square.{Turned};
+ghost use Rattle.facts.specs.Path.{pathOf};
+ghost use Rattle.units.specs.Proposes.{Proposes};
+ghost use Rattle.gains.specs.Keeps.{better, Keeps};
 
-// The best place so far. Its score is 0 as long as there is none.
+// The best place so far, and its score: 0 as long as there is none.
 struct Best {
     pub score: usize,
-    pub rule: Rule,
-    pub x: usize,
-    pub y: usize,
-    pub z: usize,
-}
-
-// One more, as long as it is below 100.
-fn more(count: usize) -> usize {
-    if count < 100 {
-        return count + 1;
-    }
-    count
+    pub place: Choice,
 }
 
 // How many numbers up to 16 a row has.
 fn ones(row: u32) -> usize {
-    let mut count: usize = 0;
-    for b in 0..17 {
-        if facts::has(row, b) {
-            count = more(count);
-        }
-    }
-    count
+    u32::count_ones(row & facts::up_to(16)) as usize
 }
 
 // A product, as long as it is no more than ten digits long.
@@ -51,44 +40,44 @@ fn product(a: usize, b: usize) -> usize
 
 // The facts that "a reaches b" can add, and one.
 fn added(reach: &[u32; 17], back: &[u32; 17], a: usize, b: usize) -> usize
+    requires { ⌜ (a ≤ 16) × (b ≤ 16) ⌝ }
     ensures { λ r. ⌜ r ≤ 10000000001 ⌝ }
 {
-    product(ones(units::row(back, a)), ones(units::row(reach, b))) + 1
+    product(ones(back[a]), ones(reach[b])) + 1
 }
 
 // The facts that a = b can add, and one.
 fn joined(reach: &[u32; 17], back: &[u32; 17], a: usize, b: usize) -> usize
+    requires { ⌜ (a ≤ 16) × (b ≤ 16) ⌝ }
     ensures { λ r. ⌜ r ≤ 20000000001 ⌝ }
 {
-    let before = units::row(back, a) | units::row(back, b);
-    let behind = units::row(reach, a) | units::row(reach, b);
-    2 * product(ones(before), ones(behind)) + 1
+    2 * product(ones(back[a] | back[b]), ones(reach[a] | reach[b])) + 1
 }
 
 // The better of the best place so far and another.
-fn better(best: Best, score: usize, rule: Rule, x: usize, y: usize, z: usize) -> Best {
+fn better(best: Best, score: usize, place: Choice) -> Best
+    ensures { λ r. ⌜ r ≡ better best score place ⌝ }
+{
     if best.score < score {
-        return Best {
-            score,
-            rule,
-            x,
-            y,
-            z,
-        };
+        return Best { score, place };
     }
     best
 }
 
 // FUNC: x = z or y reaches z.
-fn func(link: &[u32; 17], reach: &[u32; 17], back: &[u32; 17], before: Best) -> Best {
+fn func(link: &[u32; 17], reach: &[u32; 17], back: &[u32; 17], before: Best) -> Best
+    ensures { λ r. ⌜ ((n : ℕ) → Keeps n (now (link .entry)) (now (reach .entry)) before r) ⌝ }
+{
     let mut best = before;
     for x in 0..17 {
-        if let Found::At(y) = facts::first(link[x]) {
-            let far = facts::without(reach[x], units::row(reach, y.0));
+        if let Found::At(y) = units::lowest(link[x]) {
+            let at = y.0;
+            let far = units::missed(reach, x, at);
             for z in 0..17 {
-                if facts::has(far, z) & (x != z) {
-                    let score = product(joined(reach, back, x, z), added(reach, back, y.0, z));
-                    let next = better(best, score, Rule::Func, x, y.0, z);
+                if facts::has(far, z) {
+                    let score = product(joined(reach, back, x, z), added(reach, back, at, z));
+                    let place = Choice::Apply(Rule::Func, Term(x), y, Third(z));
+                    let next = better(best, score, place);
                     best = next;
                 }
             }
@@ -98,38 +87,37 @@ fn func(link: &[u32; 17], reach: &[u32; 17], back: &[u32; 17], before: Best) -> 
 }
 
 // CYCLE: y is one of the round of x. It has as many alternatives as the round has terms, and its score is low.
-fn cycle(link: &[u32; 17], reach: &[u32; 17], terms: usize, before: Best) -> Best {
-    let n = units::within(Term(terms)).0;
+fn cycle(link: &[u32; 17], reach: &[u32; 17], n: usize, before: Best) -> Best
+    requires { ⌜ n ≤ 16 ⌝ }
+    ensures { λ r. ⌜ Keeps n (now (link .entry)) (now (reach .entry)) before r ⌝ }
+{
     let mut best = before;
     for x in 0..17 {
-        if link[x] != 0 {
-            let first = units::within(rules::next(link, n, Term(x)));
-            let k = rules::follow(link, n, first, Term(x), n);
-            let steps = k.steps;
-            if steps < n {
-                if steps < 16 {
-                    let round = k.passed | units::alone(x);
-                    if let Found::At(y) = facts::first(facts::without(reach[x], round)) {
-                        let next = better(best, 50, Rule::Cycle, x, y.0, steps + 1);
-                        best = next;
-                    }
-                }
-            }
+        let round = units::around(link, reach, n, x);
+        if let Found::At(y) = units::lowest(round.off) {
+            let place = Choice::Apply(Rule::Cycle, Term(x), y, Third(round.steps));
+            let next = better(best, 50, place);
+            best = next;
         }
     }
     best
 }
 
 // SCC: x = y or z reaches x.
-fn scc(reach: &[u32; 17], back: &[u32; 17], before: Best) -> Best {
+fn scc(reach: &[u32; 17], back: &[u32; 17], before: Best) -> Best
+    requires { ⌜ Turned (now back) (now reach) ⌝ }
+    ensures { λ r. ⌜ ((n : ℕ) (link : List ℕ) → Keeps n link (now (reach .entry)) before r) ⌝ }
+{
     let mut best = before;
     for x in 0..17 {
-        let both = facts::without(reach[x] & back[x], units::alone(x));
-        if let Found::At(z) = facts::first(facts::without(reach[x], back[x])) {
+        let both = units::both_ways(reach, back, x);
+        if let Found::At(z) = units::lowest(units::ahead(reach, back, x)) {
+            let out = z.0;
             for y in 0..17 {
                 if facts::has(both, y) {
-                    let score = product(joined(reach, back, x, y), added(reach, back, z.0, x));
-                    let next = better(best, score, Rule::Scc, x, y, z.0);
+                    let score = product(joined(reach, back, x, y), added(reach, back, out, x));
+                    let place = Choice::Apply(Rule::Scc, Term(x), Term(y), Third(out));
+                    let next = better(best, score, place);
                     best = next;
                 }
             }
@@ -139,14 +127,19 @@ fn scc(reach: &[u32; 17], back: &[u32; 17], before: Best) -> Best {
 }
 
 // TOTAL of y with z, which some x reaches both: y reaches z or z reaches y.
-fn total_at(reach: &[u32; 17], back: &[u32; 17], y: usize, before: Best) -> Best {
+fn total_at(reach: &[u32; 17], back: &[u32; 17], y: usize, before: Best) -> Best
+    requires { ⌜ (y ≤ 16) × Turned (now back) (now reach) ⌝ }
+    ensures { λ r. ⌜ ((n : ℕ) (link : List ℕ) → Keeps n link (now (reach .entry)) before r) ⌝ }
+{
     let mut best = before;
-    let near = units::row(reach, y) | units::row(back, y);
+    let from = back[y];
+    let near = reach[y] | from;
     for z in 0..17 {
         if !facts::has(near, z) {
-            if let Found::At(x) = facts::first(units::row(back, y) & back[z]) {
+            if let Found::At(x) = units::lowest(from & back[z]) {
                 let score = product(added(reach, back, y, z), added(reach, back, z, y));
-                let next = better(best, score, Rule::Total, x.0, y, z);
+                let place = Choice::Apply(Rule::Total, x, Term(y), Third(z));
+                let next = better(best, score, place);
                 best = next;
             }
         }
@@ -154,7 +147,10 @@ fn total_at(reach: &[u32; 17], back: &[u32; 17], y: usize, before: Best) -> Best
     best
 }
 
-fn total(reach: &[u32; 17], back: &[u32; 17], before: Best) -> Best {
+fn total(reach: &[u32; 17], back: &[u32; 17], before: Best) -> Best
+    requires { ⌜ Turned (now back) (now reach) ⌝ }
+    ensures { λ r. ⌜ ((n : ℕ) (link : List ℕ) → Keeps n link (now (reach .entry)) before r) ⌝ }
+{
     let mut best = before;
     for y in 0..17 {
         let next = total_at(reach, back, y, best);
@@ -164,24 +160,21 @@ fn total(reach: &[u32; 17], back: &[u32; 17], before: Best) -> Best {
 }
 
 // The place at a closed path whose alternatives would add most.
-pub fn most(s: Facts, terms: usize) -> Choice {
+pub fn most(s: Facts, n: usize) -> Choice
+    requires { ⌜ n ≤ 16 ⌝ }
+    ensures { λ r. ⌜ Proposes n (pathOf s) r ⌝ }
+{
     let link = s.link;
     let reach = s.reach;
     let back = facts::turned(&reach);
     let none = Best {
         score: 0,
-        rule: Rule::Func,
-        x: 0,
-        y: 0,
-        z: 0,
+        place: Choice::Nothing,
     };
     let a = func(&link, &reach, &back, none);
-    let b = cycle(&link, &reach, terms, a);
+    let b = cycle(&link, &reach, n, a);
     let c = scc(&reach, &back, b);
     let d = total(&reach, &back, c);
-    if d.score == 0 {
-        return Choice::Nothing;
-    }
-    let rule = d.rule;
-    Choice::Apply(rule, Term(d.x), Term(d.y), Third(d.z))
+    let place = d.place;
+    place
 }

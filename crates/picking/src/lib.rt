@@ -1,18 +1,12 @@
 // Where a strategy goes on: a rule that applies, and its triple.
 use facts::Facts;
-use facts::Term;
 use query::Layout;
 use rules::Choice;
-use rules::Rule;
-use rules::Third;
-ghost use mathlib.Core.Path.{_≡_};
-ghost use mathlib.Core.Bool.{true};
 ghost use Prim.Native.Nat.{_≤_};
-ghost use Rattle.logic.specs.Rules.{triple, move, applies};
 ghost use Rattle.facts.specs.Path.{pathOf};
 ghost use Rattle.query.specs.LaysOut.{LaysOut};
-ghost use Rattle.rules.specs.Answers.{kindOf};
-ghost use Rattle.picking.specs.Picks.{Picks, Applies};
+ghost use Rattle.units.specs.Proposes.{Proposes};
+ghost use Rattle.picking.specs.Picks.{Picks};
 
 // The rules that do not branch first, at the smallest triple.
 fn plain(s: Facts, n: usize) -> Choice
@@ -32,26 +26,10 @@ fn total_first(s: Facts, n: usize) -> Choice
     rules::choose(&order, s, n)
 }
 
-// A place that is proposed, by whatever search, is one where the rule applies.
-fn fits(s: Facts, n: usize, rule: Rule, x: Term, y: Term, z: Third) -> bool
-    requires { ⌜ n ≤ 16 ⌝ }
-    ensures { λ r. ⌜ (r ≡ true → Applies n (pathOf s) rule x y z) ⌝ }
-{
-    if 16 < x.0 {
-        return false;
-    }
-    if 16 < y.0 {
-        return false;
-    }
-    if 16 < z.0 {
-        return false;
-    }
-    fitting::applies(s, n, rule, x.0, y.0, z.0)
-}
-
 // Where strategies other than 1 look next.
 fn other(query: &[u8], layout: Layout, how: usize, s: Facts) -> Choice
     requires { ⌜ LaysOut layout (now query) ⌝ }
+    ensures { λ r. ⌜ Proposes (layout .terms) (pathOf s) r ⌝ }
 {
     if how == 2 {
         if let Choice::Apply(rule, x, y, z) = probing::failing(query, layout, s) {
@@ -69,17 +47,13 @@ pub fn pick(query: &[u8], layout: Layout, how: usize, s: Facts) -> Choice
 {
     let n = layout.terms;
     if let Choice::Apply(rule, x, y, z) = units::unit(query, layout, s) {
-        if fits(s, n, rule, x, y, z) {
-            return Choice::Apply(rule, x, y, z);
-        }
+        return Choice::Apply(rule, x, y, z);
     }
     if how == 1 {
         return total_first(s, n);
     }
     if let Choice::Apply(rule, x, y, z) = other(query, layout, how, s) {
-        if fits(s, n, rule, x, y, z) {
-            return Choice::Apply(rule, x, y, z);
-        }
+        return Choice::Apply(rule, x, y, z);
     }
     plain(s, n)
 }

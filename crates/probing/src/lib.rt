@@ -1,5 +1,5 @@
 // A place of a branching rule with an alternative that would soon clash: closed, and with every place taken that has one alternative left.
-// Nothing is promised of the place but that the search is safe and ends: whoever takes it tests that the rule applies there.
+// That the rule applies there is proved; that the alternative clashes is not, since no verdict rests on it.
 use clash::Clash;
 use facts::Facts;
 use facts::Found;
@@ -8,8 +8,12 @@ use query::Layout;
 use rules::Choice;
 use rules::Rule;
 use rules::Third;
-ghost use Prim.Native.Nat.{_≤_};
+ghost use mathlib.Core.List.{List};
+ghost use Prim.Native.Nat.{ℕ, _≤_};
+ghost use Rattle.facts.specs.Square.{Turned};
+ghost use Rattle.facts.specs.Path.{pathOf};
 ghost use Rattle.query.specs.LaysOut.{LaysOut};
+ghost use Rattle.units.specs.Proposes.{Proposes, ProposesIn, FoundIn};
 
 // How many alternatives of a place do not clash at once, up to two, and the path of the last of them.
 struct Left {
@@ -37,12 +41,9 @@ fn and_left(left: Left, s: Facts) -> Left {
 
 // A branch, closed.
 fn taken(s: Facts, n: usize, rule: Rule, x: Term, y: Term, z: Third, i: usize) -> Facts
-    requires { ⌜ n ≤ 16 ⌝ }
+    requires { ⌜ (n ≤ 16) × (x .0 ≤ 16) × (y .0 ≤ 16) × (z .0 ≤ 16) ⌝ }
 {
-    let a = units::within(x);
-    let b = units::within(y);
-    let c = units::within(rules::third_term(z));
-    let joined = branch::branch(s, n, rule, a, b, Third(c.0), i);
+    let joined = branch::branch(s, n, rule, x, y, z, i);
     let path = joined.facts;
     closing::close(path, n)
 }
@@ -57,7 +58,7 @@ fn still_left(
     y: Term,
     z: Third,
 ) -> Left
-    requires { ⌜ LaysOut layout (now query) ⌝ }
+    requires { ⌜ LaysOut layout (now query) × (x .0 ≤ 16) × (y .0 ≤ 16) × (z .0 ≤ 16) ⌝ }
 {
     let n = layout.terms;
     let total = branch::count(rule, z);
@@ -101,7 +102,7 @@ fn sinks(query: &[u8], layout: Layout, s: Facts) -> bool
 
 // Some alternative of a place soon clashes.
 fn fails(query: &[u8], layout: Layout, s: Facts, rule: Rule, x: Term, y: Term, z: Third) -> bool
-    requires { ⌜ LaysOut layout (now query) ⌝ }
+    requires { ⌜ LaysOut layout (now query) × (x .0 ≤ 16) × (y .0 ≤ 16) × (z .0 ≤ 16) ⌝ }
 {
     let n = layout.terms;
     let total = branch::count(rule, z);
@@ -116,7 +117,8 @@ fn fails(query: &[u8], layout: Layout, s: Facts, rule: Rule, x: Term, y: Term, z
 
 // FUNC at x and its successor y, with the terms of a row.
 fn func_at(query: &[u8], layout: Layout, s: Facts, far: u32, x: Term, y: Term) -> Found
-    requires { ⌜ LaysOut layout (now query) ⌝ }
+    requires { ⌜ LaysOut layout (now query) × (x .0 ≤ 16) × (y .0 ≤ 16) ⌝ }
+    ensures { λ r. ⌜ FoundIn far r ⌝ }
 {
     for z in 0..17 {
         if facts::has(far, z) {
@@ -130,12 +132,12 @@ fn func_at(query: &[u8], layout: Layout, s: Facts, far: u32, x: Term, y: Term) -
 
 fn func(query: &[u8], layout: Layout, s: Facts, link: &[u32; 17], reach: &[u32; 17]) -> Choice
     requires { ⌜ LaysOut layout (now query) ⌝ }
+    ensures { λ r. ⌜ ((n : ℕ) → ProposesIn n (now (link .entry)) (now (reach .entry)) r) ⌝ }
 {
     for x in 0..17 {
-        if let Found::At(y) = facts::first(link[x]) {
-            let far = facts::without(reach[x], units::row(reach, y.0));
-            let other = facts::without(far, units::alone(x));
-            if let Found::At(z) = func_at(query, layout, s, other, Term(x), y) {
+        if let Found::At(y) = units::lowest(link[x]) {
+            let far = units::missed(reach, x, y.0);
+            if let Found::At(z) = func_at(query, layout, s, far, Term(x), y) {
                 return Choice::Apply(Rule::Func, Term(x), y, Third(z.0));
             }
         }
@@ -145,7 +147,8 @@ fn func(query: &[u8], layout: Layout, s: Facts, link: &[u32; 17], reach: &[u32; 
 
 // SCC at x and its first way out, with the terms of a row.
 fn scc_at(query: &[u8], layout: Layout, s: Facts, both: u32, x: Term, z: Term) -> Found
-    requires { ⌜ LaysOut layout (now query) ⌝ }
+    requires { ⌜ LaysOut layout (now query) × (x .0 ≤ 16) × (z .0 ≤ 16) ⌝ }
+    ensures { λ r. ⌜ FoundIn both r ⌝ }
 {
     for y in 0..17 {
         if facts::has(both, y) {
@@ -158,11 +161,12 @@ fn scc_at(query: &[u8], layout: Layout, s: Facts, both: u32, x: Term, z: Term) -
 }
 
 fn scc(query: &[u8], layout: Layout, s: Facts, reach: &[u32; 17], back: &[u32; 17]) -> Choice
-    requires { ⌜ LaysOut layout (now query) ⌝ }
+    requires { ⌜ LaysOut layout (now query) × Turned (now back) (now reach) ⌝ }
+    ensures { λ r. ⌜ ((n : ℕ) (link : List ℕ) → ProposesIn n link (now (reach .entry)) r) ⌝ }
 {
     for x in 0..17 {
-        let both = facts::without(reach[x] & back[x], units::alone(x));
-        if let Found::At(z) = facts::first(facts::without(reach[x], back[x])) {
+        let both = units::both_ways(reach, back, x);
+        if let Found::At(z) = units::lowest(units::ahead(reach, back, x)) {
             if let Found::At(y) = scc_at(query, layout, s, both, Term(x), z) {
                 return Choice::Apply(Rule::Scc, Term(x), y, Third(z.0));
             }
@@ -180,14 +184,18 @@ fn total_at(
     back: &[u32; 17],
     y: usize,
 ) -> Choice
-    requires { ⌜ LaysOut layout (now query) ⌝ }
+    requires { ⌜ LaysOut layout (now query) × (y ≤ 16) × Turned (now back) (now reach) ⌝ }
+    ensures { λ r. ⌜ ((n : ℕ) (link : List ℕ) → ProposesIn n link (now (reach .entry)) r) ⌝ }
 {
-    let near = units::row(reach, y) | units::row(back, y);
+    let from = back[y];
+    let near = reach[y] | from;
     for z in 0..17 {
-        if !facts::has(near, z) & (y < z) {
-            if let Found::At(x) = facts::first(units::row(back, y) & back[z]) {
-                if fails(query, layout, s, Rule::Total, x, Term(y), Third(z)) {
-                    return Choice::Apply(Rule::Total, x, Term(y), Third(z));
+        if y < z {
+            if !facts::has(near, z) {
+                if let Found::At(x) = units::lowest(from & back[z]) {
+                    if fails(query, layout, s, Rule::Total, x, Term(y), Third(z)) {
+                        return Choice::Apply(Rule::Total, x, Term(y), Third(z));
+                    }
                 }
             }
         }
@@ -196,7 +204,8 @@ fn total_at(
 }
 
 fn total(query: &[u8], layout: Layout, s: Facts, reach: &[u32; 17], back: &[u32; 17]) -> Choice
-    requires { ⌜ LaysOut layout (now query) ⌝ }
+    requires { ⌜ LaysOut layout (now query) × Turned (now back) (now reach) ⌝ }
+    ensures { λ r. ⌜ ((n : ℕ) (link : List ℕ) → ProposesIn n link (now (reach .entry)) r) ⌝ }
 {
     for y in 0..17 {
         if let Choice::Apply(rule, a, b, c) = total_at(query, layout, s, reach, back, y) {
@@ -209,6 +218,7 @@ fn total(query: &[u8], layout: Layout, s: Facts, reach: &[u32; 17], back: &[u32;
 // A place at a closed path with an alternative that soon clashes.
 pub fn failing(query: &[u8], layout: Layout, s: Facts) -> Choice
     requires { ⌜ LaysOut layout (now query) ⌝ }
+    ensures { λ r. ⌜ Proposes (layout .terms) (pathOf s) r ⌝ }
 {
     let link = s.link;
     let reach = s.reach;

@@ -1,5 +1,5 @@
-// Places of the branching rules where at most one alternative is left, once those that would clash at once are struck. Nothing is promised
-// of a place but that the search for it is safe and ends: whoever takes one tests that the rule applies there.
+// Places of the branching rules where at most one alternative is left, once those that would clash at once are struck. That the rule applies
+// at a place is proved; that so few alternatives are left is not, since no verdict rests on it. The rows that such searches read are here too.
 use facts::Facts;
 use facts::Found;
 use facts::Term;
@@ -7,30 +7,95 @@ use query::Layout;
 use rules::Choice;
 use rules::Rule;
 use rules::Third;
-ghost use Prim.Native.Nat.{_+_, _*_, _≤_};
+ghost use mathlib.Core.Path.{_≡_};
+ghost use mathlib.Core.Bool.{not};
+ghost use mathlib.Core.List.{List};
+ghost use Prim.Native.Nat.{ℕ, _+_, _*_, _≤_};
+ghost use lib.Dec.{eqb, ltb};
 ghost use lib.ListN.{length};
+ghost use Rattle.logic.specs.Search.{_and_, from, find};
+ghost use Rattle.facts.specs.Bits.{bit};
+ghost use Rattle.facts.specs.Square.{square, Turned};
+ghost use Rattle.facts.specs.Answers.{foundOf};
+ghost use Rattle.facts.specs.Path.{graphOf, pathOf};
 ghost use Rattle.query.specs.LaysOut.{LaysOut};
+ghost use Rattle.units.specs.Rounds.{Rounds};
+ghost use Rattle.units.specs.Proposes.{Proposes, ProposesIn, FoundIn};
 
-// A term's number, or 0.
-pub fn within(t: Term) -> Term
-    ensures { λ r. ⌜ r .0 ≤ 16 ⌝ }
-{
-    if t.0 <= 16 {
-        return t;
-    }
-    Term(0)
+// The links from a term lead back to it after `steps` steps, through the terms `on`; it reaches the terms `off`, which are none of these.
+// All three are 0 where the links do not lead back.
+pub struct Round {
+    pub steps: usize,
+    pub on: u32,
+    pub off: u32,
 }
 
-// Row a; a number above 16 has none.
-pub fn row(rows: &[u32; 17], a: usize) -> u32 {
-    if a < 17 {
-        return rows[a];
+// The smallest number of a row, of those up to 16.
+pub fn lowest(row: u32) -> Found
+    ensures { λ r. ⌜ foundOf r ≡ find (bit row) (from 17 0) ⌝ }
+{
+    facts::first(row & facts::up_to(16))
+}
+
+// The row of the other terms that x reaches and that reach it. `back` is `reach` turned round.
+pub fn both_ways(reach: &[u32; 17], back: &[u32; 17], x: usize) -> u32
+    requires { ⌜ (x ≤ 16) × Turned (now back) (now reach) ⌝ }
+    ensures { λ r. ⌜ ((y : ℕ) → y ≤ 16 → bit r y ≡ (square (now (reach .entry)) x y and square (now (reach .entry)) y x and not (eqb x y))) ⌝ }
+{
+    facts::without(reach[x] & back[x], facts::only(x))
+}
+
+// The row of the terms that x reaches and that do not reach it.
+pub fn ahead(reach: &[u32; 17], back: &[u32; 17], x: usize) -> u32
+    requires { ⌜ (x ≤ 16) × Turned (now back) (now reach) ⌝ }
+    ensures { λ r. ⌜ ((z : ℕ) → z ≤ 16 → bit r z ≡ (square (now (reach .entry)) x z and not (square (now (reach .entry)) z x))) ⌝ }
+{
+    facts::without(reach[x], back[x])
+}
+
+// The row of the other terms that x reaches and y does not.
+pub fn missed(reach: &[u32; 17], x: usize, y: usize) -> u32
+    requires { ⌜ (x ≤ 16) × (y ≤ 16) ⌝ }
+    ensures { λ r. ⌜ ((z : ℕ) → z ≤ 16 → bit r z ≡ (square (now (reach .entry)) x z and not (eqb x z) and not (square (now (reach .entry)) y z))) ⌝ }
+{
+    facts::without(facts::without(reach[x], facts::only(x)), reach[y])
+}
+
+// The row of the terms that x reaches, where neither y reaches them nor they y.
+fn unordered(reach: &[u32; 17], back: &[u32; 17], x: usize, y: usize) -> u32
+    requires { ⌜ (x ≤ 16) × (y ≤ 16) × Turned (now back) (now reach) ⌝ }
+    ensures { λ r. ⌜ ((z : ℕ) → z ≤ 16 → bit r z ≡ (square (now (reach .entry)) x z and not (square (now (reach .entry)) y z) and not (square (now (reach .entry)) z y))) ⌝ }
+{
+    facts::without(facts::without(reach[x], reach[y]), back[y])
+}
+
+// The round of x.
+pub fn around(link: &[u32; 17], reach: &[u32; 17], n: usize, x: usize) -> Round
+    requires { ⌜ (n ≤ 16) × (x ≤ 16) ⌝ }
+    ensures { λ r. ⌜ Rounds n (graphOf (now (link .entry)) (now (reach .entry))) x r ⌝ }
+{
+    let first = rules::next(link, n, Term(x));
+    let back = rules::follow(link, n, first, Term(x), n);
+    let k = back.steps + 1;
+    if n < k {
+        return Round {
+            steps: 0,
+            on: 0,
+            off: 0,
+        };
     }
-    0
+    let on = back.passed | facts::only(x);
+    Round {
+        steps: k,
+        on,
+        off: facts::without(reach[x], on),
+    }
 }
 
 // The row of b alone; a number above 16 is in none.
-pub fn alone(b: usize) -> u32 {
+fn alone(b: usize) -> u32
+    ensures { λ r. ⌜ ((i : ℕ) → bit r i ≡ (ltb b 17 and eqb i b)) ⌝ }
+{
     if b < 17 {
         return facts::only(b);
     }
@@ -86,7 +151,7 @@ fn having(some: u32, rows: &[u32; 17]) -> u32 {
     let mut out: u32 = 0;
     for b in 0..17 {
         if rows[b] & some != 0 {
-            out = out | alone(b);
+            out = out | facts::only(b);
         }
     }
     out
@@ -147,14 +212,17 @@ fn merged(a: &[u32; 17], b: &[u32; 17], c: &[u32; 17]) -> [u32; 17] {
 }
 
 // SHARE, wherever it applies: it has one alternative.
-fn share(link: &[u32; 17], reach: &[u32; 17], back: &[u32; 17]) -> Choice {
+fn share(link: &[u32; 17], reach: &[u32; 17], back: &[u32; 17]) -> Choice
+    requires { ⌜ Turned (now back) (now reach) ⌝ }
+    ensures { λ r. ⌜ ((n : ℕ) → ProposesIn n (now (link .entry)) (now (reach .entry)) r) ⌝ }
+{
     for x in 0..17 {
         let near = link[x];
         if near != 0 {
-            let both = facts::without(reach[x] & back[x], alone(x));
+            let both = both_ways(reach, back, x);
             for y in 0..17 {
                 if facts::has(both, y) {
-                    if let Found::At(z) = facts::first(near & link[y]) {
+                    if let Found::At(z) = lowest(near & link[y]) {
                         return Choice::Apply(Rule::Share, Term(x), Term(y), Third(z.0));
                     }
                 }
@@ -165,12 +233,14 @@ fn share(link: &[u32; 17], reach: &[u32; 17], back: &[u32; 17]) -> Choice {
 }
 
 // FUNC: x = z or y reaches z.
-fn func(link: &[u32; 17], reach: &[u32; 17], no_equal: &[u32; 17], no_reach: &[u32; 17]) -> Choice {
+fn func(link: &[u32; 17], reach: &[u32; 17], no_equal: &[u32; 17], no_reach: &[u32; 17]) -> Choice
+    ensures { λ r. ⌜ ((n : ℕ) → ProposesIn n (now (link .entry)) (now (reach .entry)) r) ⌝ }
+{
     for x in 0..17 {
-        if let Found::At(y) = facts::first(link[x]) {
-            let struck = no_equal[x] | row(no_reach, y.0);
-            let far = facts::without(facts::without(reach[x], alone(x)), row(reach, y.0));
-            if let Found::At(z) = facts::first(far & struck) {
+        if let Found::At(y) = lowest(link[x]) {
+            let at = y.0;
+            let struck = no_equal[x] | no_reach[at];
+            if let Found::At(z) = lowest(missed(reach, x, at) & struck) {
                 return Choice::Apply(Rule::Func, Term(x), y, Third(z.0));
             }
         }
@@ -178,11 +248,13 @@ fn func(link: &[u32; 17], reach: &[u32; 17], no_equal: &[u32; 17], no_reach: &[u
     Choice::Nothing
 }
 
-// CYCLE of x with y, a term outside the round of x: y is one of the round.
-fn cycle_at(far: u32, round: u32, no_equal: &[u32; 17]) -> Found {
+// CYCLE of a term with y, a term off its round: y is one of the round.
+fn cycle_at(off: u32, on: u32, no_equal: &[u32; 17]) -> Found
+    ensures { λ r. ⌜ FoundIn off r ⌝ }
+{
     for y in 0..17 {
-        if facts::has(far, y) {
-            let left = facts::without(round, no_equal[y]);
+        if facts::has(off, y) {
+            let left = facts::without(on, no_equal[y]);
             if left == 0 {
                 return Found::At(Term(y));
             }
@@ -194,20 +266,16 @@ fn cycle_at(far: u32, round: u32, no_equal: &[u32; 17]) -> Found {
     Found::Nothing
 }
 
-fn cycle(link: &[u32; 17], reach: &[u32; 17], no_equal: &[u32; 17], terms: usize) -> Choice {
-    let n = within(Term(terms)).0;
+fn cycle(link: &[u32; 17], reach: &[u32; 17], no_equal: &[u32; 17], n: usize) -> Choice
+    requires { ⌜ n ≤ 16 ⌝ }
+    ensures { λ r. ⌜ ProposesIn n (now (link .entry)) (now (reach .entry)) r ⌝ }
+{
     for x in 0..17 {
         if link[x] != 0 {
-            let first = within(rules::next(link, n, Term(x)));
-            let k = rules::follow(link, n, first, Term(x), n);
-            let steps = k.steps;
-            if steps < n {
-                if steps < 16 {
-                    let round = k.passed | alone(x);
-                    let far = facts::without(reach[x], round);
-                    if let Found::At(y) = cycle_at(far, round, no_equal) {
-                        return Choice::Apply(Rule::Cycle, Term(x), y, Third(steps + 1));
-                    }
+            let round = around(link, reach, n, x);
+            if round.off != 0 {
+                if let Found::At(y) = cycle_at(round.off, round.on, no_equal) {
+                    return Choice::Apply(Rule::Cycle, Term(x), y, Third(round.steps));
                 }
             }
         }
@@ -216,18 +284,21 @@ fn cycle(link: &[u32; 17], reach: &[u32; 17], no_equal: &[u32; 17], terms: usize
 }
 
 // SCC: x = y or z reaches x.
-fn scc(reach: &[u32; 17], back: &[u32; 17], no_equal: &[u32; 17], no_back: &[u32; 17]) -> Choice {
+fn scc(reach: &[u32; 17], back: &[u32; 17], no_equal: &[u32; 17], no_back: &[u32; 17]) -> Choice
+    requires { ⌜ Turned (now back) (now reach) ⌝ }
+    ensures { λ r. ⌜ ((n : ℕ) (link : List ℕ) → ProposesIn n link (now (reach .entry)) r) ⌝ }
+{
     for x in 0..17 {
-        let out = facts::without(reach[x], back[x]);
-        let both = facts::without(reach[x] & back[x], alone(x));
+        let out = ahead(reach, back, x);
+        let both = both_ways(reach, back, x);
         if (out != 0) & (both != 0) {
-            if let Found::At(y) = facts::first(both & no_equal[x]) {
-                if let Found::At(z) = facts::first(out) {
+            if let Found::At(y) = lowest(both & no_equal[x]) {
+                if let Found::At(z) = lowest(out) {
                     return Choice::Apply(Rule::Scc, Term(x), y, Third(z.0));
                 }
             }
-            if let Found::At(z) = facts::first(out & no_back[x]) {
-                if let Found::At(y) = facts::first(both) {
+            if let Found::At(z) = lowest(out & no_back[x]) {
+                if let Found::At(y) = lowest(both) {
                     return Choice::Apply(Rule::Scc, Term(x), y, Third(z.0));
                 }
             }
@@ -238,18 +309,20 @@ fn scc(reach: &[u32; 17], back: &[u32; 17], no_equal: &[u32; 17], no_back: &[u32
 
 // TOTAL of x with y: y reaches z or z reaches y.
 fn total_at(
-    far: u32,
     reach: &[u32; 17],
     back: &[u32; 17],
     no_reach: &[u32; 17],
     no_back: &[u32; 17],
     x: usize,
-) -> Choice {
+) -> Choice
+    requires { ⌜ (x ≤ 16) × Turned (now back) (now reach) ⌝ }
+    ensures { λ r. ⌜ ((n : ℕ) (link : List ℕ) → ProposesIn n link (now (reach .entry)) r) ⌝ }
+{
+    let far = reach[x];
     for y in 0..17 {
         if facts::has(far, y) {
-            let struck = far & (no_reach[y] | no_back[y]);
-            let other = facts::without(facts::without(struck, reach[y]), back[y]);
-            if let Found::At(z) = facts::first(other) {
+            let struck = no_reach[y] | no_back[y];
+            if let Found::At(z) = lowest(unordered(reach, back, x, y) & struck) {
                 return Choice::Apply(Rule::Total, Term(x), Term(y), Third(z.0));
             }
         }
@@ -257,10 +330,12 @@ fn total_at(
     Choice::Nothing
 }
 
-fn total(reach: &[u32; 17], back: &[u32; 17], no_reach: &[u32; 17], no_back: &[u32; 17]) -> Choice {
+fn total(reach: &[u32; 17], back: &[u32; 17], no_reach: &[u32; 17], no_back: &[u32; 17]) -> Choice
+    requires { ⌜ Turned (now back) (now reach) ⌝ }
+    ensures { λ r. ⌜ ((n : ℕ) (link : List ℕ) → ProposesIn n link (now (reach .entry)) r) ⌝ }
+{
     for x in 0..17 {
-        let far = reach[x];
-        if let Choice::Apply(rule, a, b, c) = total_at(far, reach, back, no_reach, no_back, x) {
+        if let Choice::Apply(rule, a, b, c) = total_at(reach, back, no_reach, no_back, x) {
             return Choice::Apply(rule, a, b, c);
         }
     }
@@ -274,8 +349,11 @@ fn place(
     no_equal: &[u32; 17],
     no_reach: &[u32; 17],
     no_back: &[u32; 17],
-    terms: usize,
-) -> Choice {
+    n: usize,
+) -> Choice
+    requires { ⌜ n ≤ 16 ⌝ }
+    ensures { λ r. ⌜ ProposesIn n (now (link .entry)) (now (reach .entry)) r ⌝ }
+{
     let back = facts::turned(reach);
     if let Choice::Apply(rule, x, y, z) = share(link, reach, &back) {
         return Choice::Apply(rule, x, y, z);
@@ -283,7 +361,7 @@ fn place(
     if let Choice::Apply(rule, x, y, z) = func(link, reach, no_equal, no_reach) {
         return Choice::Apply(rule, x, y, z);
     }
-    if let Choice::Apply(rule, x, y, z) = cycle(link, reach, no_equal, terms) {
+    if let Choice::Apply(rule, x, y, z) = cycle(link, reach, no_equal, n) {
         return Choice::Apply(rule, x, y, z);
     }
     if let Choice::Apply(rule, x, y, z) = scc(reach, &back, no_equal, no_back) {
@@ -309,6 +387,7 @@ fn apart(query: &[u8], layout: Layout, reps: &[usize; 17]) -> [u32; 17]
 // A place at a closed path where at most one alternative does not clash at once.
 pub fn unit(query: &[u8], layout: Layout, s: Facts) -> Choice
     requires { ⌜ LaysOut layout (now query) ⌝ }
+    ensures { λ r. ⌜ Proposes (layout .terms) (pathOf s) r ⌝ }
 {
     let n = layout.terms;
     let rep = s.rep;

@@ -1,15 +1,20 @@
--- Each turn looks at one number more. Assumes nothing.
+-- Each place that is offered is off the round of its x. Assumes nothing.
 use Prim.Native.Nat.{_-_, _≤_}
 use native.Mathlib.Omega.{arith}
 use borrow.Author.Needs.{needs}
+use mathlib.Core.Logic.{⊎-elim}
+use mathlib.Core.Path.{_∙_}
+use Rattle.units.proofs.Places.{lowest-in, cycle-placed}
+use Rattle.gains.proofs.Keeps.{kept-same, kept-better}
+use Rattle.gains.specs.Keeps.{Keeps}
 use Rattle.gains.proofs.cycle.Statement.{statement}
 use Rattle.gains.proofs.cycle.Tie as tie
 
 abbrev Inv-loop : tie.InvT-loop
-Inv-loop link reach terms n best₀ x₀ best x = x ≤ 17
+Inv-loop link reach n best₀ x₀ best x = (x ≤ 17) × Keeps n link reach best₀ best
 
 abbrev μ-loop : tie.MeasureT-loop
-μ-loop link reach terms n best₀ x₀ best x = 17 - x
+μ-loop link reach n best₀ x₀ best x = 17 - x
 
 pub cycle-spec : {M : Type 1} → statement M
 cycle-spec =
@@ -17,34 +22,14 @@ cycle-spec =
     (tie.spec
     Inv-loop
     μ-loop
-    -- within-requires
-    (λ c κs. search needs)
     -- loop-holds
-    (λ c. omega arith)
-    -- mul-if1
-    (λ c. omega arith)
-    -- element-copy-out-if1
-    (λ c. omega arith)
-    -- next-requires
-    (λ c κs. omega arith)
-    -- within-requires-2
-    (λ c κs. search needs)
-    -- follow-requires
-    (λ c κs. omega arith)
-    -- alone-requires
-    (λ c κs. search needs)
-    -- mul-without
-    (λ c. omega arith)
-    -- element-copy-out-without
-    (λ c. omega arith)
-    -- without-requires
-    (λ c κs. search needs)
-    -- first-requires
+    (λ c. (omega arith, λ s e p. p))
+    -- around-requires
+    (λ c κs. (c .before .before .pre, omega arith))
+    -- lowest-requires
     (λ c κs. search needs)
     -- enum-known-y
     (λ c. search needs)
-    -- add-better
-    (λ c. omega arith)
     -- better-requires
     (λ c κs. search needs)
     -- enum-told
@@ -54,6 +39,15 @@ cycle-spec =
     -- loop-less
     (λ c. omega arith)
     -- loop-again
-    (λ c. omega arith)
+    (λ c. (
+      omega arith,
+      λ s e p.
+          let a = c .before .before .before .before .before .args in
+          let h = c .before .before .before .before .loop .inv .1 s e p in
+          ⊎-elim
+          (λ w. kept-better (a .n) s _ _ _ _ (w .4 ∙ w .3 .ensures) h (cycle-placed (a .n) (a .link .now) (a .reach .now) s e _ _ _ _ (c .before .before .before .before .before .pre) (omega arith) (c .before .before .around .ensures .steps-within) (c .before .before .around .ensures .off-round) (lowest-in _ _ (w .1 .given .1) _ (c .before .lowest .ensures))))
+          (λ w. kept-same (a .n) s _ _ (w .2) h)
+          (c .match .came),
+    ))
     -- returns
-    (λ c. search needs))
+    (λ c. c .before .loop .inv .1))

@@ -1,18 +1,24 @@
--- Each turn looks at one number more. Assumes nothing.
+-- Each place that is offered is one where FUNC applies. Assumes nothing.
 use Prim.Native.Nat.{_-_, _≤_}
+use Prim.Native.Nat.{ℕ, _-_, _≤_}
 use native.Mathlib.Omega.{arith}
 use borrow.Author.Needs.{needs}
+use mathlib.Core.Logic.{⊎-elim}
+use mathlib.Core.Path.{sym, _∙_}
+use Rattle.units.proofs.Places.{lowest-in, func-placed}
+use Rattle.gains.proofs.Keeps.{kept-same, kept-better}
+use Rattle.gains.specs.Keeps.{Keeps}
 use Rattle.gains.proofs.func.Statement.{statement}
 use Rattle.gains.proofs.func.Tie as tie
 
 abbrev Inv-loop2 : tie.InvT-loop2
-Inv-loop2 link reach back best₀ x y far z₀ best z = z ≤ 17
+Inv-loop2 link reach back best₀ x y at far z₀ best z = (z ≤ 17) × ((n : ℕ) → Keeps n link reach best₀ best)
 
 abbrev μ-loop2 : tie.MeasureT-loop2
-μ-loop2 link reach back best₀ x y far z₀ best z = 17 - z
+μ-loop2 link reach back best₀ x y at far z₀ best z = 17 - z
 
 abbrev Inv-loop : tie.InvT-loop
-Inv-loop link reach back best₀ x₀ best x = x ≤ 17
+Inv-loop link reach back best₀ x₀ best x = (x ≤ 17) × ((n : ℕ) → Keeps n link reach best₀ best)
 
 abbrev μ-loop : tie.MeasureT-loop
 μ-loop link reach back best₀ x₀ best x = 17 - x
@@ -26,31 +32,25 @@ func-spec =
     Inv-loop
     μ-loop
     -- loop-holds
+    (λ c. (omega arith, λ n s e p. p))
+    -- mul-lowest
     (λ c. omega arith)
-    -- mul-first
+    -- element-copy-out-lowest
     (λ c. omega arith)
-    -- element-copy-out-first
-    (λ c. omega arith)
-    -- first-requires
+    -- lowest-requires
     (λ c κs. search needs)
     -- enum-known-y
     (λ c. search needs)
-    -- mul-without
-    (λ c. omega arith)
-    -- element-copy-out-without
-    (λ c. omega arith)
-    -- row-requires
-    (λ c κs. search needs)
-    -- without-requires
-    (λ c κs. search needs)
+    -- missed-requires
+    (λ c κs. let h = lowest-in _ _ (c .before .y .given .1) _ (c .before .before .before .lowest .ensures) in (omega arith, h .0))
     -- loop2-holds
-    (λ c. omega arith)
+    (λ c. (omega arith, λ n s e p. p))
     -- has-requires
     (λ c κs. omega arith)
     -- joined-requires
-    (λ c κs. search needs)
+    (λ c κs. (omega arith, omega arith))
     -- added-requires
-    (λ c κs. search needs)
+    (λ c κs. let h = lowest-in _ _ (c .before .before .before .before .before .before .before .y .given .1) _ (c .before .before .before .before .before .before .before .before .before .lowest .ensures) in (h .0, omega arith))
     -- product-requires
     (λ c κs. search needs)
     -- better-requires
@@ -60,7 +60,16 @@ func-spec =
     -- loop2-less
     (λ c. omega arith)
     -- loop2-again
-    (λ c. omega arith)
+    (λ c. (
+      omega arith,
+      λ n s e p.
+          let a = c .before .before .before .before .before .before .before .before .before .before .before .before .args in
+          let h = c .before .before .before .loop2 .inv .1 n s e p in
+          ⊎-elim
+          (λ w. kept-better n s _ _ _ _ (w .5 ∙ w .4 .ensures) h (func-placed n (a .link .now) (a .reach .now) s e _ _ _ _ (omega arith) (lowest-in _ _ (c .before .before .before .before .before .before .y .given .1) _ (c .before .before .before .before .before .before .before .before .lowest .ensures)) (c .before .before .before .before .missed .ensures) (omega arith, sym (c .before .has .ensures) ∙ w .0 .taken)))
+          (λ w. kept-same n s _ _ (w .1) h)
+          (c .if1 .came),
+    ))
     -- enum-told
     (λ c. search needs)
     -- add-x
@@ -68,6 +77,14 @@ func-spec =
     -- loop-less
     (λ c. omega arith)
     -- loop-again
-    (λ c. omega arith)
+    (λ c. (
+      omega arith,
+      λ n s e p.
+          let h = c .before .before .before .before .loop .inv .1 n s e p in
+          ⊎-elim
+          (λ w. kept-same n s _ _ (w .6) (w .4 .inv .1 n s e h))
+          (λ w. kept-same n s _ _ (w .2) h)
+          (c .match .came),
+    ))
     -- returns
-    (λ c. search needs))
+    (λ c. c .before .loop .inv .1))

@@ -1,18 +1,25 @@
--- Each turn looks at one number more. Assumes nothing.
+-- Each place that is offered is one where SCC applies. Assumes nothing.
 use Prim.Native.Nat.{_-_, _≤_}
+use Prim.Native.Nat.{ℕ, _-_, _≤_}
 use native.Mathlib.Omega.{arith}
 use borrow.Author.Needs.{needs}
+use mathlib.Core.List.{List}
+use mathlib.Core.Logic.{⊎-elim}
+use mathlib.Core.Path.{sym, _∙_}
+use Rattle.units.proofs.Places.{lowest-in, scc-placed}
+use Rattle.gains.proofs.Keeps.{kept-same, kept-better}
+use Rattle.gains.specs.Keeps.{Keeps}
 use Rattle.gains.proofs.scc.Statement.{statement}
 use Rattle.gains.proofs.scc.Tie as tie
 
 abbrev Inv-loop2 : tie.InvT-loop2
-Inv-loop2 reach back best₀ x both z y₀ best y = y ≤ 17
+Inv-loop2 reach back best₀ x both out y₀ best y = (y ≤ 17) × ((n : ℕ) (link : List ℕ) → Keeps n link reach best₀ best)
 
 abbrev μ-loop2 : tie.MeasureT-loop2
-μ-loop2 reach back best₀ x both z y₀ best y = 17 - y
+μ-loop2 reach back best₀ x both out y₀ best y = 17 - y
 
 abbrev Inv-loop : tie.InvT-loop
-Inv-loop reach back best₀ x₀ best x = x ≤ 17
+Inv-loop reach back best₀ x₀ best x = (x ≤ 17) × ((n : ℕ) (link : List ℕ) → Keeps n link reach best₀ best)
 
 abbrev μ-loop : tie.MeasureT-loop
 μ-loop reach back best₀ x₀ best x = 17 - x
@@ -26,41 +33,23 @@ scc-spec =
     Inv-loop
     μ-loop
     -- loop-holds
-    (λ c. omega arith)
-    -- mul-without
-    (λ c. omega arith)
-    -- element-copy-out-without
-    (λ c. omega arith)
-    -- mul-without-2
-    (λ c. omega arith)
-    -- element-copy-out-without-2
-    (λ c. omega arith)
-    -- alone-requires
-    (λ c κs. search needs)
-    -- without-requires
-    (λ c κs. search needs)
-    -- mul-without-3
-    (λ c. omega arith)
-    -- element-copy-out-without-3
-    (λ c. omega arith)
-    -- mul-without-4
-    (λ c. omega arith)
-    -- element-copy-out-without-4
-    (λ c. omega arith)
-    -- without-requires-2
-    (λ c κs. search needs)
-    -- first-requires
+    (λ c. (omega arith, λ n link s e p. p))
+    -- both-ways-requires
+    (λ c κs. (omega arith, c .before .before .pre))
+    -- ahead-requires
+    (λ c κs. (omega arith, c .before .before .before .pre))
+    -- lowest-requires
     (λ c κs. search needs)
     -- enum-known-z
     (λ c. search needs)
     -- loop2-holds
-    (λ c. omega arith)
+    (λ c. (omega arith, λ n link s e p. p))
     -- has-requires
     (λ c κs. omega arith)
     -- joined-requires
-    (λ c κs. search needs)
+    (λ c κs. (omega arith, omega arith))
     -- added-requires
-    (λ c κs. search needs)
+    (λ c κs. let h = lowest-in _ _ (c .before .before .before .before .before .before .z .given .1) _ (c .before .before .before .before .before .before .before .before .lowest .ensures) in (h .0, omega arith))
     -- product-requires
     (λ c κs. search needs)
     -- better-requires
@@ -70,7 +59,16 @@ scc-spec =
     -- loop2-less
     (λ c. omega arith)
     -- loop2-again
-    (λ c. omega arith)
+    (λ c. (
+      omega arith,
+      λ n link s e p.
+          let a = c .before .before .before .before .before .before .before .before .before .before .before .before .args in
+          let h = c .before .before .before .loop2 .inv .1 n link s e p in
+          ⊎-elim
+          (λ w. kept-better n s _ _ _ _ (w .5 ∙ w .4 .ensures) h (scc-placed n link (a .reach .now) s e _ _ _ _ _ (omega arith) (c .before .before .before .before .before .before .before .before .before .both-ways .ensures) (omega arith, sym (c .before .has .ensures) ∙ w .0 .taken) (c .before .before .before .before .before .before .before .before .ahead .ensures) (lowest-in _ _ (c .before .before .before .before .before .z .given .1) _ (c .before .before .before .before .before .before .before .lowest .ensures))))
+          (λ w. kept-same n s _ _ (w .1) h)
+          (c .if1 .came),
+    ))
     -- enum-told
     (λ c. search needs)
     -- add-x
@@ -78,6 +76,14 @@ scc-spec =
     -- loop-less
     (λ c. omega arith)
     -- loop-again
-    (λ c. omega arith)
+    (λ c. (
+      omega arith,
+      λ n link s e p.
+          let h = c .before .before .before .before .before .loop .inv .1 n link s e p in
+          ⊎-elim
+          (λ w. kept-same n s _ _ (w .5) (w .3 .inv .1 n link s e h))
+          (λ w. kept-same n s _ _ (w .2) h)
+          (c .match .came),
+    ))
     -- returns
-    (λ c. search needs))
+    (λ c. c .before .loop .inv .1))

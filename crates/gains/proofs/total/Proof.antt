@@ -1,12 +1,13 @@
--- Each turn looks at one number more. Assumes nothing.
-use Prim.Native.Nat.{_-_, _≤_}
+-- Each number in turn. Assumes nothing.
+use Prim.Native.Nat.{ℕ, _-_, _≤_}
 use native.Mathlib.Omega.{arith}
-use borrow.Author.Needs.{needs}
+use mathlib.Core.List.{List}
+use Rattle.gains.specs.Keeps.{Keeps}
 use Rattle.gains.proofs.total.Statement.{statement}
 use Rattle.gains.proofs.total.Tie as tie
 
 abbrev Inv-loop : tie.InvT-loop
-Inv-loop reach back best₀ y₀ best y = y ≤ 17
+Inv-loop reach back best₀ y₀ best y = (y ≤ 17) × ((n : ℕ) (link : List ℕ) → Keeps n link reach best₀ best)
 
 abbrev μ-loop : tie.MeasureT-loop
 μ-loop reach back best₀ y₀ best y = 17 - y
@@ -18,14 +19,14 @@ total-spec =
     Inv-loop
     μ-loop
     -- loop-holds
-    (λ c. omega arith)
+    (λ c. (omega arith, λ n link s e p. p))
     -- total-at-requires
-    (λ c κs. search needs)
+    (λ c κs. (omega arith, c .before .before .pre))
     -- add-y
     (λ c. omega arith)
     -- loop-less
     (λ c. omega arith)
     -- loop-again
-    (λ c. omega arith)
+    (λ c. (omega arith, λ n link s e p. c .total-at .ensures n link s e (c .before .before .loop .inv .1 n link s e p)))
     -- returns
-    (λ c. search needs))
+    (λ c. c .before .loop .inv .1))

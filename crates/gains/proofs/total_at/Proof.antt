@@ -1,15 +1,23 @@
--- Each turn looks at one number more. Assumes nothing.
+-- Each place that is offered is one where TOTAL applies. Assumes nothing.
 use Prim.Native.Nat.{_-_, _≤_}
+use Prim.Native.Nat.{ℕ, _-_, _≤_}
 use native.Mathlib.Omega.{arith}
 use borrow.Author.Needs.{needs}
+use borrow.Author.Tests.{not-true}
+use mathlib.Core.List.{List}
+use mathlib.Core.Logic.{⊎-elim}
+use mathlib.Core.Path.{sym, _∙_}
+use Rattle.units.proofs.Places.{lowest-in, total-found}
+use Rattle.gains.proofs.Keeps.{kept-same, kept-better}
+use Rattle.gains.specs.Keeps.{Keeps}
 use Rattle.gains.proofs.total_at.Statement.{statement}
 use Rattle.gains.proofs.total_at.Tie as tie
 
 abbrev Inv-loop : tie.InvT-loop
-Inv-loop reach back y best₀ near z₀ best z = z ≤ 17
+Inv-loop reach back y best₀ from near z₀ best z = (z ≤ 17) × ((n : ℕ) (link : List ℕ) → Keeps n link reach best₀ best)
 
 abbrev μ-loop : tie.MeasureT-loop
-μ-loop reach back y best₀ near z₀ best z = 17 - z
+μ-loop reach back y best₀ from near z₀ best z = 17 - z
 
 pub total-at-spec : {M : Type 1} → statement M
 total-at-spec =
@@ -17,28 +25,30 @@ total-at-spec =
     (tie.spec
     Inv-loop
     μ-loop
-    -- row-requires
-    (λ c κs. search needs)
-    -- row-requires-2
-    (λ c κs. search needs)
-    -- loop-holds
+    -- mul-from
     (λ c. omega arith)
+    -- element-copy-out-from
+    (λ c. omega arith)
+    -- mul-near
+    (λ c. omega arith)
+    -- element-copy-out-near
+    (λ c. omega arith)
+    -- loop-holds
+    (λ c. (omega arith, λ n link s e p. p))
     -- has-requires
     (λ c κs. omega arith)
-    -- row-requires-3
-    (λ c κs. search needs)
-    -- mul-first
+    -- mul-lowest
     (λ c. omega arith)
-    -- element-copy-out-first
+    -- element-copy-out-lowest
     (λ c. omega arith)
-    -- first-requires
+    -- lowest-requires
     (λ c κs. search needs)
     -- enum-known-x
     (λ c. search needs)
     -- added-requires
-    (λ c κs. search needs)
+    (λ c κs. (c .before .before .before .before .before .before .before .before .before .before .before .pre .0, omega arith))
     -- added-requires-2
-    (λ c κs. search needs)
+    (λ c κs. (omega arith, c .before .before .before .before .before .before .before .before .before .before .before .before .pre .0))
     -- product-requires
     (λ c κs. search needs)
     -- better-requires
@@ -50,6 +60,15 @@ total-at-spec =
     -- loop-less
     (λ c. omega arith)
     -- loop-again
-    (λ c. omega arith)
+    (λ c. (
+      omega arith,
+      λ n link s e p.
+          let a = c .before .before .before .before .before .before .args in
+          let h = c .before .before .before .loop .inv .1 n link s e p in
+          ⊎-elim
+          (λ w. kept-better n s _ _ _ _ (w .10 ∙ w .9 .ensures) h (total-found n link (a .reach .now) s e _ _ _ (a .back .now) (c .before .before .before .before .before .before .pre .1) (c .before .before .before .before .before .before .pre .0) (omega arith) (sym (c .before .has .ensures) ∙ not-true _ (w .0 .taken)) (lowest-in _ _ (w .4 .given .1) _ (w .2 .ensures))))
+          (λ v. ⊎-elim (λ w. kept-same n s _ _ (w .5) h) (λ w. kept-same n s _ _ (w .1) h) v)
+          (c .if1 .came),
+    ))
     -- returns
-    (λ c. search needs))
+    (λ c. c .before .loop .inv .1))

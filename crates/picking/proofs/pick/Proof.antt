@@ -1,5 +1,6 @@
--- A place that is proposed is tested; else an order list picks. Assumes nothing.
+-- At a place that is proposed the rule applies; else an order list picks. Assumes nothing.
 use borrow.Author.Needs.{needs}
+use Rattle.units.proofs.Places.{handed-on}
 use Rattle.picking.proofs.pick.Statement.{statement}
 use Rattle.picking.proofs.pick.Tie as tie
 
@@ -11,10 +12,8 @@ pick-spec =
     (λ c κs. search needs)
     -- enum-known-rule
     (λ c. search needs)
-    -- fits-requires
-    (λ c κs. search needs)
     -- returns
-    (λ c. c .before .fits2 .ensures (c .if1 .taken))
+    (λ c. handed-on _ _ _ _ (c .before .rule .given .1) (c .before .before .before .unit .ensures))
     -- enum-told
     (λ c. search needs)
     -- total-first-requires
@@ -25,10 +24,8 @@ pick-spec =
     (λ c κs. search needs)
     -- enum-known-rule-2
     (λ c. search needs)
-    -- fits-requires-2
-    (λ c κs. search needs)
     -- returns-3
-    (λ c. c .before .fits3 .ensures (c .if3 .taken))
+    (λ c. handed-on _ _ _ _ (c .before .rule2 .given .1) (c .before .before .before .other .ensures))
     -- enum-told-2
     (λ c. search needs)
     -- plain-requires

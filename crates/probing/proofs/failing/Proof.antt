@@ -1,10 +1,13 @@
--- Each call is safe. Assumes nothing.
-use native.Mathlib.Omega.{arith}
+-- Whichever proposes first. Assumes nothing.
 use borrow.Author.Needs.{needs}
+use mathlib.Core.Path.{refl}
+use Rattle.facts.specs.Path.{pathOf}
+use Rattle.units.proofs.Places.{handed-on}
 use Rattle.probing.proofs.failing.Statement.{statement}
 use Rattle.probing.proofs.failing.Tie as tie
 
 pub failing-spec : {M : Type 1} → statement M
+unfolding pathOf
 failing-spec =
     tie.close
     (tie.spec
@@ -15,7 +18,7 @@ failing-spec =
     -- enum-known-rule
     (λ c. search needs)
     -- returns
-    (λ c. search needs)
+    (λ c. let a = c .before .before .before .before .before .before .before .before .before .before .before .args in handed-on (a .layout .terms) (pathOf (a .s)) _ _ (c .before .rule .given .1) (c .before .before .before .func .ensures (a .layout .terms) (pathOf (a .s)) refl))
     -- enum-told
     (λ c. search needs)
     -- scc-requires
@@ -23,10 +26,10 @@ failing-spec =
     -- enum-known-rule-2
     (λ c. search needs)
     -- returns-2
-    (λ c. search needs)
+    (λ c. let a = c .before .before .before .before .before .before .before .before .before .before .before .before .before .before .before .before .args in handed-on (a .layout .terms) (pathOf (a .s)) _ _ (c .before .rule2 .given .1) (c .before .before .before .scc .ensures (a .layout .terms) (a .s .link) (pathOf (a .s)) refl))
     -- enum-told-2
     (λ c. search needs)
     -- total-requires
     (λ c κs. search needs)
     -- returns-3
-    (λ c. search needs))
+    (λ c. let a = c .before .before .before .before .before .before .before .before .before .before .before .before .before .before .before .before .before .before .args in c .total .ensures (a .layout .terms) (a .s .link) (pathOf (a .s)) refl))

@@ -1,7 +1,8 @@
--- Each turn looks at one number more. Assumes nothing.
+-- What is found in rows whose bits are known is a place where SCC applies. Assumes nothing.
 use Prim.Native.Nat.{_-_, _≤_}
 use native.Mathlib.Omega.{arith}
 use borrow.Author.Needs.{needs}
+use Rattle.units.proofs.Places.{lowest-in, found-in, scc-placed}
 use Rattle.probing.proofs.scc.Statement.{statement}
 use Rattle.probing.proofs.scc.Tie as tie
 
@@ -19,38 +20,20 @@ scc-spec =
     μ-loop
     -- loop-holds
     (λ c. omega arith)
-    -- mul-without
-    (λ c. omega arith)
-    -- element-copy-out-without
-    (λ c. omega arith)
-    -- mul-without-2
-    (λ c. omega arith)
-    -- element-copy-out-without-2
-    (λ c. omega arith)
-    -- alone-requires
-    (λ c κs. search needs)
-    -- without-requires
-    (λ c κs. search needs)
-    -- mul-without-3
-    (λ c. omega arith)
-    -- element-copy-out-without-3
-    (λ c. omega arith)
-    -- mul-without-4
-    (λ c. omega arith)
-    -- element-copy-out-without-4
-    (λ c. omega arith)
-    -- without-requires-2
-    (λ c κs. search needs)
-    -- first-requires
+    -- both-ways-requires
+    (λ c κs. (omega arith, c .before .before .before .pre .1))
+    -- ahead-requires
+    (λ c κs. (omega arith, c .before .before .before .before .pre .1))
+    -- lowest-requires
     (λ c κs. search needs)
     -- enum-known-z
     (λ c. search needs)
     -- scc-at-requires
-    (λ c κs. search needs)
+    (λ c κs. let h = lowest-in _ _ (c .before .z .given .1) _ (c .before .before .before .lowest .ensures) in (c .before .before .before .before .before .before .before .before .before .pre .0, omega arith, h .0))
     -- enum-known-y
     (λ c. search needs)
     -- returns
-    (λ c. search needs)
+    (λ c. λ n link s e. scc-placed n link (c .before .before .before .before .before .before .before .before .before .before .before .before .before .args .reach .now) s e _ _ _ _ _ (omega arith) (c .before .before .before .before .before .before .before .before .before .both-ways .ensures) (found-in _ _ _ (c .before .y .given .1) (c .before .before .before .scc-at .ensures)) (c .before .before .before .before .before .before .before .before .ahead .ensures) (lowest-in _ _ (c .before .before .before .before .before .z .given .1) _ (c .before .before .before .before .before .before .before .lowest .ensures)))
     -- enum-told
     (λ c. search needs)
     -- enum-told-2

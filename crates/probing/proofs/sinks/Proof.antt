@@ -1,7 +1,9 @@
--- Each turn looks at one number more. Assumes nothing.
+-- A place that is proposed has numbers in range. Assumes nothing.
 use Prim.Native.Nat.{_-_, _≤_}
 use native.Mathlib.Omega.{arith}
 use borrow.Author.Needs.{needs}
+use Rattle.facts.specs.Path.{pathOf}
+use Rattle.units.proofs.Places.{handed-on}
 use Rattle.probing.proofs.sinks.Statement.{statement}
 use Rattle.probing.proofs.sinks.Tie as tie
 
@@ -32,7 +34,7 @@ sinks-spec =
     -- returns-2
     (λ c. search needs)
     -- still-left-requires
-    (λ c κs. search needs)
+    (λ c κs. let h = handed-on (c .before .before .before .before .before .before .before .before .before .args .layout .terms) (pathOf (c .before .before .before .before .before .before .before .loop .t)) _ _ (c .before .rule .given .1) (c .before .before .before .unit .ensures) in (c .before .before .before .before .before .before .before .before .before .pre, h .1, h .2, h .3))
     -- returns-3
     (λ c. search needs)
     -- returns-4

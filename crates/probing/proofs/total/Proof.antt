@@ -1,7 +1,8 @@
--- Each turn looks at one number more. Assumes nothing.
+-- Each number in turn. Assumes nothing.
 use Prim.Native.Nat.{_-_, _≤_}
 use native.Mathlib.Omega.{arith}
 use borrow.Author.Needs.{needs}
+use Rattle.units.proofs.Places.{handed-on}
 use Rattle.probing.proofs.total.Statement.{statement}
 use Rattle.probing.proofs.total.Tie as tie
 
@@ -20,11 +21,11 @@ total-spec =
     -- loop-holds
     (λ c. omega arith)
     -- total-at-requires
-    (λ c κs. search needs)
+    (λ c κs. let p = c .before .before .before .pre in (p .0, omega arith, p .1))
     -- enum-known-rule
     (λ c. search needs)
     -- returns
-    (λ c. search needs)
+    (λ c. λ n link s e. handed-on n s _ _ (c .before .rule .given .1) (c .before .before .before .total-at .ensures n link s e))
     -- enum-told
     (λ c. search needs)
     -- add-y

@@ -1,15 +1,18 @@
--- Each turn looks at one number more. Assumes nothing.
+-- What is found in rows whose bits are known is a place where TOTAL applies. Assumes nothing.
 use Prim.Native.Nat.{_-_, _≤_}
 use native.Mathlib.Omega.{arith}
 use borrow.Author.Needs.{needs}
+use borrow.Author.Tests.{not-true}
+use mathlib.Core.Path.{sym, _∙_}
+use Rattle.units.proofs.Places.{lowest-in, total-found}
 use Rattle.probing.proofs.total_at.Statement.{statement}
 use Rattle.probing.proofs.total_at.Tie as tie
 
 abbrev Inv-loop : tie.InvT-loop
-Inv-loop query layout s reach back y near z₀ z = z ≤ 17
+Inv-loop query layout s reach back y from near z₀ z = z ≤ 17
 
 abbrev μ-loop : tie.MeasureT-loop
-μ-loop query layout s reach back y near z₀ z = 17 - z
+μ-loop query layout s reach back y from near z₀ z = 17 - z
 
 pub total-at-spec : {M : Type 1} → statement M
 total-at-spec =
@@ -17,28 +20,30 @@ total-at-spec =
     (tie.spec
     Inv-loop
     μ-loop
-    -- row-requires
-    (λ c κs. search needs)
-    -- row-requires-2
-    (λ c κs. search needs)
+    -- mul-from
+    (λ c. omega arith)
+    -- element-copy-out-from
+    (λ c. omega arith)
+    -- mul-near
+    (λ c. omega arith)
+    -- element-copy-out-near
+    (λ c. omega arith)
     -- loop-holds
     (λ c. omega arith)
     -- has-requires
     (λ c κs. omega arith)
-    -- row-requires-3
-    (λ c κs. search needs)
-    -- mul-first
+    -- mul-lowest
     (λ c. omega arith)
-    -- element-copy-out-first
+    -- element-copy-out-lowest
     (λ c. omega arith)
-    -- first-requires
+    -- lowest-requires
     (λ c κs. search needs)
     -- enum-known-x
     (λ c. search needs)
     -- fails-requires
-    (λ c κs. search needs)
+    (λ c κs. let h = lowest-in _ _ (c .before .x .given .1) _ (c .before .before .before .lowest .ensures) in (c .before .before .before .before .before .before .before .before .before .before .before .before .before .pre .0, h .0, c .before .before .before .before .before .before .before .before .before .before .before .before .before .pre .1, omega arith))
     -- returns
-    (λ c. search needs)
+    (λ c. λ n link s e. total-found n link (c .before .before .before .before .before .before .before .before .before .before .before .before .before .before .before .args .reach .now) s e _ _ _ (c .before .before .before .before .before .before .before .before .before .before .before .before .before .before .before .args .back .now) (c .before .before .before .before .before .before .before .before .before .before .before .before .before .before .before .pre .2) (c .before .before .before .before .before .before .before .before .before .before .before .before .before .before .before .pre .1) (omega arith) (sym (c .before .before .before .before .before .before .before .before .has .ensures) ∙ not-true _ (c .before .before .before .before .before .before .before .if2 .taken)) (lowest-in _ _ (c .before .before .before .x .given .1) _ (c .before .before .before .before .before .lowest .ensures)))
     -- enum-told
     (λ c. search needs)
     -- add-z

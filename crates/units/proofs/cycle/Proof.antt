@@ -1,15 +1,16 @@
--- Each turn looks at one number more. Assumes nothing.
+-- What is found off the round of x is a place where CYCLE applies. Assumes nothing.
 use Prim.Native.Nat.{_-_, _≤_}
 use native.Mathlib.Omega.{arith}
 use borrow.Author.Needs.{needs}
+use Rattle.units.proofs.Places.{found-in, cycle-placed}
 use Rattle.units.proofs.cycle.Statement.{statement}
 use Rattle.units.proofs.cycle.Tie as tie
 
 abbrev Inv-loop : tie.InvT-loop
-Inv-loop link reach no-equal terms n x₀ x = x ≤ 17
+Inv-loop link reach no-equal n x₀ x = x ≤ 17
 
 abbrev μ-loop : tie.MeasureT-loop
-μ-loop link reach no-equal terms n x₀ x = 17 - x
+μ-loop link reach no-equal n x₀ x = 17 - x
 
 pub cycle-spec : {M : Type 1} → statement M
 cycle-spec =
@@ -17,36 +18,20 @@ cycle-spec =
     (tie.spec
     Inv-loop
     μ-loop
-    -- within-requires
-    (λ c κs. search needs)
     -- loop-holds
     (λ c. omega arith)
     -- mul-if1
     (λ c. omega arith)
     -- element-copy-out-if1
     (λ c. omega arith)
-    -- next-requires
-    (λ c κs. omega arith)
-    -- within-requires-2
-    (λ c κs. search needs)
-    -- follow-requires
-    (λ c κs. omega arith)
-    -- alone-requires
-    (λ c κs. search needs)
-    -- mul-without
-    (λ c. omega arith)
-    -- element-copy-out-without
-    (λ c. omega arith)
-    -- without-requires
-    (λ c κs. search needs)
+    -- around-requires
+    (λ c κs. (c .before .before .before .before .pre, omega arith))
     -- cycle-at-requires
     (λ c κs. search needs)
     -- enum-known-y
     (λ c. search needs)
-    -- add-t30
-    (λ c. omega arith)
     -- returns
-    (λ c. search needs)
+    (λ c. λ s e. cycle-placed (c .before .before .before .before .before .before .before .before .before .before .before .args .n) (c .before .before .before .before .before .before .before .before .before .before .before .args .link .now) (c .before .before .before .before .before .before .before .before .before .before .before .args .reach .now) s e _ _ _ _ (c .before .before .before .before .before .before .before .before .before .before .before .pre) (omega arith) (c .before .before .before .before .before .before .around .ensures .steps-within) (c .before .before .before .before .before .before .around .ensures .off-round) (found-in _ _ _ (c .before .y .given .1) (c .before .before .before .cycle-at .ensures)))
     -- enum-told
     (λ c. search needs)
     -- add-x

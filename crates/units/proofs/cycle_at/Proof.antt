@@ -1,15 +1,16 @@
--- Each turn looks at one number more. Assumes nothing.
+-- A number that is answered was looked for in the row. Assumes nothing.
 use Prim.Native.Nat.{_-_, _≤_}
 use native.Mathlib.Omega.{arith}
 use borrow.Author.Needs.{needs}
+use mathlib.Core.Path.{sym, _∙_}
 use Rattle.units.proofs.cycle_at.Statement.{statement}
 use Rattle.units.proofs.cycle_at.Tie as tie
 
 abbrev Inv-loop : tie.InvT-loop
-Inv-loop far round no-equal y₀ y = y ≤ 17
+Inv-loop off on no-equal y₀ y = y ≤ 17
 
 abbrev μ-loop : tie.MeasureT-loop
-μ-loop far round no-equal y₀ y = 17 - y
+μ-loop off on no-equal y₀ y = 17 - y
 
 pub cycle-at-spec : {M : Type 1} → statement M
 cycle-at-spec =
@@ -28,11 +29,11 @@ cycle-at-spec =
     -- without-requires
     (λ c κs. search needs)
     -- returns
-    (λ c. search needs)
+    (λ c. (omega arith, sym (c .before .before .before .before .has .ensures) ∙ c .before .before .before .if1 .taken))
     -- sub-if3
     (λ c. omega arith)
     -- returns-2
-    (λ c. search needs)
+    (λ c. (omega arith, sym (c .before .before .before .before .before .has .ensures) ∙ c .before .before .before .before .if1 .taken))
     -- add-y
     (λ c. omega arith)
     -- loop-less

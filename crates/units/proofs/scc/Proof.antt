@@ -1,7 +1,8 @@
--- Each turn looks at one number more. Assumes nothing.
+-- What is found in rows whose bits are known is a place where SCC applies. Assumes nothing.
 use Prim.Native.Nat.{_-_, _≤_}
 use native.Mathlib.Omega.{arith}
 use borrow.Author.Needs.{needs}
+use Rattle.units.proofs.Places.{lowest-in, lowest-left, scc-placed}
 use Rattle.units.proofs.scc.Statement.{statement}
 use Rattle.units.proofs.scc.Tie as tie
 
@@ -19,60 +20,42 @@ scc-spec =
     μ-loop
     -- loop-holds
     (λ c. omega arith)
-    -- mul-without
+    -- ahead-requires
+    (λ c κs. (omega arith, c .before .before .pre))
+    -- both-ways-requires
+    (λ c κs. (omega arith, c .before .before .before .pre))
+    -- mul-lowest
     (λ c. omega arith)
-    -- element-copy-out-without
+    -- element-copy-out-lowest
     (λ c. omega arith)
-    -- mul-without-2
-    (λ c. omega arith)
-    -- element-copy-out-without-2
-    (λ c. omega arith)
-    -- without-requires
-    (λ c κs. search needs)
-    -- mul-without-3
-    (λ c. omega arith)
-    -- element-copy-out-without-3
-    (λ c. omega arith)
-    -- mul-without-4
-    (λ c. omega arith)
-    -- element-copy-out-without-4
-    (λ c. omega arith)
-    -- alone-requires
-    (λ c κs. search needs)
-    -- without-requires-2
-    (λ c κs. search needs)
-    -- mul-first
-    (λ c. omega arith)
-    -- element-copy-out-first
-    (λ c. omega arith)
-    -- first-requires
+    -- lowest-requires
     (λ c κs. search needs)
     -- enum-known-y
     (λ c. search needs)
-    -- first-requires-2
+    -- lowest-requires-2
     (λ c κs. search needs)
     -- enum-known-z
     (λ c. search needs)
     -- returns
-    (λ c. search needs)
+    (λ c. λ n link s e. scc-placed n link (c .before .before .before .before .before .before .before .before .before .before .before .before .before .before .args .reach .now) s e _ _ _ _ _ (omega arith) (c .before .before .before .before .before .before .before .before .before .before .both-ways .ensures) (lowest-left _ _ (c .before .before .before .before .before .y .given .1) _ _ (c .before .before .before .before .before .before .before .lowest .ensures)) (c .before .before .before .before .before .before .before .before .before .before .before .ahead .ensures) (lowest-in _ _ (c .before .z .given .1) _ (c .before .before .before .lowest2 .ensures)))
     -- enum-told
     (λ c. search needs)
     -- enum-told-2
     (λ c. search needs)
-    -- mul-first-2
+    -- mul-lowest-2
     (λ c. omega arith)
-    -- element-copy-out-first-2
+    -- element-copy-out-lowest-2
     (λ c. omega arith)
-    -- first-requires-3
+    -- lowest-requires-3
     (λ c κs. search needs)
     -- enum-known-z-2
     (λ c. search needs)
-    -- first-requires-4
+    -- lowest-requires-4
     (λ c κs. search needs)
     -- enum-known-y-2
     (λ c. search needs)
     -- returns-2
-    (λ c. search needs)
+    (λ c. λ n link s e. scc-placed n link (c .before .before .before .before .before .before .before .before .before .before .before .before .before .before .before .before .before .args .reach .now) s e _ _ _ _ _ (omega arith) (c .before .before .before .before .before .before .before .before .before .before .before .before .before .both-ways .ensures) (lowest-in _ _ (c .before .y2 .given .1) _ (c .before .before .before .lowest4 .ensures)) (c .before .before .before .before .before .before .before .before .before .before .before .before .before .before .ahead .ensures) (lowest-left _ _ (c .before .before .before .before .before .z2 .given .1) _ _ (c .before .before .before .before .before .before .before .lowest3 .ensures)))
     -- enum-told-3
     (λ c. search needs)
     -- enum-told-4

@@ -1,7 +1,9 @@
--- Each turn looks at one number more. Assumes nothing.
+-- What is found in rows whose bits are known is a place where SHARE applies. Assumes nothing.
 use Prim.Native.Nat.{_-_, _≤_}
 use native.Mathlib.Omega.{arith}
 use borrow.Author.Needs.{needs}
+use mathlib.Core.Path.{sym, _∙_}
+use Rattle.units.proofs.Places.{lowest-in, share-placed}
 use Rattle.units.proofs.share.Statement.{statement}
 use Rattle.units.proofs.share.Tie as tie
 
@@ -31,32 +33,22 @@ share-spec =
     (λ c. omega arith)
     -- element-copy-out-near
     (λ c. omega arith)
-    -- mul-without
-    (λ c. omega arith)
-    -- element-copy-out-without
-    (λ c. omega arith)
-    -- mul-without-2
-    (λ c. omega arith)
-    -- element-copy-out-without-2
-    (λ c. omega arith)
-    -- alone-requires
-    (λ c κs. search needs)
-    -- without-requires
-    (λ c κs. search needs)
+    -- both-ways-requires
+    (λ c κs. (omega arith, c .before .before .before .before .pre))
     -- loop2-holds
     (λ c. omega arith)
     -- has-requires
     (λ c κs. omega arith)
-    -- mul-first
+    -- mul-lowest
     (λ c. omega arith)
-    -- element-copy-out-first
+    -- element-copy-out-lowest
     (λ c. omega arith)
-    -- first-requires
+    -- lowest-requires
     (λ c κs. search needs)
     -- enum-known-z
     (λ c. search needs)
     -- returns
-    (λ c. search needs)
+    (λ c. λ n s e. share-placed n (c .before .before .before .before .before .before .before .before .before .before .before .before .before .before .args .link .now) (c .before .before .before .before .before .before .before .before .before .before .before .before .before .before .args .reach .now) s e _ _ _ _ (omega arith) (c .before .before .before .before .before .before .before .before .before .both-ways .ensures) (omega arith, sym (c .before .before .before .before .before .before .has .ensures) ∙ c .before .before .before .before .before .if2 .taken) (lowest-in _ _ (c .before .z .given .1) _ (c .before .before .before .lowest .ensures)))
     -- enum-told
     (λ c. search needs)
     -- add-y

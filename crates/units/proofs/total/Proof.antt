@@ -1,7 +1,8 @@
--- Each turn looks at one number more. Assumes nothing.
+-- Each number in turn. Assumes nothing.
 use Prim.Native.Nat.{_-_, _≤_}
 use native.Mathlib.Omega.{arith}
 use borrow.Author.Needs.{needs}
+use Rattle.units.proofs.Places.{handed-on}
 use Rattle.units.proofs.total.Statement.{statement}
 use Rattle.units.proofs.total.Tie as tie
 
@@ -19,16 +20,12 @@ total-spec =
     μ-loop
     -- loop-holds
     (λ c. omega arith)
-    -- mul-far
-    (λ c. omega arith)
-    -- element-copy-out-far
-    (λ c. omega arith)
     -- total-at-requires
-    (λ c κs. search needs)
+    (λ c κs. (omega arith, c .before .before .pre))
     -- enum-known-rule
     (λ c. search needs)
     -- returns
-    (λ c. search needs)
+    (λ c. λ n link s e. handed-on n s _ _ (c .before .rule .given .1) (c .before .before .before .total-at .ensures n link s e))
     -- enum-told
     (λ c. search needs)
     -- add-x
