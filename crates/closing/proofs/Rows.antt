@@ -1,7 +1,7 @@
 -- A word added to a row.
-use Prim.Native.Nat.{ℕ, _≤_}
+use Prim.Native.Nat.{ℕ, _+_, _≤_, _<_}
 use native.Mathlib.Omega.{arith}
-use mathlib.Core.Path.{_≡_, refl, sym, ap, _∙_, subst}
+use mathlib.Core.Path.{_≡_, refl, sym, ap, ap₂, _∙_, subst}
 use mathlib.Core.Logic.{_⊎_, ⊎-elim, inl, inr}
 use mathlib.Core.Bool.{Bool, true, false}
 use mathlib.Core.List.{List}
@@ -11,15 +11,17 @@ use lib.Dec.{eqb}
 use Rattle.logic.specs.Search.{_and_, _or_}
 use Rattle.logic.specs.Facts.{live}
 use Rattle.logic.specs.Decision.{Follows, is-held, itself, by-link, onward, Closes}
-use Rattle.logic.proofs.Basics.Search.{true-false, and-left, and-right, or-cases, or-left, bool-cases}
-use Rattle.logic.proofs.Basics.Compare.{eq-cases, eqb-true, le-cases}
+use Rattle.logic.proofs.Basics.Search.{true-false, and-left, and-right, and-intro, or-cases, or-left, or-right}
+use Rattle.logic.proofs.Basics.Compare.{eq-cases, eqb-true, eqb-self, le-cases}
+use Rattle.logic.proofs.Paths.Ranged.{live-range}
 use Rattle.facts.specs.Bits.{bit}
 use Rattle.facts.specs.Square.{rowOf, square}
 use Rattle.facts.specs.Path.{pathOf, graphOf}
 use Rattle.facts.specs.declared.Facts as code
 use Rattle.facts.proofs.Bits.{bit-and, bit-or, bit-none}
-use Rattle.facts.proofs.Square.{row-or, row-in, row-beyond, square-row, square-in, square-above, square-beside, set-same, set-other}
-use Rattle.closing.specs.Rows.{Within, Above}
+use Rattle.facts.proofs.Square.{row-or, row-in, row-beyond, row-none, square-row, square-in, square-above, square-beside, set-same, set-other}
+use Rattle.closing.specs.Closed.{Closed}
+use Rattle.closing.specs.Rows.{Within, Above, Seeded, Passed, OnwardBelow, Onward}
 
 module _ (rows : List ℕ) (full : length rows ≡ 17) (a w : ℕ) (h : a ≤ 16) where
   abbrev rows′ : List ℕ
@@ -59,6 +61,11 @@ module _ (rows : List ℕ) (full : length rows ≡ 17) (a w : ℕ) (h : a ≤ 16
 pub within-first : (alive : ℕ → Bool) (link : ℕ → ℕ → Bool) (rows : List ℕ) → Within alive link (square rows) rows
 within-first alive link rows a b e = is-held e
 
+and-none : (t : Bool) → t and false ≡ false
+unfolding _and_
+and-none true = refl
+and-none false = refl
+
 -- a bit of row a is a fact, where it speaks of a number up to 16
 bit-square : (rows : List ℕ) (a y : ℕ) → a ≤ 16 → y ≤ 16 → bit (getD rows a 0) y ≡ true → square rows a y ≡ true
 bit-square rows a y h l e = square-in rows a y h l ∙ e
@@ -74,13 +81,140 @@ seed-follows alive link reach a o h e y l t =
     subst (λ (z : ℕ). Follows (bit alive) (square link) reach a z) (sym same) (itself (subst (λ (z : ℕ). bit alive z ≡ true) same (and-right (bit o y) (bit alive y) b))))
     (or-cases (bit (getD link a 0) y) (bit (bitAnd o alive) y) (sym (bit-or (getD link a 0) (bitAnd o alive) y) ∙ t))
 
-pub through-follows : (alive : ℕ → Bool) (link reach : ℕ → ℕ → Bool) (rows out : List ℕ) (y a w : ℕ) → y ≤ 16 → a ≤ 16 → Within alive link reach rows → Within alive link reach out → ((i : ℕ) → bit w i ≡ true → (bit (getD out a 0) y ≡ true) × (bit (getD rows y 0) i ≡ true)) → (z : ℕ) → z ≤ 16 → bit w z ≡ true → Follows alive link reach a z
-through-follows alive link reach rows out y a w ly la in-rows in-out e z lz t =
-    let (p, r) = e z t in
-    onward (in-out a y (bit-square out a y la ly p)) (in-rows y z (bit-square rows y z ly lz r))
+-- the rows below a hold what REFLEX and TRANS1 conclude
+abbrev pub SeededBelow : ℕ → List ℕ → ℕ → List ℕ → Type 0
+SeededBelow alive link a rows = ((x b : ℕ) → x < a → square link x b ≡ true → square rows x b ≡ true) × ((x : ℕ) → x < a → bit alive x ≡ true → square rows x x ≡ true)
 
-pub none-passed : (row y far : ℕ) (i : ℕ) → bit 0 i ≡ true → (bit row y ≡ true) × (bit far i ≡ true)
-none-passed row y far i e = absurd (true-false e (bit-none i))
+pub seeded-none : (alive : ℕ) (link rows : List ℕ) → SeededBelow alive link 0 rows
+seeded-none alive link rows = (λ x b l e. absurd (omega arith), λ x l e. absurd (omega arith))
+
+pub seeded-more : (alive : ℕ) (link rows : List ℕ) (a o : ℕ) → length rows ≡ 17 → a ≤ 16 → ((i : ℕ) → bit o i ≡ eqb i a) → SeededBelow alive link a rows → SeededBelow alive link (a + 1) (set rows a (bitOr (getD rows a 0) (bitOr (getD link a 0) (bitAnd o alive))))
+seeded-more alive link rows a o full h e (links, own) = (
+  λ x b l t.
+      ⊎-elim
+      (λ p. rw p (here b (or-left (rowOf (bitAnd o alive) b) (sym (ap (λ (r : ℕ → Bool). r b) (square-row link a h)) ∙ subst (λ (z : ℕ). square link z b ≡ true) p t))))
+      (λ d. ap (λ (r : ℕ → Bool). r b) (set-other rows a _ x (d .0)) ∙ links x b (let ne = d .0 in omega arith) t)
+      (eq-cases x a),
+  λ x l t.
+      ⊎-elim
+      (λ p.
+      rw p (here a (or-right (rowOf (getD link a 0) a)
+      (row-in (bitAnd o alive) a h ∙ bit-and o alive a ∙ and-intro (e a ∙ eqb-self a) (subst (λ (z : ℕ). bit alive z ≡ true) p t)))))
+      (λ d. ap (λ (r : ℕ → Bool). r x) (set-other rows a _ x (d .0)) ∙ own x (let ne = d .0 in omega arith) t)
+      (eq-cases x a),
+)
+  where
+    here : (b : ℕ) → rowOf (getD link a 0) b or rowOf (bitAnd o alive) b ≡ true → square (set rows a (bitOr (getD rows a 0) (bitOr (getD link a 0) (bitAnd o alive)))) a b ≡ true
+    here b t =
+        ap (λ (r : ℕ → Bool). r b) (set-same rows a _ full h)
+        ∙ row-or (getD rows a 0) (bitOr (getD link a 0) (bitAnd o alive)) b
+        ∙ or-right (rowOf (getD rows a 0) b) (row-or (getD link a 0) (bitAnd o alive) b ∙ t)
+
+pub seeded-all : (alive : ℕ) (link rows : List ℕ) → SeededBelow alive link 17 rows → Seeded (bit alive) (square link) rows
+seeded-all alive link rows (links, own) = (
+  λ a b t. ⊎-elim (λ l. links a b (omega arith) t) (λ l. absurd (true-false t (square-above link a b l))) (le-cases a 16),
+  λ a l t. own a (omega arith) t,
+)
+
+pub seeded-kept : (alive : ℕ → Bool) (link : ℕ → ℕ → Bool) (rows later : List ℕ) → Above (square rows) later → Seeded alive link rows → Seeded alive link later
+seeded-kept alive link rows later up (links, own) = (λ a b t. up a b (links a b t), λ a l t. up a a (own a l t))
+
+-- the row of a, once it has what y reaches
+pub through-row : (rows out : List ℕ) (y a w : ℕ) → length out ≡ 17 → a ≤ 16 → y ≤ 16 → ((b : ℕ) → square out a b ≡ square rows a b) → ((i : ℕ) → bit w i ≡ bit (getD out a 0) y and bit (getD rows y 0) i) → (b : ℕ) → square (set out a (bitOr (getD out a 0) w)) a b ≡ square rows a b or (square rows a y and square rows y b)
+through-row rows out y a w full la ly same e b =
+    ap (λ (r : ℕ → Bool). r b) (set-same out a (bitOr (getD out a 0) w) full la)
+    ∙ row-or (getD out a 0) w b
+    ∙ ap₂ (λ (x z : Bool). x or z) (sym (ap (λ (r : ℕ → Bool). r b) (square-row out a la)) ∙ same b) (⊎-elim inside outside (le-cases b 16))
+  where
+    inside : b ≤ 16 → rowOf w b ≡ square rows a y and square rows y b
+    inside l = row-in w b l ∙ e b ∙ ap₂ (λ (x z : Bool). x and z) (sym (square-in out a y la ly) ∙ same y) (sym (square-in rows y b ly l))
+
+    outside : 16 < b → rowOf w b ≡ square rows a y and square rows y b
+    outside l = row-beyond w b l ∙ sym (ap (λ (z : Bool). square rows a y and z) (square-beside rows y b l) ∙ and-none (square rows a y))
+
+-- after the rows below a
+pub through-more : (rows out : List ℕ) (y a w : ℕ) → length out ≡ 17 → a ≤ 16 → y ≤ 16 → ((x b : ℕ) → x < a → square out x b ≡ square rows x b or (square rows x y and square rows y b)) → ((x b : ℕ) → a ≤ x → square out x b ≡ square rows x b) → ((i : ℕ) → bit w i ≡ bit (getD out a 0) y and bit (getD rows y 0) i) → (x b : ℕ) → x < a + 1 → square (set out a (bitOr (getD out a 0) w)) x b ≡ square rows x b or (square rows x y and square rows y b)
+through-more rows out y a w full la ly done left e x b l =
+    ⊎-elim
+    (λ p. rw p (through-row rows out y a w full la ly (λ c. left a c (omega arith)) e b))
+    (λ d. ap (λ (r : ℕ → Bool). r b) (set-other out a (bitOr (getD out a 0) w) x (d .0)) ∙ done x b (let ne = d .0 in omega arith))
+    (eq-cases x a)
+
+pub through-left : (rows out : List ℕ) (a w : ℕ) → ((x b : ℕ) → a ≤ x → square out x b ≡ square rows x b) → (x b : ℕ) → a + 1 ≤ x → square (set out a w) x b ≡ square rows x b
+through-left rows out a w left x b l = ap (λ (r : ℕ → Bool). r b) (set-other out a w x (λ p. omega arith)) ∙ left x b (omega arith)
+
+-- all rows; the numbers above 16 have none
+pub through-all : (rows out : List ℕ) (y : ℕ) → ((x b : ℕ) → x < 17 → square out x b ≡ square rows x b or (square rows x y and square rows y b)) → Passed out rows y
+unfolding _and_ _or_
+through-all rows out y done a b =
+    ⊎-elim
+    (λ l. done a b (omega arith))
+    (λ l. square-above out a b l ∙ sym (rw (square-above rows a b l, square-above rows a y l) refl))
+    (le-cases a 16)
+
+-- where y reaches nothing
+pub through-none : (rows : List ℕ) (y : ℕ) → y ≤ 16 → getD rows y 0 ≡ 0 → Passed rows rows y
+unfolding _or_
+through-none rows y h e a b = sym (ap (λ (z : Bool). square rows a b or (square rows a y and z)) empty ∙ ap (λ (z : Bool). square rows a b or z) (and-none (square rows a y)) ∙ or-none (square rows a b))
+  where
+    empty : square rows y b ≡ false
+    empty = ap (λ (r : ℕ → Bool). r b) (square-row rows y h) ∙ ap (λ (w : ℕ). rowOf w b) e ∙ row-none b
+
+    or-none : (x : Bool) → x or false ≡ x
+    or-none true = refl
+    or-none false = refl
+
+-- What passing on through k leaves, of any relation
+module _ (rows later : List ℕ) (k : ℕ) (p : Passed later rows k) where
+  passed-cases : (a b : ℕ) → square later a b ≡ true → (square rows a b ≡ true) ⊎ ((square rows a k ≡ true) × (square rows k b ≡ true))
+  passed-cases a b e =
+      ⊎-elim (λ o. inl o) (λ o. inr (and-left (square rows a k) (square rows k b) o, and-right (square rows a k) (square rows k b) o))
+      (or-cases (square rows a b) (square rows a k and square rows k b) (sym (p a b) ∙ e))
+
+  pub passed-kept : (a b : ℕ) → square rows a b ≡ true → square later a b ≡ true
+  passed-kept a b e = p a b ∙ or-left (square rows a k and square rows k b) e
+
+  passed-via : (a b : ℕ) → square rows a k ≡ true → square rows k b ≡ true → square later a b ≡ true
+  passed-via a b e f = p a b ∙ or-right (square rows a b) (and-intro e f)
+
+  pub passed-within : (alive : ℕ → Bool) (link reach : ℕ → ℕ → Bool) → Within alive link reach rows → Within alive link reach later
+  passed-within alive link reach inside a b e = ⊎-elim (λ o. inside a b o) (λ o. onward (inside a k (o .0)) (inside k b (o .1))) (passed-cases a b e)
+
+  pub passed-onward : OnwardBelow rows k → OnwardBelow later (k + 1)
+  passed-onward below a b c l e f = ⊎-elim through-k lower (eq-cases b k)
+    where
+      to-k : (x : ℕ) → square later x k ≡ true → square rows x k ≡ true
+      to-k x g = ⊎-elim (λ o. o) (λ o. o .0) (passed-cases x k g)
+
+      from-k : (x : ℕ) → square later k x ≡ true → square rows k x ≡ true
+      from-k x g = ⊎-elim (λ o. o) (λ o. o .1) (passed-cases k x g)
+
+      through-k : b ≡ k → square later a c ≡ true
+      through-k q = passed-via a c (to-k a (subst (λ (z : ℕ). square later a z ≡ true) q e)) (from-k c (subst (λ (z : ℕ). square later z c ≡ true) q f))
+
+      lower : (b ≡ k → ⊥) × (eqb b k ≡ false) → square later a c ≡ true
+      lower d =
+          let ne = d .0 in
+          let m : b < k = omega arith in
+          ⊎-elim
+          (λ o. ⊎-elim (λ o′. passed-kept a c (below a b c m o o′)) (λ o′. passed-via a c (below a b k m o (o′ .0)) (o′ .1)) (passed-cases b c f))
+          (λ o. ⊎-elim (λ o′. passed-via a c (o .0) (below k b c m (o .1) o′)) (λ o′. passed-via a c (o .0) (o′ .1)) (passed-cases b c f))
+          (passed-cases a b e)
+
+pub onward-none : (rows : List ℕ) → OnwardBelow rows 0
+onward-none rows a b c l e f = absurd (omega arith)
+
+pub onward-all : (rows : List ℕ) → OnwardBelow rows 17 → Onward rows
+onward-all rows below a b c e f = ⊎-elim (λ l. below a b c (omega arith) e f) (λ l. absurd (true-false e (square-beside rows a b l))) (le-cases b 16)
+
+-- bits handed on where the row has y, and where it has not
+pub passed-all : (row y far i : ℕ) → bit row y ≡ true → bit far i ≡ bit row y and bit far i
+unfolding _and_
+passed-all row y far i e = rw e refl
+
+pub passed-none : (row y far i : ℕ) → bit row y ≡ false → bit 0 i ≡ bit row y and bit far i
+unfolding _and_
+passed-none row y far i e = bit-none i ∙ rw e refl
 
 -- a path with the rows in place of its own
 pub closes : (n : ℕ) (s t : code.Facts) (alive : ℕ) (rows : List ℕ) → bit alive ≡ live n (pathOf s) → t .rep ≡ s .rep → t .link ≡ s .link → Within (bit alive) (square (s .link)) (square (s .reach)) (t .reach) → Above (square (s .reach)) (t .reach) → Closes n (pathOf s) (pathOf t)
@@ -92,3 +226,15 @@ closes n s t alive rows e r l inside up =
       reach-kept = up;
       reach-follows = λ a b h. subst (λ (f : ℕ → Bool). Follows f (square (s .link)) (square (s .reach)) a b) e (inside a b h);
     }
+
+pub closed : (n : ℕ) (s t : code.Facts) (alive : ℕ) → n ≤ 16 → bit alive ≡ live n (pathOf s) → t .rep ≡ s .rep → t .link ≡ s .link → Seeded (bit alive) (square (s .link)) (t .reach) → Onward (t .reach) → Closed n (pathOf t)
+unfolding pathOf graphOf live
+closed n s t alive small e r l (links, own) on =
+    record {
+      itself-held = λ a h. let live-a : live n (pathOf s) a ≡ true = same-live a h in own a (let in-n = live-range n (pathOf s) a live-a in omega arith) (ap (λ (f : ℕ → Bool). f a) e ∙ live-a);
+      link-held = λ a b h. links a b (rw l at h);
+      onward-held = on;
+    }
+  where
+    same-live : (a : ℕ) → live n (pathOf t) a ≡ true → live n (pathOf s) a ≡ true
+    same-live a h = rw (sym r) h

@@ -1,8 +1,9 @@
 -- Rows of reachability facts between those of a path and those that follow from it.
-use Prim.Native.Nat.{ℕ}
+use Prim.Native.Nat.{ℕ, _≤_, _<_}
 use mathlib.Core.Path.{_≡_}
 use mathlib.Core.Bool.{Bool, true}
 use mathlib.Core.List.{List}
+use Rattle.logic.specs.Search.{_and_, _or_}
 use Rattle.logic.specs.Decision.{Follows}
 use Rattle.facts.specs.Square.{square}
 
@@ -12,3 +13,18 @@ Within alive link reach rows = (a b : ℕ) → square rows a b ≡ true → Foll
 
 abbrev pub Above : (ℕ → ℕ → Bool) → List ℕ → Type 0
 Above reach rows = (a b : ℕ) → reach a b ≡ true → square rows a b ≡ true
+
+-- what REFLEX and TRANS1 conclude is in the rows
+abbrev pub Seeded : (ℕ → Bool) → (ℕ → ℕ → Bool) → List ℕ → Type 0
+Seeded alive link rows = ((a b : ℕ) → link a b ≡ true → square rows a b ≡ true) × ((a : ℕ) → a ≤ 16 → alive a ≡ true → square rows a a ≡ true)
+
+-- the rows, once whoever reaches y reaches what y does
+abbrev pub Passed : List ℕ → List ℕ → ℕ → Type 0
+Passed later rows y = (a b : ℕ) → square later a b ≡ square rows a b or (square rows a y and square rows y b)
+
+-- what TRANS2 concludes is in the rows: through the numbers below k, and through any
+abbrev pub OnwardBelow : List ℕ → ℕ → Type 0
+OnwardBelow rows k = (a b c : ℕ) → b < k → square rows a b ≡ true → square rows b c ≡ true → square rows a c ≡ true
+
+abbrev pub Onward : List ℕ → Type 0
+Onward rows = (a b c : ℕ) → square rows a b ≡ true → square rows b c ≡ true → square rows a c ≡ true

@@ -3,15 +3,18 @@ use facts::Facts;
 ghost use mathlib.Core.Path.{_≡_};
 ghost use mathlib.Core.Bool.{Bool, true};
 ghost use Prim.Native.Nat.{ℕ, _≤_};
+ghost use lib.ListN.{length};
+ghost use Rattle.logic.specs.Search.{_and_};
 ghost use Rattle.logic.specs.Decision.{Closes};
 ghost use Rattle.facts.specs.Bits.{bit};
 ghost use Rattle.facts.specs.Square.{square};
 ghost use Rattle.facts.specs.Path.{pathOf};
-ghost use Rattle.closing.specs.Rows.{Within, Above};
+ghost use Rattle.closing.specs.Rows.{Within, Above, Seeded, Passed, Onward};
+ghost use Rattle.closing.specs.Closed.{Closed, threeOf, begins};
 
 // REFLEX and TRANS1: each row with its own term, where that is not replaced, and with what it is linked to.
 fn seeded(alive: u32, link: &[u32; 17], reach: [u32; 17]) -> [u32; 17]
-    ensures { λ r. ⌜ Within (bit alive) (square (now (link .entry))) (square reach) r × Above (square reach) r ⌝ }
+    ensures { λ r. ⌜ Within (bit alive) (square (now (link .entry))) (square reach) r × Above (square reach) r × Seeded (bit alive) (square (now (link .entry))) r ⌝ }
 {
     let mut out = reach;
     let mut a: usize = 0;
@@ -26,7 +29,7 @@ fn seeded(alive: u32, link: &[u32; 17], reach: [u32; 17]) -> [u32; 17]
 // What y reaches, for a row that has y.
 fn passed_on(row: u32, y: usize, far: u32) -> u32
     requires { ⌜ y ≤ 16 ⌝ }
-    ensures { λ r. ⌜ ((i : ℕ) → bit r i ≡ true → (bit row y ≡ true) × (bit far i ≡ true)) ⌝ }
+    ensures { λ r. ⌜ ((i : ℕ) → bit r i ≡ bit row y and bit far i) ⌝ }
 {
     if facts::has(row, y) {
         return far;
@@ -37,9 +40,12 @@ fn passed_on(row: u32, y: usize, far: u32) -> u32
 // TRANS2 through y: whoever reaches y reaches what y does.
 fn through(rows: [u32; 17], y: usize) -> [u32; 17]
     requires { ⌜ y ≤ 16 ⌝ }
-    ensures { λ r. ⌜ ((alive : ℕ → Bool) (link reach : ℕ → ℕ → Bool) → Within alive link reach rows → Within alive link reach r) × Above (square rows) r ⌝ }
+    ensures { λ r. ⌜ Passed r rows y ⌝ }
 {
     let far = rows[y];
+    if far == 0 {
+        return rows;
+    }
     let mut out = rows;
     let mut a: usize = 0;
     while a < 17 {
@@ -52,7 +58,7 @@ fn through(rows: [u32; 17], y: usize) -> [u32; 17]
 
 // TRANS2 through each term.
 fn closed_rows(rows: [u32; 17]) -> [u32; 17]
-    ensures { λ r. ⌜ ((alive : ℕ → Bool) (link reach : ℕ → ℕ → Bool) → Within alive link reach rows → Within alive link reach r) × Above (square rows) r ⌝ }
+    ensures { λ r. ⌜ ((alive : ℕ → Bool) (link reach : ℕ → ℕ → Bool) → Within alive link reach rows → Within alive link reach r) × Above (square rows) r × Onward r ⌝ }
 {
     let mut out = rows;
     let mut y: usize = 0;
@@ -64,10 +70,10 @@ fn closed_rows(rows: [u32; 17]) -> [u32; 17]
     out
 }
 
-// The path with the facts that REFLEX, TRANS1 and TRANS2 give. That they are all there is not promised, and nobody needs it.
+// The path with all the facts that REFLEX, TRANS1 and TRANS2 give.
 pub fn close(s: Facts, n: usize) -> Facts
     requires { ⌜ n ≤ 16 ⌝ }
-    ensures { λ r. ⌜ Closes n (pathOf s) (pathOf r) ⌝ }
+    ensures { λ r. ⌜ Closes n (pathOf s) (pathOf r) × Closed n (pathOf r) ⌝ }
 {
     let alive = facts::live(s, n);
     let reach = s.reach;
@@ -76,4 +82,24 @@ pub fn close(s: Facts, n: usize) -> Facts
     let closed = closed_rows(rows);
     t.reach = closed;
     t
+}
+
+// Three numbers are those of REFLEX, TRANS1 and TRANS2, in whatever order.
+fn three_of(a: u8, b: u8, c: u8) -> bool
+    ensures { λ r. ⌜ r ≡ threeOf a b c ⌝ }
+{
+    ((a == 1) | (b == 1) | (c == 1))
+        & ((a == 2) | (b == 2) | (c == 2))
+        & ((a == 3) | (b == 3) | (c == 3))
+        & (a < 4)
+        & (b < 4)
+        & (c < 4)
+}
+
+// The order list begins with these rules.
+pub fn begins(order: &[u8]) -> bool
+    requires { ⌜ 3 ≤ length (now order) ⌝ }
+    ensures { λ r. ⌜ r ≡ begins (now (order .entry)) ⌝ }
+{
+    three_of(order[0], order[1], order[2])
 }

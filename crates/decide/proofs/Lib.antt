@@ -3,3 +3,4 @@ pub mod Seeing
 pub mod Tells
 pub mod Ended
 pub mod Turns
+pub mod Leads

@@ -8,9 +8,10 @@ use Rattle.logic.specs.Query.{Query, termCount}
 use Rattle.logic.specs.Facts.{Facts, Line, clash}
 use Rattle.logic.specs.Rules.{triple, move, applies, rules, choose}
 use Rattle.logic.specs.Walk.{orderOf, walk, saturation}
-use Rattle.logic.specs.Decision.{HasHeap, NoHeap}
+use Rattle.logic.specs.Decision.{HasHeap, NoHeap, Closes}
 use Rattle.facts.specs.Path.{pathOf}
 use Rattle.rules.specs.Answers.{kindOf}
+use Rattle.closing.specs.Closed.{Closed, begins}
 use Rattle.decide.specs.declared.Kind.{Kind}
 use Rattle.decide.specs.declared.Kind.the-variants as kind
 use Rattle.decide.specs.declared.Walked.{Walked}
@@ -37,6 +38,10 @@ Sees q s seen.Saturated = (clash q s ≡ none) × (choose (termCount q) rules s 
 pub record Tells (q : Query) (s : Facts) (k : Kind) : Type 0 where
   pub refuted : k ≡ kind.Refuted → NoHeap q s
   pub has : k ≡ kind.Open → HasHeap q s
+
+-- the path that plain steps look at: closed under REFLEX, TRANS1 and TRANS2 where the order list begins with these
+abbrev pub Ahead : ℕ → List ℕ → Facts → Facts → Type 0
+Ahead n order s t = (begins order ≡ true → Closes n s t × Closed n t) × (begins order ≡ false → t ≡ s)
 
 -- the same of plain steps: where they find the path open, they end where our walk does; they give up only where they are limited
 pub record Walks (q : Query) (order : List ℕ) (k : ℕ) (s : Facts) (limited : Bool) (r : Walked) : Type 0 where

@@ -11,6 +11,8 @@ ghost use mathlib.Core.Path.{_≡_};
 ghost use mathlib.Core.Bool.{true, not};
 ghost use mathlib.Core.Logic.{_⊎_};
 ghost use Prim.Native.Nat.{ℕ, _*_, _≤_};
+ghost use lib.ListN.{length};
+ghost use Rattle.logic.specs.Walk.{look, orderOf};
 ghost use Rattle.logic.specs.Query.{decode, termCount, isOrder};
 ghost use Rattle.logic.specs.Steps.{AtMost};
 ghost use Rattle.logic.specs.Calls.{accepts};
@@ -18,7 +20,9 @@ ghost use Rattle.logic.specs.Decision.{Reachable};
 ghost use Rattle.logic.proofs.Calls.Decision.{Known};
 ghost use Rattle.facts.specs.Path.{pathOf};
 ghost use Rattle.query.specs.LaysOut.{LaysOut};
-ghost use Rattle.decide.specs.Tells.{isRefuted, isUnknown, Sees, Tells, Walks, Decides};
+ghost use Rattle.closing.specs.Closed.{Closed, begins};
+ghost use Rattle.walk.specs.Looks.{lookOf};
+ghost use Rattle.decide.specs.Tells.{isRefuted, isUnknown, Sees, Tells, Ahead, Walks, Decides};
 
 // What is found out of a path.
 pub enum Kind {
@@ -89,6 +93,28 @@ fn spent(budget: usize) -> usize
     0
 }
 
+// The path closed under REFLEX, TRANS1 and TRANS2, where the order list begins with these: our walk comes there by steps of theirs alone.
+fn ahead(order: &[u8], s: Facts, n: usize) -> Facts
+    requires { ⌜ (n ≤ 16) × (3 ≤ length (now order)) ⌝ }
+    ensures { λ r. ⌜ Ahead n (now (order .entry)) (pathOf s) (pathOf r) ⌝ }
+{
+    if closing::begins(order) {
+        return closing::close(s, n);
+    }
+    s
+}
+
+// What our walk sees at such a path: a closed one leaves nothing to the rules that closed it.
+fn look_ahead(query: &[u8], layout: Layout, order: &[u8], t: Facts) -> walk::Seen
+    requires { ⌜ LaysOut layout (now query) × (3 ≤ length (now order)) × (begins (now order) ≡ true → Closed (layout .terms) (pathOf t)) ⌝ }
+    ensures { λ r. ⌜ lookOf r ≡ look (decode (now (query .entry))) (orderOf (now (order .entry))) (pathOf t) ⌝ }
+{
+    if closing::begins(order) {
+        return walk::look(query, layout, &order[3..], t);
+    }
+    walk::look(query, layout, order, t)
+}
+
 // Plain steps: our walk under the order list, without its lines. Where it is limited it gives up as its budget runs out; where it is not, it
 // always ends, since at most `left` rule steps are possible from the path.
 pub fn plain(
@@ -111,15 +137,16 @@ pub fn plain(
             budget: 0,
         };
     }
-    match walk::look(query, layout, order, s) {
+    let front = ahead(order, s, n);
+    match look_ahead(query, layout, order, front) {
         walk::Seen::Saturated => Walked {
             kind: Kind::Open,
-            facts: s,
+            facts: front,
             budget: spent(budget),
         },
         walk::Seen::Clashing(_, _, _) => Walked {
             kind: Kind::Refuted,
-            facts: s,
+            facts: front,
             budget: spent(budget),
         },
         walk::Seen::Applying(rule, x, y, z) => {
@@ -127,7 +154,7 @@ pub fn plain(
             let mut fuel = spent(budget);
             let mut i: usize = 0;
             while i < total {
-                let joined = branch::branch(s, n, rule, x, y, z, i);
+                let joined = branch::branch(front, n, rule, x, y, z, i);
                 let path = joined.facts;
                 let w = plain(query, layout, order, left - 1, path, limited, fuel);
                 let kind = w.kind;
@@ -139,7 +166,7 @@ pub fn plain(
             }
             Walked {
                 kind: Kind::Refuted,
-                facts: s,
+                facts: front,
                 budget: fuel,
             }
         }

@@ -6,15 +6,19 @@ use mathlib.Core.Path.{_≡_, refl}
 use mathlib.Core.Bool.{Bool}
 use lib.ListN.{length}
 use Rattle.facts.specs.Square.{square}
-use Rattle.closing.specs.Rows.{Within, Above}
+use Rattle.closing.specs.Rows.{Within, Above, OnwardBelow}
+use Rattle.closing.proofs.Rows.{passed-within, passed-kept, passed-onward, onward-none, onward-all}
 use Rattle.closing.proofs.closed_rows.Statement.{statement}
 use Rattle.closing.proofs.closed_rows.Tie as tie
 
 abbrev Inv-loop : tie.InvT-loop
-Inv-loop out₀ y₀ out y = (y ≤ 17) × ((alive : ℕ → Bool) (link reach : ℕ → ℕ → Bool) → Within alive link reach out₀ → Within alive link reach out) × Above (square out₀) out
+Inv-loop out₀ y₀ out y = (y ≤ 17) × ((alive : ℕ → Bool) (link reach : ℕ → ℕ → Bool) → Within alive link reach out₀ → Within alive link reach out) × Above (square out₀) out × OnwardBelow out y
 
 abbrev μ-loop : tie.MeasureT-loop
 μ-loop out₀ y₀ out y = 17 - y
+
+whole : (c : tie.After-loop Inv-loop μ-loop) → c .before .loop .y ≡ 17
+whole c = omega arith
 
 pub closed-rows-spec : {M : Type 1} → statement M
 closed-rows-spec =
@@ -23,7 +27,7 @@ closed-rows-spec =
     Inv-loop
     μ-loop
     -- loop-holds
-    (λ c. (omega arith, λ alive link reach h. h, λ a b e. e))
+    (λ c. (omega arith, λ alive link reach h. h, λ a b e. e, onward-none _))
     -- through-requires
     (λ c κs. omega arith)
     -- add-y
@@ -34,8 +38,9 @@ closed-rows-spec =
     (λ c.
     let l = c .before .before .loop in (
       omega arith,
-      λ alive link reach h. c .through .ensures .0 alive link reach (l .inv .1 alive link reach h),
-      λ a b e. c .through .ensures .1 a b (l .inv .2 a b e),
+      λ alive link reach h. passed-within _ _ _ (c .through .ensures) alive link reach (l .inv .1 alive link reach h),
+      λ a b e. passed-kept _ _ _ (c .through .ensures) a b (l .inv .2 a b e),
+      passed-onward _ _ _ (c .through .ensures) (l .inv .3),
     ))
     -- returns
-    (λ c. (c .before .loop .inv .1, c .before .loop .inv .2)))
+    (λ c. (c .before .loop .inv .1, c .before .loop .inv .2, onward-all _ (rw (whole c) at (c .before .loop .inv .3)))))

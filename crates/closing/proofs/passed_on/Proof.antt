@@ -1,7 +1,7 @@
--- The row has y where its bits are handed on. Assumes nothing.
+-- The bits are handed on where the row has y. Assumes nothing.
 use borrow.Author.Needs.{needs}
 use mathlib.Core.Path.{sym, _∙_}
-use Rattle.closing.proofs.Rows.{none-passed}
+use Rattle.closing.proofs.Rows.{passed-all, passed-none}
 use Rattle.closing.proofs.passed_on.Statement.{statement}
 use Rattle.closing.proofs.passed_on.Tie as tie
 
@@ -12,6 +12,6 @@ passed-on-spec =
     -- has-requires
     (λ c κs. search needs)
     -- returns
-    (λ c i e. (sym (c .before .has .ensures) ∙ c .if1 .taken, e))
+    (λ c i. passed-all _ _ _ i (sym (c .before .has .ensures) ∙ c .if1 .taken))
     -- returns-2
-    (λ c i e. none-passed _ _ _ i e))
+    (λ c i. passed-none _ _ _ i (sym (c .before .has .ensures) ∙ c .if1 .left)))

@@ -7,15 +7,18 @@ use lib.ListN.{length, length-set}
 use Rattle.facts.specs.Bits.{bit}
 use Rattle.facts.specs.Square.{square}
 use Rattle.closing.specs.Rows.{Within, Above}
-use Rattle.closing.proofs.Rows.{within-first, within-more, above-more, seed-follows}
+use Rattle.closing.proofs.Rows.{within-first, within-more, above-more, seed-follows, SeededBelow, seeded-none, seeded-more, seeded-all}
 use Rattle.closing.proofs.seeded.Statement.{statement}
 use Rattle.closing.proofs.seeded.Tie as tie
 
 abbrev Inv-loop : tie.InvT-loop
-Inv-loop alive link out₀ a₀ out a = (a ≤ 17) × (length out ≡ 17) × Within (bit alive) (square link) (square out₀) out × Above (square out₀) out
+Inv-loop alive link out₀ a₀ out a = (a ≤ 17) × (length out ≡ 17) × Within (bit alive) (square link) (square out₀) out × Above (square out₀) out × SeededBelow alive link a out
 
 abbrev μ-loop : tie.MeasureT-loop
 μ-loop alive link out₀ a₀ out a = 17 - a
+
+whole : (c : tie.After-loop Inv-loop μ-loop) → c .before .loop .a ≡ 17
+whole c = omega arith
 
 pub seeded-spec : {M : Type 1} → statement M
 seeded-spec =
@@ -24,7 +27,7 @@ seeded-spec =
     Inv-loop
     μ-loop
     -- loop-holds
-    (λ c. (omega arith, search needs, within-first _ _ _, λ a b e. e))
+    (λ c. (omega arith, search needs, within-first _ _ _, λ a b e. e, seeded-none _ _ _))
     -- only-requires
     (λ c κs. omega arith)
     -- mul-out
@@ -50,6 +53,7 @@ seeded-spec =
       simp length-set (l .inv .1),
       within-more _ (l .inv .1) _ _ (omega arith) _ _ _ (l .inv .2) (seed-follows _ _ _ _ _ (omega arith) (c .before .only .ensures)),
       above-more _ (l .inv .1) _ _ (omega arith) _ (l .inv .3),
+      seeded-more _ _ _ _ _ (l .inv .1) (omega arith) (c .before .only .ensures) (l .inv .4),
     ))
     -- returns
-    (λ c. (c .before .loop .inv .2, c .before .loop .inv .3)))
+    (λ c. (c .before .loop .inv .2, c .before .loop .inv .3, seeded-all _ _ _ (rw (whole c) at (c .before .loop .inv .4)))))

@@ -1,21 +1,23 @@
 -- Each turn adds to a row that has y what y reaches. Assumes nothing.
-use Prim.Native.Nat.{ℕ, _-_, _≤_}
+use Prim.Native.Nat.{ℕ, _-_, _≤_, _<_}
 use native.Mathlib.Omega.{arith}
 use borrow.Author.Needs.{needs}
-use mathlib.Core.Path.{_≡_, refl}
-use mathlib.Core.Bool.{Bool}
+use mathlib.Core.Path.{_≡_, refl, sym, _∙_}
 use lib.ListN.{length, length-set, getD}
+use Rattle.logic.specs.Search.{_and_, _or_}
 use Rattle.facts.specs.Square.{square}
-use Rattle.closing.specs.Rows.{Within, Above}
-use Rattle.closing.proofs.Rows.{within-more, above-more, through-follows}
+use Rattle.closing.proofs.Rows.{through-more, through-left, through-all, through-none}
 use Rattle.closing.proofs.through.Statement.{statement}
 use Rattle.closing.proofs.through.Tie as tie
 
 abbrev Inv-loop : tie.InvT-loop
-Inv-loop y far out₀ a₀ out a = (a ≤ 17) × (length out ≡ 17) × ((alive : ℕ → Bool) (link reach : ℕ → ℕ → Bool) → Within alive link reach out₀ → Within alive link reach out) × Above (square out₀) out
+Inv-loop y far out₀ a₀ out a = (a ≤ 17) × (length out ≡ 17) × ((x b : ℕ) → x < a → square out x b ≡ square out₀ x b or (square out₀ x y and square out₀ y b)) × ((x b : ℕ) → a ≤ x → square out x b ≡ square out₀ x b)
 
 abbrev μ-loop : tie.MeasureT-loop
 μ-loop y far out₀ a₀ out a = 17 - a
+
+whole : (c : tie.After-loop Inv-loop μ-loop) → c .before .loop .a ≡ 17
+whole c = omega arith
 
 pub through-spec : {M : Type 1} → statement M
 through-spec =
@@ -27,8 +29,10 @@ through-spec =
     (λ c. omega arith)
     -- array-read-far
     (λ c. omega arith)
+    -- returns
+    (λ c. through-none _ _ (omega arith) (c .if1 .taken))
     -- loop-holds
-    (λ c. (omega arith, search needs, λ alive link reach h. h, λ a b e. e))
+    (λ c. (omega arith, search needs, λ x b l. absurd (omega arith), λ x b l. refl))
     -- mul-passed-on
     (λ c. omega arith)
     -- array-read-passed-on
@@ -52,8 +56,8 @@ through-spec =
     let l = c .before .before .loop in (
       omega arith,
       simp length-set (l .inv .1),
-      λ alive link reach h. within-more _ (l .inv .1) _ _ (omega arith) _ _ _ (l .inv .2 alive link reach h) (through-follows _ _ _ _ _ _ _ _ (omega arith) (omega arith) h (l .inv .2 alive link reach h) (c .passed-on .ensures)),
-      above-more _ (l .inv .1) _ _ (omega arith) _ (l .inv .3),
+      through-more _ _ _ _ _ (l .inv .1) (omega arith) (omega arith) (l .inv .2) (l .inv .3) (c .passed-on .ensures),
+      through-left _ _ _ _ (l .inv .3),
     ))
-    -- returns
-    (λ c. (c .before .loop .inv .2, c .before .loop .inv .3)))
+    -- returns-2
+    (λ c. through-all _ _ _ (rw (whole c) at (c .before .loop .inv .2))))

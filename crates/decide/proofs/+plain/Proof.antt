@@ -14,6 +14,7 @@ use Rattle.rules.specs.Answers.{kindOf}
 use Rattle.walk.proofs.Steps.{look-is, move-fits, less-left}
 use Rattle.decide.proofs.Tells.{struck-none, both-left}
 use Rattle.decide.proofs.Ended.{walks-nothing, walks-clash, walks-saturated}
+use Rattle.decide.proofs.Leads.{order-long, ahead-known, ahead-most, ahead-walks}
 use Rattle.decide.proofs.Turns.{some-left, walked-known, walked-fewer, walked-struck, walked-branch, walked-all}
 use Rattle.decide.proofs.plain.Reads as plain
 use Rattle.decide.proofs.plain.Kinds as plain-kinds
@@ -22,7 +23,8 @@ use Rattle.branch.proofs.branch.Reads as branch-reads
 use Rattle.branch.proofs.count.Reads as count-reads
 use Rattle.decide.proofs.is_refuted.Reads as is-refuted-reads
 use Rattle.decide.proofs.spent.Reads as spent-reads
-use Rattle.walk.proofs.look.Reads as look-reads
+use Rattle.decide.proofs.ahead.Reads as ahead-reads
+use Rattle.decide.proofs.look_ahead.Reads as look-ahead-reads
 use Rattle.decide.proofs.+plain.{statement}
 use Rattle.decide.proofs.+plain.Tie.{close}
 
@@ -36,15 +38,17 @@ abbrev plain-below : ℕ → In 2 plain-kinds.ps
 plain-below t = and 2 plain-kinds.ps (falls 2 plain-kinds.ps _<_ μ-plain t) plain.Pre
 
 abbrev plain-Inv-loop : plain-lts.InvT-loop
-plain-Inv-loop query layout order left s limited budget n rule x y z total fuel₀ i₀ fuel i = (i ≤ total) × Struck (decode query) (pathOf s) (move (kindOf rule) (triple (x .0) (y .0) (z .0))) i
+plain-Inv-loop query layout order left limited budget n path rule x y z total fuel₀ i₀ fuel i = (i ≤ total) × Struck (decode query) (pathOf path) (move (kindOf rule) (triple (x .0) (y .0) (z .0))) i
 
 abbrev plain-μ-loop : plain-lts.MeasureT-loop
-plain-μ-loop query layout order left s limited budget n rule x y z total fuel₀ i₀ fuel i = total - i
+plain-μ-loop query layout order left limited budget n path rule x y z total fuel₀ i₀ fuel i = total - i
 
 pub +plain-spec : {M : Type 1} → statement M
 +plain-spec = close μ-plain λ t. plain-lts.spec (
-  look-reads.Asked,
-  look-reads.Learnt,
+  ahead-reads.Asked,
+  ahead-reads.Learnt,
+  look-ahead-reads.Asked,
+  look-ahead-reads.Learnt,
   spent-reads.Asked,
   spent-reads.Learnt,
   count-reads.Asked,
@@ -62,8 +66,10 @@ pub +plain-spec : {M : Type 1} → statement M
     plain-μ-loop
     -- returns
     (λ c. walks-nothing (c .before .before .before .args .query .now) (c .before .before .before .args .order .now) (c .before .before .before .pre .1 .1) (c .before .before .before .pre .1 .2) _ _ (c .before .before .before .pre .1 .3) _ _ refl (both-left _ _ (c .if1 .taken)))
-    -- look-requires
-    (λ c κs. c .before .before .before .pre .1 .0)
+    -- ahead-requires
+    (λ c κs. (c .before .before .before .pre .1 .0 .terms-within, order-long _ (c .before .before .before .pre .1 .2)))
+    -- look-ahead-requires
+    (λ c κs. (c .before .before .before .before .pre .1 .0, order-long _ (c .before .before .before .before .pre .1 .2), λ b. c .ahead .ensures .0 b .1))
     -- enum-told
     (λ c. search needs)
     -- spent-requires
@@ -81,24 +87,24 @@ pub +plain-spec : {M : Type 1} → statement M
     -- loop-holds
     (λ c. (omega arith, struck-none _ _ _ _ refl))
     -- branch-requires
-    (λ c κs. let f = move-fits _ _ (c .before .before .before .before .before .before .before .before .before .before .before .pre .1 .0) _ _ _ _ _ _ (look-is _ _ _ (c .before .before .before .before .before .before .before .look .ensures) (c .before .before .before .before .before .rule .given .1)) in (c .before .before .before .before .before .before .before .before .before .before .before .pre .1 .0 .terms-within, f .0, f .1, f .2))
+    (λ c κs. let f = move-fits _ _ (c .before .before .before .before .before .before .before .before .before .before .before .before .pre .1 .0) _ _ _ _ _ _ (look-is _ _ _ (c .before .before .before .before .before .before .before .look-ahead .ensures) (c .before .before .before .before .before .rule .given .1)) in (c .before .before .before .before .before .before .before .before .before .before .before .before .pre .1 .0 .terms-within, f .0, f .1, f .2))
     -- sub-plain
-    (λ c. some-left (c .before .before .before .before .before .before .before .before .before .before .before .before .before .args .query .now) (c .before .before .before .before .before .before .before .before .before .before .before .before .before .args .order .now) (c .before .before .before .before .before .before .before .before .before .before .before .before .before .pre .1 .1) (c .before .before .before .before .before .before .before .before .before .before .before .before .before .pre .1 .2) (c .before .before .before .before .before .before .before .before .before .before .before .before .before .args .left) _ (c .before .before .before .before .before .before .before .before .before .before .before .before .before .pre .1 .3) (c .before .before .before .before .before .before .before .before .before .before .before .before .before .pre .1 .4) _ (c .before .before .before .before .before .before .before .before .before .before .before .before .before .pre .1 .0 .term-count) _ _ _ _ (look-is _ _ _ (c .before .before .before .before .before .before .before .before .before .look .ensures) (c .before .before .before .before .before .before .before .rule .given .1)))
+    (λ c. some-left (c .before .before .before .before .before .before .before .before .before .before .before .before .before .before .args .query .now) (c .before .before .before .before .before .before .before .before .before .before .before .before .before .before .args .order .now) (c .before .before .before .before .before .before .before .before .before .before .before .before .before .before .pre .1 .1) (c .before .before .before .before .before .before .before .before .before .before .before .before .before .before .pre .1 .2) (c .before .before .before .before .before .before .before .before .before .before .before .before .before .before .args .left) _ (ahead-known (c .before .before .before .before .before .before .before .before .before .before .before .before .before .before .args .query .now) (c .before .before .before .before .before .before .before .before .before .before .before .before .before .before .args .order .now) (c .before .before .before .before .before .before .before .before .before .before .before .before .before .before .pre .1 .1) (c .before .before .before .before .before .before .before .before .before .before .before .before .before .before .pre .1 .2) (c .before .before .before .before .before .before .before .before .before .before .before .before .before .before .args .left) _ _ (c .before .before .before .before .before .before .before .before .before .before .before .before .before .before .pre .1 .3) (c .before .before .before .before .before .before .before .before .before .before .before .before .before .before .pre .1 .4) _ (c .before .before .before .before .before .before .before .before .before .before .before .before .before .before .pre .1 .0 .term-count) (c .before .before .before .before .before .before .before .before .before .before .ahead .ensures)) (ahead-most (c .before .before .before .before .before .before .before .before .before .before .before .before .before .before .args .query .now) (c .before .before .before .before .before .before .before .before .before .before .before .before .before .before .args .order .now) (c .before .before .before .before .before .before .before .before .before .before .before .before .before .before .pre .1 .1) (c .before .before .before .before .before .before .before .before .before .before .before .before .before .before .pre .1 .2) (c .before .before .before .before .before .before .before .before .before .before .before .before .before .before .args .left) _ _ (c .before .before .before .before .before .before .before .before .before .before .before .before .before .before .pre .1 .3) (c .before .before .before .before .before .before .before .before .before .before .before .before .before .before .pre .1 .4) _ (c .before .before .before .before .before .before .before .before .before .before .before .before .before .before .pre .1 .0 .term-count) (c .before .before .before .before .before .before .before .before .before .before .ahead .ensures)) _ (c .before .before .before .before .before .before .before .before .before .before .before .before .before .before .pre .1 .0 .term-count) _ _ _ _ (look-is _ _ _ (c .before .before .before .before .before .before .before .before .before .look-ahead .ensures) (c .before .before .before .before .before .before .before .rule .given .1)))
     -- plain-requires
-    (λ c κs. (less-left _ _ (some-left (c .before .before .before .before .before .before .before .before .before .before .before .before .before .args .query .now) (c .before .before .before .before .before .before .before .before .before .before .before .before .before .args .order .now) (c .before .before .before .before .before .before .before .before .before .before .before .before .before .pre .1 .1) (c .before .before .before .before .before .before .before .before .before .before .before .before .before .pre .1 .2) (c .before .before .before .before .before .before .before .before .before .before .before .before .before .args .left) _ (c .before .before .before .before .before .before .before .before .before .before .before .before .before .pre .1 .3) (c .before .before .before .before .before .before .before .before .before .before .before .before .before .pre .1 .4) _ (c .before .before .before .before .before .before .before .before .before .before .before .before .before .pre .1 .0 .term-count) _ _ _ _ (look-is _ _ _ (c .before .before .before .before .before .before .before .before .before .look .ensures) (c .before .before .before .before .before .before .before .rule .given .1))) (c .before .before .before .before .before .before .before .before .before .before .before .before .before .pre .0), (c .before .before .before .before .before .before .before .before .before .before .before .before .before .pre .1 .0, c .before .before .before .before .before .before .before .before .before .before .before .before .before .pre .1 .1, c .before .before .before .before .before .before .before .before .before .before .before .before .before .pre .1 .2, walked-known (c .before .before .before .before .before .before .before .before .before .before .before .before .before .args .query .now) (c .before .before .before .before .before .before .before .before .before .before .before .before .before .args .order .now) (c .before .before .before .before .before .before .before .before .before .before .before .before .before .pre .1 .1) (c .before .before .before .before .before .before .before .before .before .before .before .before .before .pre .1 .2) (c .before .before .before .before .before .before .before .before .before .before .before .before .before .args .left) _ (c .before .before .before .before .before .before .before .before .before .before .before .before .before .pre .1 .3) (c .before .before .before .before .before .before .before .before .before .before .before .before .before .pre .1 .4) _ (c .before .before .before .before .before .before .before .before .before .before .before .before .before .pre .1 .0 .term-count) _ _ _ _ (look-is _ _ _ (c .before .before .before .before .before .before .before .before .before .look .ensures) (c .before .before .before .before .before .before .before .rule .given .1)) _ (subst (λ (j : ℕ). c .before .before .before .loop .i < j) (c .before .before .before .before .before .count .ensures) (c .before .before .loop-test .taken)) _ (c .before .branch .ensures), walked-fewer (c .before .before .before .before .before .before .before .before .before .before .before .before .before .args .query .now) (c .before .before .before .before .before .before .before .before .before .before .before .before .before .args .order .now) (c .before .before .before .before .before .before .before .before .before .before .before .before .before .pre .1 .1) (c .before .before .before .before .before .before .before .before .before .before .before .before .before .pre .1 .2) (c .before .before .before .before .before .before .before .before .before .before .before .before .before .args .left) _ (c .before .before .before .before .before .before .before .before .before .before .before .before .before .pre .1 .3) (c .before .before .before .before .before .before .before .before .before .before .before .before .before .pre .1 .4) _ (c .before .before .before .before .before .before .before .before .before .before .before .before .before .pre .1 .0 .term-count) _ _ _ _ (look-is _ _ _ (c .before .before .before .before .before .before .before .before .before .look .ensures) (c .before .before .before .before .before .before .before .rule .given .1)) _ (subst (λ (j : ℕ). c .before .before .before .loop .i < j) (c .before .before .before .before .before .count .ensures) (c .before .before .loop-test .taken)) _ (c .before .branch .ensures))))
+    (λ c κs. (less-left _ _ (some-left (c .before .before .before .before .before .before .before .before .before .before .before .before .before .before .args .query .now) (c .before .before .before .before .before .before .before .before .before .before .before .before .before .before .args .order .now) (c .before .before .before .before .before .before .before .before .before .before .before .before .before .before .pre .1 .1) (c .before .before .before .before .before .before .before .before .before .before .before .before .before .before .pre .1 .2) (c .before .before .before .before .before .before .before .before .before .before .before .before .before .before .args .left) _ (ahead-known (c .before .before .before .before .before .before .before .before .before .before .before .before .before .before .args .query .now) (c .before .before .before .before .before .before .before .before .before .before .before .before .before .before .args .order .now) (c .before .before .before .before .before .before .before .before .before .before .before .before .before .before .pre .1 .1) (c .before .before .before .before .before .before .before .before .before .before .before .before .before .before .pre .1 .2) (c .before .before .before .before .before .before .before .before .before .before .before .before .before .before .args .left) _ _ (c .before .before .before .before .before .before .before .before .before .before .before .before .before .before .pre .1 .3) (c .before .before .before .before .before .before .before .before .before .before .before .before .before .before .pre .1 .4) _ (c .before .before .before .before .before .before .before .before .before .before .before .before .before .before .pre .1 .0 .term-count) (c .before .before .before .before .before .before .before .before .before .before .ahead .ensures)) (ahead-most (c .before .before .before .before .before .before .before .before .before .before .before .before .before .before .args .query .now) (c .before .before .before .before .before .before .before .before .before .before .before .before .before .before .args .order .now) (c .before .before .before .before .before .before .before .before .before .before .before .before .before .before .pre .1 .1) (c .before .before .before .before .before .before .before .before .before .before .before .before .before .before .pre .1 .2) (c .before .before .before .before .before .before .before .before .before .before .before .before .before .before .args .left) _ _ (c .before .before .before .before .before .before .before .before .before .before .before .before .before .before .pre .1 .3) (c .before .before .before .before .before .before .before .before .before .before .before .before .before .before .pre .1 .4) _ (c .before .before .before .before .before .before .before .before .before .before .before .before .before .before .pre .1 .0 .term-count) (c .before .before .before .before .before .before .before .before .before .before .ahead .ensures)) _ (c .before .before .before .before .before .before .before .before .before .before .before .before .before .before .pre .1 .0 .term-count) _ _ _ _ (look-is _ _ _ (c .before .before .before .before .before .before .before .before .before .look-ahead .ensures) (c .before .before .before .before .before .before .before .rule .given .1))) (c .before .before .before .before .before .before .before .before .before .before .before .before .before .before .pre .0), (c .before .before .before .before .before .before .before .before .before .before .before .before .before .before .pre .1 .0, c .before .before .before .before .before .before .before .before .before .before .before .before .before .before .pre .1 .1, c .before .before .before .before .before .before .before .before .before .before .before .before .before .before .pre .1 .2, walked-known (c .before .before .before .before .before .before .before .before .before .before .before .before .before .before .args .query .now) (c .before .before .before .before .before .before .before .before .before .before .before .before .before .before .args .order .now) (c .before .before .before .before .before .before .before .before .before .before .before .before .before .before .pre .1 .1) (c .before .before .before .before .before .before .before .before .before .before .before .before .before .before .pre .1 .2) (c .before .before .before .before .before .before .before .before .before .before .before .before .before .before .args .left) _ (ahead-known (c .before .before .before .before .before .before .before .before .before .before .before .before .before .before .args .query .now) (c .before .before .before .before .before .before .before .before .before .before .before .before .before .before .args .order .now) (c .before .before .before .before .before .before .before .before .before .before .before .before .before .before .pre .1 .1) (c .before .before .before .before .before .before .before .before .before .before .before .before .before .before .pre .1 .2) (c .before .before .before .before .before .before .before .before .before .before .before .before .before .before .args .left) _ _ (c .before .before .before .before .before .before .before .before .before .before .before .before .before .before .pre .1 .3) (c .before .before .before .before .before .before .before .before .before .before .before .before .before .before .pre .1 .4) _ (c .before .before .before .before .before .before .before .before .before .before .before .before .before .before .pre .1 .0 .term-count) (c .before .before .before .before .before .before .before .before .before .before .ahead .ensures)) (ahead-most (c .before .before .before .before .before .before .before .before .before .before .before .before .before .before .args .query .now) (c .before .before .before .before .before .before .before .before .before .before .before .before .before .before .args .order .now) (c .before .before .before .before .before .before .before .before .before .before .before .before .before .before .pre .1 .1) (c .before .before .before .before .before .before .before .before .before .before .before .before .before .before .pre .1 .2) (c .before .before .before .before .before .before .before .before .before .before .before .before .before .before .args .left) _ _ (c .before .before .before .before .before .before .before .before .before .before .before .before .before .before .pre .1 .3) (c .before .before .before .before .before .before .before .before .before .before .before .before .before .before .pre .1 .4) _ (c .before .before .before .before .before .before .before .before .before .before .before .before .before .before .pre .1 .0 .term-count) (c .before .before .before .before .before .before .before .before .before .before .ahead .ensures)) _ (c .before .before .before .before .before .before .before .before .before .before .before .before .before .before .pre .1 .0 .term-count) _ _ _ _ (look-is _ _ _ (c .before .before .before .before .before .before .before .before .before .look-ahead .ensures) (c .before .before .before .before .before .before .before .rule .given .1)) _ (subst (λ (j : ℕ). c .before .before .before .loop .i < j) (c .before .before .before .before .before .count .ensures) (c .before .before .loop-test .taken)) _ (c .before .branch .ensures), walked-fewer (c .before .before .before .before .before .before .before .before .before .before .before .before .before .before .args .query .now) (c .before .before .before .before .before .before .before .before .before .before .before .before .before .before .args .order .now) (c .before .before .before .before .before .before .before .before .before .before .before .before .before .before .pre .1 .1) (c .before .before .before .before .before .before .before .before .before .before .before .before .before .before .pre .1 .2) (c .before .before .before .before .before .before .before .before .before .before .before .before .before .before .args .left) _ (ahead-known (c .before .before .before .before .before .before .before .before .before .before .before .before .before .before .args .query .now) (c .before .before .before .before .before .before .before .before .before .before .before .before .before .before .args .order .now) (c .before .before .before .before .before .before .before .before .before .before .before .before .before .before .pre .1 .1) (c .before .before .before .before .before .before .before .before .before .before .before .before .before .before .pre .1 .2) (c .before .before .before .before .before .before .before .before .before .before .before .before .before .before .args .left) _ _ (c .before .before .before .before .before .before .before .before .before .before .before .before .before .before .pre .1 .3) (c .before .before .before .before .before .before .before .before .before .before .before .before .before .before .pre .1 .4) _ (c .before .before .before .before .before .before .before .before .before .before .before .before .before .before .pre .1 .0 .term-count) (c .before .before .before .before .before .before .before .before .before .before .ahead .ensures)) (ahead-most (c .before .before .before .before .before .before .before .before .before .before .before .before .before .before .args .query .now) (c .before .before .before .before .before .before .before .before .before .before .before .before .before .before .args .order .now) (c .before .before .before .before .before .before .before .before .before .before .before .before .before .before .pre .1 .1) (c .before .before .before .before .before .before .before .before .before .before .before .before .before .before .pre .1 .2) (c .before .before .before .before .before .before .before .before .before .before .before .before .before .before .args .left) _ _ (c .before .before .before .before .before .before .before .before .before .before .before .before .before .before .pre .1 .3) (c .before .before .before .before .before .before .before .before .before .before .before .before .before .before .pre .1 .4) _ (c .before .before .before .before .before .before .before .before .before .before .before .before .before .before .pre .1 .0 .term-count) (c .before .before .before .before .before .before .before .before .before .before .ahead .ensures)) _ (c .before .before .before .before .before .before .before .before .before .before .before .before .before .before .pre .1 .0 .term-count) _ _ _ _ (look-is _ _ _ (c .before .before .before .before .before .before .before .before .before .look-ahead .ensures) (c .before .before .before .before .before .before .before .rule .given .1)) _ (subst (λ (j : ℕ). c .before .before .before .loop .i < j) (c .before .before .before .before .before .count .ensures) (c .before .before .loop-test .taken)) _ (c .before .branch .ensures))))
     -- is-refuted-requires
     (λ c κs. search needs)
     -- returns-2
-    (λ c. walked-branch (c .before .before .before .before .before .before .before .before .before .before .before .before .before .before .before .before .args .query .now) (c .before .before .before .before .before .before .before .before .before .before .before .before .before .before .before .before .args .order .now) (c .before .before .before .before .before .before .before .before .before .before .before .before .before .before .before .before .pre .1 .1) (c .before .before .before .before .before .before .before .before .before .before .before .before .before .before .before .before .pre .1 .2) (c .before .before .before .before .before .before .before .before .before .before .before .before .before .before .before .before .args .left) _ (c .before .before .before .before .before .before .before .before .before .before .before .before .before .before .before .before .pre .1 .3) (c .before .before .before .before .before .before .before .before .before .before .before .before .before .before .before .before .pre .1 .4) _ (c .before .before .before .before .before .before .before .before .before .before .before .before .before .before .before .before .pre .1 .0 .term-count) _ _ _ _ (look-is _ _ _ (c .before .before .before .before .before .before .before .before .before .before .before .before .look .ensures) (c .before .before .before .before .before .before .before .before .before .before .rule .given .1)) _ (subst (λ (j : ℕ). c .before .before .before .before .before .before .loop .i < j) (c .before .before .before .before .before .before .before .before .count .ensures) (c .before .before .before .before .before .loop-test .taken)) _ (c .before .before .before .before .branch .ensures) (c .before .before .before .before .before .before .loop .inv .1) _ _ (c .before .before .plain .ensures) (sym (c .before .is-refuted .ensures) ∙ not-true _ (c .if2 .taken)))
+    (λ c. ahead-walks (c .before .before .before .before .before .before .before .before .before .before .before .before .before .before .before .before .before .args .query .now) (c .before .before .before .before .before .before .before .before .before .before .before .before .before .before .before .before .before .args .order .now) (c .before .before .before .before .before .before .before .before .before .before .before .before .before .before .before .before .before .pre .1 .1) (c .before .before .before .before .before .before .before .before .before .before .before .before .before .before .before .before .before .pre .1 .2) (c .before .before .before .before .before .before .before .before .before .before .before .before .before .before .before .before .before .args .left) _ _ (c .before .before .before .before .before .before .before .before .before .before .before .before .before .before .before .before .before .pre .1 .3) (c .before .before .before .before .before .before .before .before .before .before .before .before .before .before .before .before .before .pre .1 .4) _ (c .before .before .before .before .before .before .before .before .before .before .before .before .before .before .before .before .before .pre .1 .0 .term-count) (c .before .before .before .before .before .before .before .before .before .before .before .before .before .ahead .ensures) _ _ (walked-branch (c .before .before .before .before .before .before .before .before .before .before .before .before .before .before .before .before .before .args .query .now) (c .before .before .before .before .before .before .before .before .before .before .before .before .before .before .before .before .before .args .order .now) (c .before .before .before .before .before .before .before .before .before .before .before .before .before .before .before .before .before .pre .1 .1) (c .before .before .before .before .before .before .before .before .before .before .before .before .before .before .before .before .before .pre .1 .2) (c .before .before .before .before .before .before .before .before .before .before .before .before .before .before .before .before .before .args .left) _ (ahead-known (c .before .before .before .before .before .before .before .before .before .before .before .before .before .before .before .before .before .args .query .now) (c .before .before .before .before .before .before .before .before .before .before .before .before .before .before .before .before .before .args .order .now) (c .before .before .before .before .before .before .before .before .before .before .before .before .before .before .before .before .before .pre .1 .1) (c .before .before .before .before .before .before .before .before .before .before .before .before .before .before .before .before .before .pre .1 .2) (c .before .before .before .before .before .before .before .before .before .before .before .before .before .before .before .before .before .args .left) _ _ (c .before .before .before .before .before .before .before .before .before .before .before .before .before .before .before .before .before .pre .1 .3) (c .before .before .before .before .before .before .before .before .before .before .before .before .before .before .before .before .before .pre .1 .4) _ (c .before .before .before .before .before .before .before .before .before .before .before .before .before .before .before .before .before .pre .1 .0 .term-count) (c .before .before .before .before .before .before .before .before .before .before .before .before .before .ahead .ensures)) (ahead-most (c .before .before .before .before .before .before .before .before .before .before .before .before .before .before .before .before .before .args .query .now) (c .before .before .before .before .before .before .before .before .before .before .before .before .before .before .before .before .before .args .order .now) (c .before .before .before .before .before .before .before .before .before .before .before .before .before .before .before .before .before .pre .1 .1) (c .before .before .before .before .before .before .before .before .before .before .before .before .before .before .before .before .before .pre .1 .2) (c .before .before .before .before .before .before .before .before .before .before .before .before .before .before .before .before .before .args .left) _ _ (c .before .before .before .before .before .before .before .before .before .before .before .before .before .before .before .before .before .pre .1 .3) (c .before .before .before .before .before .before .before .before .before .before .before .before .before .before .before .before .before .pre .1 .4) _ (c .before .before .before .before .before .before .before .before .before .before .before .before .before .before .before .before .before .pre .1 .0 .term-count) (c .before .before .before .before .before .before .before .before .before .before .before .before .before .ahead .ensures)) _ (c .before .before .before .before .before .before .before .before .before .before .before .before .before .before .before .before .before .pre .1 .0 .term-count) _ _ _ _ (look-is _ _ _ (c .before .before .before .before .before .before .before .before .before .before .before .before .look-ahead .ensures) (c .before .before .before .before .before .before .before .before .before .before .rule .given .1)) _ (subst (λ (j : ℕ). c .before .before .before .before .before .before .loop .i < j) (c .before .before .before .before .before .before .before .before .count .ensures) (c .before .before .before .before .before .loop-test .taken)) _ (c .before .before .before .before .branch .ensures) (c .before .before .before .before .before .before .loop .inv .1) _ _ (c .before .before .plain .ensures) (sym (c .before .is-refuted .ensures) ∙ not-true _ (c .if2 .taken))))
     -- add-i
     (λ c. search needs)
     -- loop-less
     (λ c. search needs)
     -- loop-again
-    (λ c. (omega arith, walked-struck (c .before .before .before .before .before .before .before .before .before .before .before .before .before .before .before .before .args .query .now) (c .before .before .before .before .before .before .before .before .before .before .before .before .before .before .before .before .args .order .now) (c .before .before .before .before .before .before .before .before .before .before .before .before .before .before .before .before .pre .1 .1) (c .before .before .before .before .before .before .before .before .before .before .before .before .before .before .before .before .pre .1 .2) (c .before .before .before .before .before .before .before .before .before .before .before .before .before .before .before .before .args .left) _ (c .before .before .before .before .before .before .before .before .before .before .before .before .before .before .before .before .pre .1 .3) (c .before .before .before .before .before .before .before .before .before .before .before .before .before .before .before .before .pre .1 .4) _ (c .before .before .before .before .before .before .before .before .before .before .before .before .before .before .before .before .pre .1 .0 .term-count) _ _ _ _ (look-is _ _ _ (c .before .before .before .before .before .before .before .before .before .before .before .before .look .ensures) (c .before .before .before .before .before .before .before .before .before .before .rule .given .1)) _ (subst (λ (j : ℕ). c .before .before .before .before .before .before .loop .i < j) (c .before .before .before .before .before .before .before .before .count .ensures) (c .before .before .before .before .before .loop-test .taken)) _ (c .before .before .before .before .branch .ensures) (c .before .before .before .before .before .before .loop .inv .1) _ _ (c .before .before .plain .ensures) (sym (c .before .is-refuted .ensures) ∙ not-false _ (c .if2 .left))))
+    (λ c. (omega arith, walked-struck (c .before .before .before .before .before .before .before .before .before .before .before .before .before .before .before .before .before .args .query .now) (c .before .before .before .before .before .before .before .before .before .before .before .before .before .before .before .before .before .args .order .now) (c .before .before .before .before .before .before .before .before .before .before .before .before .before .before .before .before .before .pre .1 .1) (c .before .before .before .before .before .before .before .before .before .before .before .before .before .before .before .before .before .pre .1 .2) (c .before .before .before .before .before .before .before .before .before .before .before .before .before .before .before .before .before .args .left) _ (ahead-known (c .before .before .before .before .before .before .before .before .before .before .before .before .before .before .before .before .before .args .query .now) (c .before .before .before .before .before .before .before .before .before .before .before .before .before .before .before .before .before .args .order .now) (c .before .before .before .before .before .before .before .before .before .before .before .before .before .before .before .before .before .pre .1 .1) (c .before .before .before .before .before .before .before .before .before .before .before .before .before .before .before .before .before .pre .1 .2) (c .before .before .before .before .before .before .before .before .before .before .before .before .before .before .before .before .before .args .left) _ _ (c .before .before .before .before .before .before .before .before .before .before .before .before .before .before .before .before .before .pre .1 .3) (c .before .before .before .before .before .before .before .before .before .before .before .before .before .before .before .before .before .pre .1 .4) _ (c .before .before .before .before .before .before .before .before .before .before .before .before .before .before .before .before .before .pre .1 .0 .term-count) (c .before .before .before .before .before .before .before .before .before .before .before .before .before .ahead .ensures)) (ahead-most (c .before .before .before .before .before .before .before .before .before .before .before .before .before .before .before .before .before .args .query .now) (c .before .before .before .before .before .before .before .before .before .before .before .before .before .before .before .before .before .args .order .now) (c .before .before .before .before .before .before .before .before .before .before .before .before .before .before .before .before .before .pre .1 .1) (c .before .before .before .before .before .before .before .before .before .before .before .before .before .before .before .before .before .pre .1 .2) (c .before .before .before .before .before .before .before .before .before .before .before .before .before .before .before .before .before .args .left) _ _ (c .before .before .before .before .before .before .before .before .before .before .before .before .before .before .before .before .before .pre .1 .3) (c .before .before .before .before .before .before .before .before .before .before .before .before .before .before .before .before .before .pre .1 .4) _ (c .before .before .before .before .before .before .before .before .before .before .before .before .before .before .before .before .before .pre .1 .0 .term-count) (c .before .before .before .before .before .before .before .before .before .before .before .before .before .ahead .ensures)) _ (c .before .before .before .before .before .before .before .before .before .before .before .before .before .before .before .before .before .pre .1 .0 .term-count) _ _ _ _ (look-is _ _ _ (c .before .before .before .before .before .before .before .before .before .before .before .before .look-ahead .ensures) (c .before .before .before .before .before .before .before .before .before .before .rule .given .1)) _ (subst (λ (j : ℕ). c .before .before .before .before .before .before .loop .i < j) (c .before .before .before .before .before .before .before .before .count .ensures) (c .before .before .before .before .before .loop-test .taken)) _ (c .before .before .before .before .branch .ensures) (c .before .before .before .before .before .before .loop .inv .1) _ _ (c .before .before .plain .ensures) (sym (c .before .is-refuted .ensures) ∙ not-false _ (c .if2 .left))))
     -- returns-3
-    (λ c. walks-saturated (c .before .before .before .before .before .before .before .args .query .now) (c .before .before .before .before .before .before .before .args .order .now) (c .before .before .before .before .before .before .before .pre .1 .1) (c .before .before .before .before .before .before .before .pre .1 .2) _ _ (c .before .before .before .before .before .before .before .pre .1 .3) _ _ (look-is _ _ _ (c .before .before .before .look .ensures) (c .before .enum-told .given .1)) refl refl)
+    (λ c. ahead-walks (c .before .before .before .before .before .before .before .before .args .query .now) (c .before .before .before .before .before .before .before .before .args .order .now) (c .before .before .before .before .before .before .before .before .pre .1 .1) (c .before .before .before .before .before .before .before .before .pre .1 .2) (c .before .before .before .before .before .before .before .before .args .left) _ _ (c .before .before .before .before .before .before .before .before .pre .1 .3) (c .before .before .before .before .before .before .before .before .pre .1 .4) _ (c .before .before .before .before .before .before .before .before .pre .1 .0 .term-count) (c .before .before .before .before .ahead .ensures) _ _ (walks-saturated (c .before .before .before .before .before .before .before .before .args .query .now) (c .before .before .before .before .before .before .before .before .args .order .now) (c .before .before .before .before .before .before .before .before .pre .1 .1) (c .before .before .before .before .before .before .before .before .pre .1 .2) _ _ (ahead-known (c .before .before .before .before .before .before .before .before .args .query .now) (c .before .before .before .before .before .before .before .before .args .order .now) (c .before .before .before .before .before .before .before .before .pre .1 .1) (c .before .before .before .before .before .before .before .before .pre .1 .2) (c .before .before .before .before .before .before .before .before .args .left) _ _ (c .before .before .before .before .before .before .before .before .pre .1 .3) (c .before .before .before .before .before .before .before .before .pre .1 .4) _ (c .before .before .before .before .before .before .before .before .pre .1 .0 .term-count) (c .before .before .before .before .ahead .ensures)) _ _ (look-is _ _ _ (c .before .before .before .look-ahead .ensures) (c .before .enum-told .given .1)) refl refl))
     -- returns-4
-    (λ c. walks-clash (c .before .before .before .before .before .before .before .args .query .now) (c .before .before .before .before .before .before .before .args .order .now) (c .before .before .before .before .before .before .before .pre .1 .1) (c .before .before .before .before .before .before .before .pre .1 .2) _ _ (c .before .before .before .before .before .before .before .pre .1 .3) _ _ _ (look-is _ _ _ (c .before .before .before .look .ensures) (c .before .enum-told2 .given .1)) refl)
+    (λ c. ahead-walks (c .before .before .before .before .before .before .before .before .args .query .now) (c .before .before .before .before .before .before .before .before .args .order .now) (c .before .before .before .before .before .before .before .before .pre .1 .1) (c .before .before .before .before .before .before .before .before .pre .1 .2) (c .before .before .before .before .before .before .before .before .args .left) _ _ (c .before .before .before .before .before .before .before .before .pre .1 .3) (c .before .before .before .before .before .before .before .before .pre .1 .4) _ (c .before .before .before .before .before .before .before .before .pre .1 .0 .term-count) (c .before .before .before .before .ahead .ensures) _ _ (walks-clash (c .before .before .before .before .before .before .before .before .args .query .now) (c .before .before .before .before .before .before .before .before .args .order .now) (c .before .before .before .before .before .before .before .before .pre .1 .1) (c .before .before .before .before .before .before .before .before .pre .1 .2) _ _ (ahead-known (c .before .before .before .before .before .before .before .before .args .query .now) (c .before .before .before .before .before .before .before .before .args .order .now) (c .before .before .before .before .before .before .before .before .pre .1 .1) (c .before .before .before .before .before .before .before .before .pre .1 .2) (c .before .before .before .before .before .before .before .before .args .left) _ _ (c .before .before .before .before .before .before .before .before .pre .1 .3) (c .before .before .before .before .before .before .before .before .pre .1 .4) _ (c .before .before .before .before .before .before .before .before .pre .1 .0 .term-count) (c .before .before .before .before .ahead .ensures)) _ _ _ (look-is _ _ _ (c .before .before .before .look-ahead .ensures) (c .before .enum-told2 .given .1)) refl))
     -- returns-5
-    (λ c. walked-all (c .before .before .before .before .before .before .before .before .before .before .before .args .query .now) (c .before .before .before .before .before .before .before .before .before .before .before .args .order .now) (c .before .before .before .before .before .before .before .before .before .before .before .pre .1 .1) (c .before .before .before .before .before .before .before .before .before .before .before .pre .1 .2) (c .before .before .before .before .before .before .before .before .before .before .before .args .left) _ (c .before .before .before .before .before .before .before .before .before .before .before .pre .1 .3) (c .before .before .before .before .before .before .before .before .before .before .before .pre .1 .4) _ (c .before .before .before .before .before .before .before .before .before .before .before .pre .1 .0 .term-count) _ _ _ _ (look-is _ _ _ (c .before .before .before .before .before .before .before .look .ensures) (c .before .before .before .before .before .rule .given .1)) _ (c .before .loop .inv .1) (subst (λ (j : ℕ). j ≤ c .before .loop .i) (c .before .before .before .count .ensures) (c .loop-test .left)) _ _ refl)
+    (λ c. ahead-walks (c .before .before .before .before .before .before .before .before .before .before .before .before .args .query .now) (c .before .before .before .before .before .before .before .before .before .before .before .before .args .order .now) (c .before .before .before .before .before .before .before .before .before .before .before .before .pre .1 .1) (c .before .before .before .before .before .before .before .before .before .before .before .before .pre .1 .2) (c .before .before .before .before .before .before .before .before .before .before .before .before .args .left) _ _ (c .before .before .before .before .before .before .before .before .before .before .before .before .pre .1 .3) (c .before .before .before .before .before .before .before .before .before .before .before .before .pre .1 .4) _ (c .before .before .before .before .before .before .before .before .before .before .before .before .pre .1 .0 .term-count) (c .before .before .before .before .before .before .before .before .ahead .ensures) _ _ (walked-all (c .before .before .before .before .before .before .before .before .before .before .before .before .args .query .now) (c .before .before .before .before .before .before .before .before .before .before .before .before .args .order .now) (c .before .before .before .before .before .before .before .before .before .before .before .before .pre .1 .1) (c .before .before .before .before .before .before .before .before .before .before .before .before .pre .1 .2) (c .before .before .before .before .before .before .before .before .before .before .before .before .args .left) _ (ahead-known (c .before .before .before .before .before .before .before .before .before .before .before .before .args .query .now) (c .before .before .before .before .before .before .before .before .before .before .before .before .args .order .now) (c .before .before .before .before .before .before .before .before .before .before .before .before .pre .1 .1) (c .before .before .before .before .before .before .before .before .before .before .before .before .pre .1 .2) (c .before .before .before .before .before .before .before .before .before .before .before .before .args .left) _ _ (c .before .before .before .before .before .before .before .before .before .before .before .before .pre .1 .3) (c .before .before .before .before .before .before .before .before .before .before .before .before .pre .1 .4) _ (c .before .before .before .before .before .before .before .before .before .before .before .before .pre .1 .0 .term-count) (c .before .before .before .before .before .before .before .before .ahead .ensures)) (ahead-most (c .before .before .before .before .before .before .before .before .before .before .before .before .args .query .now) (c .before .before .before .before .before .before .before .before .before .before .before .before .args .order .now) (c .before .before .before .before .before .before .before .before .before .before .before .before .pre .1 .1) (c .before .before .before .before .before .before .before .before .before .before .before .before .pre .1 .2) (c .before .before .before .before .before .before .before .before .before .before .before .before .args .left) _ _ (c .before .before .before .before .before .before .before .before .before .before .before .before .pre .1 .3) (c .before .before .before .before .before .before .before .before .before .before .before .before .pre .1 .4) _ (c .before .before .before .before .before .before .before .before .before .before .before .before .pre .1 .0 .term-count) (c .before .before .before .before .before .before .before .before .ahead .ensures)) _ (c .before .before .before .before .before .before .before .before .before .before .before .before .pre .1 .0 .term-count) _ _ _ _ (look-is _ _ _ (c .before .before .before .before .before .before .before .look-ahead .ensures) (c .before .before .before .before .before .rule .given .1)) _ (c .before .loop .inv .1) (subst (λ (j : ℕ). j ≤ c .before .loop .i) (c .before .before .before .count .ensures) (c .loop-test .left)) _ _ refl))

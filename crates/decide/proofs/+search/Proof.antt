@@ -87,20 +87,20 @@ pub +search-spec : {M : Type 1} → statement M
     -- sub-search
     (λ c. omega arith)
     -- search-requires
-    (λ c κs. let a = seen-as _ _ _ _ (c .before .before .before .before .before .before .before .before .sees .ensures) (c .before .before .before .before .before .before .rule .given .1) in (fewer-left _ _ (c .before .before .before .before .before .before .before .before .before .before .before .if1 .left) (c .before .before .before .before .before .before .before .before .before .before .before .before .before .pre .0), (c .before .before .before .before .before .before .before .before .before .before .before .before .before .pre .1 .0, c .before .before .before .before .before .before .before .before .before .before .before .before .before .pre .1 .1, known-branch (c .before .before .before .before .before .before .before .before .before .before .before .before .before .args .query .now) (c .before .before .before .before .before .before .before .before .before .before .before .before .before .pre .1 .1) _ _ (c .before .before .before .before .before .before .before .before .before .before .before .before .before .pre .1 .2) _ (c .before .before .before .before .before .before .before .before .before .before .before .before .before .pre .1 .0 .term-count) (c .before .before .before .before .before .before .before .before .before .close .ensures) _ _ _ _ (a .0) _ (subst (λ (j : ℕ). c .before .before .before .loop .i < j) (c .before .before .before .before .count .ensures) (c .before .before .loop-test .taken)) _ (c .before .branch .ensures))))
+    (λ c κs. let a = seen-as _ _ _ _ (c .before .before .before .before .before .before .before .before .sees .ensures) (c .before .before .before .before .before .before .rule .given .1) in (fewer-left _ _ (c .before .before .before .before .before .before .before .before .before .before .before .if1 .left) (c .before .before .before .before .before .before .before .before .before .before .before .before .before .pre .0), (c .before .before .before .before .before .before .before .before .before .before .before .before .before .pre .1 .0, c .before .before .before .before .before .before .before .before .before .before .before .before .before .pre .1 .1, known-branch (c .before .before .before .before .before .before .before .before .before .before .before .before .before .args .query .now) (c .before .before .before .before .before .before .before .before .before .before .before .before .before .pre .1 .1) _ _ (c .before .before .before .before .before .before .before .before .before .before .before .before .before .pre .1 .2) _ (c .before .before .before .before .before .before .before .before .before .before .before .before .before .pre .1 .0 .term-count) (c .before .before .before .before .before .before .before .before .before .close .ensures .0) _ _ _ _ (a .0) _ (subst (λ (j : ℕ). c .before .before .before .loop .i < j) (c .before .before .before .before .count .ensures) (c .before .before .loop-test .taken)) _ (c .before .branch .ensures))))
     -- is-refuted-requires
     (λ c κs. search needs)
     -- returns-3
-    (λ c. let a = seen-as _ _ _ _ (c .before .before .before .before .before .before .before .before .before .before .before .sees .ensures) (c .before .before .before .before .before .before .before .before .before .rule .given .1) in tells-branch (c .before .before .before .before .before .before .before .before .before .before .before .before .before .before .before .before .args .query .now) (c .before .before .before .before .before .before .before .before .before .before .before .before .before .before .before .before .pre .1 .1) _ _ (c .before .before .before .before .before .before .before .before .before .before .before .before .before .before .before .before .pre .1 .2) _ (c .before .before .before .before .before .before .before .before .before .before .before .before .before .before .before .before .pre .1 .0 .term-count) (c .before .before .before .before .before .before .before .before .before .before .before .before .close .ensures) _ _ _ _ (a .0) _ (subst (λ (j : ℕ). c .before .before .before .before .before .before .loop .i < j) (c .before .before .before .before .before .before .before .count .ensures) (c .before .before .before .before .before .loop-test .taken)) _ (c .before .before .before .before .branch .ensures) _ (c .before .before .search .ensures) (sym (c .before .is-refuted .ensures) ∙ not-true _ (c .if3 .taken)))
+    (λ c. let a = seen-as _ _ _ _ (c .before .before .before .before .before .before .before .before .before .before .before .sees .ensures) (c .before .before .before .before .before .before .before .before .before .rule .given .1) in tells-branch (c .before .before .before .before .before .before .before .before .before .before .before .before .before .before .before .before .args .query .now) (c .before .before .before .before .before .before .before .before .before .before .before .before .before .before .before .before .pre .1 .1) _ _ (c .before .before .before .before .before .before .before .before .before .before .before .before .before .before .before .before .pre .1 .2) _ (c .before .before .before .before .before .before .before .before .before .before .before .before .before .before .before .before .pre .1 .0 .term-count) (c .before .before .before .before .before .before .before .before .before .before .before .before .close .ensures .0) _ _ _ _ (a .0) _ (subst (λ (j : ℕ). c .before .before .before .before .before .before .loop .i < j) (c .before .before .before .before .before .before .before .count .ensures) (c .before .before .before .before .before .loop-test .taken)) _ (c .before .before .before .before .branch .ensures) _ (c .before .before .search .ensures) (sym (c .before .is-refuted .ensures) ∙ not-true _ (c .if3 .taken)))
     -- add-i
     (λ c. search needs)
     -- loop-less
     (λ c. search needs)
     -- loop-again
-    (λ c. let a = seen-as _ _ _ _ (c .before .before .before .before .before .before .before .before .before .before .before .sees .ensures) (c .before .before .before .before .before .before .before .before .before .rule .given .1) in (omega arith, struck-more (c .before .before .before .before .before .before .before .before .before .before .before .before .before .before .before .before .args .query .now) (c .before .before .before .before .before .before .before .before .before .before .before .before .before .before .before .before .pre .1 .1) _ _ (c .before .before .before .before .before .before .before .before .before .before .before .before .before .before .before .before .pre .1 .2) _ (c .before .before .before .before .before .before .before .before .before .before .before .before .before .before .before .before .pre .1 .0 .term-count) (c .before .before .before .before .before .before .before .before .before .before .before .before .close .ensures) _ _ _ _ (a .0) _ (subst (λ (j : ℕ). c .before .before .before .before .before .before .loop .i < j) (c .before .before .before .before .before .before .before .count .ensures) (c .before .before .before .before .before .loop-test .taken)) _ (c .before .before .before .before .branch .ensures) (c .before .before .before .before .before .before .loop .inv .1) _ (c .before .before .search .ensures) (sym (c .before .is-refuted .ensures) ∙ not-false _ (c .if3 .left))))
+    (λ c. let a = seen-as _ _ _ _ (c .before .before .before .before .before .before .before .before .before .before .before .sees .ensures) (c .before .before .before .before .before .before .before .before .before .rule .given .1) in (omega arith, struck-more (c .before .before .before .before .before .before .before .before .before .before .before .before .before .before .before .before .args .query .now) (c .before .before .before .before .before .before .before .before .before .before .before .before .before .before .before .before .pre .1 .1) _ _ (c .before .before .before .before .before .before .before .before .before .before .before .before .before .before .before .before .pre .1 .2) _ (c .before .before .before .before .before .before .before .before .before .before .before .before .before .before .before .before .pre .1 .0 .term-count) (c .before .before .before .before .before .before .before .before .before .before .before .before .close .ensures .0) _ _ _ _ (a .0) _ (subst (λ (j : ℕ). c .before .before .before .before .before .before .loop .i < j) (c .before .before .before .before .before .before .before .count .ensures) (c .before .before .before .before .before .loop-test .taken)) _ (c .before .before .before .before .branch .ensures) (c .before .before .before .before .before .before .loop .inv .1) _ (c .before .before .search .ensures) (sym (c .before .is-refuted .ensures) ∙ not-false _ (c .if3 .left))))
     -- returns-4
-    (λ c. let a = seen-as _ _ _ _ (c .before .before .sees .ensures) (c .enum-told .given .1) in tells-saturated (c .before .before .before .before .before .before .before .args .query .now) (c .before .before .before .before .before .before .before .pre .1 .1) _ _ (c .before .before .before .before .before .before .before .pre .1 .2) _ (c .before .before .before .before .before .before .before .pre .1 .0 .term-count) (c .before .before .before .close .ensures) (a .0) (a .1))
+    (λ c. let a = seen-as _ _ _ _ (c .before .before .sees .ensures) (c .enum-told .given .1) in tells-saturated (c .before .before .before .before .before .before .before .args .query .now) (c .before .before .before .before .before .before .before .pre .1 .1) _ _ (c .before .before .before .before .before .before .before .pre .1 .2) _ (c .before .before .before .before .before .before .before .pre .1 .0 .term-count) (c .before .before .before .close .ensures .0) (a .0) (a .1))
     -- returns-5
-    (λ c. let a = seen-as _ _ _ _ (c .before .before .sees .ensures) (c .enum-told2 .given .1) in tells-clash (c .before .before .before .before .before .before .before .args .query .now) (c .before .before .before .before .before .before .before .pre .1 .1) _ _ (c .before .before .before .before .before .before .before .pre .1 .2) _ (c .before .before .before .before .before .before .before .pre .1 .0 .term-count) (c .before .before .before .close .ensures) (a .0) (a .1))
+    (λ c. let a = seen-as _ _ _ _ (c .before .before .sees .ensures) (c .enum-told2 .given .1) in tells-clash (c .before .before .before .before .before .before .before .args .query .now) (c .before .before .before .before .before .before .before .pre .1 .1) _ _ (c .before .before .before .before .before .before .before .pre .1 .2) _ (c .before .before .before .before .before .before .before .pre .1 .0 .term-count) (c .before .before .before .close .ensures .0) (a .0) (a .1))
     -- returns-6
-    (λ c. let a = seen-as _ _ _ _ (c .before .before .before .before .before .before .sees .ensures) (c .before .before .before .before .rule .given .1) in tells-struck (c .before .before .before .before .before .before .before .before .before .before .before .args .query .now) (c .before .before .before .before .before .before .before .before .before .before .before .pre .1 .1) _ _ (c .before .before .before .before .before .before .before .before .before .before .before .pre .1 .2) _ (c .before .before .before .before .before .before .before .before .before .before .before .pre .1 .0 .term-count) (c .before .before .before .before .before .before .before .close .ensures) _ _ _ _ (a .0) _ (c .before .loop .inv .1) (subst (λ (j : ℕ). j ≤ c .before .loop .i) (c .before .before .count .ensures) (c .loop-test .left)))
+    (λ c. let a = seen-as _ _ _ _ (c .before .before .before .before .before .before .sees .ensures) (c .before .before .before .before .rule .given .1) in tells-struck (c .before .before .before .before .before .before .before .before .before .before .before .args .query .now) (c .before .before .before .before .before .before .before .before .before .before .before .pre .1 .1) _ _ (c .before .before .before .before .before .before .before .before .before .before .before .pre .1 .2) _ (c .before .before .before .before .before .before .before .before .before .before .before .pre .1 .0 .term-count) (c .before .before .before .before .before .before .before .close .ensures .0) _ _ _ _ (a .0) _ (c .before .loop .inv .1) (subst (λ (j : ℕ). j ≤ c .before .loop .i) (c .before .before .count .ensures) (c .loop-test .left)))

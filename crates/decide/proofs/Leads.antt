@@ -1,0 +1,77 @@
+-- What is known of a path and found there, where our walk of another path comes to it by REFLEX, TRANS1 and TRANS2 alone.
+use Prim.Native.Nat.{ℕ, _-_, _≤_}
+use native.Mathlib.Omega.{arith}
+use mathlib.Core.Path.{_≡_, refl, sym, ap, _∙_, subst}
+use mathlib.Core.Logic.{_⊎_, ⊎-elim}
+use mathlib.Core.Bool.{Bool, true, false}
+use mathlib.Core.List.{List}
+use lib.ListN.{length, take, drop, length-drop}
+use lib.Seq.{take-length}
+use lib.Dec.{eqb}
+use borrow.Author.Tests.{eqb-true}
+use Rattle.logic.specs.Search.{from, any, all}
+use Rattle.logic.specs.Query.{Query, termCount, isOrder, decode}
+use Rattle.logic.specs.Facts.{Facts}
+use Rattle.logic.specs.Walk.{Look, look, orderOf}
+use Rattle.logic.specs.Steps.{AtMost}
+use Rattle.logic.specs.Calls.{accepts}
+use Rattle.logic.specs.Decision.{Closes}
+use Rattle.logic.proofs.Basics.Search.{bool-cases, and-left}
+use Rattle.logic.proofs.Query.AcceptedBytes.{accepted}
+use Rattle.logic.proofs.Query.Tied.{Accepted}
+use Rattle.logic.proofs.Walks.Order.{order-full}
+use Rattle.logic.proofs.Calls.Decision.{Known, closed-known, closed-heap}
+use Rattle.closing.specs.Closed.{Closed, Begins, begins}
+use Rattle.closing.proofs.Order.{begins-with}
+use Rattle.closing.proofs.Walks.{closed-most, closed-walk, look-rest}
+use Rattle.facts.specs.Path.{pathOf}
+use Rattle.decide.specs.Tells.{Ahead, Walks}
+use Rattle.decide.specs.declared.Walked.{Walked}
+
+pub order-long : (order : List ℕ) → isOrder order ≡ true → 3 ≤ length order
+unfolding isOrder
+order-long order o = let e : length order ≡ 8 = eqb-true (length order) 8 (and-left (eqb (length order) 8) (all (λ k. any (eqb k) order) (from 8 1)) o) in omega arith
+
+-- the rest of the list, as the code lends it, decides what is seen
+pub look-behind : (q : Query) (order : List ℕ) (n : ℕ) (t : Facts) → n ≡ termCount q → 3 ≤ length order → begins order ≡ true → Closed n t → look q (orderOf order) t ≡ look q (orderOf (take (length order - 3) (drop 3 order))) t
+look-behind q order n t e long b cl =
+    look-rest q (orderOf order) (orderOf (drop 3 order)) (begins-with order long b) t (subst (λ (m : ℕ). Closed m t) e cl)
+    ∙ ap (λ (ks : List ℕ). look q (orderOf ks) t) (sym (ap (λ (m : ℕ). take m (drop 3 order)) (sym (length-drop 3 order)) ∙ take-length (drop 3 order)))
+
+module _ (bytes order : List ℕ) (acc : accepts bytes ≡ true) (o : isOrder order ≡ true) (k : ℕ) (s t : Facts) (known : Known (decode bytes) s) (most : AtMost (termCount (decode bytes)) s k) (n : ℕ) (terms-are : n ≡ termCount (decode bytes)) (a : Ahead n order s t) where
+  abbrev q : Query
+  q = decode bytes
+
+  ok : Accepted q
+  ok = accepted bytes acc
+
+  closes : begins order ≡ true → Closes (termCount q) s t
+  closes b = subst (λ (m : ℕ). Closes m s t) terms-are (a .0 b .0)
+
+  -- the closed path, by the laws of closing
+  module _ (b : begins order ≡ true) where
+    first : Begins (orderOf order) (orderOf (drop 3 order))
+    first = begins-with order (order-long order o) b
+
+    closed : Closed (termCount q) t
+    closed = subst (λ (m : ℕ). Closed m t) terms-are (a .0 b .1)
+
+    most-closed : AtMost (termCount q) t k
+    most-closed = closed-most q ok (orderOf order) (orderOf (drop 3 order)) first t closed k s known most (closes b)
+
+    walks-closed : (limited : Bool) (w : Walked) → Walks q order k t limited w → Walks q order k s limited w
+    walks-closed limited w told =
+        record {
+          refuted = λ e h. told .refuted e (closed-heap q ok s t known (closes b) h);
+          ends = λ e. closed-walk q ok (orderOf order) (orderOf (drop 3 order)) first t closed k s known most (closes b) (order-full order o) (pathOf (w .facts)) (told .ends e);
+          gives-up = told .gives-up;
+        }
+
+  pub ahead-known : Known q t
+  ahead-known = ⊎-elim (λ b. closed-known q ok s t known (closes b)) (λ b. subst (Known q) (sym (a .1 b)) known) (bool-cases (begins order))
+
+  pub ahead-most : AtMost (termCount q) t k
+  ahead-most = ⊎-elim most-closed (λ b. subst (λ (u : Facts). AtMost (termCount q) u k) (sym (a .1 b)) most) (bool-cases (begins order))
+
+  pub ahead-walks : (limited : Bool) (w : Walked) → Walks q order k t limited w → Walks q order k s limited w
+  ahead-walks limited w told = ⊎-elim (λ b. walks-closed b limited w told) (λ b. subst (λ (u : Facts). Walks q order k u limited w) (a .1 b) told) (bool-cases (begins order))

@@ -1,0 +1,28 @@
+-- The whole order list, or what stands behind the rules that closed the path. Assumes nothing.
+use borrow.Author.Needs.{needs}
+use native.Mathlib.Omega.{arith}
+use mathlib.Core.Path.{sym, _∙_}
+use Rattle.decide.proofs.Leads.{look-behind}
+use Rattle.decide.proofs.look_ahead.Statement.{statement}
+use Rattle.decide.proofs.look_ahead.Tie as tie
+
+pub look-ahead-spec : {M : Type 1} → statement M
+look-ahead-spec =
+    tie.close
+    (tie.spec
+    -- begins-requires
+    (λ c κs. search needs)
+    -- sub-look
+    (λ c. omega arith)
+    -- part-look-start
+    (λ c. search needs)
+    -- part-look-end
+    (λ c. omega arith)
+    -- look-requires
+    (λ c κs. search needs)
+    -- returns
+    (λ c. let start = c .before .before .before .before .before .before in let b = sym (c .before .before .before .begins .ensures) ∙ c .before .before .if1 .taken in c .look .ensures ∙ sym (look-behind _ _ _ _ (start .pre .0 .term-count) (start .pre .1) b (start .pre .2 b)))
+    -- look-requires-2
+    (λ c κs. search needs)
+    -- returns-2
+    (λ c. c .look2 .ensures))
