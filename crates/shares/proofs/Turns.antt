@@ -134,7 +134,15 @@ unfolding _or_
 or-false false c e = e
 or-false true c e = absurd (false≢true (sym e))
 
-pub wanted-few : {p q : ℕ} {b : Bool} (head : List ℕ) → b ≡ isBad head → b ≡ false → p ≡ getD head 0 0 → q ≡ getD head 1 0 → 256 * p + q ≤ 681
-unfolding isBad lengthIn
-wanted-few {p} {q} head e f g h =
-    let l = ltb-false 681 (256 * getD head 0 0 + getD head 1 0) (or-false (ltb (length head) 2) _ (sym e ∙ f)) in omega arith
+-- "a length above 681" is bad
+few : (head : List ℕ) (b : Bool) → isBad head ≡ b → cond b 0 (lengthIn head) ≤ 681
+unfolding isBad
+few head true e = omega arith
+few head false e = let l = ltb-false 681 (lengthIn head) (or-false (ltb (length head) 2) _ e) in omega arith
+
+pub wanted-few : (head : List ℕ) → wanted head ≤ 681
+unfolding wanted
+wanted-few head = few head (isBad head) refl
+
+pub asked : {r : ℕ} (head : List ℕ) → r ≡ wanted head → (r ≡ wanted head) × (r ≤ 681)
+asked head e = (e, omega (arith, wanted-few head))

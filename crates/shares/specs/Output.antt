@@ -63,14 +63,24 @@ turnOf order counts (b ∷ head) query =
     let next : Turn = record { text = queryLine order query; counts = tallied counts (writtenLines order query); goes = true } in
     cond (isBad (b ∷ head)) (record { text = ascii "bad length\n"; counts = counts; goes = false }) next
 
+-- The turn that stands first in a row of bytes, and how many of them it takes.
+unfoldable pub firstTurn : List ℕ → List ℕ → List ℕ → Turn
+firstTurn order counts bytes = turnOf order counts (take 2 bytes) (take (wanted (take 2 bytes)) (drop 2 bytes))
+
+unfoldable pub firstLength : List ℕ → ℕ
+firstLength bytes = 2 + wanted (take 2 bytes)
+
 -- All turns, and then the shares. "a cut query is taken as far as it goes". Each turn is a step, and takes two bytes or ends.
 unfoldable pub outputWithin : ℕ → List ℕ → List ℕ → List ℕ → List ℕ
 outputWithin zero order counts bytes = sharesText counts
 outputWithin (suc steps) order counts bytes =
-    let n : ℕ = wanted (take 2 bytes) in
-    let t : Turn = turnOf order counts (take 2 bytes) (take n (drop 2 bytes)) in
-    let rest : List ℕ = outputWithin steps order (t .counts) (drop (2 + n) bytes) in
+    let t : Turn = firstTurn order counts bytes in
+    let rest : List ℕ = outputWithin steps order (t .counts) (drop (firstLength bytes) bytes) in
     t .text ++ cond (t .goes) rest (sharesText (t .counts))
 
+-- What is printed where the tally stands so: of the order list, and of the queries behind it.
+unfoldable pub outputFrom : List ℕ → List ℕ → List ℕ
+outputFrom counts bytes = outputWithin (suc (length bytes)) (take 8 bytes) counts (drop 8 bytes)
+
 unfoldable pub output : List ℕ → List ℕ
-output bytes = outputWithin (suc (length bytes)) (take 8 bytes) noLines (drop 8 bytes)
+output bytes = outputFrom noLines bytes

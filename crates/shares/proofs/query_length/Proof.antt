@@ -1,7 +1,6 @@
 -- Assumes nothing.
-use native.Mathlib.Omega.{arith}
 use borrow.Author.Needs.{needs}
-use Rattle.shares.proofs.Turns.{wanted-none, wanted-all, wanted-few}
+use Rattle.shares.proofs.Turns.{wanted-none, wanted-all, asked}
 use Rattle.shares.proofs.query_length.Statement.{statement}
 use Rattle.shares.proofs.query_length.Tie as tie
 
@@ -12,7 +11,7 @@ query-length-spec =
     -- bad-length-requires
     (λ c κs. search needs)
     -- returns
-    (λ c. (wanted-none _ (c .before .bad-length .ensures) (c .if1 .taken), omega arith))
+    (λ c. asked _ (wanted-none _ (c .before .bad-length .ensures) (c .if1 .taken)))
     -- byte-at-requires
     (λ c κs. search needs)
     -- mul-result
@@ -22,4 +21,4 @@ query-length-spec =
     -- add-result
     (λ c. search needs)
     -- returns-2
-    (λ c. (wanted-all _ (c .before .before .before .bad-length .ensures) (c .before .before .if1 .left) (c .before .byte-at .ensures .0) (c .byte-at2 .ensures .0), wanted-few _ (c .before .before .before .bad-length .ensures) (c .before .before .if1 .left) (c .before .byte-at .ensures .0) (c .byte-at2 .ensures .0))))
+    (λ c. asked _ (wanted-all _ (c .before .before .before .bad-length .ensures) (c .before .before .if1 .left) (c .before .byte-at .ensures .0) (c .byte-at2 .ensures .0))))

@@ -1,1 +1,2 @@
 pub mod Streaming
+pub mod Claims

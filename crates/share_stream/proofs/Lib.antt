@@ -1,0 +1,4 @@
+pub mod Streams
+pub mod Rounds
+pub mod Moves
+pub mod Runs
