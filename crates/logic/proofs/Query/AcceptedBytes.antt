@@ -192,8 +192,8 @@ module _ (most excess : ℕ) (numbered : LayoutNumber excess) where
 
 pub sections-excesses : (n : ℕ) → Excesses (sections n)
 unfolding sections
-sections-excesses = five-excesses 0 26 retired-number
+sections-excesses = five-excesses _ 26 retired-number
 
 pub accepted : (bytes : List ℕ) → accepts bytes ≡ true → Accepted (decode bytes)
 unfolding decode layoutOf sections
-accepted bytes h = five-accepted 0 26 retired-number bytes (query-passes bytes h)
+accepted bytes h = five-accepted _ 26 retired-number bytes (query-passes bytes h)
