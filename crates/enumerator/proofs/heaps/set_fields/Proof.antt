@@ -1,17 +1,17 @@
 -- Safe, and ends: the measure is the count of literals left. A literal count is a byte. Assumes nothing.
 use Prim.Native.Nat.{_-_, _≤_, _<_}
 use borrow.Author.Needs.{needs}
-use Rattle.enumerator.proofs.heaps.set_flags.Statement.{statement}
-use Rattle.enumerator.proofs.heaps.set_flags.Tie as tie
+use Rattle.enumerator.proofs.heaps.set_fields.Statement.{statement}
+use Rattle.enumerator.proofs.heaps.set_fields.Tie as tie
 
 abbrev Inv-loop : tie.InvT-loop
-Inv-loop query heap₀ section count i₀ heap i = (i ≤ count) × (count < 256)
+Inv-loop query heap₀ count i₀ heap i = (i ≤ count) × (count < 256)
 
 abbrev μ-loop : tie.MeasureT-loop
-μ-loop query heap₀ section count i₀ heap i = count - i
+μ-loop query heap₀ count i₀ heap i = count - i
 
-pub set-flags-spec : {M : Type 1} → statement M
-set-flags-spec =
+pub set-fields-spec : {M : Type 1} → statement M
+set-fields-spec =
     tie.close
     (tie.spec
     Inv-loop
@@ -24,7 +24,7 @@ set-flags-spec =
     (λ c κs. search needs)
     -- is-plain-requires
     (λ c κs. search needs)
-    -- flag-at-requires
+    -- datum-at-requires
     (λ c κs. search needs)
     -- byte-requires
     (λ c κs. search needs)
