@@ -65,6 +65,14 @@ at-own [] (suc k) x e = absurd (none-some e)
 at-own (y ∷ xs) (suc zero) x e = let q : x ≡ y = cc in List·Memᴰ·head q
 at-own (y ∷ xs) (suc (suc k)) x e = List·Memᴰ·tail (at-own xs (suc k) x e)
 
+-- and the place is one of the list's
+pub at-within : {A : Type 0} (xs : List A) (k : ℕ) (x : A) → at xs k ≡ some x → (1 ≤ k) × (k ≤ length xs)
+unfolding at
+at-within xs zero x e = absurd (none-some e)
+at-within [] (suc k) x e = absurd (none-some e)
+at-within (y ∷ xs) (suc zero) x e = (omega arith, omega arith)
+at-within (y ∷ xs) (suc (suc k)) x e = let r = at-within xs (suc k) x e in (omega arith, omega arith)
+
 -- each of some literals is one of others, and they are no more
 pub record Fewer (ls ms : List Literal) : Type 0 where
   pub no-more : length ls ≤ length ms

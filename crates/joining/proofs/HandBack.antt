@@ -20,7 +20,7 @@ use Rattle.joining.specs.Joined.{pairLiteral, joined}
 use Rattle.joining.specs.Call.{queryRefusal}
 use Rattle.joining.specs.HandBack.{Handed, inFirst, inSecond, firstRefused, secondRefused, refused, literalsIn, raisedIn, placeIn, isAmong, handBackOf, handBackCall}
 use Rattle.joining.specs.Claims.{OfFirst, OfSecond, Unnamed, HandsBack, IsPart, HandBackClaims}
-use Rattle.encoding.proofs.Decoded.{at-own}
+use Rattle.encoding.proofs.Decoded.{at-own, at-within}
 use Rattle.joining.proofs.Places.{literal-stands}
 
 -- Places of a list, counted from 1
@@ -42,14 +42,6 @@ module _ {A : Type 0} where
 
       behind : at (x ∷ (xs ++ ys)) (suc (suc (length xs + k))) ≡ at (xs ++ ys) (length xs + suc k)
       behind = ap (at (xs ++ ys)) same
-
-  at-within : (xs : List A) (k : ℕ) (x : A) → at xs k ≡ some x → (1 ≤ k) × (k ≤ length xs)
-  unfolding at
-  at-within [] zero x e = absurd (none-some e)
-  at-within [] (suc k) x e = absurd (none-some e)
-  at-within (y ∷ xs) zero x e = absurd (none-some e)
-  at-within (y ∷ xs) (suc zero) x e = (omega arith, omega arith)
-  at-within (y ∷ xs) (suc (suc k)) x e = let r = at-within xs (suc k) x e in (omega arith, omega arith)
 
 at-map : {A B : Type 0} (f : A → B) (xs : List A) (k : ℕ) (x : A) → at xs k ≡ some x → at (map f xs) k ≡ some (f x)
 unfolding at
