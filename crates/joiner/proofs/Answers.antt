@@ -182,7 +182,7 @@ module _ (first second line : List ℕ) (ok₁ : accepts first ≡ true) (ok₂ 
       let second-count = moved (decode second) em in
       (sym (of-tests (decode first) (decode second) line true false false (eq-eqb (getD line 0 0) 9 (sym e₀ ∙ h)) (among-high 0 _ (getD line 2 0) (omega arith)) (among-high _ _ (getD line 2 0) (omega arith))), tt)
 
--- Checks 2 to 8
+-- The checks of a query
 
 pub refused-query : (bytes : List ℕ) {k place : ℕ} → CheckedAs (checked.Refused k place) bytes → queryRefusal bytes ≡ some (refused k place)
 unfolding queryRefusal
