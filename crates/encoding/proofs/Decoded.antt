@@ -3,12 +3,13 @@ use Prim.Native.Nat.{ℕ, zero, suc, _*_, _≤_}
 use native.Mathlib.Omega.{arith}
 use mathlib.Core.Path.{_≡_, refl, sym, ap, subst}
 use mathlib.Core.Bool.{true}
-use mathlib.Core.List.{List, [], _∷_, List·Memᴰ}
+use mathlib.Core.List.{List, [], _∷_, List·Memᴰ, List·Memᴰ·head, List·Memᴰ·tail}
 use mathlib.Core.Option.{some}
 use lib.ListN.{length}
 use Rattle.logic.specs.Search.{at, isSome}
 use Rattle.logic.specs.Query.{Literal, Query, termCount, parts, Section, fourSections, fiveSections, sections, firstByte, layoutOf, literals, section, queryOf, decode}
 use Rattle.logic.specs.Calls.{accepts}
+use Rattle.logic.proofs.Basics.Search.{none-some}
 use Rattle.logic.proofs.Query.Bytes.{Part, retired-number}
 use Rattle.logic.proofs.Query.AcceptedBytes.{accepted, query-passes, five-laid}
 use Rattle.encoding.specs.QueryBytes.{encode}
@@ -55,6 +56,22 @@ module _ (bytes : List ℕ) (h : accepts bytes ≡ true) where
   -- what accepted bytes say can be written
   pub accepted-encodable : Encodable (decode bytes)
   accepted-encodable = record { accepted = accepted bytes h; within = limits-within (decode bytes) accepted-limits }
+
+-- what stands at a place of a list is one of it
+pub at-own : {A : Type 0} (xs : List A) (k : ℕ) (x : A) → at xs k ≡ some x → List·Memᴰ x xs
+unfolding at
+at-own xs zero x e = absurd (none-some e)
+at-own [] (suc k) x e = absurd (none-some e)
+at-own (y ∷ xs) (suc zero) x e = let q : x ≡ y = cc in List·Memᴰ·head q
+at-own (y ∷ xs) (suc (suc k)) x e = List·Memᴰ·tail (at-own xs (suc k) x e)
+
+-- and the place is one of the list's
+pub at-within : {A : Type 0} (xs : List A) (k : ℕ) (x : A) → at xs k ≡ some x → (1 ≤ k) × (k ≤ length xs)
+unfolding at
+at-within xs zero x e = absurd (none-some e)
+at-within [] (suc k) x e = absurd (none-some e)
+at-within (y ∷ xs) (suc zero) x e = (omega arith, omega arith)
+at-within (y ∷ xs) (suc (suc k)) x e = let r = at-within xs (suc k) x e in (omega arith, omega arith)
 
 -- each of some literals is one of others, and they are no more
 pub record Fewer (ls ms : List Literal) : Type 0 where
