@@ -182,7 +182,7 @@ module _ (bytes : List ℕ) (room : ℕ) where
   lacks h =
       ⊎-elim (λ two. ⊎-elim (λ a. inl (leb-false _ 16 a)) (λ b. inr (inl (leb-false _ 60 b))) (and-false-cases _ _ two)) (λ c. inr (inr (leb-false _ room c))) (and-false-cases _ _ h)
 
-  has-not : NoRoom room (rewriteOf bytes) → hasRoom room (rewriteOf bytes) ≡ false
+  pub has-not : NoRoom room (rewriteOf bytes) → hasRoom room (rewriteOf bytes) ≡ false
   has-not n = ⊎-elim (λ h. let r = room-has room (rewriteOf bytes) h in absurd (⊎-elim (λ a. omega (arith, r .terms)) (⊎-elim (λ b. omega (arith, r .fields)) (λ c. omega (arith, r .output))) n)) (λ h. h) (bool-cases (hasRoom room (rewriteOf bytes)))
 
   room-only : (place : ℕ) (o : Outcome) → Case o → o .answer ≡ refused 27 place → (place ≡ 0) × (acceptsOld bytes ≡ true) × NoRoom room (rewriteOf bytes)

@@ -6,10 +6,10 @@ use mathlib.Core.Logic.{⊎-elim}
 use mathlib.Core.Bool.{true}
 use mathlib.Core.List.{List, [], _∷_, _++_, map, List·Memᴰ, List·Memᴰ·append-cases}
 use lib.ListN.{length, length-append}
-use borrow.Author.Tests.{leb-true}
+use borrow.Author.Tests.{leb-true, le-leb}
 use Rattle.logic.specs.Search.{_and_}
 use Rattle.logic.specs.Query.{Literal, Query, termCount, argumentOf}
-use Rattle.logic.proofs.Basics.Search.{and-left, and-right, map-mem}
+use Rattle.logic.proofs.Basics.Search.{and-left, and-right, and-intro, map-mem}
 use Rattle.logic.proofs.Basics.Compare.{le-cases}
 use Rattle.logic.proofs.Basics.Count.{length-flatMap}
 use Rattle.logic.proofs.Query.Tied.{Accepted, InTerms, ToEight}
@@ -88,6 +88,10 @@ room-has room q h =
       fields = leb-true _ 60 (and-right _ _ two);
       output = leb-true _ room (and-right _ _ h);
     }
+
+pub room-intro : (room : ℕ) (q : Query) → Room room q → hasRoom room q ≡ true
+unfolding hasRoom
+room-intro room q r = and-intro (and-intro (le-leb _ 16 (r .terms)) (le-leb _ 60 (r .fields))) (le-leb _ room (r .output))
 
 rewritten-encodable : (q : Query) (booleans : List Literal) → Accepted q → Limits q → ((l : Literal) → List·Memᴰ l booleans → ToEight (l .left)) → termCount (rewritten q booleans) ≤ 16 → length (rewritten q booleans .fields) ≤ 60 → Accepted (rewritten q booleans) × Limits (rewritten q booleans)
 unfolding rewritten withFresh

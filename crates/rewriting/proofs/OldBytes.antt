@@ -21,7 +21,7 @@ use Rattle.encoding.proofs.Encoded.{Limits}
 use Rattle.rewriting.specs.OldQuery.{oldSections, oldChecks, given, acceptsOld, flags, booleanPart, decodeOld}
 
 -- the literals of sections of three bytes an entry, and of two
-literals-count : (c : ℕ) (bytes : List ℕ) → length bytes ≡ c * 3 → length (literals bytes) ≡ c
+pub literals-count : (c : ℕ) (bytes : List ℕ) → length bytes ≡ c * 3 → length (literals bytes) ≡ c
 unfolding literals
 literals-count zero [] e = refl
 literals-count (suc c) [] e = absurd (omega arith)
