@@ -24,7 +24,7 @@ pub record Joinable (first second pairs : List ℕ) : Type 0 where
   pub within-limits : withinLimits (joined (decode first) (decode second) (pairsOf pairs)) ≡ true
 
 pub record JoinClaims (first second pairs : List ℕ) : Type 0 where
-  -- what is written is accepted by every call: it passes checks 2 to 8
+  -- what is written is accepted by every call: it passes the checks of a query
   pub passes : (i : Input) → i .query ≡ encode (joined (decode first) (decode second) (pairsOf pairs)) → refusalOf queryChecks i ≡ none
   -- and says the joined query
   pub says : decode (encode (joined (decode first) (decode second) (pairsOf pairs))) ≡ joined (decode first) (decode second) (pairsOf pairs)
