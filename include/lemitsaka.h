@@ -74,8 +74,9 @@ extern "C" {
  *   24  the joined query passes a limit, or the lent bytes are too few for it
  *   25  the line does not begin with 9, or names no literal of either query
  *   26  the count of section 5, the booleans, which are retired, is not 0 (place: that count; it is met where 3 would be)
+ *   27  an old query has no room for the fresh variable or its booleans, or the lent bytes are too few for it
  *
- * There is no 10. The place is 0 for 1 and from 9 on, but for 17 and 18. */
+ * There is no 10. The place is 0 for 1 and from 9 on, but for 17, 18 and 26. */
 static inline unsigned lemitsaka_refusal(uint64_t answer)
 {
     return (unsigned)(answer / 65536 % 65536);
@@ -190,6 +191,19 @@ uint64_t lemitsaka_join(const uint8_t *first, size_t first_len,
 uint64_t lemitsaka_hand_back(const uint8_t *first, size_t first_len,
                              const uint8_t *second, size_t second_len,
                              const uint8_t *line, size_t line_len);
+
+/* What does a query say that still has booleans?
+ *
+ * An old query, at most LEMITSAKA_OLD_QUERY_SIZE bytes: section 5 holds up to 60 booleans, a sign and a number 1 to 8 each. If there are any, the
+ * query written has one fresh variable, behind its terms, and boolean j is that variable's data field j, behind the data literals; else
+ * it is copied. Every call takes it, and it is satisfiable exactly if some heap with booleans meets the old query. The answer is the
+ * length of the query written, with zeros past it; LEMITSAKA_QUERY_SIZE bytes hold every one.
+ *
+ *   refused   2 to 8 of the old query, 3 where it has more than 60 booleans and never 26; then 27: it has booleans and 16 terms, or with
+ *             its data literals more than 60, or the lent bytes are too few; at 0 */
+#define LEMITSAKA_OLD_QUERY_SIZE 681
+uint64_t lemitsaka_rewrite(const uint8_t *old_query, size_t old_query_len,
+                           uint8_t *query, size_t query_len);
 
 #ifdef __cplusplus
 }

@@ -17,7 +17,7 @@ use Rattle.encoding.specs.QueryBytes.{signByte, literalBytes, sectionByt
 use Rattle.encoding.proofs.Decoded.{accepted-parts}
 
 -- a sign that is allowed reads back
-sign-allowed : (s : ℕ) → Allows signRole s → signByte (eqb s 1) ≡ s
+pub sign-allowed : (s : ℕ) → Allows signRole s → signByte (eqb s 1) ≡ s
 unfolding signRole signByte
 sign-allowed s h = go (eqb s 1) refl (ltb-true s 2 (h (omega arith, omega arith)))
   where
@@ -42,14 +42,14 @@ literals-written left right (suc c) i (s ∷ a ∷ b ∷ rest) e h =
 
 -- Bytes that are laid out: each section's count, then its part
 
-data Laid : List Section → List ℕ → List (List ℕ) → Type 0 where
+pub data Laid : List Section → List ℕ → List (List ℕ) → Type 0 where
   none-left : Laid [] [] []
   one-more : {s : Section} {ss : List Section} {rest : List ℕ} {ps : List (List ℕ)} (c : ℕ) (p : List ℕ) → length p ≡ c * s .width → Laid ss rest ps → Laid (s ∷ ss) (c ∷ (p ++ rest)) (p ∷ ps)
 
 faulty-parts : {k place : ℕ} {ps : List (List ℕ)} → faulty k place ≡ parts ps → ⊥
 faulty-parts e = let z : _≡_ {A = ℕ} 0 1 = cc in omega arith
 
-laid : (ss : List Section) (place : ℕ) (bytes : List ℕ) (ps : List (List ℕ)) → layout ss place bytes ≡ parts ps → Laid ss bytes ps
+pub laid : (ss : List Section) (place : ℕ) (bytes : List ℕ) (ps : List (List ℕ)) → layout ss place bytes ≡ parts ps → Laid ss bytes ps
 unfolding layout withPart
 laid [] place [] ps e = let q : ps ≡ [] = cc in subst (Laid [] []) (sym q) none-left
 laid [] place (b ∷ bytes) ps e = absurd (faulty-parts e)
@@ -72,15 +72,15 @@ laid (s ∷ ss) place (c ∷ more) ps e =
         (subst (λ (xs : List ℕ). Laid (s ∷ ss) (c ∷ xs) (take size more ∷ qs)) (take-append-drop size more) (one-more c (take size more) (length-take-le size more fits) (behind qs r)))
 
 -- one section behind the other
-piece : {c c′ : ℕ} {p p′ rest rest′ : List ℕ} → c ≡ c′ → p ≡ p′ → rest ≡ rest′ → c ∷ (p ++ rest) ≡ c′ ∷ (p′ ++ rest′)
+pub piece : {c c′ : ℕ} {p p′ rest rest′ : List ℕ} → c ≡ c′ → p ≡ p′ → rest ≡ rest′ → c ∷ (p ++ rest) ≡ c′ ∷ (p′ ++ rest′)
 piece e f g = ap₂ (λ (x : ℕ) (xs : List ℕ). x ∷ xs) e (ap₂ (λ (x : List ℕ) (y : List ℕ). x ++ y) f g)
 
 -- the count of a section's literals, and their bytes
-literals-of : (left right : Role) (c : ℕ) (p : List ℕ) → length p ≡ c * 3 → Part (record { limit = 60; excess = 3; width = 3; roles = λ j. signRole ∷ left ∷ right ∷ [] }) p → (length (literals p) ≡ c) × (flatMap literalBytes (literals p) ≡ p)
+pub literals-of : (left right : Role) (c : ℕ) (p : List ℕ) → length p ≡ c * 3 → Part (record { limit = 60; excess = 3; width = 3; roles = λ j. signRole ∷ left ∷ right ∷ [] }) p → (length (literals p) ≡ c) × (flatMap literalBytes (literals p) ≡ p)
 literals-of left right c p e part = let r = literals-written left right (part .count) 1 p (part .sized) (part .allowed) in (omega (arith, r .1, part .sized, e), r .0)
 
 -- no bytes
-none-of : (p : List ℕ) → length p ≡ 0 → [] ≡ p
+pub none-of : (p : List ℕ) → length p ≡ 0 → [] ≡ p
 none-of [] e = refl
 none-of (b ∷ p) e = absurd (omega arith)
 

@@ -25,7 +25,7 @@ fn put_behind(buffer: &mut [u8], at: usize, bytes: &[u8], first: usize) -> usize
 }
 
 // Bytes in hex digits with blanks between, and a newline.
-fn put_hex_line(buffer: &mut [u8], at: usize, bytes: &[u8]) -> usize
+pub fn put_hex_line(buffer: &mut [u8], at: usize, bytes: &[u8]) -> usize
     requires { ⌜ (at ≤ 900) × (length (now bytes) ≤ 100000) ⌝ }
     ensures { λ r. ⌜ Writes (now (buffer .entry)) at (hexLine (now (bytes .entry))) (now (buffer .exit)) r ⌝ }
 {
