@@ -8,7 +8,7 @@
  * Every slice is a pointer and a length in bytes:
  *
  *   order    the order in which the rules are tried: eight bytes, each of 1 to 8 once
- *   query    the statements, at most 681 bytes; the term byte 255 names null, one node whose link goes to itself
+ *   query    the statements, at most 561 bytes; the term byte 255 names null, one node whose link goes to itself
  *   report, buffer    lent to the call, which writes every byte of it, whatever it answers
  *
  * Any bytes and any lengths will do: what is no order list or no query is refused. What the library cannot see for itself,
@@ -41,7 +41,7 @@ extern "C" {
 
 /* The bytes of an order list; the most bytes of a query and of a heap report; and the bytes that hold every derivation. */
 #define LEMITSAKA_ORDER_SIZE 8
-#define LEMITSAKA_QUERY_SIZE 681
+#define LEMITSAKA_QUERY_SIZE 561
 #define LEMITSAKA_REPORT_SIZE 53
 #define LEMITSAKA_DERIVATION_SIZE 64002
 
@@ -57,7 +57,7 @@ extern "C" {
  *    5  a term byte is not below its own term's number, and not 255 (place: that byte, here and in 6 to 8)
  *    6  a sign is neither 0 nor 1
  *    7  a term number in sections 2 to 4 is 0 or above the term count
- *    8  a field or boolean number is not 1 to 8
+ *    8  a field number is not 1 to 8
  *    9  the report has fewer than 53 bytes
  *   11  a derivation was asked for and the query is satisfiable
  *   12  the derivation has more than 16,000 lines, or its buffer cannot hold it
@@ -73,8 +73,10 @@ extern "C" {
  *   23  a pair list has the wrong length or count, or a term that its query lacks
  *   24  the joined query passes a limit, or the lent bytes are too few for it
  *   25  the line does not begin with 9, or names no literal of either query
+ *   26  the count of section 5, the booleans, which are retired, is not 0 (place: that count; it is met where 3 would be)
+ *   27  an old query has no room for the fresh variable or its booleans, or the lent bytes are too few for it
  *
- * There is no 10. The place is 0 for 1 and from 9 on, but for 17 and 18. */
+ * There is no 10. The place is 0 for 1 and from 9 on, but for 17, 18 and 26. */
 static inline unsigned lemitsaka_refusal(uint64_t answer)
 {
     return (unsigned)(answer / 65536 % 65536);
@@ -90,10 +92,10 @@ static inline unsigned lemitsaka_place(uint64_t answer)
  *
  *   LEMITSAKA_SATISFIABLE   there is, and the report shows one; the bytes past it are zero
  *   LEMITSAKA_REFUTED       there is none, of any size; the report is all zero
- *   refused                 1 to 9; 9 unless the report has LEMITSAKA_REPORT_SIZE bytes or more
+ *   refused                 1 to 9 and 26; 9 unless the report has LEMITSAKA_REPORT_SIZE bytes or more
  *
  * A report: the count of nodes and the successor of each; the count of terms and the node of each; the count of nodes and
- * a byte of data for each, field j in bit j-1; a 1 and one byte of booleans, likewise. Nodes and terms count from 1. */
+ * a byte of data for each, field j in bit j-1; a 1 and a byte that is 0. Nodes and terms count from 1. */
 uint64_t lemitsaka_verdict(const uint8_t *order, size_t order_len,
                            const uint8_t *query, size_t query_len,
                            uint8_t *report, size_t report_len);
@@ -101,7 +103,7 @@ uint64_t lemitsaka_verdict(const uint8_t *order, size_t order_len,
 /* Why is there no heap that meets every literal of the query?
  *
  *   LEMITSAKA_REFUTED       the derivation is in the buffer; the bytes past it are zero
- *   refused                 1 to 8, 11 and 12; 11 where there is such a heap. Never LEMITSAKA_SATISFIABLE
+ *   refused                 1 to 8, 26, 11 and 12; 11 where there is such a heap. Never LEMITSAKA_SATISFIABLE
  *
  * A derivation: the count of lines in two bytes, high byte first, then four bytes a line: a rule's number, 1 to 8, and its
  * triple; 9 and the clash that ends a path; or 10, a term, the term that it replaced and 0, for each two terms that were
@@ -137,7 +139,7 @@ uint64_t lemitsaka_order(const uint8_t *sheet, size_t sheet_len,
  * tighter. Literals that it does not name do not count. The answer is the number of the first satisfiable conjunction, from 1,
  * and the report shows its heap; 0 where there is none, and the report is all zero.
  *
- *   refused   1 to 9 as of lemitsaka_verdict, then 17 and 18, then 19 */
+ *   refused   1 to 9 and 26 as of lemitsaka_verdict, then 17 and 18, then 19 */
 uint64_t lemitsaka_formula(const uint8_t *order, size_t order_len,
                            const uint8_t *query, size_t query_len,
                            const uint8_t *text, size_t text_len,
@@ -151,7 +153,7 @@ uint64_t lemitsaka_formula(const uint8_t *order, size_t order_len,
  *
  *   0          accepted
  *   1 to 16001 the number of the first wrong line; one more than the count of lines if they run out
- *   refused    2 to 8 of the query, then 20; at 0 */
+ *   refused    2 to 8 and 26 of the query, then 20; at 0 */
 uint64_t lemitsaka_check(const uint8_t *query, size_t query_len,
                          const uint8_t *derivation, size_t derivation_len);
 
@@ -163,7 +165,7 @@ uint64_t lemitsaka_check(const uint8_t *query, size_t query_len,
  *
  *   LEMITSAKA_SATISFIABLE   there is one; the bytes past the report are zero
  *   LEMITSAKA_REFUTED       there is none, of any size; the report is all zero
- *   refused                 2 to 9 over six sections (4: bytes follow section 6; 7: sections 2 to 4 and 6), then 21 */
+ *   refused                 2 to 9 and 26 over six sections (4: bytes follow section 6; 7: sections 2 to 4 and 6), then 21 */
 uint64_t lemitsaka_between(const uint8_t *query, size_t query_len,
                            uint8_t *report, size_t report_len);
 
@@ -173,7 +175,7 @@ uint64_t lemitsaka_between(const uint8_t *query, size_t query_len,
  * each pair. A pair list: a count of 0 to 60 and that many pairs, a term of the first query and a term of the second. All
  * nil terms of both are one. The answer is the length of the query written, with zeros past it.
  *
- *   refused   2 to 8 of the first query; 2 to 8 of the second, with LEMITSAKA_SECOND added; then 23 and 24, at 0 */
+ *   refused   2 to 8 and 26 of the first query; the same of the second, with LEMITSAKA_SECOND added; then 23 and 24, at 0 */
 #define LEMITSAKA_SECOND 4294967296u
 uint64_t lemitsaka_join(const uint8_t *first, size_t first_len,
                         const uint8_t *second, size_t second_len,
@@ -184,11 +186,24 @@ uint64_t lemitsaka_join(const uint8_t *first, size_t first_len,
  *
  * The answer is 65,536 times the offset of the literal's own bytes in the first query, plus their length; for the second query
  * LEMITSAKA_SECOND is added. From LEMITSAKA_NO_PART on the call was refused: LEMITSAKA_NO_PART is added to what
- * lemitsaka_refusal and lemitsaka_place take apart: 2 to 8 of the first query, of the second, then 25. */
+ * lemitsaka_refusal and lemitsaka_place take apart: 2 to 8 and 26 of the first query, of the second, then 25. */
 #define LEMITSAKA_NO_PART 1099511627776u
 uint64_t lemitsaka_hand_back(const uint8_t *first, size_t first_len,
                              const uint8_t *second, size_t second_len,
                              const uint8_t *line, size_t line_len);
+
+/* What does a query say that still has booleans?
+ *
+ * An old query, at most LEMITSAKA_OLD_QUERY_SIZE bytes: section 5 holds up to 60 booleans, a sign and a number 1 to 8 each. If there are any, the
+ * query written has one fresh variable, behind its terms, and boolean j is that variable's data field j, behind the data literals; else
+ * it is copied. Every call takes it, and it is satisfiable exactly if some heap with booleans meets the old query. The answer is the
+ * length of the query written, with zeros past it; LEMITSAKA_QUERY_SIZE bytes hold every one.
+ *
+ *   refused   2 to 8 of the old query, 3 where it has more than 60 booleans and never 26; then 27: it has booleans and 16 terms, or with
+ *             its data literals more than 60, or the lent bytes are too few; at 0 */
+#define LEMITSAKA_OLD_QUERY_SIZE 681
+uint64_t lemitsaka_rewrite(const uint8_t *old_query, size_t old_query_len,
+                           uint8_t *query, size_t query_len);
 
 #ifdef __cplusplus
 }

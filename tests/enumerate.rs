@@ -35,7 +35,6 @@ struct Query {
     equalities: Vec<Literal>,
     reachability: Vec<Literal>,
     data: Vec<Literal>,
-    booleans: Vec<Literal>,
 }
 
 /// The orders are drawn so that the draws that follow are the same; which order it is has no effect on a verdict.
@@ -50,7 +49,7 @@ fn literals(random: &mut Random, count: usize, first: usize, second: usize) -> V
         .map(|_| Literal {
             plain: random.below(3) != 0,
             first: random.below(first) + 1,
-            second: if second == 0 { 0 } else { random.below(second) + 1 },
+            second: random.below(second) + 1,
         })
         .collect()
 }
@@ -71,9 +70,7 @@ fn random_query(random: &mut Random) -> Query {
     let reachability = literals(random, count, n, n);
     let count = about_terms(random.below(3));
     let data = literals(random, count, 2, n);
-    let count = random.below(3);
-    let booleans = literals(random, count, 2, 0);
-    Query { terms, equalities, reachability, data, booleans }
+    Query { terms, equalities, reachability, data }
 }
 
 /// Example E9 with up to three bytes of its literals drawn anew: few queries at random need SHARE.
@@ -90,7 +87,7 @@ fn near_share(random: &mut Random) -> Query {
     }
     let reachability = literals.split_off(2);
     let terms = vec![Variable, Variable, LinkOf(0), LinkOf(1)];
-    Query { terms, equalities: literals, reachability, data: vec![], booleans: vec![] }
+    Query { terms, equalities: literals, reachability, data: vec![] }
 }
 
 /// One query in eight is near E9.
@@ -133,13 +130,12 @@ fn conflict(literals: &[Literal], same: impl Fn(&Literal, &Literal) -> bool) -> 
         .any(|p| literals.iter().any(|q| p.plain && !q.plain && same(p, q)))
 }
 
-/// Data and booleans are free, so a heap with these links and nodes exists unless two literals conflict.
+/// Data are free, so a heap with these links and nodes exists unless two literals conflict.
 fn meets(query: &Query, reach: &[Vec<bool>], nodes: &[usize]) -> bool {
     let node = |t: usize| nodes[t - 1];
     query.equalities.iter().all(|l| (node(l.first) == node(l.second)) == l.plain)
         && query.reachability.iter().all(|l| reach[node(l.first)][node(l.second)] == l.plain)
         && !conflict(&query.data, |p, q| p.first == q.first && node(p.second) == node(q.second))
-        && !conflict(&query.booleans, |p, q| p.first == q.first)
 }
 
 /// The node of every term, for a choice of nodes for nil and the variables.

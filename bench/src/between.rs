@@ -16,7 +16,8 @@ pub enum Answer {
 /// The entries of each section, as slices of the query.
 type Sections<'a> = Vec<Vec<&'a [u8]>>;
 
-const LIMITS: [usize; 6] = [16, 60, 60, 60, 60, 60];
+/// Section 5, the booleans, is retired (02, R-13).
+const LIMITS: [usize; 6] = [16, 60, 60, 60, 0, 60];
 /// What each byte of an entry is: e a term entry, s a sign, t a term, n a number 1 to 8.
 const ROLES: [&[u8]; 6] = [b"e", b"stt", b"stt", b"snt", b"sn", b"sttt"];
 
@@ -27,7 +28,7 @@ fn sections(query: &[u8]) -> Result<Sections<'_>, (usize, usize)> {
     for (limit, roles) in LIMITS.iter().zip(ROLES) {
         let count = *query.get(at).ok_or((2, query.len()))? as usize;
         if count > *limit {
-            return Err((3, at));
+            return Err((if *limit == 0 { 26 } else { 3 }, at));
         }
         let end = at + 1 + count * roles.len();
         if end > query.len() {
@@ -136,10 +137,6 @@ impl Search<'_> {
 }
 
 fn search(sections: &Sections<'_>) -> Option<Vec<u8>> {
-    let flags = &sections[4];
-    if flags.iter().any(|a| a[0] == 1 && flags.iter().any(|b| b[0] == 0 && b[1] == a[1])) {
-        return None;
-    }
     let n = sections[0].len();
     for m in 1..=n.max(1) {
         let mut links = vec![0; m];
@@ -151,7 +148,6 @@ fn search(sections: &Sections<'_>) -> Option<Vec<u8>> {
                 for l in sections[3].iter().filter(|l| l[0] == 1) {
                     data[s.nodes[l[2] as usize - 1]] |= 1 << (l[1] - 1);
                 }
-                let booleans = flags.iter().filter(|l| l[0] == 1).fold(0, |b, l| b | 1u8 << (l[1] - 1));
                 let numbers = |xs: &[usize]| xs.iter().map(|&x| x as u8 + 1).collect::<Vec<_>>();
                 return Some(
                     [
@@ -161,7 +157,7 @@ fn search(sections: &Sections<'_>) -> Option<Vec<u8>> {
                         numbers(&s.nodes),
                         vec![m as u8],
                         data,
-                        vec![1, booleans],
+                        vec![1, 0],
                     ]
                     .concat(),
                 );

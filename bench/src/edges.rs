@@ -12,20 +12,20 @@ fn plain(query: &[u8]) -> Vec<u8> {
     under(&ORDER, query)
 }
 
-/// Two entries in each of sections 2 to 5 and three terms; satisfiable. The places of its bytes:
-/// counts 0, 4, 11, 18, 25; terms 1 to 3; entries at 5, 8, 12, 15, 19, 22, 26, 28; 30 bytes.
+/// Two entries in each of sections 2 to 4 and three terms; satisfiable. The places of its bytes:
+/// counts 0, 4, 11, 18, 25; terms 1 to 3; entries at 5, 8, 12, 15, 19, 22; 26 bytes.
 fn middle() -> Vec<u8> {
     Draft {
         terms: vec![0, 1, 0],
         equalities: vec![[0, 1, 2], [1, 3, 3]],
         reachability: vec![[1, 1, 3], [0, 2, 1]],
         data: vec![[1, 1, 1], [0, 8, 2]],
-        booleans: vec![[1, 8], [0, 1]],
+        ..Draft::default()
     }
     .bytes()
 }
 
-/// Every section full: 681 bytes. `wild` varies what the literals say.
+/// Every section full: 561 bytes. `wild` varies what the literals say.
 fn longest(wild: u8) -> Draft {
     let term = |i: u8| i % 16 + 1;
     Draft {
@@ -33,7 +33,7 @@ fn longest(wild: u8) -> Draft {
         equalities: (0..60u8).map(|i| [0, term(i), term(i + 1 + i / 16)]).collect(),
         reachability: (0..60u8).map(|i| [u8::from(i % 4 < wild), term(i), term(3 * i + i / 16)]).collect(),
         data: (0..60u8).map(|i| [u8::from(i % 8 < 4), i % 8 + 1, term(i)]).collect(),
-        booleans: (0..60u8).map(|i| [u8::from(i % 8 < 3), i % 8 + 1]).collect(),
+        ..Draft::default()
     }
 }
 
@@ -49,6 +49,7 @@ pub fn inputs() -> Vec<Vec<u8>> {
     cycles(&mut all);
     deep(&mut all);
     nil(&mut all);
+    old_queries(&mut all);
     all
 }
 
@@ -63,6 +64,7 @@ fn examples(all: &mut Vec<Vec<u8>>) {
     all.push(plain(&[1, 0, 0, 1, 0, 1, 1, 0, 0]));
     all.push(plain(&[3, 0, 1, 1, 1, 0, 2, 3, 0, 0, 0]));
     all.push(plain(&[0, 0, 0, 0, 2, 1, 1, 0, 1]));
+    all.push(plain(&[1, 0, 0, 0, 2, 1, 1, 1, 0, 1, 1, 0]));
     all.push(plain(&[2, 0, 0, 1, 1, 1, 2, 0, 2, 1, 1, 1, 0, 1, 2, 0]));
     all.push(plain(&[4, 0, 0, 1, 2, 2, 1, 3, 4, 0, 1, 2, 2, 1, 1, 2, 1, 2, 1, 0, 0]));
     all.push(plain(&[4, 0, 0, 1, 2, 2, 1, 3, 4, 0, 1, 2, 1, 1, 1, 2, 0, 0]));
@@ -115,12 +117,12 @@ fn lengths(all: &mut Vec<Vec<u8>>) {
     }
     for wild in [0, 1] {
         let query = longest(wild).bytes();
-        assert_eq!(query.len(), 681);
+        assert_eq!(query.len(), 561);
         all.push(plain(&query));
-        for length in [1, 16, 17, 18, 197, 198, 199, 378, 379, 380, 559, 560, 561, 679, 680] {
+        for length in [1, 16, 17, 18, 197, 198, 199, 378, 379, 380, 558, 559, 560] {
             all.push(plain(&query[..length]));
         }
-        for more in [1, 2, 300, 334, 335, 336, 400, 2000] {
+        for more in [1, 2, 120, 121, 454, 455, 456, 2000] {
             all.push(plain(&[&query[..], &vec![0; more]].concat()));
         }
     }
@@ -134,9 +136,6 @@ fn lengths(all: &mut Vec<Vec<u8>>) {
     }
     for entry in free.data.iter_mut() {
         entry[0] = 1;
-    }
-    for entry in free.booleans.iter_mut() {
-        entry[0] = u8::from(entry[1] % 2 == 1);
     }
     all.push(plain(&free.bytes()));
     free.reachability[59] = [0, 16, 16];
@@ -160,7 +159,7 @@ fn lengths(all: &mut Vec<Vec<u8>>) {
     all.push(vec![255; 1024]);
 }
 
-/// 60 and 61 entries in each of sections 2 to 5, and other counts.
+/// 60 and 61 entries in each of sections 2 to 4, and other counts; in section 5 each of them is refused (02, R-13).
 fn counts(all: &mut Vec<Vec<u8>>) {
     for section in 2..=5usize {
         let width = if section == 5 { 2 } else { 3 };
@@ -212,12 +211,12 @@ fn single_faults(all: &mut Vec<Vec<u8>>) {
 /// Two faults at once: the lower refusal is met first, wherever it stands; of one kind, the lower place.
 fn double_faults(all: &mut Vec<Vec<u8>>) {
     // One fault each of 5, 6, 7, 8 (places early and late), see `middle`.
-    let faults: [(usize, u8); 14] = [
+    let faults: [(usize, u8); 12] = [
         (1, 1),
         (3, 3),
         (5, 2),
+        (15, 255),
         (22, 2),
-        (28, 255),
         (6, 0),
         (10, 4),
         (14, 4),
@@ -225,8 +224,6 @@ fn double_faults(all: &mut Vec<Vec<u8>>) {
         (24, 17),
         (20, 0),
         (23, 9),
-        (27, 9),
-        (29, 0),
     ];
     for (i, &(first, one)) in faults.iter().enumerate() {
         for &(second, other) in &faults[..i] {
@@ -238,11 +235,13 @@ fn double_faults(all: &mut Vec<Vec<u8>>) {
         // With a fault of length: too short, a count too high, bytes that follow; and a bad order list.
         let mut bad = middle();
         bad[first] = one;
-        all.push(plain(&bad[..29]));
+        all.push(plain(&bad[..25]));
         all.push(plain(&[&bad[..], &[0]].concat()));
         all.push(under(&[1, 2, 3, 4, 5, 6, 7, 7], &bad));
         bad[25] = 61;
         all.push(plain(&bad));
+        bad[25] = 1;
+        all.push(plain(&[&bad[..], &[1, 1]].concat()));
         bad[11] = 200;
         all.push(plain(&bad));
     }
@@ -253,8 +252,7 @@ fn clashes(all: &mut Vec<Vec<u8>>) {
     let equalities = vec![[0, 1, 2], [0, 2, 3], [1, 2, 3], [0, 3, 2]];
     let reachability = vec![[0, 1, 1], [0, 2, 1], [0, 3, 1], [1, 2, 1], [0, 2, 1]];
     let data = vec![[1, 4, 1], [0, 5, 2], [1, 5, 3], [1, 5, 2], [0, 5, 3], [0, 4, 1], [1, 4, 1], [1, 5, 3]];
-    let booleans = vec![[1, 7], [0, 8], [1, 8], [0, 7], [1, 7], [1, 8]];
-    for left_out in 0..16u8 {
+    for left_out in 0..8u8 {
         let kept = |section: u8| left_out >> section & 1 == 0;
         let mut draft = Draft { terms: vec![0, 0, 0], equalities: equalities.clone(), ..Draft::default() };
         if !kept(0) {
@@ -266,16 +264,12 @@ fn clashes(all: &mut Vec<Vec<u8>>) {
         if kept(2) {
             draft.data = data.clone();
         }
-        if kept(3) {
-            draft.booleans = booleans.clone();
-        }
         all.push(plain(&draft.bytes()));
         all.push(under(&[8, 7, 6, 5, 4, 3, 2, 1], &draft.bytes()));
         // The same entries from back to front.
         draft.equalities.reverse();
         draft.reachability.reverse();
         draft.data.reverse();
-        draft.booleans.reverse();
         all.push(plain(&draft.bytes()));
     }
     // A partner that becomes one by a join on the way.
@@ -392,6 +386,24 @@ fn nil(all: &mut Vec<Vec<u8>>) {
                 all.push(plain(&more.bytes()));
                 all.push(under(&[8, 7, 6, 5, 4, 3, 2, 1], &more.bytes()));
             }
+        }
+    }
+}
+
+/// Old queries (02, R-13): refused at the count of section 5, before what is wrong in or behind it, and before 5 to 8.
+fn old_queries(all: &mut Vec<Vec<u8>>) {
+    let four = middle();
+    let four = &four[..four.len() - 1];
+    for literals in [vec![[1, 1]], vec![[1, 7], [0, 8], [1, 8], [0, 7]], vec![[2, 9]], vec![[0, 0]; 60], vec![[1, 8]; 61]] {
+        let count = [literals.len() as u8];
+        let five = [four, &count[..], &literals.concat()].concat();
+        all.push(plain(&five));
+        all.push(plain(&five[..five.len() - 1]));
+        all.push(plain(&[&five[..], &[0]].concat()));
+        for (place, byte) in [(1, 1), (5, 2), (6, 0), (20, 9), (18, 61), (11, 61)] {
+            let mut bad = five.clone();
+            bad[place] = byte;
+            all.push(plain(&bad));
         }
     }
 }

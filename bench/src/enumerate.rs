@@ -2,17 +2,16 @@
 //! bytes and the report's bytes itself, and knows nothing of facts, rules or walks.
 //!
 //! A query is satisfiable exactly if some heap with at most as many nodes as it has terms (and at least
-//! one) meets it. Links and the nodes of the variables are enumerated; data fields and booleans are free,
-//! so they are in the way only where one literal says yes and another no.
+//! one) meets it. Links and the nodes of the variables are enumerated; data fields are free, so they are
+//! in the way only where one literal says yes and another no.
 
-/// An accepted query, taken apart. Terms, fields and booleans count from 1, as in the bytes.
+/// An accepted query, taken apart. Terms and fields count from 1, as in the bytes.
 pub struct Literals {
     /// 0 for a variable, j for f of term j, 255 for nil.
     pub terms: Vec<usize>,
     pub equal: Vec<(bool, usize, usize)>,
     pub reach: Vec<(bool, usize, usize)>,
     pub data: Vec<(bool, usize, usize)>,
-    pub boolean: Vec<(bool, usize)>,
 }
 
 pub fn read_query(bytes: &[u8]) -> Literals {
@@ -25,20 +24,13 @@ pub fn read_query(bytes: &[u8]) -> Literals {
         (0..count).map(|_| (next() == 1, next(), next())).collect()
     };
     let (equal, reach, data) = (triples(), triples(), triples());
-    let count = next();
-    let boolean = (0..count).map(|_| (next() == 1, next())).collect();
-    assert!(stream.next().is_none(), "an accepted query");
-    Literals { terms, equal, reach, data, boolean }
+    assert!(next() == 0 && stream.next().is_none(), "an accepted query");
+    Literals { terms, equal, reach, data }
 }
 
 /// Whether some heap meets every literal.
 pub fn satisfiable(bytes: &[u8]) -> bool {
     let query = read_query(bytes);
-    for &(sign, number) in &query.boolean {
-        if query.boolean.contains(&(!sign, number)) {
-            return false;
-        }
-    }
     let most = query.terms.len().max(1);
     (1..=most).any(|nodes| some_heap(&query, nodes))
 }
@@ -138,7 +130,9 @@ pub fn check_report(bytes: &[u8], report: &[u8]) -> Result<(), String> {
     if next()? != 1 {
         return Err("the fourth count is not 1".into());
     }
-    let booleans = next()?;
+    if next()? != 0 {
+        return Err("the byte of booleans is not 0".into());
+    }
     if at != 2 * m + n + 5 {
         return Err(format!("{at} bytes"));
     }
@@ -183,11 +177,6 @@ pub fn check_report(bytes: &[u8], report: &[u8]) -> Result<(), String> {
     for &(sign, field, a) in &query.data {
         if (data[node_of(a) - 1] >> (field - 1) & 1 == 1) != sign {
             return Err(format!("field {field} of {a}"));
-        }
-    }
-    for &(sign, number) in &query.boolean {
-        if (booleans >> (number - 1) & 1 == 1) != sign {
-            return Err(format!("boolean {number}"));
         }
     }
     Ok(())

@@ -44,7 +44,7 @@ pub fn order(random: &mut Random) -> [u8; 8] {
     list
 }
 
-/// A query as lists of entries, from which the bytes are made.
+/// A query as lists of entries, from which the bytes are made. One with booleans is an old query, which is refused (02, R-13).
 #[derive(Clone, Default)]
 pub struct Draft {
     pub terms: Vec<u8>,
@@ -78,7 +78,6 @@ pub struct Shape {
     pub equalities: usize,
     pub reachability: usize,
     pub data: usize,
-    pub booleans: usize,
     /// Of 100 equality, reachability and other literals, how many are plain.
     pub plain_equal: usize,
     pub plain_reach: usize,
@@ -114,10 +113,6 @@ pub fn draft(random: &mut Random, shape: &Shape) -> Draft {
             draft.data.push([sign, random.between(1, fields) as u8, term(random)]);
         }
     }
-    for _ in 0..shape.booleans {
-        let sign = u8::from(random.percent(shape.plain_other));
-        draft.booleans.push([sign, random.between(1, 8) as u8]);
-    }
     draft
 }
 
@@ -133,7 +128,6 @@ pub fn shape(random: &mut Random, most: usize) -> Shape {
         equalities: random.below(big),
         reachability: if random.percent(30) { random.below(4) } else { random.below(2 * big) },
         data: if random.percent(50) { 0 } else { random.below(big) },
-        booleans: if random.percent(70) { 0 } else { random.below(4) },
         plain_equal: percent(random),
         plain_reach: [30, 50, 70, 90, 100][random.below(5)],
         plain_other: percent(random),
@@ -155,8 +149,13 @@ pub fn walked(order: &[u8], query: &[u8], budget: u64) -> Option<(End, u64)> {
     (end != End::Stopped).then_some((end, scribe.count))
 }
 
-/// Damages an input in one or a few places.
+/// Damages an input in one or a few places, or makes an old query of it.
 pub fn damage(random: &mut Random, bytes: &mut Vec<u8>) {
+    if random.percent(10) && bytes.pop().is_some() {
+        let count = random.between(1, 61);
+        bytes.push(count as u8);
+        bytes.extend((0..count).flat_map(|_| [random.below(2) as u8, random.between(1, 8) as u8]));
+    }
     for _ in 0..=random.below(3) {
         let length = bytes.len();
         match random.below(7) {
@@ -221,7 +220,6 @@ pub fn crowded(random: &mut Random) -> Vec<u8> {
         equalities: most(random),
         reachability: most(random),
         data: most(random),
-        booleans: most(random),
         plain_equal: [0, 2, 10][random.below(3)],
         plain_reach: random.below(101),
         plain_other: [0, 1, 99, 100][random.below(4)],

@@ -15,7 +15,6 @@ fn begin(random: &mut Random) -> ([u8; 8], Draft) {
         equalities: random.between(1, 8),
         reachability: random.between(6, 24),
         data: 0,
-        booleans: 0,
         plain_equal: random.between(0, 30),
         plain_reach: random.between(50, 95),
         plain_other: 50,

@@ -110,7 +110,6 @@ fn redraft(query: &[u8]) -> Draft {
     draft.equalities = triples(next(3));
     draft.reachability = triples(next(3));
     draft.data = triples(next(3));
-    draft.booleans = next(2).chunks_exact(2).map(|c| [c[0], c[1]]).collect();
     draft
 }
 
@@ -185,7 +184,6 @@ pub fn climb(directory: &Path, limit: u64, seed: u64) -> Result<bool, String> {
                 equalities: random.below(12),
                 reachability: random.between(8, 32),
                 data: 0,
-                booleans: 0,
                 plain_equal: 10,
                 plain_reach: [50, 65, 80][random.below(3)],
                 plain_other: 50,

@@ -16,6 +16,7 @@ mod long;
 mod luck;
 mod naive;
 mod reference;
+mod rewriting;
 #[cfg(feature = "library")]
 mod shares;
 #[cfg(test)]
@@ -33,7 +34,9 @@ program EXECUTABLE DIR        compare an executable heapverdict with them
 check N SEED                  compare the reference with the enumerator of small heaps on N queries
 slow N SEED                   compare the reference with the slow walk, line by line, on N queries and the edges
 slow long                     the same on the long derivations
-data DIR                      write edges, random and long .bin and .txt into DIR, and base.txt from its base.bin
+data DIR                      write edges, random, long and rewritten .bin and .txt into DIR, and .txt of its base, R-1 and R-3
+rewriting FILE                compare the rewriting of R-13 with its vectors
+rewriting DIR NAME ..         compare the verdicts stored for old queries with those of their rewritings
 search LOW HIGH KINDS N SEED  print N inputs whose derivation has LOW to HIGH lines, of KINDS kinds or more
 time DIR                      time the workloads in DIR (with feature library: the library too)
 luck DIR                      (feature library) workload-luck: every answer as stored, and the time of both calls
@@ -75,7 +78,15 @@ fn run(words: &[&str]) -> Result<bool, String> {
         ["slow", count, seed] => check::slow(number(count)? as usize, number(seed)?),
         ["data", directory] => {
             let directory = Path::new(directory);
-            vectors::write(directory, "base", &vectors::read_bin(&directory.join("base.bin"))?)?;
+            for name in ["base", "R-1", "R-3"] {
+                vectors::write(directory, name, &vectors::read_bin(&directory.join(format!("{name}.bin")))?)?;
+            }
+            let mut old = Vec::new();
+            for name in ["base", "R-1", "R-3"] {
+                old.extend(vectors::read_bin(&directory.join(format!("{name}.bin")))?);
+            }
+            let rewritten: Vec<_> = old.iter().filter_map(|input| rewriting::rewritten(input)).collect();
+            vectors::write(directory, "rewritten", &rewritten)?;
             vectors::write(directory, "edges", &edges::inputs())?;
             vectors::write(directory, "random", &generate::inputs(400, 20))?;
             vectors::write(directory, "long", &long::inputs())?;
@@ -93,6 +104,8 @@ fn run(words: &[&str]) -> Result<bool, String> {
             shares(Path::new(program), Path::new(directory), number(count)? as usize)
         }
         ["derivations", directory] => derivations(Path::new(directory)),
+        ["rewriting", file] => rewriting::compare(Path::new(file)),
+        ["rewriting", directory, ref names @ ..] => rewriting::same_verdicts(Path::new(directory), names),
         ["between", file] => between::compare(Path::new(file)),
         ["between"] => Ok(between_time()),
         ["between", count, seed] => between_differ(number(count)? as usize, number(seed)?),

@@ -17,8 +17,6 @@ struct Path {
     unreached: Vec<(usize, usize, usize)>,
     /// (place, plain, field, x).
     data: Vec<(usize, bool, usize, usize)>,
-    /// (place, plain, number).
-    booleans: Vec<(usize, bool, usize)>,
 }
 
 enum Alternative {
@@ -71,7 +69,6 @@ impl Path {
             differ: Vec::new(),
             unreached: Vec::new(),
             data: Vec::new(),
-            booleans: Vec::new(),
         };
         // A literal that is put in before the joins is renamed by them, as every fact is; the plain
         // equalities wait in `differ` under place 0 until they are joined.
@@ -102,9 +99,6 @@ impl Path {
         for (i, entry) in sections[3].iter().enumerate() {
             path.data.push((i + 1, entry[0] == 1, entry[1], entry[2]));
         }
-        for (i, entry) in sections[4].iter().enumerate() {
-            path.booleans.push((i + 1, entry[0] == 1, entry[1]));
-        }
         path.join_doubled(lines);
         path.join_waiting(nil_terms.len().saturating_sub(1), lines);
         if let Some(nil) = path.nil {
@@ -133,11 +127,6 @@ impl Path {
         for no in self.data.iter().filter(|l| !l.1) {
             if let Some(yes) = self.data.iter().find(|l| l.1 && l.2 == no.2 && l.3 == no.3) {
                 return Some([9, 4, no.0, yes.0]);
-            }
-        }
-        for no in self.booleans.iter().filter(|l| !l.1) {
-            if let Some(yes) = self.booleans.iter().find(|l| l.1 && l.2 == no.2) {
-                return Some([9, 5, no.0, yes.0]);
             }
         }
         None

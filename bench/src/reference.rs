@@ -13,9 +13,9 @@ pub const INPUT_BYTES: usize = 1_024;
 /// The term byte that names nil (02, R-3).
 pub const NIL: u8 = 255;
 
-/// Largest count and bytes per entry of sections 1 to 5.
-pub const SECTION_LIMIT: [usize; 5] = [16, 60, 60, 60, 60];
-pub const SECTION_WIDTH: [usize; 5] = [1, 3, 3, 3, 2];
+/// Largest count and bytes per entry of sections 1 to 4.
+pub const SECTION_LIMIT: [usize; 4] = [16, 60, 60, 60];
+pub const SECTION_WIDTH: [usize; 4] = [1, 3, 3, 3];
 
 // ------------------------------------------------------------------------------------------------
 // Answers
@@ -50,14 +50,13 @@ pub fn encode(answer: Answer) -> u64 {
 // ------------------------------------------------------------------------------------------------
 // Checks 1 to 8
 
-/// A query that passed checks 2 to 8: the entries of its five sections.
+/// A query that passed checks 2 to 8 and 26: the entries of its sections.
 #[derive(Clone, Copy)]
 pub struct Query<'a> {
     terms: &'a [u8],
     equalities: &'a [u8],
     reachability: &'a [u8],
     data: &'a [u8],
-    booleans: &'a [u8],
 }
 
 /// An order list that passed check 1.
@@ -81,11 +80,11 @@ pub fn check_order(order: &[u8]) -> Result<Order, Refusal> {
 }
 
 pub fn check_query(bytes: &[u8]) -> Result<Query<'_>, Refusal> {
-    // 2, 3 and 4: one walk from the front.
-    let mut begin = [0usize; 5];
-    let mut end = [0usize; 5];
+    // 2, 3, 26 and 4: one walk from the front.
+    let mut begin = [0usize; 4];
+    let mut end = [0usize; 4];
     let mut at = 0;
-    for section in 0..5 {
+    for section in 0..4 {
         if at >= bytes.len() {
             return refuse(2, bytes.len());
         }
@@ -100,11 +99,17 @@ pub fn check_query(bytes: &[u8]) -> Result<Query<'_>, Refusal> {
         }
         at = end[section];
     }
+    // Section 5 is retired (02, R-13): its count must be 0.
+    match bytes.get(at) {
+        None => return refuse(2, bytes.len()),
+        Some(0) => at += 1,
+        Some(_) => return refuse(26, at),
+    }
     if at < bytes.len() {
         return refuse(4, at);
     }
     let part = |section: usize| &bytes[begin[section]..end[section]];
-    let query = Query { terms: part(0), equalities: part(1), reachability: part(2), data: part(3), booleans: part(4) };
+    let query = Query { terms: part(0), equalities: part(1), reachability: part(2), data: part(3) };
     // 5: a term byte is below its own term's number, or names nil.
     for (i, &byte) in query.terms.iter().enumerate() {
         if usize::from(byte) > i && byte != NIL {
@@ -112,10 +117,10 @@ pub fn check_query(bytes: &[u8]) -> Result<Query<'_>, Refusal> {
         }
     }
     // 6: signs.
-    for section in 1..5 {
-        for (i, entry) in part(section).chunks_exact(SECTION_WIDTH[section]).enumerate() {
+    for section in 1..4 {
+        for (i, entry) in part(section).chunks_exact(3).enumerate() {
             if entry[0] > 1 {
-                return refuse(6, begin[section] + i * SECTION_WIDTH[section]);
+                return refuse(6, begin[section] + 3 * i);
             }
         }
     }
@@ -131,12 +136,10 @@ pub fn check_query(bytes: &[u8]) -> Result<Query<'_>, Refusal> {
             }
         }
     }
-    // 8: field and boolean numbers.
-    for section in 3..5 {
-        for (i, entry) in part(section).chunks_exact(SECTION_WIDTH[section]).enumerate() {
-            if !(1..=8).contains(&entry[1]) {
-                return refuse(8, begin[section] + i * SECTION_WIDTH[section] + 1);
-            }
+    // 8: fields.
+    for (i, entry) in part(3).chunks_exact(3).enumerate() {
+        if !(1..=8).contains(&entry[1]) {
+            return refuse(8, begin[3] + 3 * i + 1);
         }
     }
     Ok(query)
@@ -195,8 +198,6 @@ pub struct Facts {
     unreached: Rows,
     plain_data: [u8; TERMS],
     negated_data: [u8; TERMS],
-    plain_booleans: u8,
-    negated_booleans: u8,
 }
 
 /// In a relation given by rows, lets `low` stand for `high`.
@@ -278,8 +279,6 @@ impl Facts {
             unreached: [0; TERMS],
             plain_data: [0; TERMS],
             negated_data: [0; TERMS],
-            plain_booleans: 0,
-            negated_booleans: 0,
         };
         for (x, &byte) in query.terms.iter().enumerate() {
             if byte > 0 && byte != NIL {
@@ -315,13 +314,6 @@ impl Facts {
                 facts.negated_data[a] |= 1 << (entry[1] - 1);
             }
         }
-        for entry in query.booleans.chunks_exact(2) {
-            if entry[0] == 1 {
-                facts.plain_booleans |= 1 << (entry[1] - 1);
-            } else {
-                facts.negated_booleans |= 1 << (entry[1] - 1);
-            }
-        }
         facts
     }
 
@@ -341,7 +333,7 @@ impl Facts {
 
     fn has_clash(&self) -> bool {
         let mut rows: Row = 0;
-        let mut fields = self.plain_booleans & self.negated_booleans;
+        let mut fields = 0;
         for x in 0..TERMS {
             rows |= self.reach[x] & self.unreached[x];
             rows |= self.differ[x] & bit(x);
@@ -369,14 +361,6 @@ impl Facts {
                 });
                 if let Some(j) = partner {
                     return [9, 4, i as u8 + 1, j as u8 + 1];
-                }
-            }
-        }
-        for (i, entry) in query.booleans.chunks_exact(2).enumerate() {
-            if entry[0] == 0 {
-                let partner = query.booleans.chunks_exact(2).position(|other| other[0] == 1 && other[1] == entry[1]);
-                if let Some(j) = partner {
-                    return [9, 5, i as u8 + 1, j as u8 + 1];
                 }
             }
         }
@@ -729,7 +713,7 @@ fn write_report(facts: &Facts, n: usize, report: &mut [u8]) {
         Members(facts.alive).for_each(|x| put(facts.plain_data[x]));
     }
     put(1);
-    put(facts.plain_booleans);
+    put(0);
 }
 
 /// Where the missing link of `v` leads.

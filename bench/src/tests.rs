@@ -28,7 +28,9 @@ fn starred_examples() {
     assert_eq!(printed(&[4, 1, 2, 3, 5, 6, 7, 8], e4), "unsat\n4 1 2 3\n10 1 3 0\n9 2 1 0\n9 3 2 0\n");
     assert_eq!(printed(&ORDER, "01 00 00 01 00 01 01 00 00"), "unsat\n1 1 0 0\n9 3 1 0\n");
     assert_eq!(printed(&ORDER, "03 00 01 01 01 00 02 03 00 00 00"), "unsat\n10 2 3 0\n9 2 1 0\n");
-    assert_eq!(printed(&ORDER, "00 00 00 00 02 01 01 00 01"), "unsat\n9 5 2 1\n");
+    // E7 is refused, and "becomes its rewriting" (02, R-13).
+    assert_eq!(printed(&ORDER, "00 00 00 00 02 01 01 00 01"), "refused 26 at 4\n");
+    assert_eq!(printed(&ORDER, "01 00 00 00 02 01 01 01 00 01 01 00"), "unsat\n9 4 2 1\n");
     assert_eq!(printed(&ORDER, "02 00 00 01 01 01 02 00 02 01 01 01 00 01 02 00"), "unsat\n10 1 2 0\n9 4 2 1\n");
     // Null in a live list (02, R-3): a heap for a variable, none for nil.
     assert_eq!(
@@ -75,7 +77,7 @@ fn stored_data() {
 fn gate_data() {
     let root = Path::new(env!("CARGO_MANIFEST_DIR")).join("..");
     for (ending, joined) in [("bin", "stdin"), ("txt", "stdout")] {
-        let parts = ["base", "edges", "random", "long", "R-1", "R-3"]
+        let parts = ["base", "edges", "random", "long", "R-1", "R-3", "R-13", "rewritten"]
             .map(|name| std::fs::read(root.join(format!("tests/data/{name}.{ending}"))).unwrap());
         assert!(parts.concat() == std::fs::read(root.join("crates/vectors").join(joined)).unwrap(), "{joined}");
     }

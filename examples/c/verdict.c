@@ -14,7 +14,7 @@ static const uint8_t there[] = {
     2, 1, 3, 4, 0, 1, 2,    /* a->next == b->next, a != b */
     1, 1, 1, 2,             /* b can be reached from a */
     0,                      /* nothing is said of data fields */
-    0                       /* nor of booleans */
+    0                       /* section 5 is retired: always 0 */
 };
 
 static const uint8_t there_and_back[] = {
@@ -30,7 +30,7 @@ static void print_refusal(uint64_t answer)
     printf("  refused %u at %u\n", lemitsaka_refusal(answer), lemitsaka_place(answer));
 }
 
-/* A report has, each after its count: successors, the nodes of the terms, data bytes, booleans. */
+/* A report has, each after its count: successors, the nodes of the terms, data bytes, and a byte that is 0. */
 static void print_heap(const uint8_t *report)
 {
     const uint8_t *next = report;

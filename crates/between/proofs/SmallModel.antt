@@ -109,7 +109,6 @@ module _ (q : Query) (ok : Accepted q) (h : Heap) (is : IsHeap h) where
         size = length named;
         link = λ i. place (hops (at i));
         field = λ j i. h .field j (at i);
-        boolean = h .boolean;
         variable = λ t. cond (chosen (val t)) (place (val t)) 1;
       }
 
@@ -255,10 +254,6 @@ module _ (q : Query) (ok : Accepted q) (h : Heap) (is : IsHeap h) where
   unfolding small
   same-field j t r = ap (λ (i : ℕ). h .field j (at i)) (small-value t r) ∙ ap (h .field j) (at-place (val t) (term-named t r))
 
-  same-boolean : (j : ℕ) → small .boolean j ≡ h .boolean j
-  unfolding small
-  same-boolean j = refl
-
   pub small-named : named ≡ orOne (firsts val (termCount q))
   unfolding named
   small-named = refl
@@ -288,7 +283,6 @@ small-meets q ok h m =
         equalities = λ l k. let r = acc .equal-terms l k in signed-same (l .plain) (same-equal b acc h is (l .left) (l .right) (r .0) (r .1)) (m .meets .equalities l k);
         reachability = λ l k. let r = acc .reach-terms l k in signed-same (l .plain) (same-reach b acc h is (l .left) (l .right) (r .0) (r .1)) (m .meets .reachability l k);
         fields = λ l k. signed-same (l .plain) (same-test (same-field b acc h is (l .left) (l .right) (acc .field-term l k))) (m .meets .fields l k);
-        booleans = λ l k. signed-same (l .plain) (same-test (same-boolean b acc h is (l .left))) (m .meets .booleans l k);
       };
       betweens = λ l k. let r = ok .between-terms l k in signed-same (l .plain) (same-between b acc h is (l .from) (l .middle) (l .to) (r .0) (r .1) (r .2)) (m .betweens l k);
     }

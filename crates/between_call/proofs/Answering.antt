@@ -3,14 +3,15 @@ use Prim.Native.Nat.{ℕ, _+_, _-_, _≤_, _<_}
 use native.Mathlib.Omega.{arith}
 use mathlib.Core.Path.{_≡_, refl, sym, ap, _∙_, subst}
 use mathlib.Core.Bool.{Bool, true, false}
-use mathlib.Core.List.{List, [], _∷_, _++_}
-use mathlib.Core.Option.{Option, none, some, Option·elim}
+use mathlib.Core.List.{List, [], _∷_}
+use mathlib.Core.Option.{none, some, Option·elim}
 use lib.ListN.{length, take, drop, replicate, length-drop}
 use lib.Seq.{take-length}
 use borrow.Author.Tests.{lt-ltb, le-ltb}
 use Rattle.logic.specs.Search.{keep, orElse, firstOf}
 use Rattle.logic.specs.Query.{firstByte, termCount}
-use Rattle.logic.specs.Calls.{Input, Check, roomCheck, Answer, refused, refusalOf, padded, blank}
+use Rattle.logic.specs.Calls.{Input, roomCheck, Answer, refused, refusalOf, padded, blank}
+use Rattle.logic.proofs.Calls.CallLaws.{refusalOf-append}
 use Rattle.query.specs.declared.Layout.{Layout}
 use Rattle.query.proofs.Ranges.{entry-below}
 use Rattle.between.specs.Meaning.{BetweenQuery}
@@ -30,21 +31,9 @@ use Rattle.between_call.specs.Promise.{Does, Reportable, Asked}
 -- The checks
 
 module _ (i : Input) where
-  answerOf : Check → Option Answer
-  answerOf c = Option·elim (c .place i) none (λ place. some (refused (c .number) place))
-
-  firstOf-append : {A B : Type 0} (f : A → Option B) (xs ys : List A) → firstOf f (xs ++ ys) ≡ orElse (firstOf f xs) (firstOf f ys)
-  unfolding firstOf orElse
-  firstOf-append f [] ys = refl
-  firstOf-append {A} {B} f (x ∷ xs) ys = ap (orElse (f x)) (firstOf-append f xs ys) ∙ assoc (f x) (firstOf f xs) (firstOf f ys)
-    where
-      assoc : (o p q : Option B) → orElse o (orElse p q) ≡ orElse (orElse o p) q
-      assoc none p q = refl
-      assoc (some b) p q = refl
-
   checks-split : refusalOf betweenChecks i ≡ orElse (refusalOf sixChecks i) (refusalOf (roomCheck ∷ fiveTermsCheck ∷ []) i)
-  unfolding refusalOf betweenChecks
-  checks-split = firstOf-append _ sixChecks (roomCheck ∷ fiveTermsCheck ∷ [])
+  unfolding betweenChecks
+  checks-split = refusalOf-append sixChecks i (roomCheck ∷ fiveTermsCheck ∷ [])
 
   six-first : (a : Answer) → refusalOf sixChecks i ≡ some a → refusalOf betweenChecks i ≡ some a
   unfolding orElse

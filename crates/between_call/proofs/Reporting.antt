@@ -9,14 +9,14 @@ use lib.Dec.{eqb}
 use Rattle.logic.specs.Search.{_and_}
 use Rattle.logic.specs.Query.{Literal, decode}
 use Rattle.logic.specs.Facts.{terms}
-use Rattle.logic.specs.Shown.{byteOf, booleanByte}
+use Rattle.logic.specs.Shown.{byteOf}
 use Rattle.logic.proofs.Basics.Search.{from-mem}
 use Rattle.logic.proofs.Completeness.Placed.{length-from}
 use Rattle.facts.specs.Square.{square}
 use Rattle.query.specs.declared.Layout.{Layout}
-use Rattle.query.proofs.Literals.{listed, fields-listed, booleans-listed}
-use Rattle.query.proofs.Ranges.{field-number-term, boolean-number}
-use Rattle.report.specs.Bytes.{fieldHeld, booleanHeld, literalsAt, flagsAt, FieldsIn, FlagsIn, sections}
+use Rattle.query.proofs.Literals.{listed, fields-listed}
+use Rattle.query.proofs.Ranges.{field-number-term}
+use Rattle.report.specs.Bytes.{fieldHeld, literalsAt, FieldsIn, sections}
 use Rattle.report.proofs.Held.{byte-alike}
 use Rattle.between_search.specs.Search.{entry, dataByte, reportOf}
 use Rattle.between_search.proofs.Due.{any-alike}
@@ -50,14 +50,11 @@ module _ (l : Layout) (base links nodes : List ℕ) (ready : Reportable l base l
       let v = ready .few-nodes _ (r .1 .0) (r .1 .1) in
       (r .0 .1, omega (arith, r .1 .1, ready .laid .terms-within), omega (arith, v))
 
-  pub flags-in : FlagsIn base (l .«boolean_at») (l .«boolean_count»)
-  flags-in i h = boolean-number l base (ready .laid) (ready .passes) i h .1
-
   pub few-successors : getD links 0 0 ≤ 5
   unfolding entry
   few-successors = ready .few-links
 
-  module _ (marks fields : List ℕ) (booleans m : ℕ) (counted : m ≡ getD links 0 0) (held : (v j : ℕ) → v ≤ 16 → j ≤ 16 → square marks v j ≡ fieldHeld (entry nodes) (literalsAt base (l .«field_at») (l .«field_count»)) v j) (rows : (v : ℕ) → v ≤ m → getD fields v 0 ≡ byteOf (square marks v) 1 8) (flagged : booleans ≡ byteOf (booleanHeld (flagsAt base (l .«boolean_at») (l .«boolean_count»))) 1 8) where
+  module _ (marks fields : List ℕ) (m : ℕ) (counted : m ≡ getD links 0 0) (held : (v j : ℕ) → v ≤ 16 → j ≤ 16 → square marks v j ≡ fieldHeld (entry nodes) (literalsAt base (l .«field_at») (l .«field_count»)) v j) (rows : (v : ℕ) → v ≤ m → getD fields v 0 ≡ byteOf (square marks v) 1 8) where
     datum : (v : ℕ) → List·Memᴰ v (terms m) → getD fields v 0 ≡ dataByte (decode base .fields) (entry nodes) v
     unfolding terms dataByte fieldHeld literalsAt listed
     datum v h =
@@ -68,11 +65,7 @@ module _ (l : Layout) (base links nodes : List ℕ) (ready : Reportable l base l
         ∙ ap (λ (ls : List Literal). byteOf (fieldHeld (entry nodes) ls v) 1 8) (sym (fields-listed l base (ready .laid)))
         ∙ byte-alike _ _ 1 8 (λ j a b. any-alike _ _ (decode base .fields) (λ k i. and-are (k .plain) (eqb (k .left) j) (eqb (entry nodes (k .right)) v)))
 
-    flag : booleans ≡ booleanByte (decode base)
-    unfolding booleanByte booleanHeld flagsAt listed
-    flag = flagged ∙ ap (λ (ls : List Literal). byteOf (booleanHeld ls) 1 8) (sym (booleans-listed l base (ready .laid)))
-
-    pub report-is : (between : List ℕ) → sections (l .terms) (terms m) (λ t. getD links t 0) (λ t. getD nodes t 0) (λ t. getD fields t 0) booleans ≡ reportOf (queryIn base between) (record { links = links; nodes = nodes })
+    pub report-is : (between : List ℕ) → sections (l .terms) (terms m) (λ t. getD links t 0) (λ t. getD nodes t 0) (λ t. getD fields t 0) ≡ reportOf (queryIn base between) (record { links = links; nodes = nodes })
     unfolding reportOf entry
     report-is between =
-        rw (terms-length m, map-alike _ _ (terms m) datum, flag, ready .laid .term-count, counted)
+        rw (terms-length m, map-alike _ _ (terms m) datum, ready .laid .term-count, counted)

@@ -40,7 +40,8 @@ fn mark_fields(query: &[u8], at: usize, count: usize, nodes: &[u8; 17]) -> [u32;
     marks
 }
 
-// "m successors; n nodes, one per term; m data bytes ..; one byte of booleans", each section after its count, and zeros past them.
+// "m successors; n nodes, one per term; m data bytes ..; one byte of booleans", which is 0, each section after its count, and zeros past
+// them.
 fn write_sections(
     buffer: &mut [u8],
     m: usize,
@@ -48,17 +49,16 @@ fn write_sections(
     links: &[u8; 17],
     nodes: &[u8; 17],
     fields: &[u8; 17],
-    booleans: u8,
 )
     requires { ⌜ (m ≤ 16) × (n ≤ 16) × (53 ≤ length (now buffer)) ⌝ }
-    ensures { λ r. ⌜ now (buffer .exit) ≡ padded (length (now (buffer .entry))) (sections n (terms m) (λ t. getD (now (links .entry)) t 0) (λ t. getD (now (nodes .entry)) t 0) (λ t. getD (now (fields .entry)) t 0) booleans) ⌝ }
+    ensures { λ r. ⌜ now (buffer .exit) ≡ padded (length (now (buffer .entry))) (sections n (terms m) (λ t. getD (now (links .entry)) t 0) (λ t. getD (now (nodes .entry)) t 0) (λ t. getD (now (fields .entry)) t 0)) ⌝ }
 {
     report::clear(buffer);
     let second = report::put_term_section(buffer, 0, m, links);
     let third = report::put_term_section(buffer, second, n, nodes);
     let fourth = report::put_term_section(buffer, third, m, fields);
     let last = report::put(buffer, fourth, 1);
-    report::put(buffer, last, booleans);
+    report::put(buffer, last, 0);
 }
 
 // The report of the heap that was found.
@@ -69,8 +69,7 @@ fn write_report(buffer: &mut [u8], base: &[u8], l: Layout, links: &[u8; 17], nod
     let m = links[0] as usize;
     let marks = mark_fields(base, l.field_at, l.field_count, nodes);
     let fields = report::row_bytes(&marks, m);
-    let booleans = report::boolean_byte(base, l.boolean_at, l.boolean_count);
-    write_sections(buffer, m, l.terms, links, nodes, &fields, booleans);
+    write_sections(buffer, m, l.terms, links, nodes, &fields);
 }
 
 // The first heap of a query that passes its checks, or none.

@@ -12,14 +12,14 @@ use lib.Seq.{take-length, length-take-le, take-at, drop-length, drop-append-le}
 use lib.Dec.{eqb, leb}
 use borrow.Author.Tests.{leb-true}
 use Rattle.logic.specs.Search.{_and_, from, flatMap, keep, orElse}
-use Rattle.logic.specs.Query.{Role, Section, countRole, signRole, termRole, sections, faulty, parts, withPart, layout, rolesOf, firstByte, layoutOf, roleFault, byteFault, section, queryOf, decode, termCount}
+use Rattle.logic.specs.Query.{Role, Section, countRole, signRole, termRole, fourSections, booleanSection, fiveSections, sections, faulty, parts, withPart, layout, rolesOf, firstByte, layoutBy, layoutOf, roleFault, byteFault, section, queryOf, decode, termCount}
 use Rattle.logic.proofs.Query.Bytes.{Regular, first-sized}
 use Rattle.query.proofs.Reading.{above, short, passed}
 use Rattle.query.proofs.Loops.{drop-next}
 use Rattle.query.specs.Sections.{Stands}
-use Rattle.between_search.specs.Bytes.{betweenSection, sixSections, sixLayout, triples, betweensOf, decodeSix, sixByteFault}
+use Rattle.between_search.specs.Bytes.{betweenSection, sixSections, sixLayout, triples, betweensOf, decodeSix}
 use Rattle.between_search.proofs.Layouts.{prepend, faulty-parts, withPart-parts, cond-parts, parts-length, prepend-parts, layout-append}
-use Rattle.between_search.proofs.SixLayout.{followed, early-fault, ends-early, role-append}
+use Rattle.between_search.proofs.SixLayout.{five-not-four, followed, early-fault, ends-early, role-append}
 use Rattle.between_checks.specs.Answers.{tripleRoles, sixthFault, Sixth}
 
 prepend-faulty : (ps : List (List ℕ)) (k place : ℕ) → prepend ps (faulty k place) ≡ faulty k place
@@ -27,13 +27,13 @@ unfolding prepend withPart
 prepend-faulty [] k place = refl
 prepend-faulty (p ∷ ps) k place = ap (withPart p) (prepend-faulty ps k place)
 
--- refusals 2 and 3 of the five are those of the six, and five sections alone end before the sixth's count
-pub early : (bytes : List ℕ) (k place : ℕ) → k < 4 → layoutOf bytes ≡ faulty k place → sixLayout bytes ≡ faulty k place
-unfolding layoutOf sixLayout sixSections
-early bytes k place l h = early-fault (sections (firstByte bytes)) (betweenSection (firstByte bytes) ∷ []) 0 bytes k place (λ e. omega arith) h
+-- refusals 2, 3 and 26 of the five are those of the six, and five sections alone end before the sixth's count
+pub early : (bytes : List ℕ) (k place : ℕ) → (k ≡ 4 → ⊥) → layoutOf bytes ≡ faulty k place → sixLayout bytes ≡ faulty k place
+unfolding layoutOf layoutBy sixLayout sixSections
+early bytes k place l h = early-fault (sections (firstByte bytes)) (betweenSection (firstByte bytes) ∷ []) 0 bytes k place l h
 
 pub ended : (bytes : List ℕ) (ps : List (List ℕ)) → layoutOf bytes ≡ parts ps → sixLayout bytes ≡ faulty 2 (length bytes)
-unfolding layoutOf sixLayout sixSections
+unfolding layoutOf layoutBy sixLayout sixSections
 ended bytes ps h = ends-early (sections (firstByte bytes)) [] (betweenSection (firstByte bytes)) 0 bytes ps h ∙ ap (faulty 2) (zero-add (length bytes))
 
 -- the sixth section, whose count stands at `at`
@@ -62,7 +62,7 @@ pub record Five (bytes : List ℕ) (at : ℕ) : Type 0 where
   pub laid : layout (sections (firstByte bytes)) 0 (take at bytes) ≡ parts laid-parts
 
 not-empty : (n : ℕ) → sections n ≡ [] → ⊥
-unfolding sections
+unfolding sections fiveSections fourSections
 not-empty n e = let z : _≡_ {A = ℕ} 1 0 = cc in omega arith
 
 positive : (ss : List Section) (at : ℕ) (bytes : List ℕ) (ps : List (List ℕ)) → (ss ≡ [] → ⊥) → layout ss 0 (take at bytes) ≡ parts ps → 0 < at
@@ -78,9 +78,9 @@ first-taken (suc at) [] h = refl
 first-taken (suc at) (b ∷ bytes) h = refl
 
 pub five : (bytes : List ℕ) (at : ℕ) → layoutOf bytes ≡ faulty 4 at → Five bytes at
-unfolding layoutOf
+unfolding layoutOf layoutBy
 five bytes at h =
-    let r = followed (sections (firstByte bytes)) 0 bytes at h in
+    let r = followed (sections (firstByte bytes)) (five-not-four (firstByte bytes)) 0 bytes at h in
     let size : length (r .front) ≡ at = omega (arith, r .placed) in
     let front : take at bytes ≡ r .front = ap (take at) (r .whole) ∙ take-at (r .front) (r .back) at size in
     let laid : layout (sections (firstByte bytes)) 0 (take at bytes) ≡ parts (r .laid-parts) = ap (layout (sections (firstByte bytes)) 0) front ∙ r .laid in
@@ -112,7 +112,7 @@ roles-append [] ts place [] back ps r h = (refl, refl)
 roles-append [] ts place (c ∷ more) back ps r h = absurd (faulty-parts h)
 roles-append (s ∷ ss) ts place [] back ps r h = absurd (faulty-parts h)
 roles-append (s ∷ ss) ts place (c ∷ more) back ps r h =
-    let a = cond-parts (leb c (s .limit)) _ 3 place ps h in
+    let a = cond-parts (leb c (s .limit)) _ (s .excess) place ps h in
     let b = cond-parts (leb (c * s .width) (length more)) _ 2 (suc place + length more) ps (a .1) in
     let w = withPart-parts (take (c * s .width) more) (layout ss (suc place + c * s .width) (drop (c * s .width) more)) ps (b .1) in
     let fits : c * s .width ≤ length more = leb-true (c * s .width) (length more) (b .0) in
@@ -125,7 +125,7 @@ roles-append (s ∷ ss) ts place (c ∷ more) back ps r h =
     )
 
 five-regular : (n : ℕ) → Regular (sections n)
-unfolding sections
+unfolding sections fiveSections fourSections booleanSection
 five-regular n = (λ i. refl, (λ i. refl, (λ i. refl, (λ i. refl, (λ i. refl, tt)))))
 
 -- the part behind the others, and those before it
@@ -164,7 +164,7 @@ module _ (bytes : List ℕ) (at : ℕ) (f : Five bytes at) where
 
   -- the walk from the front, behind the five
   behind : sixLayout bytes ≡ prepend (f .laid-parts) (layout (betweenSection n ∷ []) at (drop at bytes))
-  unfolding sixLayout sixSections
+  unfolding sixLayout layoutBy sixSections
   behind =
       ap (layout (sections n ++ (betweenSection n ∷ [])) 0) (sym (take-append-drop at bytes))
       ∙ layout-append (sections n) (betweenSection n ∷ []) 0 (take at bytes) (drop at bytes) (f .laid-parts) (f .laid)
@@ -174,11 +174,11 @@ module _ (bytes : List ℕ) (at : ℕ) (f : Five bytes at) where
   sixth-refused k place h = behind ∙ ap (prepend (f .laid-parts)) h ∙ prepend-faulty (f .laid-parts) k place
 
   pub laid-five : layoutOf (take at bytes) ≡ parts (f .laid-parts)
-  unfolding layoutOf
+  unfolding layoutOf layoutBy
   laid-five = ap (λ (m : ℕ). layout (sections m) 0 (take at bytes)) (f .first-same) ∙ f .laid
 
   pub terms-five : termCount (decode (take at bytes)) ≡ firstByte bytes
-  unfolding decode queryOf termCount sections
+  unfolding decode queryOf termCount sections fiveSections fourSections
   terms-five = rw laid-five (first-sized _ _ 0 (take at bytes) (f .laid-parts) (f .laid) ∙ mul-one (firstByte (take at bytes)) ∙ f .first-same)
 
   module _ (count : ℕ) (sixth : Sixth bytes at count) where
@@ -203,7 +203,7 @@ module _ (bytes : List ℕ) (at : ℕ) (f : Five bytes at) where
     six-laid = behind ∙ ap (prepend (f .laid-parts)) last ∙ prepend-parts (f .laid-parts) (drop (at + 1) bytes ∷ [])
 
     five-parts : length (f .laid-parts) ≡ 5
-    unfolding sections
+    unfolding sections fiveSections fourSections
     five-parts = parts-length (sections n) 0 (take at bytes) (f .laid-parts) (f .laid)
 
     pub six-says : decodeSix bytes ≡ record { base = decode (take at bytes); betweens = triples (drop (at + 1) bytes) }
@@ -216,13 +216,12 @@ module _ (bytes : List ℕ) (at : ℕ) (f : Five bytes at) where
           section-before (f .laid-parts) (drop (at + 1) bytes) 1 (omega (arith, five-parts)),
           section-before (f .laid-parts) (drop (at + 1) bytes) 2 (omega (arith, five-parts)),
           section-before (f .laid-parts) (drop (at + 1) bytes) 3 (omega (arith, five-parts)),
-          section-before (f .laid-parts) (drop (at + 1) bytes) 4 (omega (arith, five-parts)),
           section-last (f .laid-parts) (drop (at + 1) bytes) 5 (sym five-parts),
         )
 
     -- the single bytes: first in the five, then in the sixth
-    pub six-fault : (k : ℕ) → sixByteFault k bytes ≡ orElse (byteFault k (take at bytes)) (sixthFault k n (at + 1) count bytes)
-    unfolding sixByteFault sixSections byteFault sixthFault betweenSection rolesOf roleFault countRole keep orElse
+    pub six-fault : (k : ℕ) → byteFault sixSections k bytes ≡ orElse (byteFault sections k (take at bytes)) (sixthFault k n (at + 1) count bytes)
+    unfolding sixSections byteFault sixthFault betweenSection rolesOf roleFault countRole keep orElse
     six-fault k =
         let r = roles-append (sections n) (betweenSection n ∷ []) 0 (take at bytes) (drop at bytes) (f .laid-parts) (five-regular n) (f .laid) in
         ap (λ (xs : List ℕ). roleFault k 0 (rolesOf (sections n ++ (betweenSection n ∷ [])) xs) xs) (sym (take-append-drop at bytes))

@@ -6,9 +6,10 @@ use mathlib.Core.Logic.{_⊎_, ⊎-elim, inl, inr}
 use mathlib.Core.List.{List, []}
 use mathlib.Core.Option.{Option, none, some, Option·elim}
 use Rattle.logic.specs.Search.{from, firstOf, orElse}
-use Rattle.logic.specs.Query.{Layout, faulty, parts, layoutOf, faultIn, layoutFault, byteFault}
-use Rattle.logic.specs.Calls.{Input, Answer, refused, layoutCheck, byteCheck, queryChecks, refusalOf}
+use Rattle.logic.specs.Query.{Form, sections, Layout, faulty, parts, firstByte, layoutBy, layoutOf, faultIn, layoutFault, byteFault}
+use Rattle.logic.specs.Calls.{Input, Answer, refused, layoutCheck, byteCheck, formChecks, queryChecks, refusalOf}
 use Rattle.logic.proofs.Basics.Search.{none-some}
+use Rattle.logic.proofs.Query.AcceptedBytes.{sections-excesses}
 use Rattle.logic.proofs.Calls.Refusals.{refused-one}
 use Rattle.query.proofs.Checks.{layout-refused}
 
@@ -94,31 +95,41 @@ module _ (f : ℕ → Option ℕ) where
       ap (λ (o : Option Answer). orElse o (firstOf (answerAt f) (from m (suc i)))) (unmet i (h i (omega arith) (omega arith)))
       ∙ none-is m (suc i) (λ j a b. h j (omega arith) (omega arith))
 
--- Five sections
+-- The checks of a form where its sections are laid out
 
-abbrev faults : List ℕ → ℕ → Option ℕ
-faults bytes k = byteFault k bytes
+abbrev pub faults : Form → List ℕ → ℕ → Option ℕ
+faults form bytes k = byteFault form k bytes
+
+pub form-bytes : (form : Form) (bytes : List ℕ) (ps : List (List ℕ)) → layoutBy form bytes ≡ parts ps → (i : Input) → i .query ≡ bytes → refusalOf (formChecks form) i ≡ firstOf (answerAt (faults form bytes)) (from 4 5)
+unfolding refusalOf formChecks layoutCheck byteCheck layoutFault faultIn firstOf orElse Option·elim answerAt from
+form-bytes form bytes ps e i q = rw (q, e)
+
+-- Five sections
 
 abbrev ask : List ℕ → Input
 ask bytes = record { order = []; query = bytes; room = 0 }
 
-five-bytes : (bytes : List ℕ) (ps : List (List ℕ)) → layoutOf bytes ≡ parts ps → refusalOf queryChecks (ask bytes) ≡ firstOf (answerAt (faults bytes)) (from 4 5)
-unfolding refusalOf queryChecks layoutCheck byteCheck layoutFault faultIn firstOf orElse Option·elim answerAt from
-five-bytes bytes ps e = rw e
+five-bytes : (bytes : List ℕ) (ps : List (List ℕ)) → layoutOf bytes ≡ parts ps → refusalOf queryChecks (ask bytes) ≡ firstOf (answerAt (faults sections bytes)) (from 4 5)
+unfolding queryChecks layoutOf
+five-bytes bytes ps e = form-bytes sections bytes ps e (ask bytes) refl
+
+five-layout : (bytes : List ℕ) (k place : ℕ) → layoutOf bytes ≡ faulty k place → refusalOf queryChecks (ask bytes) ≡ some (refused k place)
+unfolding queryChecks layoutOf
+five-layout bytes k place e = layout-refused sections bytes k place (sections-excesses (firstByte bytes)) e (ask bytes) refl
 
 -- refused by the walk from the front, or for a byte of sections that are laid out
-pub told-refused : (bytes : List ℕ) (k place : ℕ) → ((i : Input) → i .query ≡ bytes → refusalOf queryChecks i ≡ some (refused k place)) → (layoutOf bytes ≡ faulty k place) ⊎ ((ps : List (List ℕ)) × (layoutOf bytes ≡ parts ps) × First (faults bytes) 5 9 k place)
+pub told-refused : (bytes : List ℕ) (k place : ℕ) → ((i : Input) → i .query ≡ bytes → refusalOf queryChecks i ≡ some (refused k place)) → (layoutOf bytes ≡ faulty k place) ⊎ ((ps : List (List ℕ)) × (layoutOf bytes ≡ parts ps) × First (faults sections bytes) 5 9 k place)
 told-refused bytes k place h = go (layoutOf bytes) refl
   where
-    go : (l : Layout) → layoutOf bytes ≡ l → (layoutOf bytes ≡ faulty k place) ⊎ ((ps : List (List ℕ)) × (layoutOf bytes ≡ parts ps) × First (faults bytes) 5 9 k place)
+    go : (l : Layout) → layoutOf bytes ≡ l → (layoutOf bytes ≡ faulty k place) ⊎ ((ps : List (List ℕ)) × (layoutOf bytes ≡ parts ps) × First (faults sections bytes) 5 9 k place)
     go (faulty j p) e =
-        let s = refused-one (some-one (sym (layout-refused bytes j p e (ask bytes) refl) ∙ h (ask bytes) refl)) in
+        let s = refused-one (some-one (sym (five-layout bytes j p e) ∙ h (ask bytes) refl)) in
         inl (e ∙ ap₂ faulty (s .0) (s .1))
-    go (parts ps) e = inr (ps, e, first-told (faults bytes) 4 5 k place (sym (five-bytes bytes ps e) ∙ h (ask bytes) refl))
+    go (parts ps) e = inr (ps, e, first-told (faults sections bytes) 4 5 k place (sym (five-bytes bytes ps e) ∙ h (ask bytes) refl))
 
-pub told-accepted : (bytes : List ℕ) → ((i : Input) → i .query ≡ bytes → refusalOf queryChecks i ≡ none) → (ps : List (List ℕ)) × (layoutOf bytes ≡ parts ps) × ((j : ℕ) → 5 ≤ j → j < 9 → byteFault j bytes ≡ none)
+pub told-accepted : (bytes : List ℕ) → ((i : Input) → i .query ≡ bytes → refusalOf queryChecks i ≡ none) → (ps : List (List ℕ)) × (layoutOf bytes ≡ parts ps) × ((j : ℕ) → 5 ≤ j → j < 9 → byteFault sections j bytes ≡ none)
 told-accepted bytes h = go (layoutOf bytes) refl
   where
-    go : (l : Layout) → layoutOf bytes ≡ l → (ps : List (List ℕ)) × (layoutOf bytes ≡ parts ps) × ((j : ℕ) → 5 ≤ j → j < 9 → byteFault j bytes ≡ none)
-    go (faulty j p) e = absurd (none-some (sym (h (ask bytes) refl) ∙ layout-refused bytes j p e (ask bytes) refl))
-    go (parts ps) e = (ps, e, none-told (faults bytes) 4 5 (sym (five-bytes bytes ps e) ∙ h (ask bytes) refl))
+    go : (l : Layout) → layoutOf bytes ≡ l → (ps : List (List ℕ)) × (layoutOf bytes ≡ parts ps) × ((j : ℕ) → 5 ≤ j → j < 9 → byteFault sections j bytes ≡ none)
+    go (faulty j p) e = absurd (none-some (sym (h (ask bytes) refl) ∙ five-layout bytes j p e))
+    go (parts ps) e = (ps, e, none-told (faults sections bytes) 4 5 (sym (five-bytes bytes ps e) ∙ h (ask bytes) refl))

@@ -51,7 +51,7 @@ pub record Sixth (bytes : List ℕ) (at count : ℕ) : Type 0 where
   pub within : count ≤ 60
   pub ends : at + 1 + count * 4 ≡ length bytes
 
--- Six sections that pass refusals 2 to 8: what they say is what the first five and the between literals say.
+-- Six sections that pass refusals 2 to 8 and 26: what they say is what the first five and the between literals say.
 pub record SixSections (l : SixLayout) (bytes : List ℕ) : Type 0 where
   pub sixth : Sixth bytes (l .at) (l .count)
   pub laid : LaysOut (l .base) (take (l .at) bytes)
@@ -59,7 +59,7 @@ pub record SixSections (l : SixLayout) (bytes : List ℕ) : Type 0 where
   pub terms-first : l .base .terms ≡ firstByte bytes
   pub says : decodeSix bytes ≡ record { base = decode (take (l .at) bytes); betweens = triples (drop (l .at + 1) bytes) }
 
--- refusals 2 to 8 of any call with these query bytes
+-- refusals 2 to 8 and 26 of any call with these query bytes
 abbrev pub SixCheckedAs : SixChecked → List ℕ → Type 0
 SixCheckedAs (checked.Refused k place) bytes = (i : Input) → i .query ≡ bytes → refusalOf sixChecks i ≡ some (refused k place)
 SixCheckedAs (checked.Accepted l) bytes = ((i : Input) → i .query ≡ bytes → refusalOf sixChecks i ≡ none) × SixSections l bytes

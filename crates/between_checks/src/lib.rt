@@ -1,4 +1,4 @@
-// Refusals 2 to 8 over six sections: the five of a query, and one of between literals.
+// Refusals 2 to 8 and 26 over six sections: the five of a query, and one of between literals.
 use query::Checked;
 use query::Layout;
 ghost use mathlib.Core.Path.{_≡_};
@@ -168,7 +168,7 @@ fn check_sixth(query: &[u8], at: usize) -> SixChecked
     }
 }
 
-// Refusals 2 to 8. Bytes that follow five sections are the sixth; where none do, the query ends before the sixth's count.
+// Refusals 2 to 8 and 26. Bytes that follow five sections are the sixth; where none do, the query ends before the sixth's count.
 pub fn check(query: &[u8]) -> SixChecked
     ensures { λ r. ⌜ SixCheckedAs r (now (query .entry)) ⌝ }
 {
@@ -176,6 +176,9 @@ pub fn check(query: &[u8]) -> SixChecked
         Checked::Accepted(_) => SixChecked::Refused(2, query.len()),
         Checked::Refused(k, place) => {
             if k < 4 {
+                return SixChecked::Refused(k, place);
+            }
+            if k == 26 {
                 return SixChecked::Refused(k, place);
             }
             if 4 < k {

@@ -20,13 +20,13 @@ use Rattle.logic.proofs.Completeness.Placed.{placeOf-injective, getD-from, leng
 use Rattle.between.specs.Meaning.{BetweenQuery, MeetsBetween}
 use Rattle.between.proofs.Firsts.{firsts, seenBefore, firsts-seen, firsts-new, firsts-has, firsts-short, firsts-place, firsts-length}
 use Rattle.between.proofs.SmallModel.{AcceptedBetween, orOne}
-use Rattle.between_search.specs.Tests.{isFresh, used, breaks, flagsClash}
+use Rattle.between_search.specs.Tests.{isFresh, used, breaks}
 use Rattle.between_search.specs.Search.{entry, lowestNode, highestNode}
 use Rattle.between_search.proofs.Seek.{Grown}
 use Rattle.between_search.proofs.Growing.{Prefix, prefix-next, grow-by, grown-entry}
 use Rattle.between_search.proofs.Due.{first-of, or-no, any-none}
 use Rattle.between_search.proofs.Alike.{used-alike, breaks-alike}
-use Rattle.between_search.proofs.Tested.{equal-met, reach-met, between-met, nil-holds, fields-hold, flags-hold}
+use Rattle.between_search.proofs.Tested.{equal-met, reach-met, between-met, nil-holds, fields-hold}
 use Rattle.between_search.proofs.Sound.{low-any, low-link, high-any, high-link}
 
 -- How many nodes are named, as the length of a list
@@ -153,6 +153,3 @@ module _ (q : BetweenQuery) (ok : AcceptedBetween q) (h : Heap) (met : MeetsBetw
               let o : argumentOf (q .base .entries) t ≡ 0 = omega arith in
               (omega (arith, low-any q (entry (linksOf h)) t (entry ys) o, r .0), subst (λ (x : ℕ). val t ≤ x) (sym (high-any q (entry (linksOf h)) t (entry ys) sorted m o)) (chosen o)))
               (le-cases 1 (argumentOf (q .base .entries) t))
-
-  pub flags-apart : flagsClash (q .base .booleans) ≡ false
-  flags-apart = flags-hold (q .base .booleans) (ok .base .boolean-number) (h .boolean) (met .meets .booleans)

@@ -9,7 +9,7 @@ use lib.ListN.{length, getD, take, drop, length-append, length-drop}
 use lib.Seq.{take-append-le, drop-append-le}
 use lib.Dec.{leb}
 use borrow.Author.Tests.{leb-true, le-leb}
-use Rattle.logic.specs.Query.{Section, Query, sections, Layout, faulty, parts, withPart, layout, firstByte, layoutOf, section, queryOf, decode}
+use Rattle.logic.specs.Query.{Section, Query, fourSections, fiveSections, sections, Layout, faulty, parts, withPart, layout, firstByte, layoutBy, layoutOf, section, queryOf, decode}
 use Rattle.logic.proofs.Basics.Search.{bool-cases}
 use Rattle.between.specs.Meaning.{BetweenLiteral, BetweenQuery}
 use Rattle.between_search.specs.Bytes.{betweenSection, sixSections, sixLayout, triples, betweensOf, decodeSix}
@@ -41,7 +41,7 @@ layout-append [] ts place (c ∷ more) back ps h = absurd (faulty-parts h)
 layout-append (s ∷ ss) ts place [] back ps h = absurd (faulty-parts h)
 layout-append (s ∷ ss) ts place (c ∷ more) back ps h =
     let size : ℕ = c * s .width in
-    let a = cond-parts (leb c (s .limit)) _ 3 place ps h in
+    let a = cond-parts (leb c (s .limit)) _ (s .excess) place ps h in
     let b = cond-parts (leb (c * s .width) (length more)) _ 2 (suc place + length more) ps (a .1) in
     let w = withPart-parts (take (c * s .width) more) (layout ss (suc place + c * s .width) (drop (c * s .width) more)) ps (b .1) in
     let fits : c * s .width ≤ length more = leb-true (c * s .width) (length more) (b .0) in
@@ -63,7 +63,7 @@ parts-length [] place [] ps h = let e : [] ≡ ps = cc in ap length (sym e)
 parts-length [] place (c ∷ more) ps h = absurd (faulty-parts h)
 parts-length (s ∷ ss) place [] ps h = absurd (faulty-parts h)
 parts-length (s ∷ ss) place (c ∷ more) ps h =
-    let a = cond-parts (leb c (s .limit)) _ 3 place ps h in
+    let a = cond-parts (leb c (s .limit)) _ (s .excess) place ps h in
     let b = cond-parts (leb (c * s .width) (length more)) _ 2 (suc place + length more) ps (a .1) in
     let w = withPart-parts (take (c * s .width) more) (layout ss (suc place + c * s .width) (drop (c * s .width) more)) ps (b .1) in
     ap length (w .2) ∙ ap suc (parts-length ss (suc place + c * s .width) (drop (c * s .width) more) (w .0) (w .1))
@@ -78,15 +78,15 @@ section-front (p ∷ ps) (suc i) = section-front ps i
 
 module _ (bytes : List ℕ) (ps : List (List ℕ)) (laid : layoutOf bytes ≡ parts ps) where
   first-kept : firstByte (bytes ++ (0 ∷ [])) ≡ firstByte bytes
-  unfolding firstByte layoutOf layout sections
-  first-kept = go bytes laid
+  unfolding firstByte
+  first-kept = go bytes
     where
-      go : (xs : List ℕ) → layout (sections (getD xs 0 0)) 0 xs ≡ parts ps → getD (xs ++ (0 ∷ [])) 0 0 ≡ getD xs 0 0
-      go [] h = refl
-      go (x ∷ xs) h = refl
+      go : (xs : List ℕ) → getD (xs ++ (0 ∷ [])) 0 0 ≡ getD xs 0 0
+      go [] = refl
+      go (x ∷ xs) = refl
 
   pub six-laid : sixLayout (bytes ++ (0 ∷ [])) ≡ parts (ps ++ ([] ∷ []))
-  unfolding sixLayout sixSections layoutOf layout betweenSection withPart
+  unfolding sixLayout sixSections layoutOf layoutBy layout betweenSection withPart
   six-laid =
       rw first-kept
       (layout-append (sections (firstByte bytes)) (betweenSection (firstByte bytes) ∷ []) 0 bytes (0 ∷ []) ps laid ∙ prepend-parts ps ([] ∷ []))
@@ -96,11 +96,11 @@ module _ (bytes : List ℕ) (ps : List (List ℕ)) (laid : layoutOf bytes ≡ pa
   base-same = ap queryOf six-laid ∙ same ∙ ap queryOf (sym laid)
     where
       same : queryOf (parts (ps ++ ([] ∷ []))) ≡ queryOf (parts ps)
-      same = rw (section-front ps 0, section-front ps 1, section-front ps 2, section-front ps 3, section-front ps 4)
+      same = rw (section-front ps 0, section-front ps 1, section-front ps 2, section-front ps 3)
 
   -- five sections have five parts
   five-parts : length ps ≡ 5
-  unfolding layoutOf sections
+  unfolding layoutOf layoutBy sections fiveSections fourSections
   five-parts = parts-length (sections (firstByte bytes)) 0 bytes ps laid
 
   pub betweens-none : decodeSix (bytes ++ (0 ∷ [])) .betweens ≡ []

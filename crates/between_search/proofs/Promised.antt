@@ -10,23 +10,24 @@ use lib.ListN.{length, getD, replicate, length-map}
 use lib.Seq.{ext-getD}
 use lib.Dec.{eqb, ltb}
 use borrow.Author.Tests.{ltb-false}
-use Rattle.logic.specs.Search.{_and_, from, any, all, keep}
-use Rattle.logic.specs.Query.{Layout, parts, firstByte, faultIn, layoutOf, layoutFault, decode, termCount}
+use Rattle.logic.specs.Search.{from, any, keep}
+use Rattle.logic.specs.Query.{sections, parts, firstByte, layoutOf, decode, termCount}
 use Rattle.logic.specs.Facts.{terms}
 use Rattle.logic.specs.Heap.{Heap, IsHeap, Meets, Satisfiable, value}
 use Rattle.logic.specs.Shown.{heapIn, nodeIn, wellFormed}
-use Rattle.logic.specs.Calls.{Input, Check, layoutCheck, byteCheck, roomCheck, queryChecks, verdictChecks, Answer, refused, satisfiable, refuted, Outcome, refusalOf, accepts, padded, blank, verdictCall}
+use Rattle.logic.specs.Calls.{Input, Check, roomCheck, Answer, refused, satisfiable, refuted, Outcome, refusalOf, accepts, padded, blank, verdictCall}
 use Rattle.logic.specs.Demands.{NotRefused, NoneStands, FirstStands}
-use Rattle.logic.proofs.Basics.Search.{none-some, keep-none, map-intro, from-intro}
+use Rattle.logic.proofs.Basics.Search.{keep-none}
 use Rattle.logic.proofs.Completeness.Placed.{length-from}
-use Rattle.logic.proofs.Query.AcceptedBytes.{laid-out}
-use Rattle.logic.proofs.Calls.CheckingOrder.{ascends, first-unique, first-stands, refusal-first}
-use Rattle.logic.proofs.Calls.CallLaws.{refusalOf-none}
+use Rattle.logic.proofs.Query.AcceptedBytes.{Passes, form-passes, query-passes, laid-out, sections-excesses}
+use Rattle.logic.proofs.Calls.CheckingOrder.{first-unique, first-stands, refusal-first}
+use Rattle.logic.proofs.Calls.CallLaws.{refusalOf-none, verdict-passed}
 use Rattle.logic.proofs.Calls.Refusals.{refused-one}
-use Rattle.logic.proofs.Calls.Demands.{demand1, demand2}
+use Rattle.logic.proofs.Calls.VerdictCall.{VerdictCase, by-refusal, by-lines, by-model, verdict-case}
+use Rattle.logic.proofs.Calls.Demands.{demand2}
 use Rattle.between.specs.Meaning.{BetweenLiteral, BetweenQuery, MeetsBetween, SatisfiableBetween}
 use Rattle.between.proofs.SmallModel.{AcceptedBetween}
-use Rattle.between_search.specs.Bytes.{sixLayout, decodeSix, sixLayoutCheck, sixByteFault, sixByteCheck, fiveTermsCheck, sixChecks, betweenChecks}
+use Rattle.between_search.specs.Bytes.{sixSections, decodeSix, fiveTermsCheck, sixChecks, betweenChecks}
 use Rattle.between_search.specs.Search.{Found, entry, heapFound, reportOf, mostNodes}
 use Rattle.between_search.specs.Calls.{given, searched, betweenCall}
 use Rattle.between_search.specs.Promise.{Before, rank, ShowsFirst, BetweenPromised}
@@ -35,7 +36,7 @@ use Rattle.between_search.proofs.Due.{any-alike}
 use Rattle.between_search.proofs.Complete.{list-entry}
 use Rattle.between_search.proofs.Sound.{links-in, nodes-in, value-is, found-meets}
 use Rattle.between_search.proofs.Sizes.{FoundFirst, none-right, some-right, first-right, most-cases}
-use Rattle.between_search.proofs.Report.{shown-size, shown-link, shown-variable, shown-node, shown-is, shown-formed, shown-field, shown-boolean}
+use Rattle.between_search.proofs.Report.{shown-size, shown-link, shown-variable, shown-node, shown-is, shown-formed, shown-field}
 use Rattle.between_search.proofs.Accepted.{accepted-six, terms-first}
 use Rattle.between_search.proofs.Layouts.{base-same, betweens-none}
 
@@ -78,29 +79,21 @@ blank-lent : (room : ℕ) (a : Answer) → blank room a .lent ≡ replicate room
 unfolding blank
 blank-lent room a = refl
 
-checks-ascend : ascends betweenChecks ≡ true
-unfolding ascends betweenChecks sixChecks sixLayoutCheck sixByteCheck roomCheck fiveTermsCheck all _and_
-checks-ascend = refl
-
 -- where no check stands
 module _ (query : List ℕ) (room : ℕ) (passed : refusalOf betweenChecks (given query room) ≡ none) where
   stands : (c : Check) → List·Memᴰ c betweenChecks → c .place (given query room) ≡ none
   stands = refusalOf-none betweenChecks (given query room) passed
 
-  laid : (k : ℕ) → 2 ≤ k → k ≤ 4 → faultIn k (sixLayout query) ≡ none
-  unfolding betweenChecks sixChecks sixLayoutCheck from
-  laid k l u = stands (sixLayoutCheck k) (Memᴰ·append-left (roomCheck ∷ fiveTermsCheck ∷ []) (Memᴰ·append-left (map sixByteCheck (from 4 5)) (map-intro sixLayoutCheck k (from-intro 3 2 k l (omega arith)))))
-
-  allowed : (k : ℕ) → 5 ≤ k → k ≤ 8 → sixByteFault k query ≡ none
-  unfolding betweenChecks sixChecks sixByteCheck from
-  allowed k l u = stands (sixByteCheck k) (Memᴰ·append-left (roomCheck ∷ fiveTermsCheck ∷ []) (Memᴰ·append-right (map sixLayoutCheck (from 3 2)) (map-intro sixByteCheck k (from-intro 4 5 k l (omega arith)))))
+  passes : Passes sixSections query
+  unfolding betweenChecks sixChecks
+  passes = form-passes sixSections (given query room) (λ c m. stands c (Memᴰ·append-left (roomCheck ∷ fiveTermsCheck ∷ []) m))
 
   ok : AcceptedBetween (decodeSix query)
-  ok = accepted-six query laid allowed
+  ok = accepted-six query passes
 
   few : termCount (decodeSix query .base) ≤ 5
-  unfolding betweenChecks sixChecks fiveTermsCheck
-  few = subst (λ (k : ℕ). k ≤ 5) (sym (terms-first query laid allowed)) (ltb-false 5 (firstByte query) (keep-none (ltb 5 (firstByte query)) 0 (stands fiveTermsCheck last)))
+  unfolding betweenChecks fiveTermsCheck
+  few = subst (λ (k : ℕ). k ≤ 5) (sym (terms-first query passes)) (ltb-false 5 (firstByte query) (keep-none (ltb 5 (firstByte query)) 0 (stands fiveTermsCheck last)))
     where
       last : List·Memᴰ fiveTermsCheck betweenChecks
       last = Memᴰ·append-right sixChecks (List·Memᴰ·tail (List·Memᴰ·head refl))
@@ -186,9 +179,7 @@ module _ (query : List ℕ) (room : ℕ) (passed : refusalOf betweenChecks (give
     meets : MeetsBetween shown (decodeSix query)
     meets =
         found-meets (decodeSix query) ok false m (f .search .links) (f .search .nodes) (f .search .links-grown) (f .search .nodes-grown) (f .some-node) few-nodes shown is (shown-size (decodeSix query) c room m size-is) linked named
-        (f .flags)
         (λ j v r s. shown-field (decodeSix query) c room m size-is j v r s ∙ fields-same j v)
-        (shown-boolean (decodeSix query) c room m size-is)
       where
         fields-same : (j v : ℕ) → any (λ k. k .plain && eqb (k .left) j && eqb (entry (c .nodes) (k .right)) v) (decodeSix query .base .fields) ≡ any (λ k. k .plain && eqb (k .left) j && eqb (entry (f .search .nodes) (k .right)) v) (decodeSix query .base .fields)
         fields-same j v = any-alike _ _ (decodeSix query .base .fields) (λ k i. ap (λ (x : ℕ). k .plain && eqb (k .left) j && eqb x v) (node-is (k .right)))
@@ -231,7 +222,7 @@ refused-exactly query room k place = (forth (done query room), back (done query 
   where
     forth : Done query room → betweenCall query room .answer ≡ refused k place → FirstStands betweenChecks (given query room) k place
     forth (is-refused a e o) h =
-        let r = refusal-first betweenChecks (given query room) checks-ascend a e in
+        let r = refusal-first betweenChecks (given query room) a e in
         let s = refused-one (sym (r .3) ∙ sym (answer-of o ∙ blank-answer room a) ∙ h) in
         subst₂ (λ (x y : ℕ). FirstStands betweenChecks (given query room) x y) (s .0) (s .1) (r .2)
     forth (is-heap c e f o) h = absurd (refused-heap (sym (answer-of o) ∙ h))
@@ -239,15 +230,15 @@ refused-exactly query room k place = (forth (done query room), back (done query 
 
     back : Done query room → FirstStands betweenChecks (given query room) k place → betweenCall query room .answer ≡ refused k place
     back (is-refused a e o) s =
-        let r = refusal-first betweenChecks (given query room) checks-ascend a e in
-        let u = first-unique betweenChecks (given query room) checks-ascend (r .0) (r .1) k place (r .2) s in
+        let r = refusal-first betweenChecks (given query room) a e in
+        let u = first-unique betweenChecks (given query room) (r .0) (r .1) k place (r .2) s in
         answer-of o ∙ blank-answer room a ∙ r .3 ∙ ap₂ (λ (x y : ℕ). refused x y) (u .0) (u .1)
     back (is-heap c e f o) s = absurd (first-stands betweenChecks (given query room) k place (refusalOf-none betweenChecks (given query room) e) s)
     back (is-none e f o) s = absurd (first-stands betweenChecks (given query room) k place (refusalOf-none betweenChecks (given query room) e) s)
 
 -- a refusal is one of the checks'
 refusal-is : (query : List ℕ) (room : ℕ) (a : Answer) → refusalOf betweenChecks (given query room) ≡ some a → (k : ℕ) × (p : ℕ) × (a ≡ refused k p)
-refusal-is query room a e = let r = refusal-first betweenChecks (given query room) checks-ascend a e in (r .0, r .1, r .3)
+refusal-is query room a e = let r = refusal-first betweenChecks (given query room) a e in (r .0, r .1, r .3)
 
 heap-exactly : (query : List ℕ) (room : ℕ) → NotRefused (betweenCall query room .answer) → (betweenCall query room .answer ≡ satisfiable) ↔ SatisfiableBetween (decodeSix query)
 heap-exactly query room not = go (done query room)
@@ -297,27 +288,19 @@ refusal-blank query room k place h = go (done query room)
     go (is-heap c e f o) = absurd (refused-heap (sym (answer-of o) ∙ h))
     go (is-none e f o) = lent-of o ∙ blank-lent room refuted
 
-layout-mem : (k : ℕ) → 2 ≤ k → k ≤ 4 → List·Memᴰ (layoutCheck k) verdictChecks
-unfolding verdictChecks queryChecks from
-layout-mem k l u = List·Memᴰ·tail (Memᴰ·append-left (roomCheck ∷ []) (Memᴰ·append-left (map byteCheck (from 4 5)) (map-intro layoutCheck k (from-intro 3 2 k l (omega arith)))))
-
-stands-at : (i : Input) (k p : ℕ) → layoutFault k (i .query) ≡ some p → layoutCheck k .place i ≡ some p
-unfolding layoutCheck
-stands-at i k p e = e
-
 -- with no between literal, what satisfies the five sections satisfies the six
 base-only : (q : BetweenQuery) → q .betweens ≡ [] → Satisfiable (q .base) → SatisfiableBetween q
 base-only q e s = (s .0, record { meets = s .1; betweens = λ l m. absurd (List·Memᴰ·not-nil (subst (λ (ls : List BetweenLiteral). List·Memᴰ l ls) e m)) })
 
 -- a verdict call that is not refused has its five sections laid out
 five-laid : (i : Input) → NotRefused (verdictCall i .answer) → (ps : List (List ℕ)) × (layoutOf (i .query) ≡ parts ps)
-five-laid i five = laid-out (i .query) (λ k l u. unstanding k l u (layoutFault k (i .query)) refl)
+unfolding layoutOf
+five-laid i five = laid-out sections (i .query) (sections-excesses (firstByte (i .query))) (query-passes (i .query) (accepted (verdict-case i)) .layouts)
   where
-    unstanding : (k : ℕ) → 2 ≤ k → k ≤ 4 → (o : Option ℕ) → layoutFault k (i .query) ≡ o → layoutFault k (i .query) ≡ none
-    unstanding k l u none e = e
-    unstanding k l u (some p) e =
-        let r = demand1 .verdict-refusals .refusal-made i (layoutCheck k) p (layout-mem k l u) (stands-at i k p e) in
-        absurd (five (r .0) (r .1) (r .3))
+    accepted : VerdictCase i (verdictCall i) → accepts (i .query) ≡ true
+    accepted (by-refusal k place u e) = absurd (five k place (answer-of e ∙ blank-answer (i .room) (refused k place)))
+    accepted (by-lines ls w e n) = verdict-passed i n .0 .query
+    accepted (by-model s w e n) = verdict-passed i n .0 .query
 
 shares-verdict : (i : Input) (room : ℕ) → NotRefused (verdictCall i .answer) → NotRefused (betweenCall (i .query ++ (0 ∷ [])) room .answer) → betweenCall (i .query ++ (0 ∷ [])) room .answer ≡ verdictCall i .answer
 shares-verdict i room five six =

@@ -3,7 +3,7 @@ use Prim.Native.Nat.{ℕ, zero, suc, _+_, _-_, _≤_, _<_}
 use native.Mathlib.Omega.{arith}
 use mathlib.Core.Path.{_≡_, refl, sym, ap, ap₂, _∙_, subst}
 use mathlib.Core.Logic.{⊎-elim}
-use mathlib.Core.Bool.{Bool, true, false, _&&_}
+use mathlib.Core.Bool.{true, _&&_}
 use mathlib.Core.List.{List, [], _∷_, _++_, map, append-assoc}
 use lib.ListN.{length, getD, replicate, length-append, length-map, List·getD-append}
 use lib.Seq.{getD-append-add}
@@ -12,15 +12,14 @@ use Rattle.logic.specs.Search.{_and_, from, any}
 use Rattle.logic.specs.Query.{Literal, termCount}
 use Rattle.logic.specs.Facts.{terms}
 use Rattle.logic.specs.Heap.{IsHeap}
-use Rattle.logic.specs.Shown.{byteOf, bitOf, booleanByte, sizeIn, heapIn, nodeIn, wellFormed}
+use Rattle.logic.specs.Shown.{byteOf, bitOf, sizeIn, heapIn, nodeIn, wellFormed}
 use Rattle.logic.specs.Calls.{padded}
 use Rattle.logic.proofs.Completeness.Placed.{length-from, getD-from}
 use Rattle.logic.proofs.Completeness.Byte.{byte-bit}
 use Rattle.logic.proofs.Completeness.ReportBytes.{Laid}
-use Rattle.logic.proofs.Completeness.ReportHeap.{heap-link, heap-field, heap-boolean, heap-listed, node-listed, is-heap, is-formed}
+use Rattle.logic.proofs.Completeness.ReportHeap.{heap-link, heap-field, heap-listed, node-listed, is-heap, is-formed}
 use Rattle.between.specs.Meaning.{BetweenQuery}
 use Rattle.between_search.specs.Search.{Found, entry, dataByte, reportOf}
-use Rattle.between_search.proofs.Due.{any-alike}
 
 -- the elements of a list that is made from 1 to k
 listed-size : (f : ℕ → ℕ) (k : ℕ) → length (map f (terms k)) ≡ k
@@ -101,12 +100,12 @@ module _ (q : BetweenQuery) (c : Found) (room m : ℕ) (size : entry (c .links) 
   abbrev shown : List ℕ
   shown = padded room (reportOf q c)
 
-  pub report-laid : Laid shown m n (λ i. link (suc i)) (λ i. node (suc i)) (λ i. datum (suc i)) (booleanByte (q .base)) rest
+  pub report-laid : Laid shown m n (λ i. link (suc i)) (λ i. node (suc i)) (λ i. datum (suc i)) 0 rest
   unfolding reportOf padded
   report-laid =
-      subst (λ (k : ℕ). Laid shown k n (λ i. link (suc i)) (λ i. node (suc i)) (λ i. datum (suc i)) (booleanByte (q .base)) rest) size
-      (rw (regroup (entry (c .links) 0 ∷ map link (terms (entry (c .links) 0))) (n ∷ map node (terms n)) (entry (c .links) 0 ∷ map datum (terms (entry (c .links) 0))) (1 ∷ booleanByte (q .base) ∷ []) (replicate (room - length (reportOf q c)) 0))
-      (laid (entry (c .links) 0) n (booleanByte (q .base)) link node datum (replicate (room - length (reportOf q c)) 0)))
+      subst (λ (k : ℕ). Laid shown k n (λ i. link (suc i)) (λ i. node (suc i)) (λ i. datum (suc i)) 0 rest) size
+      (rw (regroup (entry (c .links) 0 ∷ map link (terms (entry (c .links) 0))) (n ∷ map node (terms n)) (entry (c .links) 0 ∷ map datum (terms (entry (c .links) 0))) (1 ∷ 0 ∷ []) (replicate (room - length (reportOf q c)) 0))
+      (laid (entry (c .links) 0) n 0 link node datum (replicate (room - length (reportOf q c)) 0)))
 
   pub shown-size : heapIn shown .size ≡ m
   unfolding heapIn sizeIn
@@ -140,11 +139,3 @@ module _ (q : BetweenQuery) (c : Found) (room m : ℕ) (size : entry (c .links) 
   unfolding dataByte
   shown-field j zero r s = absurd (omega (arith, s .0))
   shown-field j (suc i) r s = heap-field report-laid i j (s .1) ∙ byte-bit (λ x. any (λ k. k .plain && eqb (k .left) x && eqb (node (k .right)) (suc i)) (q .base .fields)) j (r .0) (r .1)
-
-  pub shown-boolean : (j : ℕ) → (1 ≤ j) × (j ≤ 8) → heapIn shown .boolean j ≡ any (λ k. k .plain && eqb (k .left) j) (q .base .booleans)
-  unfolding booleanByte _and_
-  shown-boolean j r = heap-boolean report-laid j ∙ byte-bit (λ x. any (λ l. l .plain and eqb (l .left) x) (q .base .booleans)) j (r .0) (r .1) ∙ any-alike _ _ (q .base .booleans) (λ l m. same (l .plain) (eqb (l .left) j))
-    where
-      same : (a b : Bool) → a and b ≡ a && b
-      same true b = refl
-      same false b = refl

@@ -11,7 +11,7 @@ use lib.Seq.{length-take-le, take-at, drop-at}
 use lib.Dec.{eqb, leb}
 use borrow.Author.Tests.{leb-true, le-leb}
 use Rattle.logic.specs.Search.{_and_, from, flatMap, keep, orElse}
-use Rattle.logic.specs.Query.{Role, Section, countRole, Layout, faulty, parts, withPart, layout, rolesOf, roleFault}
+use Rattle.logic.specs.Query.{Role, Section, countRole, fourSections, booleanSection, fiveSections, sections, Layout, faulty, parts, withPart, layout, rolesOf, roleFault}
 use Rattle.logic.proofs.Query.Bytes.{Regular}
 use Rattle.between_search.proofs.Layouts.{prepend, layout-append}
 
@@ -35,7 +35,7 @@ early-fault (s ∷ ss) ts place [] k at d h = h
 early-fault (s ∷ ss) ts place (c ∷ more) k at d h =
     first (leb c (s .limit)) (leb (c * s .width) (length more)) h (λ e. early-fault ss ts (suc place + c * s .width) (drop (c * s .width) more) k at d e)
   where
-    first : (a b : Bool) → cond a (cond b (withPart (take (c * s .width) more) (layout ss (suc place + c * s .width) (drop (c * s .width) more))) (faulty 2 (suc place + length more))) (faulty 3 place) ≡ faulty k at → (layout ss (suc place + c * s .width) (drop (c * s .width) more) ≡ faulty k at → layout (ss ++ ts) (suc place + c * s .width) (drop (c * s .width) more) ≡ faulty k at) → cond a (cond b (withPart (take (c * s .width) more) (layout (ss ++ ts) (suc place + c * s .width) (drop (c * s .width) more))) (faulty 2 (suc place + length more))) (faulty 3 place) ≡ faulty k at
+    first : (a b : Bool) → cond a (cond b (withPart (take (c * s .width) more) (layout ss (suc place + c * s .width) (drop (c * s .width) more))) (faulty 2 (suc place + length more))) (faulty (s .excess) place) ≡ faulty k at → (layout ss (suc place + c * s .width) (drop (c * s .width) more) ≡ faulty k at → layout (ss ++ ts) (suc place + c * s .width) (drop (c * s .width) more) ≡ faulty k at) → cond a (cond b (withPart (take (c * s .width) more) (layout (ss ++ ts) (suc place + c * s .width) (drop (c * s .width) more))) (faulty 2 (suc place + length more))) (faulty (s .excess) place) ≡ faulty k at
     first true true h ih = ap (withPart (take (c * s .width) more)) (ih (withPart-faulty _ _ k at h))
     first true false h ih = h
     first false b h ih = h
@@ -59,16 +59,25 @@ pub record Followed (ss : List Section) (place : ℕ) (bytes : List ℕ) (at : �
   pub laid-parts : List (List ℕ)
   pub laid : layout ss place front ≡ parts laid-parts
 
-pub followed : (ss : List Section) (place : ℕ) (bytes : List ℕ) (at : ℕ) → layout ss place bytes ≡ faulty 4 at → Followed ss place bytes at
+-- 4 is met at no count
+abbrev pub NotFour : List Section → Type 0
+NotFour [] = Unit {0}
+NotFour (s ∷ ss) = (s .excess ≡ 4 → ⊥) × NotFour ss
+
+pub five-not-four : (n : ℕ) → NotFour (sections n)
+unfolding sections fiveSections fourSections booleanSection
+five-not-four n = (λ e. omega arith, (λ e. omega arith, (λ e. omega arith, (λ e. omega arith, (λ e. omega arith, tt)))))
+
+pub followed : (ss : List Section) → NotFour ss → (place : ℕ) (bytes : List ℕ) (at : ℕ) → layout ss place bytes ≡ faulty 4 at → Followed ss place bytes at
 unfolding layout withPart
-followed [] place [] at h = absurd (parts-faulty h)
-followed [] place (b ∷ bytes) at h =
+followed [] d place [] at h = absurd (parts-faulty h)
+followed [] d place (b ∷ bytes) at h =
     record { front = []; back = b ∷ bytes; whole = refl; placed = sym (faulty-same h .1) ∙ none; more-left = omega arith; laid-parts = []; laid = refl }
   where
     none : place ≡ place + 0
     none = omega arith
-followed (s ∷ ss) place [] at h = absurd (let e = faulty-same h .0 in omega (arith, e))
-followed (s ∷ ss) place (c ∷ more) at h = first (leb c (s .limit)) refl (leb (c * s .width) (length more)) refl h (λ e. followed ss (suc place + c * s .width) (drop (c * s .width) more) at e)
+followed (s ∷ ss) d place [] at h = absurd (let e = faulty-same h .0 in omega (arith, e))
+followed (s ∷ ss) d place (c ∷ more) at h = first (leb c (s .limit)) refl (leb (c * s .width) (length more)) refl h (λ e. followed ss (d .1) (suc place + c * s .width) (drop (c * s .width) more) at e)
   where
     size : ℕ
     size = c * s .width
@@ -78,8 +87,8 @@ followed (s ∷ ss) place (c ∷ more) at h = first (leb c (s .limit)) refl (leb
         let longer : leb (c * s .width) (length (take (c * s .width) more ++ front)) ≡ true = le-leb (c * s .width) _ (omega (arith, length-append (take (c * s .width) more) front, sized)) in
         rw (ea, longer, take-at (take (c * s .width) more) front (c * s .width) sized, drop-at (take (c * s .width) more) front (c * s .width) sized, h)
 
-    first : (a : Bool) → leb c (s .limit) ≡ a → (b : Bool) → leb (c * s .width) (length more) ≡ b → cond a (cond b (withPart (take (c * s .width) more) (layout ss (suc place + c * s .width) (drop (c * s .width) more))) (faulty 2 (suc place + length more))) (faulty 3 place) ≡ faulty 4 at → (layout ss (suc place + c * s .width) (drop (c * s .width) more) ≡ faulty 4 at → Followed ss (suc place + c * s .width) (drop (c * s .width) more) at) → Followed (s ∷ ss) place (c ∷ more) at
-    first false ea b eb h ih = absurd (let e = faulty-same h .0 in omega (arith, e))
+    first : (a : Bool) → leb c (s .limit) ≡ a → (b : Bool) → leb (c * s .width) (length more) ≡ b → cond a (cond b (withPart (take (c * s .width) more) (layout ss (suc place + c * s .width) (drop (c * s .width) more))) (faulty 2 (suc place + length more))) (faulty (s .excess) place) ≡ faulty 4 at → (layout ss (suc place + c * s .width) (drop (c * s .width) more) ≡ faulty 4 at → Followed ss (suc place + c * s .width) (drop (c * s .width) more) at) → Followed (s ∷ ss) place (c ∷ more) at
+    first false ea b eb h ih = absurd (d .0 (faulty-same h .0))
     first true ea false eb h ih = absurd (let e = faulty-same h .0 in omega (arith, e))
     first true ea true eb h ih =
         let r = ih (withPart-faulty _ _ 4 at h) in

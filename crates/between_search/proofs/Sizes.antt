@@ -9,7 +9,7 @@ use mathlib.Core.List.{List, [], _∷_, _++_, map, List·Memᴰ, List·Memᴰ·n
 use mathlib.Core.Option.{Option, none, some}
 use lib.ListN.{length, length-map}
 use lib.Dec.{eqb}
-use Rattle.logic.specs.Search.{from, isSome, firstOf}
+use Rattle.logic.specs.Search.{from, isSome}
 use Rattle.logic.specs.Query.{argumentOf, termCount}
 use Rattle.logic.specs.Facts.{terms}
 use Rattle.logic.specs.Heap.{Heap, Node, IsHeap, value}
@@ -21,12 +21,11 @@ use Rattle.logic.proofs.Completeness.Placed.{placeOf-injective, length-from}
 use Rattle.between.specs.Meaning.{BetweenQuery, MeetsBetween}
 use Rattle.between.proofs.Firsts.{firsts, firsts-has, firsts-short, firsts-within, firsts-place, firsts-length}
 use Rattle.between.proofs.SmallModel.{AcceptedBetween, orOne, small, small-is, small-value, small-size, small-meets, small-named, named}
-use Rattle.between_search.specs.Tests.{used, flagsClash}
+use Rattle.between_search.specs.Tests.{used}
 use Rattle.between_search.specs.Search.{Found, linksFound, sizeFound, mostNodes, heapFound}
 use Rattle.between_search.specs.Promise.{Before, lower, same, rank}
 use Rattle.between_search.proofs.Seek.{before-append, firstOf-lowest}
-use Rattle.between_search.proofs.Complete.{used-firsts, linksOf, nodesOf, links-grown, nodes-grown, flags-apart}
-use Rattle.between_search.proofs.Tested.{flags-hold}
+use Rattle.between_search.proofs.Complete.{used-firsts, linksOf, nodesOf, links-grown, nodes-grown}
 use Rattle.between_search.proofs.Searching.{GrownLinks, GrownNodes, FirstFound, search-none, search-some, sorted-some}
 
 -- a list with something in it is itself
@@ -163,32 +162,23 @@ module _ (q : BetweenQuery) (ok : AcceptedBetween q) (few : termCount (q .base) 
   unfolding heapFound
   none-right e h met =
       let z = sized h met in
-      let flags = flags-apart-any h met in
       size-none (z .size)
-      (firstOf-none (sizeFound q) (z .size) (subst (λ (b : Bool). cond b none (firstOf (sizeFound q) (from (mostNodes n) 1)) ≡ none) flags e) (from-intro (mostNodes n) 1 (z .size) (z .some-node) (omega (arith, z .within))))
+      (firstOf-none (sizeFound q) (z .size) e (from-intro (mostNodes n) 1 (z .size) (z .some-node) (omega (arith, z .within))))
       (z .found)
-    where
-      flags-apart-any : (h : Heap) → MeetsBetween h q → flagsClash (q .base .booleans) ≡ false
-      flags-apart-any h met = flags-hold (q .base .booleans) (ok .base .boolean-number) (h .boolean) (met .meets .booleans)
 
   -- what is found, and at which size
   pub record FoundFirst (c : Found) : Type 0 where
     pub size : ℕ
     pub some-node : 1 ≤ size
     pub within : size ≤ mostNodes n
-    pub flags : flagsClash (q .base .booleans) ≡ false
     pub search : FirstFound q false size c
     pub none-smaller : (j : ℕ) → 1 ≤ j → j < size → sizeFound q j ≡ none
 
   pub some-right : (c : Found) → heapFound q ≡ some c → FoundFirst c
   unfolding heapFound
-  some-right c e = go (flagsClash (q .base .booleans)) refl e
-    where
-      go : (b : Bool) → flagsClash (q .base .booleans) ≡ b → cond b none (firstOf (sizeFound q) (from (mostNodes n) 1)) ≡ some c → FoundFirst c
-      go true f k = absurd (none-some k)
-      go false f k =
-          let r = firstOf-lowest (sizeFound q) (mostNodes n) 1 c k in
-          record { size = r .0; some-node = r .1; within = omega (arith, r .2); flags = f; search = search-some q false (r .0) c (size-some (r .0) c (r .3)); none-smaller = λ j a b. r .4 j a b }
+  some-right c e =
+      let r = firstOf-lowest (sizeFound q) (mostNodes n) 1 c e in
+      record { size = r .0; some-node = r .1; within = omega (arith, r .2); search = search-some q false (r .0) c (size-some (r .0) c (r .3)); none-smaller = λ j a b. r .4 j a b }
 
   -- no heap that meets the query comes before what is found
   module _ (c : Found) (f : FoundFirst c) where

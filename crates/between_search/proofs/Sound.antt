@@ -16,13 +16,13 @@ use Rattle.logic.proofs.Query.Entries.{nil-range}
 use Rattle.logic.proofs.Soundness.Value.{Below, accepted-below, value-variable, value-link}
 use Rattle.between.specs.Meaning.{BetweenLiteral, BetweenQuery, MeetsBetween}
 use Rattle.between.proofs.SmallModel.{AcceptedBetween}
-use Rattle.between_search.specs.Tests.{used, breaks, flagsClash, nilBreaks, fieldBreaks, pairBreaks, tripleBreaks}
+use Rattle.between_search.specs.Tests.{used, breaks, nilBreaks, fieldBreaks, pairBreaks, tripleBreaks}
 use Rattle.between_search.specs.Search.{entry, lowestNode, highestNode}
 use Rattle.between_search.proofs.Seek.{Grown}
 use Rattle.between_search.proofs.Growing.{Prefix, prefix-next, Met, grown-met}
 use Rattle.between_search.proofs.Due.{first-of, second-of, no-or}
 use Rattle.between_search.proofs.Alike.{breaks-alike}
-use Rattle.between_search.proofs.Tested.{equal-met, reach-met, between-met, nil-rule, fields-met, flags-met}
+use Rattle.between_search.proofs.Tested.{equal-met, reach-met, between-met, nil-rule, fields-met}
 
 -- the bounds of a term's node
 module _ (q : BetweenQuery) (link : ℕ → ℕ) (t : ℕ) (node : ℕ → ℕ) where
@@ -149,9 +149,9 @@ module _ (q : BetweenQuery) (ok : AcceptedBetween q) (sorted : Bool) (m : ℕ) (
       abbrev small : h .size ≤ 5
       small = subst (λ (k : ℕ). k ≤ 5) (sym size) few
 
-      pub found-meets : flagsClash (q .base .booleans) ≡ false → ((j v : ℕ) → (1 ≤ j) × (j ≤ 8) → (1 ≤ v) × (v ≤ m) → h .field j v ≡ any (λ k. k .plain && eqb (k .left) j && eqb (entry ns (k .right)) v) (q .base .fields)) → ((j : ℕ) → (1 ≤ j) × (j ≤ 8) → h .boolean j ≡ any (λ k. k .plain && eqb (k .left) j) (q .base .booleans)) → MeetsBetween h q
+      pub found-meets : ((j v : ℕ) → (1 ≤ j) × (j ≤ 8) → (1 ≤ v) × (v ≤ m) → h .field j v ≡ any (λ k. k .plain && eqb (k .left) j && eqb (entry ns (k .right)) v) (q .base .fields)) → MeetsBetween h q
       unfolding termCount breaks
-      found-meets flags fields booleans =
+      found-meets fields =
           record {
             meets = record {
               is-heap = is;
@@ -159,7 +159,6 @@ module _ (q : BetweenQuery) (ok : AcceptedBetween q) (sorted : Bool) (m : ℕ) (
               equalities = λ l k. let r = ok .base .equal-terms l k in equal-met h is small (q .base .entries) n l (r .0) (r .1) .1 (λ t a b. any-false _ l (apart t a b .equal) k);
               reachability = λ l k. let r = ok .base .reach-terms l k in reach-met h is small (q .base .entries) n l (r .0) (r .1) .1 (λ t a b. any-false _ l (apart t a b .reach) k);
               fields = λ l k. field-met l k;
-              booleans = λ l k. subst (λ (b : Bool). Signed (l .plain) (b ≡ true)) (sym (booleans (l .left) (ok .base .boolean-number l k))) (flags-met (q .base .booleans) (ok .base .boolean-number) flags l k);
             };
             betweens = λ l k. let r = ok .between-terms l k in between-met h is small (q .base .entries) n l (r .0) (r .1) (r .2) .1 (λ t a b. any-false _ l (apart t a b .between) k);
           }

@@ -8,13 +8,13 @@ use mathlib.Core.List.{List, List·Memᴰ}
 use lib.Dec.{eqb, ltb, leb}
 use Rattle.logic.specs.Search.{_or_, from, any}
 use Rattle.logic.specs.Query.{Literal, Query, namesNil, termCount}
-use Rattle.logic.specs.Heap.{Heap, Node, IsHeap, Reaches, Signed, MeansEqual, MeansReach, MeansField, MeansBoolean, NilNode, Meets, value}
+use Rattle.logic.specs.Heap.{Heap, Node, IsHeap, Reaches, Signed, MeansEqual, MeansReach, MeansField, NilNode, Meets, value}
 use Rattle.logic.proofs.Basics.Search.{bool-cases, true-false, not-true, not-intro, any-true, any-intro, any-false, from-mem, from-intro}
 use Rattle.logic.proofs.Basics.Compare.{eqb-true, eqb-intro, eqb-self, le-cases}
 use Rattle.logic.proofs.Soundness.Value.{value-node, signed-true, signed-false}
 use Rattle.between.specs.Meaning.{BetweenLiteral, BetweenQuery, Between, MeansBetween, MeetsBetween}
 use Rattle.between.proofs.SmallModel.{AcceptedBetween}
-use Rattle.between_search.specs.Tests.{steps, agrees, duePair, dueTriple, pairBreaks, tripleBreaks, nilBreaks, saysField, hasField, opposed, fieldBreaks, saysFlag, flagsClash, used, breaks}
+use Rattle.between_search.specs.Tests.{steps, agrees, duePair, dueTriple, pairBreaks, tripleBreaks, nilBreaks, saysField, hasField, opposed, fieldBreaks, used, breaks}
 use Rattle.between_search.proofs.StepCounts.{Stays, stays, equal-steps, reach-steps, between-steps}
 use Rattle.between_search.proofs.Due.{both, first-of, second-of, and-false, either-left, either-right, one-of, not-both, no-or, or-no, any-none, signed-agrees, pair-due-somewhere, triple-due-somewhere}
 
@@ -97,7 +97,7 @@ module _ (h : Heap) (is : IsHeap h) (few : h .size ≤ 5) (entries : List ℕ) w
           let j = range t a in
           eqb-true _ _ (not-not (not-both (any-false _ t (rest u (not-both (r u (i .0) (i .1)) b)) (from-intro u 1 t (j .0) (omega arith))) a))
 
--- Data literals and booleans
+-- Data literals
 
 says-is : (sign : Bool) (j t : ℕ) (l : Literal) → saysField sign j t l ≡ true → (agrees sign (l .plain) ≡ true) × (l .left ≡ j) × (l .right ≡ t)
 unfolding saysField
@@ -174,38 +174,3 @@ module _ (fields : List Literal) (number : (l : Literal) → List·Memᴰ l fiel
           let x = any-true _ fields h in
           let a = first-of (x .0 .plain && eqb (x .0 .left) (l .left)) (eqb (node (x .0 .right)) (node (l .right))) (x .2) in
           clash (x .0) (x .1) (first-of (x .0 .plain) (eqb (x .0 .left) (l .left)) a) (eqb-true _ _ (second-of (x .0 .plain) (eqb (x .0 .left) (l .left)) a)) (eqb-true _ _ (second-of (x .0 .plain && eqb (x .0 .left) (l .left)) (eqb (node (x .0 .right)) (node (l .right))) (x .2))) e
-
-module _ (flags : List Literal) (number : (l : Literal) → List·Memᴰ l flags → (1 ≤ l .left) × (l .left ≤ 8)) where
-  flag-is : (sign : Bool) (j : ℕ) (l : Literal) → saysFlag sign j l ≡ true → (l .plain ≡ sign) × (l .left ≡ j)
-  unfolding saysFlag
-  flag-is sign j l h = (agrees-is sign (l .plain) (first-of (agrees sign (l .plain)) (eqb (l .left) j) h), eqb-true _ _ (second-of (agrees sign (l .plain)) (eqb (l .left) j) h))
-
-  pub flags-hold : (boolean : ℕ → Bool) → ((l : Literal) → List·Memᴰ l flags → Signed (l .plain) (boolean (l .left) ≡ true)) → flagsClash flags ≡ false
-  unfolding flagsClash
-  flags-hold boolean met = any-none _ (from 8 1) (λ j m. apart j (bool-cases (any (saysFlag true j) flags)) (bool-cases (any (saysFlag false j) flags)))
-    where
-      apart : (j : ℕ) → (any (saysFlag true j) flags ≡ true) ⊎ (any (saysFlag true j) flags ≡ false) → (any (saysFlag false j) flags ≡ true) ⊎ (any (saysFlag false j) flags ≡ false) → any (saysFlag true j) flags && any (saysFlag false j) flags ≡ false
-      apart j (inr p) n = rw p
-      apart j (inl p) (inr n) = and-false (any (saysFlag true j) flags) n
-      apart j (inl p) (inl n) =
-          let x = any-true (saysFlag true j) flags p in
-          let y = any-true (saysFlag false j) flags n in
-          let sx = flag-is true j (x .0) (x .2) in
-          let sy = flag-is false j (y .0) (y .2) in
-          absurd (signed-false (y .0 .plain) (sy .0) (met (y .0) (y .1)) (ap boolean (sy .1 ∙ sym (sx .1)) ∙ signed-true (x .0 .plain) (sx .0) (met (x .0) (x .1))))
-
-  pub flags-met : flagsClash flags ≡ false → (l : Literal) → List·Memᴰ l flags → Signed (l .plain) (any (λ k. k .plain && eqb (k .left) (l .left)) flags ≡ true)
-  unfolding flagsClash saysFlag
-  flags-met r l m = go (l .plain) refl
-    where
-      says : (sign : Bool) (k : Literal) → List·Memᴰ k flags → k .plain ≡ sign → (j : ℕ) → k .left ≡ j → any (saysFlag sign j) flags ≡ true
-      says sign k i e j f = any-intro (saysFlag sign j) k i (both (subst (λ (b : Bool). agrees sign b ≡ true) (sym e) (agrees-self sign)) (eqb-intro f))
-
-      go : (b : Bool) → l .plain ≡ b → Signed b (any (λ k. k .plain && eqb (k .left) (l .left)) flags ≡ true)
-      go true e = any-intro _ l m (both e (eqb-self (l .left)))
-      go false e = λ h.
-          let x = any-true _ flags h in
-          let j = number l m in
-          true-false
-          (both (says true (x .0) (x .1) (first-of (x .0 .plain) (eqb (x .0 .left) (l .left)) (x .2)) (l .left) (eqb-true _ _ (second-of (x .0 .plain) (eqb (x .0 .left) (l .left)) (x .2)))) (says false l m e (l .left) refl))
-          (any-false _ (l .left) r (from-intro 8 1 (l .left) (j .0) (omega (arith, j .1))))

@@ -1,23 +1,22 @@
 -- The bytes of a query with between literals, and what is refused of them (02, R-10).
 use Prim.Native.Nat.{ℕ}
 use mathlib.Core.List.{List, [], _∷_, _++_}
-use mathlib.Core.Option.{Option}
 use lib.Dec.{eqb, ltb}
 use Rattle.logic.specs.Search.{keep}
-use Rattle.logic.specs.Query.{Section, signRole, termRole, sections, Layout, faulty, parts, layout, rolesOf, firstByte, faultIn, roleFault, section, queryOf}
-use Rattle.logic.specs.Calls.{Input, Check, roomCheck}
+use Rattle.logic.specs.Query.{Section, Form, signRole, termRole, sections, Layout, faulty, parts, firstByte, layoutBy, section, queryOf}
+use Rattle.logic.specs.Calls.{Input, Check, formChecks, roomCheck}
 use Rattle.between.specs.Meaning.{BetweenLiteral, BetweenQuery}
 
 -- "a sixth section of up to 60 such literals (sign, x, y, z)"
 unfoldable pub betweenSection : ℕ → Section
-betweenSection n = record { limit = 60; width = 4; roles = λ i. signRole ∷ termRole n ∷ termRole n ∷ termRole n ∷ [] }
+betweenSection n = record { limit = 60; excess = 3; width = 4; roles = λ i. signRole ∷ termRole n ∷ termRole n ∷ termRole n ∷ [] }
 
 -- the sections of 01, and one section more
-unfoldable pub sixSections : ℕ → List Section
+unfoldable pub sixSections : Form
 sixSections n = sections n ++ (betweenSection n ∷ [])
 
 unfoldable pub sixLayout : List ℕ → Layout
-sixLayout bytes = layout (sixSections (firstByte bytes)) 0 bytes
+sixLayout bytes = layoutBy sixSections bytes
 
 -- the literals of a section of four bytes an entry
 unfoldable pub triples : List ℕ → List BetweenLiteral
@@ -36,22 +35,11 @@ unfoldable pub decodeSix : List ℕ → BetweenQuery
 decodeSix bytes = record { base = queryOf (sixLayout bytes); betweens = betweensOf (sixLayout bytes) }
 
 -- "Checks: 2 to 9 over six sections (7 in the sixth too), then 21 more than five terms."
-unfoldable pub sixLayoutCheck : ℕ → Check
-sixLayoutCheck k = record { number = k; place = λ i. faultIn k (sixLayout (i .query)) }
-
-unfoldable pub sixByteFault : ℕ → List ℕ → Option ℕ
-sixByteFault k bytes = roleFault k 0 (rolesOf (sixSections (firstByte bytes)) bytes) bytes
-
-unfoldable pub sixByteCheck : ℕ → Check
-sixByteCheck k = record { number = k; place = λ i. sixByteFault k (i .query) }
+unfoldable pub sixChecks : List Check
+sixChecks = formChecks sixSections
 
 unfoldable pub fiveTermsCheck : Check
 fiveTermsCheck = record { number = 21; place = λ i. keep (ltb 5 (firstByte (i .query))) 0 }
-
-unfoldable pub sixChecks : List Check
-sixChecks =
-    sixLayoutCheck 2
-    ∷ sixLayoutCheck 3 ∷ sixLayoutCheck 4 ∷ sixByteCheck 5 ∷ sixByteCheck 6 ∷ sixByteCheck 7 ∷ sixByteCheck 8 ∷ []
 
 unfoldable pub betweenChecks : List Check
 betweenChecks = sixChecks ++ (roomCheck ∷ fiveTermsCheck ∷ [])

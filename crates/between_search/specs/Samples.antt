@@ -1,4 +1,4 @@
--- Some of the vectors, as one table and one statement.
+-- Some of the vectors, the edges of the counts of sections 5 and 6, and 9 before 21, as one table and one statement.
 use Prim.Native.Nat.{ℕ}
 use mathlib.Core.Path.{_≡_}
 use mathlib.Core.List.{List, [], _∷_, map}
@@ -36,6 +36,15 @@ samples =
     ∷ sample (4 ∷ 255 ∷ 255 ∷ 1 ∷ 255 ∷ 2 ∷ 1 ∷ 1 ∷ 3 ∷ 0 ∷ 1 ∷ 2 ∷ 0 ∷ 0 ∷ 0 ∷ 1 ∷ 1 ∷ 4 ∷ 2 ∷ 4 ∷ []) 53 refuted ([])
     ∷ sample (3 ∷ 255 ∷ 0 ∷ 0 ∷ 1 ∷ 1 ∷ 2 ∷ 1 ∷ 0 ∷ 0 ∷ 0 ∷ 2 ∷ 0 ∷ 1 ∷ 2 ∷ 1 ∷ 0 ∷ 2 ∷ 3 ∷ 2 ∷ []) 53 refuted ([])
     ∷ sample (2 ∷ 0 ∷ 0 ∷ 0 ∷ 1 ∷ 1 ∷ 1 ∷ 1 ∷ 2 ∷ 1 ∷ 7 ∷ 1 ∷ 0 ∷ 7 ∷ 1 ∷ 0 ∷ 1 ∷ 1 ∷ 2 ∷ 2 ∷ 2 ∷ []) 53 refuted ([])
+    -- "26 a boolean count above 0 (that count's place)" (02, R-13): one term in two bytes and three empty sections in one byte each, so the
+    -- count stands at 5; with its boolean and an empty sixth section behind it, and with a byte more, which is no refusal 4
+    ∷ sample (1 ∷ 0 ∷ 0 ∷ 0 ∷ 0 ∷ 1 ∷ 1 ∷ 8 ∷ 0 ∷ []) 53 (refused 26 5) ([])
+    ∷ sample (1 ∷ 0 ∷ 0 ∷ 0 ∷ 0 ∷ 1 ∷ 1 ∷ 8 ∷ 0 ∷ 0 ∷ []) 53 (refused 26 5) ([])
+    -- "up to 60 such literals": behind five empty sections their count stands at 5; with 60 the query ends inside the section, and 61 is too much
+    ∷ sample (0 ∷ 0 ∷ 0 ∷ 0 ∷ 0 ∷ 60 ∷ []) 53 (refused 2 6) ([])
+    ∷ sample (0 ∷ 0 ∷ 0 ∷ 0 ∷ 0 ∷ 61 ∷ []) 53 (refused 3 5) ([])
+    -- "2 to 9 .., then 21 more than five terms"
+    ∷ sample (6 ∷ 0 ∷ 0 ∷ 0 ∷ 0 ∷ 0 ∷ 0 ∷ 0 ∷ 0 ∷ 0 ∷ 0 ∷ 0 ∷ []) 52 (refused 9 0) ([])
     ∷ []
 
 -- what the definitions give for a sample, beside what it says

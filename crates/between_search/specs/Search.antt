@@ -7,11 +7,11 @@ use lib.ListN.{getD}
 use lib.Dec.{eqb, ltb}
 use Rattle.logic.specs.Search.{_and_, from, any, isSome, firstOf}
 use Rattle.logic.specs.Query.{Literal, argumentOf, termCount}
-use Rattle.logic.specs.Shown.{byteOf, booleanByte}
+use Rattle.logic.specs.Shown.{byteOf}
 use Rattle.logic.specs.Facts.{terms}
 use Rattle.logic.specs.Calls.{padded}
 use Rattle.between.specs.Meaning.{BetweenQuery}
-use Rattle.between_search.specs.Tests.{flagsClash, used, breaks}
+use Rattle.between_search.specs.Tests.{used, breaks}
 
 -- Numbers added to a list one by one, k of them from place i on: each from the lowest to the highest that is allowed there. A choice that
 -- does not fit is left at once, with all that would follow it.
@@ -76,19 +76,18 @@ unfoldable pub mostNodes : ℕ → ℕ
 mostNodes n = cond (eqb n 0) 1 n
 
 unfoldable pub heapFound : BetweenQuery → Option Found
-heapFound q =
-    let some-size : Option Found = firstOf (sizeFound q) (from (mostNodes (termCount (q .base))) 1) in
-    cond (flagsClash (q .base .booleans)) none some-size
+heapFound q = firstOf (sizeFound q) (from (mostNodes (termCount (q .base))) 1)
 
--- "data and booleans as before": "field j in bit j-1, set exactly by a plain literal"
+-- "data .. as before": "field j in bit j-1, set exactly by a plain literal"
 unfoldable pub dataByte : List Literal → (ℕ → ℕ) → ℕ → ℕ
 dataByte fields node v = byteOf (λ j. any (λ l. l .plain && eqb (l .left) j && eqb (node (l .right)) v) fields) 1 8
 
--- "Report, each section after its count: m successors; n nodes, one per term; m data bytes ..; one byte of booleans"
+-- "Report, each section after its count: m successors; n nodes, one per term; m data bytes ..; one byte of booleans", which is 0 since no
+-- query has any (02, R-13)
 unfoldable pub reportOf : BetweenQuery → Found → List ℕ
 reportOf q c =
     let m : ℕ = entry (c .links) 0 in
     let n : ℕ = termCount (q .base) in
     (m ∷ map (entry (c .links)) (terms m))
     ++ ((n ∷ map (entry (c .nodes)) (terms n))
-    ++ ((m ∷ map (dataByte (q .base .fields) (entry (c .nodes))) (terms m)) ++ (1 ∷ booleanByte (q .base) ∷ [])))
+    ++ ((m ∷ map (dataByte (q .base .fields) (entry (c .nodes))) (terms m)) ++ (1 ∷ 0 ∷ [])))

@@ -60,13 +60,6 @@ opposed fields a b = any (λ j. hasField fields true j a && hasField fields fals
 unfoldable pub fieldBreaks : List Literal → (ℕ → ℕ) → ℕ → Bool
 fieldBreaks fields node t = any (λ u. eqb (node u) (node t) && (opposed fields u t || opposed fields t u)) (from t 1)
 
--- a boolean is held plain and negated
-unfoldable pub saysFlag : Bool → ℕ → Literal → Bool
-saysFlag sign j l = agrees sign (l .plain) && eqb (l .left) j
-
-unfoldable pub flagsClash : List Literal → Bool
-flagsClash flags = any (λ j. any (saysFlag true j) flags && any (saysFlag false j) flags) (from 8 1)
-
 -- term t names a node that no lower term names; how many nodes the terms up to t name
 unfoldable pub isFresh : (ℕ → ℕ) → ℕ → Bool
 isFresh node t = not (any (λ u. eqb (node u) (node t)) (from (t - 1) 1))

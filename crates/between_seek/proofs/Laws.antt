@@ -15,7 +15,7 @@ use Rattle.logic.specs.Query.{argumentOf, termCount}
 use Rattle.logic.specs.Calls.{padded}
 use Rattle.report.proofs.Writing.{appends-byte}
 use Rattle.between.specs.Meaning.{BetweenQuery}
-use Rattle.between_search.specs.Tests.{used, breaks, nilBreaks, fieldBreaks, pairBreaks, tripleBreaks, flagsClash}
+use Rattle.between_search.specs.Tests.{used, breaks, nilBreaks, fieldBreaks, pairBreaks, tripleBreaks}
 use Rattle.between_search.specs.Search.{Found, seek, entry, lowestNode, highestNode, seekNodes, nodesFound, seekLinks, linksFound, sizeFound, mostNodes, heapFound}
 use Rattle.between_tests.specs.Tables.{Small}
 use Rattle.between_seek.specs.Answers.{Chosen}
@@ -150,13 +150,9 @@ module _ (q : BetweenQuery) where
   unfolding sizeFound isSome
   size-some m c h = rw h
 
-  pub clash-none : flagsClash (q .base .booleans) ≡ true → none ≡ heapFound q
+  pub heap-sizes : (k : ℕ) → k ≡ mostNodes (termCount (q .base)) → heapFound q ≡ firstOf (sizeFound q) (from (k + 1 - 1) 1)
   unfolding heapFound
-  clash-none h = rw h
-
-  pub heap-sizes : flagsClash (q .base .booleans) ≡ false → (k : ℕ) → k ≡ mostNodes (termCount (q .base)) → heapFound q ≡ firstOf (sizeFound q) (from (k + 1 - 1) 1)
-  unfolding heapFound
-  heap-sizes h k e = rw h (ap (λ (j : ℕ). firstOf (sizeFound q) (from j 1)) (sym e ∙ one-less k))
+  heap-sizes k e = ap (λ (j : ℕ). firstOf (sizeFound q) (from j 1)) (sym e ∙ one-less k)
     where
       one-less : (j : ℕ) → j ≡ j + 1 - 1
       one-less j = omega arith

@@ -6,7 +6,7 @@ use Prim.Native.Nat.{ℕ}
 use Rattle.logic.specs.Query.{Literal, decode}
 use Rattle.query.specs.declared.Layout.{Layout}
 use Rattle.query.specs.LaysOut.{LaysOut}
-use Rattle.between_tests.specs.Tables.{literalsIn, flagsIn}
+use Rattle.between_tests.specs.Tables.{literalsIn}
 
 module _ (bytes : List ℕ) (l : Layout) (laid : LaysOut l bytes) (p : List Literal → Bool) (b : Bool) where
   pub equal-section : p (literalsIn bytes (l .«equal_at») (l .«equal_count»)) ≡ b → p (decode bytes .equalities) ≡ b
@@ -20,7 +20,3 @@ module _ (bytes : List ℕ) (l : Layout) (laid : LaysOut l bytes) (p : List Lite
   pub field-section : p (literalsIn bytes (l .«field_at») (l .«field_count»)) ≡ b → p (decode bytes .fields) ≡ b
   unfolding literalsIn
   field-section h = ap p (laid .field-are) ∙ h
-
-  pub flag-section : p (flagsIn bytes (l .«boolean_at») (l .«boolean_count»)) ≡ b → p (decode bytes .booleans) ≡ b
-  unfolding flagsIn
-  flag-section h = ap p (laid .boolean-are) ∙ h

@@ -326,15 +326,6 @@ pub fn heap_found(
     requires { ⌜ Given (now base) l (now between) count (now apart) ⌝ }
     ensures { λ r. ⌜ foundOf r ≡ heapFound (queryIn (now (base .entry)) (now (between .entry))) ⌝ }
 {
-    let empty = [0u8; 17];
-    let nothing = Searched {
-        found: false,
-        links: empty,
-        nodes: empty,
-    };
-    if between_tests::flags_clash(base, l.boolean_at, l.boolean_count) {
-        return nothing;
-    }
     let end = most_nodes(l.terms) + 1;
     let mut m: usize = 1;
     while m < end {
@@ -344,5 +335,10 @@ pub fn heap_found(
         }
         m += 1;
     }
-    nothing
+    let empty = [0u8; 17];
+    Searched {
+        found: false,
+        links: empty,
+        nodes: empty,
+    }
 }

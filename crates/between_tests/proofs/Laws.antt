@@ -16,12 +16,12 @@ use Rattle.logic.specs.Search.{from, any}
 use Rattle.logic.proofs.Basics.Compare.{le-cases}
 use Rattle.logic.specs.Query.{Literal, entryOf, namesNil, argumentOf, decode}
 use Rattle.query.specs.declared.Layout.{Layout}
-use Rattle.query.specs.LaysOut.{LaysOut, literalIn, flagIn}
-use Rattle.query.proofs.Literals.{listed, literals-are, flags-are, entry-is}
+use Rattle.query.specs.LaysOut.{LaysOut, literalIn}
+use Rattle.query.proofs.Literals.{listed, literals-are, entry-is}
 use Rattle.between.specs.Meaning.{BetweenLiteral}
-use Rattle.between_search.specs.Tests.{stepCount, steps, agrees, duePair, dueTriple, pairBreaks, tripleBreaks, nilBreaks, saysField, hasField, opposed, fieldBreaks, saysFlag, flagsClash, isFresh, used}
+use Rattle.between_search.specs.Tests.{stepCount, steps, agrees, duePair, dueTriple, pairBreaks, tripleBreaks, nilBreaks, saysField, hasField, opposed, fieldBreaks, isFresh, used}
 use Rattle.between_search.specs.Search.{entry}
-use Rattle.between_tests.specs.Tables.{Small, Stepped, Opposed, literalsIn, flagsIn, tripleIn}
+use Rattle.between_tests.specs.Tables.{Small, Stepped, Opposed, literalsIn, tripleIn}
 
 -- Step counts
 
@@ -137,10 +137,6 @@ module _ (bytes : List ℕ) (at count : ℕ) where
   unfolding literalsIn
   literals-begin h p = ap (any p) (literals-are bytes at count h)
 
-  pub flags-begin : at + 2 * count ≤ length bytes → (p : Literal → Bool) → any p (flagsIn bytes at count) ≡ any p (listed (flagIn bytes at) count 0)
-  unfolding flagsIn
-  flags-begin h p = ap (any p) (flags-are bytes at count h)
-
   pub field-begin : at + 3 * count ≤ length bytes → (sign : Bool) (j t : ℕ) → hasField (literalsIn bytes at count) sign j t ≡ any (saysField sign j t) (listed (literalIn bytes at) count 0)
   unfolding hasField
   field-begin h sign j t = literals-begin h (saysField sign j t)
@@ -205,10 +201,6 @@ module _ (fields : List Literal) where
   pub breaks-begin : (node : ℕ → ℕ) (t v : ℕ) → v ≡ node t → fieldBreaks fields node t ≡ any (λ u. eqb (node u) v && (opposed fields u t || opposed fields t u)) (from (t + 1 - 1) 1)
   unfolding fieldBreaks
   breaks-begin node t v e = any-from _ t ∙ ap (λ (w : ℕ). any (λ u. eqb (node u) w && (opposed fields u t || opposed fields t u)) (from (t + 1 - 1) 1)) (sym e)
-
-pub flags-clash-begin : (flags : List Literal) → flagsClash flags ≡ any (λ j. any (saysFlag true j) flags && any (saysFlag false j) flags) (from (9 - 1) 1)
-unfolding flagsClash
-flags-clash-begin flags = refl
 
 -- numbers of a table's rows
 pub small-set : (xs : List ℕ) (i v : ℕ) → v ≤ 5 → Small xs → Small (set xs i v)

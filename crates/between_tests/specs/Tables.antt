@@ -5,7 +5,7 @@ use mathlib.Core.Bool.{Bool, false}
 use mathlib.Core.List.{List}
 use lib.ListN.{getD, take, drop}
 use lib.Dec.{eqb}
-use Rattle.logic.specs.Query.{Literal, literals, flags}
+use Rattle.logic.specs.Query.{Literal, literals}
 use Rattle.between.specs.Meaning.{BetweenLiteral}
 use Rattle.between_search.specs.Tests.{steps, opposed}
 use Rattle.between_search.specs.Search.{entry}
@@ -25,9 +25,6 @@ Opposed table fields = (a b : ℕ) → a ≤ 5 → b ≤ 5 → getD table (6 * a
 -- the literals of a section that stands at a place
 unfoldable pub literalsIn : List ℕ → ℕ → ℕ → List Literal
 literalsIn bytes at count = literals (take (3 * count) (drop at bytes))
-
-unfoldable pub flagsIn : List ℕ → ℕ → ℕ → List Literal
-flagsIn bytes at count = flags (take (2 * count) (drop at bytes))
 
 -- between literal i
 abbrev pub tripleIn : List ℕ → ℕ → BetweenLiteral

@@ -10,11 +10,11 @@ ghost use lib.ListN.{length, getD};
 ghost use lib.Dec.{eqb};
 ghost use Rattle.logic.specs.Search.{from, any};
 ghost use Rattle.logic.specs.Query.{Literal, decode, namesNil, argumentOf};
-ghost use Rattle.query.specs.LaysOut.{LaysOut, literalIn, flagIn};
+ghost use Rattle.query.specs.LaysOut.{LaysOut, literalIn};
 ghost use Rattle.between_search.specs.Bytes.{triples};
-ghost use Rattle.between_search.specs.Tests.{steps, agrees, duePair, dueTriple, pairBreaks, tripleBreaks, nilBreaks, saysField, hasField, opposed, fieldBreaks, saysFlag, flagsClash, isFresh, used};
+ghost use Rattle.between_search.specs.Tests.{steps, agrees, duePair, dueTriple, pairBreaks, tripleBreaks, nilBreaks, saysField, hasField, opposed, fieldBreaks, isFresh, used};
 ghost use Rattle.between_search.specs.Search.{entry};
-ghost use Rattle.between_tests.specs.Tables.{Small, Stepped, Opposed, literalsIn, flagsIn, tripleIn};
+ghost use Rattle.between_tests.specs.Tables.{Small, Stepped, Opposed, literalsIn, tripleIn};
 
 fn wide(byte: u8) -> usize
     ensures { λ r. ⌜ r ≡ byte ⌝ }
@@ -326,47 +326,6 @@ pub fn field_breaks(table: &[bool; 36], nodes: &[u8; 17], t: Term) -> bool
             return true;
         }
         u += 1;
-    }
-    false
-}
-
-// Boolean literal i has this sign and number.
-fn says_flag(query: &[u8], at: usize, i: usize, sign: bool, j: usize) -> bool
-    requires { ⌜ at + 2 * i + 2 ≤ length (now query) ⌝ }
-    ensures { λ r. ⌜ r ≡ saysFlag sign j (flagIn (now (query .entry)) at i) ⌝ }
-{
-    let same = agrees(sign, query::flag_sign(query, at, i));
-    let number = query::flag_number(query, at, i);
-    same & (number == j)
-}
-
-fn has_flag(query: &[u8], at: usize, count: usize, sign: bool, j: usize) -> bool
-    requires { ⌜ at + 2 * count ≤ length (now query) ⌝ }
-    ensures { λ r. ⌜ r ≡ any (saysFlag sign j) (flagsIn (now (query .entry)) at count) ⌝ }
-{
-    let mut i: usize = 0;
-    while i < count {
-        if says_flag(query, at, i, sign, j) {
-            return true;
-        }
-        i += 1;
-    }
-    false
-}
-
-// A boolean is held plain and negated.
-pub fn flags_clash(query: &[u8], at: usize, count: usize) -> bool
-    requires { ⌜ at + 2 * count ≤ length (now query) ⌝ }
-    ensures { λ r. ⌜ r ≡ flagsClash (flagsIn (now (query .entry)) at count) ⌝ }
-{
-    let mut j: usize = 1;
-    while j < 9 {
-        let plain = has_flag(query, at, count, true, j);
-        let negated = has_flag(query, at, count, false, j);
-        if plain & negated {
-            return true;
-        }
-        j += 1;
     }
     false
 }

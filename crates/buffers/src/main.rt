@@ -1,5 +1,5 @@
 // Buffers of no bytes, a byte too short, just large enough and longer, lent to both calls for a query that is satisfiable (E2), one that is
-// refuted (E5, whose two lines are ten bytes) and one that is refused 8. Each is lent full of 255; after a refusal all of it is zero.
+// refuted (E5, whose two lines are ten bytes) one that is refused 8 and one that is refused 26. Each is lent full of 255; after a refusal all of it is zero.
 use libc::STDOUT_FILENO;
 use prover::Answer;
 ghost use Prim.Native.Nat.{_≤_};
@@ -96,6 +96,8 @@ fn main() {
     try_query(&[1, 0, 0, 0, 0, 0]);
     io::write_all(STDOUT_FILENO, b"E5, refuted\n");
     try_query(&[1, 0, 0, 1, 0, 1, 1, 0, 0]);
-    io::write_all(STDOUT_FILENO, b"boolean 9, refused\n");
-    try_query(&[0, 0, 0, 0, 1, 1, 9]);
+    io::write_all(STDOUT_FILENO, b"field 9, refused\n");
+    try_query(&[1, 0, 0, 0, 1, 1, 9, 1, 0]);
+    io::write_all(STDOUT_FILENO, b"a boolean, refused\n");
+    try_query(&[0, 0, 0, 0, 1, 1, 8]);
 }

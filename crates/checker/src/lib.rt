@@ -220,7 +220,7 @@ fn judge(query: &[u8], layout: Layout, derivation: &[u8]) -> CheckAnswer
     CheckAnswer::Accepted
 }
 
-// The checking call: "accept exactly the full trees", else the first wrong line's number, or one of the refusals 2 to 8 and 20.
+// The checking call: "accept exactly the full trees", else the first wrong line's number, or one of the refusals 2 to 8, 26 and 20.
 pub fn check(query: &[u8], derivation: &[u8]) -> CheckAnswer
     ensures { λ r. ⌜ meaning r ≡ checkCall (now (query .entry)) (now (derivation .entry)) ⌝ }
 {

@@ -1,27 +1,26 @@
 -- What is claimed of the call holds.
-use Prim.Native.Nat.{ℕ, zero, suc, _+_, _*_, _-_, _/_, _%_, _≤_, _<_}
+use Prim.Native.Nat.{ℕ, zero, suc, _+_, _*_, _-_, _≤_}
 use native.Mathlib.Omega.{arith}
-use borrow.Author.Tests.{le-ltb, leb-true}
+use borrow.Author.Tests.{le-ltb}
 use mathlib.Core.Path.{_≡_, refl, sym, ap, ap₂, _∙_, subst}
-use mathlib.Core.Logic.{_⊎_, ⊎-elim, inl, inr, _↔_}
-use mathlib.Core.Bool.{Bool, true, false, not, cond}
-use mathlib.Core.List.{List, [], _∷_, _++_, append-nil, List·Memᴰ}
+use mathlib.Core.Logic.{⊎-elim, _↔_}
+use mathlib.Core.Bool.{Bool, true, false}
+use mathlib.Core.List.{List, [], _∷_, _++_, append-nil, List·Memᴰ, List·Memᴰ·head, Memᴰ·append-left, Memᴰ·append-right}
 use mathlib.Core.Option.{Option, none, some, Option·elim}
-use lib.ListN.{length, getD, take, replicate}
-use lib.Dec.{eqb, ltb, leb}
-use Rattle.logic.specs.Search.{_and_, _or_, all, isSome}
+use lib.ListN.{length, take, replicate}
+use Rattle.logic.specs.Search.{_or_, isSome}
 use Rattle.logic.specs.Query.{decode}
 use Rattle.logic.specs.Heap.{Satisfiable}
 use Rattle.logic.specs.Facts.{Line}
 use Rattle.logic.specs.Derivation.{Derivation, derivationBytes, linesFrom, linesIn}
-use Rattle.logic.specs.Calls.{Input, Check, layoutCheck, byteCheck, queryChecks, Answer, accepts, padded, derivationCall}
+use Rattle.logic.specs.Calls.{Input, layoutCheck, byteCheck, formChecks, queryChecks, Answer, accepts, padded, derivationCall}
 use Rattle.logic.specs.Calls as calls
-use Rattle.logic.specs.Demands.{FirstStands}
-use Rattle.logic.proofs.Basics.Search.{bool-cases, true-false, not-true, and-left, and-right, all-true, isSome-false}
-use Rattle.logic.proofs.Basics.Compare.{eqb-self, ltb-true}
+use Rattle.logic.specs.Demands.{FirstStands, numbers}
+use Rattle.logic.proofs.Basics.Search.{not-true, isSome-false}
+use Rattle.logic.proofs.Basics.Compare.{eqb-self}
 use Rattle.logic.proofs.Query.AcceptedBytes as acceptance
 use Rattle.logic.proofs.Soundness.Refuted.{derivation-sound}
-use Rattle.logic.proofs.Calls.CheckingOrder.{ascends, refusal-first, first-unique, first-stands}
+use Rattle.logic.proofs.Calls.CheckingOrder.{refusal-first, first-unique, first-numbered, first-stands, query-early}
 use Rattle.logic.proofs.Calls.CallLaws.{derivation-passed, refusalOf-none}
 use Rattle.logic.proofs.Calls.DerivationBytes.{derivation-length, lines-read}
 use Rattle.logic.proofs.Calls.Demands.{demand1, demand2}
@@ -49,24 +48,13 @@ wrong-same e = cc
 
 -- The checks of the query
 
-numbered : Check → Bool
-numbered c = leb 2 (c .number) and leb (c .number) 8
+query-checks : numbers queryChecks ≡ 2 ∷ 3 ∷ 26 ∷ 4 ∷ 5 ∷ 6 ∷ 7 ∷ 8 ∷ []
+unfolding queryChecks formChecks layoutCheck byteCheck
+query-checks = refl
 
-query-numbered : all numbered queryChecks ≡ true
-unfolding all numbered queryChecks layoutCheck byteCheck _and_
-query-numbered = refl
-
-query-ascends : ascends queryChecks ≡ true
-unfolding ascends all queryChecks layoutCheck byteCheck _and_
-query-ascends = refl
-
-first-numbered : (i : Input) (k p : ℕ) → FirstStands queryChecks i k p → (2 ≤ k) × (k ≤ 8)
-unfolding numbered
-first-numbered i k p f =
-    let h = all-true numbered (f .check) query-numbered (f .own) in
-    let l = and-left (leb 2 (f .check .number)) (leb (f .check .number) 8) h in
-    let u = and-right (leb 2 (f .check .number)) (leb (f .check .number) 8) h in
-    (subst (λ (x : ℕ). 2 ≤ x) (f .numbered) (leb-true _ _ l), subst (λ (x : ℕ). x ≤ 8) (f .numbered) (leb-true _ _ u))
+-- 20 is none of them
+not-twenty : {k : ℕ} → List·Memᴰ k (numbers queryChecks) → k ≡ 20 → ⊥
+not-twenty {k} m e = ⊎-elim (λ u. omega (arith, u, e)) (λ q. omega (arith, q, e)) (query-early k m .1)
 
 -- a query is accepted exactly where none of them stands
 accepts-none : (query : List ℕ) → accepts query ≡ true → queryRefusal query ≡ none
@@ -80,7 +68,7 @@ none-accepts query h = rw h
 -- a refusal is that of the first that stands
 refusal-by : (query : List ℕ) (a : Answer) → queryRefusal query ≡ some a → (k : ℕ) × (p : ℕ) × FirstStands queryChecks (queryAlone query) k p × (a ≡ calls.refused k p)
 unfolding queryRefusal
-refusal-by query a h = refusal-first queryChecks (queryAlone query) query-ascends a h
+refusal-by query a h = refusal-first queryChecks (queryAlone query) a h
 
 none-stands : (query : List ℕ) → queryRefusal query ≡ none → (k p : ℕ) → FirstStands queryChecks (queryAlone query) k p → ⊥
 unfolding queryRefusal
@@ -153,17 +141,17 @@ module _ (query derivation : List ℕ) where
       back zero t w = absurd (omega (arith, w .number))
       back (suc j) t w = taken-judged t ∙ ap byWrong (wrong-number (decode query) (linesIn derivation) j .1 w)
 
-  refused-exactly : (k place : ℕ) → k < 20 → (checkCall query derivation ≡ refused k place) ↔ FirstStands queryChecks (queryAlone query) k place
-  refused-exactly k place l = (λ h. there h cases, λ f. back f cases)
+  refused-exactly : (k place : ℕ) → List·Memᴰ k (numbers queryChecks) → (checkCall query derivation ≡ refused k place) ↔ FirstStands queryChecks (queryAlone query) k place
+  refused-exactly k place own = (λ h. there h cases, λ f. back f cases)
     where
       there : checkCall query derivation ≡ refused k place → Case → FirstStands queryChecks (queryAlone query) k place
       there h (by-query j p f e) = let (a, b) = refused-same (sym e ∙ h) in subst (λ (x : ℕ). FirstStands queryChecks (queryAlone query) x place) a (subst (FirstStands queryChecks (queryAlone query) j) b f)
-      there h (by-shape a m e) = absurd (omega (arith, l, refused-same (sym e ∙ h) .0))
+      there h (by-shape a m e) = absurd (not-twenty own (sym (refused-same (sym e ∙ h) .0)))
       there h (by-lines t n e) = absurd (accepted-refused (sym e ∙ h))
       there h (by-line t j n e) = absurd (wrong-refused (sym e ∙ h))
 
       back : FirstStands queryChecks (queryAlone query) k place → Case → checkCall query derivation ≡ refused k place
-      back f (by-query j p g e) = let (a, b) = first-unique queryChecks (queryAlone query) query-ascends j p k place g f in e ∙ ap₂ refused a b
+      back f (by-query j p g e) = let (a, b) = first-unique queryChecks (queryAlone query) j p k place g f in e ∙ ap₂ refused a b
       back f (by-shape a m e) = absurd (none-stands query (accepts-none query a) k place f)
       back f (by-lines t n e) = absurd (none-stands query (accepts-none query (t .0)) k place f)
       back f (by-line t j n e) = absurd (none-stands query (accepts-none query (t .0)) k place f)
@@ -172,20 +160,19 @@ module _ (query derivation : List ℕ) where
   shape-exactly place = (λ h. there h cases, λ d. check-misshapen (accepts-none query (d .1)) (d .2) ∙ ap (refused 20) (sym (d .0)))
     where
       there : checkCall query derivation ≡ refused 20 place → Case → (place ≡ 0) × (accepts query ≡ true) × (misshapen derivation ≡ true)
-      there h (by-query j p f e) = absurd (omega (arith, refused-same (sym e ∙ h) .0, first-numbered (queryAlone query) j p f .1))
+      there h (by-query j p f e) = absurd (not-twenty (first-numbered queryChecks (queryAlone query) j p f) (refused-same (sym e ∙ h) .0))
       there h (by-shape a m e) = (sym (refused-same (sym e ∙ h) .1), a, m)
       there h (by-lines t n e) = absurd (accepted-refused (sym e ∙ h))
       there h (by-line t j n e) = absurd (wrong-refused (sym e ∙ h))
 
-  refusal-numbered : (k place : ℕ) → checkCall query derivation ≡ refused k place → (2 ≤ k) × (k ≤ 20)
+  refusal-numbered : (k place : ℕ) → checkCall query derivation ≡ refused k place → List·Memᴰ k (numbers queryChecks ++ (20 ∷ []))
   refusal-numbered k place h = there cases
     where
-      there : Case → (2 ≤ k) × (k ≤ 20)
+      there : Case → List·Memᴰ k (numbers queryChecks ++ (20 ∷ []))
       there (by-query j p f e) =
-          let s = refused-same (sym e ∙ h) .0 in
-          let r = first-numbered (queryAlone query) j p f in
-          (omega (arith, s, r .0), omega (arith, s, r .1))
-      there (by-shape a m e) = let s = refused-same (sym e ∙ h) .0 in (omega arith, omega arith)
+          subst (λ (x : ℕ). List·Memᴰ x (numbers queryChecks ++ (20 ∷ []))) (refused-same (sym e ∙ h) .0)
+          (Memᴰ·append-left (20 ∷ []) (first-numbered queryChecks (queryAlone query) j p f))
+      there (by-shape a m e) = Memᴰ·append-right (numbers queryChecks) (List·Memᴰ·head (sym (refused-same (sym e ∙ h) .0)))
       there (by-lines t n e) = absurd (accepted-refused (sym e ∙ h))
       there (by-line t j n e) = absurd (wrong-refused (sym e ∙ h))
 
@@ -253,6 +240,7 @@ claims =
       accepted-exactly = accepted-exactly;
       wrong-exactly = wrong-exactly;
       wrong-placed = wrong-placed;
+      query-checks = query-checks;
       refused-exactly = refused-exactly;
       shape-exactly = shape-exactly;
       refusal-numbered = refusal-numbered;

@@ -37,7 +37,7 @@ refusedQuery (calls.refused k place) = refused k place
 refusedQuery calls.satisfiable = accepted
 refusedQuery calls.refuted = accepted
 
--- "Checks: 2 to 8": "room plays no part", and there is no order list
+-- "Checks: 2 to 8", with 26 among them (02, R-13): "room plays no part", and there is no order list
 unfoldable pub queryRefusal : List ℕ → Option Answer
 queryRefusal query = refusalOf queryChecks (record { order = []; query = query; room = 0 })
 

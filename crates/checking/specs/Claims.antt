@@ -1,9 +1,9 @@
 -- What is claimed of the call, as statements about the definitions (02, R-8).
-use Prim.Native.Nat.{ℕ, _+_, _*_, _≤_, _<_}
+use Prim.Native.Nat.{ℕ, _+_, _*_, _≤_}
 use mathlib.Core.Path.{_≡_}
 use mathlib.Core.Logic.{_↔_}
 use mathlib.Core.Bool.{true, false}
-use mathlib.Core.List.{List, []}
+use mathlib.Core.List.{List, [], _∷_, _++_, List·Memᴰ}
 use mathlib.Core.Option.{none, some}
 use lib.ListN.{length, take}
 use Rattle.logic.specs.Query.{decode}
@@ -12,7 +12,7 @@ use Rattle.logic.specs.Facts.{Line}
 use Rattle.logic.specs.Derivation.{Derivation, derivationBytes, linesIn}
 use Rattle.logic.specs.Calls.{Input, queryChecks, accepts, derivationCall}
 use Rattle.logic.specs.Calls as calls
-use Rattle.logic.specs.Demands.{FirstStands}
+use Rattle.logic.specs.Demands.{FirstStands, numbers}
 use Rattle.checking.specs.Fitting.{FirstWrong}
 use Rattle.checking.specs.CheckCall.{accepted, wrong, refused, countIn, misshapen, checkCall}
 
@@ -36,10 +36,12 @@ pub record Claims : Type 0 where
   pub wrong-exactly : (query derivation : List ℕ) (k : ℕ) → (checkCall query derivation ≡ wrong k) ↔ (Taken query derivation × FirstWrong (decode query) (linesIn derivation) k)
   -- it is 1 up to "count plus 1 if the lines run out"
   pub wrong-placed : (query derivation : List ℕ) (k : ℕ) → checkCall query derivation ≡ wrong k → (1 ≤ k) × (k ≤ countIn derivation + 1)
-  -- "Checks: 2 to 8, then 20": of the query the first in checking order whose condition stands; 20 only where none of these does
-  pub refused-exactly : (query derivation : List ℕ) (k place : ℕ) → k < 20 → (checkCall query derivation ≡ refused k place) ↔ FirstStands queryChecks (queryAlone query) k place
+  -- "Checks: 2 to 8, then 20", with 26 among those of the query (02, R-13): of the query the first in checking order whose condition
+  -- stands; 20 only where none of these does
+  pub query-checks : numbers queryChecks ≡ 2 ∷ 3 ∷ 26 ∷ 4 ∷ 5 ∷ 6 ∷ 7 ∷ 8 ∷ []
+  pub refused-exactly : (query derivation : List ℕ) (k place : ℕ) → List·Memᴰ k (numbers queryChecks) → (checkCall query derivation ≡ refused k place) ↔ FirstStands queryChecks (queryAlone query) k place
   pub shape-exactly : (query derivation : List ℕ) (place : ℕ) → (checkCall query derivation ≡ refused 20 place) ↔ ((place ≡ 0) × (accepts query ≡ true) × (misshapen derivation ≡ true))
-  pub refusal-numbered : (query derivation : List ℕ) (k place : ℕ) → checkCall query derivation ≡ refused k place → (2 ≤ k) × (k ≤ 20)
+  pub refusal-numbered : (query derivation : List ℕ) (k place : ℕ) → checkCall query derivation ≡ refused k place → List·Memᴰ k (numbers queryChecks ++ (20 ∷ []))
   -- "Accepted means that no finite heap meets the query", of any size
   pub accepted-sound : (query derivation : List ℕ) → checkCall query derivation ≡ accepted → Satisfiable (decode query) → ⊥
   -- "Whatever refutation our prover (without the zeros past its lines) .. writes": what the derivation call leaves in any buffer

@@ -56,12 +56,14 @@ samples =
     ∷ sample example5 (0 ∷ 2 ∷ 1 ∷ 1 ∷ 0 ∷ 0 ∷ 9 ∷ 3 ∷ 1 ∷ 0 ∷ []) accepted
     ∷ sample example5 (0 ∷ 0 ∷ []) (wrong 1)
     ∷ sample nils (0 ∷ 2 ∷ 10 ∷ 1 ∷ 2 ∷ 0 ∷ 9 ∷ 2 ∷ 1 ∷ 0 ∷ []) accepted
-    -- 20 for lengths that are not as the count says, after 2 to 8
+    -- 20 for lengths that are not as the count says, after the query's own
     ∷ sample example5 [] (refused 20 0)
     ∷ sample example5 (0 ∷ []) (refused 20 0)
     ∷ sample example5 (0 ∷ 1 ∷ []) (refused 20 0)
     ∷ sample example5 (0 ∷ 0 ∷ 0 ∷ []) (refused 20 0)
     ∷ sample [] [] (refused 2 0)
+    -- "26 a boolean count above 0" (02, R-13)
+    ∷ sample (0 ∷ 0 ∷ 0 ∷ 0 ∷ 2 ∷ 1 ∷ 1 ∷ 0 ∷ 1 ∷ []) [] (refused 26 4)
     ∷ []
 
 unfoldable pub computed : Sample → Sample

@@ -1,4 +1,4 @@
--- The search for a clash goes by sections, and the booleans' part is the same on every path.
+-- The search for a clash goes by sections.
 use Prim.Native.Nat.{ℕ}
 use mathlib.Core.Path.{_≡_, refl, sym, ap, ap₂, _∙_, fun-ext}
 use mathlib.Core.Bool.{Bool, true, false}
@@ -8,7 +8,7 @@ use lib.ListN.{length}
 use Rattle.logic.specs.Search.{_and_, _or_, from, keep, orElse, firstOf, find, flatMap}
 use Rattle.logic.specs.Query.{Literal, Query}
 use Rattle.logic.specs.Facts.{Facts, Line, line, negatedAt, plainAt, isClash, clashLines, clash}
-use Rattle.clash.specs.Sections.{oneTerm, reachHeld, sameField, sameNumber, alone, paired, pathClash, booleanClash}
+use Rattle.clash.specs.Sections.{oneTerm, reachHeld, sameField, alone, paired, pathClash}
 
 -- Searches of lists that are made of lists
 
@@ -43,19 +43,15 @@ module _ (q : Query) (s : Facts) where
   -- what makes a line of each section a clash
   line2 : (i : ℕ) → isClash q s (line 9 2 i 0) ≡ negatedAt (q .equalities) i (oneTerm (s .rep))
   unfolding isClash _and_ _or_
-  line2 i = or-false _ ∙ or-false _ ∙ or-false _
+  line2 i = or-false _ ∙ or-false _
 
   line3 : (i : ℕ) → isClash q s (line 9 3 i 0) ≡ negatedAt (q .reachability) i (reachHeld (s .rep) (s .graph .reach))
   unfolding isClash _and_ _or_
-  line3 i = or-false _ ∙ or-false _
+  line3 i = or-false _
 
   line4 : (i j : ℕ) → isClash q s (line 9 4 i j) ≡ negatedAt (q .fields) i (λ l. plainAt (q .fields) j (sameField (s .rep) l))
   unfolding isClash _and_ _or_
-  line4 i j = or-false _
-
-  line5 : (i j : ℕ) → isClash q s (line 9 5 i j) ≡ negatedAt (q .booleans) i (λ l. plainAt (q .booleans) j (sameNumber l))
-  unfolding isClash _and_ _or_
-  line5 i j = refl
+  line4 i j = refl
 
   find-alone : (k : ℕ) (ls : List Literal) (p : Literal → Bool) → ((i : ℕ) → isClash q s (line 9 k i 0) ≡ negatedAt ls i p) → find (isClash q s) (map (λ i. line 9 k i 0) (from (length ls) 1)) ≡ alone k ls p
   unfolding alone
@@ -72,14 +68,12 @@ module _ (q : Query) (s : Facts) where
       find-map (isClash q s) (line 9 k i) (from (length ls) 1)
       ∙ ap (λ (t : ℕ → Bool). firstOf (λ j. keep (t j) (line 9 k i j)) (from (length ls) 1)) (fun-ext (e i))))
 
-  -- "Lowest section, then lowest place, is reported": the part of the path, or else the booleans', which is the same on every path
-  pub clash-split : clash q s ≡ orElse (pathClash q (s .rep) (s .graph .reach)) (booleanClash q)
-  unfolding clash clashLines pathClash booleanClash
+  -- "Lowest section, then lowest place, is reported"
+  pub clash-split : clash q s ≡ pathClash q (s .rep) (s .graph .reach)
+  unfolding clash clashLines pathClash
   clash-split =
       find-append (isClash q s) _ _
       ∙ ap₂ orElse (find-alone 2 (q .equalities) (oneTerm (s .rep)) line2)
       (find-append (isClash q s) _ _
       ∙ ap₂ orElse (find-alone 3 (q .reachability) (reachHeld (s .rep) (s .graph .reach)) line3)
-      (find-append (isClash q s) _ _
-      ∙ ap₂ orElse (find-paired 4 (q .fields) (sameField (s .rep)) line4) (find-paired 5 (q .booleans) sameNumber line5)))
-      ∙ sym (orElse-assoc _ _ _ ∙ ap (orElse _) (orElse-assoc _ _ _))
+      (find-paired 4 (q .fields) (sameField (s .rep)) line4))

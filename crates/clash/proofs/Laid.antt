@@ -1,6 +1,6 @@
 -- The searches of the sections, each where the query's bytes have it, make up the clash of a path.
 use Prim.Native.Nat.{ℕ}
-use mathlib.Core.Path.{_≡_, refl, sym, ap, ap₂, _∙_}
+use mathlib.Core.Path.{_≡_, ap, ap₂, _∙_}
 use mathlib.Core.Bool.{Bool}
 use mathlib.Core.List.{List}
 use mathlib.Core.Option.{Option, none, some}
@@ -9,14 +9,10 @@ use Rattle.logic.specs.Query.{Literal, Query, decode}
 use Rattle.logic.specs.Facts.{Facts, Line, clash}
 use Rattle.query.specs.declared.Layout.{Layout}
 use Rattle.query.specs.LaysOut.{LaysOut}
-use Rattle.clash.specs.Sections.{literalsIn, flagsIn, oneTerm, reachHeld, sameField, sameNumber, alone, paired, pathClash, booleanClash}
+use Rattle.clash.specs.Sections.{literalsIn, oneTerm, reachHeld, sameField, alone, paired, pathClash}
 use Rattle.clash.proofs.Decomposed.{clash-split}
 
 module _ {l : Layout} {bytes : List ℕ} (laid : LaysOut l bytes) where
-  pub booleans-laid : paired 5 (flagsIn bytes (l .«boolean_at») (l .«boolean_count»)) sameNumber ≡ booleanClash (decode bytes)
-  unfolding booleanClash
-  booleans-laid = ap (λ (ls : List Literal). paired 5 ls sameNumber) (sym (laid .boolean-are))
-
   module _ (rep : ℕ → ℕ) (reach : ℕ → ℕ → Bool) where
     abbrev inEqualities : Option Line
     inEqualities = alone 2 (literalsIn bytes (l .«equal_at») (l .«equal_count»)) (oneTerm rep)
@@ -47,14 +43,5 @@ module _ {l : Layout} {bytes : List ℕ} (laid : LaysOut l bytes) where
     fields-third e f = sections-laid ∙ rw (e, f)
 
 -- the clash of every path with these representatives and this reachability
-module _ (q : Query) (rep : ℕ → ℕ) (reach : ℕ → ℕ → Bool) where
-  split-at : (s : Facts) → s .rep ≡ rep → s .graph .reach ≡ reach → clash q s ≡ orElse (pathClash q rep reach) (booleanClash q)
-  split-at s e f = clash-split q s ∙ ap (λ (o : Option Line). orElse o (booleanClash q)) (ap₂ (pathClash q) e f)
-
-  pub path-first : (x : Line) → pathClash q rep reach ≡ some x → (s : Facts) → s .rep ≡ rep → s .graph .reach ≡ reach → clash q s ≡ some x
-  unfolding orElse
-  path-first x h s e f = split-at s e f ∙ rw h
-
-  pub booleans-last : pathClash q rep reach ≡ none → (s : Facts) → s .rep ≡ rep → s .graph .reach ≡ reach → clash q s ≡ booleanClash q
-  unfolding orElse
-  booleans-last h s e f = split-at s e f ∙ rw h
+pub clash-at : (q : Query) (rep : ℕ → ℕ) (reach : ℕ → ℕ → Bool) (s : Facts) → s .rep ≡ rep → s .graph .reach ≡ reach → clash q s ≡ pathClash q rep reach
+clash-at q rep reach s e f = clash-split q s ∙ ap₂ (pathClash q) e f

@@ -6,17 +6,14 @@ use mathlib.Core.Option.{Option}
 use lib.ListN.{length, take, drop}
 use lib.Dec.{eqb}
 use Rattle.logic.specs.Search.{_and_, from, keep, orElse, firstOf, find}
-use Rattle.logic.specs.Query.{Literal, Query, literals, flags}
+use Rattle.logic.specs.Query.{Literal, Query, literals}
 use Rattle.logic.specs.Facts.{Line, line, negatedAt, plainAt}
 
--- `count` literals that stand at a place of the query's bytes, of three bytes each and of two
+-- `count` literals that stand at a place of the query's bytes, of three bytes each
 abbrev pub literalsIn : List ℕ → ℕ → ℕ → List Literal
 literalsIn bytes at count = literals (take (3 * count) (drop at bytes))
 
-abbrev pub flagsIn : List ℕ → ℕ → ℕ → List Literal
-flagsIn bytes at count = flags (take (2 * count) (drop at bytes))
-
--- the tests of sections 2 and 3, and those of a literal's partner in sections 4 and 5
+-- the tests of sections 2 and 3, and that of a literal's partner in section 4
 abbrev pub oneTerm : (ℕ → ℕ) → Literal → Bool
 oneTerm rep l = eqb (rep (l .left)) (rep (l .right))
 
@@ -25,9 +22,6 @@ reachHeld rep reach l = reach (rep (l .left)) (rep (l .right))
 
 abbrev pub sameField : (ℕ → ℕ) → Literal → Literal → Bool
 sameField rep l m = eqb (l .left) (m .left) and eqb (rep (l .right)) (rep (m .right))
-
-abbrev pub sameNumber : Literal → Literal → Bool
-sameNumber l m = eqb (l .left) (m .left)
 
 -- the lowest negated literal that passes the test
 unfoldable pub alone : ℕ → List Literal → (Literal → Bool) → Option Line
@@ -42,10 +36,7 @@ unfoldable pub paired : ℕ → List Literal → (Literal → Literal → Bool) 
 paired k ls p =
     firstOf (λ i. firstOf (λ j. keep (negatedAt ls i (λ l. plainAt ls j (p l))) (line 9 k i j)) (from (length ls) 1)) (from (length ls) 1)
 
--- the clash in the sections that speak of terms, and the clash of the booleans, which is the same on every path
+-- the clash of a path with these representatives and this reachability
 unfoldable pub pathClash : Query → (ℕ → ℕ) → (ℕ → ℕ → Bool) → Option Line
 pathClash q rep reach =
     orElse (alone 2 (q .equalities) (oneTerm rep)) (orElse (alone 3 (q .reachability) (reachHeld rep reach)) (paired 4 (q .fields) (sameField rep)))
-
-unfoldable pub booleanClash : Query → Option Line
-booleanClash q = paired 5 (q .booleans) sameNumber

@@ -11,8 +11,8 @@ ghost use Rattle.logic.specs.Query.{decode};
 ghost use Rattle.logic.specs.Facts.{Facts, clash};
 ghost use Rattle.facts.specs.Square.{square};
 ghost use Rattle.facts.specs.Path.{repOf};
-ghost use Rattle.query.specs.LaysOut.{LaysOut, literalIn, flagIn};
-ghost use Rattle.clash.specs.Sections.{literalsIn, flagsIn, oneTerm, reachHeld, sameField, sameNumber, alone, partner, paired, pathClash, booleanClash};
+ghost use Rattle.query.specs.LaysOut.{LaysOut, literalIn};
+ghost use Rattle.clash.specs.Sections.{literalsIn, oneTerm, reachHeld, sameField, alone, partner, paired, pathClash};
 ghost use Rattle.clash.specs.Reps.{repsOf};
 ghost use Rattle.clash.specs.Answers.{placeOf, lineOf};
 
@@ -192,60 +192,7 @@ fn field_clash(query: &[u8], at: usize, count: usize, reps: &[usize; 17]) -> Cla
     Clash::Nothing
 }
 
-// Boolean literal j is plain and has this number.
-pub fn is_boolean_partner(query: &[u8], at: usize, j: usize, number: usize) -> bool
-    requires { ⌜ at + 2 * j + 2 ≤ length (now query) ⌝ }
-    ensures { λ r. ⌜ r ≡ (flagIn (now (query .entry)) at j .plain and eqb number (flagIn (now (query .entry)) at j .left)) ⌝ }
-{
-    if !query::flag_sign(query, at, j) {
-        return false;
-    }
-    number == query::flag_number(query, at, j)
-}
-
-// The lowest plain partner of boolean literal i, where that is negated.
-fn boolean_partner(query: &[u8], at: usize, count: usize, i: usize) -> Place
-    requires { ⌜ (at + 2 * count ≤ length (now query)) × (i < count) ⌝ }
-    ensures { λ r. ⌜ placeOf r ≡ partner (flagsIn (now (query .entry)) at count) sameNumber (i + 1) ⌝ }
-{
-    if query::flag_sign(query, at, i) {
-        return Place::Nothing;
-    }
-    let number = query::flag_number(query, at, i);
-    let mut j: usize = 0;
-    while j < count {
-        if is_boolean_partner(query, at, j, number) {
-            return Place::At(j + 1);
-        }
-        j += 1;
-    }
-    Place::Nothing
-}
-
-// "a .. boolean literal held plain and negated", among `count` literals at `at`
-fn flag_clash(query: &[u8], at: usize, count: usize) -> Clash
-    requires { ⌜ at + 2 * count ≤ length (now query) ⌝ }
-    ensures { λ r. ⌜ lineOf r ≡ paired 5 (flagsIn (now (query .entry)) at count) sameNumber ⌝ }
-{
-    let mut i: usize = 0;
-    while i < count {
-        if let Place::At(j) = boolean_partner(query, at, count, i) {
-            return Clash::At(5, i + 1, j);
-        }
-        i += 1;
-    }
-    Clash::Nothing
-}
-
-// The clash of the booleans: the same on every path of a query.
-pub fn boolean_clash(query: &[u8], layout: Layout) -> Clash
-    requires { ⌜ LaysOut layout (now query) ⌝ }
-    ensures { λ r. ⌜ lineOf r ≡ booleanClash (decode (now (query .entry))) ⌝ }
-{
-    flag_clash(query, layout.boolean_at, layout.boolean_count)
-}
-
-// The clash in the sections that speak of terms.
+// "Lowest section, then lowest place, is reported", by what each term was replaced by.
 pub fn path_clash(query: &[u8], layout: Layout, reps: &[usize; 17], reach: &[u32; 17]) -> Clash
     requires { ⌜ LaysOut layout (now query) ⌝ }
     ensures { λ r. ⌜ lineOf r ≡ pathClash (decode (now (query .entry))) (repsOf (now (reps .entry))) (square (now (reach .entry))) ⌝ }
@@ -265,14 +212,11 @@ pub fn path_clash(query: &[u8], layout: Layout, reps: &[usize; 17], reach: &[u32
     field_clash(query, layout.field_at, layout.field_count, reps)
 }
 
-// "Lowest section, then lowest place, is reported": the clash of every path with these representatives and this reachability.
+// The clash of every path with these representatives and this reachability.
 pub fn find_clash(query: &[u8], layout: Layout, rep: [Term; 17], reach: &[u32; 17]) -> Clash
     requires { ⌜ LaysOut layout (now query) ⌝ }
     ensures { λ r. ⌜ ((s : Facts) → s .rep ≡ repOf rep → s .graph .reach ≡ square (now (reach .entry)) → lineOf r ≡ clash (decode (now (query .entry))) s) ⌝ }
 {
     let reps = numbers(rep);
-    if let Clash::At(k, i, j) = path_clash(query, layout, &reps, reach) {
-        return Clash::At(k, i, j);
-    }
-    boolean_clash(query, layout)
+    path_clash(query, layout, &reps, reach)
 }

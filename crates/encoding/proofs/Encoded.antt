@@ -4,20 +4,22 @@ use native.Mathlib.Omega.{arith}
 use native.Mathlib.Nat.{add-zero, add-suc, suc-add, mul-one}
 use mathlib.Core.Path.{_≡_, refl, sym, ap, _∙_}
 use mathlib.Core.Bool.{Bool, true, false, not, cond}
-use mathlib.Core.List.{List, [], _∷_, _++_, append-nil, List·Memᴰ, List·Memᴰ·head, List·Memᴰ·tail}
-use mathlib.Core.Option.{Option·elim, none}
+use mathlib.Core.List.{List, [], _∷_, _++_, List·Memᴰ, List·Memᴰ·head, List·Memᴰ·tail}
+use mathlib.Core.Option.{none}
 use lib.ListN.{length, getD, length-append}
 use lib.Seq.{take-at, drop-at}
 use lib.Dec.{eqb, ltb}
 use borrow.Author.Tests.{le-leb, leb-true, eqb-true, lt-ltb}
-use Rattle.logic.specs.Search.{_and_, _or_, from, keep, orElse, firstOf, flatMap}
-use Rattle.logic.specs.Query.{Literal, Query, termCount, entryOf, namesNil, argumentOf, Role, Section, entryRole, signRole, termRole, numberRole, countRole, sections, parts, withPart, layout, rolesOf, firstByte, layoutOf, faultIn, layoutFault, roleFault, byteFault, literals, flags, section, queryOf, decode}
-use Rattle.logic.specs.Calls.{Input, layoutCheck, byteCheck, queryChecks, refusalOf}
+use Rattle.logic.specs.Search.{_and_, _or_, from, keep, orElse, flatMap}
+use Rattle.logic.specs.Query.{Literal, Query, termCount, entryOf, namesNil, argumentOf, Role, Section, entryRole, signRole, termRole, numberRole, countRole, fourSections, booleanSection, fiveSections, sections, parts, withPart, layout, rolesOf, firstByte, layoutBy, layoutOf, faultIn, layoutFault, roleFault, byteFault, literals, section, queryOf, decode}
+use Rattle.logic.specs.Calls.{Input, Check, layoutCheck, byteCheck, queryChecks, refusalOf}
 use Rattle.logic.proofs.Basics.Search.{and-left, and-right, and-intro, or-left, or-right}
 use Rattle.logic.proofs.Basics.Count.{length-from, length-flatMap}
 use Rattle.logic.proofs.Query.Bytes.{Allows, Allowed}
 use Rattle.logic.proofs.Query.Tied.{Accepted, InTerms, ToEight}
-use Rattle.encoding.specs.QueryBytes.{signByte, literalBytes, flagBytes, sectionBytes, encode, withinLimits}
+use Rattle.logic.proofs.Query.AcceptedBytes.{form-elim}
+use Rattle.logic.proofs.Calls.CallLaws.{refusalOf-clear}
+use Rattle.encoding.specs.QueryBytes.{signByte, literalBytes, sectionBytes, encode, withinLimits}
 
 -- Literals read back
 
@@ -30,14 +32,6 @@ pub literals-read : (ls : List Literal) → literals (flatMap literalBytes ls) �
 unfolding literals flatMap literalBytes
 literals-read [] = refl
 literals-read (l ∷ ls) = rw (sign-reads (l .plain), literals-read ls)
-
-pub flags-read : (ls : List Literal) → ((l : Literal) → List·Memᴰ l ls → l .right ≡ 0) → flags (flatMap flagBytes ls) ≡ ls
-unfolding flags flatMap flagBytes
-flags-read [] h = refl
-flags-read (l ∷ ls) h =
-    ap (λ (rest : List Literal). record { plain = eqb (signByte (l .plain)) 1; left = l .left; right = 0 } ∷ rest) (flags-read ls (λ x m. h x (List·Memᴰ·tail m)))
-    ∙ ap (λ (b : Bool). record { plain = b; left = l .left; right = 0 } ∷ ls) (sign-reads (l .plain))
-    ∙ ap (λ (r : ℕ). record { plain = l .plain; left = l .left; right = r } ∷ ls) (sym (h l (List·Memᴰ·head refl)))
 
 -- Layout
 
@@ -100,20 +94,10 @@ literals-allowed left right i (l ∷ ls) h =
     let here = h l (List·Memᴰ·head refl) in
     (sign-allowed (l .plain), (here .0, (here .1, literals-allowed left right (suc i) ls (λ x m. h x (List·Memᴰ·tail m)))))
 
-flags-allowed : (left : Role) (i : ℕ) (ls : List Literal) → ((l : Literal) → List·Memᴰ l ls → Allows left (l .left)) → Allowed (flatMap (λ j. signRole ∷ left ∷ []) (from (length ls) i)) (flatMap flagBytes ls)
-unfolding flatMap from flagBytes
-flags-allowed left i [] h = tt
-flags-allowed left i (l ∷ ls) h =
-    (sign-allowed (l .plain), (h l (List·Memᴰ·head refl), flags-allowed left (suc i) ls (λ x m. h x (List·Memᴰ·tail m))))
-
 -- how many bytes and roles a section has
 literal-bytes : (ls : List Literal) → length (flatMap literalBytes ls) ≡ length ls * 3
 unfolding literalBytes
 literal-bytes ls = length-flatMap literalBytes 3 (λ l. refl) ls
-
-flag-bytes : (ls : List Literal) → length (flatMap flagBytes ls) ≡ length ls * 2
-unfolding flagBytes
-flag-bytes ls = length-flatMap flagBytes 2 (λ l. refl) ls
 
 roles-sized : (f : ℕ → List Role) (w c : ℕ) → ((i : ℕ) → length (f i) ≡ w) → length (flatMap f (from c 1)) ≡ c * w
 roles-sized f w c h = length-flatMap f w h (from c 1) ∙ ap (λ (k : ℕ). k * w) (length-from c 1)
@@ -129,41 +113,41 @@ roles-none : Allowed (rolesOf [] []) []
 unfolding rolesOf
 roles-none = tt
 
+-- a section of no entries
+none-allowed : (f : ℕ → List Role) → Allowed (flatMap f (from 0 1)) []
+unfolding flatMap from
+none-allowed f = tt
+
 -- Queries
 
--- the five limits, one by one and together
+-- the four limits, one by one and together
 pub record Limits (q : Query) : Type 0 where
   pub terms : termCount q ≤ 16
   pub equalities : length (q .equalities) ≤ 60
   pub reachability : length (q .reachability) ≤ 60
   pub fields : length (q .fields) ≤ 60
-  pub booleans : length (q .booleans) ≤ 60
 
 pub limits-within : (q : Query) → Limits q → withinLimits q ≡ true
 unfolding withinLimits
 limits-within q l =
-    and-intro (and-intro (and-intro (and-intro (le-leb _ 16 (l .terms)) (le-leb _ 60 (l .equalities))) (le-leb _ 60 (l .reachability))) (le-leb _ 60 (l .fields)))
-    (le-leb _ 60 (l .booleans))
+    and-intro (and-intro (and-intro (le-leb _ 16 (l .terms)) (le-leb _ 60 (l .equalities))) (le-leb _ 60 (l .reachability))) (le-leb _ 60 (l .fields))
 
 pub within-limits : (q : Query) → withinLimits q ≡ true → Limits q
 unfolding withinLimits
 within-limits q h =
-    let four = and-left _ _ h in
-    let three = and-left _ _ four in
+    let three = and-left _ _ h in
     let two = and-left _ _ three in
     record {
       terms = leb-true _ 16 (and-left _ _ two);
       equalities = leb-true _ 60 (and-right _ _ two);
       reachability = leb-true _ 60 (and-right _ _ three);
-      fields = leb-true _ 60 (and-right _ _ four);
-      booleans = leb-true _ 60 (and-right _ _ h);
+      fields = leb-true _ 60 (and-right _ _ h);
     }
 
 -- the numbers of a query are as they should be, and it keeps the limits
 pub record Encodable (q : Query) : Type 0 where
   pub accepted : Accepted q
   pub within : withinLimits q ≡ true
-  pub booleans-right : (l : Literal) → List·Memᴰ l (q .booleans) → l .right ≡ 0
 
 module _ (q : Query) (ok : Encodable q) where
   unfoldable equal : List ℕ
@@ -175,11 +159,8 @@ module _ (q : Query) (ok : Encodable q) where
   unfoldable field : List ℕ
   field = flatMap literalBytes (q .fields)
 
-  unfoldable boolean : List ℕ
-  boolean = flatMap flagBytes (q .booleans)
-
   unfoldable tail5 : List ℕ
-  tail5 = length (q .booleans) ∷ (boolean ++ [])
+  tail5 = 0 ∷ ([] ++ [])
 
   unfoldable tail4 : List ℕ
   tail4 = length (q .fields) ∷ (field ++ tail5)
@@ -191,28 +172,26 @@ module _ (q : Query) (ok : Encodable q) where
   tail2 = length (q .equalities) ∷ (equal ++ tail3)
 
   bytes-are : encode q ≡ termCount q ∷ (q .entries ++ tail2)
-  unfolding encode sectionBytes equal reach field boolean tail5 tail4 tail3 tail2
-  bytes-are = rw (append-nil (flatMap flagBytes (q .booleans)))
+  unfolding encode sectionBytes equal reach field tail5 tail4 tail3 tail2
+  bytes-are = refl
 
   limits : Limits q
   limits = within-limits q (ok .within)
 
-  layout-are : layoutOf (encode q) ≡ parts (q .entries ∷ equal ∷ reach ∷ field ∷ boolean ∷ [])
-  unfolding layoutOf sections firstByte termCount equal reach field boolean tail5 tail4 tail3 tail2
+  layout-are : layoutOf (encode q) ≡ parts (q .entries ∷ equal ∷ reach ∷ field ∷ [] ∷ [])
+  unfolding layoutOf layoutBy sections fiveSections fourSections booleanSection firstByte termCount equal reach field tail5 tail4 tail3 tail2
   layout-are =
       ap layoutOf bytes-are
       ∙ layout-part _ _ 0 (termCount q) (q .entries) tail2 _ (limits .terms) (sym (mul-one (termCount q)))
       (layout-part _ _ _ (length (q .equalities)) equal tail3 _ (limits .equalities) (literal-bytes (q .equalities))
       (layout-part _ _ _ (length (q .reachability)) reach tail4 _ (limits .reachability) (literal-bytes (q .reachability))
       (layout-part _ _ _ (length (q .fields)) field tail5 _ (limits .fields) (literal-bytes (q .fields))
-      (layout-part _ _ _ (length (q .booleans)) boolean [] _ (limits .booleans) (flag-bytes (q .booleans)) (layout-none _)))))
+      (layout-part _ _ _ 0 [] [] _ (omega arith) refl (layout-none _)))))
 
   -- "the bytes say the query"
   pub decoded : decode (encode q) ≡ q
-  unfolding decode queryOf section equal reach field boolean
-  decoded =
-      ap queryOf layout-are
-      ∙ rw (literals-read (q .equalities), literals-read (q .reachability), literals-read (q .fields), flags-read (q .booleans) (ok .booleans-right))
+  unfolding decode queryOf section equal reach field
+  decoded = ap queryOf layout-are ∙ rw (literals-read (q .equalities), literals-read (q .reachability), literals-read (q .fields))
 
   entry-allowed : (j : ℕ) → j < length (q .entries) → Allows (entryRole (1 + j)) (getD (q .entries) j 0)
   unfolding entryRole termCount entryOf argumentOf namesNil
@@ -231,25 +210,26 @@ module _ (q : Query) (ok : Encodable q) where
   number-allowed j h checked = and-intro (lt-ltb 0 j (h .0)) (le-leb j 8 (h .1))
 
   allowed : Allowed (rolesOf (sections (firstByte (encode q))) (encode q)) (encode q)
-  unfolding sections firstByte termCount equal reach field boolean tail5 tail4 tail3 tail2
+  unfolding sections fiveSections fourSections booleanSection firstByte termCount equal reach field tail5 tail4 tail3 tail2
   allowed =
       rw bytes-are
       (section-allowed _ _ (termCount q) (q .entries) tail2 (λ i. refl) (sym (mul-one (termCount q))) (entries-allowed 1 (q .entries) entry-allowed)
       (section-allowed _ _ (length (q .equalities)) equal tail3 (λ i. refl) (literal-bytes (q .equalities)) (literals-allowed _ _ 1 (q .equalities) (λ l m. let t = ok .accepted .equal-terms l m in (term-allowed (l .left) (t .0), term-allowed (l .right) (t .1))))
       (section-allowed _ _ (length (q .reachability)) reach tail4 (λ i. refl) (literal-bytes (q .reachability)) (literals-allowed _ _ 1 (q .reachability) (λ l m. let t = ok .accepted .reach-terms l m in (term-allowed (l .left) (t .0), term-allowed (l .right) (t .1))))
       (section-allowed _ _ (length (q .fields)) field tail5 (λ i. refl) (literal-bytes (q .fields)) (literals-allowed _ _ 1 (q .fields) (λ l m. (number-allowed (l .left) (ok .accepted .field-number l m), term-allowed (l .right) (ok .accepted .field-term l m))))
-      (section-allowed _ _ (length (q .booleans)) boolean [] (λ i. refl) (flag-bytes (q .booleans)) (flags-allowed _ 1 (q .booleans) (λ l m. number-allowed (l .left) (ok .accepted .boolean-number l m))) roles-none)))))
+      (section-allowed _ _ 0 [] [] (λ i. refl) refl (none-allowed _) roles-none)))))
 
-  layout-passed : (k : ℕ) → layoutFault k (encode q) ≡ none
-  unfolding layoutFault faultIn
-  layout-passed k = rw layout-are
+  layout-passed : (k : ℕ) → layoutFault sections k (encode q) ≡ none
+  unfolding layoutFault layoutOf faultIn
+  layout-passed k = ap (faultIn k) layout-are
 
-  byte-passed : (k : ℕ) → 5 ≤ k → k ≤ 8 → byteFault k (encode q) ≡ none
+  byte-passed : (k : ℕ) → 5 ≤ k → k ≤ 8 → byteFault sections k (encode q) ≡ none
   unfolding byteFault
   byte-passed k low high = allowed-faultless 0 _ (encode q) allowed k low high
 
   -- the bytes pass the checks of every call
   pub passed : (i : Input) → i .query ≡ encode q → refusalOf queryChecks i ≡ none
-  unfolding refusalOf queryChecks layoutCheck byteCheck firstOf orElse Option·elim
+  unfolding queryChecks layoutCheck byteCheck
   passed i e =
-      rw (e, layout-passed 2, layout-passed 3, layout-passed 4, byte-passed 5 (omega arith) (omega arith), byte-passed 6 (omega arith) (omega arith), byte-passed 7 (omega arith) (omega arith), byte-passed 8 (omega arith) (omega arith))
+      refusalOf-clear queryChecks i
+      (form-elim sections (λ (c : Check). c .place i ≡ none) (λ k m. ap (layoutFault sections k) e ∙ layout-passed k) (λ k l u. ap (byteFault sections k) e ∙ byte-passed k l u))

@@ -3,21 +3,21 @@ use Prim.Native.Nat.{ℕ, zero, suc, _+_, _*_, _≤_, _<_}
 use native.Mathlib.Omega.{arith}
 use mathlib.Core.Path.{_≡_, refl, sym, ap, ap₂, _∙_, subst}
 use mathlib.Core.Bool.{Bool, true, false}
-use mathlib.Core.List.{List, [], _∷_, _++_, append-nil}
+use mathlib.Core.List.{List, [], _∷_, _++_}
 use mathlib.Core.Option.{some}
 use lib.ListN.{length, take, drop, take-append-drop}
 use lib.Seq.{length-take-le}
 use lib.Dec.{eqb, leb}
 use borrow.Author.Tests.{ltb-true, leb-true, eqb-true, eqb-false}
 use Rattle.logic.specs.Search.{from, at, flatMap}
-use Rattle.logic.specs.Query.{termCount, Role, Section, signRole, termRole, numberRole, sections, Layout, faulty, parts, withPart, layout, firstByte, layoutOf, literals, flags, section, queryOf, decode}
+use Rattle.logic.specs.Query.{termCount, Role, Section, signRole, termRole, numberRole, fourSections, booleanSection, fiveSections, sections, Layout, faulty, parts, withPart, layout, firstByte, layoutBy, layoutOf, literals, section, queryOf, decode}
 use Rattle.logic.specs.Calls.{accepts}
 use Rattle.logic.proofs.Query.Bytes.{Allows, Allowed, Part, cond-elim}
-use Rattle.encoding.specs.QueryBytes.{signByte, literalBytes, flagBytes, sectionBytes, encode}
+use Rattle.encoding.specs.QueryBytes.{signByte, literalBytes, sectionBytes, encode}
 use Rattle.encoding.proofs.Decoded.{accepted-parts}
 
 -- a sign that is allowed reads back
-sign-allowed : (s : ℕ) → Allows signRole s → signByte (eqb s 1) ≡ s
+pub sign-allowed : (s : ℕ) → Allows signRole s → signByte (eqb s 1) ≡ s
 unfolding signRole signByte
 sign-allowed s h = go (eqb s 1) refl (ltb-true s 2 (h (omega arith, omega arith)))
   where
@@ -40,26 +40,16 @@ literals-written left right (suc c) i (s ∷ a ∷ b ∷ rest) e h =
     let r = literals-written left right c (suc i) rest (omega arith) (h .1 .1 .1) in
     (ap₂ (λ (x : ℕ) (ys : List ℕ). x ∷ a ∷ b ∷ ys) (sign-allowed s (h .0)) (r .0), ap suc (r .1))
 
-flags-written : (left : Role) (c i : ℕ) (bytes : List ℕ) → length bytes ≡ c * 2 → Allowed (flatMap (λ j. signRole ∷ left ∷ []) (from c i)) bytes → (flatMap flagBytes (flags bytes) ≡ bytes) × (length (flags bytes) ≡ c)
-unfolding flatMap from flags flagBytes
-flags-written left zero i [] e h = (refl, refl)
-flags-written left zero i (s ∷ bytes) e h = absurd (omega arith)
-flags-written left (suc c) i [] e h = absurd (omega arith)
-flags-written left (suc c) i (s ∷ []) e h = absurd (omega arith)
-flags-written left (suc c) i (s ∷ a ∷ rest) e h =
-    let r = flags-written left c (suc i) rest (omega arith) (h .1 .1) in
-    (ap₂ (λ (x : ℕ) (ys : List ℕ). x ∷ a ∷ ys) (sign-allowed s (h .0)) (r .0), ap suc (r .1))
-
 -- Bytes that are laid out: each section's count, then its part
 
-data Laid : List Section → List ℕ → List (List ℕ) → Type 0 where
+pub data Laid : List Section → List ℕ → List (List ℕ) → Type 0 where
   none-left : Laid [] [] []
   one-more : {s : Section} {ss : List Section} {rest : List ℕ} {ps : List (List ℕ)} (c : ℕ) (p : List ℕ) → length p ≡ c * s .width → Laid ss rest ps → Laid (s ∷ ss) (c ∷ (p ++ rest)) (p ∷ ps)
 
 faulty-parts : {k place : ℕ} {ps : List (List ℕ)} → faulty k place ≡ parts ps → ⊥
 faulty-parts e = let z : _≡_ {A = ℕ} 0 1 = cc in omega arith
 
-laid : (ss : List Section) (place : ℕ) (bytes : List ℕ) (ps : List (List ℕ)) → layout ss place bytes ≡ parts ps → Laid ss bytes ps
+pub laid : (ss : List Section) (place : ℕ) (bytes : List ℕ) (ps : List (List ℕ)) → layout ss place bytes ≡ parts ps → Laid ss bytes ps
 unfolding layout withPart
 laid [] place [] ps e = let q : ps ≡ [] = cc in subst (Laid [] []) (sym q) none-left
 laid [] place (b ∷ bytes) ps e = absurd (faulty-parts e)
@@ -82,28 +72,30 @@ laid (s ∷ ss) place (c ∷ more) ps e =
         (subst (λ (xs : List ℕ). Laid (s ∷ ss) (c ∷ xs) (take size more ∷ qs)) (take-append-drop size more) (one-more c (take size more) (length-take-le size more fits) (behind qs r)))
 
 -- one section behind the other
-piece : {c c′ : ℕ} {p p′ rest rest′ : List ℕ} → c ≡ c′ → p ≡ p′ → rest ≡ rest′ → c ∷ (p ++ rest) ≡ c′ ∷ (p′ ++ rest′)
+pub piece : {c c′ : ℕ} {p p′ rest rest′ : List ℕ} → c ≡ c′ → p ≡ p′ → rest ≡ rest′ → c ∷ (p ++ rest) ≡ c′ ∷ (p′ ++ rest′)
 piece e f g = ap₂ (λ (x : ℕ) (xs : List ℕ). x ∷ xs) e (ap₂ (λ (x : List ℕ) (y : List ℕ). x ++ y) f g)
 
 -- the count of a section's literals, and their bytes
-literals-of : (left right : Role) (c : ℕ) (p : List ℕ) → length p ≡ c * 3 → Part (record { limit = 60; width = 3; roles = λ j. signRole ∷ left ∷ right ∷ [] }) p → (length (literals p) ≡ c) × (flatMap literalBytes (literals p) ≡ p)
+pub literals-of : (left right : Role) (c : ℕ) (p : List ℕ) → length p ≡ c * 3 → Part (record { limit = 60; excess = 3; width = 3; roles = λ j. signRole ∷ left ∷ right ∷ [] }) p → (length (literals p) ≡ c) × (flatMap literalBytes (literals p) ≡ p)
 literals-of left right c p e part = let r = literals-written left right (part .count) 1 p (part .sized) (part .allowed) in (omega (arith, r .1, part .sized, e), r .0)
 
-flags-of : (left : Role) (c : ℕ) (p : List ℕ) → length p ≡ c * 2 → Part (record { limit = 60; width = 2; roles = λ j. signRole ∷ left ∷ [] }) p → (length (flags p) ≡ c) × (flatMap flagBytes (flags p) ≡ p)
-flags-of left c p e part = let r = flags-written left (part .count) 1 p (part .sized) (part .allowed) in (omega (arith, r .1, part .sized, e), r .0)
+-- no bytes
+pub none-of : (p : List ℕ) → length p ≡ 0 → [] ≡ p
+none-of [] e = refl
+none-of (b ∷ p) e = absurd (omega arith)
 
 module _ (n : ℕ) where
   written : (bytes : List ℕ) (ps : List (List ℕ)) → Laid (sections n) bytes ps → ((i : ℕ) (s : Section) → at (sections n) (suc i) ≡ some s → Part s (section ps i)) → encode (queryOf (parts ps)) ≡ bytes
-  unfolding sections queryOf section encode sectionBytes termCount at
+  unfolding sections fiveSections fourSections booleanSection queryOf section encode sectionBytes termCount at
   written bytes ps (one-more c₁ p₁ e₁ (one-more c₂ p₂ e₂ (one-more c₃ p₃ e₃ (one-more c₄ p₄ e₄ (one-more c₅ p₅ e₅ none-left))))) part =
       let l₂ = literals-of (termRole n) (termRole n) c₂ p₂ e₂ (part 1 _ refl) in
       let l₃ = literals-of (termRole n) (termRole n) c₃ p₃ e₃ (part 2 _ refl) in
       let l₄ = literals-of numberRole (termRole n) c₄ p₄ e₄ (part 3 _ refl) in
-      let l₅ = flags-of numberRole c₅ p₅ e₅ (part 4 _ refl) in
-      piece {p = p₁} {p′ = p₁} (omega (arith, e₁)) refl (piece (l₂ .0) (l₂ .1) (piece (l₃ .0) (l₃ .1) (piece (l₄ .0) (l₄ .1) (ap₂ (λ (x : ℕ) (xs : List ℕ). x ∷ xs) (l₅ .0) (l₅ .1 ∙ sym (append-nil p₅))))))
+      let p = part 4 _ refl in
+      piece {p = p₁} {p′ = p₁} (omega (arith, e₁)) refl (piece (l₂ .0) (l₂ .1) (piece (l₃ .0) (l₃ .1) (piece (l₄ .0) (l₄ .1) (piece {p = []} {rest = []} (omega (arith, p .within, p .sized, e₅)) (none-of p₅ (omega (arith, p .within, p .sized))) refl))))
 
 pub recovered : (bytes : List ℕ) → accepts bytes ≡ true → encode (decode bytes) ≡ bytes
-unfolding decode layoutOf
+unfolding decode layoutOf layoutBy
 recovered bytes h =
     let p = accepted-parts bytes h in
     ap (λ (l : Layout). encode (queryOf l)) (p .laid) ∙ written (firstByte bytes) bytes (p .found) (laid (sections (firstByte bytes)) 0 bytes (p .found) (p .laid)) (p .part)

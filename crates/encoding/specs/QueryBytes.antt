@@ -11,27 +11,21 @@ use Rattle.logic.specs.Query.{Literal, Query, termCount}
 unfoldable pub signByte : Bool → ℕ
 signByte plain = cond plain 1 0
 
--- a literal of three bytes, and of two
+-- a literal of three bytes
 unfoldable pub literalBytes : Literal → List ℕ
 literalBytes l = signByte (l .plain) ∷ l .left ∷ l .right ∷ []
 
-unfoldable pub flagBytes : Literal → List ℕ
-flagBytes l = signByte (l .plain) ∷ l .left ∷ []
-
 -- a section's literals "after a one-byte count"
-unfoldable pub sectionBytes : (Literal → List ℕ) → List Literal → List ℕ
-sectionBytes f ls = length ls ∷ flatMap f ls
+unfoldable pub sectionBytes : List Literal → List ℕ
+sectionBytes ls = length ls ∷ flatMap literalBytes ls
 
--- "Five sections in this order, each after a one-byte count"
+-- "Five sections in this order, each after a one-byte count"; the last one's "count must now be 0" (02, R-13)
 unfoldable pub encode : Query → List ℕ
 encode q =
     (termCount q ∷ q .entries)
-    ++ (sectionBytes literalBytes (q .equalities)
-    ++ (sectionBytes literalBytes (q .reachability)
-    ++ (sectionBytes literalBytes (q .fields) ++ sectionBytes flagBytes (q .booleans))))
+    ++ (sectionBytes (q .equalities) ++ (sectionBytes (q .reachability) ++ (sectionBytes (q .fields) ++ (0 ∷ []))))
 
 -- the limits of the sections: 16 terms, 60 literals
 unfoldable pub withinLimits : Query → Bool
 withinLimits q =
     leb (termCount q) 16 and leb (length (q .equalities)) 60 and leb (length (q .reachability)) 60 and leb (length (q .fields)) 60
-    and leb (length (q .booleans)) 60

@@ -9,7 +9,7 @@ use crate::literals::Node;
 use crate::literals::Term;
 use crate::literals::booleans_at;
 use crate::literals::data_at;
-use crate::literals::flag_at;
+use crate::literals::datum_at;
 use crate::literals::is_link;
 use crate::literals::is_plain;
 use crate::literals::literal_at;
@@ -87,28 +87,26 @@ fn place_terms(query: &Room, heap: &mut Room) {
     }
 }
 
-// The data fields or booleans of a section's plain literals are set.
-fn set_flags(query: &Room, heap: &mut Room, section: usize) {
-    let count = literal_count(query, section);
+// The data fields of plain literals are set.
+fn set_fields(query: &Room, heap: &mut Room) {
+    let count = literal_count(query, 4);
     let mut i: usize = 0;
     while i < count {
-        let at = literal_at(query, section, i);
+        let at = literal_at(query, 4, i);
         if is_plain(query, at) {
-            let flag = flag_at(query, heap, section, at);
-            put(heap, flag, byte(heap, flag) | bit(byte(query, at + 1)));
+            let datum = datum_at(query, heap, at);
+            put(heap, datum, byte(heap, datum) | bit(byte(query, at + 1)));
         }
         i += 1;
     }
 }
 
-// The rest follows from the links and the variables' nodes: the other terms, and the least data and booleans that meet
-// the plain literals.
+// The rest follows from the links and the variables' nodes: the other terms, and the least data that meet the plain literals.
 pub fn complete(query: &Room, heap: &mut Room) {
     place_terms(query, heap);
     fill(heap, data_at(heap, Node(1)), node_count(heap), 0);
     put(heap, booleans_at(heap), 0);
-    set_flags(query, heap, 4);
-    set_flags(query, heap, 5);
+    set_fields(query, heap);
 }
 
 // Some heap of m nodes meets every literal: with 4 nodes and 4 variables there are 65,536 choices.

@@ -1,5 +1,5 @@
 // What a query's literals say of a heap. A heap is the bytes of a report: a count and successors, a count and nodes, a
-// count and data bytes, a count and the booleans. Sections have the numbers of 01, 2 to 5.
+// count and data bytes, a count and the byte of booleans, 0 (02, R-13). Sections have the numbers of 01, 2 to 4.
 use crate::bytes::Room;
 use crate::bytes::bit;
 use crate::bytes::byte;
@@ -24,7 +24,7 @@ pub fn is_link(query: &Room, t: usize) -> bool {
     !((byte(query, t) == 0) | names_nil(query, t))
 }
 
-// The place of a section's count: sections 2 to 4 have literals of three bytes.
+// The place of a section's count: literals have three bytes.
 pub fn section_at(query: &Room, section: usize) -> usize
     ensures { λ r. ⌜ r < 3000 ⌝ }
 {
@@ -36,11 +36,7 @@ pub fn section_at(query: &Room, section: usize) -> usize
     if section == 3 {
         return reachability;
     }
-    let data = reachability + 1 + 3 * byte(query, reachability);
-    if section == 4 {
-        return data;
-    }
-    data + 1 + 3 * byte(query, data)
+    reachability + 1 + 3 * byte(query, reachability)
 }
 
 pub fn literal_count(query: &Room, section: usize) -> usize
@@ -54,12 +50,7 @@ pub fn literal_at(query: &Room, section: usize, i: usize) -> usize
     requires { ⌜ i < 256 ⌝ }
     ensures { λ r. ⌜ r < 4000 ⌝ }
 {
-    let first = section_at(query, section) + 1;
-    if section == 5 {
-        first + 2 * i
-    } else {
-        first + 3 * i
-    }
+    section_at(query, section) + 1 + 3 * i
 }
 
 pub fn node_count(heap: &Room) -> usize
@@ -123,14 +114,11 @@ fn is_set(heap: &Room, at: usize, j: usize) -> bool {
     byte(heap, at) & bit(j) != 0
 }
 
-// The place of the data byte or the booleans' byte that the literal at a place speaks of.
-pub fn flag_at(query: &Room, heap: &Room, section: usize, at: usize) -> usize
+// The place of the data byte that the data literal at a place speaks of.
+pub fn datum_at(query: &Room, heap: &Room, at: usize) -> usize
     requires { ⌜ at < 4000 ⌝ }
 {
-    if section == 4 {
-        return data_at(heap, node_of(heap, Term(byte(query, at + 2))));
-    }
-    booleans_at(heap)
+    data_at(heap, node_of(heap, Term(byte(query, at + 2))))
 }
 
 // What the literal at a place says is so, its sign left aside.
@@ -139,7 +127,7 @@ fn is_so(query: &Room, heap: &Room, section: usize, at: usize) -> bool
 {
     let first = byte(query, at + 1);
     if section >= 4 {
-        return is_set(heap, flag_at(query, heap, section, at), first);
+        return is_set(heap, datum_at(query, heap, at), first);
     }
     let a = node_of(heap, Term(first));
     let b = node_of(heap, Term(byte(query, at + 2)));
@@ -191,7 +179,7 @@ pub fn literals_hold(query: &Room, heap: &Room) -> bool {
         return false;
     }
     let mut section: usize = 2;
-    while section < 6 {
+    while section < 5 {
         if !section_holds(query, heap, section) {
             return false;
         }

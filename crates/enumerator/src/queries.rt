@@ -67,16 +67,13 @@ fn sign(seed: &mut u64) -> usize {
     if pick(seed, 3) == 0 { 0 } else { 1 }
 }
 
-// One literal: its sign, a number up to `first`, and, if `second` is not 0, a number up to `second`.
+// One literal: its sign, a number up to `first`, and a number up to `second`.
 fn add_literal(seed: &mut u64, query: &mut Room, at: usize, first: usize, second: usize) -> usize
     requires { ⌜ first < 10 ⌝ }
     requires { ⌜ second < 10 ⌝ }
 {
     let signed = add(query, at, sign(seed));
     let named = add(query, signed, number(seed, first));
-    if second == 0 {
-        return named;
-    }
     add(query, named, number(seed, second))
 }
 
@@ -119,7 +116,7 @@ fn literals(seed: &mut u64, n: usize, below: usize) -> usize
     if n == 0 { 0 } else { count }
 }
 
-// A random query with up to 4 terms, 2 equalities, 4 reachability literals, 2 data literals and 2 booleans.
+// A random query with up to 4 terms, 2 equalities, 4 reachability literals and 2 data literals.
 fn random_query(seed: &mut u64) -> Query {
     let mut bytes: Room = [0; 64];
     let n = (pick(seed, 16) + 3) / 4;
@@ -130,8 +127,7 @@ fn random_query(seed: &mut u64) -> Query {
     let reachability_end = add_section(seed, &mut bytes, equalities_end, reachability, n, n);
     let data = literals(seed, n, 3);
     let data_end = add_section(seed, &mut bytes, reachability_end, data, 2, n);
-    let booleans = pick(seed, 3);
-    let length = add_section(seed, &mut bytes, data_end, booleans, 2, 0);
+    let length = add(&mut bytes, data_end, 0);
     Query { bytes, length }
 }
 

@@ -48,7 +48,7 @@ fn is_same(a: &Room, b: &Room) -> bool {
     true
 }
 
-// A term that is f of an earlier one is at that one's successor, and data and booleans are set exactly by plain literals.
+// A term that is f of an earlier one is at that one's successor, and data are set exactly by plain literals.
 fn is_complete(query: &Room, report: &Room) -> bool {
     let mut heap = *report;
     complete(query, &mut heap);

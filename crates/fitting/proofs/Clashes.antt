@@ -17,7 +17,7 @@ use Rattle.facts.specs.declared.Facts as code
 use Rattle.query.specs.declared.Layout.{Layout}
 use Rattle.query.specs.LaysOut.{LaysOut}
 use Rattle.query.proofs.Literals.{listed, listed-length}
-use Rattle.clash.specs.Sections.{literalsIn, flagsIn, oneTerm, reachHeld, sameField, sameNumber}
+use Rattle.clash.specs.Sections.{literalsIn, oneTerm, reachHeld, sameField}
 use Rattle.clash.specs.Reps.{repsOf}
 use Rattle.clash.proofs.Sections.{negated-at, plain-at}
 
@@ -85,7 +85,7 @@ module _ (f : ℕ → Literal) (count : ℕ) (ls : List Literal) (are : ls ≡ l
     pair-here e d′ h′ =
         sym (plain-here j (p (f (i - 1))) d′ h′) ∙ sym (ap (λ (b : Bool). not b and plainAt ls j (p (f (i - 1)))) e) ∙ negated-here i (λ l. plainAt ls j (p l)) d h
 
--- The four sections of a clash line
+-- The three sections of a clash line
 
 or-false : (b : Bool) → (b or false) ≡ b
 unfolding _or_
@@ -98,29 +98,25 @@ module _ (q : Query) (s : Facts) (section i j : ℕ) where
 
   in-fields : section ≡ 4 → negatedAt (q .fields) i (λ l. plainAt (q .fields) j (sameField (s .rep) l)) ≡ clashes
   unfolding isClash _and_ _or_
-  in-fields e = sym (rw e (or-false _))
-
-  in-booleans : section ≡ 5 → negatedAt (q .booleans) i (λ l. plainAt (q .booleans) j (sameNumber l)) ≡ clashes
-  unfolding isClash _and_ _or_
-  in-booleans e = sym (rw e refl)
+  in-fields e = sym (rw e refl)
 
   in-equalities : section ≡ 2 → j ≡ 0 → negatedAt (q .equalities) i (oneTerm (s .rep)) ≡ clashes
   unfolding isClash _and_ _or_
-  in-equalities e f = sym (rw (e, f) (or-false _ ∙ or-false _ ∙ or-false _))
+  in-equalities e f = sym (rw (e, f) (or-false _ ∙ or-false _))
 
   in-reachability : section ≡ 3 → j ≡ 0 → negatedAt (q .reachability) i (reachHeld (s .rep) (s .graph .reach)) ≡ clashes
   unfolding isClash _and_ _or_
-  in-reachability e f = sym (rw (e, f) (or-false _ ∙ or-false _))
+  in-reachability e f = sym (rw (e, f) (or-false _))
 
-  pub in-none : (section ≡ 4 → ⊥) → (section ≡ 5 → ⊥) → (section ≡ 2 → ⊥) → (section ≡ 3 → ⊥) → false ≡ clashes
+  pub in-none : (section ≡ 4 → ⊥) → (section ≡ 2 → ⊥) → (section ≡ 3 → ⊥) → false ≡ clashes
   unfolding isClash _and_ _or_
-  in-none a b c d = sym (rw (ne-eqb section 4 a, ne-eqb section 5 b, ne-eqb section 2 c, ne-eqb section 3 d) refl)
+  in-none a c d = sym (rw (ne-eqb section 4 a, ne-eqb section 2 c, ne-eqb section 3 d) refl)
 
-  pub in-partnered : (section ≡ 4 → ⊥) → (section ≡ 5 → ⊥) → (j ≡ 0 → ⊥) → false ≡ clashes
+  pub in-partnered : (section ≡ 4 → ⊥) → (j ≡ 0 → ⊥) → false ≡ clashes
   unfolding isClash _and_ _or_
-  in-partnered a b c = sym (rw (ne-eqb section 4 a, ne-eqb section 5 b, ne-eqb j 0 c) (table (eqb section 2) (eqb section 3) _ _))
+  in-partnered a c = sym (rw (ne-eqb section 4 a, ne-eqb j 0 c) (table (eqb section 2) (eqb section 3) _ _))
     where
-      table : (a b x y : Bool) → (((((a and false) and x) or ((b and false) and y)) or false) or false) ≡ false
+      table : (a b x y : Bool) → ((((a and false) and x) or ((b and false) and y)) or false) ≡ false
       table true true x y = refl
       table true false x y = refl
       table false true x y = refl
@@ -137,11 +133,6 @@ module _ (l : Layout) (bytes : List ℕ) (laid : LaysOut l bytes) (s : code.Fact
       h ∙ ap (λ (ls : List Literal). negatedAt ls i (λ x. plainAt ls j (sameField (repsOf reps) x))) (sym (laid .field-are))
       ∙ ap (λ (rep : ℕ → ℕ). negatedAt (decode bytes .fields) i (λ x. plainAt (decode bytes .fields) j (sameField rep x))) same
       ∙ in-fields (decode bytes) (pathOf s) section i j e
-
-  pub clash-booleans : (v : Bool) → v ≡ negatedAt (flagsIn bytes (l .«boolean_at») (l .«boolean_count»)) i (λ x. plainAt (flagsIn bytes (l .«boolean_at») (l .«boolean_count»)) j (sameNumber x)) → section ≡ 5 → v ≡ Clashes
-  clash-booleans v h e =
-      h ∙ ap (λ (ls : List Literal). negatedAt ls i (λ x. plainAt ls j (sameNumber x))) (sym (laid .boolean-are))
-      ∙ in-booleans (decode bytes) (pathOf s) section i j e
 
   pub clash-equalities : (v : Bool) → v ≡ negatedAt (literalsIn bytes (l .«equal_at») (l .«equal_count»)) i (oneTerm (repsOf reps)) → section ≡ 2 → j ≡ 0 → v ≡ Clashes
   unfolding pathOf

@@ -18,7 +18,7 @@ ghost use Rattle.query.specs.LaysOut.{LaysOut};
 ghost use Rattle.rules.specs.Answers.{kindOf};
 ghost use Rattle.rules.specs.Tests.{pairTest, thirdTest, looped};
 ghost use Rattle.rules.specs.Smallest.{allowed};
-ghost use Rattle.clash.specs.Sections.{literalsIn, flagsIn, oneTerm, reachHeld, sameField, sameNumber};
+ghost use Rattle.clash.specs.Sections.{literalsIn, oneTerm, reachHeld, sameField};
 ghost use Rattle.clash.specs.Reps.{repsOf};
 
 // The fact about a and b is held; a number above 16 has none.
@@ -194,30 +194,6 @@ fn is_field_clash(
     clash::is_field_partner(query, at, j - 1, reps, field, term)
 }
 
-// Boolean literal i, from 1, is negated, and literal j is a plain one of the same number.
-fn is_boolean_clash(query: &[u8], at: usize, count: usize, i: usize, j: usize) -> bool
-    requires { ⌜ at + 2 * count ≤ length (now query) ⌝ }
-    ensures { λ r. ⌜ r ≡ negatedAt (flagsIn (now (query .entry)) at count) i (λ l. plainAt (flagsIn (now (query .entry)) at count) j (sameNumber l)) ⌝ }
-{
-    if i == 0 {
-        return false;
-    }
-    if count < i {
-        return false;
-    }
-    if query::flag_sign(query, at, i - 1) {
-        return false;
-    }
-    if j == 0 {
-        return false;
-    }
-    if count < j {
-        return false;
-    }
-    let number = query::flag_number(query, at, i - 1);
-    clash::is_boolean_partner(query, at, j - 1, number)
-}
-
 // The clash line 9, section, i, j is a true one at the path.
 pub fn is_clash(query: &[u8], layout: Layout, s: Facts, section: usize, i: usize, j: usize) -> bool
     requires { ⌜ LaysOut layout (now query) ⌝ }
@@ -227,9 +203,6 @@ pub fn is_clash(query: &[u8], layout: Layout, s: Facts, section: usize, i: usize
     let reps = clash::numbers(rep);
     if section == 4 {
         return is_field_clash(query, layout.field_at, layout.field_count, &reps, i, j);
-    }
-    if section == 5 {
-        return is_boolean_clash(query, layout.boolean_at, layout.boolean_count, i, j);
     }
     if j != 0 {
         return false;

@@ -1,14 +1,12 @@
 -- What is claimed of the formula call's answer, on every input. Assumes nothing.
-use Prim.Native.Nat.{ℕ, zero, suc, _≤_}
+use Prim.Native.Nat.{ℕ, _≤_}
 use native.Mathlib.Omega.{arith}
 use mathlib.Core.Path.{_≡_, refl, sym, ap, _∙_, subst}
-use mathlib.Core.List.{List, [], _∷_}
-use mathlib.Core.Option.{some}
+use mathlib.Core.List.{List}
 use lib.ListN.{length, replicate, length-replicate}
-use Rattle.logic.specs.Search.{at}
 use Rattle.logic.specs.Query.{Query, decode}
-use Rattle.logic.proofs.Basics.Search.{none-some}
 use Rattle.logic.proofs.Calls.Demands.{demand1}
+use Rattle.encoding.proofs.Decoded.{at-within}
 use Rattle.formula.specs.Grammar.{Formula, disjunction, Reads}
 use Rattle.formula.specs.Expansion.{Conjunction, expand}
 use Rattle.formula.specs.Call.{Input, Answer, refused, refuted, conjunction, queryOf, verdictOn, formulaCall}
@@ -18,15 +16,6 @@ use Rattle.formula.proofs.Complete as complete
 use Rattle.formula.proofs.RefusalClaims.{refusal-claims}
 use Rattle.formula.proofs.Conjunctions.{conjunction-claims}
 use Rattle.formula.proofs.Answers.{never-refused, answer-claims}
-
--- a number names an element of a list
-at-placed : {A : Type 0} (xs : List A) (k : ℕ) (x : A) → at xs k ≡ some x → (1 ≤ k) × (k ≤ length xs)
-unfolding at
-at-placed [] zero x e = absurd (none-some e)
-at-placed [] (suc k) x e = absurd (none-some e)
-at-placed (y ∷ xs) zero x e = absurd (none-some e)
-at-placed (y ∷ xs) (suc zero) x e = (omega arith, omega arith)
-at-placed (y ∷ xs) (suc (suc k)) x e = let r = at-placed xs (suc k) x e in (omega arith, omega (arith, r .1))
 
 refused-conjunction : {k place n : ℕ} → refused k place ≡ conjunction n → ⊥
 refused-conjunction e = let z : _≡_ {A = ℕ} 0 1 = cc in omega arith
@@ -46,7 +35,7 @@ module _ (i : Input) where
   numbered k h =
       let (f, t) = taken (conjunction k) h (λ j place e. refused-conjunction (sym e)) in
       let s = answers f t .first-exactly k .0 h in
-      let r = at-placed (expand f) k (s .first) (s .numbered) in
+      let r = at-within (expand f) k (s .first) (s .numbered) in
       (r .0, omega (arith, r .1, t .few))
 
   zeros : formulaCall i .lent ≡ replicate (i .room) 0 → length (formulaCall i .lent) ≡ i .room

@@ -19,13 +19,13 @@ use Rattle.logic.proofs.Calls.CheckingOrder.{first-stands}
 use Rattle.logic.proofs.Calls.CallLaws.{refusalOf-none, accepts-checks, derivation-known, verdict-clear, verdict-passed}
 use Rattle.logic.proofs.Calls.Demands.{demand1, demand2}
 use Rattle.encoding.proofs.Encoded.{Encodable, decoded}
-use Rattle.encoding.proofs.Decoded.{accepted-encodable, part-encodable, encoded-accepts}
+use Rattle.encoding.proofs.Decoded.{accepted-encodable, part-encodable, encoded-accepts, at-own}
 use Rattle.formula.specs.Grammar.{Formula}
 use Rattle.formula.specs.Expansion.{Conjunction, expand}
 use Rattle.formula.specs.Meaning.{MeetsFormula, present, AllPresent, restricted}
 use Rattle.formula.specs.Call.{Input, Outcome, Answer, refused, refuted, conjunction, blank, queryOf, verdictOn, isSatisfiable, firstOf}
 use Rattle.formula.specs.AnswerClaims.{SatisfiableFormula, FirstSatisfiable, ShowsFormula, AnswerClaims}
-use Rattle.formula.proofs.Conjunctions.{holds-some, some-holds, all-named, at-own, restricted-part, meets-bare, meets-named, named-meets}
+use Rattle.formula.proofs.Conjunctions.{holds-some, some-holds, all-named, restricted-part, meets-bare, meets-named, named-meets}
 
 -- Answers of different kinds differ.
 

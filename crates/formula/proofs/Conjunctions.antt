@@ -14,7 +14,7 @@ use Rattle.logic.specs.Search.{_and_, at}
 use Rattle.logic.specs.Query.{Literal, Query}
 use Rattle.logic.specs.Heap.{Heap, Meets, Each}
 use Rattle.logic.proofs.Basics.Search.{none-some, and-left, and-right, and-intro, any-true, any-intro, flatMap-mem, flatMap-intro, map-mem, map-intro}
-use Rattle.encoding.proofs.Decoded.{Fewer, Part-of}
+use Rattle.encoding.proofs.Decoded.{at-own, Fewer, Part-of}
 use Rattle.formula.specs.Grammar.{Letter, E, R, D, B, letterByte, Formula, literal, both, either}
 use Rattle.formula.specs.Expansion.{Name, Conjunction, expand}
 use Rattle.formula.specs.Meaning.{literalsOf, Means, Holds, bare, present, AllPresent, names, chosen, restricted}
@@ -87,14 +87,6 @@ mem-names c x m =
 -- Elements at chosen places
 
 module _ {A : Type 0} where
-  pub at-own : (xs : List A) (k : ℕ) (x : A) → at xs k ≡ some x → List·Memᴰ x xs
-  unfolding at
-  at-own [] zero x e = absurd (none-some e)
-  at-own [] (suc k) x e = absurd (none-some e)
-  at-own (y ∷ xs) zero x e = absurd (none-some e)
-  at-own (y ∷ xs) (suc zero) x e = let q : x ≡ y = cc in List·Memᴰ·head q
-  at-own (y ∷ xs) (suc (suc k)) x e = List·Memᴰ·tail (at-own xs (suc k) x e)
-
   at-there : (xs : List A) (k : ℕ) → 1 ≤ k → k ≤ length xs → (x : A) × (at xs k ≡ some x)
   unfolding at
   at-there xs zero l u = absurd (omega arith)
@@ -148,7 +140,6 @@ restricted-part q c =
       equalities = chosen-fewer (names c E) (q .equalities);
       reachability = chosen-fewer (names c R) (q .reachability);
       fields = chosen-fewer (names c D) (q .fields);
-      booleans = chosen-fewer (names c B) (q .booleans);
     }
 
 -- What a conjunction's query means
@@ -178,11 +169,11 @@ module _ (h : Heap) (q : Query) (c : Conjunction) where
       (x, own, a x (chosen-intro (names c l) 1 (literalsOf q l) x n (ap (names c l) place ∙ e) own))
 
   section-of : Meets h (restricted q c) → (l : Letter) → Section l
-  unfolding restricted
+  unfolding restricted chosen
   section-of m E = m .equalities
   section-of m R = m .reachability
   section-of m D = m .fields
-  section-of m B = m .booleans
+  section-of m B = λ l k. absurd (List·Memᴰ·not-nil k)
 
   pub meets-bare : Meets h (restricted q c) → Meets h (bare q)
   unfolding restricted bare
@@ -193,7 +184,6 @@ module _ (h : Heap) (q : Query) (c : Conjunction) where
         equalities = λ l k. absurd (List·Memᴰ·not-nil k);
         reachability = λ l k. absurd (List·Memᴰ·not-nil k);
         fields = λ l k. absurd (List·Memᴰ·not-nil k);
-        booleans = λ l k. absurd (List·Memᴰ·not-nil k);
       }
 
   pub meets-named : ((x : Name) → List·Memᴰ x c → present q (x .letter) (x .place) ≡ true) → Meets h (restricted q c) → HoldsAll h q c
@@ -208,7 +198,6 @@ module _ (h : Heap) (q : Query) (c : Conjunction) where
         equalities = section-meant E a;
         reachability = section-meant R a;
         fields = section-meant D a;
-        booleans = section-meant B a;
       }
 
 pub conjunction-claims : (q : Query) (f : Formula) → AllPresent (present q) f → ConjunctionClaims q f

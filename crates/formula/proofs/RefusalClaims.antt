@@ -5,15 +5,14 @@ use borrow.Author.Tests.{ltb-true, ltb-false, lt-ltb, le-ltb}
 use mathlib.Core.Path.{_≡_, refl, sym, ap, ap₂, _∙_, subst}
 use mathlib.Core.Logic.{_⊎_, ⊎-elim, inl, inr, _↔_}
 use mathlib.Core.Bool.{Bool, true, false, cond}
-use mathlib.Core.List.{List, [], _∷_}
+use mathlib.Core.List.{List, [], _∷_, List·Memᴰ}
 use mathlib.Core.Option.{Option, none, some, Option·elim}
 use lib.ListN.{length, replicate}
 use lib.Dec.{ltb}
-use Rattle.logic.specs.Search.{_and_, all}
-use Rattle.logic.specs.Calls.{orderCheck, layoutCheck, byteCheck, roomCheck, queryChecks, verdictChecks, refusalOf}
+use Rattle.logic.specs.Calls.{verdictChecks, refusalOf}
 use Rattle.logic.specs.Calls as calls
-use Rattle.logic.specs.Demands.{FirstStands}
-use Rattle.logic.proofs.Calls.CheckingOrder.{ascends, refusal-first, first-stands, check-numbered}
+use Rattle.logic.specs.Demands.{FirstStands, numbers}
+use Rattle.logic.proofs.Calls.CheckingOrder.{refusal-first, first-stands, Early, verdict-early}
 use Rattle.logic.proofs.Calls.CheckingOrder as checking
 use Rattle.logic.proofs.Calls.CallLaws.{refusalOf-none}
 use Rattle.formula.specs.Grammar.{Formula}
@@ -36,16 +35,15 @@ refuted-refused e = let z : _≡_ {A = ℕ} 0 1 = cc in omega arith
 conjunction-refused : {n k p : ℕ} → conjunction n ≡ refused k p → ⊥
 conjunction-refused e = let z : _≡_ {A = ℕ} 0 1 = cc in omega arith
 
--- The checks 1 to 9
+-- The verdict call's checks, whose numbers are none of 17 to 19
 
-verdict-ascends : ascends verdictChecks ≡ true
-unfolding ascends verdictChecks queryChecks orderCheck layoutCheck byteCheck roomCheck all _and_
-verdict-ascends = refl
-
-first-numbered : (i : calls.Input) (k p : ℕ) → FirstStands verdictChecks i k p → (1 ≤ k) × (k ≤ 9)
-first-numbered i k p f = subst (λ (n : ℕ). (1 ≤ n) × (n ≤ 9)) (f .numbered) (check-numbered (f .check) (f .own))
+not-early : (j k : ℕ) → Early j → j ≡ k → 17 ≤ k → k ≤ 19 → ⊥
+not-early j k r e l u = ⊎-elim (λ (low : j ≤ 9). omega arith) (λ (high : j ≡ 26). omega arith) (r .1)
 
 module _ (i : Input) where
+  check-early : (k p : ℕ) → FirstStands verdictChecks (checked i) k p → Early k
+  check-early k p f = verdict-early k (checking.first-numbered verdictChecks (checked i) k p f)
+
   passed-none : Passed i → (k p : ℕ) → FirstStands verdictChecks (checked i) k p → ⊥
   passed-none h k p f = first-stands verdictChecks (checked i) k p (refusalOf-none verdictChecks (checked i) h) f
 
@@ -125,7 +123,7 @@ module _ (i : Input) where
 
       at-checks : (o : Option calls.Answer) → refusalOf verdictChecks (checked i) ≡ o → Case
       at-checks none h = at-length h (ltb 512 (length (i .text))) refl
-      at-checks (some a) h = let (k, p, f, e) = refusal-first verdictChecks (checked i) verdict-ascends a h in by-check k p f (checks-stand k p (h ∙ ap some e))
+      at-checks (some a) h = let (k, p, f, e) = refusal-first verdictChecks (checked i) a h in by-check k p f (checks-stand k p (h ∙ ap some e))
 
   -- what a refusal leaves
   answer-of : (a : Answer) → formulaCall i ≡ blank (i .room) a → formulaCall i .answer ≡ a
@@ -152,18 +150,21 @@ module _ (i : Input) where
   fault-bounds : (k p : ℕ) → FirstFault (presentIn i) (i .text) k p → (17 ≤ k) × (k ≤ 18)
   fault-bounds k p f = ⊎-elim (λ (e : k ≡ 17). (omega arith, omega arith)) (λ e. (omega arith, omega arith)) (fault-numbered k p f)
 
-  checks-first : (k p : ℕ) → k < 17 → (formulaCall i .answer ≡ refused k p) ↔ FirstStands verdictChecks (checked i) k p
-  checks-first k p l = (λ h. there h cases, λ f. back f cases)
+  checks-first : (k p : ℕ) → List·Memᴰ k (numbers verdictChecks) → (formulaCall i .answer ≡ refused k p) ↔ FirstStands verdictChecks (checked i) k p
+  checks-first k p own = (λ h. there h cases, λ f. back f cases)
     where
+      late : (j : ℕ) → j ≡ k → 17 ≤ j → j ≤ 19 → ⊥
+      late j e l u = not-early k j (verdict-early k own) (sym e) l u
+
       there : formulaCall i .answer ≡ refused k p → Case → FirstStands verdictChecks (checked i) k p
       there h (by-check j q f e) = let s = agree j k q p h e in subst (λ (n : ℕ). FirstStands verdictChecks (checked i) n p) (s .0) (subst (FirstStands verdictChecks (checked i) j) (s .1) f)
-      there h (by-length o m e) = absurd (omega (arith, l, agree 17 k 512 p h e .0))
-      there h (by-fault o m j q f e) = absurd (omega (arith, l, agree j k q p h e .0, fault-bounds j q f .0))
-      there h (by-number o m f a n e) = absurd (omega (arith, l, agree 19 k 0 p h e .0))
+      there h (by-length o m e) = absurd (late 17 (agree 17 k 512 p h e .0) (omega arith) (omega arith))
+      there h (by-fault o m j q f e) = absurd (late j (agree j k q p h e .0) (fault-bounds j q f .0) (omega (arith, fault-bounds j q f .1)))
+      there h (by-number o m f a n e) = absurd (late 19 (agree 19 k 0 p h e .0) (omega arith) (omega arith))
       there h (by-search f t e) = absurd (not-searched f k p e h)
 
       back : FirstStands verdictChecks (checked i) k p → Case → formulaCall i .answer ≡ refused k p
-      back f (by-check j q g e) = let s = checking.first-unique verdictChecks (checked i) verdict-ascends j q k p g f in answer-of (refused j q) e ∙ ap₂ refused (s .0) (s .1)
+      back f (by-check j q g e) = let s = checking.first-unique verdictChecks (checked i) j q k p g f in answer-of (refused j q) e ∙ ap₂ refused (s .0) (s .1)
       back f (by-length o m e) = absurd (passed-none o k p f)
       back f (by-fault o m j q g e) = absurd (passed-none o k p f)
       back f (by-number o m g a n e) = absurd (passed-none o k p f)
@@ -173,7 +174,7 @@ module _ (i : Input) where
   refused-17 p = (λ h. there h cases, λ h. back (h .0) (h .1))
     where
       there : formulaCall i .answer ≡ refused 17 p → Case → Passed i × (((512 < length (i .text)) × (p ≡ 512)) ⊎ ((length (i .text) ≤ 512) × FirstFault (presentIn i) (i .text) 17 p))
-      there h (by-check j q f e) = absurd (omega (arith, agree j 17 q p h e .0, first-numbered (checked i) j q f .1))
+      there h (by-check j q f e) = absurd (not-early j 17 (check-early j q f) (agree j 17 q p h e .0) (omega arith) (omega arith))
       there h (by-length o m e) = (o, inl (m, sym (agree 17 17 512 p h e .1)))
       there h (by-fault o m j q f e) = (o, inr (m, moved j 17 q p (agree j 17 q p h e) f))
       there h (by-number o m f a n e) = absurd (omega (arith, agree 19 17 0 p h e .0))
@@ -186,7 +187,7 @@ module _ (i : Input) where
   refused-18 p = (λ h. there h cases, λ h. answer-of (refused 18 p) (checks-pass (h .0) ∙ short-enough (h .1) ∙ faulty 18 p (h .2)))
     where
       there : formulaCall i .answer ≡ refused 18 p → Case → Passed i × (length (i .text) ≤ 512) × FirstFault (presentIn i) (i .text) 18 p
-      there h (by-check j q f e) = absurd (omega (arith, agree j 18 q p h e .0, first-numbered (checked i) j q f .1))
+      there h (by-check j q f e) = absurd (not-early j 18 (check-early j q f) (agree j 18 q p h e .0) (omega arith) (omega arith))
       there h (by-length o m e) = absurd (omega (arith, agree 17 18 512 p h e .0))
       there h (by-fault o m j q f e) = (o, m, moved j 18 q p (agree j 18 q p h e) f)
       there h (by-number o m f a n e) = absurd (omega (arith, agree 19 18 0 p h e .0))
@@ -196,17 +197,17 @@ module _ (i : Input) where
   refused-19 p = (λ h. there h cases, λ h. let (f, a, n) = h .2 in answer-of (refused 19 0) (checks-pass (h .0) ∙ short-enough (h .1) ∙ read-as f a ∙ too-many f n) ∙ ap (refused 19) (sym (h .3)))
     where
       there : formulaCall i .answer ≡ refused 19 p → Case → Passed i × (length (i .text) ≤ 512) × ((f : Formula) × Accepted (presentIn i) (i .text) f × (64 < length (expand f))) × (p ≡ 0)
-      there h (by-check j q f e) = absurd (omega (arith, agree j 19 q p h e .0, first-numbered (checked i) j q f .1))
+      there h (by-check j q f e) = absurd (not-early j 19 (check-early j q f) (agree j 19 q p h e .0) (omega arith) (omega arith))
       there h (by-length o m e) = absurd (omega (arith, agree 17 19 512 p h e .0))
       there h (by-fault o m j q f e) = absurd (omega (arith, agree j 19 q p h e .0, fault-bounds j q f .1))
       there h (by-number o m f a n e) = (o, m, (f, a, n), sym (agree 19 19 0 p h e .1))
       there h (by-search f t e) = absurd (not-searched f 19 p e h)
 
-  refusal-numbered : (k p : ℕ) → formulaCall i .answer ≡ refused k p → ((1 ≤ k) × (k ≤ 9)) ⊎ ((17 ≤ k) × (k ≤ 19))
+  refusal-numbered : (k p : ℕ) → formulaCall i .answer ≡ refused k p → List·Memᴰ k (numbers verdictChecks) ⊎ ((17 ≤ k) × (k ≤ 19))
   refusal-numbered k p h = by cases
     where
-      by : Case → ((1 ≤ k) × (k ≤ 9)) ⊎ ((17 ≤ k) × (k ≤ 19))
-      by (by-check j q f e) = inl (subst (λ (n : ℕ). (1 ≤ n) × (n ≤ 9)) (agree j k q p h e .0) (first-numbered (checked i) j q f))
+      by : Case → List·Memᴰ k (numbers verdictChecks) ⊎ ((17 ≤ k) × (k ≤ 19))
+      by (by-check j q f e) = inl (subst (λ (n : ℕ). List·Memᴰ n (numbers verdictChecks)) (agree j k q p h e .0) (checking.first-numbered verdictChecks (checked i) j q f))
       by (by-length o m e) = let s = agree 17 k 512 p h e .0 in inr (omega arith, omega arith)
       by (by-fault o m j q f e) =
           let s = agree j k q p h e .0 in

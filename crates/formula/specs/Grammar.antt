@@ -7,7 +7,8 @@ use lib.Dec.{eqb}
 use Rattle.logic.specs.Search.{_and_, all}
 use Rattle.text.specs.Text.{isDigit}
 
--- "its literals, E, R, D or B with a place from 1": an equality, a reachability literal, a data literal, a boolean literal
+-- "its literals, E, R, D or B with a place from 1": an equality, a reachability literal, a data literal; a boolean literal is one that no
+-- query has any more (02, R-13)
 pub data Letter : Type 0 where
   E R D B : Letter
 

@@ -9,22 +9,23 @@ use lib.Dec.{eqb, leb}
 use lib.ListN.{length}
 use Rattle.logic.specs.Search.{_and_, any, at}
 use Rattle.logic.specs.Query.{Literal, Query}
-use Rattle.logic.specs.Heap.{Heap, Meets, MeansEqual, MeansReach, MeansField, MeansBoolean}
+use Rattle.logic.specs.Heap.{Heap, Meets, MeansEqual, MeansReach, MeansField}
 use Rattle.formula.specs.Grammar.{Letter, E, R, D, B, letterByte, Formula, literal, both, either}
 use Rattle.formula.specs.Expansion.{Name, Conjunction}
 
--- "names its literals": the section that a letter names, and what a literal of it means
+-- "names its literals": the section that a letter names, and what a literal of it means. B names none, since no query has booleans
+-- (02, R-13).
 abbrev pub literalsOf : Query → Letter → List Literal
 literalsOf q E = q .equalities
 literalsOf q R = q .reachability
 literalsOf q D = q .fields
-literalsOf q B = q .booleans
+literalsOf q B = []
 
 abbrev pub Means : Heap → Query → Letter → Literal → Type 0
 Means h q E l = MeansEqual h (q .entries) l
 Means h q R l = MeansReach h (q .entries) l
 Means h q D l = MeansField h (q .entries) l
-Means h q B l = MeansBoolean h (q .entries) l
+Means h q B l = ⊥
 
 -- a formula's and and or over the literals that it names
 unfoldable pub Holds : Heap → Query → Formula → Type 0
@@ -34,7 +35,7 @@ Holds h q (either f g) = Holds h q f ⊎ Holds h q g
 
 -- the query's terms without its literals
 unfoldable pub bare : Query → Query
-bare q = record { entries = q .entries; equalities = []; reachability = []; fields = []; booleans = [] }
+bare q = record { entries = q .entries; equalities = []; reachability = []; fields = [] }
 
 -- "a finite heap meets it": a heap for the query's terms, in which the formula holds. "Literals not named do not count."
 pub record MeetsFormula (h : Heap) (q : Query) (f : Formula) : Type 0 where
@@ -68,5 +69,4 @@ restricted q c =
       equalities = chosen (names c E) 1 (q .equalities);
       reachability = chosen (names c R) 1 (q .reachability);
       fields = chosen (names c D) 1 (q .fields);
-      booleans = chosen (names c B) 1 (q .booleans);
     }

@@ -3,13 +3,13 @@ use Prim.Native.Nat.{ℕ, _-_, _≤_, _<_}
 use mathlib.Core.Path.{_≡_}
 use mathlib.Core.Logic.{_⊎_, _↔_}
 use mathlib.Core.Bool.{Bool}
-use mathlib.Core.List.{List, []}
+use mathlib.Core.List.{List, [], List·Memᴰ}
 use mathlib.Core.Option.{none}
 use lib.ListN.{length, replicate}
 use Rattle.logic.specs.Query.{decode}
 use Rattle.logic.specs.Calls.{verdictChecks, refusalOf}
 use Rattle.logic.specs.Calls as calls
-use Rattle.logic.specs.Demands.{FirstStands}
+use Rattle.logic.specs.Demands.{FirstStands, numbers}
 use Rattle.formula.specs.Grammar.{Letter, Formula, disjunction, Reads, Within}
 use Rattle.formula.specs.Expansion.{expand}
 use Rattle.formula.specs.Meaning.{present, AllPresent}
@@ -44,14 +44,14 @@ pub record ReadingClaims (has : Letter → ℕ → Bool) (text : List ℕ) : Typ
   pub not-both : (f : Formula) (k p : ℕ) → Accepted has text f → FirstFault has text k p → ⊥
   pub one-fault : (j k p q : ℕ) → FirstFault has text j p → FirstFault has text k q → (j ≡ k) × (p ≡ q)
 
--- what checks 1 to 9 are given, and the literals that are there
+-- what the checks of the verdict call are given, and the literals that are there
 abbrev pub checked : Input → calls.Input
 checked i = record { order = i .order; query = i .query; room = i .room }
 
 abbrev pub presentIn : Input → Letter → ℕ → Bool
 presentIn i = present (decode (i .query))
 
--- "after 9": none of the checks 1 to 9 stands
+-- "after 9": none of the checks of the verdict call stands, of which 9 is the last
 abbrev pub Passed : Input → Type 0
 Passed i = refusalOf verdictChecks (checked i) ≡ none
 
@@ -64,15 +64,15 @@ pub record Taken (i : Input) (f : Formula) : Type 0 where
 
 -- For every order list, query, text and room, bytes of any number:
 pub record RefusalClaims (i : Input) : Type 0 where
-  -- 1 to 9 as ever, before the text is looked at
-  pub checks-first : (k p : ℕ) → k < 17 → (formulaCall i .answer ≡ refused k p) ↔ FirstStands verdictChecks (checked i) k p
+  -- the verdict call's checks as ever, before the text is looked at
+  pub checks-first : (k p : ℕ) → List·Memᴰ k (numbers verdictChecks) → (formulaCall i .answer ≡ refused k p) ↔ FirstStands verdictChecks (checked i) k p
   -- "after 9, 17 text too long (place 512); then 17 outside the grammar .. or naming an absent literal .."
   pub refused-17 : (p : ℕ) → (formulaCall i .answer ≡ refused 17 p) ↔ (Passed i × (((512 < length (i .text)) × (p ≡ 512)) ⊎ ((length (i .text) ≤ 512) × FirstFault (presentIn i) (i .text) 17 p)))
   -- ".. and 18 too deep (the 33rd parenthesis open at once)"
   pub refused-18 : (p : ℕ) → (formulaCall i .answer ≡ refused 18 p) ↔ (Passed i × (length (i .text) ≤ 512) × FirstFault (presentIn i) (i .text) 18 p)
   -- "then 19 more than 64 conjunctions"
   pub refused-19 : (p : ℕ) → (formulaCall i .answer ≡ refused 19 p) ↔ (Passed i × (length (i .text) ≤ 512) × ((f : Formula) × Accepted (presentIn i) (i .text) f × (64 < length (expand f))) × (p ≡ 0))
-  pub refusal-numbered : (k p : ℕ) → formulaCall i .answer ≡ refused k p → ((1 ≤ k) × (k ≤ 9)) ⊎ ((17 ≤ k) × (k ≤ 19))
+  pub refusal-numbered : (k p : ℕ) → formulaCall i .answer ≡ refused k p → List·Memᴰ k (numbers verdictChecks) ⊎ ((17 ≤ k) × (k ≤ 19))
   -- "accepted are exactly its texts within the limits": what is not refused, and what is then answered
   pub taken-exactly : ((k p : ℕ) → formulaCall i .answer ≡ refused k p → ⊥) ↔ ((f : Formula) × Taken i f)
   pub taken-answer : (f : Formula) → Taken i f → formulaCall i ≡ firstOf i 1 (expand f)

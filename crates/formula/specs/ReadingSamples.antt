@@ -102,5 +102,7 @@ readComputed s = record { text = s .text; reading = readText (present (decode gi
 pub record SamplesHold : Type 0 where
   pub refusals-hold : map refusalComputed refusals ≡ refusals
   pub readings-hold : map readComputed readings ≡ readings
+  -- "26 a boolean count above 0 (that count's place)" (02, R-13), before `B1` is looked at
+  pub retired : formulaCall (record { order = 1 ∷ 2 ∷ 3 ∷ 4 ∷ 5 ∷ 6 ∷ 7 ∷ 8 ∷ []; query = 1 ∷ 0 ∷ 0 ∷ 0 ∷ 0 ∷ 1 ∷ 1 ∷ 1 ∷ []; text = 66 ∷ 49 ∷ []; room = 53 }) .answer ≡ refused 26 5
   -- a name of many digits, where every literal is there
   pub long-name : readText (λ l n. true) 32 (82 ∷ 49 ∷ 48 ∷ 48 ∷ 48 ∷ 48 ∷ 48 ∷ 48 ∷ 48 ∷ 48 ∷ 48 ∷ 49 ∷ []) ≡ done (literal R 10000000001) []

@@ -19,11 +19,11 @@ use Rattle.logic.proofs.Basics.Search.{bool-cases, true-false, and-right}
 use Rattle.logic.proofs.Calls.VerdictCall.{VerdictCase, by-refusal, by-lines, by-model, verdict-case}
 use Rattle.text.specs.Text.{Writes}
 use Rattle.text.proofs.Writing.{writes-taken}
-use Rattle.query.specs.LaysOut.{LaysOut, literalIn, flagIn}
+use Rattle.query.specs.LaysOut.{LaysOut, literalIn}
 use Rattle.query.specs.Answers.{CheckedAs}
 use Rattle.query.specs.declared.Layout.{Layout}
 use Rattle.query.specs.declared.Checked.the-variants as checked
-use Rattle.query.proofs.Literals.{listed-length, equalities-listed, reachability-listed, fields-listed, booleans-listed}
+use Rattle.query.proofs.Literals.{listed-length, equalities-listed, reachability-listed, fields-listed}
 use Rattle.formula.specs.Grammar.{Letter, E, R, D, B, Formula, literal, both, either, disjunction}
 use Rattle.formula.specs.Expansion.{Conjunction, expand}
 use Rattle.formula.specs.Meaning.{names, literalsOf, present, AllPresent, restricted}
@@ -123,20 +123,20 @@ picks-at {k = k} g h = record { tree = g .tree; marks-fit = g .marks-fit; few = 
 
 -- The literals that the query has
 
-has-same : (layout : Layout) (query : List ℕ) → LaysOut layout query → (l : Letter) (n : ℕ) → has (layout .«equal_count» ∷ layout .«reach_count» ∷ layout .«field_count» ∷ layout .«boolean_count» ∷ []) l n ≡ present (decode query) l n
+has-same : (layout : Layout) (query : List ℕ) → LaysOut layout query → (l : Letter) (n : ℕ) → has (layout .«equal_count» ∷ layout .«reach_count» ∷ layout .«field_count» ∷ 0 ∷ []) l n ≡ present (decode query) l n
 has-same layout query laid E n = unfold has present letterCode in ap (λ (m : ℕ). leb 1 n and leb n m) (sym (ap length (equalities-listed layout query laid) ∙ listed-length (literalIn query (layout .«equal_at»)) (layout .«equal_count»)))
 has-same layout query laid R n = unfold has present letterCode in ap (λ (m : ℕ). leb 1 n and leb n m) (sym (ap length (reachability-listed layout query laid) ∙ listed-length (literalIn query (layout .«reach_at»)) (layout .«reach_count»)))
 has-same layout query laid D n = unfold has present letterCode in ap (λ (m : ℕ). leb 1 n and leb n m) (sym (ap length (fields-listed layout query laid) ∙ listed-length (literalIn query (layout .«field_at»)) (layout .«field_count»)))
-has-same layout query laid B n = unfold has present letterCode in ap (λ (m : ℕ). leb 1 n and leb n m) (sym (ap length (booleans-listed layout query laid) ∙ listed-length (flagIn query (layout .«boolean_at»)) (layout .«boolean_count»)))
+has-same layout query laid B n = unfold has present letterCode in refl
 
-pub has-present : (layout : Layout) (query : List ℕ) → LaysOut layout query → has (layout .«equal_count» ∷ layout .«reach_count» ∷ layout .«field_count» ∷ layout .«boolean_count» ∷ []) ≡ present (decode query)
+pub has-present : (layout : Layout) (query : List ℕ) → LaysOut layout query → has (layout .«equal_count» ∷ layout .«reach_count» ∷ layout .«field_count» ∷ 0 ∷ []) ≡ present (decode query)
 has-present layout query laid = fun-ext (λ l. fun-ext (λ n. has-same layout query laid l n))
 
-pub counts-small : (layout : Layout) (query : List ℕ) → LaysOut layout query → (j : ℕ) → getD (layout .«equal_count» ∷ layout .«reach_count» ∷ layout .«field_count» ∷ layout .«boolean_count» ∷ []) j 0 ≤ 60
+pub counts-small : (layout : Layout) (query : List ℕ) → LaysOut layout query → (j : ℕ) → getD (layout .«equal_count» ∷ layout .«reach_count» ∷ layout .«field_count» ∷ 0 ∷ []) j 0 ≤ 60
 counts-small layout query laid zero = laid .equal-within
 counts-small layout query laid (suc zero) = laid .reach-within
 counts-small layout query laid (suc (suc zero)) = laid .field-within
-counts-small layout query laid (suc (suc (suc zero))) = laid .boolean-within
+counts-small layout query laid (suc (suc (suc zero))) = omega arith
 counts-small layout query laid (suc (suc (suc (suc j)))) = omega arith
 
 -- A text

@@ -45,7 +45,7 @@ fn decide_one(
 {
     let mut marks = [false; 256];
     formula_reader::mark_literals(nodes, root, k, &mut marks);
-    let mut conjunction = [0u8; 681];
+    let mut conjunction = [0u8; 561];
     let end = formula_query::put_query(query, layout, &marks, &mut conjunction);
     prover::verdict(order, &conjunction[..end], report)
 }
@@ -91,7 +91,7 @@ fn decide_text(
         layout.equal_count,
         layout.reach_count,
         layout.field_count,
-        layout.boolean_count,
+        0,
     ];
     let mut nodes = [0usize; 2048];
     match formula_reader::read_text(text, &counts, &mut nodes) {
@@ -106,8 +106,8 @@ fn decide_text(
     }
 }
 
-// The formula call: the number of the first satisfiable conjunction with its heap in the report, "refuted", or one of the refusals 1 to 9
-// and 17 to 19.
+// The formula call: the number of the first satisfiable conjunction with its heap in the report, "refuted", or one of the refusals 1 to 9,
+// 26 and 17 to 19.
 pub fn formula(order: &[u8], query: &[u8], text: &[u8], report: &mut [u8]) -> FormulaAnswer
     ensures { λ r. ⌜ DoesFormula (formulaCall (formulaInput (now (order .entry)) (now (query .entry)) (now (text .entry)) (now (report .entry)))) r (now (report .exit)) ⌝ }
 {

@@ -3,24 +3,20 @@ use Prim.Native.Nat.{ℕ, zero, suc, _+_, _-_, _*_, _≤_, _<_}
 use native.Mathlib.Omega.{arith}
 use native.Mathlib.Numerals.{add-one}
 use mathlib.Core.Path.{_≡_, refl, sym, ap, ap₂, _∙_, subst}
-use mathlib.Core.Logic.{⊎-elim}
 use mathlib.Core.Bool.{Bool, true, false, cond}
 use mathlib.Core.List.{List, [], _∷_, _++_, append-assoc}
 use lib.ListN.{length, getD, take, drop, drop-of-length-le}
 use lib.Seq.{drop-cons}
 use lib.Dec.{eqb}
 use Rattle.logic.specs.Search.{flatMap}
-use Rattle.logic.specs.Query.{Literal, termCount, literals, flags, decode}
-use Rattle.logic.proofs.Basics.Search.{bool-cases}
-use Rattle.text.specs.Text.{Writes}
-use Rattle.text.proofs.Writing.{writes-as, writes-then}
-use Rattle.query.specs.LaysOut.{LaysOut, literalIn, flagIn}
+use Rattle.logic.specs.Query.{Literal, termCount, literals, decode}
+use Rattle.query.specs.LaysOut.{LaysOut, literalIn}
 use Rattle.query.specs.declared.Layout.{Layout}
-use Rattle.query.proofs.Literals.{listed, listed-end, listed-next, listed-length, literals-are, flags-are}
-use Rattle.formula.specs.Grammar.{Letter, E, R, D, B}
+use Rattle.query.proofs.Literals.{listed, listed-end, listed-next, listed-length, literals-are}
+use Rattle.formula.specs.Grammar.{Letter, E, R, D}
 use Rattle.formula.specs.Expansion.{Conjunction}
 use Rattle.formula.specs.Meaning.{names, chosen, restricted}
-use Rattle.encoding.specs.QueryBytes.{signByte, literalBytes, flagBytes, sectionBytes, encode}
+use Rattle.encoding.specs.QueryBytes.{signByte, literalBytes, sectionBytes, encode}
 use Rattle.formula_reader.specs.Tree.{letterCode}
 use Rattle.formula_reader.specs.Marked.{marked}
 use Rattle.formula_query.specs.Kept.{mark}
@@ -62,52 +58,47 @@ module _ (p : ℕ → Bool) where
 
   -- Writing
 
-  module _ (f : ℕ → Literal) (bytes : Literal → List ℕ) where
+  module _ (f : ℕ → Literal) where
     pub kept : ℕ → ℕ → List ℕ
-    kept count i = flatMap bytes (chosen p (i + 1) (listed f count i))
+    kept count i = flatMap literalBytes (chosen p (i + 1) (listed f count i))
 
-    pub kept-is : (count : ℕ) → kept count 0 ≡ flatMap bytes (chosen p 1 (listed f count 0))
+    pub kept-is : (count : ℕ) → kept count 0 ≡ flatMap literalBytes (chosen p 1 (listed f count 0))
     unfolding kept
     kept-is count = refl
 
-    flat-kept : (b : Bool) (x : Literal) (xs : List Literal) → flatMap bytes (cond b (x ∷ xs) xs) ≡ cond b (bytes x) [] ++ flatMap bytes xs
+    flat-kept : (b : Bool) (x : Literal) (xs : List Literal) → flatMap literalBytes (cond b (x ∷ xs) xs) ≡ cond b (literalBytes x) [] ++ flatMap literalBytes xs
     flat-kept true x xs = unfold flatMap in refl
     flat-kept false x xs = refl
 
-    pub kept-next : (count i : ℕ) → i < count → kept count i ≡ cond (p (i + 1)) (bytes (f i)) [] ++ kept count (i + 1)
+    pub kept-next : (count i : ℕ) → i < count → kept count i ≡ cond (p (i + 1)) (literalBytes (f i)) [] ++ kept count (i + 1)
     unfolding kept
     kept-next count i h =
-        ap (λ (xs : List Literal). flatMap bytes (chosen p (i + 1) xs)) (listed-next f count i h)
+        ap (λ (xs : List Literal). flatMap literalBytes (chosen p (i + 1) xs)) (listed-next f count i h)
         ∙ cons (f i) (listed f count (i + 1))
-        ∙ ap (λ (m : ℕ). cond (p (i + 1)) (bytes (f i)) [] ++ flatMap bytes (chosen p m (listed f count (i + 1)))) (sym (add-one (i + 1)))
+        ∙ ap (λ (m : ℕ). cond (p (i + 1)) (literalBytes (f i)) [] ++ flatMap literalBytes (chosen p m (listed f count (i + 1)))) (sym (add-one (i + 1)))
       where
-        cons : (x : Literal) (xs : List Literal) → flatMap bytes (chosen p (i + 1) (x ∷ xs)) ≡ cond (p (i + 1)) (bytes x) [] ++ flatMap bytes (chosen p (suc (i + 1)) xs)
+        cons : (x : Literal) (xs : List Literal) → flatMap literalBytes (chosen p (i + 1) (x ∷ xs)) ≡ cond (p (i + 1)) (literalBytes x) [] ++ flatMap literalBytes (chosen p (suc (i + 1)) xs)
         cons x xs = unfold chosen in flat-kept (p (i + 1)) x (chosen p (suc (i + 1)) xs)
 
     pub kept-end : (count i : ℕ) → count ≤ i → kept count i ≡ []
     unfolding kept
-    kept-end count i h = ap (λ (xs : List Literal). flatMap bytes (chosen p (i + 1) xs)) (listed-end f count i h) ∙ none
+    kept-end count i h = ap (λ (xs : List Literal). flatMap literalBytes (chosen p (i + 1) xs)) (listed-end f count i h) ∙ none
       where
-        none : flatMap bytes (chosen {A = Literal} p (i + 1) []) ≡ []
+        none : flatMap literalBytes (chosen {A = Literal} p (i + 1) []) ≡ []
         none = unfold chosen flatMap in refl
 
-    pub section-kept : (count n : ℕ) (ls : List Literal) → ls ≡ listed f count 0 → ((xs : List Literal) → length xs ≡ count → n ≡ length (chosen p 1 xs)) → (n ∷ []) ++ kept count 0 ≡ sectionBytes bytes (chosen p 1 ls)
-    section-kept count n ls e h = ap₂ (λ (m : ℕ) (xs : List ℕ). m ∷ xs) (h (listed f count 0) (listed-length f count)) (kept-is count) ∙ whole ∙ ap (λ (xs : List Literal). sectionBytes bytes (chosen p 1 xs)) (sym e)
+    pub section-kept : (count n : ℕ) (ls : List Literal) → ls ≡ listed f count 0 → ((xs : List Literal) → length xs ≡ count → n ≡ length (chosen p 1 xs)) → (n ∷ []) ++ kept count 0 ≡ sectionBytes (chosen p 1 ls)
+    section-kept count n ls e h = ap₂ (λ (m : ℕ) (xs : List ℕ). m ∷ xs) (h (listed f count 0) (listed-length f count)) (kept-is count) ∙ whole ∙ ap (λ (xs : List Literal). sectionBytes (chosen p 1 xs)) (sym e)
       where
-        whole : length (chosen p 1 (listed f count 0)) ∷ flatMap bytes (chosen p 1 (listed f count 0)) ≡ sectionBytes bytes (chosen p 1 (listed f count 0))
+        whole : length (chosen p 1 (listed f count 0)) ∷ flatMap literalBytes (chosen p 1 (listed f count 0)) ≡ sectionBytes (chosen p 1 (listed f count 0))
         whole = unfold sectionBytes in refl
 
--- The bytes of one literal are at most three, and at most two
+-- The bytes of one literal are at most three
 
 pub literal-size : (b : Bool) (l : Literal) → length (cond b (literalBytes l) []) ≤ 3
 unfolding literalBytes
 literal-size true l = omega arith
 literal-size false l = omega arith
-
-pub flag-size : (b : Bool) (l : Literal) → length (cond b (flagBytes l) []) ≤ 2
-unfolding flagBytes
-flag-size true l = omega arith
-flag-size false l = omega arith
 
 -- a literal is written where it is marked
 pub put-none : (b : Bool) (bytes : List ℕ) → b ≡ false → [] ≡ cond b bytes []
@@ -118,9 +109,6 @@ put-some b bytes e = rw e refl
 
 pub literal-bytes : (bytes : List ℕ) (at i s : ℕ) → s ≡ signByte (eqb (getD bytes (at + 3 * i) 0) 1) → ((s ∷ []) ++ (getD bytes (at + 3 * i + 1) 0 ∷ [])) ++ (getD bytes (at + 3 * i + 2) 0 ∷ []) ≡ literalBytes (literalIn bytes at i)
 literal-bytes bytes at i s e = unfold literalBytes in ap (λ (x : ℕ). x ∷ getD bytes (at + 3 * i + 1) 0 ∷ getD bytes (at + 3 * i + 2) 0 ∷ []) e
-
-pub flag-bytes : (bytes : List ℕ) (at i s : ℕ) → s ≡ signByte (eqb (getD bytes (at + 2 * i) 0) 1) → (s ∷ []) ++ (getD bytes (at + 2 * i + 1) 0 ∷ []) ≡ flagBytes (flagIn bytes at i)
-flag-bytes bytes at i s e = unfold flagBytes in ap (λ (x : ℕ). x ∷ getD bytes (at + 2 * i + 1) 0 ∷ []) e
 
 -- The whole query
 
@@ -133,20 +121,19 @@ module _ (query : List ℕ) (marks : List Bool) (c : Conjunction) (same : (l : L
   section-same : (l : Letter) (code : ℕ) → code ≡ letterCode l → (ls : List Literal) → length ls ≤ 60 → chosen (mark marks code) 1 ls ≡ chosen (names c l) 1 ls
   section-same l code e ls h = same-chosen (mark marks code) (names c l) 1 ls (λ m k. ap (λ (x : ℕ). mark marks x m) e ∙ same l m (omega arith))
 
-  pub query-bytes : (n : ℕ) (es : List ℕ) (equal reach field boolean : List Literal) → n ≡ termCount (decode query) → decode query .entries ≡ es → decode query .equalities ≡ equal → decode query .reachability ≡ reach → decode query .fields ≡ field → decode query .booleans ≡ boolean → length equal ≤ 60 → length reach ≤ 60 → length field ≤ 60 → length boolean ≤ 60 → (((((n ∷ []) ++ es) ++ sectionBytes literalBytes (chosen (mark marks 0) 1 equal)) ++ sectionBytes literalBytes (chosen (mark marks 1) 1 reach)) ++ sectionBytes literalBytes (chosen (mark marks 2) 1 field)) ++ sectionBytes flagBytes (chosen (mark marks 3) 1 boolean) ≡ encode (restricted (decode query) c)
-  query-bytes n es equal reach field boolean e₀ e₁ e₂ e₃ e₄ e₅ l₂ l₃ l₄ l₅ =
+  pub query-bytes : (n : ℕ) (es : List ℕ) (equal reach field : List Literal) → n ≡ termCount (decode query) → decode query .entries ≡ es → decode query .equalities ≡ equal → decode query .reachability ≡ reach → decode query .fields ≡ field → length equal ≤ 60 → length reach ≤ 60 → length field ≤ 60 → (((((n ∷ []) ++ es) ++ sectionBytes (chosen (mark marks 0) 1 equal)) ++ sectionBytes (chosen (mark marks 1) 1 reach)) ++ sectionBytes (chosen (mark marks 2) 1 field)) ++ (0 ∷ []) ≡ encode (restricted (decode query) c)
+  query-bytes n es equal reach field e₀ e₁ e₂ e₃ e₄ l₂ l₃ l₄ =
       simp append-assoc
       (ap₂ (λ (x : List ℕ) (y : List ℕ). x ++ y) (ap₂ (λ (x : ℕ) (y : List ℕ). x ∷ y) e₀ (sym e₁))
-      (ap₂ (λ (x : List ℕ) (y : List ℕ). x ++ y) (part E 0 (unfold letterCode in refl) literalBytes equal (decode query .equalities) e₂ l₂)
-      (ap₂ (λ (x : List ℕ) (y : List ℕ). x ++ y) (part R 1 (unfold letterCode in refl) literalBytes reach (decode query .reachability) e₃ l₃)
-      (ap₂ (λ (x : List ℕ) (y : List ℕ). x ++ y) (part D 2 (unfold letterCode in refl) literalBytes field (decode query .fields) e₄ l₄)
-      (part B 3 (unfold letterCode in refl) flagBytes boolean (decode query .booleans) e₅ l₅)))))
+      (ap₂ (λ (x : List ℕ) (y : List ℕ). x ++ y) (part E 0 (unfold letterCode in refl) equal (decode query .equalities) e₂ l₂)
+      (ap₂ (λ (x : List ℕ) (y : List ℕ). x ++ y) (part R 1 (unfold letterCode in refl) reach (decode query .reachability) e₃ l₃)
+      (ap (λ (x : List ℕ). x ++ (0 ∷ [])) (part D 2 (unfold letterCode in refl) field (decode query .fields) e₄ l₄)))))
       ∙ whole
     where
-      part : (l : Letter) (code : ℕ) → code ≡ letterCode l → (bytes : Literal → List ℕ) (ls ms : List Literal) → ms ≡ ls → length ls ≤ 60 → sectionBytes bytes (chosen (mark marks code) 1 ls) ≡ sectionBytes bytes (chosen (names c l) 1 ms)
-      part l code e bytes ls ms d h = ap (sectionBytes bytes) (section-same l code e ls h ∙ ap (chosen (names c l) 1) (sym d))
+      part : (l : Letter) (code : ℕ) → code ≡ letterCode l → (ls ms : List Literal) → ms ≡ ls → length ls ≤ 60 → sectionBytes (chosen (mark marks code) 1 ls) ≡ sectionBytes (chosen (names c l) 1 ms)
+      part l code e ls ms d h = ap sectionBytes (section-same l code e ls h ∙ ap (chosen (names c l) 1) (sym d))
 
-      whole : (termCount (decode query) ∷ decode query .entries) ++ (sectionBytes literalBytes (chosen (names c E) 1 (decode query .equalities)) ++ (sectionBytes literalBytes (chosen (names c R) 1 (decode query .reachability)) ++ (sectionBytes literalBytes (chosen (names c D) 1 (decode query .fields)) ++ sectionBytes flagBytes (chosen (names c B) 1 (decode query .booleans))))) ≡ encode (restricted (decode query) c)
+      whole : (termCount (decode query) ∷ decode query .entries) ++ (sectionBytes (chosen (names c E) 1 (decode query .equalities)) ++ (sectionBytes (chosen (names c R) 1 (decode query .reachability)) ++ (sectionBytes (chosen (names c D) 1 (decode query .fields)) ++ (0 ∷ [])))) ≡ encode (restricted (decode query) c)
       whole = unfold encode restricted termCount in refl
 
 pub take-bound : (n : ℕ) (xs : List ℕ) → length (take n xs) ≤ n
@@ -167,10 +154,7 @@ module _ (layout : Layout) (query : List ℕ) (laid : LaysOut layout query) (mar
   literals-count : (at count : ℕ) → at + 3 * count ≤ length query → count ≤ 60 → length (literals (take (3 * count) (drop at query))) ≤ 60
   literals-count at count h l = subst (λ (n : ℕ). n ≤ 60) (sym (ap length (literals-are query at count h) ∙ listed-length (literalIn query at) count)) l
 
-  flags-count : (at count : ℕ) → at + 2 * count ≤ length query → count ≤ 60 → length (flags (take (2 * count) (drop at query))) ≤ 60
-  flags-count at count h l = subst (λ (n : ℕ). n ≤ 60) (sym (ap length (flags-are query at count h) ∙ listed-length (flagIn query at) count)) l
-
-  pub whole-bytes : (((((layout .terms ∷ []) ++ take (layout .terms + 1 - 1) (drop 1 query)) ++ sectionBytes literalBytes (chosen (mark marks 0) 1 (literals (take (3 * layout .«equal_count») (drop (layout .«equal_at») query))))) ++ sectionBytes literalBytes (chosen (mark marks 1) 1 (literals (take (3 * layout .«reach_count») (drop (layout .«reach_at») query))))) ++ sectionBytes literalBytes (chosen (mark marks 2) 1 (literals (take (3 * layout .«field_count») (drop (layout .«field_at») query))))) ++ sectionBytes flagBytes (chosen (mark marks 3) 1 (flags (take (2 * layout .«boolean_count») (drop (layout .«boolean_at») query)))) ≡ encode (restricted (decode query) c)
+  pub whole-bytes : (((((layout .terms ∷ []) ++ take (layout .terms + 1 - 1) (drop 1 query)) ++ sectionBytes (chosen (mark marks 0) 1 (literals (take (3 * layout .«equal_count») (drop (layout .«equal_at») query))))) ++ sectionBytes (chosen (mark marks 1) 1 (literals (take (3 * layout .«reach_count») (drop (layout .«reach_at») query))))) ++ sectionBytes (chosen (mark marks 2) 1 (literals (take (3 * layout .«field_count») (drop (layout .«field_at») query))))) ++ (0 ∷ []) ≡ encode (restricted (decode query) c)
   whole-bytes =
-      query-bytes query marks c same (layout .terms) _ _ _ _ _ (laid .term-count) entries-put (laid .equal-are) (laid .reach-are) (laid .field-are) (laid .boolean-are) (literals-count (layout .«equal_at») (layout .«equal_count») (laid .equal-fit) (laid .equal-within))
-      (literals-count (layout .«reach_at») (layout .«reach_count») (laid .reach-fit) (laid .reach-within)) (literals-count (layout .«field_at») (layout .«field_count») (laid .field-fit) (laid .field-within)) (flags-count (layout .«boolean_at») (layout .«boolean_count») (laid .boolean-fit) (laid .boolean-within))
+      query-bytes query marks c same (layout .terms) _ _ _ _ (laid .term-count) entries-put (laid .equal-are) (laid .reach-are) (laid .field-are) (literals-count (layout .«equal_at») (layout .«equal_count») (laid .equal-fit) (laid .equal-within))
+      (literals-count (layout .«reach_at») (layout .«reach_count») (laid .reach-fit) (laid .reach-within)) (literals-count (layout .«field_at») (layout .«field_count») (laid .field-fit) (laid .field-within))

@@ -6,11 +6,11 @@ ghost use mathlib.Core.List.{[], _∷_};
 ghost use Prim.Native.Nat.{ℕ, _+_, _*_, _≤_, _<_};
 ghost use lib.ListN.{length, getD, take, drop};
 ghost use lib.Dec.{eqb};
-ghost use Rattle.logic.specs.Query.{literals, flags};
+ghost use Rattle.logic.specs.Query.{literals};
 ghost use Rattle.text.specs.Text.{Writes};
-ghost use Rattle.query.specs.LaysOut.{LaysOut, literalIn, flagIn};
+ghost use Rattle.query.specs.LaysOut.{LaysOut, literalIn};
 ghost use Rattle.formula.specs.Meaning.{chosen};
-ghost use Rattle.encoding.specs.QueryBytes.{signByte, literalBytes, flagBytes, sectionBytes};
+ghost use Rattle.encoding.specs.QueryBytes.{signByte, literalBytes, sectionBytes};
 ghost use Rattle.formula_query.specs.Kept.{mark, Counted, PutsQuery};
 
 // Literal n of a section is marked.
@@ -54,7 +54,7 @@ fn sign_byte(b: u8) -> u8
     0
 }
 
-// Literal i of a section of three bytes an entry, and of two.
+// Literal i of a section.
 fn put_literal(query: &[u8], at: usize, i: usize, out: &mut [u8], to: usize) -> usize
     requires { ⌜ (at + 3 * i + 3 ≤ length (now query)) × (to ≤ 1000) ⌝ }
     ensures { λ r. ⌜ Writes (now (out .entry)) to (literalBytes (literalIn (now (query .entry)) at i)) (now (out .exit)) r ⌝ }
@@ -63,15 +63,6 @@ fn put_literal(query: &[u8], at: usize, i: usize, out: &mut [u8], to: usize) -> 
     let signed = text::put_byte(out, to, sign_byte(query[place]));
     let left = text::put_byte(out, signed, query[place + 1]);
     text::put_byte(out, left, query[place + 2])
-}
-
-fn put_flag(query: &[u8], at: usize, i: usize, out: &mut [u8], to: usize) -> usize
-    requires { ⌜ (at + 2 * i + 2 ≤ length (now query)) × (to ≤ 1000) ⌝ }
-    ensures { λ r. ⌜ Writes (now (out .entry)) to (flagBytes (flagIn (now (query .entry)) at i)) (now (out .exit)) r ⌝ }
-{
-    let place = at + 2 * i;
-    let signed = text::put_byte(out, to, sign_byte(query[place]));
-    text::put_byte(out, signed, query[place + 1])
 }
 
 // The same where the literal is marked.
@@ -104,7 +95,7 @@ fn put_literals(
     to: usize,
 ) -> usize
     requires { ⌜ (at + 3 * count ≤ length (now query)) × (count ≤ 60) × (code < 4) × (to ≤ 600) ⌝ }
-    ensures { λ r. ⌜ (r ≤ to + 1 + 3 * count) × Writes (now (out .entry)) to (sectionBytes literalBytes (chosen (mark (now (marks .entry)) code) 1 (literals (take (3 * count) (drop at (now (query .entry))))))) (now (out .exit)) r ⌝ }
+    ensures { λ r. ⌜ (r ≤ to + 1 + 3 * count) × Writes (now (out .entry)) to (sectionBytes (chosen (mark (now (marks .entry)) code) 1 (literals (take (3 * count) (drop at (now (query .entry))))))) (now (out .exit)) r ⌝ }
 {
     let kept = count_marked(marks, code, count);
     let mut end = text::put_byte(out, to, kept as u8);
@@ -116,51 +107,10 @@ fn put_literals(
     end
 }
 
-fn put_flags(
-    query: &[u8],
-    at: usize,
-    count: usize,
-    marks: &[bool; 256],
-    code: usize,
-    out: &mut [u8],
-    to: usize,
-) -> usize
-    requires { ⌜ (at + 2 * count ≤ length (now query)) × (count ≤ 60) × (code < 4) × (to ≤ 600) ⌝ }
-    ensures { λ r. ⌜ (r ≤ to + 1 + 2 * count) × Writes (now (out .entry)) to (sectionBytes flagBytes (chosen (mark (now (marks .entry)) code) 1 (flags (take (2 * count) (drop at (now (query .entry))))))) (now (out .exit)) r ⌝ }
-{
-    let kept = count_marked(marks, code, count);
-    let mut end = text::put_byte(out, to, kept as u8);
-    let mut i: usize = 0;
-    while i < count {
-        end = put_marked_flag(query, at, i, marks, code, out, end);
-        i += 1;
-    }
-    end
-}
-
-// The same where the literal is marked.
-fn put_marked_flag(
-    query: &[u8],
-    at: usize,
-    i: usize,
-    marks: &[bool; 256],
-    code: usize,
-    out: &mut [u8],
-    to: usize,
-) -> usize
-    requires { ⌜ (at + 2 * i + 2 ≤ length (now query)) × (to ≤ 1000) × (code < 4) × (i < 60) ⌝ }
-    ensures { λ r. ⌜ Writes (now (out .entry)) to (cond (mark (now (marks .entry)) code (i + 1)) (flagBytes (flagIn (now (query .entry)) at i)) []) (now (out .exit)) r ⌝ }
-{
-    if !is_marked(marks, code, i + 1) {
-        return to;
-    }
-    put_flag(query, at, i, out, to)
-}
-
-// The query of the conjunction whose literals are marked.
+// The query of the conjunction whose literals are marked; section 5 is the count 0.
 pub fn put_query(query: &[u8], layout: Layout, marks: &[bool; 256], out: &mut [u8]) -> usize
     requires { ⌜ LaysOut layout (now query) ⌝ }
-    ensures { λ r. ⌜ (r ≤ 681) × PutsQuery (now (query .entry)) (now (marks .entry)) (now (out .entry)) (now (out .exit)) r ⌝ }
+    ensures { λ r. ⌜ (r ≤ 561) × PutsQuery (now (query .entry)) (now (marks .entry)) (now (out .entry)) (now (out .exit)) r ⌝ }
 {
     let n = layout.terms;
     let end = n + 1;
@@ -193,13 +143,5 @@ pub fn put_query(query: &[u8], layout: Layout, marks: &[bool; 256], out: &mut [u
         out,
         reach,
     );
-    put_flags(
-        query,
-        layout.boolean_at,
-        layout.boolean_count,
-        marks,
-        3,
-        out,
-        field,
-    )
+    text::put_byte(out, field, 0)
 }

@@ -2,13 +2,13 @@
 use mathlib.Core.Path.{refl}
 use mathlib.Core.Option.{Option·elim}
 use Rattle.logic.specs.Search.{_and_, _or_, from, all, at, keep, orElse, firstOf, flatMap, isSome}
-use Rattle.logic.specs.Query.{termCount, entryRole, signRole, termRole, numberRole, countRole, sections, withPart, layout, rolesOf, firstByte, layoutOf, faultIn, layoutFault, roleFault, byteFault, literals, flags, section, queryOf, decode}
-use Rattle.logic.specs.Calls.{layoutCheck, byteCheck, queryChecks, refusalOf, padded}
+use Rattle.logic.specs.Query.{termCount, entryRole, signRole, termRole, numberRole, countRole, fourSections, booleanSection, fiveSections, sections, withPart, layout, rolesOf, firstByte, layoutBy, layoutOf, faultIn, layoutFault, roleFault, byteFault, literals, section, queryOf, decode}
+use Rattle.logic.specs.Calls.{layoutCheck, byteCheck, formChecks, queryChecks, refusalOf, padded}
 use Rattle.joining.specs.Pairs.{pairs, pairsOf, hasTerms, isPairList}
 use Rattle.joining.specs.Joined.{raisedEntry, raised, pairLiteral, joined}
-use Rattle.encoding.specs.QueryBytes.{signByte, literalBytes, flagBytes, sectionBytes, encode, withinLimits}
+use Rattle.encoding.specs.QueryBytes.{signByte, literalBytes, sectionBytes, encode, withinLimits}
 use Rattle.joining.specs.Call.{queryRefusal, ofFirst, ofSecond, blank, fitted, joinOf, joinCall}
-use Rattle.joining.specs.HandBack.{literalsIn, widthIn, readIn, startIn, placeIn, isAmong, handBackOf, handBackCall, partOf}
+use Rattle.joining.specs.HandBack.{literalsIn, startIn, placeIn, isAmong, handBackOf, handBackCall, partOf}
 use Rattle.joining.specs.HandBack as handed
 use Rattle.text.specs.Text.{decimal, decimalWithin, hexByte, hexDigit, isDigit}
 use Rattle.wording.specs.Words.{behind, lineOf, refusedText}
@@ -18,5 +18,5 @@ use Rattle.join_printing.specs.JoinText.{queryIn, behindQuery, hexLine, 
 use Rattle.join_printing.specs.Examples.{PrintsHold, teams, prints}
 
 pub prints-hold : PrintsHold
-unfolding Option·elim _and_ _or_ from all at keep orElse firstOf flatMap isSome termCount entryRole signRole termRole numberRole countRole sections withPart layout rolesOf firstByte layoutOf faultIn layoutFault roleFault byteFault literals flags section queryOf decode layoutCheck byteCheck queryChecks refusalOf padded pairs pairsOf hasTerms isPairList raisedEntry raised pairLiteral joined signByte literalBytes flagBytes sectionBytes encode withinLimits queryRefusal ofFirst ofSecond blank fitted joinOf joinCall literalsIn widthIn readIn startIn placeIn isAmong handBackOf handBackCall handed.ofFirst handed.ofSecond partOf decimal decimalWithin hexByte hexDigit isDigit behind lineOf refusedText countIn begins endsNumber nextPlace isBetween prepend numbersFrom queryIn behindQuery hexLine answerText joinedText partText handedText lineIn toldText joinqueriesText teams prints
+unfolding Option·elim _and_ _or_ from all at keep orElse firstOf flatMap isSome termCount entryRole signRole termRole numberRole countRole fourSections booleanSection fiveSections sections withPart layout rolesOf firstByte layoutBy layoutOf faultIn layoutFault roleFault byteFault literals section queryOf decode layoutCheck byteCheck formChecks queryChecks refusalOf padded pairs pairsOf hasTerms isPairList raisedEntry raised pairLiteral joined signByte literalBytes sectionBytes encode withinLimits queryRefusal ofFirst ofSecond blank fitted joinOf joinCall literalsIn startIn placeIn isAmong handBackOf handBackCall handed.ofFirst handed.ofSecond partOf decimal decimalWithin hexByte hexDigit isDigit behind lineOf refusedText countIn begins endsNumber nextPlace isBetween prepend numbersFrom queryIn behindQuery hexLine answerText joinedText partText handedText lineIn toldText joinqueriesText teams prints
 prints-hold = refl

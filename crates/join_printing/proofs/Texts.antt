@@ -60,7 +60,7 @@ hex-some [] h = absurd (omega arith)
 hex-some (b ∷ bytes) h = refl
 
 -- what the joining call answers and leaves
-module _ (first second pairs : List ℕ) (room : ℕ) (bytes : List ℕ) (r : JoinAnswer) (does : Does (joinCall first second pairs room) r bytes) (full : room ≡ 681) where
+module _ (first second pairs : List ℕ) (room : ℕ) (bytes : List ℕ) (r : JoinAnswer) (does : Does (joinCall first second pairs room) r bytes) (full : room ≡ 561) where
   joined-told : joinedText first second pairs ≡ answerText (meaning r) bytes
   unfolding joinedText
   joined-told =
@@ -74,13 +74,13 @@ module _ (first second pairs : List ℕ) (room : ℕ) (bytes : List ℕ) (r : Jo
   told-as : {a : JoinAnswer} → r ≡ a → answerText (meaning a) bytes ≡ joinedText first second pairs
   told-as e = sym (joined-told ∙ ap (λ (a : JoinAnswer). answerText (meaning a) bytes) e)
 
-  pub written-text : (n end : ℕ) → r ≡ answer.Written n → end ≡ min n 681 → length bytes ≡ 681 → hexLine (take end bytes) ≡ joinedText first second pairs
+  pub written-text : (n end : ℕ) → r ≡ answer.Written n → end ≡ min n 561 → length bytes ≡ 561 → hexLine (take end bytes) ≡ joinedText first second pairs
   unfolding answerText
   written-text n end e m l =
       ap hexLine (⊎-elim
-      (λ (k : 681 ≤ n). take-all end bytes (omega arith) ∙ sym (take-all n bytes (omega arith)))
-      (λ (k : n < 681). let z : end ≡ n = omega arith in ap (λ (j : ℕ). take j bytes) z)
-      (le-cases 681 n))
+      (λ (k : 561 ≤ n). take-all end bytes (omega arith) ∙ sym (take-all n bytes (omega arith)))
+      (λ (k : n < 561). let z : end ≡ n = omega arith in ap (λ (j : ℕ). take j bytes) z)
+      (le-cases 561 n))
       ∙ told-as e
 
   pub first-text : (k place : ℕ) → r ≡ answer.FirstRefused k place → refusedText k place ++ ascii " of the first query\n" ≡ joinedText first second pairs

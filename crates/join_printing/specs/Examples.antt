@@ -29,6 +29,8 @@ prints =
     -- which query a refusal is about
     ∷ record { input = 0 ∷ 1 ∷ 17 ∷ []; text = ascii "refused 3 at 0 of the first query\n" }
     ∷ record { input = 0 ∷ 5 ∷ 0 ∷ 0 ∷ 0 ∷ 0 ∷ 0 ∷ 0 ∷ 1 ∷ 17 ∷ ascii "9 2 2 0\n"; text = ascii "refused 3 at 0 of the second query\n" }
+    -- "26 a boolean count above 0 (that count's place)" (02, R-13)
+    ∷ record { input = 0 ∷ 7 ∷ 0 ∷ 0 ∷ 0 ∷ 0 ∷ 1 ∷ 1 ∷ 1 ∷ []; text = ascii "refused 26 at 4 of the first query\n" }
     ∷ []
 
 abbrev pub PrintsHold : Type 0

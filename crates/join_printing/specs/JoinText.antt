@@ -32,9 +32,9 @@ answerText (firstRefused k place) lent = refusedText k place ++ ascii " of the f
 answerText (secondRefused k place) lent = refusedText k place ++ ascii " of the second query\n"
 answerText (refused k place) lent = refusedText k place ++ ascii "\n"
 
--- a query has at most 681 bytes
+-- a query has at most 561 bytes
 unfoldable pub joinedText : List ℕ → List ℕ → List ℕ → List ℕ
-joinedText first second pairs = let o : Outcome = joinCall first second pairs 681 in answerText (o .answer) (o .lent)
+joinedText first second pairs = let o : Outcome = joinCall first second pairs 561 in answerText (o .answer) (o .lent)
 
 -- Where the literal stands that a clash line names, and its own bytes.
 unfoldable pub partText : Handed → List ℕ → List ℕ

@@ -25,7 +25,7 @@ fn put_behind(buffer: &mut [u8], at: usize, bytes: &[u8], first: usize) -> usize
 }
 
 // Bytes in hex digits with blanks between, and a newline.
-fn put_hex_line(buffer: &mut [u8], at: usize, bytes: &[u8]) -> usize
+pub fn put_hex_line(buffer: &mut [u8], at: usize, bytes: &[u8]) -> usize
     requires { ⌜ (at ≤ 900) × (length (now bytes) ≤ 100000) ⌝ }
     ensures { λ r. ⌜ Writes (now (buffer .entry)) at (hexLine (now (bytes .entry))) (now (buffer .exit)) r ⌝ }
 {
@@ -49,10 +49,10 @@ fn put_refusal(buffer: &mut [u8], k: usize, place: usize, about: &[u8]) -> usize
 fn put_joined(buffer: &mut [u8], first: &[u8], second: &[u8], pairs: &[u8]) -> usize
     ensures { λ r. ⌜ Writes (now (buffer .entry)) 0 (joinedText (now (first .entry)) (now (second .entry)) (now (pairs .entry))) (now (buffer .exit)) r ⌝ }
 {
-    let mut out = [0u8; 681];
+    let mut out = [0u8; 561];
     match joiner::join(first, second, pairs, &mut out) {
         JoinAnswer::Written(length) => {
-            let end = check_printing::at_most(length, 681);
+            let end = check_printing::at_most(length, 561);
             put_hex_line(buffer, 0, &out[..end])
         }
         JoinAnswer::FirstRefused(k, place) => {

@@ -1,25 +1,25 @@
 -- What the code answers, case by case. Assumes nothing.
-use Prim.Native.Nat.{ℕ, zero, suc, _+_, _-_, _*_, _≤_, _<_}
+use Prim.Native.Nat.{ℕ, _+_, _-_, _*_, _≤_, _<_}
 use native.Mathlib.Omega.{arith}
-use mathlib.Core.Path.{_≡_, refl, sym, ap, _∙_, subst}
-use mathlib.Core.Bool.{Bool, true, false, _&&_, cond}
-use mathlib.Core.List.{List, [], _∷_, _++_, map}
-use mathlib.Core.Option.{Option, none, some, Option·elim}
-use lib.ListN.{length, getD, take, drop, replicate}
-use lib.Dec.{eqb, ltb, leb}
+use mathlib.Core.Path.{_≡_, refl, sym, ap, _∙_}
+use mathlib.Core.Bool.{Bool, true, false, cond}
+use mathlib.Core.List.{List, []}
+use mathlib.Core.Option.{none, some, Option·elim}
+use lib.ListN.{length, getD, take, drop}
+use lib.Dec.{eqb}
 use borrow.Author.Tests.{le-leb, lt-leb, le-ltb, lt-ltb, eq-eqb, ne-eqb}
 use Rattle.logic.specs.Search.{_and_, all}
-use Rattle.logic.specs.Query.{Literal, Query, termCount, firstByte, decode}
-use Rattle.logic.specs.Calls.{queryChecks, refusalOf, refused, accepts}
-use Rattle.query.specs.LaysOut.{LaysOut, literalIn, flagIn}
+use Rattle.logic.specs.Query.{Query, firstByte, decode}
+use Rattle.logic.specs.Calls.{refused, accepts}
+use Rattle.query.specs.LaysOut.{LaysOut, literalIn}
 use Rattle.query.specs.Answers.{CheckedAs}
 use Rattle.query.specs.declared.Layout.{Layout}
 use Rattle.query.specs.declared.Checked.the-variants as checked
-use Rattle.query.proofs.Literals.{listed-length, equalities-listed, reachability-listed, fields-listed, booleans-listed}
+use Rattle.query.proofs.Literals.{listed-length, equalities-listed, reachability-listed, fields-listed}
 use Rattle.query.proofs.Ranges.{checked-accepts}
 use Rattle.joining.specs.Pairs.{pairsOf, hasTerms, isPairList}
 use Rattle.joining.specs.Call.{queryRefusal}
-use Rattle.joining.specs.HandBack.{Handed, literalsIn, widthIn, startIn, placeIn, isAmong, handBackOf, handBackCall, partOf}
+use Rattle.joining.specs.HandBack.{Handed, literalsIn, startIn, placeIn, isAmong, handBackOf, handBackCall, partOf}
 use Rattle.joining.specs.HandBack as hand
 use Rattle.joining.proofs.Places.{literal-fits}
 use Rattle.joiner.specs.Promise.{handed, Inside, Passing}
@@ -66,9 +66,6 @@ module _ (l : Layout) (bytes : List ℕ) (laid : LaysOut l bytes) where
   pub field-counted : l .«field_count» ≡ length (decode bytes .fields)
   field-counted = sym (ap length (fields-listed l bytes laid) ∙ listed-length (literalIn bytes (l .«field_at»)) (l .«field_count»))
 
-  pub boolean-counted : l .«boolean_count» ≡ length (decode bytes .booleans)
-  boolean-counted = sym (ap length (booleans-listed l bytes laid) ∙ listed-length (flagIn bytes (l .«boolean_at»)) (l .«boolean_count»))
-
   module _ (s : ℕ) where
     pub count-second : s ≡ 2 → (l .«equal_count» ≡ length (literalsIn (decode bytes) s)) × (l .«equal_count» ≤ 60)
     unfolding literalsIn
@@ -82,13 +79,9 @@ module _ (l : Layout) (bytes : List ℕ) (laid : LaysOut l bytes) where
     unfolding literalsIn
     count-fourth a b e = rw (ne-eqb s 2 a, ne-eqb s 3 b, eq-eqb s 4 e) (field-counted, laid .field-within)
 
-    pub count-fifth : (s ≡ 2 → ⊥) → (s ≡ 3 → ⊥) → (s ≡ 4 → ⊥) → s ≡ 5 → (l .«boolean_count» ≡ length (literalsIn (decode bytes) s)) × (l .«boolean_count» ≤ 60)
+    pub count-none : (s ≡ 2 → ⊥) → (s ≡ 3 → ⊥) → (s ≡ 4 → ⊥) → (0 ≡ length (literalsIn (decode bytes) s)) × (0 ≤ 60)
     unfolding literalsIn
-    count-fifth a b c e = rw (ne-eqb s 2 a, ne-eqb s 3 b, ne-eqb s 4 c, eq-eqb s 5 e) (boolean-counted, laid .boolean-within)
-
-    pub count-none : (s ≡ 2 → ⊥) → (s ≡ 3 → ⊥) → (s ≡ 4 → ⊥) → (s ≡ 5 → ⊥) → (0 ≡ length (literalsIn (decode bytes) s)) × (0 ≤ 60)
-    unfolding literalsIn
-    count-none a b c d = rw (ne-eqb s 2 a, ne-eqb s 3 b, ne-eqb s 4 c, ne-eqb s 5 d) (refl, omega arith)
+    count-none a b c = rw (ne-eqb s 2 a, ne-eqb s 3 b, ne-eqb s 4 c) (refl, omega arith)
 
     pub start-second : s ≡ 2 → (l .terms + 2 ≡ startIn (decode bytes) s) × (l .terms + 2 ≤ 1000)
     unfolding startIn
@@ -98,32 +91,14 @@ module _ (l : Layout) (bytes : List ℕ) (laid : LaysOut l bytes) where
     unfolding startIn
     start-third a e = rw (ne-eqb s 2 a, eq-eqb s 3 e) (omega (arith, laid .term-count, equal-counted), omega (arith, laid .terms-within, laid .equal-within))
 
-    pub start-fourth : (s ≡ 2 → ⊥) → (s ≡ 3 → ⊥) → s ≡ 4 → (l .terms + 3 * l .«equal_count» + 3 * l .«reach_count» + 4 ≡ startIn (decode bytes) s) × (l .terms + 3 * l .«equal_count» + 3 * l .«reach_count» + 4 ≤ 1000)
+    pub start-last : (s ≡ 2 → ⊥) → (s ≡ 3 → ⊥) → (l .terms + 3 * l .«equal_count» + 3 * l .«reach_count» + 4 ≡ startIn (decode bytes) s) × (l .terms + 3 * l .«equal_count» + 3 * l .«reach_count» + 4 ≤ 1000)
     unfolding startIn
-    start-fourth a b e =
-        rw (ne-eqb s 2 a, ne-eqb s 3 b, eq-eqb s 4 e) (omega (arith, laid .term-count, equal-counted, reach-counted), omega (arith, laid .terms-within, laid .equal-within, laid .reach-within))
+    start-last a b =
+        rw (ne-eqb s 2 a, ne-eqb s 3 b) (omega (arith, laid .term-count, equal-counted, reach-counted), omega (arith, laid .terms-within, laid .equal-within, laid .reach-within))
 
-    pub start-last : (s ≡ 2 → ⊥) → (s ≡ 3 → ⊥) → (s ≡ 4 → ⊥) → (l .terms + 3 * l .«equal_count» + 3 * l .«reach_count» + 3 * l .«field_count» + 5 ≡ startIn (decode bytes) s) × (l .terms + 3 * l .«equal_count» + 3 * l .«reach_count» + 3 * l .«field_count» + 5 ≤ 1000)
-    unfolding startIn
-    start-last a b c =
-        rw (ne-eqb s 2 a, ne-eqb s 3 b, ne-eqb s 4 c) (omega (arith, laid .term-count, equal-counted, reach-counted, field-counted), omega (arith, laid .terms-within, laid .equal-within, laid .reach-within, laid .field-within))
-
-pub width-two : (s : ℕ) → s ≡ 5 → 2 ≡ widthIn s
-unfolding widthIn
-width-two s e = rw (eq-eqb s 5 e)
-
-pub width-three : (s : ℕ) → (s ≡ 5 → ⊥) → 3 ≡ widthIn s
-unfolding widthIn
-width-three s a = rw (ne-eqb s 5 a)
-
-module _ (bytes : List ℕ) (s k : ℕ) where
-  pub place-two : {start : ℕ} → start ≡ startIn (decode bytes) s → s ≡ 5 → start + 2 * (k - 1) ≡ placeIn (decode bytes) s k
-  unfolding placeIn widthIn
-  place-two h e = rw (eq-eqb s 5 e, h)
-
-  pub place-three : {start : ℕ} → start ≡ startIn (decode bytes) s → (s ≡ 5 → ⊥) → start + 3 * (k - 1) ≡ placeIn (decode bytes) s k
-  unfolding placeIn widthIn
-  place-three h a = rw (ne-eqb s 5 a, h)
+pub place-there : (bytes : List ℕ) (s k : ℕ) {start : ℕ} → start ≡ startIn (decode bytes) s → start + 3 * (k - 1) ≡ placeIn (decode bytes) s k
+unfolding placeIn
+place-there bytes s k h = rw h
 
 -- The hand-back
 
@@ -135,7 +110,7 @@ module _ (a b : Query) (line : List ℕ) where
   abbrev k : ℕ
   k = getD line 2 0
 
-  of-tests : (x y z : Bool) → eqb (getD line 0 0) 9 ≡ x → isAmong 0 (length (literalsIn a s)) k ≡ y → isAmong (length (literalsIn a s)) (length (literalsIn b s)) k ≡ z → handBackOf a b line ≡ cond x (cond y (hand.inFirst (placeIn a s k) (widthIn s)) (cond z (hand.inSecond (placeIn b s (k - length (literalsIn a s))) (widthIn s)) (hand.refused 25 0))) (hand.refused 25 0)
+  of-tests : (x y z : Bool) → eqb (getD line 0 0) 9 ≡ x → isAmong 0 (length (literalsIn a s)) k ≡ y → isAmong (length (literalsIn a s)) (length (literalsIn b s)) k ≡ z → handBackOf a b line ≡ cond x (cond y (hand.inFirst (placeIn a s k) 3) (cond z (hand.inSecond (placeIn b s (k - length (literalsIn a s))) 3) (hand.refused 25 0))) (hand.refused 25 0)
   unfolding handBackOf
   of-tests x y z e f g = rw (e, f, g)
 
@@ -175,14 +150,13 @@ module _ (first second line : List ℕ) (ok₁ : accepts first ≡ true) (ok₂ 
   back-zero h z =
       (sym (of-tests (decode first) (decode second) line true false false (eq-eqb (getD line 0 0) 9 (sym e₀ ∙ h)) (among-low 0 _ (getD line 2 0) (omega arith)) (among-low _ _ (getD line 2 0) (omega arith))), tt)
 
-  pub back-first : nine ≡ 9 → {i p size : ℕ} → i ≡ length (literalsIn (decode first) s) → (k ≡ 0 → ⊥) → k ≤ i → p ≡ placeIn (decode first) s k → size ≡ widthIn s → Answers (back.InFirst p size)
-  back-first h {i} {p} {size} ei one low ep ez =
+  pub back-first : nine ≡ 9 → {i p : ℕ} → i ≡ length (literalsIn (decode first) s) → (k ≡ 0 → ⊥) → k ≤ i → p ≡ placeIn (decode first) s k → Answers (back.InFirst p 3)
+  back-first h {i} {p} ei one low ep =
       let inside = moved (decode first) ei in
-      let at-place : p ≡ placeIn (decode first) (getD line 1 0) (getD line 2 0) = ep ∙ ap (λ (t : ℕ). placeIn (decode first) t k) e₁ ∙ ap (placeIn (decode first) (getD line 1 0)) e₂ in
-      let at-size : size ≡ widthIn (getD line 1 0) = ez ∙ ap widthIn e₁ in (
-        ap (λ (t : ℕ). hand.inFirst t size) at-place ∙ ap (hand.inFirst (placeIn (decode first) (getD line 1 0) (getD line 2 0))) at-size
+      let at-place : p ≡ placeIn (decode first) (getD line 1 0) (getD line 2 0) = ep ∙ ap (λ (t : ℕ). placeIn (decode first) t k) e₁ ∙ ap (placeIn (decode first) (getD line 1 0)) e₂ in (
+        ap (λ (t : ℕ). hand.inFirst t 3) at-place
             ∙ sym (of-tests (decode first) (decode second) line true true _ (eq-eqb (getD line 0 0) 9 (sym e₀ ∙ h)) (among-inside 0 _ (getD line 2 0) (positive one) (omega arith)) refl),
-        omega (arith, ep, ez, literal-fits first ok₁ s k (positive-own one) (omega (arith, low, ei))),
+        omega (arith, ep, literal-fits first ok₁ s k (positive-own one) (omega (arith, low, ei))),
       )
     where
       positive-own : (k ≡ 0 → ⊥) → 1 ≤ k
@@ -191,16 +165,15 @@ module _ (first second line : List ℕ) (ok₁ : accepts first ≡ true) (ok₂ 
       positive : (k ≡ 0 → ⊥) → 0 < getD line 2 0
       positive n = omega (arith, positive-own n)
 
-  pub back-second : nine ≡ 9 → {i m p size : ℕ} → i ≡ length (literalsIn (decode first) s) → m ≡ length (literalsIn (decode second) s) → i < k → k ≤ i + m → p ≡ placeIn (decode second) s (k - i) → size ≡ widthIn s → Answers (back.InSecond p size)
-  back-second h {i} {m} {p} {size} ei em low high ep ez =
+  pub back-second : nine ≡ 9 → {i m p : ℕ} → i ≡ length (literalsIn (decode first) s) → m ≡ length (literalsIn (decode second) s) → i < k → k ≤ i + m → p ≡ placeIn (decode second) s (k - i) → Answers (back.InSecond p 3)
+  back-second h {i} {m} {p} ei em low high ep =
       let first-count = moved (decode first) ei in
       let second-count = moved (decode second) em in
       let at-place : p ≡ placeIn (decode second) (getD line 1 0) (getD line 2 0 - length (literalsIn (decode first) (getD line 1 0))) =
-      ep ∙ ap (λ (t : ℕ). placeIn (decode second) t (k - i)) e₁ ∙ ap (λ (t : ℕ). placeIn (decode second) (getD line 1 0) (t - i)) e₂ ∙ ap (λ (t : ℕ). placeIn (decode second) (getD line 1 0) (getD line 2 0 - t)) first-count in
-      let at-size : size ≡ widthIn (getD line 1 0) = ez ∙ ap widthIn e₁ in (
-        ap (λ (t : ℕ). hand.inSecond t size) at-place ∙ ap (hand.inSecond (placeIn (decode second) (getD line 1 0) (getD line 2 0 - length (literalsIn (decode first) (getD line 1 0))))) at-size
+      ep ∙ ap (λ (t : ℕ). placeIn (decode second) t (k - i)) e₁ ∙ ap (λ (t : ℕ). placeIn (decode second) (getD line 1 0) (t - i)) e₂ ∙ ap (λ (t : ℕ). placeIn (decode second) (getD line 1 0) (getD line 2 0 - t)) first-count in (
+        ap (λ (t : ℕ). hand.inSecond t 3) at-place
             ∙ sym (of-tests (decode first) (decode second) line true false true (eq-eqb (getD line 0 0) 9 (sym e₀ ∙ h)) (among-high 0 _ (getD line 2 0) (omega arith)) (among-inside _ _ (getD line 2 0) (omega arith) (omega arith))),
-        omega (arith, ep, ez, literal-fits second ok₂ s (k - i) (omega arith) (omega (arith, em))),
+        omega (arith, ep, literal-fits second ok₂ s (k - i) (omega arith) (omega (arith, em))),
       )
 
   pub back-past : nine ≡ 9 → {i m : ℕ} → i ≡ length (literalsIn (decode first) s) → m ≡ length (literalsIn (decode second) s) → i < k → i + m < k → Answers (back.Refused 25 0)
@@ -209,7 +182,7 @@ module _ (first second line : List ℕ) (ok₁ : accepts first ≡ true) (ok₂ 
       let second-count = moved (decode second) em in
       (sym (of-tests (decode first) (decode second) line true false false (eq-eqb (getD line 0 0) 9 (sym e₀ ∙ h)) (among-high 0 _ (getD line 2 0) (omega arith)) (among-high _ _ (getD line 2 0) (omega arith))), tt)
 
--- Checks 2 to 8
+-- The checks of a query
 
 pub refused-query : (bytes : List ℕ) {k place : ℕ} → CheckedAs (checked.Refused k place) bytes → queryRefusal bytes ≡ some (refused k place)
 unfolding queryRefusal

@@ -1,26 +1,22 @@
 -- Literals, entries and pairs as a loop meets them: what is left, one at a time. Assumes nothing.
 use Prim.Native.Nat.{ℕ, zero, suc, _+_, _-_, _*_, _≤_, _<_}
 use native.Mathlib.Omega.{arith}
-use native.Mathlib.Nat.{zero-add, sub-zero, add-zero}
-use native.Mathlib.Numerals.{add-one, one-add}
-use mathlib.Core.Path.{_≡_, refl, sym, ap, _∙_, subst}
-use mathlib.Core.Logic.{⊎-elim}
-use mathlib.Core.Bool.{Bool, true, false, _&&_, cond}
-use mathlib.Core.List.{List, [], _∷_, _++_, map, append-nil, append-assoc, List·Memᴰ}
-use lib.ListN.{length, getD, set, take, drop, replicate, length-append, length-map, length-drop, length-replicate, drop-of-length-le}
-use lib.Seq.{set-at, drop-cons, take-all, length-take-le}
-use lib.Dec.{eqb, ltb, leb}
-use borrow.Author.Tests.{eqb-true, ne-eqb}
+use native.Mathlib.Nat.{sub-zero}
+use mathlib.Core.Path.{_≡_, refl, ap, _∙_}
+use mathlib.Core.Bool.{Bool, true, false, _&&_}
+use mathlib.Core.List.{List, [], _∷_, _++_, map}
+use lib.ListN.{length, getD, take, drop, length-map, length-drop, drop-of-length-le}
+use lib.Seq.{length-take-le}
+use lib.Dec.{ltb, leb}
 use Rattle.logic.specs.Search.{_and_, _or_, from, all, flatMap}
-use Rattle.logic.specs.Query.{Literal, Query, literals, flags}
+use Rattle.logic.specs.Query.{Literal, literals}
 use Rattle.logic.proofs.Basics.Count.{length-flatMap}
 use Rattle.logic.proofs.Basics.Compare.{eqb-false}
-use Rattle.text.proofs.Writing.{Part}
-use Rattle.query.specs.LaysOut.{literalIn, flagIn}
-use Rattle.query.proofs.Literals.{listed, listed-end, listed-next, listed-mem, listed-length, literals-are, flags-are}
+use Rattle.query.specs.LaysOut.{literalIn}
+use Rattle.query.proofs.Literals.{listed, listed-end, listed-next, listed-mem, listed-length, literals-are}
 use Rattle.query.proofs.Loops.{drop-next}
 use Rattle.joining.specs.Pairs.{Pair, pairs, pairsOf, hasTerms}
-use Rattle.encoding.specs.QueryBytes.{signByte, literalBytes, flagBytes}
+use Rattle.encoding.specs.QueryBytes.{signByte, literalBytes}
 use Rattle.joining.specs.Joined.{raisedEntry, raised, pairLiteral}
 use Rattle.joiner.specs.Bytes.{Small, SmallEntries, SmallPairs, pairOf}
 
@@ -66,21 +62,6 @@ module _ (bytes : List ℕ) (at count i j : ℕ) (fits : at + 3 * count ≤ leng
 pub literal-bytes : {plain : Bool} {left right : ℕ} (i j : ℕ) (l : Literal) → plain ≡ l .plain → left ≡ l .left → right ≡ l .right → signByte plain ∷ (i + left) ∷ (j + right) ∷ [] ≡ literalBytes (raised i j l)
 unfolding literalBytes raised
 literal-bytes i j l p e f = rw (p, e, f)
-
--- Boolean literals
-
-module _ (bytes : List ℕ) (at count : ℕ) (fits : at + 2 * count ≤ length bytes) where
-  pub flags-all : flatMap flagBytes (flags (take (2 * count) (drop at bytes))) ≡ rest flagBytes (flagIn bytes at) count 0
-  flags-all = ap (flatMap flagBytes) (flags-are bytes at count fits)
-
-  pub flag-small : Small 0 0 (flags (take (2 * count) (drop at bytes))) → (k : ℕ) → k < count → getD bytes (at + 2 * k + 1) 0 < 256
-  flag-small h k l =
-      let r = h (flagIn bytes at k) (rw (flags-are bytes at count fits) (listed-mem (flagIn bytes at) count k l)) in
-      omega (arith, r .0)
-
-pub flag-bytes : {plain : Bool} {left : ℕ} (l : Literal) → plain ≡ l .plain → left ≡ l .left → signByte plain ∷ left ∷ [] ≡ flagBytes l
-unfolding flagBytes
-flag-bytes l p e = rw (p, e)
 
 -- Entries
 
@@ -207,12 +188,6 @@ unfolding literalBytes
 literals-long bytes at count i j h =
     length-flatMap literalBytes 3 (λ l. refl) (map (raised i j) (literals (take (3 * count) (drop at bytes))))
     ∙ ap (λ (k : ℕ). k * 3) (length-map (literals (take (3 * count) (drop at bytes))) (raised i j) ∙ ap length (literals-are bytes at count h) ∙ listed-length (literalIn bytes at) count)
-
-pub flags-long : (bytes : List ℕ) (at count : ℕ) → at + 2 * count ≤ length bytes → length (flatMap flagBytes (flags (take (2 * count) (drop at bytes)))) ≡ count * 2
-unfolding flagBytes
-flags-long bytes at count h =
-    length-flatMap flagBytes 2 (λ l. refl) (flags (take (2 * count) (drop at bytes)))
-    ∙ ap (λ (k : ℕ). k * 2) (ap length (flags-are bytes at count h) ∙ listed-length (flagIn bytes at) count)
 
 pub pair-is : {a b i j : ℕ} → a ≡ i → b ≡ j → pairOf a b ≡ pairOf i j
 pair-is e f = rw (e, f)

@@ -1,34 +1,32 @@
 -- What the writers of a joined query are given and leave, section by section. Assumes nothing.
-use Prim.Native.Nat.{ℕ, zero, suc, _+_, _-_, _*_, _≤_, _<_}
+use Prim.Native.Nat.{ℕ, suc, _+_, _*_, _≤_, _<_}
 use native.Mathlib.Omega.{arith}
 use native.Mathlib.Nat.{zero-add}
 use mathlib.Core.Path.{_≡_, refl, sym, ap, _∙_, subst}
 use mathlib.Core.Logic.{⊎-elim}
 use mathlib.Core.Bool.{Bool, true, false, _&&_, cond}
 use mathlib.Core.List.{List, [], _∷_, _++_, map, append-assoc, List·Memᴰ, List·Memᴰ·cases-cons, List·Memᴰ·not-nil}
-use lib.ListN.{length, getD, take, drop, replicate, length-append, length-map}
+use lib.ListN.{length, getD, take, drop, length-append, length-map}
 use lib.Dec.{eqb, leb}
-use borrow.Author.Tests.{leb-true, eqb-true, ne-eqb}
-use Rattle.logic.specs.Search.{_and_, _or_, all, flatMap}
-use Rattle.logic.specs.Query.{Literal, Query, termCount, entryOf, namesNil, argumentOf, firstByte, literals, flags, decode}
-use Rattle.logic.specs.Calls.{accepts}
+use borrow.Author.Tests.{leb-true, eqb-true}
+use Rattle.logic.specs.Search.{_and_, _or_, flatMap}
+use Rattle.logic.specs.Query.{Literal, Query, termCount, entryOf, namesNil, argumentOf, firstByte, literals, decode}
 use Rattle.logic.proofs.Basics.Search.{and-left, and-right, all-true}
 use Rattle.logic.proofs.Basics.Compare.{eq-cases}
 use Rattle.logic.proofs.Basics.Count.{length-flatMap}
 use Rattle.logic.proofs.Query.Tied.{Accepted, InTerms}
 use Rattle.logic.proofs.Query.AcceptedBytes.{accepted}
-use Rattle.query.specs.LaysOut.{LaysOut}
 use Rattle.query.specs.declared.Layout.{Layout}
 use Rattle.query.proofs.Literals.{listed-length}
 use Rattle.joining.specs.Pairs.{Pair, pairsOf, hasTerms, isPairList}
-use Rattle.encoding.specs.QueryBytes.{literalBytes, flagBytes, sectionBytes, encode, withinLimits}
+use Rattle.encoding.specs.QueryBytes.{literalBytes, sectionBytes, encode, withinLimits}
 use Rattle.joining.specs.Joined.{raisedEntry, raised, pairLiteral, joined}
-use Rattle.encoding.proofs.Decoded.{booleans-right}
+use Rattle.encoding.proofs.Encoded.{Limits, within-limits}
 use Rattle.joining.proofs.Accepted.{Paired, pair-terms, count-joined}
 use Rattle.joiner.specs.Bytes.{Small, SmallEntries, SmallPairs, keepsLimits, Bounded}
 use Rattle.joiner.specs.Promise.{Passing}
 use Rattle.joiner.proofs.Laws.{pairIn, pairs-are, entries-long, literals-long}
-use Rattle.joiner.proofs.Answers.{equal-counted, reach-counted, field-counted, boolean-counted}
+use Rattle.joiner.proofs.Answers.{equal-counted, reach-counted, field-counted}
 
 -- Raised by nothing
 
@@ -55,12 +53,14 @@ unfolding flatMap
 flatMap-append g [] ys = refl
 flatMap-append {B} g (x ∷ xs) ys = ap (λ (zs : List B). g x ++ zs) (flatMap-append g xs ys) ∙ sym (append-assoc (g x) (flatMap g xs) (flatMap g ys))
 
-section-is : (g : Literal → List ℕ) (c : ℕ) (xs ys ws : List Literal) → c ≡ length ws → ws ≡ xs ++ ys → c ∷ (flatMap g xs ++ flatMap g ys) ≡ sectionBytes g ws
+section-is : (c : ℕ) (xs ys ws : List Literal) → c ≡ length ws → ws ≡ xs ++ ys → c ∷ (flatMap literalBytes xs ++ flatMap literalBytes ys) ≡ sectionBytes ws
 unfolding sectionBytes
-section-is g c xs ys ws e h = ap (λ (k : ℕ). k ∷ (flatMap g xs ++ flatMap g ys)) e ∙ ap (λ (zs : List ℕ). length ws ∷ zs) (sym (ap (flatMap g) h ∙ flatMap-append g xs ys))
+section-is c xs ys ws e h =
+    ap (λ (k : ℕ). k ∷ (flatMap literalBytes xs ++ flatMap literalBytes ys)) e
+    ∙ ap (λ (zs : List ℕ). length ws ∷ zs) (sym (ap (flatMap literalBytes) h ∙ flatMap-append literalBytes xs ys))
 
-five : {t t′ e e′ r r′ f f′ b b′ : List ℕ} → t ≡ t′ → e ≡ e′ → r ≡ r′ → f ≡ f′ → b ≡ b′ → t ++ (e ++ (r ++ (f ++ b))) ≡ t′ ++ (e′ ++ (r′ ++ (f′ ++ b′)))
-five p q u v w = rw (p, q, u, v, w)
+four : {t t′ e e′ r r′ f f′ : List ℕ} (b : List ℕ) → t ≡ t′ → e ≡ e′ → r ≡ r′ → f ≡ f′ → t ++ (e ++ (r ++ (f ++ b))) ≡ t′ ++ (e′ ++ (r′ ++ (f′ ++ b)))
+four b p q u v = rw (p, q, u, v)
 
 -- Numbers that fit
 
@@ -152,10 +152,6 @@ module _ (first second pairs : List ℕ) (f s : Layout) (pf : Passing f first) (
   field-sum =
       length-append (decode first .fields) _ ∙ omega (arith, field-counted f first (pf .laid), field-counted s second (ps .laid), length-map (decode second .fields) (raised 0 (termCount (decode first))))
 
-  boolean-sum : length (whole .booleans) ≡ f .«boolean_count» + s .«boolean_count»
-  unfolding joined
-  boolean-sum = length-append (decode first .booleans) (decode second .booleans) ∙ omega (arith, boolean-counted f first (pf .laid), boolean-counted s second (ps .laid))
-
   and-same : (x y : Bool) → x && y ≡ x and y
   unfolding _and_
   and-same true y = refl
@@ -165,8 +161,8 @@ module _ (first second pairs : List ℕ) (f s : Layout) (pf : Passing f first) (
   pub limits-same : (count : ℕ) → count ≡ getD pairs 0 0 → keepsLimits f s count ≡ withinLimits whole
   unfolding keepsLimits withinLimits
   limits-same count e =
-      rw (terms-sum, equal-sum, reach-sum, field-sum, boolean-sum, e)
-      (and-same _ _ ∙ ap (λ (x : Bool). x and leb (f .«boolean_count» + s .«boolean_count») 60) (and-same _ _ ∙ ap (λ (x : Bool). x and leb (f .«field_count» + s .«field_count») 60) (and-same _ _ ∙ ap (λ (x : Bool). x and leb (f .«reach_count» + s .«reach_count») 60) (and-same _ _))))
+      rw (terms-sum, equal-sum, reach-sum, field-sum, e)
+      (and-same _ _ ∙ ap (λ (x : Bool). x and leb (f .«field_count» + s .«field_count») 60) (and-same _ _ ∙ ap (λ (x : Bool). x and leb (f .«reach_count» + s .«reach_count») 60) (and-same _ _)))
 
   pub first-bounded : Bounded f
   first-bounded =
@@ -175,7 +171,6 @@ module _ (first second pairs : List ℕ) (f s : Layout) (pf : Passing f first) (
         equal-within = pf .laid .equal-within;
         reach-within = pf .laid .reach-within;
         field-within = pf .laid .field-within;
-        boolean-within = pf .laid .boolean-within;
       }
 
   pub second-bounded : Bounded s
@@ -185,37 +180,23 @@ module _ (first second pairs : List ℕ) (f s : Layout) (pf : Passing f first) (
         equal-within = ps .laid .equal-within;
         reach-within = ps .laid .reach-within;
         field-within = ps .laid .field-within;
-        boolean-within = ps .laid .boolean-within;
       }
 
   module _ (within : withinLimits (joined (decode first) (decode second) (pairsOf pairs)) ≡ true) (count : ℕ) (counts : count ≡ getD pairs 0 0) where
-    limits : (termCount whole ≤ 16) × (length (whole .equalities) ≤ 60) × (length (whole .reachability) ≤ 60) × (length (whole .fields) ≤ 60) × (length (whole .booleans) ≤ 60)
-    unfolding withinLimits
-    limits =
-        let four = and-left _ _ within in
-        let three = and-left _ _ four in
-        let two = and-left _ _ three in (
-          leb-true _ 16 (and-left _ _ two),
-          leb-true _ 60 (and-right _ _ two),
-          leb-true _ 60 (and-right _ _ three),
-          leb-true _ 60 (and-right _ _ four),
-          leb-true _ 60 (and-right _ _ within),
-        )
+    limits : Limits whole
+    limits = within-limits whole within
 
     pub terms-low : f .terms + s .terms ≤ 16
-    terms-low = omega (arith, terms-sum, limits .0)
+    terms-low = omega (arith, terms-sum, limits .terms)
 
     pub equal-low : f .«equal_count» + s .«equal_count» + count ≤ 60
-    equal-low = omega (arith, equal-sum, limits .1, counts)
+    equal-low = omega (arith, equal-sum, limits .equalities, counts)
 
     pub reach-low : f .«reach_count» + s .«reach_count» + 0 ≤ 60
-    reach-low = omega (arith, reach-sum, limits .2)
+    reach-low = omega (arith, reach-sum, limits .reachability)
 
     pub field-low : f .«field_count» + s .«field_count» + 0 ≤ 60
-    field-low = omega (arith, field-sum, limits .3)
-
-    pub boolean-low : f .«boolean_count» + s .«boolean_count» ≤ 60
-    boolean-low = omega (arith, boolean-sum, limits .4)
+    field-low = omega (arith, field-sum, limits .fields)
 
     -- the numbers of each section fit
     pub entries-first : SmallEntries 0 (take (f .terms) (drop 1 first))
@@ -255,14 +236,6 @@ module _ (first second pairs : List ℕ) (f s : Layout) (pf : Passing f first) (
         subst (Small 0 (f .terms)) (ps .laid .field-are)
         (λ l m. (omega (arith, second-ok .field-number l m .1), omega (arith, second-ok .field-term l m .1, second-ok .term-count, pf .laid .terms-within)))
 
-    pub boolean-first : Small 0 0 (flags (take (2 * f .«boolean_count») (drop (f .«boolean_at») first)))
-    boolean-first =
-        subst (Small 0 0) (pf .laid .boolean-are) (λ l m. (omega (arith, first-ok .boolean-number l m .1), omega (arith, booleans-right first l m)))
-
-    pub boolean-second : Small 0 0 (flags (take (2 * s .«boolean_count») (drop (s .«boolean_at») second)))
-    boolean-second =
-        subst (Small 0 0) (ps .laid .boolean-are) (λ l m. (omega (arith, second-ok .boolean-number l m .1), omega (arith, booleans-right second l m)))
-
     -- what is written
     abbrev pub termBytes : List ℕ
     termBytes = (f .terms + s .terms) ∷ (map (raisedEntry 0) (take (f .terms) (drop 1 first)) ++ map (raisedEntry (f .terms)) (take (s .terms) (drop 1 second)))
@@ -287,12 +260,6 @@ module _ (first second pairs : List ℕ) (f s : Layout) (pf : Passing f first) (
         (f .«field_count» + s .«field_count» + 0)
         ∷ (flatMap literalBytes (map (raised 0 0) (literals (take (3 * f .«field_count») (drop (f .«field_at») first))))
         ++ flatMap literalBytes (map (raised 0 (f .terms)) (literals (take (3 * s .«field_count») (drop (s .«field_at») second)))))
-
-    abbrev pub booleanBytes : List ℕ
-    booleanBytes =
-        (f .«boolean_count» + s .«boolean_count»)
-        ∷ (flatMap flagBytes (flags (take (2 * f .«boolean_count») (drop (f .«boolean_at») first)))
-        ++ flatMap flagBytes (flags (take (2 * s .«boolean_count») (drop (s .«boolean_at») second))))
 
     -- how long the parts are
     pub term-bytes-long : length termBytes ≡ 1 + f .terms + s .terms
@@ -334,7 +301,7 @@ module _ (first second pairs : List ℕ) (f s : Layout) (pf : Passing f first) (
     both i j xs ys zs ws e g =
         ap (λ (vs : List Literal). vs ++ map (raised i j) ws) (e ∙ sym (map-none (raised 0 0) literal-none xs)) ∙ ap (λ (vs : List Literal). map (raised 0 0) xs ++ map (raised i j) vs) g
 
-    equal-are : equalBytes ++ pairBytes ≡ sectionBytes literalBytes (whole .equalities)
+    equal-are : equalBytes ++ pairBytes ≡ sectionBytes (whole .equalities)
     unfolding joined sectionBytes
     equal-are =
         ap (λ (k : ℕ). k ∷ ((flatMap literalBytes xs ++ flatMap literalBytes ys) ++ pairBytes)) (ap (λ (k : ℕ). f .«equal_count» + s .«equal_count» + k) counts ∙ sym equal-sum)
@@ -348,26 +315,20 @@ module _ (first second pairs : List ℕ) (f s : Layout) (pf : Passing f first) (
         ys : List Literal
         ys = map (raised (f .terms) (f .terms)) (literals (take (3 * s .«equal_count») (drop (s .«equal_at») second)))
 
-    reach-are : reachBytes ≡ sectionBytes literalBytes (whole .reachability)
+    reach-are : reachBytes ≡ sectionBytes (whole .reachability)
     unfolding joined
     reach-are =
-        section-is literalBytes _ _ _ (whole .reachability) (omega (arith, reach-sum))
+        section-is _ _ _ (whole .reachability) (omega (arith, reach-sum))
         (ap (λ (k : ℕ). decode first .reachability ++ map (raised k k) (decode second .reachability)) (sym same-terms) ∙ both (f .terms) (f .terms) _ _ (decode first .reachability) (decode second .reachability) (pf .laid .reach-are) (ps .laid .reach-are))
 
-    field-are : fieldBytes ≡ sectionBytes literalBytes (whole .fields)
+    field-are : fieldBytes ≡ sectionBytes (whole .fields)
     unfolding joined
     field-are =
-        section-is literalBytes _ _ _ (whole .fields) (omega (arith, field-sum))
+        section-is _ _ _ (whole .fields) (omega (arith, field-sum))
         (ap (λ (k : ℕ). decode first .fields ++ map (raised 0 k) (decode second .fields)) (sym same-terms) ∙ both 0 (f .terms) _ _ (decode first .fields) (decode second .fields) (pf .laid .field-are) (ps .laid .field-are))
 
-    boolean-are : booleanBytes ≡ sectionBytes flagBytes (whole .booleans)
-    unfolding joined
-    boolean-are =
-        section-is flagBytes _ _ _ (whole .booleans) (sym boolean-sum)
-        (ap (λ (zs : List Literal). zs ++ decode second .booleans) (pf .laid .boolean-are) ∙ ap (λ (zs : List Literal). flags (take (2 * f .«boolean_count») (drop (f .«boolean_at») first)) ++ zs) (ps .laid .boolean-are))
-
-    pub query-bytes : termBytes ++ (equalBytes ++ (pairBytes ++ (reachBytes ++ (fieldBytes ++ booleanBytes)))) ≡ encode whole
+    pub query-bytes : termBytes ++ (equalBytes ++ (pairBytes ++ (reachBytes ++ (fieldBytes ++ (0 ∷ []))))) ≡ encode whole
     unfolding encode
     query-bytes =
-        ap (λ (zs : List ℕ). termBytes ++ zs) (sym (append-assoc equalBytes pairBytes (reachBytes ++ (fieldBytes ++ booleanBytes))))
-        ∙ five terms-are equal-are reach-are field-are boolean-are
+        ap (λ (zs : List ℕ). termBytes ++ zs) (sym (append-assoc equalBytes pairBytes (reachBytes ++ (fieldBytes ++ (0 ∷ [])))))
+        ∙ four (0 ∷ []) terms-are equal-are reach-are field-are

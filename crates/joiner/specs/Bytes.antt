@@ -26,7 +26,6 @@ pub record Bounded (l : Layout) : Type 0 where
   pub equal-within : l .«equal_count» ≤ 60
   pub reach-within : l .«reach_count» ≤ 60
   pub field-within : l .«field_count» ≤ 60
-  pub boolean-within : l .«boolean_count» ≤ 60
 
 -- the limits of a joined query, by the counts of the two and of the pairs
 unfoldable pub keepsLimits : Layout → Layout → ℕ → Bool
@@ -34,4 +33,3 @@ keepsLimits f s count =
     leb (f .terms + s .terms) 16 && leb (f .«equal_count» + s .«equal_count» + count) 60
     && leb (f .«reach_count» + s .«reach_count») 60
     && leb (f .«field_count» + s .«field_count») 60
-    && leb (f .«boolean_count» + s .«boolean_count») 60

@@ -43,7 +43,7 @@ Inside first second (back.FirstRefused k place) = Unit {0}
 Inside first second (back.SecondRefused k place) = Unit {0}
 Inside first second (back.Refused k place) = Unit {0}
 
--- a query that passes checks 2 to 8, and where its sections stand
+-- a query that passes its checks, and where its sections stand
 pub record Passing (l : Layout) (bytes : List ℕ) : Type 0 where
   pub laid : LaysOut l bytes
   pub accepted : accepts bytes ≡ true

@@ -7,14 +7,14 @@ ghost use mathlib.Core.List.{[], _∷_, _++_, map};
 ghost use Prim.Native.Nat.{_+_, _*_, _≤_, _<_};
 ghost use lib.ListN.{length, replicate, getD, take, drop};
 ghost use Rattle.logic.specs.Search.{all, flatMap};
-ghost use Rattle.logic.specs.Query.{termCount, literals, flags, decode};
+ghost use Rattle.logic.specs.Query.{termCount, literals, decode};
 ghost use Rattle.query.specs.LaysOut.{LaysOut};
 ghost use Rattle.text.specs.Text.{Writes};
 ghost use Rattle.joining.specs.Pairs.{pairsOf, hasTerms, isPairList};
-ghost use Rattle.encoding.specs.QueryBytes.{signByte, literalBytes, flagBytes, sectionBytes, encode, withinLimits};
+ghost use Rattle.encoding.specs.QueryBytes.{signByte, literalBytes, sectionBytes, encode, withinLimits};
 ghost use Rattle.joining.specs.Joined.{raisedEntry, raised, pairLiteral, joined};
 ghost use Rattle.joining.specs.Call.{joinOf, joinCall};
-ghost use Rattle.joining.specs.HandBack.{literalsIn, widthIn, startIn, placeIn, handBackOf, handBackCall, partOf};
+ghost use Rattle.joining.specs.HandBack.{literalsIn, startIn, placeIn, handBackOf, handBackCall, partOf};
 ghost use Rattle.joiner.specs.Bytes.{Small, SmallEntries, SmallPairs, pairOf, Bounded, keepsLimits};
 ghost use Rattle.joiner.specs.Promise.{Does, handed, Inside, Passing};
 
@@ -36,21 +36,14 @@ pub enum HandBack {
     Refused(usize, usize),
 }
 
-// A literal of three bytes, and of two.
+// A literal of three bytes.
 fn put_literal(out: &mut [u8], to: usize, plain: bool, left: usize, right: usize) -> usize
     requires { ⌜ (to ≤ 1000) × (left < 256) × (right < 256) ⌝ }
     ensures { λ r. ⌜ Writes (now (out .entry)) to (signByte plain ∷ left ∷ right ∷ []) (now (out .exit)) r ⌝ }
 {
-    let next = put_flag(out, to, plain, left);
+    let signed = put_sign(out, to, plain);
+    let next = text::put_byte(out, signed, left as u8);
     text::put_byte(out, next, right as u8)
-}
-
-fn put_flag(out: &mut [u8], to: usize, plain: bool, left: usize) -> usize
-    requires { ⌜ (to ≤ 1000) × (left < 256) ⌝ }
-    ensures { λ r. ⌜ Writes (now (out .entry)) to (signByte plain ∷ left ∷ []) (now (out .exit)) r ⌝ }
-{
-    let next = put_sign(out, to, plain);
-    text::put_byte(out, next, left as u8)
 }
 
 // "Sign 1 is plain, 0 negated."
@@ -84,22 +77,6 @@ fn put_literals(
         let left = query::field(query, at, k);
         let right = query::right(query, at, k);
         next = put_literal(out, next, plain, i + left, j + right.0);
-        k += 1;
-    }
-    next
-}
-
-// The boolean literals.
-fn put_flags(query: &[u8], at: usize, count: usize, out: &mut [u8], to: usize) -> usize
-    requires { ⌜ (at + 2 * count ≤ length (now query)) × (to + 2 * count ≤ 1000) × Small 0 0 (flags (take (2 * count) (drop at (now query)))) ⌝ }
-    ensures { λ r. ⌜ Writes (now (out .entry)) to (flatMap flagBytes (flags (take (2 * count) (drop at (now (query .entry)))))) (now (out .exit)) r ⌝ }
-{
-    let mut next = to;
-    let mut k: usize = 0;
-    while k < count {
-        let plain = query::flag_sign(query, at, k);
-        let left = query::flag_number(query, at, k);
-        next = put_flag(out, next, plain, left);
         k += 1;
     }
     next
@@ -184,27 +161,7 @@ fn put_section(
     put_literals(second, at2, count2, i, j, out, next)
 }
 
-// Section 5.
-fn put_booleans(
-    first: &[u8],
-    at1: usize,
-    count1: usize,
-    second: &[u8],
-    at2: usize,
-    count2: usize,
-    out: &mut [u8],
-    to: usize,
-) -> usize
-    requires { ⌜ (at1 + 2 * count1 ≤ length (now first)) × (at2 + 2 * count2 ≤ length (now second)) × (count1 + count2 ≤ 60) × (to ≤ 800) ⌝ }
-    requires { ⌜ Small 0 0 (flags (take (2 * count1) (drop at1 (now first)))) × Small 0 0 (flags (take (2 * count2) (drop at2 (now second)))) ⌝ }
-    ensures { λ r. ⌜ Writes (now (out .entry)) to ((count1 + count2) ∷ (flatMap flagBytes (flags (take (2 * count1) (drop at1 (now (first .entry))))) ++ flatMap flagBytes (flags (take (2 * count2) (drop at2 (now (second .entry))))))) (now (out .exit)) r ⌝ }
-{
-    let begin = text::put_byte(out, to, (count1 + count2) as u8);
-    let next = put_flags(first, at1, count1, out, begin);
-    put_flags(second, at2, count2, out, next)
-}
-
-// The joined query, section by section.
+// The joined query, section by section; section 5 is the count 0.
 fn put_query(
     first: &[u8],
     f: Layout,
@@ -260,16 +217,7 @@ fn put_query(
         out,
         fourth_section,
     );
-    put_booleans(
-        first,
-        f.boolean_at,
-        f.boolean_count,
-        second,
-        s.boolean_at,
-        s.boolean_count,
-        out,
-        fifth_section,
-    )
+    text::put_byte(out, fifth_section, 0)
 }
 
 // Each pair names a term of either query.
@@ -322,8 +270,7 @@ fn keeps_limits(f: Layout, s: Layout, count: usize) -> bool
     let equal = f.equal_count + s.equal_count + count <= 60;
     let reach = f.reach_count + s.reach_count <= 60;
     let field = f.field_count + s.field_count <= 60;
-    let boolean = f.boolean_count + s.boolean_count <= 60;
-    terms & equal & reach & field & boolean
+    terms & equal & reach & field
 }
 
 // Two queries that pass their checks, joined in a blank buffer.
@@ -394,9 +341,6 @@ fn count_in(query: &[u8], l: Layout, s: usize) -> usize
     if s == 4 {
         return l.field_count;
     }
-    if s == 5 {
-        return l.boolean_count;
-    }
     0
 }
 
@@ -408,37 +352,21 @@ fn start_in(query: &[u8], l: Layout, s: usize) -> usize
     let n = l.terms;
     let second = 3 * l.equal_count;
     let third = 3 * l.reach_count;
-    let fourth = 3 * l.field_count;
     if s == 2 {
         return n + 2;
     }
     if s == 3 {
         return n + second + 3;
     }
-    if s == 4 {
-        return n + second + third + 4;
-    }
-    n + second + third + fourth + 5
+    n + second + third + 4
 }
 
-fn width_in(s: usize) -> usize
-    ensures { λ r. ⌜ r ≡ widthIn s ⌝ }
-{
-    if s == 5 {
-        return 2;
-    }
-    3
-}
-
-// Where literal k stands.
+// Where literal k stands; each has three bytes.
 fn place_in(query: &[u8], l: Layout, s: usize, k: usize) -> usize
     requires { ⌜ LaysOut l (now query) × (1 ≤ k) × (k ≤ 60) ⌝ }
     ensures { λ r. ⌜ r ≡ placeIn (decode (now (query .entry))) s k ⌝ }
 {
     let start = start_in(query, l, s);
-    if s == 5 {
-        return start + 2 * (k - 1);
-    }
     start + 3 * (k - 1)
 }
 
@@ -455,15 +383,14 @@ fn find_literal(first: &[u8], f: Layout, second: &[u8], s: Layout, line: &[u8]) 
     }
     let i = count_in(first, f, section);
     let m = count_in(second, s, section);
-    let size = width_in(section);
     if k == 0 {
         return HandBack::Refused(25, 0);
     }
     if k <= i {
-        return HandBack::InFirst(place_in(first, f, section, k), size);
+        return HandBack::InFirst(place_in(first, f, section, k), 3);
     }
     if k <= i + m {
-        return HandBack::InSecond(place_in(second, s, section, k - i), size);
+        return HandBack::InSecond(place_in(second, s, section, k - i), 3);
     }
     HandBack::Refused(25, 0)
 }

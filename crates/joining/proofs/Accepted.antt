@@ -1,17 +1,14 @@
 -- A joined query's numbers are as they should be. Assumes nothing.
-use Prim.Native.Nat.{ℕ, zero, suc, _+_, _≤_, _<_}
+use Prim.Native.Nat.{ℕ, _+_, _≤_, _<_}
 use native.Mathlib.Omega.{arith}
 use native.Mathlib.Nat.{zero-add}
 use mathlib.Core.Path.{_≡_, refl, sym, ap, _∙_, subst}
 use mathlib.Core.Logic.{⊎-elim}
 use mathlib.Core.Bool.{true}
-use mathlib.Core.List.{List, [], _∷_, _++_, map, List·Memᴰ, List·Memᴰ·append-cases}
+use mathlib.Core.List.{List, map, List·Memᴰ, List·Memᴰ·append-cases}
 use lib.ListN.{length, length-append, length-map}
-use lib.Dec.{ltb, leb}
 use borrow.Author.Tests.{ltb-true, leb-true}
-use Rattle.logic.specs.Search.{_and_, all}
 use Rattle.logic.specs.Query.{Literal, Query, termCount, argumentOf, decode}
-use Rattle.logic.specs.Calls.{accepts}
 use Rattle.logic.proofs.Basics.Search.{and-left, and-right, map-mem, all-true}
 use Rattle.logic.proofs.Basics.Compare.{le-cases}
 use Rattle.logic.proofs.Query.Tied.{Accepted, InTerms}
@@ -21,7 +18,6 @@ use Rattle.joining.specs.Joined.{raised, raisedEntry, pairLiteral, joine
 use Rattle.joining.specs.Claims.{Joinable}
 use Rattle.joining.proofs.Terms.{Among, first-among, second-among, whose}
 use Rattle.encoding.proofs.Encoded.{within-limits, Encodable}
-use Rattle.encoding.proofs.Decoded.{booleans-right}
 
 -- a pair names a term of either query
 abbrev pub Paired : Query → Query → Pair → Type 0
@@ -114,7 +110,6 @@ module _ (a b : Query) (ps : List Pair) (first : Accepted a) (second : Accepted 
               λ l m. ⊎-elim (λ x. both-first l (first .reach-terms l x)) (both-raised l (b .reachability) (second .reach-terms)) (List·Memᴰ·append-cases (a .reachability) m);
           field-number = λ l m. ⊎-elim (first .field-number l) (λ x. right-raised l x .0) (List·Memᴰ·append-cases (a .fields) m);
           field-term = λ l m. ⊎-elim (λ x. in-first (l .right) (first .field-term l x)) (λ x. right-raised l x .1) (List·Memᴰ·append-cases (a .fields) m);
-          boolean-number = λ l m. ⊎-elim (first .boolean-number l) (second .boolean-number l) (List·Memᴰ·append-cases (a .booleans) m);
         }
 
 -- two queries and a pair list that can be joined
@@ -128,10 +123,8 @@ module _ (first second pairs : List ℕ) (ok : Joinable first second pairs) wher
   joined-small = within-limits _ (ok .within-limits) .terms
 
   pub encodable : Encodable (joined (decode first) (decode second) (pairsOf pairs))
-  unfolding joined
   encodable =
       record {
         accepted = joined-accepted (decode first) (decode second) (pairsOf pairs) (accepted first (ok .first-accepted)) (accepted second (ok .second-accepted)) all-paired joined-small;
         within = ok .within-limits;
-        booleans-right = λ l m. ⊎-elim (booleans-right first l) (booleans-right second l) (List·Memᴰ·append-cases (decode first .booleans) m);
       }

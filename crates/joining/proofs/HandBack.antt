@@ -1,39 +1,31 @@
 -- What is handed back: the literal that the line names. Assumes nothing.
 use Prim.Native.Nat.{ℕ, zero, suc, _+_, _-_, _≤_, _<_}
 use native.Mathlib.Omega.{arith}
-use native.Mathlib.Nat.{add-zero, add-suc}
 use mathlib.Core.Path.{_≡_, refl, sym, ap, _∙_, subst}
 use mathlib.Core.Logic.{_⊎_, inl, inr, ⊎-elim}
 use mathlib.Core.Bool.{Bool, true, false, not, cond, true≢false}
-use mathlib.Core.List.{List, [], _∷_, _++_, map, append-nil, List·Memᴰ, List·Memᴰ·head, List·Memᴰ·tail, List·Memᴰ·not-nil}
+use mathlib.Core.List.{List, [], _∷_, _++_, map, append-nil, List·Memᴰ, List·Memᴰ·not-nil}
 use mathlib.Core.Option.{Option, none, some, Option·elim}
-use lib.ListN.{length, getD, take, drop, length-append, length-map}
+use lib.ListN.{length, getD, length-map}
 use lib.Dec.{eqb, ltb, leb}
 use borrow.Author.Tests.{ltb-true, ltb-false, leb-true, leb-false, eqb-true}
-use Rattle.logic.specs.Search.{_and_, _or_, at, holdsOf}
+use Rattle.logic.specs.Search.{_and_, at, holdsOf}
 use Rattle.logic.specs.Query.{Literal, Query, termCount, decode}
 use Rattle.logic.specs.Facts.{Facts, line, isClash, negatedAt}
-use Rattle.logic.specs.Calls.{accepts, refusalOf, queryChecks}
-use Rattle.logic.proofs.Basics.Search.{bool-cases, true-false, not-true, and-left, and-right, and-false-cases, or-cases, none-some, isSome-false, map-mem}
+use Rattle.logic.specs.Calls.{accepts}
+use Rattle.logic.proofs.Basics.Search.{true-false, not-true, and-left, and-right, and-false-cases, or-cases, none-some, isSome-false, map-mem, at-left}
 use Rattle.logic.proofs.Basics.Compare.{eq-cases, eqb-self}
 use Rattle.joining.specs.Pairs.{Pair}
-use Rattle.joining.specs.Joined.{raised, pairLiteral, joined}
+use Rattle.joining.specs.Joined.{pairLiteral, joined}
 use Rattle.joining.specs.Call.{queryRefusal}
-use Rattle.joining.specs.HandBack.{Handed, inFirst, inSecond, firstRefused, secondRefused, refused, literalsIn, widthIn, readIn, raisedIn, placeIn, isAmong, handBackOf, handBackCall}
+use Rattle.joining.specs.HandBack.{Handed, inFirst, inSecond, firstRefused, secondRefused, refused, literalsIn, raisedIn, placeIn, isAmong, handBackOf, handBackCall}
 use Rattle.joining.specs.Claims.{OfFirst, OfSecond, Unnamed, HandsBack, IsPart, HandBackClaims}
+use Rattle.encoding.proofs.Decoded.{at-own, at-within}
 use Rattle.joining.proofs.Places.{literal-stands}
 
 -- Places of a list, counted from 1
 
 module _ {A : Type 0} where
-  at-left : (xs ys : List A) (k : ℕ) (x : A) → at xs k ≡ some x → at (xs ++ ys) k ≡ some x
-  unfolding at
-  at-left [] ys zero x e = absurd (none-some e)
-  at-left [] ys (suc k) x e = absurd (none-some e)
-  at-left (y ∷ xs) ys zero x e = absurd (none-some e)
-  at-left (y ∷ xs) ys (suc zero) x e = e
-  at-left (y ∷ xs) ys (suc (suc k)) x e = at-left xs ys (suc k) x e
-
   at-right : (xs ys : List A) (k : ℕ) → at (xs ++ ys) (length xs + suc k) ≡ at ys (suc k)
   unfolding at
   at-right [] ys k = ap (at ys) (none-before)
@@ -51,22 +43,6 @@ module _ {A : Type 0} where
       behind : at (x ∷ (xs ++ ys)) (suc (suc (length xs + k))) ≡ at (xs ++ ys) (length xs + suc k)
       behind = ap (at (xs ++ ys)) same
 
-  at-within : (xs : List A) (k : ℕ) (x : A) → at xs k ≡ some x → (1 ≤ k) × (k ≤ length xs)
-  unfolding at
-  at-within [] zero x e = absurd (none-some e)
-  at-within [] (suc k) x e = absurd (none-some e)
-  at-within (y ∷ xs) zero x e = absurd (none-some e)
-  at-within (y ∷ xs) (suc zero) x e = (omega arith, omega arith)
-  at-within (y ∷ xs) (suc (suc k)) x e = let r = at-within xs (suc k) x e in (omega arith, omega arith)
-
-  at-mem : (xs : List A) (k : ℕ) (x : A) → at xs k ≡ some x → List·Memᴰ x xs
-  unfolding at
-  at-mem [] zero x e = absurd (none-some e)
-  at-mem [] (suc k) x e = absurd (none-some e)
-  at-mem (y ∷ xs) zero x e = absurd (none-some e)
-  at-mem (y ∷ xs) (suc zero) x e = let q : x ≡ y = cc in List·Memᴰ·head q
-  at-mem (y ∷ xs) (suc (suc k)) x e = List·Memᴰ·tail (at-mem xs (suc k) x e)
-
 at-map : {A B : Type 0} (f : A → B) (xs : List A) (k : ℕ) (x : A) → at xs k ≡ some x → at (map f xs) k ≡ some (f x)
 unfolding at
 at-map f [] zero x e = absurd (none-some e)
@@ -76,10 +52,6 @@ at-map f (y ∷ xs) (suc zero) x e = cc
 at-map f (y ∷ xs) (suc (suc k)) x e = at-map f xs (suc k) x e
 
 -- The literals of a section of the joined query: the first's, the second's raised, and in section 2 the pairs'
-
-map-same : {A : Type 0} (xs : List A) → map (λ x. x) xs ≡ xs
-map-same [] = refl
-map-same {A} (x ∷ xs) = ap (λ (ys : List A). x ∷ ys) (map-same xs)
 
 abbrev OfPairs : ℕ → List Pair → Literal → Type 0
 OfPairs n ps l = (p : Pair) × List·Memᴰ p ps × (l ≡ pairLiteral n p)
@@ -102,25 +74,16 @@ module _ (a b : Query) (ps : List Pair) where
   unfolding literalsIn joined raisedIn
   fourth = record { rest = []; are = ap (λ (xs : List Literal). a .fields ++ xs) (sym (append-nil _)); pairs = λ l m. absurd (List·Memᴰ·not-nil m) }
 
-  fifth : Section a b ps 5
-  unfolding literalsIn joined raisedIn
-  fifth =
-      record {
-        rest = [];
-        are = ap (λ (xs : List Literal). a .booleans ++ xs) (sym (append-nil _ ∙ map-same (b .booleans)));
-        pairs = λ l m. absurd (List·Memᴰ·not-nil m);
-      }
-
-  other : (s : ℕ) → eqb s 2 ≡ false → eqb s 3 ≡ false → eqb s 4 ≡ false → eqb s 5 ≡ false → Section a b ps s
+  other : (s : ℕ) → eqb s 2 ≡ false → eqb s 3 ≡ false → eqb s 4 ≡ false → Section a b ps s
   unfolding literalsIn
-  other s i j k l = record { rest = []; are = rw (i, j, k, l); pairs = λ x m. absurd (List·Memᴰ·not-nil m) }
+  other s i j k = record { rest = []; are = rw (i, j, k); pairs = λ x m. absurd (List·Memᴰ·not-nil m) }
 
   sectioned : (s : ℕ) → Section a b ps s
   sectioned s =
       ⊎-elim (λ e. subst (Section a b ps) (sym e) second)
       (λ i.
       ⊎-elim (λ e. subst (Section a b ps) (sym e) third)
-      (λ j. ⊎-elim (λ e. subst (Section a b ps) (sym e) fourth) (λ k. ⊎-elim (λ e. subst (Section a b ps) (sym e) fifth) (λ l. other s (i .1) (j .1) (k .1) (l .1)) (eq-cases s 5)) (eq-cases s 4))
+      (λ j. ⊎-elim (λ e. subst (Section a b ps) (sym e) fourth) (λ k. other s (i .1) (j .1) (k .1)) (eq-cases s 4))
       (eq-cases s 3))
       (eq-cases s 2)
 
@@ -144,7 +107,7 @@ module _ (a b : Query) (ps : List Pair) where
   named-pair : (s k : ℕ) (l : Literal) → length (literalsIn a s) + length (literalsIn b s) < k → at (literalsIn (joined a b ps) s) k ≡ some l → OfPairs (termCount a) ps l
   named-pair s k l h e =
       sectioned s .pairs l
-      (at-mem (sectioned s .rest) (suc (k - length (literalsIn a s) - length (literalsIn b s) - 1)) l
+      (at-own (sectioned s .rest) (suc (k - length (literalsIn a s) - length (literalsIn b s) - 1)) l
       (sym (at-right (map (raisedIn (termCount a) s) (literalsIn b s)) (sectioned s .rest) (k - length (literalsIn a s) - length (literalsIn b s) - 1))
       ∙ ap (at (map (raisedIn (termCount a) s) (literalsIn b s) ++ sectioned s .rest)) (inner)
       ∙ sym (at-right (literalsIn a s) (map (raisedIn (termCount a) s) (literalsIn b s) ++ sectioned s .rest) (k - length (literalsIn a s) - 1))
@@ -184,13 +147,13 @@ module _ (first second : List ℕ) (ok₁ : accepts first ≡ true) (ok₂ : acc
   handed bytes = rw (no-refusal first ok₁, no-refusal second ok₂)
 
   module _ (nine s k : ℕ) where
-    of-first : nine ≡ 9 → isAmong 0 (length (literalsIn a s)) k ≡ true → OfFirst first second nine s k (placeIn a s k) (widthIn s)
+    of-first : nine ≡ 9 → isAmong 0 (length (literalsIn a s)) k ≡ true → OfFirst first second nine s k (placeIn a s k) 3
     of-first begins h =
         let r = among-within 0 (length (literalsIn a s)) k h in
         let (l, own, reads) = literal-stands first ok₁ s k (omega (arith, r .0)) (omega (arith, r .1)) in
         record { literal = l; begins = begins; reads = reads; own = own; named = λ ps. named-first a b ps s k l own }
 
-    of-second : nine ≡ 9 → isAmong (length (literalsIn a s)) (length (literalsIn b s)) k ≡ true → OfSecond first second nine s k (placeIn b s (k - length (literalsIn a s))) (widthIn s)
+    of-second : nine ≡ 9 → isAmong (length (literalsIn a s)) (length (literalsIn b s)) k ≡ true → OfSecond first second nine s k (placeIn b s (k - length (literalsIn a s))) 3
     of-second begins h =
         let r = among-within (length (literalsIn a s)) (length (literalsIn b s)) k h in
         let (l, own, reads) = literal-stands second ok₂ s (k - length (literalsIn a s)) (omega (arith, r .0)) (omega (arith, r .1)) in
@@ -212,7 +175,7 @@ module _ (first second : List ℕ) (ok₁ : accepts first ≡ true) (ok₂ : acc
         (λ above. ⊎-elim (λ low. absurd (omega arith)) (λ high. named-pair a b ps s k l high e) v) u
 
     -- by the three tests
-    by-tests : (x y z : Bool) → eqb nine 9 ≡ x → isAmong 0 (length (literalsIn a s)) k ≡ y → isAmong (length (literalsIn a s)) (length (literalsIn b s)) k ≡ z → HandsBack first second nine s k (cond x (cond y (inFirst (placeIn a s k) (widthIn s)) (cond z (inSecond (placeIn b s (k - length (literalsIn a s))) (widthIn s)) (refused 25 0))) (refused 25 0))
+    by-tests : (x y z : Bool) → eqb nine 9 ≡ x → isAmong 0 (length (literalsIn a s)) k ≡ y → isAmong (length (literalsIn a s)) (length (literalsIn b s)) k ≡ z → HandsBack first second nine s k (cond x (cond y (inFirst (placeIn a s k) 3) (cond z (inSecond (placeIn b s (k - length (literalsIn a s))) 3) (refused 25 0))) (refused 25 0))
     by-tests false y z e f g = (refl, refl, λ ps l begins h. absurd (true-false (ap (λ (i : ℕ). eqb i 9) begins ∙ eqb-self 9) e))
     by-tests true true z e f g = of-first (eqb-true nine 9 e) f
     by-tests true false true e f g = of-second (eqb-true nine 9 e) g
@@ -236,16 +199,12 @@ module _ (first second : List ℕ) (ok₁ : accepts first ≡ true) (ok₂ : acc
   clash-names q facts nine s k j h = (
     eqb-true nine 9 (and-left _ _ h),
     ⊎-elim
-        (λ y.
-        ⊎-elim
         (λ z.
         ⊎-elim
         (λ w. there 2 (and-left _ _ (and-left _ _ w)) (negated (q .equalities) k _ (and-right _ _ w)))
         (λ w. there 3 (and-left _ _ (and-left _ _ w)) (negated (q .reachability) k _ (and-right _ _ w)))
         (or-cases _ _ z))
         (λ z. there 4 (and-left _ _ z) (negated (q .fields) k _ (and-right _ _ z)))
-        (or-cases _ _ y))
-        (λ y. there 5 (and-left _ _ y) (negated (q .booleans) k _ (and-right _ _ y)))
         (or-cases _ _ (and-right _ _ h)),
   )
     where

@@ -6,12 +6,11 @@ use native.Mathlib.Nat.{zero-add}
 use mathlib.Core.Path.{_≡_, refl, sym, ap, _∙_, subst, subst₂}
 use mathlib.Core.Logic.{_⊎_, inl, inr, ⊎-elim}
 use mathlib.Core.Bool.{Bool, true, false, cond}
-use mathlib.Core.List.{List, [], _∷_, _++_, map, List·Memᴰ, Memᴰ·append-left, Memᴰ·append-right, List·Memᴰ·append-cases}
-use lib.ListN.{length}
+use mathlib.Core.List.{List, map, List·Memᴰ, Memᴰ·append-left, Memᴰ·append-right, List·Memᴰ·append-cases}
 use lib.Dec.{leb}
 use borrow.Author.Tests.{le-leb, lt-leb}
 use Rattle.logic.specs.Query.{Literal, Query, termCount, namesNil, argumentOf}
-use Rattle.logic.specs.Heap.{Heap, Node, IsHeap, value, Reaches, Signed, MeansEqual, MeansReach, MeansField, MeansBoolean, Each, NilNode, Meets, Satisfiable}
+use Rattle.logic.specs.Heap.{Heap, Node, IsHeap, value, Reaches, Signed, MeansEqual, MeansReach, MeansField, Each, Meets, Satisfiable}
 use Rattle.logic.proofs.Basics.Search.{map-mem, map-intro}
 use Rattle.logic.proofs.Basics.Compare.{le-cases}
 use Rattle.logic.proofs.Query.Tied.{Accepted, InTerms}
@@ -19,7 +18,7 @@ use Rattle.logic.proofs.Query.Entries.{nil-range}
 use Rattle.logic.proofs.Soundness.Value.{Below, accepted-below, value-variable, value-link}
 use Rattle.joining.specs.Pairs.{Pair}
 use Rattle.joining.specs.Joined.{raised, pairLiteral, joined}
-use Rattle.joining.specs.Heaps.{naming, MeetsBoth, OneHeap}
+use Rattle.joining.specs.Heaps.{naming, OneHeap}
 use Rattle.joining.proofs.Terms.{Among, whose}
 use Rattle.joining.proofs.Accepted.{Paired, count-joined, of-first, of-second, joined-accepted}
 
@@ -117,7 +116,6 @@ module _ (a b : Query) (ps : List Pair) (first : Accepted a) (second : Accepted 
           equalities = λ l k. let r = first .equal-terms l k in out₁ (λ i j. i ≡ j) (l .plain) (l .left) (l .right) (r .0) (r .1) (m .equalities l (Memᴰ·append-left _ k));
           reachability = λ l k. let r = first .reach-terms l k in out₁ (Reaches (h .link)) (l .plain) (l .left) (l .right) (r .0) (r .1) (m .reachability l (Memᴰ·append-left _ k));
           fields = λ l k. let r = first .field-term l k in out₁ (OnFields (l .left)) (l .plain) (l .right) (l .right) r r (m .fields l (Memᴰ·append-left _ k));
-          booleans = λ l k. m .booleans l (Memᴰ·append-left _ k);
         }
 
     -- what a raised literal means
@@ -159,7 +157,6 @@ module _ (a b : Query) (ps : List Pair) (first : Accepted a) (second : Accepted 
           equalities = equal;
           reachability = reach;
           fields = field;
-          booleans = λ l k. m .booleans l (Memᴰ·append-right (a .booleans) k);
         }
       where
         equal : Each (MeansEqual (naming h w₂) (b .entries)) (b .equalities)
@@ -268,7 +265,6 @@ module _ (a b : Query) (ps : List Pair) (first : Accepted a) (second : Accepted 
                 λ l k. ⊎-elim (λ x. let r = first .field-term l x in in₁ (OnFields (l .left)) (l .plain) (l .right) (l .right) r r (m₁ .fields l x))
                 (each-of (MeansField (naming h v) whole) (raised 0 n) (b .fields) second-field l)
                 (List·Memᴰ·append-cases (a .fields) k);
-            booleans = λ l k. ⊎-elim (m₁ .booleans l) (m₂ .booleans l) (List·Memᴰ·append-cases (a .booleans) k);
           }
 
   -- the names that a heap of the whole gives to the second's variables

@@ -4,21 +4,20 @@ use native.Mathlib.Omega.{arith}
 use native.Mathlib.Nat.{min-le-right}
 use mathlib.Core.Path.{_≡_, refl, sym, ap, _∙_, subst}
 use mathlib.Core.Logic.{⊎-elim}
-use mathlib.Core.Bool.{Bool, true, false, cond}
-use mathlib.Core.List.{List, [], _∷_, _++_, map, Memᴰ·append-left}
-use mathlib.Core.Option.{Option, none, some, Option·elim}
+use mathlib.Core.Bool.{true, false}
+use mathlib.Core.List.{List, [], _∷_, _++_}
+use mathlib.Core.Option.{none, some}
 use lib.ListN.{length, take, drop, length-take, length-drop, take-append-drop}
-use lib.Seq.{length-take-le, drop-append-add, drop-drop}
+use lib.Seq.{length-take-le, drop-append-add}
 use lib.Dec.{eqb, leb}
 use borrow.Author.Tests.{leb-true}
-use Rattle.logic.specs.Search.{from, at}
-use Rattle.logic.specs.Query.{Literal, Query, termCount, Section, sections, Layout, faulty, parts, withPart, layout, firstByte, layoutOf, layoutFault, literals, flags, section, queryOf, decode}
-use Rattle.logic.specs.Calls.{layoutCheck, byteCheck, queryChecks, refusalOf, refused, accepts}
-use Rattle.logic.proofs.Basics.Search.{not-true, none-some, isSome-false, firstOf-none, from-intro, map-intro}
+use Rattle.logic.specs.Search.{at}
+use Rattle.logic.specs.Query.{Literal, Query, termCount, Section, fourSections, fiveSections, sections, Layout, faulty, parts, withPart, layout, layoutBy, layoutOf, literals, section, queryOf, decode}
+use Rattle.logic.specs.Calls.{accepts}
 use Rattle.logic.proofs.Basics.Compare.{eq-cases}
 use Rattle.logic.proofs.Query.Bytes.{cond-elim}
-use Rattle.logic.proofs.Query.AcceptedBytes.{laid-out}
-use Rattle.joining.specs.HandBack.{literalsIn, widthIn, readIn, startIn, placeIn}
+use Rattle.encoding.proofs.Decoded.{accepted-parts}
+use Rattle.joining.specs.HandBack.{literalsIn, startIn, placeIn}
 
 faulty-parts : {k place : ℕ} {ps : List (List ℕ)} → faulty k place ≡ parts ps → ⊥
 faulty-parts e = let z : _≡_ {A = ℕ} 0 1 = cc in omega arith
@@ -70,11 +69,6 @@ front s ss place (c ∷ more) ps h =
           behind = others .1;
         }
 
-no-more : (place : ℕ) (bytes : List ℕ) (ps : List (List ℕ)) → layout [] place bytes ≡ parts ps → bytes ≡ []
-unfolding layout
-no-more place [] ps h = refl
-no-more place (b ∷ bytes) ps h = absurd (faulty-parts h)
-
 -- how many literals there are
 literals-count : (c : ℕ) (part : List ℕ) → length part ≡ c * 3 → length (literals part) ≡ c
 unfolding literals
@@ -85,59 +79,45 @@ literals-count (suc c) (s ∷ []) e = absurd (omega arith)
 literals-count (suc c) (s ∷ a ∷ []) e = absurd (omega arith)
 literals-count (suc c) (s ∷ a ∷ b ∷ part) e = ap suc (literals-count c part (omega arith))
 
-flags-count : (c : ℕ) (part : List ℕ) → length part ≡ c * 2 → length (flags part) ≡ c
-unfolding flags
-flags-count zero [] e = refl
-flags-count zero (s ∷ part) e = absurd (omega arith)
-flags-count (suc c) [] e = absurd (omega arith)
-flags-count (suc c) (s ∷ []) e = absurd (omega arith)
-flags-count (suc c) (s ∷ a ∷ part) e = ap suc (flags-count c part (omega arith))
-
--- The parts of an accepted query's bytes, each behind its count.
+-- The parts of an accepted query's bytes, each behind its count, and what follows them: section 5.
 record Laid (bytes : List ℕ) (q : Query) : Type 0 where
   count₁ : ℕ
   count₂ : ℕ
   count₃ : ℕ
   count₄ : ℕ
-  count₅ : ℕ
   entries : List ℕ
   equal : List ℕ
   reach : List ℕ
   field : List ℕ
-  boolean : List ℕ
-  bytes-are : bytes ≡ count₁ ∷ (entries ++ (count₂ ∷ (equal ++ (count₃ ∷ (reach ++ (count₄ ∷ (field ++ (count₅ ∷ (boolean ++ [])))))))))
+  rest : List ℕ
+  bytes-are : bytes ≡ count₁ ∷ (entries ++ (count₂ ∷ (equal ++ (count₃ ∷ (reach ++ (count₄ ∷ (field ++ rest)))))))
   entries-are : q .entries ≡ entries
   equal-are : q .equalities ≡ literals equal
   reach-are : q .reachability ≡ literals reach
   field-are : q .fields ≡ literals field
-  boolean-are : q .booleans ≡ flags boolean
   equal-sized : length equal ≡ count₂ * 3
   reach-sized : length reach ≡ count₃ * 3
-  field-sized : length field ≡ count₄ * 3
-  boolean-sized : length boolean ≡ count₅ * 2
 
 laid : (bytes : List ℕ) (ps : List (List ℕ)) → layoutOf bytes ≡ parts ps → Laid bytes (decode bytes)
-unfolding layoutOf sections decode queryOf section
+unfolding layoutOf layoutBy sections fiveSections fourSections decode queryOf section
 laid bytes ps h =
     let f₁ = front _ _ 0 bytes ps h in
     let f₂ = front _ _ (f₁ .place) (f₁ .rest) (f₁ .others) (f₁ .behind) in
     let f₃ = front _ _ (f₂ .place) (f₂ .rest) (f₂ .others) (f₂ .behind) in
     let f₄ = front _ _ (f₃ .place) (f₃ .rest) (f₃ .others) (f₃ .behind) in
-    let f₅ = front _ _ (f₄ .place) (f₄ .rest) (f₄ .others) (f₄ .behind) in
-    let whole : ps ≡ f₁ .part ∷ f₂ .part ∷ f₃ .part ∷ f₄ .part ∷ f₅ .part ∷ f₅ .others =
-    f₁ .parts-are ∙ ap (λ (x : List (List ℕ)). f₁ .part ∷ x) (f₂ .parts-are ∙ ap (λ (x : List (List ℕ)). f₂ .part ∷ x) (f₃ .parts-are ∙ ap (λ (x : List (List ℕ)). f₃ .part ∷ x) (f₄ .parts-are ∙ ap (λ (x : List (List ℕ)). f₄ .part ∷ x) (f₅ .parts-are)))) in
-    let said : decode bytes ≡ queryOf (parts (f₁ .part ∷ f₂ .part ∷ f₃ .part ∷ f₄ .part ∷ f₅ .part ∷ f₅ .others)) = ap queryOf h ∙ ap (λ (x : List (List ℕ)). queryOf (parts x)) whole in
+    let whole : ps ≡ f₁ .part ∷ f₂ .part ∷ f₃ .part ∷ f₄ .part ∷ f₄ .others =
+    f₁ .parts-are ∙ ap (λ (x : List (List ℕ)). f₁ .part ∷ x) (f₂ .parts-are ∙ ap (λ (x : List (List ℕ)). f₂ .part ∷ x) (f₃ .parts-are ∙ ap (λ (x : List (List ℕ)). f₃ .part ∷ x) (f₄ .parts-are))) in
+    let said : decode bytes ≡ queryOf (parts (f₁ .part ∷ f₂ .part ∷ f₃ .part ∷ f₄ .part ∷ f₄ .others)) = ap queryOf h ∙ ap (λ (x : List (List ℕ)). queryOf (parts x)) whole in
     record {
       count₁ = f₁ .count;
       count₂ = f₂ .count;
       count₃ = f₃ .count;
       count₄ = f₄ .count;
-      count₅ = f₅ .count;
       entries = f₁ .part;
       equal = f₂ .part;
       reach = f₃ .part;
       field = f₄ .part;
-      boolean = f₅ .part;
+      rest = f₄ .rest;
       bytes-are =
           f₁ .bytes-are
           ∙ ap (λ (x : List ℕ). f₁ .count ∷ (f₁ .part ++ x))
@@ -145,18 +125,13 @@ laid bytes ps h =
           ∙ ap (λ (x : List ℕ). f₂ .count ∷ (f₂ .part ++ x))
           (f₃ .bytes-are
           ∙ ap (λ (x : List ℕ). f₃ .count ∷ (f₃ .part ++ x))
-          (f₄ .bytes-are
-          ∙ ap (λ (x : List ℕ). f₄ .count ∷ (f₄ .part ++ x))
-          (f₅ .bytes-are ∙ ap (λ (x : List ℕ). f₅ .count ∷ (f₅ .part ++ x)) (no-more (f₅ .place) (f₅ .rest) (f₅ .others) (f₅ .behind))))));
+          (f₄ .bytes-are)));
       entries-are = ap (λ (q : Query). q .entries) said;
       equal-are = ap (λ (q : Query). q .equalities) said;
       reach-are = ap (λ (q : Query). q .reachability) said;
       field-are = ap (λ (q : Query). q .fields) said;
-      boolean-are = ap (λ (q : Query). q .booleans) said;
       equal-sized = f₂ .sized;
       reach-sized = f₃ .sized;
-      field-sized = f₄ .sized;
-      boolean-sized = f₅ .sized;
     }
 
 -- past a count and its part
@@ -180,22 +155,10 @@ literal-there (suc k) (s ∷ a ∷ b ∷ part) rest h =
     three : 3 * suc k ≡ suc (suc (suc (3 * k)))
     three = omega arith
 
-flag-there : (k : ℕ) (part rest : List ℕ) → k < length (flags part) → (l : Literal) × (at (flags part) (suc k) ≡ some l) × (flags (take 2 (drop (2 * k) (part ++ rest))) ≡ l ∷ [])
-unfolding flags at
-flag-there k [] rest h = absurd (omega arith)
-flag-there k (s ∷ []) rest h = absurd (omega arith)
-flag-there zero (s ∷ a ∷ part) rest h = (record { plain = eqb s 1; left = a; right = 0 }, refl, refl)
-flag-there (suc k) (s ∷ a ∷ part) rest h =
-    let (l, e, r) = flag-there k part rest (omega arith) in
-    (l, e, ap (λ (i : ℕ). flags (take 2 (drop i (s ∷ a ∷ (part ++ rest))))) (two) ∙ r)
-  where
-    two : 2 * suc k ≡ suc (suc (2 * k))
-    two = omega arith
-
 -- Literal k + 1 of section s, in the bytes of an accepted query.
 abbrev Stands : List ℕ → Query → ℕ → ℕ → Type 0
 Stands bytes q s k =
-    (l : Literal) × (at (literalsIn q s) (suc k) ≡ some l) × (readIn s (take (widthIn s) (drop (startIn q s + widthIn s * k) bytes)) ≡ l ∷ [])
+    (l : Literal) × (at (literalsIn q s) (suc k) ≡ some l) × (literals (take 3 (drop (startIn q s + 3 * k) bytes)) ≡ l ∷ [])
 
 module _ (bytes : List ℕ) (q : Query) (d : Laid bytes q) where
   equal-count : length (q .equalities) ≡ d .count₂
@@ -204,18 +167,12 @@ module _ (bytes : List ℕ) (q : Query) (d : Laid bytes q) where
   reach-count : length (q .reachability) ≡ d .count₃
   reach-count = ap length (d .reach-are) ∙ literals-count (d .count₃) (d .reach) (d .reach-sized)
 
-  field-count : length (q .fields) ≡ d .count₄
-  field-count = ap length (d .field-are) ∙ literals-count (d .count₄) (d .field) (d .field-sized)
-
   entry-count : termCount q ≡ length (d .entries)
   unfolding termCount
   entry-count = ap length (d .entries-are)
 
-  tail₅ : List ℕ
-  tail₅ = d .count₅ ∷ (d .boolean ++ [])
-
   tail₄ : List ℕ
-  tail₄ = d .count₄ ∷ (d .field ++ tail₅)
+  tail₄ = d .count₄ ∷ (d .field ++ d .rest)
 
   tail₃ : List ℕ
   tail₃ = d .count₃ ∷ (d .reach ++ tail₄)
@@ -224,7 +181,7 @@ module _ (bytes : List ℕ) (q : Query) (d : Laid bytes q) where
   tail₂ = d .count₂ ∷ (d .equal ++ tail₃)
 
   whole : bytes ≡ d .count₁ ∷ (d .entries ++ tail₂)
-  unfolding tail₅ tail₄ tail₃ tail₂
+  unfolding tail₄ tail₃ tail₂
   whole = d .bytes-are
 
   -- the bytes from a section on
@@ -239,10 +196,6 @@ module _ (bytes : List ℕ) (q : Query) (d : Laid bytes q) where
   unfolding tail₃
   at-fourth j k e = at-third j (1 + length (d .reach) + k) (omega (arith, d .reach-sized)) ∙ skip (d .count₃) (d .reach) tail₄ (1 + length (d .reach) + k) k refl
 
-  at-fifth : (j k : ℕ) → j ≡ length (d .entries) + 3 * d .count₂ + 3 * d .count₃ + 3 * d .count₄ + 4 + k → drop j bytes ≡ drop k tail₅
-  unfolding tail₄
-  at-fifth j k e = at-fourth j (1 + length (d .field) + k) (omega (arith, d .field-sized)) ∙ skip (d .count₄) (d .field) tail₅ (1 + length (d .field) + k) k refl
-
   one-more : (k : ℕ) (c : ℕ) (xs : List ℕ) → drop (1 + k) (c ∷ xs) ≡ drop k xs
   one-more k c xs = ap (λ (i : ℕ). drop i (c ∷ xs)) (plus)
     where
@@ -250,28 +203,22 @@ module _ (bytes : List ℕ) (q : Query) (d : Laid bytes q) where
       plus = omega arith
 
   second-stands : (k : ℕ) → k < length (q .equalities) → Stands bytes q 2 k
-  unfolding literalsIn readIn widthIn startIn tail₂
+  unfolding literalsIn startIn tail₂
   second-stands k h =
       let (l, e, r) = literal-there k (d .equal) tail₃ (omega (arith, ap length (d .equal-are))) in
       (l, ap (λ (ls : List Literal). at ls (suc k)) (d .equal-are) ∙ e, ap (λ (xs : List ℕ). literals (take 3 xs)) (at-second (termCount q + 2 + 3 * k) (1 + 3 * k) (omega (arith, entry-count)) ∙ one-more (3 * k) (d .count₂) (d .equal ++ tail₃)) ∙ r)
 
   third-stands : (k : ℕ) → k < length (q .reachability) → Stands bytes q 3 k
-  unfolding literalsIn readIn widthIn startIn tail₃
+  unfolding literalsIn startIn tail₃
   third-stands k h =
       let (l, e, r) = literal-there k (d .reach) tail₄ (omega (arith, ap length (d .reach-are))) in
       (l, ap (λ (ls : List Literal). at ls (suc k)) (d .reach-are) ∙ e, ap (λ (xs : List ℕ). literals (take 3 xs)) (at-third (termCount q + 3 * length (q .equalities) + 3 + 3 * k) (1 + 3 * k) (omega (arith, entry-count, equal-count)) ∙ one-more (3 * k) (d .count₃) (d .reach ++ tail₄)) ∙ r)
 
   fourth-stands : (k : ℕ) → k < length (q .fields) → Stands bytes q 4 k
-  unfolding literalsIn readIn widthIn startIn tail₄
+  unfolding literalsIn startIn tail₄
   fourth-stands k h =
-      let (l, e, r) = literal-there k (d .field) tail₅ (omega (arith, ap length (d .field-are))) in
-      (l, ap (λ (ls : List Literal). at ls (suc k)) (d .field-are) ∙ e, ap (λ (xs : List ℕ). literals (take 3 xs)) (at-fourth (termCount q + 3 * length (q .equalities) + 3 * length (q .reachability) + 4 + 3 * k) (1 + 3 * k) (omega (arith, entry-count, equal-count, reach-count)) ∙ one-more (3 * k) (d .count₄) (d .field ++ tail₅)) ∙ r)
-
-  fifth-stands : (k : ℕ) → k < length (q .booleans) → Stands bytes q 5 k
-  unfolding literalsIn readIn widthIn startIn tail₅
-  fifth-stands k h =
-      let (l, e, r) = flag-there k (d .boolean) [] (omega (arith, ap length (d .boolean-are))) in
-      (l, ap (λ (ls : List Literal). at ls (suc k)) (d .boolean-are) ∙ e, ap (λ (xs : List ℕ). flags (take 2 xs)) (at-fifth (termCount q + 3 * length (q .equalities) + 3 * length (q .reachability) + 3 * length (q .fields) + 5 + 2 * k) (1 + 2 * k) (omega (arith, entry-count, equal-count, reach-count, field-count)) ∙ one-more (2 * k) (d .count₅) (d .boolean ++ [])) ∙ r)
+      let (l, e, r) = literal-there k (d .field) (d .rest) (omega (arith, ap length (d .field-are))) in
+      (l, ap (λ (ls : List Literal). at ls (suc k)) (d .field-are) ∙ e, ap (λ (xs : List ℕ). literals (take 3 xs)) (at-fourth (termCount q + 3 * length (q .equalities) + 3 * length (q .reachability) + 4 + 3 * k) (1 + 3 * k) (omega (arith, entry-count, equal-count, reach-count)) ∙ one-more (3 * k) (d .count₄) (d .field ++ d .rest)) ∙ r)
 
   stands : (s k : ℕ) → k < length (literalsIn q s) → Stands bytes q s k
   unfolding literalsIn
@@ -281,39 +228,24 @@ module _ (bytes : List ℕ) (q : Query) (d : Laid bytes q) where
       ⊎-elim (λ e. subst (λ (t : ℕ). k < length (literalsIn q t) → Stands bytes q t k) (sym e) (third-stands k) h)
       (λ n₃.
       ⊎-elim (λ e. subst (λ (t : ℕ). k < length (literalsIn q t) → Stands bytes q t k) (sym e) (fourth-stands k) h)
-      (λ n₄.
-      ⊎-elim (λ e. subst (λ (t : ℕ). k < length (literalsIn q t) → Stands bytes q t k) (sym e) (fifth-stands k) h)
-      (λ n₅. absurd (none (n₂ .1) (n₃ .1) (n₄ .1) (n₅ .1)))
-      (eq-cases s 5))
+      (λ n₄. absurd (none (n₂ .1) (n₃ .1) (n₄ .1)))
       (eq-cases s 4))
       (eq-cases s 3))
       (eq-cases s 2)
     where
-      none : eqb s 2 ≡ false → eqb s 3 ≡ false → eqb s 4 ≡ false → eqb s 5 ≡ false → ⊥
-      none a b c d =
-          let e : literalsIn q s ≡ [] = rw (a, b, c, d) in
+      none : eqb s 2 ≡ false → eqb s 3 ≡ false → eqb s 4 ≡ false → ⊥
+      none a b c =
+          let e : literalsIn q s ≡ [] = rw (a, b, c) in
           omega (arith, h, ap length e)
 
--- what an accepted query passes
-unmet : (k : ℕ) (o : Option ℕ) → Option·elim o none (λ place. some (refused k place)) ≡ none → o ≡ none
-unfolding Option·elim
-unmet k none h = refl
-unmet k (some place) h = absurd (none-some (sym h))
-
-layout-passed : (bytes : List ℕ) → accepts bytes ≡ true → (k : ℕ) → 2 ≤ k → k ≤ 4 → layoutFault k bytes ≡ none
-unfolding accepts refusalOf queryChecks layoutCheck from
-layout-passed bytes h k l u =
-    unmet k (layoutFault k bytes)
-    (firstOf-none _ (layoutCheck k) (isSome-false _ (not-true h)) (Memᴰ·append-left (map byteCheck (from 4 5)) (map-intro layoutCheck k (from-intro 3 2 k l (omega arith)))))
-
 -- "that literal's own bytes": literal k of section s of an accepted query, counted from 1, is what the bytes at its place say
-pub literal-stands : (bytes : List ℕ) → accepts bytes ≡ true → (s k : ℕ) → 1 ≤ k → k ≤ length (literalsIn (decode bytes) s) → (l : Literal) × (at (literalsIn (decode bytes) s) k ≡ some l) × (readIn s (take (widthIn s) (drop (placeIn (decode bytes) s k) bytes)) ≡ l ∷ [])
+pub literal-stands : (bytes : List ℕ) → accepts bytes ≡ true → (s k : ℕ) → 1 ≤ k → k ≤ length (literalsIn (decode bytes) s) → (l : Literal) × (at (literalsIn (decode bytes) s) k ≡ some l) × (literals (take 3 (drop (placeIn (decode bytes) s k) bytes)) ≡ l ∷ [])
 unfolding placeIn
 literal-stands bytes h s zero one u = absurd (omega arith)
 literal-stands bytes h s (suc k) one u =
-    let (ps, e) = laid-out bytes (layout-passed bytes h) in
-    let (l, own, reads) = stands bytes (decode bytes) (laid bytes ps e) s k (omega arith) in
-    (l, own, ap (λ (i : ℕ). readIn s (take (widthIn s) (drop (startIn (decode bytes) s + widthIn s * i) bytes))) (less) ∙ reads)
+    let p = accepted-parts bytes h in
+    let (l, own, reads) = stands bytes (decode bytes) (laid bytes (p .found) (p .laid)) s k (omega arith) in
+    (l, own, ap (λ (i : ℕ). literals (take 3 (drop (startIn (decode bytes) s + 3 * i) bytes))) (less) ∙ reads)
   where
     less : suc k - 1 ≡ k
     less = omega arith
@@ -326,30 +258,8 @@ literals-three (s ∷ []) l e = absurd (omega (arith, ap length e))
 literals-three (s ∷ a ∷ []) l e = absurd (omega (arith, ap length e))
 literals-three (s ∷ a ∷ b ∷ xs) l e = omega arith
 
-flags-two : (xs : List ℕ) (l : Literal) → flags xs ≡ l ∷ [] → 2 ≤ length xs
-unfolding flags
-flags-two [] l e = absurd (omega (arith, ap length e))
-flags-two (s ∷ []) l e = absurd (omega (arith, ap length e))
-flags-two (s ∷ a ∷ xs) l e = omega arith
-
-reads-width : (s : ℕ) (xs : List ℕ) (l : Literal) → readIn s xs ≡ l ∷ [] → widthIn s ≤ length xs
-unfolding readIn widthIn
-reads-width s xs l h = go (eqb s 5) h
-  where
-    go : (c : Bool) → cond c (flags xs) (literals xs) ≡ l ∷ [] → cond c 2 3 ≤ length xs
-    go true e = flags-two xs l e
-    go false e = literals-three xs l e
-
-pub literal-fits : (bytes : List ℕ) → accepts bytes ≡ true → (s k : ℕ) → 1 ≤ k → k ≤ length (literalsIn (decode bytes) s) → placeIn (decode bytes) s k + widthIn s ≤ length bytes
-unfolding widthIn
+pub literal-fits : (bytes : List ℕ) → accepts bytes ≡ true → (s k : ℕ) → 1 ≤ k → k ≤ length (literalsIn (decode bytes) s) → placeIn (decode bytes) s k + 3 ≤ length bytes
 literal-fits bytes h s k one u =
     let (l, own, reads) = literal-stands bytes h s k one u in
-    let wide = reads-width s (take (widthIn s) (drop (placeIn (decode bytes) s k) bytes)) l reads in
-    fits (widthIn s) (some-wide (eqb s 5)) wide
-  where
-    some-wide : (c : Bool) → 1 ≤ cond c 2 3
-    some-wide true = omega arith
-    some-wide false = omega arith
-
-    fits : (w : ℕ) → 1 ≤ w → w ≤ length (take w (drop (placeIn (decode bytes) s k) bytes)) → placeIn (decode bytes) s k + w ≤ length bytes
-    fits w one-wide e = omega (arith, length-take w (drop (placeIn (decode bytes) s k) bytes), min-le-right w (length (drop (placeIn (decode bytes) s k) bytes)), length-drop (placeIn (decode bytes) s k) bytes)
+    let wide = literals-three (take 3 (drop (placeIn (decode bytes) s k) bytes)) l reads in
+    omega (arith, length-take 3 (drop (placeIn (decode bytes) s k) bytes), min-le-right 3 (length (drop (placeIn (decode bytes) s k) bytes)), length-drop (placeIn (decode bytes) s k) bytes)

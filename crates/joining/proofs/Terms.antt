@@ -2,19 +2,17 @@
 use Prim.Native.Nat.{ℕ, zero, suc, _+_, _-_, _≤_, _<_}
 use native.Mathlib.Omega.{arith}
 use native.Mathlib.Nat.{add-suc}
-use mathlib.Core.Path.{_≡_, refl, sym, ap, _∙_, subst}
+use mathlib.Core.Path.{_≡_, refl, sym, ap, _∙_}
 use mathlib.Core.Logic.{_⊎_, inl, inr, ⊎-elim}
-use mathlib.Core.Bool.{Bool, true, false, cond}
-use mathlib.Core.List.{List, [], _∷_, _++_, map}
-use lib.ListN.{length, getD, length-append, length-map, List·getD-append, List·getD-map}
+use mathlib.Core.Bool.{cond}
+use mathlib.Core.List.{List, _++_, map}
+use lib.ListN.{length, getD, List·getD-append, List·getD-map}
 use lib.Seq.{getD-append-add}
 use lib.Dec.{eqb}
 use Rattle.logic.specs.Search.{_or_}
-use Rattle.logic.specs.Query.{Query, entryOf, namesNil, argumentOf, termCount}
-use Rattle.logic.proofs.Basics.Compare.{eqb-self, eqb-false, eqb-true, eqb-intro, eq-cases, le-cases}
-use Rattle.logic.proofs.Query.Tied.{Accepted, InTerms}
-use Rattle.joining.specs.Pairs.{Pair}
-use Rattle.joining.specs.Joined.{raisedEntry, joined}
+use Rattle.logic.specs.Query.{entryOf, namesNil, argumentOf}
+use Rattle.logic.proofs.Basics.Compare.{eqb-false, eq-cases, le-cases}
+use Rattle.joining.specs.Joined.{raisedEntry}
 
 -- an entry that is raised
 raised-zero : (n : ℕ) → raisedEntry n 0 ≡ 0

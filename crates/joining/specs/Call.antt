@@ -13,7 +13,7 @@ use Rattle.joining.specs.Pairs.{pairsOf, isPairList}
 use Rattle.encoding.specs.QueryBytes.{encode, withinLimits}
 use Rattle.joining.specs.Joined.{joined}
 
--- The length of the query that is written, or a refusal's number and place. Refusals 2 to 8 have a place in one of two queries, so that
+-- The length of the query that is written, or a refusal's number and place. Refusals 2 to 8 and 26 have a place in one of two queries, so that
 -- the answer says in which.
 pub data Answer : Type 0 where
   written : ℕ → Answer
@@ -23,7 +23,7 @@ pub record Outcome : Type 0 where
   pub answer : Answer
   pub lent : List ℕ
 
--- checks 2 to 8 of one query
+-- the checks of one query: 2 to 8, and 26 among them (02, R-13)
 unfoldable pub queryRefusal : List ℕ → Option calls.Answer
 queryRefusal bytes = refusalOf queryChecks (record { order = []; query = bytes; room = 0 })
 

@@ -1,12 +1,12 @@
 -- What is claimed of joined queries and of the hand-back, as statements about the definitions (02, R-12).
 use Prim.Native.Nat.{ℕ}
 use mathlib.Core.Path.{_≡_}
-use mathlib.Core.Bool.{true, false}
+use mathlib.Core.Bool.{true}
 use mathlib.Core.List.{List, [], _∷_, List·Memᴰ}
 use mathlib.Core.Option.{none, some}
 use lib.ListN.{getD, take, drop}
 use Rattle.logic.specs.Search.{at}
-use Rattle.logic.specs.Query.{Literal, Query, termCount, decode}
+use Rattle.logic.specs.Query.{Literal, termCount, literals, decode}
 use Rattle.logic.specs.Facts.{Facts, line, isClash}
 use Rattle.logic.specs.Heap.{Satisfiable}
 use Rattle.logic.specs.Calls.{Input, queryChecks, refusalOf, accepts}
@@ -14,7 +14,7 @@ use Rattle.joining.specs.Pairs.{Pair, pairsOf, isPairList}
 use Rattle.encoding.specs.QueryBytes.{encode, withinLimits}
 use Rattle.joining.specs.Joined.{joined, pairLiteral}
 use Rattle.joining.specs.Heaps.{OneHeap}
-use Rattle.joining.specs.HandBack.{Handed, inFirst, inSecond, firstRefused, secondRefused, refused, literalsIn, readIn, raisedIn, handBackCall}
+use Rattle.joining.specs.HandBack.{Handed, inFirst, inSecond, firstRefused, secondRefused, refused, literalsIn, raisedIn, handBackCall}
 
 -- Two queries and a pair list that are refused nothing but room.
 pub record Joinable (first second pairs : List ℕ) : Type 0 where
@@ -24,7 +24,7 @@ pub record Joinable (first second pairs : List ℕ) : Type 0 where
   pub within-limits : withinLimits (joined (decode first) (decode second) (pairsOf pairs)) ≡ true
 
 pub record JoinClaims (first second pairs : List ℕ) : Type 0 where
-  -- what is written is accepted by every call: it passes checks 2 to 8
+  -- what is written is accepted by every call: it passes the checks of a query
   pub passes : (i : Input) → i .query ≡ encode (joined (decode first) (decode second) (pairsOf pairs)) → refusalOf queryChecks i ≡ none
   -- and says the joined query
   pub says : decode (encode (joined (decode first) (decode second) (pairsOf pairs))) ≡ joined (decode first) (decode second) (pairsOf pairs)
@@ -38,14 +38,14 @@ module _ (first second : List ℕ) (nine s k : ℕ) where
   pub record OfFirst (at-byte size : ℕ) : Type 0 where
     pub literal : Literal
     pub begins : nine ≡ 9
-    pub reads : readIn s (take size (drop at-byte first)) ≡ literal ∷ []
+    pub reads : literals (take size (drop at-byte first)) ≡ literal ∷ []
     pub own : at (literalsIn (decode first) s) k ≡ some literal
     pub named : (ps : List Pair) → at (literalsIn (joined (decode first) (decode second) ps) s) k ≡ some literal
 
   pub record OfSecond (at-byte size : ℕ) : Type 0 where
     pub literal : Literal
     pub begins : nine ≡ 9
-    pub reads : readIn s (take size (drop at-byte second)) ≡ literal ∷ []
+    pub reads : literals (take size (drop at-byte second)) ≡ literal ∷ []
     pub place : ℕ
     pub own : at (literalsIn (decode second) s) place ≡ some literal
     pub named : (ps : List Pair) → at (literalsIn (joined (decode first) (decode second) ps) s) k ≡ some (raisedIn (termCount (decode first)) s literal)

@@ -2,11 +2,11 @@
 use Prim.Native.Nat.{ℕ, _+_, _-_, _*_}
 use mathlib.Core.Bool.{Bool, cond}
 use mathlib.Core.List.{List, []}
-use mathlib.Core.Option.{Option, Option·elim}
+use mathlib.Core.Option.{Option·elim}
 use lib.ListN.{length, getD, take, drop}
 use lib.Dec.{eqb, ltb, leb}
 use Rattle.logic.specs.Search.{_and_}
-use Rattle.logic.specs.Query.{Literal, Query, termCount, literals, flags, decode}
+use Rattle.logic.specs.Query.{Literal, Query, termCount, decode}
 use Rattle.logic.specs.Calls as calls
 use Rattle.joining.specs.Joined.{raised}
 use Rattle.joining.specs.Call.{queryRefusal}
@@ -17,21 +17,13 @@ pub data Handed : Type 0 where
   inFirst inSecond : ℕ → ℕ → Handed
   firstRefused secondRefused refused : ℕ → ℕ → Handed
 
--- the literals of section s, 2 to 5; another section has none
+-- the literals of section s, 2 to 4; another section has none
 unfoldable pub literalsIn : Query → ℕ → List Literal
-literalsIn q s =
-    cond (eqb s 2) (q .equalities) (cond (eqb s 3) (q .reachability) (cond (eqb s 4) (q .fields) (cond (eqb s 5) (q .booleans) [])))
-
--- the bytes of one, and what they say
-unfoldable pub widthIn : ℕ → ℕ
-widthIn s = cond (eqb s 5) 2 3
-
-unfoldable pub readIn : ℕ → List ℕ → List Literal
-readIn s bytes = cond (eqb s 5) (flags bytes) (literals bytes)
+literalsIn q s = cond (eqb s 2) (q .equalities) (cond (eqb s 3) (q .reachability) (cond (eqb s 4) (q .fields) []))
 
 -- a literal of the second query as it stands in the joined one, whose first n terms are the first's
 unfoldable pub raisedIn : ℕ → ℕ → Literal → Literal
-raisedIn n s l = cond (eqb s 4) (raised 0 n l) (cond (eqb s 5) l (raised n n l))
+raisedIn n s l = cond (eqb s 4) (raised 0 n l) (raised n n l)
 
 -- where the literals of section s begin in the bytes of a query: behind those of the sections before it, and one count more
 unfoldable pub startIn : Query → ℕ → ℕ
@@ -39,12 +31,11 @@ startIn q s =
     let n : ℕ = termCount q in
     let second : ℕ = 3 * length (q .equalities) in
     let third : ℕ = 3 * length (q .reachability) in
-    let fourth : ℕ = 3 * length (q .fields) in
-    cond (eqb s 2) (n + 2) (cond (eqb s 3) (n + second + 3) (cond (eqb s 4) (n + second + third + 4) (n + second + third + fourth + 5)))
+    cond (eqb s 2) (n + 2) (cond (eqb s 3) (n + second + 3) (n + second + third + 4))
 
--- where literal k of it stands, counted from 1
+-- where literal k of it stands, counted from 1; each has three bytes
 unfoldable pub placeIn : Query → ℕ → ℕ → ℕ
-placeIn q s k = startIn q s + widthIn s * (k - 1)
+placeIn q s k = startIn q s + 3 * (k - 1)
 
 -- k is one of the m places behind i
 unfoldable pub isAmong : ℕ → ℕ → ℕ → Bool
@@ -57,8 +48,8 @@ handBackOf a b line =
     let k : ℕ = getD line 2 0 in
     let i : ℕ = length (literalsIn a s) in
     let found : Handed =
-    cond (isAmong 0 i k) (inFirst (placeIn a s k) (widthIn s))
-    (cond (isAmong i (length (literalsIn b s)) k) (inSecond (placeIn b s (k - i)) (widthIn s)) (refused 25 0)) in
+    cond (isAmong 0 i k) (inFirst (placeIn a s k) 3)
+    (cond (isAmong i (length (literalsIn b s)) k) (inSecond (placeIn b s (k - i)) 3) (refused 25 0)) in
     cond (eqb (getD line 0 0) 9) found (refused 25 0)
 
 -- which query a refusal is about; a check gives no verdict

@@ -8,9 +8,9 @@ use Rattle.logic.specs.Query.{Query, namesNil}
 use Rattle.logic.specs.Heap.{Heap, value, Meets}
 use Rattle.joining.specs.Pairs.{Pair}
 
--- The same heap, where variables are named by another team: nodes, links, fields and booleans stay.
+-- The same heap, where variables are named by another team: nodes, links and fields stay.
 unfoldable pub naming : Heap → (ℕ → ℕ) → Heap
-naming h names = record { size = h .size; link = h .link; field = h .field; boolean = h .boolean; variable = names }
+naming h names = record { size = h .size; link = h .link; field = h .field; variable = names }
 
 -- The heap meets the first query; with the second's variables named by `names` it meets the second.
 pub record MeetsBoth (h : Heap) (names : ℕ → ℕ) (a b : Query) (ps : List Pair) : Type 0 where

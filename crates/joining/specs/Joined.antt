@@ -19,8 +19,8 @@ raised i j l = record { plain = l .plain; left = i + l .left; right = j + l .rig
 unfoldable pub pairLiteral : ℕ → Pair → Literal
 pairLiteral n p = record { plain = true; left = p .first; right = n + p .second }
 
--- "in each section first's entries, then second's with term numbers raised .., then an equality per pair". A field's number and a
--- boolean's is no term number.
+-- "in each section first's entries, then second's with term numbers raised .., then an equality per pair". A field's number
+-- is no term number.
 unfoldable pub joined : Query → Query → List Pair → Query
 joined a b ps =
     let n : ℕ = termCount a in
@@ -29,5 +29,4 @@ joined a b ps =
       equalities = a .equalities ++ (map (raised n n) (b .equalities) ++ map (pairLiteral n) ps);
       reachability = a .reachability ++ map (raised n n) (b .reachability);
       fields = a .fields ++ map (raised 0 n) (b .fields);
-      booleans = a .booleans ++ b .booleans;
     }

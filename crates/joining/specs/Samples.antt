@@ -49,6 +49,9 @@ joinSamples =
     (7 ∷ 0 ∷ 1 ∷ 255 ∷ 0 ∷ 3 ∷ 0 ∷ 0 ∷ 5 ∷ 0 ∷ 6 ∷ 6 ∷ 0 ∷ 3 ∷ 3 ∷ 1 ∷ 1 ∷ 3 ∷ 1 ∷ 1 ∷ 3 ∷ 1 ∷ 1 ∷ 6 ∷ 3 ∷ 0 ∷ 7 ∷ 7 ∷ 1 ∷ 6 ∷ 3 ∷ 0 ∷ 7 ∷ 4 ∷ 2 ∷ 0 ∷ 7 ∷ 2 ∷ 0 ∷ 7 ∷ 3 ∷ 0 ∷ [])
     ∷ joins (7 ∷ 0 ∷ 1 ∷ 255 ∷ 0 ∷ 255 ∷ 2 ∷ 0 ∷ 0 ∷ 3 ∷ 1 ∷ 5 ∷ 4 ∷ 1 ∷ 5 ∷ 3 ∷ 1 ∷ 7 ∷ 2 ∷ 0 ∷ 0 ∷ []) (6 ∷ 0 ∷ 255 ∷ 1 ∷ 0 ∷ 0 ∷ 255 ∷ 1 ∷ 0 ∷ 2 ∷ 2 ∷ 1 ∷ 0 ∷ 6 ∷ 3 ∷ 3 ∷ 1 ∷ 5 ∷ 5 ∷ 1 ∷ 7 ∷ 2 ∷ 0 ∷ 7 ∷ 4 ∷ 0 ∷ []) (0 ∷ []) 681
     (13 ∷ 0 ∷ 1 ∷ 255 ∷ 0 ∷ 255 ∷ 2 ∷ 0 ∷ 0 ∷ 255 ∷ 8 ∷ 0 ∷ 0 ∷ 255 ∷ 1 ∷ 0 ∷ 9 ∷ 9 ∷ 4 ∷ 1 ∷ 5 ∷ 4 ∷ 1 ∷ 5 ∷ 3 ∷ 1 ∷ 7 ∷ 2 ∷ 0 ∷ 13 ∷ 10 ∷ 3 ∷ 1 ∷ 5 ∷ 12 ∷ 1 ∷ 7 ∷ 9 ∷ 0 ∷ 7 ∷ 11 ∷ 0 ∷ [])
+    -- "26 a boolean count above 0 (that count's place)" (02, R-13), of the first before the second, and before a byte behind it
+    ∷ refuses (1 ∷ 0 ∷ 0 ∷ 0 ∷ 0 ∷ 1 ∷ 1 ∷ 1 ∷ []) (0 ∷ 0 ∷ 0 ∷ 0 ∷ 1 ∷ 1 ∷ 1 ∷ []) (0 ∷ []) 561 (firstRefused 26 5)
+    ∷ refuses (0 ∷ 0 ∷ 0 ∷ 0 ∷ 0 ∷ []) (0 ∷ 0 ∷ 0 ∷ 0 ∷ 1 ∷ 1 ∷ 1 ∷ 0 ∷ []) (61 ∷ []) 561 (secondRefused 26 4)
     ∷ []
 
 -- two queries and a line, and what is handed back
@@ -75,8 +78,11 @@ handSamples =
     ∷ hands (4 ∷ 0 ∷ 0 ∷ 1 ∷ 0 ∷ 1 ∷ 0 ∷ 3 ∷ 1 ∷ 1 ∷ 0 ∷ 3 ∷ 4 ∷ 0 ∷ 0 ∷ []) (2 ∷ 255 ∷ 0 ∷ 4 ∷ 0 ∷ 2 ∷ 1 ∷ 0 ∷ 2 ∷ 2 ∷ 1 ∷ 2 ∷ 1 ∷ 0 ∷ 2 ∷ 2 ∷ 2 ∷ 1 ∷ 1 ∷ 1 ∷ 1 ∷ 2 ∷ 2 ∷ 2 ∷ 1 ∷ 4 ∷ 1 ∷ 0 ∷ 8 ∷ 1 ∷ 0 ∷ []) (9 ∷ 2 ∷ 3 ∷ 3 ∷ []) (handed.inSecond 7 3)
     ∷ hands (5 ∷ 0 ∷ 255 ∷ 0 ∷ 0 ∷ 2 ∷ 4 ∷ 1 ∷ 1 ∷ 4 ∷ 1 ∷ 3 ∷ 2 ∷ 0 ∷ 4 ∷ 5 ∷ 0 ∷ 2 ∷ 2 ∷ 1 ∷ 1 ∷ 1 ∷ 4 ∷ 2 ∷ 1 ∷ 7 ∷ 3 ∷ 0 ∷ 2 ∷ 5 ∷ 0 ∷ []) (6 ∷ 0 ∷ 1 ∷ 1 ∷ 0 ∷ 0 ∷ 1 ∷ 1 ∷ 1 ∷ 3 ∷ 5 ∷ 1 ∷ 1 ∷ 3 ∷ 1 ∷ 0 ∷ 0 ∷ []) (9 ∷ 4 ∷ 1 ∷ 2 ∷ []) (handed.inFirst 24 3)
     -- an empty line, and one that is cut
-    ∷ hands (0 ∷ 0 ∷ 0 ∷ 0 ∷ 0 ∷ []) (0 ∷ 0 ∷ 0 ∷ 0 ∷ 1 ∷ 1 ∷ 1 ∷ []) [] (handed.refused 25 0)
-    ∷ hands (0 ∷ 0 ∷ 0 ∷ 0 ∷ 0 ∷ []) (0 ∷ 0 ∷ 0 ∷ 0 ∷ 1 ∷ 1 ∷ 1 ∷ []) (9 ∷ 5 ∷ []) (handed.refused 25 0)
+    ∷ hands (0 ∷ 0 ∷ 0 ∷ 0 ∷ 0 ∷ []) (1 ∷ 0 ∷ 0 ∷ 0 ∷ 1 ∷ 1 ∷ 1 ∷ 1 ∷ 0 ∷ []) [] (handed.refused 25 0)
+    ∷ hands (0 ∷ 0 ∷ 0 ∷ 0 ∷ 0 ∷ []) (1 ∷ 0 ∷ 0 ∷ 0 ∷ 1 ∷ 1 ∷ 1 ∷ 1 ∷ 0 ∷ []) (9 ∷ 4 ∷ []) (handed.refused 25 0)
+    -- section 5 names no literal, and a query that has booleans is refused (02, R-13)
+    ∷ hands (0 ∷ 0 ∷ 0 ∷ 0 ∷ 0 ∷ []) (1 ∷ 0 ∷ 0 ∷ 0 ∷ 1 ∷ 1 ∷ 1 ∷ 1 ∷ 0 ∷ []) (9 ∷ 5 ∷ 1 ∷ 1 ∷ []) (handed.refused 25 0)
+    ∷ hands (0 ∷ 0 ∷ 0 ∷ 0 ∷ 0 ∷ []) (0 ∷ 0 ∷ 0 ∷ 0 ∷ 1 ∷ 1 ∷ 1 ∷ []) (9 ∷ 5 ∷ 1 ∷ 1 ∷ []) (handed.secondRefused 26 4)
     ∷ []
 
 -- what the definitions give for the samples

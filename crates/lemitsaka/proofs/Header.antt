@@ -2,9 +2,9 @@
 -- the number that it answers and `bytes` what it leaves in the lent output: its contract is the hypothesis `codes`.
 use Prim.Native.Nat.{ℕ, _+_, _*_, _/_, _%_, _≤_, _<_}
 use native.Mathlib.Omega.{arith}
-use mathlib.Core.Path.{_≡_, refl, sym, ap, _∙_}
+use mathlib.Core.Path.{_≡_, refl, sym, ap, _∙_, subst}
 use mathlib.Core.Logic.{⊎-elim}
-use mathlib.Core.List.{List}
+use mathlib.Core.List.{List, [], _∷_, _++_, List·Memᴰ, List·Memᴰ·cases-cons, List·Memᴰ·not-nil, List·Memᴰ·append-cases}
 use lib.ListN.{length, getD, replicate}
 use borrow.Author.Tests.{ne-eqb}
 use Rattle.logic.specs.Query.{decode}
@@ -12,14 +12,15 @@ use Rattle.logic.specs.Facts.{Line}
 use Rattle.logic.specs.Walk.{ourWalk, refutation}
 use Rattle.logic.specs.Calls.{Input, Check, Outcome, verdictChecks, derivationChecks, verdictCall, derivationCall}
 use Rattle.logic.specs.Calls as calls
-use Rattle.logic.specs.Demands.{Refusals}
+use Rattle.logic.specs.Demands.{numbers, Refusals}
+use Rattle.logic.proofs.Calls.CheckingOrder.{Early, verdict-early, derivation-early}
 use Rattle.logic.proofs.Calls.Demands.{demand1}
 use Rattle.logic.proofs.Calls.Room.{room-enough, report-short}
 use Rattle.prover.specs.Promise.{inputOf}
 use Rattle.lemitsaka.specs.VerdictPromise.{codeOf, answerIn, Codes}
 
 -- "The number gives back the answer." A refusal's number is small, and its place.
-refused-back : (k place : ℕ) → 1 ≤ k → k ≤ 12 → place ≤ 681 → answerIn (codeOf (calls.refused k place)) ≡ calls.refused k place
+refused-back : (k place : ℕ) → 1 ≤ k → k ≤ 26 → place ≤ 561 → answerIn (codeOf (calls.refused k place)) ≡ calls.refused k place
 unfolding answerIn
 refused-back k place l u h =
     let n : ℕ = k % 65536 * 65536 + place % 65536 in
@@ -27,7 +28,23 @@ refused-back k place l u h =
     let b : n % 65536 ≡ place = omega arith in
     rw (ne-eqb n 0 (λ e. omega arith), ne-eqb n 1 (λ e. omega arith)) (ap (λ (j : ℕ). calls.refused j (n % 65536)) a ∙ ap (calls.refused k) b)
 
-module _ (cs : List Check) (outcome : Input → Outcome) (law : Refusals cs outcome) where
+-- the numbers of a call's refusals: those of its checks, 11 and 12
+abbrev numbersOf : List Check → List ℕ
+numbersOf cs = numbers cs ++ (11 ∷ 12 ∷ [])
+
+module _ (cs : List Check) (outcome : Input → Outcome) (law : Refusals cs outcome) (early : (k : ℕ) → List·Memᴰ k (numbers cs) → Early k) where
+  small : (k : ℕ) → List·Memᴰ k (numbersOf cs) → (1 ≤ k) × (k ≤ 26)
+  small k m = ⊎-elim checked late (List·Memᴰ·append-cases (numbers cs) m)
+    where
+      checked : List·Memᴰ k (numbers cs) → (1 ≤ k) × (k ≤ 26)
+      checked n = let e = early k n in (e .0, ⊎-elim (λ u. omega (arith, u)) (λ q. omega (arith, q)) (e .1))
+
+      late : List·Memᴰ k (11 ∷ 12 ∷ []) → (1 ≤ k) × (k ≤ 26)
+      late n =
+          ⊎-elim (λ q. (omega (arith, q), omega (arith, q)))
+          (λ o. ⊎-elim (λ q. (omega (arith, q), omega (arith, q))) (λ z. absurd (List·Memᴰ·not-nil z)) (List·Memᴰ·cases-cons o))
+          (List·Memᴰ·cases-cons n)
+
   code-back : (i : Input) → answerIn (codeOf (outcome i .answer)) ≡ outcome i .answer
   unfolding answerIn
   code-back i = go (outcome i .answer) refl
@@ -36,7 +53,7 @@ module _ (cs : List Check) (outcome : Input → Outcome) (law : Refusals cs outc
       go calls.satisfiable e = refl
       go calls.refuted e = refl
       go (calls.refused k place) e =
-          let n = law .refusal-numbered i k place e in
+          let n = small k (law .refusal-numbered i k place e) in
           refused-back k place (n .0) (n .1) (law .refusal-placed i k place e .1)
 
   module _ (order query before bytes : List ℕ) (r : ℕ) (codes : Codes (outcome (inputOf order query before)) r bytes) where
@@ -49,12 +66,11 @@ module _ (cs : List Check) (outcome : Input → Outcome) (law : Refusals cs outc
     kept : length bytes ≡ length before
     kept = ap length (codes .leaves) ∙ law .lent-whole (inputOf order query before)
 
-    bounded : (k place : ℕ) → answerIn r ≡ calls.refused k place → (1 ≤ k) × (k ≤ 12) × (place ≤ length query) × (place ≤ 681)
-    bounded k place e =
-        let h = answered (calls.refused k place) e in
-        let n = law .refusal-numbered (inputOf order query before) k place h in
-        let p = law .refusal-placed (inputOf order query before) k place h in
-        (n .0, n .1, p .0, p .1)
+    numbered : (k place : ℕ) → answerIn r ≡ calls.refused k place → List·Memᴰ k (numbersOf cs)
+    numbered k place e = law .refusal-numbered (inputOf order query before) k place (answered (calls.refused k place) e)
+
+    placed : (k place : ℕ) → answerIn r ≡ calls.refused k place → (place ≤ length query) × (place ≤ 561)
+    placed k place e = law .refusal-placed (inputOf order query before) k place (answered (calls.refused k place) e)
 
     blank : (k place : ℕ) → answerIn r ≡ calls.refused k place → bytes ≡ replicate (length before) 0
     blank k place e = codes .leaves ∙ law .refusal-blank (inputOf order query before) k place (answered (calls.refused k place) e)
@@ -69,18 +85,21 @@ every-byte-written outcome order query before before′ bytes bytes′ r r′ c 
 module _ (order query before bytes : List ℕ) (r : ℕ) (codes : Codes (verdictCall (inputOf order query before)) r bytes) where
   -- "The number gives back the answer."
   pub verdict-number : answerIn r ≡ verdictCall (inputOf order query before) .answer
-  verdict-number = number-back verdictChecks verdictCall (demand1 .verdict-refusals) order query before bytes r codes
+  verdict-number = number-back verdictChecks verdictCall (demand1 .verdict-refusals) verdict-early order query before bytes r codes
 
-  -- "A refusal's number is 1 to 12; its place is at most the query's length, and at most 681."
-  pub verdict-bounded : (k place : ℕ) → answerIn r ≡ calls.refused k place → (1 ≤ k) × (k ≤ 12) × (place ≤ length query) × (place ≤ 681)
-  verdict-bounded = bounded verdictChecks verdictCall (demand1 .verdict-refusals) order query before bytes r codes
+  -- "refused 1 to 9 and 26"; a refusal's place is at most the query's length, and at most 561.
+  pub verdict-numbered : (k place : ℕ) → answerIn r ≡ calls.refused k place → List·Memᴰ k (1 ∷ 2 ∷ 3 ∷ 26 ∷ 4 ∷ 5 ∷ 6 ∷ 7 ∷ 8 ∷ 9 ∷ [])
+  verdict-numbered k place e = subst (List·Memᴰ k) (demand1 .verdict-checks) (demand1 .verdict-numbered (inputOf order query before) k place (sym verdict-number ∙ e))
+
+  pub verdict-placed : (k place : ℕ) → answerIn r ≡ calls.refused k place → (place ≤ length query) × (place ≤ 561)
+  verdict-placed = placed verdictChecks verdictCall (demand1 .verdict-refusals) verdict-early order query before bytes r codes
 
   -- "The report's length is kept"; "after a refusal, all of it is zero."
   pub verdict-kept : length bytes ≡ length before
-  verdict-kept = kept verdictChecks verdictCall (demand1 .verdict-refusals) order query before bytes r codes
+  verdict-kept = kept verdictChecks verdictCall (demand1 .verdict-refusals) verdict-early order query before bytes r codes
 
   pub verdict-blank : (k place : ℕ) → answerIn r ≡ calls.refused k place → bytes ≡ replicate (length before) 0
-  verdict-blank = blank verdictChecks verdictCall (demand1 .verdict-refusals) order query before bytes r codes
+  verdict-blank = blank verdictChecks verdictCall (demand1 .verdict-refusals) verdict-early order query before bytes r codes
 
   -- "53 bytes are enough for every report": they are never refused, and every byte past them is zero.
   pub verdict-room : 53 ≤ length before → (place : ℕ) → answerIn r ≡ calls.refused 9 place → ⊥
@@ -93,18 +112,23 @@ module _ (order query before bytes : List ℕ) (r : ℕ) (codes : Codes (verdict
 module _ (order query before bytes : List ℕ) (r : ℕ) (codes : Codes (derivationCall (inputOf order query before)) r bytes) where
   -- "The number gives back the answer."
   pub derivation-number : answerIn r ≡ derivationCall (inputOf order query before) .answer
-  derivation-number = number-back derivationChecks derivationCall (demand1 .derivation-refusals) order query before bytes r codes
+  derivation-number = number-back derivationChecks derivationCall (demand1 .derivation-refusals) derivation-early order query before bytes r codes
 
-  -- "A refusal's number is 1 to 12; its place is at most the query's length, and at most 681."
-  pub derivation-bounded : (k place : ℕ) → answerIn r ≡ calls.refused k place → (1 ≤ k) × (k ≤ 12) × (place ≤ length query) × (place ≤ 681)
-  derivation-bounded = bounded derivationChecks derivationCall (demand1 .derivation-refusals) order query before bytes r codes
+  -- "refused 1 to 8, 26, 11 and 12"; a refusal's place is at most the query's length, and at most 561.
+  pub derivation-numbered : (k place : ℕ) → answerIn r ≡ calls.refused k place → List·Memᴰ k (1 ∷ 2 ∷ 3 ∷ 26 ∷ 4 ∷ 5 ∷ 6 ∷ 7 ∷ 8 ∷ 11 ∷ 12 ∷ [])
+  derivation-numbered k place e =
+      subst (λ (ks : List ℕ). List·Memᴰ k (ks ++ (11 ∷ 12 ∷ []))) (demand1 .derivation-checks)
+      (numbered derivationChecks derivationCall (demand1 .derivation-refusals) derivation-early order query before bytes r codes k place e)
+
+  pub derivation-placed : (k place : ℕ) → answerIn r ≡ calls.refused k place → (place ≤ length query) × (place ≤ 561)
+  derivation-placed = placed derivationChecks derivationCall (demand1 .derivation-refusals) derivation-early order query before bytes r codes
 
   -- "The buffer's length is kept"; "after a refusal, all of it is zero."
   pub derivation-kept : length bytes ≡ length before
-  derivation-kept = kept derivationChecks derivationCall (demand1 .derivation-refusals) order query before bytes r codes
+  derivation-kept = kept derivationChecks derivationCall (demand1 .derivation-refusals) derivation-early order query before bytes r codes
 
   pub derivation-blank : (k place : ℕ) → answerIn r ≡ calls.refused k place → bytes ≡ replicate (length before) 0
-  derivation-blank = blank derivationChecks derivationCall (demand1 .derivation-refusals) order query before bytes r codes
+  derivation-blank = blank derivationChecks derivationCall (demand1 .derivation-refusals) derivation-early order query before bytes r codes
 
   -- "The derivation call never answers 0."
   pub derivation-nonzero : r ≡ 0 → ⊥

@@ -5,3 +5,4 @@ pub mod PrecedencePromise
 pub mod FormulaPromise
 pub mod CheckPromise
 pub mod JoinPromise
+pub mod RewritePromise

@@ -5,6 +5,7 @@ mod dot_export;
 mod formula_export;
 mod join_export;
 mod precedence_export;
+mod rewrite_export;
 pub mod verdict_export;
 
 ghost use mathlib.Core.Path.{_≡_};

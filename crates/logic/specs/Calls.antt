@@ -6,7 +6,7 @@ use mathlib.Core.Option.{Option, none, some, Option·elim}
 use lib.ListN.{length, replicate}
 use lib.Dec.{ltb}
 use Rattle.logic.specs.Search.{_or_, keep, isSome, firstOf}
-use Rattle.logic.specs.Query.{Query, isOrder, layoutFault, byteFault, decode}
+use Rattle.logic.specs.Query.{Query, Form, sections, isOrder, layoutFault, byteFault, decode}
 use Rattle.logic.specs.Facts.{Line}
 use Rattle.logic.specs.Walk.{Ending, refutation, saturation, ourWalk}
 use Rattle.logic.specs.Derivation.{derivationBytes}
@@ -27,21 +27,25 @@ pub record Check : Type 0 where
 unfoldable pub orderCheck : Check
 orderCheck = record { number = 1; place = λ i. keep (not (isOrder (i .order))) 0 }
 
--- 2 to 4 are met by the walk from the front, and 5 to 8 by single bytes.
-unfoldable pub layoutCheck : ℕ → Check
-layoutCheck k = record { number = k; place = λ i. layoutFault k (i .query) }
+-- 2, 3, 26 and 4 are met by the walk from the front, and 5 to 8 by single bytes, of a query in whichever form a call takes.
+unfoldable pub layoutCheck : Form → ℕ → Check
+layoutCheck form k = record { number = k; place = λ i. layoutFault form k (i .query) }
 
-unfoldable pub byteCheck : ℕ → Check
-byteCheck k = record { number = k; place = λ i. byteFault k (i .query) }
+unfoldable pub byteCheck : Form → ℕ → Check
+byteCheck form k = record { number = k; place = λ i. byteFault form k (i .query) }
+
+unfoldable pub formChecks : Form → List Check
+formChecks form =
+    layoutCheck form 2 ∷ layoutCheck form 3 ∷ layoutCheck form 26 ∷ layoutCheck form 4
+    ∷ byteCheck form 5 ∷ byteCheck form 6 ∷ byteCheck form 7 ∷ byteCheck form 8 ∷ []
 
 -- "9. The heap report's buffer has fewer than 53 bytes, whichever the verdict would be."
 unfoldable pub roomCheck : Check
 roomCheck = record { number = 9; place = λ i. keep (ltb (i .room) 53) 0 }
 
--- "A query is accepted if it passes checks 2 to 8"
+-- "A query is accepted if it passes checks 2 to 8 and any that a change puts among them": 26 (02, R-13)
 unfoldable pub queryChecks : List Check
-queryChecks =
-    layoutCheck 2 ∷ layoutCheck 3 ∷ layoutCheck 4 ∷ byteCheck 5 ∷ byteCheck 6 ∷ byteCheck 7 ∷ byteCheck 8 ∷ []
+queryChecks = formChecks sections
 
 -- "The verdict call uses 1 to 10. The derivation call uses 1 to 8 and 10 to 12"; 10 is withdrawn (02, R-5), and 11 and 12 are read off
 -- the walk.

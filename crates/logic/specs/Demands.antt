@@ -4,7 +4,7 @@ use Prim.Native.Nat.{ℕ, _+_, _*_, _≤_, _<_}
 use mathlib.Core.Path.{_≡_}
 use mathlib.Core.Logic.{_↔_, _⊎_}
 use mathlib.Core.Bool.{true}
-use mathlib.Core.List.{List, [], _∷_, map, List·Memᴰ}
+use mathlib.Core.List.{List, [], _∷_, _++_, map, List·Memᴰ}
 use mathlib.Core.Option.{none, some}
 use lib.ListN.{length, replicate}
 use Rattle.logic.specs.Query.{Query, isOrder, decode, termCount}
@@ -23,13 +23,19 @@ NotRefused a = (k place : ℕ) → a ≡ refused k place → ⊥
 abbrev pub NoneStands : List Check → Input → Type 0
 NoneStands cs i = (c : Check) → List·Memᴰ c cs → c .place i ≡ none
 
--- "Refusals, in checking order": check k stands, at this place, and none of a lower number does
+-- "Refusals, in checking order": check k stands, at this place, and none before it does
 pub record FirstStands (cs : List Check) (i : Input) (k place : ℕ) : Type 0 where
+  pub before : List Check
   pub check : Check
-  pub own : List·Memᴰ check cs
+  pub behind : List Check
+  pub in-order : cs ≡ before ++ (check ∷ behind)
   pub numbered : check .number ≡ k
   pub stands : check .place i ≡ some place
-  pub none-before : (c : Check) → List·Memᴰ c cs → c .number < k → c .place i ≡ none
+  pub none-before : NoneStands before i
+
+-- the numbers of checks, in their order
+abbrev pub numbers : List Check → List ℕ
+numbers cs = map (λ (c : Check). c .number) cs
 
 -- our walk of what a call is given
 abbrev pub walkOf : Input → Ending
@@ -37,15 +43,15 @@ walkOf i = ourWalk (i .order) (decode (i .query))
 
 -- How a call refuses whose checks are cs. For every input:
 pub record Refusals (cs : List Check) (outcome : Input → Outcome) : Type 0 where
-  -- 1 to 9: the refusal answered is the first in checking order whose condition stands
-  pub first-exactly : (i : Input) (k place : ℕ) → k ≤ 9 → (outcome i .answer ≡ refused k place) ↔ FirstStands cs i k place
-  -- where the condition of a check stands, there is a refusal, that one or one before it
-  pub refusal-made : (i : Input) (c : Check) (place : ℕ) → List·Memᴰ c cs → c .place i ≡ some place → (k : ℕ) × (p : ℕ) × (k ≤ c .number) × (outcome i .answer ≡ refused k p)
+  -- the refusal answered, if it is not 11 or 12, is the first in checking order whose condition stands
+  pub first-exactly : (i : Input) (k place : ℕ) → List·Memᴰ k (numbers cs) → (outcome i .answer ≡ refused k place) ↔ FirstStands cs i k place
+  -- where the condition of a check stands, there is a refusal: the first of that check and those before it
+  pub refusal-made : (i : Input) (c : Check) (before behind : List Check) (place : ℕ) → cs ≡ before ++ (c ∷ behind) → c .place i ≡ some place → (k : ℕ) × (p : ℕ) × (outcome i .answer ≡ refused k p) × FirstStands (before ++ (c ∷ [])) i k p
   -- "10 is withdrawn" (02, R-5)
   pub never-ten : (i : Input) (place : ℕ) → outcome i .answer ≡ refused 10 place → ⊥
-  -- a number is 1 to 12, and a place is not past the query's end nor past that of the longest query
-  pub refusal-numbered : (i : Input) (k place : ℕ) → outcome i .answer ≡ refused k place → (1 ≤ k) × (k ≤ 12)
-  pub refusal-placed : (i : Input) (k place : ℕ) → outcome i .answer ≡ refused k place → (place ≤ length (i .query)) × (place ≤ 681)
+  -- a number is that of a check, 11 or 12, and a place is not past the query's end nor past that of the longest query
+  pub refusal-numbered : (i : Input) (k place : ℕ) → outcome i .answer ≡ refused k place → List·Memᴰ k (numbers cs ++ (11 ∷ 12 ∷ []))
+  pub refusal-placed : (i : Input) (k place : ℕ) → outcome i .answer ≡ refused k place → (place ≤ length (i .query)) × (place ≤ 561)
   -- a refusal leaves zero in all that was lent, and the call writes just that in any case
   pub refusal-blank : (i : Input) (k place : ℕ) → outcome i .answer ≡ refused k place → outcome i .lent ≡ replicate (i .room) 0
   pub lent-whole : (i : Input) → length (outcome i .lent) ≡ i .room
@@ -66,13 +72,13 @@ Alike i j = (i .order ≡ j .order) × (i .query ≡ j .query)
 -- An answer is one of the three by its type. As to the rest, for every input:
 pub record Demand1 : Type 0 where
   -- "The verdict call uses 1 to 10. The derivation call uses 1 to 8 and 10 to 12", in checking order; 11 and 12 are no checks
-  pub verdict-checks : map (λ (c : Check). c .number) verdictChecks ≡ 1 ∷ 2 ∷ 3 ∷ 4 ∷ 5 ∷ 6 ∷ 7 ∷ 8 ∷ 9 ∷ []
-  pub derivation-checks : map (λ (c : Check). c .number) derivationChecks ≡ 1 ∷ 2 ∷ 3 ∷ 4 ∷ 5 ∷ 6 ∷ 7 ∷ 8 ∷ []
+  pub verdict-checks : numbers verdictChecks ≡ 1 ∷ 2 ∷ 3 ∷ 26 ∷ 4 ∷ 5 ∷ 6 ∷ 7 ∷ 8 ∷ 9 ∷ []
+  pub derivation-checks : numbers derivationChecks ≡ 1 ∷ 2 ∷ 3 ∷ 26 ∷ 4 ∷ 5 ∷ 6 ∷ 7 ∷ 8 ∷ []
   -- each refusal under its own stated condition only, with all of the lent output zero
   pub verdict-refusals : Refusals verdictChecks verdictCall
   pub derivation-refusals : Refusals derivationChecks derivationCall
-  -- the verdict call: there is no refusal above 9, and a report that shows a heap is well formed
-  pub verdict-numbered : (i : Input) (k place : ℕ) → verdictCall i .answer ≡ refused k place → k ≤ 9
+  -- the verdict call: there is no refusal but by a check, and a report that shows a heap is well formed
+  pub verdict-numbered : (i : Input) (k place : ℕ) → verdictCall i .answer ≡ refused k place → List·Memᴰ k (numbers verdictChecks)
   pub report-formed : (i : Input) → verdictCall i .answer ≡ Answer.satisfiable → wellFormed (verdictCall i .lent) ≡ true
   -- the derivation call: 11 exactly where no check stands and some finite heap meets the query; 12 exactly where
   -- no check stands, none does, and the lines are too many; "refuted" exactly where no check stands and the lines are not too many

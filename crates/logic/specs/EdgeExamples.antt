@@ -49,10 +49,10 @@ computed e = record { input = e .input; verdict = verdictCall (e .input); deriva
 abbrev pub Hold : List Edge → Type 0
 Hold rows = map computed rows ≡ rows
 
--- A query of 18 bytes with two terms and one entry in each later section. Its counts stand at 0, 3, 7, 11 and 15, its terms at 1 and 2, its
--- signs at 4, 8, 12 and 16, term numbers at 5, 6, 9, 10 and 14, the field at 13 and the boolean at 17.
+-- A query of 19 bytes with two terms, an equality, a reachability literal and two data literals. Its counts stand at 0, 3, 7, 11 and 18, its
+-- terms at 1 and 2, its signs at 4, 8, 12 and 15, term numbers at 5, 6, 9, 10, 14 and 17, and the fields at 13 and 16.
 unfoldable pub sample : List ℕ
-sample = 2 ∷ 0 ∷ 1 ∷ 1 ∷ 0 ∷ 1 ∷ 2 ∷ 1 ∷ 1 ∷ 1 ∷ 2 ∷ 1 ∷ 1 ∷ 8 ∷ 2 ∷ 1 ∷ 1 ∷ 8 ∷ []
+sample = 2 ∷ 0 ∷ 1 ∷ 1 ∷ 0 ∷ 1 ∷ 2 ∷ 1 ∷ 1 ∷ 1 ∷ 2 ∷ 2 ∷ 1 ∷ 8 ∷ 2 ∷ 0 ∷ 7 ∷ 1 ∷ 0 ∷ []
 
 -- a byte put in place of another
 unfoldable pub changed : ℕ → ℕ → List ℕ → List ℕ
@@ -86,9 +86,9 @@ badOrders =
 
 -- "2. The query ends before a count or inside a section (place: its length)": every shortening of the sample, the empty query first
 unfoldable pub shortened : List Edge
-shortened = map (λ k. fault (take k sample) 2 k) (from 18 0)
+shortened = map (λ k. fault (take k sample) 2 k) (from 19 0)
 
--- Refusals 3 and 4, and which of 2 to 5 is met.
+-- Refusals 3, 26 and 4, and which of 2 to 5 is met.
 unfoldable pub laidOutWrongly : List Edge
 laidOutWrongly =
     -- "3. A count is above its section's limit (place: that count ..)", where the query would end inside that section
@@ -97,23 +97,34 @@ laidOutWrongly =
     ∷ spoilt 3 61 3
     ∷ spoilt 7 61 3
     ∷ spoilt 11 61 3
-    ∷ spoilt 15 61 3
-    ∷ spoilt 15 255 3
     -- 3 with all entries there, in each section
     ∷ fault (17 ∷ (zeros 17 ++ zeros 4)) 3 0
     ∷ fault (1 ∷ 0 ∷ 61 ∷ (times 61 (1 ∷ 1 ∷ 1 ∷ []) ++ zeros 3)) 3 2
     ∷ fault (1 ∷ 0 ∷ 0 ∷ 61 ∷ (times 61 (1 ∷ 1 ∷ 1 ∷ []) ++ zeros 2)) 3 3
     ∷ fault (1 ∷ 0 ∷ 0 ∷ 0 ∷ 61 ∷ (times 61 (1 ∷ 1 ∷ 1 ∷ []) ++ zeros 1)) 3 4
-    ∷ fault (1 ∷ 0 ∷ 0 ∷ 0 ∷ 0 ∷ 61 ∷ times 61 (1 ∷ 1 ∷ [])) 3 5
+    -- "26 a boolean count above 0 (that count's place), instead of 3" (02, R-13): the least, the most that passed once, one more, and the highest
+    ∷ spoilt 18 1 26
+    ∷ spoilt 18 60 26
+    ∷ spoilt 18 61 26
+    ∷ spoilt 18 255 26
+    -- before 4: an old query, alone and with a byte behind it
+    ∷ fault (1 ∷ 0 ∷ 0 ∷ 0 ∷ 0 ∷ 1 ∷ 1 ∷ 8 ∷ []) 26 5
+    ∷ fault (1 ∷ 0 ∷ 0 ∷ 0 ∷ 0 ∷ 1 ∷ 1 ∷ 8 ∷ 0 ∷ []) 26 5
+    -- before 5 to 8, and after 3 in an earlier section
+    ∷ fault (changed 2 2 (changed 18 1 sample)) 26 18
+    ∷ fault (changed 4 2 (changed 18 1 sample)) 26 18
+    ∷ fault (changed 5 0 (changed 18 1 sample)) 26 18
+    ∷ fault (changed 13 9 (changed 18 1 sample)) 26 18
+    ∷ fault (changed 11 61 (changed 18 1 sample)) 3 11
     -- "4. Bytes follow section 5 (place: the first of them)."
-    ∷ fault (sample ++ zeros 1) 4 18
-    ∷ fault (sample ++ (1 ∷ 1 ∷ 8 ∷ [])) 4 18
+    ∷ fault (sample ++ zeros 1) 4 19
+    ∷ fault (sample ++ (1 ∷ 1 ∷ 8 ∷ [])) 4 19
     ∷ fault (zeros 6) 4 5
     -- "2 or 3, whichever the walk from the front meets first": the 61 is a term byte here, and a count there
     ∷ fault (2 ∷ 0 ∷ 61 ∷ []) 2 3
     ∷ fault (1 ∷ 0 ∷ 61 ∷ []) 3 2
     -- 3 before 4: the bytes that follow do not matter
-    ∷ fault (0 ∷ 0 ∷ 0 ∷ 0 ∷ 61 ∷ times 62 (1 ∷ 1 ∷ [])) 3 4
+    ∷ fault (1 ∷ 0 ∷ 0 ∷ 0 ∷ 61 ∷ times 62 (1 ∷ 1 ∷ 1 ∷ [])) 3 4
     -- 2, 3 and 4 before 5, which stands at a lower place
     ∷ fault (1 ∷ 1 ∷ 0 ∷ []) 2 3
     ∷ fault (1 ∷ 1 ∷ 61 ∷ []) 3 2
@@ -128,12 +139,11 @@ badBytes =
     ∷ spoilt 1 2 5
     ∷ spoilt 2 2 5
     ∷ spoilt 2 254 5
-    -- "6. A sign is neither 0 nor 1", in each of sections 2 to 5
+    -- "6. A sign is neither 0 nor 1", in each of sections 2 to 4
     ∷ spoilt 4 2 6
     ∷ spoilt 8 2 6
     ∷ spoilt 12 2 6
-    ∷ spoilt 16 2 6
-    ∷ spoilt 16 255 6
+    ∷ spoilt 15 255 6
     -- "7. A term number in sections 2 to 4 is 0 or above the term count."
     ∷ spoilt 5 0 7
     ∷ spoilt 5 3 7
@@ -147,11 +157,10 @@ badBytes =
     ∷ spoilt 14 3 7
     -- with no terms, every term number is above their count
     ∷ fault (0 ∷ 1 ∷ 1 ∷ 1 ∷ 1 ∷ 0 ∷ 0 ∷ 0 ∷ []) 7 3
-    -- "8. A field or boolean number is not 1 to 8."
+    -- "8. A field .. number is not 1 to 8."
     ∷ spoilt 13 0 8
     ∷ spoilt 13 9 8
-    ∷ spoilt 17 0 8
-    ∷ spoilt 17 9 8
+    ∷ spoilt 16 0 8
     ∷ []
 
 -- "For 5 to 8 the whole query is searched for one fault before the next, and the place is the lowest such byte."
@@ -159,16 +168,16 @@ unfoldable pub twoFaults : List Edge
 twoFaults =
     -- of two of a kind, the lower place: 5 to 8
     fault (changed 1 1 (changed 2 2 sample)) 5 1
-    ∷ fault (changed 8 2 (changed 16 2 sample)) 6 8
+    ∷ fault (changed 8 2 (changed 15 2 sample)) 6 8
     ∷ fault (changed 6 0 (changed 14 3 sample)) 7 6
-    ∷ fault (changed 13 9 (changed 17 0 sample)) 8 13
+    ∷ fault (changed 13 9 (changed 16 0 sample)) 8 13
     -- 5 before 6, 7 and 8; no term byte stands behind any of those
     ∷ fault (changed 2 2 (changed 4 2 sample)) 5 2
     ∷ fault (changed 2 2 (changed 5 0 sample)) 5 2
     ∷ fault (changed 2 2 (changed 13 0 sample)) 5 2
     -- 6 before 7 and before 8, and 7 before 8, although the later refusal stands at the lower place
-    ∷ fault (changed 5 0 (changed 16 2 sample)) 6 16
-    ∷ fault (changed 13 0 (changed 16 2 sample)) 6 16
+    ∷ fault (changed 5 0 (changed 15 2 sample)) 6 15
+    ∷ fault (changed 13 0 (changed 15 2 sample)) 6 15
     ∷ fault (changed 13 9 (changed 14 0 sample)) 7 14
     ∷ []
 
@@ -176,19 +185,18 @@ twoFaults =
 unfoldable pub passing : List (List ℕ)
 passing =
     sample
-    ∷ (2 ∷ 0 ∷ 0 ∷ 1 ∷ 1 ∷ 2 ∷ 1 ∷ 1 ∷ 0 ∷ 2 ∷ 1 ∷ 1 ∷ 0 ∷ 1 ∷ 1 ∷ 1 ∷ 0 ∷ 1 ∷ [])
+    ∷ (2 ∷ 0 ∷ 0 ∷ 1 ∷ 1 ∷ 2 ∷ 1 ∷ 1 ∷ 0 ∷ 2 ∷ 1 ∷ 1 ∷ 0 ∷ 1 ∷ 1 ∷ 0 ∷ [])
     ∷ zeros 5
     -- "Terms, 0 to 16"; term 16 is f of term 15
     ∷ (16 ∷ (zeros 15 ++ (15 ∷ 1 ∷ 1 ∷ 1 ∷ 16 ∷ 0 ∷ 0 ∷ 0 ∷ [])))
-    -- "0 to 60", in each of sections 2 to 5
+    -- "0 to 60", in each of sections 2 to 4
     ∷ (1 ∷ 0 ∷ 60 ∷ (times 60 (1 ∷ 1 ∷ 1 ∷ []) ++ zeros 3))
     ∷ (1 ∷ 0 ∷ 0 ∷ 60 ∷ (times 60 (1 ∷ 1 ∷ 1 ∷ []) ++ zeros 2))
     ∷ (1 ∷ 0 ∷ 0 ∷ 0 ∷ 60 ∷ (times 60 (1 ∷ 1 ∷ 1 ∷ []) ++ zeros 1))
-    ∷ (1 ∷ 0 ∷ 0 ∷ 0 ∷ 0 ∷ 60 ∷ times 60 (1 ∷ 1 ∷ []))
-    -- the longest query, 681 bytes
+    -- the longest query, 561 bytes
     ∷ (16 ∷ (zeros 16
     ++ (60 ∷ (times 60 (0 ∷ 1 ∷ 16 ∷ [])
-    ++ (60 ∷ (times 60 (1 ∷ 16 ∷ 1 ∷ []) ++ (60 ∷ (times 60 (1 ∷ 8 ∷ 16 ∷ []) ++ (60 ∷ times 60 (0 ∷ 8 ∷ []))))))))))
+    ++ (60 ∷ (times 60 (1 ∷ 16 ∷ 1 ∷ []) ++ (60 ∷ (times 60 (1 ∷ 8 ∷ 16 ∷ []) ++ zeros 1))))))))
     ∷ []
 
 -- both calls in 53 bytes: a refuted query, with its derivation; a satisfiable one, with its report; each with the zeros past it
@@ -240,7 +248,7 @@ e10 =
 unfoldable pub rooms : List Edge
 rooms =
     -- 8 before 9, with one byte less than 9 asks for
-    refuses inOrder (changed 17 9 sample) 52 8 17
+    refuses inOrder (changed 16 9 sample) 52 8 16
     -- "12 is met by refuted queries only": a satisfiable one is refused 11 in any room
     ∷ edge inOrder oneTerm 0 (refusedIn 0 9 0) (refusedIn 0 11 0)
     ∷ edge inOrder oneTerm 1 (refusedIn 1 9 0) (refusedIn 1 11 0)
@@ -256,13 +264,13 @@ rooms =
 unfoldable pub clashesShown : List Edge
 clashesShown =
     -- a clash in each section, then one section fewer
-    clashes (1 ∷ 0 ∷ 2 ∷ 1 ∷ 1 ∷ 1 ∷ 0 ∷ 1 ∷ 1 ∷ 2 ∷ 1 ∷ 1 ∷ 1 ∷ 0 ∷ 1 ∷ 1 ∷ 2 ∷ 1 ∷ 1 ∷ 1 ∷ 0 ∷ 1 ∷ 1 ∷ 2 ∷ 1 ∷ 1 ∷ 0 ∷ 1 ∷ []) 2 2 0
-    ∷ clashes (1 ∷ 0 ∷ 0 ∷ 2 ∷ 1 ∷ 1 ∷ 1 ∷ 0 ∷ 1 ∷ 1 ∷ 2 ∷ 1 ∷ 1 ∷ 1 ∷ 0 ∷ 1 ∷ 1 ∷ 2 ∷ 1 ∷ 1 ∷ 0 ∷ 1 ∷ []) 3 2 0
-    ∷ clashes (1 ∷ 0 ∷ 0 ∷ 0 ∷ 2 ∷ 1 ∷ 1 ∷ 1 ∷ 0 ∷ 1 ∷ 1 ∷ 2 ∷ 1 ∷ 1 ∷ 0 ∷ 1 ∷ []) 4 2 1
-    -- two clashes: booleans 1, 2, not 2, not 1
-    ∷ clashes (0 ∷ 0 ∷ 0 ∷ 0 ∷ 4 ∷ 1 ∷ 1 ∷ 1 ∷ 2 ∷ 0 ∷ 2 ∷ 0 ∷ 1 ∷ []) 5 3 2
-    -- two partners: booleans not 1, 2, 1, 1; and field 1 of terms 2, not 1, 1, 1, not 2
-    ∷ clashes (0 ∷ 0 ∷ 0 ∷ 0 ∷ 4 ∷ 0 ∷ 1 ∷ 1 ∷ 2 ∷ 1 ∷ 1 ∷ 1 ∷ 1 ∷ []) 5 1 3
+    clashes (1 ∷ 0 ∷ 2 ∷ 1 ∷ 1 ∷ 1 ∷ 0 ∷ 1 ∷ 1 ∷ 2 ∷ 1 ∷ 1 ∷ 1 ∷ 0 ∷ 1 ∷ 1 ∷ 2 ∷ 1 ∷ 1 ∷ 1 ∷ 0 ∷ 1 ∷ 1 ∷ 0 ∷ []) 2 2 0
+    ∷ clashes (1 ∷ 0 ∷ 0 ∷ 2 ∷ 1 ∷ 1 ∷ 1 ∷ 0 ∷ 1 ∷ 1 ∷ 2 ∷ 1 ∷ 1 ∷ 1 ∷ 0 ∷ 1 ∷ 1 ∷ 0 ∷ []) 3 2 0
+    ∷ clashes (1 ∷ 0 ∷ 0 ∷ 0 ∷ 2 ∷ 1 ∷ 1 ∷ 1 ∷ 0 ∷ 1 ∷ 1 ∷ 0 ∷ []) 4 2 1
+    -- two clashes: fields 1, 2, not 2, not 1
+    ∷ clashes (1 ∷ 0 ∷ 0 ∷ 0 ∷ 4 ∷ 1 ∷ 1 ∷ 1 ∷ 1 ∷ 2 ∷ 1 ∷ 0 ∷ 2 ∷ 1 ∷ 0 ∷ 1 ∷ 1 ∷ 0 ∷ []) 4 3 2
+    -- two partners: fields not 1, 2, 1, 1; and field 1 of terms 2, not 1, 1, 1, not 2
+    ∷ clashes (1 ∷ 0 ∷ 0 ∷ 0 ∷ 4 ∷ 0 ∷ 1 ∷ 1 ∷ 1 ∷ 2 ∷ 1 ∷ 1 ∷ 1 ∷ 1 ∷ 1 ∷ 1 ∷ 1 ∷ 0 ∷ []) 4 1 3
     ∷ clashes (2 ∷ 0 ∷ 0 ∷ 0 ∷ 0 ∷ 5 ∷ 1 ∷ 1 ∷ 2 ∷ 0 ∷ 1 ∷ 1 ∷ 1 ∷ 1 ∷ 1 ∷ 1 ∷ 1 ∷ 1 ∷ 0 ∷ 1 ∷ 2 ∷ 0 ∷ []) 4 2 3
     ∷ []
 
@@ -325,15 +333,17 @@ nilShown =
     ∷ shows (2 ∷ 255 ∷ 0 ∷ 0 ∷ 0 ∷ 0 ∷ 0 ∷ []) ((2 ∷ 1 ∷ 2 ∷ 2 ∷ 1 ∷ 2 ∷ 2 ∷ 0 ∷ 0 ∷ 1 ∷ 0 ∷ []) ++ zeros 42)
     ∷ []
 
--- "m data bytes, field j in bit j-1, set exactly by a plain literal; one byte of booleans, set likewise."
+-- "m data bytes, field j in bit j-1, set exactly by a plain literal; one byte of booleans", which is 0 (02, R-13).
 unfoldable pub bits : List Edge
 bits =
-    -- fields 1 and 8 on two nodes and booleans 1 and 8; a negated literal sets nothing
-    shows (2 ∷ 0 ∷ 0 ∷ 0 ∷ 0 ∷ 4 ∷ 1 ∷ 1 ∷ 1 ∷ 0 ∷ 2 ∷ 1 ∷ 1 ∷ 8 ∷ 2 ∷ 0 ∷ 1 ∷ 2 ∷ 3 ∷ 1 ∷ 1 ∷ 0 ∷ 2 ∷ 1 ∷ 8 ∷ [])
-    ((2 ∷ 1 ∷ 2 ∷ 2 ∷ 1 ∷ 2 ∷ 2 ∷ 1 ∷ 128 ∷ 1 ∷ 129 ∷ []) ++ zeros 42)
-    -- fields 2, 3 and 6 and not 4, booleans 2, 4 and 7
-    ∷ shows (1 ∷ 0 ∷ 0 ∷ 0 ∷ 4 ∷ 1 ∷ 2 ∷ 1 ∷ 1 ∷ 3 ∷ 1 ∷ 0 ∷ 4 ∷ 1 ∷ 1 ∷ 6 ∷ 1 ∷ 3 ∷ 1 ∷ 2 ∷ 1 ∷ 4 ∷ 1 ∷ 7 ∷ [])
-    ((1 ∷ 1 ∷ 1 ∷ 1 ∷ 1 ∷ 38 ∷ 1 ∷ 74 ∷ []) ++ zeros 45)
+    -- fields 1 and 8 on two nodes; a negated literal sets nothing
+    shows (2 ∷ 0 ∷ 0 ∷ 0 ∷ 0 ∷ 4 ∷ 1 ∷ 1 ∷ 1 ∷ 0 ∷ 2 ∷ 1 ∷ 1 ∷ 8 ∷ 2 ∷ 0 ∷ 1 ∷ 2 ∷ 0 ∷ [])
+    ((2 ∷ 1 ∷ 2 ∷ 2 ∷ 1 ∷ 2 ∷ 2 ∷ 1 ∷ 128 ∷ 1 ∷ 0 ∷ []) ++ zeros 42)
+    -- fields 2, 3 and 6 and not 4; fields 2, 4 and 7
+    ∷ shows (1 ∷ 0 ∷ 0 ∷ 0 ∷ 4 ∷ 1 ∷ 2 ∷ 1 ∷ 1 ∷ 3 ∷ 1 ∷ 0 ∷ 4 ∷ 1 ∷ 1 ∷ 6 ∷ 1 ∷ 0 ∷ [])
+    ((1 ∷ 1 ∷ 1 ∷ 1 ∷ 1 ∷ 38 ∷ 1 ∷ 0 ∷ []) ++ zeros 45)
+    ∷ shows (1 ∷ 0 ∷ 0 ∷ 0 ∷ 3 ∷ 1 ∷ 2 ∷ 1 ∷ 1 ∷ 4 ∷ 1 ∷ 1 ∷ 7 ∷ 1 ∷ 0 ∷ [])
+    ((1 ∷ 1 ∷ 1 ∷ 1 ∷ 1 ∷ 74 ∷ 1 ∷ 0 ∷ []) ++ zeros 45)
     -- a field of a term that was replaced, 2=1, is shown on the node of the other
     ∷ shows (2 ∷ 0 ∷ 0 ∷ 1 ∷ 1 ∷ 1 ∷ 2 ∷ 0 ∷ 2 ∷ 1 ∷ 3 ∷ 2 ∷ 0 ∷ 4 ∷ 1 ∷ 0 ∷ [])
     ((1 ∷ 1 ∷ 2 ∷ 1 ∷ 1 ∷ 1 ∷ 4 ∷ 1 ∷ 0 ∷ []) ++ zeros 44)

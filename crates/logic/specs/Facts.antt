@@ -156,16 +156,15 @@ negatedAt ls i p = holdsOf (at ls i) (λ l. not (l .plain) and p l)
 unfoldable pub plainAt : List Literal → ℕ → (Literal → Bool) → Bool
 plainAt ls i p = holdsOf (at ls i) (λ l. l .plain and p l)
 
--- "A clash is a negated equality of one term with itself, a negated reachability fact that is held, or a data or boolean literal held
--- plain and negated." Section, "place of the negated literal (from 1)", and for sections 4 and 5 the place of a plain partner, else 0.
+-- "A clash is a negated equality of one term with itself, a negated reachability fact that is held, or a data .. literal held plain and
+-- negated." Section, "place of the negated literal (from 1)", and for section 4 the place of a plain partner, else 0.
 unfoldable pub isClash : Query → Facts → Line → Bool
 isClash q s (line nine section i j) =
     eqb nine 9
     and (eqb section 2 and eqb j 0 and negatedAt (q .equalities) i (λ l. eqb (s .rep (l .left)) (s .rep (l .right)))
     or eqb section 3 and eqb j 0 and negatedAt (q .reachability) i (λ l. s .graph .reach (s .rep (l .left)) (s .rep (l .right)))
     or eqb section 4 and negatedAt (q .fields) i
-    (λ l. plainAt (q .fields) j (λ m. eqb (l .left) (m .left) and eqb (s .rep (l .right)) (s .rep (m .right))))
-    or eqb section 5 and negatedAt (q .booleans) i (λ l. plainAt (q .booleans) j (λ m. eqb (l .left) (m .left))))
+    (λ l. plainAt (q .fields) j (λ m. eqb (l .left) (m .left) and eqb (s .rep (l .right)) (s .rep (m .right)))))
 
 -- the clash lines that a query allows: by section, then place, then partner
 unfoldable pub clashLines : Query → List Line
@@ -173,7 +172,7 @@ clashLines q =
     let alone : ℕ → List Literal → List Line = λ k ls. map (λ i. line 9 k i 0) (from (length ls) 1) in
     let paired : ℕ → List Literal → List Line =
     λ k ls. flatMap (λ i. map (line 9 k i) (from (length ls) 1)) (from (length ls) 1) in
-    alone 2 (q .equalities) ++ (alone 3 (q .reachability) ++ (paired 4 (q .fields) ++ paired 5 (q .booleans)))
+    alone 2 (q .equalities) ++ (alone 3 (q .reachability) ++ paired 4 (q .fields))
 
 -- "Lowest section, then lowest place, is reported", with "the place of the lowest plain partner"
 unfoldable pub clash : Query → Facts → Option Line

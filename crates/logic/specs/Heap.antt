@@ -7,13 +7,12 @@ use lib.Dec.{eqb}
 use Rattle.logic.specs.Query.{Literal, Query, namesNil, argumentOf}
 
 -- "A heap is a finite set of at least one node, with one link f from every node to a node, a yes or no in each of 8 data fields at
--- every node, and 8 booleans outside the nodes." The nodes are the numbers 1 to `size`. As in 000, a heap also says which node each
--- variable names; a variable goes by its term number.
+-- every node"; the booleans outside the nodes are retired (02, R-13). The nodes are the numbers 1 to `size`. As in 000, a heap also says
+-- which node each variable names; a variable goes by its term number.
 pub record Heap : Type 0 where
   pub size : ℕ
   pub link : ℕ → ℕ
   pub field : ℕ → ℕ → Bool
-  pub boolean : ℕ → Bool
   pub variable : ℕ → ℕ
 
 abbrev pub Node : Heap → ℕ → Type 0
@@ -60,9 +59,6 @@ module _ (h : Heap) (entries : List ℕ) where
   abbrev pub MeansField : Literal → Type 0
   MeansField l = Signed (l .plain) (h .field (l .left) (value h entries (l .right)) ≡ true)
 
-  abbrev pub MeansBoolean : Literal → Type 0
-  MeansBoolean l = Signed (l .plain) (h .boolean (l .left) ≡ true)
-
 abbrev pub Each : (Literal → Type 0) → List Literal → Type 0
 Each P ls = (l : Literal) → List·Memᴰ l ls → P l
 
@@ -78,7 +74,6 @@ pub record Meets (h : Heap) (q : Query) : Type 0 where
   pub equalities : Each (MeansEqual h (q .entries)) (q .equalities)
   pub reachability : Each (MeansReach h (q .entries)) (q .reachability)
   pub fields : Each (MeansField h (q .entries)) (q .fields)
-  pub booleans : Each (MeansBoolean h (q .entries)) (q .booleans)
 
 -- "some finite heap .. meets every literal" (demand 2)
 abbrev pub Satisfiable : Query → Type 0

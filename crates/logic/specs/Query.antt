@@ -7,8 +7,7 @@ use lib.ListN.{length, getD, take, drop}
 use lib.Dec.{eqb, ltb, leb}
 use Rattle.logic.specs.Search.{_and_, _or_, from, all, any, orElse, flatMap, keep}
 
--- "Sign 1 is plain, 0 negated." An equality or a reachability literal has two terms, a data literal a field and a term, and a boolean
--- literal its number (and 0).
+-- "Sign 1 is plain, 0 negated." An equality or a reachability literal has two terms, a data literal a field and a term.
 pub record Literal : Type 0 where
   pub plain : Bool
   pub left : ℕ
@@ -20,7 +19,6 @@ pub record Query : Type 0 where
   pub equalities : List Literal
   pub reachability : List Literal
   pub fields : List Literal
-  pub booleans : List Literal
 
 -- how many terms the query has, and the entry of term t
 unfoldable pub termCount : Query → ℕ
@@ -43,9 +41,11 @@ pub record Role : Type 0 where
   pub refusal : ℕ
   pub allows : ℕ → Bool
 
--- "Five sections in this order, each after a one-byte count": the most entries, the bytes of one, and their roles in entry i.
+-- "Five sections in this order, each after a one-byte count": the most entries, the refusal where there are more, the bytes of one, and
+-- their roles in entry i.
 pub record Section : Type 0 where
   pub limit : ℕ
+  pub excess : ℕ
   pub width : ℕ
   pub roles : ℕ → List Role
 
@@ -68,17 +68,31 @@ numberRole = record { refusal = 8; allows = λ b. ltb 0 b and leb b 8 }
 unfoldable pub countRole : Role
 countRole = record { refusal = 0; allows = λ b. true }
 
--- the sections of a query of n terms
-unfoldable pub sections : ℕ → List Section
-sections n =
-    record { limit = 16; width = 1; roles = λ i. entryRole i ∷ [] }
-    ∷ record { limit = 60; width = 3; roles = λ i. signRole ∷ termRole n ∷ termRole n ∷ [] }
-    ∷ record { limit = 60; width = 3; roles = λ i. signRole ∷ termRole n ∷ termRole n ∷ [] }
-    ∷ record { limit = 60; width = 3; roles = λ i. signRole ∷ numberRole ∷ termRole n ∷ [] }
-    ∷ record { limit = 60; width = 2; roles = λ i. signRole ∷ numberRole ∷ [] }
+-- sections 1 to 4 of a query of n terms: terms, equalities, reachability, data
+unfoldable pub fourSections : ℕ → List Section
+fourSections n =
+    record { limit = 16; excess = 3; width = 1; roles = λ i. entryRole i ∷ [] }
+    ∷ record { limit = 60; excess = 3; width = 3; roles = λ i. signRole ∷ termRole n ∷ termRole n ∷ [] }
+    ∷ record { limit = 60; excess = 3; width = 3; roles = λ i. signRole ∷ termRole n ∷ termRole n ∷ [] }
+    ∷ record { limit = 60; excess = 3; width = 3; roles = λ i. signRole ∷ numberRole ∷ termRole n ∷ [] }
     ∷ []
 
--- What the walk from the front meets: a refusal 2, 3 or 4 with its place, or the bytes of each section.
+-- A form of query bytes: the sections of a query of n terms.
+abbrev pub Form : Type 0
+Form = ℕ → List Section
+
+-- section 5, the booleans, and all five, where so many booleans pass and more meet this refusal
+unfoldable pub booleanSection : ℕ → ℕ → Section
+booleanSection most excess = record { limit = most; excess = excess; width = 2; roles = λ i. signRole ∷ numberRole ∷ [] }
+
+unfoldable pub fiveSections : ℕ → ℕ → Form
+fiveSections most excess n = fourSections n ++ (booleanSection most excess ∷ [])
+
+-- "Its count must now be 0." "26 a boolean count above 0 (that count's place), instead of 3" (02, R-13)
+unfoldable pub sections : Form
+sections = fiveSections 0 26
+
+-- What the walk from the front meets: a refusal 2, 3, 26 or 4 with its place, or the bytes of each section.
 pub data Layout : Type 0 where
   faulty : ℕ → ℕ → Layout
   parts : List (List ℕ) → Layout
@@ -96,7 +110,7 @@ layout (s ∷ ss) place [] = faulty 2 place
 layout (s ∷ ss) place (c ∷ bytes) =
     let size : ℕ = c * s .width in
     let rest : Layout = withPart (take size bytes) (layout ss (suc place + size) (drop size bytes)) in
-    cond (leb c (s .limit)) (cond (leb size (length bytes)) rest (faulty 2 (suc place + length bytes))) (faulty 3 place)
+    cond (leb c (s .limit)) (cond (leb size (length bytes)) rest (faulty 2 (suc place + length bytes))) (faulty (s .excess) place)
 
 -- the roles of the bytes of a query that is laid out by these sections
 unfoldable pub rolesOf : List Section → List ℕ → List Role
@@ -109,16 +123,19 @@ rolesOf (s ∷ ss) (c ∷ bytes) =
 unfoldable pub firstByte : List ℕ → ℕ
 firstByte bytes = getD bytes 0 0
 
-unfoldable pub layoutOf : List ℕ → Layout
-layoutOf bytes = layout (sections (firstByte bytes)) 0 bytes
+unfoldable pub layoutBy : Form → List ℕ → Layout
+layoutBy form bytes = layout (form (firstByte bytes)) 0 bytes
 
--- refusal k of 2, 3 and 4, where the walk from the front meets it
+unfoldable pub layoutOf : List ℕ → Layout
+layoutOf bytes = layoutBy sections bytes
+
+-- refusal k of 2, 3, 26 and 4, where the walk from the front meets it
 unfoldable pub faultIn : ℕ → Layout → Option ℕ
 faultIn k (faulty j place) = keep (eqb j k) place
 faultIn k (parts ps) = none
 
-unfoldable pub layoutFault : ℕ → List ℕ → Option ℕ
-layoutFault k bytes = faultIn k (layoutOf bytes)
+unfoldable pub layoutFault : Form → ℕ → List ℕ → Option ℕ
+layoutFault form k bytes = faultIn k (layoutBy form bytes)
 
 -- the lowest place from `place` on whose byte meets refusal k of 5 to 8
 unfoldable pub roleFault : ℕ → ℕ → List Role → List ℕ → Option ℕ
@@ -129,37 +146,31 @@ roleFault k place (r ∷ roles) (b ∷ bytes) =
     orElse (keep (eqb (r .refusal) k and not (r .allows b)) place) rest
 
 -- "For 5 to 8 the whole query is searched for one fault before the next, and the place is the lowest such byte."
-unfoldable pub byteFault : ℕ → List ℕ → Option ℕ
-byteFault k bytes = roleFault k 0 (rolesOf (sections (firstByte bytes)) bytes) bytes
+unfoldable pub byteFault : Form → ℕ → List ℕ → Option ℕ
+byteFault form k bytes = roleFault k 0 (rolesOf (form (firstByte bytes)) bytes) bytes
 
 -- "The order list is eight bytes holding 1 to 8 once each."
 unfoldable pub isOrder : List ℕ → Bool
 isOrder order = eqb (length order) 8 and all (λ r. any (eqb r) order) (from 8 1)
 
--- the literals of a section of three bytes an entry, and of two
+-- the literals of a section of three bytes an entry
 unfoldable pub literals : List ℕ → List Literal
 literals [] = []
 literals (s ∷ []) = []
 literals (s ∷ a ∷ []) = []
 literals (s ∷ a ∷ b ∷ rest) = record { plain = eqb s 1; left = a; right = b } ∷ literals rest
 
-unfoldable pub flags : List ℕ → List Literal
-flags [] = []
-flags (s ∷ []) = []
-flags (s ∷ a ∷ rest) = record { plain = eqb s 1; left = a; right = 0 } ∷ flags rest
-
 unfoldable pub section : List (List ℕ) → ℕ → List ℕ
 section ps i = getD ps i []
 
 unfoldable pub queryOf : Layout → Query
-queryOf (faulty k place) = record { entries = []; equalities = []; reachability = []; fields = []; booleans = [] }
+queryOf (faulty k place) = record { entries = []; equalities = []; reachability = []; fields = [] }
 queryOf (parts ps) =
     record {
       entries = section ps 0;
       equalities = literals (section ps 1);
       reachability = literals (section ps 2);
       fields = literals (section ps 3);
-      booleans = flags (section ps 4);
     }
 
 -- what query bytes say; it is read only of bytes that are laid out as they should be

@@ -31,7 +31,6 @@ pub record Reordered (q q′ : Query) : Type 0 where
   pub equalities : SameElements (q .equalities) (q′ .equalities)
   pub reachability : q .reachability ≡ q′ .reachability
   pub fields : q .fields ≡ q′ .fields
-  pub booleans : q .booleans ≡ q′ .booleans
 
 -- facts "that a walk can hold": a path of a hand's row
 abbrev pub Held : Query → Facts → Type 0

@@ -73,14 +73,12 @@ unfoldable pub bitOf : ℕ → ℕ → Bool
 bitOf b zero = eqb (b % 2) 1
 bitOf b (suc i) = bitOf (b / 2) i
 
--- "field j in bit j-1, set exactly by a plain literal", here for the node of term v; "one byte of booleans, set likewise"
+-- "field j in bit j-1, set exactly by a plain literal", here for the node of term v
 unfoldable pub fieldByte : Query → Facts → ℕ → ℕ
 fieldByte q s v = byteOf (λ j. any (λ l. l .plain and eqb (l .left) j and eqb (s .rep (l .right)) v) (q .fields)) 1 8
 
-unfoldable pub booleanByte : Query → ℕ
-booleanByte q = byteOf (λ j. any (λ l. l .plain and eqb (l .left) j) (q .booleans)) 1 8
-
--- "Report, each section after its count: m successors; n nodes, one per term; m data bytes ..; one byte of booleans"
+-- "Report, each section after its count: m successors; n nodes, one per term; m data bytes ..; one byte of booleans", which is 0 since
+-- no query has any (02, R-13)
 unfoldable pub report : Query → Facts → List ℕ
 report q s =
     let n : ℕ = termCount q in
@@ -88,7 +86,7 @@ report q s =
     let m : ℕ = length ts in
     (m ∷ map (λ v. placeOf (shownLink n s v) ts) ts)
     ++ ((n ∷ map (λ t. placeOf (s .rep t) ts) (terms n))
-    ++ ((m ∷ map (fieldByte q s) ts) ++ (1 ∷ booleanByte q ∷ [])))
+    ++ ((m ∷ map (fieldByte q s) ts) ++ (1 ∷ 0 ∷ [])))
 
 -- Reading a report. `node` is the node of a term, `size` the first count.
 unfoldable pub sizeIn : List ℕ → ℕ
@@ -106,7 +104,6 @@ heapIn bytes =
       size = m;
       link = λ v. getD bytes v 0;
       field = λ j v. bitOf (getD bytes (m + n + 2 + v) 0) (j - 1);
-      boolean = λ j. bitOf (getD bytes (m + n + m + 4) 0) (j - 1);
       variable = λ t. cond (ltb 0 t and leb t n) (nodeIn bytes t) 1;
     }
 

@@ -34,6 +34,9 @@ prints =
       input = 1 ∷ 2 ∷ 3 ∷ 8 ∷ 4 ∷ 5 ∷ 6 ∷ 7 ∷ 2 ∷ 0 ∷ 255 ∷ 1 ∷ 0 ∷ 1 ∷ 2 ∷ 2 ∷ 1 ∷ 1 ∷ 2 ∷ 1 ∷ 2 ∷ 1 ∷ 0 ∷ 0 ∷ [];
       text = ascii "unsat\n1 1 0 0\n1 2 0 0\n5 2 1 1\n10 1 2 0\n9 2 1 0\n";
     }
+    -- E7 as its rewriting, and as it was (02, R-13)
+    ∷ record { input = inOrder ++ (1 ∷ 0 ∷ 0 ∷ 0 ∷ 2 ∷ 1 ∷ 1 ∷ 1 ∷ 0 ∷ 1 ∷ 1 ∷ 0 ∷ []); text = ascii "unsat\n9 4 2 1\n" }
+    ∷ record { input = inOrder ++ (0 ∷ 0 ∷ 0 ∷ 0 ∷ 2 ∷ 1 ∷ 1 ∷ 0 ∷ 1 ∷ []); text = ascii "refused 26 at 4\n" }
     -- E10: "Count 17 first"; "Empty query"; "Order 1 1 3 4 5 6 7 8"
     ∷ record { input = inOrder ++ (17 ∷ []); text = ascii "refused 3 at 0\n" }
     ∷ record { input = inOrder; text = ascii "refused 2 at 0\n" }

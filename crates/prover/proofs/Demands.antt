@@ -5,7 +5,7 @@ use native.Mathlib.Omega.{arith}
 use mathlib.Core.Path.{_≡_, refl, sym, ap, _∙_, subst}
 use mathlib.Core.Logic.{_↔_}
 use mathlib.Core.Bool.{true}
-use mathlib.Core.List.{List, List·Memᴰ}
+use mathlib.Core.List.{List, [], _∷_, _++_, List·Memᴰ}
 use mathlib.Core.Option.{some}
 use lib.ListN.{length, replicate}
 use Rattle.logic.specs.Query.{decode}
@@ -16,7 +16,7 @@ use Rattle.logic.specs.Derivation.{Derivation, derivationBytes, linesIn}
 use Rattle.logic.specs.Shown.{wellFormed}
 use Rattle.logic.specs.Calls.{Input, Check, Outcome, verdictChecks, derivationChecks, padded, verdictCall, derivationCall}
 use Rattle.logic.specs.Calls as calls
-use Rattle.logic.specs.Demands.{NotRefused, NoneStands, FirstStands, Refusals, Fits, Exceeds, Shows, Right, answerOf}
+use Rattle.logic.specs.Demands.{NotRefused, NoneStands, FirstStands, numbers, Refusals, Fits, Exceeds, Shows, Right, answerOf}
 use Rattle.logic.proofs.Calls.Demands.{demand1, demand2, demand3, call-passed}
 use Rattle.prover.specs.Promise.{meaning, inputOf, Does}
 use Rattle.prover.specs.declared.Answer.{Answer}
@@ -55,19 +55,19 @@ module _ (o : Outcome) (r : Answer) (bytes : List ℕ) (does : Does o r bytes) w
 -- DEMAND 1, of either call: each refusal under its own stated condition only, the first in checking order; all of the lent output is
 -- then zero, and the call writes just what it was lent
 pub record Refuses (cs : List Check) (i : Input) (r : Answer) (bytes : List ℕ) : Type 0 where
-  pub first-exactly : (k place : ℕ) → k ≤ 9 → (r ≡ answer.Refused k place) ↔ FirstStands cs i k place
-  pub refusal-made : (c : Check) (place : ℕ) → List·Memᴰ c cs → c .place i ≡ some place → (k : ℕ) × (p : ℕ) × (k ≤ c .number) × (r ≡ answer.Refused k p)
+  pub first-exactly : (k place : ℕ) → List·Memᴰ k (numbers cs) → (r ≡ answer.Refused k place) ↔ FirstStands cs i k place
+  pub refusal-made : (c : Check) (before behind : List Check) (place : ℕ) → cs ≡ before ++ (c ∷ behind) → c .place i ≡ some place → (k : ℕ) × (p : ℕ) × (r ≡ answer.Refused k p) × FirstStands (before ++ (c ∷ [])) i k p
   pub never-ten : (place : ℕ) → r ≡ answer.Refused 10 place → ⊥
-  pub refusal-numbered : (k place : ℕ) → r ≡ answer.Refused k place → (1 ≤ k) × (k ≤ 12)
-  pub refusal-placed : (k place : ℕ) → r ≡ answer.Refused k place → (place ≤ length (i .query)) × (place ≤ 681)
+  pub refusal-numbered : (k place : ℕ) → r ≡ answer.Refused k place → List·Memᴰ k (numbers cs ++ (11 ∷ 12 ∷ []))
+  pub refusal-placed : (k place : ℕ) → r ≡ answer.Refused k place → (place ≤ length (i .query)) × (place ≤ 561)
   pub refusal-blank : (k place : ℕ) → r ≡ answer.Refused k place → bytes ≡ replicate (i .room) 0
   pub lent-whole : length bytes ≡ i .room
 
 refuses : (cs : List Check) (outcome : Input → Outcome) → Refusals cs outcome → (i : Input) (r : Answer) (bytes : List ℕ) → Does (outcome i) r bytes → Refuses cs i r bytes
 refuses cs outcome law i r bytes does =
     record {
-      first-exactly = λ k place u. exactly (outcome i) r bytes does (answer.Refused k place) (FirstStands cs i k place) (law .first-exactly i k place u);
-      refusal-made = λ c place m s. let (k, p, l, e) = law .refusal-made i c place m s in (k, p, l, back (outcome i) r bytes does (answer.Refused k p) e);
+      first-exactly = λ k place m. exactly (outcome i) r bytes does (answer.Refused k place) (FirstStands cs i k place) (law .first-exactly i k place m);
+      refusal-made = λ c before behind place o s. let (k, p, e, f) = law .refusal-made i c before behind place o s in (k, p, back (outcome i) r bytes does (answer.Refused k p) e, f);
       never-ten = λ place e. law .never-ten i place (same (outcome i) r bytes does (answer.Refused 10 place) e);
       refusal-numbered = λ k place e. law .refusal-numbered i k place (same (outcome i) r bytes does (answer.Refused k place) e);
       refusal-placed = λ k place e. law .refusal-placed i k place (same (outcome i) r bytes does (answer.Refused k place) e);
@@ -87,7 +87,7 @@ module _ (order query before bytes : List ℕ) (r : Answer) (does : Does (verdic
   pub verdict-refuses : Refuses verdictChecks i r bytes
   verdict-refuses = refuses verdictChecks verdictCall (demand1 .verdict-refusals) i r bytes does
 
-  pub verdict-numbered : (k place : ℕ) → r ≡ answer.Refused k place → k ≤ 9
+  pub verdict-numbered : (k place : ℕ) → r ≡ answer.Refused k place → List·Memᴰ k (numbers verdictChecks)
   verdict-numbered k place e = demand1 .verdict-numbered i k place (same _ r bytes does (answer.Refused k place) e)
 
   pub report-whole : length bytes ≡ length before

@@ -55,7 +55,7 @@ fn decide(order: &[u8], query: &[u8], layout: Layout, report: &mut [u8]) -> Answ
     Answer::Satisfiable
 }
 
-// The verdict call: "satisfiable" with the heap shown in the report, "refuted", or one of the refusals 1 to 9.
+// The verdict call: "satisfiable" with the heap shown in the report, "refuted", or one of the refusals 1 to 9 and 26.
 pub fn verdict(order: &[u8], query: &[u8], report: &mut [u8]) -> Answer
     ensures { λ r. ⌜ Does (verdictCall (inputOf (now (order .entry)) (now (query .entry)) (now (report .entry)))) r (now (report .exit)) ⌝ }
 {
@@ -124,7 +124,7 @@ fn derive(order: &[u8], query: &[u8], layout: Layout, buffer: &mut [u8]) -> Answ
     Answer::Refused(11, 0)
 }
 
-// The derivation call: "refuted" with the derivation in the buffer, or one of the refusals 1 to 8, 11 and 12.
+// The derivation call: "refuted" with the derivation in the buffer, or one of the refusals 1 to 8, 26, 11 and 12.
 pub fn derivation(order: &[u8], query: &[u8], buffer: &mut [u8]) -> Answer
     ensures { λ r. ⌜ Does (derivationCall (inputOf (now (order .entry)) (now (query .entry)) (now (buffer .entry)))) r (now (buffer .exit)) ⌝ }
 {

@@ -11,8 +11,8 @@ use lib.ListN.{length, getD, drop, length-append}
 use lib.Seq.{drop-drop}
 use lib.Dec.{eqb}
 use Rattle.logic.specs.Search.{_and_, from, keep, orElse, flatMap}
-use Rattle.logic.specs.Query.{Role, Section, countRole, sections, rolesOf, firstByte, roleFault, byteFault}
-use Rattle.query.specs.declared.Layout.{Layout}
+use Rattle.logic.specs.Query.{Role, Section, countRole, fourSections, booleanSection, fiveSections, rolesOf, firstByte, roleFault, byteFault}
+use Rattle.query.specs.declared.FullLayout.{FullLayout}
 use Rattle.query.specs.declared.Kind.{Kind}
 use Rattle.query.specs.declared.Kind.the-variants as kind
 use Rattle.query.specs.Sections.{widthOf, rolesAt, meets, sectionFault, Stands, Sections}
@@ -134,16 +134,16 @@ section-length kind n zero i = sym (zero-mul (widthOf kind))
 section-length kind n (suc count) i = rw (length-append, suc-mul) (omega (arith, roles-regular kind n i, section-length kind n count (suc i)))
 
 -- a section, by its kind
-abbrev sectionOf : Kind → ℕ → ℕ → Section
-sectionOf kind n limit = record { limit = limit; width = widthOf kind; roles = rolesAt kind n }
+abbrev sectionOf : Kind → ℕ → ℕ → ℕ → Section
+sectionOf kind n limit excess = record { limit = limit; excess = excess; width = widthOf kind; roles = rolesAt kind n }
 
-module _ (k : ℕ) (kind : Kind) (n limit : ℕ) (ss : List Section) (bytes : List ℕ) (at place count next : ℕ) (stands : Stands bytes limit (widthOf kind) at count next) where
+module _ (k : ℕ) (kind : Kind) (n limit excess : ℕ) (ss : List Section) (bytes : List ℕ) (at place count next : ℕ) {within : ℕ} (stands : Stands bytes within (widthOf kind) at count next) where
   -- the count is held to nothing
-  behind-count : roleFault k at (rolesOf (sectionOf kind n limit ∷ ss) (drop at bytes)) (drop at bytes) ≡ roleFault k (at + 1) (flatMap (rolesAt kind n) (from count 1) ++ rolesOf ss (drop next bytes)) (drop (at + 1) bytes)
+  behind-count : roleFault k at (rolesOf (sectionOf kind n limit excess ∷ ss) (drop at bytes)) (drop at bytes) ≡ roleFault k (at + 1) (flatMap (rolesAt kind n) (from count 1) ++ rolesOf ss (drop next bytes)) (drop (at + 1) bytes)
   unfolding rolesOf roleFault countRole keep orElse
   behind-count = rw (drop-next bytes at (stands .counted), and-never, stands .count-is, drop-drop, stands .next-is, add-one)
 
-  pub section-first : place ≡ at + 1 → roleFault k at (rolesOf (sectionOf kind n limit ∷ ss) (drop at bytes)) (drop at bytes) ≡ orElse (sectionFault k kind n place count bytes) (roleFault k next (rolesOf ss (drop next bytes)) (drop next bytes))
+  pub section-first : place ≡ at + 1 → roleFault k at (rolesOf (sectionOf kind n limit excess ∷ ss) (drop at bytes)) (drop at bytes) ≡ orElse (sectionFault k kind n place count bytes) (roleFault k next (rolesOf ss (drop next bytes)) (drop next bytes))
   unfolding sectionFault
   section-first e =
       rw e
@@ -156,32 +156,32 @@ unfolding rolesOf roleFault
 behind-last k at bytes o = orElse-last o
 
 -- the lowest byte that meets refusal k from the fifth section on, from the fourth, and so on to the first
-module _ (k : ℕ) (l : Layout) (bytes : List ℕ) where
+module _ (k : ℕ) (full : FullLayout) (bytes : List ℕ) where
   abbrev pub from₅ : Option ℕ
-  from₅ = sectionFault k kind.Booleans (l .terms) (l .«boolean_at») (l .«boolean_count») bytes
+  from₅ = sectionFault k kind.Booleans (full .layout .terms) (full .«boolean_at») (full .«boolean_count») bytes
 
   abbrev pub from₄ : Option ℕ
-  from₄ = orElse (sectionFault k kind.Fields (l .terms) (l .«field_at») (l .«field_count») bytes) from₅
+  from₄ = orElse (sectionFault k kind.Fields (full .layout .terms) (full .layout .«field_at») (full .layout .«field_count») bytes) from₅
 
   abbrev pub from₃ : Option ℕ
-  from₃ = orElse (sectionFault k kind.Pairs (l .terms) (l .«reach_at») (l .«reach_count») bytes) from₄
+  from₃ = orElse (sectionFault k kind.Pairs (full .layout .terms) (full .layout .«reach_at») (full .layout .«reach_count») bytes) from₄
 
   abbrev pub from₂ : Option ℕ
-  from₂ = orElse (sectionFault k kind.Pairs (l .terms) (l .«equal_at») (l .«equal_count») bytes) from₃
+  from₂ = orElse (sectionFault k kind.Pairs (full .layout .terms) (full .layout .«equal_at») (full .layout .«equal_count») bytes) from₃
 
   abbrev pub from₁ : Option ℕ
-  from₁ = orElse (sectionFault k kind.Terms (l .terms) 1 (l .terms) bytes) from₂
+  from₁ = orElse (sectionFault k kind.Terms (full .layout .terms) 1 (full .layout .terms) bytes) from₂
 
-  pub byte-faults : Sections l bytes → byteFault k bytes ≡ from₁
-  unfolding byteFault sections firstByte
-  byte-faults s =
-      ap (λ (n : ℕ). roleFault k 0 (rolesOf (sections n) bytes) bytes) (s .terms .count-is)
-      ∙ section-first k kind.Terms n 16 _ bytes 0 1 n (s .second) (s .terms) refl
-      ∙ ap (orElse _) (section-first k kind.Pairs n 60 _ bytes (s .second) _ _ (s .third) (s .equalities) (s .equal-at)
-      ∙ ap (orElse _) (section-first k kind.Pairs n 60 _ bytes (s .third) _ _ (s .fourth) (s .reachability) (s .reach-at)
-      ∙ ap (orElse _) (section-first k kind.Fields n 60 _ bytes (s .fourth) _ _ (s .fifth) (s .fields) (s .field-at)
-      ∙ ap (orElse _) (section-first k kind.Booleans n 60 [] bytes (s .fifth) _ _ (length bytes) (s .booleans) (s .boolean-at)
+  pub byte-faults : Sections full bytes → (most excess : ℕ) → byteFault (fiveSections most excess) k bytes ≡ from₁
+  unfolding byteFault fiveSections fourSections booleanSection firstByte
+  byte-faults s most excess =
+      ap (λ (n : ℕ). roleFault k 0 (rolesOf (fiveSections most excess n) bytes) bytes) (s .terms .count-is)
+      ∙ section-first k kind.Terms n 16 3 _ bytes 0 1 n (s .second) (s .terms) refl
+      ∙ ap (orElse _) (section-first k kind.Pairs n 60 3 _ bytes (s .second) _ _ (s .third) (s .equalities) (s .equal-at)
+      ∙ ap (orElse _) (section-first k kind.Pairs n 60 3 _ bytes (s .third) _ _ (s .fourth) (s .reachability) (s .reach-at)
+      ∙ ap (orElse _) (section-first k kind.Fields n 60 3 _ bytes (s .fourth) _ _ (s .fifth) (s .fields) (s .field-at)
+      ∙ ap (orElse _) (section-first k kind.Booleans n most excess [] bytes (s .fifth) _ _ (length bytes) (s .booleans) (s .boolean-at)
       ∙ behind-last k _ _ _))))
     where
       n : ℕ
-      n = l .terms
+      n = full .layout .terms

@@ -10,10 +10,10 @@ use mathlib.Core.Option.{some}
 use lib.ListN.{length, getD, take, drop}
 use lib.Seq.{getD-drop, getD-take}
 use Rattle.logic.specs.Search.{_or_, from, any, at}
-use Rattle.logic.specs.Query.{Literal, entryOf, literals, flags, decode}
+use Rattle.logic.specs.Query.{Literal, Query, entryOf, literals}
 use Rattle.logic.proofs.Basics.Search.{from-intro, map-intro}
 use Rattle.query.specs.declared.Layout.{Layout}
-use Rattle.query.specs.LaysOut.{LaysOut, literalIn, flagIn}
+use Rattle.query.specs.LaysOut.{LaysOutAs, literalIn}
 use Rattle.query.proofs.Loops.{drop-next, from-end, from-next}
 
 -- Lists that are read by their places
@@ -117,19 +117,6 @@ module _ (bytes : List ℕ) (at : ℕ) where
       place : at + 3 * j + 3 ≡ at + 3 * suc j
       place = omega arith
 
-  flags-from : (count j : ℕ) → at + 2 * j + 2 * count ≤ length bytes → flags (take (2 * count) (drop (at + 2 * j) bytes)) ≡ map (flagIn bytes at) (from count j)
-  unfolding flags from
-  flags-from zero j h = refl
-  flags-from (suc count) j h =
-      rw (size, drop-two bytes (at + 2 * j) (omega arith), place)
-      (ap (λ (ls : List Literal). flagIn bytes at j ∷ ls) (flags-from count (suc j) (omega arith)))
-    where
-      size : 2 * suc count ≡ suc (suc (2 * count))
-      size = omega arith
-
-      place : at + 2 * j + 2 ≡ at + 2 * suc j
-      place = omega arith
-
   module _ (count : ℕ) where
     pub literals-are : at + 3 * count ≤ length bytes → literals (take (3 * count) (drop at bytes)) ≡ listed (literalIn bytes at) count 0
     unfolding listed
@@ -138,29 +125,19 @@ module _ (bytes : List ℕ) (at : ℕ) where
         ∙ literals-from count 0 (rw add-zero h)
         ∙ ap (λ (m : ℕ). map (literalIn bytes at) (from m 0)) (sym (sub-zero count))
 
-    pub flags-are : at + 2 * count ≤ length bytes → flags (take (2 * count) (drop at bytes)) ≡ listed (flagIn bytes at) count 0
-    unfolding listed
-    flags-are h =
-        ap (λ (m : ℕ). flags (take (2 * count) (drop m bytes))) (sym (add-zero at))
-        ∙ flags-from count 0 (rw add-zero h)
-        ∙ ap (λ (m : ℕ). map (flagIn bytes at) (from m 0)) (sym (sub-zero count))
-
 -- What the query says, read in place
 
-module _ (l : Layout) (bytes : List ℕ) (laid : LaysOut l bytes) where
-  pub equalities-listed : decode bytes .equalities ≡ listed (literalIn bytes (l .«equal_at»)) (l .«equal_count») 0
+module _ {q : Query} (l : Layout) (bytes : List ℕ) (laid : LaysOutAs q l bytes) where
+  pub equalities-listed : q .equalities ≡ listed (literalIn bytes (l .«equal_at»)) (l .«equal_count») 0
   equalities-listed = laid .equal-are ∙ literals-are bytes (l .«equal_at») (l .«equal_count») (laid .equal-fit)
 
-  pub reachability-listed : decode bytes .reachability ≡ listed (literalIn bytes (l .«reach_at»)) (l .«reach_count») 0
+  pub reachability-listed : q .reachability ≡ listed (literalIn bytes (l .«reach_at»)) (l .«reach_count») 0
   reachability-listed = laid .reach-are ∙ literals-are bytes (l .«reach_at») (l .«reach_count») (laid .reach-fit)
 
-  pub fields-listed : decode bytes .fields ≡ listed (literalIn bytes (l .«field_at»)) (l .«field_count») 0
+  pub fields-listed : q .fields ≡ listed (literalIn bytes (l .«field_at»)) (l .«field_count») 0
   fields-listed = laid .field-are ∙ literals-are bytes (l .«field_at») (l .«field_count») (laid .field-fit)
 
-  pub booleans-listed : decode bytes .booleans ≡ listed (flagIn bytes (l .«boolean_at»)) (l .«boolean_count») 0
-  booleans-listed = laid .boolean-are ∙ flags-are bytes (l .«boolean_at») (l .«boolean_count») (laid .boolean-fit)
-
-  pub entry-is : (t : ℕ) → 1 ≤ t → t ≤ l .terms → getD bytes t 0 ≡ entryOf (decode bytes .entries) t
+  pub entry-is : (t : ℕ) → 1 ≤ t → t ≤ l .terms → getD bytes t 0 ≡ entryOf (q .entries) t
   unfolding entryOf
   entry-is zero h u = absurd (omega arith)
   entry-is (suc t) h u =

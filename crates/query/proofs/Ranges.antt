@@ -10,9 +10,9 @@ use Rattle.logic.proofs.Query.Tied.{InTerms, Accepted}
 use Rattle.logic.proofs.Query.AcceptedBytes.{accepted}
 use Rattle.query.specs.declared.Layout.{Layout}
 use Rattle.query.specs.declared.Checked.the-variants as checked
-use Rattle.query.specs.LaysOut.{LaysOut, literalIn, flagIn}
+use Rattle.query.specs.LaysOut.{LaysOut, literalIn}
 use Rattle.query.specs.Answers.{CheckedAs}
-use Rattle.query.proofs.Literals.{listed, listed-mem, equalities-listed, reachability-listed, fields-listed, booleans-listed}
+use Rattle.query.proofs.Literals.{listed, listed-mem, equalities-listed, reachability-listed, fields-listed}
 
 pub checked-accepts : (l : Layout) (bytes : List ℕ) → CheckedAs (checked.Accepted l) bytes → accepts bytes ≡ true
 unfolding accepts isSome
@@ -42,6 +42,3 @@ module _ (l : Layout) (bytes : List ℕ) (laid : LaysOut l bytes) (passes : acce
 
   pub field-number-term : (i : ℕ) → i < l .«field_count» → UpTo 8 (literalIn bytes (l .«field_at») i .left) × UpTo (l .terms) (literalIn bytes (l .«field_at») i .right)
   field-number-term i h = let m = member (literalIn bytes (l .«field_at»)) (l .«field_count») i (fields-listed l bytes laid) h in (known .field-number _ m, in-terms (known .field-term _ m))
-
-  pub boolean-number : (i : ℕ) → i < l .«boolean_count» → UpTo 8 (flagIn bytes (l .«boolean_at») i .left)
-  boolean-number i h = known .boolean-number _ (member (flagIn bytes (l .«boolean_at»)) (l .«boolean_count») i (booleans-listed l bytes laid) h)

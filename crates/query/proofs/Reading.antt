@@ -6,7 +6,7 @@ use mathlib.Core.List.{List, [], _∷_}
 use lib.ListN.{length, getD, take, drop, length-drop}
 use lib.Seq.{drop-length, drop-drop}
 use borrow.Author.Tests.{le-leb, lt-leb}
-use Rattle.logic.specs.Query.{Section, faulty, parts, withPart, layout, sections, firstByte, layoutOf}
+use Rattle.logic.specs.Query.{Section, Form, faulty, parts, withPart, layout, firstByte, layoutBy}
 use Rattle.query.specs.declared.Part.{Part}
 use Rattle.query.specs.declared.Read.{Read}
 use Rattle.query.specs.declared.Read.the-variants as read
@@ -18,7 +18,7 @@ module _ (s : Section) (ss : List Section) (bytes : List ℕ) (at : ℕ) where
   unfolding layout
   missing e = rw (e, drop-length)
 
-  pub above : at < length bytes → s .limit < getD bytes at 0 → layout (s ∷ ss) at (drop at bytes) ≡ faulty 3 at
+  pub above : at < length bytes → s .limit < getD bytes at 0 → layout (s ∷ ss) at (drop at bytes) ≡ faulty (s .excess) at
   unfolding layout
   above h e = rw (drop-next bytes at h, lt-leb _ _ e)
 
@@ -55,29 +55,33 @@ module _ (s : Section) (ss : List Section) (bytes : List ℕ) (at : ℕ) where
     pass-parts ps e = passed ∙ rw e
 
 -- what a section was read as, where the answer is known
-pub read-section : {r : Read} {part : Part} (bytes : List ℕ) (at limit width : ℕ) → r ≡ read.Section part → ReadAs r bytes at limit width → Stands bytes limit width at (part .count) (part .next)
-read-section bytes at limit width e h = rw e at h
+pub read-section : {r : Read} {part : Part} (bytes : List ℕ) (at limit excess width : ℕ) → r ≡ read.Section part → ReadAs r bytes at limit excess width → Stands bytes limit width at (part .count) (part .next)
+read-section bytes at limit excess width e h = rw e at h
 
-pub read-refused : {r : Read} {k place : ℕ} (bytes : List ℕ) (s : Section) (ss : List Section) (at : ℕ) → r ≡ read.Refused k place → ReadAs r bytes at (s .limit) (s .width) → layout (s ∷ ss) at (drop at bytes) ≡ faulty k place
-read-refused bytes s ss at e h = (rw e at h) s ss refl refl
+pub read-refused : {r : Read} {k place : ℕ} (bytes : List ℕ) (s : Section) (ss : List Section) (at : ℕ) → r ≡ read.Refused k place → ReadAs r bytes at (s .limit) (s .excess) (s .width) → layout (s ∷ ss) at (drop at bytes) ≡ faulty k place
+read-refused bytes s ss at e h = (rw e at h) s ss refl refl refl
+
+-- a section stands whatever its limit, if that is not below the count
+pub with-limit : {bytes : List ℕ} {limit width at count next : ℕ} (most : ℕ) → Stands bytes limit width at count next → count ≤ most → Stands bytes most width at count next
+with-limit most s h = record { counted = s .counted; count-is = s .count-is; within = h; next-is = s .next-is; fits = s .fits }
 
 -- The walk has come to the sections ss at `at`: a refusal that it meets from there on is the query's.
-pub record Reached (bytes : List ℕ) (ss : List Section) (at : ℕ) : Type 0 where
-  pub leads : (k place : ℕ) → layout ss at (drop at bytes) ≡ faulty k place → layoutOf bytes ≡ faulty k place
+pub record Reached (form : Form) (bytes : List ℕ) (ss : List Section) (at : ℕ) : Type 0 where
+  pub leads : (k place : ℕ) → layout ss at (drop at bytes) ≡ faulty k place → layoutBy form bytes ≡ faulty k place
 
-pub at-front : (bytes : List ℕ) → Reached bytes (sections (firstByte bytes)) 0
-unfolding layoutOf
-at-front bytes = record { leads = λ k place e. e }
+pub at-front : (form : Form) (bytes : List ℕ) → Reached form bytes (form (firstByte bytes)) 0
+unfolding layoutBy
+at-front form bytes = record { leads = λ k place e. e }
 
-module _ {bytes : List ℕ} {s : Section} {ss : List Section} {at : ℕ} (reached : Reached bytes (s ∷ ss) at) where
-  pub beyond : {count next : ℕ} → Stands bytes (s .limit) (s .width) at count next → Reached bytes ss next
+module _ {form : Form} {bytes : List ℕ} {s : Section} {ss : List Section} {at : ℕ} (reached : Reached form bytes (s ∷ ss) at) where
+  pub beyond : {count next : ℕ} → Stands bytes (s .limit) (s .width) at count next → Reached form bytes ss next
   beyond {count} {next} stands = record { leads = λ k place e. reached .leads k place (pass-faulty s ss bytes at count next stands k place e) }
 
   -- the section that the walk has come to is refused
-  pub stopped : {k place : ℕ} {r : Read} → r ≡ read.Refused k place → ReadAs r bytes at (s .limit) (s .width) → layoutOf bytes ≡ faulty k place
+  pub stopped : {k place : ℕ} {r : Read} → r ≡ read.Refused k place → ReadAs r bytes at (s .limit) (s .excess) (s .width) → layoutBy form bytes ≡ faulty k place
   stopped {k} {place} e h = reached .leads k place (read-refused bytes s ss at e h)
 
 -- bytes follow the last section
-pub trailing : {bytes : List ℕ} {at : ℕ} → Reached bytes [] at → at < length bytes → layoutOf bytes ≡ faulty 4 at
+pub trailing : {form : Form} {bytes : List ℕ} {at : ℕ} → Reached form bytes [] at → at < length bytes → layoutBy form bytes ≡ faulty 4 at
 unfolding layout
-trailing {bytes} {at} reached h = reached .leads 4 at (rw (drop-next bytes at h))
+trailing {form} {bytes} {at} reached h = reached .leads 4 at (rw (drop-next bytes at h))

@@ -1,27 +1,46 @@
 -- The code's answers in the words of the definitions.
-use Prim.Native.Nat.{ℕ}
+use Prim.Native.Nat.{ℕ, _≤_}
 use mathlib.Core.Path.{_≡_}
-use mathlib.Core.List.{List}
+use mathlib.Core.List.{List, [], _∷_, List·Memᴰ}
 use mathlib.Core.Option.{Option, none, some}
-use Rattle.logic.specs.Query.{faulty, layoutOf}
-use Rattle.logic.specs.Calls.{Input, queryChecks, refused, refusalOf}
+use Rattle.logic.specs.Query.{fiveSections, faulty, layoutBy, byteFault}
+use Rattle.logic.specs.Calls.{Input, formChecks, queryChecks, refused, refusalOf}
 use Rattle.query.specs.Sections.{Sections}
-use Rattle.query.specs.LaysOut.{LaysOut}
+use Rattle.query.specs.LaysOut.{LaysOut, FullLaysOut}
+use Rattle.query.specs.declared.FullLayout.{FullLayout}
 use Rattle.query.specs.declared.Found.{Found}
 use Rattle.query.specs.declared.Found.the-variants as found
 use Rattle.query.specs.declared.Checked.{Checked}
 use Rattle.query.specs.declared.Checked.the-variants as checked
+use Rattle.query.specs.declared.FullChecked.{FullChecked}
+use Rattle.query.specs.declared.FullChecked.the-variants as full
 
 abbrev pub foundOf : Found → Option ℕ
 foundOf (found.At place) = some place
 foundOf found.Nothing = none
 
--- refusals 2 to 4, or the sections
-abbrev pub LaidOut : Checked → List ℕ → Type 0
-LaidOut (checked.Refused k place) bytes = layoutOf bytes ≡ faulty k place
-LaidOut (checked.Accepted l) bytes = Sections l bytes
+-- the lowest byte that meets refusal k of 5 to 8, however many booleans pass
+abbrev pub FoundIn : Found → ℕ → List ℕ → Type 0
+FoundIn r k bytes = (most excess : ℕ) → foundOf r ≡ byteFault (fiveSections most excess) k bytes
 
--- checks 2 to 8 of any call with these query bytes
+-- the refusal of the walk from the front, or the sections
+abbrev pub LaidOut : FullChecked → List ℕ → ℕ → ℕ → Type 0
+LaidOut (full.Refused k place) bytes most excess = layoutBy (fiveSections most excess) bytes ≡ faulty k place
+LaidOut (full.Accepted l) bytes most excess = Sections l bytes × (l .«boolean_count» ≤ most)
+
+-- The checks of a form with these query bytes, whatever else a call is given. They answer every refusal that the walk from the front
+-- meets where that of an excess count is one of theirs.
+abbrev pub FullCheckedAs : FullChecked → List ℕ → ℕ → ℕ → Type 0
+FullCheckedAs (full.Refused k place) bytes most excess =
+    List·Memᴰ excess (2 ∷ 3 ∷ 26 ∷ 4 ∷ []) → (i : Input) → i .query ≡ bytes → refusalOf (formChecks (fiveSections most excess)) i ≡ some (refused k place)
+FullCheckedAs (full.Accepted l) bytes most excess =
+    ((i : Input) → i .query ≡ bytes → refusalOf (formChecks (fiveSections most excess)) i ≡ none) × FullLaysOut l bytes most excess
+
+-- the same of a query with these sections, however many booleans pass
+abbrev pub BytesChecked : FullChecked → FullLayout → List ℕ → Type 0
+BytesChecked r l bytes = (most excess : ℕ) → l .«boolean_count» ≤ most → FullCheckedAs r bytes most excess
+
+-- checks 2 to 8 and 26 of any call with these query bytes
 abbrev pub CheckedAs : Checked → List ℕ → Type 0
 CheckedAs (checked.Refused k place) bytes = (i : Input) → i .query ≡ bytes → refusalOf queryChecks i ≡ some (refused k place)
 CheckedAs (checked.Accepted l) bytes = ((i : Input) → i .query ≡ bytes → refusalOf queryChecks i ≡ none) × LaysOut l bytes

@@ -12,7 +12,7 @@ use Rattle.query.specs.declared.Kind.{Kind}
 use Rattle.query.specs.declared.Kind.the-variants as kind
 use Rattle.query.specs.declared.Read.{Read}
 use Rattle.query.specs.declared.Read.the-variants as read
-use Rattle.query.specs.declared.Layout.{Layout}
+use Rattle.query.specs.declared.FullLayout.{FullLayout}
 
 -- the bytes of an entry
 abbrev pub widthOf : Kind → ℕ
@@ -49,23 +49,23 @@ pub record Stands (bytes : List ℕ) (limit width at count next : ℕ) : Type 0 
   pub fits : next ≤ length bytes
 
 -- what is read at a section: the refusal that the walk from the front meets there, or the section
-abbrev pub ReadAs : Read → List ℕ → ℕ → ℕ → ℕ → Type 0
-ReadAs (read.Refused k place) bytes at limit width =
-    (s : Section) (ss : List Section) → s .limit ≡ limit → s .width ≡ width → layout (s ∷ ss) at (drop at bytes) ≡ faulty k place
-ReadAs (read.Section part) bytes at limit width = Stands bytes limit width at (part .count) (part .next)
+abbrev pub ReadAs : Read → List ℕ → ℕ → ℕ → ℕ → ℕ → Type 0
+ReadAs (read.Refused k place) bytes at limit excess width =
+    (s : Section) (ss : List Section) → s .limit ≡ limit → s .excess ≡ excess → s .width ≡ width → layout (s ∷ ss) at (drop at bytes) ≡ faulty k place
+ReadAs (read.Section part) bytes at limit excess width = Stands bytes limit width at (part .count) (part .next)
 
--- The five sections follow each other from the first byte to the last.
-pub record Sections (l : Layout) (bytes : List ℕ) : Type 0 where
+-- The five sections follow each other from the first byte to the last. How many booleans pass is not said here.
+pub record Sections (l : FullLayout) (bytes : List ℕ) : Type 0 where
   pub second : ℕ
   pub third : ℕ
   pub fourth : ℕ
   pub fifth : ℕ
-  pub terms : Stands bytes 16 1 0 (l .terms) second
-  pub equalities : Stands bytes 60 3 second (l .«equal_count») third
-  pub reachability : Stands bytes 60 3 third (l .«reach_count») fourth
-  pub fields : Stands bytes 60 3 fourth (l .«field_count») fifth
-  pub booleans : Stands bytes 60 2 fifth (l .«boolean_count») (length bytes)
-  pub equal-at : l .«equal_at» ≡ second + 1
-  pub reach-at : l .«reach_at» ≡ third + 1
-  pub field-at : l .«field_at» ≡ fourth + 1
+  pub terms : Stands bytes 16 1 0 (l .layout .terms) second
+  pub equalities : Stands bytes 60 3 second (l .layout .«equal_count») third
+  pub reachability : Stands bytes 60 3 third (l .layout .«reach_count») fourth
+  pub fields : Stands bytes 60 3 fourth (l .layout .«field_count») fifth
+  pub booleans : Stands bytes (l .«boolean_count») 2 fifth (l .«boolean_count») (length bytes)
+  pub equal-at : l .layout .«equal_at» ≡ second + 1
+  pub reach-at : l .layout .«reach_at» ≡ third + 1
+  pub field-at : l .layout .«field_at» ≡ fourth + 1
   pub boolean-at : l .«boolean_at» ≡ fifth + 1

@@ -1,4 +1,4 @@
-// The order list and the query's bytes: where the sections of a query stand, refusals 1 to 8, and reading a literal in place.
+// The order list and the query's bytes: where the sections of a query stand, refusals 1 to 8 and 26, and reading a literal in place.
 use facts::Term;
 ghost use mathlib.Core.Path.{_≡_};
 ghost use mathlib.Core.List.{[], _∷_};
@@ -6,10 +6,10 @@ ghost use Prim.Native.Nat.{_+_, _*_, _≤_, _<_};
 ghost use lib.ListN.{length, getD, drop};
 ghost use lib.Dec.{eqb};
 ghost use Rattle.logic.specs.Search.{any};
-ghost use Rattle.logic.specs.Query.{isOrder, entryRole, signRole, termRole, roleFault, byteFault};
+ghost use Rattle.logic.specs.Query.{isOrder, entryRole, signRole, termRole, roleFault};
 ghost use Rattle.query.specs.Sections.{widthOf, rolesAt, countedRole, meets, sectionFault, ReadAs, Sections};
 ghost use Rattle.query.specs.LaysOut.{literalIn, flagIn};
-ghost use Rattle.query.specs.Answers.{foundOf, LaidOut, CheckedAs};
+ghost use Rattle.query.specs.Answers.{foundOf, FoundIn, LaidOut, BytesChecked, FullCheckedAs, CheckedAs};
 
 // Where the sections of a query stand: the first byte of each behind its count, and the count. The terms stand at 1.
 pub struct Layout {
@@ -20,6 +20,11 @@ pub struct Layout {
     pub reach_count: usize,
     pub field_at: usize,
     pub field_count: usize,
+}
+
+// The same of a query in a form that has booleans (02, R-13).
+pub struct FullLayout {
+    pub layout: Layout,
     pub boolean_at: usize,
     pub boolean_count: usize,
 }
@@ -28,6 +33,11 @@ pub struct Layout {
 pub enum Checked {
     Refused(usize, usize),
     Accepted(Layout),
+}
+
+pub enum FullChecked {
+    Refused(usize, usize),
+    Accepted(FullLayout),
 }
 
 // A section: its count, and the place behind it.
@@ -89,10 +99,10 @@ pub fn is_order(order: &[u8]) -> bool
     true
 }
 
-// The section whose count stands at `at`: refused 2 where the query ends before it does, and 3 where the count is above the limit.
-fn read_section(query: &[u8], at: usize, limit: usize, width: usize) -> Read
+// The section whose count stands at `at`: refused 2 where the query ends before it does, and `excess` where the count is above the limit.
+fn read_section(query: &[u8], at: usize, limit: usize, excess: usize, width: usize) -> Read
     requires { ⌜ (at ≤ length (now query)) × (width ≤ 3) ⌝ }
-    ensures { λ r. ⌜ ReadAs r (now (query .entry)) at limit width ⌝ }
+    ensures { λ r. ⌜ ReadAs r (now (query .entry)) at limit excess width ⌝ }
 {
     let len = query.len();
     if at == len {
@@ -100,7 +110,7 @@ fn read_section(query: &[u8], at: usize, limit: usize, width: usize) -> Read
     }
     let count = query[at] as usize;
     if limit < count {
-        return Read::Refused(3, at);
+        return Read::Refused(excess, at);
     }
     let size = count * width;
     let left = len - at - 1;
@@ -113,34 +123,34 @@ fn read_section(query: &[u8], at: usize, limit: usize, width: usize) -> Read
     })
 }
 
-// The walk from the front over the five sections: refusals 2 to 4.
-fn lay_out(query: &[u8]) -> Checked
-    ensures { λ r. ⌜ LaidOut r (now (query .entry)) ⌝ }
+// The walk from the front over the five sections, where `most` booleans pass and more are refused `excess`: refusals 2 to 4, and 26.
+fn lay_out(query: &[u8], most: usize, excess: usize) -> FullChecked
+    ensures { λ r. ⌜ LaidOut r (now (query .entry)) most excess ⌝ }
 {
-    let terms = match read_section(query, 0, 16, 1) {
-        Read::Refused(k, place) => return Checked::Refused(k, place),
+    let terms = match read_section(query, 0, 16, 3, 1) {
+        Read::Refused(k, place) => return FullChecked::Refused(k, place),
         Read::Section(part) => part,
     };
-    let equal = match read_section(query, terms.next, 60, 3) {
-        Read::Refused(k, place) => return Checked::Refused(k, place),
+    let equal = match read_section(query, terms.next, 60, 3, 3) {
+        Read::Refused(k, place) => return FullChecked::Refused(k, place),
         Read::Section(part) => part,
     };
-    let reach = match read_section(query, equal.next, 60, 3) {
-        Read::Refused(k, place) => return Checked::Refused(k, place),
+    let reach = match read_section(query, equal.next, 60, 3, 3) {
+        Read::Refused(k, place) => return FullChecked::Refused(k, place),
         Read::Section(part) => part,
     };
-    let field = match read_section(query, reach.next, 60, 3) {
-        Read::Refused(k, place) => return Checked::Refused(k, place),
+    let field = match read_section(query, reach.next, 60, 3, 3) {
+        Read::Refused(k, place) => return FullChecked::Refused(k, place),
         Read::Section(part) => part,
     };
-    let boolean = match read_section(query, field.next, 60, 2) {
-        Read::Refused(k, place) => return Checked::Refused(k, place),
+    let boolean = match read_section(query, field.next, most, excess, 2) {
+        Read::Refused(k, place) => return FullChecked::Refused(k, place),
         Read::Section(part) => part,
     };
     if boolean.next < query.len() {
-        return Checked::Refused(4, boolean.next);
+        return FullChecked::Refused(4, boolean.next);
     }
-    Checked::Accepted(Layout {
+    let layout = Layout {
         terms: terms.count,
         equal_at: terms.next + 1,
         equal_count: equal.count,
@@ -148,6 +158,9 @@ fn lay_out(query: &[u8]) -> Checked
         reach_count: reach.count,
         field_at: reach.next + 1,
         field_count: field.count,
+    };
+    FullChecked::Accepted(FullLayout {
+        layout,
         boolean_at: field.next + 1,
         boolean_count: boolean.count,
     })
@@ -267,10 +280,11 @@ fn section_fault(k: usize, kind: Kind, n: usize, query: &[u8], at: usize, count:
 }
 
 // "For 5 to 8 the whole query is searched for one fault before the next, and the place is the lowest such byte."
-fn byte_fault(k: usize, query: &[u8], l: Layout) -> Found
-    requires { ⌜ Sections l (now query) ⌝ }
-    ensures { λ r. ⌜ foundOf r ≡ byteFault k (now (query .entry)) ⌝ }
+fn byte_fault(k: usize, query: &[u8], full: FullLayout) -> Found
+    requires { ⌜ Sections full (now query) ⌝ }
+    ensures { λ r. ⌜ FoundIn r k (now (query .entry)) ⌝ }
 {
+    let l = full.layout;
     let n = l.terms;
     match section_fault(k, Kind::Terms, n, query, 1, n) {
         Found::At(p) => return Found::At(p),
@@ -288,32 +302,53 @@ fn byte_fault(k: usize, query: &[u8], l: Layout) -> Found
         Found::At(p) => return Found::At(p),
         Found::Nothing => {}
     }
-    section_fault(k, Kind::Booleans, n, query, l.boolean_at, l.boolean_count)
+    section_fault(
+        k,
+        Kind::Booleans,
+        n,
+        query,
+        full.boolean_at,
+        full.boolean_count,
+    )
 }
 
 // Refusals 5 to 8, of a query that is laid out.
-fn check_bytes(query: &[u8], l: Layout) -> Checked
-    requires { ⌜ Sections l (now query) ⌝ }
-    ensures { λ r. ⌜ CheckedAs r (now (query .entry)) ⌝ }
+fn check_bytes(query: &[u8], full: FullLayout) -> FullChecked
+    requires { ⌜ Sections full (now query) ⌝ }
+    ensures { λ r. ⌜ BytesChecked r full (now (query .entry)) ⌝ }
 {
     let mut k: usize = 5;
     while k < 9 {
-        match byte_fault(k, query, l) {
-            Found::At(place) => return Checked::Refused(k, place),
+        match byte_fault(k, query, full) {
+            Found::At(place) => return FullChecked::Refused(k, place),
             Found::Nothing => {}
         }
         k += 1;
     }
-    Checked::Accepted(l)
+    FullChecked::Accepted(full)
 }
 
-// "Refusals, in checking order": 2 to 8.
+// "Refusals, in checking order", of a query in the form where `most` booleans pass and more are refused `excess`: 2 to 8, and `excess`
+// before 4.
+pub fn check_with(query: &[u8], most: usize, excess: usize) -> FullChecked
+    ensures { λ r. ⌜ FullCheckedAs r (now (query .entry)) most excess ⌝ }
+{
+    match lay_out(query, most, excess) {
+        FullChecked::Refused(k, place) => FullChecked::Refused(k, place),
+        FullChecked::Accepted(full) => check_bytes(query, full),
+    }
+}
+
+// The same of a query as it is now: "Its count must now be 0", and 26 "instead of 3" (02, R-13).
 pub fn check(query: &[u8]) -> Checked
     ensures { λ r. ⌜ CheckedAs r (now (query .entry)) ⌝ }
 {
-    match lay_out(query) {
-        Checked::Refused(k, place) => Checked::Refused(k, place),
-        Checked::Accepted(l) => check_bytes(query, l),
+    match check_with(query, 0, 26) {
+        FullChecked::Refused(k, place) => Checked::Refused(k, place),
+        FullChecked::Accepted(full) => {
+            let l = full.layout;
+            Checked::Accepted(l)
+        }
     }
 }
 

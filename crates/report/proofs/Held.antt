@@ -24,7 +24,7 @@ use Rattle.facts.proofs.Rep.{rep-in}
 use Rattle.facts.proofs.Bits.{bit-is, bit-none}
 use Rattle.facts.proofs.Square.{square-in, square-add}
 use Rattle.query.proofs.Literals.{listed, listed-end, listed-next}
-use Rattle.report.specs.Bytes.{fieldHeld, booleanHeld}
+use Rattle.report.specs.Bytes.{fieldHeld}
 
 eqb-turned : (a b : ℕ) → eqb a b ≡ eqb b a
 eqb-turned a b =
@@ -48,18 +48,9 @@ true-and : (a b : Bool) → true and a and b ≡ a and b
 unfolding _and_
 true-and a b = refl
 
-plain-only : (a : Bool) → true and a ≡ a and eqb 0 0
-unfolding _and_
-plain-only true = refl
-plain-only false = refl
-
 held-cons : (rep : ℕ → ℕ) (l : Literal) (ls : List Literal) (v j : ℕ) → fieldHeld rep (l ∷ ls) v j ≡ (l .plain and eqb (l .left) j and eqb (rep (l .right)) v) or fieldHeld rep ls v j
 unfolding fieldHeld any
 held-cons rep l ls v j = refl
-
-set-cons : (l : Literal) (ls : List Literal) (j : ℕ) → booleanHeld (l ∷ ls) j ≡ (l .plain and eqb (l .left) j) or booleanHeld ls j
-unfolding booleanHeld any
-set-cons l ls j = refl
 
 no-marks : (v j : ℕ) → v ≤ 16 → j ≤ 16 → square (replicate 17 0) v j ≡ false
 no-marks v j h k = square-in (replicate 17 0) v j h k ∙ ap (λ (w : ℕ). bit w j) (getD-replicate 17 v 0 0 (omega arith)) ∙ bit-none j
@@ -104,35 +95,6 @@ module _ (rep : ℕ → ℕ) (g : ℕ → Literal) (count : ℕ) where
   pub fields-all : (i : ℕ) (marks : List ℕ) → count ≤ i → FieldMarks i marks → (v j : ℕ) → v ≤ 16 → j ≤ 16 → square marks v j ≡ fieldHeld rep (listed g count 0) v j
   unfolding fieldHeld any
   fields-all i marks h m v j l r = sym (m v j l r ∙ ap (λ (ls : List Literal). square marks v j or fieldHeld rep ls v j) (listed-end g count i h) ∙ or-false (square marks v j))
-
-module _ (g : ℕ → Literal) (count : ℕ) where
-  abbrev pub BooleanMarks : ℕ → List ℕ → Type 0
-  BooleanMarks i marks = (j : ℕ) → j ≤ 16 → booleanHeld (listed g count 0) j ≡ square marks 0 j or booleanHeld (listed g count i) j
-
-  pub booleans-none : BooleanMarks 0 (replicate 17 0)
-  unfolding _or_
-  booleans-none j k = rw (no-marks 0 j (omega arith) k)
-
-  pub booleans-skip : (i : ℕ) (marks : List ℕ) → i < count → g i .plain ≡ false → BooleanMarks i marks → BooleanMarks (i + 1) marks
-  unfolding booleanHeld any _or_ _and_
-  booleans-skip i marks h e m j r = m j r ∙ ap (λ (ls : List Literal). square marks 0 j or booleanHeld ls j) (listed-next g count i h) ∙ rw e
-
-  pub booleans-here : (i : ℕ) (marks : List ℕ) → length marks ≡ 17 → i < count → g i .plain ≡ true → (b o : ℕ) → b ≤ 16 → ((i : ℕ) → bit o i ≡ eqb i b) → b ≡ g i .left → BooleanMarks i marks → BooleanMarks (i + 1) (marked-at marks 0 o)
-  booleans-here i marks full h e b o y c q m j r =
-      m j r
-      ∙ ap (λ (ls : List Literal). square marks 0 j or booleanHeld ls j) (listed-next g count i h)
-      ∙ turn
-      ∙ ap (λ (s : Bool). s or booleanHeld (listed g count (i + 1)) j) (sym (mark-set marks full 0 b o (omega arith) y c 0 j))
-    where
-      test : g i .plain and eqb (g i .left) j ≡ eqb j b and eqb 0 0
-      test = rw (e, ← q, eqb-turned b j) (plain-only (eqb j b))
-
-      turn : square marks 0 j or booleanHeld (g i ∷ listed g count (i + 1)) j ≡ square marks 0 j or (eqb 0 0 and eqb j b) or booleanHeld (listed g count (i + 1)) j
-      turn = ap (λ (t : Bool). square marks 0 j or t) (set-cons (g i) (listed g count (i + 1)) j ∙ ap (λ (t : Bool). t or booleanHeld (listed g count (i + 1)) j) test) ∙ or-turn (square marks 0 j) (eqb 0 0) (eqb j b) _
-
-  pub booleans-all : (i : ℕ) (marks : List ℕ) → count ≤ i → BooleanMarks i marks → (j : ℕ) → j ≤ 16 → square marks 0 j ≡ booleanHeld (listed g count 0) j
-  unfolding booleanHeld any
-  booleans-all i marks h m j r = sym (m j r ∙ ap (λ (ls : List Literal). square marks 0 j or booleanHeld ls j) (listed-end g count i h) ∙ or-false (square marks 0 j))
 
 -- Bytes
 

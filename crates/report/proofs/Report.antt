@@ -8,32 +8,32 @@ use lib.ListN.{length, getD, replicate, length-map}
 use Rattle.logic.specs.Query.{Literal, decode}
 use Rattle.logic.specs.Facts.{terms}
 use Rattle.logic.specs.Calls.{padded}
-use Rattle.logic.specs.Shown.{nodes, placeOf, shownLink, byteOf, fieldByte, booleanByte, report}
+use Rattle.logic.specs.Shown.{nodes, placeOf, shownLink, byteOf, fieldByte, report}
 use Rattle.logic.proofs.Basics.Search.{from-mem}
 use Rattle.logic.proofs.Completeness.ShownNodes.{nodes-length}
 use Rattle.facts.specs.declared.Facts as code
 use Rattle.facts.specs.Path.{repOf, pathOf}
 use Rattle.facts.proofs.Rep.{rep-in}
 use Rattle.query.specs.declared.Layout.{Layout}
-use Rattle.query.proofs.Literals.{listed, fields-listed, booleans-listed}
-use Rattle.query.proofs.Ranges.{field-number-term, boolean-number}
+use Rattle.query.proofs.Literals.{listed, fields-listed}
+use Rattle.query.proofs.Ranges.{field-number-term}
 use Rattle.report.specs.declared.Node.{Node}
 use Rattle.report.specs.Links.{linkOf}
 use Rattle.report.specs.Nodes.{nodeOf, marked, nodesBy, Numbers}
-use Rattle.report.specs.Bytes.{Appends, fieldHeld, booleanHeld, literalsAt, flagsAt, FieldsIn, FlagsIn, Reportable, sections}
+use Rattle.report.specs.Bytes.{Appends, fieldHeld, literalsAt, FieldsIn, Reportable, sections}
 use Rattle.report.proofs.Completing.{shown-below}
 use Rattle.report.proofs.Nodes.{nodes-by, every-selected, every-length, marked-below, numbers-below}
 use Rattle.report.proofs.Writing.{appends-then, appends-zeros}
 
 -- five pieces, each behind the one before
-pub sections-written : (room : ℕ) (b0 b1 b2 b3 b4 b5 : List ℕ) (n m : ℕ) (ts : List ℕ) (f g h : ℕ → ℕ) (p1 p2 p3 p4 v : ℕ) → m ≡ length ts → b0 ≡ replicate room 0 → length b1 ≡ length b0 → length b2 ≡ length b1 → length b3 ≡ length b2 → length b4 ≡ length b3 → (p1 ≡ 0 + 1 + m) × Appends b0 b1 0 (m ∷ map f ts) → (p2 ≡ p1 + 1 + n) × Appends b1 b2 p1 (n ∷ map g (terms n)) → (p3 ≡ p2 + 1 + m) × Appends b2 b3 p2 (m ∷ map h ts) → (p4 ≡ p3 + 1) × Appends b3 b4 p3 (1 ∷ []) → Appends b4 b5 p4 (v ∷ []) → b5 ≡ padded room (sections n ts f g h v)
-sections-written room b0 b1 b2 b3 b4 b5 n m ts f g h p1 p2 p3 p4 v counted cleared l1 l2 l3 l4 s1 s2 s3 s4 s5 =
-    let last = appends-then b3 b4 b5 p3 p4 (1 ∷ []) (v ∷ []) l4 (s4 .0) (s4 .1) s5 in
-    let third = appends-then b2 b3 b5 p2 p3 (m ∷ map h ts) (1 ∷ v ∷ []) l3 (omega (arith, s3 .0, length-map ts h)) (s3 .1) last in
-    let second = appends-then b1 b2 b5 p1 p2 (n ∷ map g (terms n)) ((m ∷ map h ts) ++ (1 ∷ v ∷ [])) l2 (omega (arith, s2 .0, length-map (terms n) g, terms-length)) (s2 .1) third in
-    let first = appends-then b0 b1 b5 0 p1 (m ∷ map f ts) ((n ∷ map g (terms n)) ++ ((m ∷ map h ts) ++ (1 ∷ v ∷ []))) l1 (omega (arith, s1 .0, length-map ts f)) (s1 .1) second in
+pub sections-written : (room : ℕ) (b0 b1 b2 b3 b4 b5 : List ℕ) (n m : ℕ) (ts : List ℕ) (f g h : ℕ → ℕ) (p1 p2 p3 p4 : ℕ) → m ≡ length ts → b0 ≡ replicate room 0 → length b1 ≡ length b0 → length b2 ≡ length b1 → length b3 ≡ length b2 → length b4 ≡ length b3 → (p1 ≡ 0 + 1 + m) × Appends b0 b1 0 (m ∷ map f ts) → (p2 ≡ p1 + 1 + n) × Appends b1 b2 p1 (n ∷ map g (terms n)) → (p3 ≡ p2 + 1 + m) × Appends b2 b3 p2 (m ∷ map h ts) → (p4 ≡ p3 + 1) × Appends b3 b4 p3 (1 ∷ []) → Appends b4 b5 p4 (0 ∷ []) → b5 ≡ padded room (sections n ts f g h)
+sections-written room b0 b1 b2 b3 b4 b5 n m ts f g h p1 p2 p3 p4 counted cleared l1 l2 l3 l4 s1 s2 s3 s4 s5 =
+    let last = appends-then b3 b4 b5 p3 p4 (1 ∷ []) (0 ∷ []) l4 (s4 .0) (s4 .1) s5 in
+    let third = appends-then b2 b3 b5 p2 p3 (m ∷ map h ts) (1 ∷ 0 ∷ []) l3 (omega (arith, s3 .0, length-map ts h)) (s3 .1) last in
+    let second = appends-then b1 b2 b5 p1 p2 (n ∷ map g (terms n)) ((m ∷ map h ts) ++ (1 ∷ 0 ∷ [])) l2 (omega (arith, s2 .0, length-map (terms n) g, terms-length)) (s2 .1) third in
+    let first = appends-then b0 b1 b5 0 p1 (m ∷ map f ts) ((n ∷ map g (terms n)) ++ ((m ∷ map h ts) ++ (1 ∷ 0 ∷ []))) l1 (omega (arith, s1 .0, length-map ts f)) (s1 .1) second in
     appends-zeros b0 b5 room _ cleared first
-    ∙ ap (λ (k : ℕ). padded room ((k ∷ map f ts) ++ ((n ∷ map g (terms n)) ++ ((k ∷ map h ts) ++ (1 ∷ v ∷ []))))) counted
+    ∙ ap (λ (k : ℕ). padded room ((k ∷ map f ts) ++ ((n ∷ map g (terms n)) ++ ((k ∷ map h ts) ++ (1 ∷ 0 ∷ []))))) counted
   where
     terms-length : length (terms n) ≡ n
     terms-length = ap length (sym (every-selected n)) ∙ every-length n
@@ -53,9 +53,6 @@ module _ (l : Layout) (query : List ℕ) (s : code.Facts) (ready : Reportable l 
       let r = field-number-term l query (ready .laid) (ready .passes) i h in
       (r .0 .1, omega (arith, r .1 .1, ready .laid .terms-within), ready .stands _ (r .1 .0) (r .1 .1))
 
-  pub flags-in : FlagsIn query (l .«boolean_at») (l .«boolean_count»)
-  flags-in i h = boolean-number l query (ready .laid) (ready .passes) i h .1
-
   module _ (marks : List Bool) (are : marked marks (l .terms) ≡ nodesBy (repOf (s .rep)) (l .terms)) where
     are-nodes : marked marks (l .terms) ≡ nodes (l .terms) (pathOf s)
     unfolding pathOf
@@ -68,7 +65,7 @@ module _ (l : Layout) (query : List ℕ) (s : code.Facts) (ready : Reportable l 
     node-within list e = numbers-below list (marked marks (l .terms)) e few-nodes
 
     -- the sections are the report's
-    module _ (list : List Node) (numbers : Numbers list (marked marks (l .terms))) (successors places fields : List ℕ) (booleans : ℕ) (linked : (t : ℕ) → t ≤ l .terms → getD successors t 0 ≡ nodeOf list (shownLink (l .terms) (pathOf s) t)) (placed : (t : ℕ) → 1 ≤ t → t ≤ l .terms → getD places t 0 ≡ nodeOf list (linkOf (s .rep) t)) (held : (v : ℕ) → v ≤ l .terms → getD fields v 0 ≡ byteOf (fieldHeld (repOf (s .rep)) (literalsAt query (l .«field_at») (l .«field_count»)) v) 1 8) (flagged : booleans ≡ byteOf (booleanHeld (flagsAt query (l .«boolean_at») (l .«boolean_count»))) 1 8) where
+    module _ (list : List Node) (numbers : Numbers list (marked marks (l .terms))) (successors places fields : List ℕ) (linked : (t : ℕ) → t ≤ l .terms → getD successors t 0 ≡ nodeOf list (shownLink (l .terms) (pathOf s) t)) (placed : (t : ℕ) → 1 ≤ t → t ≤ l .terms → getD places t 0 ≡ nodeOf list (linkOf (s .rep) t)) (held : (v : ℕ) → v ≤ l .terms → getD fields v 0 ≡ byteOf (fieldHeld (repOf (s .rep)) (literalsAt query (l .«field_at») (l .«field_count»)) v) 1 8) where
       successor : (v : ℕ) → List·Memᴰ v (marked marks (l .terms)) → getD successors v 0 ≡ placeOf (shownLink (l .terms) (pathOf s) v) (marked marks (l .terms))
       successor v m =
           linked v (marked-below marks (l .terms) v m)
@@ -87,17 +84,13 @@ module _ (l : Layout) (query : List ℕ) (s : code.Facts) (ready : Reportable l 
       unfolding fieldByte fieldHeld literalsAt pathOf listed
       datum v m = held v (marked-below marks (l .terms) v m) ∙ ap (λ (ls : List Literal). byteOf (fieldHeld (repOf (s .rep)) ls v) 1 8) (sym (fields-listed l query (ready .laid)))
 
-      flag : booleans ≡ booleanByte (decode query)
-      unfolding booleanByte booleanHeld flagsAt listed
-      flag = flagged ∙ ap (λ (ls : List Literal). byteOf (booleanHeld ls) 1 8) (sym (booleans-listed l query (ready .laid)))
-
-      pub report-is : sections (l .terms) (marked marks (l .terms)) (λ t. getD successors t 0) (λ t. getD places t 0) (λ t. getD fields t 0) booleans ≡ report (decode query) (pathOf s)
+      pub report-is : sections (l .terms) (marked marks (l .terms)) (λ t. getD successors t 0) (λ t. getD places t 0) (λ t. getD fields t 0) ≡ report (decode query) (pathOf s)
       unfolding report
       report-is =
           parts
-          ∙ ap (λ (ts : List ℕ). sections (l .terms) ts (λ v. placeOf (shownLink (l .terms) (pathOf s) v) ts) (λ t. placeOf (pathOf s .rep t) ts) (fieldByte (decode query) (pathOf s)) (booleanByte (decode query))) are-nodes
-          ∙ ap (λ (n : ℕ). sections n (nodes n (pathOf s)) (λ v. placeOf (shownLink n (pathOf s) v) (nodes n (pathOf s))) (λ t. placeOf (pathOf s .rep t) (nodes n (pathOf s))) (fieldByte (decode query) (pathOf s)) (booleanByte (decode query))) (ready .laid .term-count)
+          ∙ ap (λ (ts : List ℕ). sections (l .terms) ts (λ v. placeOf (shownLink (l .terms) (pathOf s) v) ts) (λ t. placeOf (pathOf s .rep t) ts) (fieldByte (decode query) (pathOf s))) are-nodes
+          ∙ ap (λ (n : ℕ). sections n (nodes n (pathOf s)) (λ v. placeOf (shownLink n (pathOf s) v) (nodes n (pathOf s))) (λ t. placeOf (pathOf s .rep t) (nodes n (pathOf s))) (fieldByte (decode query) (pathOf s))) (ready .laid .term-count)
         where
-          parts : sections (l .terms) (marked marks (l .terms)) (λ t. getD successors t 0) (λ t. getD places t 0) (λ t. getD fields t 0) booleans ≡ sections (l .terms) (marked marks (l .terms)) (λ v. placeOf (shownLink (l .terms) (pathOf s) v) (marked marks (l .terms))) (λ t. placeOf (pathOf s .rep t) (marked marks (l .terms))) (fieldByte (decode query) (pathOf s)) (booleanByte (decode query))
+          parts : sections (l .terms) (marked marks (l .terms)) (λ t. getD successors t 0) (λ t. getD places t 0) (λ t. getD fields t 0) ≡ sections (l .terms) (marked marks (l .terms)) (λ v. placeOf (shownLink (l .terms) (pathOf s) v) (marked marks (l .terms))) (λ t. placeOf (pathOf s .rep t) (marked marks (l .terms))) (fieldByte (decode query) (pathOf s))
           parts =
-              rw (map-alike _ _ (marked marks (l .terms)) successor, map-alike _ _ (terms (l .terms)) node, map-alike _ _ (marked marks (l .terms)) datum, flag)
+              rw (map-alike _ _ (marked marks (l .terms)) successor, map-alike _ _ (terms (l .terms)) node, map-alike _ _ (marked marks (l .terms)) datum)

@@ -12,34 +12,25 @@ use Rattle.logic.specs.Calls.{accepts, padded}
 use Rattle.facts.specs.declared.Facts.{Facts}
 use Rattle.facts.specs.Path.{repOf}
 use Rattle.query.specs.declared.Layout.{Layout}
-use Rattle.query.specs.LaysOut.{LaysOut, literalIn, flagIn}
+use Rattle.query.specs.LaysOut.{LaysOut, literalIn}
 
 -- Behind the first `at` bytes, which zeros follow, these bytes are written.
 abbrev pub Appends : List ℕ → List ℕ → ℕ → List ℕ → Type 0
 Appends old new at bytes =
     (front : List ℕ) → length front ≡ at → old ≡ padded (length old) front → new ≡ padded (length old) (front ++ bytes)
 
--- "set exactly by a plain literal": the field j of the node of term v, and the boolean j
+-- "set exactly by a plain literal": the field j of the node of term v
 unfoldable pub fieldHeld : (ℕ → ℕ) → List Literal → ℕ → ℕ → Bool
 fieldHeld rep ls v j = any (λ l. l .plain and eqb (l .left) j and eqb (rep (l .right)) v) ls
-
-unfoldable pub booleanHeld : List Literal → ℕ → Bool
-booleanHeld ls j = any (λ l. l .plain and eqb (l .left) j) ls
 
 -- the literals at a place of the query
 unfoldable pub literalsAt : List ℕ → ℕ → ℕ → List Literal
 literalsAt query at count = map (literalIn query at) (from (count - 0) 0)
 
-unfoldable pub flagsAt : List ℕ → ℕ → ℕ → List Literal
-flagsAt query at count = map (flagIn query at) (from (count - 0) 0)
-
 -- their numbers are in range
 abbrev pub FieldsIn : List ℕ → ℕ → ℕ → (ℕ → ℕ) → Type 0
 FieldsIn query at count rep =
     (i : ℕ) → i < count → (literalIn query at i .left ≤ 8) × (literalIn query at i .right ≤ 16) × (rep (literalIn query at i .right) ≤ 16)
-
-abbrev pub FlagsIn : List ℕ → ℕ → ℕ → Type 0
-FlagsIn query at count = (i : ℕ) → i < count → flagIn query at i .left ≤ 8
 
 -- What a report is written of: an accepted query, and facts in which every term stands for a term.
 pub record Reportable (l : Layout) (query : List ℕ) (s : Facts) : Type 0 where
@@ -47,8 +38,8 @@ pub record Reportable (l : Layout) (query : List ℕ) (s : Facts) : Type 0 where
   pub passes : accepts query ≡ true
   pub stands : (t : ℕ) → 1 ≤ t → t ≤ l .terms → repOf (s .rep) t ≤ 16
 
--- the four sections, from the terms that are nodes and the bytes of each
-abbrev pub sections : ℕ → List ℕ → (ℕ → ℕ) → (ℕ → ℕ) → (ℕ → ℕ) → ℕ → List ℕ
-sections n ts successor node datum booleans =
+-- the four sections, from the terms that are nodes and the bytes of each; the byte of booleans is 0
+abbrev pub sections : ℕ → List ℕ → (ℕ → ℕ) → (ℕ → ℕ) → (ℕ → ℕ) → List ℕ
+sections n ts successor node datum =
     (length ts ∷ map successor ts)
-    ++ ((n ∷ map node (terms n)) ++ ((length ts ∷ map datum ts) ++ (1 ∷ booleans ∷ [])))
+    ++ ((n ∷ map node (terms n)) ++ ((length ts ∷ map datum ts) ++ (1 ∷ 0 ∷ [])))

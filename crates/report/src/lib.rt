@@ -15,7 +15,7 @@ ghost use Rattle.logic.specs.Rules.{next};
 ghost use Rattle.logic.specs.Calls.{padded};
 ghost use Rattle.logic.specs.Shown.{byteOf, reached, inBasin, onPath, basinLink, treeLink, newLink, linkEach, shownLink, report};
 ghost use Rattle.report.specs.Nodes.{nodeOf, marked, nodesBy, Numbers};
-ghost use Rattle.report.specs.Bytes.{Appends, fieldHeld, booleanHeld, literalsAt, flagsAt, FieldsIn, FlagsIn, Reportable, sections};
+ghost use Rattle.report.specs.Bytes.{Appends, fieldHeld, literalsAt, FieldsIn, Reportable, sections};
 ghost use Rattle.report.specs.Links.{linkOf, InRange, reachIn, begins, beginsWithout, coversAll, linkAt};
 use facts::Facts;
 use facts::Found;
@@ -394,22 +394,6 @@ fn mark_fields(query: &[u8], at: usize, count: usize, rep: [Term; 17]) -> [u32; 
     marks
 }
 
-// The booleans that plain literals set: boolean j is at j, as if it were a field at 0.
-fn mark_booleans(query: &[u8], at: usize, count: usize) -> [u32; 17]
-    requires { ⌜ (at + 2 * count ≤ length (now query)) × FlagsIn (now query) at count ⌝ }
-    ensures { λ r. ⌜ ((j : ℕ) → j ≤ 16 → square r 0 j ≡ booleanHeld (flagsAt (now (query .entry)) at count) j) ⌝ }
-{
-    let mut marks = [0u32; 17];
-    for i in 0..count {
-        if !query::flag_sign(query, at, i) {
-            continue;
-        }
-        let number = query::flag_number(query, at, i);
-        marks[0] = marks[0] | facts::only(number);
-    }
-    marks
-}
-
 // "field j in bit j-1": the byte of the row at v.
 fn row_byte(marks: &[u32; 17], v: usize) -> u8
     requires { ⌜ v ≤ 16 ⌝ }
@@ -450,15 +434,6 @@ fn data_bytes(query: &[u8], at: usize, count: usize, rep: [Term; 17], n: usize) 
     row_bytes(&marks, n)
 }
 
-// "one byte of booleans, set likewise"
-pub fn boolean_byte(query: &[u8], at: usize, count: usize) -> u8
-    requires { ⌜ (at + 2 * count ≤ length (now query)) × FlagsIn (now query) at count ⌝ }
-    ensures { λ r. ⌜ r ≡ byteOf (booleanHeld (flagsAt (now (query .entry)) at count)) 1 8 ⌝ }
-{
-    let marks = mark_booleans(query, at, count);
-    row_byte(&marks, 0)
-}
-
 // A section of one byte for each node: the count of the nodes, and the bytes of the terms that are nodes.
 fn put_node_section(
     buffer: &mut [u8],
@@ -486,7 +461,7 @@ pub fn put_term_section(buffer: &mut [u8], at: usize, n: usize, bytes: &[u8; 17]
     put_terms(buffer, next, bytes, n)
 }
 
-// "m successors; n nodes, one per term; m data bytes ..; one byte of booleans", and zeros past them.
+// "m successors; n nodes, one per term; m data bytes ..; one byte of booleans", which is 0 (02, R-13), and zeros past them.
 fn write_sections(
     buffer: &mut [u8],
     marks: &[bool; 17],
@@ -496,17 +471,16 @@ fn write_sections(
     successors: &[u8; 17],
     places: &[u8; 17],
     fields: &[u8; 17],
-    booleans: u8,
 )
     requires { ⌜ (n ≤ 16) × (m ≤ 16) × (m ≡ length (marked (now marks) n)) × (53 ≤ length (now buffer)) × Numbers nodes (marked (now marks) n) ⌝ }
-    ensures { λ r. ⌜ now (buffer .exit) ≡ padded (length (now (buffer .entry))) (sections n (marked (now (marks .entry)) n) (λ t. getD (now (successors .entry)) t 0) (λ t. getD (now (places .entry)) t 0) (λ t. getD (now (fields .entry)) t 0) booleans) ⌝ }
+    ensures { λ r. ⌜ now (buffer .exit) ≡ padded (length (now (buffer .entry))) (sections n (marked (now (marks .entry)) n) (λ t. getD (now (successors .entry)) t 0) (λ t. getD (now (places .entry)) t 0) (λ t. getD (now (fields .entry)) t 0)) ⌝ }
 {
     clear(buffer);
     let second = put_node_section(buffer, 0, m, successors, marks, nodes, n);
     let third = put_term_section(buffer, second, n, places);
     let fourth = put_node_section(buffer, third, m, fields, marks, nodes, n);
     let last = put(buffer, fourth, 1);
-    put(buffer, last, booleans);
+    put(buffer, last, 0);
 }
 
 // The heap report.
@@ -522,16 +496,5 @@ pub fn write_report(buffer: &mut [u8], query: &[u8], l: Layout, s: Facts)
     let successors = successor_bytes(s, n, nodes);
     let places = nodes_of(nodes, rep, 1, n);
     let fields = data_bytes(query, l.field_at, l.field_count, rep, n);
-    let booleans = boolean_byte(query, l.boolean_at, l.boolean_count);
-    write_sections(
-        buffer,
-        &marks,
-        nodes,
-        m,
-        n,
-        &successors,
-        &places,
-        &fields,
-        booleans,
-    );
+    write_sections(buffer, &marks, nodes, m, n, &successors, &places, &fields);
 }

@@ -79,15 +79,15 @@ move-range q order s r x y z h =
 
 -- the numbers of a line
 abbrev pub Small : ℕ → Line → Type 0
-Small m (line a b c d) = (b ≤ 5) × (c ≤ m) × (d ≤ m)
+Small m (line a b c d) = (b ≤ 4) × (c ≤ m) × (d ≤ m)
 
-alone-small : (m k : ℕ) (ls : List Literal) (l : Line) → k ≤ 5 → length ls ≤ m → List·Memᴰ l (map (λ i. line 9 k i 0) (from (length ls) 1)) → Small m l
+alone-small : (m k : ℕ) (ls : List Literal) (l : Line) → k ≤ 4 → length ls ≤ m → List·Memᴰ l (map (λ i. line 9 k i 0) (from (length ls) 1)) → Small m l
 alone-small m k ls l h g i =
     let p = map-mem (λ i. line 9 k i 0) l (from (length ls) 1) i in
     let r = from-mem (length ls) 1 (p .0) (p .1) in
     subst (Small m) (sym (p .2)) (h, omega arith, omega arith)
 
-paired-small : (m k : ℕ) (ls : List Literal) (l : Line) → k ≤ 5 → length ls ≤ m → List·Memᴰ l (flatMap (λ i. map (line 9 k i) (from (length ls) 1)) (from (length ls) 1)) → Small m l
+paired-small : (m k : ℕ) (ls : List Literal) (l : Line) → k ≤ 4 → length ls ≤ m → List·Memᴰ l (flatMap (λ i. map (line 9 k i) (from (length ls) 1)) (from (length ls) 1)) → Small m l
 paired-small m k ls l h g i =
     let p = flatMap-mem (λ i. map (line 9 k i) (from (length ls) 1)) l (from (length ls) 1) i in
     let r = from-mem (length ls) 1 (p .0) (p .1) in
@@ -95,14 +95,13 @@ paired-small m k ls l h g i =
     let t = from-mem (length ls) 1 (c .0) (c .1) in
     subst (Small m) (sym (c .2)) (h, omega arith, omega arith)
 
-pub clash-range : (q : Query) (order : List Rule) (s : Facts) (m : ℕ) (l : Line) → length (q .equalities) ≤ m → length (q .reachability) ≤ m → length (q .fields) ≤ m → length (q .booleans) ≤ m → look q order s ≡ clashing l → Small m l
+pub clash-range : (q : Query) (order : List Rule) (s : Facts) (m : ℕ) (l : Line) → length (q .equalities) ≤ m → length (q .reachability) ≤ m → length (q .fields) ≤ m → look q order s ≡ clashing l → Small m l
 unfolding clash clashLines
-clash-range q order s m l a b c d h =
+clash-range q order s m l a b c h =
     let i = find-some (isClash q s) (clashLines q) l (clashing-back q order s l h) .0 in
     ⊎-elim (λ p. alone-small m 2 (q .equalities) l (omega arith) a p)
     (λ p. ⊎-elim (λ p. alone-small m 3 (q .reachability) l (omega arith) b p)
-    (λ p. ⊎-elim (λ p. paired-small m 4 (q .fields) l (omega arith) c p) (λ p. paired-small m 5 (q .booleans) l (omega arith) d p)
-    (List·Memᴰ·append-cases _ p)) (List·Memᴰ·append-cases _ p)) (List·Memᴰ·append-cases _ i)
+    (λ p. paired-small m 4 (q .fields) l (omega arith) c p) (List·Memᴰ·append-cases _ p)) (List·Memᴰ·append-cases _ i)
 
 -- What the code's searches find, as what is seen
 module _ (q : Query) (order : List Rule) (s : code.Facts) (n : ℕ) (terms-are : n ≡ termCount q) where

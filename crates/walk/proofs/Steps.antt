@@ -10,9 +10,9 @@ use Rattle.logic.specs.Rules.{Rule, triple, Move, move, Fact, equal, ruleNumber
 use Rattle.logic.specs.Walk.{Look, clashing, applying, saturated, look, Ending, refutation, saturation, after, walkBranch, walk}
 use Rattle.logic.specs.Steps.{AtMost}
 use Rattle.logic.proofs.Walks.OurWalk.{look-fewer}
-use Rattle.query.specs.LaysOut.{LaysOut, literalIn, flagIn}
+use Rattle.query.specs.LaysOut.{LaysOut, literalIn}
 use Rattle.query.specs.declared.Layout.{Layout}
-use Rattle.query.proofs.Literals.{listed, listed-length, equalities-listed, reachability-listed, fields-listed, booleans-listed}
+use Rattle.query.proofs.Literals.{listed, listed-length, equalities-listed, reachability-listed, fields-listed}
 use Rattle.branch.specs.Alternatives.{countOf, alternativeAt}
 use Rattle.branch.proofs.Alternatives.{count-is, alternative-is}
 use Rattle.walk.specs.Lines.{countAll}
@@ -38,7 +38,6 @@ module _ (bytes : List ℕ) (l : Layout) (laid : LaysOut l bytes) (order : List 
       (omega (arith, ap length (equalities-listed l bytes laid), listed-length (literalIn bytes (l .«equal_at»)) (l .«equal_count»), laid .equal-within))
       (omega (arith, ap length (reachability-listed l bytes laid), listed-length (literalIn bytes (l .«reach_at»)) (l .«reach_count»), laid .reach-within))
       (omega (arith, ap length (fields-listed l bytes laid), listed-length (literalIn bytes (l .«field_at»)) (l .«field_count»), laid .field-within))
-      (omega (arith, ap length (booleans-listed l bytes laid), listed-length (flagIn bytes (l .«boolean_at»)) (l .«boolean_count»), laid .boolean-within))
       h in
       (omega arith, omega arith, omega arith)
 

@@ -30,7 +30,7 @@ write-sections-spec =
     (λ c.
     let a = c .before .before .before .before .before .before .before .before .before .before .before .before .before .before .before .before .before .before .before .before .before .before .before .before .before .args in
     sections-written _ (c .before .before .before .before .before .before .before .before .before .before .before .before .before .before .before .before .before .before .before .before .before .before .clear .last .0) (c .before .before .before .before .before .before .before .before .before .before .before .before .before .before .before .before .before .before .put-term-section .last .0) (c .before .before .before .before .before .before .before .before .before .before .before .before .before .before .put-term-section2 .last .0) (c .before .before .before .before .before .before .before .before .before .before .put-term-section3 .last .0) (c .before .before .before .before .before .before .put .last .0) (c .before .before .put2 .last .0)
-    _ _ (terms (a .m)) (λ t. getD (a .links .now) t 0) (λ t. getD (a .nodes .now) t 0) (λ t. getD (a .fields .now) t 0) _ _ _ _ _
+    _ _ (terms (a .m)) (λ t. getD (a .links .now) t 0) (λ t. getD (a .nodes .now) t 0) (λ t. getD (a .fields .now) t 0) _ _ _ _
     (sym (terms-length (a .m))) (c .before .before .before .before .before .before .before .before .before .before .before .before .before .before .before .before .before .before .before .before .before .before .clear .ensures)
     (c .before .before .before .before .before .before .before .before .before .before .before .before .before .before .before .before .before .before .put-term-section .kept .0) (c .before .before .before .before .before .before .before .before .before .before .before .before .before .before .put-term-section2 .kept .0) (c .before .before .before .before .before .before .before .before .before .before .put-term-section3 .kept .0) (c .before .before .before .before .before .before .put .kept .0)
     (c .before .before .before .before .before .before .before .before .before .before .before .before .before .before .before .before .before .before .put-term-section .ensures) (c .before .before .before .before .before .before .before .before .before .before .before .before .before .before .put-term-section2 .ensures) (c .before .before .before .before .before .before .before .before .before .before .put-term-section3 .ensures) (c .before .before .before .before .before .before .put .ensures) (c .before .before .put2 .ensures .1)))

@@ -10,18 +10,16 @@ use Rattle.between_seek.proofs.heap_found.Statement.{statement}
 use Rattle.between_seek.proofs.heap_found.Tie as tie
 use Rattle.logic.specs.Search.{from, firstOf}
 use Rattle.facts.proofs.Loops.{first-end, first-here, first-next}
-use Rattle.between_search.specs.Tests.{flagsClash}
 use Rattle.between_search.specs.Search.{sizeFound, mostNodes}
 use Rattle.between_seek.specs.Answers.{queryIn}
-use Rattle.between_seek.proofs.Sections.{flag-section}
-use Rattle.between_seek.proofs.Laws.{clash-none, heap-sizes, most-few, kept, not-kept}
+use Rattle.between_seek.proofs.Laws.{heap-sizes, most-few, kept, not-kept}
 
 abbrev Inv-loop : tie.InvT-loop
-Inv-loop base l between count apart nothing end m₀ m =
+Inv-loop base l between count apart end m₀ m =
     firstOf (sizeFound (queryIn base between)) (from (end - 1) 1) ≡ firstOf (sizeFound (queryIn base between)) (from (end - m) m)
 
 abbrev μ-loop : tie.MeasureT-loop
-μ-loop base l between count apart nothing end m₀ m = end - m
+μ-loop base l between count apart end m₀ m = end - m
 
 pub heap-found-spec : {M : Type 1} → statement M
 heap-found-spec =
@@ -29,25 +27,21 @@ heap-found-spec =
     (tie.spec
     Inv-loop
     μ-loop
-    -- flags-clash-requires
-    (λ c κs. c .before .before .pre .laid .boolean-fit)
-    -- returns
-    (λ c. not-kept _ refl ∙ clash-none _ (flag-section _ _ (c .before .before .before .before .pre .laid) flagsClash _ (sym (c .before .flags-clash .ensures) ∙ c .if1 .taken)))
     -- most-nodes-requires
     (λ c κs. search needs)
     -- add-end
-    (λ c. let k = most-few _ (c .before .before .before .before .before .pre .few) in omega (arith, k, c .most-nodes .ensures))
+    (λ c. let k = most-few _ (c .before .before .before .pre .few) in omega (arith, k, c .most-nodes .ensures))
     -- loop-holds
     (λ c. refl)
     -- size-found-requires
-    (λ c κs. (c .before .before .before .before .before .before .before .pre, let k = most-few _ (c .before .before .before .before .before .before .before .pre .few) in omega (arith, k, c .before .before .most-nodes .ensures, c .loop-test .taken)))
-    -- returns-2
-    (λ c. kept _ (c .if2 .taken) ∙ sym (heap-sizes _ (flag-section _ _ (c .before .before .before .before .before .before .before .before .before .pre .laid) flagsClash _ (sym (c .before .before .before .before .before .before .flags-clash .ensures) ∙ c .before .before .before .before .before .if1 .left)) _ (c .before .before .before .before .most-nodes .ensures ∙ ap mostNodes (c .before .before .before .before .before .before .before .before .before .pre .laid .term-count)) ∙ c .before .before .before .loop .inv ∙ first-here _ _ _ _ (c .before .before .loop-test .taken) (sym (c .before .size-found .ensures) ∙ kept _ (c .if2 .taken))))
+    (λ c κs. (c .before .before .before .before .before .pre, let k = most-few _ (c .before .before .before .before .before .pre .few) in omega (arith, k, c .before .before .most-nodes .ensures, c .loop-test .taken)))
+    -- returns
+    (λ c. kept _ (c .if1 .taken) ∙ sym (heap-sizes _ _ (c .before .before .before .before .most-nodes .ensures ∙ ap mostNodes (c .before .before .before .before .before .before .before .pre .laid .term-count)) ∙ c .before .before .before .loop .inv ∙ first-here _ _ _ _ (c .before .before .loop-test .taken) (sym (c .before .size-found .ensures) ∙ kept _ (c .if1 .taken))))
     -- add-m
-    (λ c. let k = most-few _ (c .before .before .before .before .before .before .before .before .before .pre .few) in omega (arith, k, c .before .before .before .before .most-nodes .ensures, c .before .before .loop-test .taken))
+    (λ c. let k = most-few _ (c .before .before .before .before .before .before .before .pre .few) in omega (arith, k, c .before .before .before .before .most-nodes .ensures, c .before .before .loop-test .taken))
     -- loop-less
     (λ c. omega arith)
     -- loop-again
-    (λ c. c .before .before .before .loop .inv ∙ first-next _ _ _ (c .before .before .loop-test .taken) (sym (c .before .size-found .ensures) ∙ not-kept _ (c .if2 .left)))
-    -- returns-3
-    (λ c. not-kept _ refl ∙ sym (heap-sizes _ (flag-section _ _ (c .before .before .before .before .before .before .before .pre .laid) flagsClash _ (sym (c .before .before .before .before .flags-clash .ensures) ∙ c .before .before .before .if1 .left)) _ (c .before .before .most-nodes .ensures ∙ ap mostNodes (c .before .before .before .before .before .before .before .pre .laid .term-count)) ∙ c .before .loop .inv ∙ first-end _ _ _ (c .loop-test .left))))
+    (λ c. c .before .before .before .loop .inv ∙ first-next _ _ _ (c .before .before .loop-test .taken) (sym (c .before .size-found .ensures) ∙ not-kept _ (c .if1 .left)))
+    -- returns-2
+    (λ c. not-kept _ refl ∙ sym (heap-sizes _ _ (c .before .before .most-nodes .ensures ∙ ap mostNodes (c .before .before .before .before .before .pre .laid .term-count)) ∙ c .before .loop .inv ∙ first-end _ _ _ (c .loop-test .left))))

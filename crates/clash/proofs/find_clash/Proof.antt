@@ -1,8 +1,7 @@
--- The sections that speak of terms, and then the booleans. Assumes nothing.
+-- The clash of the path that the arrays hold. Assumes nothing.
 use borrow.Author.Needs.{needs}
-use mathlib.Core.Path.{sym, ap, _∙_}
-use Rattle.clash.specs.Answers.{lineOf}
-use Rattle.clash.proofs.Laid.{path-first, booleans-last}
+use mathlib.Core.Path.{sym, _∙_}
+use Rattle.clash.proofs.Laid.{clash-at}
 use Rattle.clash.proofs.find_clash.Statement.{statement}
 use Rattle.clash.proofs.find_clash.Tie as tie
 
@@ -14,13 +13,5 @@ find-clash-spec =
     (λ c κs. search needs)
     -- path-clash-requires
     (λ c κs. search needs)
-    -- enum-known-k
-    (λ c. search needs)
     -- returns
-    (λ c. λ s e f. sym (path-first _ _ _ _ (sym (c .before .before .before .path-clash .ensures) ∙ ap lineOf (c .before .k .given .1)) s (e ∙ sym (c .before .before .before .before .before .numbers .ensures)) f))
-    -- enum-told
-    (λ c. search needs)
-    -- boolean-clash-requires
-    (λ c κs. search needs)
-    -- returns-2
-    (λ c. λ s e f. c .boolean-clash .ensures ∙ sym (booleans-last _ _ _ (sym (c .before .before .before .path-clash .ensures) ∙ ap lineOf (c .before .enum-told .given .1)) s (e ∙ sym (c .before .before .before .before .before .numbers .ensures)) f)))
+    (λ c s e f. c .path-clash .ensures ∙ sym (clash-at _ _ _ s (e ∙ sym (c .before .before .numbers .ensures)) f)))

@@ -7,7 +7,6 @@ use mathlib.Core.List.{List, [], _∷_, _++_}
 use lib.ListN.{length}
 use Rattle.query.specs.LaysOut.{literalIn}
 use Rattle.query.proofs.Literals.{literals-are}
-use Rattle.encoding.specs.QueryBytes.{literalBytes}
 use Rattle.formula_query.specs.Kept.{mark}
 use Rattle.text.proofs.Writing.{Part, part-from, part-more, part-all, part-length, writes-as, writes-then, writes-length}
 use Rattle.formula_query.proofs.Laws.{kept, kept-next, kept-end, section-kept, literal-size}
@@ -16,7 +15,7 @@ use Rattle.formula_query.proofs.put_literals.Tie as tie
 
 abbrev Inv-loop : tie.InvT-loop
 Inv-loop query at count marks code out₀ to keptN end₀ i₀ out end i =
-    (i ≤ count) × (end ≤ end₀ + 3 * i) × Part out₀ end₀ (kept (mark marks code) (literalIn query at) literalBytes count 0) out end (kept (mark marks code) (literalIn query at) literalBytes count i)
+    (i ≤ count) × (end ≤ end₀ + 3 * i) × Part out₀ end₀ (kept (mark marks code) (literalIn query at) count 0) out end (kept (mark marks code) (literalIn query at) count i)
 
 abbrev μ-loop : tie.MeasureT-loop
 μ-loop query at count marks code out₀ to keptN end₀ i₀ out end i = count - i
@@ -42,8 +41,8 @@ put-literals-spec =
     -- loop-less
     (λ c. omega arith)
     -- loop-again
-    (λ c. (omega arith, let s = literal-size ((mark (c .before .before .before .before .before .before .before .before .before .before .before .before .before .args .marks .now) (c .before .before .before .before .before .before .before .before .before .before .before .before .before .args .code)) (c .before .before .before .before .before .loop .i + 1)) ((literalIn (c .before .before .before .before .before .before .before .before .before .before .before .before .before .args .query .now) (c .before .before .before .before .before .before .before .before .before .before .before .before .before .args .at)) (c .before .before .before .before .before .loop .i)) in omega (arith, c .before .before .put-marked-literal .ensures .ends, c .before .before .before .before .before .loop .inv .1), part-more (c .before .before .before .before .before .loop .inv .2) (kept-next (mark (c .before .before .before .before .before .before .before .before .before .before .before .before .before .args .marks .now) (c .before .before .before .before .before .before .before .before .before .before .before .before .before .args .code)) (literalIn (c .before .before .before .before .before .before .before .before .before .before .before .before .before .args .query .now) (c .before .before .before .before .before .before .before .before .before .before .before .before .before .args .at)) literalBytes (c .before .before .before .before .before .before .before .before .before .before .before .before .before .args .count) (c .before .before .before .before .before .loop .i) (c .before .before .before .before .loop-test .taken)) (c .before .before .put-marked-literal .ensures)))
+    (λ c. (omega arith, let s = literal-size ((mark (c .before .before .before .before .before .before .before .before .before .before .before .before .before .args .marks .now) (c .before .before .before .before .before .before .before .before .before .before .before .before .before .args .code)) (c .before .before .before .before .before .loop .i + 1)) ((literalIn (c .before .before .before .before .before .before .before .before .before .before .before .before .before .args .query .now) (c .before .before .before .before .before .before .before .before .before .before .before .before .before .args .at)) (c .before .before .before .before .before .loop .i)) in omega (arith, c .before .before .put-marked-literal .ensures .ends, c .before .before .before .before .before .loop .inv .1), part-more (c .before .before .before .before .before .loop .inv .2) (kept-next (mark (c .before .before .before .before .before .before .before .before .before .before .before .before .before .args .marks .now) (c .before .before .before .before .before .before .before .before .before .before .before .before .before .args .code)) (literalIn (c .before .before .before .before .before .before .before .before .before .before .before .before .before .args .query .now) (c .before .before .before .before .before .before .before .before .before .before .before .before .before .args .at)) (c .before .before .before .before .before .before .before .before .before .before .before .before .before .args .count) (c .before .before .before .before .before .loop .i) (c .before .before .before .before .loop-test .taken)) (c .before .before .put-marked-literal .ensures)))
     -- same-length
     (λ c. part-length (c .before .loop .inv .2) ∙ writes-length (c .before .before .before .before .put-byte .ensures))
     -- returns
-    (λ c. (omega (arith, c .before .before .before .before .put-byte .ensures .ends, c .before .loop .inv .1), writes-as (section-kept (mark (c .before .before .before .before .before .before .before .before .before .args .marks .now) (c .before .before .before .before .before .before .before .before .before .args .code)) (literalIn (c .before .before .before .before .before .before .before .before .before .args .query .now) (c .before .before .before .before .before .before .before .before .before .args .at)) literalBytes (c .before .before .before .before .before .before .before .before .before .args .count) (c .before .before .before .before .before .before .count-marked .result) _ (literals-are (c .before .before .before .before .before .before .before .before .before .args .query .now) (c .before .before .before .before .before .before .before .before .before .args .at) (c .before .before .before .before .before .before .before .before .before .args .count) (c .before .before .before .before .before .before .before .before .before .pre .0)) (c .before .before .before .before .before .before .count-marked .ensures .1)) (writes-then (c .before .before .before .before .put-byte .ensures) (part-all (c .before .loop .inv .2) (kept-end (mark (c .before .before .before .before .before .before .before .before .before .args .marks .now) (c .before .before .before .before .before .before .before .before .before .args .code)) (literalIn (c .before .before .before .before .before .before .before .before .before .args .query .now) (c .before .before .before .before .before .before .before .before .before .args .at)) literalBytes (c .before .before .before .before .before .before .before .before .before .args .count) (c .before .loop .i) (c .loop-test .left)))))))
+    (λ c. (omega (arith, c .before .before .before .before .put-byte .ensures .ends, c .before .loop .inv .1), writes-as (section-kept (mark (c .before .before .before .before .before .before .before .before .before .args .marks .now) (c .before .before .before .before .before .before .before .before .before .args .code)) (literalIn (c .before .before .before .before .before .before .before .before .before .args .query .now) (c .before .before .before .before .before .before .before .before .before .args .at)) (c .before .before .before .before .before .before .before .before .before .args .count) (c .before .before .before .before .before .before .count-marked .result) _ (literals-are (c .before .before .before .before .before .before .before .before .before .args .query .now) (c .before .before .before .before .before .before .before .before .before .args .at) (c .before .before .before .before .before .before .before .before .before .args .count) (c .before .before .before .before .before .before .before .before .before .pre .0)) (c .before .before .before .before .before .before .count-marked .ensures .1)) (writes-then (c .before .before .before .before .put-byte .ensures) (part-all (c .before .loop .inv .2) (kept-end (mark (c .before .before .before .before .before .before .before .before .before .args .marks .now) (c .before .before .before .before .before .before .before .before .before .args .code)) (literalIn (c .before .before .before .before .before .before .before .before .before .args .query .now) (c .before .before .before .before .before .before .before .before .before .args .at)) (c .before .before .before .before .before .before .before .before .before .args .count) (c .before .loop .i) (c .loop-test .left)))))))

@@ -33,9 +33,9 @@ put-query-spec =
     (λ c κs. let l = c .before .before .before .before .before .before .before .before .before .before .before .before .before .before .before .before .pre in let tb = terms-bound (c .before .before .before .before .before .before .before .before .before .before .before .before .before .before .before .before .args .layout .terms) (drop 1 (c .before .before .before .before .before .before .before .before .before .before .before .before .before .before .before .before .args .query .now)) (l .terms-within) in (l .reach-fit, l .reach-within, omega arith, omega (arith, l .equal-within, c .before .before .before .before .before .before .before .before .before .before .before .before .put-byte .ensures .ends, c .before .before .before .before .before .before .before .put-bytes .ensures .ends, c .before .before .before .put-literals .ensures .0)))
     -- put-literals-requires-3
     (λ c κs. let l = c .before .before .before .before .before .before .before .before .before .before .before .before .before .before .before .before .before .before .before .before .pre in let tb = terms-bound (c .before .before .before .before .before .before .before .before .before .before .before .before .before .before .before .before .before .before .before .before .args .layout .terms) (drop 1 (c .before .before .before .before .before .before .before .before .before .before .before .before .before .before .before .before .before .before .before .before .args .query .now)) (l .terms-within) in (l .field-fit, l .field-within, omega arith, omega (arith, l .equal-within, l .reach-within, c .before .before .before .before .before .before .before .before .before .before .before .before .before .before .before .before .put-byte .ensures .ends, c .before .before .before .before .before .before .before .before .before .before .before .put-bytes .ensures .ends, c .before .before .before .before .before .before .before .put-literals .ensures .0, c .before .before .before .put-literals2 .ensures .0)))
-    -- put-flags-requires
-    (λ c κs. let l = c .before .before .before .before .before .before .before .before .before .before .before .before .before .before .before .before .before .before .before .before .before .before .before .before .pre in let tb = terms-bound (c .before .before .before .before .before .before .before .before .before .before .before .before .before .before .before .before .before .before .before .before .before .before .before .before .args .layout .terms) (drop 1 (c .before .before .before .before .before .before .before .before .before .before .before .before .before .before .before .before .before .before .before .before .before .before .before .before .args .query .now)) (l .terms-within) in (l .boolean-fit, l .boolean-within, omega arith, omega (arith, l .equal-within, l .reach-within, l .field-within, c .before .before .before .before .before .before .before .before .before .before .before .before .before .before .before .before .before .before .before .before .put-byte .ensures .ends, c .before .before .before .before .before .before .before .before .before .before .before .before .before .before .before .put-bytes .ensures .ends, c .before .before .before .before .before .before .before .before .before .before .before .put-literals .ensures .0, c .before .before .before .before .before .before .before .put-literals2 .ensures .0, c .before .before .before .put-literals3 .ensures .0)))
+    -- put-byte-requires-2
+    (λ c κs. let l = c .before .before .before .before .before .before .before .before .before .before .before .before .before .before .before .before .before .before .before .before .before .before .before .before .pre in let tb = terms-bound (c .before .before .before .before .before .before .before .before .before .before .before .before .before .before .before .before .before .before .before .before .before .before .before .before .args .layout .terms) (drop 1 (c .before .before .before .before .before .before .before .before .before .before .before .before .before .before .before .before .before .before .before .before .before .before .before .before .args .query .now)) (l .terms-within) in omega (arith, l .equal-within, l .reach-within, l .field-within, c .before .before .before .before .before .before .before .before .before .before .before .before .before .before .before .before .before .before .before .before .put-byte .ensures .ends, c .before .before .before .before .before .before .before .before .before .before .before .before .before .before .before .put-bytes .ensures .ends, c .before .before .before .before .before .before .before .before .before .before .before .put-literals .ensures .0, c .before .before .before .before .before .before .before .put-literals2 .ensures .0, c .before .before .before .put-literals3 .ensures .0))
     -- same-length
-    (λ c. writes-length (c .before .before .put-flags .ensures .1) ∙ writes-length (c .before .before .before .before .before .before .put-literals3 .ensures .1) ∙ writes-length (c .before .before .before .before .before .before .before .before .before .before .put-literals2 .ensures .1) ∙ writes-length (c .before .before .before .before .before .before .before .before .before .before .before .before .before .before .put-literals .ensures .1) ∙ writes-length (c .before .before .before .before .before .before .before .before .before .before .before .before .before .before .before .before .before .before .put-bytes .ensures) ∙ writes-length (c .before .before .before .before .before .before .before .before .before .before .before .before .before .before .before .before .before .before .before .before .before .before .before .put-byte .ensures))
+    (λ c. writes-length (c .before .before .put-byte2 .ensures) ∙ writes-length (c .before .before .before .before .before .before .put-literals3 .ensures .1) ∙ writes-length (c .before .before .before .before .before .before .before .before .before .before .put-literals2 .ensures .1) ∙ writes-length (c .before .before .before .before .before .before .before .before .before .before .before .before .before .before .put-literals .ensures .1) ∙ writes-length (c .before .before .before .before .before .before .before .before .before .before .before .before .before .before .before .before .before .before .put-bytes .ensures) ∙ writes-length (c .before .before .before .before .before .before .before .before .before .before .before .before .before .before .before .before .before .before .before .before .before .before .before .put-byte .ensures))
     -- returns
-    (λ c. let l = c .before .before .before .before .before .before .before .before .before .before .before .before .before .before .before .before .before .before .before .before .before .before .before .before .before .before .before .pre in let tb = terms-bound (c .before .before .before .before .before .before .before .before .before .before .before .before .before .before .before .before .before .before .before .before .before .before .before .before .before .before .before .args .layout .terms) (drop 1 (c .before .before .before .before .before .before .before .before .before .before .before .before .before .before .before .before .before .before .before .before .before .before .before .before .before .before .before .args .query .now)) (l .terms-within) in (omega (arith, l .equal-within, l .reach-within, l .field-within, l .boolean-within, c .before .before .before .before .before .before .before .before .before .before .before .before .before .before .before .before .before .before .before .before .before .before .before .put-byte .ensures .ends, c .before .before .before .before .before .before .before .before .before .before .before .before .before .before .before .before .before .before .put-bytes .ensures .ends, c .before .before .before .before .before .before .before .before .before .before .before .before .before .before .put-literals .ensures .0, c .before .before .before .before .before .before .before .before .before .before .put-literals2 .ensures .0, c .before .before .before .before .before .before .put-literals3 .ensures .0, c .before .before .put-flags .ensures .0), λ d same. writes-as (whole-bytes (c .before .before .before .before .before .before .before .before .before .before .before .before .before .before .before .before .before .before .before .before .before .before .before .before .before .before .before .args .layout) (c .before .before .before .before .before .before .before .before .before .before .before .before .before .before .before .before .before .before .before .before .before .before .before .before .before .before .before .args .query .now) l (c .before .before .before .before .before .before .before .before .before .before .before .before .before .before .before .before .before .before .before .before .before .before .before .before .before .before .before .args .marks .now) d same) (writes-then (writes-then (writes-then (writes-then (writes-then (c .before .before .before .before .before .before .before .before .before .before .before .before .before .before .before .before .before .before .before .before .before .before .before .put-byte .ensures) (c .before .before .before .before .before .before .before .before .before .before .before .before .before .before .before .before .before .before .put-bytes .ensures)) (c .before .before .before .before .before .before .before .before .before .before .before .before .before .before .put-literals .ensures .1)) (c .before .before .before .before .before .before .before .before .before .before .put-literals2 .ensures .1)) (c .before .before .before .before .before .before .put-literals3 .ensures .1)) (c .before .before .put-flags .ensures .1)))))
+    (λ c. let l = c .before .before .before .before .before .before .before .before .before .before .before .before .before .before .before .before .before .before .before .before .before .before .before .before .before .before .before .pre in let tb = terms-bound (c .before .before .before .before .before .before .before .before .before .before .before .before .before .before .before .before .before .before .before .before .before .before .before .before .before .before .before .args .layout .terms) (drop 1 (c .before .before .before .before .before .before .before .before .before .before .before .before .before .before .before .before .before .before .before .before .before .before .before .before .before .before .before .args .query .now)) (l .terms-within) in (omega (arith, l .equal-within, l .reach-within, l .field-within, c .before .before .before .before .before .before .before .before .before .before .before .before .before .before .before .before .before .before .before .before .before .before .before .put-byte .ensures .ends, c .before .before .before .before .before .before .before .before .before .before .before .before .before .before .before .before .before .before .put-bytes .ensures .ends, c .before .before .before .before .before .before .before .before .before .before .before .before .before .before .put-literals .ensures .0, c .before .before .before .before .before .before .before .before .before .before .put-literals2 .ensures .0, c .before .before .before .before .before .before .put-literals3 .ensures .0, c .before .before .put-byte2 .ensures .ends), λ d same. writes-as (whole-bytes (c .before .before .before .before .before .before .before .before .before .before .before .before .before .before .before .before .before .before .before .before .before .before .before .before .before .before .before .args .layout) (c .before .before .before .before .before .before .before .before .before .before .before .before .before .before .before .before .before .before .before .before .before .before .before .before .before .before .before .args .query .now) l (c .before .before .before .before .before .before .before .before .before .before .before .before .before .before .before .before .before .before .before .before .before .before .before .before .before .before .before .args .marks .now) d same) (writes-then (writes-then (writes-then (writes-then (writes-then (c .before .before .before .before .before .before .before .before .before .before .before .before .before .before .before .before .before .before .before .before .before .before .before .put-byte .ensures) (c .before .before .before .before .before .before .before .before .before .before .before .before .before .before .before .before .before .before .put-bytes .ensures)) (c .before .before .before .before .before .before .before .before .before .before .before .before .before .before .put-literals .ensures .1)) (c .before .before .before .before .before .before .before .before .before .before .put-literals2 .ensures .1)) (c .before .before .before .before .before .before .put-literals3 .ensures .1)) (c .before .before .put-byte2 .ensures)))))

@@ -49,16 +49,16 @@ put-joined-spec =
     -- same-length
     (λ c. search needs)
     -- returns
-    (λ c. writes-as (written-text _ _ _ _ _ _ (c .before .before .before .before .before .before .before .before .before .before .join .ensures) (length-replicate {A = ℕ} 681 0) _ _ (c .before .before .before .before .before .before .before .length .given .1) (c .before .before .before .before .before .at-most .ensures) (c .before .before .before .before .before .before .before .before .before .before .join .kept .1 .1 .1 .0)) (c .before .before .put-hex-line .ensures))
+    (λ c. writes-as (written-text _ _ _ _ _ _ (c .before .before .before .before .before .before .before .before .before .before .join .ensures) (length-replicate {A = ℕ} 561 0) _ _ (c .before .before .before .before .before .before .before .length .given .1) (c .before .before .before .before .before .at-most .ensures) (c .before .before .before .before .before .before .before .before .before .before .join .kept .1 .1 .1 .0)) (c .before .before .put-hex-line .ensures))
     -- same-length-2
     (λ c. search needs)
     -- returns-2
-    (λ c. writes-as (first-text _ _ _ _ _ _ (c .before .before .before .before .before .before .before .before .before .join .ensures) (length-replicate {A = ℕ} 681 0) _ _ (c .before .before .before .before .before .before .k .given .1)) (c .before .before .put-refusal .ensures))
+    (λ c. writes-as (first-text _ _ _ _ _ _ (c .before .before .before .before .before .before .before .before .before .join .ensures) (length-replicate {A = ℕ} 561 0) _ _ (c .before .before .before .before .before .before .k .given .1)) (c .before .before .put-refusal .ensures))
     -- same-length-3
     (λ c. search needs)
     -- returns-3
-    (λ c. writes-as (second-text _ _ _ _ _ _ (c .before .before .before .before .before .before .before .before .before .join .ensures) (length-replicate {A = ℕ} 681 0) _ _ (c .before .before .before .before .before .before .k2 .given .1)) (c .before .before .put-refusal2 .ensures))
+    (λ c. writes-as (second-text _ _ _ _ _ _ (c .before .before .before .before .before .before .before .before .before .join .ensures) (length-replicate {A = ℕ} 561 0) _ _ (c .before .before .before .before .before .before .k2 .given .1)) (c .before .before .put-refusal2 .ensures))
     -- same-length-4
     (λ c. search needs)
     -- returns-4
-    (λ c. writes-as (refused-text _ _ _ _ _ _ (c .before .before .before .before .before .before .before .before .before .join .ensures) (length-replicate {A = ℕ} 681 0) _ _ (c .before .before .before .before .before .before .k3 .given .1)) (c .before .before .put-refusal3 .ensures)))
+    (λ c. writes-as (refused-text _ _ _ _ _ _ (c .before .before .before .before .before .before .before .before .before .join .ensures) (length-replicate {A = ℕ} 561 0) _ _ (c .before .before .before .before .before .before .k3 .given .1)) (c .before .before .put-refusal3 .ensures)))

@@ -16,7 +16,7 @@ use Rattle.joining.specs.Joined.{raisedEntry}
 use Rattle.joiner.specs.Promise.{handed}
 use Rattle.joiner.specs.declared.HandBack.{HandBack}
 use Rattle.joiner.specs.Bytes.{keepsLimits}
-use Rattle.joiner.proofs.Laws.{entries-long, literals-long, flags-long}
+use Rattle.joiner.proofs.Laws.{entries-long, literals-long}
 use Rattle.joiner.proofs.Answers as law
 use Rattle.joiner.proofs.count_in.Statement.{statement}
 use Rattle.joiner.proofs.count_in.Tie as tie
@@ -32,6 +32,4 @@ count-in-spec =
     -- returns-3
     (λ c. law.count-fourth (c .before .before .before .args .l) (c .before .before .before .args .query .now) (c .before .before .before .pre) (c .before .before .before .args .s) (c .before .before .if1 .left) (c .before .if2 .left) (c .if3 .taken))
     -- returns-4
-    (λ c. law.count-fifth (c .before .before .before .before .args .l) (c .before .before .before .before .args .query .now) (c .before .before .before .before .pre) (c .before .before .before .before .args .s) (c .before .before .before .if1 .left) (c .before .before .if2 .left) (c .before .if3 .left) (c .if4 .taken))
-    -- returns-5
-    (λ c. law.count-none (c .before .before .before .before .args .l) (c .before .before .before .before .args .query .now) (c .before .before .before .before .pre) (c .before .before .before .before .args .s) (c .before .before .before .if1 .left) (c .before .before .if2 .left) (c .before .if3 .left) (c .if4 .left)))
+    (λ c. law.count-none (c .before .before .before .args .l) (c .before .before .before .args .query .now) (c .before .before .before .pre) (c .before .before .before .args .s) (c .before .before .if1 .left) (c .before .if2 .left) (c .if3 .left)))

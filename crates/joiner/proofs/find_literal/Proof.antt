@@ -16,7 +16,7 @@ use Rattle.joining.specs.Joined.{raisedEntry}
 use Rattle.joiner.specs.Promise.{handed}
 use Rattle.joiner.specs.declared.HandBack.{HandBack}
 use Rattle.joiner.specs.Bytes.{keepsLimits}
-use Rattle.joiner.proofs.Laws.{entries-long, literals-long, flags-long}
+use Rattle.joiner.proofs.Laws.{entries-long, literals-long}
 use Rattle.joiner.proofs.Answers as law
 use Rattle.joiner.proofs.find_literal.Statement.{statement}
 use Rattle.joiner.proofs.find_literal.Tie as tie
@@ -37,21 +37,19 @@ find-literal-spec =
     (λ c κs. c .before .before .before .before .before .before .before .pre .0 .laid)
     -- count-in-requires-2
     (λ c κs. c .before .before .before .before .before .before .before .before .pre .1 .laid)
-    -- width-in-requires
-    (λ c κs. search needs)
     -- returns-2
-    (λ c. law.back-zero (c .before .before .before .before .before .before .before .before .before .before .before .args .first .now) (c .before .before .before .before .before .before .before .before .before .before .before .args .second .now) (c .before .before .before .before .before .before .before .before .before .before .before .args .line .now) (c .before .before .before .before .before .before .before .before .before .before .before .pre .0 .accepted) (c .before .before .before .before .before .before .before .before .before .before .before .pre .1 .accepted) (c .before .before .before .before .before .before .before .byte-of .ensures .0) (c .before .before .before .before .before .before .byte-of2 .ensures .0) (c .before .before .before .before .before .byte-of3 .ensures .0) (c .before .before .before .before .if1 .left) (c .if2 .taken))
+    (λ c. law.back-zero (c .before .before .before .before .before .before .before .before .before .before .args .first .now) (c .before .before .before .before .before .before .before .before .before .before .args .second .now) (c .before .before .before .before .before .before .before .before .before .before .args .line .now) (c .before .before .before .before .before .before .before .before .before .before .pre .0 .accepted) (c .before .before .before .before .before .before .before .before .before .before .pre .1 .accepted) (c .before .before .before .before .before .before .byte-of .ensures .0) (c .before .before .before .before .before .byte-of2 .ensures .0) (c .before .before .before .before .byte-of3 .ensures .0) (c .before .before .before .if1 .left) (c .if2 .taken))
     -- place-in-requires
-    (λ c κs. (c .before .before .before .before .before .before .before .before .before .before .before .before .pre .0 .laid, omega (arith, c .before .if2 .left), omega (arith, c .if3 .taken, c .before .before .before .before .count-in .ensures .1)))
+    (λ c κs. (c .before .before .before .before .before .before .before .before .before .before .before .pre .0 .laid, omega (arith, c .before .if2 .left), omega (arith, c .if3 .taken, c .before .before .before .count-in .ensures .1)))
     -- returns-3
-    (λ c. law.back-first (c .before .before .before .before .before .before .before .before .before .before .before .before .before .args .first .now) (c .before .before .before .before .before .before .before .before .before .before .before .before .before .args .second .now) (c .before .before .before .before .before .before .before .before .before .before .before .before .before .args .line .now) (c .before .before .before .before .before .before .before .before .before .before .before .before .before .pre .0 .accepted) (c .before .before .before .before .before .before .before .before .before .before .before .before .before .pre .1 .accepted) (c .before .before .before .before .before .before .before .before .before .byte-of .ensures .0) (c .before .before .before .before .before .before .before .before .byte-of2 .ensures .0) (c .before .before .before .before .before .before .before .byte-of3 .ensures .0) (c .before .before .before .before .before .before .if1 .left) (c .before .before .before .before .before .count-in .ensures .0) (c .before .before .if2 .left) (c .before .if3 .taken) (c .place-in .ensures) (c .before .before .before .width-in .ensures))
+    (λ c. law.back-first (c .before .before .before .before .before .before .before .before .before .before .before .before .args .first .now) (c .before .before .before .before .before .before .before .before .before .before .before .before .args .second .now) (c .before .before .before .before .before .before .before .before .before .before .before .before .args .line .now) (c .before .before .before .before .before .before .before .before .before .before .before .before .pre .0 .accepted) (c .before .before .before .before .before .before .before .before .before .before .before .before .pre .1 .accepted) (c .before .before .before .before .before .before .before .before .byte-of .ensures .0) (c .before .before .before .before .before .before .before .byte-of2 .ensures .0) (c .before .before .before .before .before .before .byte-of3 .ensures .0) (c .before .before .before .before .before .if1 .left) (c .before .before .before .before .count-in .ensures .0) (c .before .before .if2 .left) (c .before .if3 .taken) (c .place-in .ensures))
     -- add-if4
-    (λ c. omega (arith, c .before .before .before .before .count-in .ensures .1, c .before .before .before .count-in2 .ensures .1))
+    (λ c. omega (arith, c .before .before .before .count-in .ensures .1, c .before .before .count-in2 .ensures .1))
     -- sub-place-in
     (λ c. omega (arith, c .before .if3 .left))
     -- place-in-requires-2
-    (λ c κs. (c .before .before .before .before .before .before .before .before .before .before .before .before .before .pre .1 .laid, omega (arith, c .before .if3 .left), omega (arith, c .if4 .taken, c .before .if3 .left, c .before .before .before .before .count-in2 .ensures .1)))
+    (λ c κs. (c .before .before .before .before .before .before .before .before .before .before .before .before .pre .1 .laid, omega (arith, c .before .if3 .left), omega (arith, c .if4 .taken, c .before .if3 .left, c .before .before .before .count-in2 .ensures .1)))
     -- returns-4
-    (λ c. law.back-second (c .before .before .before .before .before .before .before .before .before .before .before .before .before .before .args .first .now) (c .before .before .before .before .before .before .before .before .before .before .before .before .before .before .args .second .now) (c .before .before .before .before .before .before .before .before .before .before .before .before .before .before .args .line .now) (c .before .before .before .before .before .before .before .before .before .before .before .before .before .before .pre .0 .accepted) (c .before .before .before .before .before .before .before .before .before .before .before .before .before .before .pre .1 .accepted) (c .before .before .before .before .before .before .before .before .before .before .byte-of .ensures .0) (c .before .before .before .before .before .before .before .before .before .byte-of2 .ensures .0) (c .before .before .before .before .before .before .before .before .byte-of3 .ensures .0) (c .before .before .before .before .before .before .before .if1 .left) (c .before .before .before .before .before .before .count-in .ensures .0) (c .before .before .before .before .before .count-in2 .ensures .0) (c .before .before .if3 .left) (c .before .if4 .taken) (c .place-in2 .ensures) (c .before .before .before .before .width-in .ensures))
+    (λ c. law.back-second (c .before .before .before .before .before .before .before .before .before .before .before .before .before .args .first .now) (c .before .before .before .before .before .before .before .before .before .before .before .before .before .args .second .now) (c .before .before .before .before .before .before .before .before .before .before .before .before .before .args .line .now) (c .before .before .before .before .before .before .before .before .before .before .before .before .before .pre .0 .accepted) (c .before .before .before .before .before .before .before .before .before .before .before .before .before .pre .1 .accepted) (c .before .before .before .before .before .before .before .before .before .byte-of .ensures .0) (c .before .before .before .before .before .before .before .before .byte-of2 .ensures .0) (c .before .before .before .before .before .before .before .byte-of3 .ensures .0) (c .before .before .before .before .before .before .if1 .left) (c .before .before .before .before .before .count-in .ensures .0) (c .before .before .before .before .count-in2 .ensures .0) (c .before .before .if3 .left) (c .before .if4 .taken) (c .place-in2 .ensures))
     -- returns-5
-    (λ c. law.back-past (c .before .before .before .before .before .before .before .before .before .before .before .before .before .args .first .now) (c .before .before .before .before .before .before .before .before .before .before .before .before .before .args .second .now) (c .before .before .before .before .before .before .before .before .before .before .before .before .before .args .line .now) (c .before .before .before .before .before .before .before .before .before .before .before .before .before .pre .0 .accepted) (c .before .before .before .before .before .before .before .before .before .before .before .before .before .pre .1 .accepted) (c .before .before .before .before .before .before .before .before .before .byte-of .ensures .0) (c .before .before .before .before .before .before .before .before .byte-of2 .ensures .0) (c .before .before .before .before .before .before .before .byte-of3 .ensures .0) (c .before .before .before .before .before .before .if1 .left) (c .before .before .before .before .before .count-in .ensures .0) (c .before .before .before .before .count-in2 .ensures .0) (c .before .if3 .left) (c .if4 .left)))
+    (λ c. law.back-past (c .before .before .before .before .before .before .before .before .before .before .before .before .args .first .now) (c .before .before .before .before .before .before .before .before .before .before .before .before .args .second .now) (c .before .before .before .before .before .before .before .before .before .before .before .before .args .line .now) (c .before .before .before .before .before .before .before .before .before .before .before .before .pre .0 .accepted) (c .before .before .before .before .before .before .before .before .before .before .before .before .pre .1 .accepted) (c .before .before .before .before .before .before .before .before .byte-of .ensures .0) (c .before .before .before .before .before .before .before .byte-of2 .ensures .0) (c .before .before .before .before .before .before .byte-of3 .ensures .0) (c .before .before .before .before .before .if1 .left) (c .before .before .before .before .count-in .ensures .0) (c .before .before .before .count-in2 .ensures .0) (c .before .if3 .left) (c .if4 .left)))

@@ -16,7 +16,7 @@ use Rattle.joining.specs.Joined.{raisedEntry}
 use Rattle.joiner.specs.Promise.{handed}
 use Rattle.joiner.specs.declared.HandBack.{HandBack}
 use Rattle.joiner.specs.Bytes.{keepsLimits}
-use Rattle.joiner.proofs.Laws.{entries-long, literals-long, flags-long}
+use Rattle.joiner.proofs.Laws.{entries-long, literals-long}
 use Rattle.joiner.proofs.Answers as law
 use Rattle.joiner.proofs.keeps_limits.Statement.{statement}
 use Rattle.joiner.proofs.keeps_limits.Tie as tie
@@ -40,6 +40,4 @@ keeps-limits-spec =
     (λ c. omega (arith, c .before .before .before .before .before .before .pre .0 .reach-within, c .before .before .before .before .before .before .pre .1 .reach-within))
     -- add-field
     (λ c. omega (arith, c .before .before .before .before .before .before .before .before .pre .0 .field-within, c .before .before .before .before .before .before .before .before .pre .1 .field-within))
-    -- add-boolean
-    (λ c. omega (arith, c .before .before .before .before .before .before .before .before .before .before .pre .0 .boolean-within, c .before .before .before .before .before .before .before .before .before .before .pre .1 .boolean-within))
     returns)

@@ -16,7 +16,7 @@ use Rattle.joining.specs.Joined.{raisedEntry}
 use Rattle.joiner.specs.Promise.{handed}
 use Rattle.joiner.specs.declared.HandBack.{HandBack}
 use Rattle.joiner.specs.Bytes.{keepsLimits}
-use Rattle.joiner.proofs.Laws.{entries-long, literals-long, flags-long}
+use Rattle.joiner.proofs.Laws.{entries-long, literals-long}
 use Rattle.joiner.proofs.Answers as law
 use Rattle.joiner.proofs.place_in.Statement.{statement}
 use Rattle.joiner.proofs.place_in.Tie as tie
@@ -28,18 +28,10 @@ place-in-spec =
     -- start-in-requires
     (λ c κs. c .before .pre .0)
     -- sub-result
-    (λ c. omega (arith, c .before .before .before .pre .1, c .before .before .before .pre .2, c .before .start-in .ensures .1))
+    (λ c. omega (arith, c .before .before .pre .1, c .before .before .pre .2, c .start-in .ensures .1))
     -- mul-result
-    (λ c. omega (arith, c .before .before .before .pre .1, c .before .before .before .pre .2, c .before .start-in .ensures .1))
+    (λ c. omega (arith, c .before .before .pre .1, c .before .before .pre .2, c .start-in .ensures .1))
     -- add-result
-    (λ c. omega (arith, c .before .before .before .pre .1, c .before .before .before .pre .2, c .before .start-in .ensures .1))
+    (λ c. omega (arith, c .before .before .pre .1, c .before .before .pre .2, c .start-in .ensures .1))
     -- returns
-    (λ c. law.place-two (c .before .before .before .args .query .now) (c .before .before .before .args .s) (c .before .before .before .args .k) (c .before .start-in .ensures .0) (c .if1 .taken))
-    -- sub-result-2
-    (λ c. omega (arith, c .before .before .before .pre .1, c .before .before .before .pre .2, c .before .start-in .ensures .1))
-    -- mul-result-2
-    (λ c. omega (arith, c .before .before .before .pre .1, c .before .before .before .pre .2, c .before .start-in .ensures .1))
-    -- add-result-2
-    (λ c. omega (arith, c .before .before .before .pre .1, c .before .before .before .pre .2, c .before .start-in .ensures .1))
-    -- returns-2
-    (λ c. law.place-three (c .before .before .before .args .query .now) (c .before .before .before .args .s) (c .before .before .before .args .k) (c .before .start-in .ensures .0) (c .if1 .left)))
+    (λ c. law.place-there (c .before .before .args .query .now) (c .before .before .args .s) (c .before .before .args .k) (c .start-in .ensures .0)))

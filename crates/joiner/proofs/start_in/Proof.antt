@@ -16,7 +16,7 @@ use Rattle.joining.specs.Joined.{raisedEntry}
 use Rattle.joiner.specs.Promise.{handed}
 use Rattle.joiner.specs.declared.HandBack.{HandBack}
 use Rattle.joiner.specs.Bytes.{keepsLimits}
-use Rattle.joiner.proofs.Laws.{entries-long, literals-long, flags-long}
+use Rattle.joiner.proofs.Laws.{entries-long, literals-long}
 use Rattle.joiner.proofs.Answers as law
 use Rattle.joiner.proofs.start_in.Statement.{statement}
 use Rattle.joiner.proofs.start_in.Tie as tie
@@ -26,36 +26,24 @@ start-in-spec =
     tie.close
     (tie.spec
     -- mul-second
-    (λ c. omega (arith, c .before .pre .terms-within, c .before .pre .equal-within, c .before .pre .reach-within, c .before .pre .field-within))
+    (λ c. omega (arith, c .before .pre .terms-within, c .before .pre .equal-within, c .before .pre .reach-within))
     -- mul-third
-    (λ c. omega (arith, c .before .before .pre .terms-within, c .before .before .pre .equal-within, c .before .before .pre .reach-within, c .before .before .pre .field-within))
-    -- mul-fourth
-    (λ c. omega (arith, c .before .before .before .pre .terms-within, c .before .before .before .pre .equal-within, c .before .before .before .pre .reach-within, c .before .before .before .pre .field-within))
+    (λ c. omega (arith, c .before .before .pre .terms-within, c .before .before .pre .equal-within, c .before .before .pre .reach-within))
     -- add-result
-    (λ c. omega (arith, c .before .before .before .before .pre .terms-within, c .before .before .before .before .pre .equal-within, c .before .before .before .before .pre .reach-within, c .before .before .before .before .pre .field-within))
+    (λ c. omega (arith, c .before .before .before .pre .terms-within, c .before .before .before .pre .equal-within, c .before .before .before .pre .reach-within))
     -- returns
-    (λ c. law.start-second (c .before .before .before .before .args .l) (c .before .before .before .before .args .query .now) (c .before .before .before .before .pre) (c .before .before .before .before .args .s) (c .if1 .taken))
+    (λ c. law.start-second (c .before .before .before .args .l) (c .before .before .before .args .query .now) (c .before .before .before .pre) (c .before .before .before .args .s) (c .if1 .taken))
     -- add-result-2
-    (λ c. omega (arith, c .before .before .before .before .before .pre .terms-within, c .before .before .before .before .before .pre .equal-within, c .before .before .before .before .before .pre .reach-within, c .before .before .before .before .before .pre .field-within))
+    (λ c. omega (arith, c .before .before .before .before .pre .terms-within, c .before .before .before .before .pre .equal-within, c .before .before .before .before .pre .reach-within))
     -- add-result-3
-    (λ c. omega (arith, c .before .before .before .before .before .pre .terms-within, c .before .before .before .before .before .pre .equal-within, c .before .before .before .before .before .pre .reach-within, c .before .before .before .before .before .pre .field-within))
+    (λ c. omega (arith, c .before .before .before .before .pre .terms-within, c .before .before .before .before .pre .equal-within, c .before .before .before .before .pre .reach-within))
     -- returns-2
-    (λ c. law.start-third (c .before .before .before .before .before .args .l) (c .before .before .before .before .before .args .query .now) (c .before .before .before .before .before .pre) (c .before .before .before .before .before .args .s) (c .before .if1 .left) (c .if2 .taken))
+    (λ c. law.start-third (c .before .before .before .before .args .l) (c .before .before .before .before .args .query .now) (c .before .before .before .before .pre) (c .before .before .before .before .args .s) (c .before .if1 .left) (c .if2 .taken))
     -- add-result-4
-    (λ c. omega (arith, c .before .before .before .before .before .before .pre .terms-within, c .before .before .before .before .before .before .pre .equal-within, c .before .before .before .before .before .before .pre .reach-within, c .before .before .before .before .before .before .pre .field-within))
+    (λ c. omega (arith, c .before .before .before .before .pre .terms-within, c .before .before .before .before .pre .equal-within, c .before .before .before .before .pre .reach-within))
     -- add-result-5
-    (λ c. omega (arith, c .before .before .before .before .before .before .pre .terms-within, c .before .before .before .before .before .before .pre .equal-within, c .before .before .before .before .before .before .pre .reach-within, c .before .before .before .before .before .before .pre .field-within))
+    (λ c. omega (arith, c .before .before .before .before .pre .terms-within, c .before .before .before .before .pre .equal-within, c .before .before .before .before .pre .reach-within))
     -- add-result-6
-    (λ c. omega (arith, c .before .before .before .before .before .before .pre .terms-within, c .before .before .before .before .before .before .pre .equal-within, c .before .before .before .before .before .before .pre .reach-within, c .before .before .before .before .before .before .pre .field-within))
+    (λ c. omega (arith, c .before .before .before .before .pre .terms-within, c .before .before .before .before .pre .equal-within, c .before .before .before .before .pre .reach-within))
     -- returns-3
-    (λ c. law.start-fourth (c .before .before .before .before .before .before .args .l) (c .before .before .before .before .before .before .args .query .now) (c .before .before .before .before .before .before .pre) (c .before .before .before .before .before .before .args .s) (c .before .before .if1 .left) (c .before .if2 .left) (c .if3 .taken))
-    -- add-result-7
-    (λ c. omega (arith, c .before .before .before .before .before .before .pre .terms-within, c .before .before .before .before .before .before .pre .equal-within, c .before .before .before .before .before .before .pre .reach-within, c .before .before .before .before .before .before .pre .field-within))
-    -- add-result-8
-    (λ c. omega (arith, c .before .before .before .before .before .before .pre .terms-within, c .before .before .before .before .before .before .pre .equal-within, c .before .before .before .before .before .before .pre .reach-within, c .before .before .before .before .before .before .pre .field-within))
-    -- add-result-9
-    (λ c. omega (arith, c .before .before .before .before .before .before .pre .terms-within, c .before .before .before .before .before .before .pre .equal-within, c .before .before .before .before .before .before .pre .reach-within, c .before .before .before .before .before .before .pre .field-within))
-    -- add-result-10
-    (λ c. omega (arith, c .before .before .before .before .before .before .pre .terms-within, c .before .before .before .before .before .before .pre .equal-within, c .before .before .before .before .before .before .pre .reach-within, c .before .before .before .before .before .before .pre .field-within))
-    -- returns-4
-    (λ c. law.start-last (c .before .before .before .before .before .before .args .l) (c .before .before .before .before .before .before .args .query .now) (c .before .before .before .before .before .before .pre) (c .before .before .before .before .before .before .args .s) (c .before .before .if1 .left) (c .before .if2 .left) (c .if3 .left)))
+    (λ c. law.start-last (c .before .before .before .before .args .l) (c .before .before .before .before .args .query .now) (c .before .before .before .before .pre) (c .before .before .before .before .args .s) (c .before .if1 .left) (c .if2 .left)))

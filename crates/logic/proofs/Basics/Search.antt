@@ -7,7 +7,7 @@ use mathlib.Core.Logic.{_⊎_, ⊎-elim, inl, inr}
 use mathlib.Core.Bool.{Bool, true, false, not, cond, true≢false, false≢true}
 use mathlib.Core.List.{List, [], _∷_, _++_, map, List·Memᴰ, List·Memᴰ·head, List·Memᴰ·tail, List·Memᴰ·not-nil, List·Memᴰ·cases-cons, List·Memᴰ·append-cases, Memᴰ·append-left, Memᴰ·append-right}
 use mathlib.Core.Option.{Option, none, some}
-use Rattle.logic.specs.Search.{_and_, _or_, from, keep, any, all, select, isSome, orElse, firstOf, find, flatMap}
+use Rattle.logic.specs.Search.{_and_, _or_, from, keep, any, all, select, at, isSome, orElse, firstOf, find, flatMap}
 
 -- Booleans
 
@@ -146,6 +146,11 @@ unfolding orElse
 orElse-cases none o′ a h = inr (refl, h)
 orElse-cases (some b) o′ a h = inl h
 
+orElse-assoc : {A : Type 0} (o o′ o″ : Option A) → orElse o (orElse o′ o″) ≡ orElse (orElse o o′) o″
+unfolding orElse
+orElse-assoc none o′ o″ = refl
+orElse-assoc (some a) o′ o″ = refl
+
 pub orElse-none : {A : Type 0} (o o′ : Option A) → orElse o o′ ≡ none → (o ≡ none) × (o′ ≡ none)
 unfolding orElse
 orElse-none none o′ h = (refl, h)
@@ -171,6 +176,11 @@ module _ {A B : Type 0} (f : A → Option B) where
   firstOf-empty (x ∷ xs) h = rw (h x (List·Memᴰ·head refl)) (firstOf-empty xs (λ y m. h y (List·Memᴰ·tail m)))
 
   -- a search passes over elements that answer nothing
+  pub firstOf-append : (xs ys : List A) → firstOf f (xs ++ ys) ≡ orElse (firstOf f xs) (firstOf f ys)
+  unfolding firstOf orElse
+  firstOf-append [] ys = refl
+  firstOf-append (x ∷ xs) ys = rw (firstOf-append xs ys) (orElse-assoc (f x) (firstOf f xs) (firstOf f ys))
+
   pub firstOf-skip : (xs ys : List A) → ((x : A) → List·Memᴰ x xs → f x ≡ none) → firstOf f (xs ++ ys) ≡ firstOf f ys
   unfolding firstOf orElse
   firstOf-skip [] ys h = refl
@@ -229,3 +239,11 @@ module _ {A B : Type 0} (f : A → B) where
   pub map-intro : {xs : List A} (x : A) → List·Memᴰ x xs → List·Memᴰ (f x) (map f xs)
   map-intro x (List·Memᴰ·head {x = y} {xs = xs} e) = List·Memᴰ·head (ap f e)
   map-intro x (List·Memᴰ·tail {x = y} {xs = xs} m) = List·Memᴰ·tail (map-intro x m)
+
+-- an element of a list stands at its place in a longer one too
+pub at-left : {A : Type 0} (xs ys : List A) (i : ℕ) (a : A) → at xs i ≡ some a → at (xs ++ ys) i ≡ some a
+unfolding at
+at-left xs ys zero a h = absurd (none-some h)
+at-left [] ys (suc i) a h = absurd (none-some h)
+at-left (x ∷ xs) ys (suc zero) a h = h
+at-left (x ∷ xs) ys (suc (suc i)) a h = at-left xs ys (suc i) a h

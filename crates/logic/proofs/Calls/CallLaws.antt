@@ -4,21 +4,19 @@ use native.Mathlib.Omega.{arith}
 use mathlib.Core.Path.{_≡_, refl, sym, ap, _∙_, subst}
 use mathlib.Core.Logic.{_⊎_, ⊎-elim, inl, inr}
 use mathlib.Core.Bool.{Bool, true, not}
-use mathlib.Core.List.{List, [], _∷_, List·Memᴰ, List·Memᴰ·head, List·Memᴰ·tail, List·Memᴰ·not-nil, List·Memᴰ·cases-cons, List·Memᴰ·append-cases, Memᴰ·append-left, Memᴰ·append-right}
+use mathlib.Core.List.{List, [], _∷_, _++_, List·Memᴰ, List·Memᴰ·head, List·Memᴰ·tail, List·Memᴰ·not-nil, List·Memᴰ·cases-cons, List·Memᴰ·append-cases, Memᴰ·append-left, Memᴰ·append-right}
 use mathlib.Core.Option.{Option, none, some, Option·elim}
 use lib.ListN.{length, replicate, length-append, length-replicate}
 use lib.Dec.{ltb}
 use borrow.Author.Tests.{ltb-false, le-ltb}
-use Rattle.logic.specs.Search.{keep, isSome}
-use Rattle.logic.specs.Query.{isOrder, layoutFault, byteFault, decode}
+use Rattle.logic.specs.Search.{keep, isSome, orElse}
+use Rattle.logic.specs.Query.{sections, isOrder, layoutFault, byteFault, decode}
 use Rattle.logic.specs.Walk.{Ending, ourWalk}
 use Rattle.logic.specs.Calls.{Input, Check, orderCheck, layoutCheck, byteCheck, roomCheck, queryChecks, verdictChecks, derivationChecks, Answer, refused, Outcome, refusalOf, accepts, padded, blank, call}
 use Rattle.logic.specs.Demands.{NoneStands, Alike}
-use Rattle.logic.proofs.Basics.Search.{none-some, firstOf-some, firstOf-none, firstOf-empty, isSome-false, keep-none, not-true, bool-cases, true-false}
-
--- the answer that a check gives
-abbrev answers : Input → Check → Option Answer
-answers i c = Option·elim (c .place i) none (λ place. some (refused (c .number) place))
+use Rattle.logic.proofs.Basics.Search.{none-some, firstOf-some, firstOf-none, firstOf-empty, firstOf-append, isSome-false, keep-none, not-true, bool-cases, true-false}
+use Rattle.logic.proofs.Query.AcceptedBytes.{form-elim}
+use Rattle.logic.proofs.Calls.CheckingOrder.{answers}
 
 answers-some : (i : Input) (c : Check) (a : Answer) → answers i c ≡ some a → (place : ℕ) × (c .place i ≡ some place) × (a ≡ refused (c .number) place)
 unfolding Option·elim
@@ -51,6 +49,10 @@ module _ (cs : List Check) (i : Input) where
   unfolding refusalOf Option·elim
   refusalOf-clear h = firstOf-empty (answers i) cs (λ c m. rw (h c m))
 
+  pub refusalOf-append : (ds : List Check) → refusalOf (cs ++ ds) i ≡ orElse (refusalOf cs i) (refusalOf ds i)
+  unfolding refusalOf
+  refusalOf-append ds = firstOf-append (answers i) cs ds
+
   pub call-cases : (result : Ending → Outcome) → ((a : Answer) × (refusalOf cs i ≡ some a) × (call cs result i ≡ blank (i .room) a)) ⊎ ((refusalOf cs i ≡ none) × (call cs result i ≡ result (ourWalk (i .order) (decode (i .query)))))
   unfolding call Option·elim
   call-cases result = go (refusalOf cs i) refl
@@ -60,28 +62,10 @@ module _ (cs : List Check) (i : Input) where
       go (some a) e = inl (a, e, refl)
 
 -- The query's checks read the query alone, so a query that passes them in one call is accepted.
-layout-local : (k : ℕ) (i j : Input) → i .query ≡ j .query → layoutCheck k .place i ≡ layoutCheck k .place j
-unfolding layoutCheck
-layout-local k i j e = ap (layoutFault k) e
-
-byte-local : (k : ℕ) (i j : Input) → i .query ≡ j .query → byteCheck k .place i ≡ byteCheck k .place j
-unfolding byteCheck
-byte-local k i j e = ap (byteFault k) e
-
 local : (i j : Input) → i .query ≡ j .query → (c : Check) → List·Memᴰ c queryChecks → c .place i ≡ c .place j
-unfolding queryChecks
-local i j e c m =
-    ⊎-elim (λ q. same q (layout-local 2 i j e)) (λ m2.
-    ⊎-elim (λ q. same q (layout-local 3 i j e)) (λ m3.
-    ⊎-elim (λ q. same q (layout-local 4 i j e)) (λ m4.
-    ⊎-elim (λ q. same q (byte-local 5 i j e)) (λ m5.
-    ⊎-elim (λ q. same q (byte-local 6 i j e)) (λ m6.
-    ⊎-elim (λ q. same q (byte-local 7 i j e)) (λ m7.
-    ⊎-elim (λ q. same q (byte-local 8 i j e)) (λ m8. absurd (List·Memᴰ·not-nil m8))
-    (List·Memᴰ·cases-cons m7)) (List·Memᴰ·cases-cons m6)) (List·Memᴰ·cases-cons m5)) (List·Memᴰ·cases-cons m4)) (List·Memᴰ·cases-cons m3)) (List·Memᴰ·cases-cons m2)) (List·Memᴰ·cases-cons m)
-  where
-    same : {d : Check} → c ≡ d → d .place i ≡ d .place j → c .place i ≡ c .place j
-    same q h = subst (λ (d : Check). d .place i ≡ d .place j) (sym q) h
+unfolding queryChecks layoutCheck byteCheck
+local i j e =
+    form-elim sections (λ (c : Check). c .place i ≡ c .place j) (λ k m. ap (layoutFault sections k) e) (λ k l u. ap (byteFault sections k) e)
 
 pub accepts-clear : (i : Input) → ((c : Check) → List·Memᴰ c queryChecks → c .place i ≡ none) → accepts (i .query) ≡ true
 unfolding accepts isSome

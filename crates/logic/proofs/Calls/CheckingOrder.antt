@@ -1,124 +1,138 @@
 -- The checks of a call in their order: a refusal is the first that stands, and there is one first.
-use Prim.Native.Nat.{ℕ, _≤_, _<_}
+use Prim.Native.Nat.{ℕ, _≤_}
 use native.Mathlib.Omega.{arith}
 use mathlib.Core.Path.{_≡_, refl, sym, ap, _∙_, subst}
-use mathlib.Core.Logic.{⊎-elim}
+use mathlib.Core.Logic.{_⊎_, ⊎-elim, inl, inr}
 use mathlib.Core.Bool.{Bool, true}
-use mathlib.Core.List.{List, [], _∷_, _++_, map, List·Memᴰ, List·Memᴰ·head, List·Memᴰ·tail, List·Memᴰ·not-nil, List·Memᴰ·cases-cons, List·Memᴰ·append-cases}
+use mathlib.Core.List.{List, [], _∷_, _++_, List·Memᴰ, List·Memᴰ·head, List·Memᴰ·tail, List·Memᴰ·not-nil, List·Memᴰ·cases-cons, Memᴰ·append-right, append-assoc}
 use mathlib.Core.Option.{Option, none, some, Option·elim}
-use lib.Dec.{ltb}
-use Rattle.logic.specs.Search.{_and_, from, all, orElse, firstOf}
-use Rattle.logic.specs.Calls.{Input, Check, orderCheck, layoutCheck, byteCheck, roomCheck, queryChecks, verdictChecks, Answer, refused, refusalOf}
-use Rattle.logic.specs.Demands.{NoneStands, FirstStands}
-use Rattle.logic.proofs.Basics.Search.{none-some, and-left, and-right, all-true, map-mem, from-mem}
-use Rattle.logic.proofs.Basics.Compare.{ltb-true, le-cases}
+use lib.Dec.{eqb, ltb, leb}
+use borrow.Author.Tests.{leb-true}
+use Rattle.logic.specs.Search.{_and_, _or_, all, orElse, firstOf}
+use Rattle.logic.specs.Calls.{Input, Check, orderCheck, layoutCheck, byteCheck, formChecks, roomCheck, queryChecks, verdictChecks, derivationChecks, Answer, refused, refusalOf}
+use Rattle.logic.specs.Demands.{NoneStands, FirstStands, numbers}
+use Rattle.logic.proofs.Basics.Search.{none-some, and-left, and-right, or-cases, all-true, map-intro, orElse-none}
+use Rattle.logic.proofs.Basics.Compare.{ltb-true, eqb-true}
 
--- the numbers of the checks ascend
-unfoldable pub ascends : List Check → Bool
-ascends [] = true
-ascends (c ∷ cs) = all (λ (d : Check). ltb (c .number) (d .number)) cs and ascends cs
+-- the answer that a check gives
+abbrev pub answers : Input → Check → Option Answer
+answers i c = Option·elim (c .place i) none (λ place. some (refused (c .number) place))
 
-ascends-first : (c : Check) (cs : List Check) → ascends (c ∷ cs) ≡ true → (d : Check) → List·Memᴰ d cs → c .number < d .number
-unfolding ascends
-ascends-first c cs h d m =
-    ltb-true (c .number) (d .number) (all-true (λ (e : Check). ltb (c .number) (e .number)) d (and-left _ (ascends cs) h) m)
+-- a check that stands is the refusal where none before it does
+stands-refusal : (before : List Check) (c : Check) (behind : List Check) (i : Input) (p : ℕ) → NoneStands before i → c .place i ≡ some p → refusalOf (before ++ (c ∷ behind)) i ≡ some (refused (c .number) p)
+unfolding refusalOf firstOf orElse Option·elim
+stands-refusal [] c behind i p n s = rw s
+stands-refusal (b ∷ before) c behind i p n s =
+    rw (n b (List·Memᴰ·head refl)) (stands-refusal before c behind i p (λ d m. n d (List·Memᴰ·tail m)) s)
 
-ascends-rest : (c : Check) (cs : List Check) → ascends (c ∷ cs) ≡ true → ascends cs ≡ true
-unfolding ascends
-ascends-rest c cs h = and-right (all (λ (d : Check). ltb (c .number) (d .number)) cs) (ascends cs) h
-
--- two of them with one number are one
-same-number : (cs : List Check) → ascends cs ≡ true → (c d : Check) → List·Memᴰ c cs → List·Memᴰ d cs → c .number ≡ d .number → c ≡ d
-same-number [] h c d m n e = absurd (List·Memᴰ·not-nil m)
-same-number (x ∷ xs) h c d m n e =
-    ⊎-elim
-    (λ p. ⊎-elim (λ q. p ∙ sym q) (λ q. absurd (apart d c q p (sym e))) (List·Memᴰ·cases-cons n))
-    (λ p. ⊎-elim (λ q. absurd (apart c d p q e)) (λ q. same-number xs (ascends-rest x xs h) c d p q e) (List·Memᴰ·cases-cons n))
-    (List·Memᴰ·cases-cons m)
-  where
-    apart : (a b : Check) → List·Memᴰ a xs → b ≡ x → a .number ≡ b .number → ⊥
-    apart a b m q e = omega (arith, ascends-first x xs h a m, ap (λ (y : Check). y .number) q)
-
-module _ (cs : List Check) (i : Input) where
-  -- there is one first check
-  pub first-unique : ascends cs ≡ true → (k p k′ p′ : ℕ) → FirstStands cs i k p → FirstStands cs i k′ p′ → (k ≡ k′) × (p ≡ p′)
-  first-unique h k p k′ p′ f g =
-      let l = not-below k p k′ p′ f g in
-      let u = not-below k′ p′ k p g f in
-      let e : k ≡ k′ = omega arith in
-      let c = same-number cs h (f .check) (g .check) (f .own) (g .own) (f .numbered ∙ e ∙ sym (g .numbered)) in
-      let s : some p ≡ some p′ = sym (f .stands) ∙ ap (λ (x : Check). x .place i) c ∙ g .stands in
-      (e, cc)
-    where
-      -- a check that stands is not below the first
-      not-below : (k p k′ p′ : ℕ) → FirstStands cs i k p → FirstStands cs i k′ p′ → k′ ≤ k
-      not-below k p k′ p′ f g =
-          ⊎-elim (λ l. l) (λ l. absurd (none-some (sym (g .none-before (f .check) (f .own) (subst (λ (j : ℕ). j < k′) (sym (f .numbered)) l)) ∙ f .stands))) (le-cases k′ k)
-
-  -- where none stands there is no first
-  pub first-stands : (k p : ℕ) → NoneStands cs i → FirstStands cs i k p → ⊥
-  first-stands k p h f = none-some (sym (h (f .check) (f .own)) ∙ f .stands)
-
-  -- a check that stands is not before the first
-  pub first-lowest : (k p : ℕ) → FirstStands cs i k p → (c : Check) (place : ℕ) → List·Memᴰ c cs → c .place i ≡ some place → k ≤ c .number
-  first-lowest k p f c place m s =
-      ⊎-elim (λ l. l) (λ l. absurd (none-some (sym (f .none-before c m l) ∙ s))) (le-cases k (c .number))
-
--- a refusal by a check is by the first that stands
-abbrev ByFirst : List Check → Input → Answer → Type 0
-ByFirst cs i a = (k : ℕ) × (p : ℕ) × FirstStands cs i k p × (a ≡ refused k p)
-
-first-here : (c : Check) (cs : List Check) (i : Input) (p : ℕ) → ascends (c ∷ cs) ≡ true → c .place i ≡ some p → FirstStands (c ∷ cs) i (c .number) p
-first-here c cs i p h s =
+first-here : (c : Check) (cs : List Check) (i : Input) (p : ℕ) → c .place i ≡ some p → FirstStands (c ∷ cs) i (c .number) p
+first-here c cs i p s =
     record {
+      before = [];
       check = c;
-      own = List·Memᴰ·head refl;
+      behind = cs;
+      in-order = refl;
       numbered = refl;
       stands = s;
-      none-before =
-          λ d m l. ⊎-elim (λ e. absurd (omega (arith, ap (λ (x : Check). x .number) e, l))) (λ n. absurd (omega (arith, ascends-first c cs h d n, l))) (List·Memᴰ·cases-cons m);
+      none-before = λ d m. absurd (List·Memᴰ·not-nil m);
     }
 
 first-later : (c : Check) (cs : List Check) (i : Input) (k p : ℕ) → c .place i ≡ none → FirstStands cs i k p → FirstStands (c ∷ cs) i k p
 first-later c cs i k p s f =
     record {
+      before = c ∷ f .before;
       check = f .check;
-      own = List·Memᴰ·tail (f .own);
+      behind = f .behind;
+      in-order = ap (λ (ds : List Check). c ∷ ds) (f .in-order);
       numbered = f .numbered;
       stands = f .stands;
-      none-before = λ d m l. ⊎-elim (λ e. ap (λ (x : Check). x .place i) e ∙ s) (λ n. f .none-before d n l) (List·Memᴰ·cases-cons m);
+      none-before = λ d m. ⊎-elim (λ e. ap (λ (x : Check). x .place i) e ∙ s) (λ n. f .none-before d n) (List·Memᴰ·cases-cons m);
     }
 
-pub refusal-first : (cs : List Check) (i : Input) → ascends cs ≡ true → (a : Answer) → refusalOf cs i ≡ some a → ByFirst cs i a
+-- with more checks behind, the first stays
+first-further : (cs ds : List Check) (i : Input) (k p : ℕ) → FirstStands cs i k p → FirstStands (cs ++ ds) i k p
+first-further cs ds i k p f =
+    record {
+      before = f .before;
+      check = f .check;
+      behind = f .behind ++ ds;
+      in-order = ap (λ (xs : List Check). xs ++ ds) (f .in-order) ∙ append-assoc (f .before) (f .check ∷ f .behind) ds;
+      numbered = f .numbered;
+      stands = f .stands;
+      none-before = f .none-before;
+    }
+
+-- a refusal by a check is by the first that stands
+abbrev pub ByFirst : List Check → Input → Answer → Type 0
+ByFirst cs i a = (k : ℕ) × (p : ℕ) × FirstStands cs i k p × (a ≡ refused k p)
+
+pub refusal-first : (cs : List Check) (i : Input) (a : Answer) → refusalOf cs i ≡ some a → ByFirst cs i a
 unfolding refusalOf firstOf orElse Option·elim
-refusal-first [] i h a e = absurd (none-some e)
-refusal-first (c ∷ cs) i h a e = go (c .place i) refl (refusal-first cs i (ascends-rest c cs h) a) e
+refusal-first [] i a e = absurd (none-some e)
+refusal-first (c ∷ cs) i a e = go (c .place i) refl (refusal-first cs i a) e
   where
     go : (o : Option ℕ) → c .place i ≡ o → (refusalOf cs i ≡ some a → ByFirst cs i a) → orElse (Option·elim o none (λ place. some (refused (c .number) place))) (refusalOf cs i) ≡ some a → ByFirst (c ∷ cs) i a
     go none s ih e = let r = ih e in (r .0, r .1, first-later c cs i (r .0) (r .1) s (r .2), r .3)
-    go (some p) s ih e = let q : refused (c .number) p ≡ a = cc in (c .number, p, first-here c cs i p h s, sym q)
+    go (some p) s ih e = let q : refused (c .number) p ≡ a = cc in (c .number, p, first-here c cs i p s, sym q)
 
--- What holds of each kind of check holds of every check of the verdict call.
-pub check-elim : (P : Check → Type 0) → P orderCheck → ((k : ℕ) → 2 ≤ k → k ≤ 4 → P (layoutCheck k)) → ((k : ℕ) → 5 ≤ k → k ≤ 8 → P (byteCheck k)) → P roomCheck → (c : Check) → List·Memᴰ c verdictChecks → P c
-unfolding verdictChecks queryChecks from
-check-elim P o l b r c m =
-    ⊎-elim (λ e. as-is e o)
-    (λ n. ⊎-elim (λ n′. ⊎-elim (layouts c) (bytes c) (List·Memᴰ·append-cases (map layoutCheck (from 3 2)) n′))
-    (λ n′. ⊎-elim (λ e. as-is e r) (λ n″. absurd (List·Memᴰ·not-nil n″)) (List·Memᴰ·cases-cons n′))
-    (List·Memᴰ·append-cases (map layoutCheck (from 3 2) ++ map byteCheck (from 4 5)) n))
-    (List·Memᴰ·cases-cons m)
+module _ (cs : List Check) (i : Input) where
+  pub first-refusal : (k p : ℕ) → FirstStands cs i k p → refusalOf cs i ≡ some (refused k p)
+  first-refusal k p f =
+      ap (λ (ds : List Check). refusalOf ds i) (f .in-order)
+      ∙ stands-refusal (f .before) (f .check) (f .behind) i p (f .none-before) (f .stands)
+      ∙ ap (λ (x : ℕ). some (refused x p)) (f .numbered)
+
+  -- there is one first check
+  pub first-unique : (k p k′ p′ : ℕ) → FirstStands cs i k p → FirstStands cs i k′ p′ → (k ≡ k′) × (p ≡ p′)
+  first-unique k p k′ p′ f g = let e : some (refused k p) ≡ some (refused k′ p′) = sym (first-refusal k p f) ∙ first-refusal k′ p′ g in (cc, cc)
+
+  -- it is one of the checks
+  pub first-own : (k p : ℕ) → (f : FirstStands cs i k p) → List·Memᴰ (f .check) cs
+  first-own k p f = subst (List·Memᴰ (f .check)) (sym (f .in-order)) (Memᴰ·append-right (f .before) (List·Memᴰ·head refl))
+
+  pub first-numbered : (k p : ℕ) → FirstStands cs i k p → List·Memᴰ k (numbers cs)
+  first-numbered k p f = subst (λ (x : ℕ). List·Memᴰ x (numbers cs)) (f .numbered) (map-intro (λ (c : Check). c .number) (f .check) (first-own k p f))
+
+  -- where none stands there is no first
+  pub first-stands : (k p : ℕ) → NoneStands cs i → FirstStands cs i k p → ⊥
+  first-stands k p h f = none-some (sym (h (f .check) (first-own k p f)) ∙ f .stands)
+
+-- where a check stands, there is a first one among it and those before it
+pub first-up-to : (cs : List Check) (i : Input) (c : Check) (before behind : List Check) (place : ℕ) → cs ≡ before ++ (c ∷ behind) → c .place i ≡ some place → (k : ℕ) × (p : ℕ) × FirstStands (before ++ (c ∷ [])) i k p × FirstStands cs i k p
+first-up-to cs i c before behind place e s =
+    let f = among before in
+    let longer : (before ++ (c ∷ [])) ++ behind ≡ cs = append-assoc before (c ∷ []) behind ∙ sym e in
+    (f .0, f .1, f .2, subst (λ (ds : List Check). FirstStands ds i (f .0) (f .1)) longer (first-further (before ++ (c ∷ [])) behind i (f .0) (f .1) (f .2)))
   where
-    as-is : {c d : Check} → c ≡ d → P d → P c
-    as-is e h = subst P (sym e) h
+    at-one : (d : Check) (ds : List Check) (o : Option ℕ) → d .place i ≡ o → ((k : ℕ) × (p : ℕ) × FirstStands ds i k p) → (k : ℕ) × (p : ℕ) × FirstStands (d ∷ ds) i k p
+    at-one d ds none t f = (f .0, f .1, first-later d ds i (f .0) (f .1) t (f .2))
+    at-one d ds (some p) t f = (d .number, p, first-here d ds i p t)
 
-    layouts : (c : Check) → List·Memᴰ c (map layoutCheck (from 3 2)) → P c
-    layouts c m = let (k, n, e) = map-mem layoutCheck c (from 3 2) m in let u = from-mem 3 2 k n in as-is e (l k (u .0) (omega arith))
+    among : (ds : List Check) → (k : ℕ) × (p : ℕ) × FirstStands (ds ++ (c ∷ [])) i k p
+    among [] = (c .number, place, first-here c [] i place s)
+    among (d ∷ ds) = at-one d (ds ++ (c ∷ [])) (d .place i) refl (among ds)
 
-    bytes : (c : Check) → List·Memᴰ c (map byteCheck (from 4 5)) → P c
-    bytes c m = let (k, n, e) = map-mem byteCheck c (from 4 5) m in let u = from-mem 4 5 k n in as-is e (b k (u .0) (omega arith))
+-- The refusals that are met before the walk: 1 to 9, and 26.
+abbrev pub Early : ℕ → Type 0
+Early k = (1 ≤ k) × ((k ≤ 9) ⊎ (k ≡ 26))
 
-pub check-numbered : (c : Check) → List·Memᴰ c verdictChecks → (1 ≤ c .number) × (c .number ≤ 9)
-unfolding orderCheck layoutCheck byteCheck roomCheck
-check-numbered =
-    check-elim (λ (c : Check). (1 ≤ c .number) × (c .number ≤ 9)) (omega arith, omega arith) (λ k l u. (omega arith, omega arith))
-    (λ k l u. (omega arith, omega arith)) (omega arith, omega arith)
+unfoldable early : ℕ → Bool
+early k = ltb 0 k and (leb k 9 or eqb k 26)
+
+all-early : (ks : List ℕ) → all early ks ≡ true → (k : ℕ) → List·Memᴰ k ks → Early k
+unfolding early
+all-early ks h k m =
+    let e = all-true early k h m in
+    (ltb-true 0 k (and-left _ _ e), ⊎-elim (λ l. inl (leb-true k 9 l)) (λ q. inr (eqb-true k 26 q)) (or-cases (leb k 9) (eqb k 26) (and-right (ltb 0 k) _ e)))
+
+pub verdict-early : (k : ℕ) → List·Memᴰ k (numbers verdictChecks) → Early k
+unfolding verdictChecks queryChecks formChecks orderCheck layoutCheck byteCheck roomCheck early all _and_ _or_
+verdict-early = all-early (numbers verdictChecks) refl
+
+pub derivation-early : (k : ℕ) → List·Memᴰ k (numbers derivationChecks) → Early k
+unfolding derivationChecks queryChecks formChecks orderCheck layoutCheck byteCheck early all _and_ _or_
+derivation-early = all-early (numbers derivationChecks) refl
+
+pub query-early : (k : ℕ) → List·Memᴰ k (numbers queryChecks) → Early k
+unfolding queryChecks formChecks layoutCheck byteCheck early all _and_ _or_
+query-early = all-early (numbers queryChecks) refl

@@ -1,18 +1,18 @@
 -- The three demands are theorems.
 use Prim.Native.Nat.{ℕ, _-_, _≤_}
 use native.Mathlib.Omega.{arith}
-use mathlib.Core.Path.{_≡_, refl, sym, ap, _∙_}
+use mathlib.Core.Path.{_≡_, refl, sym, ap, _∙_, subst}
 use mathlib.Core.Logic.{_↔_}
 use mathlib.Core.Bool.{true}
-use mathlib.Core.List.{List}
+use mathlib.Core.List.{List, List·Memᴰ}
 use lib.ListN.{length, replicate}
 use Rattle.logic.specs.Query.{Query, decode}
 use Rattle.logic.specs.Heap.{Satisfiable}
 use Rattle.logic.specs.Facts.{Facts}
 use Rattle.logic.specs.Walk.{Ending, Verdict, ourWalk, ourVerdict}
 use Rattle.logic.specs.Shown.{report, wellFormed}
-use Rattle.logic.specs.Calls.{Input, orderCheck, layoutCheck, byteCheck, roomCheck, queryChecks, verdictChecks, derivationChecks, Outcome, Answer, refused, padded, blank, verdictOf, verdictCall, derivationCall}
-use Rattle.logic.specs.Demands.{NotRefused, Alike, walkOf, Demand1, Demand2, Demand3, Shows, Right, answerOf}
+use Rattle.logic.specs.Calls.{Input, orderCheck, layoutCheck, byteCheck, formChecks, roomCheck, queryChecks, verdictChecks, derivationChecks, Outcome, Answer, refused, padded, blank, verdictOf, verdictCall, derivationCall}
+use Rattle.logic.specs.Demands.{NotRefused, numbers, Alike, walkOf, Demand1, Demand2, Demand3, Shows, Right, answerOf}
 use Rattle.logic.proofs.Query.Tied.{Accepted}
 use Rattle.logic.proofs.Query.AcceptedBytes.{accepted}
 use Rattle.logic.proofs.Walks.Limit.{our-refutes}
@@ -92,9 +92,9 @@ answer-exactly i w P h exactly =
 
 -- Demand 1
 
--- the verdict call uses no refusal above 9
-verdict-numbered : (i : Input) (o : Outcome) (k place : ℕ) → o .answer ≡ refused k place → VerdictCase i o → k ≤ 9
-verdict-numbered i o k place h (by-refusal j p u e) = omega (arith, u, refused-one (sym (blank-answer o (i .room) _ e) ∙ h) .0)
+-- the verdict call has no refusal but those of its checks
+verdict-numbered : (i : Input) (o : Outcome) (k place : ℕ) → o .answer ≡ refused k place → VerdictCase i o → List·Memᴰ k (numbers verdictChecks)
+verdict-numbered i o k place h (by-refusal j p u e) = subst (λ (x : ℕ). List·Memᴰ x (numbers verdictChecks)) (refused-one (sym (blank-answer o (i .room) _ e) ∙ h) .0) u
 verdict-numbered i o k place h (by-lines ls w e r) = absurd (refused-refuted (sym (blank-answer o (i .room) _ e) ∙ h))
 verdict-numbered i o k place h (by-model s w e r) = absurd (refused-satisfiable (sym (ap (λ (x : Outcome). x .answer) e) ∙ h))
 
@@ -128,7 +128,7 @@ one-heap i j e r = (λ h. there (verdictCall i) h (verdict-case i), back)
         ap (λ (o : Outcome). o .answer) (verdict-of i (verdict-clear i (alike-clear j i (alike-back i j e) n) r) ∙ ap (verdictAt i) (alike-walk i j e ∙ w))
 
 pub demand1 : Demand1
-unfolding verdictChecks derivationChecks queryChecks orderCheck layoutCheck byteCheck roomCheck
+unfolding verdictChecks derivationChecks queryChecks formChecks orderCheck layoutCheck byteCheck roomCheck
 demand1 =
     record {
       verdict-checks = refl;

@@ -4,25 +4,25 @@ use native.Mathlib.Omega.{arith}
 use mathlib.Core.Path.{_≡_, refl, sym, ap, _∙_, subst}
 use mathlib.Core.Logic.{_↔_, _⊎_, ⊎-elim, inl, inr}
 use mathlib.Core.Bool.{true}
-use mathlib.Core.List.{List, List·Memᴰ, List·Memᴰ·tail}
+use mathlib.Core.List.{List, List·Memᴰ}
 use lib.ListN.{length}
 use lib.Dec.{ltb}
 use borrow.Author.Tests.{lt-ltb, le-ltb}
-use Rattle.logic.specs.Search.{_and_, _or_, all}
+use Rattle.logic.specs.Search.{_or_}
 use Rattle.logic.specs.Query.{decode}
 use Rattle.logic.specs.Heap.{Satisfiable}
 use Rattle.logic.specs.Facts.{Facts, Line}
 use Rattle.logic.specs.Walk.{Ending, refutation, saturation}
 use Rattle.logic.specs.Derivation.{derivationBytes, linesIn}
-use Rattle.logic.specs.Calls.{Input, Check, orderCheck, layoutCheck, byteCheck, queryChecks, derivationChecks, Outcome, Answer, refused, padded, blank, derivationOf, derivationCall}
-use Rattle.logic.specs.Demands.{NotRefused, NoneStands, walkOf, Refusals, Fits, Exceeds}
+use Rattle.logic.specs.Calls.{Input, derivationChecks, Outcome, Answer, refused, padded, blank, derivationOf, derivationCall}
+use Rattle.logic.specs.Demands.{NotRefused, NoneStands, numbers, walkOf, Refusals, Fits, Exceeds}
 use Rattle.logic.proofs.Basics.Search.{or-left, or-right}
 use Rattle.logic.proofs.Basics.Compare.{le-cases, cond-true}
 use Rattle.logic.proofs.Query.AcceptedBytes.{accepted}
 use Rattle.logic.proofs.Calls.Verdicts.{our-model, our-refuted, model-satisfiable}
-use Rattle.logic.proofs.Calls.CheckingOrder.{ascends, check-numbered}
-use Rattle.logic.proofs.Calls.CallLaws.{derivation-passed, derivation-known, blank-length}
-use Rattle.logic.proofs.Calls.Refusals.{refused-one, blank-answer, blank-lent, Late, Lawful, CallCase, by-check, by-walk, call-case, call-clear, refusals}
+use Rattle.logic.proofs.Calls.CheckingOrder.{derivation-early, first-numbered}
+use Rattle.logic.proofs.Calls.CallLaws.{derivation-passed, blank-length}
+use Rattle.logic.proofs.Calls.Refusals.{refused-one, blank-answer, blank-lent, Late, Lawful, CallCase, by-check, by-walk, call-case, call-clear, refusals, derivation-placed}
 use Rattle.logic.proofs.Calls.VerdictCall.{refused-refuted}
 use Rattle.logic.proofs.Calls.DerivationBytes.{derivation-fits, lines-padded}
 
@@ -79,21 +79,12 @@ derivation-whole room w = ends-whole room w (derivationOf room w) (ends room w)
 abbrev derivationAt : Input → Ending → Outcome
 derivationAt i = derivationOf (i .room)
 
-derivation-ascends : ascends derivationChecks ≡ true
-unfolding ascends derivationChecks queryChecks orderCheck layoutCheck byteCheck all _and_
-derivation-ascends = refl
-
-derivation-has : (c : Check) → List·Memᴰ c queryChecks → List·Memᴰ c derivationChecks
-unfolding derivationChecks
-derivation-has c m = List·Memᴰ·tail m
-
 derivation-lawful : Lawful derivationChecks derivationAt
 unfolding derivationOf
 derivation-lawful =
     record {
-      ascending = derivation-ascends;
-      known = derivation-known;
-      has = derivation-has;
+      early = derivation-early;
+      placed = derivation-placed;
       late = λ i w k place h. ends-late (i .room) w _ k place (ends (i .room) w) h;
       whole = λ i h. derivation-whole (i .room) (walkOf i);
     }
@@ -114,7 +105,7 @@ abbrev Lines : (ℕ → List Line → Type 0) → Input → Type 0
 Lines P i = NoneStands derivationChecks i × ((ls : List Line) × (walkOf i ≡ refutation ls) × P (i .room) ls)
 
 abbrev pub Reason : Input → Answer → Type 0
-Reason i (refused k place) = (k ≤ 9) ⊎ ((place ≡ 0) × (((k ≡ 11) × Modelled i) ⊎ ((k ≡ 12) × Lines Exceeds i)))
+Reason i (refused k place) = List·Memᴰ k (numbers derivationChecks) ⊎ ((place ≡ 0) × (((k ≡ 11) × Modelled i) ⊎ ((k ≡ 12) × Lines Exceeds i)))
 Reason i Answer.satisfiable = ⊥
 Reason i Answer.refuted = Lines Fits i
 
@@ -125,8 +116,7 @@ ends-reason i o n (at-lines ls w f e) = subst (Reason i) (sym (ap (λ (x : Outco
 
 case-reason : (i : Input) (o : Outcome) → CallCase derivationChecks derivationAt i o → Reason i (o .answer)
 case-reason i o (by-check k place f e) =
-    let u = check-numbered (f .check) (derivation-known (f .check) (f .own)) in
-    subst (Reason i) (sym (blank-answer o (i .room) _ e)) (inl (omega (arith, u .1, f .numbered)))
+    subst (Reason i) (sym (blank-answer o (i .room) _ e)) (inl (first-numbered derivationChecks i k place f))
 case-reason i o (by-walk n e) = ends-reason i o n (subst (Ends (i .room) (walkOf i)) (sym e) (ends (i .room) (walkOf i)))
 
 reason : (i : Input) → Reason i (derivationCall i .answer)
@@ -140,14 +130,18 @@ module _ (i : Input) where
   pub never-satisfiable : a ≡ Answer.satisfiable → ⊥
   never-satisfiable h = subst (Reason i) h (reason i)
 
+  -- 11 and 12 are no checks
+  no-check : (k : ℕ) → 11 ≤ k → k ≤ 12 → List·Memᴰ k (numbers derivationChecks) → ⊥
+  no-check k l u m = ⊎-elim (λ v. omega (arith, v, l)) (λ e. omega (arith, e, u)) (derivation-early k m .1)
+
   -- 11: the walk found a model
   eleven : (place : ℕ) → a ≡ refused 11 place → (place ≡ 0) × Modelled i
   eleven place h =
-      ⊎-elim (λ l. absurd (omega arith)) (λ r. (r .0, ⊎-elim (λ m. m .1) (λ m. absurd (omega (arith, m .0))) (r .1))) (subst (Reason i) h (reason i))
+      ⊎-elim (λ l. absurd (no-check 11 (omega arith) (omega arith) l)) (λ r. (r .0, ⊎-elim (λ m. m .1) (λ m. absurd (omega (arith, m .0))) (r .1))) (subst (Reason i) h (reason i))
 
   twelve : (place : ℕ) → a ≡ refused 12 place → (place ≡ 0) × Lines Exceeds i
   twelve place h =
-      ⊎-elim (λ l. absurd (omega arith)) (λ r. (r .0, ⊎-elim (λ m. absurd (omega (arith, m .0))) (λ m. m .1) (r .1))) (subst (Reason i) h (reason i))
+      ⊎-elim (λ l. absurd (no-check 12 (omega arith) (omega arith) l)) (λ r. (r .0, ⊎-elim (λ m. absurd (omega (arith, m .0))) (λ m. m .1) (r .1))) (subst (Reason i) h (reason i))
 
   lines : a ≡ Answer.refuted → Lines Fits i
   lines h = subst (Reason i) h (reason i)

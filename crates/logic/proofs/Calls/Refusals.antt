@@ -1,22 +1,24 @@
 -- How a call refuses: what either call's refusals have in common, from what its walk's ending makes of it.
-use Prim.Native.Nat.{ℕ, _≤_}
+use Prim.Native.Nat.{ℕ, _≤_, _<_}
 use native.Mathlib.Omega.{arith}
-use mathlib.Core.Path.{_≡_, sym, ap, _∙_, subst, subst₂}
+use mathlib.Core.Path.{_≡_, refl, sym, ap, _∙_, subst, subst₂}
 use mathlib.Core.Logic.{_⊎_, ⊎-elim, inl, inr}
-use mathlib.Core.Bool.{Bool, true, not}
-use mathlib.Core.List.{List, List·Memᴰ, Memᴰ·append-left, map}
-use mathlib.Core.Option.{none, some, Option·elim}
+use mathlib.Core.Bool.{Bool, not}
+use mathlib.Core.List.{List, [], _∷_, _++_, List·Memᴰ, List·Memᴰ·head, List·Memᴰ·tail, List·Memᴰ·not-nil, List·Memᴰ·cases-cons, Memᴰ·append-left, Memᴰ·append-right, map}
+use mathlib.Core.Option.{Option, none, some, Option·elim}
 use lib.ListN.{length, replicate}
 use lib.Dec.{ltb}
-use Rattle.logic.specs.Search.{keep, from}
-use Rattle.logic.specs.Query.{isOrder, layoutFault}
+use Rattle.logic.specs.Search.{keep, from, orElse}
+use Rattle.logic.specs.Query.{sections, isOrder}
 use Rattle.logic.specs.Walk.{Ending}
-use Rattle.logic.specs.Calls.{Input, Check, orderCheck, layoutCheck, byteCheck, roomCheck, queryChecks, verdictChecks, Answer, refused, Outcome, blank, call}
-use Rattle.logic.specs.Demands.{NoneStands, FirstStands, walkOf, Refusals}
-use Rattle.logic.proofs.Basics.Search.{none-some, keep-some, from-intro, map-intro}
+use Rattle.logic.specs.Calls.{Input, Check, orderCheck, layoutCheck, byteCheck, formChecks, roomCheck, queryChecks, verdictChecks, derivationChecks, Answer, refused, refusalOf, Outcome, blank, call}
+use Rattle.logic.specs.Demands.{NoneStands, FirstStands, numbers, walkOf, Refusals}
+use Rattle.logic.proofs.Basics.Search.{none-some, keep-some, map-mem, map-intro}
+use Rattle.logic.proofs.Basics.Compare.{le-cases}
+use Rattle.logic.proofs.Query.Bytes.{layoutNumbers}
 use Rattle.logic.proofs.Query.Places.{InQuery, layout-place, byte-place}
-use Rattle.logic.proofs.Calls.CheckingOrder.{ascends, first-unique, first-stands, first-lowest, refusal-first, check-elim, check-numbered}
-use Rattle.logic.proofs.Calls.CallLaws.{refusalOf-none, refusalOf-clear, call-cases, blank-length}
+use Rattle.logic.proofs.Calls.CheckingOrder.{Early, refusal-first, first-refusal, first-unique, first-numbered, first-stands, first-up-to}
+use Rattle.logic.proofs.Calls.CallLaws.{refusalOf-some, refusalOf-none, refusalOf-append, refusalOf-clear, call-cases, blank-length}
 
 -- what a refusal holds
 pub refused-one : {k p k′ p′ : ℕ} → refused k p ≡ refused k′ p′ → (k ≡ k′) × (p ≡ p′)
@@ -31,22 +33,52 @@ pub blank-lent : (o : Outcome) (room : ℕ) (a : Answer) → o ≡ blank room a 
 unfolding blank
 blank-lent o room a e = ap (λ (x : Outcome). x .lent) e
 
--- the place that a check gives
-zero-place : (b : Bool) (bytes : List ℕ) (place : ℕ) → keep b 0 ≡ some place → InQuery bytes place
-zero-place b bytes place h = let q = keep-some b h in (omega (arith, q .1), omega (arith, q .1))
+-- The place of a refusal by checks. Those of the query are met in their order: a single byte's only where the walk from the front meets none.
+abbrev pub Placed : List Check → Input → Type 0
+Placed cs i = (k place : ℕ) → refusalOf cs i ≡ some (refused k place) → InQuery (i .query) place
 
-check-place : (i : Input) (c : Check) → List·Memᴰ c verdictChecks → (place : ℕ) → c .place i ≡ some place → (5 ≤ c .number → (k : ℕ) → 2 ≤ k → k ≤ 4 → layoutFault k (i .query) ≡ none) → InQuery (i .query) place
-unfolding orderCheck layoutCheck byteCheck roomCheck
-check-place i =
-    check-elim (λ (c : Check). (place : ℕ) → c .place i ≡ some place → (5 ≤ c .number → (k : ℕ) → 2 ≤ k → k ≤ 4 → layoutFault k (i .query) ≡ none) → InQuery (i .query) place)
-    (λ place h _. zero-place (not (isOrder (i .order))) (i .query) place h)
-    (λ k l u place h _. layout-place k (i .query) place h)
-    (λ k l u place h passed. byte-place k (i .query) place (passed l) h)
-    (λ place h _. zero-place (ltb (i .room) 53) (i .query) place h)
+zero-placed : (c : Check) (i : Input) (b : Bool) → c .place i ≡ keep b 0 → Placed (c ∷ []) i
+zero-placed c i b e k place h =
+    let (d, m, (p, s, q)) = refusalOf-some (c ∷ []) i _ h in
+    let own = ⊎-elim (λ o. o) (λ o. absurd (List·Memᴰ·not-nil o)) (List·Memᴰ·cases-cons m) in
+    let z = keep-some b (sym e ∙ sym (ap (λ (x : Check). x .place i) own) ∙ s) .1 in
+    let w = refused-one q .1 in
+    (omega (arith, z, w), omega (arith, z, w))
 
-layout-own : (k : ℕ) → 2 ≤ k → k ≤ 4 → List·Memᴰ (layoutCheck k) queryChecks
-unfolding queryChecks from
-layout-own k l u = Memᴰ·append-left (map byteCheck (from 4 5)) (map-intro layoutCheck k (from-intro 3 2 k l (omega arith)))
+-- what holds of every refusal by some checks and by others holds of those by both
+both-placed : (cs ds : List Check) (i : Input) → Placed cs i → (NoneStands cs i → Placed ds i) → Placed (cs ++ ds) i
+unfolding orElse
+both-placed cs ds i first then k place h = go (refusalOf cs i) refl (sym (refusalOf-append cs i ds) ∙ h)
+  where
+    go : (o : Option Answer) → refusalOf cs i ≡ o → orElse (refusalOf cs i) (refusalOf ds i) ≡ some (refused k place) → InQuery (i .query) place
+    go none e g = then (refusalOf-none cs i e) k place (ap (λ (o : Option Answer). orElse o (refusalOf ds i)) (sym e) ∙ g)
+    go (some a) e g = first k place (e ∙ (ap (λ (o : Option Answer). orElse o (refusalOf ds i)) (sym e) ∙ g))
+
+query-placed : (i : Input) → Placed queryChecks i
+unfolding queryChecks formChecks layoutNumbers from layoutCheck byteCheck
+query-placed i = both-placed (map (layoutCheck sections) layoutNumbers) (map (byteCheck sections) (from 4 5)) i front single
+  where
+    front : Placed (map (layoutCheck sections) layoutNumbers) i
+    front k place h =
+        let (c, m, (p, s, q)) = refusalOf-some (map (layoutCheck sections) layoutNumbers) i _ h in
+        let (j, n, e) = map-mem (layoutCheck sections) c layoutNumbers m in
+        layout-place j (i .query) place (sym (ap (λ (x : Check). x .place i) e) ∙ s ∙ ap some (sym (refused-one q .1)))
+
+    single : NoneStands (map (layoutCheck sections) layoutNumbers) i → Placed (map (byteCheck sections) (from 4 5)) i
+    single passed k place h =
+        let (c, m, (p, s, q)) = refusalOf-some (map (byteCheck sections) (from 4 5)) i _ h in
+        let (j, n, e) = map-mem (byteCheck sections) c (from 4 5) m in
+        byte-place j (i .query) place (λ l o. passed (layoutCheck sections l) (map-intro (layoutCheck sections) l o)) (sym (ap (λ (x : Check). x .place i) e) ∙ s ∙ ap some (sym (refused-one q .1)))
+
+pub derivation-placed : (i : Input) → Placed derivationChecks i
+unfolding derivationChecks orderCheck
+derivation-placed i = both-placed (orderCheck ∷ []) queryChecks i (zero-placed orderCheck i (not (isOrder (i .order))) refl) (λ n. query-placed i)
+
+pub verdict-placed : (i : Input) → Placed verdictChecks i
+unfolding verdictChecks orderCheck roomCheck
+verdict-placed i =
+    both-placed (orderCheck ∷ []) (queryChecks ++ (roomCheck ∷ [])) i (zero-placed orderCheck i (not (isOrder (i .order))) refl)
+    (λ n. both-placed queryChecks (roomCheck ∷ []) i (query-placed i) (λ m. zero-placed roomCheck i (ltb (i .room) 53) refl))
 
 -- A refusal that the walk's ending gives: its place is 0, it is 11 or 12, and all that was lent is zero.
 pub record Late (room k place : ℕ) (lent : List ℕ) : Type 0 where
@@ -55,12 +87,10 @@ pub record Late (room k place : ℕ) (lent : List ℕ) : Type 0 where
   pub below : k ≤ 12
   pub zeros : lent ≡ replicate room 0
 
--- What this asks of a call: its checks are some of the verdict call's, with all of the query's, in order; and what its walk's ending
--- makes of it where none of them stands.
+-- What this asks of a call: the numbers and places of its checks, and what its walk's ending makes of it where none of them stands.
 pub record Lawful (cs : List Check) (result : Input → Ending → Outcome) : Type 0 where
-  pub ascending : ascends cs ≡ true
-  pub known : (c : Check) → List·Memᴰ c cs → List·Memᴰ c verdictChecks
-  pub has : (c : Check) → List·Memᴰ c queryChecks → List·Memᴰ c cs
+  pub early : (k : ℕ) → List·Memᴰ k (numbers cs) → Early k
+  pub placed : (i : Input) → Placed cs i
   pub late : (i : Input) (w : Ending) (k place : ℕ) → result i w .answer ≡ refused k place → Late (i .room) k place (result i w .lent)
   pub whole : (i : Input) → NoneStands cs i → length (result i (walkOf i) .lent) ≡ i .room
 
@@ -87,20 +117,15 @@ module _ (cs : List Check) (result : Input → Ending → Outcome) (lawful : Law
   pub call-case : (i : Input) → CallCase cs result i (call cs (result i) i)
   call-case i =
       ⊎-elim
-      (λ p. let f = refusal-first cs i (lawful .ascending) (p .0) (p .1) in
+      (λ p. let f = refusal-first cs i (p .0) (p .1) in
       by-check (f .0) (f .1) (f .2) (p .2 ∙ ap (blank (i .room)) (f .3)))
       (λ p. by-walk (refusalOf-none cs i (p .0)) (p .1))
       (call-cases cs i (result i))
 
-  -- the number and place of a check that stands first
-  first-number : (i : Input) (k place : ℕ) → FirstStands cs i k place → (1 ≤ k) × (k ≤ 9)
-  first-number i k place f = subst (λ (x : ℕ). (1 ≤ x) × (x ≤ 9)) (f .numbered) (check-numbered (f .check) (lawful .known (f .check) (f .own)))
-
-  first-place : (i : Input) (k place : ℕ) → FirstStands cs i k place → InQuery (i .query) place
-  unfolding layoutCheck
-  first-place i k place f =
-      check-place i (f .check) (lawful .known (f .check) (f .own)) place (f .stands)
-      (λ l j lo hi. f .none-before (layoutCheck j) (lawful .has (layoutCheck j) (layout-own j lo hi)) (omega (arith, f .numbered, l, hi)))
+  -- a refusal by a check is none by the walk's ending
+  early-late : (i : Input) (k place : ℕ) (lent : List ℕ) → List·Memᴰ k (numbers cs) → Late (i .room) k place lent → ⊥
+  early-late i k place lent m l =
+      ⊎-elim (λ u. omega (arith, u, l .above)) (λ e. omega (arith, e, l .below)) (lawful .early k m .1)
 
   module _ (i : Input) (o : Outcome) where
     refused-by : (k place : ℕ) → o .answer ≡ refused k place → CallCase cs result i o → RefusedBy i o k place
@@ -112,13 +137,9 @@ module _ (cs : List Check) (result : Input → Ending → Outcome) (lawful : Law
 
     first-answered : (k place : ℕ) → FirstStands cs i k place → CallCase cs result i o → o .answer ≡ refused k place
     first-answered k place f (by-check j p g e) =
-        let u = first-unique cs i (lawful .ascending) j p k place g f in
+        let u = first-unique cs i j p k place g f in
         blank-answer o (i .room) _ e ∙ ap (λ (x : ℕ). refused x p) (u .0) ∙ ap (refused k) (u .1)
     first-answered k place f (by-walk n e) = absurd (first-stands cs i k place n f)
-
-    stands-answered : (c : Check) (place : ℕ) → List·Memᴰ c cs → c .place i ≡ some place → CallCase cs result i o → (k : ℕ) × (p : ℕ) × (k ≤ c .number) × (o .answer ≡ refused k p)
-    stands-answered c place m s (by-check j p g e) = (j, p, first-lowest cs i j p g c place m s, blank-answer o (i .room) _ e)
-    stands-answered c place m s (by-walk n e) = absurd (none-some (sym (n c m) ∙ s))
 
     case-whole : CallCase cs result i o → length (o .lent) ≡ i .room
     case-whole (by-check j p g e) = ap (λ (x : Outcome). length (x .lent)) e ∙ blank-length (i .room) _
@@ -127,22 +148,33 @@ module _ (cs : List Check) (result : Input → Ending → Outcome) (lawful : Law
   by : (i : Input) (k place : ℕ) → outcome i .answer ≡ refused k place → RefusedBy i (outcome i) k place
   by i k place h = refused-by i (outcome i) k place h (call-case i)
 
-  -- no check stands where the refusal is 10 or above
-  pub late-refusal : (i : Input) (k place : ℕ) → 10 ≤ k → outcome i .answer ≡ refused k place → NoneStands cs i × Late (i .room) k place (outcome i .lent)
-  late-refusal i k place l h =
-      ⊎-elim (λ f. absurd (omega (arith, first-number i k place (f .0), l))) (λ n. n) (by i k place h)
+  -- no check stands where the refusal is none of a check
+  pub late-refusal : (i : Input) (k place : ℕ) → (List·Memᴰ k (numbers cs) → ⊥) → outcome i .answer ≡ refused k place → NoneStands cs i × Late (i .room) k place (outcome i .lent)
+  late-refusal i k place l h = ⊎-elim (λ f. absurd (l (first-numbered cs i k place (f .0)))) (λ n. n) (by i k place h)
+
+  late-numbered : (i : Input) (k place : ℕ) (lent : List ℕ) → Late (i .room) k place lent → List·Memᴰ k (11 ∷ 12 ∷ [])
+  late-numbered i k place lent l =
+      ⊎-elim (λ (u : k ≤ 11). List·Memᴰ·head (let e : k ≡ 11 = omega (arith, u, l .above) in e)) (λ (u : 11 < k). List·Memᴰ·tail (List·Memᴰ·head (let e : k ≡ 12 = omega (arith, u, l .below) in e))) (le-cases k 11)
 
   pub refusals : Refusals cs outcome
   refusals =
       record {
-        first-exactly = λ i k place u. (
-          λ h. ⊎-elim (λ f. f .0) (λ n. absurd (omega (arith, n .1 .above, u))) (by i k place h),
+        first-exactly = λ i k place m. (
+          λ h. ⊎-elim (λ f. f .0) (λ n. absurd (early-late i k place _ m (n .1))) (by i k place h),
           λ f. first-answered i (outcome i) k place f (call-case i),
         );
-        refusal-made = λ i c place m s. stands-answered i (outcome i) c place m s (call-case i);
-        never-ten = λ i place h. omega (arith, late-refusal i 10 place (omega arith) h .1 .above);
-        refusal-numbered = λ i k place h. ⊎-elim (λ f. let n = first-number i k place (f .0) in (n .0, omega (arith, n .1))) (λ n. (omega (arith, n .1 .above), n .1 .below)) (by i k place h);
-        refusal-placed = λ i k place h. ⊎-elim (λ f. first-place i k place (f .0)) (λ n. (omega (arith, n .1 .placed), omega (arith, n .1 .placed))) (by i k place h);
+        refusal-made = λ i c before behind place e s.
+            let (k, p, f, g) = first-up-to cs i c before behind place e s in
+            (k, p, first-answered i (outcome i) k p g (call-case i), f);
+        never-ten = λ i place h. ⊎-elim
+            (λ f. ⊎-elim (λ u. omega (arith, u)) (λ e. omega (arith, e)) (lawful .early 10 (first-numbered cs i 10 place (f .0)) .1))
+            (λ n. omega (arith, n .1 .above)) (by i 10 place h);
+        refusal-numbered = λ i k place h. ⊎-elim
+            (λ f. Memᴰ·append-left (11 ∷ 12 ∷ []) (first-numbered cs i k place (f .0)))
+            (λ n. Memᴰ·append-right (numbers cs) (late-numbered i k place _ (n .1))) (by i k place h);
+        refusal-placed = λ i k place h. ⊎-elim
+            (λ f. lawful .placed i k place (first-refusal cs i k place (f .0)))
+            (λ n. (omega (arith, n .1 .placed), omega (arith, n .1 .placed))) (by i k place h);
         refusal-blank = λ i k place h. ⊎-elim (λ f. f .1) (λ n. n .1 .zeros) (by i k place h);
         lent-whole = λ i. case-whole i (outcome i) (call-case i);
       }

@@ -11,7 +11,7 @@ use Rattle.logic.specs.Query.{Literal, Query, termCount, decode}
 use Rattle.logic.specs.Facts.{Facts, Line, line, negatedAt, plainAt, isClash, clashLines, clash, unjoined, andThen, settle, join, linksOf, joinEach, reachEach, nilTerms, joinNil, startJoins, start}
 use Rattle.logic.specs.Rules.{Rule, Move, Fact, alternatives, branch, choose, moveLine}
 use Rattle.logic.specs.Walk.{Look, clashing, applying, saturated, look, Ending, refutation, saturation, after, thenEnding, walkBranch, walkEach, endAt, walk, orderOf, limit, ourWalk}
-use Rattle.logic.specs.Shown.{fieldByte, booleanByte, report}
+use Rattle.logic.specs.Shown.{fieldByte, report}
 use Rattle.logic.specs.Calls.{Input, Check, orderCheck, roomCheck, queryChecks, verdictChecks, Answer, refused, Outcome, refusalOf, accepts, blank, call, verdictOf, verdictCall}
 use Rattle.logic.specs.Reordering.{joinTerms, joinAll, SameElements, Reordered, Held, JoinsAgree}
 use Rattle.logic.proofs.Basics.Search.{none-some, not-true, and-left, and-right, or-cases, find-some, firstOf-skip, select-mem, select-intro, map-mem, map-intro}
@@ -27,15 +27,15 @@ use Rattle.logic.proofs.Joins.Reach.{reach-either-side, reach-any-side}
 use Rattle.logic.proofs.Walks.Derives.{row-all}
 use Rattle.logic.proofs.Soundness.ClashSound.{at-mem}
 use Rattle.logic.proofs.Calls.CallLaws.{accepts-checks}
-use Rattle.logic.proofs.Completeness.NoClash.{equal-free, reach-free, field-free, boolean-free}
+use Rattle.logic.proofs.Completeness.NoClash.{equal-free, reach-free, field-free}
 
 -- a query with other equalities
 abbrev withEqualities : Query → List Literal → Query
 withEqualities q es =
-    record { entries = q .entries; equalities = es; reachability = q .reachability; fields = q .fields; booleans = q .booleans }
+    record { entries = q .entries; equalities = es; reachability = q .reachability; fields = q .fields }
 
 reordered-is : (q q′ : Query) → Reordered q q′ → withEqualities q (q′ .equalities) ≡ q′
-reordered-is q q′ r = λ i. record { entries = r .entries i; equalities = q′ .equalities; reachability = r .reachability i; fields = r .fields i; booleans = r .booleans i }
+reordered-is q q′ r = λ i. record { entries = r .entries i; equalities = q′ .equalities; reachability = r .reachability i; fields = r .fields i }
 
 -- The start
 
@@ -103,17 +103,12 @@ module _ (q : Query) (es : List Literal) (s : Facts) (sub : (l : Literal) → Li
   no-line (line nine section i j) h =
       ⊎-elim
       (λ e. ⊎-elim
-      (λ e′. ⊎-elim
       (λ p. let k = negated es i _ (and-right _ _ p) in equal-free q s free (k .0) (sub (k .0) (k .1)) (k .2) (eqb-true _ _ (k .3)))
       (λ p. let k = negated (q .reachability) i _ (and-right _ _ p) in reach-free q s free (k .0) (k .1) (k .2) (k .3))
-      (or-cases _ _ e′))
+      (or-cases _ _ e))
       (λ p. let k = negated (q .fields) i _ (and-right _ _ p) in
       let m = plain (q .fields) j _ (k .3) in
       field-free q s free (k .0) (m .0) (k .1) (m .1) (k .2) (m .2) (eqb-true _ _ (and-left _ _ (m .3))) (eqb-true _ _ (and-right _ _ (m .3))))
-      (or-cases _ _ e))
-      (λ p. let k = negated (q .booleans) i _ (and-right _ _ p) in
-      let m = plain (q .booleans) j _ (k .3) in
-      boolean-free q s free (k .0) (m .0) (k .1) (m .1) (k .2) (m .2) (eqb-true _ _ (m .3)))
       (or-cases _ _ (and-right _ _ h))
 
   clash-free : clash (withEqualities q es) s ≡ none
@@ -186,7 +181,7 @@ module _ (q : Query) (es : List Literal) (same : SameElements (q .equalities) es
 -- The call
 
 verdict-alike : (q : Query) (es : List Literal) (room : ℕ) (e e′ : Ending) → Alike e e′ → verdictOf q room e ≡ verdictOf (withEqualities q es) room e′
-unfolding verdictOf report termCount fieldByte booleanByte
+unfolding verdictOf report termCount fieldByte
 verdict-alike q es room e e′ (both-refuted ls ms) = refl
 verdict-alike q es room e e′ (both-saturated s) = refl
 

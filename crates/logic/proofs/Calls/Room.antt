@@ -1,38 +1,52 @@
 -- 53 bytes are enough for every report: they are never refused, and every byte past them is zero.
 use Prim.Native.Nat.{ℕ, zero, suc, _+_, _-_, _≤_, _<_}
 use native.Mathlib.Omega.{arith}
-use mathlib.Core.Path.{_≡_, refl, ap, _∙_}
-use mathlib.Core.List.{List, _++_, List·Memᴰ}
+use mathlib.Core.Path.{_≡_, refl, sym, ap, _∙_, subst}
+use mathlib.Core.Logic.{⊎-elim}
+use mathlib.Core.Bool.{true, not, false≢true}
+use mathlib.Core.List.{List, _++_, List·Memᴰ, List·Memᴰ·head, List·Memᴰ·tail, List·Memᴰ·not-nil, List·Memᴰ·cases-cons, List·Memᴰ·append-cases, Memᴰ·append-right}
 use mathlib.Core.Option.{some}
 use lib.ListN.{length, getD, replicate}
 use lib.Seq.{getD-append-add}
-use lib.Dec.{ltb}
-use Rattle.logic.specs.Query.{Query, decode}
+use lib.Dec.{eqb, ltb}
+use Rattle.logic.specs.Search.{_and_, all}
+use Rattle.logic.specs.Query.{Query, sections, decode}
 use Rattle.logic.specs.Shown.{report}
-use Rattle.logic.specs.Calls.{Input, Check, orderCheck, layoutCheck, byteCheck, roomCheck, verdictChecks, Outcome, refused, padded, verdictCall}
-use Rattle.logic.proofs.Basics.Search.{keep-some}
+use Rattle.logic.specs.Calls.{Input, Check, orderCheck, layoutCheck, byteCheck, formChecks, roomCheck, queryChecks, verdictChecks, Outcome, refused, padded, verdictCall}
+use Rattle.logic.specs.Demands.{numbers}
+use Rattle.logic.proofs.Basics.Search.{keep-some, all-true, map-intro}
 use Rattle.logic.proofs.Basics.Compare.{ltb-true}
-use Rattle.logic.proofs.Query.AcceptedBytes.{accepted}
+use Rattle.logic.proofs.Query.AcceptedBytes.{form-elim, accepted}
 use Rattle.logic.proofs.Completeness.ShownHeap.{report-length}
-use Rattle.logic.proofs.Calls.CheckingOrder.{check-elim}
+use Rattle.logic.proofs.Query.Bytes.{layoutNumbers, LayoutNumber}
+use Rattle.logic.proofs.Calls.CheckingOrder.{first-own}
 use Rattle.logic.proofs.Calls.CallLaws.{verdict-passed}
 use Rattle.logic.proofs.Calls.Refusals.{blank-lent}
 use Rattle.logic.proofs.Calls.VerdictCall.{verdict-refusals, VerdictCase, by-refusal, by-lines, by-model, verdict-case}
 
 -- check 9 is that of the report's room
+not-nine : (k : ℕ) → LayoutNumber k → k ≡ 9 → ⊥
+unfolding layoutNumbers all _and_
+not-nine k m e = false≢true (subst (λ (x : ℕ). not (eqb x 9) ≡ true) e (all-true (λ x. not (eqb x 9)) {xs = layoutNumbers} k refl m))
+
 nine : (i : Input) (c : Check) → List·Memᴰ c verdictChecks → c .number ≡ 9 → (place : ℕ) → c .place i ≡ some place → i .room < 53
-unfolding orderCheck layoutCheck byteCheck roomCheck
-nine i =
-    check-elim (λ (c : Check). c .number ≡ 9 → (place : ℕ) → c .place i ≡ some place → i .room < 53)
-    (λ e place h. absurd (omega (arith, e)))
-    (λ k l u e place h. absurd (omega (arith, e, u)))
-    (λ k l u e place h. absurd (omega (arith, e, u)))
-    (λ e place h. ltb-true (i .room) 53 (keep-some (ltb (i .room) 53) h .0))
+unfolding verdictChecks queryChecks orderCheck layoutCheck byteCheck roomCheck
+nine i c m e place h =
+    ⊎-elim (λ o. absurd (omega (arith, e, ap (λ (x : Check). x .number) o)))
+    (λ n. ⊎-elim
+    (λ n′. absurd (form-elim sections (λ (x : Check). x .number ≡ 9 → ⊥) (λ k m q. not-nine k m q) (λ k l u q. omega (arith, q, u)) c n′ e))
+    (λ n′. ⊎-elim (λ o. ltb-true (i .room) 53 (keep-some (ltb (i .room) 53) (sym (ap (λ (x : Check). x .place i) o) ∙ h) .0)) (λ n″. absurd (List·Memᴰ·not-nil n″)) (List·Memᴰ·cases-cons n′))
+    (List·Memᴰ·append-cases queryChecks n))
+    (List·Memᴰ·cases-cons m)
+
+nine-checked : List·Memᴰ 9 (numbers verdictChecks)
+unfolding verdictChecks roomCheck
+nine-checked = map-intro (λ (c : Check). c .number) {xs = verdictChecks} roomCheck (List·Memᴰ·tail (Memᴰ·append-right queryChecks (List·Memᴰ·head refl)))
 
 pub room-enough : (i : Input) → 53 ≤ i .room → (place : ℕ) → verdictCall i .answer ≡ refused 9 place → ⊥
 room-enough i l place h =
-    let f = verdict-refusals .first-exactly i 9 place (omega arith) .0 h in
-    omega (arith, l, nine i (f .check) (f .own) (f .numbered) place (f .stands))
+    let f = verdict-refusals .first-exactly i 9 place nine-checked .0 h in
+    omega (arith, l, nine i (f .check) (first-own verdictChecks i 9 place f) (f .numbered) place (f .stands))
 
 zeros-zero : (k n : ℕ) → getD (replicate {A = ℕ} k 0) n 0 ≡ 0
 zeros-zero zero n = refl

@@ -2,21 +2,19 @@
 use Prim.Native.Nat.{ℕ, _≤_}
 use native.Mathlib.Omega.{arith}
 use mathlib.Core.Path.{_≡_, refl, sym, subst}
-use mathlib.Core.Bool.{true}
-use mathlib.Core.List.{List, [], _∷_, List·Memᴰ, List·Memᴰ·tail, Memᴰ·append-left}
+use mathlib.Core.List.{List, List·Memᴰ}
 use lib.ListN.{length}
-use Rattle.logic.specs.Search.{_and_, all}
 use Rattle.logic.specs.Query.{Query, decode}
 use Rattle.logic.specs.Facts.{Facts, Line}
 use Rattle.logic.specs.Walk.{Ending, refutation, saturation}
 use Rattle.logic.specs.Shown.{report}
-use Rattle.logic.specs.Calls.{Input, Check, orderCheck, layoutCheck, byteCheck, roomCheck, queryChecks, verdictChecks, Outcome, Answer, refused, padded, blank, verdictOf, verdictCall}
-use Rattle.logic.specs.Demands.{NoneStands, walkOf, Refusals}
+use Rattle.logic.specs.Calls.{Input, verdictChecks, Outcome, Answer, refused, padded, blank, verdictOf, verdictCall}
+use Rattle.logic.specs.Demands.{NoneStands, numbers, walkOf, Refusals}
 use Rattle.logic.proofs.Query.AcceptedBytes.{accepted}
 use Rattle.logic.proofs.Completeness.ShownHeap.{report-length}
-use Rattle.logic.proofs.Calls.CheckingOrder.{ascends, check-numbered}
+use Rattle.logic.proofs.Calls.CheckingOrder.{verdict-early, first-numbered}
 use Rattle.logic.proofs.Calls.CallLaws.{verdict-passed, padded-length, blank-length}
-use Rattle.logic.proofs.Calls.Refusals.{Late, Lawful, CallCase, by-check, by-walk, call-case, call-clear, refusals}
+use Rattle.logic.proofs.Calls.Refusals.{Late, Lawful, CallCase, by-check, by-walk, call-case, call-clear, refusals, verdict-placed}
 
 -- what the walk's ending makes of the call
 abbrev pub verdictAt : Input → Ending → Outcome
@@ -31,14 +29,6 @@ refused-refuted e = let z : _≡_ {A = ℕ} 0 1 = cc in omega arith
 
 pub refuted-satisfiable : Answer.refuted ≡ Answer.satisfiable → ⊥
 refuted-satisfiable e = let z : _≡_ {A = ℕ} 0 1 = cc in omega arith
-
-verdict-ascends : ascends verdictChecks ≡ true
-unfolding ascends verdictChecks queryChecks orderCheck layoutCheck byteCheck roomCheck all _and_
-verdict-ascends = refl
-
-verdict-has : (c : Check) → List·Memᴰ c queryChecks → List·Memᴰ c verdictChecks
-unfolding verdictChecks
-verdict-has c m = List·Memᴰ·tail (Memᴰ·append-left (roomCheck ∷ []) m)
 
 verdict-late : (i : Input) (w : Ending) (k place : ℕ) → verdictAt i w .answer ≡ refused k place → Late (i .room) k place (verdictAt i w .lent)
 unfolding verdictOf blank
@@ -57,9 +47,8 @@ verdict-lawful : Lawful verdictChecks verdictAt
 unfolding verdictOf
 verdict-lawful =
     record {
-      ascending = verdict-ascends;
-      known = λ c m. m;
-      has = verdict-has;
+      early = verdict-early;
+      placed = verdict-placed;
       late = verdict-late;
       whole = λ i h. verdict-whole i h (walkOf i);
     }
@@ -73,7 +62,7 @@ unfolding verdictCall
 verdict-of i h = call-clear verdictChecks (verdictAt i) i h
 
 pub data VerdictCase (i : Input) (o : Outcome) : Type 0 where
-  by-refusal : (k place : ℕ) → k ≤ 9 → o ≡ blank (i .room) (refused k place) → VerdictCase i o
+  by-refusal : (k place : ℕ) → List·Memᴰ k (numbers verdictChecks) → o ≡ blank (i .room) (refused k place) → VerdictCase i o
   by-lines : (ls : List Line) → walkOf i ≡ refutation ls → o ≡ blank (i .room) Answer.refuted → NoneStands verdictChecks i → VerdictCase i o
   by-model : (s : Facts) → walkOf i ≡ saturation s → o ≡ record { answer = Answer.satisfiable; lent = padded (i .room) (report (decode (i .query)) s) } → NoneStands verdictChecks i → VerdictCase i o
 
@@ -83,7 +72,7 @@ walked-case i (refutation ls) e h = by-lines ls e refl h
 walked-case i (saturation s) e h = by-model s e refl h
 
 of-case : (i : Input) (o : Outcome) → CallCase verdictChecks verdictAt i o → VerdictCase i o
-of-case i o (by-check k place f e) = by-refusal k place (omega (arith, check-numbered (f .check) (f .own), f .numbered)) e
+of-case i o (by-check k place f e) = by-refusal k place (first-numbered verdictChecks i k place f) e
 of-case i o (by-walk n e) = subst (VerdictCase i) (sym e) (walked-case i (walkOf i) refl n)
 
 pub verdict-case : (i : Input) → VerdictCase i (verdictCall i)

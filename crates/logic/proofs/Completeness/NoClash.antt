@@ -63,7 +63,7 @@ module _ (q : Query) (s : Facts) (clean : clash q s ≡ none) where
   reach-free l m e held =
       let r = negated-found (q .reachability) (λ l. s .graph .reach (s .rep (l .left)) (s .rep (l .right))) l m held e in
       no-clash (line 9 3 (suc (r .0)) 0)
-      (Memᴰ·append-right (alone 2 (q .equalities)) (Memᴰ·append-left (paired 4 (q .fields) ++ paired 5 (q .booleans)) (alone-mem 3 (q .reachability) (r .0) (r .1))))
+      (Memᴰ·append-right (alone 2 (q .equalities)) (Memᴰ·append-left (paired 4 (q .fields)) (alone-mem 3 (q .reachability) (r .0) (r .1))))
       (rw (r .2))
 
   -- a negated data literal has no plain partner
@@ -74,15 +74,5 @@ module _ (q : Query) (s : Facts) (clean : clash q s ≡ none) where
       let t = plain-found (q .fields) (partner l) p k (and-intro (eq-eqb _ _ same-field) (eq-eqb _ _ same-term)) f in
       let r = negated-found (q .fields) (λ l. plainAt (q .fields) (suc (t .0)) (partner l)) l m (t .2) e in
       no-clash (line 9 4 (suc (r .0)) (suc (t .0)))
-      (Memᴰ·append-right (alone 2 (q .equalities)) (Memᴰ·append-right (alone 3 (q .reachability)) (Memᴰ·append-left (paired 5 (q .booleans)) (paired-mem 4 (q .fields) (r .0) (t .0) (r .1) (t .1)))))
-      (rw (r .2))
-
-  -- nor has a negated boolean
-  pub boolean-free : (l p : Literal) → List·Memᴰ l (q .booleans) → List·Memᴰ p (q .booleans) → l .plain ≡ false → p .plain ≡ true → l .left ≡ p .left → ⊥
-  unfolding isClash clashLines _and_ _or_
-  boolean-free l p m k e f same =
-      let t = plain-found (q .booleans) (λ p. eqb (l .left) (p .left)) p k (eq-eqb _ _ same) f in
-      let r = negated-found (q .booleans) (λ l. plainAt (q .booleans) (suc (t .0)) (λ p. eqb (l .left) (p .left))) l m (t .2) e in
-      no-clash (line 9 5 (suc (r .0)) (suc (t .0)))
-      (Memᴰ·append-right (alone 2 (q .equalities)) (Memᴰ·append-right (alone 3 (q .reachability)) (Memᴰ·append-right (paired 4 (q .fields)) (paired-mem 5 (q .booleans) (r .0) (t .0) (r .1) (t .1)))))
+      (Memᴰ·append-right (alone 2 (q .equalities)) (Memᴰ·append-right (alone 3 (q .reachability)) (paired-mem 4 (q .fields) (r .0) (t .0) (r .1) (t .1))))
       (rw (r .2))

@@ -8,7 +8,7 @@ use lib.Seq.{getD-append-add}
 use Rattle.logic.specs.Search.{from}
 use Rattle.logic.specs.Query.{Query, termCount}
 use Rattle.logic.specs.Facts.{Facts, terms}
-use Rattle.logic.specs.Shown.{nodes, placeOf, shownLink, fieldByte, booleanByte, report}
+use Rattle.logic.specs.Shown.{nodes, placeOf, shownLink, fieldByte, report}
 use Rattle.logic.proofs.Completeness.Placed.{length-from, getD-from}
 
 -- "each section after its count: m successors; n nodes ..; m data bytes ..; one byte of booleans"; then the bytes past it
@@ -102,7 +102,7 @@ abbrev pub place : Query → Facts → ℕ → ℕ
 place q s v = placeOf v (nodesOf q s)
 
 -- the report, whatever follows it
-pub report-laid : (q : Query) (s : Facts) (rest : List ℕ) → Laid (report q s ++ rest) (length (nodesOf q s)) (termCount q) (λ i. place q s (linkOf q s (getD (nodesOf q s) i 0))) (λ i. place q s (s .rep (suc i))) (λ i. fieldByte q s (getD (nodesOf q s) i 0)) (booleanByte q) rest
+pub report-laid : (q : Query) (s : Facts) (rest : List ℕ) → Laid (report q s ++ rest) (length (nodesOf q s)) (termCount q) (λ i. place q s (linkOf q s (getD (nodesOf q s) i 0))) (λ i. place q s (s .rep (suc i))) (λ i. fieldByte q s (getD (nodesOf q s) i 0)) 0 rest
 unfolding report
 report-laid q s rest =
     let ts : List ℕ = nodesOf q s in
@@ -110,5 +110,5 @@ report-laid q s rest =
     let listed = lists-terms (λ t. place q s (s .rep t)) (termCount q) in
     rw (regroup
     (length ts ∷ map (λ v. place q s (linkOf q s v)) ts) (termCount q ∷ map (λ t. place q s (s .rep t)) (terms (termCount q)))
-    (length ts ∷ map (fieldByte q s) ts) (1 ∷ booleanByte q ∷ []) rest)
-    (laid (length ts) (termCount q) (booleanByte q) _ _ _ _ _ _ rest links listed (lists-map (fieldByte q s) ts))
+    (length ts ∷ map (fieldByte q s) ts) (1 ∷ 0 ∷ []) rest)
+    (laid (length ts) (termCount q) 0 _ _ _ _ _ _ rest links listed (lists-map (fieldByte q s) ts))

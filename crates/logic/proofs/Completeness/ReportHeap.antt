@@ -45,10 +45,6 @@ module _ {bytes : List ℕ} {m n : ℕ} {link node datum : ℕ → ℕ} {flags :
   unfolding heapIn sizeIn
   heap-field i j h = rw (at .size-at, at .count-at) (let e : m + n + 2 + suc i ≡ m + n + 3 + i = omega arith in rw (e, at .datum-at i h))
 
-  pub heap-boolean : (j : ℕ) → heapIn bytes .boolean j ≡ bitOf flags (j - 1)
-  unfolding heapIn sizeIn
-  heap-boolean j = rw (at .size-at, at .count-at, at .flags-at)
-
   pub heap-listed : (i : ℕ) → i < n → heapIn bytes .variable (suc i) ≡ node i
   heap-listed i h =
       let inside : ltb 0 (suc i) and leb (suc i) n ≡ true = and-intro (lt-ltb 0 (suc i) (omega arith)) (le-leb (suc i) n h) in

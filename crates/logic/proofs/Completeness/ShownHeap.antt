@@ -12,9 +12,9 @@ use lib.Dec.{eqb}
 use borrow.Author.Tests.{eqb-true, eqb-false, eq-eqb}
 use Rattle.logic.specs.Search.{_and_, any}
 use Rattle.logic.specs.Query.{Literal, Query, namesNil, argumentOf, termCount}
-use Rattle.logic.specs.Heap.{Heap, Reaches, Signed, Each, MeansEqual, MeansReach, MeansField, MeansBoolean, value, valueWithin}
+use Rattle.logic.specs.Heap.{Heap, Reaches, Signed, Each, MeansEqual, MeansReach, MeansField, value, valueWithin}
 use Rattle.logic.specs.Facts.{Facts, liveTerms, clash}
-use Rattle.logic.specs.Shown.{shownLink, bitOf, fieldByte, booleanByte, report, heapIn, nodeIn, wellFormed}
+use Rattle.logic.specs.Shown.{shownLink, bitOf, fieldByte, report, heapIn, nodeIn, wellFormed}
 use Rattle.logic.specs.Demands.{Shows}
 use Rattle.logic.proofs.Basics.Search.{and-left, and-right, and-intro, bool-cases, any-true, any-intro}
 use Rattle.logic.proofs.Query.Tied.{InTerms, ToEight, Accepted, Tied}
@@ -23,10 +23,10 @@ use Rattle.logic.proofs.Completeness.Completed.{Completed}
 use Rattle.logic.proofs.Completeness.Byte.{byte-bit}
 use Rattle.logic.proofs.Completeness.Placed.{getD-mem, placeOf-mem, placeOf-range, placeOf-injective}
 use Rattle.logic.proofs.Completeness.Renamed.{reaches-name}
-use Rattle.logic.proofs.Completeness.NoClash.{equal-free, reach-free, field-free, boolean-free}
+use Rattle.logic.proofs.Completeness.NoClash.{equal-free, reach-free, field-free}
 use Rattle.logic.proofs.Completeness.ShownNodes.{nodes-length, live-mem, live-node, shownLink-node}
 use Rattle.logic.proofs.Completeness.ReportBytes.{nodesOf, linkOf, place, report-laid}
-use Rattle.logic.proofs.Completeness.ReportHeap.{heap-link, heap-field, heap-boolean, heap-listed, node-listed, is-heap, is-formed}
+use Rattle.logic.proofs.Completeness.ReportHeap.{heap-link, heap-field, heap-listed, node-listed, is-heap, is-formed}
 
 -- "That is 2m+n+5 bytes"
 pub report-size : (q : Query) (s : Facts) → length (report q s) ≡ length (nodesOf q s) + termCount q + length (nodesOf q s) + 5
@@ -45,20 +45,14 @@ signed-bit : {bit : Bool} (ls : List Literal) (test : Literal → Bool) (l : Lit
 signed-bit ls test l set m passes free =
     signed (l .plain) _ (λ e. set ∙ any-intro test l m (passes e)) (λ e on. let r = any-true test ls (sym set ∙ on) in free (r .0) (r .1) (r .2) e)
 
--- the literals that set bit j of the booleans, and bit j of the data of the node of term v
-abbrev setsBoolean : ℕ → Literal → Bool
-setsBoolean j l = l .plain and eqb (l .left) j
-
+-- the literals that set bit j of the data of the node of term v
 abbrev setsField : Facts → ℕ → ℕ → Literal → Bool
 setsField s j v l = l .plain and eqb (l .left) j and eqb (s .rep (l .right)) v
 
-setsBoolean-true : (j : ℕ) (l : Literal) → setsBoolean j l ≡ true → (l .plain ≡ true) × (l .left ≡ j)
-setsBoolean-true j l e = (and-left (l .plain) (eqb (l .left) j) e, eqb-true (l .left) j (and-right (l .plain) (eqb (l .left) j) e))
-
 setsField-true : (s : Facts) (j v : ℕ) (l : Literal) → setsField s j v l ≡ true → (l .plain ≡ true) × (l .left ≡ j) × (s .rep (l .right) ≡ v)
 setsField-true s j v l e =
-    let (plain, field) = setsBoolean-true j l (and-left (setsBoolean j l) (eqb (s .rep (l .right)) v) e) in
-    (plain, field, eqb-true (s .rep (l .right)) v (and-right (setsBoolean j l) (eqb (s .rep (l .right)) v) e))
+    let named = and-left (l .plain and eqb (l .left) j) (eqb (s .rep (l .right)) v) e in
+    (and-left (l .plain) (eqb (l .left) j) named, eqb-true (l .left) j (and-right (l .plain) (eqb (l .left) j) named), eqb-true (s .rep (l .right)) v (and-right (l .plain and eqb (l .left) j) (eqb (s .rep (l .right)) v) e))
 
 getD-zeros : (k i : ℕ) → getD {A = ℕ} (replicate k 0) i 0 ≡ 0
 getD-zeros zero i = refl
@@ -120,11 +114,6 @@ module _ (q : Query) (s : Facts) (acc : Accepted q) (tied : Tied q s) (comp : Co
         ∙ heap-field (report-laid q s rest) (r .index) j (r .within)
         ∙ ap (λ (u : ℕ). bitOf (fieldByte q s u) (j - 1)) (r .element)
         ∙ byte-bit (λ j. any (setsField s j v) (q .fields)) j (h .0) (h .1)
-
-    boolean-set : (j : ℕ) → ToEight j → heapOf q s rest .boolean j ≡ any (setsBoolean j) (q .booleans)
-    unfolding booleanByte
-    boolean-set j h =
-        heap-boolean (report-laid q s rest) j ∙ byte-bit (λ j. any (setsBoolean j) (q .booleans)) j (h .0) (h .1)
 
     variable-place : (t : ℕ) → InTerms q t → heapOf q s rest .variable t ≡ place q s (s .rep t)
     variable-place zero h = absurd (omega arith)
@@ -200,13 +189,6 @@ module _ (q : Query) (s : Facts) (acc : Accepted q) (tied : Tied q s) (comp : Co
           (λ e. and-intro (and-intro e (eq-eqb j j refl)) (eq-eqb v v refl))
           (λ p k t e. let r = setsField-true s j v p t in field-free q s clean l p m k e (r .0) (sym (r .1)) (sym (r .2)))
 
-      boolean-meant : Each (MeansBoolean (heapOf q s rest) (q .entries)) (q .booleans)
-      boolean-meant l m =
-          let j : ℕ = l .left in
-          signed-bit (q .booleans) (setsBoolean j) l (boolean-set j (acc .boolean-number l m)) m
-          (λ e. and-intro e (eq-eqb j j refl))
-          (λ p k t e. let r = setsBoolean-true j p t in boolean-free q s clean l p m k e (r .0) (sym (r .1)))
-
   -- the report, and zeros past it
   pub formed : (k : ℕ) → wellFormed (report q s ++ replicate k 0) ≡ true
   formed k =
@@ -227,7 +209,6 @@ module _ (q : Query) (s : Facts) (acc : Accepted q) (tied : Tied q s) (comp : Co
               equalities = equal-meant rest clean;
               reachability = reach-meant rest clean;
               fields = field-meant rest clean;
-              booleans = boolean-meant rest clean;
             };
         listed = λ t l h. value-place rest t (l, h) ∙ sym (listed-place rest t (l, h));
       }

@@ -6,14 +6,14 @@ use native.Mathlib.Nat.{add-zero, add-suc, suc-add, zero-mul, suc-mul}
 use mathlib.Core.Path.{_≡_, refl, sym, ap, _∙_, subst, subst₂}
 use mathlib.Core.Logic.{⊎-elim}
 use mathlib.Core.Bool.{Bool, true, false, not, cond}
-use mathlib.Core.List.{List, [], _∷_, _++_, List·Memᴰ, List·Memᴰ·cases-cons, List·Memᴰ·not-nil}
+use mathlib.Core.List.{List, [], _∷_, _++_, List·Memᴰ, List·Memᴰ·head, List·Memᴰ·tail, List·Memᴰ·cases-cons, List·Memᴰ·not-nil}
 use mathlib.Core.Option.{none, some}
 use lib.ListN.{length, getD, take, drop, length-append, take-append-drop}
 use lib.Seq.{length-take-le}
 use lib.Dec.{eqb, leb}
 use borrow.Author.Tests.{leb-true, eq-eqb}
 use Rattle.logic.specs.Search.{_and_, from, at, keep, flatMap}
-use Rattle.logic.specs.Query.{Literal, Role, Section, Layout, faulty, parts, withPart, layout, rolesOf, firstByte, roleFault, literals, flags, section}
+use Rattle.logic.specs.Query.{Literal, Role, Section, Layout, faulty, parts, withPart, layout, rolesOf, firstByte, roleFault, literals, section}
 use Rattle.logic.proofs.Basics.Search.{true-false, and-intro, none-some, keep-none, orElse-none}
 
 -- Roles
@@ -170,9 +170,35 @@ first-sized s ss place (c ∷ more) ps l =
     let p = passed s ss place c more ps l in
     ap (λ (qs : List (List ℕ)). length (section qs 0)) (p .first) ∙ length-take-le (c * s .width) more (p .fits)
 
--- the refusals of the walk from the front are 2, 3 and 4
+-- the refusals of the walk from the front, and the forms of query whose counts meet no other
+unfoldable pub layoutNumbers : List ℕ
+layoutNumbers = 2 ∷ 3 ∷ 26 ∷ 4 ∷ []
+
+abbrev pub LayoutNumber : ℕ → Type 0
+LayoutNumber k = List·Memᴰ k layoutNumbers
+
+abbrev pub Excesses : List Section → Type 0
+Excesses [] = Unit {0}
+Excesses (s ∷ ss) = LayoutNumber (s .excess) × Excesses ss
+
+pub two-number : LayoutNumber 2
+unfolding layoutNumbers
+two-number = List·Memᴰ·head refl
+
+pub three-number : LayoutNumber 3
+unfolding layoutNumbers
+three-number = List·Memᴰ·tail (List·Memᴰ·head refl)
+
+pub retired-number : LayoutNumber 26
+unfolding layoutNumbers
+retired-number = List·Memᴰ·tail (List·Memᴰ·tail (List·Memᴰ·head refl))
+
+pub four-number : LayoutNumber 4
+unfolding layoutNumbers
+four-number = List·Memᴰ·tail (List·Memᴰ·tail (List·Memᴰ·tail (List·Memᴰ·head refl)))
+
 abbrev pub Numbered : Layout → Type 0
-Numbered (faulty k place) = (2 ≤ k) × (k ≤ 4)
+Numbered (faulty k place) = LayoutNumber k
 Numbered (parts ps) = Unit {0}
 
 withPart-numbered : (p : List ℕ) (l : Layout) → Numbered l → Numbered (withPart p l)
@@ -180,16 +206,16 @@ unfolding withPart
 withPart-numbered p (faulty k place) h = h
 withPart-numbered p (parts ps) h = h
 
-pub layout-numbered : (ss : List Section) (place : ℕ) (bytes : List ℕ) → Numbered (layout ss place bytes)
+pub layout-numbered : (ss : List Section) (place : ℕ) (bytes : List ℕ) → Excesses ss → Numbered (layout ss place bytes)
 unfolding layout
-layout-numbered [] place [] = tt
-layout-numbered [] place (b ∷ bytes) = omega arith
-layout-numbered (s ∷ ss) place [] = omega arith
-layout-numbered (s ∷ ss) place (c ∷ more) =
+layout-numbered [] place [] h = tt
+layout-numbered [] place (b ∷ bytes) h = four-number
+layout-numbered (s ∷ ss) place [] h = two-number
+layout-numbered (s ∷ ss) place (c ∷ more) h =
     let size : ℕ = c * s .width in
-    let rest = layout-numbered ss (suc place + size) (drop size more) in
+    let rest = layout-numbered ss (suc place + size) (drop size more) (h .1) in
     cond-elim Numbered (leb c (s .limit))
-    (λ t. cond-elim Numbered (leb size (length more)) (λ t′. withPart-numbered (take size more) _ rest) (λ f. omega arith)) (λ f. omega arith)
+    (λ t. cond-elim Numbered (leb size (length more)) (λ t′. withPart-numbered (take size more) _ rest) (λ f. two-number)) (λ f. h .0)
 
 -- Entries
 
@@ -202,7 +228,7 @@ entry-allowed role (suc c) i (b ∷ bytes) h zero l u = rw add-zero (h .0)
 entry-allowed role (suc c) i (b ∷ bytes) h (suc t) l u =
     rw (add-suc, ← suc-add) (entry-allowed role c (suc i) bytes (h .1) t (omega arith) (omega arith))
 
--- the literals of a section of three bytes an entry, and of two
+-- the literals of a section of three bytes an entry
 pub literals-allowed : (sign left right : Role) (c i : ℕ) (bytes : List ℕ) → length bytes ≡ c * 3 → Allowed (flatMap (λ j. sign ∷ left ∷ right ∷ []) (from c i)) bytes → (l : Literal) → List·Memᴰ l (literals bytes) → Allows left (l .left) × Allows right (l .right)
 unfolding flatMap from literals
 literals-allowed sign left right zero i [] e h l m = absurd (List·Memᴰ·not-nil m)
@@ -213,12 +239,3 @@ literals-allowed sign left right (suc c) i (s ∷ a ∷ []) e h l m = absurd (Li
 literals-allowed sign left right (suc c) i (s ∷ a ∷ b ∷ rest) e h l m =
     ⊎-elim (λ q. (rw q (h .1 .0), rw q (h .1 .1 .0))) (literals-allowed sign left right c (suc i) rest (omega arith) (h .1 .1 .1) l)
     (List·Memᴰ·cases-cons m)
-
-pub flags-allowed : (sign left : Role) (c i : ℕ) (bytes : List ℕ) → length bytes ≡ c * 2 → Allowed (flatMap (λ j. sign ∷ left ∷ []) (from c i)) bytes → (l : Literal) → List·Memᴰ l (flags bytes) → Allows left (l .left)
-unfolding flatMap from flags
-flags-allowed sign left zero i [] e h l m = absurd (List·Memᴰ·not-nil m)
-flags-allowed sign left zero i (s ∷ bytes) e h l m = absurd (omega arith)
-flags-allowed sign left (suc c) i [] e h l m = absurd (List·Memᴰ·not-nil m)
-flags-allowed sign left (suc c) i (s ∷ []) e h l m = absurd (List·Memᴰ·not-nil m)
-flags-allowed sign left (suc c) i (s ∷ a ∷ rest) e h l m =
-    ⊎-elim (λ q. rw q (h .1 .0)) (flags-allowed sign left c (suc i) rest (omega arith) (h .1 .1) l) (List·Memᴰ·cases-cons m)

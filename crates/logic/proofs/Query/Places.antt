@@ -1,4 +1,4 @@
--- The places of refusals 2 to 8: none is past the query's end, or past the longest query, which has 681 bytes.
+-- The places of refusals 2 to 8: none is past the query's end, or past the longest query, which has 561 bytes.
 use Prim.Native.Nat.{ℕ, suc, _+_, _*_, _≤_, _<_}
 use native.Mathlib.Omega.{arith}
 use native.Mathlib.Nat.{mul-le-mul, le-refl}
@@ -11,19 +11,19 @@ use lib.ListN.{length, take, drop, length-drop}
 use lib.Dec.{eqb, leb}
 use borrow.Author.Tests.{leb-true, leb-false}
 use Rattle.logic.specs.Search.{_and_, keep}
-use Rattle.logic.specs.Query.{Role, Section, sections, Layout, faulty, parts, withPart, layout, firstByte, layoutOf, faultIn, layoutFault, roleFault, byteFault}
+use Rattle.logic.specs.Query.{Role, Section, fourSections, booleanSection, fiveSections, sections, Layout, faulty, parts, withPart, layout, firstByte, layoutBy, faultIn, layoutFault, roleFault, byteFault}
 use Rattle.logic.proofs.Basics.Search.{none-some, keep-some, orElse-cases}
-use Rattle.logic.proofs.Query.Bytes.{cond-elim}
-use Rattle.logic.proofs.Query.AcceptedBytes.{laid-out}
+use Rattle.logic.proofs.Query.Bytes.{cond-elim, LayoutNumber}
+use Rattle.logic.proofs.Query.AcceptedBytes.{laid-out, sections-excesses}
 
 -- the most bytes that sections have, each with its count
 most : List Section → ℕ
 most [] = 0
 most (s ∷ ss) = 1 + s .limit * s .width + most ss
 
--- "The longest query has 681 bytes."
-most-bytes : (n : ℕ) → most (sections n) ≡ 681
-unfolding most sections
+-- "The longest query has 681 bytes", of which 120 were booleans (02, R-13)
+most-bytes : (n : ℕ) → most (sections n) ≡ 561
+unfolding most sections fiveSections fourSections booleanSection
 most-bytes n = refl
 
 -- A refusal's place is not past the bytes nor past the most; bytes that are laid out are no more than the most.
@@ -51,19 +51,19 @@ layout-bounded (s ∷ ss) place (c ∷ more) =
 
 -- the bytes of a query and a place in it
 abbrev pub InQuery : List ℕ → ℕ → Type 0
-InQuery bytes place = (place ≤ length bytes) × (place ≤ 681)
+InQuery bytes place = (place ≤ length bytes) × (place ≤ 561)
 
-pub layout-place : (k : ℕ) (bytes : List ℕ) (place : ℕ) → layoutFault k bytes ≡ some place → InQuery bytes place
-unfolding layoutFault layoutOf faultIn
-layout-place k bytes place h = go (layoutOf bytes) (layout-bounded (sections (firstByte bytes)) 0 bytes) h
+pub layout-place : (k : ℕ) (bytes : List ℕ) (place : ℕ) → layoutFault sections k bytes ≡ some place → InQuery bytes place
+unfolding layoutFault layoutBy faultIn
+layout-place k bytes place h = go (layoutBy sections bytes) (layout-bounded (sections (firstByte bytes)) 0 bytes) h
   where
     go : (l : Layout) → Bounded (sections (firstByte bytes)) 0 bytes l → faultIn k l ≡ some place → InQuery bytes place
     go (faulty j p) b e = let q = keep-some (eqb j k) e in (omega (arith, b .0, q .1), omega (arith, b .1, q .1, most-bytes (firstByte bytes)))
     go (parts ps) b e = absurd (none-some e)
 
--- a query that is laid out has at most 681 bytes
-laid-short : (bytes : List ℕ) (ps : List (List ℕ)) → layoutOf bytes ≡ parts ps → length bytes ≤ 681
-unfolding layoutOf
+-- a query that is laid out has at most 561 bytes
+laid-short : (bytes : List ℕ) (ps : List (List ℕ)) → layoutBy sections bytes ≡ parts ps → length bytes ≤ 561
+unfolding layoutBy
 laid-short bytes ps e =
     let b : length bytes ≤ most (sections (firstByte bytes)) = subst (Bounded (sections (firstByte bytes)) 0 bytes) e (layout-bounded (sections (firstByte bytes)) 0 bytes) in
     omega (arith, b, most-bytes (firstByte bytes))
@@ -78,10 +78,10 @@ role-place k place (r ∷ roles) (b ∷ bytes) p h =
     (λ e. let ih = role-place k (suc place) roles bytes p (e .1) in omega arith)
     (orElse-cases (keep (eqb (r .refusal) k and not (r .allows b)) place) (roleFault k (suc place) roles bytes) p h)
 
--- refusals 5 to 8 are met only where 2 to 4 are not
-pub byte-place : (k : ℕ) (bytes : List ℕ) (place : ℕ) → ((j : ℕ) → 2 ≤ j → j ≤ 4 → layoutFault j bytes ≡ none) → byteFault k bytes ≡ some place → InQuery bytes place
+-- refusals 5 to 8 are met only where those of the walk from the front are not
+pub byte-place : (k : ℕ) (bytes : List ℕ) (place : ℕ) → ((j : ℕ) → LayoutNumber j → layoutFault sections j bytes ≡ none) → byteFault sections k bytes ≡ some place → InQuery bytes place
 unfolding byteFault
 byte-place k bytes place passed h =
     let p = role-place k 0 _ bytes place h in
-    let l = laid-out bytes passed in
+    let l = laid-out sections bytes (sections-excesses (firstByte bytes)) passed in
     (omega arith, omega (arith, laid-short bytes (l .0) (l .1)))

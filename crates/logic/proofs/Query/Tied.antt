@@ -19,7 +19,6 @@ pub record Accepted (q : Query) : Type 0 where
   pub reach-terms : (l : Literal) → List·Memᴰ l (q .reachability) → InTerms q (l .left) × InTerms q (l .right)
   pub field-number : (l : Literal) → List·Memᴰ l (q .fields) → ToEight (l .left)
   pub field-term : (l : Literal) → List·Memᴰ l (q .fields) → InTerms q (l .right)
-  pub boolean-number : (l : Literal) → List·Memᴰ l (q .booleans) → ToEight (l .left)
 
 -- the path holds the query: its terms' links, nil's rule, and its plain equalities and reachability literals, read through `rep`
 pub record Tied (q : Query) (s : Facts) : Type 0 where

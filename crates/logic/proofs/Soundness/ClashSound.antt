@@ -63,21 +63,13 @@ module _ (q : Query) (ok : Accepted q) (h : Heap) (meets : Meets h q) (s : Facts
       ap₂ (h .field) (eqb-true (l .left) (k .left) (and-left _ _ (p .2))) (rep-equal (l .right) (k .right) (ok .field-term l m .0) (ok .field-term k (p .1) .0) (and-right _ _ (p .2)))
       ∙ p .3
 
-  boolean-shown : (j : ℕ) (l : Literal) → List·Memᴰ l (q .booleans) → plainAt (q .booleans) j (λ m. eqb (l .left) (m .left)) ≡ true → h .boolean (l .left) ≡ true
-  boolean-shown j l m e =
-      let p = plain-meant (q .booleans) (λ k. h .boolean (k .left) ≡ true) (meets .booleans) j _ e in
-      ap (h .boolean) (eqb-true (l .left) (p .0 .left) (p .2)) ∙ p .3
-
   pub clash-sound : (l : Line) → isClash q s l ≡ true → ⊥
   unfolding isClash
   clash-sound (line nine section i j) e =
       ⊎-elim
       (λ e′. ⊎-elim
-      (λ e″. ⊎-elim
       (λ p. negated-not (q .equalities) _ (meets .equalities) i _ equality-shown (and-right _ _ p))
       (λ p. negated-not (q .reachability) _ (meets .reachability) i _ reach-shown (and-right _ _ p))
-      (or-cases _ _ e″))
-      (λ p. negated-not (q .fields) _ (meets .fields) i _ (field-shown j) (and-right _ _ p))
       (or-cases _ _ e′))
-      (λ p. negated-not (q .booleans) _ (meets .booleans) i _ (boolean-shown j) (and-right _ _ p))
+      (λ p. negated-not (q .fields) _ (meets .fields) i _ (field-shown j) (and-right _ _ p))
       (or-cases _ _ (and-right _ _ e))

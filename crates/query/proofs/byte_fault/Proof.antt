@@ -1,8 +1,9 @@
 -- The sections are searched one behind the other, and the first fault is the query's. Assumes nothing.
+use Prim.Native.Nat.{ℕ}
 use native.Mathlib.Omega.{arith}
 use borrow.Author.Needs.{needs}
 use mathlib.Core.Path.{_≡_, sym, ap, _∙_}
-use Rattle.logic.specs.Query.{byteFault}
+use Rattle.logic.specs.Query.{fiveSections, byteFault}
 use Rattle.query.specs.Answers.{foundOf}
 use Rattle.query.proofs.Faults.{orElse-some, orElse-next, from₂, from₃, from₄, from₅, byte-faults}
 use Rattle.query.proofs.byte_fault.Statement.{statement}
@@ -11,39 +12,39 @@ use Rattle.query.proofs.byte_fault.Tie as tie
 -- Behind each section that has no fault: the function's entry, and what is left to search.
 
 abbrev start₁ : tie.After-enum-told → tie.Start
-start₁ c = c .before .before .before .before
+start₁ c = c .before .before .before .before .before
 
-left₁ : (c : tie.After-enum-told) → byteFault (start₁ c .args .k) (start₁ c .args .query .now) ≡ from₂ (start₁ c .args .k) (start₁ c .args .l) (start₁ c .args .query .now)
-left₁ c = byte-faults _ _ _ (start₁ c .pre) ∙ orElse-next _ (sym (c .before .before .section-fault .ensures) ∙ ap foundOf (c .enum-told .given .1))
+left₁ : (c : tie.After-enum-told) (most excess : ℕ) → byteFault (fiveSections most excess) (start₁ c .args .k) (start₁ c .args .query .now) ≡ from₂ (start₁ c .args .k) (start₁ c .args .full) (start₁ c .args .query .now)
+left₁ c most excess = byte-faults _ _ _ (start₁ c .pre) most excess ∙ orElse-next _ (sym (c .before .before .section-fault .ensures) ∙ ap foundOf (c .enum-told .given .1))
 
 abbrev start₂ : tie.After-enum-told2 → tie.Start
 start₂ c = start₁ (c .before .before .before)
 
-left₂ : (c : tie.After-enum-told2) → byteFault (start₂ c .args .k) (start₂ c .args .query .now) ≡ from₃ (start₂ c .args .k) (start₂ c .args .l) (start₂ c .args .query .now)
-left₂ c = left₁ (c .before .before .before) ∙ orElse-next _ (sym (c .before .before .section-fault2 .ensures) ∙ ap foundOf (c .enum-told2 .given .1))
+left₂ : (c : tie.After-enum-told2) (most excess : ℕ) → byteFault (fiveSections most excess) (start₂ c .args .k) (start₂ c .args .query .now) ≡ from₃ (start₂ c .args .k) (start₂ c .args .full) (start₂ c .args .query .now)
+left₂ c most excess = left₁ (c .before .before .before) most excess ∙ orElse-next _ (sym (c .before .before .section-fault2 .ensures) ∙ ap foundOf (c .enum-told2 .given .1))
 
 abbrev start₃ : tie.After-enum-told3 → tie.Start
 start₃ c = start₂ (c .before .before .before)
 
-left₃ : (c : tie.After-enum-told3) → byteFault (start₃ c .args .k) (start₃ c .args .query .now) ≡ from₄ (start₃ c .args .k) (start₃ c .args .l) (start₃ c .args .query .now)
-left₃ c = left₂ (c .before .before .before) ∙ orElse-next _ (sym (c .before .before .section-fault3 .ensures) ∙ ap foundOf (c .enum-told3 .given .1))
+left₃ : (c : tie.After-enum-told3) (most excess : ℕ) → byteFault (fiveSections most excess) (start₃ c .args .k) (start₃ c .args .query .now) ≡ from₄ (start₃ c .args .k) (start₃ c .args .full) (start₃ c .args .query .now)
+left₃ c most excess = left₂ (c .before .before .before) most excess ∙ orElse-next _ (sym (c .before .before .section-fault3 .ensures) ∙ ap foundOf (c .enum-told3 .given .1))
 
 abbrev start₄ : tie.After-enum-told4 → tie.Start
 start₄ c = start₃ (c .before .before .before)
 
-left₄ : (c : tie.After-enum-told4) → byteFault (start₄ c .args .k) (start₄ c .args .query .now) ≡ from₅ (start₄ c .args .k) (start₄ c .args .l) (start₄ c .args .query .now)
-left₄ c = left₃ (c .before .before .before) ∙ orElse-next _ (sym (c .before .before .section-fault4 .ensures) ∙ ap foundOf (c .enum-told4 .given .1))
+left₄ : (c : tie.After-enum-told4) (most excess : ℕ) → byteFault (fiveSections most excess) (start₄ c .args .k) (start₄ c .args .query .now) ≡ from₅ (start₄ c .args .k) (start₄ c .args .full) (start₄ c .args .query .now)
+left₄ c most excess = left₃ (c .before .before .before) most excess ∙ orElse-next _ (sym (c .before .before .section-fault4 .ensures) ∙ ap foundOf (c .enum-told4 .given .1))
 
 pub byte-fault-spec : {M : Type 1} → statement M
 byte-fault-spec =
     tie.close
     (tie.spec
     -- section-fault-requires
-    (λ c κs. let s = c .before .pre in let t = s .terms in omega (arith, s, t .fits, t .next-is))
+    (λ c κs. let s = c .before .before .pre in let t = s .terms in omega (arith, s, t .fits, t .next-is))
     -- enum-known-p
     (λ c. search needs)
     -- returns
-    (λ c. sym (byte-faults _ _ _ (c .before .before .before .before .before .pre) ∙ orElse-some _ (sym (c .before .before .before .section-fault .ensures) ∙ ap foundOf (c .before .p .given .1))))
+    (λ c most excess. sym (byte-faults _ _ _ (c .before .before .before .before .before .before .pre) most excess ∙ orElse-some _ (sym (c .before .before .before .section-fault .ensures) ∙ ap foundOf (c .before .p .given .1))))
     -- enum-told
     (λ c. search needs)
     -- section-fault-requires-2
@@ -51,7 +52,7 @@ byte-fault-spec =
     -- enum-known-p-2
     (λ c. search needs)
     -- returns-2
-    (λ c. sym (left₁ (c .before .before .before .before) ∙ orElse-some _ (sym (c .before .before .before .section-fault2 .ensures) ∙ ap foundOf (c .before .p2 .given .1))))
+    (λ c most excess. sym (left₁ (c .before .before .before .before) most excess ∙ orElse-some _ (sym (c .before .before .before .section-fault2 .ensures) ∙ ap foundOf (c .before .p2 .given .1))))
     -- enum-told-2
     (λ c. search needs)
     -- section-fault-requires-3
@@ -59,7 +60,7 @@ byte-fault-spec =
     -- enum-known-p-3
     (λ c. search needs)
     -- returns-3
-    (λ c. sym (left₂ (c .before .before .before .before) ∙ orElse-some _ (sym (c .before .before .before .section-fault3 .ensures) ∙ ap foundOf (c .before .p3 .given .1))))
+    (λ c most excess. sym (left₂ (c .before .before .before .before) most excess ∙ orElse-some _ (sym (c .before .before .before .section-fault3 .ensures) ∙ ap foundOf (c .before .p3 .given .1))))
     -- enum-told-3
     (λ c. search needs)
     -- section-fault-requires-4
@@ -67,10 +68,10 @@ byte-fault-spec =
     -- enum-known-p-4
     (λ c. search needs)
     -- returns-4
-    (λ c. sym (left₃ (c .before .before .before .before) ∙ orElse-some _ (sym (c .before .before .before .section-fault4 .ensures) ∙ ap foundOf (c .before .p4 .given .1))))
+    (λ c most excess. sym (left₃ (c .before .before .before .before) most excess ∙ orElse-some _ (sym (c .before .before .before .section-fault4 .ensures) ∙ ap foundOf (c .before .p4 .given .1))))
     -- enum-told-4
     (λ c. search needs)
     -- section-fault-requires-5
     (λ c κs. let s = start₄ c .pre in let t = s .booleans in omega (arith, s, t .fits, t .next-is))
     -- returns-5
-    (λ c. sym (left₄ (c .before) ∙ sym (c .section-fault5 .ensures))))
+    (λ c most excess. sym (left₄ (c .before) most excess ∙ sym (c .section-fault5 .ensures))))

@@ -1,22 +1,23 @@
--- What the walk from the front refuses is refused; the rest goes by its bytes. Assumes nothing.
+-- A query as it is now has the form where no boolean passes. Assumes nothing.
 use borrow.Author.Needs.{needs}
-use Rattle.query.proofs.Checks.{layout-refused}
+use Rattle.logic.specs.Query.{sections, layoutOf, decode}
+use Rattle.logic.specs.Calls.{queryChecks}
+use Rattle.logic.proofs.Query.Bytes.{layoutNumbers, retired-number}
 use Rattle.query.proofs.check.Statement.{statement}
 use Rattle.query.proofs.check.Tie as tie
 
 pub check-spec : {M : Type 1} → statement M
+unfolding queryChecks sections decode layoutOf layoutNumbers
 check-spec =
     tie.close
     (tie.spec
-    -- lay-out-requires
+    -- check-with-requires
     (λ c κs. search needs)
     -- enum-known-k
     (λ c. search needs)
-    -- enum-known-l
+    -- enum-known-full
     (λ c. search needs)
-    -- check-bytes-requires
-    (λ c κs. rw (c .before .l .given .1) at (c .before .before .before .lay-out .ensures))
     -- returns
-    (λ c. layout-refused _ _ _ (rw (c .before .k .given .1) at (c .before .before .before .lay-out .ensures)))
+    (λ c. (rw (c .before .k .given .1) at (c .before .before .before .check-with .ensures)) retired-number)
     -- returns-2
-    (λ c. c .check-bytes .ensures))
+    (λ c. let h = rw (c .before .before .full .given .1) at (c .before .before .before .before .check-with .ensures) in (h .0, h .1 .four)))

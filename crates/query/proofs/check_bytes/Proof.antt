@@ -1,10 +1,11 @@
 -- The refusals from k on answer for all of 5 to 8. Assumes nothing.
-use Prim.Native.Nat.{_-_}
+use Prim.Native.Nat.{ℕ, _-_, _≤_}
 use native.Mathlib.Omega.{arith}
 use borrow.Author.Needs.{needs}
 use mathlib.Core.Path.{_≡_, sym, ap, _∙_}
 use Rattle.logic.specs.Search.{from, firstOf}
-use Rattle.logic.specs.Calls.{Input, queryChecks, refusalOf}
+use Rattle.logic.specs.Query.{fiveSections}
+use Rattle.logic.specs.Calls.{Input, formChecks, refusalOf}
 use Rattle.query.specs.Answers.{foundOf}
 use Rattle.query.proofs.Loops.{first-end, first-here, first-next}
 use Rattle.query.proofs.Checks.{byteAnswer, answer-some, answer-none, byte-checks, laid-out, lays-out}
@@ -12,10 +13,11 @@ use Rattle.query.proofs.check_bytes.Statement.{statement}
 use Rattle.query.proofs.check_bytes.Tie as tie
 
 abbrev Inv-loop : tie.InvT-loop
-Inv-loop query l k₀ k = (i : Input) → i .query ≡ query → refusalOf queryChecks i ≡ firstOf (byteAnswer query) (from (9 - k) k)
+Inv-loop query full k₀ k =
+    (most excess : ℕ) → full .«boolean_count» ≤ most → (i : Input) → i .query ≡ query → refusalOf (formChecks (fiveSections most excess)) i ≡ firstOf (byteAnswer (fiveSections most excess) query) (from (9 - k) k)
 
 abbrev μ-loop : tie.MeasureT-loop
-μ-loop query l k₀ k = 9 - k
+μ-loop query full k₀ k = 9 - k
 
 pub check-bytes-spec : {M : Type 1} → statement M
 check-bytes-spec =
@@ -24,13 +26,13 @@ check-bytes-spec =
     Inv-loop
     μ-loop
     -- loop-holds
-    (λ c. byte-checks _ _ (laid-out _ _ (c .before .pre)))
+    (λ c most excess few. byte-checks _ _ _ (laid-out _ _ (c .before .pre) most excess few))
     -- byte-fault-requires
     (λ c κs. c .before .before .before .pre)
     -- enum-known-place
     (λ c. search needs)
     -- returns
-    (λ c i q. c .before .before .before .before .before .loop .inv i q ∙ first-here _ _ _ _ (c .before .before .before .before .loop-test .taken) (answer-some _ _ _ (sym (c .before .before .before .byte-fault .ensures) ∙ ap foundOf (c .before .place .given .1))))
+    (λ c most excess few m i q. c .before .before .before .before .before .loop .inv most excess few i q ∙ first-here _ _ _ _ (c .before .before .before .before .loop-test .taken) (answer-some _ _ _ _ (sym (c .before .before .before .byte-fault .ensures most excess) ∙ ap foundOf (c .before .place .given .1))))
     -- enum-told
     (λ c. search needs)
     -- add-k
@@ -38,6 +40,6 @@ check-bytes-spec =
     -- loop-less
     (λ c. omega arith)
     -- loop-again
-    (λ c i q. c .before .before .before .before .loop .inv i q ∙ first-next _ _ _ (c .before .before .before .loop-test .taken) (answer-none _ _ (sym (c .before .before .byte-fault .ensures) ∙ ap foundOf (c .enum-told .given .1))))
+    (λ c most excess few i q. c .before .before .before .before .loop .inv most excess few i q ∙ first-next _ _ _ (c .before .before .before .loop-test .taken) (answer-none _ _ _ (sym (c .before .before .byte-fault .ensures most excess) ∙ ap foundOf (c .enum-told .given .1))))
     -- returns-2
-    (λ c. (λ i q. c .before .loop .inv i q ∙ first-end _ _ _ (c .loop-test .left), lays-out _ _ (c .before .before .before .pre))))
+    (λ c most excess few. (λ i q. c .before .loop .inv most excess few i q ∙ first-end _ _ _ (c .loop-test .left), lays-out _ _ (c .before .before .before .pre) most excess few)))

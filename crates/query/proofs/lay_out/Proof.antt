@@ -2,16 +2,16 @@
 use Prim.Native.Nat.{ℕ, _+_, _≤_, _<_, _^_}
 use native.Mathlib.Omega.{arith}
 use borrow.Author.Needs.{needs}
-use native.Mathlib.Nat.{le-antisymm}
+use native.Mathlib.Nat.{le-antisymm, le-refl}
 use mathlib.Core.Path.{refl, subst}
 use mathlib.Core.List.{List}
 use lib.ListN.{length, drop}
 use mir.Val.{Fits}
 use mir.Syntax.{w64}
-use Rattle.logic.specs.Query.{sections, firstByte}
+use Rattle.logic.specs.Query.{Form, fourSections, booleanSection, fiveSections, firstByte}
 use Rattle.query.specs.Sections.{Stands}
 use Rattle.query.specs.declared.Part.{Part}
-use Rattle.query.proofs.Reading.{read-section, Reached, at-front, beyond, stopped, trailing}
+use Rattle.query.proofs.Reading.{read-section, with-limit, Reached, at-front, beyond, stopped, trailing}
 use Rattle.query.proofs.lay_out.Statement.{statement}
 use Rattle.query.proofs.lay_out.Tie as tie
 
@@ -20,66 +20,81 @@ use Rattle.query.proofs.lay_out.Tie as tie
 abbrev bytes₁ : tie.After-known-told2 → List ℕ
 bytes₁ c = c .before .before .before .before .before .args .query .now
 
+abbrev form₁ : tie.After-known-told2 → Form
+form₁ c = let a = c .before .before .before .before .before .args in fiveSections (a .most) (a .excess)
+
 abbrev part₁ : tie.After-known-told2 → Part
 part₁ c = c .before .part .given .0 .0
 
 stands₁ : (c : tie.After-known-told2) → Stands (bytes₁ c) 16 1 0 (part₁ c .count) (part₁ c .next)
-stands₁ c = read-section _ _ _ _ (c .before .part .given .1) (c .before .before .before .read-section .ensures)
+stands₁ c = read-section _ _ _ _ _ (c .before .part .given .1) (c .before .before .before .read-section .ensures)
 
-reached₁ : (c : tie.After-known-told2) → Reached (bytes₁ c) (drop 1 (sections (firstByte (bytes₁ c)))) (part₁ c .next)
-unfolding sections
-reached₁ c = beyond (at-front _) (stands₁ c)
+reached₁ : (c : tie.After-known-told2) → Reached (form₁ c) (bytes₁ c) (drop 1 (form₁ c (firstByte (bytes₁ c)))) (part₁ c .next)
+unfolding fiveSections fourSections booleanSection
+reached₁ c = beyond (at-front _ _) (stands₁ c)
 
 abbrev bytes₂ : tie.After-known-told4 → List ℕ
 bytes₂ c = bytes₁ (c .before .before .before .before)
+
+abbrev form₂ : tie.After-known-told4 → Form
+form₂ c = form₁ (c .before .before .before .before)
 
 abbrev part₂ : tie.After-known-told4 → Part
 part₂ c = c .before .part2 .given .0 .0
 
 stands₂ : (c : tie.After-known-told4) → Stands (bytes₂ c) 60 3 (part₁ (c .before .before .before .before) .next) (part₂ c .count) (part₂ c .next)
-stands₂ c = read-section _ _ _ _ (c .before .part2 .given .1) (c .before .before .before .read-section2 .ensures)
+stands₂ c = read-section _ _ _ _ _ (c .before .part2 .given .1) (c .before .before .before .read-section2 .ensures)
 
-reached₂ : (c : tie.After-known-told4) → Reached (bytes₂ c) (drop 2 (sections (firstByte (bytes₂ c)))) (part₂ c .next)
-unfolding sections
+reached₂ : (c : tie.After-known-told4) → Reached (form₂ c) (bytes₂ c) (drop 2 (form₂ c (firstByte (bytes₂ c)))) (part₂ c .next)
+unfolding fiveSections fourSections booleanSection
 reached₂ c = beyond (reached₁ (c .before .before .before .before)) (stands₂ c)
 
 abbrev bytes₃ : tie.After-known-told6 → List ℕ
 bytes₃ c = bytes₂ (c .before .before .before .before)
 
+abbrev form₃ : tie.After-known-told6 → Form
+form₃ c = form₂ (c .before .before .before .before)
+
 abbrev part₃ : tie.After-known-told6 → Part
 part₃ c = c .before .part3 .given .0 .0
 
 stands₃ : (c : tie.After-known-told6) → Stands (bytes₃ c) 60 3 (part₂ (c .before .before .before .before) .next) (part₃ c .count) (part₃ c .next)
-stands₃ c = read-section _ _ _ _ (c .before .part3 .given .1) (c .before .before .before .read-section3 .ensures)
+stands₃ c = read-section _ _ _ _ _ (c .before .part3 .given .1) (c .before .before .before .read-section3 .ensures)
 
-reached₃ : (c : tie.After-known-told6) → Reached (bytes₃ c) (drop 3 (sections (firstByte (bytes₃ c)))) (part₃ c .next)
-unfolding sections
+reached₃ : (c : tie.After-known-told6) → Reached (form₃ c) (bytes₃ c) (drop 3 (form₃ c (firstByte (bytes₃ c)))) (part₃ c .next)
+unfolding fiveSections fourSections booleanSection
 reached₃ c = beyond (reached₂ (c .before .before .before .before)) (stands₃ c)
 
 abbrev bytes₄ : tie.After-known-told8 → List ℕ
 bytes₄ c = bytes₃ (c .before .before .before .before)
 
+abbrev form₄ : tie.After-known-told8 → Form
+form₄ c = form₃ (c .before .before .before .before)
+
 abbrev part₄ : tie.After-known-told8 → Part
 part₄ c = c .before .part4 .given .0 .0
 
 stands₄ : (c : tie.After-known-told8) → Stands (bytes₄ c) 60 3 (part₃ (c .before .before .before .before) .next) (part₄ c .count) (part₄ c .next)
-stands₄ c = read-section _ _ _ _ (c .before .part4 .given .1) (c .before .before .before .read-section4 .ensures)
+stands₄ c = read-section _ _ _ _ _ (c .before .part4 .given .1) (c .before .before .before .read-section4 .ensures)
 
-reached₄ : (c : tie.After-known-told8) → Reached (bytes₄ c) (drop 4 (sections (firstByte (bytes₄ c)))) (part₄ c .next)
-unfolding sections
+reached₄ : (c : tie.After-known-told8) → Reached (form₄ c) (bytes₄ c) (drop 4 (form₄ c (firstByte (bytes₄ c)))) (part₄ c .next)
+unfolding fiveSections fourSections booleanSection
 reached₄ c = beyond (reached₃ (c .before .before .before .before)) (stands₄ c)
 
 abbrev bytes₅ : tie.After-known-told10 → List ℕ
 bytes₅ c = bytes₄ (c .before .before .before .before)
 
+abbrev form₅ : tie.After-known-told10 → Form
+form₅ c = form₄ (c .before .before .before .before)
+
 abbrev part₅ : tie.After-known-told10 → Part
 part₅ c = c .before .part5 .given .0 .0
 
-stands₅ : (c : tie.After-known-told10) → Stands (bytes₅ c) 60 2 (part₄ (c .before .before .before .before) .next) (part₅ c .count) (part₅ c .next)
-stands₅ c = read-section _ _ _ _ (c .before .part5 .given .1) (c .before .before .before .read-section5 .ensures)
+stands₅ : (c : tie.After-known-told10) → Stands (bytes₅ c) (c .before .before .before .before .before .before .before .before .before .before .before .before .before .before .before .before .before .before .before .before .before .args .most) 2 (part₄ (c .before .before .before .before) .next) (part₅ c .count) (part₅ c .next)
+stands₅ c = read-section _ _ _ _ _ (c .before .part5 .given .1) (c .before .before .before .read-section5 .ensures)
 
-reached₅ : (c : tie.After-known-told10) → Reached (bytes₅ c) (drop 5 (sections (firstByte (bytes₅ c)))) (part₅ c .next)
-unfolding sections
+reached₅ : (c : tie.After-known-told10) → Reached (form₅ c) (bytes₅ c) (drop 5 (form₅ c (firstByte (bytes₅ c)))) (part₅ c .next)
+unfolding fiveSections fourSections booleanSection
 reached₅ c = beyond (reached₄ (c .before .before .before .before)) (stands₅ c)
 
 -- from behind the fifth section to behind the others
@@ -103,11 +118,11 @@ fits-behind : {bytes : List ℕ} {limit width at count next : ℕ} → Stands by
 fits-behind stands h = record { fits = omega (arith, stands .counted) }
 
 -- no byte follows the section
-to-end : {bytes : List ℕ} {limit width at count next : ℕ} → Stands bytes limit width at count next → length bytes ≤ next → Stands bytes limit width at count (length bytes)
-to-end {bytes} {limit} {width} {at} {count} {next} stands h = subst (Stands bytes limit width at count) (le-antisymm (stands .fits) h) stands
+to-end : {bytes : List ℕ} {limit width at count next : ℕ} → Stands bytes limit width at count next → length bytes ≤ next → Stands bytes count width at count (length bytes)
+to-end {bytes} {limit} {width} {at} {count} {next} stands h = subst (Stands bytes count width at count) (le-antisymm (stands .fits) h) (with-limit count stands (le-refl count))
 
 pub lay-out-spec : {M : Type 1} → statement M
-unfolding sections
+unfolding fiveSections fourSections booleanSection
 lay-out-spec =
     tie.close
     (tie.spec
@@ -116,7 +131,7 @@ lay-out-spec =
     -- enum-known-k
     (λ c. search needs)
     -- returns
-    (λ c. stopped (at-front _) (c .before .k .given .1) (c .before .before .before .read-section .ensures))
+    (λ c. stopped (at-front _ _) (c .before .k .given .1) (c .before .before .before .read-section .ensures))
     -- enum-known-part
     (λ c. search needs)
     -- read-section-requires-2
@@ -163,19 +178,21 @@ lay-out-spec =
     (λ c. let d = c .before .before .before .before .before .before in fits-behind (stands₅ d) (short (to₁ d)))
     -- returns-7
     (λ c.
-    let d = c .before .before .before .before .before .before in
-    record {
-      second = part₁ (to₁ d) .next;
-      third = part₂ (to₂ d) .next;
-      fourth = part₃ (to₃ d) .next;
-      fifth = part₄ (to₄ d) .next;
-      terms = stands₁ (to₁ d);
-      equalities = stands₂ (to₂ d);
-      reachability = stands₃ (to₃ d);
-      fields = stands₄ (to₄ d);
-      booleans = to-end (stands₅ d) (c .before .before .before .before .if1 .left);
-      equal-at = refl;
-      reach-at = refl;
-      field-at = refl;
-      boolean-at = refl;
-    }))
+    let d = c .before .before .before .before .before .before in (
+      record {
+        second = part₁ (to₁ d) .next;
+        third = part₂ (to₂ d) .next;
+        fourth = part₃ (to₃ d) .next;
+        fifth = part₄ (to₄ d) .next;
+        terms = stands₁ (to₁ d);
+        equalities = stands₂ (to₂ d);
+        reachability = stands₃ (to₃ d);
+        fields = stands₄ (to₄ d);
+        booleans = to-end (stands₅ d) (c .before .before .before .before .if1 .left);
+        equal-at = refl;
+        reach-at = refl;
+        field-at = refl;
+        boolean-at = refl;
+      },
+      stands₅ d .within,
+    )))

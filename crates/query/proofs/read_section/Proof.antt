@@ -18,13 +18,13 @@ read-section-spec =
     tie.close
     (tie.spec
     -- returns
-    (λ c s ss l w. missing s ss _ _ (c .if1 .taken))
+    (λ c s ss l x w. missing s ss _ _ (c .if1 .taken))
     -- shared-slice-read-count
     (λ c. search needs)
     -- cast-count
     (λ c. omega (arith, c .shared-slice-known .given (c .before .before .args .at)))
     -- returns-2
-    (λ c s ss l w. above s ss _ _ (omega arith) (omega arith))
+    (λ c s ss l x w. rw (← x) (above s ss _ _ (omega arith) (omega arith)))
     -- mul-size
     (λ c. size-fits (omega (arith, c .before .shared-slice-known .given (c .before .before .before .args .at))) (omega arith))
     -- sub-left
@@ -32,7 +32,7 @@ read-section-spec =
     -- sub-left-2
     (λ c. search needs)
     -- returns-3
-    (λ c s ss l w. short s ss _ _ (omega arith) (omega arith) (rw w (omega arith)))
+    (λ c s ss l x w. short s ss _ _ (omega arith) (omega arith) (rw w (omega arith)))
     -- add-t12
     (λ c. search needs)
     -- add-t13

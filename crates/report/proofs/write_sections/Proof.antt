@@ -29,7 +29,7 @@ write-sections-spec =
     let p = c .before .before .before .before .before .before .before .before .before .before .before .before .before .before .before .before .before .before .before .before .before .before .before .before .before .pre in
     let a = c .before .before .before .before .before .before .before .before .before .before .before .before .before .before .before .before .before .before .before .before .before .before .before .before .before .args in
     sections-written _ (c .before .before .before .before .before .before .before .before .before .before .before .before .before .before .before .before .before .before .before .before .before .before .clear .last .0) (c .before .before .before .before .before .before .before .before .before .before .before .before .before .before .before .before .before .before .put-node-section .last .0) (c .before .before .before .before .before .before .before .before .before .before .before .before .before .before .put-term-section .last .0) (c .before .before .before .before .before .before .before .before .before .before .put-node-section2 .last .0) (c .before .before .before .before .before .before .put .last .0) (c .before .before .put2 .last .0)
-    _ _ (marked (a .marks .now) (a .n)) (λ t. getD (a .successors .now) t 0) (λ t. getD (a .places .now) t 0) (λ t. getD (a .fields .now) t 0) _ _ _ _ _
+    _ _ (marked (a .marks .now) (a .n)) (λ t. getD (a .successors .now) t 0) (λ t. getD (a .places .now) t 0) (λ t. getD (a .fields .now) t 0) _ _ _ _
     (p .2) (c .before .before .before .before .before .before .before .before .before .before .before .before .before .before .before .before .before .before .before .before .before .before .clear .ensures)
     (c .before .before .before .before .before .before .before .before .before .before .before .before .before .before .before .before .before .before .put-node-section .kept .0) (c .before .before .before .before .before .before .before .before .before .before .before .before .before .before .put-term-section .kept .0) (c .before .before .before .before .before .before .before .before .before .before .put-node-section2 .kept .0) (c .before .before .before .before .before .before .put .kept .0)
     (c .before .before .before .before .before .before .before .before .before .before .before .before .before .before .before .before .before .before .put-node-section .ensures) (c .before .before .before .before .before .before .before .before .before .before .before .before .before .before .put-term-section .ensures) (c .before .before .before .before .before .before .before .before .before .before .put-node-section2 .ensures) (c .before .before .before .before .before .before .put .ensures) (c .before .before .put2 .ensures .1)))

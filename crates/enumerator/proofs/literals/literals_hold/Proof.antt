@@ -5,10 +5,10 @@ use Rattle.enumerator.proofs.literals.literals_hold.Statement.{statemen
 use Rattle.enumerator.proofs.literals.literals_hold.Tie as tie
 
 abbrev Inv-loop : tie.InvT-loop
-Inv-loop query heap section₀ section = section ≤ 6
+Inv-loop query heap section₀ section = section ≤ 5
 
 abbrev μ-loop : tie.MeasureT-loop
-μ-loop query heap section₀ section = 6 - section
+μ-loop query heap section₀ section = 5 - section
 
 pub literals-hold-spec : {M : Type 1} → statement M
 literals-hold-spec =

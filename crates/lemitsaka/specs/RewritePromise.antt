@@ -1,0 +1,15 @@
+-- What the rewriting call promises to C.
+use Prim.Native.Nat.{ℕ, _%_}
+use mathlib.Core.Path.{_≡_}
+use mathlib.Core.List.{List}
+use Rattle.rewriting.specs.Call.{Outcome, Answer, written, refused}
+use Rattle.lemitsaka.specs.Codes.{numberedCode}
+
+-- an answer as a number, for C: a query has at most 561 bytes
+abbrev pub codeOfRewrite : Answer → ℕ
+codeOfRewrite (written length) = length % 65536
+codeOfRewrite (refused k place) = numberedCode k place
+
+pub record RewriteCodes (outcome : Outcome) (r : ℕ) (bytes : List ℕ) : Type 0 where
+  pub answers : r ≡ codeOfRewrite (outcome .answer)
+  pub leaves : bytes ≡ outcome .lent

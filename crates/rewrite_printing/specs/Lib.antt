@@ -1,0 +1,2 @@
+pub mod RewriteText
+pub mod Examples

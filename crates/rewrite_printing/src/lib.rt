@@ -1,0 +1,30 @@
+// What rewritequery prints, made in a lent buffer (02, R-13). The program reads, asks for the text and writes it.
+use rewriter::Rewritten;
+ghost use Prim.Native.Nat.{ℕ};
+ghost use Rattle.text.specs.Text.{Writes};
+ghost use Rattle.rewrite_printing.specs.RewriteText.{textOf, rewritequeryText};
+
+// The rewritten query, or the refusal.
+fn put_rewritten(buffer: &mut [u8], query: &[u8]) -> usize
+    ensures { λ r. ⌜ Writes (now (buffer .entry)) 0 (textOf (now (query .entry))) (now (buffer .exit)) r ⌝ }
+{
+    let mut out = [0u8; 561];
+    match rewriter::rewrite(query, &mut out) {
+        Rewritten::Written(length) => {
+            let end = check_printing::at_most(length, 561);
+            join_printing::put_hex_line(buffer, 0, &out[..end])
+        }
+        Rewritten::Refused(k, place) => wording::put_refusal(buffer, 0, k, place),
+    }
+}
+
+// The text of these bytes, of which at most the first 1,024 are read. It answers the length of the text, which is stored as far as there is
+// room.
+pub fn put_text(buffer: &mut [u8], input: &[u8]) -> usize
+    ensures { λ r. ⌜ Writes (now (buffer .entry)) 0 (rewritequeryText (now (input .entry))) (now (buffer .exit)) r ⌝ }
+{
+    if 1024 < input.len() {
+        return put_rewritten(buffer, &input[..1024]);
+    }
+    put_rewritten(buffer, input)
+}

@@ -1,0 +1,20 @@
+-- One byte behind the other. Assumes nothing.
+use borrow.Author.Needs.{needs}
+use Rattle.text.proofs.Writing.{writes-then, writes-length}
+use Rattle.rewriter.proofs.put_field.Statement.{statement}
+use Rattle.rewriter.proofs.put_field.Tie as tie
+
+pub put-field-spec : {M : Type 1} → statement M
+put-field-spec =
+    tie.close
+    (tie.spec
+    -- put-byte-requires
+    (λ c κs. search needs)
+    -- put-byte-requires-2
+    (λ c κs. search needs)
+    -- put-byte-requires-3
+    (λ c κs. search needs)
+    -- same-length
+    (λ c. search needs)
+    -- returns
+    (λ c. writes-then (c .before .before .before .before .before .before .before .before .before .before .put-byte .ensures) (writes-then (c .before .before .before .before .before .before .put-byte2 .ensures) (c .before .before .put-byte3 .ensures))))

@@ -1,0 +1,36 @@
+-- The checks in their order, and then the rewriting. Assumes nothing.
+use native.Mathlib.Omega.{arith}
+use borrow.Author.Needs.{needs}
+use mathlib.Core.Path.{subst}
+use lib.ListN.{length}
+use Rattle.query.specs.Answers.{FullCheckedAs}
+use Rattle.query.specs.declared.FullChecked.{FullChecked}
+use Rattle.rewriter.proofs.Answers as law
+use Rattle.rewriter.proofs.rewrite.Statement.{statement}
+use Rattle.rewriter.proofs.rewrite.Tie as tie
+
+pub rewrite-spec : {M : Type 1} → statement M
+rewrite-spec =
+    tie.close
+    (tie.spec
+    -- clear-requires
+    (λ c κs. search needs)
+    -- check-with-requires
+    (λ c κs. search needs)
+    -- enum-known-k
+    (λ c. search needs)
+    -- enum-known-full
+    (λ c. search needs)
+    -- rewrite-checked-requires
+    (λ c κs. (
+      law.passing _ _ (subst (λ (x : FullChecked). FullCheckedAs x (c .before .before .before .before .before .before .before .before .before .before .before .args .query .now) 60 3) (c .before .before .full .given .1) (c .before .before .before .before .check-with .ensures)),
+      law.blank-again _ (length (c .before .before .before .before .before .before .before .before .before .before .before .args .out .now)) (c .before .before .before .before .before .before .before .clear .ensures),
+    ))
+    -- same-length
+    (λ c. law.blank-long _ (length (c .before .before .before .before .before .before .before .before .before .before .args .out .now)) (c .before .before .before .before .before .before .clear .ensures))
+    -- returns
+    (λ c. law.refuses (c .before .before .before .before .before .before .before .before .before .before .args .query .now) (length (c .before .before .before .before .before .before .before .before .before .before .args .out .now)) (subst (λ (x : FullChecked). FullCheckedAs x (c .before .before .before .before .before .before .before .before .before .before .args .query .now) 60 3) (c .before .k .given .1) (c .before .before .before .check-with .ensures)) _ (c .before .before .before .before .before .before .clear .ensures))
+    -- same-length-2
+    (λ c. search needs)
+    -- returns-2
+    (λ c. law.moved (c .before .before .before .before .before .before .before .before .before .before .before .before .before .before .args .query .now) (length (c .before .before .before .before .before .before .before .before .before .before .before .before .before .before .args .out .now)) (law.blank-long _ (length (c .before .before .before .before .before .before .before .before .before .before .before .before .before .before .args .out .now)) (c .before .before .before .before .before .before .before .before .before .before .clear .ensures)) (c .before .before .rewrite-checked .ensures)))

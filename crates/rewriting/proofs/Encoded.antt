@@ -1,0 +1,113 @@
+-- The rewritten query can be written: its numbers are as they should be, and where there is room it keeps the limits. Assumes nothing.
+use Prim.Native.Nat.{ℕ, suc, _+_, _*_, _≤_, _<_}
+use native.Mathlib.Omega.{arith}
+use mathlib.Core.Path.{_≡_, refl, ap, _∙_}
+use mathlib.Core.Logic.{⊎-elim}
+use mathlib.Core.Bool.{true}
+use mathlib.Core.List.{List, [], _∷_, _++_, map, List·Memᴰ, List·Memᴰ·append-cases}
+use lib.ListN.{length, length-append}
+use borrow.Author.Tests.{leb-true, le-leb}
+use Rattle.logic.specs.Search.{_and_}
+use Rattle.logic.specs.Query.{Literal, Query, termCount, argumentOf}
+use Rattle.logic.proofs.Basics.Search.{and-left, and-right, and-intro, map-mem}
+use Rattle.logic.proofs.Basics.Compare.{le-cases}
+use Rattle.logic.proofs.Basics.Count.{length-flatMap}
+use Rattle.logic.proofs.Query.Tied.{Accepted, InTerms, ToEight}
+use Rattle.logic.proofs.Soundness.Value.{accepted-below}
+use Rattle.encoding.specs.QueryBytes.{literalBytes, sectionBytes, encode}
+use Rattle.encoding.proofs.Encoded.{Limits, limits-within, Encodable}
+use Rattle.rewriting.specs.OldQuery.{OldQuery}
+use Rattle.rewriting.specs.Rewritten.{asField, withFresh, rewritten, rewrite}
+use Rattle.rewriting.specs.Call.{hasRoom}
+use Rattle.rewriting.proofs.Fresh.{argument-same}
+
+-- how long a query is
+section-length : (ls : List Literal) → length (sectionBytes ls) ≡ 1 + length ls * 3
+unfolding sectionBytes literalBytes
+section-length ls = ap suc (length-flatMap literalBytes 3 (λ l. refl) ls) ∙ omega arith
+
+pub encode-length : (q : Query) → length (encode q) ≡ termCount q + 3 * length (q .equalities) + 3 * length (q .reachability) + 3 * length (q .fields) + 5
+unfolding encode termCount
+encode-length q =
+    omega
+    (arith, length-append (q .entries) (sectionBytes (q .equalities) ++ (sectionBytes (q .reachability) ++ (sectionBytes (q .fields) ++ (0 ∷ [])))), length-append (sectionBytes (q .equalities)) (sectionBytes (q .reachability) ++ (sectionBytes (q .fields) ++ (0 ∷ []))), length-append (sectionBytes (q .reachability)) (sectionBytes (q .fields) ++ (0 ∷ [])), length-append (sectionBytes (q .fields)) (0 ∷ []), section-length (q .equalities), section-length (q .reachability), section-length (q .fields))
+
+pub encode-within : (q : Query) → Limits q → length (encode q) ≤ 561
+encode-within q l = omega (arith, encode-length q, l .terms, l .equalities, l .reachability, l .fields)
+
+module _ (q : Query) (ok : Accepted q) (booleans : List Literal) (numbered : (l : Literal) → List·Memᴰ l booleans → ToEight (l .left)) where
+  abbrev fresh : ℕ
+  fresh = suc (termCount q)
+
+  pub count-fresh : termCount (withFresh q booleans) ≡ fresh
+  unfolding withFresh termCount
+  count-fresh = length-append (q .entries) (0 ∷ []) ∙ omega arith
+
+  old-term : (t : ℕ) → InTerms q t → InTerms (withFresh q booleans) t
+  old-term t r = (r .0, omega (arith, count-fresh, r .1))
+
+  both-old : (l : Literal) → InTerms q (l .left) × InTerms q (l .right) → InTerms (withFresh q booleans) (l .left) × InTerms (withFresh q booleans) (l .right)
+  both-old l r = (old-term (l .left) (r .0), old-term (l .right) (r .1))
+
+  entry-below : (t : ℕ) → InTerms (withFresh q booleans) t → argumentOf (withFresh q booleans .entries) t < t
+  unfolding withFresh
+  entry-below t r =
+      rw (argument-same (q .entries) t)
+      (⊎-elim (λ one. accepted-below q ok t one) (λ none. omega (arith, r .0)) (le-cases 1 (argumentOf (q .entries) t)))
+
+  appended : (l : Literal) → List·Memᴰ l (map (asField fresh) booleans) → ToEight (l .left) × InTerms (withFresh q booleans) (l .right)
+  unfolding asField
+  appended l m =
+      let (b, own, e) = map-mem (asField fresh) l booleans m in
+      rw e (numbered b own, (omega arith, omega (arith, count-fresh)))
+
+  fresh-accepted : termCount (withFresh q booleans) ≤ 16 → Accepted (withFresh q booleans)
+  unfolding withFresh
+  fresh-accepted small =
+      record {
+        term-count = small;
+        entry-below = entry-below;
+        equal-terms = λ l m. both-old l (ok .equal-terms l m);
+        reach-terms = λ l m. both-old l (ok .reach-terms l m);
+        field-number = λ l m. ⊎-elim (ok .field-number l) (λ x. appended l x .0) (List·Memᴰ·append-cases (q .fields) m);
+        field-term = λ l m. ⊎-elim (λ x. old-term (l .right) (ok .field-term l x)) (λ x. appended l x .1) (List·Memᴰ·append-cases (q .fields) m);
+      }
+
+-- the room that was looked for
+pub record Room (room : ℕ) (q : Query) : Type 0 where
+  pub terms : termCount q ≤ 16
+  pub fields : length (q .fields) ≤ 60
+  pub output : length (encode q) ≤ room
+
+pub room-has : (room : ℕ) (q : Query) → hasRoom room q ≡ true → Room room q
+unfolding hasRoom
+room-has room q h =
+    let two = and-left _ _ h in
+    record {
+      terms = leb-true _ 16 (and-left _ _ two);
+      fields = leb-true _ 60 (and-right _ _ two);
+      output = leb-true _ room (and-right _ _ h);
+    }
+
+pub room-intro : (room : ℕ) (q : Query) → Room room q → hasRoom room q ≡ true
+unfolding hasRoom
+room-intro room q r = and-intro (and-intro (le-leb _ 16 (r .terms)) (le-leb _ 60 (r .fields))) (le-leb _ room (r .output))
+
+rewritten-encodable : (q : Query) (booleans : List Literal) → Accepted q → Limits q → ((l : Literal) → List·Memᴰ l booleans → ToEight (l .left)) → termCount (rewritten q booleans) ≤ 16 → length (rewritten q booleans .fields) ≤ 60 → Accepted (rewritten q booleans) × Limits (rewritten q booleans)
+unfolding rewritten withFresh
+rewritten-encodable q [] ok l numbered terms fields = (ok, l)
+rewritten-encodable q (b ∷ booleans) ok l numbered terms fields = (
+  fresh-accepted q ok (b ∷ booleans) numbered terms,
+  record { terms = terms; equalities = l .equalities; reachability = l .reachability; fields = fields },
+)
+
+module _ (o : OldQuery) (ok : Accepted (o .base)) (l : Limits (o .base)) (numbered : (l : Literal) → List·Memᴰ l (o .booleans) → ToEight (l .left)) (room : ℕ) (r : Room room (rewrite o)) where
+  both : Accepted (rewrite o) × Limits (rewrite o)
+  unfolding rewrite
+  both = rewritten-encodable (o .base) (o .booleans) ok l numbered (r .terms) (r .fields)
+
+  pub rewrite-limits : Limits (rewrite o)
+  rewrite-limits = both .1
+
+  pub rewrite-encodable : Encodable (rewrite o)
+  rewrite-encodable = record { accepted = both .0; within = limits-within (rewrite o) (both .1) }
