@@ -53,12 +53,12 @@ fn write_sections(
     requires { ⌜ (m ≤ 16) × (n ≤ 16) × (53 ≤ length (now buffer)) ⌝ }
     ensures { λ r. ⌜ now (buffer .exit) ≡ padded (length (now (buffer .entry))) (sections n (terms m) (λ t. getD (now (links .entry)) t 0) (λ t. getD (now (nodes .entry)) t 0) (λ t. getD (now (fields .entry)) t 0)) ⌝ }
 {
-    report::clear(buffer);
+    lent::clear(buffer);
     let second = report::put_term_section(buffer, 0, m, links);
     let third = report::put_term_section(buffer, second, n, nodes);
     let fourth = report::put_term_section(buffer, third, m, fields);
-    let last = report::put(buffer, fourth, 1);
-    report::put(buffer, last, 0);
+    let last = lent::put(buffer, fourth, 1);
+    lent::put(buffer, last, 0);
 }
 
 // The report of the heap that was found.
@@ -82,7 +82,7 @@ fn answer(base: &[u8], l: Layout, between: &[u8], count: usize, report: &mut [u8
     let links = found.links;
     let nodes = found.nodes;
     if !found.found {
-        report::clear(report);
+        lent::clear(report);
         return BetweenAnswer::Nothing;
     }
     write_report(report, base, l, &links, &nodes);
@@ -93,7 +93,7 @@ fn answer(base: &[u8], l: Layout, between: &[u8], count: usize, report: &mut [u8
 fn refuse(report: &mut [u8], k: usize, place: usize) -> BetweenAnswer
     ensures { λ r. ⌜ Does (blank (length (now (report .entry))) (refused k place)) r (now (report .exit)) ⌝ }
 {
-    report::clear(report);
+    lent::clear(report);
     BetweenAnswer::Refused(k, place)
 }
 

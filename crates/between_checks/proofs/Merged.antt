@@ -18,7 +18,7 @@ use Rattle.query.specs.declared.Checked.the-variants as five-checked
 use Rattle.query.specs.Answers.{CheckedAs}
 use Rattle.query.proofs.Checks.{layout-refused}
 use Rattle.query.proofs.Ranges.{checked-accepts}
-use Rattle.query.proofs.Faults.{orElse-some, orElse-next, append-here, append-next, entriesLeft}
+use Rattle.entries.proofs.Faults.{orElse-some, orElse-next, append-here, append-next, entriesLeft}
 use Rattle.between_search.specs.Bytes.{betweenSection, sixSections, sixLayout, sixChecks}
 use Rattle.between_search.proofs.Accepted.{six-excesses}
 use Rattle.between_checks.specs.declared.Met.the-variants as met

@@ -15,7 +15,7 @@ use Rattle.logic.specs.Search.{_and_, from, flatMap, keep, orElse}
 use Rattle.logic.specs.Query.{Role, Section, countRole, signRole, termRole, fourSections, booleanSection, fiveSections, sections, faulty, parts, withPart, layout, rolesOf, firstByte, layoutBy, layoutOf, roleFault, byteFault, section, queryOf, decode, termCount}
 use Rattle.logic.proofs.Query.Bytes.{Regular, first-sized}
 use Rattle.query.proofs.Reading.{above, short, passed}
-use Rattle.query.proofs.Loops.{drop-next}
+use Rattle.entries.proofs.Loops.{drop-next}
 use Rattle.query.specs.Sections.{Stands}
 use Rattle.between_search.specs.Bytes.{betweenSection, sixSections, sixLayout, triples, betweensOf, decodeSix}
 use Rattle.between_search.proofs.Layouts.{prepend, faulty-parts, withPart-parts, cond-parts, parts-length, prepend-parts, layout-append}

@@ -6,7 +6,7 @@ ghost use mathlib.Core.List.{[], _∷_};
 ghost use Prim.Native.Nat.{_+_, _*_, _≤_, _<_};
 ghost use lib.ListN.{length, drop};
 ghost use Rattle.logic.specs.Query.{signRole, termRole, roleFault, faulty, layoutOf};
-ghost use Rattle.query.specs.Sections.{meets};
+ghost use Rattle.entries.specs.Entries.{meets};
 ghost use Rattle.between_checks.specs.Answers.{faultOf, sixthFault, SixthBelow, SixthRead, Sixth, SixCheckedAs};
 
 // Where six sections stand: the first five, which end at `at`, and how many between literals follow the count that stands there.
@@ -62,16 +62,16 @@ fn triple_fault(k: usize, n: usize, query: &[u8], at: usize) -> Fault
     let from = at + 1;
     let middle = from + 1;
     let to = middle + 1;
-    if sign_refused(k, query::byte_at(query, at)) {
+    if sign_refused(k, entries::byte_at(query, at)) {
         return Fault::At(at);
     }
-    if term_refused(k, n, query::byte_at(query, from)) {
+    if term_refused(k, n, entries::byte_at(query, from)) {
         return Fault::At(from);
     }
-    if term_refused(k, n, query::byte_at(query, middle)) {
+    if term_refused(k, n, entries::byte_at(query, middle)) {
         return Fault::At(middle);
     }
-    if term_refused(k, n, query::byte_at(query, to)) {
+    if term_refused(k, n, entries::byte_at(query, to)) {
         return Fault::At(to);
     }
     Fault::Nothing
@@ -144,7 +144,7 @@ fn check_bytes(query: &[u8], at: usize, count: usize) -> SixChecked
     requires { ⌜ Sixth (now query) at count ⌝ }
     ensures { λ r. ⌜ SixCheckedAs r (now (query .entry)) ⌝ }
 {
-    let n = query::byte_at(query, 0);
+    let n = entries::byte_at(query, 0);
     match query::check(&query[..at]) {
         Checked::Refused(k, place) => match sixth_below(n, query, at + 1, count, k) {
             Met::Refused(j, p) => SixChecked::Refused(j, p),

@@ -13,7 +13,7 @@ use borrow.Author.Tests.{eq-eqb, ne-eqb, lt-ltb, le-ltb, ltb-true}
 use Rattle.logic.specs.Search.{_or_, from, any, keep, isSome, firstOf}
 use Rattle.logic.specs.Query.{argumentOf, termCount}
 use Rattle.logic.specs.Calls.{padded}
-use Rattle.report.proofs.Writing.{appends-byte}
+use Rattle.lent.proofs.Writing.{appends-byte}
 use Rattle.between.specs.Meaning.{BetweenQuery}
 use Rattle.between_search.specs.Tests.{used, breaks, nilBreaks, fieldBreaks, pairBreaks, tripleBreaks}
 use Rattle.between_search.specs.Search.{Found, seek, entry, lowestNode, highestNode, seekNodes, nodesFound, seekLinks, linksFound, sizeFound, mostNodes, heapFound}

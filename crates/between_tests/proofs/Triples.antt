@@ -7,7 +7,7 @@ use mathlib.Core.List.{List, [], _∷_, map}
 use lib.ListN.{length, getD, drop, length-drop, drop-of-length-le}
 use Rattle.logic.specs.Search.{from}
 use Rattle.query.proofs.Literals.{listed}
-use Rattle.query.proofs.Loops.{drop-next}
+use Rattle.entries.proofs.Loops.{drop-next}
 use Rattle.between.specs.Meaning.{BetweenLiteral}
 use Rattle.between_search.specs.Bytes.{triples}
 use Rattle.between_tests.specs.Tables.{tripleIn}

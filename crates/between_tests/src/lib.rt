@@ -149,7 +149,7 @@ fn term_in(bytes: &[u8], i: usize, which: usize) -> Term
     requires { ⌜ (4 * i + which < length (now bytes)) × (which ≤ 3) ⌝ }
     ensures { λ r. ⌜ r .0 ≡ getD (now (bytes .entry)) (4 * i + which) 0 ⌝ }
 {
-    Term(query::byte_at(bytes, 4 * i + which))
+    Term(entries::byte_at(bytes, 4 * i + which))
 }
 
 // Between literal i is due at t and fails.
@@ -167,7 +167,7 @@ fn triple_breaks(bytes: &[u8], i: usize, table: &[u8; 36], nodes: &[u8; 17], t: 
     let middle = step_of(table, start, node_of(nodes, y));
     let end = step_of(table, start, node_of(nodes, z));
     let held = (middle <= end) & (end <= 5);
-    !agrees(query::byte_at(bytes, 4 * i) == 1, held)
+    !agrees(entries::byte_at(bytes, 4 * i) == 1, held)
 }
 
 pub fn triples_break(
@@ -196,7 +196,7 @@ fn is_nil(query: &[u8], l: Layout, t: Term) -> bool
     ensures { λ r. ⌜ r ≡ namesNil (decode (now (query .entry)) .entries) (t .0) ⌝ }
 {
     let at = t.0;
-    query::byte_at(query, at) == 255
+    entries::byte_at(query, at) == 255
 }
 
 // The term that t is f of, or 0.
@@ -208,7 +208,7 @@ pub fn argument(query: &[u8], l: Layout, t: Term) -> Term
         return Term(0);
     }
     let at = t.0;
-    Term(query::byte_at(query, at))
+    Term(entries::byte_at(query, at))
 }
 
 // A nil term up to t names another node than t.

@@ -101,9 +101,9 @@ fn read_line(
     }
     let place = 4 * at + 2;
     let k = derivation[place];
-    let x = query::byte_at(derivation, place + 1);
-    let y = query::byte_at(derivation, place + 2);
-    let z = query::byte_at(derivation, place + 3);
+    let x = entries::byte_at(derivation, place + 1);
+    let y = entries::byte_at(derivation, place + 2);
+    let z = entries::byte_at(derivation, place + 3);
     if k == 9 {
         if fitting::is_clash(query, layout, s, x, y, z) {
             return Reading::Ends;
@@ -176,8 +176,8 @@ fn count_of(derivation: &[u8]) -> usize
     requires { ⌜ 2 ≤ length (now derivation) ⌝ }
     ensures { λ r. ⌜ (r ≡ countIn (now (derivation .entry))) × (r < 65536) ⌝ }
 {
-    let high = query::byte_at(derivation, 0);
-    let low = query::byte_at(derivation, 1);
+    let high = entries::byte_at(derivation, 0);
+    let low = entries::byte_at(derivation, 1);
     256 * high + low
 }
 

@@ -212,13 +212,13 @@ fn draw(report: &[u8], out: &mut [u8]) -> usize
 pub fn dot(report: &[u8], text: &mut [u8]) -> DotAnswer
     ensures { λ r. ⌜ Does (dotCall (now (report .entry)) (length (now (text .entry)))) r (now (text .exit)) ⌝ }
 {
-    report::clear(text);
+    lent::clear(text);
     if !is_well_formed(report) {
         return DotAnswer::Refused(13, 0);
     }
     let length = draw(report, text);
     if text.len() < length {
-        report::clear(text);
+        lent::clear(text);
         return DotAnswer::Refused(14, 0);
     }
     DotAnswer::Written(length)

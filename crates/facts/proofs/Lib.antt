@@ -1,5 +1,6 @@
 pub mod Bits
 pub mod Loops
+pub mod Selections
 pub mod Finds
 pub mod Square
 pub mod Words

@@ -111,7 +111,7 @@ fn decide_text(
 pub fn formula(order: &[u8], query: &[u8], text: &[u8], report: &mut [u8]) -> FormulaAnswer
     ensures { λ r. ⌜ DoesFormula (formulaCall (formulaInput (now (order .entry)) (now (query .entry)) (now (text .entry)) (now (report .entry)))) r (now (report .exit)) ⌝ }
 {
-    report::clear(report);
+    lent::clear(report);
     if !query::is_order(order) {
         return FormulaAnswer::Refused(1, 0);
     }

@@ -14,7 +14,7 @@ use Rattle.logic.proofs.Basics.Count.{length-flatMap}
 use Rattle.logic.proofs.Basics.Compare.{eqb-false}
 use Rattle.query.specs.LaysOut.{literalIn}
 use Rattle.query.proofs.Literals.{listed, listed-end, listed-next, listed-mem, listed-length, literals-are}
-use Rattle.query.proofs.Loops.{drop-next}
+use Rattle.entries.proofs.Loops.{drop-next}
 use Rattle.joining.specs.Pairs.{Pair, pairs, pairsOf, hasTerms}
 use Rattle.encoding.specs.QueryBytes.{signByte, literalBytes}
 use Rattle.joining.specs.Joined.{raisedEntry, raised, pairLiteral}

@@ -104,7 +104,7 @@ fn put_entries(query: &[u8], count: usize, n: usize, out: &mut [u8], to: usize) 
     let mut next = to;
     let mut t: usize = 0;
     while t < count {
-        let e = query::byte_at(query, t + 1);
+        let e = entries::byte_at(query, t + 1);
         next = text::put_byte(out, next, raised_entry(n, e) as u8);
         t += 1;
     }
@@ -119,8 +119,8 @@ fn put_pairs(pairs: &[u8], count: usize, n: usize, out: &mut [u8], to: usize) ->
     let mut next = to;
     let mut k: usize = 0;
     while k < count {
-        let a = query::byte_at(pairs, 2 * k + 1);
-        let b = query::byte_at(pairs, 2 * k + 2);
+        let a = entries::byte_at(pairs, 2 * k + 1);
+        let b = entries::byte_at(pairs, 2 * k + 2);
         next = put_literal(out, next, true, a, n + b);
         k += 1;
     }
@@ -175,7 +175,7 @@ fn put_query(
 {
     let n = f.terms;
     let m = s.terms;
-    let count = query::byte_at(pairs, 0);
+    let count = entries::byte_at(pairs, 0);
     let second_section = put_terms(first, n, second, m, out);
     let last = put_section(
         first,
@@ -227,8 +227,8 @@ fn have_terms(pairs: &[u8], count: usize, n: usize, m: usize) -> bool
 {
     let mut k: usize = 0;
     while k < count {
-        let a = query::byte_at(pairs, 2 * k + 1);
-        let b = query::byte_at(pairs, 2 * k + 2);
+        let a = entries::byte_at(pairs, 2 * k + 1);
+        let b = entries::byte_at(pairs, 2 * k + 2);
         if !has_terms(n, m, a, b) {
             return false;
         }
@@ -251,7 +251,7 @@ fn is_pair_list(pairs: &[u8], n: usize, m: usize) -> bool
     if len == 0 {
         return false;
     }
-    let count = query::byte_at(pairs, 0);
+    let count = entries::byte_at(pairs, 0);
     if 60 < count {
         return false;
     }
@@ -290,13 +290,13 @@ fn join_checked(
     if !is_pair_list(pairs, n, m) {
         return JoinAnswer::Refused(23, 0);
     }
-    let count = query::byte_at(pairs, 0);
+    let count = entries::byte_at(pairs, 0);
     if !keeps_limits(f, s, count) {
         return JoinAnswer::Refused(24, 0);
     }
     let length = put_query(first, f, second, s, pairs, out);
     if out.len() < length {
-        report::clear(out);
+        lent::clear(out);
         return JoinAnswer::Refused(24, 0);
     }
     JoinAnswer::Written(length)
@@ -307,7 +307,7 @@ fn join_checked(
 pub fn join(first: &[u8], second: &[u8], pairs: &[u8], out: &mut [u8]) -> JoinAnswer
     ensures { λ r. ⌜ Does (joinCall (now (first .entry)) (now (second .entry)) (now (pairs .entry)) (length (now (out .entry)))) r (now (out .exit)) ⌝ }
 {
-    report::clear(out);
+    lent::clear(out);
     match query::check(first) {
         Checked::Refused(k, place) => JoinAnswer::FirstRefused(k, place),
         Checked::Accepted(f) => match query::check(second) {

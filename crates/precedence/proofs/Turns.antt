@@ -16,8 +16,8 @@ use Rattle.logic.specs.Search.{_and_, _or_, from, any, all, find, firstOf}
 use Rattle.logic.specs.Calls.{padded}
 use Rattle.logic.proofs.Basics.Search.{from-mem, find-some}
 use Rattle.logic.proofs.Basics.Compare.{eq-cases}
-use Rattle.query.proofs.Loops.{drop-next, any-end, any-here, any-next}
-use Rattle.report.proofs.Loops.{and-both, any-turn, any-end as any-none}
+use Rattle.entries.proofs.Loops.{drop-next, any-end, any-here, any-next}
+use Rattle.facts.proofs.Selections.{and-both, any-turn, any-end as any-none}
 use Rattle.precedence.specs.Sheet.{Pair, countOf, pairAt, pairs, laidOut, rulesOnly, paired}
 use Rattle.precedence.specs.Finding.{free, ready, nextRule, grow, leads, onward, nextOn, follow, ringStart, ringOf, shownRing}
 use Rattle.precedence.proofs.Lists.{is-rule}

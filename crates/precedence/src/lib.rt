@@ -338,7 +338,7 @@ fn answer(sheet: &[u8], out: &mut [u8]) -> OrderAnswer
 pub fn order_of(sheet: &[u8], out: &mut [u8]) -> OrderAnswer
     ensures { λ r. ⌜ Does (orderCall (now (sheet .entry)) (length (now (out .entry)))) r (now (out .exit)) ⌝ }
 {
-    report::clear(out);
+    lent::clear(out);
     if !laid_out(sheet) {
         return OrderAnswer::Refused(15, 0);
     }

@@ -59,7 +59,7 @@ fn decide(order: &[u8], query: &[u8], layout: Layout, report: &mut [u8]) -> Answ
 pub fn verdict(order: &[u8], query: &[u8], report: &mut [u8]) -> Answer
     ensures { λ r. ⌜ Does (verdictCall (inputOf (now (order .entry)) (now (query .entry)) (now (report .entry)))) r (now (report .exit)) ⌝ }
 {
-    report::clear(report);
+    lent::clear(report);
     if !query::is_order(order) {
         return Answer::Refused(1, 0);
     }
@@ -99,11 +99,11 @@ fn write_lines(order: &[u8], query: &[u8], layout: Layout, buffer: &mut [u8]) ->
     let listed = listing::list(query, layout, order, limit(n), first, buffer, 0, most);
     let count = listed.count;
     if listed.stopped {
-        report::clear(buffer);
+        lent::clear(buffer);
         return Answer::Refused(12, 0);
     }
     if most < count {
-        report::clear(buffer);
+        lent::clear(buffer);
         return Answer::Refused(12, 0);
     }
     buffer[0] = (count / 256) as u8;
@@ -128,7 +128,7 @@ fn derive(order: &[u8], query: &[u8], layout: Layout, buffer: &mut [u8]) -> Answ
 pub fn derivation(order: &[u8], query: &[u8], buffer: &mut [u8]) -> Answer
     ensures { λ r. ⌜ Does (derivationCall (inputOf (now (order .entry)) (now (query .entry)) (now (buffer .entry)))) r (now (buffer .exit)) ⌝ }
 {
-    report::clear(buffer);
+    lent::clear(buffer);
     if !query::is_order(order) {
         return Answer::Refused(1, 0);
     }

@@ -1,4 +1,3 @@
-pub mod Loops
 pub mod Order
 pub mod Reading
 pub mod Faults

@@ -14,7 +14,8 @@ use Rattle.logic.specs.Query.{Literal, Query, entryOf, literals}
 use Rattle.logic.proofs.Basics.Search.{from-intro, map-intro}
 use Rattle.query.specs.declared.Layout.{Layout}
 use Rattle.query.specs.LaysOut.{LaysOutAs, literalIn}
-use Rattle.query.proofs.Loops.{drop-next, from-end, from-next}
+use Rattle.entries.proofs.Loops.{drop-next}
+use Rattle.facts.proofs.Loops.{from-end, from-next}
 
 -- Lists that are read by their places
 

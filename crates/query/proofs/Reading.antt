@@ -11,7 +11,7 @@ use Rattle.query.specs.declared.Part.{Part}
 use Rattle.query.specs.declared.Read.{Read}
 use Rattle.query.specs.declared.Read.the-variants as read
 use Rattle.query.specs.Sections.{Stands, ReadAs}
-use Rattle.query.proofs.Loops.{drop-next}
+use Rattle.entries.proofs.Loops.{drop-next}
 
 module _ (s : Section) (ss : List Section) (bytes : List ℕ) (at : ℕ) where
   pub missing : at ≡ length bytes → layout (s ∷ ss) at (drop at bytes) ≡ faulty 2 at

@@ -2,22 +2,18 @@
 use Prim.Native.Nat.{ℕ, _≤_}
 use mathlib.Core.Path.{_≡_}
 use mathlib.Core.List.{List, [], _∷_, List·Memᴰ}
-use mathlib.Core.Option.{Option, none, some}
+use mathlib.Core.Option.{none, some}
 use Rattle.logic.specs.Query.{fiveSections, faulty, layoutBy, byteFault}
 use Rattle.logic.specs.Calls.{Input, formChecks, queryChecks, refused, refusalOf}
+use Rattle.entries.specs.declared.Found.{Found}
+use Rattle.entries.specs.Entries.{foundOf}
 use Rattle.query.specs.Sections.{Sections}
 use Rattle.query.specs.LaysOut.{LaysOut, FullLaysOut}
 use Rattle.query.specs.declared.FullLayout.{FullLayout}
-use Rattle.query.specs.declared.Found.{Found}
-use Rattle.query.specs.declared.Found.the-variants as found
 use Rattle.query.specs.declared.Checked.{Checked}
 use Rattle.query.specs.declared.Checked.the-variants as checked
 use Rattle.query.specs.declared.FullChecked.{FullChecked}
 use Rattle.query.specs.declared.FullChecked.the-variants as full
-
-abbrev pub foundOf : Found → Option ℕ
-foundOf (found.At place) = some place
-foundOf found.Nothing = none
 
 -- the lowest byte that meets refusal k of 5 to 8, however many booleans pass
 abbrev pub FoundIn : Found → ℕ → List ℕ → Type 0

@@ -1,15 +1,14 @@
 // The order list and the query's bytes: where the sections of a query stand, refusals 1 to 8 and 26, and reading a literal in place.
 use facts::Term;
 ghost use mathlib.Core.Path.{_≡_};
-ghost use mathlib.Core.List.{[], _∷_};
 ghost use Prim.Native.Nat.{_+_, _*_, _≤_, _<_};
-ghost use lib.ListN.{length, getD, drop};
+ghost use lib.ListN.{length};
 ghost use lib.Dec.{eqb};
 ghost use Rattle.logic.specs.Search.{any};
-ghost use Rattle.logic.specs.Query.{isOrder, entryRole, signRole, termRole, roleFault};
-ghost use Rattle.query.specs.Sections.{widthOf, rolesAt, countedRole, meets, sectionFault, ReadAs, Sections};
+ghost use Rattle.logic.specs.Query.{isOrder};
+ghost use Rattle.query.specs.Sections.{ReadAs, Sections};
 ghost use Rattle.query.specs.LaysOut.{literalIn, flagIn};
-ghost use Rattle.query.specs.Answers.{foundOf, FoundIn, LaidOut, BytesChecked, FullCheckedAs, CheckedAs};
+ghost use Rattle.query.specs.Answers.{FoundIn, LaidOut, BytesChecked, FullCheckedAs, CheckedAs};
 
 // Where the sections of a query stand: the first byte of each behind its count, and the count. The terms stand at 1.
 pub struct Layout {
@@ -50,20 +49,6 @@ struct Part {
 enum Read {
     Refused(usize, usize),
     Section(Part),
-}
-
-// What the bytes of a section's entries are held to: equalities and reachability literals are pairs of terms.
-enum Kind {
-    Terms,
-    Pairs,
-    Fields,
-    Booleans,
-}
-
-// A place that was looked for.
-enum Found {
-    At(usize),
-    Nothing,
 }
 
 // The order list names the rule r.
@@ -166,145 +151,39 @@ fn lay_out(query: &[u8], most: usize, excess: usize) -> FullChecked
     })
 }
 
-// The byte at a place of the query.
-pub fn byte_at(query: &[u8], place: usize) -> usize
-    requires { ⌜ place < length (now query) ⌝ }
-    ensures { λ r. ⌜ r ≡ getD (now (query .entry)) place 0 ⌝ }
-{
-    query[place] as usize
-}
-
-// "A term byte is not below its own term's number." 255 names nil (02, R-3).
-fn entry_refused(k: usize, t: Term, byte: usize) -> bool
-    ensures { λ b. ⌜ b ≡ meets (entryRole (t .0)) k byte ⌝ }
-{
-    (5 == k) & !((byte < t.0) | (byte == 255))
-}
-
-// "A sign is neither 0 nor 1."
-fn sign_refused(k: usize, byte: usize) -> bool
-    ensures { λ b. ⌜ b ≡ meets signRole k byte ⌝ }
-{
-    (6 == k) & !(byte < 2)
-}
-
-// A number is not 1 to `most`; its refusal is `own`.
-fn number_refused(k: usize, own: usize, most: usize, byte: usize) -> bool
-    ensures { λ b. ⌜ b ≡ meets (countedRole own most) k byte ⌝ }
-{
-    (own == k) & !((0 < byte) & (byte <= most))
-}
-
-// The lowest byte of an entry that meets refusal k: of a term, of a boolean literal, and of a literal with two numbers.
-fn term_fault(k: usize, t: Term, query: &[u8], at: usize) -> Found
-    requires { ⌜ at + 1 ≤ length (now query) ⌝ }
-    ensures { λ r. ⌜ foundOf r ≡ roleFault k at (entryRole (t .0) ∷ []) (drop at (now (query .entry))) ⌝ }
-{
-    if entry_refused(k, t, byte_at(query, at)) {
-        return Found::At(at);
-    }
-    Found::Nothing
-}
-
-fn flag_fault(k: usize, own: usize, most: usize, query: &[u8], at: usize) -> Found
-    requires { ⌜ at + 2 ≤ length (now query) ⌝ }
-    ensures { λ r. ⌜ foundOf r ≡ roleFault k at (signRole ∷ countedRole own most ∷ []) (drop at (now (query .entry))) ⌝ }
-{
-    let left = at + 1;
-    if sign_refused(k, byte_at(query, at)) {
-        return Found::At(at);
-    }
-    if number_refused(k, own, most, byte_at(query, left)) {
-        return Found::At(left);
-    }
-    Found::Nothing
-}
-
-fn literal_fault(k: usize, own: usize, most: usize, n: usize, query: &[u8], at: usize) -> Found
-    requires { ⌜ at + 3 ≤ length (now query) ⌝ }
-    ensures { λ r. ⌜ foundOf r ≡ roleFault k at (signRole ∷ countedRole own most ∷ termRole n ∷ []) (drop at (now (query .entry))) ⌝ }
-{
-    match flag_fault(k, own, most, query, at) {
-        Found::At(p) => return Found::At(p),
-        Found::Nothing => {}
-    }
-    let right = at + 2;
-    if number_refused(k, 7, n, byte_at(query, right)) {
-        return Found::At(right);
-    }
-    Found::Nothing
-}
-
-// Entry i, by the kind of its section.
-fn entry_fault(k: usize, kind: Kind, n: usize, i: usize, query: &[u8], at: usize) -> Found
-    requires { ⌜ at + widthOf kind ≤ length (now query) ⌝ }
-    ensures { λ r. ⌜ foundOf r ≡ roleFault k at (rolesAt kind n i) (drop at (now (query .entry))) ⌝ }
-{
-    match kind {
-        Kind::Terms => term_fault(k, Term(i), query, at),
-        Kind::Pairs => literal_fault(k, 7, n, n, query, at),
-        Kind::Fields => literal_fault(k, 8, 8, n, query, at),
-        Kind::Booleans => flag_fault(k, 8, 8, query, at),
-    }
-}
-
-// The bytes of an entry.
-fn width(kind: Kind) -> usize
-    ensures { λ r. ⌜ r ≡ widthOf kind ⌝ }
-{
-    match kind {
-        Kind::Terms => 1,
-        Kind::Pairs => 3,
-        Kind::Fields => 3,
-        Kind::Booleans => 2,
-    }
-}
-
-// The lowest byte that meets refusal k, among `count` entries at `at`.
-fn section_fault(k: usize, kind: Kind, n: usize, query: &[u8], at: usize, count: usize) -> Found
-    requires { ⌜ at + count * widthOf kind ≤ length (now query) ⌝ }
-    ensures { λ r. ⌜ foundOf r ≡ sectionFault k kind n at count (now (query .entry)) ⌝ }
-{
-    let step = width(kind);
-    let mut place = at;
-    let mut i: usize = 0;
-    while i < count {
-        match entry_fault(k, kind, n, i + 1, query, place) {
-            Found::At(p) => return Found::At(p),
-            Found::Nothing => {}
-        }
-        place += step;
-        i += 1;
-    }
-    Found::Nothing
-}
-
 // "For 5 to 8 the whole query is searched for one fault before the next, and the place is the lowest such byte."
-fn byte_fault(k: usize, query: &[u8], full: FullLayout) -> Found
+fn byte_fault(k: usize, query: &[u8], full: FullLayout) -> entries::Found
     requires { ⌜ Sections full (now query) ⌝ }
     ensures { λ r. ⌜ FoundIn r k (now (query .entry)) ⌝ }
 {
     let l = full.layout;
     let n = l.terms;
-    match section_fault(k, Kind::Terms, n, query, 1, n) {
-        Found::At(p) => return Found::At(p),
-        Found::Nothing => {}
+    match entries::section_fault(k, entries::Kind::Terms, n, query, 1, n) {
+        entries::Found::At(p) => return entries::Found::At(p),
+        entries::Found::Nothing => {}
     }
-    match section_fault(k, Kind::Pairs, n, query, l.equal_at, l.equal_count) {
-        Found::At(p) => return Found::At(p),
-        Found::Nothing => {}
+    match entries::section_fault(k, entries::Kind::Pairs, n, query, l.equal_at, l.equal_count) {
+        entries::Found::At(p) => return entries::Found::At(p),
+        entries::Found::Nothing => {}
     }
-    match section_fault(k, Kind::Pairs, n, query, l.reach_at, l.reach_count) {
-        Found::At(p) => return Found::At(p),
-        Found::Nothing => {}
+    match entries::section_fault(k, entries::Kind::Pairs, n, query, l.reach_at, l.reach_count) {
+        entries::Found::At(p) => return entries::Found::At(p),
+        entries::Found::Nothing => {}
     }
-    match section_fault(k, Kind::Fields, n, query, l.field_at, l.field_count) {
-        Found::At(p) => return Found::At(p),
-        Found::Nothing => {}
-    }
-    section_fault(
+    match entries::section_fault(
         k,
-        Kind::Booleans,
+        entries::Kind::Fields,
+        n,
+        query,
+        l.field_at,
+        l.field_count,
+    ) {
+        entries::Found::At(p) => return entries::Found::At(p),
+        entries::Found::Nothing => {}
+    }
+    entries::section_fault(
+        k,
+        entries::Kind::Booleans,
         n,
         query,
         full.boolean_at,
@@ -320,8 +199,8 @@ fn check_bytes(query: &[u8], full: FullLayout) -> FullChecked
     let mut k: usize = 5;
     while k < 9 {
         match byte_fault(k, query, full) {
-            Found::At(place) => return FullChecked::Refused(k, place),
-            Found::Nothing => {}
+            entries::Found::At(place) => return FullChecked::Refused(k, place),
+            entries::Found::Nothing => {}
         }
         k += 1;
     }
@@ -357,7 +236,7 @@ pub fn sign(query: &[u8], at: usize, i: usize) -> bool
     requires { ⌜ at + 3 * i + 3 ≤ length (now query) ⌝ }
     ensures { λ r. ⌜ r ≡ literalIn (now (query .entry)) at i .plain ⌝ }
 {
-    byte_at(query, at + 3 * i) == 1
+    entries::byte_at(query, at + 3 * i) == 1
 }
 
 // The left term of an equality or a reachability literal.
@@ -365,7 +244,7 @@ pub fn left(query: &[u8], at: usize, i: usize) -> Term
     requires { ⌜ at + 3 * i + 3 ≤ length (now query) ⌝ }
     ensures { λ r. ⌜ r .0 ≡ literalIn (now (query .entry)) at i .left ⌝ }
 {
-    Term(byte_at(query, at + 3 * i + 1))
+    Term(entries::byte_at(query, at + 3 * i + 1))
 }
 
 // The right term of these, or the term of a data literal.
@@ -373,7 +252,7 @@ pub fn right(query: &[u8], at: usize, i: usize) -> Term
     requires { ⌜ at + 3 * i + 3 ≤ length (now query) ⌝ }
     ensures { λ r. ⌜ r .0 ≡ literalIn (now (query .entry)) at i .right ⌝ }
 {
-    Term(byte_at(query, at + 3 * i + 2))
+    Term(entries::byte_at(query, at + 3 * i + 2))
 }
 
 // The field of a data literal.
@@ -381,7 +260,7 @@ pub fn field(query: &[u8], at: usize, i: usize) -> usize
     requires { ⌜ at + 3 * i + 3 ≤ length (now query) ⌝ }
     ensures { λ r. ⌜ r ≡ literalIn (now (query .entry)) at i .left ⌝ }
 {
-    byte_at(query, at + 3 * i + 1)
+    entries::byte_at(query, at + 3 * i + 1)
 }
 
 // Literal i of the booleans, which stand at `at`: whether it is plain, and its number.
@@ -389,12 +268,12 @@ pub fn flag_sign(query: &[u8], at: usize, i: usize) -> bool
     requires { ⌜ at + 2 * i + 2 ≤ length (now query) ⌝ }
     ensures { λ r. ⌜ r ≡ flagIn (now (query .entry)) at i .plain ⌝ }
 {
-    byte_at(query, at + 2 * i) == 1
+    entries::byte_at(query, at + 2 * i) == 1
 }
 
 pub fn flag_number(query: &[u8], at: usize, i: usize) -> usize
     requires { ⌜ at + 2 * i + 2 ≤ length (now query) ⌝ }
     ensures { λ r. ⌜ r ≡ flagIn (now (query .entry)) at i .left ⌝ }
 {
-    byte_at(query, at + 2 * i + 1)
+    entries::byte_at(query, at + 2 * i + 1)
 }

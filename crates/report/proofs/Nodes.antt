@@ -17,9 +17,9 @@ use Rattle.logic.proofs.Completeness.Placed.{length-from}
 use Rattle.facts.proofs.Loops.{from-next}
 use Rattle.report.specs.declared.Node.{Node}
 use Rattle.report.specs.Nodes.{nodeOf, marked, nodesBy, Numbers}
-use Rattle.report.proofs.Loops.{terms-from, any-end, any-turn, select-end, select-here, select-skip, select-alike}
-use Rattle.report.proofs.Links.{number-set}
-use Rattle.report.proofs.Completing.{live-selected}
+use Rattle.facts.proofs.Selections.{terms-from, any-end, any-turn, select-end, select-here, select-skip, select-alike}
+use Rattle.completion.proofs.Links.{number-set}
+use Rattle.completion.proofs.Completing.{live-selected}
 
 pub nodes-by : (n : ℕ) (s : Facts) → nodes n s ≡ nodesBy (s .rep) n
 unfolding nodes nodesBy

@@ -18,12 +18,13 @@ use Rattle.query.specs.declared.Layout.{Layout}
 use Rattle.query.proofs.Literals.{listed, fields-listed}
 use Rattle.query.proofs.Ranges.{field-number-term}
 use Rattle.report.specs.declared.Node.{Node}
-use Rattle.report.specs.Links.{linkOf}
+use Rattle.completion.specs.Links.{linkOf}
 use Rattle.report.specs.Nodes.{nodeOf, marked, nodesBy, Numbers}
-use Rattle.report.specs.Bytes.{Appends, fieldHeld, literalsAt, FieldsIn, Reportable, sections}
-use Rattle.report.proofs.Completing.{shown-below}
+use Rattle.lent.specs.Appending.{Appends}
+use Rattle.report.specs.Bytes.{fieldHeld, literalsAt, FieldsIn, Reportable, sections}
+use Rattle.completion.proofs.Completing.{shown-below}
 use Rattle.report.proofs.Nodes.{nodes-by, every-selected, every-length, marked-below, numbers-below}
-use Rattle.report.proofs.Writing.{appends-then, appends-zeros}
+use Rattle.lent.proofs.Writing.{appends-then, appends-zeros}
 
 -- five pieces, each behind the one before
 pub sections-written : (room : ℕ) (b0 b1 b2 b3 b4 b5 : List ℕ) (n m : ℕ) (ts : List ℕ) (f g h : ℕ → ℕ) (p1 p2 p3 p4 : ℕ) → m ≡ length ts → b0 ≡ replicate room 0 → length b1 ≡ length b0 → length b2 ≡ length b1 → length b3 ≡ length b2 → length b4 ≡ length b3 → (p1 ≡ 0 + 1 + m) × Appends b0 b1 0 (m ∷ map f ts) → (p2 ≡ p1 + 1 + n) × Appends b1 b2 p1 (n ∷ map g (terms n)) → (p3 ≡ p2 + 1 + m) × Appends b2 b3 p2 (m ∷ map h ts) → (p4 ≡ p3 + 1) × Appends b3 b4 p3 (1 ∷ []) → Appends b4 b5 p4 (0 ∷ []) → b5 ≡ padded room (sections n ts f g h)

@@ -8,16 +8,11 @@ use lib.Dec.{eqb}
 use Rattle.logic.specs.Search.{_and_, from, any}
 use Rattle.logic.specs.Query.{Literal}
 use Rattle.logic.specs.Facts.{terms}
-use Rattle.logic.specs.Calls.{accepts, padded}
+use Rattle.logic.specs.Calls.{accepts}
 use Rattle.facts.specs.declared.Facts.{Facts}
 use Rattle.facts.specs.Path.{repOf}
 use Rattle.query.specs.declared.Layout.{Layout}
 use Rattle.query.specs.LaysOut.{LaysOut, literalIn}
-
--- Behind the first `at` bytes, which zeros follow, these bytes are written.
-abbrev pub Appends : List ℕ → List ℕ → ℕ → List ℕ → Type 0
-Appends old new at bytes =
-    (front : List ℕ) → length front ≡ at → old ≡ padded (length old) front → new ≡ padded (length old) (front ++ bytes)
 
 -- "set exactly by a plain literal": the field j of the node of term v
 unfoldable pub fieldHeld : (ℕ → ℕ) → List Literal → ℕ → ℕ → Bool

@@ -1,3 +1,2 @@
-pub mod Links
 pub mod Nodes
 pub mod Bytes

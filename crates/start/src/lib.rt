@@ -48,7 +48,7 @@ fn links(query: &[u8], n: usize) -> [u32; 17]
     let mut link = [0u32; 17];
     let mut b: usize = 1;
     while b <= n {
-        let a = argument(query::byte_at(query, b));
+        let a = argument(entries::byte_at(query, b));
         link[a] = facts::with(link[a], b, 0 < a);
         b += 1;
     }
@@ -87,7 +87,7 @@ fn next_nil(query: &[u8], n: usize, start: usize) -> usize
 {
     let mut t = start;
     while t <= n {
-        if query::byte_at(query, t) == 255 {
+        if entries::byte_at(query, t) == 255 {
             return t;
         }
         t += 1;

@@ -6,7 +6,7 @@ use borrow.Author.Needs.{needs}
 use mathlib.Core.Path.{_≡_, sym, ap, _∙_}
 use lib.ListN.{length, drop}
 use Rattle.logic.specs.Query.{roleFault}
-use Rattle.query.proofs.Faults.{entriesLeft}
+use Rattle.entries.proofs.Faults.{entriesLeft}
 use Rattle.between_checks.specs.Answers.{faultOf, tripleRoles, sixthFault}
 use Rattle.between_checks.proofs.Merged.{sixth-end, sixth-here, sixth-next, sixth-whole}
 use Rattle.between_checks.proofs.sixth_fault.Statement.{statement}

@@ -2,7 +2,7 @@
 use native.Mathlib.Omega.{arith}
 use borrow.Author.Needs.{needs}
 use mathlib.Core.Path.{sym, _∙_}
-use Rattle.query.proofs.Faults.{tested, fault-here, fault-next, fault-end}
+use Rattle.entries.proofs.Faults.{tested, fault-here, fault-next, fault-end}
 use Rattle.between_checks.proofs.triple_fault.Statement.{statement}
 use Rattle.between_checks.proofs.triple_fault.Tie as tie
 

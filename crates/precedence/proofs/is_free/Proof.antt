@@ -7,7 +7,7 @@ use mathlib.Core.Bool.{not, _&&_}
 use lib.ListN.{take}
 use lib.Dec.{eqb}
 use Rattle.logic.specs.Search.{from, any, all}
-use Rattle.query.proofs.Loops.{all-end, all-fails, all-next}
+use Rattle.entries.proofs.Loops.{all-end, all-fails, all-next}
 use Rattle.precedence.specs.Sheet.{pairAt, pairs}
 use Rattle.precedence.specs.Finding.{free}
 use Rattle.precedence.proofs.Turns.{all-pairs, free-test}

@@ -4,8 +4,9 @@ use native.Mathlib.Omega.{arith}
 use borrow.Author.Needs.{needs}
 use mathlib.Core.Path.{_≡_, sym, ap, _∙_}
 use Rattle.logic.specs.Query.{fiveSections, byteFault}
-use Rattle.query.specs.Answers.{foundOf}
-use Rattle.query.proofs.Faults.{orElse-some, orElse-next, from₂, from₃, from₄, from₅, byte-faults}
+use Rattle.entries.specs.Entries.{foundOf}
+use Rattle.entries.proofs.Faults.{orElse-some, orElse-next}
+use Rattle.query.proofs.Faults.{from₂, from₃, from₄, from₅, byte-faults}
 use Rattle.query.proofs.byte_fault.Statement.{statement}
 use Rattle.query.proofs.byte_fault.Tie as tie
 

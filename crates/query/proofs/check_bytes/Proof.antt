@@ -6,8 +6,8 @@ use mathlib.Core.Path.{_≡_, sym, ap, _∙_}
 use Rattle.logic.specs.Search.{from, firstOf}
 use Rattle.logic.specs.Query.{fiveSections}
 use Rattle.logic.specs.Calls.{Input, formChecks, refusalOf}
-use Rattle.query.specs.Answers.{foundOf}
-use Rattle.query.proofs.Loops.{first-end, first-here, first-next}
+use Rattle.entries.specs.Entries.{foundOf}
+use Rattle.facts.proofs.Loops.{first-end, first-here, first-next}
 use Rattle.query.proofs.Checks.{byteAnswer, answer-some, answer-none, byte-checks, laid-out, lays-out}
 use Rattle.query.proofs.check_bytes.Statement.{statement}
 use Rattle.query.proofs.check_bytes.Tie as tie

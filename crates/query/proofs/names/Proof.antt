@@ -6,7 +6,7 @@ use lib.ListN.{length, drop}
 use lib.Dec.{eqb}
 use borrow.Author.Tests.{eq-eqb, ne-eqb}
 use Rattle.logic.specs.Search.{any}
-use Rattle.query.proofs.Loops.{any-end, any-here, any-next}
+use Rattle.entries.proofs.Loops.{any-end, any-here, any-next}
 use Rattle.query.proofs.names.Statement.{statement}
 use Rattle.query.proofs.names.Tie as tie
 

@@ -4,7 +4,7 @@ use native.Mathlib.Omega.{arith}
 use borrow.Author.Needs.{needs}
 use mathlib.Core.Path.{_≡_, refl}
 use lib.ListN.{length, getD, length-set}
-use Rattle.report.specs.Links.{linkOf}
+use Rattle.completion.specs.Links.{linkOf}
 use Rattle.report.specs.Nodes.{nodeOf}
 use Rattle.report.proofs.Writing.{filled-more}
 use Rattle.report.proofs.nodes_of.Statement.{statement}

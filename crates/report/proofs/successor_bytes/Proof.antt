@@ -5,7 +5,7 @@ use Prim.Native.Nat.{ℕ}
 use mathlib.Core.Path.{ap, _∙_}
 use Rattle.facts.specs.Path.{pathOf}
 use Rattle.report.specs.Nodes.{nodeOf}
-use Rattle.report.proofs.Completing.{shown-below}
+use Rattle.completion.proofs.Completing.{shown-below}
 use Rattle.report.proofs.successor_bytes.Statement.{statement}
 use Rattle.report.proofs.successor_bytes.Tie as tie
 

@@ -1,0 +1,3 @@
+pub mod Links
+pub mod Choice
+pub mod Completing

@@ -1,0 +1,22 @@
+-- Each return under the test. Assumes nothing.
+use native.Mathlib.Omega.{arith}
+use borrow.Author.Needs.{needs}
+use borrow.Author.Tests.{not-true, not-false}
+use mathlib.Core.Path.{sym, ap, _∙_}
+use mathlib.Core.Bool.{not}
+use Rattle.facts.proofs.Selections.{and-failed, and-rest}
+use Rattle.completion.proofs.begins_without.Statement.{statement}
+use Rattle.completion.proofs.begins_without.Tie as tie
+
+pub begins-without-spec : {M : Type 1} → statement M
+begins-without-spec =
+    tie.close
+    (tie.spec
+    -- begins-path-requires
+    (λ c κs. omega arith)
+    -- returns
+    (λ c. and-failed _ (sym (c .before .begins-path .ensures) ∙ not-true _ (c .if1 .taken)))
+    -- on-path-requires
+    (λ c κs. (omega arith, c .before .before .pre .3))
+    -- returns-2
+    (λ c. ap not (c .on-path .ensures) ∙ and-rest _ (sym (c .before .before .begins-path .ensures) ∙ not-false _ (c .before .if1 .left))))

@@ -1,0 +1,49 @@
+-- After t turns, the numbers below t have their links. Assumes nothing.
+use Prim.Native.Nat.{_-_, _≤_}
+use native.Mathlib.Omega.{arith}
+use borrow.Author.Needs.{needs}
+use mathlib.Core.Path.{_≡_}
+use lib.ListN.{length, length-set}
+use Rattle.logic.specs.Rules.{next}
+use Rattle.facts.specs.Path.{linksIn}
+use Rattle.completion.specs.Links.{linkOf}
+use Rattle.completion.proofs.Links.{LinkedBelow, linked-more, next-all}
+use Rattle.completion.proofs.known_links.Statement.{statement}
+use Rattle.completion.proofs.known_links.Tie as tie
+
+abbrev Inv-loop : tie.InvT-loop
+Inv-loop link n links₀ t₀ links t = (t ≤ 17) × (length links ≡ 17) × LinkedBelow t (next n (linksIn link)) (linkOf links)
+
+abbrev μ-loop : tie.MeasureT-loop
+μ-loop link n links₀ t₀ links t = 17 - t
+
+whole : (c : tie.After-loop Inv-loop μ-loop) → c .before .loop .t ≡ 17
+whole c = omega arith
+
+pub known-links-spec : {M : Type 1} → statement M
+known-links-spec =
+    tie.close
+    (tie.spec
+    Inv-loop
+    μ-loop
+    -- loop-holds
+    (λ c. (omega arith, search needs, λ x h. absurd (omega arith)))
+    -- known-link-requires
+    (λ c κs. omega arith)
+    -- mul-links
+    (λ c. omega arith)
+    -- array-set-from-links
+    (λ c. omega arith)
+    -- add-t
+    (λ c. omega arith)
+    -- loop-less
+    (λ c. omega arith)
+    -- loop-again
+    (λ c.
+    let l = c .before .before .loop in (
+      omega arith,
+      simp length-set (l .inv .1),
+      linked-more _ (l .links) (l .t) (omega arith) (c .known-link .result) (c .known-link .ensures) (l .inv .2),
+    ))
+    -- returns
+    (λ c. next-all _ _ _ (c .before .loop .inv .1) (rw (whole c) at (c .before .loop .inv .2))))

@@ -1,0 +1,51 @@
+-- What is left to link comes out as the whole. Assumes nothing.
+use Prim.Native.Nat.{_+_, _-_}
+use native.Mathlib.Omega.{arith}
+use borrow.Author.Needs.{needs}
+use mathlib.Core.Path.{_≡_, refl, sym, _∙_}
+use lib.ListN.{length, length-set}
+use lib.Dec.{eqb}
+use Rattle.logic.specs.Search.{from, select}
+use Rattle.logic.specs.Shown.{linkEach}
+use Rattle.facts.specs.Path.{repOf}
+use Rattle.completion.specs.Links.{linkOf, InRange, reachIn}
+use Rattle.completion.proofs.Completing.{link-turn, turn-range, link-end}
+use Rattle.completion.proofs.link_each.Statement.{statement}
+use Rattle.completion.proofs.link_each.Tie as tie
+
+abbrev Inv-loop : tie.InvT-loop
+Inv-loop rep reach n out₀ v₀ out v =
+    (length out ≡ 17) × InRange out
+    × (linkEach n (reachIn reach) (linkOf out₀) (select (λ t. eqb (repOf rep t) t) (from (n + 1 - 1) 1))
+    ≡ linkEach n (reachIn reach) (linkOf out) (select (λ t. eqb (repOf rep t) t) (from (n + 1 - v) v)))
+
+abbrev μ-loop : tie.MeasureT-loop
+μ-loop rep reach n out₀ v₀ out v = n + 1 - v
+
+pub link-each-spec : {M : Type 1} → statement M
+link-each-spec =
+    tie.close
+    (tie.spec
+    Inv-loop
+    μ-loop
+    -- loop-holds
+    (λ c. (search needs, c .pre .1, refl))
+    -- link-at-requires
+    (λ c κs. (omega arith, omega arith, c .before .loop .inv .1))
+    -- mul-out
+    (λ c. omega arith)
+    -- array-set-from-out
+    (λ c. omega arith)
+    -- add-v
+    (λ c. omega arith)
+    -- loop-less
+    (λ c. omega arith)
+    -- loop-again
+    (λ c.
+    let l = c .before .before .loop in (
+      simp length-set (l .inv .0),
+      turn-range _ _ _ (l .out) (l .inv .0) (l .v) (omega arith) (omega arith) (c .link-at .result) (c .link-at .ensures) (l .inv .1),
+      l .inv .2 ∙ link-turn _ _ _ (l .out) (l .inv .0) (l .v) (omega arith) (omega arith) (c .link-at .result) (c .link-at .ensures),
+    ))
+    -- returns
+    (λ c. sym (c .before .loop .inv .2 ∙ link-end _ _ _ _ _ (omega arith))))

@@ -1,0 +1,121 @@
+-- The search for a byte that meets refusal k, byte by byte and entry by entry.
+use Prim.Native.Nat.{ℕ, suc, _+_, _-_, _*_, _≤_, _<_}
+use native.Mathlib.Nat.{add-zero, add-suc, suc-add, suc-mul, sub-zero, sub-eq-zero-of-le}
+use native.Mathlib.Numerals.{add-one}
+use native.Mathlib.Omega.{arith}
+use mathlib.Core.Path.{_≡_, refl, sym, ap, _∙_}
+use mathlib.Core.Bool.{Bool, true, false, not}
+use mathlib.Core.List.{List, [], _∷_, _++_}
+use mathlib.Core.Option.{Option, none, some}
+use lib.ListN.{length, getD, drop}
+use lib.Seq.{drop-drop}
+use lib.Dec.{eqb}
+use Rattle.logic.specs.Search.{_and_, from, keep, orElse, flatMap}
+use Rattle.logic.specs.Query.{Role, roleFault}
+use Rattle.entries.specs.declared.Kind.{Kind}
+use Rattle.entries.specs.declared.Kind.the-variants as kind
+use Rattle.entries.specs.Entries.{widthOf, rolesAt, meets, sectionFault}
+use Rattle.entries.proofs.Loops.{drop-next}
+
+module _ {A : Type 0} where
+  pub orElse-some : {o : Option A} (o′ : Option A) {a : A} → o ≡ some a → orElse o o′ ≡ some a
+  unfolding orElse
+  orElse-some o′ e = rw e
+
+  pub orElse-next : {o : Option A} (o′ : Option A) → o ≡ none → orElse o o′ ≡ o′
+  unfolding orElse
+  orElse-next o′ e = rw e
+
+  pub orElse-last : (o : Option A) → orElse o none ≡ o
+  unfolding orElse
+  orElse-last none = refl
+  orElse-last (some a) = refl
+
+  orElse-assoc : (o o′ o″ : Option A) → orElse (orElse o o′) o″ ≡ orElse o (orElse o′ o″)
+  unfolding orElse
+  orElse-assoc none o′ o″ = refl
+  orElse-assoc (some a) o′ o″ = refl
+
+-- Bytes
+
+-- what a test says of the byte that it was given
+pub tested : {b v : Bool} {x y : ℕ} (r : Role) (k : ℕ) → b ≡ meets r k x → x ≡ y → b ≡ v → meets r k y ≡ v
+tested r k test e h = ap (meets r k) (sym e) ∙ (sym test ∙ h)
+
+module _ (k : ℕ) (bytes : List ℕ) (r : Role) (roles : List Role) (at : ℕ) (h : at < length bytes) where
+  pub fault-here : meets r k (getD bytes at 0) ≡ true → roleFault k at (r ∷ roles) (drop at bytes) ≡ some at
+  unfolding roleFault meets keep orElse
+  fault-here e = rw (drop-next bytes at h, e)
+
+  pub fault-next : meets r k (getD bytes at 0) ≡ false → roleFault k at (r ∷ roles) (drop at bytes) ≡ roleFault k (at + 1) roles (drop (at + 1) bytes)
+  unfolding roleFault meets keep orElse
+  fault-next e = rw (drop-next bytes at h, e, add-one)
+
+pub fault-end : (k at : ℕ) (bytes : List ℕ) → roleFault k at [] bytes ≡ none
+unfolding roleFault
+fault-end k at bytes = refl
+
+no-bytes : (k place : ℕ) (roles : List Role) → roleFault k place roles [] ≡ none
+unfolding roleFault
+no-bytes k place [] = refl
+no-bytes k place (r ∷ roles) = refl
+
+-- Entries
+
+-- the bytes of one list of roles, and then those of the next
+append : (k place : ℕ) (roles roles′ : List Role) (bytes : List ℕ) → roleFault k place (roles ++ roles′) bytes ≡ orElse (roleFault k place roles bytes) (roleFault k (place + length roles) roles′ (drop (length roles) bytes))
+unfolding roleFault orElse
+append k place [] roles′ bytes = rw add-zero
+append k place (r ∷ roles) roles′ [] = sym (no-bytes k (place + length (r ∷ roles)) roles′)
+append k place (r ∷ roles) roles′ (b ∷ bytes) =
+    rw (append k (suc place) roles roles′ bytes, suc-add, ← add-suc) (sym (orElse-assoc (keep (eqb (r .refusal) k and not (r .allows b)) place) _ _))
+
+-- the same at a place of the query, where the first roles are as many as w
+module _ (k at w : ℕ) (roles roles′ : List Role) (bytes : List ℕ) (sized : length roles ≡ w) where
+  pub append-at : roleFault k at (roles ++ roles′) (drop at bytes) ≡ orElse (roleFault k at roles (drop at bytes)) (roleFault k (at + w) roles′ (drop (at + w) bytes))
+  append-at = rw (append k at roles roles′ (drop at bytes), sized, drop-drop)
+
+  pub append-here : {p : ℕ} → roleFault k at roles (drop at bytes) ≡ some p → roleFault k at (roles ++ roles′) (drop at bytes) ≡ some p
+  append-here e = append-at ∙ orElse-some _ e
+
+  pub append-next : roleFault k at roles (drop at bytes) ≡ none → roleFault k at (roles ++ roles′) (drop at bytes) ≡ roleFault k (at + w) roles′ (drop (at + w) bytes)
+  append-next e = append-at ∙ orElse-next _ e
+
+-- one entry more is left to search, and its bytes
+left-next : (count i : ℕ) → i < count → count - i ≡ suc (count - (i + 1))
+left-next count i h = omega arith
+
+pub room-next : (count i w : ℕ) → i < count → (count - i) * w ≡ w + (count - (i + 1)) * w
+room-next count i w h = rw (left-next count i h, suc-mul) (omega arith)
+
+-- the entries that are left of `count` behind the first i
+abbrev pub entriesLeft : (ℕ → List Role) → ℕ → ℕ → List Role
+entriesLeft roles count i = flatMap roles (from (count - i) (i + 1))
+
+entries-next : (roles : ℕ → List Role) (count i : ℕ) → i < count → entriesLeft roles count i ≡ roles (i + 1) ++ entriesLeft roles count (i + 1)
+unfolding flatMap from
+entries-next roles count i h = rw (left-next count i h) (ap (λ (j : ℕ). roles (i + 1) ++ flatMap roles (from (count - (i + 1)) j)) (sym (add-one (i + 1))))
+
+pub roles-regular : (kind : Kind) (n i : ℕ) → length (rolesAt kind n i) ≡ widthOf kind
+roles-regular kind.Terms n i = refl
+roles-regular kind.Pairs n i = refl
+roles-regular kind.Fields n i = refl
+roles-regular kind.Booleans n i = refl
+
+module _ (k : ℕ) (kind : Kind) (n count : ℕ) (bytes : List ℕ) (i at : ℕ) where
+  pub entry-end : count ≤ i → roleFault k at (entriesLeft (rolesAt kind n) count i) (drop at bytes) ≡ none
+  unfolding flatMap from roleFault
+  entry-end h = rw (sub-eq-zero-of-le h)
+
+  next-entry : i < count → roleFault k at (entriesLeft (rolesAt kind n) count i) (drop at bytes) ≡ roleFault k at (rolesAt kind n (i + 1) ++ entriesLeft (rolesAt kind n) count (i + 1)) (drop at bytes)
+  next-entry h = ap (λ (rs : List Role). roleFault k at rs (drop at bytes)) (entries-next (rolesAt kind n) count i h)
+
+  pub entry-here : (p : ℕ) → i < count → roleFault k at (rolesAt kind n (i + 1)) (drop at bytes) ≡ some p → roleFault k at (entriesLeft (rolesAt kind n) count i) (drop at bytes) ≡ some p
+  entry-here p h e = next-entry h ∙ append-here k at (widthOf kind) (rolesAt kind n (i + 1)) (entriesLeft (rolesAt kind n) count (i + 1)) bytes (roles-regular kind n (i + 1)) e
+
+  pub entry-next : i < count → roleFault k at (rolesAt kind n (i + 1)) (drop at bytes) ≡ none → roleFault k at (entriesLeft (rolesAt kind n) count i) (drop at bytes) ≡ roleFault k (at + widthOf kind) (entriesLeft (rolesAt kind n) count (i + 1)) (drop (at + widthOf kind) bytes)
+  entry-next h e = next-entry h ∙ append-next k at (widthOf kind) (rolesAt kind n (i + 1)) (entriesLeft (rolesAt kind n) count (i + 1)) bytes (roles-regular kind n (i + 1)) e
+
+pub section-whole : (k : ℕ) (kind : Kind) (n at count : ℕ) (bytes : List ℕ) → sectionFault k kind n at count bytes ≡ roleFault k at (entriesLeft (rolesAt kind n) count 0) (drop at bytes)
+unfolding sectionFault
+section-whole k kind n at count bytes = rw (sub-zero count)

@@ -1,0 +1,40 @@
+-- Tests and searches as a loop meets them: what is left at i, or of the numbers from k below m, equals the whole.
+use Prim.Native.Nat.{ℕ, _+_, _-_, _≤_, _<_}
+use native.Mathlib.Numerals.{add-one}
+use mathlib.Core.Path.{_≡_}
+use mathlib.Core.Bool.{Bool, true, false}
+use mathlib.Core.List.{List, _∷_}
+use lib.ListN.{length, getD, drop, drop-of-length-le}
+use lib.Seq.{drop-cons}
+use Rattle.logic.specs.Search.{_and_, _or_, from, any, all}
+use Rattle.facts.proofs.Loops.{from-end, from-next}
+
+-- the bytes from i on begin with byte i
+pub drop-next : (xs : List ℕ) (i : ℕ) → i < length xs → drop i xs ≡ getD xs i 0 ∷ drop (i + 1) xs
+drop-next xs i h = rw (add-one, drop-cons xs i 0)
+
+module _ (p : ℕ → Bool) (xs : List ℕ) where
+  pub any-end : (i : ℕ) → length xs ≤ i → any p (drop i xs) ≡ false
+  unfolding any
+  any-end i h = rw (drop-of-length-le xs h)
+
+  pub any-here : (i : ℕ) → i < length xs → p (getD xs i 0) ≡ true → any p (drop i xs) ≡ true
+  unfolding any _or_
+  any-here i h e = rw (drop-next xs i h, e)
+
+  pub any-next : (i : ℕ) → i < length xs → p (getD xs i 0) ≡ false → any p (drop i xs) ≡ any p (drop (i + 1) xs)
+  unfolding any _or_
+  any-next i h e = rw (drop-next xs i h, e)
+
+module _ (p : ℕ → Bool) (m : ℕ) where
+  pub all-end : (k : ℕ) → m ≤ k → all p (from (m - k) k) ≡ true
+  unfolding all
+  all-end k h = rw (from-end m k h)
+
+  pub all-fails : (k : ℕ) → k < m → p k ≡ false → all p (from (m - k) k) ≡ false
+  unfolding all _and_
+  all-fails k h e = rw (from-next m k h, e)
+
+  pub all-next : (k : ℕ) → k < m → p k ≡ true → all p (from (m - k) k) ≡ all p (from (m - (k + 1)) (k + 1))
+  unfolding all _and_
+  all-next k h e = rw (from-next m k h, e)
