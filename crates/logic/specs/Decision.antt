@@ -17,8 +17,8 @@ use Rattle.logic.specs.Calls.{accepts}
 pub record MeetsPath (h : Heap) (q : Query) (s : Facts) : Type 0 where
   pub meets : Meets h q
   pub rep-value : (t : ℕ) → 1 ≤ t → t ≤ termCount q → value h (q .entries) (s .rep t) ≡ value h (q .entries) t
-  pub link-true : (a b : ℕ) → s .graph .link a b ≡ true → h .link (value h (q .entries) a) ≡ value h (q .entries) b
-  pub reach-true : (a b : ℕ) → s .graph .reach a b ≡ true → Reaches (h .link) (value h (q .entries) a) (value h (q .entries) b)
+  pub link-true : (i a b : ℕ) → s .graph i .link a b ≡ true → h .link i (value h (q .entries) a) ≡ value h (q .entries) b
+  pub reach-true : (i a b : ℕ) → s .graph i .reach a b ≡ true → Reaches (h .link i) (value h (q .entries) a) (value h (q .entries) b)
 
 -- some finite heap does; none of any size does
 abbrev pub HasHeap : Query → Facts → Type 0
@@ -41,9 +41,11 @@ pub data Follows (alive : ℕ → Bool) (link reach : ℕ → ℕ → Bool) : �
 -- a path with more such facts, and no other change
 pub record Closes (n : ℕ) (s s′ : Facts) : Type 0 where
   pub same-rep : s′ .rep ≡ s .rep
-  pub same-link : s′ .graph .link ≡ s .graph .link
-  pub reach-kept : (a b : ℕ) → s .graph .reach a b ≡ true → s′ .graph .reach a b ≡ true
-  pub reach-follows : (a b : ℕ) → s′ .graph .reach a b ≡ true → Follows (live n s) (s .graph .link) (s .graph .reach) a b
+  pub same-links : s′ .links ≡ s .links
+  pub same-link : (i : ℕ) → s′ .graph i .link ≡ s .graph i .link
+  pub reach-kept : (i a b : ℕ) → s .graph i .reach a b ≡ true → s′ .graph i .reach a b ≡ true
+  pub reach-linked : (i a b : ℕ) → s′ .graph i .reach a b ≡ true → (1 ≤ i) × (i ≤ s .links)
+  pub reach-follows : (i a b : ℕ) → s′ .graph i .reach a b ≡ true → Follows (live n s) (s .graph i .link) (s .graph i .reach) a b
 
 -- the branches of a rule before the i-th (from 0) have no heap
 abbrev pub Struck : Query → Facts → Move → ℕ → Type 0

@@ -34,6 +34,6 @@ pub record Accounts (n : ℕ) (s : Facts) (j : Joined) : Type 0 where
 
 -- R-1, for every accepted query: of the start, and of each branch of a rule that applies to facts that a walk can hold
 pub record PairsAccount : Type 0 where
-  pub start-pairs : (query : List ℕ) → accepts query ≡ true → Accounts (termCount (decode query)) (linksOf (decode query .entries)) (startJoins (decode query))
+  pub start-pairs : (query : List ℕ) → accepts query ≡ true → Accounts (termCount (decode query)) (linksOf (decode query)) (startJoins (decode query))
   pub start-followed : (query : List ℕ) → accepts query ≡ true → (t : ℕ) → start (decode query) .rep t ≡ followPairs (startJoins (decode query) .pairs) t
   pub branch-pairs : (query : List ℕ) (s : Facts) (m : Move) (c : Fact) → accepts query ≡ true → Held (decode query) s → applies (termCount (decode query)) s m ≡ true → List·Memᴰ c (alternatives (termCount (decode query)) (s .graph) m) → Accounts (termCount (decode query)) s (branch (termCount (decode query)) s c)

@@ -36,6 +36,17 @@ namesNil entries t = eqb (entryOf entries t) 255
 unfoldable pub argumentOf : List ℕ → ℕ → ℕ
 argumentOf entries t = cond (namesNil entries t) 0 (entryOf entries t)
 
+-- The link fields are numbered from 1 (02, R-11). A query in the form of 01 knows one: how many it knows, the link that term t follows,
+-- and the link of a reachability literal.
+unfoldable pub linkCount : Query → ℕ
+linkCount q = 1
+
+unfoldable pub linkOf : List ℕ → ℕ → ℕ
+linkOf entries t = 1
+
+unfoldable pub literalLink : Literal → ℕ
+literalLink l = 1
+
 -- What a byte of the query is held to: the refusal that it meets where it is not allowed. A count is held to nothing here.
 pub record Role : Type 0 where
   pub refusal : ℕ

@@ -9,12 +9,12 @@ use Rattle.logic.specs.Facts.{Facts, join, addReach}
 use Rattle.logic.specs.Walk.{Pick, handRow}
 use Rattle.logic.specs.Calls.{Input, accepts, verdictCall}
 
--- "with replaced terms read as what they became": terms a and b joined, and a reachability fact about them added
+-- "with replaced terms read as what they became": terms a and b joined, and a reachability fact about them and link i added
 unfoldable pub joinTerms : ℕ → ℕ × ℕ → Facts → Facts
 joinTerms n ab s = join n (s .rep (ab .0)) (s .rep (ab .1)) s .facts
 
-unfoldable pub reachTerms : ℕ × ℕ → Facts → Facts
-reachTerms ab s = addReach (s .rep (ab .0)) (s .rep (ab .1)) s
+unfoldable pub reachTerms : ℕ → ℕ × ℕ → Facts → Facts
+reachTerms i ab s = addReach i (s .rep (ab .0)) (s .rep (ab .1)) s
 
 -- a list of joins, one after the other
 unfoldable pub joinAll : ℕ → List (ℕ × ℕ) → Facts → Facts
@@ -46,7 +46,7 @@ pub record JoinsAgree : Type 0 where
   pub joins-any-order : (query : List ℕ) (s : Facts) (ps qs : List (ℕ × ℕ)) → accepts query ≡ true → Held (decode query) s → PairsOf (decode query) ps → PairsOf (decode query) qs → SameElements ps qs → joinAll (termCount (decode query)) ps s ≡ joinAll (termCount (decode query)) qs s
   pub two-joins : (query : List ℕ) (s : Facts) (ab cd : ℕ × ℕ) → accepts query ≡ true → Held (decode query) s → PairsOf (decode query) (ab ∷ cd ∷ []) → joinTerms (termCount (decode query)) cd (joinTerms (termCount (decode query)) ab s) ≡ joinTerms (termCount (decode query)) ab (joinTerms (termCount (decode query)) cd s)
   -- "a reachability fact may be added before or after a join alike", and before or after a list of joins
-  pub reach-any-side : (n : ℕ) (s : Facts) (ab : ℕ × ℕ) (ps : List (ℕ × ℕ)) → joinAll n ps (reachTerms ab s) ≡ reachTerms ab (joinAll n ps s)
-  pub reach-either-side : (n : ℕ) (s : Facts) (ab cd : ℕ × ℕ) → joinTerms n cd (reachTerms ab s) ≡ reachTerms ab (joinTerms n cd s)
+  pub reach-any-side : (n i : ℕ) (s : Facts) (ab : ℕ × ℕ) (ps : List (ℕ × ℕ)) → joinAll n ps (reachTerms i ab s) ≡ reachTerms i ab (joinAll n ps s)
+  pub reach-either-side : (n i : ℕ) (s : Facts) (ab cd : ℕ × ℕ) → joinTerms n cd (reachTerms i ab s) ≡ reachTerms i ab (joinTerms n cd s)
   -- "So reordering the plain equalities never changes a heap report": nor the verdict call's answer, nor any byte of what is lent
   pub report-stays : (order query query′ : List ℕ) (room : ℕ) → accepts query ≡ true → accepts query′ ≡ true → Reordered (decode query) (decode query′) → verdictCall (record { order = order; query = query; room = room }) ≡ verdictCall (record { order = order; query = query′; room = room })

@@ -48,8 +48,8 @@ unfoldable pub linkEach : ℕ → Graph → (ℕ → ℕ) → List ℕ → ℕ �
 linkEach n g p [] = p
 linkEach n g p (v ∷ vs) = linkEach n g (λ t. cond (eqb t v and eqb (p v) 0) (newLink n g p v) (p t)) vs
 
-unfoldable pub shownLink : ℕ → Facts → ℕ → ℕ
-shownLink n s = linkEach n (s .graph) (next n (s .graph)) (liveTerms n s)
+unfoldable pub shownLink : ℕ → Facts → ℕ → ℕ → ℕ
+shownLink n s i = linkEach n (s .graph i) (next n (s .graph i)) (liveTerms n s)
 
 -- "The terms not replaced, ascending, are nodes 1 to m; with no terms, one node linked to itself": here the node of no term is 0.
 unfoldable pub orZero : List ℕ → List ℕ
@@ -84,7 +84,7 @@ report q s =
     let n : ℕ = termCount q in
     let ts : List ℕ = nodes n s in
     let m : ℕ = length ts in
-    (m ∷ map (λ v. placeOf (shownLink n s v) ts) ts)
+    (m ∷ map (λ v. placeOf (shownLink n s 1 v) ts) ts)
     ++ ((n ∷ map (λ t. placeOf (s .rep t) ts) (terms n))
     ++ ((m ∷ map (fieldByte q s) ts) ++ (1 ∷ 0 ∷ [])))
 
@@ -102,7 +102,7 @@ heapIn bytes =
     let n : ℕ = getD bytes (m + 1) 0 in
     record {
       size = m;
-      link = λ v. getD bytes v 0;
+      link = λ i v. getD bytes v 0;
       field = λ j v. bitOf (getD bytes (m + n + 2 + v) 0) (j - 1);
       variable = λ t. cond (ltb 0 t and leb t n) (nodeIn bytes t) 1;
     }

@@ -7,7 +7,7 @@ use mathlib.Core.List.{List, [], _∷_, map, List·Memᴰ, List·Memᴰ·head, L
 use mathlib.Core.Option.{Option, none, some, Option·elim}
 use lib.Dec.{eqb}
 use Rattle.logic.specs.Search.{_and_, select, orElse, firstOf}
-use Rattle.logic.specs.Query.{Literal, Query, termCount, decode}
+use Rattle.logic.specs.Query.{Literal, Query, linkCount, termCount, decode}
 use Rattle.logic.specs.Facts.{Facts, Line, line, negatedAt, plainAt, isClash, clashLines, clash, unjoined, andThen, settle, join, linksOf, joinEach, reachEach, nilTerms, joinNil, startJoins, start}
 use Rattle.logic.specs.Rules.{Rule, Move, Fact, alternatives, branch, choose, moveLine}
 use Rattle.logic.specs.Walk.{Look, clashing, applying, saturated, look, Ending, refutation, saturation, after, thenEnding, walkBranch, walkEach, endAt, walk, orderOf, limit, ourWalk}
@@ -75,10 +75,10 @@ module _ (q : Query) (es : List Literal) (ok : Accepted q) (ok′ : Accepted (wi
 
   -- both begin with the same facts
   start-same : start q ≡ start q′
-  unfolding start startJoins nilTerms andThen termCount
+  unfolding start startJoins nilTerms andThen termCount linkCount linksOf
   start-same =
       let n : ℕ = termCount q in
-      let nilled : Facts = joinNil n (nilTerms q) (settle n n (linksOf (q .entries)) .facts) .facts in
+      let nilled : Facts = joinNil n (nilTerms q) (settle n n (linksOf q) .facts) .facts in
       let h : Sane n nilled = nilled-sane q ok in
       ap (reachEach (q .reachability))
       (joinEach-pairs n (q .equalities) nilled
@@ -186,7 +186,7 @@ verdict-alike q es room e e′ (both-refuted ls ms) = refl
 verdict-alike q es room e e′ (both-saturated s) = refl
 
 our-alike : (q : Query) (es : List Literal) → Accepted q → Accepted (withEqualities q es) → SameElements (q .equalities) es → (order : List ℕ) → Alike (ourWalk order q) (ourWalk order (withEqualities q es))
-unfolding ourWalk limit termCount
+unfolding ourWalk limit linkCount termCount
 our-alike q es ok ok′ same order =
     after-alike _ _ _ _
     (subst (λ (s : Facts). Alike (walk q (orderOf order) (limit q) (start q)) (walk (withEqualities q es) (orderOf order) (limit q) s)) (start-same q es ok ok′ same) (walk-alike q es same (orderOf order) (limit q) (start q)))
@@ -231,7 +231,7 @@ joins-agree =
       joins-any-order = λ query s ps qs a h r r′ same. joins-any-order (termCount (decode query)) ps qs s r r′ same (held-sane (decode query) (accepted query a) s h);
       two-joins = λ query s ab cd a h r.
           two-joins (termCount (decode query)) ab cd s (r ab (List·Memᴰ·head refl)) (r cd (List·Memᴰ·tail (List·Memᴰ·head refl))) (held-sane (decode query) (accepted query a) s h);
-      reach-any-side = λ n s ab ps. reach-any-side n ab ps s;
-      reach-either-side = λ n s ab cd. reach-either-side n ab cd s;
+      reach-any-side = λ n i s ab ps. reach-any-side n i ab ps s;
+      reach-either-side = λ n i s ab cd. reach-either-side n i ab cd s;
       report-stays = report-stays;
     }

@@ -95,20 +95,20 @@ regroup ls ns ds es rest = simp append-assoc
 abbrev pub nodesOf : Query → Facts → List ℕ
 nodesOf q s = nodes (termCount q) s
 
-abbrev pub linkOf : Query → Facts → ℕ → ℕ
-linkOf q s = shownLink (termCount q) s
+abbrev pub linkShown : Query → Facts → ℕ → ℕ
+linkShown q s = shownLink (termCount q) s 1
 
 abbrev pub place : Query → Facts → ℕ → ℕ
 place q s v = placeOf v (nodesOf q s)
 
 -- the report, whatever follows it
-pub report-laid : (q : Query) (s : Facts) (rest : List ℕ) → Laid (report q s ++ rest) (length (nodesOf q s)) (termCount q) (λ i. place q s (linkOf q s (getD (nodesOf q s) i 0))) (λ i. place q s (s .rep (suc i))) (λ i. fieldByte q s (getD (nodesOf q s) i 0)) 0 rest
+pub report-laid : (q : Query) (s : Facts) (rest : List ℕ) → Laid (report q s ++ rest) (length (nodesOf q s)) (termCount q) (λ i. place q s (linkShown q s (getD (nodesOf q s) i 0))) (λ i. place q s (s .rep (suc i))) (λ i. fieldByte q s (getD (nodesOf q s) i 0)) 0 rest
 unfolding report
 report-laid q s rest =
     let ts : List ℕ = nodesOf q s in
-    let links = lists-map (λ v. place q s (linkOf q s v)) ts in
+    let links = lists-map (λ v. place q s (linkShown q s v)) ts in
     let listed = lists-terms (λ t. place q s (s .rep t)) (termCount q) in
     rw (regroup
-    (length ts ∷ map (λ v. place q s (linkOf q s v)) ts) (termCount q ∷ map (λ t. place q s (s .rep t)) (terms (termCount q)))
+    (length ts ∷ map (λ v. place q s (linkShown q s v)) ts) (termCount q ∷ map (λ t. place q s (s .rep t)) (terms (termCount q)))
     (length ts ∷ map (fieldByte q s) ts) (1 ∷ 0 ∷ []) rest)
     (laid (length ts) (termCount q) 0 _ _ _ _ _ _ rest links listed (lists-map (fieldByte q s) ts))

@@ -29,9 +29,9 @@ module _ {bytes : List ℕ} {m n : ℕ} {link node datum : ℕ → ℕ} {flags :
   unfolding heapIn sizeIn
   heap-size = at .size-at
 
-  pub heap-link : (i : ℕ) → i < m → heapIn bytes .link (suc i) ≡ link i
+  pub heap-link : (k i : ℕ) → i < m → heapIn bytes .link k (suc i) ≡ link i
   unfolding heapIn
-  heap-link = at .link-at
+  heap-link k = at .link-at
 
   pub node-listed : (i : ℕ) → i < n → nodeIn bytes (suc i) ≡ node i
   unfolding nodeIn sizeIn
@@ -59,15 +59,15 @@ module _ {bytes : List ℕ} {m n : ℕ} {link node datum : ℕ → ℕ} {flags :
         let h : i < n = leb-true (suc i) n (and-right (ltb 0 (suc i)) (leb (suc i) n) e) in
         rw (node-listed i h) (listed i h)
 
-    link-in : (v : ℕ) → 1 ≤ v → v ≤ m → (1 ≤ heapIn bytes .link v) × (heapIn bytes .link v ≤ m)
-    link-in zero l h = absurd (omega arith)
-    link-in (suc i) l h = rw (heap-link i h) (links i h)
+    link-in : (k v : ℕ) → 1 ≤ v → v ≤ m → (1 ≤ heapIn bytes .link k v) × (heapIn bytes .link k v ≤ m)
+    link-in k zero l h = absurd (omega arith)
+    link-in k (suc i) l h = rw (heap-link k i h) (links i h)
 
     pub is-heap : IsHeap (heapIn bytes)
     is-heap =
         record {
           nonempty = rw heap-size nonempty;
-          link-node = rw heap-size (λ v r. link-in v (r .0) (r .1));
+          link-node = rw heap-size (λ k v r. link-in k v (r .0) (r .1));
           variable-node = rw heap-size (λ t. rw heap-variable (variable-in t (ltb 0 t and leb t n) refl));
         }
 

@@ -11,13 +11,13 @@ use lib.ListN.{length, getD, replicate}
 use lib.Dec.{eqb}
 use borrow.Author.Tests.{eqb-true, eqb-false, eq-eqb}
 use Rattle.logic.specs.Search.{_and_, any}
-use Rattle.logic.specs.Query.{Literal, Query, namesNil, argumentOf, termCount}
+use Rattle.logic.specs.Query.{Literal, Query, namesNil, argumentOf, linkOf, literalLink, linkCount, termCount}
 use Rattle.logic.specs.Heap.{Heap, Reaches, Signed, Each, MeansEqual, MeansReach, MeansField, value, valueWithin}
 use Rattle.logic.specs.Facts.{Facts, liveTerms, clash}
 use Rattle.logic.specs.Shown.{shownLink, bitOf, fieldByte, report, heapIn, nodeIn, wellFormed}
 use Rattle.logic.specs.Demands.{Shows}
 use Rattle.logic.proofs.Basics.Search.{and-left, and-right, and-intro, bool-cases, any-true, any-intro}
-use Rattle.logic.proofs.Query.Tied.{InTerms, ToEight, Accepted, Tied}
+use Rattle.logic.proofs.Query.Tied.{InTerms, InLinks, ToEight, Accepted, Tied}
 use Rattle.logic.proofs.Query.Entries.{nil-range}
 use Rattle.logic.proofs.Completeness.Completed.{Completed}
 use Rattle.logic.proofs.Completeness.Byte.{byte-bit}
@@ -25,7 +25,7 @@ use Rattle.logic.proofs.Completeness.Placed.{getD-mem, placeOf-mem, pla
 use Rattle.logic.proofs.Completeness.Renamed.{reaches-name}
 use Rattle.logic.proofs.Completeness.NoClash.{equal-free, reach-free, field-free}
 use Rattle.logic.proofs.Completeness.ShownNodes.{nodes-length, live-mem, live-node, shownLink-node}
-use Rattle.logic.proofs.Completeness.ReportBytes.{nodesOf, linkOf, place, report-laid}
+use Rattle.logic.proofs.Completeness.ReportBytes.{nodesOf, linkShown, place, report-laid}
 use Rattle.logic.proofs.Completeness.ReportHeap.{heap-link, heap-field, heap-listed, node-listed, is-heap, is-formed}
 
 -- "That is 2m+n+5 bytes"
@@ -73,7 +73,12 @@ heapOf q s rest = heapIn (report q s ++ rest)
 abbrev valueOf : Query → Facts → List ℕ → ℕ → ℕ
 valueOf q s rest = value (heapOf q s rest) (q .entries)
 
-module _ (q : Query) (s : Facts) (acc : Accepted q) (tied : Tied q s) (comp : Completed (termCount q) (liveTerms (termCount q) s) (s .graph)) where
+module _ (q : Query) (s : Facts) (acc : Accepted q) (tied : Tied q s) (comp : (i : ℕ) → InLinks q i → Completed (termCount q) (liveTerms (termCount q) s) (s .graph i)) where
+  -- the one link that the report shows
+  first-link : InLinks q 1
+  unfolding linkCount
+  first-link = (omega arith, omega arith)
+
   pub rep-node : (t : ℕ) → InTerms q t → IsNode q s (s .rep t)
   rep-node t h = live-node (termCount q) s (s .rep t) (tied .rep-live t h)
 
@@ -86,14 +91,14 @@ module _ (q : Query) (s : Facts) (acc : Accepted q) (tied : Tied q s) (comp : Co
   unfolding termCount
   nil-in t h = nil-range (q .entries) t h
 
-  link-node : (v : ℕ) → IsNode q s v → IsNode q s (linkOf q s v)
-  link-node = shownLink-node (termCount q) s (λ t l h. tied .rep-live t (l, h)) comp
+  link-node : (v : ℕ) → IsNode q s v → IsNode q s (linkShown q s v)
+  link-node = shownLink-node (termCount q) s 1 (λ t l h. tied .rep-live t (l, h)) (comp 1 first-link)
 
   nonempty : 1 ≤ length (nodesOf q s)
   nonempty = nodes-length (termCount q) s (acc .term-count) .0
 
   -- "every successor and node 1 to m"
-  links-in : (i : ℕ) → i < length (nodesOf q s) → InPlaces q s (place q s (linkOf q s (getD (nodesOf q s) i 0)))
+  links-in : (i : ℕ) → i < length (nodesOf q s) → InPlaces q s (place q s (linkShown q s (getD (nodesOf q s) i 0)))
   links-in i h = placeOf-range _ (link-node _ (getD-mem (nodesOf q s) i h))
 
   listed-in : (i : ℕ) → i < termCount q → InPlaces q s (place q s (s .rep (suc i)))
@@ -101,10 +106,10 @@ module _ (q : Query) (s : Facts) (acc : Accepted q) (tied : Tied q s) (comp : Co
 
   -- What the heap says at the nodes of terms. A node's place is that of an equal element of the list, and there the report is read.
   module _ (rest : List ℕ) where
-    pub link-place : (v : ℕ) → IsNode q s v → heapOf q s rest .link (place q s v) ≡ place q s (linkOf q s v)
-    link-place v m =
+    pub link-place : (k v : ℕ) → IsNode q s v → heapOf q s rest .link k (place q s v) ≡ place q s (linkShown q s v)
+    link-place k v m =
         let r = placeOf-mem v m in
-        ap (heapOf q s rest .link) (r .placed) ∙ heap-link (report-laid q s rest) (r .index) (r .within) ∙ ap (λ (u : ℕ). place q s (linkOf q s u)) (r .element)
+        ap (heapOf q s rest .link k) (r .placed) ∙ heap-link (report-laid q s rest) k (r .index) (r .within) ∙ ap (λ (u : ℕ). place q s (linkShown q s u)) (r .element)
 
     field-place : (j v : ℕ) → ToEight j → IsNode q s v → heapOf q s rest .field j (place q s v) ≡ any (setsField s j v) (q .fields)
     unfolding fieldByte
@@ -124,11 +129,11 @@ module _ (q : Query) (s : Facts) (acc : Accepted q) (tied : Tied q s) (comp : Co
     listed-place (suc i) h = node-listed (report-laid q s rest) i (h .1)
 
     -- the link fact of f of a term is kept
-    entry-place : (t : ℕ) → InTerms q t → InTerms q (argumentOf (q .entries) t) → heapOf q s rest .link (place q s (s .rep (argumentOf (q .entries) t))) ≡ place q s (s .rep t)
-    unfolding shownLink
+    entry-place : (t : ℕ) → InTerms q t → InTerms q (argumentOf (q .entries) t) → heapOf q s rest .link (linkOf (q .entries) t) (place q s (s .rep (argumentOf (q .entries) t))) ≡ place q s (s .rep t)
+    unfolding shownLink linkOf
     entry-place t h k =
         let j : ℕ = argumentOf (q .entries) t in
-        link-place (s .rep j) (rep-node j k) ∙ ap (place q s) (comp .completed-known (s .rep j) (s .rep t) (tied .entry-link t h (k .0)))
+        link-place 1 (s .rep j) (rep-node j k) ∙ ap (place q s) (comp 1 first-link .completed-known (s .rep j) (s .rep t) (tied .entry-link t h (k .0)))
 
     -- the value of a term is the node of what it was replaced by
     value-within : (k t : ℕ) → InTerms q t → t ≤ k → valueWithin (heapOf q s rest) (q .entries) k t ≡ place q s (s .rep t)
@@ -139,7 +144,7 @@ module _ (q : Query) (s : Facts) (acc : Accepted q) (tied : Tied q s) (comp : Co
         let below = acc .entry-below t h in
         ⊎-elim
         (λ e. rw e (variable-place t h))
-        (λ e. rw e (ap (heapOf q s rest .link) (value-within k j (entry-in t h e) (omega arith)) ∙ entry-place t h (entry-in t h e)))
+        (λ e. rw e (ap (heapOf q s rest .link (linkOf (q .entries) t)) (value-within k j (entry-in t h e) (omega arith)) ∙ entry-place t h (entry-in t h e)))
         (bool-cases (eqb j 0))
 
     pub value-place : (t : ℕ) → InTerms q t → valueOf q s rest t ≡ place q s (s .rep t)
@@ -147,11 +152,11 @@ module _ (q : Query) (s : Facts) (acc : Accepted q) (tied : Tied q s) (comp : Co
     value-place t h = value-within t t h (omega arith)
 
     -- nil's link fact is kept
-    nil-place : (t : ℕ) → namesNil (q .entries) t ≡ true → heapOf q s rest .link (valueOf q s rest t) ≡ valueOf q s rest t
+    nil-place : (i t : ℕ) → namesNil (q .entries) t ≡ true → heapOf q s rest .link i (valueOf q s rest t) ≡ valueOf q s rest t
     unfolding shownLink
-    nil-place t h =
+    nil-place i t h =
         let k = nil-in t h in
-        rw (value-place t k) (link-place (s .rep t) (rep-node t k) ∙ ap (place q s) (comp .completed-known (s .rep t) (s .rep t) (tied .nil-link t h)))
+        rw (value-place t k) (link-place i (s .rep t) (rep-node t k) ∙ ap (place q s) (comp 1 first-link .completed-known (s .rep t) (s .rep t) (tied .nil-link 1 t first-link h)))
 
     -- the values of two terms are equal exactly where the terms were joined
     equal-exactly : (a b : ℕ) → InTerms q a → InTerms q b → (s .rep a ≡ s .rep b) ↔ (valueOf q s rest a ≡ valueOf q s rest b)
@@ -159,11 +164,11 @@ module _ (q : Query) (s : Facts) (acc : Accepted q) (tied : Tied q s) (comp : Co
         rw (value-place a h, value-place b k) (λ e. ap (place q s) e, placeOf-injective (s .rep a) (s .rep b) (rep-node a h) (rep-node b k))
 
     -- one reaches the other exactly where the path holds it
-    pub reach-exactly : (a b : ℕ) → InTerms q a → InTerms q b → (s .graph .reach (s .rep a) (s .rep b) ≡ true) ↔ Reaches (heapOf q s rest .link) (valueOf q s rest a) (valueOf q s rest b)
+    pub reach-exactly : (a b : ℕ) → InTerms q a → InTerms q b → (s .graph 1 .reach (s .rep a) (s .rep b) ≡ true) ↔ Reaches (heapOf q s rest .link 1) (valueOf q s rest a) (valueOf q s rest b)
     unfolding shownLink
     reach-exactly a b h k =
-        let held = comp .completed-reach (s .rep a) (s .rep b) (live-mem (termCount q) s (s .rep a) (tied .rep-live a h)) in
-        let moved = reaches-name (linkOf q s) (heapOf q s rest .link) (place q s) (IsNode q s) link-node link-place (λ v w. placeOf-injective v w) (s .rep a) (s .rep b) (rep-node a h) (rep-node b k) in
+        let held = comp 1 first-link .completed-reach (s .rep a) (s .rep b) (live-mem (termCount q) s (s .rep a) (tied .rep-live a h)) in
+        let moved = reaches-name (linkShown q s) (heapOf q s rest .link 1) (place q s) (IsNode q s) link-node (link-place 1) (λ v w. placeOf-injective v w) (s .rep a) (s .rep b) (rep-node a h) (rep-node b k) in
         rw (value-place a h, value-place b k) (λ e. moved .0 (held .0 e), λ r. held .1 (moved .1 r))
 
     module _ (clean : clash q s ≡ none) where
@@ -174,6 +179,7 @@ module _ (q : Query) (s : Facts) (acc : Accepted q) (tied : Tied q s) (comp : Co
           signed (l .plain) _ (λ p. e .0 (tied .equal-held l m p)) (λ p same. equal-free q s clean l m p (e .1 same))
 
       reach-meant : Each (MeansReach (heapOf q s rest) (q .entries)) (q .reachability)
+      unfolding literalLink
       reach-meant l m =
           let r = acc .reach-terms l m in
           let e = reach-exactly (l .left) (l .right) (r .0) (r .1) in
@@ -204,7 +210,7 @@ module _ (q : Query) (s : Facts) (acc : Accepted q) (tied : Tied q s) (comp : Co
               nil-node =
                   record {
                     one-node = λ t u h k. equal-exactly rest t u (nil-in t h) (nil-in u k) .0 (tied .nil-same t u h k);
-                    own-link = λ t h. nil-place rest t h;
+                    own-link = λ i t h. nil-place rest i t h;
                   };
               equalities = equal-meant rest clean;
               reachability = reach-meant rest clean;

@@ -11,7 +11,7 @@ use lib.ListN.{length, getD}
 use lib.Dec.{eqb, ltb, leb}
 use borrow.Author.Tests.{ltb-true, leb-true, eq-eqb}
 use Rattle.logic.specs.Search.{_and_, _or_, from, at}
-use Rattle.logic.specs.Query.{Literal, entryOf, namesNil, argumentOf, termCount, Role, Section, Form, entryRole, signRole, termRole, numberRole, fourSections, booleanSection, fiveSections, sections, Layout, faulty, parts, rolesOf, firstByte, layoutBy, layoutOf, faultIn, layoutFault, byteFault, literals, section, queryOf, decode}
+use Rattle.logic.specs.Query.{Literal, entryOf, namesNil, argumentOf, linkCount, linkOf, literalLink, termCount, Role, Section, Form, entryRole, signRole, termRole, numberRole, fourSections, booleanSection, fiveSections, sections, Layout, faulty, parts, rolesOf, firstByte, layoutBy, layoutOf, faultIn, layoutFault, byteFault, literals, section, queryOf, decode}
 use Rattle.logic.specs.Calls.{Input, Check, layoutCheck, byteCheck, formChecks, queryChecks, refused, refusalOf, accepts}
 use Rattle.logic.proofs.Basics.Search.{true-false, and-left, and-right, or-cases, not-true, none-some, keep-none, isSome-false, firstOf-none, from-mem, from-intro, map-mem, map-intro, at-left}
 use Rattle.logic.proofs.Query.Tied.{InTerms, ToEight, Accepted}
@@ -103,13 +103,15 @@ module _ (n : ℕ) (ps : List (List ℕ)) (count : length (section ps 0) ≡ n) 
   in-terms b h = rw count (term-allows n b h)
 
   parts-accepted : Accepted (queryOf (parts ps))
-  unfolding queryOf termCount entryOf namesNil argumentOf fourSections at
+  unfolding queryOf termCount linkCount linkOf literalLink entryOf namesNil argumentOf fourSections at
   parts-accepted =
       record {
         term-count = let p = part 0 _ refl in omega (arith, p .within, p .sized);
         entry-below = λ t h. entry-of t (h .0) (h .1);
+        entry-linked = λ t h one. (omega arith, omega arith);
         equal-terms = λ l m. terms-of 1 refl l m;
         reach-terms = λ l m. terms-of 2 refl l m;
+        reach-linked = λ l m. (omega arith, omega arith);
         field-number = λ l m. number-allows (l .left) (literals-of numberRole (termRole n) 3 refl l m .0);
         field-term = λ l m. in-terms (l .right) (literals-of numberRole (termRole n) 3 refl l m .1);
       }
