@@ -79,7 +79,7 @@ pub record Demand1 : Type 0 where
   pub derivation-refusals : Refusals derivationChecks derivationCall
   -- the verdict call: there is no refusal but by a check, and a report that shows a heap is well formed
   pub verdict-numbered : (i : Input) (k place : ℕ) → verdictCall i .answer ≡ refused k place → List·Memᴰ k (numbers verdictChecks)
-  pub report-formed : (i : Input) → verdictCall i .answer ≡ Answer.satisfiable → wellFormed (verdictCall i .lent) ≡ true
+  pub report-formed : (i : Input) → verdictCall i .answer ≡ Answer.satisfiable → wellFormed 1 (verdictCall i .lent) ≡ true
   -- the derivation call: 11 exactly where no check stands and some finite heap meets the query; 12 exactly where
   -- no check stands, none does, and the lines are too many; "refuted" exactly where no check stands and the lines are not too many
   pub heap-exactly : (i : Input) (place : ℕ) → (derivationCall i .answer ≡ refused 11 place) ↔ ((place ≡ 0) × NoneStands derivationChecks i × Satisfiable (decode (i .query)))
@@ -92,8 +92,8 @@ pub record Demand1 : Type 0 where
 
 -- "the heap shown is one": the heap in these report bytes meets the query, and each term's node is the one listed for it
 pub record Shows (bytes : List ℕ) (q : Query) : Type 0 where
-  pub meets : Meets (heapIn bytes) q
-  pub listed : (t : ℕ) → 1 ≤ t → t ≤ termCount q → value (heapIn bytes) (q .entries) t ≡ nodeIn bytes t
+  pub meets : Meets (heapIn (q .links) bytes) q
+  pub listed : (t : ℕ) → 1 ≤ t → t ≤ termCount q → value (heapIn (q .links) bytes) (q .entries) t ≡ nodeIn bytes t
 
 -- DEMAND 2. "A verdict call that is not refused says "satisfiable" exactly when some finite heap .. meets every literal, and the heap
 -- shown is one. It says "refuted" exactly when no finite heap of any size does. A derivation, where one is given, follows the eight

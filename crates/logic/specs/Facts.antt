@@ -6,7 +6,7 @@ use mathlib.Core.Option.{Option, none, some, Option·elim}
 use lib.ListN.{length}
 use lib.Dec.{eqb, ltb, leb}
 use Rattle.logic.specs.Search.{_and_, _or_, from, any, select, at, holdsOf, firstOf, find, flatMap}
-use Rattle.logic.specs.Query.{Literal, Query, namesNil, argumentOf, linkOf, literalLink, linkCount, termCount}
+use Rattle.logic.specs.Query.{Literal, Query, literal, namesNil, argumentOf, linkOf, termCount}
 
 -- The facts about one link field: f(a) = b, and "a>b", a reaches b. Facts speak of terms that are not replaced.
 pub record Graph : Type 0 where
@@ -103,7 +103,7 @@ unfoldable pub linksOf : Query → Facts
 linksOf q =
     record {
       rep = λ t. t;
-      links = linkCount q;
+      links = q .links;
       graph = λ k. record { link = λ a b. ltb 0 a and eqb (argumentOf (q .entries) b) a and eqb (linkOf (q .entries) b) k; reach = λ a b. false };
     }
 
@@ -116,7 +116,7 @@ joinEach n (l ∷ ls) s =
 -- "then the plain reachability facts"
 unfoldable pub reachEach : List Literal → Facts → Facts
 reachEach [] s = s
-reachEach (l ∷ ls) s = reachEach ls (cond (l .plain) (addReach (literalLink l) (s .rep (l .left)) (s .rep (l .right)) s) s)
+reachEach (l ∷ ls) s = reachEach ls (cond (l .plain) (addReach (l .link) (s .rep (l .left)) (s .rep (l .right)) s) s)
 
 -- the terms that name nil, ascending
 unfoldable pub nilTerms : Query → List ℕ
@@ -134,7 +134,7 @@ addLinks a b s =
 -- "the start joins the nil terms to the lowest, ascending, then adds nil's link and joins its doubled successors" (02, R-3); nil's links
 -- "are added before their joins" (02, R-11)
 unfoldable pub equalTo : ℕ → List ℕ → List Literal
-equalTo t us = map (λ u. record { plain = true; left = t; right = u }) us
+equalTo t us = map (literal true t) us
 
 unfoldable pub addNilLinks : ℕ → Facts → Facts
 addNilLinks t s = addLinks (s .rep t) (s .rep t) s
@@ -173,7 +173,7 @@ unfoldable pub isClash : Query → Facts → Line → Bool
 isClash q s (line nine section i j) =
     eqb nine 9
     and (eqb section 2 and eqb j 0 and negatedAt (q .equalities) i (λ l. eqb (s .rep (l .left)) (s .rep (l .right)))
-    or eqb section 3 and eqb j 0 and negatedAt (q .reachability) i (λ l. s .graph (literalLink l) .reach (s .rep (l .left)) (s .rep (l .right)))
+    or eqb section 3 and eqb j 0 and negatedAt (q .reachability) i (λ l. s .graph (l .link) .reach (s .rep (l .left)) (s .rep (l .right)))
     or eqb section 4 and negatedAt (q .fields) i
     (λ l. plainAt (q .fields) j (λ m. eqb (l .left) (m .left) and eqb (s .rep (l .right)) (s .rep (m .right)))))
 

@@ -27,6 +27,7 @@ SameElements {A} xs ys = (x : A) → List·Memᴰ x xs ↔ List·Memᴰ x ys
 
 -- two queries that differ at most in the order of their equalities, plain ones and negated ones
 pub record Reordered (q q′ : Query) : Type 0 where
+  pub links : q .links ≡ q′ .links
   pub entries : q .entries ≡ q′ .entries
   pub equalities : SameElements (q .equalities) (q′ .equalities)
   pub reachability : q .reachability ≡ q′ .reachability

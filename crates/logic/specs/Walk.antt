@@ -4,7 +4,7 @@ use mathlib.Core.Bool.{Bool, not, cond}
 use mathlib.Core.List.{List, [], _∷_, _++_}
 use mathlib.Core.Option.{Option, none, some, Option·elim}
 use Rattle.logic.specs.Search.{_and_, any, all, isSome, flatMap}
-use Rattle.logic.specs.Query.{Query, linkCount, termCount}
+use Rattle.logic.specs.Query.{Query, termCount}
 use Rattle.logic.specs.Facts.{Facts, Joined, Line, joinLines, startJoins, start, clash}
 use Rattle.logic.specs.Rules.{Rule, rules, ruleOf, Triple, Move, Fact, alternatives, applies, branch, branches, choose, moveLine, moveOf}
 
@@ -65,7 +65,7 @@ walk q order (suc k) s =
 
 -- "no path of any walk .. has more than n times n plus n rule steps" (02, R-5); "(now 3 times n times n, plus n)" for three links (02, R-11)
 unfoldable pub limit : Query → ℕ
-limit q = linkCount q * (termCount q * termCount q) + termCount q
+limit q = q .links * (termCount q * termCount q) + termCount q
 
 -- the lines of the start's joins stand at the head "of the listing" (02, R-1)
 unfoldable pub ourWalk : List ℕ → Query → Ending

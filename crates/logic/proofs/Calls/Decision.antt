@@ -11,7 +11,7 @@ use mathlib.Core.Option.{Option, none, some}
 use lib.ListN.{length, getD, length-map}
 use lib.Dec.{eqb}
 use Rattle.logic.specs.Search.{_and_, select, firstOf}
-use Rattle.logic.specs.Query.{Query, isOrder, decode, linkCount, termCount}
+use Rattle.logic.specs.Query.{Query, isOrder, decode, termCount}
 use Rattle.logic.specs.Heap.{Heap, Reaches, Meets, value}
 use Rattle.logic.specs.Facts.{Facts, Line, joinLines, live, liveTerms, linksOf, startJoins, start, linkNumbers, terms, firstTwo, doubled, successors, isClash, clashLines, clash}
 use Rattle.logic.specs.Rules.{Rule, Move, Fact, alternatives, applies, branch, add, branches, choose, moveLine}
@@ -195,14 +195,14 @@ module _ (q : Query) (ok : Accepted q) where
   -- A saturated path has the heap shown
 
   pub saturated-heap : (s : Facts) → Known q s → (order : List Rule) → HoldsAll order → clash q s ≡ none → choose n order s ≡ none → HasHeap q s
-  unfolding shownLink linkCount
+  unfolding shownLink
   saturated-heap s k order full free idle =
       let i = k .invariant in
       let r = i .sane .ranged in
       let m : Model q s = record { invariant = i; no-clash = free; no-rule = λ j l. saturated n s order full (i .sane) idle j (subst (λ (c : ℕ). (1 ≤ j) × (j ≤ c)) (sym (i .tied .same-links)) l) } in
       let comp = completed q ok s m in
-      let one : (j : ℕ) → (1 ≤ j) × (j ≤ s .links) → j ≡ 1 = λ j l. omega (arith, i .tied .same-links) in
-      let h : Heap = heapIn (report q s ++ []) in
+      let linked : (j : ℕ) → InRange (s .links) j → InRange (q .links) j = λ j l. subst (λ (c : ℕ). InRange c j) (i .tied .same-links) l in
+      let h : Heap = heapIn (q .links) (report q s ++ []) in
       let at : (t : ℕ) → 1 ≤ t → t ≤ n → Val h t ≡ place q s (s .rep t) = λ t l le. value-place q s ok (i .tied) comp [] t (l, le) in
       let stay : (t : ℕ) → live n s t ≡ true → Val h t ≡ place q s t = λ t l. let g = live-range n s t l in at t (g .0) (g .1) ∙ ap (place q s) (live-rep n s t l) in (
         h,
@@ -212,17 +212,15 @@ module _ (q : Query) (ok : Accepted q) where
           link-true = λ j a b e.
               let (p, p′) = r .link-live j a b e in
               let g = live-range n s a p in
-              let e′ = subst (λ (x : ℕ). s .graph x .link a b ≡ true) (one j (r .link-linked j a b e)) e in
+              let l = linked j (r .link-linked j a b e) in
               ap (h .link j) (at a (g .0) (g .1))
-              ∙ link-place q s ok (i .tied) comp [] j (s .rep a) (rep-node q s ok (i .tied) comp a g)
-              ∙ ap (place q s) (comp 1 (omega arith, omega arith) .completed-known (s .rep a) b (subst (λ (x : ℕ). s .graph 1 .link x b ≡ true) (sym (live-rep n s a p)) e′))
+              ∙ link-place q s ok (i .tied) comp [] j l (s .rep a) (rep-node q s ok (i .tied) comp a g)
+              ∙ ap (place q s) (comp j l .completed-known (s .rep a) b (subst (λ (x : ℕ). s .graph j .link x b ≡ true) (sym (live-rep n s a p)) e))
               ∙ sym (stay b p′);
           reach-true = λ j a b e.
               let (p, p′) = r .reach-live j a b e in
-              let f = one j (r .reach-linked j a b e) in
-              subst (λ (x : ℕ). Reaches (h .link x) (Val h a) (Val h b)) (sym f)
-              (reach-exactly q s ok (i .tied) comp [] a b (live-range n s a p) (live-range n s b p′) .0
-              (subst₂ (λ (x y : ℕ). s .graph 1 .reach x y ≡ true) (sym (live-rep n s a p)) (sym (live-rep n s b p′)) (subst (λ (x : ℕ). s .graph x .reach a b ≡ true) f e)));
+              reach-exactly q s ok (i .tied) comp [] j (linked j (r .reach-linked j a b e)) a b (live-range n s a p) (live-range n s b p′) .0
+              (subst₂ (λ (x y : ℕ). s .graph j .reach x y ≡ true) (sym (live-rep n s a p)) (sym (live-rep n s b p′)) e);
         },
       )
 

@@ -14,7 +14,7 @@ use Rattle.logic.specs.Shown.{report, wellFormed}
 use Rattle.logic.specs.Calls.{Input, orderCheck, layoutCheck, byteCheck, formChecks, roomCheck, queryChecks, verdictChecks, derivationChecks, Outcome, Answer, refused, padded, blank, verdictOf, verdictCall, derivationCall}
 use Rattle.logic.specs.Demands.{NotRefused, numbers, Alike, walkOf, Demand1, Demand2, Demand3, Shows, Right, answerOf}
 use Rattle.logic.proofs.Query.Tied.{Accepted}
-use Rattle.logic.proofs.Query.AcceptedBytes.{accepted}
+use Rattle.logic.proofs.Query.AcceptedBytes.{accepted, decode-links}
 use Rattle.logic.proofs.Walks.Limit.{our-refutes}
 use Rattle.logic.proofs.Walks.Follows.{hand-follows}
 use Rattle.logic.proofs.Completeness.ShownHeap.{shown, formed}
@@ -48,7 +48,7 @@ found i o h (by-model s w e r) =
       lent-is = ap (λ (x : Outcome). x .lent) e;
     }
 
-found-shown : (i : Input) (o : Outcome) → Found i o → Shows (o .lent) (decode (i .query)) × (wellFormed (o .lent) ≡ true)
+found-shown : (i : Input) (o : Outcome) → Found i o → Shows (o .lent) (decode (i .query)) × (wellFormed 1 (o .lent) ≡ true)
 unfolding padded
 found-shown i o f =
     let q : Query = decode (i .query) in
@@ -58,7 +58,7 @@ found-shown i o f =
     let comp = completed q ok s (f .is-model) in
     rw (f .lent-is) (
       shown q s ok tied comp (f .is-model .no-clash) (replicate (i .room - length (report q s)) 0),
-      formed q s ok tied comp (i .room - length (report q s)),
+      subst (λ (k : ℕ). wellFormed k (padded (i .room) (report q s)) ≡ true) (decode-links (i .query)) (formed q s ok tied comp (i .room - length (report q s))),
     )
 
 -- where the call is not refused, it answers our walk's verdict

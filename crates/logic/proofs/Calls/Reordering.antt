@@ -7,7 +7,7 @@ use mathlib.Core.List.{List, [], _∷_, map, List·Memᴰ, List·Memᴰ·head, L
 use mathlib.Core.Option.{Option, none, some, Option·elim}
 use lib.Dec.{eqb}
 use Rattle.logic.specs.Search.{_and_, select, orElse, firstOf}
-use Rattle.logic.specs.Query.{Literal, Query, linkCount, termCount, decode}
+use Rattle.logic.specs.Query.{Literal, Query, termCount, decode}
 use Rattle.logic.specs.Facts.{Facts, Line, line, negatedAt, plainAt, isClash, clashLines, clash, unjoined, andThen, settle, join, linksOf, joinEach, reachEach, nilTerms, joinNil, startJoins, start}
 use Rattle.logic.specs.Rules.{Rule, Move, Fact, alternatives, branch, choose, moveLine}
 use Rattle.logic.specs.Walk.{Look, clashing, applying, saturated, look, Ending, refutation, saturation, after, thenEnding, walkBranch, walkEach, endAt, walk, orderOf, limit, ourWalk}
@@ -32,10 +32,10 @@ use Rattle.logic.proofs.Completeness.NoClash.{equal-free, reach-free, f
 -- a query with other equalities
 abbrev withEqualities : Query → List Literal → Query
 withEqualities q es =
-    record { entries = q .entries; equalities = es; reachability = q .reachability; fields = q .fields }
+    record { links = q .links; entries = q .entries; equalities = es; reachability = q .reachability; fields = q .fields }
 
 reordered-is : (q q′ : Query) → Reordered q q′ → withEqualities q (q′ .equalities) ≡ q′
-reordered-is q q′ r = λ i. record { entries = r .entries i; equalities = q′ .equalities; reachability = r .reachability i; fields = r .fields i }
+reordered-is q q′ r = λ i. record { links = r .links i; entries = r .entries i; equalities = q′ .equalities; reachability = r .reachability i; fields = r .fields i }
 
 -- The start
 
@@ -75,7 +75,7 @@ module _ (q : Query) (es : List Literal) (ok : Accepted q) (ok′ : Accepted (wi
 
   -- both begin with the same facts
   start-same : start q ≡ start q′
-  unfolding start startJoins nilTerms andThen termCount linkCount linksOf
+  unfolding start startJoins nilTerms andThen termCount linksOf
   start-same =
       let n : ℕ = termCount q in
       let nilled : Facts = joinNil n (nilTerms q) (settle n n (linksOf q) .facts) .facts in
@@ -186,7 +186,7 @@ verdict-alike q es room e e′ (both-refuted ls ms) = refl
 verdict-alike q es room e e′ (both-saturated s) = refl
 
 our-alike : (q : Query) (es : List Literal) → Accepted q → Accepted (withEqualities q es) → SameElements (q .equalities) es → (order : List ℕ) → Alike (ourWalk order q) (ourWalk order (withEqualities q es))
-unfolding ourWalk limit linkCount termCount
+unfolding ourWalk limit termCount
 our-alike q es ok ok′ same order =
     after-alike _ _ _ _
     (subst (λ (s : Facts). Alike (walk q (orderOf order) (limit q) (start q)) (walk (withEqualities q es) (orderOf order) (limit q) s)) (start-same q es ok ok′ same) (walk-alike q es same (orderOf order) (limit q) (start q)))

@@ -16,8 +16,8 @@ use Rattle.logic.specs.Calls.{Input, Check, orderCheck, layoutCheck, byt
 use Rattle.logic.specs.Demands.{numbers}
 use Rattle.logic.proofs.Basics.Search.{keep-some, all-true, map-intro}
 use Rattle.logic.proofs.Basics.Compare.{ltb-true}
-use Rattle.logic.proofs.Query.AcceptedBytes.{form-elim, accepted}
-use Rattle.logic.proofs.Completeness.ShownHeap.{report-length}
+use Rattle.logic.proofs.Query.AcceptedBytes.{form-elim, accepted, decode-links}
+use Rattle.logic.proofs.Completeness.ShownHeap.{report-fits}
 use Rattle.logic.proofs.Query.Bytes.{layoutNumbers, LayoutNumber}
 use Rattle.logic.proofs.Calls.CheckingOrder.{first-own}
 use Rattle.logic.proofs.Calls.CallLaws.{verdict-passed}
@@ -65,7 +65,7 @@ case-short i o (by-refusal k p u e) n l = ap (λ (b : List ℕ). getD b n 0) (bl
 case-short i o (by-lines ls w e h) n l = ap (λ (b : List ℕ). getD b n 0) (blank-lent o (i .room) _ e) ∙ zeros-zero (i .room) n
 case-short i o (by-model s w e h) n l =
     let q : Query = decode (i .query) in
-    let short = report-length q s (accepted (i .query) (verdict-passed i h .0 .query)) in
+    let short = report-fits q s (accepted (i .query) (verdict-passed i h .0 .query)) (decode-links (i .query)) in
     ap (λ (x : Outcome). getD (x .lent) n 0) e ∙ padded-zero (i .room) (report q s) n (omega (arith, short, l))
 
 pub report-short : (i : Input) (n : ℕ) → 53 ≤ n → getD (verdictCall i .lent) n 0 ≡ 0

@@ -10,8 +10,8 @@ use Rattle.logic.specs.Walk.{Ending, refutation, saturation}
 use Rattle.logic.specs.Shown.{report}
 use Rattle.logic.specs.Calls.{Input, verdictChecks, Outcome, Answer, refused, padded, blank, verdictOf, verdictCall}
 use Rattle.logic.specs.Demands.{NoneStands, numbers, walkOf, Refusals}
-use Rattle.logic.proofs.Query.AcceptedBytes.{accepted}
-use Rattle.logic.proofs.Completeness.ShownHeap.{report-length}
+use Rattle.logic.proofs.Query.AcceptedBytes.{accepted, decode-links}
+use Rattle.logic.proofs.Completeness.ShownHeap.{report-fits}
 use Rattle.logic.proofs.Calls.CheckingOrder.{verdict-early, first-numbered}
 use Rattle.logic.proofs.Calls.CallLaws.{verdict-passed, padded-length, blank-length}
 use Rattle.logic.proofs.Calls.Refusals.{Late, Lawful, CallCase, by-check, by-walk, call-case, call-clear, refusals, verdict-placed}
@@ -41,7 +41,7 @@ verdict-whole i h (refutation ls) = blank-length (i .room) _
 verdict-whole i h (saturation s) =
     let p = verdict-passed i h in
     let q : Query = decode (i .query) in
-    padded-length (i .room) (report q s) (omega (arith, report-length q s (accepted (i .query) (p .0 .query)), p .1))
+    padded-length (i .room) (report q s) (omega (arith, report-fits q s (accepted (i .query) (p .0 .query)) (decode-links (i .query)), p .1))
 
 verdict-lawful : Lawful verdictChecks verdictAt
 unfolding verdictOf

@@ -79,7 +79,7 @@ module _ (q : Query) (ok : Accepted q) where
   pub model-satisfiable : (s : Facts) → Model q s → Satisfiable q
   model-satisfiable s m =
       let sh = shown q s ok (m .invariant .tied) (completed s m) (m .no-clash) [] in
-      (heapIn (report q s ++ []), sh .meets)
+      (heapIn (q .links) (report q s ++ []), sh .meets)
 
 -- a verdict with its reason is right
 sat-not-refuted : Verdict.satisfiable ≡ Verdict.refuted → ⊥

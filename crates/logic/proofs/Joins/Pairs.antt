@@ -9,7 +9,7 @@ use mathlib.Core.Option.{Option, none, some, Option·elim}
 use lib.ListN.{length, length-append}
 use lib.Dec.{eqb}
 use Rattle.logic.specs.Search.{_and_, select}
-use Rattle.logic.specs.Query.{Literal, Query, literalLink, termCount}
+use Rattle.logic.specs.Query.{Literal, Query, termCount, literal}
 use Rattle.logic.specs.Facts.{Facts, Joined, live, replace, doubled, unjoined, joinPair, andThen, settle, join, joinEach, addReach, linksOf, reachEach, nilTerms, addLinks, equalTo, addNilLinks, joinNil, startJoins, start}
 use Rattle.logic.specs.Rules.{Fact, equal, reaches, branch}
 use Rattle.logic.specs.JoinPairs.{followPairs, timesReplaced, Accounts}
@@ -182,7 +182,7 @@ module _ (n : ℕ) where
   unfolding joinNil equalTo
   accounts-joinNil [] s r h = accounts-unjoined s s refl
   accounts-joinNil (t ∷ us) s r h =
-      let nilPair : ℕ → Literal = λ u. record { plain = true; left = t; right = u } in
+      let nilPair : ℕ → Literal = λ u. literal true t u in
       let rt = r t (List·Memᴰ·head refl) in
       let in-range : (l : Literal) → List·Memᴰ l (equalTo t us) → InRange n (l .left) × InRange n (l .right) = λ l m.
       let (u, k, p) = map-mem nilPair l us m in
@@ -217,7 +217,7 @@ unfolding reachEach addReach
 reachEach-rep [] s = refl
 reachEach-rep (l ∷ ls) s = reachEach-rep ls _ ∙ go (l .plain)
   where
-    go : (b : Bool) → cond b (addReach (literalLink l) (s .rep (l .left)) (s .rep (l .right)) s) s .rep ≡ s .rep
+    go : (b : Bool) → cond b (addReach (l .link) (s .rep (l .left)) (s .rep (l .right)) s) s .rep ≡ s .rep
     go true = refl
     go false = refl
 

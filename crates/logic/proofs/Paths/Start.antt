@@ -9,7 +9,7 @@ use mathlib.Core.List.{List, [], _∷_, List·Memᴰ, List·Memᴰ·head, List·
 use lib.ListN.{length, getD, List·getD-eq-default}
 use lib.Dec.{eqb, ltb, leb}
 use Rattle.logic.specs.Search.{_and_}
-use Rattle.logic.specs.Query.{Literal, Query, argumentOf, linkOf, literalLink, linkCount, termCount}
+use Rattle.logic.specs.Query.{Literal, Query, argumentOf, linkOf, termCount, literal}
 use Rattle.logic.specs.Facts.{Graph, Facts, live, settle, join, addReach, linksOf, unjoined, andThen, joinEach, reachEach, nilTerms, addLinks, equalTo, addNilLinks, joinNil, startJoins, start}
 use Rattle.logic.proofs.Basics.Search.{bool-cases, true-false, and-left, and-right, and-intro, or-right, map-mem, map-intro}
 use Rattle.logic.proofs.Basics.Compare.{eqb-true, eqb-intro, ltb-true, ltb-intro, leb-intro, eqb-self, cond-true, cond-false}
@@ -99,7 +99,7 @@ abbrev InTerms : ℕ → Literal → Type 0
 InTerms n l = InRange n (l .left) × InRange n (l .right)
 
 abbrev InBoth : ℕ → ℕ → Literal → Type 0
-InBoth n links l = InTerms n l × InRange links (literalLink l)
+InBoth n links l = InTerms n l × InRange links (l .link)
 
 joinLiteral-takes : (n links : ℕ) → Takes n links (InTerms n) (joinLiteral n) EqualHeld
 joinLiteral-takes n links =
@@ -114,10 +114,10 @@ joinLiteral-takes n links =
 
 -- a plain reachability literal adds its fact
 abbrev reachLiteral : Literal → Facts → Facts
-reachLiteral l s = addReach (literalLink l) (s .rep (l .left)) (s .rep (l .right)) s
+reachLiteral l s = addReach (l .link) (s .rep (l .left)) (s .rep (l .right)) s
 
 abbrev pub ReachHeld : Literal → Facts → Type 0
-ReachHeld l s = s .graph (literalLink l) .reach (s .rep (l .left)) (s .rep (l .right)) ≡ true
+ReachHeld l s = s .graph (l .link) .reach (s .rep (l .left)) (s .rep (l .right)) ≡ true
 
 pub addReach-held : (i a b : ℕ) (s : Facts) → addReach i a b s .graph i .reach a b ≡ true
 unfolding addReach
@@ -132,10 +132,10 @@ unfolding addReach
 reachLiteral-takes n links =
     record {
       kept = λ l s r k h.
-          addReach-kept n (s .rep (l .left)) (s .rep (l .right)) s (h .ranged .rep-live (l .left) (r .0 .0)) (h .ranged .rep-live (l .right) (r .0 .1)) (literalLink l)
-          (subst (λ (i : ℕ). InRange i (literalLink l)) (sym k) (r .1)) h;
-      made = λ l s r h. addReach-held (literalLink l) (s .rep (l .left)) (s .rep (l .right)) s;
-      stays = λ l s s′ e p. reach-rep e (literalLink l) (l .left) (l .right) p;
+          addReach-kept n (s .rep (l .left)) (s .rep (l .right)) s (h .ranged .rep-live (l .left) (r .0 .0)) (h .ranged .rep-live (l .right) (r .0 .1)) (l .link)
+          (subst (λ (i : ℕ). InRange i (l .link)) (sym k) (r .1)) h;
+      made = λ l s r h. addReach-held (l .link) (s .rep (l .left)) (s .rep (l .right)) s;
+      stays = λ l s s′ e p. reach-rep e (l .link) (l .left) (l .right) p;
     }
 
 joinEach-is : (n : ℕ) (ls : List Literal) (s : Facts) → joinEach n ls s .facts ≡ takeEach (joinLiteral n) ls s
@@ -167,13 +167,13 @@ nilHeld-extends e h =
     }
 
 module _ (n : ℕ) where
-  equalTo-mem : (t : ℕ) (us : List ℕ) (l : Literal) → List·Memᴰ l (equalTo t us) → (u : ℕ) × List·Memᴰ u us × (l ≡ record { plain = true; left = t; right = u })
+  equalTo-mem : (t : ℕ) (us : List ℕ) (l : Literal) → List·Memᴰ l (equalTo t us) → (u : ℕ) × List·Memᴰ u us × (l ≡ literal true t u)
   unfolding equalTo
-  equalTo-mem t us l m = map-mem (λ u. record { plain = true; left = t; right = u }) l us m
+  equalTo-mem t us l m = map-mem (λ u. literal true t u) l us m
 
-  equalTo-intro : (t : ℕ) (us : List ℕ) (u : ℕ) → List·Memᴰ u us → List·Memᴰ (record { plain = true; left = t; right = u }) (equalTo t us)
+  equalTo-intro : (t : ℕ) (us : List ℕ) (u : ℕ) → List·Memᴰ u us → List·Memᴰ (literal true t u) (equalTo t us)
   unfolding equalTo
-  equalTo-intro t us u m = map-intro (λ u. record { plain = true; left = t; right = u }) u m
+  equalTo-intro t us u m = map-intro (λ u. literal true t u) u m
 
   -- the first of the terms is as good as each
   first-held : (t : ℕ) (us : List ℕ) (s : Facts) → ((u : ℕ) → List·Memᴰ u us → s .rep t ≡ s .rep u) → ((i : ℕ) → InRange (s .links) i → s .graph i .link (s .rep t) (s .rep t) ≡ true) → NilHeld (t ∷ us) s
@@ -206,7 +206,7 @@ module _ (n : ℕ) where
       joined-kept : Kept n s (joinEach n (equalTo t us) s .facts) × ((u : ℕ) → List·Memᴰ u us → joinEach n (equalTo t us) s .facts .rep t ≡ joinEach n (equalTo t us) s .facts .rep u)
       joined-kept =
           let (k, held) = joinEach-kept n (equalTo t us) s in-range h in
-          (k, λ u m. held (record { plain = true; left = t; right = u }) (equalTo-intro t us u m) refl)
+          (k, λ u m. held (literal true t u) (equalTo-intro t us u m) refl)
 
 -- What an extension of a path that holds the query keeps
 pub tied-kept : (q : Query) (s s′ : Facts) → Tied q s → Kept (termCount q) s s′ → Tied q s′
@@ -218,7 +218,7 @@ tied-kept q s s′ t k =
       nil-same = λ u v h h′. rep-same (k .extends) u v (t .nil-same u v h h′);
       nil-link = λ i u r h. link-rep (k .extends) i u u (t .nil-link i u r h);
       equal-held = λ l m p. rep-same (k .extends) (l .left) (l .right) (t .equal-held l m p);
-      reach-held = λ l m p. reach-rep (k .extends) (literalLink l) (l .left) (l .right) (t .reach-held l m p);
+      reach-held = λ l m p. reach-rep (k .extends) (l .link) (l .left) (l .right) (t .reach-held l m p);
     }
 
 -- The start is sane and holds the query.
@@ -248,7 +248,7 @@ module _ (q : Query) (acc : Accepted q) where
   joined-kept : Kept count nilled joined × ((l : Literal) → List·Memᴰ l (q .equalities) → l .plain ≡ true → EqualHeld l joined)
   joined-kept = joinEach-kept count (q .equalities) nilled (acc .equal-terms) nilled-sane
 
-  joined-links : joined .links ≡ linkCount q
+  joined-links : joined .links ≡ q .links
   unfolding linksOf
   joined-links = joined-kept .0 .extends .same-links ∙ nilled-kept .0 .extends .same-links ∙ linked-kept .extends .same-links
 
@@ -256,7 +256,7 @@ module _ (q : Query) (acc : Accepted q) where
   unfolding start startJoins andThen
   reached-kept =
       rw (reachEach-is (q .reachability) joined)
-      (takeEach-kept count (linkCount q) (InBoth count (linkCount q)) reachLiteral ReachHeld (reachLiteral-takes count (linkCount q)) (q .reachability) joined (λ l m. (acc .reach-terms l m, acc .reach-linked l m)) joined-links (joined-kept .0 .sane))
+      (takeEach-kept count (q .links) (InBoth count (q .links)) reachLiteral ReachHeld (reachLiteral-takes count (q .links)) (q .reachability) joined (λ l m. (acc .reach-terms l m, acc .reach-linked l m)) joined-links (joined-kept .0 .sane))
 
   nil-held-kept : Kept count nilled (start q)
   nil-held-kept = kept-trans (joined-kept .0) (reached-kept .0)

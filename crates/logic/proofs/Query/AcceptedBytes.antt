@@ -11,11 +11,11 @@ use lib.ListN.{length, getD}
 use lib.Dec.{eqb, ltb, leb}
 use borrow.Author.Tests.{ltb-true, leb-true, eq-eqb}
 use Rattle.logic.specs.Search.{_and_, _or_, from, at}
-use Rattle.logic.specs.Query.{Literal, entryOf, namesNil, argumentOf, linkCount, linkOf, literalLink, termCount, Role, Section, Form, entryRole, signRole, termRole, numberRole, fourSections, booleanSection, fiveSections, sections, Layout, faulty, parts, rolesOf, firstByte, layoutBy, layoutOf, faultIn, layoutFault, byteFault, literals, section, queryOf, decode}
+use Rattle.logic.specs.Query.{Literal, oneLink, entryOf, namesNil, argumentOf, linkOf, termCount, Role, Section, Form, entryRole, signRole, termRole, numberRole, fourSections, booleanSection, fiveSections, sections, Layout, faulty, parts, rolesOf, firstByte, layoutBy, layoutOf, faultIn, layoutFault, byteFault, literals, section, queryOf, decode}
 use Rattle.logic.specs.Calls.{Input, Check, layoutCheck, byteCheck, formChecks, queryChecks, refused, refusalOf, accepts}
 use Rattle.logic.proofs.Basics.Search.{true-false, and-left, and-right, or-cases, not-true, none-some, keep-none, isSome-false, firstOf-none, from-mem, from-intro, map-mem, map-intro, at-left}
 use Rattle.logic.proofs.Query.Tied.{InTerms, ToEight, Accepted}
-use Rattle.logic.proofs.Query.Bytes.{Allows, faultless-allowed, Regular, Part, part-at, first-sized, layoutNumbers, LayoutNumber, Excesses, three-number, retired-number, Numbered, layout-numbered, entry-allowed, literals-allowed}
+use Rattle.logic.proofs.Query.Bytes.{Allows, faultless-allowed, Regular, Part, part-at, first-sized, layoutNumbers, LayoutNumber, Excesses, three-number, retired-number, Numbered, layout-numbered, entry-allowed, literals-link, literals-allowed}
 
 -- The checks of a form of query
 
@@ -103,20 +103,21 @@ module _ (n : ℕ) (ps : List (List ℕ)) (count : length (section ps 0) ≡ n) 
   in-terms b h = rw count (term-allows n b h)
 
   parts-accepted : Accepted (queryOf (parts ps))
-  unfolding queryOf termCount linkCount linkOf literalLink entryOf namesNil argumentOf fourSections at
+  unfolding queryOf termCount linkOf entryOf namesNil argumentOf fourSections at
   parts-accepted =
       record {
         term-count = let p = part 0 _ refl in omega (arith, p .within, p .sized);
         entry-below = λ t h. entry-of t (h .0) (h .1);
+        some-link = omega arith;
         entry-linked = λ t h one. (omega arith, omega arith);
         equal-terms = λ l m. terms-of 1 refl l m;
         reach-terms = λ l m. terms-of 2 refl l m;
-        reach-linked = λ l m. (omega arith, omega arith);
+        reach-linked = λ l m. let e = literals-link (section ps 2) l m in (omega arith, omega arith);
         field-number = λ l m. number-allows (l .left) (literals-of numberRole (termRole n) 3 refl l m .0);
         field-term = λ l m. in-terms (l .right) (literals-of numberRole (termRole n) 3 refl l m .1);
       }
     where
-      entry-of : (t : ℕ) → 1 ≤ t → t ≤ length (section ps 0) → argumentOf (section ps 0) t < t
+      entry-of : (t : ℕ) → 1 ≤ t → t ≤ length (section ps 0) → argumentOf (oneLink (section ps 0)) t < t
       entry-of zero l u = absurd (omega arith)
       entry-of (suc t) l u =
           let p = part 0 _ refl in
@@ -199,3 +200,12 @@ sections-excesses = five-excesses _ 26 retired-number
 pub accepted : (bytes : List ℕ) → accepts bytes ≡ true → Accepted (decode bytes)
 unfolding decode layoutOf sections
 accepted bytes h = five-accepted _ 26 retired-number bytes (query-passes bytes h)
+
+-- every query in the form of 01 knows one link
+pub decode-links : (bytes : List ℕ) → decode bytes .links ≡ 1
+unfolding decode queryOf
+decode-links bytes = go (layoutOf bytes)
+  where
+    go : (l : Layout) → queryOf l .links ≡ 1
+    go (faulty k place) = refl
+    go (parts ps) = refl

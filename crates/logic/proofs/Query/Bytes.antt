@@ -229,6 +229,14 @@ entry-allowed role (suc c) i (b ∷ bytes) h (suc t) l u =
     rw (add-suc, ← suc-add) (entry-allowed role c (suc i) bytes (h .1) t (omega arith) (omega arith))
 
 -- the literals of a section of three bytes an entry
+-- the literals of three bytes are about link 1
+pub literals-link : (bytes : List ℕ) (l : Literal) → List·Memᴰ l (literals bytes) → l .link ≡ 1
+unfolding literals
+literals-link [] l m = absurd (List·Memᴰ·not-nil m)
+literals-link (s ∷ []) l m = absurd (List·Memᴰ·not-nil m)
+literals-link (s ∷ a ∷ []) l m = absurd (List·Memᴰ·not-nil m)
+literals-link (s ∷ a ∷ b ∷ rest) l m = ⊎-elim (λ e. ap (λ (k : Literal). k .link) e) (literals-link rest l) (List·Memᴰ·cases-cons m)
+
 pub literals-allowed : (sign left right : Role) (c i : ℕ) (bytes : List ℕ) → length bytes ≡ c * 3 → Allowed (flatMap (λ j. sign ∷ left ∷ right ∷ []) (from c i)) bytes → (l : Literal) → List·Memᴰ l (literals bytes) → Allows left (l .left) × Allows right (l .right)
 unfolding flatMap from literals
 literals-allowed sign left right zero i [] e h l m = absurd (List·Memᴰ·not-nil m)

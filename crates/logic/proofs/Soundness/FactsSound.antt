@@ -10,7 +10,7 @@ use mathlib.Core.List.{List, [], _∷_, List·Memᴰ, List·Memᴰ·head, List·
 use mathlib.Core.Option.{Option, none, some, Option·elim, Option·some-injective}
 use lib.Dec.{eqb, ltb, leb}
 use Rattle.logic.specs.Search.{_and_, _or_}
-use Rattle.logic.specs.Query.{Literal, Query, argumentOf, linkOf, literalLink, termCount}
+use Rattle.logic.specs.Query.{Literal, Query, argumentOf, linkOf, termCount, literal}
 use Rattle.logic.specs.Heap.{Heap, Reaches, Meets, value}
 use Rattle.logic.specs.Facts.{Graph, Facts, linkNumbers, terms, replaceIn, replace, successors, firstTwo, doubled, unjoined, andThen, settle, join, addReach, linksOf, joinEach, reachEach, nilTerms, addLinks, equalTo, addNilLinks, joinNil, startJoins, start}
 use Rattle.logic.specs.Rules.{Fact, equal, reaches, branch, add}
@@ -142,17 +142,17 @@ module _ (f : ℕ → ℕ → ℕ) (val : ℕ → ℕ) (n : ℕ) where
   holds-joinNil [] same own s h = h
   holds-joinNil (t ∷ us) same own s h =
       let equal : (l : Literal) → List·Memᴰ l (equalTo t us) → l .plain ≡ true → Same val (l .left) (l .right) = λ l m e.
-      let (u, k, p) = map-mem (λ u. record { plain = true; left = t; right = u }) l us m in
+      let (u, k, p) = map-mem (λ u. literal true t u) l us m in
       subst (λ (x : Literal). Same val (x .left) (x .right)) (sym p) (same t u (List·Memᴰ·head refl) (List·Memᴰ·tail k)) in
       let j = holds-joinEach (equalTo t us) equal s h in
       holds-settle n _ (holds-addLinks _ _ (λ i. rep-between f val _ j (own i t (List·Memᴰ·head refl))) _ j)
 
-  holds-reachEach : (ls : List Literal) → ((l : Literal) → List·Memᴰ l ls → l .plain ≡ true → Reached (f (literalLink l)) val (l .left) (l .right)) → (s : Facts) → Holds f val s → Holds f val (reachEach ls s)
+  holds-reachEach : (ls : List Literal) → ((l : Literal) → List·Memᴰ l ls → l .plain ≡ true → Reached (f (l .link)) val (l .left) (l .right)) → (s : Facts) → Holds f val s → Holds f val (reachEach ls s)
   unfolding reachEach
   holds-reachEach [] p s h = h
   holds-reachEach (l ∷ ls) p s h =
       holds-reachEach ls (λ m i. p m (List·Memᴰ·tail i)) _
-      (holds-cond (l .plain) (addReach (literalLink l) (s .rep (l .left)) (s .rep (l .right)) s) s (λ e. holds-addReach (literalLink l) _ _ (rep-between f val s h (p l (List·Memᴰ·head refl) e)) s h) (λ e. h))
+      (holds-cond (l .plain) (addReach (l .link) (s .rep (l .left)) (s .rep (l .right)) s) s (λ e. holds-addReach (l .link) _ _ (rep-between f val s h (p l (List·Memᴰ·head refl) e)) s h) (λ e. h))
 
 module _ (q : Query) (ok : Accepted q) (h : Heap) where
   abbrev val : ℕ → ℕ

@@ -6,21 +6,21 @@ use mathlib.Core.Logic.{⊎-elim}
 use mathlib.Core.Bool.{Bool, true, false, cond, true≢false, false≢true}
 use mathlib.Core.List.{List}
 use lib.Dec.{eqb}
-use Rattle.logic.specs.Query.{Query, argumentOf, linkOf, termCount}
+use Rattle.logic.specs.Query.{Query, argumentOf, linkOf, termCount, Entries}
 use Rattle.logic.specs.Heap.{Heap, Node, IsHeap, valueWithin, value, Signed}
 use Rattle.logic.proofs.Basics.Compare.{eqb-intro, eqb-false, le-cases, cond-true, cond-false}
 use Rattle.logic.proofs.Query.Tied.{Accepted}
 use Rattle.logic.proofs.Query.Entries.{argument-range}
 
 -- an argument is below its own term
-abbrev pub Below : List ℕ → Type 0
+abbrev pub Below : Entries → Type 0
 Below entries = (t : ℕ) → 1 ≤ argumentOf entries t → argumentOf entries t < t
 
 pub accepted-below : (q : Query) → Accepted q → Below (q .entries)
 unfolding termCount
 accepted-below q ok t one = ok .entry-below t (argument-range (q .entries) t one)
 
-module _ (h : Heap) (entries : List ℕ) where
+module _ (h : Heap) (entries : Entries) where
   -- the value within some steps, as its definition says it
   within-variable : (k t : ℕ) → argumentOf entries t ≡ 0 → valueWithin h entries k t ≡ h .variable t
   unfolding valueWithin

@@ -4,7 +4,7 @@ use Prim.Native.Nat.{ℕ, suc, _+_, _*_, _≤_}
 use native.Mathlib.Omega.{arith}
 use mathlib.Core.Path.{_≡_, refl, sym, _∙_, subst}
 use mathlib.Core.List.{List, List·Memᴰ}
-use Rattle.logic.specs.Query.{Query, linkCount, termCount}
+use Rattle.logic.specs.Query.{Query, termCount}
 use Rattle.logic.specs.Facts.{Facts, Line, joinLines, startJoins, start}
 use Rattle.logic.specs.Walk.{orderOf, Ending, refutation, saturation, after, walk, limit, ourWalk, Pick, handRow}
 use Rattle.logic.specs.Steps.{Steps, at-first, one-more, AtMost}
@@ -20,7 +20,7 @@ pub start-atMost : (q : Query) → Accepted q → AtMost (termCount q) (start q)
 unfolding limit
 start-atMost q ok k s steps =
     let n = termCount q in
-    let most : gainsLeft n (start q) ≤ linkCount q * (n * n) + n = subst (λ (i : ℕ). gainsLeft n (start q) ≤ i * (n * n) + n) (start-tied q ok .same-links) (gainsLeft-most n (start q)) in
+    let most : gainsLeft n (start q) ≤ q .links * (n * n) + n = subst (λ (i : ℕ). gainsLeft n (start q) ≤ i * (n * n) + n) (start-tied q ok .same-links) (gainsLeft-most n (start q)) in
     omega (arith, gains-atMost n (start q) (start-sane q ok) k s steps, most)
 
 -- a path of a hand's row: steps lead to it from the start
