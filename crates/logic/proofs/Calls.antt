@@ -14,3 +14,4 @@ pub mod EdgeExamples
 pub mod Reordering
 pub mod JoinPairs
 pub mod Decision
+pub mod OneLink
