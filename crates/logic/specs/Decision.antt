@@ -5,13 +5,13 @@ use mathlib.Core.Logic.{_↔_}
 use mathlib.Core.Bool.{Bool, true}
 use mathlib.Core.List.{List}
 use lib.ListN.{getD}
-use Rattle.logic.specs.Query.{Query, isOrder, decode, termCount}
+use Rattle.logic.specs.Query.{Query, isOrder, termCount}
 use Rattle.logic.specs.Heap.{Heap, Reaches, Meets, value}
 use Rattle.logic.specs.Facts.{Facts, live, start}
 use Rattle.logic.specs.Rules.{Move, branches}
 use Rattle.logic.specs.Walk.{orderOf, walk, Verdict, ourVerdict}
 use Rattle.logic.specs.Steps.{Steps, AtMost}
-use Rattle.logic.specs.Calls.{accepts}
+use Rattle.logic.specs.Calls.{CallForm, acceptsBy}
 
 -- the heap meets the query, a term has the value of what it was replaced by, and the facts of the path are true
 pub record MeetsPath (h : Heap) (q : Query) (s : Facts) : Type 0 where
@@ -53,6 +53,6 @@ Struck q s m i = (j : ℕ) → j < i → NoHeap q (getD (branches (termCount q) 
 
 -- The third demand's claim, of every path that a walk can reach: our walk of it, under whatever order list, is satisfiable exactly when some
 -- finite heap meets the query and the facts of the path, and refuted exactly when none of any size does.
-pub record PathsDecided : Type 0 where
-  pub satisfiable-exactly : (query order : List ℕ) (s : Facts) (k : ℕ) → accepts query ≡ true → isOrder order ≡ true → Reachable (decode query) s → AtMost (termCount (decode query)) s k → (ourVerdict (walk (decode query) (orderOf order) k s) ≡ Verdict.satisfiable) ↔ HasHeap (decode query) s
-  pub refuted-exactly : (query order : List ℕ) (s : Facts) (k : ℕ) → accepts query ≡ true → isOrder order ≡ true → Reachable (decode query) s → AtMost (termCount (decode query)) s k → (ourVerdict (walk (decode query) (orderOf order) k s) ≡ Verdict.refuted) ↔ NoHeap (decode query) s
+pub record PathsDecided (f : CallForm) : Type 0 where
+  pub satisfiable-exactly : (query order : List ℕ) (s : Facts) (k : ℕ) → acceptsBy f query ≡ true → isOrder order ≡ true → Reachable (f .decode query) s → AtMost (termCount (f .decode query)) s k → (ourVerdict (walk (f .decode query) (orderOf order) k s) ≡ Verdict.satisfiable) ↔ HasHeap (f .decode query) s
+  pub refuted-exactly : (query order : List ℕ) (s : Facts) (k : ℕ) → acceptsBy f query ≡ true → isOrder order ≡ true → Reachable (f .decode query) s → AtMost (termCount (f .decode query)) s k → (ourVerdict (walk (f .decode query) (orderOf order) k s) ≡ Verdict.refuted) ↔ NoHeap (f .decode query) s

@@ -11,21 +11,20 @@ use mathlib.Core.Option.{Option, none, some}
 use lib.ListN.{length, getD, length-map}
 use lib.Dec.{eqb}
 use Rattle.logic.specs.Search.{_and_, select, firstOf}
-use Rattle.logic.specs.Query.{Query, isOrder, decode, termCount}
+use Rattle.logic.specs.Query.{Query, isOrder, termCount}
 use Rattle.logic.specs.Heap.{Heap, Reaches, Meets, value}
 use Rattle.logic.specs.Facts.{Facts, Line, joinLines, live, liveTerms, linksOf, startJoins, start, linkNumbers, terms, firstTwo, doubled, successors, isClash, clashLines, clash}
 use Rattle.logic.specs.Rules.{Rule, Move, Fact, alternatives, applies, branch, add, branches, choose, moveLine}
 use Rattle.logic.specs.Walk.{Look, applying, look, Ending, refutation, saturation, after, thenEnding, walkBranch, walkEach, endAt, walk, Verdict, ourVerdict, orderOf}
 use Rattle.logic.specs.Steps.{Steps, at-first, one-more, AtMost}
 use Rattle.logic.specs.Shown.{shownLink, report, heapIn}
-use Rattle.logic.specs.Calls.{accepts}
+use Rattle.logic.specs.Calls.{CallForm, oneLinkForm}
 use Rattle.logic.specs.JoinPairs.{followPairs, timesReplaced}
 use Rattle.logic.specs.Decision.{MeetsPath, HasHeap, NoHeap, Reachable, Follows, is-held, itself, by-link, onward, Closes, Struck, PathsDecided}
 use Rattle.logic.proofs.Basics.Search.{true-false, not-of, find-some, map-mem, map-intro}
 use Rattle.logic.proofs.Basics.Compare.{eqb-self, eq-cases, le-cases, cond-false}
 use Rattle.logic.proofs.Basics.Iterate.{reaches-refl, reaches-trans, reaches-next}
 use Rattle.logic.proofs.Query.Tied.{Accepted, Tied}
-use Rattle.logic.proofs.Query.AcceptedBytes.{accepted}
 use Rattle.logic.proofs.Paths.Extends.{Extends}
 use Rattle.logic.proofs.Paths.Ranged.{InRange, Ranged, live-range, live-rep}
 use Rattle.logic.proofs.Paths.Kept.{Sane, Kept, add-kept}
@@ -44,6 +43,8 @@ use Rattle.logic.proofs.Soundness.ClashSound.{clash-sound}
 use Rattle.logic.proofs.Completeness.Saturation.{saturated}
 use Rattle.logic.proofs.Completeness.ReportBytes.{place}
 use Rattle.logic.proofs.Completeness.ShownHeap.{rep-node, link-place, value-place, reach-exactly, shown}
+use Rattle.logic.proofs.Calls.CallLaws.{FormLaws}
+use Rattle.logic.proofs.Calls.Refusals.{one-link-laws}
 use Rattle.logic.proofs.Calls.Verdicts.{Model, completed}
 
 -- What is known of every path that is decided: the invariant, and that no number above the terms is replaced.
@@ -410,9 +411,12 @@ verdicts q ok order full k s known most = go (walk q order k s) refl
         let has = walk-saturation q ok order full k s known most t e in
         ((λ f. has, λ h. refl), (λ f. absurd (apart f), λ f. absurd (f has)))
 
-pub paths-decided : PathsDecided
-paths-decided =
+pub paths-decided-of : (f : CallForm) → FormLaws f → PathsDecided f
+paths-decided-of f laws =
     record {
-      satisfiable-exactly = λ query order s k a o r most. let ok = accepted query a in verdicts (decode query) ok (orderOf order) (order-full order o) k s (reachable-known (decode query) ok s r) most .0;
-      refuted-exactly = λ query order s k a o r most. let ok = accepted query a in verdicts (decode query) ok (orderOf order) (order-full order o) k s (reachable-known (decode query) ok s r) most .1;
+      satisfiable-exactly = λ query order s k a o r most. let ok = laws .accepted-query query a in verdicts (f .decode query) ok (orderOf order) (order-full order o) k s (reachable-known (f .decode query) ok s r) most .0;
+      refuted-exactly = λ query order s k a o r most. let ok = laws .accepted-query query a in verdicts (f .decode query) ok (orderOf order) (order-full order o) k s (reachable-known (f .decode query) ok s r) most .1;
     }
+
+pub paths-decided : PathsDecided oneLinkForm
+paths-decided = paths-decided-of oneLinkForm one-link-laws

@@ -50,7 +50,7 @@ layout-bounded (s ∷ ss) place (c ∷ more) =
     (λ f. (omega arith, omega arith))
 
 -- the bytes of a query and a place in it
-abbrev pub InQuery : List ℕ → ℕ → Type 0
+abbrev InQuery : List ℕ → ℕ → Type 0
 InQuery bytes place = (place ≤ length bytes) × (place ≤ 561)
 
 pub layout-place : (k : ℕ) (bytes : List ℕ) (place : ℕ) → layoutFault sections k bytes ≡ some place → InQuery bytes place
