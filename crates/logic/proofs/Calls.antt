@@ -15,3 +15,4 @@ pub mod Reordering
 pub mod JoinPairs
 pub mod Decision
 pub mod OneLink
+pub mod LinkExamples

@@ -228,8 +228,7 @@ entry-allowed role (suc c) i (b ∷ bytes) h zero l u = rw add-zero (h .0)
 entry-allowed role (suc c) i (b ∷ bytes) h (suc t) l u =
     rw (add-suc, ← suc-add) (entry-allowed role c (suc i) bytes (h .1) t (omega arith) (omega arith))
 
--- the literals of a section of three bytes an entry
--- the literals of three bytes are about link 1
+-- the literals of a section of three bytes an entry: they are about link 1, and their bytes are allowed
 pub literals-link : (bytes : List ℕ) (l : Literal) → List·Memᴰ l (literals bytes) → l .link ≡ 1
 unfolding literals
 literals-link [] l m = absurd (List·Memᴰ·not-nil m)
