@@ -16,3 +16,4 @@ pub mod JoinPairs
 pub mod Decision
 pub mod OneLink
 pub mod LinkExamples
+pub mod ThreeLinks

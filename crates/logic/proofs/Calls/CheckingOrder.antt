@@ -125,6 +125,11 @@ all-early ks h k m =
     let e = all-true early k h m in
     (ltb-true 0 k (and-left _ _ e), ⊎-elim (λ l. inl (leb-true k 9 l)) (λ q. inr (ltb-true 21 k q)) (or-cases (leb k 9) (ltb 21 k) (and-right (ltb 0 k) _ e)))
 
+-- numbers that a test finds so
+pub early-of : (ks : List ℕ) → all (λ k. ltb 0 k and (leb k 9 or ltb 21 k)) ks ≡ true → (k : ℕ) → List·Memᴰ k ks → Early k
+unfolding early
+early-of = all-early
+
 pub query-early : (k : ℕ) → List·Memᴰ k (numbers queryChecks) → Early k
 unfolding queryChecks formChecks layoutCheck byteCheck early all _and_ _or_
 query-early = all-early (numbers queryChecks) refl

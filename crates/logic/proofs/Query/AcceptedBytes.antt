@@ -79,7 +79,7 @@ up-to : (n b : ℕ) → ltb 0 b and leb b n ≡ true → (1 ≤ b) × (b ≤ n)
 up-to n b h = (ltb-true 0 b (and-left (ltb 0 b) (leb b n) h), leb-true b n (and-right (ltb 0 b) (leb b n) h))
 
 -- an entry that is not nil's is below its own term
-entry-allows : (t b : ℕ) → 1 ≤ t → Allows (entryRole t) b → cond (eqb b 255) 0 b < t
+pub entry-allows : (t b : ℕ) → 1 ≤ t → Allows (entryRole t) b → cond (eqb b 255) 0 b < t
 unfolding entryRole
 entry-allows t b one h = go (eqb b 255) (h (omega arith))
   where
@@ -87,11 +87,11 @@ entry-allows t b one h = go (eqb b 255) (h (omega arith))
     go true e = one
     go false e = ltb-true b t (⊎-elim (λ p. p) (λ p. absurd (false≢true p)) (or-cases (ltb b t) false e))
 
-term-allows : (n b : ℕ) → Allows (termRole n) b → (1 ≤ b) × (b ≤ n)
+pub term-allows : (n b : ℕ) → Allows (termRole n) b → (1 ≤ b) × (b ≤ n)
 unfolding termRole
 term-allows n b h = up-to n b (h (omega arith))
 
-number-allows : (b : ℕ) → Allows numberRole b → ToEight b
+pub number-allows : (b : ℕ) → Allows numberRole b → ToEight b
 unfolding numberRole
 number-allows b h = up-to 8 b (h (omega arith))
 
