@@ -31,7 +31,7 @@ pub record Between (f : ℕ → ℕ) (x y z : ℕ) : Type 0 where
   pub to-met : MetAfter f x z steps-to
   pub not-above : steps ≤ steps-to
 
--- the links followed are those numbered 1: the six sections know no other (02, R-11)
+-- the links followed are those numbered 1: the six sections know no other
 abbrev pub MeansBetween : Heap → Entries → BetweenLiteral → Type 0
 MeansBetween h entries l =
     Signed (l .plain) (Between (h .link 1) (value h entries (l .from)) (value h entries (l .middle)) (value h entries (l .to)))
