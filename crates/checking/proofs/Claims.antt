@@ -13,7 +13,7 @@ use Rattle.logic.specs.Query.{decode}
 use Rattle.logic.specs.Heap.{Satisfiable}
 use Rattle.logic.specs.Facts.{Line}
 use Rattle.logic.specs.Derivation.{Derivation, derivationBytes, linesFrom, linesIn}
-use Rattle.logic.specs.Calls.{Input, layoutCheck, byteCheck, formChecks, queryChecks, Answer, accepts, padded, derivationCall}
+use Rattle.logic.specs.Calls.{Input, layoutCheck, byteCheck, formChecks, queryChecks, Answer, accepts, padded, derivationCall, acceptsBy}
 use Rattle.logic.specs.Calls as calls
 use Rattle.logic.specs.Demands.{FirstStands, numbers}
 use Rattle.logic.proofs.Basics.Search.{not-true, isSome-false}
@@ -58,11 +58,11 @@ not-twenty {k} m e = ⊎-elim (λ u. omega (arith, u, e)) (λ q. omega (arith, q
 
 -- a query is accepted exactly where none of them stands
 accepts-none : (query : List ℕ) → accepts query ≡ true → queryRefusal query ≡ none
-unfolding accepts queryRefusal
+unfolding acceptsBy queryRefusal
 accepts-none query h = isSome-false _ (not-true h)
 
 none-accepts : (query : List ℕ) → queryRefusal query ≡ none → accepts query ≡ true
-unfolding accepts queryRefusal isSome
+unfolding acceptsBy queryRefusal isSome
 none-accepts query h = rw h
 
 -- a refusal is that of the first that stands

@@ -8,7 +8,7 @@ use mathlib.Core.Option.{some}
 use lib.ListN.{length}
 use Rattle.logic.specs.Search.{at, isSome}
 use Rattle.logic.specs.Query.{Literal, Query, termCount, Layout, faulty, parts, Section, fourSections, fiveSections, sections, firstByte, layoutOf, literals, section, queryOf, decode}
-use Rattle.logic.specs.Calls.{accepts}
+use Rattle.logic.specs.Calls.{accepts, acceptsBy}
 use Rattle.logic.proofs.Basics.Search.{none-some}
 use Rattle.logic.proofs.Query.Bytes.{Part, retired-number, literals-link}
 use Rattle.logic.proofs.Query.AcceptedBytes.{accepted, query-passes, five-laid}
@@ -143,5 +143,5 @@ part-encodable q r p ok =
 
 -- what is written is accepted
 pub encoded-accepts : (q : Query) → Encodable q → accepts (encode q) ≡ true
-unfolding accepts isSome
+unfolding acceptsBy isSome
 encoded-accepts q ok = rw (passed q ok (record { order = []; query = encode q; room = 0 }) refl)

@@ -10,7 +10,7 @@ use Rattle.logic.specs.Search.{at}
 use Rattle.logic.specs.Query.{Query, decode, termCount}
 use Rattle.logic.specs.Heap.{Heap, Meets, Satisfiable, value}
 use Rattle.logic.specs.Shown.{heapIn, nodeIn, wellFormed}
-use Rattle.logic.specs.Calls.{Check, orderCheck, derivationChecks, verdictChecks, refusalOf, accepts, verdictCall}
+use Rattle.logic.specs.Calls.{Check, orderCheck, verdictChecks, refusalOf, accepts, verdictCall, derivationChecksOf}
 use Rattle.logic.specs.Calls as calls
 use Rattle.logic.specs.Demands.{NotRefused, NoneStands}
 use Rattle.logic.proofs.Basics.Search.{none-some, true-false, bool-cases}
@@ -102,7 +102,7 @@ module _ (i : Input) where
     says c = decoded (restricted query c) (encodable c)
 
     asked-clear : (c : Conjunction) → NoneStands verdictChecks (asked c)
-    unfolding queryOf derivationChecks orderCheck
+    unfolding queryOf derivationChecksOf orderCheck
     asked-clear c = verdict-clear (asked c) (λ d m. ⊎-elim (first d) (accepts-checks (asked c) (encoded-accepts (restricted query c) (encodable c)) d) (List·Memᴰ·cases-cons m)) (verdict-passed given clear .1)
       where
         first : (d : Check) → d ≡ orderCheck → d .place (asked c) ≡ none

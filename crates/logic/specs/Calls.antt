@@ -60,7 +60,7 @@ pub record CallForm : Type 0 where
   pub longest : ℕ
 
 -- the form of 01; the longest query had 681 bytes, of which 120 were booleans (02, R-13)
-unfoldable pub oneLinkForm : CallForm
+abbrev pub oneLinkForm : CallForm
 oneLinkForm = record { links = 1; checks = queryChecks; decode = decode; room = 53; longest = 561 }
 
 -- "The verdict call uses 1 to 10. The derivation call uses 1 to 8 and 10 to 12"; 10 is withdrawn (02, R-5), and 11 and 12 are read off

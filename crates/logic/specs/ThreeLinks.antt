@@ -96,7 +96,7 @@ unfoldable pub decodeLinks : List ℕ → Query
 decodeLinks bytes = linkedQuery (layoutBy linkSections bytes)
 
 -- "9 reads 85": 3 times 16 successors, 16 nodes, 16 data bytes, four counts and a byte. The longest query has 33, 181, 241, 181 bytes and one.
-unfoldable pub threeLinkForm : CallForm
+abbrev pub threeLinkForm : CallForm
 threeLinkForm = record { links = 3; checks = linkChecks; decode = decodeLinks; room = 85; longest = 637 }
 
 -- the numbers of the checks, in their order

@@ -180,5 +180,5 @@ pub demand3 : Demand3 oneLinkForm
 demand3 = demand3-of oneLinkForm one-link-laws
 
 pub checks-in-order : ChecksInOrder
-unfolding verdictChecksOf derivationChecksOf oneLinkForm queryChecks formChecks orderCheck layoutCheck byteCheck roomUnder
+unfolding verdictChecksOf derivationChecksOf queryChecks formChecks orderCheck layoutCheck byteCheck roomUnder
 checks-in-order = record { verdict-checks = refl; derivation-checks = refl }

@@ -80,7 +80,6 @@ query-not-nine = form-elim sections (λ (x : Check). x .number ≡ 9 → ⊥) (�
 
 -- what is known of the form of 01
 pub one-link-laws : FormLaws oneLinkForm
-unfolding oneLinkForm
 one-link-laws =
     record {
       accepted-query = accepted;

@@ -63,7 +63,7 @@ unfolding byte-checks
 byte-own k l u = subst (λ (cs : List Check). List·Memᴰ (byteCheck linkSections k) cs) (sym checks-are) (Memᴰ·append-right layout-checks (List·Memᴰ·tail (map-intro (byteCheck linkSections) k (from-intro 4 5 k l (omega arith)))))
 
 link-passes : (bytes : List ℕ) → acceptsBy threeLinkForm bytes ≡ true → LinksPass bytes
-unfolding acceptsBy threeLinkForm layoutCheck byteCheck linkCheck
+unfolding acceptsBy layoutCheck byteCheck linkCheck
 link-passes bytes a =
     let i : Input = record { order = []; query = bytes; room = 0 } in
     let free = refusalOf-none linkChecks i (isSome-false _ (not-true a)) in
@@ -112,7 +112,7 @@ unfolding linkChecks linkCheck layoutCheck byteCheck all _and_ _or_
 link-early k m = (early-of (numbers linkChecks) refl k m, λ e. false≢true (subst (λ (x : ℕ). not (eqb x 9) ≡ true) e (all-true (λ x. not (eqb x 9)) {xs = numbers linkChecks} k refl m)))
 
 pub three-link-laws : FormLaws threeLinkForm
-unfolding threeLinkForm decodeLinks
+unfolding decodeLinks
 three-link-laws =
     record {
       accepted-query = λ bytes a. passed-accepted bytes (link-passes bytes a);
@@ -124,7 +124,7 @@ three-link-laws =
     }
 
 pub link-checks-in-order : LinkChecksInOrder
-unfolding verdictChecksOf derivationChecksOf threeLinkForm linkChecks linkCheck orderCheck layoutCheck byteCheck roomUnder
+unfolding verdictChecksOf derivationChecksOf linkChecks linkCheck orderCheck layoutCheck byteCheck roomUnder
 link-checks-in-order = record { verdict-checks = refl; derivation-checks = refl }
 
 -- "Verdict, agreement and path length .. are shown once over any link"

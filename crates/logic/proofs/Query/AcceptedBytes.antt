@@ -57,7 +57,7 @@ form-passes form i h =
     }
 
 pub query-passes : (bytes : List ℕ) → accepts bytes ≡ true → Passes sections bytes
-unfolding acceptsBy oneLinkForm refusalOf queryChecks
+unfolding acceptsBy refusalOf queryChecks
 query-passes bytes passes =
     form-passes sections (record { order = []; query = bytes; room = 0 })
     (λ c m. unmet (c .number) _ (firstOf-none _ c (isSome-false _ (not-true passes)) m))
