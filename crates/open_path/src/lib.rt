@@ -86,13 +86,13 @@ pub fn descend(
     }
 }
 
-// How our walk of a path ends: plain steps first, which is all that most queries need; where these run out, the path is decided, and where
-// it has a heap the walk goes down to its end.
+// How our walk of a path ends. A few plain steps come first, which is all that most queries need. Where these run out, the path is decided:
+// one that is refuted needs no more. Where it has a heap, more plain steps are tried before the walk goes down to its end.
 pub fn settle(query: &[u8], layout: Layout, order: &[u8], left: usize, s: Facts) -> Walked
     requires { ⌜ LaysOut layout (now query) × (accepts (now query) ≡ true) × (isOrder (now order) ≡ true) × Reachable (decode (now query)) (pathOf s) × AtMost (termCount (decode (now query))) (pathOf s) left ⌝ }
     ensures { λ r. ⌜ Walks (decode (now (query .entry))) (now (order .entry)) left (pathOf s) false r ⌝ }
 {
-    let w = decide::plain(query, layout, order, left, s, true, 200);
+    let w = decide::plain(query, layout, order, left, s, true, 40);
     let kind = w.kind;
     if !decide::is_unknown(kind) {
         return w;
@@ -104,6 +104,11 @@ pub fn settle(query: &[u8], layout: Layout, order: &[u8], left: usize, s: Facts)
             facts: s,
             budget: 0,
         };
+    }
+    let more = decide::plain(query, layout, order, left, s, true, 200);
+    let found = more.kind;
+    if !decide::is_unknown(found) {
+        return more;
     }
     let path = descend(query, layout, order, left, s, d.how);
     Walked {
