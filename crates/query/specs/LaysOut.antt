@@ -36,19 +36,11 @@ pub record FullLaysOut (l : FullLayout) (bytes : List ℕ) (most excess : ℕ) :
   pub laid : layoutBy (fiveSections most excess) bytes ≡ parts ps
   pub boolean-are : section ps 4 ≡ take (2 * l .«boolean_count») (drop (l .«boolean_at») bytes)
 
--- Literal i of a section at `at`, of three bytes an entry and of two.
+-- Literal i of a section at `at`, of three bytes an entry.
 abbrev pub literalIn : List ℕ → ℕ → ℕ → Literal
 literalIn bytes at i =
     record {
       plain = eqb (getD bytes (at + 3 * i) 0) 1;
       left = getD bytes (at + 3 * i + 1) 0;
       right = getD bytes (at + 3 * i + 2) 0;
-    }
-
-abbrev pub flagIn : List ℕ → ℕ → ℕ → Literal
-flagIn bytes at i =
-    record {
-      plain = eqb (getD bytes (at + 2 * i) 0) 1;
-      left = getD bytes (at + 2 * i + 1) 0;
-      right = 0;
     }
