@@ -3,20 +3,20 @@
  *     rt staticlib lemitsaka
  *     cc -Iinclude yours.c target/staticlib/liblemitsaka.a
  *
- * examples/c/verdict.c is a whole program. README.md has the bytes of a query, of a report and of a derivation.
+ * examples/c/verdict.c is a whole program. docs/manual has the bytes of a query, of a report and of a derivation, and a page for C.
  *
  * Every slice is a pointer and a length in bytes:
  *
  *   order    the order in which the rules are tried: eight bytes, each of 1 to 8 once
  *   query    the statements, at most 561 bytes; the term byte 255 names null, one node whose link goes to itself
- *   report, buffer    lent to the call, which writes every byte of it, whatever it answers
+ *   report, buffer, and all others that are not const    lent to the call, which writes every byte, whatever it answers
  *
- * Any bytes and any lengths will do: what is no order list or no query is refused. What the library cannot see for itself,
- * the caller vouches for:
+ * Any bytes and any lengths will do: what is no order list, no query and so on is refused. What the library cannot see for
+ * itself, the caller vouches for:
  *
  *   - each pointer leads to as many bytes as its length says; no pointer is null, not even with length 0;
- *   - the lent bytes overlap neither the order list nor the query (which may overlap each other), and no other thread uses
- *     them during the call.
+ *   - the lent bytes overlap none of the other slices (which may overlap each other), and no other thread uses them during
+ *     the call.
  *
  * The calls keep nothing: no statics, no heap memory, no locks, no input or output. They may run in several threads at a
  * time. A call needs less than 900 kB of stack. It always returns, and no order list makes a verdict slow; queries of many
@@ -24,6 +24,7 @@
  *
  * The answer is one number. Below 65,536 it is the call's own answer; else the call was refused, and it is the refusal's
  * number times 65,536, plus its place, counted from 0 in the query. After a refusal all of the lent bytes are zero.
+ * lemitsaka_hand_back alone answers otherwise, as it says.
  */
 #ifndef LEMITSAKA_H
 #define LEMITSAKA_H
@@ -76,7 +77,7 @@ extern "C" {
  *   26  the count of section 5, the booleans, which are retired, is not 0 (place: that count; it is met where 3 would be)
  *   27  an old query has no room for the fresh variable or its booleans, or the lent bytes are too few for it
  *
- * There is no 10. The place is 0 for 1 and from 9 on, but for 17, 18 and 26. */
+ * There is no 10, and no call of this header has 22 or 28. The place is 0 for 1 and from 9 on, but for 17, 18 and 26. */
 static inline unsigned lemitsaka_refusal(uint64_t answer)
 {
     return (unsigned)(answer / 65536 % 65536);
@@ -186,7 +187,8 @@ uint64_t lemitsaka_join(const uint8_t *first, size_t first_len,
  *
  * The answer is 65,536 times the offset of the literal's own bytes in the first query, plus their length; for the second query
  * LEMITSAKA_SECOND is added. From LEMITSAKA_NO_PART on the call was refused: LEMITSAKA_NO_PART is added to what
- * lemitsaka_refusal and lemitsaka_place take apart: 2 to 8 and 26 of the first query, of the second, then 25. */
+ * lemitsaka_refusal and lemitsaka_place take apart: 2 to 8 and 26 of the first query, of the second (which of the two is not
+ * told), then 25. */
 #define LEMITSAKA_NO_PART 1099511627776u
 uint64_t lemitsaka_hand_back(const uint8_t *first, size_t first_len,
                              const uint8_t *second, size_t second_len,

@@ -266,7 +266,7 @@ fn agrees(expected: &Answer, number: u64, report: &[u8]) -> bool {
     }
 }
 
-/// A query of six sections of few literals, sometimes damaged.
+/// A query of six sections of few literals, sometimes damaged, and sometimes with booleans, which are refused.
 #[cfg(feature = "library")]
 fn query(random: &mut Random) -> Vec<u8> {
     let n = random.between(0, 5) + usize::from(random.percent(5));
@@ -275,7 +275,8 @@ fn query(random: &mut Random) -> Vec<u8> {
         bytes.push(if random.percent(10) { 255 } else { random.below(t + 1) as u8 });
     }
     for roles in &ROLES[1..] {
-        let count = if n == 0 && *roles != b"sn" { 0 } else { random.below(4) };
+        let retired = *roles == b"sn";
+        let count = if (retired && random.percent(90)) || (n == 0 && !retired) { 0 } else { random.below(4) };
         bytes.push(count as u8);
         for role in roles.repeat(count) {
             bytes.push(match role {

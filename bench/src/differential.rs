@@ -4,6 +4,7 @@
 use crate::generate::{self, Random};
 use crate::vectors::hex;
 use crate::{edges, library, long, reference};
+use std::collections::BTreeMap;
 
 /// Walks are exponential in the worst case; an input whose walk has more lines than this is drawn again.
 const BUDGET: u64 = 20_000;
@@ -16,8 +17,7 @@ type Call<'a> = &'a dyn Fn(&[u8], &[u8], &mut [u8]) -> u64;
 struct Seen {
     satisfiable: usize,
     refuted: usize,
-    /// By number, up to the highest of the two calls, 26 (02, R-13).
-    refused: [usize; 27],
+    refused: BTreeMap<u64, usize>,
 }
 
 impl Seen {
@@ -25,13 +25,13 @@ impl Seen {
         match answer {
             0 => self.satisfiable += 1,
             1 => self.refuted += 1,
-            _ => self.refused[(answer >> 16) as usize] += 1,
+            _ => *self.refused.entry(answer >> 16).or_default() += 1,
         }
     }
 
     fn print(&self, name: &str) {
         println!("{name}: {} satisfiable, {} refuted", self.satisfiable, self.refuted);
-        println!("  refusals 1 to 12: {:?}, 26: {}", &self.refused[1..13], self.refused[26]);
+        println!("  refusals, each with how often it was met: {:?}", self.refused);
     }
 }
 

@@ -34,7 +34,13 @@ fn printed(answer: u64, report: &[u8]) -> String {
     format!("sat\n{}\n", vectors::hex(&report[..2 * m + n + 5]))
 }
 
-/// Every verdict and report of workload-luck, and the time of both calls on each input.
+/// What the verdict call may take: on workload-luck, in means over workload-sixteen, the mean and the worst input; and, in seconds, what `climb`
+/// found.
+const MEAN_BAR: f64 = 10.0;
+const WORST_BAR: f64 = 200.0;
+const FOUND_BAR: f64 = 2.0;
+
+/// Every verdict and report of workload-luck, and the time of both calls on each input. False where one differs or a bar is passed.
 pub fn run(directory: &Path) -> Result<bool, String> {
     let sixteen = vectors::read_bin(&directory.join("workload-sixteen.bin"))?;
     let inputs = vectors::read_bin(&directory.join("workload-luck.bin"))?;
@@ -74,13 +80,19 @@ pub fn run(directory: &Path) -> Result<bool, String> {
         worst / unit
     );
     println!("  derivation mean {:.0} us; worst {lines_worst:.0} us (input {lines_at})", lines_sum / count);
+    let mut met = sum / count <= MEAN_BAR * unit && worst <= WORST_BAR * unit;
     for input in worst_found() {
         let (order, query) = input.split_at(8);
         let time = seconds(3, &mut || library::verdict(order, query, &mut report));
         let answer = library::verdict(order, query, &mut report);
         println!("  found by climb: {:.1} ms, {}", 1e3 * time, if answer == 0 { "satisfiable" } else { "refuted" });
+        met &= time <= FOUND_BAR;
     }
-    Ok(agree == inputs.len())
+    println!(
+        "  at most {MEAN_BAR} and {WORST_BAR} times workload-sixteen, and {FOUND_BAR} s: {}",
+        if met { "met" } else { "missed" }
+    );
+    Ok(met && agree == inputs.len())
 }
 
 /// The worst inputs that `climb` found, as it prints them.

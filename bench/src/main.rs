@@ -46,7 +46,7 @@ heapverdict                   be the program heapverdict
 between FILE                  compare the plain search of R-10 with its vectors
 between                       time it on slow queries (with feature library: the library too)
 between N SEED                (feature library) compare it with the library on N random queries
-derivations DIR               (feature library) time the checking call on 16,000 lines, beside a rule step of the workloads in DIR
+derivations DIR               (feature library) time the checking call on 16,000 lines, beside the call that writes them and the rule steps of DIR
 shares RULESHARES DIR N       (feature library) time ruleshares on N queries of workload-programs, beside the calls";
 
 fn main() -> ExitCode {

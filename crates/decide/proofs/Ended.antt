@@ -23,7 +23,7 @@ use Rattle.logic.proofs.Calls.Decision.{Known, reachable-known, clash-none, sat
 use Rattle.walk.proofs.Walks.{walk-saturated}
 use Rattle.branch.specs.Alternatives.{countOf, alternativeAt}
 use Rattle.facts.specs.Path.{pathOf}
-use Rattle.decide.specs.Tells.{isRefuted, isUnknown, Sees, Tells, Walks, Decides}
+use Rattle.decide.specs.Tells.{isRefuted, isUnknown, Sees, Tells, Ends, Walks, Decides, Shows}
 use Rattle.decide.specs.declared.Kind.{Kind}
 use Rattle.decide.specs.declared.Kind.the-variants as kind
 use Rattle.decide.specs.declared.Walked.{Walked}
@@ -70,14 +70,26 @@ module _ (bytes order : List ℕ) (acc : accepts bytes ≡ true) (o : isOrder or
 
 -- the decision
 module _ (bytes : List ℕ) (acc : accepts bytes ≡ true) (s : Facts) where
-  pub decides-open : (k : Kind) → Tells (decode bytes) s k → k ≡ kind.Open → Decides (decode bytes) s true
-  decides-open k told e = record { yes-right = λ f. told .has e; no-right = λ f. absurd (true≢false f) }
+  pub decides-open : (k : Kind) (w : Facts) → Ends (decode bytes) s k w → k ≡ kind.Open → Shows (decode bytes) s true w
+  decides-open k w told e =
+      record {
+        decides = record { yes-right = λ f. told .tells .has e; no-right = λ f. absurd (true≢false f) };
+        shows = λ f. told .shows e;
+      }
 
-  pub decides-refuted : (k : Kind) → Tells (decode bytes) s k → k ≡ kind.Refuted → Decides (decode bytes) s false
-  decides-refuted k told e = record { yes-right = λ f. absurd (false≢true f); no-right = λ f. told .refuted e }
+  pub decides-refuted : (k : Kind) (w : Facts) → Ends (decode bytes) s k w → k ≡ kind.Refuted → (v : Facts) → Shows (decode bytes) s false v
+  decides-refuted k w told e v =
+      record {
+        decides = record { yes-right = λ f. absurd (false≢true f); no-right = λ f. told .tells .refuted e };
+        shows = λ f. absurd (false≢true f);
+      }
 
-  pub decides-walked : (order : List ℕ) → isOrder order ≡ true → (k : ℕ) → Reachable (decode bytes) s → AtMost (termCount (decode bytes)) s k → (w : Walked) → Walks (decode bytes) order k s false w → (b : Bool) → b ≡ isRefuted (w .kind) → Decides (decode bytes) s (not b)
-  decides-walked order o k reach most w told b e = go (w .kind) refl (e)
+  -- the path itself has a heap
+  shows-itself : (b : Bool) → Decides (decode bytes) s b → Shows (decode bytes) s b s
+  shows-itself b d = record { decides = d; shows = d .yes-right }
+
+  pub decides-walked : (order : List ℕ) → isOrder order ≡ true → (k : ℕ) → Reachable (decode bytes) s → AtMost (termCount (decode bytes)) s k → (w : Walked) → Walks (decode bytes) order k s false w → (b : Bool) → b ≡ isRefuted (w .kind) → Shows (decode bytes) s (not b) s
+  decides-walked order o k reach most w told b e = shows-itself (not b) (go (w .kind) refl (e))
     where
       known : Known (decode bytes) s
       known = reachable-known (decode bytes) (accepted bytes acc) s reach

@@ -23,7 +23,7 @@ use Rattle.logic.proofs.Calls.Decision.{Known, reachable-known, clash-none, sat
 use Rattle.walk.proofs.Walks.{walk-saturated}
 use Rattle.branch.specs.Alternatives.{countOf, alternativeAt}
 use Rattle.facts.specs.Path.{pathOf}
-use Rattle.decide.specs.Tells.{isRefuted, isUnknown, Sees, Tells, Walks, Decides}
+use Rattle.decide.specs.Tells.{isRefuted, isUnknown, Sees, Tells, Ends, Walks, Decides}
 use Rattle.decide.specs.declared.Kind.{Kind}
 use Rattle.decide.specs.declared.Kind.the-variants as kind
 use Rattle.decide.specs.declared.Walked.{Walked}
@@ -70,6 +70,19 @@ module _ (q : Query) (s : Facts) where
   pub tells-nothing : Tells q s kind.Unknown
   tells-nothing = record { refuted = λ e. absurd (refuted-unknown (sym e)); has = λ e. absurd (open-unknown (sym e)) }
 
+  module _ (w : Facts) where
+    pub ends-refuted : Tells q s kind.Refuted → Ends q s kind.Refuted w
+    ends-refuted told = record { tells = told; shows = λ e. absurd (refuted-open e) }
+
+    pub ends-open : Tells q s kind.Open → HasHeap q w → Ends q s kind.Open w
+    ends-open told h = record { tells = told; shows = λ e. h }
+
+    pub ends-nothing : Ends q s kind.Unknown w
+    ends-nothing = record { tells = tells-nothing; shows = λ e. absurd (open-unknown (sym e)) }
+
+    pub ends-as : (s′ : Facts) (k : Kind) → Ends q s′ k w → Tells q s k → Ends q s k w
+    ends-as s′ k ended told = record { tells = told; shows = ended .shows }
+
 module _ (bytes : List ℕ) (acc : accepts bytes ≡ true) (s t : Facts) (known : Known (decode bytes) s) (n : ℕ) (terms-are : n ≡ termCount (decode bytes)) (cl : Closes n s t) where
   abbrev q : Query
   q = decode bytes
@@ -86,8 +99,8 @@ module _ (bytes : List ℕ) (acc : accepts bytes ≡ true) (s t : Facts) (known 
   pub tells-clash : (l : Line) → clash q t ≡ some l → Tells q s kind.Refuted
   tells-clash l e = tells-refuted q s (λ h. clash-none q ok t known-closed l e (closed-heap q ok s t known closes h))
 
-  pub tells-saturated : clash q t ≡ none → choose (termCount q) rules t ≡ none → Tells q s kind.Open
-  tells-saturated free idle = tells-open q s (heap-closed q ok s t known closes (saturated-heap q ok t known-closed rules rules-full free idle))
+  pub ends-saturated : clash q t ≡ none → choose (termCount q) rules t ≡ none → Ends q s kind.Open t
+  ends-saturated free idle = let h = saturated-heap q ok t known-closed rules rules-full free idle in ends-open q s t (tells-open q s (heap-closed q ok s t known closes h)) h
 
   module _ (r : Rule) (x y z : ℕ) (app : applies (termCount q) t (move r (triple x y z)) ≡ true) where
     abbrev m : Move

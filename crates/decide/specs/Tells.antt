@@ -39,6 +39,11 @@ pub record Tells (q : Query) (s : Facts) (k : Kind) : Type 0 where
   pub refuted : k ≡ kind.Refuted → NoHeap q s
   pub has : k ≡ kind.Open → HasHeap q s
 
+-- the same, and where it is "open", of a path with a heap: that where it ended
+pub record Ends (q : Query) (s : Facts) (k : Kind) (w : Facts) : Type 0 where
+  pub tells : Tells q s k
+  pub shows : k ≡ kind.Open → HasHeap q w
+
 -- the path that plain steps look at: closed under REFLEX, TRANS1 and TRANS2 where the order list begins with these
 abbrev pub Ahead : ℕ → List ℕ → Facts → Facts → Type 0
 Ahead n order s t = (begins order ≡ true → Closes n s t × Closed n t) × (begins order ≡ false → t ≡ s)
@@ -53,3 +58,8 @@ pub record Walks (q : Query) (order : List ℕ) (k : ℕ) (s : Facts) (limited :
 pub record Decides (q : Query) (s : Facts) (r : Bool) : Type 0 where
   pub yes-right : r ≡ true → HasHeap q s
   pub no-right : r ≡ false → NoHeap q s
+
+-- the decision, and where it is "yes", of a path with a heap, which may be another
+pub record Shows (q : Query) (s : Facts) (r : Bool) (w : Facts) : Type 0 where
+  pub decides : Decides q s r
+  pub shows : r ≡ true → HasHeap q w

@@ -22,7 +22,7 @@ ghost use Rattle.facts.specs.Path.{pathOf};
 ghost use Rattle.query.specs.LaysOut.{LaysOut};
 ghost use Rattle.closing.specs.Closed.{Closed, begins};
 ghost use Rattle.walk.specs.Looks.{lookOf};
-ghost use Rattle.decide.specs.Tells.{isRefuted, isUnknown, Sees, Tells, Ahead, Walks, Decides};
+ghost use Rattle.decide.specs.Tells.{isRefuted, isUnknown, Sees, Ends, Ahead, Walks, Shows};
 
 // What is found out of a path.
 pub enum Kind {
@@ -31,22 +31,25 @@ pub enum Kind {
     Unknown,
 }
 
-// What a strategy finds out, and the budget that it leaves.
+// What a strategy finds out, the budget that it leaves, and where the path is open one with a heap: that where it ended.
 pub struct Tried {
     pub kind: Kind,
     pub budget: usize,
+    pub facts: Facts,
 }
 
-// What is found out of a path, and by which strategy.
+// What is found out of a path, by which strategy, and where it ended.
 pub struct Settled {
     pub kind: Kind,
     pub how: usize,
+    pub facts: Facts,
 }
 
-// Whether a path has a heap, and which strategy found out.
+// Whether a path has a heap, which strategy found out, and where there is a heap a path with one.
 pub struct Decided {
     pub has: bool,
     pub how: usize,
+    pub facts: Facts,
 }
 
 // What plain steps find out, the path where they end (where they do not, the one that was given), and the budget left.
@@ -191,19 +194,21 @@ fn sees(query: &[u8], layout: Layout, how: usize, s: Facts) -> Seen
 // A strategy: the path is closed, and then branches where the strategy picks.
 fn search(query: &[u8], layout: Layout, how: usize, left: usize, s: Facts, budget: usize) -> Tried
     requires { ⌜ LaysOut layout (now query) × (accepts (now query) ≡ true) × Known (decode (now query)) (pathOf s) ⌝ }
-    ensures { λ r. ⌜ Tells (decode (now (query .entry))) (pathOf s) (r .kind) ⌝ }
+    ensures { λ r. ⌜ Ends (decode (now (query .entry))) (pathOf s) (r .kind) (pathOf (r .facts)) ⌝ }
 {
     let n = layout.terms;
     if left == 0 {
         return Tried {
             kind: Kind::Unknown,
             budget: 0,
+            facts: s,
         };
     }
     if budget == 0 {
         return Tried {
             kind: Kind::Unknown,
             budget: 0,
+            facts: s,
         };
     }
     let t = closing::close(s, n);
@@ -211,10 +216,12 @@ fn search(query: &[u8], layout: Layout, how: usize, left: usize, s: Facts, budge
         Seen::Saturated => Tried {
             kind: Kind::Open,
             budget: budget - 1,
+            facts: t,
         },
         Seen::Clashing => Tried {
             kind: Kind::Refuted,
             budget: budget - 1,
+            facts: t,
         },
         Seen::Applying(rule, x, y, z) => {
             let total = branch::count(rule, z);
@@ -234,6 +241,7 @@ fn search(query: &[u8], layout: Layout, how: usize, left: usize, s: Facts, budge
             Tried {
                 kind: Kind::Refuted,
                 budget: fuel,
+                facts: t,
             }
         }
     }
@@ -264,22 +272,26 @@ fn share(budget: usize, how: usize) -> usize {
 // short try, and then strategy `first`: the one that was done with a path before this is often done with this one too.
 fn in_turn(query: &[u8], layout: Layout, s: Facts, first: usize) -> Settled
     requires { ⌜ LaysOut layout (now query) × (accepts (now query) ≡ true) × Known (decode (now query)) (pathOf s) ⌝ }
-    ensures { λ r. ⌜ Tells (decode (now (query .entry))) (pathOf s) (r .kind) ⌝ }
+    ensures { λ r. ⌜ Ends (decode (now (query .entry))) (pathOf s) (r .kind) (pathOf (r .facts)) ⌝ }
 {
     let quick = search(query, layout, 0, 300, s, 50);
     let known = quick.kind;
     if !is_unknown(known) {
+        let end = quick.facts;
         return Settled {
             kind: known,
             how: first,
+            facts: end,
         };
     }
     let soon = search(query, layout, first, 300, s, share(400, first));
     let found = soon.kind;
     if !is_unknown(found) {
+        let end = soon.facts;
         return Settled {
             kind: found,
             how: first,
+            facts: end,
         };
     }
     let mut budget: usize = 50;
@@ -289,7 +301,12 @@ fn in_turn(query: &[u8], layout: Layout, s: Facts, first: usize) -> Settled
         let tried = search(query, layout, how, 300, s, share(budget, how));
         let kind = tried.kind;
         if !is_unknown(kind) {
-            return Settled { kind, how };
+            let end = tried.facts;
+            return Settled {
+                kind,
+                how,
+                facts: end,
+            };
         }
         budget = grown(budget, turn);
         turn += 1;
@@ -297,11 +314,12 @@ fn in_turn(query: &[u8], layout: Layout, s: Facts, first: usize) -> Settled
     Settled {
         kind: Kind::Unknown,
         how: first,
+        facts: s,
     }
 }
 
 // Some finite heap meets the query and the facts of a path that a walk can reach. Should every strategy have run out, plain steps without a
-// limit settle it.
+// limit settle it. Where there is a heap, a path with one is handed back too: it may answer for other paths.
 pub fn has_heap(
     query: &[u8],
     layout: Layout,
@@ -311,20 +329,30 @@ pub fn has_heap(
     first: usize,
 ) -> Decided
     requires { ⌜ LaysOut layout (now query) × (accepts (now query) ≡ true) × (isOrder (now order) ≡ true) × Reachable (decode (now query)) (pathOf s) × AtMost (termCount (decode (now query))) (pathOf s) left ⌝ }
-    ensures { λ r. ⌜ Decides (decode (now (query .entry))) (pathOf s) (r .has) ⌝ }
+    ensures { λ r. ⌜ Shows (decode (now (query .entry))) (pathOf s) (r .has) (pathOf (r .facts)) ⌝ }
 {
     let settled = in_turn(query, layout, s, first);
     let found = settled.kind;
     let how = settled.how;
+    let end = settled.facts;
     match found {
-        Kind::Open => Decided { has: true, how },
-        Kind::Refuted => Decided { has: false, how },
+        Kind::Open => Decided {
+            has: true,
+            how,
+            facts: end,
+        },
+        Kind::Refuted => Decided {
+            has: false,
+            how,
+            facts: s,
+        },
         Kind::Unknown => {
             let w = plain(query, layout, order, left, s, false, 0);
             let kind = w.kind;
             Decided {
                 has: !is_refuted(kind),
                 how,
+                facts: s,
             }
         }
     }

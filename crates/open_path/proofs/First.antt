@@ -18,6 +18,8 @@ use Rattle.logic.proofs.Walks.Order.{order-full}
 use Rattle.logic.proofs.Walks.Derives.{seen-applying, seen-clashing}
 use Rattle.logic.proofs.Calls.Decision.{Known, reachable-known, clash-none, heap-branch, struck-next, last-open, walk-first}
 use Rattle.branch.specs.Alternatives.{countOf, alternativeAt}
+use Rattle.covering.specs.Covers.{Covers}
+use Rattle.covering.proofs.Covered.{covered-heap}
 use Rattle.decide.specs.Tells.{Decides}
 use Rattle.decide.proofs.Branches.{row-length, row-at}
 use Rattle.decide.proofs.Turns.{some-left, row-fewer}
@@ -77,6 +79,16 @@ module _ (bytes order : List ℕ) (acc : accepts bytes ≡ true) (k : ℕ) (s : 
 
     pub open-here : Struck q s m i → Decides q (j .facts) true → FirstOpen q s m (j .facts)
     open-here st d = record { place = i; in-row = in-row; struck = st; branch-at = at; has-heap = d .yes-right refl }
+
+    pub open-covered : Struck q s m i → (w : Facts) → HasHeap q w → Covers w (j .facts) → FirstOpen q s m (j .facts)
+    open-covered st w has c =
+        record {
+          place = i;
+          in-row = in-row;
+          struck = st;
+          branch-at = at;
+          has-heap = covered-heap q ok w (j .facts) (reachable-known q ok (j .facts) open-reach) c has;
+        }
 
     pub open-last : Struck q s m i → countOf r z ≤ i + 1 → HasHeap q s → FirstOpen q s m (j .facts)
     open-last st last has = record { place = i; in-row = in-row; struck = st; branch-at = at; has-heap = subst (HasHeap q) at (last-open q ok s known m app i st (omega (arith, row-length q n s r x y z terms-are)) has) }

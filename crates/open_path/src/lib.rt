@@ -22,13 +22,15 @@ ghost use Rattle.query.specs.LaysOut.{LaysOut};
 ghost use Rattle.decide.specs.Tells.{Walks};
 ghost use Rattle.open_path.specs.First.{FirstOpen};
 
-// A branch, and the strategy that was done with it or with the one before.
+// A branch, the strategy that was done with it or with the one before, and a path with a heap.
 struct Chosen {
     pub facts: Facts,
     pub how: usize,
+    pub witness: Facts,
 }
 
-// The first branch of a rule that has a heap, of a path that has one: the last needs no decision.
+// The first branch of a rule that has a heap, of a path that has one. A branch whose facts a path with a heap holds needs no decision, nor does
+// the last.
 fn first_open(
     query: &[u8],
     layout: Layout,
@@ -40,9 +42,10 @@ fn first_open(
     y: Term,
     z: Third,
     first: usize,
+    witness: Facts,
 ) -> Chosen
-    requires { ⌜ LaysOut layout (now query) × (accepts (now query) ≡ true) × (isOrder (now order) ≡ true) × Reachable (decode (now query)) (pathOf s) × AtMost (termCount (decode (now query))) (pathOf s) left × HasHeap (decode (now query)) (pathOf s) × (look (decode (now query)) (orderOf (now order)) (pathOf s) ≡ applying (move (kindOf rule) (triple (x .0) (y .0) (z .0)))) ⌝ }
-    ensures { λ r. ⌜ FirstOpen (decode (now (query .entry))) (pathOf s) (move (kindOf rule) (triple (x .0) (y .0) (z .0))) (pathOf (r .facts)) ⌝ }
+    requires { ⌜ LaysOut layout (now query) × (accepts (now query) ≡ true) × (isOrder (now order) ≡ true) × Reachable (decode (now query)) (pathOf s) × AtMost (termCount (decode (now query))) (pathOf s) left × HasHeap (decode (now query)) (pathOf s) × HasHeap (decode (now query)) (pathOf witness) × (look (decode (now query)) (orderOf (now order)) (pathOf s) ≡ applying (move (kindOf rule) (triple (x .0) (y .0) (z .0)))) ⌝ }
+    ensures { λ r. ⌜ FirstOpen (decode (now (query .entry))) (pathOf s) (move (kindOf rule) (triple (x .0) (y .0) (z .0))) (pathOf (r .facts)) × HasHeap (decode (now (query .entry))) (pathOf (r .witness)) ⌝ }
 {
     let n = layout.terms;
     let total = branch::count(rule, z);
@@ -52,18 +55,34 @@ fn first_open(
         let joined = branch::branch(s, n, rule, x, y, z, i);
         let path = joined.facts;
         if total <= i + 1 {
-            return Chosen { facts: path, how };
+            return Chosen {
+                facts: path,
+                how,
+                witness,
+            };
+        }
+        if covering::covers(witness, path) {
+            return Chosen {
+                facts: path,
+                how,
+                witness,
+            };
         }
         let d = decide::has_heap(query, layout, order, left - 1, path, how);
         how = d.how;
         if d.has {
-            return Chosen { facts: path, how };
+            let other = d.facts;
+            return Chosen {
+                facts: path,
+                how,
+                witness: other,
+            };
         }
         i += 1;
     }
 }
 
-// The path where our walk of a path with a heap ends.
+// The path where our walk of a path with a heap ends, given some path with a heap.
 pub fn descend(
     query: &[u8],
     layout: Layout,
@@ -71,28 +90,30 @@ pub fn descend(
     left: usize,
     s: Facts,
     first: usize,
+    witness: Facts,
 ) -> Facts
-    requires { ⌜ LaysOut layout (now query) × (accepts (now query) ≡ true) × (isOrder (now order) ≡ true) × Reachable (decode (now query)) (pathOf s) × AtMost (termCount (decode (now query))) (pathOf s) left × HasHeap (decode (now query)) (pathOf s) ⌝ }
+    requires { ⌜ LaysOut layout (now query) × (accepts (now query) ≡ true) × (isOrder (now order) ≡ true) × Reachable (decode (now query)) (pathOf s) × AtMost (termCount (decode (now query))) (pathOf s) left × HasHeap (decode (now query)) (pathOf s) × HasHeap (decode (now query)) (pathOf witness) ⌝ }
     ensures { λ r. ⌜ walk (decode (now (query .entry))) (orderOf (now (order .entry))) left (pathOf s) ≡ saturation (pathOf r) ⌝ }
 {
     match walk::look(query, layout, order, s) {
         walk::Seen::Saturated => s,
         walk::Seen::Clashing(_, _, _) => s,
         walk::Seen::Applying(rule, x, y, z) => {
-            let chosen = first_open(query, layout, order, left, s, rule, x, y, z, first);
+            let chosen = first_open(query, layout, order, left, s, rule, x, y, z, first, witness);
             let path = chosen.facts;
-            descend(query, layout, order, left - 1, path, chosen.how)
+            let other = chosen.witness;
+            descend(query, layout, order, left - 1, path, chosen.how, other)
         }
     }
 }
 
-// How our walk of a path ends: plain steps first, which is all that most queries need; where these run out, the path is decided, and where
-// it has a heap the walk goes down to its end.
+// How our walk of a path ends: a few plain steps first, which is all that most queries need; where these run out, the path is decided, and
+// where it has a heap the walk goes down to its end.
 pub fn settle(query: &[u8], layout: Layout, order: &[u8], left: usize, s: Facts) -> Walked
     requires { ⌜ LaysOut layout (now query) × (accepts (now query) ≡ true) × (isOrder (now order) ≡ true) × Reachable (decode (now query)) (pathOf s) × AtMost (termCount (decode (now query))) (pathOf s) left ⌝ }
     ensures { λ r. ⌜ Walks (decode (now (query .entry))) (now (order .entry)) left (pathOf s) false r ⌝ }
 {
-    let w = decide::plain(query, layout, order, left, s, true, 200);
+    let w = decide::plain(query, layout, order, left, s, true, 40);
     let kind = w.kind;
     if !decide::is_unknown(kind) {
         return w;
@@ -105,7 +126,8 @@ pub fn settle(query: &[u8], layout: Layout, order: &[u8], left: usize, s: Facts)
             budget: 0,
         };
     }
-    let path = descend(query, layout, order, left, s, d.how);
+    let witness = d.facts;
+    let path = descend(query, layout, order, left, s, d.how, witness);
     Walked {
         kind: Kind::Open,
         facts: path,

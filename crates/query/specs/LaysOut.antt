@@ -37,11 +37,7 @@ pub record FullLaysOut (l : FullLayout) (bytes : List ℕ) (most excess : ℕ) :
   pub laid : layoutBy (fiveSections most excess) bytes ≡ parts ps
   pub boolean-are : section ps 4 ≡ take (2 * l .«boolean_count») (drop (l .«boolean_at») bytes)
 
--- Literal i of a section at `at`, of three bytes an entry and of two.
+-- Literal i of a section at `at`, of three bytes an entry.
 abbrev pub literalIn : List ℕ → ℕ → ℕ → Literal
 literalIn bytes at i =
     literal (eqb (getD bytes (at + 3 * i) 0) 1) (getD bytes (at + 3 * i + 1) 0) (getD bytes (at + 3 * i + 2) 0)
-
-abbrev pub flagIn : List ℕ → ℕ → ℕ → Literal
-flagIn bytes at i =
-    literal (eqb (getD bytes (at + 2 * i) 0) 1) (getD bytes (at + 2 * i + 1) 0) 0

@@ -7,7 +7,7 @@ ghost use lib.Dec.{eqb};
 ghost use Rattle.logic.specs.Search.{any};
 ghost use Rattle.logic.specs.Query.{isOrder};
 ghost use Rattle.query.specs.Sections.{ReadAs, Sections};
-ghost use Rattle.query.specs.LaysOut.{literalIn, flagIn};
+ghost use Rattle.query.specs.LaysOut.{literalIn};
 ghost use Rattle.query.specs.Answers.{FoundIn, LaidOut, BytesChecked, FullCheckedAs, CheckedAs};
 
 // Where the sections of a query stand: the first byte of each behind its count, and the count. The terms stand at 1.
@@ -261,19 +261,4 @@ pub fn field(query: &[u8], at: usize, i: usize) -> usize
     ensures { λ r. ⌜ r ≡ literalIn (now (query .entry)) at i .left ⌝ }
 {
     entries::byte_at(query, at + 3 * i + 1)
-}
-
-// Literal i of the booleans, which stand at `at`: whether it is plain, and its number.
-pub fn flag_sign(query: &[u8], at: usize, i: usize) -> bool
-    requires { ⌜ at + 2 * i + 2 ≤ length (now query) ⌝ }
-    ensures { λ r. ⌜ r ≡ flagIn (now (query .entry)) at i .plain ⌝ }
-{
-    entries::byte_at(query, at + 2 * i) == 1
-}
-
-pub fn flag_number(query: &[u8], at: usize, i: usize) -> usize
-    requires { ⌜ at + 2 * i + 2 ≤ length (now query) ⌝ }
-    ensures { λ r. ⌜ r ≡ flagIn (now (query .entry)) at i .left ⌝ }
-{
-    entries::byte_at(query, at + 2 * i + 1)
 }

@@ -12,7 +12,7 @@ use Rattle.logic.specs.Decision.{Struck}
 use Rattle.facts.specs.Path.{pathOf}
 use Rattle.rules.specs.Answers.{kindOf}
 use Rattle.decide.specs.Tells.{Sees}
-use Rattle.decide.proofs.Tells.{fewer-left, seen-as, struck-none, tells-nothing, tells-clash, tells-saturated, known-branch, struck-more, tells-branch, tells-struck}
+use Rattle.decide.proofs.Tells.{fewer-left, seen-as, struck-none, ends-nothing, ends-refuted, ends-as, tells-clash, ends-saturated, known-branch, struck-more, tells-branch, tells-struck}
 use Rattle.decide.proofs.search.Reads as search′
 use Rattle.decide.proofs.search.Kinds as search-kinds
 use Rattle.decide.proofs.+search.Lts-search as search-lts
@@ -59,9 +59,9 @@ pub +search-spec : {M : Type 1} → statement M
     search-Inv-loop
     search-μ-loop
     -- returns
-    (λ c. tells-nothing _ _)
+    (λ c. ends-nothing _ _ _)
     -- returns-2
-    (λ c. tells-nothing _ _)
+    (λ c. ends-nothing _ _ _)
     -- close-requires
     (λ c κs. c .before .before .before .pre .1 .0 .terms-within)
     -- sees-requires
@@ -91,16 +91,16 @@ pub +search-spec : {M : Type 1} → statement M
     -- is-refuted-requires
     (λ c κs. search needs)
     -- returns-3
-    (λ c. let a = seen-as _ _ _ _ (c .before .before .before .before .before .before .before .before .before .before .before .sees .ensures) (c .before .before .before .before .before .before .before .before .before .rule .given .1) in tells-branch (c .before .before .before .before .before .before .before .before .before .before .before .before .before .before .before .before .args .query .now) (c .before .before .before .before .before .before .before .before .before .before .before .before .before .before .before .before .pre .1 .1) _ _ (c .before .before .before .before .before .before .before .before .before .before .before .before .before .before .before .before .pre .1 .2) _ (c .before .before .before .before .before .before .before .before .before .before .before .before .before .before .before .before .pre .1 .0 .term-count) (c .before .before .before .before .before .before .before .before .before .before .before .before .close .ensures .0) _ _ _ _ (a .0) _ (subst (λ (j : ℕ). c .before .before .before .before .before .before .loop .i < j) (c .before .before .before .before .before .before .before .count .ensures) (c .before .before .before .before .before .loop-test .taken)) _ (c .before .before .before .before .branch .ensures) _ (c .before .before .search .ensures) (sym (c .before .is-refuted .ensures) ∙ not-true _ (c .if3 .taken)))
+    (λ c. let a = seen-as _ _ _ _ (c .before .before .before .before .before .before .before .before .before .before .before .sees .ensures) (c .before .before .before .before .before .before .before .before .before .rule .given .1) in ends-as _ _ _ _ _ (c .before .before .search .ensures) (tells-branch (c .before .before .before .before .before .before .before .before .before .before .before .before .before .before .before .before .args .query .now) (c .before .before .before .before .before .before .before .before .before .before .before .before .before .before .before .before .pre .1 .1) _ _ (c .before .before .before .before .before .before .before .before .before .before .before .before .before .before .before .before .pre .1 .2) _ (c .before .before .before .before .before .before .before .before .before .before .before .before .before .before .before .before .pre .1 .0 .term-count) (c .before .before .before .before .before .before .before .before .before .before .before .before .close .ensures .0) _ _ _ _ (a .0) _ (subst (λ (j : ℕ). c .before .before .before .before .before .before .loop .i < j) (c .before .before .before .before .before .before .before .count .ensures) (c .before .before .before .before .before .loop-test .taken)) _ (c .before .before .before .before .branch .ensures) _ (c .before .before .search .ensures .tells) (sym (c .before .is-refuted .ensures) ∙ not-true _ (c .if3 .taken))))
     -- add-i
     (λ c. search needs)
     -- loop-less
     (λ c. search needs)
     -- loop-again
-    (λ c. let a = seen-as _ _ _ _ (c .before .before .before .before .before .before .before .before .before .before .before .sees .ensures) (c .before .before .before .before .before .before .before .before .before .rule .given .1) in (omega arith, struck-more (c .before .before .before .before .before .before .before .before .before .before .before .before .before .before .before .before .args .query .now) (c .before .before .before .before .before .before .before .before .before .before .before .before .before .before .before .before .pre .1 .1) _ _ (c .before .before .before .before .before .before .before .before .before .before .before .before .before .before .before .before .pre .1 .2) _ (c .before .before .before .before .before .before .before .before .before .before .before .before .before .before .before .before .pre .1 .0 .term-count) (c .before .before .before .before .before .before .before .before .before .before .before .before .close .ensures .0) _ _ _ _ (a .0) _ (subst (λ (j : ℕ). c .before .before .before .before .before .before .loop .i < j) (c .before .before .before .before .before .before .before .count .ensures) (c .before .before .before .before .before .loop-test .taken)) _ (c .before .before .before .before .branch .ensures) (c .before .before .before .before .before .before .loop .inv .1) _ (c .before .before .search .ensures) (sym (c .before .is-refuted .ensures) ∙ not-false _ (c .if3 .left))))
+    (λ c. let a = seen-as _ _ _ _ (c .before .before .before .before .before .before .before .before .before .before .before .sees .ensures) (c .before .before .before .before .before .before .before .before .before .rule .given .1) in (omega arith, struck-more (c .before .before .before .before .before .before .before .before .before .before .before .before .before .before .before .before .args .query .now) (c .before .before .before .before .before .before .before .before .before .before .before .before .before .before .before .before .pre .1 .1) _ _ (c .before .before .before .before .before .before .before .before .before .before .before .before .before .before .before .before .pre .1 .2) _ (c .before .before .before .before .before .before .before .before .before .before .before .before .before .before .before .before .pre .1 .0 .term-count) (c .before .before .before .before .before .before .before .before .before .before .before .before .close .ensures .0) _ _ _ _ (a .0) _ (subst (λ (j : ℕ). c .before .before .before .before .before .before .loop .i < j) (c .before .before .before .before .before .before .before .count .ensures) (c .before .before .before .before .before .loop-test .taken)) _ (c .before .before .before .before .branch .ensures) (c .before .before .before .before .before .before .loop .inv .1) _ (c .before .before .search .ensures .tells) (sym (c .before .is-refuted .ensures) ∙ not-false _ (c .if3 .left))))
     -- returns-4
-    (λ c. let a = seen-as _ _ _ _ (c .before .before .sees .ensures) (c .enum-told .given .1) in tells-saturated (c .before .before .before .before .before .before .before .args .query .now) (c .before .before .before .before .before .before .before .pre .1 .1) _ _ (c .before .before .before .before .before .before .before .pre .1 .2) _ (c .before .before .before .before .before .before .before .pre .1 .0 .term-count) (c .before .before .before .close .ensures .0) (a .0) (a .1))
+    (λ c. let a = seen-as _ _ _ _ (c .before .before .sees .ensures) (c .enum-told .given .1) in ends-saturated (c .before .before .before .before .before .before .before .args .query .now) (c .before .before .before .before .before .before .before .pre .1 .1) _ _ (c .before .before .before .before .before .before .before .pre .1 .2) _ (c .before .before .before .before .before .before .before .pre .1 .0 .term-count) (c .before .before .before .close .ensures .0) (a .0) (a .1))
     -- returns-5
-    (λ c. let a = seen-as _ _ _ _ (c .before .before .sees .ensures) (c .enum-told2 .given .1) in tells-clash (c .before .before .before .before .before .before .before .args .query .now) (c .before .before .before .before .before .before .before .pre .1 .1) _ _ (c .before .before .before .before .before .before .before .pre .1 .2) _ (c .before .before .before .before .before .before .before .pre .1 .0 .term-count) (c .before .before .before .close .ensures .0) (a .0) (a .1))
+    (λ c. let a = seen-as _ _ _ _ (c .before .before .sees .ensures) (c .enum-told2 .given .1) in ends-refuted _ _ _ (tells-clash (c .before .before .before .before .before .before .before .args .query .now) (c .before .before .before .before .before .before .before .pre .1 .1) _ _ (c .before .before .before .before .before .before .before .pre .1 .2) _ (c .before .before .before .before .before .before .before .pre .1 .0 .term-count) (c .before .before .before .close .ensures .0) (a .0) (a .1)))
     -- returns-6
-    (λ c. let a = seen-as _ _ _ _ (c .before .before .before .before .before .before .sees .ensures) (c .before .before .before .before .rule .given .1) in tells-struck (c .before .before .before .before .before .before .before .before .before .before .before .args .query .now) (c .before .before .before .before .before .before .before .before .before .before .before .pre .1 .1) _ _ (c .before .before .before .before .before .before .before .before .before .before .before .pre .1 .2) _ (c .before .before .before .before .before .before .before .before .before .before .before .pre .1 .0 .term-count) (c .before .before .before .before .before .before .before .close .ensures .0) _ _ _ _ (a .0) _ (c .before .loop .inv .1) (subst (λ (j : ℕ). j ≤ c .before .loop .i) (c .before .before .count .ensures) (c .loop-test .left)))
+    (λ c. let a = seen-as _ _ _ _ (c .before .before .before .before .before .before .sees .ensures) (c .before .before .before .before .rule .given .1) in ends-refuted _ _ _ (tells-struck (c .before .before .before .before .before .before .before .before .before .before .before .args .query .now) (c .before .before .before .before .before .before .before .before .before .before .before .pre .1 .1) _ _ (c .before .before .before .before .before .before .before .before .before .before .before .pre .1 .2) _ (c .before .before .before .before .before .before .before .before .before .before .before .pre .1 .0 .term-count) (c .before .before .before .before .before .before .before .close .ensures .0) _ _ _ _ (a .0) _ (c .before .loop .inv .1) (subst (λ (j : ℕ). j ≤ c .before .loop .i) (c .before .before .count .ensures) (c .loop-test .left))))

@@ -2,7 +2,7 @@
 use borrow.Author.Needs.{needs}
 use Prim.Native.Nat.{_-_, _≤_}
 use native.Mathlib.Omega.{arith}
-use Rattle.decide.proofs.Tells.{tells-nothing}
+use Rattle.decide.proofs.Tells.{ends-nothing}
 use Rattle.decide.proofs.in_turn.Statement.{statement}
 use Rattle.decide.proofs.in_turn.Tie as tie
 
@@ -23,7 +23,7 @@ in-turn-spec =
     -- is-unknown-requires
     (λ c κs. search needs)
     -- returns
-    (λ c. c .before .before .search .ensures)
+    (λ c. c .before .before .before .search .ensures)
     -- share-requires
     (λ c κs. search needs)
     -- search-requires-2
@@ -31,7 +31,7 @@ in-turn-spec =
     -- is-unknown-requires-2
     (λ c κs. search needs)
     -- returns-2
-    (λ c. c .before .before .search2 .ensures)
+    (λ c. c .before .before .before .search2 .ensures)
     -- loop-holds
     (λ c. omega arith)
     -- share-requires-2
@@ -41,7 +41,7 @@ in-turn-spec =
     -- is-unknown-requires-3
     (λ c κs. search needs)
     -- returns-3
-    (λ c. c .before .before .search3 .ensures)
+    (λ c. c .before .before .before .search3 .ensures)
     -- grown-requires
     (λ c κs. search needs)
     -- add-turn
@@ -51,4 +51,4 @@ in-turn-spec =
     -- loop-again
     (λ c. omega arith)
     -- returns-4
-    (λ c. tells-nothing _ _))
+    (λ c. ends-nothing _ _ _))

@@ -49,14 +49,14 @@ pub +descend-spec : {M : Type 1} → statement M
     -- enum-known-rule
     (λ c. search needs)
     -- first-open-requires
-    (λ c κs. (c .before .before .before .before .before .before .pre .1 .0, c .before .before .before .before .before .before .pre .1 .1, c .before .before .before .before .before .before .pre .1 .2, c .before .before .before .before .before .before .pre .1 .3, c .before .before .before .before .before .before .pre .1 .4, c .before .before .before .before .before .before .pre .1 .5, (look-is _ _ _ (c .before .before .before .look .ensures) (c .before .rule .given .1))))
+    (λ c κs. (c .before .before .before .before .before .before .pre .1 .0, c .before .before .before .before .before .before .pre .1 .1, c .before .before .before .before .before .before .pre .1 .2, c .before .before .before .before .before .before .pre .1 .3, c .before .before .before .before .before .before .pre .1 .4, c .before .before .before .before .before .before .pre .1 .5, c .before .before .before .before .before .before .pre .1 .6, (look-is _ _ _ (c .before .before .before .look .ensures) (c .before .rule .given .1))))
     -- sub-descend
-    (λ c. some-left (c .before .before .before .before .before .before .before .before .args .query .now) (c .before .before .before .before .before .before .before .before .args .order .now) (c .before .before .before .before .before .before .before .before .pre .1 .1) (c .before .before .before .before .before .before .before .before .pre .1 .2) (c .before .before .before .before .before .before .before .before .args .left) _ (reachable-known _ (accepted _ (c .before .before .before .before .before .before .before .before .pre .1 .1)) _ (c .before .before .before .before .before .before .before .before .pre .1 .3)) (c .before .before .before .before .before .before .before .before .pre .1 .4) _ (c .before .before .before .before .before .before .before .before .pre .1 .0 .term-count) _ _ _ _ (look-is _ _ _ (c .before .before .before .before .before .look .ensures) (c .before .before .before .rule .given .1)))
+    (λ c. some-left (c .before .before .before .before .before .before .before .before .before .args .query .now) (c .before .before .before .before .before .before .before .before .before .args .order .now) (c .before .before .before .before .before .before .before .before .before .pre .1 .1) (c .before .before .before .before .before .before .before .before .before .pre .1 .2) (c .before .before .before .before .before .before .before .before .before .args .left) _ (reachable-known _ (accepted _ (c .before .before .before .before .before .before .before .before .before .pre .1 .1)) _ (c .before .before .before .before .before .before .before .before .before .pre .1 .3)) (c .before .before .before .before .before .before .before .before .before .pre .1 .4) _ (c .before .before .before .before .before .before .before .before .before .pre .1 .0 .term-count) _ _ _ _ (look-is _ _ _ (c .before .before .before .before .before .before .look .ensures) (c .before .before .before .before .rule .given .1)))
     -- descend-requires
-    (λ c κs. (less-left _ _ (some-left (c .before .before .before .before .before .before .before .before .args .query .now) (c .before .before .before .before .before .before .before .before .args .order .now) (c .before .before .before .before .before .before .before .before .pre .1 .1) (c .before .before .before .before .before .before .before .before .pre .1 .2) (c .before .before .before .before .before .before .before .before .args .left) _ (reachable-known _ (accepted _ (c .before .before .before .before .before .before .before .before .pre .1 .1)) _ (c .before .before .before .before .before .before .before .before .pre .1 .3)) (c .before .before .before .before .before .before .before .before .pre .1 .4) _ (c .before .before .before .before .before .before .before .before .pre .1 .0 .term-count) _ _ _ _ (look-is _ _ _ (c .before .before .before .before .before .look .ensures) (c .before .before .before .rule .given .1))) (c .before .before .before .before .before .before .before .before .pre .0), (c .before .before .before .before .before .before .before .before .pre .1 .0, c .before .before .before .before .before .before .before .before .pre .1 .1, c .before .before .before .before .before .before .before .before .pre .1 .2, first-reach (c .before .before .before .before .before .before .before .before .args .query .now) (c .before .before .before .before .before .before .before .before .args .order .now) (c .before .before .before .before .before .before .before .before .pre .1 .1) (c .before .before .before .before .before .before .before .before .args .left) _ (c .before .before .before .before .before .before .before .before .pre .1 .3) (c .before .before .before .before .before .before .before .before .pre .1 .4) _ (c .before .before .before .before .before .before .before .before .pre .1 .0 .term-count) _ _ _ _ (look-is _ _ _ (c .before .before .before .before .before .look .ensures) (c .before .before .before .rule .given .1)) _ (c .before .first-open .ensures), first-fewer (c .before .before .before .before .before .before .before .before .args .query .now) (c .before .before .before .before .before .before .before .before .args .order .now) (c .before .before .before .before .before .before .before .before .pre .1 .1) (c .before .before .before .before .before .before .before .before .args .left) _ (c .before .before .before .before .before .before .before .before .pre .1 .3) (c .before .before .before .before .before .before .before .before .pre .1 .4) _ (c .before .before .before .before .before .before .before .before .pre .1 .0 .term-count) _ _ _ _ (look-is _ _ _ (c .before .before .before .before .before .look .ensures) (c .before .before .before .rule .given .1)) _ (c .before .first-open .ensures), c .before .first-open .ensures .has-heap)))
+    (λ c κs. (less-left _ _ (some-left (c .before .before .before .before .before .before .before .before .before .args .query .now) (c .before .before .before .before .before .before .before .before .before .args .order .now) (c .before .before .before .before .before .before .before .before .before .pre .1 .1) (c .before .before .before .before .before .before .before .before .before .pre .1 .2) (c .before .before .before .before .before .before .before .before .before .args .left) _ (reachable-known _ (accepted _ (c .before .before .before .before .before .before .before .before .before .pre .1 .1)) _ (c .before .before .before .before .before .before .before .before .before .pre .1 .3)) (c .before .before .before .before .before .before .before .before .before .pre .1 .4) _ (c .before .before .before .before .before .before .before .before .before .pre .1 .0 .term-count) _ _ _ _ (look-is _ _ _ (c .before .before .before .before .before .before .look .ensures) (c .before .before .before .before .rule .given .1))) (c .before .before .before .before .before .before .before .before .before .pre .0), (c .before .before .before .before .before .before .before .before .before .pre .1 .0, c .before .before .before .before .before .before .before .before .before .pre .1 .1, c .before .before .before .before .before .before .before .before .before .pre .1 .2, first-reach (c .before .before .before .before .before .before .before .before .before .args .query .now) (c .before .before .before .before .before .before .before .before .before .args .order .now) (c .before .before .before .before .before .before .before .before .before .pre .1 .1) (c .before .before .before .before .before .before .before .before .before .args .left) _ (c .before .before .before .before .before .before .before .before .before .pre .1 .3) (c .before .before .before .before .before .before .before .before .before .pre .1 .4) _ (c .before .before .before .before .before .before .before .before .before .pre .1 .0 .term-count) _ _ _ _ (look-is _ _ _ (c .before .before .before .before .before .before .look .ensures) (c .before .before .before .before .rule .given .1)) _ (c .before .before .first-open .ensures .0), first-fewer (c .before .before .before .before .before .before .before .before .before .args .query .now) (c .before .before .before .before .before .before .before .before .before .args .order .now) (c .before .before .before .before .before .before .before .before .before .pre .1 .1) (c .before .before .before .before .before .before .before .before .before .args .left) _ (c .before .before .before .before .before .before .before .before .before .pre .1 .3) (c .before .before .before .before .before .before .before .before .before .pre .1 .4) _ (c .before .before .before .before .before .before .before .before .before .pre .1 .0 .term-count) _ _ _ _ (look-is _ _ _ (c .before .before .before .before .before .before .look .ensures) (c .before .before .before .before .rule .given .1)) _ (c .before .before .first-open .ensures .0), c .before .before .first-open .ensures .0 .has-heap, c .before .before .first-open .ensures .1)))
     -- returns
     (λ c. walk-saturated _ _ (c .before .before .before .before .before .args .left) _ (look-is _ _ _ (c .before .before .look .ensures) (c .enum-told .given .1)))
     -- returns-2
     (λ c. absurd (never-clashes (c .before .before .before .before .before .args .query .now) (c .before .before .before .before .before .args .order .now) (c .before .before .before .before .before .pre .1 .1) _ (c .before .before .before .before .before .pre .1 .3) (c .before .before .before .before .before .pre .1 .5) _ (look-is _ _ _ (c .before .before .look .ensures) (c .enum-told2 .given .1))))
     -- returns-3
-    (λ c. first-ends (c .before .before .before .before .before .before .before .before .before .args .query .now) (c .before .before .before .before .before .before .before .before .before .args .order .now) (c .before .before .before .before .before .before .before .before .before .pre .1 .1) (c .before .before .before .before .before .before .before .before .before .args .left) _ (c .before .before .before .before .before .before .before .before .before .pre .1 .3) (c .before .before .before .before .before .before .before .before .before .pre .1 .4) _ (c .before .before .before .before .before .before .before .before .before .pre .1 .0 .term-count) _ _ _ _ (look-is _ _ _ (c .before .before .before .before .before .before .look .ensures) (c .before .before .before .before .rule .given .1)) _ (c .before .before .first-open .ensures) (c .before .before .before .before .before .before .before .before .before .pre .1 .2) _ (c .descend .ensures))
+    (λ c. first-ends (c .before .before .before .before .before .before .before .before .before .before .args .query .now) (c .before .before .before .before .before .before .before .before .before .before .args .order .now) (c .before .before .before .before .before .before .before .before .before .before .pre .1 .1) (c .before .before .before .before .before .before .before .before .before .before .args .left) _ (c .before .before .before .before .before .before .before .before .before .before .pre .1 .3) (c .before .before .before .before .before .before .before .before .before .before .pre .1 .4) _ (c .before .before .before .before .before .before .before .before .before .before .pre .1 .0 .term-count) _ _ _ _ (look-is _ _ _ (c .before .before .before .before .before .before .before .look .ensures) (c .before .before .before .before .before .rule .given .1)) _ (c .before .before .before .first-open .ensures .0) (c .before .before .before .before .before .before .before .before .before .before .pre .1 .2) _ (c .descend .ensures))

@@ -21,8 +21,8 @@ settle-spec =
     -- has-heap-requires
     (λ c κs. c .before .before .before .before .before .pre)
     -- returns-2
-    (λ c. settled-refuted _ _ _ _ _ _ (c .before .before .has-heap .ensures) (not-true _ (c .if2 .taken)) refl)
+    (λ c. settled-refuted _ _ _ _ _ _ (c .before .before .has-heap .ensures .decides) (not-true _ (c .if2 .taken)) refl)
     -- descend-requires
-    (λ c κs. (c .before .before .before .before .before .before .before .before .pre .0, c .before .before .before .before .before .before .before .before .pre .1, c .before .before .before .before .before .before .before .before .pre .2, c .before .before .before .before .before .before .before .before .pre .3, c .before .before .before .before .before .before .before .before .pre .4, c .before .before .has-heap .ensures .yes-right (not-false _ (c .if2 .left))))
+    (λ c κs. (c .before .before .before .before .before .before .before .before .before .pre .0, c .before .before .before .before .before .before .before .before .before .pre .1, c .before .before .before .before .before .before .before .before .before .pre .2, c .before .before .before .before .before .before .before .before .before .pre .3, c .before .before .before .before .before .before .before .before .before .pre .4, c .before .before .before .has-heap .ensures .decides .yes-right (not-false _ (c .before .if2 .left)), c .before .before .before .has-heap .ensures .shows (not-false _ (c .before .if2 .left))))
     -- returns-3
     (λ c. settled-open _ _ _ _ _ (c .descend .ensures) refl))

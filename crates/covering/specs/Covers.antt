@@ -1,0 +1,25 @@
+-- A path that holds the facts of another, in the terms that stand for them there.
+use Prim.Native.Nat.{ℕ, _≤_}
+use mathlib.Core.Path.{_≡_}
+use mathlib.Core.Bool.{Bool, true}
+use Rattle.logic.specs.Facts.{Facts}
+use Rattle.facts.specs.Bits.{bit}
+use Rattle.facts.specs.Square.{rowOf}
+
+-- where a row has a number, another has what stands for it
+abbrev pub RowHeld : ℕ → (ℕ → ℕ) → ℕ → Type 0
+RowHeld row rep far = (b : ℕ) → b ≤ 16 → bit row b ≡ true → rowOf far (rep b) ≡ true
+
+-- where a relation holds, another does of what stands for both
+abbrev pub RowsHeld : (ℕ → ℕ → Bool) → (ℕ → ℕ) → (ℕ → ℕ → Bool) → Type 0
+RowsHeld f rep g = (a b : ℕ) → f a b ≡ true → g (rep a) (rep b) ≡ true
+
+-- what stands for a term stands for what it was replaced by
+abbrev pub SameReps : (ℕ → ℕ) → (ℕ → ℕ) → Type 0
+SameReps rep old = (t : ℕ) → t ≤ 16 → rep (old t) ≡ rep t
+
+-- the path w holds the facts of s
+pub record Covers (w s : Facts) : Type 0 where
+  pub same-reps : SameReps (w .rep) (s .rep)
+  pub links-held : RowsHeld (s .graph .link) (w .rep) (w .graph .link)
+  pub reach-held : RowsHeld (s .graph .reach) (w .rep) (w .graph .reach)
