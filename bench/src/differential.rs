@@ -16,7 +16,8 @@ type Call<'a> = &'a dyn Fn(&[u8], &[u8], &mut [u8]) -> u64;
 struct Seen {
     satisfiable: usize,
     refuted: usize,
-    refused: [usize; 13],
+    /// By number, up to the highest of the two calls, 26 (02, R-13).
+    refused: [usize; 27],
 }
 
 impl Seen {
@@ -30,7 +31,7 @@ impl Seen {
 
     fn print(&self, name: &str) {
         println!("{name}: {} satisfiable, {} refuted", self.satisfiable, self.refuted);
-        println!("  refusals 1 to 12: {:?}", &self.refused[1..]);
+        println!("  refusals 1 to 12: {:?}, 26: {}", &self.refused[1..13], self.refused[26]);
     }
 }
 

@@ -38,22 +38,20 @@ fn passed_on(row: u32, y: usize, far: u32) -> u32
 }
 
 // TRANS2 through y: whoever reaches y reaches what y does.
-fn through(rows: [u32; 17], y: usize) -> [u32; 17]
-    requires { ⌜ y ≤ 16 ⌝ }
-    ensures { λ r. ⌜ Passed r rows y ⌝ }
+fn through(rows: &mut [u32; 17], y: usize)
+    requires { ⌜ (y ≤ 16) × (length (now rows) ≡ 17) ⌝ }
+    ensures { λ _. ⌜ Passed (now (rows .exit)) (now (rows .entry)) y × (length (now (rows .exit)) ≡ 17) ⌝ }
 {
     let far = rows[y];
     if far == 0 {
-        return rows;
+        return;
     }
-    let mut out = rows;
     let mut a: usize = 0;
     while a < 17 {
-        let more = passed_on(out[a], y, far);
-        out[a] = out[a] | more;
+        let more = passed_on(rows[a], y, far);
+        rows[a] = rows[a] | more;
         a += 1;
     }
-    out
 }
 
 // TRANS2 through each term.
@@ -63,8 +61,7 @@ fn closed_rows(rows: [u32; 17]) -> [u32; 17]
     let mut out = rows;
     let mut y: usize = 0;
     while y < 17 {
-        let next = through(out, y);
-        out = next;
+        through(&mut out, y);
         y += 1;
     }
     out

@@ -19,6 +19,7 @@ use Rattle.facts.specs.declared.Facts as code
 use Rattle.facts.specs.Path.{repOf, graphOf, onlyLink, pathOf, linksIn}
 use Rattle.completion.specs.Links.{linkOf, InRange, reachIn, linkAt}
 use Rattle.facts.proofs.Selections.{terms-from, select-end, select-here, select-skip, select-alike, and-both}
+use Rattle.facts.proofs.Rep.{rep-in}
 use Rattle.completion.proofs.Links.{link-set, next-below}
 
 -- the link of one term
@@ -76,6 +77,15 @@ module _ (n : ℕ) (g : Graph) (p : ℕ → ℕ) (v : ℕ) where
   at-below rep h k =
       ⊎-elim (λ e. let b = new-below in rw (at-new rep e) (omega arith)) (λ e. rw (at-kept rep e) k) (bool-cases (eqb (rep v) v && eqb (p v) 0))
 
+-- a term that is not replaced and has no link, as the code tests it
+pub remains : (rep links : List Term) (v : ℕ) → v ≤ 16 → (eqb (repOf rep v) v && eqb (linkOf links v) 0) ≡ (eqb (getD rep v (record { 0 = 0 }) .0) v && eqb (getD links v (record { 0 = 0 }) .0) 0)
+unfolding linkOf
+remains rep links v h = ap (λ (r : ℕ). eqb r v && eqb (linkOf links v) 0) (rep-in rep v h)
+
+-- the link that such a term gets
+pub link-new : (n : ℕ) (g : Graph) (rep : ℕ → ℕ) (links : List Term) (v : ℕ) {r : Term} → (eqb (rep v) v && eqb (linkOf links v) 0) ≡ true → r .0 ≡ newLink n g (linkOf links) v → r .0 ≡ linkAt n g rep (linkOf links) v
+link-new n g rep links v e f = f ∙ sym (at-new n g (linkOf links) v rep e)
+
 -- a turn of the loop over the terms
 module _ (n : ℕ) (g : Graph) (rep : ℕ → ℕ) (links : List Term) (full : length links ≡ 17) (v : ℕ) (within : v ≤ n) (room : n ≤ 16) (r : Term) (given : r .0 ≡ linkAt n g rep (linkOf links) v) where
   written : (t : ℕ) → linkOf (set links v r) t ≡ cond (eqb t v) (linkAt n g rep (linkOf links) v) (linkOf links t)
@@ -106,6 +116,14 @@ module _ (n : ℕ) (g : Graph) (rep : ℕ → ℕ) (links : List Term) (full : l
 
   pub turn-range : InRange links → InRange (set links v r)
   turn-range h t = rw (written t) (⊎-elim (λ i. rw i (at-below n g (linkOf links) v rep room (h v))) (λ i. rw i (h t)) (bool-cases (eqb t v)))
+
+-- a turn that writes nothing
+pub link-kept : (n : ℕ) (g : Graph) (rep : ℕ → ℕ) (links : List Term) → length links ≡ 17 → (v : ℕ) → v ≤ n → n ≤ 16 → (eqb (rep v) v && eqb (linkOf links v) 0) ≡ false → linkEach n g (linkOf links) (select (λ t. eqb (rep t) t) (from (n + 1 - v) v)) ≡ linkEach n g (linkOf links) (select (λ t. eqb (rep t) t) (from (n + 1 - (v + 1)) (v + 1)))
+link-kept n g rep links full v within room e =
+    let k = at-kept n g (linkOf links) v rep e in
+    let r : Term = record { 0 = linkOf links v } in
+    link-turn n g rep links full v within room r (sym k)
+    ∙ ap (λ (p : ℕ → ℕ). linkEach n g p (select (λ t. eqb (rep t) t) (from (n + 1 - (v + 1)) (v + 1)))) (sym (fun-ext (λ t. same n g rep links full v within room r (sym k) t k)))
 
 pub link-end : (n : ℕ) (g : Graph) (q : ℕ → Bool) (p : ℕ → ℕ) (v : ℕ) → n < v → linkEach n g p (select q (from (n + 1 - v) v)) ≡ p
 unfolding linkEach

@@ -7,7 +7,7 @@ ghost use Rattle.facts.specs.Answers.{foundOf};
 ghost use Rattle.logic.specs.Search.{from, find, select};
 ghost use Rattle.logic.specs.Rules.{next};
 ghost use Rattle.logic.specs.Shown.{reached, inBasin, onPath, basinLink, treeLink, newLink, linkEach, shownLink};
-ghost use Rattle.completion.specs.Links.{linkOf, InRange, reachIn, begins, beginsWithout, coversAll, linkAt};
+ghost use Rattle.completion.specs.Links.{linkOf, InRange, reachIn, begins, beginsWithout, coversAll};
 use facts::Facts;
 use facts::Found;
 use facts::Term;
@@ -74,13 +74,17 @@ fn begins_path(links: [Term; 17], reach: &[u32; 17], n: usize, v: Term, b: Term)
     true
 }
 
-// The lowest term from k on that begins a path in v's basin.
+// The lowest term from k on that begins a path in v's basin. A term that v does not reach is passed over before the links are copied.
 fn first_path(links: [Term; 17], reach: &[u32; 17], n: usize, v: Term, k: usize) -> Found
     requires { ⌜ (n ≤ 16) × (v .0 ≤ 16) ⌝ }
     ensures { λ r. ⌜ foundOf r ≡ find (begins n (reachIn (now (reach .entry))) (linkOf links) (v .0)) (from (n + 1 - k) k) ⌝ }
 {
     let mut b = k;
     while b <= n {
+        if !facts::holds(reach, v, Term(b)) {
+            b += 1;
+            continue;
+        }
         if begins_path(links, reach, n, v, Term(b)) {
             return Found::At(Term(b));
         }
@@ -195,21 +199,7 @@ fn new_link(links: [Term; 17], reach: &[u32; 17], n: usize, v: Term) -> Term
     tree_link(reach, n, v)
 }
 
-// The link of v after its turn: a term that is not replaced and has none gets one.
-fn link_at(links: [Term; 17], rep: [Term; 17], reach: &[u32; 17], n: usize, v: Term) -> Term
-    requires { ⌜ (n ≤ 16) × (v .0 ≤ 16) × InRange links ⌝ }
-    ensures { λ r. ⌜ r .0 ≡ linkAt n (reachIn (now (reach .entry))) (repOf rep) (linkOf links) (v .0) ⌝ }
-{
-    let at = v.0;
-    let stands = rep[at];
-    let known = links[at];
-    if (stands.0 == at) & (known.0 == 0) {
-        return new_link(links, reach, n, v);
-    }
-    known
-}
-
-// "Each remaining term v, ascending, gets a link"
+// "Each remaining term v, ascending, gets a link": one that is not replaced and has none.
 fn link_each(links: [Term; 17], rep: [Term; 17], reach: &[u32; 17], n: usize) -> [Term; 17]
     requires { ⌜ (n ≤ 16) × InRange links ⌝ }
     ensures { λ r. ⌜ linkOf r ≡ linkEach n (reachIn (now (reach .entry))) (linkOf links) (select (λ v. eqb (repOf rep v) v) (from (n + 1 - 1) 1)) ⌝ }
@@ -217,7 +207,13 @@ fn link_each(links: [Term; 17], rep: [Term; 17], reach: &[u32; 17], n: usize) ->
     let mut out = links;
     let mut v: usize = 1;
     while v <= n {
-        out[v] = link_at(out, rep, reach, n, Term(v));
+        let stands = rep[v];
+        let known = out[v];
+        if !((stands.0 == v) & (known.0 == 0)) {
+            v += 1;
+            continue;
+        }
+        out[v] = new_link(out, reach, n, Term(v));
         v += 1;
     }
     out

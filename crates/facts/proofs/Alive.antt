@@ -1,47 +1,50 @@
 -- The terms not replaced, term after term.
 use Prim.Native.Nat.{ℕ, suc, _+_, _≤_}
 use native.Mathlib.Omega.{arith}
-use mathlib.Core.Path.{_≡_, refl, sym, _∙_}
-use mathlib.Core.Bool.{Bool, true, false, _&&_}
+use native.Mathlib.Numerals.{add-one}
+use mathlib.Core.Path.{_≡_, refl, sym, ap, _∙_, fun-ext}
+use mathlib.Core.Bool.{Bool, true, false, cond, true≢false}
 use mathlib.Core.List.{List}
 use lib.ListN.{getD}
-use lib.Dec.{ltb, leb, eqb, leb·suc-suc}
-use borrow.Author.Tests.{le-ltb}
+use lib.Dec.{ltb, eqb}
+use lib.Bits.{bitAnd}
+use borrow.Author.Tests.{le-ltb, ltb-false}
 use Rattle.logic.specs.Search.{_and_, _or_}
 use Rattle.logic.specs.Facts.{live}
 use Rattle.facts.specs.declared.Term.{Term}
 use Rattle.facts.specs.declared.Facts as code
 use Rattle.facts.specs.Bits.{bit}
 use Rattle.facts.specs.Path.{repOf, pathOf}
-use Rattle.facts.proofs.Bits.{bit-none}
+use Rattle.facts.proofs.Bits.{bit-none, bit-and}
 use Rattle.facts.proofs.Rep.{rep-in}
-use Rattle.facts.proofs.Fill.{Filled, filled-all}
+use Rattle.facts.proofs.Fill.{Filled}
 use Rattle.facts.proofs.Turning.{filled-bit}
 
--- what `live` says of a path with these replacements
-unfoldable pub aliveIn : ℕ → List Term → ℕ → Bool
-aliveIn n rep t = ltb 0 t and ltb t (suc n) and eqb (repOf rep t) t
+-- a number that stands for itself
+unfoldable pub itself : List Term → ℕ → Bool
+itself rep t = eqb (repOf rep t) t
 
-module _ (n : ℕ) (rep : List Term) where
-  same : (t : ℕ) → t ≤ 16 → (ltb 0 t && leb t n && eqb (getD rep t (record { 0 = 0 }) .0) t) ≡ aliveIn n rep t
-  unfolding aliveIn _and_
-  same t h = rw (sym (rep-in rep t h)) (go (ltb 0 t) (leb t n) (ltb t (suc n)) (sym (leb·suc-suc t n)))
-    where
-      both : (c : Bool) → (c && eqb (repOf rep t) t) ≡ (c and eqb (repOf rep t) t)
-      both true = refl
-      both false = refl
+pub itself-more : (rep : List Term) (t : ℕ) → t ≤ 16 → (cur next : ℕ) (wanted : Bool) → wanted ≡ eqb (getD rep t (record { 0 = 0 }) .0) t → ((i : ℕ) → bit next i ≡ bit cur i or (eqb i t and wanted)) → Filled (itself rep) (bit 0) t (bit cur) → Filled (itself rep) (bit 0) (t + 1) (bit next)
+unfolding itself
+itself-more rep t h cur next wanted w = filled-bit (itself rep) t cur next wanted (w ∙ ap (λ (r : ℕ). eqb r t) (sym (rep-in rep t h)))
 
-      go : (a b c : Bool) → b ≡ c → (a && b && eqb (repOf rep t) t) ≡ (a and c and eqb (repOf rep t) t)
-      go true b c e = rw e (both c)
-      go false b c e = refl
-
-  pub live-more : (t : ℕ) → t ≤ 16 → (cur next : ℕ) (wanted : Bool) → wanted ≡ (ltb 0 t && leb t n && eqb (getD rep t (record { 0 = 0 }) .0) t) → ((i : ℕ) → bit next i ≡ bit cur i or (eqb i t and wanted)) → Filled (aliveIn n rep) (bit 0) t (bit cur) → Filled (aliveIn n rep) (bit 0) (t + 1) (bit next)
-  live-more t h cur next wanted w = filled-bit (aliveIn n rep) t cur next wanted (w ∙ same t h)
-
-pub live-all : (n : ℕ) → n ≤ 16 → (s : code.Facts) (cur : ℕ) → Filled (aliveIn n (s .rep)) (bit 0) 17 (bit cur) → bit cur ≡ live n (pathOf s)
-unfolding aliveIn live pathOf _and_
-live-all n h s cur m = filled-all _ _ 17 (bit cur) m (λ x o. bit-none x ∙ rw (le-ltb x (suc n) (omega arith)) (sym (none (ltb 0 x) _)))
+-- of these, the terms
+pub live-all : (n : ℕ) → n ≤ 16 → (s : code.Facts) (cur among : ℕ) → ((i : ℕ) → bit among i ≡ ltb 0 i and ltb i (n + 1)) → Filled (itself (s .rep)) (bit 0) 17 (bit cur) → bit (bitAnd cur among) ≡ live n (pathOf s)
+unfolding itself live pathOf _and_
+live-all n h s cur among e m = fun-ext told
   where
-    none : (a b : Bool) → (a and false) and b ≡ false
-    none true b = refl
-    none false b = refl
+    both : (a b c d z : Bool) → z ≡ false → (c ≡ false → b ≡ false) → (cond c d z) and (a and b) ≡ (a and b) and d
+    both true true true true z f g = refl
+    both true true true false z f g = refl
+    both true true false d z f g = let i : true ≡ false = g refl in absurd (true≢false i)
+    both true false true true z f g = refl
+    both true false true false z f g = refl
+    both true false false d z f g = rw f
+    both false b true true z f g = refl
+    both false b true false z f g = refl
+    both false b false d z f g = rw f
+
+    told : (x : ℕ) → bit (bitAnd cur among) x ≡ live n (pathOf s) x
+    told x =
+        bit-and cur among x ∙ rw (m x, e x, add-one n)
+        (both (ltb 0 x) (ltb x (suc n)) (ltb x 17) (eqb (repOf (s .rep) x) x) (bit 0 x) (bit-none x) (λ f. let g = ltb-false x 17 f in le-ltb x (suc n) (omega arith)))

@@ -93,6 +93,14 @@ module _ (n : ℕ) (j : Joined) where
   pub join-higher : (a b : ℕ) → b < a → andThen j (join n a b) ≡ andThen (pairBehind j b a) (settle n n)
   join-higher a b h = joined a b b a (λ e. omega arith) (omega arith) (omega arith)
 
+  -- the same, of the pair and the facts as a call makes them
+  pub lower-made : (a b : ℕ) → a < b → (ps : List (ℕ × ℕ)) (s : Facts) → ps ≡ j .pairs ++ ((a, b) ∷ []) → s ≡ replace a b (j .facts) → andThen j (join n a b) ≡ andThen (record { pairs = ps; facts = s }) (settle n n)
+  lower-made a b h ps s e f = join-lower a b h ∙ made-behind j a b (settle n n) ps s e f
+
+  -- the lower of the two named first or last
+  pub join-either : (a b : ℕ) → b < a → andThen j (join n a b) ≡ andThen j (join n b a)
+  join-either a b h = join-higher a b h ∙ sym (join-lower b a h)
+
 -- settling k times makes no more than k pairs, and a join one more
 pub settle-pairs : (n k : ℕ) (s : Facts) → length (settle n k s .pairs) ≤ k
 unfolding settle unjoined joinPair andThen Option·elim

@@ -322,6 +322,22 @@ pub fn settle(before: Joined, n: usize) -> Joined
     j
 }
 
+// Joining a lower and a higher number, after the pairs that were joined before. Mostly no term has two successors then, and nothing is
+// left to settle.
+fn join_lower(s: Facts, n: usize, lo: Term, hi: Term, before: Pairs) -> Joined
+    requires { ⌜ (n ≤ 16) × (lo .0 < hi .0) × (hi .0 ≤ 16) × Fits (andThen (joinedAs before s) (join n (lo .0) (hi .0))) ⌝ }
+    ensures { λ r. ⌜ joinedOf r ≡ andThen (joinedAs before s) (join n (lo .0) (hi .0)) ⌝ }
+{
+    let made = Joined {
+        pairs: and_pair(before, lo, hi),
+        facts: replace(s, lo, hi),
+    };
+    let Two::Of(_, _) = doubled(&made.facts.link, n) else {
+        return made;
+    };
+    settle(made, n)
+}
+
 // "Joining a and b", after the pairs that were joined before. A term joined with itself is no pair.
 pub fn join(s: Facts, n: usize, a: Term, b: Term, before: Pairs) -> Joined
     requires { ⌜ (n ≤ 16) × (a .0 ≤ 16) × (b .0 ≤ 16) × Fits (andThen (joinedAs before s) (join n (a .0) (b .0))) ⌝ }
@@ -334,17 +350,9 @@ pub fn join(s: Facts, n: usize, a: Term, b: Term, before: Pairs) -> Joined
         };
     }
     if a.0 < b.0 {
-        let lower = Joined {
-            pairs: and_pair(before, a, b),
-            facts: replace(s, a, b),
-        };
-        return settle(lower, n);
+        return join_lower(s, n, a, b, before);
     }
-    let higher = Joined {
-        pairs: and_pair(before, b, a),
-        facts: replace(s, b, a),
-    };
-    settle(higher, n)
+    join_lower(s, n, b, a, before)
 }
 
 // A row with t, where it is to have it.
@@ -368,10 +376,10 @@ pub fn live(s: Facts, n: usize) -> u32
     let mut t: usize = 0;
     while t < 17 {
         let u = rep[t];
-        out = with(out, t, (0 < t) & (t <= n) & (u.0 == t));
+        out = with(out, t, u.0 == t);
         t += 1;
     }
-    out
+    out & term_row(n)
 }
 
 // Column y of a relation, as a row.

@@ -3,12 +3,17 @@ use Prim.Native.Nat.{ℕ, _≤_}
 use mathlib.Core.Path.{_≡_, refl, sym, ap, ap₂, _∙_}
 use mathlib.Core.Bool.{Bool, true, false, cond}
 use mathlib.Core.List.{List}
-use lib.ListN.{getD}
+use lib.ListN.{length, getD, set}
+use lib.Bits.{bitOr}
+use lib.Dec.{eqb}
 use Rattle.logic.specs.Query.{Literal}
 use Rattle.logic.specs.Facts.{Joined, unjoined, andThen, join, addReach}
 use Rattle.logic.proofs.Basics.Compare.{cond-true, cond-false}
 use Rattle.facts.specs.declared.Facts as code
-use Rattle.facts.specs.Path.{pathOf}
+use Rattle.facts.specs.Bits.{bit}
+use Rattle.facts.specs.Path.{pathOf, graphOf}
+use Rattle.facts.proofs.Path.{alike, addReach-one}
+use Rattle.facts.proofs.Square.{square-add}
 use Rattle.facts.proofs.Rep.{rep-in}
 use Rattle.facts.proofs.Joins.{andThen-at, andThen-unjoined}
 use Rattle.start.specs.Nil.{same}
@@ -17,6 +22,10 @@ use Rattle.start.specs.Taken.{joinOne, reachOne, Bounded, Terms}
 -- what the array has for a term
 abbrev repAt : code.Facts → ℕ → ℕ
 repAt s t = getD (s .rep) t (record { 0 = 0 }) .0
+
+row-set : (s : code.Facts) → length (s .reach) ≡ 17 → (a b w : ℕ) → a ≤ 16 → b ≤ 16 → ((i : ℕ) → bit w i ≡ eqb i b) → pathOf (record { rep = s .rep; link = s .link; reach = set (s .reach) a (bitOr (getD (s .reach) a 0) w) }) ≡ addReach 1 a b (pathOf s)
+unfolding pathOf graphOf
+row-set s full a b w h k only = alike refl refl (square-add (s .reach) full a b w h k only) ∙ sym (addReach-one _ _ _ a b)
 
 module _ (s : code.Facts) where
   pub read-bounded : Bounded (pathOf s) → (t : ℕ) → t ≤ 16 → repAt s t ≤ 16
@@ -42,6 +51,19 @@ module _ (s : code.Facts) where
         ap₂ (λ a b. addReach 1 a b (pathOf s)) (rep-read x (l .left) e (t .left-within)) (rep-read y (l .right) f (t .right-within))
         ∙ ap (λ k. addReach k (pathOf s .rep (l .left)) (pathOf s .rep (l .right)) (pathOf s)) (sym one)
         ∙ sym (cond-true _ _ p)
+
+    -- the bit of the fact is set in its row
+    pub reach-set : length (s .reach) ≡ 17 → Bounded (pathOf s) → l .link ≡ 1 → l .plain ≡ true → (w : ℕ) → ((i : ℕ) → bit w i ≡ eqb i (repAt s y)) → pathOf (record { rep = s .rep; link = s .link; reach = set (s .reach) (repAt s x) (bitOr (getD (s .reach) (repAt s x) 0) w) }) ≡ reachOne l (pathOf s)
+    reach-set full b one p w only = added ∙ reach-plain one p
+      where
+        left : repAt s x ≤ 16
+        left = read-bounded b x (rw e (t .left-within))
+
+        right : repAt s y ≤ 16
+        right = read-bounded b y (rw f (t .right-within))
+
+        added : pathOf (record { rep = s .rep; link = s .link; reach = set (s .reach) (repAt s x) (bitOr (getD (s .reach) (repAt s x) 0) w) }) ≡ addReach 1 (repAt s x) (repAt s y) (pathOf s)
+        added = row-set s full (repAt s x) (repAt s y) w left right only
 
   module _ (l : Literal) where
     pub join-negated : (n : ℕ) (ps : List (ℕ × ℕ)) → l .plain ≡ false → record { pairs = ps; facts = pathOf s } ≡ andThen (record { pairs = ps; facts = pathOf s }) (joinOne n l)

@@ -2,20 +2,21 @@
 use facts::Facts;
 use facts::Joined;
 use facts::Term;
+use facts::Two;
 use query::Layout;
 ghost use mathlib.Core.Path.{_≡_};
 ghost use mathlib.Core.Bool.{true};
 ghost use Prim.Native.Nat.{ℕ, _+_, _*_, _≤_, _<_};
 ghost use lib.ListN.{length, take, drop};
 ghost use Rattle.logic.specs.Query.{literals, decode};
-ghost use Rattle.logic.specs.Facts.{linksOf, andThen, joinEach, reachEach, equalTo, joinNil};
+ghost use Rattle.logic.specs.Facts.{linksOf, andThen, settle, joinEach, reachEach, equalTo, joinNil};
 ghost use Rattle.logic.specs.Calls.{accepts};
 ghost use Rattle.facts.specs.Square.{square};
 ghost use Rattle.facts.specs.Path.{pathOf, repOf};
 ghost use Rattle.facts.specs.Pairs.{joinedOf, Fits};
 ghost use Rattle.query.specs.LaysOut.{LaysOut, literalIn};
 ghost use Rattle.start.specs.Nil.{argumentBy, nilFrom, NextNil, same};
-ghost use Rattle.start.specs.Taken.{joinOne, reachOne, onlyEntries, started, Bounded, Terms, TermsIn, EntriesIn};
+ghost use Rattle.start.specs.Taken.{joinOne, onlyEntries, started, Bounded, Terms, TermsIn, EntriesIn};
 
 // No term is replaced.
 fn unreplaced() -> [Term; 17]
@@ -64,6 +65,17 @@ fn linked(query: &[u8], n: usize) -> Facts
     let link = links(query, n);
     let reach = [0u32; 17];
     Facts { rep, link, reach }
+}
+
+// The links of section 1, settled. Mostly no term has two successors, and nothing is left to do.
+fn settle_links(links: Joined, n: usize) -> Joined
+    requires { ⌜ (n ≤ 16) × Fits (andThen (joinedOf links) (settle n n)) ⌝ }
+    ensures { λ r. ⌜ joinedOf r ≡ andThen (joinedOf links) (settle n n) ⌝ }
+{
+    let Two::Of(_, _) = facts::doubled(&links.facts.link, n) else {
+        return links;
+    };
+    facts::settle(links, n)
 }
 
 // Two terms are joined, as what they became, after the pairs that were joined before.
@@ -147,7 +159,7 @@ fn join_one(t: Joined, n: usize, query: &[u8], at: usize, i: usize) -> Joined
     join_terms(t, n, left, right)
 }
 
-// "then each plain equality joined in query order"
+// "then each plain equality joined in query order"; a negated one is passed over, so that no path is copied for it.
 fn join_each(settled: Joined, n: usize, query: &[u8], at: usize, count: usize) -> Joined
     requires { ⌜ (n ≤ 16) × (at + 3 * count ≤ length (now query)) × TermsIn (now query) at count × Bounded (pathOf (settled .facts)) ⌝ }
     requires { ⌜ Fits (andThen (joinedOf settled) (joinEach n (literals (take (3 * count) (drop at (now query)))))) ⌝ }
@@ -157,31 +169,17 @@ fn join_each(settled: Joined, n: usize, query: &[u8], at: usize, count: usize) -
     let mut t = settled;
     let mut i: usize = 0;
     while i < count {
+        if !query::sign(query, at, i) {
+            i += 1;
+            continue;
+        }
         t = join_one(t, n, query, at, i);
         i += 1;
     }
     t
 }
 
-// Reachability literal i is added, where it is plain.
-fn reach_one(s: Facts, query: &[u8], at: usize, i: usize) -> Facts
-    requires { ⌜ (at + 3 * i + 3 ≤ length (now query)) × Terms (literalIn (now query) at i) × Bounded (pathOf s) ⌝ }
-    ensures { λ r. ⌜ pathOf r ≡ reachOne (literalIn (now (query .entry)) at i) (pathOf s) ⌝ }
-{
-    let plain = query::sign(query, at, i);
-    if !plain {
-        return s;
-    }
-    let left = query::left(query, at, i);
-    let right = query::right(query, at, i);
-    let l = left.0;
-    let r = right.0;
-    let a = s.rep[l];
-    let b = s.rep[r];
-    facts::add_reach(s, a, b)
-}
-
-// "then the plain reachability facts"
+// "then the plain reachability facts", each set in its row: a path is not copied for it.
 fn reach_each(s: Facts, query: &[u8], at: usize, count: usize) -> Facts
     requires { ⌜ (at + 3 * count ≤ length (now query)) × TermsIn (now query) at count × Bounded (pathOf s) ⌝ }
     ensures { λ r. ⌜ pathOf r ≡ reachEach (literals (take (3 * count) (drop at (now (query .entry))))) (pathOf s) ⌝ }
@@ -189,7 +187,20 @@ fn reach_each(s: Facts, query: &[u8], at: usize, count: usize) -> Facts
     let mut t = s;
     let mut i: usize = 0;
     while i < count {
-        t = reach_one(t, query, at, i);
+        let plain = query::sign(query, at, i);
+        if !plain {
+            i += 1;
+            continue;
+        }
+        let left = query::left(query, at, i);
+        let right = query::right(query, at, i);
+        let l = left.0;
+        let r = right.0;
+        let a = t.rep[l];
+        let b = t.rep[r];
+        let from = a.0;
+        let added = facts::only(b.0);
+        t.reach[from] = t.reach[from] | added;
         i += 1;
     }
     t
@@ -205,7 +216,7 @@ pub fn start(query: &[u8], layout: Layout) -> Joined
         pairs: facts::no_pairs(),
         facts: linked(query, n),
     };
-    let settled = facts::settle(links, n);
+    let settled = settle_links(links, n);
     let linked = join_nil(settled, n, query);
     let joined = join_each(linked, n, query, layout.equal_at, layout.equal_count);
     let pairs = joined.pairs;

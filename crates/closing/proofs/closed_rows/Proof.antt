@@ -12,7 +12,7 @@ use Rattle.closing.proofs.closed_rows.Statement.{statement}
 use Rattle.closing.proofs.closed_rows.Tie as tie
 
 abbrev Inv-loop : tie.InvT-loop
-Inv-loop out₀ y₀ out y = (y ≤ 17) × ((alive : ℕ → Bool) (link reach : ℕ → ℕ → Bool) → Within alive link reach out₀ → Within alive link reach out) × Above (square out₀) out × OnwardBelow out y
+Inv-loop out₀ y₀ out y = (y ≤ 17) × (length out ≡ 17) × ((alive : ℕ → Bool) (link reach : ℕ → ℕ → Bool) → Within alive link reach out₀ → Within alive link reach out) × Above (square out₀) out × OnwardBelow out y
 
 abbrev μ-loop : tie.MeasureT-loop
 μ-loop out₀ y₀ out y = 17 - y
@@ -27,20 +27,21 @@ closed-rows-spec =
     Inv-loop
     μ-loop
     -- loop-holds
-    (λ c. (omega arith, λ alive link reach h. h, λ a b e. e, onward-none _))
+    (λ c. (omega arith, search needs, λ alive link reach h. h, λ a b e. e, onward-none _))
     -- through-requires
-    (λ c κs. omega arith)
+    (λ c κs. (omega arith, c .before .before .loop .inv .1))
     -- add-y
     (λ c. omega arith)
     -- loop-less
     (λ c. omega arith)
     -- loop-again
     (λ c.
-    let l = c .before .before .loop in (
+    let l = c .before .before .before .loop in (
       omega arith,
-      λ alive link reach h. passed-within _ _ _ (c .through .ensures) alive link reach (l .inv .1 alive link reach h),
-      λ a b e. passed-kept _ _ _ (c .through .ensures) a b (l .inv .2 a b e),
-      passed-onward _ _ _ (c .through .ensures) (l .inv .3),
+      c .through .ensures .1,
+      λ alive link reach h. passed-within _ _ _ (c .through .ensures .0) alive link reach (l .inv .2 alive link reach h),
+      λ a b e. passed-kept _ _ _ (c .through .ensures .0) a b (l .inv .3 a b e),
+      passed-onward _ _ _ (c .through .ensures .0) (l .inv .4),
     ))
     -- returns
-    (λ c. (c .before .loop .inv .1, c .before .loop .inv .2, onward-all _ (rw (whole c) at (c .before .loop .inv .3)))))
+    (λ c. (c .before .loop .inv .2, c .before .loop .inv .3, onward-all _ (rw (whole c) at (c .before .loop .inv .4)))))

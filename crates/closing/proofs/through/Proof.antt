@@ -11,10 +11,10 @@ use Rattle.closing.proofs.through.Statement.{statement}
 use Rattle.closing.proofs.through.Tie as tie
 
 abbrev Inv-loop : tie.InvT-loop
-Inv-loop y far out₀ a₀ out a = (a ≤ 17) × (length out ≡ 17) × ((x b : ℕ) → x < a → square out x b ≡ square out₀ x b or (square out₀ x y and square out₀ y b)) × ((x b : ℕ) → a ≤ x → square out x b ≡ square out₀ x b)
+Inv-loop out₀ y far a₀ out a = (a ≤ 17) × (length out ≡ 17) × ((x b : ℕ) → x < a → square out x b ≡ square out₀ x b or (square out₀ x y and square out₀ y b)) × ((x b : ℕ) → a ≤ x → square out x b ≡ square out₀ x b)
 
 abbrev μ-loop : tie.MeasureT-loop
-μ-loop y far out₀ a₀ out a = 17 - a
+μ-loop out₀ y far a₀ out a = 17 - a
 
 whole : (c : tie.After-loop Inv-loop μ-loop) → c .before .loop .a ≡ 17
 whole c = omega arith
@@ -27,25 +27,25 @@ through-spec =
     μ-loop
     -- mul-far
     (λ c. omega arith)
-    -- array-read-far
+    -- element-copy-out-far
     (λ c. omega arith)
     -- returns
-    (λ c. through-none _ _ (omega arith) (c .if1 .taken))
+    (λ c. (through-none _ _ (omega arith) (c .if1 .taken), c .before .before .pre .1))
     -- loop-holds
-    (λ c. (omega arith, search needs, λ x b l. absurd (omega arith), λ x b l. refl))
+    (λ c. (omega arith, c .before .before .pre .1, λ x b l. absurd (omega arith), λ x b l. refl))
     -- mul-passed-on
     (λ c. omega arith)
-    -- array-read-passed-on
+    -- element-copy-out-passed-on
     (λ c. omega arith)
     -- passed-on-requires
     (λ c κs. search needs)
-    -- mul-out
+    -- mul-rows
     (λ c. omega arith)
-    -- array-read-out
+    -- element-copy-out-rows
     (λ c. omega arith)
-    -- mul-out-2
+    -- mul-rows-2
     (λ c. omega arith)
-    -- array-write-out
+    -- element-write-rows
     (λ c. omega arith)
     -- add-a
     (λ c. omega arith)
@@ -53,11 +53,11 @@ through-spec =
     (λ c. omega arith)
     -- loop-again
     (λ c.
-    let l = c .before .before .loop in (
+    let l = c .before .before .before .before .loop in (
       omega arith,
       simp length-set (l .inv .1),
-      through-more _ _ _ _ _ (l .inv .1) (omega arith) (omega arith) (l .inv .2) (l .inv .3) (c .passed-on .ensures),
+      through-more _ _ _ _ _ (l .inv .1) (omega arith) (omega arith) (l .inv .2) (l .inv .3) (c .before .passed-on .ensures),
       through-left _ _ _ _ (l .inv .3),
     ))
     -- returns-2
-    (λ c. through-all _ _ _ (rw (whole c) at (c .before .loop .inv .2))))
+    (λ c. (through-all _ _ _ (rw (whole c) at (c .before .loop .inv .2)), c .before .loop .inv .1)))

@@ -2,6 +2,7 @@
 use Prim.Native.Nat.{_+_, _-_}
 use native.Mathlib.Omega.{arith}
 use borrow.Author.Needs.{needs}
+use borrow.Author.Tests.{not-true, not-false}
 use mathlib.Core.Path.{_≡_, refl, sym, _∙_}
 use lib.ListN.{length, length-set}
 use lib.Dec.{eqb}
@@ -9,18 +10,18 @@ use Rattle.logic.specs.Search.{from, select}
 use Rattle.logic.specs.Shown.{linkEach}
 use Rattle.facts.specs.Path.{repOf}
 use Rattle.completion.specs.Links.{linkOf, InRange, reachIn}
-use Rattle.completion.proofs.Completing.{link-turn, turn-range, link-end}
+use Rattle.completion.proofs.Completing.{remains, link-new, link-turn, link-kept, turn-range, link-end}
 use Rattle.completion.proofs.link_each.Statement.{statement}
 use Rattle.completion.proofs.link_each.Tie as tie
 
 abbrev Inv-loop : tie.InvT-loop
-Inv-loop rep reach n out₀ v₀ out v =
+Inv-loop reach n rep out₀ v₀ out v =
     (length out ≡ 17) × InRange out
     × (linkEach n (reachIn reach) (linkOf out₀) (select (λ t. eqb (repOf rep t) t) (from (n + 1 - 1) 1))
     ≡ linkEach n (reachIn reach) (linkOf out) (select (λ t. eqb (repOf rep t) t) (from (n + 1 - v) v)))
 
 abbrev μ-loop : tie.MeasureT-loop
-μ-loop rep reach n out₀ v₀ out v = n + 1 - v
+μ-loop reach n rep out₀ v₀ out v = n + 1 - v
 
 pub link-each-spec : {M : Type 1} → statement M
 link-each-spec =
@@ -30,11 +31,13 @@ link-each-spec =
     μ-loop
     -- loop-holds
     (λ c. (search needs, c .pre .1, refl))
-    -- link-at-requires
-    (λ c κs. (omega arith, omega arith, c .before .loop .inv .1))
-    -- mul-out
+    -- mul-stands
     (λ c. omega arith)
-    -- array-set-from-out
+    -- array-copy-out-stands
+    (λ c. omega arith)
+    -- mul-known
+    (λ c. omega arith)
+    -- array-copy-out-known
     (λ c. omega arith)
     -- add-v
     (λ c. omega arith)
@@ -42,10 +45,25 @@ link-each-spec =
     (λ c. omega arith)
     -- loop-again
     (λ c.
-    let l = c .before .before .loop in (
+    let l = c .before .before .before .before .before .before .loop in
+    (l .inv .0, l .inv .1, l .inv .2 ∙ link-kept _ _ _ (l .out) (l .inv .0) (l .v) (omega arith) (omega arith) (remains _ (l .out) (l .v) (omega arith) ∙ not-true _ (c .if1 .taken))))
+    -- new-link-requires
+    (λ c κs. (omega arith, omega arith, c .before .before .before .before .before .before .loop .inv .1))
+    -- mul-out
+    (λ c. omega arith)
+    -- array-set-from-out
+    (λ c. omega arith)
+    -- add-v-2
+    (λ c. omega arith)
+    -- loop-less-2
+    (λ c. omega arith)
+    -- loop-again-2
+    (λ c.
+    let l = c .before .before .before .before .before .before .before .loop in
+    let given = link-new _ _ _ (l .out) (l .v) (remains _ (l .out) (l .v) (omega arith) ∙ not-false _ (c .before .if1 .left)) (c .new-link .ensures) in (
       simp length-set (l .inv .0),
-      turn-range _ _ _ (l .out) (l .inv .0) (l .v) (omega arith) (omega arith) (c .link-at .result) (c .link-at .ensures) (l .inv .1),
-      l .inv .2 ∙ link-turn _ _ _ (l .out) (l .inv .0) (l .v) (omega arith) (omega arith) (c .link-at .result) (c .link-at .ensures),
+      turn-range _ _ _ (l .out) (l .inv .0) (l .v) (omega arith) (omega arith) (c .new-link .result) given (l .inv .1),
+      l .inv .2 ∙ link-turn _ _ _ (l .out) (l .inv .0) (l .v) (omega arith) (omega arith) (c .new-link .result) given,
     ))
     -- returns
     (λ c. sym (c .before .loop .inv .2 ∙ link-end _ _ _ _ _ (omega arith))))

@@ -5,12 +5,12 @@ use borrow.Author.Needs.{needs}
 use mathlib.Core.Path.{_≡_, refl}
 use Rattle.facts.specs.Bits.{bit}
 use Rattle.facts.proofs.Fill.{Filled, filled-none}
-use Rattle.facts.proofs.Alive.{aliveIn, live-more, live-all}
+use Rattle.facts.proofs.Alive.{itself, itself-more, live-all}
 use Rattle.facts.proofs.live.Statement.{statement}
 use Rattle.facts.proofs.live.Tie as tie
 
 abbrev Inv-loop : tie.InvT-loop
-Inv-loop n rep out₀ t₀ out t = (t ≤ 17) × Filled (aliveIn n rep) (bit 0) t (bit out)
+Inv-loop n rep out₀ t₀ out t = (t ≤ 17) × Filled (itself rep) (bit 0) t (bit out)
 
 abbrev μ-loop : tie.MeasureT-loop
 μ-loop n rep out₀ t₀ out t = 17 - t
@@ -39,6 +39,8 @@ live-spec =
     -- loop-again
     (λ c.
     let l = c .before .before .before .before .loop in
-    (omega arith, live-more _ _ (l .t) (omega arith) (l .out) _ _ refl (c .with .ensures) (l .inv .1)))
+    (omega arith, itself-more _ (l .t) (omega arith) (l .out) _ _ refl (c .with .ensures) (l .inv .1)))
+    -- term-row-requires
+    (λ c κs. search needs)
     -- returns
-    (λ c. live-all _ (omega arith) _ _ (rw (whole c) at (c .before .loop .inv .1))))
+    (λ c. live-all _ (omega arith) _ _ _ (c .term-row .ensures) (rw (whole (c .before)) at (c .before .before .loop .inv .1))))

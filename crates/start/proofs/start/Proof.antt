@@ -15,8 +15,8 @@ use Rattle.start.proofs.start.Tie as tie
 linked-requires : tie.Need-linked-requires
 linked-requires c κs = let p = c .before .before .pre in (p .0 .terms-within, omega (arith, p .0 .entries-fit), entries-in (p .0) (p .1))
 
-settle-requires : tie.Need-settle-requires
-settle-requires c κs =
+settle-links-requires : tie.Need-settle-links-requires
+settle-links-requires c κs =
     let p = c .before .before .before .pre in (
       p .0 .terms-within,
       subst Fits (sym (settled-laid (p .0) _ _ _ _ (c .before .no-pairs .ensures) (c .linked .ensures))) (fits-left _ _ (fits-left _ _ (joins-fit (p .0) (p .1)))),
@@ -25,7 +25,7 @@ settle-requires c κs =
 join-nil-requires : tie.Need-join-nil-requires
 join-nil-requires c κs =
     let p = c .before .before .before .before .pre in
-    let e = c .settle .ensures ∙ settled-laid (p .0) _ _ _ _ (c .before .before .no-pairs .ensures) (c .before .linked .ensures) in (
+    let e = c .settle-links .ensures ∙ settled-laid (p .0) _ _ _ _ (c .before .before .no-pairs .ensures) (c .before .linked .ensures) in (
       (
         p .0 .terms-within,
         omega (arith, p .0 .entries-fit),
@@ -41,7 +41,7 @@ nilled c =
     let n = c .before .before .before .before .before .args .layout .terms in
     c .join-nil .ensures .0
     ∙ ap (λ (j : Joined). andThen j (joinNil n (nilFrom (c .before .before .before .before .before .args .query .now) n 1)))
-    (c .before .settle .ensures ∙ settled-laid (p .0) _ _ _ _ (c .before .before .before .no-pairs .ensures) (c .before .before .linked .ensures))
+    (c .before .settle-links .ensures ∙ settled-laid (p .0) _ _ _ _ (c .before .before .before .no-pairs .ensures) (c .before .before .linked .ensures))
 
 join-each-requires : tie.Need-join-each-requires
 join-each-requires c κs =
@@ -63,4 +63,4 @@ returns c =
 
 pub start-spec : {M : Type 1} → statement M
 start-spec =
-    tie.close (tie.spec (λ c κs. search needs) linked-requires settle-requires join-nil-requires join-each-requires reach-each-requires returns)
+    tie.close (tie.spec (λ c κs. search needs) linked-requires settle-links-requires join-nil-requires join-each-requires reach-each-requires returns)
