@@ -150,11 +150,11 @@ module _ (i : Input) where
       shown c own h =
           let s = demand2 .heap-shown (asked c) (says-satisfiable _ h) in
           record {
-            meets = meets-formula _ c own (subst (Meets (heapIn (verdictCall (asked c) .lent))) (says c) (s .meets));
-            listed = subst (λ (q : Query). (t : ℕ) → 1 ≤ t → t ≤ termCount q → value (heapIn (verdictCall (asked c) .lent)) (q .entries) t ≡ nodeIn (verdictCall (asked c) .lent) t) (says c) (s .listed);
+            meets = meets-formula _ c own (subst (λ (q : Query). Meets (heapIn (q .links) (verdictCall (asked c) .lent)) q) (says c) (s .meets));
+            listed = subst (λ (q : Query). (t : ℕ) → 1 ≤ t → t ≤ termCount q → value (heapIn (q .links) (verdictCall (asked c) .lent)) (q .entries) t ≡ nodeIn (verdictCall (asked c) .lent) t) (says c) (s .listed);
           }
 
-      formed : (c : Conjunction) → passes c ≡ true → wellFormed (verdictOn i c .lent) ≡ true
+      formed : (c : Conjunction) → passes c ≡ true → wellFormed 1 (verdictOn i c .lent) ≡ true
       unfolding verdictOn
       formed c h = demand1 .report-formed (asked c) (says-satisfiable _ h)
 
@@ -200,7 +200,7 @@ module _ (i : Input) where
                   λ s. let (g, m) = passes-only c p in absurd (s (g, meets-formula g c (own-of (suc k) c here) m)),
                 );
                 heap-shown = λ j h. subst (λ (bytes : List ℕ). ShowsFormula bytes query f) (sym lent-is) (shown c (own-of (suc k) c here) p);
-                report-formed = λ j h. ap wellFormed lent-is ∙ formed c p;
+                report-formed = λ j h. ap (wellFormed 1) lent-is ∙ formed c p;
                 report-is = λ j d h a. lent-is ∙ ap (λ (x : Conjunction). verdictOn i x .lent) (same (sym here ∙ ap (at (expand f)) (conjunction-one (sym (answer-of _ _ e) ∙ h)) ∙ a));
                 refuted-blank = λ h. absurd (conjunction-refuted (sym (answer-of _ _ e) ∙ h));
               }

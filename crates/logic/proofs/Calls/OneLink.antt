@@ -9,10 +9,10 @@ use mathlib.Core.List.{List, [], _∷_, _++_, map, append-nil}
 use mathlib.Core.Option.{Option, none, some, Option·elim}
 use lib.ListN.{length, getD}
 use lib.Dec.{eqb, ltb, leb}
-use Rattle.logic.specs.Search.{_and_, from, all, any, keep, orElse, firstOf, find, flatMap}
+use Rattle.logic.specs.Search.{_and_, _or_, from, all, any, keep, orElse, firstOf, find, flatMap}
 use Rattle.logic.specs.Query.{Query, termCount}
-use Rattle.logic.specs.Facts.{Facts, Line, line, linkNumbers, terms, live, successors, firstTwo, doubled}
-use Rattle.logic.specs.Rules.{Rule, ruleNumber, rules, ruleOf, Triple, triple, triples, Move, move, conditions, alternatives, held, hasLink, applies, choose, moveNumber, moveLine, moveOf}
+use Rattle.logic.specs.Facts.{Graph, Facts, Line, line, linkNumbers, terms, live, successors, firstTwo, doubled}
+use Rattle.logic.specs.Rules.{Rule, REFLEX, TRANS1, TRANS2, FUNC, CYCLE, SCC, TOTAL, SHARE, ruleNumber, rules, ruleOf, Triple, triple, triples, Move, move, equal, round, conditions, alternatives, held, hasLink, applies, choose, moveNumber, moveLine, moveOf}
 use Rattle.logic.specs.Walk.{limit}
 use Rattle.logic.specs.Shown.{shownLink, nodes, placeOf, fieldByte, successorsShown, report, isNode, sizeIn, nodeIn, heapIn, wellFormed}
 use Rattle.logic.proofs.Basics.Search.{not-of}
@@ -106,3 +106,49 @@ module _ (bytes : List ℕ) where
   pub heap-link-one : (v : ℕ) → heapIn 1 bytes .link 1 v ≡ getD bytes v 0
   unfolding heapIn _and_
   heap-link-one v = ap (λ (k : ℕ). getD bytes k 0) (omega arith)
+
+-- A rule reads the facts of its own link alone
+
+module _ (n : ℕ) (alive : ℕ → Bool) (g : ℕ → Graph) (i : ℕ) where
+  pub conditions-local : (r : Rule) (t : Triple) → conditions n alive g (move i r t) ≡ conditions n alive (λ j. g i) (move i r t)
+  unfolding conditions
+  conditions-local REFLEX (triple x y z) = refl
+  conditions-local TRANS1 (triple x y z) = refl
+  conditions-local TRANS2 (triple x y z) = refl
+  conditions-local FUNC (triple x y z) = refl
+  conditions-local CYCLE (triple x y z) = refl
+  conditions-local SCC (triple x y z) = refl
+  conditions-local TOTAL (triple x y z) = refl
+  conditions-local SHARE (triple x y z) = refl
+
+  pub alternatives-local : (r : Rule) (t : Triple) → alternatives n g (move i r t) ≡ alternatives n (λ j. g i) (move i r t)
+  unfolding alternatives
+  alternatives-local REFLEX (triple x y z) = refl
+  alternatives-local TRANS1 (triple x y z) = refl
+  alternatives-local TRANS2 (triple x y z) = refl
+  alternatives-local FUNC (triple x y z) = refl
+  alternatives-local CYCLE (triple x y z) = refl
+  alternatives-local SCC (triple x y z) = refl
+  alternatives-local TOTAL (triple x y z) = refl
+  alternatives-local SHARE (triple x y z) = refl
+
+  -- equal terms are held by any facts
+  equal-held : (y : ℕ) (us : List ℕ) → any (held g) (map (equal y) us) ≡ any (held (λ j. g i)) (map (equal y) us)
+  unfolding any held
+  equal-held y [] = refl
+  equal-held y (u ∷ us) = ap (λ (b : Bool). eqb y u or b) (equal-held y us)
+
+  pub held-local : (r : Rule) (t : Triple) → any (held g) (alternatives n g (move i r t)) ≡ any (held (λ j. g i)) (alternatives n (λ j. g i) (move i r t))
+  unfolding alternatives any held
+  held-local REFLEX (triple x y z) = refl
+  held-local TRANS1 (triple x y z) = refl
+  held-local TRANS2 (triple x y z) = refl
+  held-local FUNC (triple x y z) = refl
+  held-local CYCLE (triple x y z) = equal-held y (round n (g i) z x)
+  held-local SCC (triple x y z) = refl
+  held-local TOTAL (triple x y z) = refl
+  held-local SHARE (triple x y z) = refl
+
+pub applies-local : (n : ℕ) (s : Facts) → s .links ≡ 1 → (r : Rule) (t : Triple) → applies n s (move 1 r t) ≡ (conditions n (live n s) (λ j. s .graph 1) (move 1 r t) and not (any (held (λ j. s .graph 1)) (alternatives n (λ j. s .graph 1) (move 1 r t))))
+applies-local n s one r t =
+    applies-one n s one r t ∙ ap₂ (λ (b c : Bool). b and not c) (conditions-local n (live n s) (s .graph) 1 r t) (held-local n (live n s) (s .graph) 1 r t)
