@@ -36,10 +36,11 @@ module _ (s : code.Facts) where
         (ap₂ (λ a b. join n a b (pathOf s)) (rep-read x (l .left) e (t .left-within)) (rep-read y (l .right) f (t .right-within))
         ∙ sym (cond-true _ _ p))
 
-    pub reach-plain : l .plain ≡ true → addReach (repAt s x) (repAt s y) (pathOf s) ≡ reachOne l (pathOf s)
+    pub reach-plain : l .link ≡ 1 → l .plain ≡ true → addReach 1 (repAt s x) (repAt s y) (pathOf s) ≡ reachOne l (pathOf s)
     unfolding reachOne
-    reach-plain p =
-        ap₂ (λ a b. addReach a b (pathOf s)) (rep-read x (l .left) e (t .left-within)) (rep-read y (l .right) f (t .right-within))
+    reach-plain one p =
+        ap₂ (λ a b. addReach 1 a b (pathOf s)) (rep-read x (l .left) e (t .left-within)) (rep-read y (l .right) f (t .right-within))
+        ∙ ap (λ k. addReach k (pathOf s .rep (l .left)) (pathOf s .rep (l .right)) (pathOf s)) (sym one)
         ∙ sym (cond-true _ _ p)
 
   module _ (l : Literal) where
@@ -54,5 +55,5 @@ module _ (s : code.Facts) where
     reach-negated p = sym (cond-false _ _ p)
 
 -- a plain equality says that its terms are equal
-pub plain-is : (l : Literal) (x y : ℕ) → l .plain ≡ true → x ≡ l .left → y ≡ l .right → l ≡ same x y
-plain-is l x y p e f = ap₂ (λ (b : Bool) (xy : ℕ × ℕ). record { plain = b; left = xy .0; right = xy .1 }) p (ap₂ (λ (a b : ℕ). (a, b)) (sym e) (sym f))
+pub plain-is : (l : Literal) (x y : ℕ) → l .link ≡ 1 → l .plain ≡ true → x ≡ l .left → y ≡ l .right → l ≡ same x y
+plain-is l x y one p e f = λ i. record { plain = p i; link = one i; left = sym e i; right = sym f i }

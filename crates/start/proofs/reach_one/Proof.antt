@@ -1,7 +1,7 @@
 -- A negated literal changes nothing; a plain one is taken through rep. Assumes nothing.
 use native.Mathlib.Omega.{arith}
 use borrow.Author.Needs.{needs}
-use mathlib.Core.Path.{sym, _∙_}
+use mathlib.Core.Path.{refl, sym, _∙_}
 use borrow.Author.Tests.{not-true, not-false}
 use Rattle.start.proofs.Taken.{read-bounded, reach-plain, reach-negated}
 use Rattle.start.proofs.reach_one.Statement.{statement}
@@ -34,4 +34,4 @@ reach-one-spec =
     -- returns-2
     (λ c.
     c .add-reach .ensures
-    ∙ reach-plain _ _ _ _ (c .before .before .before .before .left .ensures) (c .before .before .before .right .ensures) (c .before .before .before .before .before .before .before .before .pre .1) (sym (c .before .before .before .before .before .before .sign .ensures) ∙ not-false _ (c .before .before .before .before .before .if1 .left))))
+    ∙ reach-plain _ _ _ _ (c .before .before .before .before .left .ensures) (c .before .before .before .right .ensures) (c .before .before .before .before .before .before .before .before .pre .1) refl (sym (c .before .before .before .before .before .before .sign .ensures) ∙ not-false _ (c .before .before .before .before .before .if1 .left))))
