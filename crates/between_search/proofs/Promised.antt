@@ -15,14 +15,14 @@ use Rattle.logic.specs.Query.{sections, parts, firstByte, layoutOf, decode, ter
 use Rattle.logic.specs.Facts.{terms}
 use Rattle.logic.specs.Heap.{Heap, IsHeap, Meets, Satisfiable, value}
 use Rattle.logic.specs.Shown.{heapIn, nodeIn, wellFormed}
-use Rattle.logic.specs.Calls.{Input, Check, roomCheck, Answer, refused, satisfiable, refuted, Outcome, refusalOf, accepts, padded, blank, verdictCall}
+use Rattle.logic.specs.Calls.{Input, Check, roomCheck, oneLinkForm, Answer, refused, satisfiable, refuted, Outcome, refusalOf, accepts, padded, blank, verdictCall}
 use Rattle.logic.specs.Demands.{NotRefused, NoneStands, FirstStands}
 use Rattle.logic.proofs.Basics.Search.{keep-none}
 use Rattle.logic.proofs.Completeness.Placed.{length-from}
 use Rattle.logic.proofs.Query.AcceptedBytes.{Passes, form-passes, query-passes, laid-out, sections-excesses}
 use Rattle.logic.proofs.Calls.CheckingOrder.{first-unique, first-stands, refusal-first}
 use Rattle.logic.proofs.Calls.CallLaws.{refusalOf-none, verdict-passed}
-use Rattle.logic.proofs.Calls.Refusals.{refused-one}
+use Rattle.logic.proofs.Calls.Refusals.{refused-one, one-link-laws}
 use Rattle.logic.proofs.Calls.VerdictCall.{VerdictCase, by-refusal, by-lines, by-model, verdict-case}
 use Rattle.logic.proofs.Calls.Demands.{demand2}
 use Rattle.between.specs.Meaning.{BetweenLiteral, BetweenQuery, MeetsBetween, SatisfiableBetween}
@@ -298,12 +298,12 @@ base-only q e s = (s .0, record { meets = s .1; betweens = λ l m. absurd (List�
 -- a verdict call that is not refused has its five sections laid out
 five-laid : (i : Input) → NotRefused (verdictCall i .answer) → (ps : List (List ℕ)) × (layoutOf (i .query) ≡ parts ps)
 unfolding layoutOf
-five-laid i five = laid-out sections (i .query) (sections-excesses (firstByte (i .query))) (query-passes (i .query) (accepted (verdict-case i)) .layouts)
+five-laid i five = laid-out sections (i .query) (sections-excesses (firstByte (i .query))) (query-passes (i .query) (accepted (verdict-case oneLinkForm one-link-laws i)) .layouts)
   where
-    accepted : VerdictCase i (verdictCall i) → accepts (i .query) ≡ true
+    accepted : VerdictCase oneLinkForm one-link-laws i (verdictCall i) → accepts (i .query) ≡ true
     accepted (by-refusal k place u e) = absurd (five k place (answer-of e ∙ blank-answer (i .room) (refused k place)))
-    accepted (by-lines ls w e n) = verdict-passed i n .0 .query
-    accepted (by-model s w e n) = verdict-passed i n .0 .query
+    accepted (by-lines ls w e n) = verdict-passed oneLinkForm one-link-laws i n .0 .query
+    accepted (by-model s w e n) = verdict-passed oneLinkForm one-link-laws i n .0 .query
 
 shares-verdict : (i : Input) (room : ℕ) → NotRefused (verdictCall i .answer) → NotRefused (betweenCall (i .query ++ (0 ∷ [])) room .answer) → betweenCall (i .query ++ (0 ∷ [])) room .answer ≡ verdictCall i .answer
 shares-verdict i room five six =

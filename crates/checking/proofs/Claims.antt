@@ -22,6 +22,7 @@ use Rattle.logic.proofs.Query.AcceptedBytes as acceptance
 use Rattle.logic.proofs.Soundness.Refuted.{derivation-sound}
 use Rattle.logic.proofs.Calls.CheckingOrder.{refusal-first, first-unique, first-numbered, first-stands, query-early}
 use Rattle.logic.proofs.Calls.CallLaws.{derivation-passed, refusalOf-none}
+use Rattle.logic.proofs.Calls.Refusals.{one-link-laws}
 use Rattle.logic.proofs.Calls.DerivationBytes.{derivation-length, lines-read}
 use Rattle.logic.proofs.Calls.Demands.{demand1, demand2}
 use Rattle.checking.specs.Fitting.{FirstWrong, wrongLine}
@@ -232,7 +233,7 @@ ours-accepted i h =
     let lent = derivationCall i .lent in
     let e : unpadded lent ≡ derivationBytes (linesIn lent) = ap unpadded (demand2 .derivation-formed i h) ∙ unpadded-written (i .room) (linesIn lent) in
     ap (checkCall (i .query)) e
-    ∙ hand-accepted (i .query) (linesIn lent) (derivation-passed i (demand1 .lines-exactly i .0 h .0) .query) (demand2 .derivation-follows i h) (demand2 .derivation-counted i h .0)
+    ∙ hand-accepted (i .query) (linesIn lent) (derivation-passed calls.oneLinkForm one-link-laws i (demand1 .lines-exactly i .0 h .0) .query) (demand2 .derivation-follows i h) (demand2 .derivation-counted i h .0)
 
 pub claims : Claims
 claims =

@@ -16,6 +16,7 @@ use Rattle.logic.specs.Demands.{NotRefused, NoneStands}
 use Rattle.logic.proofs.Basics.Search.{none-some, true-false, bool-cases}
 use Rattle.logic.proofs.Basics.Compare.{le-cases, cond-true, cond-false}
 use Rattle.logic.proofs.Calls.CheckingOrder.{first-stands}
+use Rattle.logic.proofs.Calls.Refusals.{one-link-laws}
 use Rattle.logic.proofs.Calls.CallLaws.{refusalOf-none, accepts-checks, derivation-known, verdict-clear, verdict-passed}
 use Rattle.logic.proofs.Calls.Demands.{demand1, demand2}
 use Rattle.encoding.proofs.Encoded.{Encodable, decoded}
@@ -91,7 +92,7 @@ module _ (i : Input) where
     clear = refusalOf-none verdictChecks given passed
 
     query-accepted : accepts (i .query) ≡ true
-    query-accepted = verdict-passed given clear .0 .query
+    query-accepted = verdict-passed calls.oneLinkForm one-link-laws given clear .0 .query
 
     encodable : (c : Conjunction) → Encodable (restricted query c)
     encodable c = part-encodable query (restricted query c) (restricted-part query c) (accepted-encodable (i .query) query-accepted)
@@ -103,10 +104,10 @@ module _ (i : Input) where
 
     asked-clear : (c : Conjunction) → NoneStands verdictChecks (asked c)
     unfolding queryOf derivationChecksOf orderCheck
-    asked-clear c = verdict-clear (asked c) (λ d m. ⊎-elim (first d) (accepts-checks (asked c) (encoded-accepts (restricted query c) (encodable c)) d) (List·Memᴰ·cases-cons m)) (verdict-passed given clear .1)
+    asked-clear c = verdict-clear calls.oneLinkForm one-link-laws (asked c) (λ d m. ⊎-elim (first d) (accepts-checks calls.oneLinkForm one-link-laws (asked c) (encoded-accepts (restricted query c) (encodable c)) d) (List·Memᴰ·cases-cons m)) (verdict-passed calls.oneLinkForm one-link-laws given clear .1)
       where
         first : (d : Check) → d ≡ orderCheck → d .place (asked c) ≡ none
-        first d e = ap (λ (x : Check). x .place (asked c)) e ∙ clear orderCheck (derivation-known orderCheck (List·Memᴰ·head refl))
+        first d e = ap (λ (x : Check). x .place (asked c)) e ∙ clear orderCheck (derivation-known calls.oneLinkForm one-link-laws orderCheck (List·Memᴰ·head refl))
 
     pub never-refused : (c : Conjunction) → NotRefused (verdictOn i c .answer)
     unfolding verdictOn

@@ -11,7 +11,7 @@ use lib.Dec.{leb}
 use borrow.Author.Tests.{leb-false}
 use Rattle.logic.specs.Search.{_and_, keep, isSome, orElse, firstOf}
 use Rattle.logic.specs.Query.{Section, fourSections, booleanSection, fiveSections, Layout, faulty, parts, withPart, layout, firstByte, layoutBy, faultIn, layoutFault}
-use Rattle.logic.specs.Calls.{Check, layoutCheck, byteCheck, formChecks, queryChecks, refusalOf, padded, roomUnder}
+use Rattle.logic.specs.Calls.{Check, layoutCheck, byteCheck, formChecks, queryChecks, refusalOf, padded}
 use Rattle.logic.specs.Calls as calls
 use Rattle.logic.specs.Demands.{NoneStands, FirstStands}
 use Rattle.logic.proofs.Basics.Search.{none-some, not-true, isSome-false, and-false-cases, bool-cases, map-intro}
@@ -107,11 +107,11 @@ module _ (bytes : List ℕ) (room : ℕ) where
   split = refusalOf-append oldChecks (given bytes room) (roomCheck ∷ [])
 
   no-room : hasRoom room (rewriteOf bytes) ≡ false → refusalOf (roomCheck ∷ []) (given bytes room) ≡ some (calls.refused 27 0)
-  unfolding refusalOf firstOf roomUnder keep Option·elim orElse
+  unfolding refusalOf firstOf roomCheck keep Option·elim orElse
   no-room h = rw h
 
   some-room : hasRoom room (rewriteOf bytes) ≡ true → refusalOf (roomCheck ∷ []) (given bytes room) ≡ none
-  unfolding refusalOf firstOf roomUnder keep Option·elim orElse
+  unfolding refusalOf firstOf roomCheck keep Option·elim orElse
   some-room h = rw h
 
   -- the three ways that the call goes

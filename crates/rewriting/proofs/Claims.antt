@@ -9,7 +9,7 @@ use lib.ListN.{take}
 use lib.Seq.{take-at}
 use Rattle.logic.specs.Query.{decode}
 use Rattle.logic.specs.Heap.{Satisfiable}
-use Rattle.logic.specs.Calls.{Input, layoutCheck, byteCheck, formChecks, accepts, padded, roomUnder}
+use Rattle.logic.specs.Calls.{Input, layoutCheck, byteCheck, formChecks, accepts, padded}
 use Rattle.logic.specs.Demands.{numbers}
 use Rattle.logic.proofs.Calls.Demands.{demand2}
 use Rattle.encoding.specs.QueryBytes.{encode}
@@ -26,7 +26,7 @@ use Rattle.rewriting.proofs.Copied.{copied, copied-accepts}
 use Rattle.rewriting.proofs.Calls.{refusals, Wrote, wrote}
 
 pub checked-in-order : numbers rewriteChecks ≡ 2 ∷ 3 ∷ 26 ∷ 4 ∷ 5 ∷ 6 ∷ 7 ∷ 8 ∷ 27 ∷ []
-unfolding rewriteChecks oldChecks formChecks layoutCheck byteCheck roomUnder
+unfolding rewriteChecks oldChecks formChecks layoutCheck byteCheck roomCheck
 checked-in-order = refl
 
 pub rewriting : (bytes : List ℕ) → acceptsOld bytes ≡ true → Rewriting bytes

@@ -3,7 +3,7 @@ use mathlib.Core.Path.{refl}
 use mathlib.Core.Option.{Option·elim}
 use Rattle.logic.specs.Search.{_and_, _or_, from, keep, orElse, firstOf, flatMap}
 use Rattle.logic.specs.Query.{termCount, entryRole, signRole, termRole, numberRole, countRole, fourSections, booleanSection, fiveSections, withPart, layout, rolesOf, firstByte, layoutBy, faultIn, layoutFault, roleFault, byteFault, literals, section, queryOf}
-use Rattle.logic.specs.Calls.{layoutCheck, byteCheck, formChecks, refusalOf, padded, roomUnder}
+use Rattle.logic.specs.Calls.{layoutCheck, byteCheck, formChecks, refusalOf, padded}
 use Rattle.logic.specs.EdgeExamples.{times}
 use Rattle.encoding.specs.QueryBytes.{signByte, literalBytes, sectionBytes, encode}
 use Rattle.rewriting.specs.OldQuery.{oldSections, oldChecks, flags, booleanPart, decodeOld}
@@ -12,5 +12,5 @@ use Rattle.rewriting.specs.Call.{hasRoom, roomCheck, rewriteChecks, refu
 use Rattle.rewriting.specs.Samples.{SamplesHold, samples, computed}
 
 pub samples-hold : SamplesHold
-unfolding Option·elim _and_ _or_ from keep orElse firstOf flatMap termCount entryRole signRole termRole numberRole countRole fourSections booleanSection fiveSections withPart layout rolesOf firstByte layoutBy faultIn layoutFault roleFault byteFault literals section queryOf layoutCheck byteCheck formChecks refusalOf padded times signByte literalBytes sectionBytes encode oldSections oldChecks flags booleanPart decodeOld asField withFresh rewritten rewrite hasRoom roomUnder rewriteChecks refusal blank writes rewriteCall samples computed
+unfolding Option·elim _and_ _or_ from keep orElse firstOf flatMap termCount entryRole signRole termRole numberRole countRole fourSections booleanSection fiveSections withPart layout rolesOf firstByte layoutBy faultIn layoutFault roleFault byteFault literals section queryOf layoutCheck byteCheck formChecks refusalOf padded times signByte literalBytes sectionBytes encode oldSections oldChecks flags booleanPart decodeOld asField withFresh rewritten rewrite hasRoom roomCheck rewriteChecks refusal blank writes rewriteCall samples computed
 samples-hold = refl

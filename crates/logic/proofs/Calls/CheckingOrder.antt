@@ -112,21 +112,21 @@ first-up-to cs i c before behind place e s =
     among [] = (c .number, place, first-here c [] i place s)
     among (d ∷ ds) = at-one d (ds ++ (c ∷ [])) (d .place i) refl (among ds)
 
--- The refusals that are met before the walk: 1 to 9, and those above 21.
+-- The refusals that are met before the walk: 1 to 9, and 22 to 26.
 abbrev pub Early : ℕ → Type 0
-Early k = (1 ≤ k) × ((k ≤ 9) ⊎ (21 < k))
+Early k = (1 ≤ k) × ((k ≤ 9) ⊎ ((21 < k) × (k < 27)))
 
 unfoldable early : ℕ → Bool
-early k = ltb 0 k and (leb k 9 or ltb 21 k)
+early k = ltb 0 k and (leb k 9 or (ltb 21 k and ltb k 27))
 
 all-early : (ks : List ℕ) → all early ks ≡ true → (k : ℕ) → List·Memᴰ k ks → Early k
 unfolding early
 all-early ks h k m =
     let e = all-true early k h m in
-    (ltb-true 0 k (and-left _ _ e), ⊎-elim (λ l. inl (leb-true k 9 l)) (λ q. inr (ltb-true 21 k q)) (or-cases (leb k 9) (ltb 21 k) (and-right (ltb 0 k) _ e)))
+    (ltb-true 0 k (and-left _ _ e), ⊎-elim (λ l. inl (leb-true k 9 l)) (λ q. inr (ltb-true 21 k (and-left _ _ q), ltb-true k 27 (and-right _ _ q))) (or-cases (leb k 9) (ltb 21 k and ltb k 27) (and-right (ltb 0 k) _ e)))
 
 -- numbers that a test finds so
-pub early-of : (ks : List ℕ) → all (λ k. ltb 0 k and (leb k 9 or ltb 21 k)) ks ≡ true → (k : ℕ) → List·Memᴰ k ks → Early k
+pub early-of : (ks : List ℕ) → all (λ k. ltb 0 k and (leb k 9 or (ltb 21 k and ltb k 27))) ks ≡ true → (k : ℕ) → List·Memᴰ k ks → Early k
 unfolding early
 early-of = all-early
 
