@@ -1,5 +1,5 @@
 -- The small-model theorem: a heap that meets a query has one of at most as many nodes as the query has terms (one, if it has none). Its
--- nodes are those that the terms name, and its links are hops from one such node to the next.
+-- nodes are those that the terms name, and its links, each by itself, are hops from one such node to the next.
 use Prim.Native.Nat.{ℕ, zero, suc, _-_, _≤_, _<_}
 use native.Mathlib.Omega.{arith}
 use mathlib.Core.Path.{_≡_, refl, sym, ap, ap₂, _∙_, subst, subst₂}
@@ -9,7 +9,7 @@ use mathlib.Core.List.{List, [], _∷_, map, List·Memᴰ, List·Memᴰ·head, L
 use lib.ListN.{length, getD, length-map}
 use lib.Dec.{eqb}
 use Rattle.logic.specs.Search.{any, from}
-use Rattle.logic.specs.Query.{Literal, Query, namesNil, argumentOf, termCount}
+use Rattle.logic.specs.Query.{Literal, Query, namesNil, argumentOf, linkOf, termCount}
 use Rattle.logic.specs.Heap.{Heap, Node, IsHeap, iterate, Reaches, Signed, Each, NilNode, Meets, value}
 use Rattle.logic.specs.Facts.{terms}
 use Rattle.logic.specs.Shown.{placeOf}
@@ -100,35 +100,36 @@ module _ (q : Query) (ok : Accepted q) (h : Heap) (is : IsHeap h) where
   at-place : (v : ℕ) → List·Memᴰ v named → at (place v) ≡ v
   at-place v m = let r = placeOf-mem v m in ap (λ (i : ℕ). getD named i 0) (let e = r .placed in omega arith) ∙ r .element
 
-  abbrev hops : ℕ → ℕ
-  hops = hop (h .link) chosen (h .size)
+  abbrev hops : ℕ → ℕ → ℕ
+  hops k = hop (h .link k) chosen (h .size)
 
   pub small : Heap
   small =
       record {
         size = length named;
-        link = λ i. place (hops (at i));
+        link = λ k i. place (hops k (at i));
         field = λ j i. h .field j (at i);
         variable = λ t. cond (chosen (val t)) (place (val t)) 1;
       }
 
-  inside : (v : ℕ) → Node h v → (1 ≤ h .link v) × (h .link v ≤ h .size)
-  inside v n = is .link-node v n
+  inside : (k v : ℕ) → Node h v → (1 ≤ h .link k v) × (h .link k v ≤ h .size)
+  inside k v n = is .link-node k v n
 
   -- all that is followed in the heap is a node of it
-  followed : (v : ℕ) → Node h v → Within (h .link) (h .size) v
+  followed : (k v : ℕ) → Node h v → Within (h .link k) (h .size) v
   unfolding Reaches
-  followed v n i l = reaches-keeps (h .link) (Node h) (λ w m. is .link-node w m) v (iterate (h .link) i v) (iterated i v) n
+  followed k v n i l = reaches-keeps (h .link k) (Node h) (λ w m. is .link-node k w m) v (iterate (h .link k) i v) (iterated i v) n
     where
-      iterated : (i v : ℕ) → Reaches (h .link) v (iterate (h .link) i v)
+      iterated : (i v : ℕ) → Reaches (h .link k) v (iterate (h .link k) i v)
       iterated i v = (i, refl)
 
-  hops-named : (v : ℕ) → List·Memᴰ v named → List·Memᴰ (hops v) named
-  hops-named v m = chosen-mem (hops v) (hop-chosen (h .link) chosen (h .size) v (followed (h .link v) (is .link-node v (named-node v m))) (mem-chosen v m))
+  hops-named : (k v : ℕ) → List·Memᴰ v named → List·Memᴰ (hops k v) named
+  hops-named k v m =
+      chosen-mem (hops k v) (hop-chosen (h .link k) chosen (h .size) v (followed k (h .link k v) (is .link-node k v (named-node v m))) (mem-chosen v m))
 
-  link-place : (v : ℕ) → List·Memᴰ v named → small .link (place v) ≡ place (hops v)
+  link-place : (k v : ℕ) → List·Memᴰ v named → small .link k (place v) ≡ place (hops k v)
   unfolding small
-  link-place v m = ap (λ (w : ℕ). place (hops w)) (at-place v m)
+  link-place k v m = ap (λ (w : ℕ). place (hops k w)) (at-place v m)
 
   some-named : 1 ≤ length named
   unfolding named
@@ -146,16 +147,17 @@ module _ (q : Query) (ok : Accepted q) (h : Heap) (is : IsHeap h) where
       let b = below t one in
       let m = term-named e (one, omega arith) in
       let v = value-link h (q .entries) below t one in
-      let first : First (h .link) chosen (h .link (val e)) (val t) = subst (λ (x : ℕ). First (h .link) chosen x (val t)) v (found (mem-chosen (val t) (term-named t r))) in
-      value-link small (q .entries) below t one ∙ ap (small .link) ih ∙ link-place (val e) m
-      ∙ ap place (hop-first (h .link) chosen (h .size) (val e) (val t) (followed (h .link (val e)) (is .link-node (val e) (named-node (val e) m))) first)
+      let k : ℕ = linkOf (q .entries) t in
+      let first : First (h .link k) chosen (h .link k (val e)) (val t) = subst (λ (x : ℕ). First (h .link k) chosen x (val t)) v (found (mem-chosen (val t) (term-named t r))) in
+      value-link small (q .entries) below t one ∙ ap (small .link k) ih ∙ link-place k (val e) m
+      ∙ ap place (hop-first (h .link k) chosen (h .size) (val e) (val t) (followed k (h .link k (val e)) (is .link-node k (val e) (named-node (val e) m))) first)
 
   pub small-is : IsHeap small
   unfolding small
   small-is =
       record {
         nonempty = some-named;
-        link-node = λ i n. placeOf-range (hops (at i)) (hops-named (at i) (getD-mem named (i - 1) (omega arith)));
+        link-node = λ k i n. placeOf-range (hops k (at i)) (hops-named k (at i) (getD-mem named (i - 1) (omega arith)));
         variable-node = λ t. go t (chosen (val t)) refl;
       }
     where
@@ -186,24 +188,24 @@ module _ (q : Query) (ok : Accepted q) (h : Heap) (is : IsHeap h) where
   small-nil nil =
       record {
         one-node = λ t u a b. small-value t (nil-in t a) ∙ ap place (nil .one-node t u a b) ∙ sym (small-value u (nil-in u b));
-        own-link = λ t a.
+        own-link = λ k t a.
             let r = nil-in t a in
             let m = term-named t r in
-            let first : First (h .link) chosen (h .link (val t)) (val t) = subst (λ (x : ℕ). First (h .link) chosen x (val t)) (sym (nil .own-link t a)) (found (mem-chosen (val t) m)) in
-            ap (small .link) (small-value t r) ∙ link-place (val t) m
-            ∙ ap place (hop-first (h .link) chosen (h .size) (val t) (val t) (followed (h .link (val t)) (is .link-node (val t) (named-node (val t) m))) first)
+            let first : First (h .link k) chosen (h .link k (val t)) (val t) = subst (λ (x : ℕ). First (h .link k) chosen x (val t)) (sym (nil .own-link k t a)) (found (mem-chosen (val t) m)) in
+            ap (small .link k) (small-value t r) ∙ link-place k (val t) m
+            ∙ ap place (hop-first (h .link k) chosen (h .size) (val t) (val t) (followed k (h .link k (val t)) (is .link-node k (val t) (named-node (val t) m))) first)
             ∙ sym (small-value t r);
       }
 
-  -- Until in the heap and in the small one
-  module _ (Avoid Avoid′ : ℕ → Type 0) (only : (v : ℕ) → Avoid v → List·Memᴰ v named) (forth : (v : ℕ) → List·Memᴰ v named → Avoid v → Avoid′ (place v)) (back : (v : ℕ) → List·Memᴰ v named → Avoid′ (place v) → Avoid v) where
-    small-until : (v y : ℕ) → List·Memᴰ v named → List·Memᴰ y named → Until (h .link) Avoid v y ↔ Until (small .link) Avoid′ (place v) (place y)
+  -- Until in the heap and in the small one, by link i
+  module _ (i : ℕ) (Avoid Avoid′ : ℕ → Type 0) (only : (v : ℕ) → Avoid v → List·Memᴰ v named) (forth : (v : ℕ) → List·Memᴰ v named → Avoid v → Avoid′ (place v)) (back : (v : ℕ) → List·Memᴰ v named → Avoid′ (place v) → Avoid v) where
+    small-until : (v y : ℕ) → List·Memᴰ v named → List·Memᴰ y named → Until (h .link i) Avoid v y ↔ Until (small .link i) Avoid′ (place v) (place y)
     small-until v y m k = (
-      λ u. carried hops (small .link) place (λ w. List·Memᴰ w named) hops-named link-place Avoid Avoid′ back v y m
-          (links-hops (h .link) chosen (h .size) inside Avoid (λ w a. mem-chosen w (only w a)) v y v (named-node v m) (mem-chosen y k) u (found (mem-chosen v m))),
-      λ u. hops-links (h .link) chosen (h .size) inside Avoid (λ w a. mem-chosen w (only w a)) (named-node v m)
-          (brought-back hops (small .link) place (λ w. List·Memᴰ w named) hops-named link-place Avoid Avoid′ forth
-          (λ a b i j e. placeOf-injective a b i j e) (place v) (place y) v y m k refl refl u),
+      λ u. carried (hops i) (small .link i) place (λ w. List·Memᴰ w named) (hops-named i) (link-place i) Avoid Avoid′ back v y m
+          (links-hops (h .link i) chosen (h .size) (inside i) Avoid (λ w a. mem-chosen w (only w a)) v y v (named-node v m) (mem-chosen y k) u (found (mem-chosen v m))),
+      λ u. hops-links (h .link i) chosen (h .size) (inside i) Avoid (λ w a. mem-chosen w (only w a)) (named-node v m)
+          (brought-back (hops i) (small .link i) place (λ w. List·Memᴰ w named) (hops-named i) (link-place i) Avoid Avoid′ forth
+          (λ a b m n e. placeOf-injective a b m n e) (place v) (place y) v y m k refl refl u),
     )
 
   -- What the literals say of terms is the same in both heaps
@@ -218,36 +220,36 @@ module _ (q : Query) (ok : Accepted q) (h : Heap) (is : IsHeap h) where
     )
 
     -- until, between the nodes that terms name
-    term-until : (Avoid Avoid′ : ℕ → Type 0) → ((v : ℕ) → Avoid v → List·Memᴰ v named) → ((v : ℕ) → List·Memᴰ v named → Avoid v → Avoid′ (place v)) → ((v : ℕ) → List·Memᴰ v named → Avoid′ (place v) → Avoid v) → Until (h .link) Avoid (val a) (val b) ↔ Until (small .link) Avoid′ (sval a) (sval b)
-    term-until Avoid Avoid′ only forth back =
-        let u = small-until Avoid Avoid′ only forth back (val a) (val b) (term-named a ra) (term-named b rb) in
+    term-until : (i : ℕ) (Avoid Avoid′ : ℕ → Type 0) → ((v : ℕ) → Avoid v → List·Memᴰ v named) → ((v : ℕ) → List·Memᴰ v named → Avoid v → Avoid′ (place v)) → ((v : ℕ) → List·Memᴰ v named → Avoid′ (place v) → Avoid v) → Until (h .link i) Avoid (val a) (val b) ↔ Until (small .link i) Avoid′ (sval a) (sval b)
+    term-until i Avoid Avoid′ only forth back =
+        let u = small-until i Avoid Avoid′ only forth back (val a) (val b) (term-named a ra) (term-named b rb) in
         let p = small-value a ra in
         let r = small-value b rb in
-        (λ x. subst₂ (Until (small .link) Avoid′) (sym p) (sym r) (u .0 x), λ x. u .1 (subst₂ (Until (small .link) Avoid′) p r x))
+        (λ x. subst₂ (Until (small .link i) Avoid′) (sym p) (sym r) (u .0 x), λ x. u .1 (subst₂ (Until (small .link i) Avoid′) p r x))
 
-    pub any-until : Until (h .link) Nothing (val a) (val b) ↔ Until (small .link) Nothing (sval a) (sval b)
-    any-until = term-until Nothing Nothing (λ v e. absurd e) (λ v m e. e) (λ v m e. e)
+    pub any-until : (i : ℕ) → Until (h .link i) Nothing (val a) (val b) ↔ Until (small .link i) Nothing (sval a) (sval b)
+    any-until i = term-until i Nothing Nothing (λ v e. absurd e) (λ v m e. e) (λ v m e. e)
 
-    pub same-reach : Reaches (h .link) (val a) (val b) ↔ Reaches (small .link) (sval a) (sval b)
-    same-reach = (
-      λ r. reaches-until (small .link) (sval a) (sval b) .1 (any-until .0 (reaches-until (h .link) (val a) (val b) .0 r)),
-      λ r. reaches-until (h .link) (val a) (val b) .1 (any-until .1 (reaches-until (small .link) (sval a) (sval b) .0 r)),
+    pub same-reach : (i : ℕ) → Reaches (h .link i) (val a) (val b) ↔ Reaches (small .link i) (sval a) (sval b)
+    same-reach i = (
+      λ r. reaches-until (small .link i) (sval a) (sval b) .1 (any-until i .0 (reaches-until (h .link i) (val a) (val b) .0 r)),
+      λ r. reaches-until (h .link i) (val a) (val b) .1 (any-until i .1 (reaches-until (small .link i) (sval a) (sval b) .0 r)),
     )
 
     module _ (c : ℕ) (rc : (1 ≤ c) × (c ≤ termCount q)) where
-      before-until : Until (h .link) (λ v. v ≡ val c) (val a) (val b) ↔ Until (small .link) (λ v. v ≡ sval c) (sval a) (sval b)
-      before-until =
-          term-until (λ v. v ≡ val c) (λ v. v ≡ sval c)
+      before-until : (i : ℕ) → Until (h .link i) (λ v. v ≡ val c) (val a) (val b) ↔ Until (small .link i) (λ v. v ≡ sval c) (sval a) (sval b)
+      before-until i =
+          term-until i (λ v. v ≡ val c) (λ v. v ≡ sval c)
           (λ v e. subst (λ (x : ℕ). List·Memᴰ x named) (sym e) (term-named c rc))
           (λ v m e. ap place e ∙ sym (small-value c rc))
           (λ v m e. placeOf-injective v (val c) m (term-named c rc) (e ∙ small-value c rc))
 
-  same-between : (a b c : ℕ) → (1 ≤ a) × (a ≤ termCount q) → (1 ≤ b) × (b ≤ termCount q) → (1 ≤ c) × (c ≤ termCount q) → Between (h .link) (val a) (val b) (val c) ↔ Between (small .link) (value small (q .entries) a) (value small (q .entries) b) (value small (q .entries) c)
-  same-between a b c ra rb rc =
-      let u = before-until a b ra rb c rc in
-      let r = any-until a c ra rc in
-      let old = between-until (h .link) (val a) (val b) (val c) in
-      let new = between-until (small .link) (value small (q .entries) a) (value small (q .entries) b) (value small (q .entries) c) in
+  same-between : (i a b c : ℕ) → (1 ≤ a) × (a ≤ termCount q) → (1 ≤ b) × (b ≤ termCount q) → (1 ≤ c) × (c ≤ termCount q) → Between (h .link i) (val a) (val b) (val c) ↔ Between (small .link i) (value small (q .entries) a) (value small (q .entries) b) (value small (q .entries) c)
+  same-between i a b c ra rb rc =
+      let u = before-until a b ra rb c rc i in
+      let r = any-until a c ra rc i in
+      let old = between-until (h .link i) (val a) (val b) (val c) in
+      let new = between-until (small .link i) (value small (q .entries) a) (value small (q .entries) b) (value small (q .entries) c) in
       (λ x. let y = old .0 x in new .1 (u .0 (y .0), r .0 (y .1)), λ x. let y = new .0 x in old .1 (u .1 (y .0), r .1 (y .1)))
 
   same-field : (j t : ℕ) → (1 ≤ t) × (t ≤ termCount q) → small .field j (value small (q .entries) t) ≡ h .field j (val t)
@@ -281,10 +283,10 @@ small-meets q ok h m =
         is-heap = small-is b acc h is;
         nil-node = small-nil b acc h is (m .meets .nil-node);
         equalities = λ l k. let r = acc .equal-terms l k in signed-same (l .plain) (same-equal b acc h is (l .left) (l .right) (r .0) (r .1)) (m .meets .equalities l k);
-        reachability = λ l k. let r = acc .reach-terms l k in signed-same (l .plain) (same-reach b acc h is (l .left) (l .right) (r .0) (r .1)) (m .meets .reachability l k);
+        reachability = λ l k. let r = acc .reach-terms l k in signed-same (l .plain) (same-reach b acc h is (l .left) (l .right) (r .0) (r .1) (l .link)) (m .meets .reachability l k);
         fields = λ l k. signed-same (l .plain) (same-test (same-field b acc h is (l .left) (l .right) (acc .field-term l k))) (m .meets .fields l k);
       };
-      betweens = λ l k. let r = ok .between-terms l k in signed-same (l .plain) (same-between b acc h is (l .from) (l .middle) (l .to) (r .0) (r .1) (r .2)) (m .betweens l k);
+      betweens = λ l k. let r = ok .between-terms l k in signed-same (l .plain) (same-between b acc h is 1 (l .from) (l .middle) (l .to) (r .0) (r .1) (r .2)) (m .betweens l k);
     }
 
 -- THE SMALL-MODEL THEOREM: a query that some finite heap meets is met by one of no more nodes than it has terms, or of one node if it has

@@ -3,7 +3,7 @@ use Prim.Native.Nat.{ℕ, _≤_, _<_}
 use mathlib.Core.Path.{_≡_}
 use mathlib.Core.Bool.{Bool}
 use mathlib.Core.List.{List, List·Memᴰ}
-use Rattle.logic.specs.Query.{Query}
+use Rattle.logic.specs.Query.{Entries, Query}
 use Rattle.logic.specs.Heap.{Heap, iterate, Signed, value, Meets}
 
 -- "sign, x, y, z"
@@ -31,9 +31,10 @@ pub record Between (f : ℕ → ℕ) (x y z : ℕ) : Type 0 where
   pub to-met : MetAfter f x z steps-to
   pub not-above : steps ≤ steps-to
 
-abbrev pub MeansBetween : Heap → List ℕ → BetweenLiteral → Type 0
+-- the links followed are those numbered 1: the six sections know no other
+abbrev pub MeansBetween : Heap → Entries → BetweenLiteral → Type 0
 MeansBetween h entries l =
-    Signed (l .plain) (Between (h .link) (value h entries (l .from)) (value h entries (l .middle)) (value h entries (l .to)))
+    Signed (l .plain) (Between (h .link 1) (value h entries (l .from)) (value h entries (l .middle)) (value h entries (l .to)))
 
 -- the heap meets every literal of the six sections
 pub record MeetsBetween (h : Heap) (q : BetweenQuery) : Type 0 where

@@ -10,7 +10,7 @@ use lib.Seq.{take-length}
 use borrow.Author.Tests.{lt-ltb, le-ltb}
 use Rattle.logic.specs.Search.{keep, orElse, firstOf}
 use Rattle.logic.specs.Query.{firstByte, termCount}
-use Rattle.logic.specs.Calls.{Input, roomCheck, Answer, refused, refusalOf, padded, blank}
+use Rattle.logic.specs.Calls.{Input, roomCheck, Answer, refused, refusalOf, padded, blank, roomUnder}
 use Rattle.logic.proofs.Calls.CallLaws.{refusalOf-append}
 use Rattle.query.specs.declared.Layout.{Layout}
 use Rattle.query.proofs.Ranges.{entry-below}
@@ -40,15 +40,15 @@ module _ (i : Input) where
   six-first a e = checks-split ∙ rw e
 
   room-next : refusalOf sixChecks i ≡ none → i .room < 53 → refusalOf betweenChecks i ≡ some (refused 9 0)
-  unfolding refusalOf roomCheck firstOf orElse keep Option·elim
+  unfolding refusalOf roomUnder firstOf orElse keep Option·elim
   room-next e h = checks-split ∙ rw (e, lt-ltb (i .room) 53 h)
 
   terms-last : refusalOf sixChecks i ≡ none → 53 ≤ i .room → 5 < firstByte (i .query) → refusalOf betweenChecks i ≡ some (refused 21 0)
-  unfolding refusalOf roomCheck fiveTermsCheck firstOf orElse keep Option·elim
+  unfolding refusalOf roomUnder fiveTermsCheck firstOf orElse keep Option·elim
   terms-last e h t = checks-split ∙ rw (e, le-ltb (i .room) 53 h, lt-ltb 5 (firstByte (i .query)) t)
 
   pub none-stands : refusalOf sixChecks i ≡ none → 53 ≤ i .room → firstByte (i .query) ≤ 5 → refusalOf betweenChecks i ≡ none
-  unfolding refusalOf roomCheck fiveTermsCheck firstOf orElse keep Option·elim
+  unfolding refusalOf roomUnder fiveTermsCheck firstOf orElse keep Option·elim
   none-stands e h t = checks-split ∙ rw (e, le-ltb (i .room) 53 h, le-ltb 5 (firstByte (i .query)) t)
 
 -- The outcome

@@ -40,8 +40,8 @@ module _ (query : List ℕ) (room : ℕ) (bytes : List ℕ) (r : BetweenAnswer) 
   unfolding outcomeText
   refused-text k place e = sym (told ∙ ap (λ (a : BetweenAnswer). outcomeText (meaning a) bytes) e)
 
-  pub heap-formed : r ≡ answer.Heap → wellFormed bytes ≡ true
-  heap-formed e = subst (λ (b : List ℕ). wellFormed b ≡ true) (sym (does .leaves)) (between-promised .report-formed query room (sym (does .answers) ∙ ap meaning e))
+  pub heap-formed : r ≡ answer.Heap → wellFormed 1 bytes ≡ true
+  heap-formed e = subst (λ (b : List ℕ). wellFormed 1 b ≡ true) (sym (does .leaves)) (between-promised .report-formed query room (sym (does .answers) ∙ ap meaning e))
 
 pub all-read : (bytes : List ℕ) → length bytes ≤ 1024 → textOf bytes ≡ betweenverdictText bytes
 unfolding betweenverdictText

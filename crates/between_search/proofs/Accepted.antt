@@ -15,8 +15,8 @@ use Rattle.logic.proofs.Query.Tied.{InTerms}
 use Rattle.logic.proofs.Query.Bytes.{Allows, Allowed, Excesses, three-number, retired-number}
 use Rattle.logic.proofs.Query.AcceptedBytes.{Passes, Orderly, LaidOut, four-excesses, form-laid, laid-accepted}
 use Rattle.between.specs.Meaning.{BetweenLiteral}
-use Rattle.between.proofs.SmallModel.{AcceptedBetween}
 use Rattle.between_search.specs.Bytes.{betweenSection, sixSections, sixLayout, triples, betweensOf, decodeSix}
+use Rattle.between_search.proofs.OneLink.{AcceptedSix}
 
 triples-allowed : (sign x y z : Role) (c i : ℕ) (bytes : List ℕ) → length bytes ≡ c * 4 → Allowed (flatMap (λ j. sign ∷ x ∷ y ∷ z ∷ []) (from c i)) bytes → (l : BetweenLiteral) → List·Memᴰ l (triples bytes) → Allows x (l .from) × Allows y (l .middle) × Allows z (l .to)
 unfolding flatMap from triples
@@ -73,6 +73,10 @@ module _ (bytes : List ℕ) (passes : Passes sixSections bytes) where
       let a = triples-allowed signRole term term term (p .count) 1 (section (laid .ps) 5) (p .sized) (p .allowed) l (subst (λ (x : Layout). List·Memᴰ l (betweensOf x)) six-laid m) in
       (in-terms (l .from) (a .0), in-terms (l .middle) (a .1), in-terms (l .to) (a .2))
 
-  pub accepted-six : AcceptedBetween (decodeSix bytes)
+  six-link : decodeSix bytes .base .links ≡ 1
+  unfolding decodeSix queryOf
+  six-link = ap (λ (l : Layout). queryOf l .links) six-laid
+
+  pub accepted-six : AcceptedSix (decodeSix bytes)
   unfolding decodeSix sixLayout sixSections sections fiveSections fourSections
-  accepted-six = record { base = laid-accepted behind bytes laid; between-terms = between-terms }
+  accepted-six = record { accepted = record { base = laid-accepted behind bytes laid; between-terms = between-terms }; one-link = six-link }

@@ -15,11 +15,11 @@ use Rattle.logic.specs.Heap.{Heap, Node, IsHeap, value}
 use Rattle.logic.specs.Shown.{placeOf}
 use Rattle.logic.proofs.Basics.Search.{bool-cases, not-intro, true-false}
 use Rattle.logic.proofs.Basics.Compare.{eqb-true, eqb-intro, eqb-false, le-cases, ltb-true}
-use Rattle.logic.proofs.Soundness.Value.{accepted-below, value-link, value-node}
+use Rattle.logic.proofs.Soundness.Value.{accepted-below, value-node}
 use Rattle.logic.proofs.Completeness.Placed.{placeOf-injective, getD-from, length-from}
 use Rattle.between.specs.Meaning.{BetweenQuery, MeetsBetween}
 use Rattle.between.proofs.Firsts.{firsts, seenBefore, firsts-seen, firsts-new, firsts-has, firsts-short, firsts-place, firsts-length}
-use Rattle.between.proofs.SmallModel.{AcceptedBetween, orOne}
+use Rattle.between.proofs.SmallModel.{orOne}
 use Rattle.between_search.specs.Tests.{isFresh, used, breaks}
 use Rattle.between_search.specs.Search.{entry, lowestNode, highestNode}
 use Rattle.between_search.proofs.Seek.{Grown}
@@ -27,6 +27,7 @@ use Rattle.between_search.proofs.Growing.{Prefix, prefix-next, grow-by,
 use Rattle.between_search.proofs.Due.{first-of, or-no, any-none}
 use Rattle.between_search.proofs.Alike.{used-alike, breaks-alike}
 use Rattle.between_search.proofs.Tested.{equal-met, reach-met, between-met, nil-holds, fields-hold}
+use Rattle.between_search.proofs.OneLink.{AcceptedSix, reach-one, value-one}
 use Rattle.between_search.proofs.Sound.{low-any, low-link, high-any, high-link}
 
 -- How many nodes are named, as the length of a list
@@ -65,7 +66,7 @@ used-enough f n t m h l = let e : t + (n - t) ≡ n = omega arith in let g = use
 -- The lists of a heap
 
 abbrev pub linksOf : Heap → List ℕ
-linksOf h = h .size ∷ map (h .link) (from (h .size) 1)
+linksOf h = h .size ∷ map (h .link 1) (from (h .size) 1)
 
 abbrev pub nodesOf : BetweenQuery → Heap → List ℕ
 nodesOf q h = termCount (q .base) ∷ map (value h (q .base .entries)) (from (termCount (q .base)) 1)
@@ -87,7 +88,7 @@ list-entry f k (suc v) l h = let p : v ≡ suc v - 1 = omega arith in ap (λ (x 
 first-prefix : (f : ℕ → ℕ) (k : ℕ) → Prefix f (k ∷ []) 1
 first-prefix f k = record { size = refl; each = λ u l h. absurd (omega arith) }
 
-module _ (q : BetweenQuery) (ok : AcceptedBetween q) (h : Heap) (met : MeetsBetween h q) (small : h .size ≤ 5) where
+module _ (q : BetweenQuery) (ok : AcceptedSix q) (h : Heap) (met : MeetsBetween h q) (small : h .size ≤ 5) where
   abbrev n : ℕ
   n = termCount (q .base)
 
@@ -102,28 +103,28 @@ module _ (q : BetweenQuery) (ok : AcceptedBetween q) (h : Heap) (met : MeetsBetw
 
   pub links-grown : Grown (λ j xs. 1) (λ j xs. m) (λ j xs. true) m 1 (m ∷ []) (linksOf h)
   links-grown =
-      grow-by (λ j xs. 1) (λ j xs. m) (λ j xs. true) (h .link) (m + 1)
-      (λ t ys a b p. let r = is .link-node t (a, omega arith) in (r .0, r .1, refl)) m 1 (m ∷ []) (omega arith) (omega arith) (first-prefix (h .link) m)
+      grow-by (λ j xs. 1) (λ j xs. m) (λ j xs. true) (h .link 1) (m + 1)
+      (λ t ys a b p. let r = is .link-node 1 t (a, omega arith) in (r .0, r .1, refl)) m 1 (m ∷ []) (omega arith) (omega arith) (first-prefix (h .link 1) m)
 
   -- no test breaks, but for the count of named nodes
-  unbroken : (1 ≤ n → m ≤ used val n) → (t : ℕ) → 1 ≤ t → t ≤ n → breaks q m (h .link) val n t ≡ false
+  unbroken : (1 ≤ n → m ≤ used val n) → (t : ℕ) → 1 ≤ t → t ≤ n → breaks q m (h .link 1) val n t ≡ false
   unfolding breaks
   unbroken all t a b =
       or-no (le-ltb _ _ (used-enough val n t m b (all (omega arith))))
       (or-no (nil-holds h is small (q .base .entries) (met .meets .nil-node) t)
-      (or-no (fields-hold (q .base .fields) (ok .base .field-number) val (h .field) (met .meets .fields) t)
-      (or-no (any-none _ (q .base .equalities) (λ l k. let r = ok .base .equal-terms l k in equal-met h is small (q .base .entries) n l (r .0) (r .1) .0 (met .meets .equalities l k) t a b))
-      (or-no (any-none _ (q .base .reachability) (λ l k. let r = ok .base .reach-terms l k in reach-met h is small (q .base .entries) n l (r .0) (r .1) .0 (met .meets .reachability l k) t a b))
-      (any-none _ (q .betweens) (λ l k. let r = ok .between-terms l k in between-met h is small (q .base .entries) n l (r .0) (r .1) (r .2) .0 (met .betweens l k) t a b))))))
+      (or-no (fields-hold (q .base .fields) (ok .accepted .base .field-number) val (h .field) (met .meets .fields) t)
+      (or-no (any-none _ (q .base .equalities) (λ l k. let r = ok .accepted .base .equal-terms l k in equal-met h is small (q .base .entries) n l (r .0) (r .1) .0 (met .meets .equalities l k) t a b))
+      (or-no (any-none _ (q .base .reachability) (λ l k. let r = ok .accepted .base .reach-terms l k in reach-met h is small (q .base .entries) n l (reach-one q ok l k) (r .0) (r .1) .0 (met .meets .reachability l k) t a b))
+      (any-none _ (q .betweens) (λ l k. let r = ok .accepted .between-terms l k in between-met h is small (q .base .entries) n l (r .0) (r .1) (r .2) .0 (met .betweens l k) t a b))))))
 
-  link-entry : (v : ℕ) → (1 ≤ v) × (v ≤ m) → h .link v ≡ entry (linksOf h) v
-  link-entry v r = sym (list-entry (h .link) m v (r .0) (r .1))
+  link-entry : (v : ℕ) → (1 ≤ v) × (v ≤ m) → h .link 1 v ≡ entry (linksOf h) v
+  link-entry v r = sym (list-entry (h .link 1) m v (r .0) (r .1))
 
   pub nodes-grown : (sorted : Bool) → (1 ≤ n → m ≤ used val n) → (sorted ≡ true → (u : ℕ) → u < n → val (suc u) ≤ used val u + 1) → Grown (λ t xs. lowestNode q (entry (linksOf h)) t (entry xs)) (λ t xs. highestNode q sorted m (entry (linksOf h)) t (entry xs)) (λ t xs. not (breaks q m (entry (linksOf h)) (entry xs) n t)) n 1 (n ∷ []) (nodesOf q h)
   nodes-grown sorted all order = grow-by _ _ _ val (n + 1) good n 1 (n ∷ []) (omega arith) (omega arith) (first-prefix val n)
     where
       good : (t : ℕ) (ys : List ℕ) → 1 ≤ t → t < n + 1 → Prefix val ys t → (lowestNode q (entry (linksOf h)) t (entry ys) ≤ val t) × (val t ≤ highestNode q sorted m (entry (linksOf h)) t (entry ys)) × (not (breaks q m (entry (linksOf h)) (entry (ys ++ (val t ∷ []))) n t) ≡ true)
-      good t ys a b p = (bounds .0, bounds .1, not-intro (sym (breaks-alike q ok m (h .link) (entry (linksOf h)) (is .link-node) link-entry t a val (entry (ys ++ (val t ∷ []))) (λ u x y. sym (prefix-next val ys t p .each u x (omega arith))) (λ u x y. value-node h (q .base .entries) is u) n) ∙ unbroken all t a (omega arith)))
+      good t ys a b p = (bounds .0, bounds .1, not-intro (sym (breaks-alike q (ok .accepted) m (h .link 1) (entry (linksOf h)) (is .link-node 1) link-entry t a val (entry (ys ++ (val t ∷ []))) (λ u x y. sym (prefix-next val ys t p .each u x (omega arith))) (λ u x y. value-node h (q .base .entries) is u) n) ∙ unbroken all t a (omega arith)))
         where
           r : Node h (val t)
           r = value-node h (q .base .entries) is t
@@ -145,9 +146,9 @@ module _ (q : BetweenQuery) (ok : AcceptedBetween q) (h : Heap) (met : MeetsBetw
               ⊎-elim
               (λ l.
               let arg : ℕ = argumentOf (q .base .entries) t in
-              let below = accepted-below (q .base) (ok .base) in
+              let below = accepted-below (q .base) (ok .accepted .base) in
               let s = below t l in
-              let e : entry (linksOf h) (entry ys (argumentOf (q .base .entries) t)) ≡ val t = ap (entry (linksOf h)) (p .each (argumentOf (q .base .entries) t) l s) ∙ sym (link-entry (val (argumentOf (q .base .entries) t)) (value-node h (q .base .entries) is (argumentOf (q .base .entries) t))) ∙ sym (value-link h (q .base .entries) below t l) in
+              let e : entry (linksOf h) (entry ys (argumentOf (q .base .entries) t)) ≡ val t = ap (entry (linksOf h)) (p .each (argumentOf (q .base .entries) t) l s) ∙ sym (link-entry (val (argumentOf (q .base .entries) t)) (value-node h (q .base .entries) is (argumentOf (q .base .entries) t))) ∙ sym (value-one q ok h t l) in
               (omega (arith, low-link q (entry (linksOf h)) t (entry ys) l, e), omega (arith, high-link q (entry (linksOf h)) t (entry ys) sorted m l, e)))
               (λ z.
               let o : argumentOf (q .base .entries) t ≡ 0 = omega arith in

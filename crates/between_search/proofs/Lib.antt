@@ -5,6 +5,7 @@ pub mod Due
 pub mod Alike
 pub mod Tested
 pub mod Growing
+pub mod OneLink
 pub mod Sound
 pub mod Complete
 pub mod Searching

@@ -15,18 +15,17 @@ use Rattle.logic.specs.Query.{sections, parts, firstByte, layoutOf, decode, ter
 use Rattle.logic.specs.Facts.{terms}
 use Rattle.logic.specs.Heap.{Heap, IsHeap, Meets, Satisfiable, value}
 use Rattle.logic.specs.Shown.{heapIn, nodeIn, wellFormed}
-use Rattle.logic.specs.Calls.{Input, Check, roomCheck, Answer, refused, satisfiable, refuted, Outcome, refusalOf, accepts, padded, blank, verdictCall}
+use Rattle.logic.specs.Calls.{Input, Check, roomCheck, oneLinkForm, Answer, refused, satisfiable, refuted, Outcome, refusalOf, accepts, padded, blank, verdictCall}
 use Rattle.logic.specs.Demands.{NotRefused, NoneStands, FirstStands}
 use Rattle.logic.proofs.Basics.Search.{keep-none}
 use Rattle.logic.proofs.Completeness.Placed.{length-from}
 use Rattle.logic.proofs.Query.AcceptedBytes.{Passes, form-passes, query-passes, laid-out, sections-excesses}
 use Rattle.logic.proofs.Calls.CheckingOrder.{first-unique, first-stands, refusal-first}
 use Rattle.logic.proofs.Calls.CallLaws.{refusalOf-none, verdict-passed}
-use Rattle.logic.proofs.Calls.Refusals.{refused-one}
+use Rattle.logic.proofs.Calls.Refusals.{refused-one, one-link-laws}
 use Rattle.logic.proofs.Calls.VerdictCall.{VerdictCase, by-refusal, by-lines, by-model, verdict-case}
 use Rattle.logic.proofs.Calls.Demands.{demand2}
 use Rattle.between.specs.Meaning.{BetweenLiteral, BetweenQuery, MeetsBetween, SatisfiableBetween}
-use Rattle.between.proofs.SmallModel.{AcceptedBetween}
 use Rattle.between_search.specs.Bytes.{sixSections, decodeSix, fiveTermsCheck, sixChecks, betweenChecks}
 use Rattle.between_search.specs.Search.{Found, entry, heapFound, reportOf, mostNodes}
 use Rattle.between_search.specs.Calls.{given, searched, betweenCall}
@@ -36,7 +35,8 @@ use Rattle.between_search.proofs.Due.{any-alike}
 use Rattle.between_search.proofs.Complete.{list-entry}
 use Rattle.between_search.proofs.Sound.{links-in, nodes-in, value-is, found-meets}
 use Rattle.between_search.proofs.Sizes.{FoundFirst, none-right, some-right, first-right, most-cases}
-use Rattle.between_search.proofs.Report.{shown-size, shown-link, shown-variable, shown-node, shown-is, shown-formed, shown-field}
+use Rattle.between_search.proofs.Report.{shown-size, shown-link, shown-loop, shown-variable, shown-node, shown-is, shown-formed, shown-field}
+use Rattle.between_search.proofs.OneLink.{AcceptedSix}
 use Rattle.between_search.proofs.Accepted.{accepted-six, terms-first}
 use Rattle.between_search.proofs.Layouts.{base-same, betweens-none}
 
@@ -88,7 +88,7 @@ module _ (query : List ℕ) (room : ℕ) (passed : refusalOf betweenChecks (give
   unfolding betweenChecks sixChecks
   passes = form-passes sixSections (given query room) (λ c m. stands c (Memᴰ·append-left (roomCheck ∷ fiveTermsCheck ∷ []) m))
 
-  ok : AcceptedBetween (decodeSix query)
+  ok : AcceptedSix (decodeSix query)
   ok = accepted-six query passes
 
   few : termCount (decodeSix query .base) ≤ 5
@@ -134,7 +134,7 @@ module _ (query : List ℕ) (room : ℕ) (passed : refusalOf betweenChecks (give
     lent = padded room (reportOf (decodeSix query) c)
 
     abbrev shown : Heap
-    shown = heapIn lent
+    shown = heapIn 1 lent
 
     abbrev n : ℕ
     n = termCount (decodeSix query .base)
@@ -154,7 +154,7 @@ module _ (query : List ℕ) (room : ℕ) (passed : refusalOf betweenChecks (give
     few-nodes : m ≤ 5
     few-nodes = ⊎-elim (λ z. omega (arith, f .within, z .1)) (λ l. omega (arith, f .within, l .1, few)) (most-cases (termCount (decodeSix query .base)))
 
-    pub formed : wellFormed lent ≡ true
+    pub formed : wellFormed 1 lent ≡ true
     formed =
         shown-formed (decodeSix query) c room m size-is (f .some-node) (omega (arith, few-nodes)) (omega (arith, few))
         (λ v r. subst (λ (x : ℕ). (1 ≤ x) × (x ≤ m)) (sym (link-is v)) (links-inside v r))
@@ -167,18 +167,21 @@ module _ (query : List ℕ) (room : ℕ) (passed : refusalOf betweenChecks (give
     pub node-small : (t : ℕ) → 1 ≤ t → t ≤ n → entry (c .nodes) t ≤ 5
     node-small t a b = let r = nodes-inside t a b in omega (arith, node-is t, r .1, few-nodes)
 
-    linked : (v : ℕ) → (1 ≤ v) × (v ≤ m) → shown .link v ≡ entry (f .search .links) v
+    linked : (v : ℕ) → (1 ≤ v) × (v ≤ m) → shown .link 1 v ≡ entry (f .search .links) v
     linked v r = shown-link (decodeSix query) c room m size-is v r ∙ link-is v
+
+    loops : (k v : ℕ) → (k ≡ 1 → ⊥) → shown .link k v ≡ v
+    loops = shown-loop (decodeSix query) c room m size-is
 
     named : (t : ℕ) → 1 ≤ t → t ≤ n → shown .variable t ≡ entry (f .search .nodes) t
     named t a b = shown-variable (decodeSix query) c room m size-is t a b ∙ node-is t
 
     value-shown : (t : ℕ) → 1 ≤ t → t ≤ n → value shown (decodeSix query .base .entries) t ≡ entry (f .search .nodes) t
-    value-shown = value-is (decodeSix query) ok false m (f .search .links) (f .search .nodes) (f .search .links-grown) (f .search .nodes-grown) (f .some-node) few-nodes shown is (shown-size (decodeSix query) c room m size-is) linked named
+    value-shown = value-is (decodeSix query) ok false m (f .search .links) (f .search .nodes) (f .search .links-grown) (f .search .nodes-grown) (f .some-node) few-nodes shown is (shown-size (decodeSix query) c room m size-is) linked loops named
 
     meets : MeetsBetween shown (decodeSix query)
     meets =
-        found-meets (decodeSix query) ok false m (f .search .links) (f .search .nodes) (f .search .links-grown) (f .search .nodes-grown) (f .some-node) few-nodes shown is (shown-size (decodeSix query) c room m size-is) linked named
+        found-meets (decodeSix query) ok false m (f .search .links) (f .search .nodes) (f .search .links-grown) (f .search .nodes-grown) (f .some-node) few-nodes shown is (shown-size (decodeSix query) c room m size-is) linked loops named
         (λ j v r s. shown-field (decodeSix query) c room m size-is j v r s ∙ fields-same j v)
       where
         fields-same : (j v : ℕ) → any (λ k. k .plain && eqb (k .left) j && eqb (entry (c .nodes) (k .right)) v) (decodeSix query .base .fields) ≡ any (λ k. k .plain && eqb (k .left) j && eqb (entry (f .search .nodes) (k .right)) v) (decodeSix query .base .fields)
@@ -194,17 +197,17 @@ module _ (query : List ℕ) (room : ℕ) (passed : refusalOf betweenChecks (give
         at zero h = first
         at (suc i) h = each (suc i) (omega arith) (omega (arith, size)) ∙ sym (list-entry g k (suc i) (omega arith) (omega (arith, size)))
 
-    links-are : f .search .links ≡ m ∷ map (shown .link) (from m 1)
+    links-are : f .search .links ≡ m ∷ map (shown .link 1) (from m 1)
     unfolding entry
-    links-are = listed (shown .link) m (f .search .links) (grown-size _ _ _ (f .search .links-grown) ∙ omega arith) (grown-entry _ _ _ (f .search .links-grown) 0 (omega arith)) (λ u a b. sym (linked u (a, b)))
+    links-are = listed (shown .link 1) m (f .search .links) (grown-size _ _ _ (f .search .links-grown) ∙ omega arith) (grown-entry _ _ _ (f .search .links-grown) 0 (omega arith)) (λ u a b. sym (linked u (a, b)))
 
     nodes-are : f .search .nodes ≡ n ∷ map (value shown (decodeSix query .base .entries)) (from n 1)
     unfolding entry
     nodes-are = listed (value shown (decodeSix query .base .entries)) n (f .search .nodes) (grown-size _ _ _ (f .search .nodes-grown) ∙ omega arith) (grown-entry _ _ _ (f .search .nodes-grown) 0 (omega arith)) (λ u a b. sym (value-shown u a b))
 
-    rank-is : rank (decodeSix query) shown ≡ (m ∷ map (shown .link) (from m 1)) ++ map (value shown (decodeSix query .base .entries)) (from n 1)
+    rank-is : rank (decodeSix query) shown ≡ (m ∷ map (shown .link 1) (from m 1)) ++ map (value shown (decodeSix query .base .entries)) (from n 1)
     unfolding rank terms
-    rank-is = ap (λ (k : ℕ). (k ∷ map (shown .link) (from k 1)) ++ map (value shown (decodeSix query .base .entries)) (from n 1)) (shown-size (decodeSix query) c room m size-is)
+    rank-is = ap (λ (k : ℕ). (k ∷ map (shown .link 1) (from k 1)) ++ map (value shown (decodeSix query .base .entries)) (from n 1)) (shown-size (decodeSix query) c room m size-is)
 
     pub shows-first : ShowsFirst (decodeSix query) lent
     shows-first =
@@ -212,7 +215,7 @@ module _ (query : List ℕ) (room : ℕ) (passed : refusalOf betweenChecks (give
           meets = meets;
           listed = λ t a b. value-shown t a b ∙ sym (shown-node (decodeSix query) c room m size-is t a b ∙ node-is t);
           small = subst (λ (k : ℕ). k ≤ mostNodes n) (sym (shown-size (decodeSix query) c room m size-is)) (f .within);
-          first = λ h met b. first-right (decodeSix query) ok few c f h met (map (value shown (decodeSix query .base .entries)) (from n 1)) nodes-are (map (shown .link) (from m 1)) links-are (length-map (from m 1) (shown .link) ∙ length-from m 1) (subst (Before (rank (decodeSix query) h)) rank-is b);
+          first = λ h met b. first-right (decodeSix query) ok few c f h met (map (value shown (decodeSix query .base .entries)) (from n 1)) nodes-are (map (shown .link 1) (from m 1)) links-are (length-map (from m 1) (shown .link 1) ∙ length-from m 1) (subst (Before (rank (decodeSix query) h)) rank-is b);
         }
 
 -- The fields of the promise
@@ -245,7 +248,7 @@ heap-exactly query room not = go (done query room)
   where
     go : Done query room → (betweenCall query room .answer ≡ satisfiable) ↔ SatisfiableBetween (decodeSix query)
     go (is-refused a e o) = let r = refusal-is query room a e in absurd (not (r .0) (r .1) (answer-of o ∙ blank-answer room a ∙ r .2))
-    go (is-heap c e f o) = (λ h. (heapIn (padded room (reportOf (decodeSix query) c)), shows-first query room e c f .meets), λ s. answer-of o)
+    go (is-heap c e f o) = (λ h. (heapIn 1 (padded room (reportOf (decodeSix query) c)), shows-first query room e c f .meets), λ s. answer-of o)
     go (is-none e f o) = (λ h. absurd (heap-none (sym h ∙ answer-of o ∙ blank-answer room refuted)), λ s. absurd (none-right (decodeSix query) (ok query room e) (few query room e) f (s .0) (s .1)))
 
 none-exactly : (query : List ℕ) (room : ℕ) → NotRefused (betweenCall query room .answer) → (betweenCall query room .answer ≡ refuted) ↔ (SatisfiableBetween (decodeSix query) → ⊥)
@@ -253,7 +256,7 @@ none-exactly query room not = go (done query room)
   where
     go : Done query room → (betweenCall query room .answer ≡ refuted) ↔ (SatisfiableBetween (decodeSix query) → ⊥)
     go (is-refused a e o) = let r = refusal-is query room a e in absurd (not (r .0) (r .1) (answer-of o ∙ blank-answer room a ∙ r .2))
-    go (is-heap c e f o) = (λ h. absurd (heap-none (sym (answer-of o) ∙ h)), λ d. absurd (d (heapIn (padded room (reportOf (decodeSix query) c)), shows-first query room e c f .meets)))
+    go (is-heap c e f o) = (λ h. absurd (heap-none (sym (answer-of o) ∙ h)), λ d. absurd (d (heapIn 1 (padded room (reportOf (decodeSix query) c)), shows-first query room e c f .meets)))
     go (is-none e f o) = (λ h s. none-right (decodeSix query) (ok query room e) (few query room e) f (s .0) (s .1), λ d. answer-of o ∙ blank-answer room refuted)
 
 heap-first : (query : List ℕ) (room : ℕ) → betweenCall query room .answer ≡ satisfiable → ShowsFirst (decodeSix query) (betweenCall query room .lent)
@@ -264,12 +267,12 @@ heap-first query room h = go (done query room)
     go (is-heap c e f o) = subst (ShowsFirst (decodeSix query)) (sym (lent-of o)) (shows-first query room e c f)
     go (is-none e f o) = absurd (heap-none (sym h ∙ answer-of o ∙ blank-answer room refuted))
 
-report-formed : (query : List ℕ) (room : ℕ) → betweenCall query room .answer ≡ satisfiable → wellFormed (betweenCall query room .lent) ≡ true
+report-formed : (query : List ℕ) (room : ℕ) → betweenCall query room .answer ≡ satisfiable → wellFormed 1 (betweenCall query room .lent) ≡ true
 report-formed query room h = go (done query room)
   where
-    go : Done query room → wellFormed (betweenCall query room .lent) ≡ true
+    go : Done query room → wellFormed 1 (betweenCall query room .lent) ≡ true
     go (is-refused a e o) = let r = refusal-is query room a e in absurd (refused-heap (sym h ∙ answer-of o ∙ blank-answer room a ∙ r .2))
-    go (is-heap c e f o) = subst (λ (bytes : List ℕ). wellFormed bytes ≡ true) (sym (lent-of o)) (formed query room e c f)
+    go (is-heap c e f o) = subst (λ (bytes : List ℕ). wellFormed 1 bytes ≡ true) (sym (lent-of o)) (formed query room e c f)
     go (is-none e f o) = absurd (heap-none (sym h ∙ answer-of o ∙ blank-answer room refuted))
 
 none-blank : (query : List ℕ) (room : ℕ) → betweenCall query room .answer ≡ refuted → betweenCall query room .lent ≡ replicate room 0
@@ -295,12 +298,12 @@ base-only q e s = (s .0, record { meets = s .1; betweens = λ l m. absurd (List�
 -- a verdict call that is not refused has its five sections laid out
 five-laid : (i : Input) → NotRefused (verdictCall i .answer) → (ps : List (List ℕ)) × (layoutOf (i .query) ≡ parts ps)
 unfolding layoutOf
-five-laid i five = laid-out sections (i .query) (sections-excesses (firstByte (i .query))) (query-passes (i .query) (accepted (verdict-case i)) .layouts)
+five-laid i five = laid-out sections (i .query) (sections-excesses (firstByte (i .query))) (query-passes (i .query) (accepted (verdict-case oneLinkForm one-link-laws i)) .layouts)
   where
-    accepted : VerdictCase i (verdictCall i) → accepts (i .query) ≡ true
+    accepted : VerdictCase oneLinkForm one-link-laws i (verdictCall i) → accepts (i .query) ≡ true
     accepted (by-refusal k place u e) = absurd (five k place (answer-of e ∙ blank-answer (i .room) (refused k place)))
-    accepted (by-lines ls w e n) = verdict-passed i n .0 .query
-    accepted (by-model s w e n) = verdict-passed i n .0 .query
+    accepted (by-lines ls w e n) = verdict-passed oneLinkForm one-link-laws i n .0 .query
+    accepted (by-model s w e n) = verdict-passed oneLinkForm one-link-laws i n .0 .query
 
 shares-verdict : (i : Input) (room : ℕ) → NotRefused (verdictCall i .answer) → NotRefused (betweenCall (i .query ++ (0 ∷ [])) room .answer) → betweenCall (i .query ++ (0 ∷ [])) room .answer ≡ verdictCall i .answer
 shares-verdict i room five six =

@@ -20,11 +20,12 @@ use Rattle.logic.proofs.Soundness.Value.{value-node}
 use Rattle.logic.proofs.Completeness.Placed.{placeOf-injective, length-from}
 use Rattle.between.specs.Meaning.{BetweenQuery, MeetsBetween}
 use Rattle.between.proofs.Firsts.{firsts, firsts-has, firsts-short, firsts-within, firsts-place, firsts-length}
-use Rattle.between.proofs.SmallModel.{AcceptedBetween, orOne, small, small-is, small-value, small-size, small-meets, small-named, named}
+use Rattle.between.proofs.SmallModel.{orOne, small, small-is, small-value, small-size, small-meets, small-named, named}
 use Rattle.between_search.specs.Tests.{used}
 use Rattle.between_search.specs.Search.{Found, linksFound, sizeFound, mostNodes, heapFound}
 use Rattle.between_search.specs.Promise.{Before, lower, same, rank}
 use Rattle.between_search.proofs.Seek.{before-append, firstOf-lowest}
+use Rattle.between_search.proofs.OneLink.{AcceptedSix}
 use Rattle.between_search.proofs.Complete.{used-firsts, linksOf, nodesOf, links-grown, nodes-grown}
 use Rattle.between_search.proofs.Searching.{GrownLinks, GrownNodes, FirstFound, search-none, search-some, sorted-some}
 
@@ -65,7 +66,7 @@ with-count n xs xs′ ys ys′ p b =
     (λ c. subst (λ (zs : List ℕ). Before (xs ++ (n ∷ ys)) (zs ++ (n ∷ ys′))) (c .0) (before-behind xs (same (c .1))))
     (before-append xs ys xs′ ys′ p b)
 
-module _ (q : BetweenQuery) (ok : AcceptedBetween q) (few : termCount (q .base) ≤ 5) where
+module _ (q : BetweenQuery) (ok : AcceptedSix q) (few : termCount (q .base) ≤ 5) where
   abbrev n : ℕ
   n = termCount (q .base)
 
@@ -86,13 +87,13 @@ module _ (q : BetweenQuery) (ok : AcceptedBetween q) (few : termCount (q .base) 
     is = met .meets .is-heap
 
     abbrev s : Heap
-    s = small (q .base) (ok .base) h is
+    s = small (q .base) (ok .accepted .base) h is
 
     abbrev sval : ℕ → ℕ
     sval = value s (q .base .entries)
 
     met-small : MeetsBetween s q
-    met-small = small-meets q ok h met
+    met-small = small-meets q (ok .accepted) h met
 
     some-first : 1 ≤ n → 1 ≤ length (firsts val n)
     some-first l = nonempty (firsts val n) (firsts-has val n 1 (omega arith) l)
@@ -102,10 +103,10 @@ module _ (q : BetweenQuery) (ok : AcceptedBetween q) (few : termCount (q .base) 
         nonempty (x ∷ xs) m = omega arith
 
     size-is : 1 ≤ n → s .size ≡ length (firsts val n)
-    size-is l = small-size (q .base) (ok .base) h is ∙ ap length (orOne-is (firsts val n) (some-first l))
+    size-is l = small-size (q .base) (ok .accepted .base) h is ∙ ap length (orOne-is (firsts val n) (some-first l))
 
     place-is : (t : ℕ) → 1 ≤ t → t ≤ n → sval t ≡ placeOf (val t) (firsts val n)
-    place-is t a b = small-value (q .base) (ok .base) h is t (a, b) ∙ ap (placeOf (val t)) (small-named (q .base) (ok .base) h is ∙ orOne-is (firsts val n) (some-first (omega arith)))
+    place-is t a b = small-value (q .base) (ok .accepted .base) h is t (a, b) ∙ ap (placeOf (val t)) (small-named (q .base) (ok .accepted .base) h is ∙ orOne-is (firsts val n) (some-first (omega arith)))
 
     -- places are apart as the nodes are
     apart : (u w : ℕ) → 1 ≤ u → u ≤ n → 1 ≤ w → w ≤ n → eqb (sval u) (sval w) ≡ eqb (val u) (val w)
@@ -122,7 +123,7 @@ module _ (q : BetweenQuery) (ok : AcceptedBetween q) (few : termCount (q .base) 
     sized =
         record {
           size = s .size;
-          some-node = small-is (q .base) (ok .base) h is .nonempty;
+          some-node = small-is (q .base) (ok .accepted .base) h is .nonempty;
           within = ⊎-elim (λ z. omega (arith, none-size (z .0), z .1)) (λ l. omega (arith, size-is (l .0), firsts-short val n, l .1)) (most-cases n);
           no-larger = ⊎-elim (λ z. omega (arith, none-size (z .0), is .nonempty)) (λ l. omega (arith, size-is (l .0), firsts-within val (h .size) n (λ u a b. value-node h (q .base .entries) is u))) (most-cases n);
           named-all = λ l. size-is l ∙ sym (used-firsts val n);
@@ -130,7 +131,7 @@ module _ (q : BetweenQuery) (ok : AcceptedBetween q) (few : termCount (q .base) 
         }
       where
         none-size : n ≡ 0 → s .size ≡ 1
-        none-size z = small-size (q .base) (ok .base) h is ∙ orOne-none (firsts val n) (omega (arith, firsts-short val n, z))
+        none-size z = small-size (q .base) (ok .accepted .base) h is ∙ orOne-none (firsts val n) (omega (arith, firsts-short val n, z))
 
         five : s .size ≤ 5
         five = ⊎-elim (λ z. omega (arith, none-size (z .0))) (λ l. omega (arith, size-is (l .0), firsts-short val n, few)) (most-cases n)
@@ -199,7 +200,7 @@ module _ (q : BetweenQuery) (ok : AcceptedBetween q) (few : termCount (q .base) 
             let full : 1 ≤ n → h .size ≤ used (value h (q .base .entries)) n = λ l. omega (arith, not-smaller, z .named-all l, e) in
             let gl = links-grown q ok h met five in
             let gn = nodes-grown q ok h met five false full (λ t. absurd (false≢true t)) in
-            let sizes : length (linksOf h) ≡ length (f .size ∷ ls) = omega (arith, length-map (from (h .size) 1) (h .link), length-from (h .size) 1, e, sl) in
+            let sizes : length (linksOf h) ≡ length (f .size ∷ ls) = omega (arith, length-map (from (h .size) 1) (h .link 1), length-from (h .size) 1, e, sl) in
             let gl′ = subst (λ (m : ℕ). GrownLinks q false m (linksOf h)) e gl in
             let gn′ = subst (λ (m : ℕ). GrownNodes q false m (linksOf h) (nodesOf q h)) e gn in
             f .search .first (linksOf h) (nodesOf q h) gl′ gn′

@@ -13,14 +13,14 @@ use Rattle.logic.specs.Heap.{Heap, Node, IsHeap, Signed, Meets, NilNode, value}
 use Rattle.logic.proofs.Basics.Search.{bool-cases, not-true, any-false}
 use Rattle.logic.proofs.Basics.Compare.{eqb-intro, eqb-false, le-cases, cond-true, cond-false, ltb-true}
 use Rattle.logic.proofs.Query.Entries.{nil-range}
-use Rattle.logic.proofs.Soundness.Value.{Below, accepted-below, value-variable, value-link}
+use Rattle.logic.proofs.Soundness.Value.{accepted-below, value-variable}
 use Rattle.between.specs.Meaning.{BetweenLiteral, BetweenQuery, MeetsBetween}
-use Rattle.between.proofs.SmallModel.{AcceptedBetween}
 use Rattle.between_search.specs.Tests.{used, breaks, nilBreaks, fieldBreaks, pairBreaks, tripleBreaks}
 use Rattle.between_search.specs.Search.{entry, lowestNode, highestNode}
 use Rattle.between_search.proofs.Seek.{Grown}
 use Rattle.between_search.proofs.Growing.{Prefix, prefix-next, Met, grown-met}
 use Rattle.between_search.proofs.Due.{first-of, second-of, no-or}
+use Rattle.between_search.proofs.OneLink.{AcceptedSix, reach-one, value-one}
 use Rattle.between_search.proofs.Alike.{breaks-alike}
 use Rattle.between_search.proofs.Tested.{equal-met, reach-met, between-met, nil-rule, fields-met}
 
@@ -50,7 +50,7 @@ module _ (q : BetweenQuery) (link : ℕ → ℕ) (t : ℕ) (node : ℕ → ℕ) 
     unfolding highestNode
     high-link l = cond-false _ _ (eqb-false (argumentOf (q .base .entries) t) 0 (omega arith))
 
-module _ (q : BetweenQuery) (ok : AcceptedBetween q) (sorted : Bool) (m : ℕ) (ls ns : List ℕ) where
+module _ (q : BetweenQuery) (ok : AcceptedSix q) (sorted : Bool) (m : ℕ) (ls ns : List ℕ) where
   abbrev n : ℕ
   n = termCount (q .base)
 
@@ -74,7 +74,7 @@ module _ (q : BetweenQuery) (ok : AcceptedBetween q) (sorted : Bool) (m : ℕ) (
     pub node-link : (t : ℕ) → 1 ≤ t → t ≤ n → 1 ≤ argumentOf (q .base .entries) t → entry ns t ≡ entry ls (entry ns (argumentOf (q .base .entries) t))
     node-link t a b l =
         let e = node-met t a b in
-        let k = accepted-below (q .base) (ok .base) t l in
+        let k = accepted-below (q .base) (ok .accepted .base) t l in
         let p = low-link q (entry ls) t (entry (e .before)) l in
         let h = high-link q (entry ls) t (entry (e .before)) sorted m l in
         let w : entry ls (entry (e .before) (argumentOf (q .base .entries) t)) ≡ entry ls (entry ns (argumentOf (q .base .entries) t)) = ap (entry ls) (e .prefix .each (argumentOf (q .base .entries) t) l k) in
@@ -87,7 +87,7 @@ module _ (q : BetweenQuery) (ok : AcceptedBetween q) (sorted : Bool) (m : ℕ) (
         go zero t a b c = absurd (omega arith)
         go (suc k) t a b c =
             ⊎-elim
-            (λ l. let s = accepted-below (q .base) (ok .base) t l in
+            (λ l. let s = accepted-below (q .base) (ok .accepted .base) t l in
             let r = links-in (entry ns (argumentOf (q .base .entries) t)) (go k (argumentOf (q .base .entries) t) l (omega arith) (omega arith)) in
             let e = node-link t a b l in (omega (arith, r .0, e), omega (arith, r .1, e)))
             (λ z. let e = node-met t a b in
@@ -101,11 +101,11 @@ module _ (q : BetweenQuery) (ok : AcceptedBetween q) (sorted : Bool) (m : ℕ) (
     passes t a b =
         let e = node-met t a b in
         let p = prefix-next (entry ns) (e .before) t (e .prefix) in
-        breaks-alike q ok m (entry ls) (entry ls) links-in (λ v r. refl) t a (entry ns) (entry (e .before ++ (entry ns t ∷ []))) (λ u x y. sym (p .each u x (omega arith))) (λ u x y. nodes-in u x (omega arith)) n
+        breaks-alike q (ok .accepted) m (entry ls) (entry ls) links-in (λ v r. refl) t a (entry ns) (entry (e .before ++ (entry ns t ∷ []))) (λ u x y. sym (p .each u x (omega arith))) (λ u x y. nodes-in u x (omega arith)) n
         ∙ not-true (e .fitted)
 
     -- a heap that is so
-    module _ (nonempty : 1 ≤ m) (few : m ≤ 5) (h : Heap) (is : IsHeap h) (size : h .size ≡ m) (linked : (v : ℕ) → (1 ≤ v) × (v ≤ m) → h .link v ≡ entry ls v) (named : (t : ℕ) → 1 ≤ t → t ≤ n → h .variable t ≡ entry ns t) where
+    module _ (nonempty : 1 ≤ m) (few : m ≤ 5) (h : Heap) (is : IsHeap h) (size : h .size ≡ m) (linked : (v : ℕ) → (1 ≤ v) × (v ≤ m) → h .link 1 v ≡ entry ls v) (loops : (i v : ℕ) → (i ≡ 1 → ⊥) → h .link i v ≡ v) (named : (t : ℕ) → 1 ≤ t → t ≤ n → h .variable t ≡ entry ns t) where
       abbrev val : ℕ → ℕ
       val = value h (q .base .entries)
 
@@ -116,25 +116,25 @@ module _ (q : BetweenQuery) (ok : AcceptedBetween q) (sorted : Bool) (m : ℕ) (
           go zero t a b c = absurd (omega arith)
           go (suc k) t a b c =
               ⊎-elim
-              (λ l. let below = accepted-below (q .base) (ok .base) in
+              (λ l. let below = accepted-below (q .base) (ok .accepted .base) in
               let s = below t l in
               let i = go k (argumentOf (q .base .entries) t) l (omega arith) (omega arith) in
-              value-link h (q .base .entries) below t l ∙ ap (h .link) i ∙ linked (entry ns (argumentOf (q .base .entries) t)) (nodes-in (argumentOf (q .base .entries) t) l (omega arith)) ∙ sym (node-link t a b l))
+              value-one q ok h t l ∙ ap (h .link 1) i ∙ linked (entry ns (argumentOf (q .base .entries) t)) (nodes-in (argumentOf (q .base .entries) t) l (omega arith)) ∙ sym (node-link t a b l))
               (λ z. value-variable h (q .base .entries) t (omega arith) ∙ named t a b)
               (le-cases 1 (argumentOf (q .base .entries) t))
 
       -- the tests pass in the heap
-      passed : (t : ℕ) → 1 ≤ t → t ≤ n → breaks q m (h .link) val n t ≡ false
+      passed : (t : ℕ) → 1 ≤ t → t ≤ n → breaks q m (h .link 1) val n t ≡ false
       passed t a b =
-          sym (breaks-alike q ok m (entry ls) (h .link) links-in (λ v r. sym (linked v r)) t a (entry ns) val (λ u x y. sym (value-is u x (omega arith))) (λ u x y. nodes-in u x (omega arith)) n)
+          sym (breaks-alike q (ok .accepted) m (entry ls) (h .link 1) links-in (λ v r. sym (linked v r)) t a (entry ns) val (λ u x y. sym (value-is u x (omega arith))) (λ u x y. nodes-in u x (omega arith)) n)
           ∙ passes t a b
 
       record Apart (t : ℕ) : Type 0 where
-        nil : nilBreaks (q .base .entries) (h .link) val t ≡ false
+        nil : nilBreaks (q .base .entries) (h .link 1) val t ≡ false
         field : fieldBreaks (q .base .fields) val t ≡ false
-        equal : any (pairBreaks (h .link) val 0 t) (q .base .equalities) ≡ false
-        reach : any (pairBreaks (h .link) val 5 t) (q .base .reachability) ≡ false
-        between : any (tripleBreaks (h .link) val t) (q .betweens) ≡ false
+        equal : any (pairBreaks (h .link 1) val 0 t) (q .base .equalities) ≡ false
+        reach : any (pairBreaks (h .link 1) val 5 t) (q .base .reachability) ≡ false
+        between : any (tripleBreaks (h .link 1) val t) (q .betweens) ≡ false
 
       apart : (t : ℕ) → 1 ≤ t → t ≤ n → Apart t
       unfolding breaks
@@ -155,18 +155,18 @@ module _ (q : BetweenQuery) (ok : AcceptedBetween q) (sorted : Bool) (m : ℕ) (
           record {
             meets = record {
               is-heap = is;
-              nil-node = nil-rule h is small (q .base .entries) n (λ t e. nil-range (q .base .entries) t e) (λ t a b. apart t a b .nil);
-              equalities = λ l k. let r = ok .base .equal-terms l k in equal-met h is small (q .base .entries) n l (r .0) (r .1) .1 (λ t a b. any-false _ l (apart t a b .equal) k);
-              reachability = λ l k. let r = ok .base .reach-terms l k in reach-met h is small (q .base .entries) n l (r .0) (r .1) .1 (λ t a b. any-false _ l (apart t a b .reach) k);
+              nil-node = nil-rule h is small (q .base .entries) n loops (λ t e. nil-range (q .base .entries) t e) (λ t a b. apart t a b .nil);
+              equalities = λ l k. let r = ok .accepted .base .equal-terms l k in equal-met h is small (q .base .entries) n l (r .0) (r .1) .1 (λ t a b. any-false _ l (apart t a b .equal) k);
+              reachability = λ l k. let r = ok .accepted .base .reach-terms l k in reach-met h is small (q .base .entries) n l (reach-one q ok l k) (r .0) (r .1) .1 (λ t a b. any-false _ l (apart t a b .reach) k);
               fields = λ l k. field-met l k;
             };
-            betweens = λ l k. let r = ok .between-terms l k in between-met h is small (q .base .entries) n l (r .0) (r .1) (r .2) .1 (λ t a b. any-false _ l (apart t a b .between) k);
+            betweens = λ l k. let r = ok .accepted .between-terms l k in between-met h is small (q .base .entries) n l (r .0) (r .1) (r .2) .1 (λ t a b. any-false _ l (apart t a b .between) k);
           }
         where
           field-met : (l : Literal) → List·Memᴰ l (q .base .fields) → Signed (l .plain) (h .field (l .left) (val (l .right)) ≡ true)
           field-met l k =
-              let r = ok .base .field-term l k in
+              let r = ok .accepted .base .field-term l k in
               let e = value-is (l .right) (r .0) (r .1) in
               let breaking : (t : ℕ) → 1 ≤ t → t ≤ n → fieldBreaks (q .base .fields) (entry ns) t ≡ false = λ t a b. no-or _ _ (no-or _ _ (no-or _ _ (passes t a b) .1) .1) .0 in
-              subst (λ (b : Bool). Signed (l .plain) (b ≡ true)) (sym (ap (h .field (l .left)) e ∙ fields (l .left) (entry ns (l .right)) (ok .base .field-number l k) (nodes-in (l .right) (r .0) (r .1))))
-              (fields-met (q .base .fields) (ok .base .field-number) (entry ns) n (λ b i. ok .base .field-term b i) breaking l k)
+              subst (λ (b : Bool). Signed (l .plain) (b ≡ true)) (sym (ap (h .field (l .left)) e ∙ fields (l .left) (entry ns (l .right)) (ok .accepted .base .field-number l k) (nodes-in (l .right) (r .0) (r .1))))
+              (fields-met (q .base .fields) (ok .accepted .base .field-number) (entry ns) n (λ b i. ok .accepted .base .field-term b i) breaking l k)

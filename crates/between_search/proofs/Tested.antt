@@ -7,10 +7,10 @@ use mathlib.Core.Bool.{Bool, true, false, not, cond, _&&_, _||_, false≢true}
 use mathlib.Core.List.{List, List·Memᴰ}
 use lib.Dec.{eqb, ltb, leb}
 use Rattle.logic.specs.Search.{_or_, from, any}
-use Rattle.logic.specs.Query.{Literal, Query, namesNil, termCount}
+use Rattle.logic.specs.Query.{Literal, Entries, Query, namesNil, termCount}
 use Rattle.logic.specs.Heap.{Heap, Node, IsHeap, Reaches, Signed, MeansEqual, MeansReach, MeansField, NilNode, Meets, value}
 use Rattle.logic.proofs.Basics.Search.{bool-cases, true-false, not-true, not-intro, any-true, any-intro, any-false, from-mem, from-intro}
-use Rattle.logic.proofs.Basics.Compare.{eqb-true, eqb-intro, eqb-self, le-cases}
+use Rattle.logic.proofs.Basics.Compare.{eqb-true, eqb-intro, eqb-self, eq-cases, le-cases}
 use Rattle.logic.proofs.Soundness.Value.{value-node, signed-true, signed-false}
 use Rattle.between.specs.Meaning.{BetweenLiteral, BetweenQuery, Between, MeansBetween, MeetsBetween}
 use Rattle.between.proofs.SmallModel.{AcceptedBetween}
@@ -23,69 +23,71 @@ pub not-not : {b : Bool} → not b ≡ false → b ≡ true
 not-not {b = true} h = refl
 not-not {b = false} h = absurd (false≢true (sym h))
 
-module _ (h : Heap) (is : IsHeap h) (few : h .size ≤ 5) (entries : List ℕ) where
+module _ (h : Heap) (is : IsHeap h) (few : h .size ≤ 5) (entries : Entries) where
   abbrev val : ℕ → ℕ
   val = value h entries
 
-  here : (t : ℕ) → Stays (h .link) (h .size) (val t)
-  here t = stays (h .link) (h .size) (is .link-node) (val t) (value-node h entries is t)
+  here : (t : ℕ) → Stays (h .link 1) (h .size) (val t)
+  here t = stays (h .link 1) (h .size) (is .link-node 1) (val t) (value-node h entries is t)
 
-  pair-met : (P : Type 0) (n most : ℕ) (l : Literal) → (1 ≤ l .left) × (l .left ≤ n) → (1 ≤ l .right) × (l .right ≤ n) → P ↔ (leb (steps (h .link) (val (l .left)) (val (l .right))) most ≡ true) → Signed (l .plain) P ↔ ((t : ℕ) → 1 ≤ t → t ≤ n → pairBreaks (h .link) val most t l ≡ false)
+  pair-met : (P : Type 0) (n most : ℕ) (l : Literal) → (1 ≤ l .left) × (l .left ≤ n) → (1 ≤ l .right) × (l .right ≤ n) → P ↔ (leb (steps (h .link 1) (val (l .left)) (val (l .right))) most ≡ true) → Signed (l .plain) P ↔ ((t : ℕ) → 1 ≤ t → t ≤ n → pairBreaks (h .link 1) val most t l ≡ false)
   unfolding pairBreaks
   pair-met P n most l ra rb e =
-      let s = signed-agrees (l .plain) (leb (steps (h .link) (val (l .left)) (val (l .right))) most) e in (
+      let s = signed-agrees (l .plain) (leb (steps (h .link 1) (val (l .left)) (val (l .right))) most) e in (
         λ p t a b. and-false (duePair (l .left) (l .right) t) (ap not (s .0 p)),
         λ r. let d = pair-due-somewhere (l .left) (l .right) n ra rb in s .1 (not-not (not-both (r (d .0) (d .1) (d .2)) (d .3))),
       )
 
-  pub equal-met : (n : ℕ) (l : Literal) → (1 ≤ l .left) × (l .left ≤ n) → (1 ≤ l .right) × (l .right ≤ n) → MeansEqual h entries l ↔ ((t : ℕ) → 1 ≤ t → t ≤ n → pairBreaks (h .link) val 0 t l ≡ false)
-  equal-met n l ra rb = pair-met _ n 0 l ra rb (equal-steps (h .link) (h .size) few (val (l .left)) (here (l .left)) (val (l .right)))
+  pub equal-met : (n : ℕ) (l : Literal) → (1 ≤ l .left) × (l .left ≤ n) → (1 ≤ l .right) × (l .right ≤ n) → MeansEqual h entries l ↔ ((t : ℕ) → 1 ≤ t → t ≤ n → pairBreaks (h .link 1) val 0 t l ≡ false)
+  equal-met n l ra rb = pair-met _ n 0 l ra rb (equal-steps (h .link 1) (h .size) few (val (l .left)) (here (l .left)) (val (l .right)))
 
-  pub reach-met : (n : ℕ) (l : Literal) → (1 ≤ l .left) × (l .left ≤ n) → (1 ≤ l .right) × (l .right ≤ n) → MeansReach h entries l ↔ ((t : ℕ) → 1 ≤ t → t ≤ n → pairBreaks (h .link) val 5 t l ≡ false)
-  reach-met n l ra rb = pair-met _ n 5 l ra rb (reach-steps (h .link) (h .size) few (val (l .left)) (here (l .left)) (val (l .right)))
+  pub reach-met : (n : ℕ) (l : Literal) → l .link ≡ 1 → (1 ≤ l .left) × (l .left ≤ n) → (1 ≤ l .right) × (l .right ≤ n) → MeansReach h entries l ↔ ((t : ℕ) → 1 ≤ t → t ≤ n → pairBreaks (h .link 1) val 5 t l ≡ false)
+  unfolding pairBreaks
+  reach-met n l one ra rb = rw one (pair-met _ n 5 l ra rb (reach-steps (h .link 1) (h .size) few (val (l .left)) (here (l .left)) (val (l .right))))
 
-  pub between-met : (n : ℕ) (l : BetweenLiteral) → (1 ≤ l .from) × (l .from ≤ n) → (1 ≤ l .middle) × (l .middle ≤ n) → (1 ≤ l .to) × (l .to ≤ n) → MeansBetween h entries l ↔ ((t : ℕ) → 1 ≤ t → t ≤ n → tripleBreaks (h .link) val t l ≡ false)
+  pub between-met : (n : ℕ) (l : BetweenLiteral) → (1 ≤ l .from) × (l .from ≤ n) → (1 ≤ l .middle) × (l .middle ≤ n) → (1 ≤ l .to) × (l .to ≤ n) → MeansBetween h entries l ↔ ((t : ℕ) → 1 ≤ t → t ≤ n → tripleBreaks (h .link 1) val t l ≡ false)
   unfolding tripleBreaks
   between-met n l rx ry rz =
-      let y : ℕ = steps (h .link) (val (l .from)) (val (l .middle)) in
-      let z : ℕ = steps (h .link) (val (l .from)) (val (l .to)) in
-      let s = signed-agrees (l .plain) (leb y z && leb z 5) (between-steps (h .link) (h .size) few (val (l .from)) (here (l .from)) (val (l .middle)) (val (l .to))) in (
+      let y : ℕ = steps (h .link 1) (val (l .from)) (val (l .middle)) in
+      let z : ℕ = steps (h .link 1) (val (l .from)) (val (l .to)) in
+      let s = signed-agrees (l .plain) (leb y z && leb z 5) (between-steps (h .link 1) (h .size) few (val (l .from)) (here (l .from)) (val (l .middle)) (val (l .to))) in (
         λ p t a b. and-false (dueTriple (l .from) (l .middle) (l .to) t) (ap not (s .0 p)),
         λ r. let d = triple-due-somewhere (l .from) (l .middle) (l .to) n rx ry rz in s .1 (not-not (not-both (r (d .0) (d .1) (d .2)) (d .3))),
       )
 
   -- nil
-  pub nil-holds : NilNode h entries → (t : ℕ) → nilBreaks entries (h .link) val t ≡ false
+  pub nil-holds : NilNode h entries → (t : ℕ) → nilBreaks entries (h .link 1) val t ≡ false
   unfolding nilBreaks
   nil-holds nil t = go (namesNil entries t) refl
     where
-      go : (b : Bool) → namesNil entries t ≡ b → b && (not (eqb (h .link (val t)) (val t)) || any (λ u. namesNil entries u && not (eqb (val u) (val t))) (from t 1)) ≡ false
+      go : (b : Bool) → namesNil entries t ≡ b → b && (not (eqb (h .link 1 (val t)) (val t)) || any (λ u. namesNil entries u && not (eqb (val u) (val t))) (from t 1)) ≡ false
       go false e = refl
       go true e =
-          rw (eqb-intro (nil .own-link t e))
+          rw (eqb-intro (nil .own-link 1 t e))
           (any-none _ (from t 1) (λ u m. other u (namesNil entries u) refl))
         where
           other : (u : ℕ) (b : Bool) → namesNil entries u ≡ b → b && not (eqb (val u) (val t)) ≡ false
           other u false k = refl
           other u true k = rw (eqb-intro (nil .one-node u t k e))
 
-  pub nil-rule : (n : ℕ) → ((t : ℕ) → namesNil entries t ≡ true → (1 ≤ t) × (t ≤ n)) → ((t : ℕ) → 1 ≤ t → t ≤ n → nilBreaks entries (h .link) val t ≡ false) → NilNode h entries
+  -- where every other link leads from each node to itself
+  pub nil-rule : (n : ℕ) → ((i v : ℕ) → (i ≡ 1 → ⊥) → h .link i v ≡ v) → ((t : ℕ) → namesNil entries t ≡ true → (1 ≤ t) × (t ≤ n)) → ((t : ℕ) → 1 ≤ t → t ≤ n → nilBreaks entries (h .link 1) val t ≡ false) → NilNode h entries
   unfolding nilBreaks
-  nil-rule n range r =
+  nil-rule n loops range r =
       record {
         one-node = λ t u a b. ⊎-elim (λ l. node-of t u a b l) (λ l. sym (node-of u t b a (omega arith))) (le-cases t u);
-        own-link = λ t a. let i = range t a in own t (not-both (r t (i .0) (i .1)) a);
+        own-link = λ k t a. let i = range t a in ⊎-elim (λ e. rw e (own t (not-both (r t (i .0) (i .1)) a))) (λ d. loops k (val t) (d .0)) (eq-cases k 1);
       }
     where
-      own : (t : ℕ) → not (eqb (h .link (val t)) (val t)) || any (λ u. namesNil entries u && not (eqb (val u) (val t))) (from t 1) ≡ false → h .link (val t) ≡ val t
-      own t e = eqb-true _ _ (go (eqb (h .link (val t)) (val t)) e)
+      own : (t : ℕ) → not (eqb (h .link 1 (val t)) (val t)) || any (λ u. namesNil entries u && not (eqb (val u) (val t))) (from t 1) ≡ false → h .link 1 (val t) ≡ val t
+      own t e = eqb-true _ _ (go (eqb (h .link 1 (val t)) (val t)) e)
         where
           go : (b : Bool) → not b || any (λ u. namesNil entries u && not (eqb (val u) (val t))) (from t 1) ≡ false → b ≡ true
           go true k = refl
           go false k = absurd (false≢true (sym k))
 
-      rest : (t : ℕ) → not (eqb (h .link (val t)) (val t)) || any (λ u. namesNil entries u && not (eqb (val u) (val t))) (from t 1) ≡ false → any (λ u. namesNil entries u && not (eqb (val u) (val t))) (from t 1) ≡ false
-      rest t e = go (not (eqb (h .link (val t)) (val t))) e
+      rest : (t : ℕ) → not (eqb (h .link 1 (val t)) (val t)) || any (λ u. namesNil entries u && not (eqb (val u) (val t))) (from t 1) ≡ false → any (λ u. namesNil entries u && not (eqb (val u) (val t))) (from t 1) ≡ false
+      rest t e = go (not (eqb (h .link 1 (val t)) (val t))) e
         where
           go : (b : Bool) → b || any (λ u. namesNil entries u && not (eqb (val u) (val t))) (from t 1) ≡ false → any (λ u. namesNil entries u && not (eqb (val u) (val t))) (from t 1) ≡ false
           go true k = absurd (false≢true (sym k))

@@ -24,15 +24,15 @@ pub data Before : List ℕ → List ℕ → Type 0 where
 
 -- "by node count, then successor list, then nodes of terms"
 unfoldable pub rank : BetweenQuery → Heap → List ℕ
-rank q h = (h .size ∷ map (h .link) (from (h .size) 1)) ++ map (value h (q .base .entries)) (terms (termCount (q .base)))
+rank q h = (h .size ∷ map (h .link 1) (from (h .size) 1)) ++ map (value h (q .base .entries)) (terms (termCount (q .base)))
 
 -- "shows the first that satisfies": the heap in these report bytes meets the query, has at most n nodes (1 if n is 0), and no heap that
 -- meets the query comes before it
 pub record ShowsFirst (q : BetweenQuery) (bytes : List ℕ) : Type 0 where
-  pub meets : MeetsBetween (heapIn bytes) q
-  pub listed : (t : ℕ) → 1 ≤ t → t ≤ termCount (q .base) → value (heapIn bytes) (q .base .entries) t ≡ nodeIn bytes t
-  pub small : heapIn bytes .size ≤ mostNodes (termCount (q .base))
-  pub first : (h : Heap) → MeetsBetween h q → Before (rank q h) (rank q (heapIn bytes)) → ⊥
+  pub meets : MeetsBetween (heapIn 1 bytes) q
+  pub listed : (t : ℕ) → 1 ≤ t → t ≤ termCount (q .base) → value (heapIn 1 bytes) (q .base .entries) t ≡ nodeIn bytes t
+  pub small : heapIn 1 bytes .size ≤ mostNodes (termCount (q .base))
+  pub first : (h : Heap) → MeetsBetween h q → Before (rank q h) (rank q (heapIn 1 bytes)) → ⊥
 
 pub record BetweenPromised : Type 0 where
   -- each refusal is the first in checking order that stands, and leaves zeros
@@ -41,7 +41,7 @@ pub record BetweenPromised : Type 0 where
   -- a heap exactly where some finite heap of any size meets the query, and the one shown is the first
   pub heap-exactly : (query : List ℕ) (room : ℕ) → NotRefused (betweenCall query room .answer) → (betweenCall query room .answer ≡ Answer.satisfiable) ↔ SatisfiableBetween (decodeSix query)
   pub heap-first : (query : List ℕ) (room : ℕ) → betweenCall query room .answer ≡ Answer.satisfiable → ShowsFirst (decodeSix query) (betweenCall query room .lent)
-  pub report-formed : (query : List ℕ) (room : ℕ) → betweenCall query room .answer ≡ Answer.satisfiable → wellFormed (betweenCall query room .lent) ≡ true
+  pub report-formed : (query : List ℕ) (room : ℕ) → betweenCall query room .answer ≡ Answer.satisfiable → wellFormed 1 (betweenCall query room .lent) ≡ true
   -- ""None", with an all-zero report, must mean no finite heap of any size"
   pub none-exactly : (query : List ℕ) (room : ℕ) → NotRefused (betweenCall query room .answer) → (betweenCall query room .answer ≡ Answer.refuted) ↔ (SatisfiableBetween (decodeSix query) → ⊥)
   pub none-blank : (query : List ℕ) (room : ℕ) → betweenCall query room .answer ≡ Answer.refuted → betweenCall query room .lent ≡ replicate room 0

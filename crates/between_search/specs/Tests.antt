@@ -5,7 +5,7 @@ use mathlib.Core.Bool.{Bool, true, false, not, cond, _&&_, _||_}
 use mathlib.Core.List.{List}
 use lib.Dec.{eqb, ltb, leb}
 use Rattle.logic.specs.Search.{_or_, from, any}
-use Rattle.logic.specs.Query.{Literal, namesNil}
+use Rattle.logic.specs.Query.{Literal, Entries, namesNil}
 use Rattle.between.specs.Meaning.{BetweenLiteral, BetweenQuery}
 
 -- "least step count" from v to w, looked for at k nodes: k where w is not met
@@ -41,7 +41,7 @@ tripleBreaks link node t l =
     dueTriple (l .from) (l .middle) (l .to) t && not (agrees (l .plain) (leb y z && leb z 5))
 
 -- "all nil terms are one node and its link goes to itself"
-unfoldable pub nilBreaks : List ℕ → (ℕ → ℕ) → (ℕ → ℕ) → ℕ → Bool
+unfoldable pub nilBreaks : Entries → (ℕ → ℕ) → (ℕ → ℕ) → ℕ → Bool
 nilBreaks entries link node t =
     namesNil entries t
     && (not (eqb (link (node t)) (node t)) || any (λ u. namesNil entries u && not (eqb (node u) (node t))) (from t 1))

@@ -14,7 +14,7 @@ use lib.Dec.{eqb, ltb, leb}
 use borrow.Author.Tests.{eq-eqb, ne-eqb, leb-true, eqb-true}
 use Rattle.logic.specs.Search.{from, any}
 use Rattle.logic.proofs.Basics.Compare.{le-cases}
-use Rattle.logic.specs.Query.{Literal, entryOf, namesNil, argumentOf, decode}
+use Rattle.logic.specs.Query.{Literal, Entries, entryOf, namesNil, argumentOf, decode}
 use Rattle.query.specs.declared.Layout.{Layout}
 use Rattle.query.specs.LaysOut.{LaysOut, literalIn}
 use Rattle.query.proofs.Literals.{listed, literals-are, entry-is}
@@ -156,7 +156,7 @@ module _ (query : List ℕ) (l : Layout) (laid : LaysOut l query) (t : ℕ) (one
   unfolding argumentOf
   argument-is h = rw h (entry-is l query laid t one n)
 
-module _ (entries : List ℕ) (link node : ℕ → ℕ) (t : ℕ) where
+module _ (entries : Entries) (link node : ℕ → ℕ) (t : ℕ) where
   pub no-nil : namesNil entries t ≡ false → false ≡ nilBreaks entries link node t
   unfolding nilBreaks
   no-nil h = rw h

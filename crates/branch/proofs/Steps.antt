@@ -14,7 +14,7 @@ use Rattle.branch.specs.Alternatives.{alternativeAt}
 use Rattle.logic.specs.Heap.{iterate}
 use Rattle.logic.specs.Facts.{Graph, Facts, Joined, unjoined, andThen, join, addReach}
 use Rattle.logic.specs.Rules.{Rule, REFLEX, TRANS1, TRANS2, FUNC, CYCLE, SCC, TOTAL, SHARE, Fact, equal, reaches, next, branch}
-use Rattle.facts.specs.Path.{linksIn, graphOf, pathOf}
+use Rattle.facts.specs.Path.{onlyLink, linksIn, graphOf, pathOf}
 use Rattle.facts.specs.Pairs.{Fits}
 use Rattle.facts.proofs.Joins.{join-pairs}
 use Rattle.branch.specs.Answers.{factOf}
@@ -31,13 +31,13 @@ alone-fits n a b s ps h e = rw e (omega (arith, join-pairs n a b s))
 pub branch-fits : (n : ℕ) (s : Facts) (c : Fact) → n ≤ 16 → Fits (branch n s c)
 unfolding branch unjoined
 branch-fits n s (equal a b) h = omega (arith, join-pairs n a b s)
-branch-fits n s (reaches a b) h = omega arith
+branch-fits n s (reaches i a b) h = omega arith
 
 pub added-equal : (n : ℕ) (f : code.Fact) (a b : Term) (s : Facts) (ps : List (ℕ × ℕ)) (j : Joined) → f ≡ fact.Equal a b → ps ≡ [] → j ≡ andThen (record { pairs = ps; facts = s }) (join n (a .0) (b .0)) → j ≡ branch n s (factOf f)
 unfolding branch andThen
 added-equal n f a b s ps j e p h = h ∙ ap (λ (qs : List (ℕ × ℕ)). andThen (record { pairs = qs; facts = s }) (join n (a .0) (b .0))) p ∙ ap (λ (x : code.Fact). branch n s (factOf x)) (sym e)
 
-pub added-reaches : (n : ℕ) (f : code.Fact) (a b : Term) (s p : Facts) (ps : List (ℕ × ℕ)) → f ≡ fact.Reaches a b → ps ≡ [] → p ≡ addReach (a .0) (b .0) s → record { pairs = ps; facts = p } ≡ branch n s (factOf f)
+pub added-reaches : (n : ℕ) (f : code.Fact) (a b : Term) (s p : Facts) (ps : List (ℕ × ℕ)) → f ≡ fact.Reaches a b → ps ≡ [] → p ≡ addReach 1 (a .0) (b .0) s → record { pairs = ps; facts = p } ≡ branch n s (factOf f)
 unfolding branch unjoined
 added-reaches n f a b s p ps e q h = ap₂ (λ (qs : List (ℕ × ℕ)) (t : Facts). record { pairs = qs; facts = t }) q h ∙ ap (λ (x : code.Fact). branch n s (factOf x)) (sym e)
 
@@ -67,6 +67,6 @@ alternative-links n link reach SCC x y z i = refl
 alternative-links n link reach TOTAL x y z i = refl
 alternative-links n link reach SHARE x y z i = refl
 
-pub branch-made : (n : ℕ) (s : paths.Facts) (r : Rule) (x y z i : ℕ) (f : Fact) (j : Joined) → f ≡ alternativeAt n (linksIn (s .link)) r x y z i → j ≡ branch n (pathOf s) f → j ≡ branch n (pathOf s) (alternativeAt n (pathOf s .graph) r x y z i)
-unfolding pathOf
+pub branch-made : (n : ℕ) (s : paths.Facts) (r : Rule) (x y z i : ℕ) (f : Fact) (j : Joined) → f ≡ alternativeAt n (linksIn (s .link)) r x y z i → j ≡ branch n (pathOf s) f → j ≡ branch n (pathOf s) (alternativeAt n (pathOf s .graph 1) r x y z i)
+unfolding pathOf onlyLink
 branch-made n s r x y z i f j e h = h ∙ ap (branch n (pathOf s)) (e ∙ alternative-links n (s .link) (s .reach) r x y z i)

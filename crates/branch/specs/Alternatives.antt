@@ -19,11 +19,11 @@ countOf SHARE z = 1
 
 -- the one at i, from 0
 abbrev pub alternativeAt : ℕ → Graph → Rule → ℕ → ℕ → ℕ → ℕ → Fact
-alternativeAt n g REFLEX x y z i = reaches x x
-alternativeAt n g TRANS1 x y z i = reaches x y
-alternativeAt n g TRANS2 x y z i = reaches x z
-alternativeAt n g FUNC x y z i = cond (eqb i 0) (equal x z) (reaches y z)
+alternativeAt n g REFLEX x y z i = reaches 1 x x
+alternativeAt n g TRANS1 x y z i = reaches 1 x y
+alternativeAt n g TRANS2 x y z i = reaches 1 x z
+alternativeAt n g FUNC x y z i = cond (eqb i 0) (equal x z) (reaches 1 y z)
 alternativeAt n g CYCLE x y z i = equal y (iterate (next n g) i x)
-alternativeAt n g SCC x y z i = cond (eqb i 0) (equal x y) (reaches z x)
-alternativeAt n g TOTAL x y z i = cond (eqb i 0) (reaches y z) (reaches z y)
+alternativeAt n g SCC x y z i = cond (eqb i 0) (equal x y) (reaches 1 z x)
+alternativeAt n g TOTAL x y z i = cond (eqb i 0) (reaches 1 y z) (reaches 1 z y)
 alternativeAt n g SHARE x y z i = equal x y

@@ -6,7 +6,7 @@ use Rattle.branch.specs.declared.Fact.the-variants as fact
 
 abbrev pub factOf : code.Fact → Fact
 factOf (fact.Equal a b) = equal (a .0) (b .0)
-factOf (fact.Reaches a b) = reaches (a .0) (b .0)
+factOf (fact.Reaches a b) = reaches 1 (a .0) (b .0)
 
 -- its terms are at most 16
 abbrev pub InRange : code.Fact → Type 0

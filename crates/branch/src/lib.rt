@@ -92,7 +92,7 @@ fn added(s: Facts, n: usize, fact: Fact) -> Joined
 // The branch of a rule at i, from 0.
 pub fn branch(s: Facts, n: usize, rule: Rule, x: Term, y: Term, z: Third, i: usize) -> Joined
     requires { ⌜ (n ≤ 16) × (x .0 ≤ 16) × (y .0 ≤ 16) × (z .0 ≤ 16) ⌝ }
-    ensures { λ r. ⌜ joinedOf r ≡ branch n (pathOf s) (alternativeAt n (pathOf s .graph) (kindOf rule) (x .0) (y .0) (z .0) i) ⌝ }
+    ensures { λ r. ⌜ joinedOf r ≡ branch n (pathOf s) (alternativeAt n (pathOf s .graph 1) (kindOf rule) (x .0) (y .0) (z .0) i) ⌝ }
 {
     let link = s.link;
     let fact = alternative(&link, n, rule, x, y, z, i);

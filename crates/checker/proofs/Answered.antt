@@ -9,11 +9,11 @@ use mathlib.Core.Option.{none, some}
 use lib.ListN.{length, drop}
 use Rattle.logic.specs.Query.{Query, decode, termCount}
 use Rattle.logic.specs.Facts.{Facts, Joined}
-use Rattle.logic.specs.Walk.{limit}
 use Rattle.logic.specs.Derivation.{linesIn}
 use Rattle.logic.specs.Calls.{accepts}
 use Rattle.logic.specs.Calls as calls
 use Rattle.logic.proofs.Query.AcceptedBytes as acceptance
+use Rattle.logic.proofs.Calls.OneLink.{limit-one}
 use Rattle.query.specs.Answers.{CheckedAs}
 use Rattle.query.specs.declared.Layout.{Layout}
 use Rattle.query.specs.declared.Checked.the-variants as checked
@@ -38,10 +38,10 @@ unfolding goalOf startGoal started
 start-goal q j e = ap goalOf e
 
 pub start-ahead : (query : List ℕ) (j : Joined) (n k : ℕ) → accepts query ≡ true → j ≡ started (decode query) → n ≡ termCount (decode query) → k ≡ n * n + n → Ahead (decode query) (j .facts) k
-unfolding started limit
+unfolding started
 start-ahead query j n k a e f g =
     subst (λ (i : Joined). Ahead (decode query) (i .facts) k) (sym e)
-    (ahead-start (decode query) (acceptance.accepted query a) k (g ∙ ap (λ (m : ℕ). m * m + m) f))
+    (ahead-start (decode query) (acceptance.accepted query a) k (g ∙ ap (λ (m : ℕ). m * m + m) f ∙ sym (limit-one (decode query) (acceptance.decode-links query))))
 
 module _ (q : Query) (bytes : List ℕ) (count : ℕ) (shape : Shaped bytes count) (j : Joined) (j-is : j ≡ started q) (r : Judged) (h : JudgesGoal q bytes count (goalOf j) 0 r) where
   whole : wrongLine q (linesIn bytes) ≡ resumed q bytes [] r

@@ -80,19 +80,19 @@ module _ (q : Query) (bytes : List ℕ) (i : ℕ) where
     says none f = wrong-none (record { heading = []; facts = s }) gs f
     says (some l) f = at-clash (isClash q s l) refl
       where
-        at-applies : (m : Move) (b : Bool) → isClash q s l ≡ false → isClashed q s ≡ false → moveIn l ≡ some m → applies (termCount q) s m ≡ b → Says (cond b (ruling m) unfit)
+        at-applies : (m : Move) (b : Bool) → isClash q s l ≡ false → isClashed q s ≡ false → moveIn (s .links) l ≡ some m → applies (termCount q) s m ≡ b → Says (cond b (ruling m) unfit)
         at-applies m true c d e a = wrong-fit bare (goalsOf (termCount q) s m ++ gs) l f (rw (c, d, e, a) refl)
         at-applies m false c d e a = wrong-unfit bare l f (rw (c, d, e, a) refl)
 
-        at-move : (o : Option Move) → isClash q s l ≡ false → isClashed q s ≡ false → moveIn l ≡ o → Says (readRule q s o)
+        at-move : (o : Option Move) → isClash q s l ≡ false → isClashed q s ≡ false → moveIn (s .links) l ≡ o → Says (readRule q s o)
         at-move none c d e = wrong-unfit bare l f (rw (c, d, e) refl)
         at-move (some m) c d e = at-applies m (applies (termCount q) s m) c d e refl
 
-        at-free : (b : Bool) → isClash q s l ≡ false → isClashed q s ≡ b → Says (cond b unfit (readRule q s (moveIn l)))
+        at-free : (b : Bool) → isClash q s l ≡ false → isClashed q s ≡ b → Says (cond b unfit (readRule q s (moveIn (s .links) l)))
         at-free true c d = wrong-unfit bare l f (rw (c, d) refl)
-        at-free false c d = at-move (moveIn l) c d refl
+        at-free false c d = at-move (moveIn (s .links) l) c d refl
 
-        at-clash : (b : Bool) → isClash q s l ≡ b → Says (cond b ending (cond (isClashed q s) unfit (readRule q s (moveIn l))))
+        at-clash : (b : Bool) → isClash q s l ≡ b → Says (cond b ending (cond (isClashed q s) unfit (readRule q s (moveIn (s .links) l))))
         at-clash true c = wrong-fit bare gs l f (rw c refl)
         at-clash false c = at-free (isClashed q s) c refl
 

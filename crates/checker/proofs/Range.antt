@@ -3,14 +3,14 @@ use Prim.Native.Nat.{ℕ, zero, suc, _+_, _-_, _≤_, _<_}
 use native.Mathlib.Omega.{arith}
 use mathlib.Core.Path.{_≡_, refl, sym, ap, _∙_, subst}
 use mathlib.Core.Logic.{⊎-elim}
-use mathlib.Core.Bool.{Bool, true, false, not, cond, false≢true}
+use mathlib.Core.Bool.{Bool, true, false, cond, false≢true}
 use mathlib.Core.List.{List, List·Memᴰ, List·Memᴰ·head, List·Memᴰ·tail}
 use lib.Dec.{eqb}
-use Rattle.logic.specs.Search.{_and_, any}
+use Rattle.logic.specs.Search.{_and_}
 use Rattle.logic.specs.Heap.{iterate, Reaches}
 use Rattle.logic.specs.Query.{Query, termCount}
 use Rattle.logic.specs.Facts.{Graph, Facts, live, start}
-use Rattle.logic.specs.Rules.{Rule, REFLEX, TRANS1, TRANS2, FUNC, CYCLE, SCC, TOTAL, SHARE, triple, Move, move, Fact, next, returns, round, conditions, alternatives, held, applies, add, branches}
+use Rattle.logic.specs.Rules.{Rule, REFLEX, TRANS1, TRANS2, FUNC, CYCLE, SCC, TOTAL, SHARE, triple, Move, move, Fact, next, returns, round, conditions, alternatives, applies, add, branches}
 use Rattle.logic.specs.Walk.{limit}
 use Rattle.logic.specs.Steps.{Step, Steps, at-first, one-more}
 use Rattle.logic.proofs.Basics.Search.{and-left, and-right, true-false, map-intro}
@@ -18,6 +18,7 @@ use Rattle.logic.proofs.Basics.Compare.{eqb-true, eqb-intro, le-cases}
 use Rattle.logic.proofs.Graph.Cycles.{OnCycle, Within, cycle-short}
 use Rattle.logic.proofs.Query.Tied.{Accepted}
 use Rattle.logic.proofs.Paths.Ranged.{InRange, live-range}
+use Rattle.logic.proofs.Paths.Applies.{applies-met}
 use Rattle.logic.proofs.Paths.Kept.{Sane}
 use Rattle.logic.proofs.Paths.Round.{returns-cases, round-all}
 use Rattle.logic.proofs.Paths.Invariant.{Invariant, start-invariant, branch-invariant}
@@ -62,20 +63,20 @@ module _ (n : ℕ) (g : Graph) (x : ℕ) where
 
 -- The numbers of a move
 
-module _ (n : ℕ) (s : Facts) (sane : Sane n s) where
+module _ (n : ℕ) (s : Facts) (sane : Sane n s) (i : ℕ) where
   abbrev Numbers : ℕ → ℕ → ℕ → Type 0
   Numbers x y z = (x ≤ n) × (y ≤ n) × (z ≤ n)
 
   abbrev G : Graph
-  G = s .graph
+  G = s .graph i
 
   linked : (a b : ℕ) → G .link a b ≡ true → InRange n a × InRange n b
-  linked a b h = let l = sane .ranged .link-live a b h in (live-range n s a (l .0), live-range n s b (l .1))
+  linked a b h = let l = sane .ranged .link-live i a b h in (live-range n s a (l .0), live-range n s b (l .1))
 
   reached : (a b : ℕ) → G .reach a b ≡ true → InRange n a × InRange n b
-  reached a b h = let l = sane .ranged .reach-live a b h in (live-range n s a (l .0), live-range n s b (l .1))
+  reached a b h = let l = sane .ranged .reach-live i a b h in (live-range n s a (l .0), live-range n s b (l .1))
 
-  numbers : (r : Rule) (x y z : ℕ) → conditions n (live n s) G (move r (triple x y z)) ≡ true → Numbers x y z
+  numbers : (r : Rule) (x y z : ℕ) → conditions n (live n s) (s .graph) (move i r (triple x y z)) ≡ true → Numbers x y z
   unfolding conditions
   numbers REFLEX x y z h =
       let l = and-left (live n s x and eqb y 0) (eqb z 0) h in
@@ -114,9 +115,8 @@ module _ (n : ℕ) (s : Facts) (sane : Sane n s) where
       let b = linked y z (and-right (G .link x z) (G .link y z) m) in
       (a .0 .1, b .0 .1, a .1 .1)
 
-  move-numbers : (r : Rule) (x y z : ℕ) → applies n s (move r (triple x y z)) ≡ true → Numbers x y z
-  unfolding applies
-  move-numbers r x y z h = numbers r x y z (and-left (conditions n (live n s) G (move r (triple x y z))) (not (any (held G) (alternatives n G (move r (triple x y z))))) h)
+  move-numbers : (r : Rule) (x y z : ℕ) → applies n s (move i r (triple x y z)) ≡ true → Numbers x y z
+  move-numbers r x y z h = numbers r x y z (applies-met n s (move i r (triple x y z)) h)
 
 -- Rule steps from the start
 
@@ -143,9 +143,9 @@ module _ (q : Query) (ok : Accepted q) where
           led = subst (λ (k : ℕ). Steps (termCount q) (start q) k (add (termCount q) s c)) e (one-more (ahead .led) (record { rule-move = m; applicable = app; branch = map-intro (add (termCount q) s) c mem }));
         }
 
-  pub ahead-numbers : (s : Facts) (left : ℕ) → Ahead q s left → (r : Rule) (x y z : ℕ) → applies (termCount q) s (move r (triple x y z)) ≡ true → (x ≤ 16) × (y ≤ 16) × (z ≤ 16)
-  ahead-numbers s left ahead r x y z app =
-      let l = move-numbers (termCount q) s (steps-invariant (ahead .led) .sane) r x y z app in
+  pub ahead-numbers : (s : Facts) (left : ℕ) → Ahead q s left → (i : ℕ) (r : Rule) (x y z : ℕ) → applies (termCount q) s (move i r (triple x y z)) ≡ true → (x ≤ 16) × (y ≤ 16) × (z ≤ 16)
+  ahead-numbers s left ahead i r x y z app =
+      let l = move-numbers (termCount q) s (steps-invariant (ahead .led) .sane) i r x y z app in
       let t = ok .term-count in
       (omega arith, omega arith, omega arith)
 

@@ -13,12 +13,18 @@ use Rattle.logic.specs.Query.{Query, termCount}
 use Rattle.logic.specs.Facts.{Facts, Line, line, isClash, clash}
 use Rattle.logic.specs.Rules.{Rule, rules, ruleNumber, ruleOf, triple, Move, move, applies}
 use Rattle.logic.specs.Walk.{isClashed}
+use Rattle.logic.proofs.Calls.OneLink.{moveOf-one}
 use Rattle.facts.specs.Square.{square}
-use Rattle.facts.specs.Path.{pathOf, repOf, graphOf}
+use Rattle.facts.specs.Path.{pathOf, onlyLink, repOf, graphOf}
 use Rattle.facts.specs.declared.Facts as code
 use Rattle.checking.specs.Fitting.{moveIn}
 use Rattle.checker.specs.Reading.{Shaped, lineAt, Read, ending, ruling, unfit, readRule, readLine, readAt}
 use Rattle.checker.proofs.Lines.{lineFrom, line-there, line-past}
+
+-- a rule is by the one link
+move-read : (s : code.Facts) (k x y z : ℕ) → moveIn (pathOf s .links) (line k x y z) ≡ Option·elim (ruleOf k) none (λ r. some (move 1 r (triple x y z)))
+unfolding pathOf moveIn
+move-read s k x y z = moveOf-one k (triple x y z)
 
 module _ (q : Query) (s : code.Facts) (bytes : List ℕ) (count i : ℕ) (shape : Shaped bytes count) where
   abbrev Reads : Read → Type 0
@@ -42,42 +48,42 @@ module _ (q : Query) (s : code.Facts) (bytes : List ℕ) (count i : ℕ) (shape 
     read-clash v e f t = read-is ending (sym (rw (e, sym f ∙ t) refl))
 
     pub read-false : (v : Bool) → k ≡ 9 → v ≡ isClash q (pathOf s) (line 9 x y z) → v ≡ false → Reads unfit
-    unfolding readLine readRule moveIn ruleOf rules ruleNumber find firstOf orElse keep Option·elim
-    read-false v e f t = read-is unfit (sym (rw (e, sym f ∙ t) (either (isClashed q (pathOf s)))))
+    unfolding readLine readRule ruleOf rules ruleNumber find firstOf orElse keep Option·elim
+    read-false v e f t = read-is unfit (sym (rw (e, sym f ∙ t, move-read s 9 x y z) (either (isClashed q (pathOf s)))))
       where
         either : (b : Bool) → cond b unfit unfit ≡ unfit
         either true = refl
         either false = refl
 
     -- another line
-    module _ (other : k ≡ 9 → ⊥) (o : Option Line) (found : (t : Facts) → t .rep ≡ repOf (s .rep) → t .graph .reach ≡ square (s .reach) → o ≡ clash q t) where
+    module _ (other : k ≡ 9 → ⊥) (o : Option Line) (found : (t : Facts) → t .rep ≡ repOf (s .rep) → t .graph 1 .reach ≡ square (s .reach) → o ≡ clash q t) where
       no-clash : isClash q (pathOf s) (line k x y z) ≡ false
       unfolding isClash _and_
       no-clash = rw (ne-eqb k 9 other) refl
 
       stands : o ≡ clash q (pathOf s)
-      unfolding pathOf graphOf
+      unfolding pathOf onlyLink graphOf
       stands = found (pathOf s) refl refl
 
       pub read-clashed : (l : Line) → o ≡ some l → Reads unfit
       unfolding readLine isClashed isSome
       read-clashed l e = read-is unfit (sym (rw (no-clash, sym stands ∙ e) refl))
 
-      read-free : (r : Read) → o ≡ none → r ≡ readRule q (pathOf s) (moveIn (line k x y z)) → Reads r
+      read-free : (r : Read) → o ≡ none → r ≡ readRule q (pathOf s) (moveIn (pathOf s .links) (line k x y z)) → Reads r
       unfolding readLine isClashed isSome
       read-free r e f = read-is r (f ∙ sym (rw (no-clash, sym stands ∙ e) refl))
 
       pub read-unruled : o ≡ none → none ≡ ruleOf k → Reads unfit
-      unfolding readRule moveIn Option·elim
-      read-unruled e f = read-free unfit e (sym (rw (sym f) refl))
+      unfolding readRule Option·elim
+      read-unruled e f = read-free unfit e (sym (rw (move-read s k x y z, sym f) refl))
 
-      pub read-rule : (r : Rule) (n : ℕ) (v : Bool) → o ≡ none → some r ≡ ruleOf k → n ≡ termCount q → v ≡ applies n (pathOf s) (move r (triple x y z)) → v ≡ true → Reads (ruling (move r (triple x y z)))
-      unfolding readRule moveIn Option·elim
-      read-rule r n v e f m g t = read-free (ruling (move r (triple x y z))) e (sym (rw (sym f, sym m, sym g ∙ t) refl))
+      pub read-rule : (r : Rule) (n : ℕ) (v : Bool) → o ≡ none → some r ≡ ruleOf k → n ≡ termCount q → v ≡ applies n (pathOf s) (move 1 r (triple x y z)) → v ≡ true → Reads (ruling (move 1 r (triple x y z)))
+      unfolding readRule Option·elim
+      read-rule r n v e f m g t = read-free (ruling (move 1 r (triple x y z))) e (sym (rw (move-read s k x y z, sym f, sym m, sym g ∙ t) refl))
 
-      pub read-idle : (r : Rule) (n : ℕ) (v : Bool) → o ≡ none → some r ≡ ruleOf k → n ≡ termCount q → v ≡ applies n (pathOf s) (move r (triple x y z)) → v ≡ false → Reads unfit
-      unfolding readRule moveIn Option·elim
-      read-idle r n v e f m g t = read-free unfit e (sym (rw (sym f, sym m, sym g ∙ t) refl))
+      pub read-idle : (r : Rule) (n : ℕ) (v : Bool) → o ≡ none → some r ≡ ruleOf k → n ≡ termCount q → v ≡ applies n (pathOf s) (move 1 r (triple x y z)) → v ≡ false → Reads unfit
+      unfolding readRule Option·elim
+      read-idle r n v e f m g t = read-free unfit e (sym (rw (move-read s k x y z, sym f, sym m, sym g ∙ t) refl))
 
 -- a rule line that is read as one applies
 told : Read → ℕ
@@ -103,10 +109,10 @@ ruling-applies q s (some l) m e = at-clash (isClash q s l) e
     at-move none e = absurd (omega (arith, ap told e))
     at-move (some d) e = at-applies d (applies (termCount q) s d) refl e
 
-    at-free : (b : Bool) → cond b unfit (readRule q s (moveIn l)) ≡ ruling m → applies (termCount q) s m ≡ true
+    at-free : (b : Bool) → cond b unfit (readRule q s (moveIn (s .links) l)) ≡ ruling m → applies (termCount q) s m ≡ true
     at-free true e = absurd (omega (arith, ap told e))
-    at-free false e = at-move (moveIn l) e
+    at-free false e = at-move (moveIn (s .links) l) e
 
-    at-clash : (b : Bool) → cond b ending (cond (isClashed q s) unfit (readRule q s (moveIn l))) ≡ ruling m → applies (termCount q) s m ≡ true
+    at-clash : (b : Bool) → cond b ending (cond (isClashed q s) unfit (readRule q s (moveIn (s .links) l))) ≡ ruling m → applies (termCount q) s m ≡ true
     at-clash true e = absurd (omega (arith, ap told e))
     at-clash false e = at-free (isClashed q s) e

@@ -47,7 +47,7 @@ readRule q s none = unfit
 readRule q s (some m) = cond (applies (termCount q) s m) (ruling m) unfit
 
 unfoldable pub readLine : Query → Facts → Line → Read
-readLine q s l = cond (isClash q s l) ending (cond (isClashed q s) unfit (readRule q s (moveIn l)))
+readLine q s l = cond (isClash q s l) ending (cond (isClashed q s) unfit (readRule q s (moveIn (s .links) l)))
 
 unfoldable pub readAt : Query → Facts → Option Line → Read
 readAt q s none = unfit
@@ -55,5 +55,5 @@ readAt q s (some l) = readLine q s l
 
 abbrev pub readingOf : Reading → Read
 readingOf reading.Ends = ending
-readingOf (reading.Applies r x y z) = ruling (move (kindOf r) (triple (x .0) (y .0) (z .0)))
+readingOf (reading.Applies r x y z) = ruling (move 1 (kindOf r) (triple (x .0) (y .0) (z .0)))
 readingOf reading.Wrong = unfit

@@ -13,7 +13,7 @@ use Rattle.logic.specs.Query.{decode}
 use Rattle.logic.specs.Heap.{Satisfiable}
 use Rattle.logic.specs.Facts.{Line}
 use Rattle.logic.specs.Derivation.{Derivation, derivationBytes, linesFrom, linesIn}
-use Rattle.logic.specs.Calls.{Input, layoutCheck, byteCheck, formChecks, queryChecks, Answer, accepts, padded, derivationCall}
+use Rattle.logic.specs.Calls.{Input, layoutCheck, byteCheck, formChecks, queryChecks, Answer, accepts, padded, derivationCall, acceptsBy}
 use Rattle.logic.specs.Calls as calls
 use Rattle.logic.specs.Demands.{FirstStands, numbers}
 use Rattle.logic.proofs.Basics.Search.{not-true, isSome-false}
@@ -22,6 +22,7 @@ use Rattle.logic.proofs.Query.AcceptedBytes as acceptance
 use Rattle.logic.proofs.Soundness.Refuted.{derivation-sound}
 use Rattle.logic.proofs.Calls.CheckingOrder.{refusal-first, first-unique, first-numbered, first-stands, query-early}
 use Rattle.logic.proofs.Calls.CallLaws.{derivation-passed, refusalOf-none}
+use Rattle.logic.proofs.Calls.Refusals.{one-link-laws}
 use Rattle.logic.proofs.Calls.DerivationBytes.{derivation-length, lines-read}
 use Rattle.logic.proofs.Calls.Demands.{demand1, demand2}
 use Rattle.checking.specs.Fitting.{FirstWrong, wrongLine}
@@ -58,11 +59,11 @@ not-twenty {k} m e = ⊎-elim (λ u. omega (arith, u, e)) (λ q. omega (arith, q
 
 -- a query is accepted exactly where none of them stands
 accepts-none : (query : List ℕ) → accepts query ≡ true → queryRefusal query ≡ none
-unfolding accepts queryRefusal
+unfolding acceptsBy queryRefusal
 accepts-none query h = isSome-false _ (not-true h)
 
 none-accepts : (query : List ℕ) → queryRefusal query ≡ none → accepts query ≡ true
-unfolding accepts queryRefusal isSome
+unfolding acceptsBy queryRefusal isSome
 none-accepts query h = rw h
 
 -- a refusal is that of the first that stands
@@ -232,7 +233,7 @@ ours-accepted i h =
     let lent = derivationCall i .lent in
     let e : unpadded lent ≡ derivationBytes (linesIn lent) = ap unpadded (demand2 .derivation-formed i h) ∙ unpadded-written (i .room) (linesIn lent) in
     ap (checkCall (i .query)) e
-    ∙ hand-accepted (i .query) (linesIn lent) (derivation-passed i (demand1 .lines-exactly i .0 h .0) .query) (demand2 .derivation-follows i h) (demand2 .derivation-counted i h .0)
+    ∙ hand-accepted (i .query) (linesIn lent) (derivation-passed calls.oneLinkForm one-link-laws i (demand1 .lines-exactly i .0 h .0) .query) (demand2 .derivation-follows i h) (demand2 .derivation-counted i h .0)
 
 pub claims : Claims
 claims =

@@ -1,5 +1,5 @@
 -- Lines fit to the end exactly if they are a derivation: one line after the other, and the whole tree.
-use Prim.Native.Nat.{ℕ, zero, suc, _+_}
+use Prim.Native.Nat.{ℕ, _+_, _-_, _*_, _<_}
 use native.Mathlib.Omega.{arith}
 use mathlib.Core.Path.{_≡_, refl, sym, ap, ap₂, _∙_, subst}
 use mathlib.Core.Logic.{_⊎_, ⊎-elim, inl, inr}
@@ -7,14 +7,16 @@ use mathlib.Core.Bool.{Bool, true, false, cond, false≢true}
 use mathlib.Core.List.{List, [], _∷_, _++_, map, append-assoc, append-nil}
 use mathlib.Core.Option.{Option, none, some, Option·elim}
 use lib.Dec.{eqb}
-use Rattle.logic.specs.Search.{_and_, keep, isSome, orElse, firstOf, find}
+use Rattle.logic.specs.Search.{_and_, keep, isSome, firstOf}
 use Rattle.logic.specs.Query.{Query, termCount}
-use Rattle.logic.specs.Facts.{Facts, Joined, Line, line, joinLines, startJoins, start, isClash, clash}
-use Rattle.logic.specs.Rules.{Rule, REFLEX, TRANS1, TRANS2, FUNC, CYCLE, SCC, TOTAL, SHARE, rules, ruleNumber, ruleOf, triple, Move, move, Fact, alternatives, applies, branch, add, moveLine}
+use Rattle.logic.specs.Facts.{Facts, Joined, Line, line, joinLines, startJoins, start, isClash, clash, linkNumbers}
+use Rattle.logic.specs.Rules.{Rule, REFLEX, TRANS1, TRANS2, FUNC, CYCLE, SCC, TOTAL, SHARE, rules, ruleNumber, Triple, triple, Move, move, Fact, alternatives, hasLink, applies, branch, add, moveNumber, moveLine, moveOf}
 use Rattle.logic.specs.Walk.{isClashed}
 use Rattle.logic.specs.Derivation.{Derivation, Refutes, ends, follows, RefutesEach, none-left, one-more}
-use Rattle.logic.proofs.Basics.Search.{none-some, keep-some, keep-none, and-left, and-right, and-intro, bool-cases, true-false, isSome-false, find-some}
-use Rattle.logic.proofs.Basics.Compare.{eqb-true, eqb-self}
+use Rattle.logic.proofs.Basics.Search.{none-some, keep-some, keep-none, and-left, and-right, and-intro, bool-cases, true-false, isSome-false, firstOf-some}
+use Rattle.logic.proofs.Basics.Compare.{eqb-true, eqb-false, eqb-self}
+use Rattle.logic.proofs.Paths.Applies.{hasLink-range, applies-linked}
+use Rattle.logic.proofs.Walks.Order.{moveOf-number}
 use Rattle.checking.specs.Fitting.{Goal, goalOf, sameLine, moveIn, goalsOf, afterRule, atPath, atGoal, step, startGoal, Fit}
 use Rattle.checking.specs.Fitting as fitting
 
@@ -36,31 +38,30 @@ unfolding sameLine
 line-same (line a b c d) = and-intro (and-intro (and-intro (eqb-self a) (eqb-self b)) (eqb-self c)) (eqb-self d)
 
 -- the move in a line is the one whose line it is
-rule-numbered : (r : Rule) → ruleOf (ruleNumber r) ≡ some r
-unfolding ruleOf ruleNumber rules find firstOf keep orElse
-rule-numbered REFLEX = refl
-rule-numbered TRANS1 = refl
-rule-numbered TRANS2 = refl
-rule-numbered FUNC = refl
-rule-numbered CYCLE = refl
-rule-numbered SCC = refl
-rule-numbered TOTAL = refl
-rule-numbered SHARE = refl
+pub move-in : (links : ℕ) (m : Move) → hasLink links m ≡ true → moveIn links (moveLine m) ≡ some m
+unfolding moveIn moveLine
+move-in links (move i r (triple x y z)) h = moveOf-number links i r (triple x y z) (hasLink-range links i r (triple x y z) h)
 
-pub move-in : (m : Move) → moveIn (moveLine m) ≡ some m
-unfolding moveIn moveLine Option·elim
-move-in (move r (triple x y z)) = rw (rule-numbered r)
+pub in-move : (links : ℕ) (l : Line) (m : Move) → moveIn links l ≡ some m → moveLine m ≡ l
+unfolding moveIn moveLine moveOf
+in-move links (line k x y z) m h =
+    let t : Triple = triple x y z in
+    let (i, mi, e) = firstOf-some (λ j. firstOf (λ r. keep (eqb (moveNumber j r) k) (move j r t)) rules) (linkNumbers links) m h in
+    let (r, mr, f) = firstOf-some (λ r. keep (eqb (moveNumber i r) k) (move i r t)) rules m e in
+    let g = keep-some (eqb (moveNumber i r) k) f in
+    ap moveLine (sym (g .1)) ∙ ap (λ (j : ℕ). line j x y z) (eqb-true (moveNumber i r) k (g .0))
 
-pub in-move : (l : Line) (m : Move) → moveIn l ≡ some m → moveLine m ≡ l
-unfolding moveIn moveLine Option·elim ruleOf
-in-move (line k x y z) m h = go (ruleOf k) refl h
-  where
-    go : (o : Option Rule) → ruleOf k ≡ o → Option·elim o none (λ r. some (move r (triple x y z))) ≡ some m → moveLine m ≡ line k x y z
-    go none e h = absurd (none-some h)
-    go (some r) e h =
-        let n = eqb-true (ruleNumber r) k (find-some (λ (x : Rule). eqb (ruleNumber x) k) rules r e .1) in
-        let f : move r (triple x y z) ≡ m = cc in
-        ap moveLine (sym f) ∙ ap (λ (j : ℕ). line j x y z) n
+-- a rule's number is below that of a clash line
+rule-below : (r : Rule) → ruleNumber r < 9
+unfolding ruleNumber
+rule-below REFLEX = omega arith
+rule-below TRANS1 = omega arith
+rule-below TRANS2 = omega arith
+rule-below FUNC = omega arith
+rule-below CYCLE = omega arith
+rule-below SCC = omega arith
+rule-below TOTAL = omega arith
+rule-below SHARE = omega arith
 
 -- Lines that fit, one row after another
 
@@ -83,21 +84,14 @@ module _ (q : Query) where
   unfolding step atGoal atPath Option·elim
   step-clash s gs l e = rw e
 
-  pub step-rule : (s : Facts) (gs : List Goal) (l : Line) (m : Move) → isClash q s l ≡ false → clash q s ≡ none → moveIn l ≡ some m → applies (termCount q) s m ≡ true → step q (record { heading = []; facts = s } ∷ gs) l ≡ some (goalsOf (termCount q) s m ++ gs)
+  pub step-rule : (s : Facts) (gs : List Goal) (l : Line) (m : Move) → isClash q s l ≡ false → clash q s ≡ none → moveIn (s .links) l ≡ some m → applies (termCount q) s m ≡ true → step q (record { heading = []; facts = s } ∷ gs) l ≡ some (goalsOf (termCount q) s m ++ gs)
   unfolding step atGoal atPath afterRule Option·elim isClashed isSome keep
   step-rule s gs l m e f g h = rw (e, f, g, h)
 
   -- a rule line is no clash line
   rule-no-clash : (s : Facts) (m : Move) → isClash q s (moveLine m) ≡ false
-  unfolding isClash moveLine ruleNumber _and_
-  rule-no-clash s (move REFLEX (triple x y z)) = refl
-  rule-no-clash s (move TRANS1 (triple x y z)) = refl
-  rule-no-clash s (move TRANS2 (triple x y z)) = refl
-  rule-no-clash s (move FUNC (triple x y z)) = refl
-  rule-no-clash s (move CYCLE (triple x y z)) = refl
-  rule-no-clash s (move SCC (triple x y z)) = refl
-  rule-no-clash s (move TOTAL (triple x y z)) = refl
-  rule-no-clash s (move SHARE (triple x y z)) = refl
+  unfolding isClash moveLine moveNumber _and_
+  rule-no-clash s (move i r (triple x y z)) = let n = rule-below r in rw (eqb-false (16 * (i - 1) + ruleNumber r) 9 (λ e. omega arith)) refl
 
   -- the goals of some alternatives, before others
   goalsBy : Facts → List Fact → List Goal
@@ -109,7 +103,7 @@ module _ (q : Query) where
       elim r as (λ s ls r. (gs : List Goal) → Fit q (record { heading = []; facts = s } ∷ gs) ls gs) (λ s cs ls r. (gs : List Goal) → Fit q (goalsBy s cs ++ gs) ls gs) [
         | ends {s = s} l e ↦ λ gs. fitting.one-more l (step-clash s gs l e) fitting.no-line
         | follows {s = s} m free app (rs → below) ↦ λ gs.
-            fitting.one-more (moveLine m) (step-rule s gs (moveLine m) m (rule-no-clash s m) free (move-in m) app) (below gs)
+            fitting.one-more (moveLine m) (step-rule s gs (moveLine m) m (rule-no-clash s m) free (move-in (s .links) m (applies-linked (termCount q) s m app)) app) (below gs)
         | none-left ↦ λ gs. fitting.no-line
         | one-more {s = s} {c = c} {cs = cs} {ls = ls} {ms = ms} (r → first) (rs → rest) ↦ λ gs.
             fit-append q (fit-append q (heading-fits (joinLines (branch (termCount q) s c .pairs)) (branch (termCount q) s c .facts) (goalsBy s cs ++ gs)) (first (goalsBy s cs ++ gs))) (rest gs)
@@ -151,13 +145,13 @@ module _ (q : Query) where
       at-applies m true free e a h = let f : goalsOf (termCount q) s m ++ gs ≡ hs = cc in subst (Left s gs l) f (ruled m free e a)
       at-applies m false free e a h = absurd (none-some h)
 
-      at-move : (o : Option Move) → clash q s ≡ none → moveIn l ≡ o → Option·elim (Option·elim o none (λ m. keep (applies (termCount q) s m) (goalsOf (termCount q) s m))) none (λ new. some (new ++ gs)) ≡ some hs → Left s gs l hs
+      at-move : (o : Option Move) → clash q s ≡ none → moveIn (s .links) l ≡ o → Option·elim (Option·elim o none (λ m. keep (applies (termCount q) s m) (goalsOf (termCount q) s m))) none (λ new. some (new ++ gs)) ≡ some hs → Left s gs l hs
       at-move none free e h = absurd (none-some h)
-      at-move (some m) free e h = at-applies m (applies (termCount q) s m) free (in-move l m e) refl h
+      at-move (some m) free e h = at-applies m (applies (termCount q) s m) free (in-move (s .links) l m e) refl h
 
       at-free : (b : Bool) → isClashed q s ≡ b → Option·elim (cond b none (afterRule q s l)) none (λ new. some (new ++ gs)) ≡ some hs → Left s gs l hs
       at-free true e h = absurd (none-some h)
-      at-free false e h = at-move (moveIn l) (isSome-false (clash q s) e) refl h
+      at-free false e h = at-move (moveIn (s .links) l) (isSome-false (clash q s) e) refl h
 
       at-clash : (b : Bool) → isClash q s l ≡ b → Option·elim (cond b (some []) (cond (isClashed q s) none (afterRule q s l))) none (λ new. some (new ++ gs)) ≡ some hs → Left s gs l hs
       at-clash true e h = let f : gs ≡ hs = cc in subst (Left s gs l) f (clashed e)

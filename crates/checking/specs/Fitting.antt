@@ -10,7 +10,7 @@ use lib.Dec.{eqb}
 use Rattle.logic.specs.Search.{_and_, keep}
 use Rattle.logic.specs.Query.{Query, termCount}
 use Rattle.logic.specs.Facts.{Facts, Joined, Line, line, joinLines, startJoins, start, isClash}
-use Rattle.logic.specs.Rules.{Rule, ruleOf, triple, Move, move, alternatives, applies, branch}
+use Rattle.logic.specs.Rules.{triple, Move, alternatives, applies, branch, moveOf}
 use Rattle.logic.specs.Walk.{isClashed}
 
 -- A path that is still to be refuted: the join lines still to come at its head, and its facts.
@@ -25,9 +25,9 @@ goalOf j = record { heading = joinLines (j .pairs); facts = j .facts }
 unfoldable pub sameLine : Line → Line → Bool
 sameLine (line a b c d) (line w x y z) = eqb a w and eqb b x and eqb c y and eqb d z
 
--- the rule and the triple that a line holds
-unfoldable pub moveIn : Line → Option Move
-moveIn (line k x y z) = Option·elim (ruleOf k) none (λ r. some (move r (triple x y z)))
+-- the rule, by one of so many links, and the triple that a line holds
+unfoldable pub moveIn : ℕ → Line → Option Move
+moveIn links (line k x y z) = moveOf links k (triple x y z)
 
 -- "its branches are all there in order": what is to be refuted once a rule line stands at a path
 unfoldable pub goalsOf : ℕ → Facts → Move → List Goal
@@ -37,7 +37,7 @@ goalsOf n s m = map (λ c. goalOf (branch n s c)) (alternatives n (s .graph) m)
 unfoldable pub afterRule : Query → Facts → Line → Option (List Goal)
 afterRule q s l =
     let n : ℕ = termCount q in
-    Option·elim (moveIn l) none (λ m. keep (applies n s m) (goalsOf n s m))
+    Option·elim (moveIn (s .links) l) none (λ m. keep (applies n s m) (goalsOf n s m))
 
 -- What a line leaves of a path: "each path ends in a true clash (any one, with any plain partner) as soon as a clash stands"; where none
 -- stands, a rule line leaves its branches. No other line fits there.

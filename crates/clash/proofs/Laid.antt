@@ -1,12 +1,13 @@
 -- The searches of the sections, each where the query's bytes have it, make up the clash of a path.
 use Prim.Native.Nat.{ℕ}
-use mathlib.Core.Path.{_≡_, ap, ap₂, _∙_}
+use mathlib.Core.Path.{_≡_, ap, ap₂, _∙_, subst}
 use mathlib.Core.Bool.{Bool}
-use mathlib.Core.List.{List}
+use mathlib.Core.List.{List, List·Memᴰ}
 use mathlib.Core.Option.{Option, none, some}
 use Rattle.logic.specs.Search.{orElse}
-use Rattle.logic.specs.Query.{Literal, Query, decode}
+use Rattle.logic.specs.Query.{Literal, decode}
 use Rattle.logic.specs.Facts.{Facts, Line, clash}
+use Rattle.logic.proofs.Query.Bytes.{literals-link}
 use Rattle.query.specs.declared.Layout.{Layout}
 use Rattle.query.specs.LaysOut.{LaysOut}
 use Rattle.clash.specs.Sections.{literalsIn, oneTerm, reachHeld, sameField, alone, paired, pathClash}
@@ -42,6 +43,10 @@ module _ {l : Layout} {bytes : List ℕ} (laid : LaysOut l bytes) where
     unfolding orElse
     fields-third e f = sections-laid ∙ rw (e, f)
 
--- the clash of every path with these representatives and this reachability
-pub clash-at : (q : Query) (rep : ℕ → ℕ) (reach : ℕ → ℕ → Bool) (s : Facts) → s .rep ≡ rep → s .graph .reach ≡ reach → clash q s ≡ pathClash q rep reach
-clash-at q rep reach s e f = clash-split q s ∙ ap₂ (pathClash q) e f
+  -- every reachability literal has link 1
+  reach-one : (x : Literal) → List·Memᴰ x (decode bytes .reachability) → x .link ≡ 1
+  reach-one x m = literals-link _ x (subst (List·Memᴰ x) (laid .reach-are) m)
+
+  -- the clash of every path with these representatives and this reachability
+  pub clash-at : (rep : ℕ → ℕ) (reach : ℕ → ℕ → Bool) (s : Facts) → s .rep ≡ rep → s .graph 1 .reach ≡ reach → clash (decode bytes) s ≡ pathClash (decode bytes) rep reach
+  clash-at rep reach s e f = clash-split (decode bytes) reach-one s ∙ ap₂ (pathClash (decode bytes)) e f

@@ -215,7 +215,7 @@ pub fn path_clash(query: &[u8], layout: Layout, reps: &[usize; 17], reach: &[u32
 // The clash of every path with these representatives and this reachability.
 pub fn find_clash(query: &[u8], layout: Layout, rep: [Term; 17], reach: &[u32; 17]) -> Clash
     requires { ⌜ LaysOut layout (now query) ⌝ }
-    ensures { λ r. ⌜ ((s : Facts) → s .rep ≡ repOf rep → s .graph .reach ≡ square (now (reach .entry)) → lineOf r ≡ clash (decode (now (query .entry))) s) ⌝ }
+    ensures { λ r. ⌜ ((s : Facts) → s .rep ≡ repOf rep → s .graph 1 .reach ≡ square (now (reach .entry)) → lineOf r ≡ clash (decode (now (query .entry))) s) ⌝ }
 {
     let reps = numbers(rep);
     path_clash(query, layout, &reps, reach)

@@ -3,20 +3,20 @@ use Prim.Native.Nat.{ℕ, _+_, _≤_, _<_}
 use native.Mathlib.Omega.{arith}
 use mathlib.Core.Path.{_≡_, refl, sym, ap, ap₂, _∙_, subst}
 use mathlib.Core.Logic.{_⊎_, ⊎-elim, inl, inr}
-use mathlib.Core.Bool.{Bool, true, false}
+use mathlib.Core.Bool.{Bool, true, false, cond}
 use mathlib.Core.List.{List}
 use lib.ListN.{length, getD, set}
 use lib.Bits.{bitAnd, bitOr}
 use lib.Dec.{eqb}
 use Rattle.logic.specs.Search.{_and_, _or_}
-use Rattle.logic.specs.Facts.{live}
+use Rattle.logic.specs.Facts.{Graph, live}
 use Rattle.logic.specs.Decision.{Follows, is-held, itself, by-link, onward, Closes}
 use Rattle.logic.proofs.Basics.Search.{true-false, and-left, and-right, and-intro, or-cases, or-left, or-right}
 use Rattle.logic.proofs.Basics.Compare.{eq-cases, eqb-true, eqb-self, le-cases}
 use Rattle.logic.proofs.Paths.Ranged.{live-range}
 use Rattle.facts.specs.Bits.{bit}
 use Rattle.facts.specs.Square.{rowOf, square}
-use Rattle.facts.specs.Path.{pathOf, graphOf}
+use Rattle.facts.specs.Path.{pathOf, graphOf, onlyLink}
 use Rattle.facts.specs.declared.Facts as code
 use Rattle.facts.proofs.Bits.{bit-and, bit-or, bit-none}
 use Rattle.facts.proofs.Square.{row-or, row-in, row-beyond, row-none, square-row, square-in, square-above, square-beside, set-same, set-other}
@@ -216,25 +216,54 @@ pub passed-none : (row y far i : ℕ) → bit row y ≡ false → bit 0 i ≡ bi
 unfolding _and_
 passed-none row y far i e = bit-none i ∙ rw e refl
 
+-- the facts of the links that the code's paths have not
+abbrev nothing : Graph
+nothing = record { link = λ a b. false; reach = λ a b. false }
+
 -- a path with the rows in place of its own
 pub closes : (n : ℕ) (s t : code.Facts) (alive : ℕ) (rows : List ℕ) → bit alive ≡ live n (pathOf s) → t .rep ≡ s .rep → t .link ≡ s .link → Within (bit alive) (square (s .link)) (square (s .reach)) (t .reach) → Above (square (s .reach)) (t .reach) → Closes n (pathOf s) (pathOf t)
-unfolding pathOf graphOf
+unfolding pathOf graphOf onlyLink
 closes n s t alive rows e r l inside up =
     record {
       same-rep = rw r;
-      same-link = rw l;
-      reach-kept = up;
-      reach-follows = λ a b h. subst (λ (f : ℕ → Bool). Follows f (square (s .link)) (square (s .reach)) a b) e (inside a b h);
+      same-links = refl;
+      same-link = λ i. same (eqb i 1);
+      reach-kept = λ i a b. kept a b (eqb i 1);
+      reach-linked = λ i a b h. ⊎-elim (λ k. (omega (arith, k), omega (arith, k))) (λ d. absurd (true-false h (rw (d .1) refl))) (eq-cases i 1);
+      reach-follows = λ i a b. follows a b (eqb i 1);
     }
+  where
+    same : (o : Bool) → cond o (graphOf (t .link) (t .reach)) nothing .link ≡ cond o (graphOf (s .link) (s .reach)) nothing .link
+    same true = rw l
+    same false = refl
+
+    kept : (a b : ℕ) (o : Bool) → cond o (graphOf (s .link) (s .reach)) nothing .reach a b ≡ true → cond o (graphOf (t .link) (t .reach)) nothing .reach a b ≡ true
+    kept a b true h = up a b h
+    kept a b false h = h
+
+    follows : (a b : ℕ) (o : Bool) → cond o (graphOf (t .link) (t .reach)) nothing .reach a b ≡ true → Follows (live n (pathOf s)) (cond o (graphOf (s .link) (s .reach)) nothing .link) (cond o (graphOf (s .link) (s .reach)) nothing .reach) a b
+    follows a b true h = subst (λ (f : ℕ → Bool). Follows f (square (s .link)) (square (s .reach)) a b) e (inside a b h)
+    follows a b false h = absurd (true-false h refl)
 
 pub closed : (n : ℕ) (s t : code.Facts) (alive : ℕ) → n ≤ 16 → bit alive ≡ live n (pathOf s) → t .rep ≡ s .rep → t .link ≡ s .link → Seeded (bit alive) (square (s .link)) (t .reach) → Onward (t .reach) → Closed n (pathOf t)
-unfolding pathOf graphOf live
+unfolding pathOf graphOf onlyLink live
 closed n s t alive small e r l (links, own) on =
     record {
-      itself-held = λ a h. let live-a : live n (pathOf s) a ≡ true = same-live a h in own a (let in-n = live-range n (pathOf s) a live-a in omega arith) (ap (λ (f : ℕ → Bool). f a) e ∙ live-a);
-      link-held = λ a b h. links a b (rw l at h);
-      onward-held = on;
+      itself-held = λ i a low high h.
+          let one : i ≡ 1 = omega (arith, low, high) in
+          let live-a : live n (pathOf s) a ≡ true = same-live a h in
+          rw one (own a (let in-n = live-range n (pathOf s) a live-a in omega arith) (ap (λ (f : ℕ → Bool). f a) e ∙ live-a));
+      link-held = λ i a b. link-in a b (eqb i 1);
+      onward-held = λ i a b c. onward-in a b c (eqb i 1);
     }
   where
     same-live : (a : ℕ) → live n (pathOf t) a ≡ true → live n (pathOf s) a ≡ true
     same-live a h = rw (sym r) h
+
+    link-in : (a b : ℕ) (o : Bool) → cond o (graphOf (t .link) (t .reach)) nothing .link a b ≡ true → cond o (graphOf (t .link) (t .reach)) nothing .reach a b ≡ true
+    link-in a b true h = links a b (rw l at h)
+    link-in a b false h = h
+
+    onward-in : (a b c : ℕ) (o : Bool) → cond o (graphOf (t .link) (t .reach)) nothing .reach a b ≡ true → cond o (graphOf (t .link) (t .reach)) nothing .reach b c ≡ true → cond o (graphOf (t .link) (t .reach)) nothing .reach a c ≡ true
+    onward-in a b c true h k = on a b c h k
+    onward-in a b c false h k = h

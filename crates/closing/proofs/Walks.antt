@@ -4,22 +4,23 @@ use Prim.Native.Nat.{ℕ, zero, suc, _-_, _≤_}
 use native.Mathlib.Omega.{arith}
 use mathlib.Core.Path.{_≡_, refl, sym, ap, _∙_, subst, fun-ext}
 use mathlib.Core.Logic.{_⊎_, ⊎-elim}
-use mathlib.Core.Bool.{Bool, true, false, not}
+use mathlib.Core.Bool.{Bool, true, false}
 use mathlib.Core.List.{List, [], _∷_, _++_, List·Memᴰ, List·Memᴰ·head, List·Memᴰ·tail}
 use mathlib.Core.Option.{Option, none, some, Option·elim}
 use lib.Dec.{eqb}
 use Rattle.logic.specs.Search.{_and_, _or_, keep, orElse, any, firstOf}
 use Rattle.logic.specs.Query.{Query, termCount}
-use Rattle.logic.specs.Facts.{Facts, Line, live, unjoined, addReach, clash}
-use Rattle.logic.specs.Rules.{Rule, REFLEX, TRANS1, TRANS2, FUNC, CYCLE, SCC, TOTAL, SHARE, Triple, triple, Move, move, Fact, reaches, conditions, alternatives, held, applies, branch, add, branches, triples, choose}
+use Rattle.logic.specs.Facts.{Facts, Line, linkNumbers, live, unjoined, addReach, clash}
+use Rattle.logic.specs.Rules.{Rule, REFLEX, TRANS1, TRANS2, FUNC, CYCLE, SCC, TOTAL, SHARE, Triple, triple, Move, move, Fact, reaches, conditions, alternatives, held, hasLink, applies, branch, add, branches, triples, choose}
 use Rattle.logic.specs.Walk.{look, clashing, applying, saturated, Ending, saturation, after, walk}
 use Rattle.logic.specs.OurWalk.{Walks, goes-on, WalksEach, saturated-first}
 use Rattle.logic.specs.Steps.{Step, Steps, at-first, one-more, AtMost}
 use Rattle.logic.specs.Decision.{HasHeap, Follows, is-held, itself, by-link, onward, Closes}
-use Rattle.logic.proofs.Basics.Search.{bool-cases, true-false, not-true, not-intro, not-of, and-left, and-right, and-intro, or-cases, or-left, none-some, keep-some, keep-none, any-false, any-true, firstOf-some, firstOf-none, firstOf-empty, firstOf-skip, map-intro}
+use Rattle.logic.proofs.Basics.Search.{bool-cases, true-false, not-of, and-left, and-right, and-intro, or-cases, or-left, none-some, keep-some, keep-none, any-false, any-true, firstOf-some, firstOf-none, firstOf-empty, firstOf-skip, from-mem, from-intro, map-intro}
 use Rattle.logic.proofs.Basics.Compare.{eqb-self, eqb-true}
 use Rattle.logic.proofs.Query.Tied.{Accepted}
-use Rattle.logic.proofs.Paths.Ranged.{Ranged, live-range}
+use Rattle.logic.proofs.Paths.Ranged.{InRange, Ranged, live-range}
+use Rattle.logic.proofs.Paths.Applies.{hasLink-range, hasLink-intro, applies-linked, applies-met, applies-new, applies-intro}
 use Rattle.logic.proofs.Walks.Order.{HoldsAll, triples-full, choose-some, choose-none}
 use Rattle.logic.proofs.Walks.OurWalk.{walks-unique, walk-walks}
 use Rattle.logic.proofs.Calls.Decision.{Known, clash-none, branch-known, heap-closed, walk-saturation, closed-known}
@@ -27,84 +28,85 @@ use Rattle.closing.specs.Closed.{Closed, closing, Begins}
 
 -- Of a rule that concludes one reachability fact
 
-module _ (n : ℕ) (s : Facts) (m : Move) (a b : ℕ) (one : alternatives n (s .graph) m ≡ (reaches a b ∷ [])) where
-  step-met : applies n s m ≡ true → conditions n (live n s) (s .graph) m ≡ true
-  unfolding applies
-  step-met app = and-left (conditions n (live n s) (s .graph) m) (not (any (held (s .graph)) (alternatives n (s .graph) m))) app
+module _ (n : ℕ) (s : Facts) (m : Move) (i a b : ℕ) (one : alternatives n (s .graph) m ≡ (reaches i a b ∷ [])) where
+  step-new : applies n s m ≡ true → s .graph i .reach a b ≡ false
+  unfolding held
+  step-new app = any-false (held (s .graph)) (reaches i a b) (applies-new n s m app) (subst (List·Memᴰ (reaches i a b)) (sym one) (List·Memᴰ·head refl))
 
-  step-new : applies n s m ≡ true → s .graph .reach a b ≡ false
-  unfolding applies held
-  step-new app =
-      let none-held : any (held (s .graph)) (alternatives n (s .graph) m) ≡ false = not-true (and-right (conditions n (live n s) (s .graph) m) (not (any (held (s .graph)) (alternatives n (s .graph) m))) app) in
-      any-false (held (s .graph)) (reaches a b) none-held (subst (List·Memᴰ (reaches a b)) (sym one) (List·Memᴰ·head refl))
-
-  step-held : conditions n (live n s) (s .graph) m ≡ true → applies n s m ≡ false → s .graph .reach a b ≡ true
-  unfolding applies held any _or_
-  step-held met idle = ⊎-elim (λ e. e) (λ e. absurd (true-false (and-intro met (not-intro {b = any (held (s .graph)) (alternatives n (s .graph) m)} (ap (any (held (s .graph))) one ∙ lone e))) idle)) (bool-cases (s .graph .reach a b))
+  step-held : hasLink (s .links) m ≡ true → conditions n (live n s) (s .graph) m ≡ true → applies n s m ≡ false → s .graph i .reach a b ≡ true
+  unfolding held any _or_
+  step-held linked met idle = ⊎-elim (λ e. e) (λ e. absurd (true-false (applies-intro n s m linked met (ap (any (held (s .graph))) one ∙ lone e)) idle)) (bool-cases (s .graph i .reach a b))
     where
-      lone : s .graph .reach a b ≡ false → any (held (s .graph)) (reaches a b ∷ []) ≡ false
+      lone : s .graph i .reach a b ≡ false → any (held (s .graph)) (reaches i a b ∷ []) ≡ false
       lone e = rw e refl
 
-made : (ℕ → ℕ) → (ℕ → ℕ → Bool) → (ℕ → ℕ → Bool) → Facts
-made rep link reach = record { rep = rep; graph = record { link = link; reach = reach } }
+made : (ℕ → ℕ) → ℕ → (ℕ → ℕ → ℕ → Bool) → (ℕ → ℕ → ℕ → Bool) → Facts
+made rep links link reach = record { rep = rep; links = links; graph = λ i. record { link = link i; reach = reach i } }
 
 -- Where nothing is left to the three rules
 
 module _ (n : ℕ) (s : Facts) where
   -- none of them applies at a triple of numbers up to n
   abbrev Idle : Type 0
-  Idle = (r : Rule) → closing r ≡ true → (t : Triple) → List·Memᴰ t (triples n) → applies n s (move r t) ≡ false
+  Idle = (i : ℕ) → InRange (s .links) i → (r : Rule) → closing r ≡ true → (t : Triple) → List·Memᴰ t (triples n) → applies n s (move i r t) ≡ false
 
-  pub closed-idle : Closed n s → (r : Rule) → closing r ≡ true → (t : Triple) → applies n s (move r t) ≡ false
+  pub closed-idle : Closed n s → (i : ℕ) (r : Rule) → closing r ≡ true → (t : Triple) → applies n s (move i r t) ≡ false
   unfolding closing conditions alternatives
-  closed-idle c REFLEX k (triple x y z) =
+  closed-idle c i REFLEX k (triple x y z) =
       not-of (λ app.
-      let met = step-met n s (move REFLEX (triple x y z)) x x refl app in
-      true-false (c .itself-held x (and-left (live n s x) (eqb y 0) (and-left (live n s x and eqb y 0) (eqb z 0) met))) (step-new n s (move REFLEX (triple x y z)) x x refl app))
-  closed-idle c TRANS1 k (triple x y z) =
+      let met = applies-met n s (move i REFLEX (triple x y z)) app in
+      let l = hasLink-range (s .links) i REFLEX (triple x y z) (applies-linked n s (move i REFLEX (triple x y z)) app) in
+      true-false (c .itself-held i x (l .0) (l .1) (and-left (live n s x) (eqb y 0) (and-left (live n s x and eqb y 0) (eqb z 0) met))) (step-new n s (move i REFLEX (triple x y z)) i x x refl app))
+  closed-idle c i TRANS1 k (triple x y z) =
       not-of (λ app.
-      let met = step-met n s (move TRANS1 (triple x y z)) x y refl app in
-      true-false (c .link-held x y (and-left (s .graph .link x y) (eqb z 0) met)) (step-new n s (move TRANS1 (triple x y z)) x y refl app))
-  closed-idle c TRANS2 k (triple x y z) =
+      let met = applies-met n s (move i TRANS1 (triple x y z)) app in
+      true-false (c .link-held i x y (and-left (s .graph i .link x y) (eqb z 0) met)) (step-new n s (move i TRANS1 (triple x y z)) i x y refl app))
+  closed-idle c i TRANS2 k (triple x y z) =
       not-of (λ app.
-      let met = step-met n s (move TRANS2 (triple x y z)) x z refl app in
-      true-false (c .onward-held x y z (and-left (s .graph .reach x y) (s .graph .reach y z) met) (and-right (s .graph .reach x y) (s .graph .reach y z) met)) (step-new n s (move TRANS2 (triple x y z)) x z refl app))
-  closed-idle c FUNC k t = absurd (true-false k refl)
-  closed-idle c CYCLE k t = absurd (true-false k refl)
-  closed-idle c SCC k t = absurd (true-false k refl)
-  closed-idle c TOTAL k t = absurd (true-false k refl)
-  closed-idle c SHARE k t = absurd (true-false k refl)
+      let met = applies-met n s (move i TRANS2 (triple x y z)) app in
+      true-false (c .onward-held i x y z (and-left (s .graph i .reach x y) (s .graph i .reach y z) met) (and-right (s .graph i .reach x y) (s .graph i .reach y z) met)) (step-new n s (move i TRANS2 (triple x y z)) i x z refl app))
+  closed-idle c i FUNC k t = absurd (true-false k refl)
+  closed-idle c i CYCLE k t = absurd (true-false k refl)
+  closed-idle c i SCC k t = absurd (true-false k refl)
+  closed-idle c i TOTAL k t = absurd (true-false k refl)
+  closed-idle c i SHARE k t = absurd (true-false k refl)
 
   -- then all that follows is held
   module _ (ranged : Ranged n s) (idle : Idle) where
     up-to : (a : ℕ) → live n s a ≡ true → a ≤ n
     up-to a l = live-range n s a l .1
 
-    follows-held : {a b : ℕ} → Follows (live n s) (s .graph .link) (s .graph .reach) a b → s .graph .reach a b ≡ true
-    unfolding closing conditions alternatives
-    follows-held (is-held e) = e
-    follows-held (itself {a = a} e) = step-held n s (move REFLEX (triple a 0 0)) a a refl (and-intro (and-intro e refl) refl) (idle REFLEX refl (triple a 0 0) (triples-full n a 0 0 (up-to a e) (omega arith) (omega arith)))
-    follows-held (by-link {a = a} {b = b} e) =
-        let (p, p′) = ranged .link-live a b e in
-        step-held n s (move TRANS1 (triple a b 0)) a b refl (and-intro e refl) (idle TRANS1 refl (triple a b 0) (triples-full n a b 0 (up-to a p) (up-to b p′) (omega arith)))
-    follows-held (onward {a = a} {b = b} {c = c} f g) =
-        let x = follows-held f in
-        let y = follows-held g in
-        let (p, p′) = ranged .reach-live a b x in
-        let (u, u′) = ranged .reach-live b c y in
-        step-held n s (move TRANS2 (triple a b c)) a c refl (and-intro x y) (idle TRANS2 refl (triple a b c) (triples-full n a b c (up-to a p) (up-to b p′) (up-to c u′)))
+    module _ (i : ℕ) (in-range : InRange (s .links) i) where
+      linked : (r : Rule) (t : Triple) → hasLink (s .links) (move i r t) ≡ true
+      linked r t = hasLink-intro (s .links) i r t in-range
+
+      follows-held : {a b : ℕ} → Follows (live n s) (s .graph i .link) (s .graph i .reach) a b → s .graph i .reach a b ≡ true
+      unfolding closing conditions alternatives
+      follows-held (is-held e) = e
+      follows-held (itself {a = a} e) = step-held n s (move i REFLEX (triple a 0 0)) i a a refl (linked REFLEX (triple a 0 0)) (and-intro (and-intro e refl) refl) (idle i in-range REFLEX refl (triple a 0 0) (triples-full n a 0 0 (up-to a e) (omega arith) (omega arith)))
+      follows-held (by-link {a = a} {b = b} e) =
+          let (p, p′) = ranged .link-live i a b e in
+          step-held n s (move i TRANS1 (triple a b 0)) i a b refl (linked TRANS1 (triple a b 0)) (and-intro e refl) (idle i in-range TRANS1 refl (triple a b 0) (triples-full n a b 0 (up-to a p) (up-to b p′) (omega arith)))
+      follows-held (onward {a = a} {b = b} {c = c} f g) =
+          let x = follows-held f in
+          let y = follows-held g in
+          let (p, p′) = ranged .reach-live i a b x in
+          let (u, u′) = ranged .reach-live i b c y in
+          step-held n s (move i TRANS2 (triple a b c)) i a c refl (linked TRANS2 (triple a b c)) (and-intro x y) (idle i in-range TRANS2 refl (triple a b c) (triples-full n a b c (up-to a p) (up-to b p′) (up-to c u′)))
 
     same-facts : (t : Facts) → Closes n s t → s ≡ t
     unfolding made
-    same-facts t cl = facts-same (sym (cl .same-rep)) (sym (cl .same-link)) (fun-ext (λ a. fun-ext (λ b. both (s .graph .reach a b) (t .graph .reach a b) (cl .reach-kept a b) (λ e. follows-held (cl .reach-follows a b e)))))
+    same-facts t cl =
+        facts-same (sym (cl .same-rep)) (sym (cl .same-links)) (λ i. sym (cl .same-link i))
+        (λ i a b. both (s .graph i .reach a b) (t .graph i .reach a b) (cl .reach-kept i a b) (λ e. follows-held i (cl .reach-linked i a b e) (cl .reach-follows i a b e)))
       where
         both : (x y : Bool) → (x ≡ true → y ≡ true) → (y ≡ true → x ≡ true) → x ≡ y
         both true y f g = sym (f refl)
         both false true f g = g refl
         both false false f g = refl
 
-        facts-same : s .rep ≡ t .rep → s .graph .link ≡ t .graph .link → s .graph .reach ≡ t .graph .reach → s ≡ t
-        facts-same r l e = ap (λ (x : ℕ → ℕ). made x (s .graph .link) (s .graph .reach)) r ∙ ap (λ (x : ℕ → ℕ → Bool). made (t .rep) x (s .graph .reach)) l ∙ ap (made (t .rep) (t .graph .link)) e
+        facts-same : s .rep ≡ t .rep → s .links ≡ t .links → ((i : ℕ) → s .graph i .link ≡ t .graph i .link) → ((i a b : ℕ) → s .graph i .reach a b ≡ t .graph i .reach a b) → s ≡ t
+        facts-same r k l e = λ j. made (r j) (k j) (λ i. l i j) (λ i a b. e i a b j)
 
 -- The choice under an order list that begins with the three rules
 
@@ -118,12 +120,19 @@ firstOf-front f (x ∷ xs) ys b h = go (f x) (firstOf f xs) (firstOf f (xs ++ ys
     go (some c) p p′ k e = e
 
 module _ (n : ℕ) (s : Facts) (order rest : List Rule) (b : Begins order rest) where
+  -- the first place of a rule by some link, and by any
+  abbrev at-link : Rule → ℕ → Option Move
+  at-link r i = firstOf (λ (t : Triple). keep (applies n s (move i r t)) (move i r t)) (triples n)
+
   abbrev at-rule : Rule → Option Move
-  at-rule r = firstOf (λ (t : Triple). keep (applies n s (move r t)) (move r t)) (triples n)
+  at-rule r = firstOf (at-link r) (linkNumbers (s .links))
 
   idle-none : Idle n s → (r : Rule) → List·Memᴰ r (b .front) → at-rule r ≡ none
-  unfolding keep
-  idle-none idle r m = firstOf-empty (λ (t : Triple). keep (applies n s (move r t)) (move r t)) (triples n) (λ t k. rw (idle r (b .front-closing r m) t k) refl)
+  unfolding keep linkNumbers
+  idle-none idle r m =
+      firstOf-empty (at-link r) (linkNumbers (s .links))
+      (λ i j. let (low, high) = from-mem (s .links) 1 i j in
+      firstOf-empty (λ (t : Triple). keep (applies n s (move i r t)) (move i r t)) (triples n) (λ t k. rw (idle i (low, omega (arith, high)) r (b .front-closing r m) t k) refl))
 
   -- where the three rules are idle, the rest of the list chooses
   pub choose-rest : Idle n s → choose n order s ≡ choose n rest s
@@ -131,23 +140,26 @@ module _ (n : ℕ) (s : Facts) (order rest : List Rule) (b : Begins order rest) 
   choose-rest idle = ap (firstOf at-rule) (b .parts) ∙ firstOf-skip at-rule (b .front) rest (idle-none idle)
 
   -- where another rule is chosen, or none, they are idle
-  chosen-idle : (o : Option Move) → choose n order s ≡ o → ((r : Rule) (t : Triple) → o ≡ some (move r t) → closing r ≡ false) → Idle n s
-  unfolding choose
-  chosen-idle o h other r k t m = go (firstOf at-rule (b .front)) refl
+  chosen-idle : (o : Option Move) → choose n order s ≡ o → ((i : ℕ) (r : Rule) (t : Triple) → o ≡ some (move i r t) → closing r ≡ false) → Idle n s
+  unfolding choose linkNumbers
+  chosen-idle o h other i in-range r k t m = go (firstOf at-rule (b .front)) refl
     where
-      go : (p : Option Move) → firstOf at-rule (b .front) ≡ p → applies n s (move r t) ≡ false
-      go none e = keep-none (applies n s (move r t)) (move r t) (firstOf-none (λ (u : Triple). keep (applies n s (move r u)) (move r u)) t (firstOf-none at-rule r e (b .closing-front r k)) m)
+      go : (p : Option Move) → firstOf at-rule (b .front) ≡ p → applies n s (move i r t) ≡ false
+      go none e =
+          let at-i = firstOf-none (at-link r) i (firstOf-none at-rule r e (b .closing-front r k)) (from-intro (s .links) 1 i (in-range .0) (omega arith)) in
+          keep-none (applies n s (move i r t)) (move i r t) (firstOf-none (λ (u : Triple). keep (applies n s (move i r u)) (move i r u)) t at-i m)
       go (some c) e =
-          let (r′, i, f) = firstOf-some at-rule (b .front) c e in
-          let (t′, i′, f′) = firstOf-some (λ (u : Triple). keep (applies n s (move r′ u)) (move r′ u)) (triples n) c f in
+          let (r′, j, f) = firstOf-some at-rule (b .front) c e in
+          let (i′, j′, f′) = firstOf-some (at-link r′) (linkNumbers (s .links)) c f in
+          let (t′, j″, f″) = firstOf-some (λ (u : Triple). keep (applies n s (move i′ r′ u)) (move i′ r′ u)) (triples n) c f′ in
           let whole : firstOf at-rule order ≡ some c = ap (firstOf at-rule) (b .parts) ∙ firstOf-front at-rule (b .front) rest c e in
-          absurd (true-false (b .front-closing r′ i) (other r′ t′ (sym h ∙ whole ∙ ap some (sym (keep-some (applies n s (move r′ t′)) f′ .1)))))
+          absurd (true-false (b .front-closing r′ j) (other i′ r′ t′ (sym h ∙ whole ∙ ap some (sym (keep-some (applies n s (move i′ r′ t′)) f″ .1)))))
 
 -- at a closed path the rest of the order list decides what is seen
 pub look-rest : (q : Query) (order rest : List Rule) → Begins order rest → (t : Facts) → Closed (termCount q) t → look q order t ≡ look q rest t
 unfolding look
 look-rest q order rest b t closed =
-    ap (λ (o : Option Move). Option·elim (clash q t) (Option·elim o saturated applying) clashing) (choose-rest (termCount q) t order rest b (λ r k u m. closed-idle (termCount q) t closed r k u))
+    ap (λ (o : Option Move). Option·elim (clash q t) (Option·elim o saturated applying) clashing) (choose-rest (termCount q) t order rest b (λ i in-range r k u m. closed-idle (termCount q) t closed i r k u))
 
 -- Steps in front of others
 
@@ -169,37 +181,41 @@ module _ (q : Query) (ok : Accepted q) (order rest : List Rule) (b : Begins orde
   stays k s most e = (subst (λ (u : Facts). AtMost n u k) e most, λ has f w. subst (λ (u : Facts). Walks q order u (saturation f)) (sym e) w)
 
   -- one step of the three rules, which adds a fact of t
-  module _ (k : ℕ) (s : Facts) (known : Known q s) (most : AtMost n s k) (cl : Closes n s t) (m : Move) (h : choose n order s ≡ some m) (x y : ℕ) (one : alternatives n (s .graph) m ≡ (reaches x y ∷ [])) (in-t : t .graph .reach x y ≡ true) where
+  module _ (k : ℕ) (s : Facts) (known : Known q s) (most : AtMost n s k) (cl : Closes n s t) (m : Move) (h : choose n order s ≡ some m) (i x y : ℕ) (one : alternatives n (s .graph) m ≡ (reaches i x y ∷ [])) (in-t : t .graph i .reach x y ≡ true) where
     abbrev s′ : Facts
-    s′ = add n s (reaches x y)
+    s′ = add n s (reaches i x y)
 
     app : applies n s m ≡ true
     app = choose-some n s order m h
 
-    follows-on : {a c : ℕ} → Follows (live n s) (s .graph .link) (s .graph .reach) a c → Follows (live n s′) (s′ .graph .link) (s′ .graph .reach) a c
+    follows-on : (j : ℕ) {a c : ℕ} → Follows (live n s) (s .graph j .link) (s .graph j .reach) a c → Follows (live n s′) (s′ .graph j .link) (s′ .graph j .reach) a c
     unfolding add branch unjoined addReach live
-    follows-on (is-held {a = a} {b = c} e) = is-held (or-left (eqb a x and eqb c y) e)
-    follows-on (itself e) = itself e
-    follows-on (by-link e) = by-link e
-    follows-on (onward f g) = onward (follows-on f) (follows-on g)
+    follows-on j (is-held {a = a} {b = c} e) = is-held (or-left (eqb j i and eqb a x and eqb c y) e)
+    follows-on j (itself e) = itself e
+    follows-on j (by-link e) = by-link e
+    follows-on j (onward f g) = onward (follows-on j f) (follows-on j g)
 
     closes-on : Closes n s′ t
     unfolding add branch unjoined addReach
     closes-on =
         record {
           same-rep = cl .same-rep;
+          same-links = cl .same-links;
           same-link = cl .same-link;
-          reach-kept = λ a c e.
+          reach-kept = λ j a c e.
               ⊎-elim
-              (λ old. cl .reach-kept a c old)
-              (λ new. rw (eqb-true a x (and-left (eqb a x) (eqb c y) new), eqb-true c y (and-right (eqb a x) (eqb c y) new)) in-t)
-              (or-cases (s .graph .reach a c) (eqb a x and eqb c y) e);
-          reach-follows = λ a c e. follows-on (cl .reach-follows a c e);
+              (λ old. cl .reach-kept j a c old)
+              (λ new.
+              let both = and-left (eqb j i and eqb a x) (eqb c y) new in
+              rw (eqb-true j i (and-left (eqb j i) (eqb a x) both), eqb-true a x (and-right (eqb j i) (eqb a x) both), eqb-true c y (and-right (eqb j i and eqb a x) (eqb c y) new)) in-t)
+              (or-cases (s .graph j .reach a c) (eqb j i and eqb a x and eqb c y) e);
+          reach-linked = cl .reach-linked;
+          reach-follows = λ j a c e. follows-on j (cl .reach-follows j a c e);
         }
 
     stepped : Step n s s′
     unfolding branches
-    stepped = record { rule-move = m; applicable = app; branch = map-intro (add n s) (reaches x y) (subst (List·Memᴰ (reaches x y)) (sym one) (List·Memᴰ·head refl)) }
+    stepped = record { rule-move = m; applicable = app; branch = map-intro (add n s) (reaches i x y) (subst (List·Memᴰ (reaches i x y)) (sym one) (List·Memᴰ·head refl)) }
 
     looked : HasHeap q t → look q order s ≡ applying m
     unfolding look Option·elim
@@ -236,28 +252,30 @@ module _ (q : Query) (ok : Accepted q) (order rest : List Rule) (b : Begins orde
       -- the rule of a move
       ruleIn : Option Move → Rule
       ruleIn none = REFLEX
-      ruleIn (some (move r u)) = r
+      ruleIn (some (move i r u)) = r
 
-      other : (r : Rule) (u : Triple) → choose n order s ≡ some (move r u) → closing r ≡ false → Comes k s
-      other r u h f = idle-stays (chosen-idle n s order rest b (some (move r u)) h (λ r′ u′ e. ap (λ (o : Option Move). closing (ruleIn o)) (sym e) ∙ f))
+      other : (i : ℕ) (r : Rule) (u : Triple) → choose n order s ≡ some (move i r u) → closing r ≡ false → Comes k s
+      other i r u h f = idle-stays (chosen-idle n s order rest b (some (move i r u)) h (λ i′ r′ u′ e. ap (λ (o : Option Move). closing (ruleIn o)) (sym e) ∙ f))
 
       go : (o : Option Move) → choose n order s ≡ o → Comes k s
-      go none h = idle-stays (chosen-idle n s order rest b none h (λ r u e. absurd (none-some e)))
-      go (some (move REFLEX (triple x y z))) h =
-          let met = step-met n s (move REFLEX (triple x y z)) x x refl (choose-some n s order (move REFLEX (triple x y z)) h) in
-          comes k s known most cl (move REFLEX (triple x y z)) h x x refl (closed .itself-held x (rw (cl .same-rep) (and-left (live n s x) (eqb y 0) (and-left (live n s x and eqb y 0) (eqb z 0) met)))) next
-      go (some (move TRANS1 (triple x y z))) h =
-          let met = step-met n s (move TRANS1 (triple x y z)) x y refl (choose-some n s order (move TRANS1 (triple x y z)) h) in
-          comes k s known most cl (move TRANS1 (triple x y z)) h x y refl (closed .link-held x y (rw (cl .same-link) (and-left (s .graph .link x y) (eqb z 0) met))) next
-      go (some (move TRANS2 (triple x y z))) h =
-          let met = step-met n s (move TRANS2 (triple x y z)) x z refl (choose-some n s order (move TRANS2 (triple x y z)) h) in
-          comes k s known most cl (move TRANS2 (triple x y z)) h x z refl
-          (closed .onward-held x y z (cl .reach-kept x y (and-left (s .graph .reach x y) (s .graph .reach y z) met)) (cl .reach-kept y z (and-right (s .graph .reach x y) (s .graph .reach y z) met))) next
-      go (some (move FUNC u)) h = other FUNC u h refl
-      go (some (move CYCLE u)) h = other CYCLE u h refl
-      go (some (move SCC u)) h = other SCC u h refl
-      go (some (move TOTAL u)) h = other TOTAL u h refl
-      go (some (move SHARE u)) h = other SHARE u h refl
+      go none h = idle-stays (chosen-idle n s order rest b none h (λ i r u e. absurd (none-some e)))
+      go (some (move i REFLEX (triple x y z))) h =
+          let app = choose-some n s order (move i REFLEX (triple x y z)) h in
+          let met = applies-met n s (move i REFLEX (triple x y z)) app in
+          let l = hasLink-range (s .links) i REFLEX (triple x y z) (applies-linked n s (move i REFLEX (triple x y z)) app) in
+          comes k s known most cl (move i REFLEX (triple x y z)) h i x x refl (closed .itself-held i x (l .0) (rw (cl .same-links) (l .1)) (rw (cl .same-rep) (and-left (live n s x) (eqb y 0) (and-left (live n s x and eqb y 0) (eqb z 0) met)))) next
+      go (some (move i TRANS1 (triple x y z))) h =
+          let met = applies-met n s (move i TRANS1 (triple x y z)) (choose-some n s order (move i TRANS1 (triple x y z)) h) in
+          comes k s known most cl (move i TRANS1 (triple x y z)) h i x y refl (closed .link-held i x y (rw (cl .same-link i) (and-left (s .graph i .link x y) (eqb z 0) met))) next
+      go (some (move i TRANS2 (triple x y z))) h =
+          let met = applies-met n s (move i TRANS2 (triple x y z)) (choose-some n s order (move i TRANS2 (triple x y z)) h) in
+          comes k s known most cl (move i TRANS2 (triple x y z)) h i x z refl
+          (closed .onward-held i x y z (cl .reach-kept i x y (and-left (s .graph i .reach x y) (s .graph i .reach y z) met)) (cl .reach-kept i y z (and-right (s .graph i .reach x y) (s .graph i .reach y z) met))) next
+      go (some (move i FUNC u)) h = other i FUNC u h refl
+      go (some (move i CYCLE u)) h = other i CYCLE u h refl
+      go (some (move i SCC u)) h = other i SCC u h refl
+      go (some (move i TOTAL u)) h = other i TOTAL u h refl
+      go (some (move i SHARE u)) h = other i SHARE u h refl
 
   run : (k : ℕ) (s : Facts) → Known q s → AtMost n s k → Closes n s t → Comes k s
   run zero s known most cl = turn zero s known most cl (λ k′ e u kn mo c. absurd (omega arith))

@@ -1,5 +1,5 @@
 -- Paths that REFLEX, TRANS1 and TRANS2 leave as they are, and order lists that begin with these rules.
-use Prim.Native.Nat.{ℕ}
+use Prim.Native.Nat.{ℕ, _≤_}
 use mathlib.Core.Path.{_≡_}
 use mathlib.Core.Bool.{Bool, true, false, _&&_, _||_}
 use mathlib.Core.List.{List, _++_, List·Memᴰ}
@@ -8,11 +8,11 @@ use lib.Dec.{eqb, ltb}
 use Rattle.logic.specs.Facts.{Facts, live}
 use Rattle.logic.specs.Rules.{Rule, REFLEX, TRANS1, TRANS2, FUNC, CYCLE, SCC, TOTAL, SHARE}
 
--- what the three rules would conclude is held
+-- what the three rules would conclude of any link is held
 pub record Closed (n : ℕ) (s : Facts) : Type 0 where
-  pub itself-held : (a : ℕ) → live n s a ≡ true → s .graph .reach a a ≡ true
-  pub link-held : (a b : ℕ) → s .graph .link a b ≡ true → s .graph .reach a b ≡ true
-  pub onward-held : (a b c : ℕ) → s .graph .reach a b ≡ true → s .graph .reach b c ≡ true → s .graph .reach a c ≡ true
+  pub itself-held : (i a : ℕ) → 1 ≤ i → i ≤ s .links → live n s a ≡ true → s .graph i .reach a a ≡ true
+  pub link-held : (i a b : ℕ) → s .graph i .link a b ≡ true → s .graph i .reach a b ≡ true
+  pub onward-held : (i a b c : ℕ) → s .graph i .reach a b ≡ true → s .graph i .reach b c ≡ true → s .graph i .reach a c ≡ true
 
 -- the rules that neither branch nor join
 unfoldable pub closing : Rule → Bool

@@ -16,7 +16,7 @@ use Rattle.logic.specs.Shown.{reached, inBasin, heads, basinLink, treeLink, new
 use Rattle.logic.proofs.Basics.Search.{bool-cases, select-mem, find-some, from-mem}
 use Rattle.facts.specs.declared.Term.{Term}
 use Rattle.facts.specs.declared.Facts as code
-use Rattle.facts.specs.Path.{repOf, graphOf, pathOf, linksIn}
+use Rattle.facts.specs.Path.{repOf, graphOf, onlyLink, pathOf, linksIn}
 use Rattle.completion.specs.Links.{linkOf, InRange, reachIn, linkAt}
 use Rattle.facts.proofs.Selections.{terms-from, select-end, select-here, select-skip, select-alike, and-both}
 use Rattle.facts.proofs.Rep.{rep-in}
@@ -142,8 +142,8 @@ live-selected n s = select-alike _ _ n 1 each ∙ ap (select (λ t. eqb (s .rep 
     each : (t : ℕ) → 1 ≤ t → t < 1 + n → ltb 0 t and ltb t (suc n) and eqb (s .rep t) t ≡ eqb (s .rep t) t
     each t l h = rw (lt-ltb 0 t l, lt-ltb t (suc n) (omega arith))
 
-pub shown : (n : ℕ) (s : code.Facts) (known links : List Term) → linkOf known ≡ next n (linksIn (s .link)) → linkOf links ≡ linkEach n (reachIn (s .reach)) (linkOf known) (select (λ t. eqb (repOf (s .rep) t) t) (from (n + 1 - 1) 1)) → linkOf links ≡ shownLink n (pathOf s)
-unfolding shownLink pathOf graphOf linksIn next
+pub shown : (n : ℕ) (s : code.Facts) (known links : List Term) → linkOf known ≡ next n (linksIn (s .link)) → linkOf links ≡ linkEach n (reachIn (s .reach)) (linkOf known) (select (λ t. eqb (repOf (s .rep) t) t) (from (n + 1 - 1) 1)) → linkOf links ≡ shownLink n (pathOf s) 1
+unfolding shownLink pathOf graphOf onlyLink linksIn next
 shown n s known links e f =
     f
     ∙ same-reach n (s .link) (s .reach) (linkOf known) _
@@ -159,6 +159,6 @@ each-below n g p (v ∷ vs) h t = each-below n g _ vs (λ u. go u (eqb u v and e
     go u true = new-below n g p v
     go u false = h u
 
-pub shown-below : (n : ℕ) (s : Facts) (t : ℕ) → shownLink n s t ≤ n
+pub shown-below : (n : ℕ) (s : Facts) (i t : ℕ) → shownLink n s i t ≤ n
 unfolding shownLink
-shown-below n s t = each-below n (s .graph) (next n (s .graph)) (liveTerms n s) (next-below n (s .graph)) t
+shown-below n s i t = each-below n (s .graph i) (next n (s .graph i)) (liveTerms n s) (next-below n (s .graph i)) t

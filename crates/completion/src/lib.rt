@@ -222,7 +222,7 @@ fn link_each(links: [Term; 17], rep: [Term; 17], reach: &[u32; 17], n: usize) ->
 // The links of the heap shown.
 pub fn shown_links(s: Facts, n: usize) -> [Term; 17]
     requires { ⌜ n ≤ 16 ⌝ }
-    ensures { λ r. ⌜ linkOf r ≡ shownLink n (pathOf s) ⌝ }
+    ensures { λ r. ⌜ linkOf r ≡ shownLink n (pathOf s) 1 ⌝ }
 {
     let rep = s.rep;
     let known = known_links(&s.link, n);

@@ -19,16 +19,16 @@ covered-heap q ok w s k c (h, m) = (
     rep-value = λ t l le.
         let g = live-range n s (s .rep t) (r .rep-live t (l, le)) in
         sym (m .rep-value (s .rep t) (g .0) (g .1)) ∙ ap Val (c .same-reps t (omega (arith, ok .term-count))) ∙ m .rep-value t l le;
-    link-true = λ a b e.
-        let (p, p′) = r .link-live a b e in
+    link-true = λ i a b e.
+        let (p, p′) = r .link-live i a b e in
         let g = live-range n s a p in
         let g′ = live-range n s b p′ in
-        ap (h .link) (sym (m .rep-value a (g .0) (g .1))) ∙ m .link-true (w .rep a) (w .rep b) (c .links-held a b e) ∙ m .rep-value b (g′ .0) (g′ .1);
-    reach-true = λ a b e.
-        let (p, p′) = r .reach-live a b e in
+        ap (h .link i) (sym (m .rep-value a (g .0) (g .1))) ∙ m .link-true i (w .rep a) (w .rep b) (c .links-held i a b e) ∙ m .rep-value b (g′ .0) (g′ .1);
+    reach-true = λ i a b e.
+        let (p, p′) = r .reach-live i a b e in
         let g = live-range n s a p in
         let g′ = live-range n s b p′ in
-        subst₂ (Reaches (h .link)) (m .rep-value a (g .0) (g .1)) (m .rep-value b (g′ .0) (g′ .1)) (m .reach-true (w .rep a) (w .rep b) (c .reach-held a b e));
+        subst₂ (Reaches (h .link i)) (m .rep-value a (g .0) (g .1)) (m .rep-value b (g′ .0) (g′ .1)) (m .reach-true i (w .rep a) (w .rep b) (c .reach-held i a b e));
   },
 )
   where

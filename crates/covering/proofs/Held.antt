@@ -3,15 +3,17 @@ use Prim.Native.Nat.{ℕ, _+_, _≤_, _<_}
 use native.Mathlib.Omega.{arith}
 use mathlib.Core.Path.{_≡_, refl, sym, ap, _∙_, subst, subst₂}
 use mathlib.Core.Logic.{_⊎_, ⊎-elim}
-use mathlib.Core.Bool.{Bool, true, false}
+use mathlib.Core.Bool.{Bool, true, false, cond, false≢true}
 use mathlib.Core.List.{List}
 use lib.ListN.{getD}
+use lib.Dec.{eqb}
+use Rattle.logic.specs.Facts.{Graph}
 use Rattle.logic.proofs.Basics.Search.{true-false}
 use Rattle.logic.proofs.Basics.Compare.{eq-cases, le-cases}
 use Rattle.facts.specs.Bits.{bit}
 use Rattle.facts.specs.Square.{rowOf, square}
 use Rattle.facts.proofs.Square.{row-in, row-none, square-row, square-in, square-above, square-beside}
-use Rattle.facts.specs.Path.{repOf, graphOf, pathOf}
+use Rattle.facts.specs.Path.{onlyLink, repOf, graphOf, pathOf}
 use Rattle.facts.specs.declared.Facts as code
 use Rattle.clash.specs.Reps.{repsOf}
 use Rattle.clash.proofs.Reps.{reps-in}
@@ -59,12 +61,30 @@ rows-held rows reps others h a b e =
 pub same-here : (reps olds : List ℕ) (t : ℕ) → t ≤ 16 → getD olds t 0 ≤ 16 → getD reps (getD olds t 0) 0 ≡ getD reps t 0 → repsOf reps (repsOf olds t) ≡ repsOf reps t
 same-here reps olds t l l′ e = ap (repsOf reps) (reps-in olds t l) ∙ reps-in reps (getD olds t 0) l′ ∙ e ∙ sym (reps-in reps t l)
 
+-- facts of the one link; another has none
+one-held : (rep : ℕ → ℕ) (g g′ : Graph) → RowsHeld (g .link) rep (g′ .link) × RowsHeld (g .reach) rep (g′ .reach) → (i : ℕ) → RowsHeld (onlyLink g i .link) rep (onlyLink g′ i .link) × RowsHeld (onlyLink g i .reach) rep (onlyLink g′ i .reach)
+unfolding onlyLink
+one-held rep g g′ h i = go (eqb i 1)
+  where
+    none : Graph
+    none = record { link = λ a b. false; reach = λ a b. false }
+
+    go : (t : Bool) → RowsHeld (cond t g none .link) rep (cond t g′ none .link) × RowsHeld (cond t g none .reach) rep (cond t g′ none .reach)
+    go true = h
+    go false = (λ a b e. absurd (false≢true e), λ a b e. absurd (false≢true e))
+
 -- the whole path
 pub covers-all : (w s : code.Facts) (reps olds : List ℕ) → repsOf reps ≡ repOf (w .rep) → repsOf olds ≡ repOf (s .rep) → SameReps (repsOf reps) (repsOf olds) → RowsHeld (square (s .link)) (repsOf reps) (square (w .link)) → RowsHeld (square (s .reach)) (repsOf reps) (square (w .reach)) → Covers (pathOf w) (pathOf s)
 unfolding pathOf graphOf
 covers-all w s reps olds e f same links reach =
     record {
       same-reps = subst₂ SameReps e f same;
-      links-held = subst (λ (r : ℕ → ℕ). RowsHeld (square (s .link)) r (square (w .link))) e links;
-      reach-held = subst (λ (r : ℕ → ℕ). RowsHeld (square (s .reach)) r (square (w .reach))) e reach;
+      links-held = λ i. one-held (repOf (w .rep)) (graphOf (s .link) (s .reach)) (graphOf (w .link) (w .reach)) both i .0;
+      reach-held = λ i. one-held (repOf (w .rep)) (graphOf (s .link) (s .reach)) (graphOf (w .link) (w .reach)) both i .1;
     }
+  where
+    both : RowsHeld (square (s .link)) (repOf (w .rep)) (square (w .link)) × RowsHeld (square (s .reach)) (repOf (w .rep)) (square (w .reach))
+    both = (
+      subst (λ (r : ℕ → ℕ). RowsHeld (square (s .link)) r (square (w .link))) e links,
+      subst (λ (r : ℕ → ℕ). RowsHeld (square (s .reach)) r (square (w .reach))) e reach,
+    )

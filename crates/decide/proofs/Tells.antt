@@ -102,11 +102,11 @@ module _ (bytes : List ℕ) (acc : accepts bytes ≡ true) (s t : Facts) (known 
   pub ends-saturated : clash q t ≡ none → choose (termCount q) rules t ≡ none → Ends q s kind.Open t
   ends-saturated free idle = let h = saturated-heap q ok t known-closed rules rules-full free idle in ends-open q s t (tells-open q s (heap-closed q ok s t known closes h)) h
 
-  module _ (r : Rule) (x y z : ℕ) (app : applies (termCount q) t (move r (triple x y z)) ≡ true) where
+  module _ (r : Rule) (x y z : ℕ) (app : applies (termCount q) t (move 1 r (triple x y z)) ≡ true) where
     abbrev m : Move
-    m = move r (triple x y z)
+    m = move 1 r (triple x y z)
 
-    module _ (i : ℕ) (l : i < countOf r z) (j : Joined) (e : j ≡ branch n t (alternativeAt n (t .graph) r x y z i)) where
+    module _ (i : ℕ) (l : i < countOf r z) (j : Joined) (e : j ≡ branch n t (alternativeAt n (t .graph 1) r x y z i)) where
       in-row : i < length (branches (termCount q) t m)
       in-row = omega (arith, row-length q n t r x y z terms-are)
 

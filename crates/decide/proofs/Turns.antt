@@ -42,7 +42,7 @@ row-fewer q order k s m most h i l =
     let (c, ci, e) = map-mem (add (termCount q) s) (getD (branches (termCount q) s m) i s) (alternatives (termCount q) (s .graph) m) (getD-mem (branches (termCount q) s m) i s l) in
     subst (λ (t : Facts). AtMost (termCount q) t (k - 1)) (sym e) (look-fewer q order k s m most h c ci)
 
-module _ (bytes order : List ℕ) (acc : accepts bytes ≡ true) (o : isOrder order ≡ true) (k : ℕ) (s : Facts) (known : Known (decode bytes) s) (most : AtMost (termCount (decode bytes)) s k) (n : ℕ) (terms-are : n ≡ termCount (decode bytes)) (r : Rule) (x y z : ℕ) (h : look (decode bytes) (orderOf order) s ≡ applying (move r (triple x y z))) where
+module _ (bytes order : List ℕ) (acc : accepts bytes ≡ true) (o : isOrder order ≡ true) (k : ℕ) (s : Facts) (known : Known (decode bytes) s) (most : AtMost (termCount (decode bytes)) s k) (n : ℕ) (terms-are : n ≡ termCount (decode bytes)) (r : Rule) (x y z : ℕ) (h : look (decode bytes) (orderOf order) s ≡ applying (move 1 r (triple x y z))) where
   abbrev q : Query
   q = decode bytes
 
@@ -50,7 +50,7 @@ module _ (bytes order : List ℕ) (acc : accepts bytes ≡ true) (o : isOrder or
   ok = accepted bytes acc
 
   abbrev m : Move
-  m = move r (triple x y z)
+  m = move 1 r (triple x y z)
 
   app : applies (termCount q) s m ≡ true
   app = seen-applying q (orderOf order) s h .1
@@ -58,7 +58,7 @@ module _ (bytes order : List ℕ) (acc : accepts bytes ≡ true) (o : isOrder or
   pub some-left : 1 ≤ k
   some-left = look-some q (orderOf order) k s m most h
 
-  module _ (i : ℕ) (l : i < countOf r z) (j : Joined) (e : j ≡ branch n s (alternativeAt n (s .graph) r x y z i)) where
+  module _ (i : ℕ) (l : i < countOf r z) (j : Joined) (e : j ≡ branch n s (alternativeAt n (s .graph 1) r x y z i)) where
     in-row : i < length (branches (termCount q) s m)
     in-row = omega (arith, row-length q n s r x y z terms-are)
 

@@ -15,15 +15,15 @@ use Rattle.dot.specs.declared.DotAnswer.the-variants as answer
 use Rattle.dot.specs.Promise.{Does}
 
 module _ (report bytes : List ℕ) (room : ℕ) where
-  pub answer-unformed : wellFormed report ≡ false → bytes ≡ replicate room 0 → Does (dotCall report room) (answer.Refused 13 0) bytes
+  pub answer-unformed : wellFormed 1 report ≡ false → bytes ≡ replicate room 0 → Does (dotCall report room) (answer.Refused 13 0) bytes
   unfolding dotCall refusal
   answer-unformed h e = rw h (record { answers = refl; leaves = e })
 
-  pub answer-short : wellFormed report ≡ true → room < length (text report) → bytes ≡ replicate room 0 → Does (dotCall report room) (answer.Refused 14 0) bytes
+  pub answer-short : wellFormed 1 report ≡ true → room < length (text report) → bytes ≡ replicate room 0 → Does (dotCall report room) (answer.Refused 14 0) bytes
   unfolding dotCall drawn refusal
   answer-short h l e = rw (h, lt-ltb room (length (text report)) l) (record { answers = refl; leaves = e })
 
-  pub answer-written : (r : ℕ) → wellFormed report ≡ true → length (text report) ≤ room → Writes (replicate room 0) 0 (text report) bytes r → Does (dotCall report room) (answer.Written r) bytes
+  pub answer-written : (r : ℕ) → wellFormed 1 report ≡ true → length (text report) ≤ room → Writes (replicate room 0) 0 (text report) bytes r → Does (dotCall report room) (answer.Written r) bytes
   unfolding dotCall drawn
   answer-written r h l w =
       let e = writes-blank w l in

@@ -11,6 +11,7 @@ use borrow.Author.Tests.{eqb-true, eqb-false, ltb-true, ltb-false, leb-true, lt-
 use Rattle.logic.specs.Search.{_and_, from, all, select, flatMap}
 use Rattle.logic.specs.Shown.{sizeIn, isNode, wellFormed}
 use Rattle.logic.proofs.Basics.Search.{bool-cases, true-false, not-of, and-intro, and-right}
+use Rattle.logic.proofs.Calls.OneLink.{wellFormed-one}
 use Rattle.text.specs.Text.{decimal}
 use Rattle.text.proofs.Writing.{Part, part-more, part-place, writes-none}
 use Rattle.facts.proofs.Loops.{from-end, from-next}
@@ -126,12 +127,12 @@ module _ (bytes : List ℕ) (m n third fourth : ℕ) (linked named blanks : Bool
       → linked ≡ all (λ i. isNode m (getD bytes i 0)) (from (m + 1 - 1) 1)
       → named ≡ all (λ i. isNode m (getD bytes i 0)) (from (m + n + 2 - (m + 2)) (m + 2))
       → blanks ≡ all (λ i. eqb (getD bytes i 0) 0) (from (length bytes - (m + n + m + 5)) (m + n + m + 5))
-      → (((((((ltb 0 m && leb m 16) && leb n 16) && leb (m + n + m + 5) (length bytes)) && eqb third m) && eqb fourth 1) && linked) && named) && blanks ≡ wellFormed bytes
-  unfolding wellFormed countIn isNode
+      → (((((((ltb 0 m && leb m 16) && leb n 16) && leb (m + n + m + 5) (length bytes)) && eqb third m) && eqb fourth 1) && linked) && named) && blanks ≡ wellFormed 1 bytes
+  unfolding countIn isNode
   formed-test em en e₃ e₄ el en′ eb =
       let l = el ∙ ap (λ (k : ℕ). all (λ i. isNode m (getD bytes i 0)) (from k 1)) (one) in
       let d = en′ ∙ ap (λ (k : ℕ). all (λ i. isNode m (getD bytes i 0)) (from k (m + 2))) (two) in
-      rw (l, d, eb, e₃, e₄, en, em) (simp and-both)
+      rw (wellFormed-one bytes, l, d, eb, e₃, e₄, en, em) (simp and-both)
     where
       one : m + 1 - 1 ≡ m
       one = omega arith

@@ -95,7 +95,7 @@ fn all_zero(report: &[u8], at: usize) -> bool
 // "A report is well formed if m is 1 to 16, n at most 16, the third count m, the fourth 1, every successor and node 1 to m, and each
 // byte past it zero"
 pub fn is_well_formed(report: &[u8]) -> bool
-    ensures { λ r. ⌜ r ≡ wellFormed (now (report .entry)) ⌝ }
+    ensures { λ r. ⌜ r ≡ wellFormed 1 (now (report .entry)) ⌝ }
 {
     let m = size_in(report);
     let n = count_in(report);

@@ -11,6 +11,7 @@ use borrow.Author.Tests.{ltb-true, leb-true, eqb-true}
 use Rattle.logic.specs.Search.{_and_, all, from}
 use Rattle.logic.specs.Shown.{sizeIn, nodeIn, isNode, wellFormed}
 use Rattle.logic.proofs.Basics.Search.{and-left, and-right, all-true, from-intro}
+use Rattle.logic.proofs.Calls.OneLink.{wellFormed-one}
 use Rattle.drawing.specs.Text.{countIn, linkIn, reportSize}
 
 pub record Formed (bytes : List ℕ) : Type 0 where
@@ -28,9 +29,10 @@ node-range : (m v : ℕ) → isNode m v ≡ true → (1 ≤ v) × (v ≤ m)
 unfolding isNode
 node-range m v h = (ltb-true 0 v (and-left (ltb 0 v) (leb v m) h), leb-true v m (and-right (ltb 0 v) (leb v m) h))
 
-pub formed : (bytes : List ℕ) → wellFormed bytes ≡ true → Formed bytes
-unfolding wellFormed countIn linkIn nodeIn reportSize
-formed bytes h =
+pub formed : (bytes : List ℕ) → wellFormed 1 bytes ≡ true → Formed bytes
+unfolding countIn linkIn nodeIn reportSize
+formed bytes one =
+    let h = sym (wellFormed-one bytes) ∙ one in
     let m : ℕ = sizeIn bytes in
     let n : ℕ = countIn bytes in
     let h₆ = and-left _ _ h in

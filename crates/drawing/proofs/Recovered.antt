@@ -197,13 +197,13 @@ module _ (bytes : List ℕ) (f : Formed bytes) where
       counted : (g : ℕ → ℕ) → length (map g (from (sizeIn bytes) 1)) ∷ map g (from (sizeIn bytes) 1) ≡ sizeIn bytes ∷ map g (from (sizeIn bytes) 1)
       counted g = ap (λ (k : ℕ). k ∷ map g (from (sizeIn bytes) 1)) (length-map (from (sizeIn bytes) 1) g ∙ length-from (sizeIn bytes) 1)
 
-pub text-gives-report : (a : List ℕ) → wellFormed a ≡ true → reportIn (text a) ≡ unpadded a
+pub text-gives-report : (a : List ℕ) → wellFormed 1 a ≡ true → reportIn (text a) ≡ unpadded a
 unfolding reportIn
 text-gives-report a r =
     let f = formed a r in
     ap reportOf (text-read a) ∙ report-read a f ∙ sym (in-sections a f)
 
-pub report-of-text : (a b : List ℕ) → wellFormed a ≡ true → wellFormed b ≡ true → text a ≡ text b → unpadded a ≡ unpadded b
+pub report-of-text : (a b : List ℕ) → wellFormed 1 a ≡ true → wellFormed 1 b ≡ true → text a ≡ text b → unpadded a ≡ unpadded b
 report-of-text a b r s e = sym (text-gives-report a r) ∙ ap reportIn e ∙ text-gives-report b s
 
 -- Zeros behind a report
@@ -234,8 +234,8 @@ module _ (bytes : List ℕ) (k : ℕ) where
   unfolding text commentLine booleansIn countIn sizeIn
   zeros-unseen = simp (getD-unseen bytes k, flat-same (nodeLine (bytes ++ replicate k 0)) (nodeLine bytes) node-unseen, flat-same (arrowLine (bytes ++ replicate k 0)) (arrowLine bytes) arrow-unseen)
 
-pub text-of-report : (a b : List ℕ) → wellFormed a ≡ true → wellFormed b ≡ true → unpadded a ≡ unpadded b → text a ≡ text b
+pub text-of-report : (a b : List ℕ) → wellFormed 1 a ≡ true → wellFormed 1 b ≡ true → unpadded a ≡ unpadded b → text a ≡ text b
 text-of-report a b r s e = alone a r ∙ ap text e ∙ sym (alone b s)
   where
-    alone : (c : List ℕ) → wellFormed c ≡ true → text c ≡ text (unpadded c)
+    alone : (c : List ℕ) → wellFormed 1 c ≡ true → text c ≡ text (unpadded c)
     alone c q = ap text (zeros-past c (formed c q)) ∙ zeros-unseen (unpadded c) (length c - reportSize c)

@@ -28,4 +28,4 @@ drawn room t = cond (ltb room (length t)) (refusal room 14) (record { answer = w
 
 -- "Checks: 13 a report not well formed, then 14 buffer too short."
 unfoldable pub dotCall : List ℕ → ℕ → Outcome
-dotCall report room = cond (wellFormed report) (drawn room (text report)) (refusal room 13)
+dotCall report room = cond (wellFormed 1 report) (drawn room (text report)) (refusal room 13)

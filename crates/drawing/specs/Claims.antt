@@ -14,7 +14,7 @@ unpadded bytes = take (reportSize bytes) bytes
 
 -- What the call is lent is bytes: each is below 256.
 pub record Report (bytes : List ℕ) : Type 0 where
-  pub formed : wellFormed bytes ≡ true
+  pub formed : wellFormed 1 bytes ≡ true
   pub below : (i : ℕ) → getD bytes i 0 < 256
 
 -- The most bytes that a text has.
@@ -23,10 +23,10 @@ longest = 508
 
 pub record Claims : Type 0 where
   -- "text and report determine each other": reports with one text are one report, and one report has one text
-  pub report-of-text : (a b : List ℕ) → wellFormed a ≡ true → wellFormed b ≡ true → text a ≡ text b → unpadded a ≡ unpadded b
-  pub text-of-report : (a b : List ℕ) → wellFormed a ≡ true → wellFormed b ≡ true → unpadded a ≡ unpadded b → text a ≡ text b
+  pub report-of-text : (a b : List ℕ) → wellFormed 1 a ≡ true → wellFormed 1 b ≡ true → text a ≡ text b → unpadded a ≡ unpadded b
+  pub text-of-report : (a b : List ℕ) → wellFormed 1 a ≡ true → wellFormed 1 b ≡ true → unpadded a ≡ unpadded b → text a ≡ text b
   -- the reader gives the report back, and zeros behind a report are not seen
-  pub text-gives-report : (a : List ℕ) → wellFormed a ≡ true → reportIn (text a) ≡ unpadded a
+  pub text-gives-report : (a : List ℕ) → wellFormed 1 a ≡ true → reportIn (text a) ≡ unpadded a
   pub zeros-unseen : (bytes : List ℕ) (k : ℕ) → text (bytes ++ replicate k 0) ≡ text bytes
   -- no text is longer than `longest`, and one is as long
   pub text-longest : (a : List ℕ) → Report a → length (text a) ≤ longest

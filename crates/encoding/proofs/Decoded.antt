@@ -1,19 +1,19 @@
 -- What bytes that are accepted say can be written again, and so can a query with fewer of its literals. Assumes nothing.
 use Prim.Native.Nat.{ℕ, zero, suc, _*_, _≤_}
 use native.Mathlib.Omega.{arith}
-use mathlib.Core.Path.{_≡_, refl, sym, ap, subst}
+use mathlib.Core.Path.{_≡_, refl, sym, ap, _∙_, subst}
 use mathlib.Core.Bool.{true}
 use mathlib.Core.List.{List, [], _∷_, List·Memᴰ, List·Memᴰ·head, List·Memᴰ·tail}
 use mathlib.Core.Option.{some}
 use lib.ListN.{length}
 use Rattle.logic.specs.Search.{at, isSome}
-use Rattle.logic.specs.Query.{Literal, Query, termCount, parts, Section, fourSections, fiveSections, sections, firstByte, layoutOf, literals, section, queryOf, decode}
-use Rattle.logic.specs.Calls.{accepts}
+use Rattle.logic.specs.Query.{Literal, Query, termCount, Layout, faulty, parts, Section, fourSections, fiveSections, sections, firstByte, layoutOf, literals, section, queryOf, decode}
+use Rattle.logic.specs.Calls.{accepts, acceptsBy}
 use Rattle.logic.proofs.Basics.Search.{none-some}
-use Rattle.logic.proofs.Query.Bytes.{Part, retired-number}
+use Rattle.logic.proofs.Query.Bytes.{Part, retired-number, literals-link}
 use Rattle.logic.proofs.Query.AcceptedBytes.{accepted, query-passes, five-laid}
 use Rattle.encoding.specs.QueryBytes.{encode}
-use Rattle.encoding.proofs.Encoded.{Limits, limits-within, within-limits, Encodable, passed}
+use Rattle.encoding.proofs.Encoded.{Limits, limits-within, within-limits, OneLinked, Encodable, passed}
 
 -- how many literals a section has
 literals-count : (c : ℕ) (bytes : List ℕ) → length bytes ≡ c * 3 → length (literals bytes) ≤ c
@@ -23,6 +23,24 @@ literals-count c (s ∷ []) e = omega arith
 literals-count c (s ∷ a ∷ []) e = omega arith
 literals-count zero (s ∷ a ∷ b ∷ rest) e = absurd (omega arith)
 literals-count (suc c) (s ∷ a ∷ b ∷ rest) e = omega (arith, literals-count c rest (omega arith))
+
+-- bytes of sections are those of a query in the form of 01
+pub layout-linked : (l : Layout) → OneLinked (queryOf l)
+unfolding queryOf literals
+layout-linked (faulty k place) =
+    record { links = refl; entries = refl; equalities = literals-link []; reachability = literals-link []; fields = literals-link [] }
+layout-linked (parts ps) =
+    record {
+      links = refl;
+      entries = refl;
+      equalities = literals-link (section ps 1);
+      reachability = literals-link (section ps 2);
+      fields = literals-link (section ps 3);
+    }
+
+pub decode-linked : (bytes : List ℕ) → OneLinked (decode bytes)
+unfolding decode
+decode-linked bytes = layout-linked (layoutOf bytes)
 
 -- the parts of bytes that are laid out and allowed, section by section
 pub record Parts (bytes : List ℕ) : Type 0 where
@@ -55,7 +73,7 @@ module _ (bytes : List ℕ) (h : accepts bytes ≡ true) where
 
   -- what accepted bytes say can be written
   pub accepted-encodable : Encodable (decode bytes)
-  accepted-encodable = record { accepted = accepted bytes h; within = limits-within (decode bytes) accepted-limits }
+  accepted-encodable = record { accepted = accepted bytes h; one-linked = decode-linked bytes; within = limits-within (decode bytes) accepted-limits }
 
 -- what stands at a place of a list is one of it
 pub at-own : {A : Type 0} (xs : List A) (k : ℕ) (x : A) → at xs k ≡ some x → List·Memᴰ x xs
@@ -80,6 +98,7 @@ pub record Fewer (ls ms : List Literal) : Type 0 where
 
 -- a query of the same terms with fewer literals in each section
 pub record Part-of (r q : Query) : Type 0 where
+  pub links : r .links ≡ q .links
   pub entries : r .entries ≡ q .entries
   pub equalities : Fewer (r .equalities) (q .equalities)
   pub reachability : Fewer (r .reachability) (q .reachability)
@@ -94,11 +113,23 @@ part-encodable q r p ok =
       accepted =
           record {
             term-count = rw (p .entries) (a .term-count);
+            some-link = rw (p .links) (a .some-link);
             entry-below = rw (p .entries) (a .entry-below);
+            entry-linked = rw (p .links, p .entries) (a .entry-linked);
             equal-terms = λ x m. rw (p .entries) (a .equal-terms x (p .equalities .own x m));
             reach-terms = λ x m. rw (p .entries) (a .reach-terms x (p .reachability .own x m));
+            reach-linked = λ x m. rw (p .links) (a .reach-linked x (p .reachability .own x m));
             field-number = λ x m. a .field-number x (p .fields .own x m);
             field-term = λ x m. rw (p .entries) (a .field-term x (p .fields .own x m));
+          };
+      one-linked =
+          let f = ok .one-linked in
+          record {
+            links = p .links ∙ f .links;
+            entries = rw (p .entries) (f .entries);
+            equalities = λ x m. f .equalities x (p .equalities .own x m);
+            reachability = λ x m. f .reachability x (p .reachability .own x m);
+            fields = λ x m. f .fields x (p .fields .own x m);
           };
       within =
           limits-within r
@@ -112,5 +143,5 @@ part-encodable q r p ok =
 
 -- what is written is accepted
 pub encoded-accepts : (q : Query) → Encodable q → accepts (encode q) ≡ true
-unfolding accepts isSome
+unfolding acceptsBy isSome
 encoded-accepts q ok = rw (passed q ok (record { order = []; query = encode q; room = 0 }) refl)

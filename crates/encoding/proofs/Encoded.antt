@@ -28,10 +28,16 @@ unfolding signByte
 sign-reads true = refl
 sign-reads false = refl
 
-pub literals-read : (ls : List Literal) → literals (flatMap literalBytes ls) ≡ ls
+-- each of these literals is about link 1
+abbrev pub AboutOne : List Literal → Type 0
+AboutOne ls = (l : Literal) → List·Memᴰ l ls → l .link ≡ 1
+
+pub literals-read : (ls : List Literal) → AboutOne ls → literals (flatMap literalBytes ls) ≡ ls
 unfolding literals flatMap literalBytes
-literals-read [] = refl
-literals-read (l ∷ ls) = rw (sign-reads (l .plain), literals-read ls)
+literals-read [] one = refl
+literals-read (l ∷ ls) one =
+    let e : 1 ≡ l .link = sym (one l (List·Memᴰ·head refl)) in
+    rw (sign-reads (l .plain), literals-read ls (λ x m. one x (List·Memᴰ·tail m))) (λ i. record { plain = l .plain; link = e i; left = l .left; right = l .right } ∷ ls)
 
 -- Layout
 
@@ -144,9 +150,18 @@ within-limits q h =
       fields = leb-true _ 60 (and-right _ _ h);
     }
 
--- the numbers of a query are as they should be, and it keeps the limits
+-- the form of 01: there is one link, no term's is listed, and each literal is about it
+pub record OneLinked (q : Query) : Type 0 where
+  pub links : q .links ≡ 1
+  pub entries : q .entries .links ≡ []
+  pub equalities : AboutOne (q .equalities)
+  pub reachability : AboutOne (q .reachability)
+  pub fields : AboutOne (q .fields)
+
+-- the numbers of a query are as they should be, it is in the form of 01, and it keeps the limits
 pub record Encodable (q : Query) : Type 0 where
   pub accepted : Accepted q
+  pub one-linked : OneLinked q
   pub within : withinLimits q ≡ true
 
 module _ (q : Query) (ok : Encodable q) where
@@ -171,18 +186,18 @@ module _ (q : Query) (ok : Encodable q) where
   unfoldable tail2 : List ℕ
   tail2 = length (q .equalities) ∷ (equal ++ tail3)
 
-  bytes-are : encode q ≡ termCount q ∷ (q .entries ++ tail2)
+  bytes-are : encode q ≡ termCount q ∷ (q .entries .terms ++ tail2)
   unfolding encode sectionBytes equal reach field tail5 tail4 tail3 tail2
   bytes-are = refl
 
   limits : Limits q
   limits = within-limits q (ok .within)
 
-  layout-are : layoutOf (encode q) ≡ parts (q .entries ∷ equal ∷ reach ∷ field ∷ [] ∷ [])
+  layout-are : layoutOf (encode q) ≡ parts (q .entries .terms ∷ equal ∷ reach ∷ field ∷ [] ∷ [])
   unfolding layoutOf layoutBy sections fiveSections fourSections booleanSection firstByte termCount equal reach field tail5 tail4 tail3 tail2
   layout-are =
       ap layoutOf bytes-are
-      ∙ layout-part _ _ 0 (termCount q) (q .entries) tail2 _ (limits .terms) (sym (mul-one (termCount q)))
+      ∙ layout-part _ _ 0 (termCount q) (q .entries .terms) tail2 _ (limits .terms) (sym (mul-one (termCount q)))
       (layout-part _ _ _ (length (q .equalities)) equal tail3 _ (limits .equalities) (literal-bytes (q .equalities))
       (layout-part _ _ _ (length (q .reachability)) reach tail4 _ (limits .reachability) (literal-bytes (q .reachability))
       (layout-part _ _ _ (length (q .fields)) field tail5 _ (limits .fields) (literal-bytes (q .fields))
@@ -191,15 +206,25 @@ module _ (q : Query) (ok : Encodable q) where
   -- "the bytes say the query"
   pub decoded : decode (encode q) ≡ q
   unfolding decode queryOf section equal reach field
-  decoded = ap queryOf layout-are ∙ rw (literals-read (q .equalities), literals-read (q .reachability), literals-read (q .fields))
+  decoded =
+      let f = ok .one-linked in
+      ap queryOf layout-are
+      ∙ (λ i.
+      record {
+        links = sym (f .links) i;
+        entries = record { terms = q .entries .terms; links = sym (f .entries) i };
+        equalities = literals-read (q .equalities) (f .equalities) i;
+        reachability = literals-read (q .reachability) (f .reachability) i;
+        fields = literals-read (q .fields) (f .fields) i;
+      })
 
-  entry-allowed : (j : ℕ) → j < length (q .entries) → Allows (entryRole (1 + j)) (getD (q .entries) j 0)
+  entry-allowed : (j : ℕ) → j < length (q .entries .terms) → Allows (entryRole (1 + j)) (getD (q .entries .terms) j 0)
   unfolding entryRole termCount entryOf argumentOf namesNil
-  entry-allowed j l checked = go (eqb (getD (q .entries) j 0) 255) (ok .accepted .entry-below (suc j) (omega arith, l))
+  entry-allowed j l checked = go (eqb (getD (q .entries .terms) j 0) 255) (ok .accepted .entry-below (suc j) (omega arith, l))
     where
-      go : (c : Bool) → cond c 0 (getD (q .entries) j 0) < suc j → (ltb (getD (q .entries) j 0) (1 + j)) or c ≡ true
+      go : (c : Bool) → cond c 0 (getD (q .entries .terms) j 0) < suc j → (ltb (getD (q .entries .terms) j 0) (1 + j)) or c ≡ true
       go true h = or-right _ refl
-      go false h = or-left false (lt-ltb (getD (q .entries) j 0) (1 + j) (omega arith))
+      go false h = or-left false (lt-ltb (getD (q .entries .terms) j 0) (1 + j) (omega arith))
 
   term-allowed : (t : ℕ) → InTerms q t → Allows (termRole (termCount q)) t
   unfolding termRole
@@ -213,7 +238,7 @@ module _ (q : Query) (ok : Encodable q) where
   unfolding sections fiveSections fourSections booleanSection firstByte termCount equal reach field tail5 tail4 tail3 tail2
   allowed =
       rw bytes-are
-      (section-allowed _ _ (termCount q) (q .entries) tail2 (λ i. refl) (sym (mul-one (termCount q))) (entries-allowed 1 (q .entries) entry-allowed)
+      (section-allowed _ _ (termCount q) (q .entries .terms) tail2 (λ i. refl) (sym (mul-one (termCount q))) (entries-allowed 1 (q .entries .terms) entry-allowed)
       (section-allowed _ _ (length (q .equalities)) equal tail3 (λ i. refl) (literal-bytes (q .equalities)) (literals-allowed _ _ 1 (q .equalities) (λ l m. let t = ok .accepted .equal-terms l m in (term-allowed (l .left) (t .0), term-allowed (l .right) (t .1))))
       (section-allowed _ _ (length (q .reachability)) reach tail4 (λ i. refl) (literal-bytes (q .reachability)) (literals-allowed _ _ 1 (q .reachability) (λ l m. let t = ok .accepted .reach-terms l m in (term-allowed (l .left) (t .0), term-allowed (l .right) (t .1))))
       (section-allowed _ _ (length (q .fields)) field tail5 (λ i. refl) (literal-bytes (q .fields)) (literals-allowed _ _ 1 (q .fields) (λ l m. (number-allowed (l .left) (ok .accepted .field-number l m), term-allowed (l .right) (ok .accepted .field-term l m))))

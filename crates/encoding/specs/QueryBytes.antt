@@ -11,7 +11,7 @@ use Rattle.logic.specs.Query.{Literal, Query, termCount}
 unfoldable pub signByte : Bool → ℕ
 signByte plain = cond plain 1 0
 
--- a literal of three bytes
+-- a literal of three bytes: its link, which is 1, is not written
 unfoldable pub literalBytes : Literal → List ℕ
 literalBytes l = signByte (l .plain) ∷ l .left ∷ l .right ∷ []
 
@@ -22,7 +22,7 @@ sectionBytes ls = length ls ∷ flatMap literalBytes ls
 -- "Five sections in this order, each after a one-byte count"; the last one's "count must now be 0" (02, R-13)
 unfoldable pub encode : Query → List ℕ
 encode q =
-    (termCount q ∷ q .entries)
+    (termCount q ∷ q .entries .terms)
     ++ (sectionBytes (q .equalities) ++ (sectionBytes (q .reachability) ++ (sectionBytes (q .fields) ++ (0 ∷ []))))
 
 -- the limits of the sections: 16 terms, 60 literals

@@ -64,12 +64,12 @@ module _ (n : ℕ) (j : Joined) where
   settle-none zero h = andThen-unjoined j
   settle-none (suc k) h = absurd (omega arith)
 
-  pub settle-done : (k : ℕ) → doubled n (j .facts .graph) ≡ none → andThen j (settle n k) ≡ j
+  pub settle-done : (k : ℕ) → doubled n (j .facts) ≡ none → andThen j (settle n k) ≡ j
   unfolding settle Option·elim
   settle-done zero e = andThen-unjoined j
   settle-done (suc k) e = andThen-at j (settle n (suc k)) unjoined (rw e) ∙ andThen-unjoined j
 
-  pub settle-turn : (k a b : ℕ) → 0 < k → doubled n (j .facts .graph) ≡ some (a, b) → andThen j (settle n k) ≡ andThen (pairBehind j a b) (settle n (k - 1))
+  pub settle-turn : (k a b : ℕ) → 0 < k → doubled n (j .facts) ≡ some (a, b) → andThen j (settle n k) ≡ andThen (pairBehind j a b) (settle n (k - 1))
   unfolding settle Option·elim
   settle-turn zero a b h e = absurd (omega arith)
   settle-turn (suc k) a b h e =
@@ -105,7 +105,7 @@ module _ (n : ℕ) (j : Joined) where
 pub settle-pairs : (n k : ℕ) (s : Facts) → length (settle n k s .pairs) ≤ k
 unfolding settle unjoined joinPair andThen Option·elim
 settle-pairs n zero s = omega arith
-settle-pairs n (suc k) s = go (doubled n (s .graph)) (λ ab. settle-pairs n k (replace (ab .0) (ab .1) s))
+settle-pairs n (suc k) s = go (doubled n s) (λ ab. settle-pairs n k (replace (ab .0) (ab .1) s))
   where
     go : (o : Option (ℕ × ℕ)) → ((ab : ℕ × ℕ) → length (settle n k (replace (ab .0) (ab .1) s) .pairs) ≤ k) → length (Option·elim o (unjoined s) (λ ab. andThen (joinPair ab s) (settle n k)) .pairs) ≤ suc k
     go none ih = omega arith

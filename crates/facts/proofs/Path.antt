@@ -1,19 +1,81 @@
--- Two paths are one where they answer alike.
+-- Two paths are one where they answer alike; and what each step makes of the code's paths, which have one link.
 use Prim.Native.Nat.{ℕ}
-use mathlib.Core.Path.{_≡_, refl}
-use mathlib.Core.Bool.{Bool}
-use Rattle.logic.specs.Facts.{Facts, successors, doubled}
+use native.Mathlib.Omega.{arith}
+use mathlib.Core.Path.{_≡_, refl, sym, ap, ap₂, fun-ext, _∙_}
+use mathlib.Core.Logic.{⊎-elim}
+use mathlib.Core.Bool.{Bool, true, false, cond}
+use mathlib.Core.List.{List, [], _∷_}
+use mathlib.Core.Option.{Option, none}
+use lib.Dec.{eqb, ltb, leb}
+use Rattle.logic.specs.Search.{_and_, _or_, any, firstOf}
+use Rattle.logic.specs.Facts.{Graph, Facts, terms, became, replaceIn, replace, addReach, addLinks, successors, firstTwo, doubled}
+use Rattle.logic.proofs.Basics.Search.{not-of, and-intro}
+use Rattle.logic.proofs.Basics.Compare.{eq-cases, ltb-intro, leb-intro, eqb-intro}
+use Rattle.logic.proofs.Paths.Ranged.{link-range}
+use Rattle.logic.proofs.Calls.OneLink.{doubled-one}
 use Rattle.facts.specs.declared.Facts as code
-use Rattle.facts.specs.Path.{pathOf, graphOf, linksIn}
+use Rattle.facts.specs.Path.{onlyLink, pathOf, graphOf, linksIn, linkedBy, replaceRep}
 
--- the path that these functions make
+-- the graph and the path that these functions make
+abbrev pub linking : (ℕ → ℕ → Bool) → (ℕ → ℕ → Bool) → Graph
+linking link reach = record { link = link; reach = reach }
+
 abbrev pub made : (ℕ → ℕ) → (ℕ → ℕ → Bool) → (ℕ → ℕ → Bool) → Facts
-made rep link reach = record { rep = rep; graph = record { link = link; reach = reach } }
+made rep link reach = record { rep = rep; links = 1; graph = onlyLink (linking link reach) }
 
 pub alike : {r r′ : ℕ → ℕ} {l l′ h h′ : ℕ → ℕ → Bool} → r ≡ r′ → l ≡ l′ → h ≡ h′ → made r l h ≡ made r′ l′ h′
 alike e f g = λ i. made (e i) (f i) (g i)
 
+-- no facts
+abbrev never : ℕ → ℕ → Bool
+never a b = false
+
+-- paths of one link that have the same graphs
+same-graphs : (r : ℕ → ℕ) (f g : ℕ → Graph) → ((i : ℕ) → f i ≡ g i) → _≡_ {A = Facts} (record { rep = r; links = 1; graph = f }) (record { rep = r; links = 1; graph = g })
+same-graphs r f g e = λ i. record { rep = r; links = 1; graph = fun-ext e i }
+
+module _ (r : ℕ → ℕ) (l h : ℕ → ℕ → Bool) where
+  pub addReach-one : (a b : ℕ) → addReach 1 a b (made r l h) ≡ made r l (λ x y. h x y or (eqb x a and eqb y b))
+  unfolding addReach onlyLink _and_ _or_
+  addReach-one a b = same-graphs r _ _ (λ j. go (eqb j 1))
+    where
+      go : (t : Bool) → _≡_ {A = Graph} (linking (cond t (linking l h) (linking never never) .link) (λ x y. cond t (linking l h) (linking never never) .reach x y or (t and eqb x a and eqb y b))) (cond t (linking l (λ x y. h x y or (eqb x a and eqb y b))) (linking never never))
+      go true = refl
+      go false = refl
+
+  -- 1 is the one link
+  one-link : (j : ℕ) → (ltb 0 j and leb j 1) ≡ eqb j 1
+  one-link j =
+      ⊎-elim
+      (λ e. and-intro (ltb-intro {m = 0} {n = j} (omega (arith, e))) (leb-intro {m = j} {n = 1} (omega (arith, e))) ∙ sym (eqb-intro e))
+      (λ d. not-of (λ t. let k = link-range 1 j t in d .0 (omega (arith, k))) ∙ sym (d .1))
+      (eq-cases j 1)
+
+  pub addLinks-one : (a b : ℕ) → addLinks a b (made r l h) ≡ made r (λ x y. l x y or (eqb x a and eqb y b)) h
+  unfolding addLinks onlyLink _and_ _or_
+  addLinks-one a b =
+      same-graphs r _ _ (λ j. ap (λ (t : Bool). linking (λ x y. cond (eqb j 1) (linking l h) (linking never never) .link x y or (t and eqb x a and eqb y b)) (cond (eqb j 1) (linking l h) (linking never never) .reach)) (one-link j) ∙ go (eqb j 1))
+    where
+      go : (t : Bool) → _≡_ {A = Graph} (linking (λ x y. cond t (linking l h) (linking never never) .link x y or (t and eqb x a and eqb y b)) (cond t (linking l h) (linking never never) .reach)) (cond t (linking (λ x y. l x y or (eqb x a and eqb y b)) h) (linking never never))
+      go true = refl
+      go false = refl
+
+  pub replace-one : (lo hi : ℕ) → replace lo hi (made r l h) ≡ made (replaceRep lo hi r) (replaceIn lo hi l) (replaceIn lo hi h)
+  unfolding replace onlyLink replaceRep replaceIn any _or_
+  replace-one lo hi = same-graphs (replaceRep lo hi r) _ _ (λ j. go (eqb j 1))
+    where
+      any-never : (xs : List ℕ) → any (λ x. false) xs ≡ false
+      any-never [] = refl
+      any-never (x ∷ xs) = any-never xs
+
+      nowhere : replaceIn lo hi never ≡ never
+      nowhere = fun-ext (λ a. fun-ext (λ b. ap (λ (t : ℕ → Bool). any t (became lo hi a)) (fun-ext (λ x. any-never (became lo hi b))) ∙ any-never (became lo hi a)))
+
+      go : (t : Bool) → _≡_ {A = Graph} (linking (replaceIn lo hi (cond t (linking l h) (linking never never) .link)) (replaceIn lo hi (cond t (linking l h) (linking never never) .reach))) (cond t (linking (replaceIn lo hi l) (replaceIn lo hi h)) (linking never never))
+      go true = refl
+      go false = ap₂ linking nowhere nowhere
+
 -- what is doubled is read off the links alone
-pub doubled-links : (n : ℕ) (s : code.Facts) → doubled n (linksIn (s .link)) ≡ doubled n (pathOf s .graph)
-unfolding doubled successors linksIn pathOf graphOf
-doubled-links n s = refl
+pub doubled-links : (n : ℕ) (s : code.Facts) → doubled n (linkedBy (s .link)) ≡ doubled n (pathOf s)
+unfolding successors linksIn linkedBy pathOf graphOf onlyLink
+doubled-links n s = doubled-one n (linkedBy (s .link)) refl ∙ sym (doubled-one n (pathOf s) refl)

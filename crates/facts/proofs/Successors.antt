@@ -12,9 +12,10 @@ use lib.Bits.{bitAnd}
 use lib.Dec.{ltb, eqb}
 use borrow.Author.Tests.{eq-eqb, ne-eqb, eqb-false, lt-ltb, ltb-true}
 use Rattle.logic.specs.Search.{_and_, from, keep, orElse, firstOf, find, select}
-use Rattle.logic.specs.Facts.{Graph, Facts, terms, firstTwo, successors, doubled}
+use Rattle.logic.specs.Facts.{Facts, linkNumbers, terms, firstTwo, successors, doubled}
 use Rattle.logic.proofs.Basics.Search.{bool-cases, true-false, not-true, and-left, and-right, none-some, find-some, find-lowest, from-mem, firstOf-some}
 use Rattle.logic.proofs.Basics.Compare.{le-cases}
+use Rattle.logic.proofs.Calls.OneLink.{doubled-one}
 use Rattle.facts.specs.Bits.{bit}
 use Rattle.facts.specs.Square.{square}
 use Rattle.facts.proofs.Bits.{bit-and}
@@ -152,14 +153,16 @@ module _ (p : ℕ → Bool) (n : ℕ) (few : n ≤ 16) (w : ℕ) (e : (i : ℕ) 
         (omega arith, omega arith)))
 
 -- the search for a doubled term as a loop meets it
-pub doubled-search : (n : ℕ) (g : Graph) → doubled n g ≡ firstOf (λ t. firstTwo (successors n g t)) (from (n + 1 - 1) 1)
-unfolding doubled terms
-doubled-search n g = ap (λ (j : ℕ). firstOf (λ t. firstTwo (successors n g t)) (from j 1)) one-less
+pub doubled-search : (n : ℕ) (s : Facts) → s .links ≡ 1 → doubled n s ≡ firstOf (λ t. firstTwo (successors n (s .graph 1) t)) (from (n + 1 - 1) 1)
+unfolding terms
+doubled-search n s one = doubled-one n s one ∙ ap (λ (j : ℕ). firstOf (λ t. firstTwo (successors n (s .graph 1) t)) (from j 1)) one-less
   where
     one-less : n ≡ n + 1 - 1
     one-less = omega arith
 
-pub doubled-below : (n : ℕ) (g : Graph) (a b : ℕ) → doubled n g ≡ some (a, b) → (a < b) × (b ≤ n)
+pub doubled-below : (n : ℕ) (s : Facts) (a b : ℕ) → doubled n s ≡ some (a, b) → (a < b) × (b ≤ n)
 unfolding doubled successors
-doubled-below n g a b e =
-    let r = firstOf-some (λ t. firstTwo (successors n g t)) (terms n) (a, b) e in two-below (g .link (r .0)) n a b (r .2)
+doubled-below n s a b e =
+    let r = firstOf-some (λ t. firstOf (λ i. firstTwo (successors n (s .graph i) t)) (linkNumbers (s .links))) (terms n) (a, b) e in
+    let i = firstOf-some (λ i. firstTwo (successors n (s .graph i) (r .0))) (linkNumbers (s .links)) (a, b) (r .2) in
+    two-below (s .graph (i .0) .link (r .0)) n a b (i .2)

@@ -16,12 +16,19 @@ repOf rep t = cond (ltb t 17) (getD rep t (record { 0 = 0 }) .0) t
 unfoldable pub graphOf : List ℕ → List ℕ → Graph
 graphOf link reach = record { link = square link; reach = square reach }
 
+-- The code's paths have one link: no other has facts.
+unfoldable pub onlyLink : Graph → ℕ → Graph
+onlyLink g i = cond (eqb i 1) g (record { link = λ a b. false; reach = λ a b. false })
+
 unfoldable pub pathOf : code.Facts → Facts
-pathOf s = record { rep = repOf (s .rep); graph = graphOf (s .link) (s .reach) }
+pathOf s = record { rep = repOf (s .rep); links = 1; graph = onlyLink (graphOf (s .link) (s .reach)) }
 
 -- a graph with these links alone: what reads only links asks no more
 unfoldable pub linksIn : List ℕ → Graph
 linksIn link = record { link = square link; reach = λ a b. false }
+
+unfoldable pub linkedBy : List ℕ → Facts
+linkedBy link = record { rep = λ t. t; links = 1; graph = onlyLink (linksIn link) }
 
 -- what each term was replaced by, once hi is replaced by lo
 unfoldable pub replaceRep : ℕ → ℕ → (ℕ → ℕ) → ℕ → ℕ

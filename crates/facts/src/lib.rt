@@ -5,14 +5,14 @@ ghost use mathlib.Core.Bool.{Bool, not, cond};
 ghost use lib.Dec.{eqb, ltb};
 ghost use Rattle.facts.specs.Bits.{bit};
 ghost use Rattle.facts.specs.Square.{square, Turned, renamedRow, columns, rows};
-ghost use Rattle.facts.specs.Path.{pathOf, repOf, replaceRep, linksIn};
+ghost use Rattle.facts.specs.Path.{pathOf, repOf, replaceRep, linksIn, linkedBy};
 ghost use Rattle.facts.specs.Answers.{foundOf, twoOf};
 ghost use Rattle.facts.specs.Pairs.{pairsOf, joinedAs, joinedOf, Fits};
 ghost use mathlib.Core.List.{[], _∷_, _++_};
 ghost use lib.ListN.{length};
 ghost use mathlib.Core.Option.{some};
 ghost use Rattle.logic.specs.Search.{_and_, _or_, from, find, select};
-ghost use Rattle.logic.specs.Facts.{terms, addReach, addLink, replaceIn, replace, firstTwo, successors, doubled, andThen, settle, join, live};
+ghost use Rattle.logic.specs.Facts.{terms, addReach, addLinks, replaceIn, replace, firstTwo, successors, doubled, andThen, settle, join, live};
 
 // A term by its number.
 pub struct Term(pub usize);
@@ -119,7 +119,7 @@ pub fn holds(rows: &[u32; 17], a: Term, b: Term) -> bool
 // The reachability fact is added.
 pub fn add_reach(s: Facts, a: Term, b: Term) -> Facts
     requires { ⌜ (a .0 ≤ 16) × (b .0 ≤ 16) ⌝ }
-    ensures { λ r. ⌜ pathOf r ≡ addReach (a .0) (b .0) (pathOf s) ⌝ }
+    ensures { λ r. ⌜ pathOf r ≡ addReach 1 (a .0) (b .0) (pathOf s) ⌝ }
 {
     let at = a.0;
     let added = only(b.0);
@@ -131,7 +131,7 @@ pub fn add_reach(s: Facts, a: Term, b: Term) -> Facts
 // The link fact is added.
 pub fn add_link(s: Facts, a: Term, b: Term) -> Facts
     requires { ⌜ (a .0 ≤ 16) × (b .0 ≤ 16) ⌝ }
-    ensures { λ r. ⌜ pathOf r ≡ addLink (a .0) (b .0) (pathOf s) ⌝ }
+    ensures { λ r. ⌜ pathOf r ≡ addLinks (a .0) (b .0) (pathOf s) ⌝ }
 {
     let at = a.0;
     let added = only(b.0);
@@ -262,7 +262,7 @@ pub fn first_two(link: &[u32; 17], n: usize, t: Term) -> Two
 // "the two lowest successors of the lowest such term"
 pub fn doubled(link: &[u32; 17], n: usize) -> Two
     requires { ⌜ n ≤ 16 ⌝ }
-    ensures { λ r. ⌜ twoOf r ≡ doubled n (linksIn (now (link .entry))) ⌝ }
+    ensures { λ r. ⌜ twoOf r ≡ doubled n (linkedBy (now (link .entry))) ⌝ }
 {
     let mut t: usize = 1;
     while t <= n {

@@ -1,9 +1,9 @@
 -- What the code's tests of a clash come to, whatever places its line names.
 use Prim.Native.Nat.{ℕ, zero, suc, _+_, _-_, _≤_, _<_}
 use native.Mathlib.Omega.{arith}
-use mathlib.Core.Path.{_≡_, refl, sym, ap, _∙_}
+use mathlib.Core.Path.{_≡_, refl, sym, ap, _∙_, subst}
 use mathlib.Core.Bool.{Bool, true, false, not}
-use mathlib.Core.List.{List, [], _∷_}
+use mathlib.Core.List.{List, [], _∷_, List·Memᴰ}
 use mathlib.Core.Option.{Option, none, some}
 use lib.ListN.{length}
 use lib.Dec.{eqb}
@@ -11,8 +11,9 @@ use borrow.Author.Tests.{eq-eqb, ne-eqb}
 use Rattle.logic.specs.Search.{_and_, _or_, at, holdsOf}
 use Rattle.logic.specs.Query.{Query, Literal, decode}
 use Rattle.logic.specs.Facts.{Facts, line, negatedAt, plainAt, isClash}
+use Rattle.logic.proofs.Query.Bytes.{literals-link}
 use Rattle.facts.specs.Square.{square}
-use Rattle.facts.specs.Path.{pathOf, repOf, graphOf}
+use Rattle.facts.specs.Path.{pathOf, onlyLink, repOf, graphOf}
 use Rattle.facts.specs.declared.Facts as code
 use Rattle.query.specs.declared.Layout.{Layout}
 use Rattle.query.specs.LaysOut.{LaysOut}
@@ -20,6 +21,7 @@ use Rattle.query.proofs.Literals.{listed, listed-length}
 use Rattle.clash.specs.Sections.{literalsIn, oneTerm, reachHeld, sameField}
 use Rattle.clash.specs.Reps.{repsOf}
 use Rattle.clash.proofs.Sections.{negated-at, plain-at}
+use Rattle.clash.proofs.Decomposed.{negated-one}
 
 -- Literals at places from 1: there is none at 0, nor past the end
 
@@ -104,9 +106,10 @@ module _ (q : Query) (s : Facts) (section i j : ℕ) where
   unfolding isClash _and_ _or_
   in-equalities e f = sym (rw (e, f) (or-false _ ∙ or-false _))
 
-  in-reachability : section ≡ 3 → j ≡ 0 → negatedAt (q .reachability) i (reachHeld (s .rep) (s .graph .reach)) ≡ clashes
+  in-reachability : ((l : Literal) → List·Memᴰ l (q .reachability) → l .link ≡ 1) → section ≡ 3 → j ≡ 0 → negatedAt (q .reachability) i (reachHeld (s .rep) (s .graph 1 .reach)) ≡ clashes
   unfolding isClash _and_ _or_
-  in-reachability e f = sym (rw (e, f) (or-false _))
+  in-reachability one e f =
+      sym (rw (e, f) (or-false _ ∙ negated-one (q .reachability) one (λ k. reachHeld (s .rep) (s .graph k .reach)) i))
 
   pub in-none : (section ≡ 4 → ⊥) → (section ≡ 2 → ⊥) → (section ≡ 3 → ⊥) → false ≡ clashes
   unfolding isClash _and_ _or_
@@ -141,9 +144,13 @@ module _ (l : Layout) (bytes : List ℕ) (laid : LaysOut l bytes) (s : code.Fact
       ∙ ap (λ (rep : ℕ → ℕ). negatedAt (decode bytes .equalities) i (oneTerm rep)) same
       ∙ in-equalities (decode bytes) (pathOf s) section i j e f
 
+  -- every reachability literal has link 1
+  reach-one : (x : Literal) → List·Memᴰ x (decode bytes .reachability) → x .link ≡ 1
+  reach-one x m = literals-link _ x (subst (List·Memᴰ x) (laid .reach-are) m)
+
   pub clash-reachability : (v : Bool) → v ≡ negatedAt (literalsIn bytes (l .«reach_at») (l .«reach_count»)) i (reachHeld (repsOf reps) (square (s .reach))) → section ≡ 3 → j ≡ 0 → v ≡ Clashes
-  unfolding pathOf graphOf
+  unfolding pathOf onlyLink graphOf
   clash-reachability v h e f =
       h ∙ ap (λ (ls : List Literal). negatedAt ls i (reachHeld (repsOf reps) (square (s .reach)))) (sym (laid .reach-are))
       ∙ ap (λ (rep : ℕ → ℕ). negatedAt (decode bytes .reachability) i (reachHeld rep (square (s .reach)))) same
-      ∙ in-reachability (decode bytes) (pathOf s) section i j e f
+      ∙ in-reachability (decode bytes) (pathOf s) section i j reach-one e f

@@ -10,8 +10,9 @@ use borrow.Author.Tests.{eq-eqb, ne-eqb, lt-ltb, le-ltb, ltb-true}
 use native.Mathlib.Nat.{eq-or-lt-of-le}
 use Rattle.logic.specs.Search.{_and_, any}
 use Rattle.logic.specs.Facts.{Facts, Graph, live}
-use Rattle.logic.specs.Rules.{Rule, REFLEX, TRANS1, TRANS2, FUNC, CYCLE, SCC, TOTAL, SHARE, triple, Move, move, next, returns, conditions, alternatives, held, applies}
+use Rattle.logic.specs.Rules.{Rule, REFLEX, TRANS1, TRANS2, FUNC, CYCLE, SCC, TOTAL, SHARE, Triple, triple, move, next, returns, conditions, alternatives, held, applies}
 use Rattle.logic.proofs.Basics.Search.{and-left}
+use Rattle.logic.proofs.Calls.OneLink.{applies-local}
 use Rattle.facts.specs.Square.{square}
 use Rattle.facts.specs.Path.{graphOf, linksIn}
 use Rattle.rules.specs.Tests.{pairTest, thirdTest, looped}
@@ -103,12 +104,13 @@ pub cycle-looped : (r : Rule) → r ≡ CYCLE → looped r ≡ true → ⊥
 unfolding looped
 cycle-looped r e h = false≢true (sym (ap looped e) ∙ h)
 
-pub applies-allowed : (n : ℕ) (s : Facts) (m : Move) → applies n s m ≡ allowed n (live n s) (s .graph) m
-unfolding applies allowed
-applies-allowed n s m = refl
+module _ (n : ℕ) (s : Facts) (one : s .links ≡ 1) where
+  pub applies-allowed : (r : Rule) (t : Triple) → applies n s (move 1 r t) ≡ allowed n (live n s) (s .graph 1) (move 1 r t)
+  unfolding allowed
+  applies-allowed r t = applies-local n s one r t
 
-pub applies-halves : (n : ℕ) (s : Facts) (r : Rule) (x y z : ℕ) → looped r ≡ true → applies n s (move r (triple x y z)) ≡ (pairTest (live n s) (s .graph) x y r and thirdTest (s .graph) x y z r)
-applies-halves n s r x y z h = applies-allowed n s (move r (triple x y z)) ∙ halves n (live n s) (s .graph) x y z r h
+  pub applies-halves : (r : Rule) (x y z : ℕ) → looped r ≡ true → applies n s (move 1 r (triple x y z)) ≡ (pairTest (live n s) (s .graph 1) x y r and thirdTest (s .graph 1) x y z r)
+  applies-halves r x y z h = applies-allowed r (triple x y z) ∙ halves n (live n s) (s .graph 1) x y z r h
 
 -- CYCLE
 
@@ -126,9 +128,9 @@ module _ (n : ℕ) (lives : ℕ → Bool) (link reach : List ℕ) (x y : ℕ) wh
   g = graphOf link reach
 
   abbrev cycle : ℕ → Bool
-  cycle k = allowed n lives (graphOf link reach) (move CYCLE (triple x y k))
+  cycle k = allowed n lives (graphOf link reach) (move 1 CYCLE (triple x y k))
 
-  no-facts : (k : ℕ) → conditions n lives g (move CYCLE (triple x y k)) ≡ false → cycle k ≡ false
+  no-facts : (k : ℕ) → conditions n lives (λ i. g) (move 1 CYCLE (triple x y k)) ≡ false → cycle k ≡ false
   unfolding allowed _and_
   no-facts k e = rw e
 

@@ -96,7 +96,7 @@ fn is_allowed(
 // CYCLE applies at x, y and k: the links return to x after k steps and not before, x reaches y, and y is none of the k terms from x on.
 fn is_round(link: &[u32; 17], reach: &[u32; 17], n: usize, x: usize, y: usize, k: usize) -> bool
     requires { ⌜ n ≤ 16 ⌝ }
-    ensures { λ r. ⌜ ((lives : ℕ → Bool) → r ≡ allowed n lives (graphOf (now (link .entry)) (now (reach .entry))) (move CYCLE (triple x y k))) ⌝ }
+    ensures { λ r. ⌜ ((lives : ℕ → Bool) → r ≡ allowed n lives (graphOf (now (link .entry)) (now (reach .entry))) (move 1 CYCLE (triple x y k))) ⌝ }
 {
     if !is_held(reach, x, y) {
         return false;
@@ -116,7 +116,7 @@ fn is_round(link: &[u32; 17], reach: &[u32; 17], n: usize, x: usize, y: usize, k
 // The rule applies to the path at this triple.
 pub fn applies(s: Facts, n: usize, rule: Rule, x: usize, y: usize, z: usize) -> bool
     requires { ⌜ n ≤ 16 ⌝ }
-    ensures { λ r. ⌜ r ≡ applies n (pathOf s) (move (kindOf rule) (triple x y z)) ⌝ }
+    ensures { λ r. ⌜ r ≡ applies n (pathOf s) (move 1 (kindOf rule) (triple x y z)) ⌝ }
 {
     let link = s.link;
     let reach = s.reach;

@@ -10,12 +10,13 @@ use Rattle.logic.specs.Search.{at}
 use Rattle.logic.specs.Query.{Query, decode, termCount}
 use Rattle.logic.specs.Heap.{Heap, Meets, Satisfiable, value}
 use Rattle.logic.specs.Shown.{heapIn, nodeIn, wellFormed}
-use Rattle.logic.specs.Calls.{Check, orderCheck, derivationChecks, verdictChecks, refusalOf, accepts, verdictCall}
+use Rattle.logic.specs.Calls.{Check, orderCheck, verdictChecks, refusalOf, accepts, verdictCall, derivationChecksOf}
 use Rattle.logic.specs.Calls as calls
 use Rattle.logic.specs.Demands.{NotRefused, NoneStands}
 use Rattle.logic.proofs.Basics.Search.{none-some, true-false, bool-cases}
 use Rattle.logic.proofs.Basics.Compare.{le-cases, cond-true, cond-false}
 use Rattle.logic.proofs.Calls.CheckingOrder.{first-stands}
+use Rattle.logic.proofs.Calls.Refusals.{one-link-laws}
 use Rattle.logic.proofs.Calls.CallLaws.{refusalOf-none, accepts-checks, derivation-known, verdict-clear, verdict-passed}
 use Rattle.logic.proofs.Calls.Demands.{demand1, demand2}
 use Rattle.encoding.proofs.Encoded.{Encodable, decoded}
@@ -91,7 +92,7 @@ module _ (i : Input) where
     clear = refusalOf-none verdictChecks given passed
 
     query-accepted : accepts (i .query) ≡ true
-    query-accepted = verdict-passed given clear .0 .query
+    query-accepted = verdict-passed calls.oneLinkForm one-link-laws given clear .0 .query
 
     encodable : (c : Conjunction) → Encodable (restricted query c)
     encodable c = part-encodable query (restricted query c) (restricted-part query c) (accepted-encodable (i .query) query-accepted)
@@ -102,11 +103,11 @@ module _ (i : Input) where
     says c = decoded (restricted query c) (encodable c)
 
     asked-clear : (c : Conjunction) → NoneStands verdictChecks (asked c)
-    unfolding queryOf derivationChecks orderCheck
-    asked-clear c = verdict-clear (asked c) (λ d m. ⊎-elim (first d) (accepts-checks (asked c) (encoded-accepts (restricted query c) (encodable c)) d) (List·Memᴰ·cases-cons m)) (verdict-passed given clear .1)
+    unfolding queryOf derivationChecksOf orderCheck
+    asked-clear c = verdict-clear calls.oneLinkForm one-link-laws (asked c) (λ d m. ⊎-elim (first d) (accepts-checks calls.oneLinkForm one-link-laws (asked c) (encoded-accepts (restricted query c) (encodable c)) d) (List·Memᴰ·cases-cons m)) (verdict-passed calls.oneLinkForm one-link-laws given clear .1)
       where
         first : (d : Check) → d ≡ orderCheck → d .place (asked c) ≡ none
-        first d e = ap (λ (x : Check). x .place (asked c)) e ∙ clear orderCheck (derivation-known orderCheck (List·Memᴰ·head refl))
+        first d e = ap (λ (x : Check). x .place (asked c)) e ∙ clear orderCheck (derivation-known calls.oneLinkForm one-link-laws orderCheck (List·Memᴰ·head refl))
 
     pub never-refused : (c : Conjunction) → NotRefused (verdictOn i c .answer)
     unfolding verdictOn
@@ -150,11 +151,11 @@ module _ (i : Input) where
       shown c own h =
           let s = demand2 .heap-shown (asked c) (says-satisfiable _ h) in
           record {
-            meets = meets-formula _ c own (subst (Meets (heapIn (verdictCall (asked c) .lent))) (says c) (s .meets));
-            listed = subst (λ (q : Query). (t : ℕ) → 1 ≤ t → t ≤ termCount q → value (heapIn (verdictCall (asked c) .lent)) (q .entries) t ≡ nodeIn (verdictCall (asked c) .lent) t) (says c) (s .listed);
+            meets = meets-formula _ c own (subst (λ (q : Query). Meets (heapIn (q .links) (verdictCall (asked c) .lent)) q) (says c) (s .meets));
+            listed = subst (λ (q : Query). (t : ℕ) → 1 ≤ t → t ≤ termCount q → value (heapIn (q .links) (verdictCall (asked c) .lent)) (q .entries) t ≡ nodeIn (verdictCall (asked c) .lent) t) (says c) (s .listed);
           }
 
-      formed : (c : Conjunction) → passes c ≡ true → wellFormed (verdictOn i c .lent) ≡ true
+      formed : (c : Conjunction) → passes c ≡ true → wellFormed 1 (verdictOn i c .lent) ≡ true
       unfolding verdictOn
       formed c h = demand1 .report-formed (asked c) (says-satisfiable _ h)
 
@@ -200,7 +201,7 @@ module _ (i : Input) where
                   λ s. let (g, m) = passes-only c p in absurd (s (g, meets-formula g c (own-of (suc k) c here) m)),
                 );
                 heap-shown = λ j h. subst (λ (bytes : List ℕ). ShowsFormula bytes query f) (sym lent-is) (shown c (own-of (suc k) c here) p);
-                report-formed = λ j h. ap wellFormed lent-is ∙ formed c p;
+                report-formed = λ j h. ap (wellFormed 1) lent-is ∙ formed c p;
                 report-is = λ j d h a. lent-is ∙ ap (λ (x : Conjunction). verdictOn i x .lent) (same (sym here ∙ ap (at (expand f)) (conjunction-one (sym (answer-of _ _ e) ∙ h)) ∙ a));
                 refuted-blank = λ h. absurd (conjunction-refuted (sym (answer-of _ _ e) ∙ h));
               }

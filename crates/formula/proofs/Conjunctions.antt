@@ -136,6 +136,7 @@ pub restricted-part : (q : Query) (c : Conjunction) → Part-of (restricted q c)
 unfolding restricted
 restricted-part q c =
     record {
+      links = refl;
       entries = refl;
       equalities = chosen-fewer (names c E) (q .equalities);
       reachability = chosen-fewer (names c R) (q .reachability);

@@ -12,7 +12,8 @@ use lib.Dec.{ltb}
 use Rattle.logic.specs.Calls.{verdictChecks, refusalOf}
 use Rattle.logic.specs.Calls as calls
 use Rattle.logic.specs.Demands.{FirstStands, numbers}
-use Rattle.logic.proofs.Calls.CheckingOrder.{refusal-first, first-stands, Early, verdict-early}
+use Rattle.logic.proofs.Calls.CheckingOrder.{refusal-first, first-stands, Early}
+use Rattle.logic.proofs.Calls.Refusals.{one-link-laws, verdict-early}
 use Rattle.logic.proofs.Calls.CheckingOrder as checking
 use Rattle.logic.proofs.Calls.CallLaws.{refusalOf-none}
 use Rattle.formula.specs.Grammar.{Formula}
@@ -38,11 +39,11 @@ conjunction-refused e = let z : _≡_ {A = ℕ} 0 1 = cc in omega arith
 -- The verdict call's checks, whose numbers are none of 17 to 19
 
 not-early : (j k : ℕ) → Early j → j ≡ k → 17 ≤ k → k ≤ 19 → ⊥
-not-early j k r e l u = ⊎-elim (λ (low : j ≤ 9). omega arith) (λ (high : j ≡ 26). omega arith) (r .1)
+not-early j k r e l u = ⊎-elim (λ (low : j ≤ 9). omega arith) (λ high. omega (arith, high)) (r .1)
 
 module _ (i : Input) where
   check-early : (k p : ℕ) → FirstStands verdictChecks (checked i) k p → Early k
-  check-early k p f = verdict-early k (checking.first-numbered verdictChecks (checked i) k p f)
+  check-early k p f = verdict-early calls.oneLinkForm one-link-laws k (checking.first-numbered verdictChecks (checked i) k p f)
 
   passed-none : Passed i → (k p : ℕ) → FirstStands verdictChecks (checked i) k p → ⊥
   passed-none h k p f = first-stands verdictChecks (checked i) k p (refusalOf-none verdictChecks (checked i) h) f
@@ -154,7 +155,7 @@ module _ (i : Input) where
   checks-first k p own = (λ h. there h cases, λ f. back f cases)
     where
       late : (j : ℕ) → j ≡ k → 17 ≤ j → j ≤ 19 → ⊥
-      late j e l u = not-early k j (verdict-early k own) (sym e) l u
+      late j e l u = not-early k j (verdict-early calls.oneLinkForm one-link-laws k own) (sym e) l u
 
       there : formulaCall i .answer ≡ refused k p → Case → FirstStands verdictChecks (checked i) k p
       there h (by-check j q f e) = let s = agree j k q p h e in subst (λ (n : ℕ). FirstStands verdictChecks (checked i) n p) (s .0) (subst (FirstStands verdictChecks (checked i) j) (s .1) f)

@@ -41,8 +41,8 @@ pub record FirstSatisfiable (q : Query) (f : Formula) (k : ℕ) : Type 0 where
 
 -- the report shows a heap that meets the formula, and each term's node in it is the one listed for the term
 pub record ShowsFormula (bytes : List ℕ) (q : Query) (f : Formula) : Type 0 where
-  pub meets : MeetsFormula (heapIn bytes) q f
-  pub listed : (t : ℕ) → 1 ≤ t → t ≤ termCount q → value (heapIn bytes) (q .entries) t ≡ nodeIn bytes t
+  pub meets : MeetsFormula (heapIn (q .links) bytes) q f
+  pub listed : (t : ℕ) → 1 ≤ t → t ≤ termCount q → value (heapIn (q .links) bytes) (q .entries) t ≡ nodeIn bytes t
 
 -- What an outcome of the call on i, where f is the text's formula, has to be:
 pub record AnswerClaims (i : Input) (f : Formula) (o : Outcome) : Type 0 where
@@ -54,7 +54,7 @@ pub record AnswerClaims (i : Input) (f : Formula) (o : Outcome) : Type 0 where
   -- ".. and its heap"
   pub heap-shown : (k : ℕ) → o .answer ≡ conjunction k → ShowsFormula (o .lent) (decode (i .query)) f
   -- the report is well formed, and every byte is as the verdict call leaves it on that conjunction's query
-  pub report-formed : (k : ℕ) → o .answer ≡ conjunction k → wellFormed (o .lent) ≡ true
+  pub report-formed : (k : ℕ) → o .answer ≡ conjunction k → wellFormed 1 (o .lent) ≡ true
   pub report-is : (k : ℕ) (c : Conjunction) → o .answer ≡ conjunction k → at (expand f) k ≡ some c → o .lent ≡ verdictOn i c .lent
   -- "With "refuted" the whole heap report is zero." (01)
   pub refuted-blank : o .answer ≡ refuted → o .lent ≡ replicate (i .room) 0

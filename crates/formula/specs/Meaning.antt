@@ -35,7 +35,7 @@ Holds h q (either f g) = Holds h q f ⊎ Holds h q g
 
 -- the query's terms without its literals
 unfoldable pub bare : Query → Query
-bare q = record { entries = q .entries; equalities = []; reachability = []; fields = [] }
+bare q = record { links = q .links; entries = q .entries; equalities = []; reachability = []; fields = [] }
 
 -- "a finite heap meets it": a heap for the query's terms, in which the formula holds. "Literals not named do not count."
 pub record MeetsFormula (h : Heap) (q : Query) (f : Formula) : Type 0 where
@@ -65,6 +65,7 @@ chosen p n (x ∷ xs) = cond (p n) (x ∷ chosen p (suc n) xs) (chosen p (suc n)
 unfoldable pub restricted : Query → Conjunction → Query
 restricted q c =
     record {
+      links = q .links;
       entries = q .entries;
       equalities = chosen (names c E) 1 (q .equalities);
       reachability = chosen (names c R) 1 (q .reachability);

@@ -16,6 +16,7 @@ use Rattle.logic.specs.Query.{decode, isOrder}
 use Rattle.logic.specs.Calls.{Input, verdictChecks, queryChecks, refusalOf, refused, verdictCall}
 use Rattle.logic.specs.Calls as calls
 use Rattle.logic.proofs.Basics.Search.{bool-cases, true-false, and-right}
+use Rattle.logic.proofs.Calls.Refusals.{one-link-laws}
 use Rattle.logic.proofs.Calls.VerdictCall.{VerdictCase, by-refusal, by-lines, by-model, verdict-case}
 use Rattle.text.specs.Text.{Writes}
 use Rattle.text.proofs.Writing.{writes-taken}
@@ -68,7 +69,7 @@ one-decided order query nodes before blank sub bytes root k end marks r f m p l 
 
 -- the report is blank where a query is not satisfiable
 pub unsatisfiable-blank : (i : Input) (r : Answer) (bytes : List ℕ) → Does (verdictCall i) r bytes → isSatisfiable (meaning r) ≡ false → bytes ≡ replicate (i .room) 0
-unsatisfiable-blank i r bytes d h = d .leaves ∙ by (verdict-case i)
+unsatisfiable-blank i r bytes d h = d .leaves ∙ by (verdict-case calls.oneLinkForm one-link-laws i)
   where
     sat : isSatisfiable (verdictCall i .answer) ≡ false
     sat = ap isSatisfiable (sym (d .answers)) ∙ h
@@ -76,7 +77,7 @@ unsatisfiable-blank i r bytes d h = d .leaves ∙ by (verdict-case i)
     yes : isSatisfiable calls.satisfiable ≡ true
     yes = unfold isSatisfiable in refl
 
-    by : VerdictCase i (verdictCall i) → verdictCall i .lent ≡ replicate (i .room) 0
+    by : VerdictCase calls.oneLinkForm one-link-laws i (verdictCall i) → verdictCall i .lent ≡ replicate (i .room) 0
     by (by-refusal k place l e) = ap (λ (o : calls.Outcome). o .lent) e ∙ (unfold calls.blank in refl)
     by (by-lines ls w e n) = ap (λ (o : calls.Outcome). o .lent) e ∙ (unfold calls.blank in refl)
     by (by-model s w e n) = absurd (true-false (ap (λ (o : calls.Outcome). isSatisfiable (o .answer)) e ∙ yes) sat)
@@ -198,10 +199,10 @@ module _ (order query text before bytes : List ℕ) where
       outcome = unfold formulaCall Option·elim in rw e refl
 
   pub formula-order : isOrder order ≡ false → bytes ≡ replicate (length before) 0 → DoesFormula (formulaCall given) (answer.Refused 1 0) bytes
-  formula-order o b = call-refused 1 0 (unfold verdictChecks in order-refused (record { order = order; query = query; room = length before }) _ o) b
+  formula-order o b = call-refused 1 0 (unfold calls.verdictChecksOf in order-refused (record { order = order; query = query; room = length before }) _ o) b
 
   pub formula-query : (k place : ℕ) → isOrder order ≡ true → CheckedAs (checked.Refused k place) query → bytes ≡ replicate (length before) 0 → DoesFormula (formulaCall given) (answer.Refused k place) bytes
-  formula-query k place o h b = call-refused k place (unfold verdictChecks in query-refused (record { order = order; query = query; room = length before }) _ (refused k place) o (h (record { order = order; query = query; room = length before }) refl)) b
+  formula-query k place o h b = call-refused k place (unfold calls.verdictChecksOf in query-refused (record { order = order; query = query; room = length before }) _ (refused k place) o (h (record { order = order; query = query; room = length before }) refl)) b
 
   pub formula-room : (l : Layout) → isOrder order ≡ true → CheckedAs (checked.Accepted l) query → length before < 53 → bytes ≡ replicate (length before) 0 → DoesFormula (formulaCall given) (answer.Refused 9 0) bytes
   formula-room l o h r b = call-refused 9 0 (room-refused (record { order = order; query = query; room = length before }) o (h .0 (record { order = order; query = query; room = length before }) refl) r) b

@@ -69,9 +69,9 @@ module _ (order query text before bytes : List ℕ) (r : FormulaAnswer) (does : 
         apart h = subst numbered h tt
 
     -- the report behind the number is well formed
-    pub report-formed : wellFormed bytes ≡ true
+    pub report-formed : wellFormed 1 bytes ≡ true
     report-formed =
-        ap wellFormed (does .leaves)
+        ap (wellFormed 1) (does .leaves)
         ∙ formula-claims given .answers (taken .0) (taken .1) .report-formed n answered
 
 -- the parts of what is read

@@ -10,7 +10,7 @@ ghost use Rattle.formula_printing.specs.FormulaverdictText.{satText, tex
 
 // `sat`, the conjunction's number, and the report on a line of its own.
 fn put_sat(buffer: &mut [u8], n: usize, report: &[u8]) -> usize
-    requires { ⌜ wellFormed (now report) ≡ true ⌝ }
+    requires { ⌜ wellFormed 1 (now report) ≡ true ⌝ }
     ensures { λ r. ⌜ Writes (now (buffer .entry)) 0 (satText n (now (report .entry))) (now (buffer .exit)) r × (r ≤ 250) ⌝ }
 {
     let number = text::put_bytes(buffer, 0, b"sat ");

@@ -9,7 +9,7 @@ use lib.ListN.{length, getD, take, drop, drop-of-length-le}
 use lib.Seq.{drop-cons}
 use lib.Dec.{eqb}
 use Rattle.logic.specs.Search.{flatMap}
-use Rattle.logic.specs.Query.{Literal, termCount, literals, decode}
+use Rattle.logic.specs.Query.{Literal, Entries, literal, termCount, literals, decode}
 use Rattle.query.specs.LaysOut.{LaysOut, literalIn}
 use Rattle.query.specs.declared.Layout.{Layout}
 use Rattle.query.proofs.Literals.{listed, listed-end, listed-next, listed-length, literals-are}
@@ -22,7 +22,7 @@ use Rattle.formula_reader.specs.Marked.{marked}
 use Rattle.formula_query.specs.Kept.{mark}
 
 nothing : Literal
-nothing = record { plain = false; left = 0; right = 0 }
+nothing = literal false 0 0
 
 length-kept : (b : Bool) (x : Literal) (xs : List Literal) → length (cond b (x ∷ xs) xs) ≡ cond b 1 0 + length xs
 length-kept true x xs = omega arith
@@ -121,7 +121,7 @@ module _ (query : List ℕ) (marks : List Bool) (c : Conjunction) (same : (l : L
   section-same : (l : Letter) (code : ℕ) → code ≡ letterCode l → (ls : List Literal) → length ls ≤ 60 → chosen (mark marks code) 1 ls ≡ chosen (names c l) 1 ls
   section-same l code e ls h = same-chosen (mark marks code) (names c l) 1 ls (λ m k. ap (λ (x : ℕ). mark marks x m) e ∙ same l m (omega arith))
 
-  pub query-bytes : (n : ℕ) (es : List ℕ) (equal reach field : List Literal) → n ≡ termCount (decode query) → decode query .entries ≡ es → decode query .equalities ≡ equal → decode query .reachability ≡ reach → decode query .fields ≡ field → length equal ≤ 60 → length reach ≤ 60 → length field ≤ 60 → (((((n ∷ []) ++ es) ++ sectionBytes (chosen (mark marks 0) 1 equal)) ++ sectionBytes (chosen (mark marks 1) 1 reach)) ++ sectionBytes (chosen (mark marks 2) 1 field)) ++ (0 ∷ []) ≡ encode (restricted (decode query) c)
+  pub query-bytes : (n : ℕ) (es : List ℕ) (equal reach field : List Literal) → n ≡ termCount (decode query) → decode query .entries .terms ≡ es → decode query .equalities ≡ equal → decode query .reachability ≡ reach → decode query .fields ≡ field → length equal ≤ 60 → length reach ≤ 60 → length field ≤ 60 → (((((n ∷ []) ++ es) ++ sectionBytes (chosen (mark marks 0) 1 equal)) ++ sectionBytes (chosen (mark marks 1) 1 reach)) ++ sectionBytes (chosen (mark marks 2) 1 field)) ++ (0 ∷ []) ≡ encode (restricted (decode query) c)
   query-bytes n es equal reach field e₀ e₁ e₂ e₃ e₄ l₂ l₃ l₄ =
       simp append-assoc
       (ap₂ (λ (x : List ℕ) (y : List ℕ). x ++ y) (ap₂ (λ (x : ℕ) (y : List ℕ). x ∷ y) e₀ (sym e₁))
@@ -133,7 +133,7 @@ module _ (query : List ℕ) (marks : List Bool) (c : Conjunction) (same : (l : L
       part : (l : Letter) (code : ℕ) → code ≡ letterCode l → (ls ms : List Literal) → ms ≡ ls → length ls ≤ 60 → sectionBytes (chosen (mark marks code) 1 ls) ≡ sectionBytes (chosen (names c l) 1 ms)
       part l code e ls ms d h = ap sectionBytes (section-same l code e ls h ∙ ap (chosen (names c l) 1) (sym d))
 
-      whole : (termCount (decode query) ∷ decode query .entries) ++ (sectionBytes (chosen (names c E) 1 (decode query .equalities)) ++ (sectionBytes (chosen (names c R) 1 (decode query .reachability)) ++ (sectionBytes (chosen (names c D) 1 (decode query .fields)) ++ (0 ∷ [])))) ≡ encode (restricted (decode query) c)
+      whole : (termCount (decode query) ∷ decode query .entries .terms) ++ (sectionBytes (chosen (names c E) 1 (decode query .equalities)) ++ (sectionBytes (chosen (names c R) 1 (decode query .reachability)) ++ (sectionBytes (chosen (names c D) 1 (decode query .fields)) ++ (0 ∷ [])))) ≡ encode (restricted (decode query) c)
       whole = unfold encode restricted termCount in refl
 
 pub take-bound : (n : ℕ) (xs : List ℕ) → length (take n xs) ≤ n
@@ -145,8 +145,8 @@ pub terms-bound : (n : ℕ) (xs : List ℕ) → n ≤ 16 → length (take (n + 1
 terms-bound n xs h = let l : length (take (n + 1 - 1) xs) ≤ n + 1 - 1 = take-bound (n + 1 - 1) xs in omega arith
 
 module _ (layout : Layout) (query : List ℕ) (laid : LaysOut layout query) (marks : List Bool) (c : Conjunction) (same : (l : Letter) (n : ℕ) → n < 64 → marked marks l n ≡ names c l n) where
-  entries-put : decode query .entries ≡ take (layout .terms + 1 - 1) (drop 1 query)
-  entries-put = laid .entries-are ∙ ap (λ (m : ℕ). take m (drop 1 query)) number
+  entries-put : decode query .entries .terms ≡ take (layout .terms + 1 - 1) (drop 1 query)
+  entries-put = ap (λ (es : Entries). es .terms) (laid .entries-are) ∙ ap (λ (m : ℕ). take m (drop 1 query)) number
     where
       number : layout .terms ≡ layout .terms + 1 - 1
       number = omega arith

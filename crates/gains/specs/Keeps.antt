@@ -16,4 +16,4 @@ better best score place = cond (ltb (best .score) score) (record { score = score
 
 -- where what was best before is a proposal, what is best then is one
 abbrev pub Keeps : ℕ → List ℕ → List ℕ → Best → Best → Type 0
-Keeps n link reach before r = (s : Facts) → s .graph ≡ graphOf link reach → Proposes n s (before .place) → Proposes n s (r .place)
+Keeps n link reach before r = (s : Facts) → (s .links ≡ 1) × (s .graph 1 ≡ graphOf link reach) → Proposes n s (before .place) → Proposes n s (r .place)

@@ -10,7 +10,7 @@ use lib.ListN.{length, getD, take, drop, length-append, length-map}
 use lib.Dec.{eqb, leb}
 use borrow.Author.Tests.{leb-true, eqb-true}
 use Rattle.logic.specs.Search.{_and_, _or_, flatMap}
-use Rattle.logic.specs.Query.{Literal, Query, termCount, entryOf, namesNil, argumentOf, firstByte, literals, decode}
+use Rattle.logic.specs.Query.{Literal, Entries, Query, termCount, entryOf, namesNil, argumentOf, firstByte, literals, decode}
 use Rattle.logic.proofs.Basics.Search.{and-left, and-right, all-true}
 use Rattle.logic.proofs.Basics.Compare.{eq-cases}
 use Rattle.logic.proofs.Basics.Count.{length-flatMap}
@@ -22,6 +22,7 @@ use Rattle.joining.specs.Pairs.{Pair, pairsOf, hasTerms, isPairList}
 use Rattle.encoding.specs.QueryBytes.{literalBytes, sectionBytes, encode, withinLimits}
 use Rattle.joining.specs.Joined.{raisedEntry, raised, pairLiteral, joined}
 use Rattle.encoding.proofs.Encoded.{Limits, within-limits}
+use Rattle.encoding.proofs.Decoded.{accepted-encodable}
 use Rattle.joining.proofs.Accepted.{Paired, pair-terms, count-joined}
 use Rattle.joiner.specs.Bytes.{Small, SmallEntries, SmallPairs, keepsLimits, Bounded}
 use Rattle.joiner.specs.Promise.{Passing}
@@ -45,8 +46,8 @@ map-none {A} f h (x ∷ xs) = ap (λ (y : A). y ∷ map f xs) (h x) ∙ ap (λ (
 literal-none : (l : Literal) → raised 0 0 l ≡ l
 unfolding raised
 literal-none l =
-    ap (λ (i : ℕ). record { plain = l .plain; left = i; right = 0 + l .right }) (zero-add (l .left))
-    ∙ ap (λ (i : ℕ). record { plain = l .plain; left = l .left; right = i }) (zero-add (l .right))
+    ap (λ (i : ℕ). record { plain = l .plain; link = l .link; left = i; right = 0 + l .right }) (zero-add (l .left))
+    ∙ ap (λ (i : ℕ). record { plain = l .plain; link = l .link; left = l .left; right = i }) (zero-add (l .right))
 
 flatMap-append : {A B : Type 0} (g : A → List B) (xs ys : List A) → flatMap g (xs ++ ys) ≡ flatMap g xs ++ flatMap g ys
 unfolding flatMap
@@ -81,12 +82,12 @@ entry-fits n e t small low h =
     (eq-cases e 255))
     (eq-cases e 0)
 
-entries-fit : (q : Query) (n : ℕ) → Accepted q → n ≤ 16 → SmallEntries n (q .entries)
+entries-fit : (q : Query) (n : ℕ) → Accepted q → n ≤ 16 → SmallEntries n (q .entries .terms)
 unfolding termCount argumentOf namesNil entryOf
 entries-fit q n ok small e m =
-    let (i, l, p) = mem-place (q .entries) e m in
+    let (i, l, p) = mem-place (q .entries .terms) e m in
     let most = ok .term-count in
-    subst (λ (x : ℕ). raisedEntry n x < 256) p (entry-fits n (getD (q .entries) i 0) (suc i) small (omega arith) (ok .entry-below (suc i) (omega arith, l)))
+    subst (λ (x : ℕ). raisedEntry n x < 256) p (entry-fits n (getD (q .entries .terms) i 0) (suc i) small (omega arith) (ok .entry-below (suc i) (omega arith, l)))
 
 terms-fit : (q : Query) (i j : ℕ) (ls : List Literal) → termCount q ≤ 16 → i ≤ 16 → j ≤ 16 → ((l : Literal) → List·Memᴰ l ls → InTerms q (l .left) × InTerms q (l .right)) → Small i j ls
 terms-fit q i j ls n si sj h l m = let r = h l m in (omega (arith, r .0 .1), omega (arith, r .1 .1))
@@ -133,7 +134,7 @@ module _ (first second pairs : List ℕ) (f s : Layout) (pf : Passing f first) (
 
   -- how long the sections are
   terms-sum : termCount whole ≡ f .terms + s .terms
-  terms-sum = count-joined (decode first) (decode second) (pairsOf pairs) first-ok second-ok paired ∙ omega (arith, pf .laid .term-count, ps .laid .term-count)
+  terms-sum = count-joined (decode first) (decode second) (pairsOf pairs) (accepted-encodable first (pf .accepted)) (accepted-encodable second (ps .accepted)) paired ∙ omega (arith, pf .laid .term-count, ps .laid .term-count)
 
   equal-sum : length (whole .equalities) ≡ f .«equal_count» + s .«equal_count» + getD pairs 0 0
   unfolding joined
@@ -200,10 +201,10 @@ module _ (first second pairs : List ℕ) (f s : Layout) (pf : Passing f first) (
 
     -- the numbers of each section fit
     pub entries-first : SmallEntries 0 (take (f .terms) (drop 1 first))
-    entries-first = subst (SmallEntries 0) (pf .laid .entries-are) (entries-fit (decode first) 0 first-ok (omega arith))
+    entries-first = subst (SmallEntries 0) (ap (λ (es : Entries). es .terms) (pf .laid .entries-are)) (entries-fit (decode first) 0 first-ok (omega arith))
 
     pub entries-second : SmallEntries (f .terms) (take (s .terms) (drop 1 second))
-    entries-second = subst (SmallEntries (f .terms)) (ps .laid .entries-are) (entries-fit (decode second) (f .terms) second-ok (pf .laid .terms-within))
+    entries-second = subst (SmallEntries (f .terms)) (ap (λ (es : Entries). es .terms) (ps .laid .entries-are)) (entries-fit (decode second) (f .terms) second-ok (pf .laid .terms-within))
 
     pub equal-first : Small 0 0 (literals (take (3 * f .«equal_count») (drop (f .«equal_at») first)))
     equal-first = subst (Small 0 0) (pf .laid .equal-are) (terms-fit (decode first) 0 0 _ (first-ok .term-count) (omega arith) (omega arith) (first-ok .equal-terms))
@@ -289,13 +290,13 @@ module _ (first second pairs : List ℕ) (f s : Layout) (pf : Passing f first) (
     same-terms : f .terms ≡ termCount (decode first)
     same-terms = pf .laid .term-count
 
-    terms-are : termBytes ≡ termCount whole ∷ whole .entries
+    terms-are : termBytes ≡ termCount whole ∷ whole .entries .terms
     unfolding joined
     terms-are =
         ap (λ (k : ℕ). k ∷ (map (raisedEntry 0) (take (f .terms) (drop 1 first)) ++ map (raisedEntry (f .terms)) (take (s .terms) (drop 1 second)))) (sym terms-sum)
-        ∙ ap (λ (xs : List ℕ). termCount whole ∷ (xs ++ map (raisedEntry (f .terms)) (take (s .terms) (drop 1 second)))) (map-none (raisedEntry 0) raised-none _ ∙ sym (pf .laid .entries-are))
-        ∙ ap (λ (xs : List ℕ). termCount whole ∷ (decode first .entries ++ map (raisedEntry (f .terms)) xs)) (sym (ps .laid .entries-are))
-        ∙ ap (λ (k : ℕ). termCount whole ∷ (decode first .entries ++ map (raisedEntry k) (decode second .entries))) same-terms
+        ∙ ap (λ (xs : List ℕ). termCount whole ∷ (xs ++ map (raisedEntry (f .terms)) (take (s .terms) (drop 1 second)))) (map-none (raisedEntry 0) raised-none _ ∙ sym (ap (λ (es : Entries). es .terms) (pf .laid .entries-are)))
+        ∙ ap (λ (xs : List ℕ). termCount whole ∷ (decode first .entries .terms ++ map (raisedEntry (f .terms)) xs)) (sym (ap (λ (es : Entries). es .terms) (ps .laid .entries-are)))
+        ∙ ap (λ (k : ℕ). termCount whole ∷ (decode first .entries .terms ++ map (raisedEntry k) (decode second .entries .terms))) same-terms
 
     both : (i j : ℕ) (xs ys zs ws : List Literal) → zs ≡ xs → ws ≡ ys → zs ++ map (raised i j) ws ≡ map (raised 0 0) xs ++ map (raised i j) ys
     both i j xs ys zs ws e g =

@@ -5,19 +5,19 @@ use native.Mathlib.Nat.{zero-add}
 use mathlib.Core.Path.{_≡_, refl, sym, ap, _∙_, subst}
 use mathlib.Core.Logic.{⊎-elim}
 use mathlib.Core.Bool.{true}
-use mathlib.Core.List.{List, map, List·Memᴰ, List·Memᴰ·append-cases}
+use mathlib.Core.List.{List, _++_, map, List·Memᴰ, List·Memᴰ·append-cases}
 use lib.ListN.{length, length-append, length-map}
 use borrow.Author.Tests.{ltb-true, leb-true}
-use Rattle.logic.specs.Query.{Literal, Query, termCount, argumentOf, decode}
+use Rattle.logic.specs.Query.{Literal, Query, termCount, argumentOf, linkOf, decode}
 use Rattle.logic.proofs.Basics.Search.{and-left, and-right, map-mem, all-true}
 use Rattle.logic.proofs.Basics.Compare.{le-cases}
 use Rattle.logic.proofs.Query.Tied.{Accepted, InTerms}
-use Rattle.logic.proofs.Query.AcceptedBytes.{accepted}
 use Rattle.joining.specs.Pairs.{Pair, pairsOf, hasTerms, isPairList}
 use Rattle.joining.specs.Joined.{raised, raisedEntry, pairLiteral, joined}
 use Rattle.joining.specs.Claims.{Joinable}
 use Rattle.joining.proofs.Terms.{Among, first-among, second-among, whose}
-use Rattle.encoding.proofs.Encoded.{within-limits, Encodable}
+use Rattle.encoding.proofs.Encoded.{within-limits, AboutOne, OneLinked, Encodable}
+use Rattle.encoding.proofs.Decoded.{accepted-encodable}
 
 -- a pair names a term of either query
 abbrev pub Paired : Query → Query → Pair → Type 0
@@ -32,10 +32,10 @@ pair-terms n m p h =
       (ltb-true 0 (p .second) (and-left _ _ right), leb-true (p .second) m (and-right _ _ right)),
     )
 
-module _ (a b : Query) (ps : List Pair) (first : Accepted a) (second : Accepted b) (paired : (p : Pair) → List·Memᴰ p ps → Paired a b p) where
+module _ (a b : Query) (ps : List Pair) (first : Encodable a) (second : Encodable b) (paired : (p : Pair) → List·Memᴰ p ps → Paired a b p) where
   pub count-joined : termCount (joined a b ps) ≡ termCount a + termCount b
   unfolding joined termCount
-  count-joined = length-append (a .entries) (map (raisedEntry (length (a .entries))) (b .entries)) ∙ ap (λ (k : ℕ). length (a .entries) + k) (length-map (b .entries) (raisedEntry (length (a .entries))))
+  count-joined = length-append (a .entries .terms) (map (raisedEntry (length (a .entries .terms))) (b .entries .terms)) ∙ ap (λ (k : ℕ). length (a .entries .terms) + k) (length-map (b .entries .terms) (raisedEntry (length (a .entries .terms))))
 
   -- a term of the first, and one of the second raised
   in-first : (t : ℕ) → InTerms a t → InTerms (joined a b ps) t
@@ -47,11 +47,11 @@ module _ (a b : Query) (ps : List Pair) (first : Accepted a) (second : Accepted 
   module _ (small : termCount (joined a b ps) ≤ 16) where
     pub of-first : Among (λ t. t) (joined a b ps .entries) (a .entries) (termCount a)
     unfolding joined termCount
-    of-first = first-among (a .entries) (map (raisedEntry (termCount a)) (b .entries))
+    of-first = first-among (a .entries) (map (raisedEntry (termCount a)) (b .entries .terms)) (first .one-linked .entries)
 
     pub of-second : Among (λ t. termCount a + t) (joined a b ps .entries) (b .entries) (termCount b)
     unfolding joined termCount
-    of-second = second-among (termCount a) (a .entries) (b .entries) refl (second .entry-below) (omega (arith, count-joined))
+    of-second = second-among (termCount a) (a .entries .terms) (b .entries) (second .one-linked .entries) refl (second .accepted .entry-below) (omega (arith, count-joined))
 
     entry-below : (t : ℕ) → InTerms (joined a b ps) t → argumentOf (joined a b ps .entries) t < t
     entry-below t h = ⊎-elim low high (whose (termCount a) (termCount b) t (h .0) (omega (arith, count-joined, h .1)))
@@ -59,7 +59,7 @@ module _ (a b : Query) (ps : List Pair) (first : Accepted a) (second : Accepted 
         low : t ≤ termCount a → argumentOf (joined a b ps .entries) t < t
         low u =
             ⊎-elim
-            (λ one. omega (arith, of-first .argument t (h .0) u one, first .entry-below t (h .0, u)))
+            (λ one. omega (arith, of-first .argument t (h .0) u one, first .accepted .entry-below t (h .0, u)))
             (λ none. omega (arith, of-first .no-argument t (h .0) u (omega arith), h .0))
             (le-cases 1 (argumentOf (a .entries) t))
 
@@ -68,7 +68,7 @@ module _ (a b : Query) (ps : List Pair) (first : Accepted a) (second : Accepted 
             let (u, e, l, m) = r in
             subst (λ (k : ℕ). argumentOf (joined a b ps .entries) k < k) (sym e)
             (⊎-elim
-            (λ one. omega (arith, of-second .argument u l m one, second .entry-below u (l, m)))
+            (λ one. omega (arith, of-second .argument u l m one, second .accepted .entry-below u (l, m)))
             (λ none. omega (arith, of-second .no-argument u l m (omega arith), l))
             (le-cases 1 (argumentOf (b .entries) u)))
 
@@ -84,7 +84,7 @@ module _ (a b : Query) (ps : List Pair) (first : Accepted a) (second : Accepted 
     unfolding raised
     right-raised l m =
         let (k, own, e) = map-mem (raised 0 (termCount a)) l (b .fields) m in
-        rw (e, zero-add (k .left)) (second .field-number k own, in-second (k .right) (second .field-term k own))
+        rw (e, zero-add (k .left)) (second .accepted .field-number k own, in-second (k .right) (second .accepted .field-term k own))
 
     of-pair : (l : Literal) → List·Memᴰ l (map (pairLiteral (termCount a)) ps) → InTerms (joined a b ps) (l .left) × InTerms (joined a b ps) (l .right)
     unfolding pairLiteral
@@ -96,20 +96,48 @@ module _ (a b : Query) (ps : List Pair) (first : Accepted a) (second : Accepted 
     both-first : (l : Literal) → InTerms a (l .left) × InTerms a (l .right) → InTerms (joined a b ps) (l .left) × InTerms (joined a b ps) (l .right)
     both-first l h = (in-first (l .left) (h .0), in-first (l .right) (h .1))
 
-    pub joined-accepted : Accepted (joined a b ps)
+    -- each literal of the whole is about link 1
+    raised-one : (i j : ℕ) (ls : List Literal) → AboutOne ls → AboutOne (map (raised i j) ls)
+    unfolding raised
+    raised-one i j ls h l m = let (k, own, e) = map-mem (raised i j) l ls m in ap (λ (x : Literal). x .link) e ∙ h k own
+
+    pair-one : AboutOne (map (pairLiteral (termCount a)) ps)
+    unfolding pairLiteral
+    pair-one l m = let (p, own, e) = map-mem (pairLiteral (termCount a)) l ps m in ap (λ (x : Literal). x .link) e
+
+    both-one : (ls ms : List Literal) → AboutOne ls → AboutOne ms → AboutOne (ls ++ ms)
+    both-one ls ms h g l m = ⊎-elim (h l) (g l) (List·Memᴰ·append-cases ls m)
+
+    pub joined-linked : OneLinked (joined a b ps)
     unfolding joined
+    joined-linked =
+        let f = first .one-linked in
+        let g = second .one-linked in
+        record {
+          links = refl;
+          entries = refl;
+          equalities = both-one _ _ (f .equalities) (both-one _ _ (raised-one _ _ _ (g .equalities)) pair-one);
+          reachability = both-one _ _ (f .reachability) (raised-one _ _ _ (g .reachability));
+          fields = both-one _ _ (f .fields) (raised-one _ _ _ (g .fields));
+        }
+
+    pub joined-accepted : Accepted (joined a b ps)
+    unfolding joined linkOf
     joined-accepted =
         record {
           term-count = small;
+          some-link = omega arith;
           entry-below = entry-below;
+          entry-linked = λ t h one. (omega arith, omega arith);
           equal-terms =
-              λ l m. ⊎-elim (λ x. both-first l (first .equal-terms l x))
-              (λ x. ⊎-elim (both-raised l (b .equalities) (second .equal-terms)) (of-pair l) (List·Memᴰ·append-cases (map (raised (termCount a) (termCount a)) (b .equalities)) x))
+              λ l m. ⊎-elim (λ x. both-first l (first .accepted .equal-terms l x))
+              (λ x. ⊎-elim (both-raised l (b .equalities) (second .accepted .equal-terms)) (of-pair l) (List·Memᴰ·append-cases (map (raised (termCount a) (termCount a)) (b .equalities)) x))
               (List·Memᴰ·append-cases (a .equalities) m);
           reach-terms =
-              λ l m. ⊎-elim (λ x. both-first l (first .reach-terms l x)) (both-raised l (b .reachability) (second .reach-terms)) (List·Memᴰ·append-cases (a .reachability) m);
-          field-number = λ l m. ⊎-elim (first .field-number l) (λ x. right-raised l x .0) (List·Memᴰ·append-cases (a .fields) m);
-          field-term = λ l m. ⊎-elim (λ x. in-first (l .right) (first .field-term l x)) (λ x. right-raised l x .1) (List·Memᴰ·append-cases (a .fields) m);
+              λ l m. ⊎-elim (λ x. both-first l (first .accepted .reach-terms l x)) (both-raised l (b .reachability) (second .accepted .reach-terms)) (List·Memᴰ·append-cases (a .reachability) m);
+          reach-linked = λ l m. let e = joined-linked .reachability l m in (omega arith, omega arith);
+          field-number = λ l m. ⊎-elim (first .accepted .field-number l) (λ x. right-raised l x .0) (List·Memᴰ·append-cases (a .fields) m);
+          field-term = λ l m. ⊎-elim (λ x. in-first (l .right) (first .accepted .field-term l x)) (λ x. right-raised l x .1) (List·Memᴰ·append-cases (a .fields) m);
         }
 
 -- two queries and a pair list that can be joined
@@ -125,6 +153,7 @@ module _ (first second pairs : List ℕ) (ok : Joinable first second pairs) wher
   pub encodable : Encodable (joined (decode first) (decode second) (pairsOf pairs))
   encodable =
       record {
-        accepted = joined-accepted (decode first) (decode second) (pairsOf pairs) (accepted first (ok .first-accepted)) (accepted second (ok .second-accepted)) all-paired joined-small;
+        accepted = joined-accepted (decode first) (decode second) (pairsOf pairs) (accepted-encodable first (ok .first-accepted)) (accepted-encodable second (ok .second-accepted)) all-paired joined-small;
+        one-linked = joined-linked (decode first) (decode second) (pairsOf pairs) (accepted-encodable first (ok .first-accepted)) (accepted-encodable second (ok .second-accepted)) all-paired joined-small;
         within = ok .within-limits;
       }

@@ -12,7 +12,7 @@ use borrow.Author.Tests.{ltb-true, ltb-false, leb-true, leb-false, eqb-true}
 use Rattle.logic.specs.Search.{_and_, at, holdsOf}
 use Rattle.logic.specs.Query.{Literal, Query, termCount, decode}
 use Rattle.logic.specs.Facts.{Facts, line, isClash, negatedAt}
-use Rattle.logic.specs.Calls.{accepts}
+use Rattle.logic.specs.Calls.{accepts, acceptsBy}
 use Rattle.logic.proofs.Basics.Search.{true-false, not-true, and-left, and-right, and-false-cases, or-cases, none-some, isSome-false, map-mem, at-left}
 use Rattle.logic.proofs.Basics.Compare.{eq-cases, eqb-self}
 use Rattle.joining.specs.Pairs.{Pair}
@@ -138,7 +138,7 @@ module _ (first second : List ℕ) (ok₁ : accepts first ≡ true) (ok₂ : acc
   b = decode second
 
   no-refusal : (bytes : List ℕ) → accepts bytes ≡ true → queryRefusal bytes ≡ none
-  unfolding accepts queryRefusal
+  unfolding acceptsBy queryRefusal
   no-refusal bytes h = isSome-false _ (not-true h)
 
   -- accepted queries are refused no line but by 25

@@ -3,27 +3,28 @@
 use Prim.Native.Nat.{ℕ, zero, suc, _+_, _-_, _≤_, _<_}
 use native.Mathlib.Omega.{arith}
 use native.Mathlib.Nat.{zero-add}
-use mathlib.Core.Path.{_≡_, refl, sym, ap, _∙_, subst, subst₂}
+use mathlib.Core.Path.{_≡_, refl, sym, ap, ap₂, _∙_, subst, subst₂}
 use mathlib.Core.Logic.{_⊎_, inl, inr, ⊎-elim}
 use mathlib.Core.Bool.{Bool, true, false, cond}
 use mathlib.Core.List.{List, map, List·Memᴰ, Memᴰ·append-left, Memᴰ·append-right, List·Memᴰ·append-cases}
 use lib.Dec.{leb}
 use borrow.Author.Tests.{le-leb, lt-leb}
-use Rattle.logic.specs.Query.{Literal, Query, termCount, namesNil, argumentOf}
+use Rattle.logic.specs.Query.{Literal, Entries, Query, termCount, namesNil, argumentOf, linkOf}
 use Rattle.logic.specs.Heap.{Heap, Node, IsHeap, value, Reaches, Signed, MeansEqual, MeansReach, MeansField, Each, Meets, Satisfiable}
 use Rattle.logic.proofs.Basics.Search.{map-mem, map-intro}
 use Rattle.logic.proofs.Basics.Compare.{le-cases}
-use Rattle.logic.proofs.Query.Tied.{Accepted, InTerms}
+use Rattle.logic.proofs.Query.Tied.{InTerms}
 use Rattle.logic.proofs.Query.Entries.{nil-range}
 use Rattle.logic.proofs.Soundness.Value.{Below, accepted-below, value-variable, value-link}
 use Rattle.joining.specs.Pairs.{Pair}
 use Rattle.joining.specs.Joined.{raised, pairLiteral, joined}
 use Rattle.joining.specs.Heaps.{naming, OneHeap}
 use Rattle.joining.proofs.Terms.{Among, whose}
+use Rattle.encoding.proofs.Encoded.{Encodable}
 use Rattle.joining.proofs.Accepted.{Paired, count-joined, of-first, of-second, joined-accepted}
 
 -- Terms of a part of the entries have the same values among all of them, where variables are named alike.
-module _ (h : Heap) (v w : ℕ → ℕ) (g : ℕ → ℕ) (all own : List ℕ) (m : ℕ) (among : Among g all own m) (positive : (t : ℕ) → 1 ≤ t → 1 ≤ g t) (all-below : Below all) (own-below : Below own) (named : (t : ℕ) → 1 ≤ t → t ≤ m → v (g t) ≡ w t) where
+module _ (h : Heap) (v w : ℕ → ℕ) (g : ℕ → ℕ) (all own : Entries) (m : ℕ) (among : Among g all own m) (positive : (t : ℕ) → 1 ≤ t → 1 ≤ g t) (all-below : Below all) (own-below : Below own) (named : (t : ℕ) → 1 ≤ t → t ≤ m → v (g t) ≡ w t) where
   value-within : (fuel t : ℕ) → t < fuel → 1 ≤ t → t ≤ m → value (naming h v) all (g t) ≡ value (naming h w) own t
   unfolding naming
   value-within zero t f l u = absurd (omega arith)
@@ -34,8 +35,8 @@ module _ (h : Heap) (v w : ℕ → ℕ) (g : ℕ → ℕ) (all own : List ℕ) (
       let moves = among .argument t l u one in
       let some = positive (argumentOf own t) one in
       value-link (naming h v) all all-below (g t) (omega arith)
-      ∙ ap (λ (k : ℕ). h .link (value (naming h v) all k)) moves
-      ∙ ap (h .link) (value-within fuel (argumentOf own t) (omega arith) one (omega arith))
+      ∙ ap₂ (λ (i k : ℕ). h .link i (value (naming h v) all k)) (among .link t) moves
+      ∙ ap (h .link (linkOf own t)) (value-within fuel (argumentOf own t) (omega arith) one (omega arith))
       ∙ sym (value-link (naming h w) own own-below t one))
       (λ none.
       let z : argumentOf own t ≡ 0 = omega arith in
@@ -52,11 +53,11 @@ module _ (h : Heap) (v w : ℕ → ℕ) (g : ℕ → ℕ) (all own : List ℕ) (
   pub inwards : (P : ℕ → ℕ → Type 0) (b : Bool) (x y : ℕ) → (1 ≤ x) × (x ≤ m) → (1 ≤ y) × (y ≤ m) → Signed b (P (value (naming h w) own x) (value (naming h w) own y)) → Signed b (P (value (naming h v) all (g x)) (value (naming h v) all (g y)))
   inwards P b x y i j = subst₂ (λ s t. Signed b (P s t)) (sym (value-among x i)) (sym (value-among y j))
 
-module _ (a b : Query) (ps : List Pair) (first : Accepted a) (second : Accepted b) (paired : (p : Pair) → List·Memᴰ p ps → Paired a b p) (small : termCount (joined a b ps) ≤ 16) where
+module _ (a b : Query) (ps : List Pair) (first : Encodable a) (second : Encodable b) (paired : (p : Pair) → List·Memᴰ p ps → Paired a b p) (small : termCount (joined a b ps) ≤ 16) where
   abbrev n : ℕ
   n = termCount a
 
-  abbrev whole : List ℕ
+  abbrev whole : Entries
   whole = joined a b ps .entries
 
   whole-below : Below whole
@@ -65,22 +66,22 @@ module _ (a b : Query) (ps : List Pair) (first : Accepted a) (second : Accepted 
   -- one heap with its variables named for the whole, for the first and for the second
   module _ (h : Heap) (v w₁ w₂ : ℕ → ℕ) (named₁ : (t : ℕ) → 1 ≤ t → t ≤ termCount a → v t ≡ w₁ t) (named₂ : (t : ℕ) → 1 ≤ t → t ≤ termCount b → v (termCount a + t) ≡ w₂ t) where
     value₁ : (t : ℕ) → InTerms a t → value (naming h v) whole t ≡ value (naming h w₁) (a .entries) t
-    value₁ = value-among h v w₁ (λ t. t) whole (a .entries) (termCount a) (of-first a b ps first second paired small) (λ t l. l) whole-below (accepted-below a first) named₁
+    value₁ = value-among h v w₁ (λ t. t) whole (a .entries) (termCount a) (of-first a b ps first second paired small) (λ t l. l) whole-below (accepted-below a (first .accepted)) named₁
 
     value₂ : (t : ℕ) → InTerms b t → value (naming h v) whole (n + t) ≡ value (naming h w₂) (b .entries) t
-    value₂ = value-among h v w₂ (λ t. n + t) whole (b .entries) (termCount b) (of-second a b ps first second paired small) (λ t l. omega arith) whole-below (accepted-below b second) named₂
+    value₂ = value-among h v w₂ (λ t. n + t) whole (b .entries) (termCount b) (of-second a b ps first second paired small) (λ t l. omega arith) whole-below (accepted-below b (second .accepted)) named₂
 
     out₁ : (P : ℕ → ℕ → Type 0) (c : Bool) (x y : ℕ) → InTerms a x → InTerms a y → Signed c (P (value (naming h v) whole x) (value (naming h v) whole y)) → Signed c (P (value (naming h w₁) (a .entries) x) (value (naming h w₁) (a .entries) y))
-    out₁ = outwards h v w₁ (λ t. t) whole (a .entries) (termCount a) (of-first a b ps first second paired small) (λ t l. l) whole-below (accepted-below a first) named₁
+    out₁ = outwards h v w₁ (λ t. t) whole (a .entries) (termCount a) (of-first a b ps first second paired small) (λ t l. l) whole-below (accepted-below a (first .accepted)) named₁
 
     in₁ : (P : ℕ → ℕ → Type 0) (c : Bool) (x y : ℕ) → InTerms a x → InTerms a y → Signed c (P (value (naming h w₁) (a .entries) x) (value (naming h w₁) (a .entries) y)) → Signed c (P (value (naming h v) whole x) (value (naming h v) whole y))
-    in₁ = inwards h v w₁ (λ t. t) whole (a .entries) (termCount a) (of-first a b ps first second paired small) (λ t l. l) whole-below (accepted-below a first) named₁
+    in₁ = inwards h v w₁ (λ t. t) whole (a .entries) (termCount a) (of-first a b ps first second paired small) (λ t l. l) whole-below (accepted-below a (first .accepted)) named₁
 
     out₂ : (P : ℕ → ℕ → Type 0) (c : Bool) (x y : ℕ) → InTerms b x → InTerms b y → Signed c (P (value (naming h v) whole (n + x)) (value (naming h v) whole (n + y))) → Signed c (P (value (naming h w₂) (b .entries) x) (value (naming h w₂) (b .entries) y))
-    out₂ = outwards h v w₂ (λ t. n + t) whole (b .entries) (termCount b) (of-second a b ps first second paired small) (λ t l. omega arith) whole-below (accepted-below b second) named₂
+    out₂ = outwards h v w₂ (λ t. n + t) whole (b .entries) (termCount b) (of-second a b ps first second paired small) (λ t l. omega arith) whole-below (accepted-below b (second .accepted)) named₂
 
     in₂ : (P : ℕ → ℕ → Type 0) (c : Bool) (x y : ℕ) → InTerms b x → InTerms b y → Signed c (P (value (naming h w₂) (b .entries) x) (value (naming h w₂) (b .entries) y)) → Signed c (P (value (naming h v) whole (n + x)) (value (naming h v) whole (n + y)))
-    in₂ = inwards h v w₂ (λ t. n + t) whole (b .entries) (termCount b) (of-second a b ps first second paired small) (λ t l. omega arith) whole-below (accepted-below b second) named₂
+    in₂ = inwards h v w₂ (λ t. n + t) whole (b .entries) (termCount b) (of-second a b ps first second paired small) (λ t l. omega arith) whole-below (accepted-below b (second .accepted)) named₂
 
     -- nil terms
     nil₁ : (t : ℕ) → InTerms a t → namesNil whole t ≡ namesNil (a .entries) t
@@ -111,11 +112,11 @@ module _ (a b : Query) (ps : List Pair) (first : Accepted a) (second : Accepted 
               record {
                 one-node =
                     λ t u x y. out₁ (λ i j. i ≡ j) true t u (in-a t x) (in-a u y) (m .nil-node .one-node t u (nil₁ t (in-a t x) ∙ x) (nil₁ u (in-a u y) ∙ y));
-                own-link = λ t x. out₁ (λ i j. h .link i ≡ j) true t t (in-a t x) (in-a t x) (m .nil-node .own-link t (nil₁ t (in-a t x) ∙ x));
+                own-link = λ k t x. out₁ (λ i j. h .link k i ≡ j) true t t (in-a t x) (in-a t x) (m .nil-node .own-link k t (nil₁ t (in-a t x) ∙ x));
               };
-          equalities = λ l k. let r = first .equal-terms l k in out₁ (λ i j. i ≡ j) (l .plain) (l .left) (l .right) (r .0) (r .1) (m .equalities l (Memᴰ·append-left _ k));
-          reachability = λ l k. let r = first .reach-terms l k in out₁ (Reaches (h .link)) (l .plain) (l .left) (l .right) (r .0) (r .1) (m .reachability l (Memᴰ·append-left _ k));
-          fields = λ l k. let r = first .field-term l k in out₁ (OnFields (l .left)) (l .plain) (l .right) (l .right) r r (m .fields l (Memᴰ·append-left _ k));
+          equalities = λ l k. let r = first .accepted .equal-terms l k in out₁ (λ i j. i ≡ j) (l .plain) (l .left) (l .right) (r .0) (r .1) (m .equalities l (Memᴰ·append-left _ k));
+          reachability = λ l k. let r = first .accepted .reach-terms l k in out₁ (Reaches (h .link (l .link))) (l .plain) (l .left) (l .right) (r .0) (r .1) (m .reachability l (Memᴰ·append-left _ k));
+          fields = λ l k. let r = first .accepted .field-term l k in out₁ (OnFields (l .left)) (l .plain) (l .right) (l .right) r r (m .fields l (Memᴰ·append-left _ k));
         }
 
     -- what a raised literal means
@@ -127,11 +128,11 @@ module _ (a b : Query) (ps : List Pair) (first : Accepted a) (second : Accepted 
     unfolding raised
     equal-raised l e = e
 
-    raised-reach : (l : Literal) → MeansReach (naming h v) whole (raised n n l) → Signed (l .plain) (Reaches (h .link) (value (naming h v) whole (n + l .left)) (value (naming h v) whole (n + l .right)))
+    raised-reach : (l : Literal) → MeansReach (naming h v) whole (raised n n l) → Signed (l .plain) (Reaches (h .link (l .link)) (value (naming h v) whole (n + l .left)) (value (naming h v) whole (n + l .right)))
     unfolding raised naming
     raised-reach l e = e
 
-    reach-raised : (l : Literal) → Signed (l .plain) (Reaches (h .link) (value (naming h v) whole (n + l .left)) (value (naming h v) whole (n + l .right))) → MeansReach (naming h v) whole (raised n n l)
+    reach-raised : (l : Literal) → Signed (l .plain) (Reaches (h .link (l .link)) (value (naming h v) whole (n + l .left)) (value (naming h v) whole (n + l .right))) → MeansReach (naming h v) whole (raised n n l)
     unfolding raised naming
     reach-raised l e = e
 
@@ -152,7 +153,7 @@ module _ (a b : Query) (ps : List Pair) (first : Accepted a) (second : Accepted 
               record {
                 one-node =
                     λ t u x y. out₂ (λ i j. i ≡ j) true t u (in-b t x) (in-b u y) (m .nil-node .one-node (n + t) (n + u) (nil₂ t (in-b t x) ∙ x) (nil₂ u (in-b u y) ∙ y));
-                own-link = λ t x. out₂ (λ i j. h .link i ≡ j) true t t (in-b t x) (in-b t x) (m .nil-node .own-link (n + t) (nil₂ t (in-b t x) ∙ x));
+                own-link = λ k t x. out₂ (λ i j. h .link k i ≡ j) true t t (in-b t x) (in-b t x) (m .nil-node .own-link k (n + t) (nil₂ t (in-b t x) ∙ x));
               };
           equalities = equal;
           reachability = reach;
@@ -161,19 +162,19 @@ module _ (a b : Query) (ps : List Pair) (first : Accepted a) (second : Accepted 
       where
         equal : Each (MeansEqual (naming h w₂) (b .entries)) (b .equalities)
         equal l k =
-            let r = second .equal-terms l k in
+            let r = second .accepted .equal-terms l k in
             out₂ (λ i j. i ≡ j) (l .plain) (l .left) (l .right) (r .0) (r .1)
             (raised-equal l (m .equalities (raised n n l) (Memᴰ·append-right (a .equalities) (Memᴰ·append-left _ (map-intro (raised n n) l k)))))
 
         reach : Each (MeansReach (naming h w₂) (b .entries)) (b .reachability)
         reach l k =
-            let r = second .reach-terms l k in
-            out₂ (Reaches (h .link)) (l .plain) (l .left) (l .right) (r .0) (r .1)
+            let r = second .accepted .reach-terms l k in
+            out₂ (Reaches (h .link (l .link))) (l .plain) (l .left) (l .right) (r .0) (r .1)
             (raised-reach l (m .reachability (raised n n l) (Memᴰ·append-right (a .reachability) (map-intro (raised n n) l k))))
 
         field : Each (MeansField (naming h w₂) (b .entries)) (b .fields)
         field l k =
-            let r = second .field-term l k in
+            let r = second .accepted .field-term l k in
             out₂ (OnFields (l .left)) (l .plain) (l .right) (l .right) r r
             (raised-field l (m .fields (raised 0 n l) (Memᴰ·append-right (a .fields) (map-intro (raised 0 n) l k))))
 
@@ -217,16 +218,16 @@ module _ (a b : Query) (ps : List Pair) (first : Accepted a) (second : Accepted 
           go (inr i) (inl j) = i .2 ∙ sym (equal-nils (j .0) (i .0) (j .1) (i .1)) ∙ sym (j .2)
           go (inr i) (inr j) = i .2 ∙ m₂ .nil-node .one-node (i .0) (j .0) (i .1) (j .1) ∙ sym (j .2)
 
-      own-link : (t : ℕ) → namesNil whole t ≡ true → h .link (value (naming h v) whole t) ≡ value (naming h v) whole t
+      own-link : (k t : ℕ) → namesNil whole t ≡ true → h .link k (value (naming h v) whole t) ≡ value (naming h v) whole t
       unfolding naming
-      own-link t x = go (nil-of t x)
+      own-link k t x = go (nil-of t x)
         where
-          go : NilOf t → h .link (value (naming h v) whole t) ≡ value (naming h v) whole t
-          go (inl i) = ap (h .link) (i .2) ∙ m₁ .nil-node .own-link (i .0) (i .1) ∙ sym (i .2)
-          go (inr i) = ap (h .link) (i .2) ∙ m₂ .nil-node .own-link (i .0) (i .1) ∙ sym (i .2)
+          go : NilOf t → h .link k (value (naming h v) whole t) ≡ value (naming h v) whole t
+          go (inl i) = ap (h .link k) (i .2) ∙ m₁ .nil-node .own-link k (i .0) (i .1) ∙ sym (i .2)
+          go (inr i) = ap (h .link k) (i .2) ∙ m₂ .nil-node .own-link k (i .0) (i .1) ∙ sym (i .2)
 
       second-equal : (l : Literal) → List·Memᴰ l (b .equalities) → MeansEqual (naming h v) whole (raised n n l)
-      second-equal l k = let r = second .equal-terms l k in equal-raised l (in₂ (λ i j. i ≡ j) (l .plain) (l .left) (l .right) (r .0) (r .1) (m₂ .equalities l k))
+      second-equal l k = let r = second .accepted .equal-terms l k in equal-raised l (in₂ (λ i j. i ≡ j) (l .plain) (l .left) (l .right) (r .0) (r .1) (m₂ .equalities l k))
 
       pair-equal : (p : Pair) → List·Memᴰ p ps → MeansEqual (naming h v) whole (pairLiteral n p)
       unfolding pairLiteral
@@ -234,11 +235,11 @@ module _ (a b : Query) (ps : List Pair) (first : Accepted a) (second : Accepted 
 
       second-reach : (l : Literal) → List·Memᴰ l (b .reachability) → MeansReach (naming h v) whole (raised n n l)
       unfolding naming
-      second-reach l k = let r = second .reach-terms l k in reach-raised l (in₂ (Reaches (h .link)) (l .plain) (l .left) (l .right) (r .0) (r .1) (m₂ .reachability l k))
+      second-reach l k = let r = second .accepted .reach-terms l k in reach-raised l (in₂ (Reaches (h .link (l .link))) (l .plain) (l .left) (l .right) (r .0) (r .1) (m₂ .reachability l k))
 
       second-field : (l : Literal) → List·Memᴰ l (b .fields) → MeansField (naming h v) whole (raised 0 n l)
       unfolding naming
-      second-field l k = let r = second .field-term l k in field-raised l (in₂ (OnFields (l .left)) (l .plain) (l .right) (l .right) r r (m₂ .fields l k))
+      second-field l k = let r = second .accepted .field-term l k in field-raised l (in₂ (OnFields (l .left)) (l .plain) (l .right) (l .right) r r (m₂ .fields l k))
 
       -- a property of each literal of a list that is mapped
       each-of : {A : Type 0} (P : Literal → Type 0) (f : A → Literal) (xs : List A) → ((x : A) → List·Memᴰ x xs → P (f x)) → (l : Literal) → List·Memᴰ l (map f xs) → P l
@@ -251,18 +252,18 @@ module _ (a b : Query) (ps : List Pair) (first : Accepted a) (second : Accepted 
             is-heap = is;
             nil-node = record { one-node = one-node; own-link = own-link };
             equalities =
-                λ l k. ⊎-elim (λ x. let r = first .equal-terms l x in in₁ (λ i j. i ≡ j) (l .plain) (l .left) (l .right) (r .0) (r .1) (m₁ .equalities l x))
+                λ l k. ⊎-elim (λ x. let r = first .accepted .equal-terms l x in in₁ (λ i j. i ≡ j) (l .plain) (l .left) (l .right) (r .0) (r .1) (m₁ .equalities l x))
                 (λ x.
                 ⊎-elim (each-of (MeansEqual (naming h v) whole) (raised n n) (b .equalities) second-equal l)
                 (each-of (MeansEqual (naming h v) whole) (pairLiteral n) ps pair-equal l)
                 (List·Memᴰ·append-cases (map (raised n n) (b .equalities)) x))
                 (List·Memᴰ·append-cases (a .equalities) k);
             reachability =
-                λ l k. ⊎-elim (λ x. let r = first .reach-terms l x in in₁ (Reaches (h .link)) (l .plain) (l .left) (l .right) (r .0) (r .1) (m₁ .reachability l x))
+                λ l k. ⊎-elim (λ x. let r = first .accepted .reach-terms l x in in₁ (Reaches (h .link (l .link))) (l .plain) (l .left) (l .right) (r .0) (r .1) (m₁ .reachability l x))
                 (each-of (MeansReach (naming h v) whole) (raised n n) (b .reachability) second-reach l)
                 (List·Memᴰ·append-cases (a .reachability) k);
             fields =
-                λ l k. ⊎-elim (λ x. let r = first .field-term l x in in₁ (OnFields (l .left)) (l .plain) (l .right) (l .right) r r (m₁ .fields l x))
+                λ l k. ⊎-elim (λ x. let r = first .accepted .field-term l x in in₁ (OnFields (l .left)) (l .plain) (l .right) (l .right) r r (m₁ .fields l x))
                 (each-of (MeansField (naming h v) whole) (raised 0 n) (b .fields) second-field l)
                 (List·Memᴰ·append-cases (a .fields) k);
           }

@@ -12,7 +12,7 @@ use lib.Seq.{length-take-le, drop-append-add}
 use lib.Dec.{eqb, leb}
 use borrow.Author.Tests.{leb-true}
 use Rattle.logic.specs.Search.{at}
-use Rattle.logic.specs.Query.{Literal, Query, termCount, Section, fourSections, fiveSections, sections, Layout, faulty, parts, withPart, layout, layoutBy, layoutOf, literals, section, queryOf, decode}
+use Rattle.logic.specs.Query.{Literal, Query, literal, termCount, Section, fourSections, fiveSections, sections, Layout, faulty, parts, withPart, layout, layoutBy, layoutOf, literals, section, queryOf, decode}
 use Rattle.logic.specs.Calls.{accepts}
 use Rattle.logic.proofs.Basics.Compare.{eq-cases}
 use Rattle.logic.proofs.Query.Bytes.{cond-elim}
@@ -91,7 +91,7 @@ record Laid (bytes : List ℕ) (q : Query) : Type 0 where
   field : List ℕ
   rest : List ℕ
   bytes-are : bytes ≡ count₁ ∷ (entries ++ (count₂ ∷ (equal ++ (count₃ ∷ (reach ++ (count₄ ∷ (field ++ rest)))))))
-  entries-are : q .entries ≡ entries
+  entries-are : q .entries .terms ≡ entries
   equal-are : q .equalities ≡ literals equal
   reach-are : q .reachability ≡ literals reach
   field-are : q .fields ≡ literals field
@@ -126,7 +126,7 @@ laid bytes ps h =
           (f₃ .bytes-are
           ∙ ap (λ (x : List ℕ). f₃ .count ∷ (f₃ .part ++ x))
           (f₄ .bytes-are)));
-      entries-are = ap (λ (q : Query). q .entries) said;
+      entries-are = ap (λ (q : Query). q .entries .terms) said;
       equal-are = ap (λ (q : Query). q .equalities) said;
       reach-are = ap (λ (q : Query). q .reachability) said;
       field-are = ap (λ (q : Query). q .fields) said;
@@ -147,7 +147,7 @@ unfolding literals at
 literal-there k [] rest h = absurd (omega arith)
 literal-there k (s ∷ []) rest h = absurd (omega arith)
 literal-there k (s ∷ a ∷ []) rest h = absurd (omega arith)
-literal-there zero (s ∷ a ∷ b ∷ part) rest h = (record { plain = eqb s 1; left = a; right = b }, refl, refl)
+literal-there zero (s ∷ a ∷ b ∷ part) rest h = (literal (eqb s 1) a b, refl, refl)
 literal-there (suc k) (s ∷ a ∷ b ∷ part) rest h =
     let (l, e, r) = literal-there k part rest (omega arith) in
     (l, e, ap (λ (i : ℕ). literals (take 3 (drop i (s ∷ a ∷ b ∷ (part ++ rest))))) (three) ∙ r)

@@ -5,12 +5,12 @@ use native.Mathlib.Nat.{add-suc}
 use mathlib.Core.Path.{_≡_, refl, sym, ap, _∙_}
 use mathlib.Core.Logic.{_⊎_, inl, inr, ⊎-elim}
 use mathlib.Core.Bool.{cond}
-use mathlib.Core.List.{List, _++_, map}
+use mathlib.Core.List.{List, [], _++_, map}
 use lib.ListN.{length, getD, List·getD-append, List·getD-map}
 use lib.Seq.{getD-append-add}
 use lib.Dec.{eqb}
 use Rattle.logic.specs.Search.{_or_}
-use Rattle.logic.specs.Query.{entryOf, namesNil, argumentOf}
+use Rattle.logic.specs.Query.{Entries, oneLink, entryOf, linkOf, namesNil, argumentOf}
 use Rattle.logic.proofs.Basics.Compare.{eqb-false, eq-cases, le-cases}
 use Rattle.joining.specs.Joined.{raisedEntry}
 
@@ -28,48 +28,55 @@ unfolding raisedEntry _or_
 raised-other n e h g = rw (eqb-false e 0 h, eqb-false e 255 g)
 
 -- what an entry says: nil, or the argument
-entry-nil : (xs : List ℕ) (t e : ℕ) → entryOf xs t ≡ e → (namesNil xs t ≡ eqb e 255) × (argumentOf xs t ≡ cond (eqb e 255) 0 e)
+entry-nil : (xs : Entries) (t e : ℕ) → entryOf xs t ≡ e → (namesNil xs t ≡ eqb e 255) × (argumentOf xs t ≡ cond (eqb e 255) 0 e)
 unfolding namesNil argumentOf
 entry-nil xs t e h = rw h (refl, refl)
 
 -- Terms of a part among the terms of the whole: term t of `own` is term g t of `all`.
-pub record Among (g : ℕ → ℕ) (all own : List ℕ) (m : ℕ) : Type 0 where
+pub record Among (g : ℕ → ℕ) (all own : Entries) (m : ℕ) : Type 0 where
   pub nil-same : (t : ℕ) → 1 ≤ t → t ≤ m → namesNil all (g t) ≡ namesNil own t
   pub no-argument : (t : ℕ) → 1 ≤ t → t ≤ m → argumentOf own t ≡ 0 → argumentOf all (g t) ≡ 0
   pub argument : (t : ℕ) → 1 ≤ t → t ≤ m → 1 ≤ argumentOf own t → argumentOf all (g t) ≡ g (argumentOf own t)
+  pub link : (t : ℕ) → linkOf all (g t) ≡ linkOf own t
 
-module _ (xs ys : List ℕ) where
-  entry-first : (t : ℕ) → 1 ≤ t → t ≤ length xs → entryOf (xs ++ ys) t ≡ entryOf xs t
+-- where no links are listed, each is 1
+pub unlisted-link : (xs : Entries) → xs .links ≡ [] → (t : ℕ) → linkOf xs t ≡ 1
+unfolding linkOf
+unlisted-link xs none t = rw none refl
+
+module _ (xs : Entries) (ys : List ℕ) where
+  entry-first : (t : ℕ) → 1 ≤ t → t ≤ length (xs .terms) → entryOf (oneLink (xs .terms ++ ys)) t ≡ entryOf xs t
   unfolding entryOf
   entry-first zero l u = absurd (omega arith)
-  entry-first (suc t) l u = List·getD-append xs ys 0 t u
+  entry-first (suc t) l u = List·getD-append (xs .terms) ys 0 t u
 
-  entry-second : (f : ℕ → ℕ) → f 0 ≡ 0 → (t : ℕ) → 1 ≤ t → entryOf (xs ++ map f ys) (length xs + t) ≡ f (entryOf ys t)
-  unfolding entryOf
-  entry-second f z zero l = absurd (omega arith)
-  entry-second f z (suc t) l =
-      rw add-suc
-      (getD-append-add xs (map f ys) t 0 ∙ ap (getD (map f ys) t) (sym z) ∙ List·getD-map f ys t 0)
-
-  pub first-among : Among (λ t. t) (xs ++ ys) xs (length xs)
+  pub first-among : xs .links ≡ [] → Among (λ t. t) (oneLink (xs .terms ++ ys)) xs (length (xs .terms))
   unfolding namesNil argumentOf
-  first-among =
+  first-among none =
       record {
         nil-same = λ t l u. rw (entry-first t l u);
         no-argument = λ t l u e. rw (entry-first t l u) e;
         argument = λ t l u e. rw (entry-first t l u);
+        link = λ t. unlisted-link (oneLink (xs .terms ++ ys)) refl t ∙ sym (unlisted-link xs none t);
       }
 
+entry-second : (xs : List ℕ) (ys : Entries) (f : ℕ → ℕ) → f 0 ≡ 0 → (t : ℕ) → 1 ≤ t → entryOf (oneLink (xs ++ map f (ys .terms))) (length xs + t) ≡ f (entryOf ys t)
+unfolding entryOf
+entry-second xs ys f z zero l = absurd (omega arith)
+entry-second xs ys f z (suc t) l =
+    rw add-suc
+    (getD-append-add xs (map f (ys .terms)) t 0 ∙ ap (getD (map f (ys .terms)) t) (sym z) ∙ List·getD-map f (ys .terms) t 0)
+
 -- the entries of an accepted query: 255, or below the term
-module _ (n : ℕ) (xs ys : List ℕ) (count : length xs ≡ n) (low : (t : ℕ) → (1 ≤ t) × (t ≤ length ys) → argumentOf ys t < t) (small : n + length ys ≤ 16) where
-  all : List ℕ
-  all = xs ++ map (raisedEntry n) ys
+module _ (n : ℕ) (xs : List ℕ) (ys : Entries) (none : ys .links ≡ []) (count : length xs ≡ n) (low : (t : ℕ) → (1 ≤ t) × (t ≤ length (ys .terms)) → argumentOf ys t < t) (small : n + length (ys .terms) ≤ 16) where
+  all : Entries
+  all = oneLink (xs ++ map (raisedEntry n) (ys .terms))
 
   raised-at : (t : ℕ) → 1 ≤ t → entryOf all (n + t) ≡ raisedEntry n (entryOf ys t)
   unfolding all
   raised-at t l = rw (← count) (entry-second xs ys (raisedEntry (length xs)) (raised-zero (length xs)) t l)
 
-  module _ (t : ℕ) (l : 1 ≤ t) (u : t ≤ length ys) where
+  module _ (t : ℕ) (l : 1 ≤ t) (u : t ≤ length (ys .terms)) where
     e : ℕ
     e = entryOf ys t
 
@@ -99,16 +106,17 @@ module _ (n : ℕ) (xs ys : List ℕ) (count : length xs ≡ n) (low : (t : ℕ)
         let other = eqb-false (n + entryOf ys t) 255 (omega arith) in
         (whole .0 ∙ other ∙ sym (own .0 ∙ plain), argues, whole .1 ∙ rw other)
 
-  pub second-among : Among (λ t. n + t) (xs ++ map (raisedEntry n) ys) ys (length ys)
+  pub second-among : Among (λ t. n + t) (oneLink (xs ++ map (raisedEntry n) (ys .terms))) ys (length (ys .terms))
   unfolding all e
   second-among =
       record {
         nil-same = λ t l u. each t l u .0;
         no-argument = λ t l u z. each t l u .1 z;
         argument = λ t l u one. each t l u .2 one;
+        link = λ t. unlisted-link (oneLink (xs ++ map (raisedEntry n) (ys .terms))) refl (n + t) ∙ sym (unlisted-link ys none t);
       }
     where
-      each : (t : ℕ) → 1 ≤ t → t ≤ length ys → (namesNil (xs ++ map (raisedEntry n) ys) (n + t) ≡ namesNil ys t) × (argumentOf ys t ≡ 0 → argumentOf (xs ++ map (raisedEntry n) ys) (n + t) ≡ 0) × (1 ≤ argumentOf ys t → argumentOf (xs ++ map (raisedEntry n) ys) (n + t) ≡ n + argumentOf ys t)
+      each : (t : ℕ) → 1 ≤ t → t ≤ length (ys .terms) → (namesNil (oneLink (xs ++ map (raisedEntry n) (ys .terms))) (n + t) ≡ namesNil ys t) × (argumentOf ys t ≡ 0 → argumentOf (oneLink (xs ++ map (raisedEntry n) (ys .terms))) (n + t) ≡ 0) × (1 ≤ argumentOf ys t → argumentOf (oneLink (xs ++ map (raisedEntry n) (ys .terms))) (n + t) ≡ n + argumentOf ys t)
       each t l u =
           ⊎-elim
           (λ z. let r = of-variable t l u z in (r .0, λ w. r .2, λ w. absurd (omega (arith, r .1))))

@@ -13,8 +13,9 @@ use Rattle.logic.specs.Walk.{ourWalk, refutation}
 use Rattle.logic.specs.Calls.{Input, Check, Outcome, verdictChecks, derivationChecks, verdictCall, derivationCall}
 use Rattle.logic.specs.Calls as calls
 use Rattle.logic.specs.Demands.{numbers, Refusals}
-use Rattle.logic.proofs.Calls.CheckingOrder.{Early, verdict-early, derivation-early}
-use Rattle.logic.proofs.Calls.Demands.{demand1}
+use Rattle.logic.proofs.Calls.CheckingOrder.{Early}
+use Rattle.logic.proofs.Calls.Refusals.{one-link-laws, verdict-early, derivation-early}
+use Rattle.logic.proofs.Calls.Demands.{demand1, checks-in-order}
 use Rattle.logic.proofs.Calls.Room.{room-enough, report-short}
 use Rattle.prover.specs.Promise.{inputOf}
 use Rattle.lemitsaka.specs.VerdictPromise.{codeOf, answerIn, Codes}
@@ -32,7 +33,7 @@ refused-back k place l u h =
 abbrev numbersOf : List Check → List ℕ
 numbersOf cs = numbers cs ++ (11 ∷ 12 ∷ [])
 
-module _ (cs : List Check) (outcome : Input → Outcome) (law : Refusals cs outcome) (early : (k : ℕ) → List·Memᴰ k (numbers cs) → Early k) where
+module _ (cs : List Check) (outcome : Input → Outcome) (law : Refusals cs 561 outcome) (early : (k : ℕ) → List·Memᴰ k (numbers cs) → Early k) where
   small : (k : ℕ) → List·Memᴰ k (numbersOf cs) → (1 ≤ k) × (k ≤ 26)
   small k m = ⊎-elim checked late (List·Memᴰ·append-cases (numbers cs) m)
     where
@@ -85,50 +86,50 @@ every-byte-written outcome order query before before′ bytes bytes′ r r′ c 
 module _ (order query before bytes : List ℕ) (r : ℕ) (codes : Codes (verdictCall (inputOf order query before)) r bytes) where
   -- "The number gives back the answer."
   pub verdict-number : answerIn r ≡ verdictCall (inputOf order query before) .answer
-  verdict-number = number-back verdictChecks verdictCall (demand1 .verdict-refusals) verdict-early order query before bytes r codes
+  verdict-number = number-back verdictChecks verdictCall (demand1 .verdict-refusals) (verdict-early calls.oneLinkForm one-link-laws) order query before bytes r codes
 
   -- "refused 1 to 9 and 26"; a refusal's place is at most the query's length, and at most 561.
   pub verdict-numbered : (k place : ℕ) → answerIn r ≡ calls.refused k place → List·Memᴰ k (1 ∷ 2 ∷ 3 ∷ 26 ∷ 4 ∷ 5 ∷ 6 ∷ 7 ∷ 8 ∷ 9 ∷ [])
-  verdict-numbered k place e = subst (List·Memᴰ k) (demand1 .verdict-checks) (demand1 .verdict-numbered (inputOf order query before) k place (sym verdict-number ∙ e))
+  verdict-numbered k place e = subst (List·Memᴰ k) (checks-in-order .verdict-checks) (demand1 .verdict-numbered (inputOf order query before) k place (sym verdict-number ∙ e))
 
   pub verdict-placed : (k place : ℕ) → answerIn r ≡ calls.refused k place → (place ≤ length query) × (place ≤ 561)
-  verdict-placed = placed verdictChecks verdictCall (demand1 .verdict-refusals) verdict-early order query before bytes r codes
+  verdict-placed = placed verdictChecks verdictCall (demand1 .verdict-refusals) (verdict-early calls.oneLinkForm one-link-laws) order query before bytes r codes
 
   -- "The report's length is kept"; "after a refusal, all of it is zero."
   pub verdict-kept : length bytes ≡ length before
-  verdict-kept = kept verdictChecks verdictCall (demand1 .verdict-refusals) verdict-early order query before bytes r codes
+  verdict-kept = kept verdictChecks verdictCall (demand1 .verdict-refusals) (verdict-early calls.oneLinkForm one-link-laws) order query before bytes r codes
 
   pub verdict-blank : (k place : ℕ) → answerIn r ≡ calls.refused k place → bytes ≡ replicate (length before) 0
-  verdict-blank = blank verdictChecks verdictCall (demand1 .verdict-refusals) verdict-early order query before bytes r codes
+  verdict-blank = blank verdictChecks verdictCall (demand1 .verdict-refusals) (verdict-early calls.oneLinkForm one-link-laws) order query before bytes r codes
 
   -- "53 bytes are enough for every report": they are never refused, and every byte past them is zero.
   pub verdict-room : 53 ≤ length before → (place : ℕ) → answerIn r ≡ calls.refused 9 place → ⊥
-  verdict-room l place e = room-enough (inputOf order query before) l place (sym verdict-number ∙ e)
+  verdict-room l place e = room-enough calls.oneLinkForm one-link-laws (inputOf order query before) l place (sym verdict-number ∙ e)
 
   pub verdict-short : (n : ℕ) → 53 ≤ n → getD bytes n 0 ≡ 0
-  verdict-short n l = ap (λ (b : List ℕ). getD b n 0) (codes .leaves) ∙ report-short (inputOf order query before) n l
+  verdict-short n l = ap (λ (b : List ℕ). getD b n 0) (codes .leaves) ∙ report-short calls.oneLinkForm one-link-laws (inputOf order query before) n l
 
 -- The derivation call
 module _ (order query before bytes : List ℕ) (r : ℕ) (codes : Codes (derivationCall (inputOf order query before)) r bytes) where
   -- "The number gives back the answer."
   pub derivation-number : answerIn r ≡ derivationCall (inputOf order query before) .answer
-  derivation-number = number-back derivationChecks derivationCall (demand1 .derivation-refusals) derivation-early order query before bytes r codes
+  derivation-number = number-back derivationChecks derivationCall (demand1 .derivation-refusals) (derivation-early calls.oneLinkForm one-link-laws) order query before bytes r codes
 
   -- "refused 1 to 8, 26, 11 and 12"; a refusal's place is at most the query's length, and at most 561.
   pub derivation-numbered : (k place : ℕ) → answerIn r ≡ calls.refused k place → List·Memᴰ k (1 ∷ 2 ∷ 3 ∷ 26 ∷ 4 ∷ 5 ∷ 6 ∷ 7 ∷ 8 ∷ 11 ∷ 12 ∷ [])
   derivation-numbered k place e =
-      subst (λ (ks : List ℕ). List·Memᴰ k (ks ++ (11 ∷ 12 ∷ []))) (demand1 .derivation-checks)
-      (numbered derivationChecks derivationCall (demand1 .derivation-refusals) derivation-early order query before bytes r codes k place e)
+      subst (λ (ks : List ℕ). List·Memᴰ k (ks ++ (11 ∷ 12 ∷ []))) (checks-in-order .derivation-checks)
+      (numbered derivationChecks derivationCall (demand1 .derivation-refusals) (derivation-early calls.oneLinkForm one-link-laws) order query before bytes r codes k place e)
 
   pub derivation-placed : (k place : ℕ) → answerIn r ≡ calls.refused k place → (place ≤ length query) × (place ≤ 561)
-  derivation-placed = placed derivationChecks derivationCall (demand1 .derivation-refusals) derivation-early order query before bytes r codes
+  derivation-placed = placed derivationChecks derivationCall (demand1 .derivation-refusals) (derivation-early calls.oneLinkForm one-link-laws) order query before bytes r codes
 
   -- "The buffer's length is kept"; "after a refusal, all of it is zero."
   pub derivation-kept : length bytes ≡ length before
-  derivation-kept = kept derivationChecks derivationCall (demand1 .derivation-refusals) derivation-early order query before bytes r codes
+  derivation-kept = kept derivationChecks derivationCall (demand1 .derivation-refusals) (derivation-early calls.oneLinkForm one-link-laws) order query before bytes r codes
 
   pub derivation-blank : (k place : ℕ) → answerIn r ≡ calls.refused k place → bytes ≡ replicate (length before) 0
-  derivation-blank = blank derivationChecks derivationCall (demand1 .derivation-refusals) derivation-early order query before bytes r codes
+  derivation-blank = blank derivationChecks derivationCall (demand1 .derivation-refusals) (derivation-early calls.oneLinkForm one-link-laws) order query before bytes r codes
 
   -- "The derivation call never answers 0."
   pub derivation-nonzero : r ≡ 0 → ⊥

@@ -58,7 +58,7 @@ module _ (q : Query) (order : List Rule) (k : ℕ) (s : Facts) (r : Listed) (bef
 -- The branches one after the other: those before i are refuted by lines that are written and counted; or one is not refuted
 module _ (q : Query) (order : List Rule) (k : ℕ) (s : Facts) (rule : Rule) (x y z : ℕ) where
   abbrev m : Move
-  m = move rule (triple x y z)
+  m = move 1 rule (triple x y z)
 
   abbrev cs : List Fact
   cs = alternatives (termCount q) (s .graph) m
@@ -79,7 +79,7 @@ module _ (q : Query) (order : List Rule) (k : ℕ) (s : Facts) (rule : Rule) (x 
   pub going-first : (before : List ℕ) (c : ℕ) → Going before c 0 before c
   going-first before c = inr (turn-first (termCount q) w s cs before c)
 
-  module _ (n : ℕ) (terms-are : n ≡ termCount q) (before : List ℕ) (c i : ℕ) (bytes bytes′ : List ℕ) (count most : ℕ) (in-row : i < countOf rule z) (j : Joined) (j-is : j ≡ branch n s (alternativeAt n (s .graph) rule x y z i)) (r : Listed) (listed : Lists r (walkBranch w j) bytes count most bytes′) where
+  module _ (n : ℕ) (terms-are : n ≡ termCount q) (before : List ℕ) (c i : ℕ) (bytes bytes′ : List ℕ) (count most : ℕ) (in-row : i < countOf rule z) (j : Joined) (j-is : j ≡ branch n s (alternativeAt n (s .graph 1) rule x y z i)) (r : Listed) (listed : Lists r (walkBranch w j) bytes count most bytes′) where
     in-alternatives : i < length cs
     in-alternatives = omega (arith, count-is (termCount q) (s .graph) rule x y z)
 

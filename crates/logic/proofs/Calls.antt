@@ -14,3 +14,6 @@ pub mod EdgeExamples
 pub mod Reordering
 pub mod JoinPairs
 pub mod Decision
+pub mod OneLink
+pub mod LinkExamples
+pub mod ThreeLinks

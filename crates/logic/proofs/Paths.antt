@@ -7,5 +7,6 @@ pub mod Ranged
 pub mod Settle
 pub mod Kept
 pub mod Round
+pub mod Applies
 pub mod Start
 pub mod Invariant

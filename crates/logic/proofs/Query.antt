@@ -4,3 +4,4 @@ pub mod Entries
 pub mod Bytes
 pub mod AcceptedBytes
 pub mod Places
+pub mod ThreeLinks

@@ -39,21 +39,37 @@ formChecks form =
     layoutCheck form 2 ∷ layoutCheck form 3 ∷ layoutCheck form 26 ∷ layoutCheck form 4
     ∷ byteCheck form 5 ∷ byteCheck form 6 ∷ byteCheck form 7 ∷ byteCheck form 8 ∷ []
 
--- "9. The heap report's buffer has fewer than 53 bytes, whichever the verdict would be."
-unfoldable pub roomCheck : Check
-roomCheck = record { number = 9; place = λ i. keep (ltb (i .room) 53) 0 }
+-- "9. The heap report's buffer has fewer than 53 bytes, whichever the verdict would be": than so many
+unfoldable pub roomUnder : ℕ → Check
+roomUnder needed = record { number = 9; place = λ i. keep (ltb (i .room) needed) 0 }
+
+abbrev pub roomCheck : Check
+roomCheck = roomUnder 53
 
 -- "A query is accepted if it passes checks 2 to 8 and any that a change puts among them": 26 (02, R-13)
 unfoldable pub queryChecks : List Check
 queryChecks = formChecks sections
 
+-- What the two calls take: queries in the form of 01, or with three links (02, R-11). How many links there are, the checks of the query's
+-- bytes, what the bytes say, the bytes that a report needs, and how long a query can be.
+pub record CallForm : Type 0 where
+  pub links : ℕ
+  pub checks : List Check
+  pub decode : List ℕ → Query
+  pub room : ℕ
+  pub longest : ℕ
+
+-- the form of 01; the longest query had 681 bytes, of which 120 were booleans (02, R-13)
+abbrev pub oneLinkForm : CallForm
+oneLinkForm = record { links = 1; checks = queryChecks; decode = decode; room = 53; longest = 561 }
+
 -- "The verdict call uses 1 to 10. The derivation call uses 1 to 8 and 10 to 12"; 10 is withdrawn (02, R-5), and 11 and 12 are read off
 -- the walk.
-unfoldable pub verdictChecks : List Check
-verdictChecks = orderCheck ∷ (queryChecks ++ (roomCheck ∷ []))
+unfoldable pub verdictChecksOf : CallForm → List Check
+verdictChecksOf f = orderCheck ∷ (f .checks ++ (roomUnder (f .room) ∷ []))
 
-unfoldable pub derivationChecks : List Check
-derivationChecks = orderCheck ∷ queryChecks
+unfoldable pub derivationChecksOf : CallForm → List Check
+derivationChecksOf f = orderCheck ∷ f .checks
 
 -- The number and place of a refusal, or a verdict.
 pub data Answer : Type 0 where
@@ -70,8 +86,8 @@ unfoldable pub refusalOf : List Check → Input → Option Answer
 refusalOf cs i = firstOf (λ c. Option·elim (c .place i) none (λ place. some (refused (c .number) place))) cs
 
 -- "A query is accepted": room plays no part
-unfoldable pub accepts : List ℕ → Bool
-accepts query = not (isSome (refusalOf queryChecks (record { order = []; query = query; room = 0 })))
+unfoldable pub acceptsBy : CallForm → List ℕ → Bool
+acceptsBy f query = not (isSome (refusalOf (f .checks) (record { order = []; query = query; room = 0 })))
 
 -- "bytes past it are zero"
 unfoldable pub padded : ℕ → List ℕ → List ℕ
@@ -82,9 +98,9 @@ unfoldable pub blank : ℕ → Answer → Outcome
 blank room a = record { answer = a; lent = replicate room 0 }
 
 -- what a call answers: the first check that stands, else what its walk says
-unfoldable pub call : List Check → (Ending → Outcome) → Input → Outcome
-call cs result i =
-    let walked : Outcome = result (ourWalk (i .order) (decode (i .query))) in
+unfoldable pub call : CallForm → List Check → (Ending → Outcome) → Input → Outcome
+call f cs result i =
+    let walked : Outcome = result (ourWalk (i .order) (f .decode (i .query))) in
     Option·elim (refusalOf cs i) walked (blank (i .room))
 
 -- "With "refuted" the whole heap report is zero."
@@ -92,8 +108,8 @@ unfoldable pub verdictOf : Query → ℕ → Ending → Outcome
 verdictOf q room (saturation s) = record { answer = satisfiable; lent = padded room (report q s) }
 verdictOf q room (refutation ls) = blank room refuted
 
-unfoldable pub verdictCall : Input → Outcome
-verdictCall i = call verdictChecks (verdictOf (decode (i .query)) (i .room)) i
+unfoldable pub verdictCallOf : CallForm → Input → Outcome
+verdictCallOf f i = call f (verdictChecksOf f) (verdictOf (f .decode (i .query)) (i .room)) i
 
 -- "11. A derivation was asked for and the query is satisfiable. 12. The derivation has more than 16,000 lines or its buffer cannot
 -- hold it."
@@ -103,5 +119,21 @@ derivationOf room (refutation ls) =
     cond (ltb 16000 (length ls) or ltb room (2 + 4 * length ls)) (blank room (refused 12 0))
     (record { answer = refuted; lent = padded room (derivationBytes ls) })
 
-unfoldable pub derivationCall : Input → Outcome
-derivationCall i = call derivationChecks (derivationOf (i .room)) i
+unfoldable pub derivationCallOf : CallForm → Input → Outcome
+derivationCallOf f i = call f (derivationChecksOf f) (derivationOf (i .room)) i
+
+-- the two calls of 01
+abbrev pub verdictCall : Input → Outcome
+verdictCall = verdictCallOf oneLinkForm
+
+abbrev pub derivationCall : Input → Outcome
+derivationCall = derivationCallOf oneLinkForm
+
+abbrev pub verdictChecks : List Check
+verdictChecks = verdictChecksOf oneLinkForm
+
+abbrev pub derivationChecks : List Check
+derivationChecks = derivationChecksOf oneLinkForm
+
+abbrev pub accepts : List ℕ → Bool
+accepts = acceptsBy oneLinkForm

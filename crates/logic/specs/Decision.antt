@@ -5,20 +5,20 @@ use mathlib.Core.Logic.{_↔_}
 use mathlib.Core.Bool.{Bool, true}
 use mathlib.Core.List.{List}
 use lib.ListN.{getD}
-use Rattle.logic.specs.Query.{Query, isOrder, decode, termCount}
+use Rattle.logic.specs.Query.{Query, isOrder, termCount}
 use Rattle.logic.specs.Heap.{Heap, Reaches, Meets, value}
 use Rattle.logic.specs.Facts.{Facts, live, start}
 use Rattle.logic.specs.Rules.{Move, branches}
 use Rattle.logic.specs.Walk.{orderOf, walk, Verdict, ourVerdict}
 use Rattle.logic.specs.Steps.{Steps, AtMost}
-use Rattle.logic.specs.Calls.{accepts}
+use Rattle.logic.specs.Calls.{CallForm, acceptsBy}
 
 -- the heap meets the query, a term has the value of what it was replaced by, and the facts of the path are true
 pub record MeetsPath (h : Heap) (q : Query) (s : Facts) : Type 0 where
   pub meets : Meets h q
   pub rep-value : (t : ℕ) → 1 ≤ t → t ≤ termCount q → value h (q .entries) (s .rep t) ≡ value h (q .entries) t
-  pub link-true : (a b : ℕ) → s .graph .link a b ≡ true → h .link (value h (q .entries) a) ≡ value h (q .entries) b
-  pub reach-true : (a b : ℕ) → s .graph .reach a b ≡ true → Reaches (h .link) (value h (q .entries) a) (value h (q .entries) b)
+  pub link-true : (i a b : ℕ) → s .graph i .link a b ≡ true → h .link i (value h (q .entries) a) ≡ value h (q .entries) b
+  pub reach-true : (i a b : ℕ) → s .graph i .reach a b ≡ true → Reaches (h .link i) (value h (q .entries) a) (value h (q .entries) b)
 
 -- some finite heap does; none of any size does
 abbrev pub HasHeap : Query → Facts → Type 0
@@ -41,9 +41,11 @@ pub data Follows (alive : ℕ → Bool) (link reach : ℕ → ℕ → Bool) : �
 -- a path with more such facts, and no other change
 pub record Closes (n : ℕ) (s s′ : Facts) : Type 0 where
   pub same-rep : s′ .rep ≡ s .rep
-  pub same-link : s′ .graph .link ≡ s .graph .link
-  pub reach-kept : (a b : ℕ) → s .graph .reach a b ≡ true → s′ .graph .reach a b ≡ true
-  pub reach-follows : (a b : ℕ) → s′ .graph .reach a b ≡ true → Follows (live n s) (s .graph .link) (s .graph .reach) a b
+  pub same-links : s′ .links ≡ s .links
+  pub same-link : (i : ℕ) → s′ .graph i .link ≡ s .graph i .link
+  pub reach-kept : (i a b : ℕ) → s .graph i .reach a b ≡ true → s′ .graph i .reach a b ≡ true
+  pub reach-linked : (i a b : ℕ) → s′ .graph i .reach a b ≡ true → (1 ≤ i) × (i ≤ s .links)
+  pub reach-follows : (i a b : ℕ) → s′ .graph i .reach a b ≡ true → Follows (live n s) (s .graph i .link) (s .graph i .reach) a b
 
 -- the branches of a rule before the i-th (from 0) have no heap
 abbrev pub Struck : Query → Facts → Move → ℕ → Type 0
@@ -51,6 +53,6 @@ Struck q s m i = (j : ℕ) → j < i → NoHeap q (getD (branches (termCount q) 
 
 -- The third demand's claim, of every path that a walk can reach: our walk of it, under whatever order list, is satisfiable exactly when some
 -- finite heap meets the query and the facts of the path, and refuted exactly when none of any size does.
-pub record PathsDecided : Type 0 where
-  pub satisfiable-exactly : (query order : List ℕ) (s : Facts) (k : ℕ) → accepts query ≡ true → isOrder order ≡ true → Reachable (decode query) s → AtMost (termCount (decode query)) s k → (ourVerdict (walk (decode query) (orderOf order) k s) ≡ Verdict.satisfiable) ↔ HasHeap (decode query) s
-  pub refuted-exactly : (query order : List ℕ) (s : Facts) (k : ℕ) → accepts query ≡ true → isOrder order ≡ true → Reachable (decode query) s → AtMost (termCount (decode query)) s k → (ourVerdict (walk (decode query) (orderOf order) k s) ≡ Verdict.refuted) ↔ NoHeap (decode query) s
+pub record PathsDecided (f : CallForm) : Type 0 where
+  pub satisfiable-exactly : (query order : List ℕ) (s : Facts) (k : ℕ) → acceptsBy f query ≡ true → isOrder order ≡ true → Reachable (f .decode query) s → AtMost (termCount (f .decode query)) s k → (ourVerdict (walk (f .decode query) (orderOf order) k s) ≡ Verdict.satisfiable) ↔ HasHeap (f .decode query) s
+  pub refuted-exactly : (query order : List ℕ) (s : Facts) (k : ℕ) → acceptsBy f query ≡ true → isOrder order ≡ true → Reachable (f .decode query) s → AtMost (termCount (f .decode query)) s k → (ourVerdict (walk (f .decode query) (orderOf order) k s) ≡ Verdict.refuted) ↔ NoHeap (f .decode query) s

@@ -7,13 +7,13 @@ use mathlib.Core.Bool.{true}
 use mathlib.Core.List.{List, [], _∷_, _++_, map, List·Memᴰ}
 use mathlib.Core.Option.{none, some}
 use lib.ListN.{length, replicate}
-use Rattle.logic.specs.Query.{Query, isOrder, decode, termCount}
+use Rattle.logic.specs.Query.{Query, isOrder, termCount}
 use Rattle.logic.specs.Heap.{Meets, Satisfiable, value}
 use Rattle.logic.specs.Facts.{Line}
 use Rattle.logic.specs.Walk.{Verdict, Pick, ourWalk, ourVerdict, handRow, handVerdict, Ending, refutation}
 use Rattle.logic.specs.Derivation.{Derivation, derivationBytes, linesIn}
 use Rattle.logic.specs.Shown.{heapIn, nodeIn, wellFormed}
-use Rattle.logic.specs.Calls.{Input, Check, Outcome, Answer, refused, verdictChecks, derivationChecks, accepts, padded, verdictCall, derivationCall}
+use Rattle.logic.specs.Calls.{Input, Check, CallForm, oneLinkForm, verdictChecksOf, derivationChecksOf, Outcome, Answer, refused, acceptsBy, padded, verdictCallOf, derivationCallOf}
 
 -- no refusal
 abbrev pub NotRefused : Answer → Type 0
@@ -38,11 +38,11 @@ abbrev pub numbers : List Check → List ℕ
 numbers cs = map (λ (c : Check). c .number) cs
 
 -- our walk of what a call is given
-abbrev pub walkOf : Input → Ending
-walkOf i = ourWalk (i .order) (decode (i .query))
+abbrev pub walkOf : CallForm → Input → Ending
+walkOf f i = ourWalk (i .order) (f .decode (i .query))
 
--- How a call refuses whose checks are cs. For every input:
-pub record Refusals (cs : List Check) (outcome : Input → Outcome) : Type 0 where
+-- How a call refuses whose checks are cs, and whose longest query has so many bytes. For every input:
+pub record Refusals (cs : List Check) (longest : ℕ) (outcome : Input → Outcome) : Type 0 where
   -- the refusal answered, if it is not 11 or 12, is the first in checking order whose condition stands
   pub first-exactly : (i : Input) (k place : ℕ) → List·Memᴰ k (numbers cs) → (outcome i .answer ≡ refused k place) ↔ FirstStands cs i k place
   -- where the condition of a check stands, there is a refusal: the first of that check and those before it
@@ -51,7 +51,7 @@ pub record Refusals (cs : List Check) (outcome : Input → Outcome) : Type 0 whe
   pub never-ten : (i : Input) (place : ℕ) → outcome i .answer ≡ refused 10 place → ⊥
   -- a number is that of a check, 11 or 12, and a place is not past the query's end nor past that of the longest query
   pub refusal-numbered : (i : Input) (k place : ℕ) → outcome i .answer ≡ refused k place → List·Memᴰ k (numbers cs ++ (11 ∷ 12 ∷ []))
-  pub refusal-placed : (i : Input) (k place : ℕ) → outcome i .answer ≡ refused k place → (place ≤ length (i .query)) × (place ≤ 561)
+  pub refusal-placed : (i : Input) (k place : ℕ) → outcome i .answer ≡ refused k place → (place ≤ length (i .query)) × (place ≤ longest)
   -- a refusal leaves zero in all that was lent, and the call writes just that in any case
   pub refusal-blank : (i : Input) (k place : ℕ) → outcome i .answer ≡ refused k place → outcome i .lent ≡ replicate (i .room) 0
   pub lent-whole : (i : Input) → length (outcome i .lent) ≡ i .room
@@ -69,45 +69,48 @@ Alike i j = (i .order ≡ j .order) × (i .query ≡ j .query)
 
 -- DEMAND 1. "The answer to every order list and every string of query bytes is a heap, a refutation or one of the numbered refusals,
 -- each refusal under its own stated condition only. A refusal leaves zero in all of the lent report. The caller vouches for nothing."
--- An answer is one of the three by its type. As to the rest, for every input:
-pub record Demand1 : Type 0 where
-  -- "The verdict call uses 1 to 10. The derivation call uses 1 to 8 and 10 to 12", in checking order; 11 and 12 are no checks
-  pub verdict-checks : numbers verdictChecks ≡ 1 ∷ 2 ∷ 3 ∷ 26 ∷ 4 ∷ 5 ∷ 6 ∷ 7 ∷ 8 ∷ 9 ∷ []
-  pub derivation-checks : numbers derivationChecks ≡ 1 ∷ 2 ∷ 3 ∷ 26 ∷ 4 ∷ 5 ∷ 6 ∷ 7 ∷ 8 ∷ []
+-- An answer is one of the three by its type. As to the rest, for every input of the calls that take this form of query:
+pub record Demand1 (f : CallForm) : Type 0 where
   -- each refusal under its own stated condition only, with all of the lent output zero
-  pub verdict-refusals : Refusals verdictChecks verdictCall
-  pub derivation-refusals : Refusals derivationChecks derivationCall
+  pub verdict-refusals : Refusals (verdictChecksOf f) (f .longest) (verdictCallOf f)
+  pub derivation-refusals : Refusals (derivationChecksOf f) (f .longest) (derivationCallOf f)
   -- the verdict call: there is no refusal but by a check, and a report that shows a heap is well formed
-  pub verdict-numbered : (i : Input) (k place : ℕ) → verdictCall i .answer ≡ refused k place → List·Memᴰ k (numbers verdictChecks)
-  pub report-formed : (i : Input) → verdictCall i .answer ≡ Answer.satisfiable → wellFormed (verdictCall i .lent) ≡ true
+  pub verdict-numbered : (i : Input) (k place : ℕ) → verdictCallOf f i .answer ≡ refused k place → List·Memᴰ k (numbers (verdictChecksOf f))
+  pub report-formed : (i : Input) → verdictCallOf f i .answer ≡ Answer.satisfiable → wellFormed (f .links) (verdictCallOf f i .lent) ≡ true
   -- the derivation call: 11 exactly where no check stands and some finite heap meets the query; 12 exactly where
   -- no check stands, none does, and the lines are too many; "refuted" exactly where no check stands and the lines are not too many
-  pub heap-exactly : (i : Input) (place : ℕ) → (derivationCall i .answer ≡ refused 11 place) ↔ ((place ≡ 0) × NoneStands derivationChecks i × Satisfiable (decode (i .query)))
-  pub excess-exactly : (i : Input) (place : ℕ) → (derivationCall i .answer ≡ refused 12 place) ↔ ((place ≡ 0) × NoneStands derivationChecks i × (Satisfiable (decode (i .query)) → ⊥) × ((ls : List Line) × (walkOf i ≡ refutation ls) × Exceeds (i .room) ls))
-  pub lines-exactly : (i : Input) → (derivationCall i .answer ≡ Answer.refuted) ↔ (NoneStands derivationChecks i × ((ls : List Line) × (walkOf i ≡ refutation ls) × Fits (i .room) ls))
-  pub never-satisfiable : (i : Input) → derivationCall i .answer ≡ Answer.satisfiable → ⊥
+  pub heap-exactly : (i : Input) (place : ℕ) → (derivationCallOf f i .answer ≡ refused 11 place) ↔ ((place ≡ 0) × NoneStands (derivationChecksOf f) i × Satisfiable (f .decode (i .query)))
+  pub excess-exactly : (i : Input) (place : ℕ) → (derivationCallOf f i .answer ≡ refused 12 place) ↔ ((place ≡ 0) × NoneStands (derivationChecksOf f) i × (Satisfiable (f .decode (i .query)) → ⊥) × ((ls : List Line) × (walkOf f i ≡ refutation ls) × Exceeds (i .room) ls))
+  pub lines-exactly : (i : Input) → (derivationCallOf f i .answer ≡ Answer.refuted) ↔ (NoneStands (derivationChecksOf f) i × ((ls : List Line) × (walkOf f i ≡ refutation ls) × Fits (i .room) ls))
+  pub never-satisfiable : (i : Input) → derivationCallOf f i .answer ≡ Answer.satisfiable → ⊥
   -- both calls have one verdict: where both give one, and where the derivation call is refused for it
-  pub one-verdict : (i j : Input) → Alike i j → NotRefused (verdictCall i .answer) → NotRefused (derivationCall j .answer) → verdictCall i .answer ≡ derivationCall j .answer
-  pub one-heap : (i j : Input) → Alike i j → 53 ≤ i .room → (verdictCall i .answer ≡ Answer.satisfiable) ↔ (derivationCall j .answer ≡ refused 11 0)
+  pub one-verdict : (i j : Input) → Alike i j → NotRefused (verdictCallOf f i .answer) → NotRefused (derivationCallOf f j .answer) → verdictCallOf f i .answer ≡ derivationCallOf f j .answer
+  pub one-heap : (i j : Input) → Alike i j → f .room ≤ i .room → (verdictCallOf f i .answer ≡ Answer.satisfiable) ↔ (derivationCallOf f j .answer ≡ refused 11 0)
+
+-- "The verdict call uses 1 to 10. The derivation call uses 1 to 8 and 10 to 12", in checking order: the numbers of their checks in the form
+-- of 01. 10 is withdrawn, and 11 and 12 are no checks.
+pub record ChecksInOrder : Type 0 where
+  pub verdict-checks : numbers (verdictChecksOf oneLinkForm) ≡ 1 ∷ 2 ∷ 3 ∷ 26 ∷ 4 ∷ 5 ∷ 6 ∷ 7 ∷ 8 ∷ 9 ∷ []
+  pub derivation-checks : numbers (derivationChecksOf oneLinkForm) ≡ 1 ∷ 2 ∷ 3 ∷ 26 ∷ 4 ∷ 5 ∷ 6 ∷ 7 ∷ 8 ∷ []
 
 -- "the heap shown is one": the heap in these report bytes meets the query, and each term's node is the one listed for it
 pub record Shows (bytes : List ℕ) (q : Query) : Type 0 where
-  pub meets : Meets (heapIn bytes) q
-  pub listed : (t : ℕ) → 1 ≤ t → t ≤ termCount q → value (heapIn bytes) (q .entries) t ≡ nodeIn bytes t
+  pub meets : Meets (heapIn (q .links) bytes) q
+  pub listed : (t : ℕ) → 1 ≤ t → t ≤ termCount q → value (heapIn (q .links) bytes) (q .entries) t ≡ nodeIn bytes t
 
 -- DEMAND 2. "A verdict call that is not refused says "satisfiable" exactly when some finite heap .. meets every literal, and the heap
 -- shown is one. It says "refuted" exactly when no finite heap of any size does. A derivation, where one is given, follows the eight
 -- rules line by line."
-pub record Demand2 : Type 0 where
-  pub satisfiable-exactly : (i : Input) → NotRefused (verdictCall i .answer) → (verdictCall i .answer ≡ Answer.satisfiable) ↔ Satisfiable (decode (i .query))
-  pub heap-shown : (i : Input) → verdictCall i .answer ≡ Answer.satisfiable → Shows (verdictCall i .lent) (decode (i .query))
-  pub refuted-exactly : (i : Input) → NotRefused (verdictCall i .answer) → (verdictCall i .answer ≡ Answer.refuted) ↔ (Satisfiable (decode (i .query)) → ⊥)
+pub record Demand2 (f : CallForm) : Type 0 where
+  pub satisfiable-exactly : (i : Input) → NotRefused (verdictCallOf f i .answer) → (verdictCallOf f i .answer ≡ Answer.satisfiable) ↔ Satisfiable (f .decode (i .query))
+  pub heap-shown : (i : Input) → verdictCallOf f i .answer ≡ Answer.satisfiable → Shows (verdictCallOf f i .lent) (f .decode (i .query))
+  pub refuted-exactly : (i : Input) → NotRefused (verdictCallOf f i .answer) → (verdictCallOf f i .answer ≡ Answer.refuted) ↔ (Satisfiable (f .decode (i .query)) → ⊥)
   -- where a derivation is given, the lines in the bytes left are those of our walk, and they follow the rules
-  pub derivation-follows : (i : Input) → derivationCall i .answer ≡ Answer.refuted → Derivation (decode (i .query)) (linesIn (derivationCall i .lent))
-  pub derivation-walked : (i : Input) → derivationCall i .answer ≡ Answer.refuted → ourWalk (i .order) (decode (i .query)) ≡ refutation (linesIn (derivationCall i .lent))
+  pub derivation-follows : (i : Input) → derivationCallOf f i .answer ≡ Answer.refuted → Derivation (f .decode (i .query)) (linesIn (derivationCallOf f i .lent))
+  pub derivation-walked : (i : Input) → derivationCallOf f i .answer ≡ Answer.refuted → ourWalk (i .order) (f .decode (i .query)) ≡ refutation (linesIn (derivationCallOf f i .lent))
   -- they are written as 01 says, with zeros after them, and are no more than 16,000 and no more than the buffer holds
-  pub derivation-formed : (i : Input) → derivationCall i .answer ≡ Answer.refuted → derivationCall i .lent ≡ padded (i .room) (derivationBytes (linesIn (derivationCall i .lent)))
-  pub derivation-counted : (i : Input) → derivationCall i .answer ≡ Answer.refuted → Fits (i .room) (linesIn (derivationCall i .lent))
+  pub derivation-formed : (i : Input) → derivationCallOf f i .answer ≡ Answer.refuted → derivationCallOf f i .lent ≡ padded (i .room) (derivationBytes (linesIn (derivationCallOf f i .lent)))
+  pub derivation-counted : (i : Input) → derivationCallOf f i .answer ≡ Answer.refuted → Fits (i .room) (linesIn (derivationCallOf f i .lent))
 
 -- a verdict is right: "satisfiable" exactly when some finite heap meets every literal, "refuted" exactly when none of any size does
 pub record Right (q : Query) (v : Verdict) : Type 0 where
@@ -123,10 +126,10 @@ answerOf Verdict.refuted = Answer.refuted
 -- start, vain ones included: if .. the hand's is finished after its list, both have one verdict. It is "satisfiable" exactly when ..,
 -- and "refuted" exactly when ..; a walk that is finished while the other is not has that verdict too. A verdict call that is not refused
 -- answers our walk's verdict." Our walk is always finished (02, R-5: "Agreement of walks drops its clause on broken-off ones").
-pub record Demand3 : Type 0 where
-  pub one-verdict : (query order : List ℕ) (picks : List Pick) (w : Verdict) → accepts query ≡ true → isOrder order ≡ true → handVerdict (decode query) (handRow (decode query) picks) ≡ some w → ourVerdict (ourWalk order (decode query)) ≡ w
-  pub ours-right : (query order : List ℕ) → accepts query ≡ true → isOrder order ≡ true → Right (decode query) (ourVerdict (ourWalk order (decode query)))
-  pub hand-right : (query : List ℕ) (picks : List Pick) (w : Verdict) → accepts query ≡ true → handVerdict (decode query) (handRow (decode query) picks) ≡ some w → Right (decode query) w
+pub record Demand3 (f : CallForm) : Type 0 where
+  pub one-verdict : (query order : List ℕ) (picks : List Pick) (w : Verdict) → acceptsBy f query ≡ true → isOrder order ≡ true → handVerdict (f .decode query) (handRow (f .decode query) picks) ≡ some w → ourVerdict (ourWalk order (f .decode query)) ≡ w
+  pub ours-right : (query order : List ℕ) → acceptsBy f query ≡ true → isOrder order ≡ true → Right (f .decode query) (ourVerdict (ourWalk order (f .decode query)))
+  pub hand-right : (query : List ℕ) (picks : List Pick) (w : Verdict) → acceptsBy f query ≡ true → handVerdict (f .decode query) (handRow (f .decode query) picks) ≡ some w → Right (f .decode query) w
   -- and a hand can move: some list of picks leaves its walk finished with our verdict
-  pub hand-follows : (query order : List ℕ) → accepts query ≡ true → isOrder order ≡ true → (picks : List Pick) × (handVerdict (decode query) (handRow (decode query) picks) ≡ some (ourVerdict (ourWalk order (decode query))))
-  pub call-answers : (i : Input) → NotRefused (verdictCall i .answer) → verdictCall i .answer ≡ answerOf (ourVerdict (ourWalk (i .order) (decode (i .query))))
+  pub hand-follows : (query order : List ℕ) → acceptsBy f query ≡ true → isOrder order ≡ true → (picks : List Pick) × (handVerdict (f .decode query) (handRow (f .decode query) picks) ≡ some (ourVerdict (ourWalk order (f .decode query))))
+  pub call-answers : (i : Input) → NotRefused (verdictCallOf f i .answer) → verdictCallOf f i .answer ≡ answerOf (ourVerdict (ourWalk (i .order) (f .decode (i .query))))

@@ -6,10 +6,10 @@ use mathlib.Core.List.{List, [], _∷_, List·Memᴰ}
 use lib.ListN.{length}
 use lib.Dec.{eqb}
 use Rattle.logic.specs.Search.{_and_, select}
-use Rattle.logic.specs.Query.{Query, decode, termCount}
+use Rattle.logic.specs.Query.{Query, termCount}
 use Rattle.logic.specs.Facts.{Facts, Joined, live, linksOf, startJoins, start}
 use Rattle.logic.specs.Rules.{Move, Fact, alternatives, applies, branch}
-use Rattle.logic.specs.Calls.{accepts}
+use Rattle.logic.specs.Calls.{CallForm, acceptsBy}
 use Rattle.logic.specs.Reordering.{Held}
 
 -- what a term becomes, the pairs read in order: a replaced term gives way to the one kept
@@ -33,7 +33,7 @@ pub record Accounts (n : ℕ) (s : Facts) (j : Joined) : Type 0 where
   pub lower : (ab : ℕ × ℕ) → List·Memᴰ ab (j .pairs) → ab .0 < ab .1
 
 -- R-1, for every accepted query: of the start, and of each branch of a rule that applies to facts that a walk can hold
-pub record PairsAccount : Type 0 where
-  pub start-pairs : (query : List ℕ) → accepts query ≡ true → Accounts (termCount (decode query)) (linksOf (decode query .entries)) (startJoins (decode query))
-  pub start-followed : (query : List ℕ) → accepts query ≡ true → (t : ℕ) → start (decode query) .rep t ≡ followPairs (startJoins (decode query) .pairs) t
-  pub branch-pairs : (query : List ℕ) (s : Facts) (m : Move) (c : Fact) → accepts query ≡ true → Held (decode query) s → applies (termCount (decode query)) s m ≡ true → List·Memᴰ c (alternatives (termCount (decode query)) (s .graph) m) → Accounts (termCount (decode query)) s (branch (termCount (decode query)) s c)
+pub record PairsAccount (f : CallForm) : Type 0 where
+  pub start-pairs : (query : List ℕ) → acceptsBy f query ≡ true → Accounts (termCount (f .decode query)) (linksOf (f .decode query)) (startJoins (f .decode query))
+  pub start-followed : (query : List ℕ) → acceptsBy f query ≡ true → (t : ℕ) → start (f .decode query) .rep t ≡ followPairs (startJoins (f .decode query) .pairs) t
+  pub branch-pairs : (query : List ℕ) (s : Facts) (m : Move) (c : Fact) → acceptsBy f query ≡ true → Held (f .decode query) s → applies (termCount (f .decode query)) s m ≡ true → List·Memᴰ c (alternatives (termCount (f .decode query)) (s .graph) m) → Accounts (termCount (f .decode query)) s (branch (termCount (f .decode query)) s c)

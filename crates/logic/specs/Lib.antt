@@ -17,3 +17,5 @@ pub mod PathLimit
 pub mod Reordering
 pub mod JoinPairs
 pub mod Decision
+pub mod ThreeLinks
+pub mod LinkExamples

@@ -1,5 +1,5 @@
 -- The query: its literals, its bytes, and what is refused of them (01, "Query bytes" and "Refusals, in checking order").
-use Prim.Native.Nat.{ℕ, zero, suc, _+_, _*_}
+use Prim.Native.Nat.{ℕ, zero, suc, _+_, _-_, _*_}
 use mathlib.Core.Bool.{Bool, true, false, not, cond}
 use mathlib.Core.List.{List, [], _∷_, _++_}
 use mathlib.Core.Option.{Option, none, some}
@@ -7,34 +7,54 @@ use lib.ListN.{length, getD, take, drop}
 use lib.Dec.{eqb, ltb, leb}
 use Rattle.logic.specs.Search.{_and_, _or_, from, all, any, orElse, flatMap, keep}
 
--- "Sign 1 is plain, 0 negated." An equality or a reachability literal has two terms, a data literal a field and a term.
+-- "Sign 1 is plain, 0 negated." An equality or a reachability literal has two terms, a data literal a field and a term. Only in a
+-- reachability literal does the link count (02, R-11); in the form of 01 it is 1.
 pub record Literal : Type 0 where
   pub plain : Bool
+  pub link : ℕ
   pub left : ℕ
   pub right : ℕ
 
--- "Terms are numbered from 1." The entry of a term is 0 for a variable, j for f of term j, and 255 for nil (02, R-3).
+-- Section 1. "Terms are numbered from 1." The entry of a term is 0 for a variable, j for f of term j, and 255 for nil (02, R-3), and beside
+-- it stands the link that it follows (02, R-11). In the form of 01 every link is 1, and none is listed.
+pub record Entries : Type 0 where
+  pub terms : List ℕ
+  pub links : List ℕ
+
+-- Links are numbered from 1: a query says how many there are.
 pub record Query : Type 0 where
-  pub entries : List ℕ
+  pub links : ℕ
+  pub entries : Entries
   pub equalities : List Literal
   pub reachability : List Literal
   pub fields : List Literal
 
 -- how many terms the query has, and the entry of term t
 unfoldable pub termCount : Query → ℕ
-termCount q = length (q .entries)
+termCount q = length (q .entries .terms)
 
-unfoldable pub entryOf : List ℕ → ℕ → ℕ
+unfoldable pub entryOf : Entries → ℕ → ℕ
 entryOf entries zero = 0
-entryOf entries (suc i) = getD entries i 0
+entryOf entries (suc i) = getD (entries .terms) i 0
+
+-- the link that term t follows, where it is f of another
+unfoldable pub linkOf : Entries → ℕ → ℕ
+linkOf entries t = getD (entries .links) (t - 1) 1
 
 -- "Term byte 255 now names nil" (02, R-3)
-unfoldable pub namesNil : List ℕ → ℕ → Bool
+unfoldable pub namesNil : Entries → ℕ → Bool
 namesNil entries t = eqb (entryOf entries t) 255
 
 -- the term that term t is f of, or 0 where t is a variable or names nil
-unfoldable pub argumentOf : List ℕ → ℕ → ℕ
+unfoldable pub argumentOf : Entries → ℕ → ℕ
 argumentOf entries t = cond (namesNil entries t) 0 (entryOf entries t)
+
+-- the entries and a literal of the form of 01
+abbrev pub oneLink : List ℕ → Entries
+oneLink bytes = record { terms = bytes; links = [] }
+
+abbrev pub literal : Bool → ℕ → ℕ → Literal
+literal plain left right = record { plain = plain; link = 1; left = left; right = right }
 
 -- What a byte of the query is held to: the refusal that it meets where it is not allowed. A count is held to nothing here.
 pub record Role : Type 0 where
@@ -158,16 +178,17 @@ unfoldable pub literals : List ℕ → List Literal
 literals [] = []
 literals (s ∷ []) = []
 literals (s ∷ a ∷ []) = []
-literals (s ∷ a ∷ b ∷ rest) = record { plain = eqb s 1; left = a; right = b } ∷ literals rest
+literals (s ∷ a ∷ b ∷ rest) = literal (eqb s 1) a b ∷ literals rest
 
 unfoldable pub section : List (List ℕ) → ℕ → List ℕ
 section ps i = getD ps i []
 
 unfoldable pub queryOf : Layout → Query
-queryOf (faulty k place) = record { entries = []; equalities = []; reachability = []; fields = [] }
+queryOf (faulty k place) = record { links = 1; entries = oneLink []; equalities = []; reachability = []; fields = [] }
 queryOf (parts ps) =
     record {
-      entries = section ps 0;
+      links = 1;
+      entries = oneLink (section ps 0);
       equalities = literals (section ps 1);
       reachability = literals (section ps 2);
       fields = literals (section ps 3);

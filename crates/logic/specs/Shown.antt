@@ -5,10 +5,10 @@ use mathlib.Core.List.{List, [], _∷_, _++_, map}
 use mathlib.Core.Option.{Option, none, some, Option·getD}
 use lib.ListN.{length, getD, replicate}
 use lib.Dec.{eqb, ltb, leb}
-use Rattle.logic.specs.Search.{_and_, _or_, from, any, all, select, find}
+use Rattle.logic.specs.Search.{_and_, _or_, from, any, all, select, find, flatMap}
 use Rattle.logic.specs.Query.{Literal, Query, termCount}
 use Rattle.logic.specs.Heap.{Heap}
-use Rattle.logic.specs.Facts.{Graph, Facts, terms, liveTerms}
+use Rattle.logic.specs.Facts.{Graph, Facts, linkNumbers, terms, liveTerms}
 use Rattle.logic.specs.Rules.{next}
 
 -- what v reaches, ascending
@@ -48,8 +48,8 @@ unfoldable pub linkEach : ℕ → Graph → (ℕ → ℕ) → List ℕ → ℕ �
 linkEach n g p [] = p
 linkEach n g p (v ∷ vs) = linkEach n g (λ t. cond (eqb t v and eqb (p v) 0) (newLink n g p v) (p t)) vs
 
-unfoldable pub shownLink : ℕ → Facts → ℕ → ℕ
-shownLink n s = linkEach n (s .graph) (next n (s .graph)) (liveTerms n s)
+unfoldable pub shownLink : ℕ → Facts → ℕ → ℕ → ℕ
+shownLink n s i = linkEach n (s .graph i) (next n (s .graph i)) (liveTerms n s)
 
 -- "The terms not replaced, ascending, are nodes 1 to m; with no terms, one node linked to itself": here the node of no term is 0.
 unfoldable pub orZero : List ℕ → List ℕ
@@ -78,46 +78,52 @@ unfoldable pub fieldByte : Query → Facts → ℕ → ℕ
 fieldByte q s v = byteOf (λ j. any (λ l. l .plain and eqb (l .left) j and eqb (s .rep (l .right)) v) (q .fields)) 1 8
 
 -- "Report, each section after its count: m successors; n nodes, one per term; m data bytes ..; one byte of booleans", which is 0 since
--- no query has any (02, R-13)
+-- no query has any (02, R-13). "The heap report holds 3m successors, link by link, after the count 3m" where there are three (02, R-11).
+unfoldable pub successorsShown : ℕ → Facts → ℕ → List ℕ
+successorsShown n s i = map (λ v. placeOf (shownLink n s i v) (nodes n s)) (nodes n s)
+
 unfoldable pub report : Query → Facts → List ℕ
 report q s =
     let n : ℕ = termCount q in
     let ts : List ℕ = nodes n s in
     let m : ℕ = length ts in
-    (m ∷ map (λ v. placeOf (shownLink n s v) ts) ts)
+    (q .links * m ∷ flatMap (successorsShown n s) (linkNumbers (q .links)))
     ++ ((n ∷ map (λ t. placeOf (s .rep t) ts) (terms n))
     ++ ((m ∷ map (fieldByte q s) ts) ++ (1 ∷ 0 ∷ [])))
 
--- Reading a report. `node` is the node of a term, `size` the first count.
+-- Reading a report. The first count is that of the successors: with one link, that of the nodes.
 unfoldable pub sizeIn : List ℕ → ℕ
 sizeIn bytes = getD bytes 0 0
 
 unfoldable pub nodeIn : List ℕ → ℕ → ℕ
 nodeIn bytes t = getD bytes (sizeIn bytes + 1 + t) 0
 
--- the heap that a report shows: a variable names the node that is listed for its term
-unfoldable pub heapIn : List ℕ → Heap
-heapIn bytes =
-    let m : ℕ = sizeIn bytes in
-    let n : ℕ = getD bytes (m + 1) 0 in
+-- the heap that a report of so many links shows: a variable names the node that is listed for its term. A link that the report does not
+-- show leads from each node to itself.
+unfoldable pub heapIn : ℕ → List ℕ → Heap
+heapIn links bytes =
+    let p : ℕ = sizeIn bytes in
+    let m : ℕ = p / links in
+    let n : ℕ = getD bytes (p + 1) 0 in
     record {
       size = m;
-      link = λ v. getD bytes v 0;
-      field = λ j v. bitOf (getD bytes (m + n + 2 + v) 0) (j - 1);
+      link = λ i v. cond (ltb 0 i and leb i links) (getD bytes ((i - 1) * m + v) 0) v;
+      field = λ j v. bitOf (getD bytes (p + n + 2 + v) 0) (j - 1);
       variable = λ t. cond (ltb 0 t and leb t n) (nodeIn bytes t) 1;
     }
 
--- "A report is well formed if m is 1 to 16, n at most 16, the third count m, the fourth 1, every successor and node 1 to m, and each
+-- A report of so many links: "A report is well formed if m is 1 to 16, n at most 16, the third count m, the fourth 1, every successor and node 1 to m, and each
 -- byte past it zero"
 unfoldable pub isNode : ℕ → ℕ → Bool
 isNode m v = ltb 0 v and leb v m
 
-unfoldable pub wellFormed : List ℕ → Bool
-wellFormed bytes =
-    let m : ℕ = sizeIn bytes in
-    let n : ℕ = getD bytes (m + 1) 0 in
+unfoldable pub wellFormed : ℕ → List ℕ → Bool
+wellFormed links bytes =
+    let p : ℕ = sizeIn bytes in
+    let m : ℕ = p / links in
+    let n : ℕ = getD bytes (p + 1) 0 in
     let byte : ℕ → ℕ = λ i. getD bytes i 0 in
-    isNode 16 m and leb n 16 and leb (m + n + m + 5) (length bytes)
-    and eqb (byte (m + n + 2)) m and eqb (byte (m + n + m + 3)) 1
-    and all (λ i. isNode m (byte i)) (from m 1) and all (λ i. isNode m (byte i)) (from n (m + 2))
-    and all (λ i. eqb (byte i) 0) (from (length bytes - (m + n + m + 5)) (m + n + m + 5))
+    eqb (links * m) p and isNode 16 m and leb n 16 and leb (p + n + m + 5) (length bytes)
+    and eqb (byte (p + n + 2)) m and eqb (byte (p + n + m + 3)) 1
+    and all (λ i. isNode m (byte i)) (from p 1) and all (λ i. isNode m (byte i)) (from n (p + 2))
+    and all (λ i. eqb (byte i) 0) (from (length bytes - (p + n + m + 5)) (p + n + m + 5))

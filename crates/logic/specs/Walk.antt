@@ -6,7 +6,7 @@ use mathlib.Core.Option.{Option, none, some, Option·elim}
 use Rattle.logic.specs.Search.{_and_, any, all, isSome, flatMap}
 use Rattle.logic.specs.Query.{Query, termCount}
 use Rattle.logic.specs.Facts.{Facts, Joined, Line, joinLines, startJoins, start, clash}
-use Rattle.logic.specs.Rules.{Rule, rules, ruleOf, Triple, Move, move, Fact, alternatives, applies, branch, branches, choose, moveLine}
+use Rattle.logic.specs.Rules.{Rule, rules, ruleOf, Triple, Move, Fact, alternatives, applies, branch, branches, choose, moveLine, moveOf}
 
 -- What is seen at a path: its clash, the rule to apply, or neither (a saturated path).
 pub data Look : Type 0 where
@@ -63,9 +63,9 @@ walk q order (suc k) s =
     let n : ℕ = termCount q in
     endAt s (λ m. after (moveLine m ∷ []) (walkEach n (walk q order k) s (alternatives n (s .graph) m))) (look q order s)
 
--- "no path of any walk .. has more than n times n plus n rule steps" (02, R-5)
+-- "no path of any walk .. has more than n times n plus n rule steps" (02, R-5); "(now 3 times n times n, plus n)" for three links (02, R-11)
 unfoldable pub limit : Query → ℕ
-limit q = termCount q * termCount q + termCount q
+limit q = q .links * (termCount q * termCount q) + termCount q
 
 -- the lines of the start's joins stand at the head "of the listing" (02, R-1)
 unfoldable pub ourWalk : List ℕ → Query → Ending
@@ -79,7 +79,7 @@ unfoldable pub ourVerdict : Ending → Verdict
 ourVerdict (refutation ls) = refuted
 ourVerdict (saturation s) = satisfiable
 
--- "A pick is a position in the row (from 1) and what a rule line holds, a rule number and its triple."
+-- "A pick is a position in the row (from 1) and what a rule line holds, a rule number and its triple"; the link is in the number.
 pub record Pick : Type 0 where
   pub position : ℕ
   pub rule : ℕ
@@ -93,8 +93,8 @@ isClashed q s = isSome (clash q s)
 unfoldable pub picked : Query → Pick → Facts → List Facts
 picked q p s =
     let n : ℕ = termCount q in
-    Option·elim (ruleOf (p .rule)) (s ∷ [])
-    (λ r. let m : Move = move r (p .at-triple) in cond (not (isClashed q s) and applies n s m) (branches n s m) (s ∷ []))
+    Option·elim (moveOf (s .links) (p .rule) (p .at-triple)) (s ∷ [])
+    (λ m. cond (not (isClashed q s) and applies n s m) (branches n s m) (s ∷ []))
 
 -- f of the element at a place, in its place
 unfoldable pub splice : (Facts → List Facts) → ℕ → List Facts → List Facts

@@ -45,7 +45,7 @@ never-clashes bytes order acc s reach has l h =
     let ok = accepted bytes acc in
     clash-none (decode bytes) ok s (reachable-known (decode bytes) ok s reach) l (seen-clashing (decode bytes) (orderOf order) s h) has
 
-module _ (bytes order : List ℕ) (acc : accepts bytes ≡ true) (k : ℕ) (s : Facts) (reach : Reachable (decode bytes) s) (most : AtMost (termCount (decode bytes)) s k) (n : ℕ) (terms-are : n ≡ termCount (decode bytes)) (r : Rule) (x y z : ℕ) (h : look (decode bytes) (orderOf order) s ≡ applying (move r (triple x y z))) where
+module _ (bytes order : List ℕ) (acc : accepts bytes ≡ true) (k : ℕ) (s : Facts) (reach : Reachable (decode bytes) s) (most : AtMost (termCount (decode bytes)) s k) (n : ℕ) (terms-are : n ≡ termCount (decode bytes)) (r : Rule) (x y z : ℕ) (h : look (decode bytes) (orderOf order) s ≡ applying (move 1 r (triple x y z))) where
   abbrev q : Query
   q = decode bytes
 
@@ -56,12 +56,12 @@ module _ (bytes order : List ℕ) (acc : accepts bytes ≡ true) (k : ℕ) (s : 
   known = reachable-known q ok s reach
 
   abbrev m : Move
-  m = move r (triple x y z)
+  m = move 1 r (triple x y z)
 
   app : applies (termCount q) s m ≡ true
   app = seen-applying q (orderOf order) s h .1
 
-  module _ (i : ℕ) (l : i < countOf r z) (j : Joined) (e : j ≡ branch n s (alternativeAt n (s .graph) r x y z i)) where
+  module _ (i : ℕ) (l : i < countOf r z) (j : Joined) (e : j ≡ branch n s (alternativeAt n (s .graph 1) r x y z i)) where
     in-row : i < length (branches (termCount q) s m)
     in-row = omega (arith, row-length q n s r x y z terms-are)
 

@@ -44,8 +44,8 @@ fn first_open(
     first: usize,
     witness: Facts,
 ) -> Chosen
-    requires { ⌜ LaysOut layout (now query) × (accepts (now query) ≡ true) × (isOrder (now order) ≡ true) × Reachable (decode (now query)) (pathOf s) × AtMost (termCount (decode (now query))) (pathOf s) left × HasHeap (decode (now query)) (pathOf s) × HasHeap (decode (now query)) (pathOf witness) × (look (decode (now query)) (orderOf (now order)) (pathOf s) ≡ applying (move (kindOf rule) (triple (x .0) (y .0) (z .0)))) ⌝ }
-    ensures { λ r. ⌜ FirstOpen (decode (now (query .entry))) (pathOf s) (move (kindOf rule) (triple (x .0) (y .0) (z .0))) (pathOf (r .facts)) × HasHeap (decode (now (query .entry))) (pathOf (r .witness)) ⌝ }
+    requires { ⌜ LaysOut layout (now query) × (accepts (now query) ≡ true) × (isOrder (now order) ≡ true) × Reachable (decode (now query)) (pathOf s) × AtMost (termCount (decode (now query))) (pathOf s) left × HasHeap (decode (now query)) (pathOf s) × HasHeap (decode (now query)) (pathOf witness) × (look (decode (now query)) (orderOf (now order)) (pathOf s) ≡ applying (move 1 (kindOf rule) (triple (x .0) (y .0) (z .0)))) ⌝ }
+    ensures { λ r. ⌜ FirstOpen (decode (now (query .entry))) (pathOf s) (move 1 (kindOf rule) (triple (x .0) (y .0) (z .0))) (pathOf (r .facts)) × HasHeap (decode (now (query .entry))) (pathOf (r .witness)) ⌝ }
 {
     let n = layout.terms;
     let total = branch::count(rule, z);

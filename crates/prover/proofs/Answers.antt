@@ -11,11 +11,11 @@ use Rattle.logic.specs.Query.{Query, decode, isOrder, termCount}
 use Rattle.logic.specs.Facts.{Facts}
 use Rattle.logic.specs.Walk.{ourWalk, saturation}
 use Rattle.logic.specs.Shown.{report}
-use Rattle.logic.specs.Calls.{Input, orderCheck, queryChecks, verdictChecks, derivationChecks, refused, refusalOf, accepts, padded, blank, call, verdictOf, verdictCall, derivationOf, derivationCall}
+use Rattle.logic.specs.Calls.{Input, orderCheck, queryChecks, verdictChecks, derivationChecks, refused, refusalOf, accepts, padded, blank, call, verdictOf, verdictCall, derivationOf, derivationCall, derivationCallOf, derivationChecksOf, verdictCallOf, verdictChecksOf}
 use Rattle.logic.specs.Calls as calls
 use Rattle.logic.proofs.Calls.CallLaws.{padded-length}
-use Rattle.logic.proofs.Query.AcceptedBytes.{accepted}
-use Rattle.logic.proofs.Completeness.ShownHeap.{report-length}
+use Rattle.logic.proofs.Query.AcceptedBytes.{accepted, decode-links}
+use Rattle.logic.proofs.Completeness.ShownHeap as fits
 use Rattle.facts.specs.Path.{repOf, pathOf}
 use Rattle.facts.specs.declared.Facts as code
 use Rattle.query.specs.LaysOut.{LaysOut}
@@ -41,7 +41,7 @@ zeros-as bytes n m e f = e ∙ ap (λ (k : ℕ). replicate k 0) f
 -- a report fits
 pub report-fits : (bytes : List ℕ) (room : ℕ) (s : Facts) → accepts bytes ≡ true → 53 ≤ room → length (padded room (report (decode bytes) s)) ≡ room
 report-fits bytes room s ok l =
-    padded-length room (report (decode bytes) s) (le-trans (report-length (decode bytes) s (accepted bytes ok)) l)
+    padded-length room (report (decode bytes) s) (le-trans (fits.report-fits (decode bytes) s (accepted bytes ok) (decode-links bytes)) l)
 
 -- what a report is written of
 pub stands-at : (bytes order : List ℕ) (l : Layout) (s : code.Facts) → LaysOut l bytes → accepts bytes ≡ true → ourWalk order (decode bytes) ≡ saturation (pathOf s) → (t : ℕ) → 1 ≤ t → t ≤ l .terms → repOf (s .rep) t ≤ 16
@@ -54,34 +54,34 @@ module _ (order query before bytes : List ℕ) where
   i = inputOf order query before
 
   pub verdict-order : isOrder order ≡ false → bytes ≡ replicate (length before) 0 → Does (verdictCall i) (answer.Refused 1 0) bytes
-  unfolding verdictCall verdictChecks
+  unfolding verdictCallOf verdictChecksOf
   verdict-order o b = does-blank _ (length before) (answer.Refused 1 0) bytes (call-refused i verdictChecks _ (refused 1 0) (order-refused i _ o)) b
 
   pub verdict-query : (k place : ℕ) → isOrder order ≡ true → CheckedAs (checked.Refused k place) query → bytes ≡ replicate (length before) 0 → Does (verdictCall i) (answer.Refused k place) bytes
-  unfolding verdictCall verdictChecks
+  unfolding verdictCallOf verdictChecksOf
   verdict-query k place o h b = does-blank _ (length before) (answer.Refused k place) bytes (call-refused i verdictChecks _ (refused k place) (query-refused i _ (refused k place) o (h i refl))) b
 
   pub verdict-room : (l : Layout) → isOrder order ≡ true → CheckedAs (checked.Accepted l) query → length before < 53 → bytes ≡ replicate (length before) 0 → Does (verdictCall i) (answer.Refused 9 0) bytes
-  unfolding verdictCall
+  unfolding verdictCallOf
   verdict-room l o h r b = does-blank _ (length before) (answer.Refused 9 0) bytes (call-refused i verdictChecks _ (refused 9 0) (room-refused i o (h .0 i refl) r)) b
 
   pub verdict-walked : (l : Layout) (r : Answer) (room : ℕ) → isOrder order ≡ true → CheckedAs (checked.Accepted l) query → room ≡ length before → 53 ≤ room → Does (verdictOf (decode query) room (ourWalk order (decode query))) r bytes → Does (verdictCall i) r bytes
-  unfolding verdictCall
+  unfolding verdictCallOf
   verdict-walked l r room o h e k d =
       subst (λ (x : calls.Outcome). Does x r bytes)
       (ap (λ (n : ℕ). verdictOf (decode query) n (ourWalk order (decode query))) e ∙ sym (call-walked i verdictChecks _ (verdict-clear i o (h .0 i refl) (subst (λ (n : ℕ). 53 ≤ n) e k))))
       d
 
   pub derivation-order : isOrder order ≡ false → bytes ≡ replicate (length before) 0 → Does (derivationCall i) (answer.Refused 1 0) bytes
-  unfolding derivationCall derivationChecks
+  unfolding derivationCallOf derivationChecksOf
   derivation-order o b = does-blank _ (length before) (answer.Refused 1 0) bytes (call-refused i derivationChecks _ (refused 1 0) (order-refused i _ o)) b
 
   pub derivation-query : (k place : ℕ) → isOrder order ≡ true → CheckedAs (checked.Refused k place) query → bytes ≡ replicate (length before) 0 → Does (derivationCall i) (answer.Refused k place) bytes
-  unfolding derivationCall
+  unfolding derivationCallOf
   derivation-query k place o h b = does-blank _ (length before) (answer.Refused k place) bytes (call-refused i derivationChecks _ (refused k place) (derivation-refused i (refused k place) o (h i refl))) b
 
   pub derivation-walked : (l : Layout) (r : Answer) (room : ℕ) → isOrder order ≡ true → CheckedAs (checked.Accepted l) query → room ≡ length before → Does (derivationOf room (ourWalk order (decode query))) r bytes → Does (derivationCall i) r bytes
-  unfolding derivationCall
+  unfolding derivationCallOf
   derivation-walked l r room o h e d =
       subst (λ (x : calls.Outcome). Does x r bytes)
       (ap (λ (n : ℕ). derivationOf n (ourWalk order (decode query))) e ∙ sym (call-walked i derivationChecks _ (derivation-clear i o (h .0 i refl))))

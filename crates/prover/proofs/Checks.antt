@@ -9,7 +9,8 @@ use borrow.Author.Tests.{lt-ltb, le-ltb}
 use Rattle.logic.specs.Search.{keep, orElse, firstOf}
 use Rattle.logic.specs.Query.{isOrder, decode}
 use Rattle.logic.specs.Walk.{Ending, ourWalk}
-use Rattle.logic.specs.Calls.{Input, Check, orderCheck, roomCheck, queryChecks, verdictChecks, derivationChecks, Answer, refused, Outcome, refusalOf, blank, call}
+use Rattle.logic.specs.Calls as calls
+use Rattle.logic.specs.Calls.{Input, Check, orderCheck, roomCheck, queryChecks, verdictChecks, derivationChecks, Answer, refused, Outcome, refusalOf, blank, call, derivationChecksOf, roomUnder, verdictChecksOf}
 
 -- a search of one list behind another
 firstOf-append : {A B : Type 0} (f : A → Option B) (xs ys : List A) → firstOf f (xs ++ ys) ≡ orElse (firstOf f xs) (firstOf f ys)
@@ -46,26 +47,26 @@ module _ (i : Input) where
   query-passed ds o h = order-passed (queryChecks ++ ds) o ∙ behind queryChecks ds ∙ ap (λ (x : Option Answer). orElse x (refusalOf ds i)) h
 
   pub room-refused : isOrder (i .order) ≡ true → refusalOf queryChecks i ≡ none → i .room < 53 → refusalOf verdictChecks i ≡ some (refused 9 0)
-  unfolding verdictChecks refusalOf firstOf roomCheck keep orElse Option·elim
+  unfolding verdictChecksOf refusalOf firstOf roomUnder keep orElse Option·elim
   room-refused o h l = query-passed (roomCheck ∷ []) o h ∙ rw (lt-ltb (i .room) 53 l)
 
   pub verdict-clear : isOrder (i .order) ≡ true → refusalOf queryChecks i ≡ none → 53 ≤ i .room → refusalOf verdictChecks i ≡ none
-  unfolding verdictChecks refusalOf firstOf roomCheck keep orElse Option·elim
+  unfolding verdictChecksOf refusalOf firstOf roomUnder keep orElse Option·elim
   verdict-clear o h l = query-passed (roomCheck ∷ []) o h ∙ rw (le-ltb (i .room) 53 l)
 
   pub derivation-refused : (a : Answer) → isOrder (i .order) ≡ true → refusalOf queryChecks i ≡ some a → refusalOf derivationChecks i ≡ some a
-  unfolding derivationChecks
+  unfolding derivationChecksOf
   derivation-refused a o h = order-passed queryChecks o ∙ h
 
   pub derivation-clear : isOrder (i .order) ≡ true → refusalOf queryChecks i ≡ none → refusalOf derivationChecks i ≡ none
-  unfolding derivationChecks
+  unfolding derivationChecksOf
   derivation-clear o h = order-passed queryChecks o ∙ h
 
   -- what the call then does
-  pub call-refused : (cs : List Check) (result : Ending → Outcome) (a : Answer) → refusalOf cs i ≡ some a → call cs result i ≡ blank (i .room) a
+  pub call-refused : (cs : List Check) (result : Ending → Outcome) (a : Answer) → refusalOf cs i ≡ some a → call calls.oneLinkForm cs result i ≡ blank (i .room) a
   unfolding call Option·elim
   call-refused cs result a h = rw h
 
-  pub call-walked : (cs : List Check) (result : Ending → Outcome) → refusalOf cs i ≡ none → call cs result i ≡ result (ourWalk (i .order) (decode (i .query)))
+  pub call-walked : (cs : List Check) (result : Ending → Outcome) → refusalOf cs i ≡ none → call calls.oneLinkForm cs result i ≡ result (ourWalk (i .order) (decode (i .query)))
   unfolding call Option·elim
   call-walked cs result h = rw h

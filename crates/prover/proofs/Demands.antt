@@ -17,6 +17,7 @@ use Rattle.logic.specs.Shown.{wellFormed}
 use Rattle.logic.specs.Calls.{Input, Check, Outcome, verdictChecks, derivationChecks, padded, verdictCall, derivationCall}
 use Rattle.logic.specs.Calls as calls
 use Rattle.logic.specs.Demands.{NotRefused, NoneStands, FirstStands, numbers, Refusals, Fits, Exceeds, Shows, Right, answerOf}
+use Rattle.logic.proofs.Calls.Refusals.{one-link-laws}
 use Rattle.logic.proofs.Calls.Demands.{demand1, demand2, demand3, call-passed}
 use Rattle.prover.specs.Promise.{meaning, inputOf, Does}
 use Rattle.prover.specs.declared.Answer.{Answer}
@@ -63,7 +64,7 @@ pub record Refuses (cs : List Check) (i : Input) (r : Answer) (bytes : List ℕ)
   pub refusal-blank : (k place : ℕ) → r ≡ answer.Refused k place → bytes ≡ replicate (i .room) 0
   pub lent-whole : length bytes ≡ i .room
 
-refuses : (cs : List Check) (outcome : Input → Outcome) → Refusals cs outcome → (i : Input) (r : Answer) (bytes : List ℕ) → Does (outcome i) r bytes → Refuses cs i r bytes
+refuses : (cs : List Check) (outcome : Input → Outcome) → Refusals cs 561 outcome → (i : Input) (r : Answer) (bytes : List ℕ) → Does (outcome i) r bytes → Refuses cs i r bytes
 refuses cs outcome law i r bytes does =
     record {
       first-exactly = λ k place m. exactly (outcome i) r bytes does (answer.Refused k place) (FirstStands cs i k place) (law .first-exactly i k place m);
@@ -93,8 +94,8 @@ module _ (order query before bytes : List ℕ) (r : Answer) (does : Does (verdic
   pub report-whole : length bytes ≡ length before
   report-whole = verdict-refuses .lent-whole
 
-  pub report-formed : r ≡ answer.Satisfiable → wellFormed bytes ≡ true
-  report-formed e = ap wellFormed (does .leaves) ∙ demand1 .report-formed i (same _ r bytes does answer.Satisfiable e)
+  pub report-formed : r ≡ answer.Satisfiable → wellFormed 1 bytes ≡ true
+  report-formed e = ap (wellFormed 1) (does .leaves) ∙ demand1 .report-formed i (same _ r bytes does answer.Satisfiable e)
 
   -- DEMAND 2: "satisfiable" exactly when some finite heap meets every literal, and the heap shown is one; "refuted" exactly when none
   pub satisfiable-exactly : Unrefused r → (r ≡ answer.Satisfiable) ↔ Satisfiable (decode query)
@@ -112,13 +113,13 @@ module _ (order query before bytes : List ℕ) (r : Answer) (does : Does (verdic
 
   pub hand-agrees : Unrefused r → (picks : List Pick) (w : Verdict) → handVerdict (decode query) (handRow (decode query) picks) ≡ some w → meaning r ≡ answerOf w
   hand-agrees h picks w f =
-      let p = call-passed i (unrefused h) in
+      let p = call-passed calls.oneLinkForm one-link-laws i (unrefused h) in
       one-verdict h ∙ ap answerOf (demand3 .one-verdict query order picks w (p .query) (p .order) f)
 
   -- and some hand's walk is finished with it
   pub hand-follows : Unrefused r → (picks : List Pick) × (w : Verdict) × (handVerdict (decode query) (handRow (decode query) picks) ≡ some w) × (meaning r ≡ answerOf w)
   hand-follows h =
-      let p = call-passed i (unrefused h) in
+      let p = call-passed calls.oneLinkForm one-link-laws i (unrefused h) in
       let (picks, f) = demand3 .hand-follows query order (p .query) (p .order) in
       (picks, ourVerdict (ourWalk order (decode query)), f, one-verdict h)
 

@@ -19,6 +19,7 @@ use Rattle.decide.specs.declared.Kind.{Kind}
 use Rattle.decide.specs.declared.Kind.the-variants as kind
 use Rattle.decide.proofs.Tells.{refuted-is}
 use Rattle.prover.specs.Promise.{Settles}
+use Rattle.logic.proofs.Query.AcceptedBytes.{decode-links}
 use Rattle.prover.proofs.Outcomes.{our-walk}
 
 -- the walk begins at a path that it can reach
@@ -43,7 +44,7 @@ module _ (bytes order : List ℕ) (n k : ℕ) (j : Joined) (acc : accepts bytes 
   q = decode bytes
 
   whole : walkBranch (walk q (orderOf order) k) j ≡ ourWalk order q
-  whole = our-walk q order n k j en ek ej
+  whole = our-walk q order n k j (decode-links bytes) en ek ej
 
   open-kind : (c : Kind) → r .kind ≡ c → isRefuted c ≡ false → c ≡ kind.Open
   open-kind kind.Refuted e f = absurd (true≢false f)

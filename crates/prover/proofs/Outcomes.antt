@@ -22,7 +22,8 @@ use Rattle.walk.specs.Lines.{countAll, putAll}
 use Rattle.walk.proofs.Lines.{countAll-small, countAll-large}
 use Rattle.walk.proofs.Padded.{derivation-written}
 use Rattle.logic.proofs.Basics.Compare.{le-cases}
-use Rattle.logic.proofs.Query.AcceptedBytes.{accepted}
+use Rattle.logic.proofs.Query.AcceptedBytes.{accepted, decode-links}
+use Rattle.logic.proofs.Calls.OneLink.{limit-one}
 use Rattle.logic.proofs.Paths.Ranged.{live-range}
 use Rattle.logic.proofs.Paths.Invariant.{Invariant, start-invariant, branch-invariant}
 use Rattle.logic.proofs.Walks.Limit.{start-atMost, our-saturation}
@@ -46,17 +47,17 @@ count-long ls count c l =
     (le-cases (length ls) 16000)
 
 -- the walk that the code makes is our walk
-pub our-walk : (q : Query) (order : List ℕ) (n k : ℕ) (j : Joined) → n ≡ termCount q → k ≡ n * n + n → j ≡ started q → walkBranch (walk q (orderOf order) k) j ≡ ourWalk order q
-unfolding ourWalk limit walkBranch started
-our-walk q order n k j en ek ej =
+pub our-walk : (q : Query) (order : List ℕ) (n k : ℕ) (j : Joined) → q .links ≡ 1 → n ≡ termCount q → k ≡ n * n + n → j ≡ started q → walkBranch (walk q (orderOf order) k) j ≡ ourWalk order q
+unfolding ourWalk walkBranch started
+our-walk q order n k j one en ek ej =
     ap (λ (i : Joined). walkBranch (walk q (orderOf order) k) i) ej
-    ∙ ap (λ (i : ℕ). walkBranch (walk q (orderOf order) i) (started q)) (ek ∙ ap (λ (m : ℕ). m * m + m) en)
+    ∙ ap (λ (i : ℕ). walkBranch (walk q (orderOf order) i) (started q)) (ek ∙ ap (λ (m : ℕ). m * m + m) en ∙ sym (limit-one q one))
 
 -- and no more rule steps are possible from its start than it counts
 pub start-steps : (bytes : List ℕ) (n k : ℕ) (j : Joined) → accepts bytes ≡ true → n ≡ termCount (decode bytes) → k ≡ n * n + n → j ≡ started (decode bytes) → AtMost (termCount (decode bytes)) (j .facts) k
-unfolding limit started
+unfolding started
 start-steps bytes n k j ok en ek ej =
-    let e : k ≡ termCount (decode bytes) * termCount (decode bytes) + termCount (decode bytes) = ek ∙ ap (λ (m : ℕ). m * m + m) en in
+    let e : k ≡ limit (decode bytes) = ek ∙ ap (λ (m : ℕ). m * m + m) en ∙ sym (limit-one (decode bytes) (decode-links bytes)) in
     let es : j .facts ≡ start (decode bytes) = ap (λ (i : Joined). i .facts) ej in
     rw (es, e) (start-atMost (decode bytes) (accepted bytes ok))
 

@@ -2,14 +2,14 @@
 use Prim.Native.Nat.{ℕ, _+_, _-_, _*_, _≤_}
 use native.Mathlib.Nat.{mul-comm, mul-one}
 use native.Mathlib.Omega.{arith}
-use mathlib.Core.Path.{_≡_, sym, ap, _∙_, subst}
+use mathlib.Core.Path.{_≡_, refl, sym, ap, _∙_, subst}
 use mathlib.Core.Logic.{⊎-elim}
 use mathlib.Core.List.{List, [], _∷_, List·Memᴰ, List·Memᴰ·cases-cons, List·Memᴰ·not-nil}
 use mathlib.Core.Option.{Option, none, some, Option·elim}
 use lib.ListN.{length, take, drop, length-drop}
 use lib.Seq.{drop-length, length-take-le}
 use Rattle.logic.specs.Search.{from, keep, orElse, firstOf}
-use Rattle.logic.specs.Query.{termCount, Form, fourSections, booleanSection, fiveSections, faulty, parts, layout, firstByte, layoutBy, faultIn, layoutFault, byteFault, literals, section, queryOf}
+use Rattle.logic.specs.Query.{oneLink, termCount, Form, fourSections, booleanSection, fiveSections, faulty, parts, layout, firstByte, layoutBy, faultIn, layoutFault, byteFault, literals, section, queryOf}
 use Rattle.logic.specs.Calls.{Input, Answer, refused, layoutCheck, byteCheck, formChecks, refusalOf}
 use Rattle.logic.proofs.Query.Bytes.{layoutNumbers, LayoutNumber, Excesses, Numbered, layout-numbered}
 use Rattle.logic.proofs.Query.AcceptedBytes.{five-excesses}
@@ -120,7 +120,8 @@ module _ (full : FullLayout) (bytes : List ℕ) (s : Sections full bytes) (most 
         term-count = rw laid-out (sym sized);
         terms-within = s .terms .within;
         entries-fit = let t = s .terms in omega (arith, t .fits, t .next-is);
-        entries-are = rw laid-out (ap (λ (m : ℕ). take m (drop 1 bytes)) (mul-one (l .terms)));
+        links-are = rw laid-out refl;
+        entries-are = rw laid-out (ap (λ (m : ℕ). oneLink (take m (drop 1 bytes))) (mul-one (l .terms)));
         equal-within = s .equalities .within;
         equal-fit = let t = s .equalities in omega (arith, t .fits, t .next-is, s .equal-at);
         equal-are = rw laid-out (ap literals (part-is (l .«equal_count») 3 (s .second) (l .«equal_at») (s .equal-at)));

@@ -10,7 +10,7 @@ use mathlib.Core.Option.{some}
 use lib.ListN.{length, getD, take, drop}
 use lib.Seq.{getD-drop, getD-take}
 use Rattle.logic.specs.Search.{_or_, from, any, at}
-use Rattle.logic.specs.Query.{Literal, Query, entryOf, literals}
+use Rattle.logic.specs.Query.{Entries, Literal, Query, entryOf, literals}
 use Rattle.logic.proofs.Basics.Search.{from-intro, map-intro}
 use Rattle.query.specs.declared.Layout.{Layout}
 use Rattle.query.specs.LaysOut.{LaysOutAs, literalIn}
@@ -142,4 +142,4 @@ module _ {q : Query} (l : Layout) (bytes : List ℕ) (laid : LaysOutAs q l bytes
   unfolding entryOf
   entry-is zero h u = absurd (omega arith)
   entry-is (suc t) h u =
-      sym (ap (λ (es : List ℕ). getD es t 0) (laid .entries-are) ∙ getD-take (l .terms) (drop 1 bytes) t 0 (omega arith) ∙ getD-drop 1 bytes t 0 ∙ rw one-add)
+      sym (ap (λ (es : Entries). getD (es .terms) t 0) (laid .entries-are) ∙ getD-take (l .terms) (drop 1 bytes) t 0 (omega arith) ∙ getD-drop 1 bytes t 0 ∙ rw one-add)

@@ -5,7 +5,7 @@ use mathlib.Core.Bool.{true}
 use mathlib.Core.List.{List, [], List·Memᴰ}
 use Rattle.logic.specs.Search.{isSome}
 use Rattle.logic.specs.Query.{Literal, argumentOf, decode}
-use Rattle.logic.specs.Calls.{accepts}
+use Rattle.logic.specs.Calls.{accepts, acceptsBy}
 use Rattle.logic.proofs.Query.Tied.{InTerms, Accepted}
 use Rattle.logic.proofs.Query.AcceptedBytes.{accepted}
 use Rattle.query.specs.declared.Layout.{Layout}
@@ -15,7 +15,7 @@ use Rattle.query.specs.Answers.{CheckedAs}
 use Rattle.query.proofs.Literals.{listed, listed-mem, equalities-listed, reachability-listed, fields-listed}
 
 pub checked-accepts : (l : Layout) (bytes : List ℕ) → CheckedAs (checked.Accepted l) bytes → accepts bytes ≡ true
-unfolding accepts isSome
+unfolding acceptsBy isSome
 checked-accepts l bytes h = rw (h .0 (record { order = []; query = bytes; room = 0 }) refl)
 
 abbrev pub UpTo : ℕ → ℕ → Type 0

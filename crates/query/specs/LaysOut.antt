@@ -4,7 +4,7 @@ use mathlib.Core.Path.{_≡_}
 use mathlib.Core.List.{List}
 use lib.ListN.{length, getD, take, drop}
 use lib.Dec.{eqb}
-use Rattle.logic.specs.Query.{Literal, Query, termCount, fiveSections, parts, layoutBy, literals, section, queryOf, decode}
+use Rattle.logic.specs.Query.{Literal, Query, oneLink, literal, termCount, fiveSections, parts, layoutBy, literals, section, queryOf, decode}
 use Rattle.query.specs.declared.Layout.{Layout}
 use Rattle.query.specs.declared.FullLayout.{FullLayout}
 
@@ -13,7 +13,8 @@ pub record LaysOutAs (q : Query) (l : Layout) (bytes : List ℕ) : Type 0 where
   pub term-count : l .terms ≡ termCount q
   pub terms-within : l .terms ≤ 16
   pub entries-fit : l .terms + 1 ≤ length bytes
-  pub entries-are : q .entries ≡ take (l .terms) (drop 1 bytes)
+  pub links-are : q .links ≡ 1
+  pub entries-are : q .entries ≡ oneLink (take (l .terms) (drop 1 bytes))
   pub equal-within : l .«equal_count» ≤ 60
   pub equal-fit : l .«equal_at» + 3 * l .«equal_count» ≤ length bytes
   pub equal-are : q .equalities ≡ literals (take (3 * l .«equal_count») (drop (l .«equal_at») bytes))
@@ -39,8 +40,4 @@ pub record FullLaysOut (l : FullLayout) (bytes : List ℕ) (most excess : ℕ) :
 -- Literal i of a section at `at`, of three bytes an entry.
 abbrev pub literalIn : List ℕ → ℕ → ℕ → Literal
 literalIn bytes at i =
-    record {
-      plain = eqb (getD bytes (at + 3 * i) 0) 1;
-      left = getD bytes (at + 3 * i + 1) 0;
-      right = getD bytes (at + 3 * i + 2) 0;
-    }
+    literal (eqb (getD bytes (at + 3 * i) 0) 1) (getD bytes (at + 3 * i + 1) 0) (getD bytes (at + 3 * i + 2) 0)

@@ -11,6 +11,7 @@ use Rattle.logic.specs.Calls.{padded}
 use Rattle.logic.specs.Shown.{nodes, placeOf, shownLink, byteOf, fieldByte, report}
 use Rattle.logic.proofs.Basics.Search.{from-mem}
 use Rattle.logic.proofs.Completeness.ShownNodes.{nodes-length}
+use Rattle.logic.proofs.Calls.OneLink.{report-one}
 use Rattle.facts.specs.declared.Facts as code
 use Rattle.facts.specs.Path.{repOf, pathOf}
 use Rattle.facts.proofs.Rep.{rep-in}
@@ -66,11 +67,11 @@ module _ (l : Layout) (query : List ℕ) (s : code.Facts) (ready : Reportable l 
     node-within list e = numbers-below list (marked marks (l .terms)) e few-nodes
 
     -- the sections are the report's
-    module _ (list : List Node) (numbers : Numbers list (marked marks (l .terms))) (successors places fields : List ℕ) (linked : (t : ℕ) → t ≤ l .terms → getD successors t 0 ≡ nodeOf list (shownLink (l .terms) (pathOf s) t)) (placed : (t : ℕ) → 1 ≤ t → t ≤ l .terms → getD places t 0 ≡ nodeOf list (linkOf (s .rep) t)) (held : (v : ℕ) → v ≤ l .terms → getD fields v 0 ≡ byteOf (fieldHeld (repOf (s .rep)) (literalsAt query (l .«field_at») (l .«field_count»)) v) 1 8) where
-      successor : (v : ℕ) → List·Memᴰ v (marked marks (l .terms)) → getD successors v 0 ≡ placeOf (shownLink (l .terms) (pathOf s) v) (marked marks (l .terms))
+    module _ (list : List Node) (numbers : Numbers list (marked marks (l .terms))) (successors places fields : List ℕ) (linked : (t : ℕ) → t ≤ l .terms → getD successors t 0 ≡ nodeOf list (shownLink (l .terms) (pathOf s) 1 t)) (placed : (t : ℕ) → 1 ≤ t → t ≤ l .terms → getD places t 0 ≡ nodeOf list (linkOf (s .rep) t)) (held : (v : ℕ) → v ≤ l .terms → getD fields v 0 ≡ byteOf (fieldHeld (repOf (s .rep)) (literalsAt query (l .«field_at») (l .«field_count»)) v) 1 8) where
+      successor : (v : ℕ) → List·Memᴰ v (marked marks (l .terms)) → getD successors v 0 ≡ placeOf (shownLink (l .terms) (pathOf s) 1 v) (marked marks (l .terms))
       successor v m =
           linked v (marked-below marks (l .terms) v m)
-          ∙ numbers (shownLink (l .terms) (pathOf s) v) (omega (arith, shown-below (l .terms) (pathOf s) v, ready .laid .terms-within))
+          ∙ numbers (shownLink (l .terms) (pathOf s) 1 v) (omega (arith, shown-below (l .terms) (pathOf s) 1 v, ready .laid .terms-within))
 
       node : (t : ℕ) → List·Memᴰ t (terms (l .terms)) → getD places t 0 ≡ placeOf (pathOf s .rep t) (marked marks (l .terms))
       unfolding terms linkOf pathOf
@@ -86,12 +87,12 @@ module _ (l : Layout) (query : List ℕ) (s : code.Facts) (ready : Reportable l 
       datum v m = held v (marked-below marks (l .terms) v m) ∙ ap (λ (ls : List Literal). byteOf (fieldHeld (repOf (s .rep)) ls v) 1 8) (sym (fields-listed l query (ready .laid)))
 
       pub report-is : sections (l .terms) (marked marks (l .terms)) (λ t. getD successors t 0) (λ t. getD places t 0) (λ t. getD fields t 0) ≡ report (decode query) (pathOf s)
-      unfolding report
       report-is =
           parts
-          ∙ ap (λ (ts : List ℕ). sections (l .terms) ts (λ v. placeOf (shownLink (l .terms) (pathOf s) v) ts) (λ t. placeOf (pathOf s .rep t) ts) (fieldByte (decode query) (pathOf s))) are-nodes
-          ∙ ap (λ (n : ℕ). sections n (nodes n (pathOf s)) (λ v. placeOf (shownLink n (pathOf s) v) (nodes n (pathOf s))) (λ t. placeOf (pathOf s .rep t) (nodes n (pathOf s))) (fieldByte (decode query) (pathOf s))) (ready .laid .term-count)
+          ∙ ap (λ (ts : List ℕ). sections (l .terms) ts (λ v. placeOf (shownLink (l .terms) (pathOf s) 1 v) ts) (λ t. placeOf (pathOf s .rep t) ts) (fieldByte (decode query) (pathOf s))) are-nodes
+          ∙ ap (λ (n : ℕ). sections n (nodes n (pathOf s)) (λ v. placeOf (shownLink n (pathOf s) 1 v) (nodes n (pathOf s))) (λ t. placeOf (pathOf s .rep t) (nodes n (pathOf s))) (fieldByte (decode query) (pathOf s))) (ready .laid .term-count)
+          ∙ sym (report-one (decode query) (pathOf s) (ready .laid .links-are))
         where
-          parts : sections (l .terms) (marked marks (l .terms)) (λ t. getD successors t 0) (λ t. getD places t 0) (λ t. getD fields t 0) ≡ sections (l .terms) (marked marks (l .terms)) (λ v. placeOf (shownLink (l .terms) (pathOf s) v) (marked marks (l .terms))) (λ t. placeOf (pathOf s .rep t) (marked marks (l .terms))) (fieldByte (decode query) (pathOf s))
+          parts : sections (l .terms) (marked marks (l .terms)) (λ t. getD successors t 0) (λ t. getD places t 0) (λ t. getD fields t 0) ≡ sections (l .terms) (marked marks (l .terms)) (λ v. placeOf (shownLink (l .terms) (pathOf s) 1 v) (marked marks (l .terms))) (λ t. placeOf (pathOf s .rep t) (marked marks (l .terms))) (fieldByte (decode query) (pathOf s))
           parts =
               rw (map-alike _ _ (marked marks (l .terms)) successor, map-alike _ _ (terms (l .terms)) node, map-alike _ _ (marked marks (l .terms)) datum)

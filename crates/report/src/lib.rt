@@ -175,7 +175,7 @@ pub fn row_bytes(marks: &[u32; 17], n: usize) -> [u8; 17]
 // The successors, at the numbers to n.
 fn successor_bytes(s: Facts, n: usize, nodes: [Node; 17]) -> [u8; 17]
     requires { ⌜ (n ≤ 16) × ((t : ℕ) → t ≤ 16 → nodeOf nodes t ≤ 16) ⌝ }
-    ensures { λ r. ⌜ ((t : ℕ) → t ≤ n → getD r t 0 ≡ nodeOf nodes (shownLink n (pathOf s) t)) ⌝ }
+    ensures { λ r. ⌜ ((t : ℕ) → t ≤ n → getD r t 0 ≡ nodeOf nodes (shownLink n (pathOf s) 1 t)) ⌝ }
 {
     let links = completion::shown_links(s, n);
     nodes_of(nodes, links, 0, n)

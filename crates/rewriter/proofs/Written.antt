@@ -74,69 +74,69 @@ module _ (q : Query) (booleans : List ℕ) where
   fields-long = literal-bytes (q .fields)
 
   -- the bytes, by where they are cut
-  first-cut : oldBytes q booleans ≡ (termCount q ∷ []) ++ (q .entries ++ (middle ++ (length (q .fields) ∷ (fields ++ (count ∷ booleans)))))
+  first-cut : oldBytes q booleans ≡ (termCount q ∷ []) ++ (q .entries .terms ++ (middle ++ (length (q .fields) ∷ (fields ++ (count ∷ booleans)))))
   unfolding oldBytes middle fields sectionBytes
-  first-cut = ap (λ (xs : List ℕ). termCount q ∷ (q .entries ++ xs)) (sym (append-assoc (sectionBytes (q .equalities)) (sectionBytes (q .reachability)) _))
+  first-cut = ap (λ (xs : List ℕ). termCount q ∷ (q .entries .terms ++ xs)) (sym (append-assoc (sectionBytes (q .equalities)) (sectionBytes (q .reachability)) _))
 
-  second-cut : oldBytes q booleans ≡ (termCount q ∷ q .entries) ++ (middle ++ (length (q .fields) ∷ (fields ++ (count ∷ booleans))))
+  second-cut : oldBytes q booleans ≡ (termCount q ∷ q .entries .terms) ++ (middle ++ (length (q .fields) ∷ (fields ++ (count ∷ booleans))))
   second-cut = first-cut
 
-  third-cut : oldBytes q booleans ≡ ((termCount q ∷ q .entries) ++ (middle ++ (length (q .fields) ∷ []))) ++ (fields ++ (count ∷ booleans))
+  third-cut : oldBytes q booleans ≡ ((termCount q ∷ q .entries .terms) ++ (middle ++ (length (q .fields) ∷ []))) ++ (fields ++ (count ∷ booleans))
   third-cut =
-      second-cut ∙ ap (λ (xs : List ℕ). (termCount q ∷ q .entries) ++ xs) (sym (append-assoc middle (length (q .fields) ∷ []) (fields ++ (count ∷ booleans))))
-      ∙ sym (append-assoc (termCount q ∷ q .entries) (middle ++ (length (q .fields) ∷ [])) (fields ++ (count ∷ booleans)))
+      second-cut ∙ ap (λ (xs : List ℕ). (termCount q ∷ q .entries .terms) ++ xs) (sym (append-assoc middle (length (q .fields) ∷ []) (fields ++ (count ∷ booleans))))
+      ∙ sym (append-assoc (termCount q ∷ q .entries .terms) (middle ++ (length (q .fields) ∷ [])) (fields ++ (count ∷ booleans)))
 
-  fourth-cut : oldBytes q booleans ≡ (((termCount q ∷ q .entries) ++ (middle ++ (length (q .fields) ∷ []))) ++ (fields ++ (count ∷ []))) ++ (booleans ++ [])
+  fourth-cut : oldBytes q booleans ≡ (((termCount q ∷ q .entries .terms) ++ (middle ++ (length (q .fields) ∷ []))) ++ (fields ++ (count ∷ []))) ++ (booleans ++ [])
   fourth-cut =
-      third-cut ∙ ap (λ (xs : List ℕ). ((termCount q ∷ q .entries) ++ (middle ++ (length (q .fields) ∷ []))) ++ (fields ++ (count ∷ xs))) (sym (append-nil booleans))
-      ∙ ap (λ (xs : List ℕ). ((termCount q ∷ q .entries) ++ (middle ++ (length (q .fields) ∷ []))) ++ xs) (sym (append-assoc fields (count ∷ []) (booleans ++ [])))
-      ∙ sym (append-assoc ((termCount q ∷ q .entries) ++ (middle ++ (length (q .fields) ∷ []))) (fields ++ (count ∷ [])) (booleans ++ []))
+      third-cut ∙ ap (λ (xs : List ℕ). ((termCount q ∷ q .entries .terms) ++ (middle ++ (length (q .fields) ∷ []))) ++ (fields ++ (count ∷ xs))) (sym (append-nil booleans))
+      ∙ ap (λ (xs : List ℕ). ((termCount q ∷ q .entries .terms) ++ (middle ++ (length (q .fields) ∷ []))) ++ xs) (sym (append-assoc fields (count ∷ []) (booleans ++ [])))
+      ∙ sym (append-assoc ((termCount q ∷ q .entries .terms) ++ (middle ++ (length (q .fields) ∷ []))) (fields ++ (count ∷ [])) (booleans ++ []))
 
-  head-long : length ((termCount q ∷ q .entries) ++ (middle ++ (length (q .fields) ∷ []))) ≡ fourth + 1
+  head-long : length ((termCount q ∷ q .entries .terms) ++ (middle ++ (length (q .fields) ∷ []))) ≡ fourth + 1
   unfolding termCount
   head-long =
       omega
-      (arith, length-append (length (q .entries) ∷ q .entries) (middle ++ (length (q .fields) ∷ [])), length-append middle (length (q .fields) ∷ []), middle-long)
+      (arith, length-append (length (q .entries .terms) ∷ q .entries .terms) (middle ++ (length (q .fields) ∷ [])), length-append middle (length (q .fields) ∷ []), middle-long)
 
   pub old-length : length (oldBytes q booleans) ≡ fourth + 1 + 3 * length (q .fields) + 1 + length booleans
   old-length =
       ap length third-cut
-      ∙ omega (arith, length-append ((termCount q ∷ q .entries) ++ (middle ++ (length (q .fields) ∷ []))) (fields ++ (count ∷ booleans)), head-long, length-append fields (count ∷ booleans), fields-long)
+      ∙ omega (arith, length-append ((termCount q ∷ q .entries .terms) ++ (middle ++ (length (q .fields) ∷ []))) (fields ++ (count ∷ booleans)), head-long, length-append fields (count ∷ booleans), fields-long)
 
-  entries-cut : cut (oldBytes q booleans) 1 (termCount q + 1) ≡ q .entries
+  entries-cut : cut (oldBytes q booleans) 1 (termCount q + 1) ≡ q .entries .terms
   unfolding termCount
-  entries-cut = ap (λ (xs : List ℕ). cut xs 1 (length (q .entries) + 1)) first-cut ∙ cut-at (termCount q ∷ []) (q .entries) _ 1 (length (q .entries) + 1) refl (omega arith)
+  entries-cut = ap (λ (xs : List ℕ). cut xs 1 (length (q .entries .terms) + 1)) first-cut ∙ cut-at (termCount q ∷ []) (q .entries .terms) _ 1 (length (q .entries .terms) + 1) refl (omega arith)
 
   middle-cut : cut (oldBytes q booleans) (termCount q + 1) fourth ≡ middle
   unfolding termCount
   middle-cut =
       ap (λ (xs : List ℕ). cut xs (termCount q + 1) fourth) second-cut
-      ∙ cut-at (termCount q ∷ q .entries) middle _ (termCount q + 1) fourth (sym (add-one (length (q .entries)))) middle-long
+      ∙ cut-at (termCount q ∷ q .entries .terms) middle _ (termCount q + 1) fourth (sym (add-one (length (q .entries .terms)))) middle-long
 
   fields-cut : cut (oldBytes q booleans) (fourth + 1) (fourth + 1 + 3 * length (q .fields)) ≡ fields
   fields-cut =
       ap (λ (xs : List ℕ). cut xs (fourth + 1) (fourth + 1 + 3 * length (q .fields))) third-cut
-      ∙ cut-at ((termCount q ∷ q .entries) ++ (middle ++ (length (q .fields) ∷ []))) fields (count ∷ booleans) (fourth + 1) (fourth + 1 + 3 * length (q .fields)) head-long (omega (arith, fields-long))
+      ∙ cut-at ((termCount q ∷ q .entries .terms) ++ (middle ++ (length (q .fields) ∷ []))) fields (count ∷ booleans) (fourth + 1) (fourth + 1 + 3 * length (q .fields)) head-long (omega (arith, fields-long))
 
   booleans-cut : length booleans ≡ 2 * count → cut (oldBytes q booleans) (fourth + 1 + 3 * length (q .fields) + 1) (fourth + 1 + 3 * length (q .fields) + 1 + 2 * count) ≡ booleans
   booleans-cut even =
       ap (λ (xs : List ℕ). cut xs (fourth + 1 + 3 * length (q .fields) + 1) (fourth + 1 + 3 * length (q .fields) + 1 + 2 * count)) fourth-cut
-      ∙ cut-at (((termCount q ∷ q .entries) ++ (middle ++ (length (q .fields) ∷ []))) ++ (fields ++ (count ∷ []))) booleans [] (fourth + 1 + 3 * length (q .fields) + 1) (fourth + 1 + 3 * length (q .fields) + 1 + 2 * count)
-      (omega (arith, length-append ((termCount q ∷ q .entries) ++ (middle ++ (length (q .fields) ∷ []))) (fields ++ (count ∷ [])), head-long, length-append fields (count ∷ []), fields-long))
+      ∙ cut-at (((termCount q ∷ q .entries .terms) ++ (middle ++ (length (q .fields) ∷ []))) ++ (fields ++ (count ∷ []))) booleans [] (fourth + 1 + 3 * length (q .fields) + 1) (fourth + 1 + 3 * length (q .fields) + 1 + 2 * count)
+      (omega (arith, length-append ((termCount q ∷ q .entries .terms) ++ (middle ++ (length (q .fields) ∷ []))) (fields ++ (count ∷ [])), head-long, length-append fields (count ∷ []), fields-long))
       (omega (arith, even))
 
   -- the bytes of the query with the fresh variable
-  encoded : flatMap literalBytes (map (asField (suc (termCount q))) (flags booleans)) ≡ fieldBytes (suc (termCount q)) booleans → encode (withFresh q (flags booleans)) ≡ ((termCount q + 1) ∷ []) ++ ((q .entries ++ (0 ∷ [])) ++ (middle ++ ((length (q .fields) + count) ∷ (fields ++ (fieldBytes (termCount q + 1) booleans ++ (0 ∷ []))))))
+  encoded : flatMap literalBytes (map (asField (suc (termCount q))) (flags booleans)) ≡ fieldBytes (suc (termCount q)) booleans → encode (withFresh q (flags booleans)) ≡ ((termCount q + 1) ∷ []) ++ ((q .entries .terms ++ (0 ∷ [])) ++ (middle ++ ((length (q .fields) + count) ∷ (fields ++ (fieldBytes (termCount q + 1) booleans ++ (0 ∷ []))))))
   unfolding encode withFresh termCount middle fields sectionBytes
   encoded h =
-      ap₂ (λ (x : ℕ) (xs : List ℕ). x ∷ ((q .entries ++ (0 ∷ [])) ++ xs)) (length-append (q .entries) (0 ∷ []))
+      ap₂ (λ (x : ℕ) (xs : List ℕ). x ∷ ((q .entries .terms ++ (0 ∷ [])) ++ xs)) (length-append (q .entries .terms) (0 ∷ []))
       (sym (append-assoc (sectionBytes (q .equalities)) (sectionBytes (q .reachability)) _)
       ∙ ap (λ (xs : List ℕ). (sectionBytes (q .equalities) ++ sectionBytes (q .reachability)) ++ xs)
-      (ap₂ (λ (x : ℕ) (xs : List ℕ). x ∷ xs) (length-append (q .fields) (map (asField (suc (length (q .entries)))) (flags booleans)) ∙ ap (λ (k : ℕ). length (q .fields) + k) (length-map (flags booleans) (asField (suc (length (q .entries))))))
-      (ap (λ (xs : List ℕ). xs ++ (0 ∷ [])) (flatMap-append literalBytes (q .fields) (map (asField (suc (length (q .entries)))) (flags booleans)) ∙ ap (λ (xs : List ℕ). flatMap literalBytes (q .fields) ++ xs) (h ∙ ap (λ (t : ℕ). fieldBytes t booleans) (sym (add-one (length (q .entries))))))
-      ∙ append-assoc (flatMap literalBytes (q .fields)) (fieldBytes (length (q .entries) + 1) booleans) (0 ∷ []))))
+      (ap₂ (λ (x : ℕ) (xs : List ℕ). x ∷ xs) (length-append (q .fields) (map (asField (suc (length (q .entries .terms)))) (flags booleans)) ∙ ap (λ (k : ℕ). length (q .fields) + k) (length-map (flags booleans) (asField (suc (length (q .entries .terms))))))
+      (ap (λ (xs : List ℕ). xs ++ (0 ∷ [])) (flatMap-append literalBytes (q .fields) (map (asField (suc (length (q .entries .terms)))) (flags booleans)) ∙ ap (λ (xs : List ℕ). flatMap literalBytes (q .fields) ++ xs) (h ∙ ap (λ (t : ℕ). fieldBytes t booleans) (sym (add-one (length (q .entries .terms))))))
+      ∙ append-assoc (flatMap literalBytes (q .fields)) (fieldBytes (length (q .entries .terms) + 1) booleans) (0 ∷ []))))
 
-  rewritten-are : length booleans ≡ 2 * count → rewrittenBytes (termCount q) fourth (length (q .fields)) count (oldBytes q booleans) ≡ ((termCount q + 1) ∷ []) ++ ((q .entries ++ (0 ∷ [])) ++ (middle ++ ((length (q .fields) + count) ∷ (fields ++ (fieldBytes (termCount q + 1) booleans ++ (0 ∷ []))))))
+  rewritten-are : length booleans ≡ 2 * count → rewrittenBytes (termCount q) fourth (length (q .fields)) count (oldBytes q booleans) ≡ ((termCount q + 1) ∷ []) ++ ((q .entries .terms ++ (0 ∷ [])) ++ (middle ++ ((length (q .fields) + count) ∷ (fields ++ (fieldBytes (termCount q + 1) booleans ++ (0 ∷ []))))))
   unfolding rewrittenBytes termBytes dataBytes
   rewritten-are even = rw (entries-cut, middle-cut, fields-cut, booleans-cut even)
 
@@ -214,7 +214,7 @@ module _ (l : FullLayout) (bytes : List ℕ) (p : Passing l bytes) where
 
     pub terms-more : termCount (rewriteOf bytes) ≡ l .layout .terms + 1
     unfolding termCount withFresh
-    terms-more = ap termCount with-fresh ∙ length-append (base .entries) (0 ∷ []) ∙ ap (λ (k : ℕ). k + 1) (sym terms-are)
+    terms-more = ap termCount with-fresh ∙ length-append (base .entries .terms) (0 ∷ []) ∙ ap (λ (k : ℕ). k + 1) (sym terms-are)
 
     pub fields-more : length (rewriteOf bytes .fields) ≡ l .layout .«field_count» + l .«boolean_count»
     unfolding withFresh

@@ -20,7 +20,7 @@ use Rattle.rewriting.specs.OldHeap.{SatisfiableOld}
 use Rattle.rewriting.specs.Call.{Answer, rewriteOf, roomCheck, rewriteChecks, rewriteCall}
 use Rattle.rewriting.specs.Claims.{Rewriting, Written, taken, Claims}
 use Rattle.rewriting.proofs.SameVerdict.{same-verdict}
-use Rattle.rewriting.proofs.OldBytes.{base-accepted, base-limits, boolean-number}
+use Rattle.rewriting.proofs.OldBytes.{base-accepted, base-linked, booleans-linked, base-limits, boolean-number}
 use Rattle.rewriting.proofs.Encoded.{encode-within, rewrite-limits, rewrite-encodable}
 use Rattle.rewriting.proofs.Copied.{copied, copied-accepts}
 use Rattle.rewriting.proofs.Calls.{refusals, Wrote, wrote}
@@ -51,7 +51,7 @@ module _ (bytes : List ℕ) (room n : ℕ) (h : rewriteCall bytes room .answer �
   encodable : Encodable (rewriteOf bytes)
   encodable =
       let a = did .accepted in
-      rewrite-encodable (decodeOld bytes) (base-accepted bytes a) (base-limits bytes a) (boolean-number bytes a) room (did .room-there)
+      rewrite-encodable (decodeOld bytes) (base-accepted bytes a) (base-linked bytes) (booleans-linked bytes) (base-limits bytes a) (boolean-number bytes a) room (did .room-there)
 
   is-rewriting : taken bytes room n ≡ encode (rewriteOf bytes)
   unfolding padded
@@ -72,7 +72,7 @@ module _ (bytes : List ℕ) (room n : ℕ) (h : rewriteCall bytes room .answer �
       record {
         is-rewriting = is-rewriting;
         zeros-follow = did .leaves ∙ ap (padded room) (sym is-rewriting);
-        within = let a = did .accepted in omega (arith, did .counted, encode-within (rewriteOf bytes) (rewrite-limits (decodeOld bytes) (base-accepted bytes a) (base-limits bytes a) (boolean-number bytes a) room (did .room-there)));
+        within = let a = did .accepted in omega (arith, did .counted, encode-within (rewriteOf bytes) (rewrite-limits (decodeOld bytes) (base-accepted bytes a) (base-linked bytes) (booleans-linked bytes) (base-limits bytes a) (boolean-number bytes a) room (did .room-there)));
         accepted = ap accepts is-rewriting ∙ encoded-accepts (rewriteOf bytes) encodable;
         says = says;
         same-verdict = verdict;

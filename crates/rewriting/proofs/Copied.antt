@@ -17,12 +17,12 @@ use Rattle.encoding.proofs.Decoded.{encoded-accepts}
 use Rattle.encoding.proofs.Recovered.{Laid, none-left, one-more, laid, piece, literals-of, none-of}
 use Rattle.rewriting.specs.OldQuery.{oldSections, acceptsOld, flags, decodeOld}
 use Rattle.rewriting.specs.Rewritten.{rewritten, rewrite}
-use Rattle.rewriting.proofs.OldBytes.{old-parts, layout-is, base-is, base-accepted, base-limits, booleans-are, section-part, boolean-part, flags-count}
+use Rattle.rewriting.proofs.OldBytes.{old-parts, layout-is, base-is, base-accepted, base-linked, base-limits, booleans-are, section-part, boolean-part, flags-count}
 
 -- the bytes of a query's first four sections, and of the booleans behind their count
 unfoldable pub oldBytes : Query → List ℕ → List ℕ
 oldBytes q part =
-    (termCount q ∷ q .entries)
+    (termCount q ∷ q .entries .terms)
     ++ (sectionBytes (q .equalities) ++ (sectionBytes (q .reachability) ++ (sectionBytes (q .fields) ++ (length (flags part) ∷ part))))
 
 written : (n : ℕ) (bytes : List ℕ) (ps : List (List ℕ)) → Laid (fiveSections 60 3 n) bytes ps → ((i : ℕ) (s : Section) → at (fiveSections 60 3 n) (suc i) ≡ some s → Part s (section ps i)) → oldBytes (queryOf (parts ps)) (section ps 4) ≡ bytes
@@ -58,4 +58,4 @@ module _ (bytes : List ℕ) (h : acceptsOld bytes ≡ true) where
     pub copied-accepts : accepts bytes ≡ true
     copied-accepts =
         ap accepts (sym copied ∙ ap encode rewrite-none)
-        ∙ encoded-accepts (decodeOld bytes .base) (record { accepted = base-accepted bytes h; within = limits-within (decodeOld bytes .base) (base-limits bytes h) })
+        ∙ encoded-accepts (decodeOld bytes .base) (record { accepted = base-accepted bytes h; one-linked = base-linked bytes; within = limits-within (decodeOld bytes .base) (base-limits bytes h) })

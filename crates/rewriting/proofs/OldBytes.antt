@@ -17,7 +17,8 @@ use Rattle.logic.proofs.Query.Tied.{Accepted, ToEight}
 use Rattle.logic.proofs.Query.Bytes.{Allows, Allowed, Part, three-number}
 use Rattle.logic.proofs.Query.AcceptedBytes.{Passes, form-passes, LaidOut, booleans, five-laid, five-accepted}
 use Rattle.logic.proofs.Calls.CallLaws.{refusalOf-none}
-use Rattle.encoding.proofs.Encoded.{Limits}
+use Rattle.encoding.proofs.Encoded.{Limits, AboutOne, OneLinked}
+use Rattle.encoding.proofs.Decoded.{layout-linked}
 use Rattle.rewriting.specs.OldQuery.{oldSections, oldChecks, given, acceptsOld, flags, booleanPart, decodeOld}
 
 -- the literals of sections of three bytes an entry, and of two
@@ -46,6 +47,21 @@ flags-allowed sign left (suc c) i [] e h l m = absurd (List·Memᴰ·not-nil m)
 flags-allowed sign left (suc c) i (s ∷ []) e h l m = absurd (List·Memᴰ·not-nil m)
 flags-allowed sign left (suc c) i (s ∷ a ∷ rest) e h l m =
     ⊎-elim (λ q. rw q (h .1 .0)) (flags-allowed sign left c (suc i) rest (omega arith) (h .1 .1) l) (List·Memᴰ·cases-cons m)
+
+flags-link : (bytes : List ℕ) → AboutOne (flags bytes)
+unfolding flags
+flags-link [] l m = absurd (List·Memᴰ·not-nil m)
+flags-link (s ∷ []) l m = absurd (List·Memᴰ·not-nil m)
+flags-link (s ∷ a ∷ rest) l m = ⊎-elim (λ e. ap (λ (k : Literal). k .link) e) (flags-link rest l) (List·Memᴰ·cases-cons m)
+
+-- old query bytes are in the form of 01
+pub base-linked : (bytes : List ℕ) → OneLinked (decodeOld bytes .base)
+unfolding decodeOld
+base-linked bytes = layout-linked (layoutBy oldSections bytes)
+
+pub booleans-linked : (bytes : List ℕ) → AboutOne (decodeOld bytes .booleans)
+unfolding decodeOld
+booleans-linked bytes = flags-link (booleanPart (layoutBy oldSections bytes))
 
 number-allows : (b : ℕ) → Allows numberRole b → ToEight b
 unfolding numberRole

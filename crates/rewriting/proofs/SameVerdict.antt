@@ -8,7 +8,7 @@ use mathlib.Core.List.{List, [], _∷_, List·Memᴰ·not-nil}
 use lib.ListN.{length}
 use lib.Dec.{eqb, leb}
 use borrow.Author.Tests.{le-leb, lt-leb}
-use Rattle.logic.specs.Query.{Literal, Query, argumentOf, termCount}
+use Rattle.logic.specs.Query.{Literal, Query, argumentOf, linkOf, termCount}
 use Rattle.logic.specs.Heap.{Heap, Node, IsHeap, value, iterate, Reaches, Signed, Each, Meets, Satisfiable}
 use Rattle.logic.proofs.Basics.Compare.{eqb-self, eqb-false, le-cases}
 use Rattle.logic.proofs.Query.Tied.{Accepted, InTerms}
@@ -24,7 +24,7 @@ unfoldable pub grown : OldHeap → ℕ → Heap
 grown h t =
     record {
       size = suc (h .heap .size);
-      link = λ v. cond (leb v (h .heap .size)) (h .heap .link v) v;
+      link = λ i v. cond (leb v (h .heap .size)) (h .heap .link i v) v;
       field = λ j v. cond (leb v (h .heap .size)) (h .heap .field j v) (h .boolean j);
       variable = λ u. cond (eqb u t) (suc (h .heap .size)) (h .heap .variable u);
     }
@@ -35,9 +35,9 @@ signed-same false e p = λ x. p (e .1 x)
 
 module _ (h : OldHeap) (t : ℕ) where
   -- on the old nodes all stays
-  link-old : (v : ℕ) → Node (h .heap) v → grown h t .link v ≡ h .heap .link v
+  link-old : (i v : ℕ) → Node (h .heap) v → grown h t .link i v ≡ h .heap .link i v
   unfolding grown
-  link-old v n = rw (le-leb v (h .heap .size) (n .1))
+  link-old i v n = rw (le-leb v (h .heap .size) (n .1))
 
   field-old : (j v : ℕ) → Node (h .heap) v → grown h t .field j v ≡ h .heap .field j v
   unfolding grown
@@ -57,7 +57,7 @@ module _ (h : OldHeap) (t : ℕ) where
   grown-is is =
       record {
         nonempty = omega arith;
-        link-node = λ v n. ⊎-elim (λ l. rw (le-leb v (h .heap .size) l) (let m = is .link-node v (n .0, l) in (m .0, omega (arith, m .1)))) (λ l. rw (lt-leb v (h .heap .size) l) n) (le-cases v (h .heap .size));
+        link-node = λ i v n. ⊎-elim (λ l. rw (le-leb v (h .heap .size) l) (let m = is .link-node i v (n .0, l) in (m .0, omega (arith, m .1)))) (λ l. rw (lt-leb v (h .heap .size) l) n) (le-cases v (h .heap .size));
         variable-node = λ u. go u (eqb u t);
       }
     where
@@ -67,14 +67,14 @@ module _ (h : OldHeap) (t : ℕ) where
 
   module _ (is : IsHeap (h .heap)) where
     -- links from an old node stay among them
-    iterate-old : (k v : ℕ) → Node (h .heap) v → iterate (grown h t .link) k v ≡ iterate (h .heap .link) k v
+    iterate-old : (i k v : ℕ) → Node (h .heap) v → iterate (grown h t .link i) k v ≡ iterate (h .heap .link i) k v
     unfolding iterate
-    iterate-old zero v n = refl
-    iterate-old (suc k) v n = ap (iterate (grown h t .link) k) (link-old v n) ∙ iterate-old k (h .heap .link v) (is .link-node v n)
+    iterate-old i zero v n = refl
+    iterate-old i (suc k) v n = ap (iterate (grown h t .link i) k) (link-old i v n) ∙ iterate-old i k (h .heap .link i v) (is .link-node i v n)
 
-    reach-old : (v w : ℕ) → Node (h .heap) v → Reaches (h .heap .link) v w ↔ Reaches (grown h t .link) v w
+    reach-old : (i v w : ℕ) → Node (h .heap) v → Reaches (h .heap .link i) v w ↔ Reaches (grown h t .link i) v w
     unfolding Reaches
-    reach-old v w n = (λ r. (r .0, iterate-old (r .0) v n ∙ r .1), λ r. (r .0, sym (iterate-old (r .0) v n) ∙ r .1))
+    reach-old i v w n = (λ r. (r .0, iterate-old i (r .0) v n ∙ r .1), λ r. (r .0, sym (iterate-old i (r .0) v n) ∙ r .1))
 
 module _ (h : OldHeap) (q : Query) (ok : Accepted q) (m : Meets (h .heap) q) where
   abbrev fresh : ℕ
@@ -97,8 +97,8 @@ module _ (h : OldHeap) (q : Query) (ok : Accepted q) (m : Meets (h .heap) q) whe
       (λ one.
       let b = below u one in
       value-link more (q .entries) below u one
-      ∙ ap (more .link) (value-within fuel (argumentOf (q .entries) u) (omega arith) (omega arith))
-      ∙ link-old h fresh (value (h .heap) (q .entries) (argumentOf (q .entries) u)) (node (argumentOf (q .entries) u))
+      ∙ ap (more .link (linkOf (q .entries) u)) (value-within fuel (argumentOf (q .entries) u) (omega arith) (omega arith))
+      ∙ link-old h fresh (linkOf (q .entries) u) (value (h .heap) (q .entries) (argumentOf (q .entries) u)) (node (argumentOf (q .entries) u))
       ∙ sym (value-link (h .heap) (q .entries) below u one))
       (λ none.
       let z : argumentOf (q .entries) u ≡ 0 = omega arith in
@@ -108,7 +108,7 @@ module _ (h : OldHeap) (q : Query) (ok : Accepted q) (m : Meets (h .heap) q) whe
   value-old : (u : ℕ) → InTerms q u → value more (q .entries) u ≡ value (h .heap) (q .entries) u
   value-old u r = value-within (suc u) u (omega arith) (omega (arith, r .1))
 
-  nil-term : (u : ℕ) → (1 ≤ u) × (u ≤ length (q .entries)) → InTerms q u
+  nil-term : (u : ℕ) → (1 ≤ u) × (u ≤ length (q .entries .terms)) → InTerms q u
   unfolding termCount
   nil-term u r = r
 
@@ -120,8 +120,8 @@ module _ (h : OldHeap) (q : Query) (ok : Accepted q) (m : Meets (h .heap) q) whe
   equal-same : (v w : ℕ) → Node (h .heap) v → Node (h .heap) w → (v ≡ w) ↔ (v ≡ w)
   equal-same v w n k = (λ e. e, λ e. e)
 
-  link-same : (v w : ℕ) → Node (h .heap) v → Node (h .heap) w → (h .heap .link v ≡ w) ↔ (more .link v ≡ w)
-  link-same v w n k = let e = link-old h fresh v n in (λ p. e ∙ p, λ p. sym e ∙ p)
+  link-same : (i v w : ℕ) → Node (h .heap) v → Node (h .heap) w → (h .heap .link i v ≡ w) ↔ (more .link i v ≡ w)
+  link-same i v w n k = let e = link-old h fresh i v n in (λ p. e ∙ p, λ p. sym e ∙ p)
 
   field-same : (j : ℕ) (v w : ℕ) → Node (h .heap) v → Node (h .heap) w → (h .heap .field j w ≡ true) ↔ (more .field j w ≡ true)
   field-same j v w n k = let e = field-old h fresh j w k in (λ p. e ∙ p, λ p. sym e ∙ p)
@@ -134,11 +134,11 @@ module _ (h : OldHeap) (q : Query) (ok : Accepted q) (m : Meets (h .heap) q) whe
             record {
               one-node = λ t u x y. keeps (λ v w. v ≡ w) (λ v w. v ≡ w) equal-same true t u (nil-term t (nil-range (q .entries) t x)) (nil-term u (nil-range (q .entries) u y)) (m .nil-node .one-node t u x y);
               own-link =
-                  λ t x. let r = nil-term t (nil-range (q .entries) t x) in keeps (λ v w. h .heap .link v ≡ w) (λ v w. more .link v ≡ w) link-same true t t r r (m .nil-node .own-link t x);
+                  λ i t x. let r = nil-term t (nil-range (q .entries) t x) in keeps (λ v w. h .heap .link i v ≡ w) (λ v w. more .link i v ≡ w) (link-same i) true t t r r (m .nil-node .own-link i t x);
             };
         equalities = λ l k. let r = ok .equal-terms l k in keeps (λ v w. v ≡ w) (λ v w. v ≡ w) equal-same (l .plain) (l .left) (l .right) (r .0) (r .1) (m .equalities l k);
         reachability =
-            λ l k. let r = ok .reach-terms l k in keeps (Reaches (h .heap .link)) (Reaches (more .link)) (λ v w n o. reach-old h fresh (m .is-heap) v w n) (l .plain) (l .left) (l .right) (r .0) (r .1) (m .reachability l k);
+            λ l k. let r = ok .reach-terms l k in keeps (Reaches (h .heap .link (l .link))) (Reaches (more .link (l .link))) (λ v w n o. reach-old h fresh (m .is-heap) (l .link) v w n) (l .plain) (l .left) (l .right) (r .0) (r .1) (m .reachability l k);
         fields =
             λ l k. let r = ok .field-term l k in keeps (λ v w. h .heap .field (l .left) w ≡ true) (λ v w. more .field (l .left) w ≡ true) (field-same (l .left)) (l .plain) (l .right) (l .right) r r (m .fields l k);
       }

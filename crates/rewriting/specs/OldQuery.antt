@@ -4,7 +4,7 @@ use mathlib.Core.Bool.{Bool, not}
 use mathlib.Core.List.{List, [], _∷_}
 use lib.Dec.{eqb}
 use Rattle.logic.specs.Search.{isSome}
-use Rattle.logic.specs.Query.{Literal, Query, Form, fiveSections, Layout, faulty, parts, layoutBy, section, queryOf}
+use Rattle.logic.specs.Query.{Literal, Query, literal, Form, fiveSections, Layout, faulty, parts, layoutBy, section, queryOf}
 use Rattle.logic.specs.Calls.{Input, Check, formChecks, refusalOf}
 
 -- a query and its booleans; a boolean literal has its number on the left, and 0 on the right
@@ -32,7 +32,7 @@ acceptsOld bytes = not (isSome (refusalOf oldChecks (given bytes 0)))
 unfoldable pub flags : List ℕ → List Literal
 flags [] = []
 flags (s ∷ []) = []
-flags (s ∷ a ∷ rest) = record { plain = eqb s 1; left = a; right = 0 } ∷ flags rest
+flags (s ∷ a ∷ rest) = literal (eqb s 1) a 0 ∷ flags rest
 
 -- the bytes of section 5 behind its count
 unfoldable pub booleanPart : Layout → List ℕ

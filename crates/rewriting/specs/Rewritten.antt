@@ -6,13 +6,14 @@ use Rattle.rewriting.specs.OldQuery.{OldQuery}
 
 -- "boolean j becomes its data field j": that of term t
 unfoldable pub asField : ℕ → Literal → Literal
-asField t l = record { plain = l .plain; left = l .left; right = t }
+asField t l = record { plain = l .plain; link = l .link; left = l .left; right = t }
 
 -- "one fresh variable is added last and boolean j becomes its data field j, appended to section 4"
 unfoldable pub withFresh : Query → List Literal → Query
 withFresh q booleans =
     record {
-      entries = q .entries ++ (0 ∷ []);
+      links = q .links;
+      entries = record { terms = q .entries .terms ++ (0 ∷ []); links = q .entries .links };
       equalities = q .equalities;
       reachability = q .reachability;
       fields = q .fields ++ map (asField (suc (termCount q))) booleans;

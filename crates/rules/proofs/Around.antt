@@ -246,20 +246,20 @@ module _ (n : ℕ) (g : Graph) (x : ℕ) where
   returns-at left (suc k) c h e = returns-is left k c (omega arith) ∙ eq-eqb k _ (omega arith)
 
   -- x is one of the k terms from c on exactly where fewer than k steps lead there
-  pub round-is : (k c : ℕ) → any (held g) (map (equal x) (round n g k c)) ≡ ltb (stepsTo n g x k c) k
+  pub round-is : (k c : ℕ) → any (held (λ i. g)) (map (equal x) (round n g k c)) ≡ ltb (stepsTo n g x k c) k
   unfolding any round held _or_ stepsTo
   round-is zero c = refl
   round-is (suc k) c = ⊎-elim here (λ d. there (d .0) (round-is k (next n g c))) (eq-cases c x)
     where
-      here : c ≡ x → (eqb x c or any (held g) (map (equal x) (round n g k (next n g c)))) ≡ ltb (cond (eqb c x) 0 (suc (stepsTo n g x k (next n g c)))) (suc k)
+      here : c ≡ x → (eqb x c or any (held (λ i. g)) (map (equal x) (round n g k (next n g c)))) ≡ ltb (cond (eqb c x) 0 (suc (stepsTo n g x k (next n g c)))) (suc k)
       here e = rw (eq-eqb c x e, eq-eqb x c (sym e)) (sym (lt-ltb 0 (suc k) (omega arith)))
 
-      there : (c ≡ x → ⊥) → any (held g) (map (equal x) (round n g k (next n g c))) ≡ ltb (stepsTo n g x k (next n g c)) k → (eqb x c or any (held g) (map (equal x) (round n g k (next n g c)))) ≡ ltb (cond (eqb c x) 0 (suc (stepsTo n g x k (next n g c)))) (suc k)
+      there : (c ≡ x → ⊥) → any (held (λ i. g)) (map (equal x) (round n g k (next n g c))) ≡ ltb (stepsTo n g x k (next n g c)) k → (eqb x c or any (held (λ i. g)) (map (equal x) (round n g k (next n g c)))) ≡ ltb (cond (eqb c x) 0 (suc (stepsTo n g x k (next n g c)))) (suc k)
       there e ih = rw (ne-eqb c x e, ne-eqb x c (λ q. e (sym q))) (ih ∙ sym (ltb-suc _ k))
 
 -- CYCLE at x and y
 module _ (n : ℕ) (alive : ℕ → Bool) (g : Graph) (x y : ℕ) where
-  cycle-not : (k : ℕ) → returns n g x k x ≡ false → keep (allowed n alive g (move CYCLE (triple x y k))) (triple x y k) ≡ none
+  cycle-not : (k : ℕ) → returns n g x k x ≡ false → keep (allowed n alive g (move 1 CYCLE (triple x y k))) (triple x y k) ≡ none
   unfolding allowed conditions keep _and_
   cycle-not k e = rw e
 
@@ -267,7 +267,7 @@ module _ (n : ℕ) (alive : ℕ → Bool) (g : Graph) (x y : ℕ) where
   unfolding inThird allowed conditions keep _and_
   cycle-unreached e = firstOf-empty _ _ (λ k m. go (returns n g x k x) k)
     where
-      go : (t : Bool) (k : ℕ) → keep ((t and g .reach x y) and not (any (held g) (alternatives n g (move CYCLE (triple x y k))))) (triple x y k) ≡ none
+      go : (t : Bool) (k : ℕ) → keep ((t and g .reach x y) and not (any (held (λ i. g)) (alternatives n (λ i. g) (move 1 CYCLE (triple x y k))))) (triple x y k) ≡ none
       go true k = rw e
       go false k = refl
 
@@ -278,7 +278,7 @@ module _ (n : ℕ) (alive : ℕ → Bool) (g : Graph) (x y : ℕ) where
 
   -- the links return to x after k steps: CYCLE can apply at k alone
   module _ (k : ℕ) (q : k ≡ stepsTo n g x n (next n g x) + 1) (h : k ≤ n) where
-    cycle-at : inThird n alive g CYCLE x y ≡ keep (allowed n alive g (move CYCLE (triple x y k))) (triple x y k)
+    cycle-at : inThird n alive g CYCLE x y ≡ keep (allowed n alive g (move 1 CYCLE (triple x y k))) (triple x y k)
     unfolding inThird
     cycle-at = first-only _ (n + 1) k (λ i b e. cycle-not i (returns-not n g x n i x (omega arith) (λ p. e (p ∙ sym q)))) (n + 1 - 0) 0 (omega arith) (omega arith) (omega arith)
 

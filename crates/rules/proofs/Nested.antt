@@ -11,18 +11,19 @@ use lib.Seq.{drop-cons}
 use lib.Dec.{eqb}
 use Rattle.logic.specs.Search.{_and_, _or_, from, keep, any, orElse, firstOf, find, flatMap}
 use Rattle.logic.specs.Facts.{Graph, Facts, live}
-use Rattle.logic.specs.Rules.{Rule, REFLEX, TRANS1, TRANS2, FUNC, CYCLE, SCC, TOTAL, SHARE, Triple, triple, Move, move, conditions, alternatives, held, applies, triples, ruleOf, choose}
+use Rattle.logic.specs.Rules.{Rule, REFLEX, TRANS1, TRANS2, FUNC, CYCLE, SCC, TOTAL, SHARE, Triple, triple, Move, move, conditions, alternatives, held, triples, ruleOf, choose}
 use Rattle.logic.specs.Walk.{orderOf}
 use Rattle.logic.proofs.Basics.Search.{firstOf-empty}
+use Rattle.logic.proofs.Calls.OneLink.{choose-one, applies-local}
 use Rattle.facts.specs.declared.Facts as code
 use Rattle.facts.specs.Bits.{bit}
-use Rattle.facts.specs.Path.{graphOf, pathOf}
+use Rattle.facts.specs.Path.{onlyLink, graphOf, pathOf}
 use Rattle.rules.specs.Tests.{pairTest, thirdTest, looped}
 use Rattle.rules.specs.Smallest.{allowed, inThird, inSecond, inFirst, moveAt, triedAt}
 
 -- a rule's test is in two halves
 module _ (n : ℕ) (alive : ℕ → Bool) (g : Graph) (x y z : ℕ) where
-  pub halves : (r : Rule) → looped r ≡ true → allowed n alive g (move r (triple x y z)) ≡ (pairTest alive g x y r and thirdTest g x y z r)
+  pub halves : (r : Rule) → looped r ≡ true → allowed n alive g (move 1 r (triple x y z)) ≡ (pairTest alive g x y r and thirdTest g x y z r)
   unfolding allowed conditions alternatives held any pairTest thirdTest looped _and_ _or_
   halves REFLEX h = table (alive x) (eqb y 0) (eqb z 0) (g .reach x x)
     where
@@ -169,9 +170,9 @@ module _ (n : ℕ) (alive : ℕ → Bool) (g : Graph) (r : Rule) (l : looped r �
     third-at z f = third-search ∙ keep-through (λ z. thirdTest g x y z r) (triple x y) (from (n + 1 - 0) 0) ∙ rw f
 
 module _ (n : ℕ) (alive : ℕ → Bool) (g : Graph) where
-  first-find : (r : Rule) → inFirst n alive g r ≡ find (λ t. allowed n alive g (move r t)) (triples n)
+  first-find : (r : Rule) → inFirst n alive g r ≡ find (λ t. allowed n alive g (move 1 r t)) (triples n)
   unfolding inFirst inSecond inThird find
-  first-find r = sym (nested n (λ t. keep (allowed n alive g (move r t)) t))
+  first-find r = sym (nested n (λ t. keep (allowed n alive g (move 1 r t)) t))
 
   pub tried-none : (k : ℕ) → ruleOf k ≡ none → triedAt n alive g k ≡ none
   unfolding triedAt Option·elim
@@ -179,11 +180,11 @@ module _ (n : ℕ) (alive : ℕ → Bool) (g : Graph) where
 
   pub tried-nowhere : (k : ℕ) (r : Rule) → ruleOf k ≡ some r → inFirst n alive g r ≡ none → triedAt n alive g k ≡ none
   unfolding triedAt moveAt Option·elim
-  tried-nowhere k r e f = rw (e, keep-through (λ t. allowed n alive g (move r t)) (move r) (triples n), sym (first-find r), f)
+  tried-nowhere k r e f = rw (e, keep-through (λ t. allowed n alive g (move 1 r t)) (move 1 r) (triples n), sym (first-find r), f)
 
-  pub tried-at : (k : ℕ) (r : Rule) (t : Triple) → ruleOf k ≡ some r → inFirst n alive g r ≡ some t → triedAt n alive g k ≡ some (move r t)
+  pub tried-at : (k : ℕ) (r : Rule) (t : Triple) → ruleOf k ≡ some r → inFirst n alive g r ≡ some t → triedAt n alive g k ≡ some (move 1 r t)
   unfolding triedAt moveAt Option·elim
-  tried-at k r t e f = rw (e, keep-through (λ u. allowed n alive g (move r u)) (move r) (triples n), sym (first-find r), f)
+  tried-at k r t e f = rw (e, keep-through (λ u. allowed n alive g (move 1 r u)) (move 1 r) (triples n), sym (first-find r), f)
 
 firstOf-option : {A B : Type 0} (f : A → Option B) (o : Option A) → firstOf f (Option·elim o [] (λ a. a ∷ [])) ≡ Option·elim o none f
 unfolding firstOf orElse Option·elim
@@ -195,13 +196,16 @@ firstOf-option f (some a) = go (f a)
     go (some b) = refl
 
 -- the order list, byte after byte
-choose-search : (n : ℕ) (s : Facts) (order : List ℕ) → choose n (orderOf order) s ≡ firstOf (triedAt n (live n s) (s .graph)) order
-unfolding choose orderOf triedAt moveAt allowed applies
-choose-search n s order = firstOf-flatMap _ _ order ∙ ap (λ (f : ℕ → Option Move). firstOf f order) (fun-ext (λ k. firstOf-option _ (ruleOf k)))
+choose-search : (n : ℕ) (s : Facts) → s .links ≡ 1 → (order : List ℕ) → choose n (orderOf order) s ≡ firstOf (triedAt n (live n s) (s .graph 1)) order
+unfolding orderOf triedAt moveAt allowed
+choose-search n s one order =
+    choose-one n s one (orderOf order)
+    ∙ ap (λ (a : Rule → Triple → Bool). firstOf (λ r. firstOf (λ t. keep (a r t) (move 1 r t)) (triples n)) (orderOf order)) (fun-ext (λ r. fun-ext (applies-local n s one r)))
+    ∙ firstOf-flatMap _ _ order ∙ ap (λ (f : ℕ → Option Move). firstOf f order) (fun-ext (λ k. firstOf-option _ (ruleOf k)))
 
 pub choose-lent : (n : ℕ) (s : code.Facts) (alive : ℕ) (order : List ℕ) → bit alive ≡ live n (pathOf s) → choose n (orderOf order) (pathOf s) ≡ firstOf (triedAt n (bit alive) (graphOf (s .link) (s .reach))) order
-unfolding pathOf
-choose-lent n s alive order e = choose-search n (pathOf s) order ∙ ap (λ (a : ℕ → Bool). firstOf (triedAt n a (graphOf (s .link) (s .reach))) order) (sym e)
+unfolding pathOf onlyLink
+choose-lent n s alive order e = choose-search n (pathOf s) refl order ∙ ap (λ (a : ℕ → Bool). firstOf (triedAt n a (graphOf (s .link) (s .reach))) order) (sym e)
 
 module _ {B : Type 0} (f : ℕ → Option B) (xs : List ℕ) (i : ℕ) where
   pub rest-end : length xs ≤ i → firstOf f (drop i xs) ≡ none

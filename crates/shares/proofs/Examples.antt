@@ -5,7 +5,7 @@ use mathlib.Core.Option.{Option·elim}
 use mathlib.Core.List.{List, [], _∷_, _++_}
 use Rattle.logic.specs.Search.{_and_, _or_, from, keep, any, all, select, at, orElse, firstOf, flatMap, find}
 use Rattle.logic.specs.Query.{isOrder}
-use Rattle.logic.specs.Calls.{orderCheck, layoutCheck, byteCheck, roomCheck, queryChecks, verdictChecks, derivationChecks, refusalOf, blank, call, verdictCall, derivationCall}
+use Rattle.logic.specs.Calls.{orderCheck, layoutCheck, byteCheck, queryChecks, refusalOf, blank, call, derivationCallOf, derivationChecksOf, roomUnder, verdictCallOf, verdictChecksOf}
 use Rattle.logic.specs.Examples.{inOrder}
 use Rattle.text.specs.Text.{ascii, decimal, decimalWithin, hexByte, hexDigit}
 use Rattle.wording.specs.Words.{refusedText}
@@ -20,5 +20,5 @@ examples :
     × (output (inOrder ++ (0 ∷ [])) ≡ ascii "bad length\n0/1\n0/1\n0/1\n0/1\n0/1\n0/1\n0/1\n0/1\n")
     × (output (inOrder ++ (2 ∷ 170 ∷ [])) ≡ ascii "bad length\n0/1\n0/1\n0/1\n0/1\n0/1\n0/1\n0/1\n0/1\n")
     × (output (1 ∷ 1 ∷ 3 ∷ 4 ∷ 5 ∷ 6 ∷ 7 ∷ 8 ∷ 0 ∷ 1 ∷ 97 ∷ []) ≡ ascii "e40c292c refused 1 at 0 0\n0/1\n0/1\n0/1\n0/1\n0/1\n0/1\n0/1\n0/1\n")
-unfolding Option·elim _and_ _or_ from keep any all select at orElse firstOf flatMap find isOrder orderCheck layoutCheck byteCheck roomCheck queryChecks verdictChecks derivationChecks refusalOf blank call verdictCall derivationCall inOrder decimal decimalWithin hexByte hexDigit answerText refusedText marked markFrom markOf kindOf ruleLines raisedFrom raised fits tallied noLines gcdWithin gcd share totalOf sharesOf fractionText sharesText hexWord linesOf answerOf writtenLines queryLine lengthIn isBad wanted turnOf firstTurn firstLength outputWithin outputFrom output
+unfolding Option·elim _and_ _or_ from keep any all select at orElse firstOf flatMap find isOrder orderCheck layoutCheck byteCheck roomUnder queryChecks verdictChecksOf derivationChecksOf refusalOf blank call verdictCallOf derivationCallOf inOrder decimal decimalWithin hexByte hexDigit answerText refusedText marked markFrom markOf kindOf ruleLines raisedFrom raised fits tallied noLines gcdWithin gcd share totalOf sharesOf fractionText sharesText hexWord linesOf answerOf writtenLines queryLine lengthIn isBad wanted turnOf firstTurn firstLength outputWithin outputFrom output
 examples = (refl, refl, refl, refl)

@@ -2,9 +2,8 @@
 use Prim.Native.Nat.{ℕ, _≤_, min, max}
 use native.Mathlib.Omega.{arith}
 use mathlib.Core.Bool.{Bool, true, false, cond}
-use mathlib.Core.List.{List}
 use lib.Dec.{eqb}
-use Rattle.logic.specs.Query.{Literal}
+use Rattle.logic.specs.Query.{Literal, Query}
 use Rattle.logic.specs.Facts.{Facts, Joined, linksOf, replace, unjoined, andThen, settle, join, addReach}
 use Rattle.logic.proofs.Paths.Joined.{join-facts}
 use Rattle.logic.proofs.Paths.Settle.{settle-keeps}
@@ -19,14 +18,14 @@ replaced lo hi s h b = record { within = λ t k. go t k (eqb (s .rep t) hi) }
     go t k true = h
     go t k false = b .within t k
 
-pub linked-bounded : (entries : List ℕ) → Bounded (linksOf entries)
+pub linked-bounded : (q : Query) → Bounded (linksOf q)
 unfolding linksOf
-linked-bounded entries = record { within = λ t h. h }
+linked-bounded q = record { within = λ t h. h }
 
 pub settled : (n : ℕ) → n ≤ 16 → (k : ℕ) (s : Facts) → Bounded s → Bounded (settle n k s .facts)
 settled n h k s b =
     settle-keeps n Bounded
-    (λ s ab b e. let r = doubled-below n (s .graph) (ab .0) (ab .1) e in replaced (ab .0) (ab .1) s (omega arith) b)
+    (λ s ab b e. let r = doubled-below n s (ab .0) (ab .1) e in replaced (ab .0) (ab .1) s (omega arith) b)
     k s b
 
 joined : (n a b : ℕ) (s : Facts) → n ≤ 16 → a ≤ 16 → b ≤ 16 → Bounded s → Bounded (join n a b s .facts)
@@ -52,6 +51,6 @@ pub reach-bounded : (l : Literal) (s : Facts) → Bounded s → Bounded (reachOn
 unfolding reachOne addReach
 reach-bounded l s b = go (l .plain)
   where
-    go : (x : Bool) → Bounded (cond x (addReach (s .rep (l .left)) (s .rep (l .right)) s) s)
+    go : (x : Bool) → Bounded (cond x (addReach (l .link) (s .rep (l .left)) (s .rep (l .right)) s) s)
     go true = record { within = b .within }
     go false = b

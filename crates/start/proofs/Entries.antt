@@ -10,16 +10,20 @@ use lib.Seq.{getD-take, getD-drop}
 use lib.Dec.{ltb, eqb}
 use borrow.Author.Tests.{lt-ltb, le-ltb, ltb-true, ltb-false, eqb-true, eqb-false, eq-eqb, ne-eqb}
 use Rattle.logic.specs.Search.{_and_, _or_}
-use Rattle.logic.specs.Query.{entryOf, namesNil, argumentOf}
+use Rattle.logic.specs.Query.{Entries, oneLink, entryOf, linkOf, namesNil, argumentOf}
 use Rattle.logic.specs.Facts.{linksOf}
 use Rattle.logic.proofs.Basics.Search.{bool-cases}
+use Rattle.logic.proofs.Basics.Compare.{eq-cases}
 use Rattle.facts.specs.Bits.{bit}
 use Rattle.facts.specs.Square.{square}
+use Rattle.facts.specs.Path.{onlyLink}
+use Rattle.facts.proofs.Path.{linking, made}
 use Rattle.facts.proofs.Square.{row-none, square-with}
 use Rattle.facts.proofs.Fill.{ltb-next}
 use Rattle.start.specs.Nil.{argumentBy}
+use Rattle.start.specs.Taken.{onlyEntries}
 
-abbrev linkIn : List ℕ → ℕ → ℕ → Bool
+abbrev linkIn : Entries → ℕ → ℕ → Bool
 linkIn entries a b = ltb 0 a and eqb (argumentOf entries b) a
 
 and-false : (t : Bool) → t and false ≡ false
@@ -33,7 +37,7 @@ and-true true = refl
 and-true false = refl
 
 -- a variable is nobody's successor, and nil has no argument either
-variable-unlinked : (entries : List ℕ) (a b : ℕ) → argumentOf entries b ≡ 0 → linkIn entries a b ≡ false
+variable-unlinked : (entries : Entries) (a b : ℕ) → argumentOf entries b ≡ 0 → linkIn entries a b ≡ false
 unfolding _and_
 variable-unlinked entries zero b e = refl
 variable-unlinked entries (suc a) b e = rw (e, ne-eqb 0 (suc a) (omega arith)) (and-false (ltb 0 (suc a)))
@@ -49,10 +53,10 @@ unfolding square
 nothing-held k a b = rw (nothing-at k a, row-none b) (and-false (ltb a 17))
 
 -- the links to the terms below t are held, and no other
-abbrev pub LinksTo : List ℕ → ℕ → (ℕ → ℕ → Bool) → Type 0
+abbrev pub LinksTo : Entries → ℕ → (ℕ → ℕ → Bool) → Type 0
 LinksTo entries t cur = (a b : ℕ) → cur a b ≡ (ltb b t and linkIn entries a b)
 
-module _ (entries : List ℕ) where
+module _ (entries : Entries) where
   pub links-none : (cur : ℕ → ℕ → Bool) → ((a b : ℕ) → cur a b ≡ false) → LinksTo entries 1 cur
   unfolding _and_ entryOf namesNil argumentOf
   links-none cur none a zero = none a zero ∙ sym (variable-unlinked entries a zero refl)
@@ -76,14 +80,30 @@ module _ (entries : List ℕ) where
       go false i = rw (and-false (eqb x a), ltb-next y t (eqb-false y t i)) (none (ltb y t and linkIn entries x y))
 
   -- all links are held
-  pub links-all : (n : ℕ) (cur : ℕ → ℕ → Bool) → ((b : ℕ) → n < b → argumentOf entries b ≡ 0) → LinksTo entries (n + 1) cur → cur ≡ linksOf entries .graph .link
-  unfolding linksOf _and_
+  links-all : (n : ℕ) (cur : ℕ → ℕ → Bool) → ((b : ℕ) → n < b → argumentOf entries b ≡ 0) → LinksTo entries (n + 1) cur → cur ≡ linkIn entries
+  unfolding _and_
   links-all n cur beyond m = fun-ext (λ a. fun-ext (λ b. m a b ∙ ⊎-elim (λ t. rw t) (λ t. let l = ltb-false b (n + 1) t in rw t (sym (variable-unlinked entries a b (beyond b (omega arith))))) (bool-cases (ltb b (n + 1)))))
+
+module _ (bytes : List ℕ) where
+  -- every link is link 1
+  pub links-held : (n : ℕ) (cur : ℕ → ℕ → Bool) → ((b : ℕ) → n < b → argumentOf (oneLink bytes) b ≡ 0) → LinksTo (oneLink bytes) (n + 1) cur → cur ≡ linksOf (onlyEntries bytes) .graph 1 .link
+  unfolding linksOf linkOf
+  links-held n cur beyond m = links-all (oneLink bytes) n cur beyond m ∙ fun-ext (λ a. fun-ext (λ b. sym (and-true (linkIn (oneLink bytes) a b))))
+
+  pub links-only : made (λ t. t) (linksOf (onlyEntries bytes) .graph 1 .link) (λ a b. false) ≡ linksOf (onlyEntries bytes)
+  unfolding linksOf linkOf onlyLink
+  links-only = λ i. record { rep = λ t. t; links = 1; graph = fun-ext each i }
+    where
+      each : (k : ℕ) → onlyLink (linking (λ a b. linkIn (oneLink bytes) a b and true) (λ a b. false)) k ≡ linking (λ a b. linkIn (oneLink bytes) a b and eqb 1 k) (λ a b. false)
+      each k =
+          ⊎-elim (λ e. rw e refl)
+          (λ d. rw (d .1, ne-eqb 1 k (λ e. d .0 (sym e))) (ap (λ (l : ℕ → ℕ → Bool). linking l (λ a b. false)) (fun-ext (λ a. fun-ext (λ b. sym (and-false (linkIn (oneLink bytes) a b)))))))
+          (eq-cases k 1)
 
 -- the entries of n terms in the query's bytes
 module _ (bytes : List ℕ) (n : ℕ) (fits : n < length bytes) where
-  abbrev entries : List ℕ
-  entries = take n (drop 1 bytes)
+  abbrev entries : Entries
+  entries = oneLink (take n (drop 1 bytes))
 
   entry-in : (t : ℕ) → 1 ≤ t → t ≤ n → entryOf entries t ≡ getD bytes t 0
   unfolding entryOf

@@ -5,7 +5,7 @@ use mathlib.Core.Path.{_≡_, refl, sym, ap, ap₂, _∙_, subst}
 use mathlib.Core.Bool.{true}
 use mathlib.Core.List.{List, []}
 use lib.ListN.{take, drop}
-use Rattle.logic.specs.Query.{Literal, argumentOf, termCount, literals, decode}
+use Rattle.logic.specs.Query.{Literal, Entries, argumentOf, termCount, literals, decode}
 use Rattle.logic.specs.Facts.{Facts, Joined, unjoined, linksOf, andThen, settle, terms, nilTerms, joinNil, joinEach, reachEach, startJoins, start}
 use Rattle.logic.specs.Calls.{accepts}
 use Rattle.query.specs.declared.Layout.{Layout}
@@ -16,14 +16,14 @@ use Rattle.facts.specs.Pairs.{Fits}
 use Rattle.facts.proofs.Joins.{unjoined-andThen}
 use Rattle.start.proofs.Room.{start-pairs}
 use Rattle.start.specs.Nil.{nilFrom}
-use Rattle.start.specs.Taken.{started, TermsIn, EntriesIn}
+use Rattle.start.specs.Taken.{onlyEntries, started, TermsIn, EntriesIn}
 
 module _ {l : Layout} {bytes : List ℕ} (laid : LaysOut l bytes) where
   abbrev pub equalities : List Literal
   equalities = literals (take (3 * l .«equal_count») (drop (l .«equal_at») bytes))
 
   abbrev pub links : Joined
-  links = settle (l .terms) (l .terms) (linksOf (take (l .terms) (drop 1 bytes)))
+  links = settle (l .terms) (l .terms) (linksOf (onlyEntries (take (l .terms) (drop 1 bytes))))
 
   nil-laid : nilTerms (decode bytes) ≡ nilFrom bytes (l .terms) 1
   unfolding nilTerms terms nilFrom
@@ -32,9 +32,14 @@ module _ {l : Layout} {bytes : List ℕ} (laid : LaysOut l bytes) where
       all : l .terms + 1 - 1 ≡ l .terms
       all = omega arith
 
+  links-laid : linksOf (decode bytes) ≡ linksOf (onlyEntries (take (l .terms) (drop 1 bytes)))
+  unfolding linksOf
+  links-laid =
+      ap₂ (λ (c : ℕ) (es : Entries). linksOf (record { links = c; entries = es; equalities = []; reachability = []; fields = [] })) (laid .links-are) (laid .entries-are)
+
   pub joins-laid : startJoins (decode bytes) ≡ andThen (andThen links (joinNil (l .terms) (nilFrom bytes (l .terms) 1))) (joinEach (l .terms) equalities)
   unfolding startJoins
-  joins-laid = rw (nil-laid, ← laid .term-count, laid .entries-are, laid .equal-are)
+  joins-laid = rw (nil-laid, links-laid, ← laid .term-count, laid .equal-are)
 
   -- the links are settled behind no pair
   pub settled-laid : (n : ℕ) (s t : Facts) (ps : List (ℕ × ℕ)) → ps ≡ [] → s ≡ t → andThen (record { pairs = ps; facts = s }) (settle n n) ≡ settle n n t
@@ -51,7 +56,7 @@ module _ {l : Layout} {bytes : List ℕ} (laid : LaysOut l bytes) where
 
   module _ (passes : accepts bytes ≡ true) where
     pub entries-in : EntriesIn bytes (l .terms)
-    entries-in = record { argument = λ t h k. subst (λ (es : List ℕ). argumentOf es t ≤ 16) (laid .entries-are) (omega (arith, entry-below l bytes laid passes t h k, laid .terms-within)) }
+    entries-in = record { argument = λ t h k. subst (λ (es : Entries). argumentOf es t ≤ 16) (laid .entries-are) (omega (arith, entry-below l bytes laid passes t h k, laid .terms-within)) }
 
     -- there is room for all pairs
     pub joins-fit : Fits (andThen (andThen links (joinNil (l .terms) (nilFrom bytes (l .terms) 1))) (joinEach (l .terms) equalities))

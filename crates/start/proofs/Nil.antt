@@ -8,8 +8,8 @@ use lib.ListN.{length, getD, take, drop}
 use lib.Dec.{eqb}
 use borrow.Author.Tests.{eq-eqb, ne-eqb}
 use Rattle.logic.specs.Search.{select, from}
-use Rattle.logic.specs.Query.{Literal, namesNil}
-use Rattle.logic.specs.Facts.{Facts, Joined, unjoined, andThen, settle, joinEach, equalTo, addLink, addNilLink, joinNil}
+use Rattle.logic.specs.Query.{Literal, oneLink, namesNil}
+use Rattle.logic.specs.Facts.{Facts, Joined, unjoined, andThen, settle, joinEach, equalTo, addLinks, addNilLinks, joinNil}
 use Rattle.facts.specs.Pairs.{Fits}
 use Rattle.facts.proofs.Loops.{from-end, from-next}
 use Rattle.facts.proofs.Joins.{andThen-unjoined, andThen-andThen, fits-left}
@@ -25,7 +25,7 @@ module _ (bytes : List ℕ) (n : ℕ) where
   nil-end t h = rw (from-end (n + 1) t (omega arith))
 
   module _ (fits : n < length bytes) (t : ℕ) (one : 1 ≤ t) (within : t ≤ n) (byte : ℕ) (read : byte ≡ getD bytes t 0) where
-    named : namesNil (take n (drop 1 bytes)) t ≡ eqb byte 255
+    named : namesNil (oneLink (take n (drop 1 bytes))) t ≡ eqb byte 255
     named = nil-in bytes n fits t one within ∙ ap (λ (x : ℕ). eqb x 255) (sym read)
 
     pub nil-here : byte ≡ 255 → nilFrom bytes n t ≡ t ∷ nilFrom bytes n (t + 1)
@@ -67,15 +67,15 @@ pub nil-none : (n : ℕ) (j : Joined) → andThen j (joinNil n []) ≡ j
 unfolding joinNil
 nil-none n j = andThen-unjoined j
 
-pub nil-some : (n t : ℕ) (us : List ℕ) (j : Joined) → andThen j (joinNil n (t ∷ us)) ≡ andThen (others n t us j) (λ s. settle n n (addNilLink t s))
+pub nil-some : (n t : ℕ) (us : List ℕ) (j : Joined) → andThen j (joinNil n (t ∷ us)) ≡ andThen (others n t us j) (λ s. settle n n (addNilLinks t s))
 unfolding joinNil
-nil-some n t us j = andThen-andThen j (joinEach n (equalTo t us)) (λ s. settle n n (addNilLink t s))
+nil-some n t us j = andThen-andThen j (joinEach n (equalTo t us)) (λ s. settle n n (addNilLinks t s))
 
 -- nil's link is that of what nil became
-pub linked-behind : (n t r : ℕ) (j : Joined) (s : Facts) → r ≡ j .facts .rep t → s ≡ addLink r r (j .facts) → andThen (record { pairs = j .pairs; facts = s }) (settle n n) ≡ andThen j (λ s. settle n n (addNilLink t s))
-unfolding andThen addNilLink
+pub linked-behind : (n t r : ℕ) (j : Joined) (s : Facts) → r ≡ j .facts .rep t → s ≡ addLinks r r (j .facts) → andThen (record { pairs = j .pairs; facts = s }) (settle n n) ≡ andThen j (λ s. settle n n (addNilLinks t s))
+unfolding andThen addNilLinks
 linked-behind n t r j s e h = rw (h, e)
 
-pub nil-bounded : (n t : ℕ) (j : Joined) → n ≤ 16 → Bounded (j .facts) → Bounded (andThen j (λ s. settle n n (addNilLink t s)) .facts)
-unfolding andThen addNilLink addLink
+pub nil-bounded : (n t : ℕ) (j : Joined) → n ≤ 16 → Bounded (j .facts) → Bounded (andThen j (λ s. settle n n (addNilLinks t s)) .facts)
+unfolding andThen addNilLinks addLinks
 nil-bounded n t j h b = settled n h n _ (record { within = b .within })

@@ -100,4 +100,4 @@ module _ (n : ℕ) (s : Facts) (j : Joined) (a : Accounts n s j) where
       omega (arith, below-all (suc n) (j .pairs) (λ ab m. let r = in-range (ab .1) (counted (j .pairs) ab m) in omega (arith, r .1)), few n (j .pairs) zero-none once-at-most)
 
 pub start-pairs : (q : Query) → Accepted q → length (startJoins q .pairs) ≤ termCount q
-start-pairs q acc = no-more (termCount q) (linksOf (q .entries)) (startJoins q) (accounts-start q acc)
+start-pairs q acc = no-more (termCount q) (linksOf q) (startJoins q) (accounts-start q acc)

@@ -12,7 +12,7 @@ use Rattle.logic.proofs.Basics.Compare.{cond-true, cond-false}
 use Rattle.facts.specs.declared.Facts as code
 use Rattle.facts.specs.Bits.{bit}
 use Rattle.facts.specs.Path.{pathOf, graphOf}
-use Rattle.facts.proofs.Path.{alike}
+use Rattle.facts.proofs.Path.{alike, addReach-one}
 use Rattle.facts.proofs.Square.{square-add}
 use Rattle.facts.proofs.Rep.{rep-in}
 use Rattle.facts.proofs.Joins.{andThen-at, andThen-unjoined}
@@ -23,9 +23,9 @@ use Rattle.start.specs.Taken.{joinOne, reachOne, Bounded, Terms}
 abbrev repAt : code.Facts → ℕ → ℕ
 repAt s t = getD (s .rep) t (record { 0 = 0 }) .0
 
-row-set : (s : code.Facts) → length (s .reach) ≡ 17 → (a b w : ℕ) → a ≤ 16 → b ≤ 16 → ((i : ℕ) → bit w i ≡ eqb i b) → pathOf (record { rep = s .rep; link = s .link; reach = set (s .reach) a (bitOr (getD (s .reach) a 0) w) }) ≡ addReach a b (pathOf s)
-unfolding addReach pathOf graphOf
-row-set s full a b w h k only = alike refl refl (square-add (s .reach) full a b w h k only)
+row-set : (s : code.Facts) → length (s .reach) ≡ 17 → (a b w : ℕ) → a ≤ 16 → b ≤ 16 → ((i : ℕ) → bit w i ≡ eqb i b) → pathOf (record { rep = s .rep; link = s .link; reach = set (s .reach) a (bitOr (getD (s .reach) a 0) w) }) ≡ addReach 1 a b (pathOf s)
+unfolding pathOf graphOf
+row-set s full a b w h k only = alike refl refl (square-add (s .reach) full a b w h k only) ∙ sym (addReach-one _ _ _ a b)
 
 module _ (s : code.Facts) where
   pub read-bounded : Bounded (pathOf s) → (t : ℕ) → t ≤ 16 → repAt s t ≤ 16
@@ -45,15 +45,16 @@ module _ (s : code.Facts) where
         (ap₂ (λ a b. join n a b (pathOf s)) (rep-read x (l .left) e (t .left-within)) (rep-read y (l .right) f (t .right-within))
         ∙ sym (cond-true _ _ p))
 
-    pub reach-plain : l .plain ≡ true → addReach (repAt s x) (repAt s y) (pathOf s) ≡ reachOne l (pathOf s)
+    pub reach-plain : l .link ≡ 1 → l .plain ≡ true → addReach 1 (repAt s x) (repAt s y) (pathOf s) ≡ reachOne l (pathOf s)
     unfolding reachOne
-    reach-plain p =
-        ap₂ (λ a b. addReach a b (pathOf s)) (rep-read x (l .left) e (t .left-within)) (rep-read y (l .right) f (t .right-within))
+    reach-plain one p =
+        ap₂ (λ a b. addReach 1 a b (pathOf s)) (rep-read x (l .left) e (t .left-within)) (rep-read y (l .right) f (t .right-within))
+        ∙ ap (λ k. addReach k (pathOf s .rep (l .left)) (pathOf s .rep (l .right)) (pathOf s)) (sym one)
         ∙ sym (cond-true _ _ p)
 
     -- the bit of the fact is set in its row
-    pub reach-set : length (s .reach) ≡ 17 → Bounded (pathOf s) → l .plain ≡ true → (w : ℕ) → ((i : ℕ) → bit w i ≡ eqb i (repAt s y)) → pathOf (record { rep = s .rep; link = s .link; reach = set (s .reach) (repAt s x) (bitOr (getD (s .reach) (repAt s x) 0) w) }) ≡ reachOne l (pathOf s)
-    reach-set full b p w only = added ∙ reach-plain p
+    pub reach-set : length (s .reach) ≡ 17 → Bounded (pathOf s) → l .link ≡ 1 → l .plain ≡ true → (w : ℕ) → ((i : ℕ) → bit w i ≡ eqb i (repAt s y)) → pathOf (record { rep = s .rep; link = s .link; reach = set (s .reach) (repAt s x) (bitOr (getD (s .reach) (repAt s x) 0) w) }) ≡ reachOne l (pathOf s)
+    reach-set full b one p w only = added ∙ reach-plain one p
       where
         left : repAt s x ≤ 16
         left = read-bounded b x (rw e (t .left-within))
@@ -61,7 +62,7 @@ module _ (s : code.Facts) where
         right : repAt s y ≤ 16
         right = read-bounded b y (rw f (t .right-within))
 
-        added : pathOf (record { rep = s .rep; link = s .link; reach = set (s .reach) (repAt s x) (bitOr (getD (s .reach) (repAt s x) 0) w) }) ≡ addReach (repAt s x) (repAt s y) (pathOf s)
+        added : pathOf (record { rep = s .rep; link = s .link; reach = set (s .reach) (repAt s x) (bitOr (getD (s .reach) (repAt s x) 0) w) }) ≡ addReach 1 (repAt s x) (repAt s y) (pathOf s)
         added = row-set s full (repAt s x) (repAt s y) w left right only
 
   module _ (l : Literal) where
@@ -76,5 +77,5 @@ module _ (s : code.Facts) where
     reach-negated p = sym (cond-false _ _ p)
 
 -- a plain equality says that its terms are equal
-pub plain-is : (l : Literal) (x y : ℕ) → l .plain ≡ true → x ≡ l .left → y ≡ l .right → l ≡ same x y
-plain-is l x y p e f = ap₂ (λ (b : Bool) (xy : ℕ × ℕ). record { plain = b; left = xy .0; right = xy .1 }) p (ap₂ (λ (a b : ℕ). (a, b)) (sym e) (sym f))
+pub plain-is : (l : Literal) (x y : ℕ) → l .link ≡ 1 → l .plain ≡ true → x ≡ l .left → y ≡ l .right → l ≡ same x y
+plain-is l x y one p e f = λ i. record { plain = p i; link = one i; left = sym e i; right = sym f i }

@@ -6,7 +6,7 @@ use mathlib.Core.List.{List, [], _∷_}
 use lib.ListN.{take, drop}
 use lib.Dec.{eqb}
 use Rattle.logic.specs.Search.{select, from}
-use Rattle.logic.specs.Query.{Literal, namesNil}
+use Rattle.logic.specs.Query.{Literal, oneLink, literal, namesNil}
 
 -- a term's argument by its byte: "Term byte 255 now names nil" (02, R-3), which is f of no term
 unfoldable pub argumentBy : ℕ → ℕ
@@ -14,7 +14,7 @@ argumentBy byte = cond (eqb byte 255) 0 byte
 
 -- those of n terms from t on that name nil, ascending, in the query's bytes
 unfoldable pub nilFrom : List ℕ → ℕ → ℕ → List ℕ
-nilFrom bytes n t = select (namesNil (take n (drop 1 bytes))) (from (n + 1 - t) t)
+nilFrom bytes n t = select (namesNil (oneLink (take n (drop 1 bytes)))) (from (n + 1 - t) t)
 
 -- t is the first such term, or there is none and t is above n
 pub record NextNil (bytes : List ℕ) (n start t : ℕ) : Type 0 where
@@ -24,4 +24,4 @@ pub record NextNil (bytes : List ℕ) (n start t : ℕ) : Type 0 where
 
 -- that two terms are equal
 abbrev pub same : ℕ → ℕ → Literal
-same t u = record { plain = true; left = t; right = u }
+same t u = literal true t u

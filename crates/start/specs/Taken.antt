@@ -1,9 +1,9 @@
 -- One literal taken into a path, and the terms that the code's arrays have room for.
 use Prim.Native.Nat.{ℕ, _≤_, _<_}
 use mathlib.Core.Bool.{cond}
-use mathlib.Core.List.{List}
+use mathlib.Core.List.{List, []}
 use lib.ListN.{take, drop}
-use Rattle.logic.specs.Query.{Literal, Query, argumentOf}
+use Rattle.logic.specs.Query.{Literal, Query, oneLink, argumentOf}
 use Rattle.logic.specs.Facts.{Facts, Joined, unjoined, join, addReach, startJoins, start}
 use Rattle.query.specs.LaysOut.{literalIn}
 
@@ -12,7 +12,11 @@ unfoldable pub joinOne : ℕ → Literal → Facts → Joined
 joinOne n l s = cond (l .plain) (join n (s .rep (l .left)) (s .rep (l .right)) s) (unjoined s)
 
 unfoldable pub reachOne : Literal → Facts → Facts
-reachOne l s = cond (l .plain) (addReach (s .rep (l .left)) (s .rep (l .right)) s) s
+reachOne l s = cond (l .plain) (addReach (l .link) (s .rep (l .left)) (s .rep (l .right)) s) s
+
+-- a query with these entries alone: what reads only section 1 asks no more
+abbrev pub onlyEntries : List ℕ → Query
+onlyEntries bytes = record { links = 1; entries = oneLink bytes; equalities = []; reachability = []; fields = [] }
 
 -- the start of a query, and the pairs joined to make it
 unfoldable pub started : Query → Joined
@@ -32,4 +36,4 @@ pub record TermsIn (bytes : List ℕ) (at count : ℕ) : Type 0 where
   pub terms : (i : ℕ) → i < count → Terms (literalIn bytes at i)
 
 pub record EntriesIn (bytes : List ℕ) (n : ℕ) : Type 0 where
-  pub argument : (t : ℕ) → 1 ≤ t → t ≤ n → argumentOf (take n (drop 1 bytes)) t ≤ 16
+  pub argument : (t : ℕ) → 1 ≤ t → t ≤ n → argumentOf (oneLink (take n (drop 1 bytes))) t ≤ 16

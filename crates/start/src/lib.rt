@@ -16,7 +16,7 @@ ghost use Rattle.facts.specs.Path.{pathOf, repOf};
 ghost use Rattle.facts.specs.Pairs.{joinedOf, Fits};
 ghost use Rattle.query.specs.LaysOut.{LaysOut, literalIn};
 ghost use Rattle.start.specs.Nil.{argumentBy, nilFrom, NextNil, same};
-ghost use Rattle.start.specs.Taken.{joinOne, started, Bounded, Terms, TermsIn, EntriesIn};
+ghost use Rattle.start.specs.Taken.{joinOne, onlyEntries, started, Bounded, Terms, TermsIn, EntriesIn};
 
 // No term is replaced.
 fn unreplaced() -> [Term; 17]
@@ -44,7 +44,7 @@ fn argument(byte: usize) -> usize
 // f(a) = b for each term b that is f of a term a.
 fn links(query: &[u8], n: usize) -> [u32; 17]
     requires { ⌜ (n ≤ 16) × (n < length (now query)) × EntriesIn (now query) n ⌝ }
-    ensures { λ r. ⌜ square r ≡ linksOf (take n (drop 1 (now (query .entry)))) .graph .link ⌝ }
+    ensures { λ r. ⌜ square r ≡ linksOf (onlyEntries (take n (drop 1 (now (query .entry))))) .graph 1 .link ⌝ }
 {
     let mut link = [0u32; 17];
     let mut b: usize = 1;
@@ -59,7 +59,7 @@ fn links(query: &[u8], n: usize) -> [u32; 17]
 // "The start holds the links of section 1"
 fn linked(query: &[u8], n: usize) -> Facts
     requires { ⌜ (n ≤ 16) × (n < length (now query)) × EntriesIn (now query) n ⌝ }
-    ensures { λ r. ⌜ pathOf r ≡ linksOf (take n (drop 1 (now (query .entry)))) ⌝ }
+    ensures { λ r. ⌜ pathOf r ≡ linksOf (onlyEntries (take n (drop 1 (now (query .entry))))) ⌝ }
 {
     let rep = unreplaced();
     let link = links(query, n);

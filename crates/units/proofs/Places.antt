@@ -10,8 +10,9 @@ use lib.Dec.{eqb, ltb}
 use borrow.Author.Tests.{lt-ltb, le-ltb}
 use Rattle.logic.specs.Search.{_and_, _or_, from, find, any}
 use Rattle.logic.specs.Facts.{Graph, Facts, live}
-use Rattle.logic.specs.Rules.{Rule, FUNC, CYCLE, SCC, TOTAL, SHARE, triple, Move, move, conditions, alternatives, held, applies}
+use Rattle.logic.specs.Rules.{Rule, FUNC, CYCLE, SCC, TOTAL, SHARE, Triple, triple, move, conditions, alternatives, held, applies}
 use Rattle.logic.proofs.Basics.Search.{and-left, and-right, and-intro, not-intro, find-some, from-mem}
+use Rattle.logic.proofs.Calls.OneLink.{applies-local}
 use Rattle.facts.specs.Bits.{bit}
 use Rattle.facts.specs.Square.{square, Turned}
 use Rattle.facts.specs.Answers.{foundOf}
@@ -69,17 +70,18 @@ or-right-false true true e = e
 or-right-false true false e = refl
 or-right-false false b e = e
 
-module _ (n : ℕ) (link reach : List ℕ) (s : Facts) (same : s .graph ≡ graphOf link reach) where
+module _ (n : ℕ) (link reach : List ℕ) (s : Facts) (same : (s .links ≡ 1) × (s .graph 1 ≡ graphOf link reach)) where
   -- the rule applies at numbers that are in range
   abbrev At : Rule → ℕ → ℕ → ℕ → Type 0
-  At r x y z = (applies n s (move r (triple x y z)) ≡ true) × (x ≤ 16) × (y ≤ 16) × (z ≤ 16)
+  At r x y z = (applies n s (move 1 r (triple x y z)) ≡ true) × (x ≤ 16) × (y ≤ 16) × (z ≤ 16)
 
-  applies-allowed : (m : Move) → applies n s m ≡ allowed n (live n s) (graphOf link reach) m
-  unfolding applies allowed
-  applies-allowed m = ap (λ (g : Graph). conditions n (live n s) g m and not (any (held g) (alternatives n g m))) same
+  applies-allowed : (r : Rule) (t : Triple) → applies n s (move 1 r t) ≡ allowed n (live n s) (graphOf link reach) (move 1 r t)
+  unfolding allowed
+  applies-allowed r t =
+      applies-local n s (same .0) r t ∙ ap (λ (g : Graph). conditions n (live n s) (λ j. g) (move 1 r t) and not (any (held (λ j. g)) (alternatives n (λ j. g) (move 1 r t)))) (same .1)
 
-  tested : (r : Rule) → looped r ≡ true → (x y z : ℕ) → pairTest (live n s) (graphOf link reach) x y r ≡ true → thirdTest (graphOf link reach) x y z r ≡ true → applies n s (move r (triple x y z)) ≡ true
-  tested r l x y z p t = applies-allowed (move r (triple x y z)) ∙ halves n (live n s) (graphOf link reach) x y z r l ∙ and-intro p t
+  tested : (r : Rule) → looped r ≡ true → (x y z : ℕ) → pairTest (live n s) (graphOf link reach) x y r ≡ true → thirdTest (graphOf link reach) x y z r ≡ true → applies n s (move 1 r (triple x y z)) ≡ true
+  tested r l x y z p t = applies-allowed r (triple x y z) ∙ halves n (live n s) (graphOf link reach) x y z r l ∙ and-intro p t
 
   module _ (x y z : ℕ) where
     pub func-placed : (far : ℕ) → x ≤ 16 → In (getD link x 0) y → ((i : ℕ) → i ≤ 16 → bit far i ≡ (square reach x i and not (eqb x i) and not (square reach y i))) → In far z → At FUNC x y z
@@ -116,5 +118,5 @@ module _ (n : ℕ) (link reach : List ℕ) (s : Facts) (same : s .graph ≡ grap
         turned : (a : ℕ) → a ≤ 16 → (b : ℕ) → b ≤ 16 → square reach b a ≡ bit (getD back a 0) b
         turned a h b k = sym (t a b) ∙ square-in back a b h k
 
-    pub cycle-placed : (off : ℕ) → n ≤ 16 → x ≤ 16 → z ≤ n → ((lives : ℕ → Bool) (i : ℕ) → i ≤ 16 → bit off i ≡ allowed n lives (graphOf link reach) (move CYCLE (triple x i z))) → In off y → At CYCLE x y z
-    cycle-placed off few h l f (k, p) = (applies-allowed (move CYCLE (triple x y z)) ∙ sym (f (live n s) y k) ∙ p, h, k, omega arith)
+    pub cycle-placed : (off : ℕ) → n ≤ 16 → x ≤ 16 → z ≤ n → ((lives : ℕ → Bool) (i : ℕ) → i ≤ 16 → bit off i ≡ allowed n lives (graphOf link reach) (move 1 CYCLE (triple x i z))) → In off y → At CYCLE x y z
+    cycle-placed off few h l f (k, p) = (applies-allowed CYCLE (triple x y z) ∙ sym (f (live n s) y k) ∙ p, h, k, omega arith)

@@ -19,7 +19,7 @@ use Rattle.rules.proofs.Around.{returns-at, round-is, steps-links, back-links}
 use Rattle.rules.proofs.Rows.{passed-more}
 
 -- "x=x is always held", and no other equality
-any-equal : (g : Graph) (y : ℕ) (xs : List ℕ) → any (held g) (map (equal y) xs) ≡ any (eqb y) xs
+any-equal : (g : ℕ → Graph) (y : ℕ) (xs : List ℕ) → any (held g) (map (equal y) xs) ≡ any (eqb y) xs
 unfolding any held _or_
 any-equal g y [] = refl
 any-equal g y (x ∷ xs) = ap (λ (b : Bool). eqb y x or b) (any-equal g y xs)
@@ -33,7 +33,7 @@ module _ (n : ℕ) (link reach : List ℕ) (x : ℕ) where
   unfolding any round
   on-none y = bit-none y
 
-  pub off-none : (lives : ℕ → Bool) (y : ℕ) → bit 0 y ≡ allowed n lives g (move CYCLE (triple x y 0))
+  pub off-none : (lives : ℕ → Bool) (y : ℕ) → bit 0 y ≡ allowed n lives g (move 1 CYCLE (triple x y 0))
   unfolding allowed conditions returns _and_
   off-none lives y = bit-none y
 
@@ -46,9 +46,9 @@ module _ (n : ℕ) (link reach : List ℕ) (x : ℕ) where
         ∙ ap (λ (t : ℕ). ltb t k) (steps-links n link reach y k x)
 
     pub on-bits : (y : ℕ) → bit (bitOr passed o) y ≡ any (eqb y) (round n g k x)
-    on-bits y = on-steps y ∙ sym (round-is n g y k x) ∙ any-equal g y (round n g k x)
+    on-bits y = on-steps y ∙ sym (round-is n g y k x) ∙ any-equal (λ j. g) y (round n g k x)
 
-    pub off-bits : (v : ℕ) → ((i : ℕ) → bit v i ≡ bit (getD reach x 0) i and not (bit (bitOr passed o) i)) → x ≤ 16 → (lives : ℕ → Bool) (y : ℕ) → y ≤ 16 → bit v y ≡ allowed n lives g (move CYCLE (triple x y k))
+    pub off-bits : (v : ℕ) → ((i : ℕ) → bit v i ≡ bit (getD reach x 0) i and not (bit (bitOr passed o) i)) → x ≤ 16 → (lives : ℕ → Bool) (y : ℕ) → y ≤ 16 → bit v y ≡ allowed n lives g (move 1 CYCLE (triple x y k))
     unfolding allowed conditions alternatives _and_ graphOf
     off-bits v e h lives y l =
         let r : returns n g x k x ≡ true = returns-at n g x n k x within (all ∙ back-links n link reach x c s first steps) in

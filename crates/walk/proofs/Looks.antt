@@ -9,11 +9,11 @@ use mathlib.Core.Option.{Option, none, some, Option·elim}
 use lib.ListN.{length}
 use Rattle.logic.specs.Search.{from, keep, firstOf, find, flatMap}
 use Rattle.logic.specs.Query.{Literal, Query, termCount}
-use Rattle.logic.specs.Facts.{Facts, Line, line, isClash, clashLines, clash}
+use Rattle.logic.specs.Facts.{Facts, linkNumbers, Line, line, isClash, clashLines, clash}
 use Rattle.logic.specs.Rules.{Rule, Triple, triple, Move, move, applies, triples, choose}
 use Rattle.logic.specs.Walk.{Look, clashing, applying, saturated, look}
 use Rattle.facts.specs.Square.{square}
-use Rattle.facts.specs.Path.{repOf, graphOf, pathOf}
+use Rattle.facts.specs.Path.{onlyLink, repOf, graphOf, pathOf}
 use Rattle.facts.specs.declared.Facts as code
 use Rattle.logic.proofs.Basics.Search.{keep-some, firstOf-some, find-some, from-mem, flatMap-mem, map-mem, none-some}
 
@@ -67,13 +67,16 @@ triple-range n x y z m =
     let ez : z ≡ c .0 = cc in
     (omega arith, omega arith, omega arith)
 
-pub move-range : (q : Query) (order : List Rule) (s : Facts) (r : Rule) (x y z : ℕ) → look q order s ≡ applying (move r (triple x y z)) → (x ≤ termCount q) × (y ≤ termCount q) × (z ≤ termCount q)
+pub move-range : (q : Query) (order : List Rule) (s : Facts) (i : ℕ) (r : Rule) (x y z : ℕ) → look q order s ≡ applying (move i r (triple x y z)) → (x ≤ termCount q) × (y ≤ termCount q) × (z ≤ termCount q)
 unfolding choose
-move-range q order s r x y z h =
+move-range q order s i r x y z h =
     let n : ℕ = termCount q in
-    let f = firstOf-some (λ r. firstOf (λ t. keep (applies n s (move r t)) (move r t)) (triples n)) order (move r (triple x y z)) (applying-back q order s (move r (triple x y z)) h) in
-    let g = firstOf-some (λ t. keep (applies n s (move (f .0) t)) (move (f .0) t)) (triples n) (move r (triple x y z)) (f .2) in
-    let k = keep-some (applies n s (move (f .0) (g .0))) (g .2) .1 in
+    let m : Move = move i r (triple x y z) in
+    let at : Rule → ℕ → Triple → Option Move = λ r i t. keep (applies n s (move i r t)) (move i r t) in
+    let f = firstOf-some (λ r. firstOf (λ i. firstOf (at r i) (triples n)) (linkNumbers (s .links))) order m (applying-back q order s m h) in
+    let l = firstOf-some (λ i. firstOf (at (f .0) i) (triples n)) (linkNumbers (s .links)) m (f .2) in
+    let g = firstOf-some (at (f .0) (l .0)) (triples n) m (l .2) in
+    let k = keep-some (applies n s (move (l .0) (f .0) (g .0))) (g .2) .1 in
     let e : g .0 ≡ triple x y z = cc in
     triple-range n x y z (subst (λ (t : Triple). List·Memᴰ t (triples n)) e (g .1))
 
@@ -106,12 +109,12 @@ clash-range q order s m l a b c h =
 -- What the code's searches find, as what is seen
 module _ (q : Query) (order : List Rule) (s : code.Facts) (n : ℕ) (terms-are : n ≡ termCount q) where
   -- the clash of every path with these representatives and this reachability is that of the path
-  path-clash : (o : Option Line) → ((t : Facts) → t .rep ≡ repOf (s .rep) → t .graph .reach ≡ square (s .reach) → o ≡ clash q t) → o ≡ clash q (pathOf s)
-  unfolding pathOf graphOf
+  path-clash : (o : Option Line) → ((t : Facts) → t .rep ≡ repOf (s .rep) → t .graph 1 .reach ≡ square (s .reach) → o ≡ clash q t) → o ≡ clash q (pathOf s)
+  unfolding pathOf graphOf onlyLink
   path-clash o h = h (pathOf s) refl refl
 
   abbrev ClashIs : Option Line → Type 0
-  ClashIs o = (t : Facts) → t .rep ≡ repOf (s .rep) → t .graph .reach ≡ square (s .reach) → o ≡ clash q t
+  ClashIs o = (t : Facts) → t .rep ≡ repOf (s .rep) → t .graph 1 .reach ≡ square (s .reach) → o ≡ clash q t
 
   pub seen-clashing : (o : Option Line) (l : Line) → ClashIs o → o ≡ some l → clashing l ≡ look q order (pathOf s)
   seen-clashing o l h e = sym (look-clashing q order (pathOf s) l (sym (path-clash o h) ∙ e))

@@ -10,6 +10,7 @@ use Rattle.logic.specs.Rules.{Rule, triple, Move, move, Fact, equal, ruleNumber
 use Rattle.logic.specs.Walk.{Look, clashing, applying, saturated, look, Ending, refutation, saturation, after, walkBranch, walk}
 use Rattle.logic.specs.Steps.{AtMost}
 use Rattle.logic.proofs.Walks.OurWalk.{look-fewer}
+use Rattle.logic.proofs.Calls.OneLink.{moveLine-one}
 use Rattle.query.specs.LaysOut.{LaysOut, literalIn}
 use Rattle.query.specs.declared.Layout.{Layout}
 use Rattle.query.proofs.Literals.{listed, listed-length, equalities-listed, reachability-listed, fields-listed}
@@ -41,27 +42,26 @@ module _ (bytes : List ℕ) (l : Layout) (laid : LaysOut l bytes) (order : List 
       h in
       (omega arith, omega arith, omega arith)
 
-  pub move-fits : (r : Rule) (x y z : ℕ) → look (decode bytes) order s ≡ applying (move r (triple x y z)) → (x ≤ 16) × (y ≤ 16) × (z ≤ 16)
+  pub move-fits : (r : Rule) (x y z : ℕ) → look (decode bytes) order s ≡ applying (move 1 r (triple x y z)) → (x ≤ 16) × (y ≤ 16) × (z ≤ 16)
   move-fits r x y z h =
-      let g = move-range (decode bytes) order s r x y z h in
+      let g = move-range (decode bytes) order s 1 r x y z h in
       let t = laid .term-count in
       let w = laid .terms-within in
       (omega arith, omega arith, omega arith)
 
 -- the walk of a branch that the code makes
-pub branch-walked : (q : Query) (order : List Rule) (k n : ℕ) (s : Facts) (j : Joined) (r : Rule) (x y z i : ℕ) (d : Fact) → n ≡ termCount q → i < countOf r z → j ≡ branch n s (alternativeAt n (s .graph) r x y z i) → walkBranch (walk q order k) (branch (termCount q) s (getD (alternatives (termCount q) (s .graph) (move r (triple x y z))) i d)) ≡ walkBranch (walk q order k) j
+pub branch-walked : (q : Query) (order : List Rule) (k n : ℕ) (s : Facts) (j : Joined) (r : Rule) (x y z i : ℕ) (d : Fact) → n ≡ termCount q → i < countOf r z → j ≡ branch n s (alternativeAt n (s .graph 1) r x y z i) → walkBranch (walk q order k) (branch (termCount q) s (getD (alternatives (termCount q) (s .graph) (move 1 r (triple x y z))) i d)) ≡ walkBranch (walk q order k) j
 branch-walked q order k n s j r x y z i d e h f =
     ap (walkBranch (walk q order k))
-    (ap (branch (termCount q) s) (alternative-is (termCount q) (s .graph) r x y z i d h) ∙ ap (λ (m : ℕ). branch m s (alternativeAt m (s .graph) r x y z i)) (sym e) ∙ sym f)
+    (ap (branch (termCount q) s) (alternative-is (termCount q) (s .graph) r x y z i d h) ∙ ap (λ (m : ℕ). branch m s (alternativeAt m (s .graph 1) r x y z i)) (sym e) ∙ sym f)
 
-pub move-line : (r : Rule) (x y z a : ℕ) → a ≡ ruleNumber r → line a x y z ≡ moveLine (move r (triple x y z))
-unfolding moveLine
-move-line r x y z a e = ap (λ (j : ℕ). line j x y z) e
+pub move-line : (r : Rule) (x y z a : ℕ) → a ≡ ruleNumber r → line a x y z ≡ moveLine (move 1 r (triple x y z))
+move-line r x y z a e = ap (λ (j : ℕ). line j x y z) e ∙ sym (moveLine-one r x y z)
 
 -- A rule applies: its branches are walked with a step less
-module _ (q : Query) (order : List Rule) (k n : ℕ) (s : Facts) (rule : Rule) (x y z : ℕ) (seen : look q order s ≡ applying (move rule (triple x y z))) (some-left : 1 ≤ k) (terms-are : n ≡ termCount q) where
+module _ (q : Query) (order : List Rule) (k n : ℕ) (s : Facts) (rule : Rule) (x y z : ℕ) (seen : look q order s ≡ applying (move 1 rule (triple x y z))) (some-left : 1 ≤ k) (terms-are : n ≡ termCount q) where
   abbrev m : Move
-  m = move rule (triple x y z)
+  m = move 1 rule (triple x y z)
 
   abbrev cs : List Fact
   cs = alternatives (termCount q) (s .graph) m
@@ -71,13 +71,13 @@ module _ (q : Query) (order : List Rule) (k n : ℕ) (s : Facts) (rule : Rule) (
   other = equal 0 0
 
   -- no more rule steps are left from a branch than are counted
-  pub branch-fewer : AtMost (termCount q) s k → (j : Joined) (i : ℕ) → i < countOf rule z → j ≡ branch n s (alternativeAt n (s .graph) rule x y z i) → AtMost (termCount q) (j .facts) (k - 1)
+  pub branch-fewer : AtMost (termCount q) s k → (j : Joined) (i : ℕ) → i < countOf rule z → j ≡ branch n s (alternativeAt n (s .graph 1) rule x y z i) → AtMost (termCount q) (j .facts) (k - 1)
   unfolding add
   branch-fewer most j i in-row j-is =
       let l : i < length cs = omega (arith, count-is (termCount q) (s .graph) rule x y z) in
       let f = look-fewer q order k s m most seen (getD cs i other) (getD-member cs i other l) in
       subst (λ (b : Joined). AtMost (termCount q) (b .facts) (k - 1))
-      (ap (branch (termCount q) s) (alternative-is (termCount q) (s .graph) rule x y z i other in-row) ∙ ap (λ (m : ℕ). branch m s (alternativeAt m (s .graph) rule x y z i)) (sym terms-are) ∙ sym j-is)
+      (ap (branch (termCount q) s) (alternative-is (termCount q) (s .graph) rule x y z i other in-row) ∙ ap (λ (m : ℕ). branch m s (alternativeAt m (s .graph 1) rule x y z i)) (sym terms-are) ∙ sym j-is)
       f
 
 -- the count behind them stays below its stop

@@ -13,6 +13,7 @@ use Rattle.logic.specs.Facts.{line}
 use Rattle.logic.specs.Derivation.{lineBytes}
 use Rattle.logic.specs.Shown.{sizeIn, isNode, wellFormed}
 use Rattle.logic.proofs.Basics.Search.{and-left, and-right}
+use Rattle.logic.proofs.Calls.OneLink.{wellFormed-one}
 use Rattle.text.specs.Text.{ascii, decimal, hexByte}
 use Rattle.wording.specs.Words.{behind, lineOf, refusedText, refusalText, reportSize, reportText, lineText}
 
@@ -37,9 +38,10 @@ pub record Sized (bytes : List ℕ) (m n : ℕ) : Type 0 where
   pub whole : m + n + m + 5 ≤ length bytes
   pub counted : m + n + m + 5 ≡ reportSize bytes
 
-pub report-sized : (bytes : List ℕ) (m n : ℕ) → wellFormed bytes ≡ true → m ≡ getD bytes 0 0 → n ≡ getD bytes (m + 1) 0 → Sized bytes m n
-unfolding wellFormed isNode sizeIn reportSize
-report-sized bytes m n h em en =
+pub report-sized : (bytes : List ℕ) (m n : ℕ) → wellFormed 1 bytes ≡ true → m ≡ getD bytes 0 0 → n ≡ getD bytes (m + 1) 0 → Sized bytes m n
+unfolding isNode sizeIn reportSize
+report-sized bytes m n one em en =
+    let h = sym (wellFormed-one bytes) ∙ one in
     let sizes = and-left _ _ (and-left _ _ (and-left _ _ (and-left _ _ (and-left _ _ h)))) in
     let counts = and-left _ _ sizes in
     let e : n ≡ getD bytes (getD bytes 0 0 + 1) 0 = en ∙ ap (λ (k : ℕ). getD bytes (k + 1) 0) em in

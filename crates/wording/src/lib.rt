@@ -18,7 +18,7 @@ pub fn wide(x: u8) -> usize
 
 // "That is 2m+n+5 bytes; bytes past it are zero."
 fn report_size(report: &[u8]) -> usize
-    requires { ⌜ wellFormed (now report) ≡ true ⌝ }
+    requires { ⌜ wellFormed 1 (now report) ≡ true ⌝ }
     ensures { λ r. ⌜ (r ≡ reportSize (now (report .entry))) × (r ≤ length (now (report .entry))) × (5 ≤ r) × (r ≤ 53) ⌝ }
 {
     let m = wide(report[0]);
@@ -28,7 +28,7 @@ fn report_size(report: &[u8]) -> usize
 
 // "the heap report's bytes .. as two lower-case hex digits each, separated by blanks"
 pub fn put_report(buffer: &mut [u8], at: usize, report: &[u8]) -> usize
-    requires { ⌜ (at ≤ 1000) × (wellFormed (now report) ≡ true) ⌝ }
+    requires { ⌜ (at ≤ 1000) × (wellFormed 1 (now report) ≡ true) ⌝ }
     ensures { λ r. ⌜ Writes (now (buffer .entry)) at (reportText (now (report .entry))) (now (buffer .exit)) r × (r ≤ at + 159) ⌝ }
 {
     let size = report_size(report);

@@ -40,7 +40,7 @@ check-goal-below t = and 2 check-goal-kinds.ps (falls 2 check-goal-kinds.ps _<_ 
 
 abbrev check-goal-Inv-loop : check-goal-lts.InvT-loop
 check-goal-Inv-loop query layout derivation count left first n s at rule x y z total to₀ i₀ to i =
-    BranchesLeft (decode query) derivation count (pathOf s) at (move (kindOf rule) (triple (x .0) (y .0) (z .0))) i to
+    BranchesLeft (decode query) derivation count (pathOf s) at (move 1 (kindOf rule) (triple (x .0) (y .0) (z .0))) i to
 
 abbrev check-goal-μ-loop : check-goal-lts.MeasureT-loop
 check-goal-μ-loop query layout derivation count left first n s at rule x y z total to₀ i₀ to i = total - i
@@ -89,7 +89,7 @@ unfolding goalOf
     -- loop-holds
     (λ c. branches-begin _ _ _ (c .before .before .before .before .before .before .before .before .before .before .before .pre .1 .2) _ _ _ (reading-is readingOf _ _ _ (c .before .before .before .before .read-line .ensures) (c .before .before .rule .given .1)))
     -- branch-requires
-    (λ c κs. let f = ahead-numbers _ (accepted _ (c .before .before .before .before .before .before .before .before .before .before .before .before .before .pre .1 .1)) _ _ (c .before .before .before .before .before .before .before .before .before .before .before .before .before .pre .1 .3) _ _ _ _ (ruling-applies _ _ _ _ (reading-is readingOf _ _ _ (c .before .before .before .before .before .before .read-line .ensures) (c .before .before .before .before .rule .given .1))) in (c .before .before .before .before .before .before .before .before .before .before .before .before .before .pre .1 .0 .terms-within, f .0, f .1, f .2))
+    (λ c κs. let f = ahead-numbers _ (accepted _ (c .before .before .before .before .before .before .before .before .before .before .before .before .before .pre .1 .1)) _ _ (c .before .before .before .before .before .before .before .before .before .before .before .before .before .pre .1 .3) _ _ _ _ _ (ruling-applies _ _ _ _ (reading-is readingOf _ _ _ (c .before .before .before .before .before .before .read-line .ensures) (c .before .before .before .before .rule .given .1))) in (c .before .before .before .before .before .before .before .before .before .before .before .before .before .pre .1 .0 .terms-within, f .0, f .1, f .2))
     -- sub-check-goal
     (λ c. ahead-some _ (accepted _ (c .before .before .before .before .before .before .before .before .before .before .before .before .before .before .pre .1 .1)) _ _ (c .before .before .before .before .before .before .before .before .before .before .before .before .before .before .pre .1 .3) _ (ruling-applies _ _ _ _ (reading-is readingOf _ _ _ (c .before .before .before .before .before .before .before .read-line .ensures) (c .before .before .before .before .before .rule .given .1))))
     -- check-goal-requires

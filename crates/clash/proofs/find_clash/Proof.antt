@@ -14,4 +14,4 @@ find-clash-spec =
     -- path-clash-requires
     (λ c κs. search needs)
     -- returns
-    (λ c s e f. c .path-clash .ensures ∙ sym (clash-at _ _ _ s (e ∙ sym (c .before .before .numbers .ensures)) f)))
+    (λ c s e f. c .path-clash .ensures ∙ sym (clash-at (c .before .before .before .before .pre) _ _ s (e ∙ sym (c .before .before .numbers .ensures)) f)))

@@ -38,7 +38,7 @@ abbrev plain-below : ℕ → In 2 plain-kinds.ps
 plain-below t = and 2 plain-kinds.ps (falls 2 plain-kinds.ps _<_ μ-plain t) plain.Pre
 
 abbrev plain-Inv-loop : plain-lts.InvT-loop
-plain-Inv-loop query layout order left limited budget n path rule x y z total fuel₀ i₀ fuel i = (i ≤ total) × Struck (decode query) (pathOf path) (move (kindOf rule) (triple (x .0) (y .0) (z .0))) i
+plain-Inv-loop query layout order left limited budget n path rule x y z total fuel₀ i₀ fuel i = (i ≤ total) × Struck (decode query) (pathOf path) (move 1 (kindOf rule) (triple (x .0) (y .0) (z .0))) i
 
 abbrev plain-μ-loop : plain-lts.MeasureT-loop
 plain-μ-loop query layout order left limited budget n path rule x y z total fuel₀ i₀ fuel i = total - i

@@ -34,7 +34,7 @@ abbrev search-below : ℕ → In 1 search-kinds.ps
 search-below t = and 1 search-kinds.ps (falls 1 search-kinds.ps _<_ μ-search t) search′.Pre
 
 abbrev search-Inv-loop : search-lts.InvT-loop
-search-Inv-loop query layout how left budget n t rule x y z total fuel₀ i₀ fuel i = (i ≤ total) × Struck (decode query) (pathOf t) (move (kindOf rule) (triple (x .0) (y .0) (z .0))) i
+search-Inv-loop query layout how left budget n t rule x y z total fuel₀ i₀ fuel i = (i ≤ total) × Struck (decode query) (pathOf t) (move 1 (kindOf rule) (triple (x .0) (y .0) (z .0))) i
 
 abbrev search-μ-loop : search-lts.MeasureT-loop
 search-μ-loop query layout how left budget n t rule x y z total fuel₀ i₀ fuel i = total - i

@@ -1,17 +1,16 @@
 -- One bit of `link` is set, and nothing else changes. Assumes nothing.
 use borrow.Author.Needs.{needs}
 use native.Mathlib.Omega.{arith}
-use mathlib.Core.Path.{refl}
-use Rattle.logic.specs.Facts.{addLink}
+use mathlib.Core.Path.{refl, sym, _∙_}
 use Rattle.facts.specs.Path.{pathOf, graphOf}
 use Rattle.facts.proofs.Square.{square-add}
-use Rattle.facts.proofs.Path.{alike}
+use Rattle.facts.proofs.Path.{alike, addLinks-one}
 use Rattle.facts.proofs.add_link.Statement.{statement}
 use Rattle.facts.proofs.add_link.Tie as tie
 
 returns : tie.Need-returns
-unfolding addLink pathOf graphOf
-returns c = alike refl (square-add _ (search needs) _ _ _ (omega arith) (omega arith) (c .before .only .ensures)) refl
+unfolding pathOf graphOf
+returns c = alike refl (square-add _ (search needs) _ _ _ (omega arith) (omega arith) (c .before .only .ensures)) refl ∙ sym (addLinks-one _ _ _ _ _)
 
 pub add-link-spec : {M : Type 1} → statement M
 add-link-spec =

@@ -1,17 +1,16 @@
 -- One bit of `reach` is set, and nothing else changes. Assumes nothing.
 use borrow.Author.Needs.{needs}
 use native.Mathlib.Omega.{arith}
-use mathlib.Core.Path.{refl}
-use Rattle.logic.specs.Facts.{addReach}
+use mathlib.Core.Path.{refl, sym, _∙_}
 use Rattle.facts.specs.Path.{pathOf, graphOf}
 use Rattle.facts.proofs.Square.{square-add}
-use Rattle.facts.proofs.Path.{alike}
+use Rattle.facts.proofs.Path.{alike, addReach-one}
 use Rattle.facts.proofs.add_reach.Statement.{statement}
 use Rattle.facts.proofs.add_reach.Tie as tie
 
 returns : tie.Need-returns
-unfolding addReach pathOf graphOf
-returns c = alike refl refl (square-add _ (search needs) _ _ _ (omega arith) (omega arith) (c .before .only .ensures))
+unfolding pathOf graphOf
+returns c = alike refl refl (square-add _ (search needs) _ _ _ (omega arith) (omega arith) (c .before .only .ensures)) ∙ sym (addReach-one _ _ _ _ _)
 
 pub add-reach-spec : {M : Type 1} → statement M
 add-reach-spec =

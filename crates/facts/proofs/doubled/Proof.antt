@@ -1,19 +1,24 @@
 -- What is left to search equals the whole. Assumes nothing.
-use Prim.Native.Nat.{_+_, _-_}
+use Prim.Native.Nat.{ℕ, _+_, _-_}
 use native.Mathlib.Omega.{arith}
 use borrow.Author.Needs.{needs}
-use mathlib.Core.Path.{_≡_, sym, ap, _∙_}
+use mathlib.Core.Path.{_≡_, refl, sym, ap, _∙_}
+use mathlib.Core.List.{List}
 use Rattle.logic.specs.Search.{from, firstOf}
 use Rattle.logic.specs.Facts.{firstTwo, successors, doubled}
-use Rattle.facts.specs.Path.{linksIn}
+use Rattle.facts.specs.Path.{onlyLink, linksIn, linkedBy}
 use Rattle.facts.specs.Answers.{twoOf}
 use Rattle.facts.proofs.Loops.{first-end, first-here, first-next}
 use Rattle.facts.proofs.Successors.{doubled-search}
 use Rattle.facts.proofs.doubled.Statement.{statement}
 use Rattle.facts.proofs.doubled.Tie as tie
 
+holds : (n : ℕ) (link : List ℕ) → doubled n (linkedBy link) ≡ firstOf (λ u. firstTwo (successors n (linksIn link) u)) (from (n + 1 - 1) 1)
+unfolding linkedBy onlyLink
+holds n link = doubled-search n (linkedBy link) refl
+
 abbrev Inv-loop : tie.InvT-loop
-Inv-loop link n t₀ t = doubled n (linksIn link) ≡ firstOf (λ u. firstTwo (successors n (linksIn link) u)) (from (n + 1 - t) t)
+Inv-loop link n t₀ t = doubled n (linkedBy link) ≡ firstOf (λ u. firstTwo (successors n (linksIn link) u)) (from (n + 1 - t) t)
 
 abbrev μ-loop : tie.MeasureT-loop
 μ-loop link n t₀ t = n + 1 - t
@@ -25,7 +30,7 @@ doubled-spec =
     Inv-loop
     μ-loop
     -- loop-holds
-    (λ c. doubled-search _ _)
+    (λ c. holds _ _)
     -- first-two-requires
     (λ c κs. omega arith)
     -- enum-known-a

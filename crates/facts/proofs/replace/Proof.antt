@@ -1,14 +1,14 @@
 -- A replacement in each of the three. Assumes nothing.
 use borrow.Author.Needs.{needs}
-use Rattle.logic.specs.Facts.{replace}
-use Rattle.facts.specs.Path.{pathOf, graphOf, replaceRep}
-use Rattle.facts.proofs.Path.{alike}
+use mathlib.Core.Path.{sym, _∙_}
+use Rattle.facts.specs.Path.{pathOf, graphOf}
+use Rattle.facts.proofs.Path.{alike, replace-one}
 use Rattle.facts.proofs.replace.Statement.{statement}
 use Rattle.facts.proofs.replace.Tie as tie
 
 returns : tie.Need-returns
-unfolding replace pathOf graphOf replaceRep
-returns c = alike (c .before .before .replace-rep .ensures) (c .before .replace-in .ensures) (c .replace-in2 .ensures)
+unfolding pathOf graphOf
+returns c = alike (c .before .before .replace-rep .ensures) (c .before .replace-in .ensures) (c .replace-in2 .ensures) ∙ sym (replace-one _ _ _ _ _)
 
 pub replace-spec : {M : Type 1} → statement M
 replace-spec =

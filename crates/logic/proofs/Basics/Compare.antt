@@ -3,7 +3,7 @@ use Prim.Native.Nat.{ℕ, _≤_, _<_}
 use mathlib.Core.Path.{_≡_, refl, subst}
 use mathlib.Core.Logic.{_⊎_, ⊎-elim, inl, inr}
 use mathlib.Core.Bool.{Bool, true, false, not, cond, true≢false, false≢true}
-use lib.Dec.{T, eqb, eqb→eq, eqb-refl, ltb, ltb→lt, lt→ltb, leb, leb→le, nleb→lt}
+use lib.Dec.{T, eqb, eqb→eq, eqb-refl, ltb, ltb→lt, lt→ltb, leb, leb→le, le→leb, nleb→lt}
 use Rattle.logic.proofs.Basics.Search.{bool-cases, true-false, not-of, not-intro}
 
 T-of : (b : Bool) → b ≡ true → T b
@@ -32,12 +32,18 @@ ltb-true m n h = ltb→lt m n (T-of (ltb m n) h)
 pub ltb-intro : {m n : ℕ} → m < n → ltb m n ≡ true
 ltb-intro {m} {n} h = of-T (ltb m n) (lt→ltb m n h)
 
+pub leb-true : (m n : ℕ) → leb m n ≡ true → m ≤ n
+leb-true m n h = leb→le m n (T-of (leb m n) h)
+
+pub leb-intro : {m n : ℕ} → m ≤ n → leb m n ≡ true
+leb-intro {m} {n} h = of-T (leb m n) (le→leb m n h)
+
 -- two numbers are equal or not, and the test says which
 pub eq-cases : (m n : ℕ) → (m ≡ n) ⊎ ((m ≡ n → ⊥) × (eqb m n ≡ false))
 eq-cases m n = ⊎-elim (λ h. inl (eqb-true m n h)) (λ h. inr (λ e. true-false (eqb-intro e) h, h)) (bool-cases (eqb m n))
 
 pub le-cases : (m n : ℕ) → (m ≤ n) ⊎ (n < m)
-le-cases m n = ⊎-elim (λ h. inl (leb→le m n (T-of (leb m n) h))) (λ h. inr (nleb→lt m n (T-of (not (leb m n)) (not-intro h)))) (bool-cases (leb m n))
+le-cases m n = ⊎-elim (λ h. inl (leb-true m n h)) (λ h. inr (nleb→lt m n (T-of (not (leb m n)) (not-intro h)))) (bool-cases (leb m n))
 
 -- a choice by a test whose answer is known
 pub cond-true : {A : Type 0} {b : Bool} (x y : A) → b ≡ true → cond b x y ≡ x

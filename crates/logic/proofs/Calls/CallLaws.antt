@@ -1,5 +1,5 @@
 -- What a call answers, by cases: a check that stands, or what its walk says.
-use Prim.Native.Nat.{ℕ, _-_, _≤_}
+use Prim.Native.Nat.{ℕ, _+_, _-_, _*_, _≤_}
 use native.Mathlib.Omega.{arith}
 use mathlib.Core.Path.{_≡_, refl, sym, ap, _∙_, subst}
 use mathlib.Core.Logic.{_⊎_, ⊎-elim, inl, inr}
@@ -10,13 +10,14 @@ use lib.ListN.{length, replicate, length-append, length-replicate}
 use lib.Dec.{ltb}
 use borrow.Author.Tests.{ltb-false, le-ltb}
 use Rattle.logic.specs.Search.{keep, isSome, orElse}
-use Rattle.logic.specs.Query.{sections, isOrder, layoutFault, byteFault, decode}
+use Rattle.logic.specs.Query.{sections, isOrder, layoutFault, byteFault}
 use Rattle.logic.specs.Walk.{Ending, ourWalk}
-use Rattle.logic.specs.Calls.{Input, Check, orderCheck, layoutCheck, byteCheck, roomCheck, queryChecks, verdictChecks, derivationChecks, Answer, refused, Outcome, refusalOf, accepts, padded, blank, call}
-use Rattle.logic.specs.Demands.{NoneStands, Alike}
+use Rattle.logic.specs.Calls.{Input, Check, orderCheck, layoutCheck, byteCheck, roomUnder, queryChecks, CallForm, verdictChecksOf, derivationChecksOf, Answer, refused, Outcome, refusalOf, acceptsBy, padded, blank, call}
+use Rattle.logic.specs.Demands.{NoneStands, numbers, Alike}
 use Rattle.logic.proofs.Basics.Search.{none-some, firstOf-some, firstOf-none, firstOf-empty, firstOf-append, isSome-false, keep-none, not-true, bool-cases, true-false}
+use Rattle.logic.proofs.Query.Tied.{Accepted}
 use Rattle.logic.proofs.Query.AcceptedBytes.{form-elim}
-use Rattle.logic.proofs.Calls.CheckingOrder.{answers}
+use Rattle.logic.proofs.Calls.CheckingOrder.{answers, Early}
 
 answers-some : (i : Input) (c : Check) (a : Answer) → answers i c ≡ some a → (place : ℕ) × (c .place i ≡ some place) × (a ≡ refused (c .number) place)
 unfolding Option·elim
@@ -53,32 +54,50 @@ module _ (cs : List Check) (i : Input) where
   unfolding refusalOf
   refusalOf-append ds = firstOf-append (answers i) cs ds
 
-  pub call-cases : (result : Ending → Outcome) → ((a : Answer) × (refusalOf cs i ≡ some a) × (call cs result i ≡ blank (i .room) a)) ⊎ ((refusalOf cs i ≡ none) × (call cs result i ≡ result (ourWalk (i .order) (decode (i .query)))))
+  pub call-cases : (f : CallForm) (result : Ending → Outcome) → ((a : Answer) × (refusalOf cs i ≡ some a) × (call f cs result i ≡ blank (i .room) a)) ⊎ ((refusalOf cs i ≡ none) × (call f cs result i ≡ result (ourWalk (i .order) (f .decode (i .query)))))
   unfolding call Option·elim
-  call-cases result = go (refusalOf cs i) refl
+  call-cases f result = go (refusalOf cs i) refl
     where
-      go : (o : Option Answer) → refusalOf cs i ≡ o → ((a : Answer) × (refusalOf cs i ≡ some a) × (Option·elim o (result (ourWalk (i .order) (decode (i .query)))) (blank (i .room)) ≡ blank (i .room) a)) ⊎ ((refusalOf cs i ≡ none) × (Option·elim o (result (ourWalk (i .order) (decode (i .query)))) (blank (i .room)) ≡ result (ourWalk (i .order) (decode (i .query)))))
+      go : (o : Option Answer) → refusalOf cs i ≡ o → ((a : Answer) × (refusalOf cs i ≡ some a) × (Option·elim o (result (ourWalk (i .order) (f .decode (i .query)))) (blank (i .room)) ≡ blank (i .room) a)) ⊎ ((refusalOf cs i ≡ none) × (Option·elim o (result (ourWalk (i .order) (f .decode (i .query)))) (blank (i .room)) ≡ result (ourWalk (i .order) (f .decode (i .query)))))
       go none e = inr (e, refl)
       go (some a) e = inl (a, e, refl)
 
--- The query's checks read the query alone, so a query that passes them in one call is accepted.
-local : (i j : Input) → i .query ≡ j .query → (c : Check) → List·Memᴰ c queryChecks → c .place i ≡ c .place j
+-- The checks of a query in the form of 01 read the query alone.
+pub query-local : (i j : Input) → i .query ≡ j .query → (c : Check) → List·Memᴰ c queryChecks → c .place i ≡ c .place j
 unfolding queryChecks layoutCheck byteCheck
-local i j e =
+query-local i j e =
     form-elim sections (λ (c : Check). c .place i ≡ c .place j) (λ k m. ap (layoutFault sections k) e) (λ k l u. ap (byteFault sections k) e)
 
-pub accepts-clear : (i : Input) → ((c : Check) → List·Memᴰ c queryChecks → c .place i ≡ none) → accepts (i .query) ≡ true
-unfolding accepts isSome
-accepts-clear i h =
-    let j : Input = record { order = []; query = i .query; room = 0 } in
-    rw (refusalOf-clear queryChecks j (λ c m. sym (local i j refl c m) ∙ h c m))
+-- What is known of a form of query that calls take: what its checks are, and that a query that passes them is all that the theory asks.
+abbrev pub InQuery : ℕ → List ℕ → ℕ → Type 0
+InQuery longest bytes place = (place ≤ length bytes) × (place ≤ longest)
 
--- and none of the query's checks stands in a call on an accepted query
-pub accepts-checks : (i : Input) → accepts (i .query) ≡ true → (c : Check) → List·Memᴰ c queryChecks → c .place i ≡ none
-unfolding accepts
-accepts-checks i h c m =
-    let j : Input = record { order = []; query = i .query; room = 0 } in
-    local i j refl c m ∙ refusalOf-none queryChecks j (isSome-false _ (not-true h)) c m
+-- the place of a refusal by checks
+abbrev pub Placed : ℕ → List Check → Input → Type 0
+Placed longest cs i = (k place : ℕ) → refusalOf cs i ≡ some (refused k place) → InQuery longest (i .query) place
+
+pub record FormLaws (f : CallForm) : Type 0 where
+  pub accepted-query : (bytes : List ℕ) → acceptsBy f bytes ≡ true → Accepted (f .decode bytes)
+  pub same-links : (bytes : List ℕ) → f .decode bytes .links ≡ f .links
+  pub local : (i j : Input) → i .query ≡ j .query → (c : Check) → List·Memᴰ c (f .checks) → c .place i ≡ c .place j
+  pub early : (k : ℕ) → List·Memᴰ k (numbers (f .checks)) → (Early k) × (k ≡ 9 → ⊥)
+  pub placed : (i : Input) → Placed (f .longest) (f .checks) i
+  pub roomy : f .links * 16 + 37 ≤ f .room
+
+module _ (f : CallForm) (laws : FormLaws f) where
+  -- a query that passes its checks in one call is accepted
+  pub accepts-clear : (i : Input) → ((c : Check) → List·Memᴰ c (f .checks) → c .place i ≡ none) → acceptsBy f (i .query) ≡ true
+  unfolding acceptsBy isSome
+  accepts-clear i h =
+      let j : Input = record { order = []; query = i .query; room = 0 } in
+      rw (refusalOf-clear (f .checks) j (λ c m. sym (laws .local i j refl c m) ∙ h c m))
+
+  -- and none of them stands in a call on an accepted query
+  pub accepts-checks : (i : Input) → acceptsBy f (i .query) ≡ true → (c : Check) → List·Memᴰ c (f .checks) → c .place i ≡ none
+  unfolding acceptsBy
+  accepts-checks i h c m =
+      let j : Input = record { order = []; query = i .query; room = 0 } in
+      laws .local i j refl c m ∙ refusalOf-none (f .checks) j (isSome-false _ (not-true h)) c m
 
 -- what a call knows where none of its checks stands
 order-clear : (cs : List Check) (i : Input) → List·Memᴰ orderCheck cs → NoneStands cs i → isOrder (i .order) ≡ true
@@ -87,49 +106,51 @@ order-clear cs i m h =
     let e = keep-none (not (isOrder (i .order))) 0 (h orderCheck m) in
     ⊎-elim (λ p. p) (λ p. absurd (true-false (ap not p) e)) (bool-cases (isOrder (i .order)))
 
-pub record Passed (i : Input) : Type 0 where
+pub record Passed (f : CallForm) (i : Input) : Type 0 where
   pub order : isOrder (i .order) ≡ true
-  pub query : accepts (i .query) ≡ true
+  pub query : acceptsBy f (i .query) ≡ true
 
-pub derivation-passed : (i : Input) → NoneStands derivationChecks i → Passed i
-unfolding derivationChecks
-derivation-passed i h =
-    record {
-      order = order-clear derivationChecks i (List·Memᴰ·head refl) h;
-      query = accepts-clear i (λ c m. h c (List·Memᴰ·tail m));
-    }
-
--- the verdict call's checks are the derivation call's, and that of the report's room
-pub derivation-known : (c : Check) → List·Memᴰ c derivationChecks → List·Memᴰ c verdictChecks
-unfolding derivationChecks verdictChecks
-derivation-known c m = ⊎-elim (λ e. List·Memᴰ·head e) (λ n. List·Memᴰ·tail (Memᴰ·append-left (roomCheck ∷ []) n)) (List·Memᴰ·cases-cons m)
-
-pub verdict-clear : (i : Input) → NoneStands derivationChecks i → 53 ≤ i .room → NoneStands verdictChecks i
-unfolding derivationChecks verdictChecks roomCheck keep
-verdict-clear i h r c m =
-    ⊎-elim (λ e. h c (List·Memᴰ·head e))
-    (λ n. ⊎-elim (λ n′. h c (List·Memᴰ·tail n′))
-    (λ n′. ⊎-elim (λ e. ap (λ (d : Check). d .place i) e ∙ ap (λ (b : Bool). keep b 0) (le-ltb (i .room) 53 r)) (λ n″. absurd (List·Memᴰ·not-nil n″)) (List·Memᴰ·cases-cons n′))
-    (List·Memᴰ·append-cases queryChecks n))
-    (List·Memᴰ·cases-cons m)
-
-pub verdict-passed : (i : Input) → NoneStands verdictChecks i → Passed i × (53 ≤ i .room)
-unfolding verdictChecks roomCheck
-verdict-passed i h = (
-  derivation-passed i (λ c m. h c (derivation-known c m)),
-  ltb-false (i .room) 53 (keep-none (ltb (i .room) 53) 0 (h roomCheck (List·Memᴰ·tail (Memᴰ·append-right queryChecks (List·Memᴰ·head refl))))),
-)
-
--- two calls of one order list and one query pass the derivation call's checks alike
+-- two calls of one order list and one query pass check 1 alike
 order-local : (i j : Input) → i .order ≡ j .order → orderCheck .place i ≡ orderCheck .place j
 unfolding orderCheck
 order-local i j e = ap (λ (order : List ℕ). keep (not (isOrder order)) 0) e
 
-pub alike-clear : (i j : Input) → Alike i j → NoneStands derivationChecks i → NoneStands derivationChecks j
-unfolding derivationChecks
-alike-clear i j a h c m =
-    ⊎-elim (λ e. ap (λ (d : Check). d .place j) e ∙ sym (order-local i j (a .0)) ∙ h orderCheck (List·Memᴰ·head refl))
-    (λ n. sym (local i j (a .1) c n) ∙ h c m) (List·Memᴰ·cases-cons m)
+module _ (f : CallForm) (laws : FormLaws f) where
+  pub derivation-passed : (i : Input) → NoneStands (derivationChecksOf f) i → Passed f i
+  unfolding derivationChecksOf
+  derivation-passed i h =
+      record {
+        order = order-clear (derivationChecksOf f) i (List·Memᴰ·head refl) h;
+        query = accepts-clear f laws i (λ c m. h c (List·Memᴰ·tail m));
+      }
+
+  -- the verdict call's checks are the derivation call's, and that of the report's room
+  pub derivation-known : (c : Check) → List·Memᴰ c (derivationChecksOf f) → List·Memᴰ c (verdictChecksOf f)
+  unfolding derivationChecksOf verdictChecksOf
+  derivation-known c m = ⊎-elim (λ e. List·Memᴰ·head e) (λ n. List·Memᴰ·tail (Memᴰ·append-left (roomUnder (f .room) ∷ []) n)) (List·Memᴰ·cases-cons m)
+
+  pub verdict-clear : (i : Input) → NoneStands (derivationChecksOf f) i → f .room ≤ i .room → NoneStands (verdictChecksOf f) i
+  unfolding derivationChecksOf verdictChecksOf roomUnder keep
+  verdict-clear i h r c m =
+      ⊎-elim (λ e. h c (List·Memᴰ·head e))
+      (λ n. ⊎-elim (λ n′. h c (List·Memᴰ·tail n′))
+      (λ n′. ⊎-elim (λ e. ap (λ (d : Check). d .place i) e ∙ ap (λ (b : Bool). keep b 0) (le-ltb (i .room) (f .room) r)) (λ n″. absurd (List·Memᴰ·not-nil n″)) (List·Memᴰ·cases-cons n′))
+      (List·Memᴰ·append-cases (f .checks) n))
+      (List·Memᴰ·cases-cons m)
+
+  pub verdict-passed : (i : Input) → NoneStands (verdictChecksOf f) i → Passed f i × (f .room ≤ i .room)
+  unfolding verdictChecksOf roomUnder
+  verdict-passed i h = (
+    derivation-passed i (λ c m. h c (derivation-known c m)),
+    ltb-false (i .room) (f .room) (keep-none (ltb (i .room) (f .room)) 0 (h (roomUnder (f .room)) (List·Memᴰ·tail (Memᴰ·append-right (f .checks) (List·Memᴰ·head refl))))),
+  )
+
+  -- two calls of one order list and one query pass the derivation call's checks alike
+  pub alike-clear : (i j : Input) → Alike i j → NoneStands (derivationChecksOf f) i → NoneStands (derivationChecksOf f) j
+  unfolding derivationChecksOf
+  alike-clear i j a h c m =
+      ⊎-elim (λ e. ap (λ (d : Check). d .place j) e ∙ sym (order-local i j (a .0)) ∙ h orderCheck (List·Memᴰ·head refl))
+      (λ n. sym (laws .local i j (a .1) c n) ∙ h c m) (List·Memᴰ·cases-cons m)
 
 -- padding fills what is lent
 pub padded-length : (room : ℕ) (bytes : List ℕ) → length bytes ≤ room → length (padded room bytes) ≡ room

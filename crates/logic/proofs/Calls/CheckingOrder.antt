@@ -1,18 +1,18 @@
 -- The checks of a call in their order: a refusal is the first that stands, and there is one first.
-use Prim.Native.Nat.{ℕ, _≤_}
+use Prim.Native.Nat.{ℕ, _≤_, _<_}
 use native.Mathlib.Omega.{arith}
 use mathlib.Core.Path.{_≡_, refl, sym, ap, _∙_, subst}
 use mathlib.Core.Logic.{_⊎_, ⊎-elim, inl, inr}
 use mathlib.Core.Bool.{Bool, true}
 use mathlib.Core.List.{List, [], _∷_, _++_, List·Memᴰ, List·Memᴰ·head, List·Memᴰ·tail, List·Memᴰ·not-nil, List·Memᴰ·cases-cons, Memᴰ·append-right, append-assoc}
 use mathlib.Core.Option.{Option, none, some, Option·elim}
-use lib.Dec.{eqb, ltb, leb}
+use lib.Dec.{ltb, leb}
 use borrow.Author.Tests.{leb-true}
 use Rattle.logic.specs.Search.{_and_, _or_, all, orElse, firstOf}
-use Rattle.logic.specs.Calls.{Input, Check, orderCheck, layoutCheck, byteCheck, formChecks, roomCheck, queryChecks, verdictChecks, derivationChecks, Answer, refused, refusalOf}
+use Rattle.logic.specs.Calls.{Input, Check, layoutCheck, byteCheck, formChecks, queryChecks, Answer, refused, refusalOf}
 use Rattle.logic.specs.Demands.{NoneStands, FirstStands, numbers}
 use Rattle.logic.proofs.Basics.Search.{none-some, and-left, and-right, or-cases, all-true, map-intro, orElse-none}
-use Rattle.logic.proofs.Basics.Compare.{ltb-true, eqb-true}
+use Rattle.logic.proofs.Basics.Compare.{ltb-true}
 
 -- the answer that a check gives
 abbrev pub answers : Input → Check → Option Answer
@@ -112,26 +112,23 @@ first-up-to cs i c before behind place e s =
     among [] = (c .number, place, first-here c [] i place s)
     among (d ∷ ds) = at-one d (ds ++ (c ∷ [])) (d .place i) refl (among ds)
 
--- The refusals that are met before the walk: 1 to 9, and 26.
+-- The refusals that are met before the walk: 1 to 9, and 22 to 26.
 abbrev pub Early : ℕ → Type 0
-Early k = (1 ≤ k) × ((k ≤ 9) ⊎ (k ≡ 26))
+Early k = (1 ≤ k) × ((k ≤ 9) ⊎ ((21 < k) × (k < 27)))
 
 unfoldable early : ℕ → Bool
-early k = ltb 0 k and (leb k 9 or eqb k 26)
+early k = ltb 0 k and (leb k 9 or (ltb 21 k and ltb k 27))
 
 all-early : (ks : List ℕ) → all early ks ≡ true → (k : ℕ) → List·Memᴰ k ks → Early k
 unfolding early
 all-early ks h k m =
     let e = all-true early k h m in
-    (ltb-true 0 k (and-left _ _ e), ⊎-elim (λ l. inl (leb-true k 9 l)) (λ q. inr (eqb-true k 26 q)) (or-cases (leb k 9) (eqb k 26) (and-right (ltb 0 k) _ e)))
+    (ltb-true 0 k (and-left _ _ e), ⊎-elim (λ l. inl (leb-true k 9 l)) (λ q. inr (ltb-true 21 k (and-left _ _ q), ltb-true k 27 (and-right _ _ q))) (or-cases (leb k 9) (ltb 21 k and ltb k 27) (and-right (ltb 0 k) _ e)))
 
-pub verdict-early : (k : ℕ) → List·Memᴰ k (numbers verdictChecks) → Early k
-unfolding verdictChecks queryChecks formChecks orderCheck layoutCheck byteCheck roomCheck early all _and_ _or_
-verdict-early = all-early (numbers verdictChecks) refl
-
-pub derivation-early : (k : ℕ) → List·Memᴰ k (numbers derivationChecks) → Early k
-unfolding derivationChecks queryChecks formChecks orderCheck layoutCheck byteCheck early all _and_ _or_
-derivation-early = all-early (numbers derivationChecks) refl
+-- numbers that a test finds so
+pub early-of : (ks : List ℕ) → all (λ k. ltb 0 k and (leb k 9 or (ltb 21 k and ltb k 27))) ks ≡ true → (k : ℕ) → List·Memᴰ k ks → Early k
+unfolding early
+early-of = all-early
 
 pub query-early : (k : ℕ) → List·Memᴰ k (numbers queryChecks) → Early k
 unfolding queryChecks formChecks layoutCheck byteCheck early all _and_ _or_

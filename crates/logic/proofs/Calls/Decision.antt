@@ -3,32 +3,32 @@
 -- path, under any order list, is a refutation exactly if no finite heap meets the query and the facts of the path.
 use Prim.Native.Nat.{ℕ, zero, suc, _+_, _-_, _≤_, _<_}
 use native.Mathlib.Omega.{arith}
-use mathlib.Core.Path.{_≡_, refl, sym, ap, ap₂, _∙_, subst, subst₂}
+use mathlib.Core.Path.{_≡_, refl, sym, ap, ap₂, _∙_, subst, subst₂, fun-ext}
 use mathlib.Core.Logic.{_↔_, _⊎_, ⊎-elim, inl, inr}
 use mathlib.Core.Bool.{Bool, true, false, not, cond}
 use mathlib.Core.List.{List, [], _∷_, _++_, map, List·Memᴰ, List·Memᴰ·head, List·Memᴰ·tail, List·Memᴰ·not-nil, List·Memᴰ·cases-cons}
 use mathlib.Core.Option.{Option, none, some}
 use lib.ListN.{length, getD, length-map}
 use lib.Dec.{eqb}
-use Rattle.logic.specs.Search.{_and_, any, select}
-use Rattle.logic.specs.Query.{Query, isOrder, decode, termCount}
+use Rattle.logic.specs.Search.{_and_, select, firstOf}
+use Rattle.logic.specs.Query.{Query, isOrder, termCount}
 use Rattle.logic.specs.Heap.{Heap, Reaches, Meets, value}
-use Rattle.logic.specs.Facts.{Facts, Line, joinLines, live, liveTerms, linksOf, startJoins, start, doubled, successors, isClash, clashLines, clash}
-use Rattle.logic.specs.Rules.{Rule, Move, Fact, conditions, alternatives, held, applies, branch, add, branches, choose, moveLine}
+use Rattle.logic.specs.Facts.{Facts, Line, joinLines, live, liveTerms, linksOf, startJoins, start, linkNumbers, terms, firstTwo, doubled, successors, isClash, clashLines, clash}
+use Rattle.logic.specs.Rules.{Rule, Move, Fact, alternatives, applies, branch, add, branches, choose, moveLine}
 use Rattle.logic.specs.Walk.{Look, applying, look, Ending, refutation, saturation, after, thenEnding, walkBranch, walkEach, endAt, walk, Verdict, ourVerdict, orderOf}
 use Rattle.logic.specs.Steps.{Steps, at-first, one-more, AtMost}
 use Rattle.logic.specs.Shown.{shownLink, report, heapIn}
-use Rattle.logic.specs.Calls.{accepts}
+use Rattle.logic.specs.Calls.{CallForm, oneLinkForm}
 use Rattle.logic.specs.JoinPairs.{followPairs, timesReplaced}
 use Rattle.logic.specs.Decision.{MeetsPath, HasHeap, NoHeap, Reachable, Follows, is-held, itself, by-link, onward, Closes, Struck, PathsDecided}
-use Rattle.logic.proofs.Basics.Search.{true-false, not-of, and-left, find-some, map-mem, map-intro}
+use Rattle.logic.proofs.Basics.Search.{true-false, not-of, find-some, map-mem, map-intro}
 use Rattle.logic.proofs.Basics.Compare.{eqb-self, eq-cases, le-cases, cond-false}
 use Rattle.logic.proofs.Basics.Iterate.{reaches-refl, reaches-trans, reaches-next}
 use Rattle.logic.proofs.Query.Tied.{Accepted, Tied}
-use Rattle.logic.proofs.Query.AcceptedBytes.{accepted}
 use Rattle.logic.proofs.Paths.Extends.{Extends}
-use Rattle.logic.proofs.Paths.Ranged.{Ranged, live-range, live-rep}
+use Rattle.logic.proofs.Paths.Ranged.{InRange, Ranged, live-range, live-rep}
 use Rattle.logic.proofs.Paths.Kept.{Sane, Kept, add-kept}
+use Rattle.logic.proofs.Paths.Applies.{applies-linked, applies-met}
 use Rattle.logic.proofs.Paths.Start.{tied-kept}
 use Rattle.logic.proofs.Paths.Invariant.{Invariant, start-invariant, branch-invariant, alternatives-live}
 use Rattle.logic.proofs.Joins.Pairs.{accounts-branch, accounts-start, start-followed}
@@ -43,6 +43,8 @@ use Rattle.logic.proofs.Soundness.ClashSound.{clash-sound}
 use Rattle.logic.proofs.Completeness.Saturation.{saturated}
 use Rattle.logic.proofs.Completeness.ReportBytes.{place}
 use Rattle.logic.proofs.Completeness.ShownHeap.{rep-node, link-place, value-place, reach-exactly, shown}
+use Rattle.logic.proofs.Calls.CallLaws.{FormLaws}
+use Rattle.logic.proofs.Calls.Refusals.{one-link-laws}
 use Rattle.logic.proofs.Calls.Verdicts.{Model, completed}
 
 -- What is known of every path that is decided: the invariant, and that no number above the terms is replaced.
@@ -70,6 +72,13 @@ none-beyond n s b k t l h =
     let e : live n s t ≡ false = not-of (λ v. let r = live-range n s t v in omega arith) in
     h ∙ rw e refl
 
+-- doubled successors are read off the links alone
+doubled-alike : (n : ℕ) (s s′ : Facts) → s′ .links ≡ s .links → ((i : ℕ) → s′ .graph i .link ≡ s .graph i .link) → doubled n s ≡ none → doubled n s′ ≡ none
+unfolding doubled successors
+doubled-alike n s s′ e f h =
+    subst (λ (k : ℕ). firstOf (λ t. firstOf (λ i. firstTwo (select (s′ .graph i .link t) (terms n))) (linkNumbers k)) (terms n) ≡ none) (sym e)
+    (subst (λ (l : ℕ → ℕ → ℕ → Bool). firstOf (λ t. firstOf (λ i. firstTwo (select (l i t) (terms n))) (linkNumbers (s .links))) (terms n) ≡ none) (fun-ext (λ i. sym (f i))) h)
+
 module _ (q : Query) (ok : Accepted q) where
   abbrev n : ℕ
   n = termCount q
@@ -78,18 +87,14 @@ module _ (q : Query) (ok : Accepted q) where
   start-known =
       record {
         invariant = start-invariant q ok;
-        beyond = λ t l. start-followed q ok t ∙ followed-none (startJoins q .pairs) t (none-beyond n (linksOf (q .entries)) _ _ t l (accounts-start q ok .once t));
+        beyond = λ t l. start-followed q ok t ∙ followed-none (startJoins q .pairs) t (none-beyond n (linksOf q) _ _ t l (accounts-start q ok .once t));
       }
-
-  conditions-met : (s : Facts) (m : Move) → applies n s m ≡ true → conditions n (live n s) (s .graph) m ≡ true
-  unfolding applies
-  conditions-met s m app = and-left (conditions n (live n s) (s .graph) m) (not (any (held (s .graph)) (alternatives n (s .graph) m))) app
 
   branch-beyond : (s : Facts) (m : Move) (c : Fact) → Known q s → applies n s m ≡ true → List·Memᴰ c (alternatives n (s .graph) m) → (t : ℕ) → n < t → add n s c .rep t ≡ t
   unfolding add
   branch-beyond s m c k app mem t l =
       let r = k .invariant .sane .ranged in
-      let a = accounts-branch n s c (alternatives-live n s r m (conditions-met s m app) c mem) r in
+      let a = accounts-branch n s c (alternatives-live n s r m (applies-linked n s m app) (applies-met n s m app) c mem) r in
       a .followed t ∙ ap (followPairs (branch n s c .pairs)) (k .beyond t l) ∙ followed-none (branch n s c .pairs) t (none-beyond n s _ _ t l (a .once t))
 
   pub branch-known : (s : Facts) (m : Move) → Known q s → applies n s m ≡ true → (s′ : Facts) → List·Memᴰ s′ (branches n s m) → Known q s′
@@ -122,10 +127,10 @@ module _ (q : Query) (ok : Accepted q) where
             (λ le. between (live-range n s (s .rep t) (r .rep-live t (l, le)) .0) l (m .rep-value t l le))
             (λ lt. rw (k .beyond t lt) (same-refl (Val h) t l))
             (le-cases t n);
-        graph-true =
+        graph-true = λ i.
             record {
-              link-true = λ a b e. let (p, p′) = r .link-live a b e in between (live-range n s a p .0) (live-range n s b p′ .0) (m .link-true a b e);
-              reach-true = λ a b e. let (p, p′) = r .reach-live a b e in between (live-range n s a p .0) (live-range n s b p′ .0) (m .reach-true a b e);
+              link-true = λ a b e. let (p, p′) = r .link-live i a b e in between (live-range n s a p .0) (live-range n s b p′ .0) (m .link-true i a b e);
+              reach-true = λ a b e. let (p, p′) = r .reach-live i a b e in between (live-range n s a p .0) (live-range n s b p′ .0) (m .reach-true i a b e);
             };
       }
     where
@@ -137,8 +142,8 @@ module _ (q : Query) (ok : Accepted q) where
       record {
         meets = meets;
         rep-value = λ t l le. holds .rep-true t l .stands;
-        link-true = λ a b e. holds .graph-true .link-true a b e .stands;
-        reach-true = λ a b e. holds .graph-true .reach-true a b e .stands;
+        link-true = λ i a b e. holds .graph-true i .link-true a b e .stands;
+        reach-true = λ i a b e. holds .graph-true i .reach-true a b e .stands;
       }
 
   -- the start has a heap exactly if the query has
@@ -172,19 +177,19 @@ module _ (q : Query) (ok : Accepted q) where
         record {
           meets = m .meets;
           rep-value = λ t l le. sym (live-value (s .rep t) (k .invariant .sane .ranged .rep-live t (l, le))) ∙ ap (Val h) (sym (e .rep-renamed t)) ∙ m .rep-value t l le;
-          link-true = λ a b held.
-              let (p, p′) = k .invariant .sane .ranged .link-live a b held in
-              ap (h .link) (sym (live-value a p)) ∙ m .link-true (e .renames a) (e .renames b) (e .link-kept a b held) ∙ live-value b p′;
-          reach-true = λ a b held.
-              let (p, p′) = k .invariant .sane .ranged .reach-live a b held in
-              subst₂ (Reaches (h .link)) (live-value a p) (live-value b p′) (m .reach-true (e .renames a) (e .renames b) (e .reach-kept a b held));
+          link-true = λ i a b held.
+              let (p, p′) = k .invariant .sane .ranged .link-live i a b held in
+              ap (h .link i) (sym (live-value a p)) ∙ m .link-true i (e .renames a) (e .renames b) (e .link-kept i a b held) ∙ live-value b p′;
+          reach-true = λ i a b held.
+              let (p, p′) = k .invariant .sane .ranged .reach-live i a b held in
+              subst₂ (Reaches (h .link i)) (live-value a p) (live-value b p′) (m .reach-true i (e .renames a) (e .renames b) (e .reach-kept i a b held));
         }
 
   pub branch-heap : (s : Facts) → Known q s → (m : Move) → applies n s m ≡ true → (s′ : Facts) → List·Memᴰ s′ (branches n s m) → HasHeap q s′ → HasHeap q s
   unfolding branches
   branch-heap s k m app s′ mem (h, mp) =
       let (c, i, e) = map-mem (add n s) s′ (alternatives n (s .graph) m) mem in
-      let l = alternatives-live n s (k .invariant .sane .ranged) m (conditions-met s m app) c i in
+      let l = alternatives-live n s (k .invariant .sane .ranged) m (applies-linked n s m app) (applies-met n s m app) c i in
       let x = add-kept n s c l (k .invariant .sane) .extends in
       (h, extended-back s s′ k (branch-known s m k app s′ mem) (subst (Extends s) (sym e) x) h mp)
 
@@ -195,26 +200,28 @@ module _ (q : Query) (ok : Accepted q) where
   saturated-heap s k order full free idle =
       let i = k .invariant in
       let r = i .sane .ranged in
-      let m : Model q s = record { invariant = i; no-clash = free; no-rule = saturated n s order full (i .sane) idle } in
+      let m : Model q s = record { invariant = i; no-clash = free; no-rule = λ j l. saturated n s order full (i .sane) idle j (subst (λ (c : ℕ). (1 ≤ j) × (j ≤ c)) (sym (i .tied .same-links)) l) } in
       let comp = completed q ok s m in
-      let h : Heap = heapIn (report q s ++ []) in
+      let linked : (j : ℕ) → InRange (s .links) j → InRange (q .links) j = λ j l. subst (λ (c : ℕ). InRange c j) (i .tied .same-links) l in
+      let h : Heap = heapIn (q .links) (report q s ++ []) in
       let at : (t : ℕ) → 1 ≤ t → t ≤ n → Val h t ≡ place q s (s .rep t) = λ t l le. value-place q s ok (i .tied) comp [] t (l, le) in
       let stay : (t : ℕ) → live n s t ≡ true → Val h t ≡ place q s t = λ t l. let g = live-range n s t l in at t (g .0) (g .1) ∙ ap (place q s) (live-rep n s t l) in (
         h,
         record {
           meets = shown q s ok (i .tied) comp free [] .meets;
           rep-value = λ t l le. stay (s .rep t) (r .rep-live t (l, le)) ∙ sym (at t l le);
-          link-true = λ a b e.
-              let (p, p′) = r .link-live a b e in
+          link-true = λ j a b e.
+              let (p, p′) = r .link-live j a b e in
               let g = live-range n s a p in
-              ap (h .link) (at a (g .0) (g .1))
-              ∙ link-place q s ok (i .tied) comp [] (s .rep a) (rep-node q s ok (i .tied) comp a g)
-              ∙ ap (place q s) (comp .completed-known (s .rep a) b (subst (λ (x : ℕ). s .graph .link x b ≡ true) (sym (live-rep n s a p)) e))
+              let l = linked j (r .link-linked j a b e) in
+              ap (h .link j) (at a (g .0) (g .1))
+              ∙ link-place q s ok (i .tied) comp [] j l (s .rep a) (rep-node q s ok (i .tied) comp a g)
+              ∙ ap (place q s) (comp j l .completed-known (s .rep a) b (subst (λ (x : ℕ). s .graph j .link x b ≡ true) (sym (live-rep n s a p)) e))
               ∙ sym (stay b p′);
-          reach-true = λ a b e.
-              let (p, p′) = r .reach-live a b e in
-              reach-exactly q s ok (i .tied) comp [] a b (live-range n s a p) (live-range n s b p′) .0
-              (subst₂ (λ (x y : ℕ). s .graph .reach x y ≡ true) (sym (live-rep n s a p)) (sym (live-rep n s b p′)) e);
+          reach-true = λ j a b e.
+              let (p, p′) = r .reach-live j a b e in
+              reach-exactly q s ok (i .tied) comp [] j (linked j (r .reach-linked j a b e)) a b (live-range n s a p) (live-range n s b p′) .0
+              (subst₂ (λ (x y : ℕ). s .graph j .reach x y ≡ true) (sym (live-rep n s a p)) (sym (live-rep n s b p′)) e);
         },
       )
 
@@ -323,17 +330,17 @@ module _ (q : Query) (ok : Accepted q) where
   -- Closing a path under REFLEX, TRANS1 and TRANS2 changes no heap
 
   module _ (s s′ : Facts) (known : Known q s) (cl : Closes n s s′) where
-    follows-live : {a b : ℕ} → Follows (live n s) (s .graph .link) (s .graph .reach) a b → (live n s a ≡ true) × (live n s b ≡ true)
-    follows-live (is-held e) = known .invariant .sane .ranged .reach-live _ _ e
-    follows-live (itself e) = (e, e)
-    follows-live (by-link e) = known .invariant .sane .ranged .link-live _ _ e
-    follows-live (onward f g) = (follows-live f .0, follows-live g .1)
+    follows-live : (i : ℕ) {a b : ℕ} → Follows (live n s) (s .graph i .link) (s .graph i .reach) a b → (live n s a ≡ true) × (live n s b ≡ true)
+    follows-live i (is-held e) = known .invariant .sane .ranged .reach-live i _ _ e
+    follows-live i (itself e) = (e, e)
+    follows-live i (by-link e) = known .invariant .sane .ranged .link-live i _ _ e
+    follows-live i (onward f g) = (follows-live i f .0, follows-live i g .1)
 
-    follows-true : (h : Heap) → MeetsPath h q s → {a b : ℕ} → Follows (live n s) (s .graph .link) (s .graph .reach) a b → Reaches (h .link) (Val h a) (Val h b)
-    follows-true h m (is-held e) = m .reach-true _ _ e
-    follows-true h m (itself {a = a} e) = reaches-refl (h .link) (Val h a)
-    follows-true h m (by-link {a = a} {b = b} e) = subst (Reaches (h .link) (Val h a)) (m .link-true a b e) (reaches-next (h .link) (Val h a))
-    follows-true h m (onward {a = a} {b = b} {c = c} f g) = reaches-trans (h .link) (Val h a) (Val h b) (Val h c) (follows-true h m f) (follows-true h m g)
+    follows-true : (h : Heap) → MeetsPath h q s → (i : ℕ) {a b : ℕ} → Follows (live n s) (s .graph i .link) (s .graph i .reach) a b → Reaches (h .link i) (Val h a) (Val h b)
+    follows-true h m i (is-held e) = m .reach-true i _ _ e
+    follows-true h m i (itself {a = a} e) = reaches-refl (h .link i) (Val h a)
+    follows-true h m i (by-link {a = a} {b = b} e) = subst (Reaches (h .link i) (Val h a)) (m .link-true i a b e) (reaches-next (h .link i) (Val h a))
+    follows-true h m i (onward {a = a} {b = b} {c = c} f g) = reaches-trans (h .link i) (Val h a) (Val h b) (Val h c) (follows-true h m i f) (follows-true h m i g)
 
     same-live : (t : ℕ) → live n s t ≡ true → live n s′ t ≡ true
     unfolding live
@@ -344,22 +351,27 @@ module _ (q : Query) (ok : Accepted q) where
         record {
           renames = λ t. t;
           rep-renamed = λ t. ap (λ (r : ℕ → ℕ). r t) (cl .same-rep);
-          link-kept = λ a b e. ap (λ (r : ℕ → ℕ → Bool). r a b) (cl .same-link) ∙ e;
+          same-links = cl .same-links;
+          link-kept = λ i a b e. ap (λ (r : ℕ → ℕ → Bool). r a b) (cl .same-link i) ∙ e;
           reach-kept = cl .reach-kept;
         }
 
+    held-link : (i a b : ℕ) → s′ .graph i .link a b ≡ true → s .graph i .link a b ≡ true
+    held-link i a b e = ap (λ (f : ℕ → ℕ → Bool). f a b) (sym (cl .same-link i)) ∙ e
+
     sane : Sane n s′
-    unfolding doubled successors
     sane =
         let r = known .invariant .sane .ranged in
         record {
           ranged =
               record {
                 rep-live = λ t i. subst (λ (f : ℕ → ℕ). live n s′ (f t) ≡ true) (sym (cl .same-rep)) (same-live (s .rep t) (r .rep-live t i));
-                link-live = λ a b e. let (p, p′) = r .link-live a b (ap (λ (f : ℕ → ℕ → Bool). f a b) (sym (cl .same-link)) ∙ e) in (same-live a p, same-live b p′);
-                reach-live = λ a b e. let (p, p′) = follows-live (cl .reach-follows a b e) in (same-live a p, same-live b p′);
+                link-live = λ i a b e. let (p, p′) = r .link-live i a b (held-link i a b e) in (same-live a p, same-live b p′);
+                reach-live = λ i a b e. let (p, p′) = follows-live i (cl .reach-follows i a b e) in (same-live a p, same-live b p′);
+                link-linked = λ i a b e. subst (λ (k : ℕ). InRange k i) (sym (cl .same-links)) (r .link-linked i a b (held-link i a b e));
+                reach-linked = λ i a b e. subst (λ (k : ℕ). InRange k i) (sym (cl .same-links)) (cl .reach-linked i a b e);
               };
-          single = rw (cl .same-link) (known .invariant .sane .single);
+          single = doubled-alike n s s′ (cl .same-links) (cl .same-link) (known .invariant .sane .single);
         }
 
     pub closed-known : Known q s′
@@ -375,8 +387,8 @@ module _ (q : Query) (ok : Accepted q) where
       record {
         meets = m .meets;
         rep-value = λ t l le. subst (λ (r : ℕ → ℕ). Val h (r t) ≡ Val h t) (sym (cl .same-rep)) (m .rep-value t l le);
-        link-true = λ a b e. m .link-true a b (ap (λ (f : ℕ → ℕ → Bool). f a b) (sym (cl .same-link)) ∙ e);
-        reach-true = λ a b e. follows-true h m (cl .reach-follows a b e);
+        link-true = λ i a b e. m .link-true i a b (held-link i a b e);
+        reach-true = λ i a b e. follows-true h m i (cl .reach-follows i a b e);
       },
     )
 
@@ -399,9 +411,12 @@ verdicts q ok order full k s known most = go (walk q order k s) refl
         let has = walk-saturation q ok order full k s known most t e in
         ((λ f. has, λ h. refl), (λ f. absurd (apart f), λ f. absurd (f has)))
 
-pub paths-decided : PathsDecided
-paths-decided =
+pub paths-decided-of : (f : CallForm) → FormLaws f → PathsDecided f
+paths-decided-of f laws =
     record {
-      satisfiable-exactly = λ query order s k a o r most. let ok = accepted query a in verdicts (decode query) ok (orderOf order) (order-full order o) k s (reachable-known (decode query) ok s r) most .0;
-      refuted-exactly = λ query order s k a o r most. let ok = accepted query a in verdicts (decode query) ok (orderOf order) (order-full order o) k s (reachable-known (decode query) ok s r) most .1;
+      satisfiable-exactly = λ query order s k a o r most. let ok = laws .accepted-query query a in verdicts (f .decode query) ok (orderOf order) (order-full order o) k s (reachable-known (f .decode query) ok s r) most .0;
+      refuted-exactly = λ query order s k a o r most. let ok = laws .accepted-query query a in verdicts (f .decode query) ok (orderOf order) (order-full order o) k s (reachable-known (f .decode query) ok s r) most .1;
     }
+
+pub paths-decided : PathsDecided oneLinkForm
+paths-decided = paths-decided-of oneLinkForm one-link-laws

@@ -9,20 +9,18 @@ use lib.ListN.{length}
 use lib.Dec.{ltb}
 use borrow.Author.Tests.{lt-ltb, le-ltb}
 use Rattle.logic.specs.Search.{_or_}
-use Rattle.logic.specs.Query.{decode}
 use Rattle.logic.specs.Heap.{Satisfiable}
 use Rattle.logic.specs.Facts.{Facts, Line}
 use Rattle.logic.specs.Walk.{Ending, refutation, saturation}
 use Rattle.logic.specs.Derivation.{derivationBytes, linesIn}
-use Rattle.logic.specs.Calls.{Input, derivationChecks, Outcome, Answer, refused, padded, blank, derivationOf, derivationCall}
+use Rattle.logic.specs.Calls.{Input, CallForm, derivationChecksOf, Outcome, Answer, refused, padded, blank, derivationOf, derivationCallOf}
 use Rattle.logic.specs.Demands.{NotRefused, NoneStands, numbers, walkOf, Refusals, Fits, Exceeds}
 use Rattle.logic.proofs.Basics.Search.{or-left, or-right}
 use Rattle.logic.proofs.Basics.Compare.{le-cases, cond-true}
-use Rattle.logic.proofs.Query.AcceptedBytes.{accepted}
 use Rattle.logic.proofs.Calls.Verdicts.{our-model, our-refuted, model-satisfiable}
-use Rattle.logic.proofs.Calls.CheckingOrder.{derivation-early, first-numbered}
-use Rattle.logic.proofs.Calls.CallLaws.{derivation-passed, blank-length}
-use Rattle.logic.proofs.Calls.Refusals.{refused-one, blank-answer, blank-lent, Late, Lawful, CallCase, by-check, by-walk, call-case, call-clear, refusals, derivation-placed}
+use Rattle.logic.proofs.Calls.CheckingOrder.{first-numbered}
+use Rattle.logic.proofs.Calls.CallLaws.{FormLaws, derivation-passed, blank-length}
+use Rattle.logic.proofs.Calls.Refusals.{refused-one, blank-answer, blank-lent, Late, Lawful, CallCase, by-check, by-walk, call-case, call-clear, refusals, derivation-early, derivation-placed}
 use Rattle.logic.proofs.Calls.VerdictCall.{refused-refuted}
 use Rattle.logic.proofs.Calls.DerivationBytes.{derivation-fits, lines-padded}
 
@@ -76,144 +74,146 @@ ends-whole room w o (at-lines ls m f e) = ap (λ (x : Outcome). length (x .lent)
 pub derivation-whole : (room : ℕ) (w : Ending) → length (derivationOf room w .lent) ≡ room
 derivation-whole room w = ends-whole room w (derivationOf room w) (ends room w)
 
-abbrev derivationAt : Input → Ending → Outcome
-derivationAt i = derivationOf (i .room)
+module _ (f : CallForm) (laws : FormLaws f) where
+  abbrev derivationAt : Input → Ending → Outcome
+  derivationAt i = derivationOf (i .room)
 
-derivation-lawful : Lawful derivationChecks derivationAt
-unfolding derivationOf
-derivation-lawful =
-    record {
-      early = derivation-early;
-      placed = derivation-placed;
-      late = λ i w k place h. ends-late (i .room) w _ k place (ends (i .room) w) h;
-      whole = λ i h. derivation-whole (i .room) (walkOf i);
-    }
-
-pub derivation-refusals : Refusals derivationChecks derivationCall
-unfolding derivationCall
-derivation-refusals = refusals derivationChecks derivationAt derivation-lawful
-
-pub derivation-of : (i : Input) → NoneStands derivationChecks i → derivationCall i ≡ derivationAt i (walkOf i)
-unfolding derivationCall
-derivation-of i h = call-clear derivationChecks (derivationAt i) i h
-
--- Why the call answers what it does.
-abbrev Modelled : Input → Type 0
-Modelled i = NoneStands derivationChecks i × ((s : Facts) × (walkOf i ≡ saturation s))
-
-abbrev Lines : (ℕ → List Line → Type 0) → Input → Type 0
-Lines P i = NoneStands derivationChecks i × ((ls : List Line) × (walkOf i ≡ refutation ls) × P (i .room) ls)
-
-abbrev pub Reason : Input → Answer → Type 0
-Reason i (refused k place) = List·Memᴰ k (numbers derivationChecks) ⊎ ((place ≡ 0) × (((k ≡ 11) × Modelled i) ⊎ ((k ≡ 12) × Lines Exceeds i)))
-Reason i Answer.satisfiable = ⊥
-Reason i Answer.refuted = Lines Fits i
-
-ends-reason : (i : Input) (o : Outcome) → NoneStands derivationChecks i → Ends (i .room) (walkOf i) o → Reason i (o .answer)
-ends-reason i o n (at-model s w e) = subst (Reason i) (sym (blank-answer o (i .room) _ e)) (inr (refl, inl (refl, (n, (s, w)))))
-ends-reason i o n (at-excess ls w x e) = subst (Reason i) (sym (blank-answer o (i .room) _ e)) (inr (refl, inr (refl, (n, (ls, w, x)))))
-ends-reason i o n (at-lines ls w f e) = subst (Reason i) (sym (ap (λ (x : Outcome). x .answer) e)) (n, (ls, w, f))
-
-case-reason : (i : Input) (o : Outcome) → CallCase derivationChecks derivationAt i o → Reason i (o .answer)
-case-reason i o (by-check k place f e) =
-    subst (Reason i) (sym (blank-answer o (i .room) _ e)) (inl (first-numbered derivationChecks i k place f))
-case-reason i o (by-walk n e) = ends-reason i o n (subst (Ends (i .room) (walkOf i)) (sym e) (ends (i .room) (walkOf i)))
-
-reason : (i : Input) → Reason i (derivationCall i .answer)
-unfolding derivationCall
-reason i = case-reason i _ (call-case derivationChecks derivationAt derivation-lawful i)
-
-module _ (i : Input) where
-  abbrev a : Answer
-  a = derivationCall i .answer
-
-  pub never-satisfiable : a ≡ Answer.satisfiable → ⊥
-  never-satisfiable h = subst (Reason i) h (reason i)
-
-  -- 11 and 12 are no checks
-  no-check : (k : ℕ) → 11 ≤ k → k ≤ 12 → List·Memᴰ k (numbers derivationChecks) → ⊥
-  no-check k l u m = ⊎-elim (λ v. omega (arith, v, l)) (λ e. omega (arith, e, u)) (derivation-early k m .1)
-
-  -- 11: the walk found a model
-  eleven : (place : ℕ) → a ≡ refused 11 place → (place ≡ 0) × Modelled i
-  eleven place h =
-      ⊎-elim (λ l. absurd (no-check 11 (omega arith) (omega arith) l)) (λ r. (r .0, ⊎-elim (λ m. m .1) (λ m. absurd (omega (arith, m .0))) (r .1))) (subst (Reason i) h (reason i))
-
-  twelve : (place : ℕ) → a ≡ refused 12 place → (place ≡ 0) × Lines Exceeds i
-  twelve place h =
-      ⊎-elim (λ l. absurd (no-check 12 (omega arith) (omega arith) l)) (λ r. (r .0, ⊎-elim (λ m. absurd (omega (arith, m .0))) (λ m. m .1) (r .1))) (subst (Reason i) h (reason i))
-
-  lines : a ≡ Answer.refuted → Lines Fits i
-  lines h = subst (Reason i) h (reason i)
-
-  -- a walk has a model or lines
-  modelled-satisfiable : Modelled i → Satisfiable (decode (i .query))
-  modelled-satisfiable (n, (s, w)) =
-      let p = derivation-passed i n in
-      let ok = accepted (i .query) (p .query) in
-      model-satisfiable (decode (i .query)) ok s (our-model (decode (i .query)) ok (i .order) (p .order) s w)
-
-  lines-unsatisfiable : NoneStands derivationChecks i → (ls : List Line) → walkOf i ≡ refutation ls → Satisfiable (decode (i .query)) → ⊥
-  lines-unsatisfiable n ls w = our-refuted (decode (i .query)) (accepted (i .query) (derivation-passed i n .query)) (i .order) ls w
-
-  found : NoneStands derivationChecks i → Satisfiable (decode (i .query)) → (s : Facts) × (walkOf i ≡ saturation s)
-  found n h = go (walkOf i) refl
-    where
-      go : (w : Ending) → walkOf i ≡ w → (s : Facts) × (walkOf i ≡ saturation s)
-      go (refutation ls) e = absurd (lines-unsatisfiable n ls e h)
-      go (saturation s) e = (s, e)
-
-  pub model-answered : (s : Facts) → NoneStands derivationChecks i → walkOf i ≡ saturation s → a ≡ refused 11 0
+  derivation-lawful : Lawful f (derivationChecksOf f) derivationAt
   unfolding derivationOf
-  model-answered s n w = blank-answer (derivationCall i) (i .room) _ (derivation-of i n ∙ ap (derivationAt i) w)
+  derivation-lawful =
+      record {
+        early = derivation-early f laws;
+        placed = derivation-placed f laws;
+        late = λ i w k place h. ends-late (i .room) w _ k place (ends (i .room) w) h;
+        whole = λ i h. derivation-whole (i .room) (walkOf f i);
+      }
 
-  pub heap-exactly : (place : ℕ) → (a ≡ refused 11 place) ↔ ((place ≡ 0) × NoneStands derivationChecks i × Satisfiable (decode (i .query)))
-  heap-exactly place = (
-    λ h. let (z, m) = eleven place h in (z, m .0, modelled-satisfiable m),
-    λ h. let f = found (h .1) (h .2) in model-answered (f .0) (h .1) (f .1) ∙ ap (refused 11) (sym (h .0)),
-  )
+  pub derivation-refusals : Refusals (derivationChecksOf f) (f .longest) (derivationCallOf f)
+  unfolding derivationCallOf
+  derivation-refusals = refusals f (derivationChecksOf f) derivationAt derivation-lawful
 
-  pub excess-exactly : (place : ℕ) → (a ≡ refused 12 place) ↔ ((place ≡ 0) × NoneStands derivationChecks i × (Satisfiable (decode (i .query)) → ⊥) × ((ls : List Line) × (walkOf i ≡ refutation ls) × Exceeds (i .room) ls))
-  excess-exactly place = (
-    λ h. let (z, l) = twelve place h in (z, l .0, lines-unsatisfiable (l .0) (l .1 .0) (l .1 .1), l .1),
-    λ h. blank-answer (derivationCall i) (i .room) _ (derivation-of i (h .1) ∙ ap (derivationAt i) (h .3 .1) ∙ lines-exceed (i .room) (h .3 .0) (h .3 .2)) ∙ ap (refused 12) (sym (h .0)),
-  )
+  pub derivation-of : (i : Input) → NoneStands (derivationChecksOf f) i → derivationCallOf f i ≡ derivationAt i (walkOf f i)
+  unfolding derivationCallOf
+  derivation-of i h = call-clear f (derivationChecksOf f) (derivationAt i) i h
 
-  pub lines-exactly : (a ≡ Answer.refuted) ↔ (NoneStands derivationChecks i × ((ls : List Line) × (walkOf i ≡ refutation ls) × Fits (i .room) ls))
-  lines-exactly = (
-    lines,
-    λ h. ap (λ (o : Outcome). o .answer) (derivation-of i (h .0) ∙ ap (derivationAt i) (h .1 .1) ∙ lines-fit (i .room) (h .1 .0) (h .1 .2)),
-  )
+  -- Why the call answers what it does.
+  abbrev Modelled : Input → Type 0
+  Modelled i = NoneStands (derivationChecksOf f) i × ((s : Facts) × (walkOf f i ≡ saturation s))
 
-  -- the model behind an 11, and "refuted" where there is no refusal
-  pub eleven-modelled : (place : ℕ) → a ≡ refused 11 place → NoneStands derivationChecks i × ((s : Facts) × (walkOf i ≡ saturation s))
-  eleven-modelled place h = eleven place h .1
+  abbrev Lines : (ℕ → List Line → Type 0) → Input → Type 0
+  Lines P i = NoneStands (derivationChecksOf f) i × ((ls : List Line) × (walkOf f i ≡ refutation ls) × P (i .room) ls)
 
-  pub unrefused-refuted : NotRefused a → a ≡ Answer.refuted
-  unrefused-refuted h = go a refl
-    where
-      go : (b : Answer) → derivationCall i .answer ≡ b → derivationCall i .answer ≡ Answer.refuted
-      go (refused k place) e = absurd (h k place e)
-      go Answer.satisfiable e = absurd (never-satisfiable e)
-      go Answer.refuted e = e
+  abbrev pub Reason : Input → Answer → Type 0
+  Reason i (refused k place) = List·Memᴰ k (numbers (derivationChecksOf f)) ⊎ ((place ≡ 0) × (((k ≡ 11) × Modelled i) ⊎ ((k ≡ 12) × Lines Exceeds i)))
+  Reason i Answer.satisfiable = ⊥
+  Reason i Answer.refuted = Lines Fits i
+
+  ends-reason : (i : Input) (o : Outcome) → NoneStands (derivationChecksOf f) i → Ends (i .room) (walkOf f i) o → Reason i (o .answer)
+  ends-reason i o n (at-model s w e) = subst (Reason i) (sym (blank-answer o (i .room) _ e)) (inr (refl, inl (refl, (n, (s, w)))))
+  ends-reason i o n (at-excess ls w x e) = subst (Reason i) (sym (blank-answer o (i .room) _ e)) (inr (refl, inr (refl, (n, (ls, w, x)))))
+  ends-reason i o n (at-lines ls w g e) = subst (Reason i) (sym (ap (λ (x : Outcome). x .answer) e)) (n, (ls, w, g))
+
+  case-reason : (i : Input) (o : Outcome) → CallCase f (derivationChecksOf f) derivationAt i o → Reason i (o .answer)
+  case-reason i o (by-check k place c e) =
+      subst (Reason i) (sym (blank-answer o (i .room) _ e)) (inl (first-numbered (derivationChecksOf f) i k place c))
+  case-reason i o (by-walk n e) = ends-reason i o n (subst (Ends (i .room) (walkOf f i)) (sym e) (ends (i .room) (walkOf f i)))
+
+  reason : (i : Input) → Reason i (derivationCallOf f i .answer)
+  unfolding derivationCallOf
+  reason i = case-reason i _ (call-case f (derivationChecksOf f) derivationAt derivation-lawful i)
+
+  module _ (i : Input) where
+    abbrev a : Answer
+    a = derivationCallOf f i .answer
+
+    pub never-satisfiable : a ≡ Answer.satisfiable → ⊥
+    never-satisfiable h = subst (Reason i) h (reason i)
+
+    -- 11 and 12 are no checks
+    no-check : (k : ℕ) → 11 ≤ k → k ≤ 12 → List·Memᴰ k (numbers (derivationChecksOf f)) → ⊥
+    no-check k l u m = ⊎-elim (λ v. omega (arith, v, l)) (λ e. omega (arith, e, u)) (derivation-early f laws k m .1)
+
+    -- 11: the walk found a model
+    eleven : (place : ℕ) → a ≡ refused 11 place → (place ≡ 0) × Modelled i
+    eleven place h =
+        ⊎-elim (λ l. absurd (no-check 11 (omega arith) (omega arith) l)) (λ r. (r .0, ⊎-elim (λ m. m .1) (λ m. absurd (omega (arith, m .0))) (r .1))) (subst (Reason i) h (reason i))
+
+    twelve : (place : ℕ) → a ≡ refused 12 place → (place ≡ 0) × Lines Exceeds i
+    twelve place h =
+        ⊎-elim (λ l. absurd (no-check 12 (omega arith) (omega arith) l)) (λ r. (r .0, ⊎-elim (λ m. absurd (omega (arith, m .0))) (λ m. m .1) (r .1))) (subst (Reason i) h (reason i))
+
+    lines : a ≡ Answer.refuted → Lines Fits i
+    lines h = subst (Reason i) h (reason i)
+
+    -- a walk has a model or lines
+    modelled-satisfiable : Modelled i → Satisfiable (f .decode (i .query))
+    modelled-satisfiable (n, (s, w)) =
+        let p = derivation-passed f laws i n in
+        let ok = laws .accepted-query (i .query) (p .query) in
+        model-satisfiable (f .decode (i .query)) ok s (our-model (f .decode (i .query)) ok (i .order) (p .order) s w)
+
+    lines-unsatisfiable : NoneStands (derivationChecksOf f) i → (ls : List Line) → walkOf f i ≡ refutation ls → Satisfiable (f .decode (i .query)) → ⊥
+    lines-unsatisfiable n ls w = our-refuted (f .decode (i .query)) (laws .accepted-query (i .query) (derivation-passed f laws i n .query)) (i .order) ls w
+
+    found : NoneStands (derivationChecksOf f) i → Satisfiable (f .decode (i .query)) → (s : Facts) × (walkOf f i ≡ saturation s)
+    found n h = go (walkOf f i) refl
+      where
+        go : (w : Ending) → walkOf f i ≡ w → (s : Facts) × (walkOf f i ≡ saturation s)
+        go (refutation ls) e = absurd (lines-unsatisfiable n ls e h)
+        go (saturation s) e = (s, e)
+
+    pub model-answered : (s : Facts) → NoneStands (derivationChecksOf f) i → walkOf f i ≡ saturation s → a ≡ refused 11 0
+    unfolding derivationOf
+    model-answered s n w = blank-answer (derivationCallOf f i) (i .room) _ (derivation-of i n ∙ ap (derivationAt i) w)
+
+    pub heap-exactly : (place : ℕ) → (a ≡ refused 11 place) ↔ ((place ≡ 0) × NoneStands (derivationChecksOf f) i × Satisfiable (f .decode (i .query)))
+    heap-exactly place = (
+      λ h. let (z, m) = eleven place h in (z, m .0, modelled-satisfiable m),
+      λ h. let g = found (h .1) (h .2) in model-answered (g .0) (h .1) (g .1) ∙ ap (refused 11) (sym (h .0)),
+    )
+
+    pub excess-exactly : (place : ℕ) → (a ≡ refused 12 place) ↔ ((place ≡ 0) × NoneStands (derivationChecksOf f) i × (Satisfiable (f .decode (i .query)) → ⊥) × ((ls : List Line) × (walkOf f i ≡ refutation ls) × Exceeds (i .room) ls))
+    excess-exactly place = (
+      λ h. let (z, l) = twelve place h in (z, l .0, lines-unsatisfiable (l .0) (l .1 .0) (l .1 .1), l .1),
+      λ h. blank-answer (derivationCallOf f i) (i .room) _ (derivation-of i (h .1) ∙ ap (derivationAt i) (h .3 .1) ∙ lines-exceed (i .room) (h .3 .0) (h .3 .2)) ∙ ap (refused 12) (sym (h .0)),
+    )
+
+    pub lines-exactly : (a ≡ Answer.refuted) ↔ (NoneStands (derivationChecksOf f) i × ((ls : List Line) × (walkOf f i ≡ refutation ls) × Fits (i .room) ls))
+    lines-exactly = (
+      lines,
+      λ h. ap (λ (o : Outcome). o .answer) (derivation-of i (h .0) ∙ ap (derivationAt i) (h .1 .1) ∙ lines-fit (i .room) (h .1 .0) (h .1 .2)),
+    )
+
+    -- the model behind an 11, and "refuted" where there is no refusal
+    pub eleven-modelled : (place : ℕ) → a ≡ refused 11 place → NoneStands (derivationChecksOf f) i × ((s : Facts) × (walkOf f i ≡ saturation s))
+    eleven-modelled place h = eleven place h .1
+
+    pub unrefused-refuted : NotRefused a → a ≡ Answer.refuted
+    unrefused-refuted h = go a refl
+      where
+        go : (b : Answer) → derivationCallOf f i .answer ≡ b → derivationCallOf f i .answer ≡ Answer.refuted
+        go (refused k place) e = absurd (h k place e)
+        go Answer.satisfiable e = absurd (never-satisfiable e)
+        go Answer.refuted e = e
 
 -- where it answers "refuted", what it leaves are the lines of our walk
-pub record Derived (i : Input) (bytes : List ℕ) : Type 0 where
-  pub walked : walkOf i ≡ refutation (linesIn bytes)
+pub record Derived (f : CallForm) (i : Input) (bytes : List ℕ) : Type 0 where
+  pub walked : walkOf f i ≡ refutation (linesIn bytes)
   pub fits : Fits (i .room) (linesIn bytes)
   pub formed : bytes ≡ padded (i .room) (derivationBytes (linesIn bytes))
 
-written-derived : (i : Input) (ls : List Line) → walkOf i ≡ refutation ls → Fits (i .room) ls → Derived i (padded (i .room) (derivationBytes ls))
-written-derived i ls w f =
-    let e = lines-padded (i .room) ls in
-    record {
-      walked = w ∙ ap refutation (sym e);
-      fits = subst (Fits (i .room)) (sym e) f;
-      formed = ap (λ (ms : List Line). padded (i .room) (derivationBytes ms)) (sym e);
-    }
+module _ (f : CallForm) (laws : FormLaws f) where
+  written-derived : (i : Input) (ls : List Line) → walkOf f i ≡ refutation ls → Fits (i .room) ls → Derived f i (padded (i .room) (derivationBytes ls))
+  written-derived i ls w g =
+      let e = lines-padded (i .room) ls in
+      record {
+        walked = w ∙ ap refutation (sym e);
+        fits = subst (Fits (i .room)) (sym e) g;
+        formed = ap (λ (ms : List Line). padded (i .room) (derivationBytes ms)) (sym e);
+      }
 
-pub derived : (i : Input) → derivationCall i .answer ≡ Answer.refuted → Derived i (derivationCall i .lent)
-derived i h =
-    let (n, (ls, w, f)) = lines i h in
-    let e : derivationCall i ≡ written (i .room) ls = derivation-of i n ∙ ap (derivationAt i) w ∙ lines-fit (i .room) ls f in
-    subst (Derived i) (sym (ap (λ (o : Outcome). o .lent) e)) (written-derived i ls w f)
+  pub derived : (i : Input) → derivationCallOf f i .answer ≡ Answer.refuted → Derived f i (derivationCallOf f i .lent)
+  derived i h =
+      let (n, (ls, w, g)) = lines f laws i h in
+      let e : derivationCallOf f i ≡ written (i .room) ls = derivation-of f laws i n ∙ ap (derivationAt f laws i) w ∙ lines-fit (i .room) ls g in
+      subst (Derived f i) (sym (ap (λ (o : Outcome). o .lent) e)) (written-derived i ls w g)

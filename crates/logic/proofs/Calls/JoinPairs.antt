@@ -1,25 +1,25 @@
 -- The pairs account for what joining makes of every path of a walk.
-use mathlib.Core.Bool.{not}
-use Rattle.logic.specs.Search.{any}
-use Rattle.logic.specs.Query.{decode, termCount}
-use Rattle.logic.specs.Facts.{live}
-use Rattle.logic.specs.Rules.{conditions, alternatives, held, applies}
+use Rattle.logic.specs.Query.{termCount}
+use Rattle.logic.specs.Calls.{CallForm, oneLinkForm}
 use Rattle.logic.specs.JoinPairs.{PairsAccount}
-use Rattle.logic.proofs.Basics.Search.{and-left}
-use Rattle.logic.proofs.Query.AcceptedBytes.{accepted}
+use Rattle.logic.proofs.Paths.Applies.{applies-linked, applies-met}
 use Rattle.logic.proofs.Paths.Invariant.{alternatives-live}
 use Rattle.logic.proofs.Joins.Pairs.{accounts-branch, accounts-start, start-followed}
+use Rattle.logic.proofs.Calls.CallLaws.{FormLaws}
+use Rattle.logic.proofs.Calls.Refusals.{one-link-laws}
 use Rattle.logic.proofs.Calls.Reordering.{held-sane}
 
-pub pairs-account : PairsAccount
-unfolding applies
-pairs-account =
+pub pairs-account-of : (f : CallForm) → FormLaws f → PairsAccount f
+pairs-account-of f laws =
     record {
-      start-pairs = λ query a. accounts-start (decode query) (accepted query a);
-      start-followed = λ query a. start-followed (decode query) (accepted query a);
+      start-pairs = λ query a. accounts-start (f .decode query) (laws .accepted-query query a);
+      start-followed = λ query a. start-followed (f .decode query) (laws .accepted-query query a);
       branch-pairs = λ query s m c a h app mem.
-          let n = termCount (decode query) in
-          let r = held-sane (decode query) (accepted query a) s h .ranged in
+          let n = termCount (f .decode query) in
+          let r = held-sane (f .decode query) (laws .accepted-query query a) s h .ranged in
           accounts-branch n s c
-          (alternatives-live n s r m (and-left (conditions n (live n s) (s .graph) m) (not (any (held (s .graph)) (alternatives n (s .graph) m))) app) c mem) r;
+          (alternatives-live n s r m (applies-linked n s m app) (applies-met n s m app) c mem) r;
     }
+
+pub pairs-account : PairsAccount oneLinkForm
+pairs-account = pairs-account-of oneLinkForm one-link-laws

@@ -1,15 +1,19 @@
 -- The path limit is a theorem.
-use Rattle.logic.specs.Query.{decode}
+use Rattle.logic.specs.Calls.{CallForm, oneLinkForm}
 use Rattle.logic.specs.PathLimit.{PathLimit}
-use Rattle.logic.proofs.Query.AcceptedBytes.{accepted}
 use Rattle.logic.proofs.Walks.OurWalk.{walks-unique}
 use Rattle.logic.proofs.Walks.Limit.{start-atMost, row-steps, walked, our-walks, our-headed}
+use Rattle.logic.proofs.Calls.CallLaws.{FormLaws}
+use Rattle.logic.proofs.Calls.Refusals.{one-link-laws}
 
-pub path-limit : PathLimit
-path-limit =
+pub path-limit-of : (f : CallForm) → FormLaws f → PathLimit f
+path-limit-of f laws =
     record {
-      every-path = λ query a. start-atMost (decode query) (accepted query a);
-      hand-path = λ query picks s m. row-steps (decode query) picks s m;
-      our-walk = λ query order a. (walked order (decode query), our-walks (decode query) (accepted query a) order, our-headed (decode query) order);
+      every-path = λ query a. start-atMost (f .decode query) (laws .accepted-query query a);
+      hand-path = λ query picks s m. row-steps (f .decode query) picks s m;
+      our-walk = λ query order a. (walked order (f .decode query), our-walks (f .decode query) (laws .accepted-query query a) order, our-headed (f .decode query) order);
       one-ending = λ q order s e e′ r r′. walks-unique q order r e′ r′;
     }
+
+pub path-limit : PathLimit oneLinkForm
+path-limit = path-limit-of oneLinkForm one-link-laws

@@ -7,17 +7,16 @@ use mathlib.Core.List.{List, [], _∷_, map, List·Memᴰ, List·Memᴰ·head, L
 use mathlib.Core.Option.{Option, none, some, Option·elim}
 use lib.Dec.{eqb}
 use Rattle.logic.specs.Search.{_and_, select, orElse, firstOf}
-use Rattle.logic.specs.Query.{Literal, Query, termCount, decode}
+use Rattle.logic.specs.Query.{Literal, Query, termCount}
 use Rattle.logic.specs.Facts.{Facts, Line, line, negatedAt, plainAt, isClash, clashLines, clash, unjoined, andThen, settle, join, linksOf, joinEach, reachEach, nilTerms, joinNil, startJoins, start}
 use Rattle.logic.specs.Rules.{Rule, Move, Fact, alternatives, branch, choose, moveLine}
 use Rattle.logic.specs.Walk.{Look, clashing, applying, saturated, look, Ending, refutation, saturation, after, thenEnding, walkBranch, walkEach, endAt, walk, orderOf, limit, ourWalk}
 use Rattle.logic.specs.Shown.{fieldByte, report}
-use Rattle.logic.specs.Calls.{Input, Check, orderCheck, roomCheck, queryChecks, verdictChecks, Answer, refused, Outcome, refusalOf, accepts, blank, call, verdictOf, verdictCall}
+use Rattle.logic.specs.Calls.{Input, Check, orderCheck, roomUnder, CallForm, oneLinkForm, verdictChecksOf, Answer, refused, Outcome, refusalOf, acceptsBy, blank, call, verdictOf, verdictCallOf}
 use Rattle.logic.specs.Reordering.{joinTerms, joinAll, SameElements, Reordered, Held, JoinsAgree}
 use Rattle.logic.proofs.Basics.Search.{none-some, not-true, and-left, and-right, or-cases, find-some, firstOf-skip, select-mem, select-intro, map-mem, map-intro}
 use Rattle.logic.proofs.Basics.Compare.{eqb-true}
 use Rattle.logic.proofs.Query.Tied.{Accepted}
-use Rattle.logic.proofs.Query.AcceptedBytes.{accepted}
 use Rattle.logic.proofs.Paths.Joined.{joinEach-step}
 use Rattle.logic.proofs.Paths.Kept.{Sane}
 use Rattle.logic.proofs.Paths.Start.{nilled-sane}
@@ -26,16 +25,17 @@ use Rattle.logic.proofs.Joins.AnyOrder.{PairsIn, joins-any-order, two-j
 use Rattle.logic.proofs.Joins.Reach.{reach-either-side, reach-any-side}
 use Rattle.logic.proofs.Walks.Derives.{row-all}
 use Rattle.logic.proofs.Soundness.ClashSound.{at-mem}
-use Rattle.logic.proofs.Calls.CallLaws.{accepts-checks}
+use Rattle.logic.proofs.Calls.CallLaws.{FormLaws, accepts-checks}
+use Rattle.logic.proofs.Calls.Refusals.{one-link-laws}
 use Rattle.logic.proofs.Completeness.NoClash.{equal-free, reach-free, field-free}
 
 -- a query with other equalities
 abbrev withEqualities : Query → List Literal → Query
 withEqualities q es =
-    record { entries = q .entries; equalities = es; reachability = q .reachability; fields = q .fields }
+    record { links = q .links; entries = q .entries; equalities = es; reachability = q .reachability; fields = q .fields }
 
 reordered-is : (q q′ : Query) → Reordered q q′ → withEqualities q (q′ .equalities) ≡ q′
-reordered-is q q′ r = λ i. record { entries = r .entries i; equalities = q′ .equalities; reachability = r .reachability i; fields = r .fields i }
+reordered-is q q′ r = λ i. record { links = r .links i; entries = r .entries i; equalities = q′ .equalities; reachability = r .reachability i; fields = r .fields i }
 
 -- The start
 
@@ -75,10 +75,10 @@ module _ (q : Query) (es : List Literal) (ok : Accepted q) (ok′ : Accepted (wi
 
   -- both begin with the same facts
   start-same : start q ≡ start q′
-  unfolding start startJoins nilTerms andThen termCount
+  unfolding start startJoins nilTerms andThen termCount linksOf
   start-same =
       let n : ℕ = termCount q in
-      let nilled : Facts = joinNil n (nilTerms q) (settle n n (linksOf (q .entries)) .facts) .facts in
+      let nilled : Facts = joinNil n (nilTerms q) (settle n n (linksOf q) .facts) .facts in
       let h : Sane n nilled = nilled-sane q ok in
       ap (reachEach (q .reachability))
       (joinEach-pairs n (q .equalities) nilled
@@ -201,37 +201,41 @@ walked order room q q′ ok ok′ r =
 abbrev answerAt : Input → Check → Option Answer
 answerAt i c = Option·elim (c .place i) none (λ place. some (refused (c .number) place))
 
--- the checks of an accepted query stand aside: what is left reads the order list and the room
-refusal-same : (i j : Input) → i .order ≡ j .order → i .room ≡ j .room → accepts (i .query) ≡ true → accepts (j .query) ≡ true → refusalOf verdictChecks i ≡ refusalOf verdictChecks j
-unfolding verdictChecks orderCheck roomCheck refusalOf firstOf Option·elim
-refusal-same i j e f a b = refusal-rest i a ∙ (λ k. left (e k) (f k)) ∙ sym (refusal-rest j b)
-  where
-    left : List ℕ → ℕ → Option Answer
-    left order room = refusalOf (orderCheck ∷ roomCheck ∷ []) (record { order = order; query = []; room = room })
+module _ (f : CallForm) (laws : FormLaws f) where
+  -- the checks of an accepted query stand aside: what is left reads the order list and the room
+  refusal-same : (i j : Input) → i .order ≡ j .order → i .room ≡ j .room → acceptsBy f (i .query) ≡ true → acceptsBy f (j .query) ≡ true → refusalOf (verdictChecksOf f) i ≡ refusalOf (verdictChecksOf f) j
+  unfolding verdictChecksOf orderCheck roomUnder refusalOf firstOf Option·elim
+  refusal-same i j e g a b = refusal-rest i a ∙ (λ k. left (e k) (g k)) ∙ sym (refusal-rest j b)
+    where
+      left : List ℕ → ℕ → Option Answer
+      left order room = refusalOf (orderCheck ∷ roomUnder (f .room) ∷ []) (record { order = order; query = []; room = room })
 
-    refusal-rest : (i : Input) → accepts (i .query) ≡ true → refusalOf verdictChecks i ≡ left (i .order) (i .room)
-    refusal-rest i a = ap (orElse (answerAt i orderCheck)) (firstOf-skip (answerAt i) queryChecks (roomCheck ∷ []) (λ c m. rw (accepts-checks i a c m)))
+      refusal-rest : (i : Input) → acceptsBy f (i .query) ≡ true → refusalOf (verdictChecksOf f) i ≡ left (i .order) (i .room)
+      refusal-rest i a = ap (orElse (answerAt i orderCheck)) (firstOf-skip (answerAt i) (f .checks) (roomUnder (f .room) ∷ []) (λ c m. rw (accepts-checks f laws i a c m)))
 
-report-stays : (order query query′ : List ℕ) (room : ℕ) → accepts query ≡ true → accepts query′ ≡ true → Reordered (decode query) (decode query′) → verdictCall (record { order = order; query = query; room = room }) ≡ verdictCall (record { order = order; query = query′; room = room })
-unfolding verdictCall call
-report-stays order query query′ room a a′ r =
-    let i : Input = record { order = order; query = query; room = room } in
-    let j : Input = record { order = order; query = query′; room = room } in
-    rw (refusal-same i j refl refl a a′)
-    (ap (λ (o : Outcome). Option·elim (refusalOf verdictChecks j) o (blank room)) (walked order room (decode query) (decode query′) (accepted query a) (accepted query′ a′) r))
+  report-stays : (order query query′ : List ℕ) (room : ℕ) → acceptsBy f query ≡ true → acceptsBy f query′ ≡ true → Reordered (f .decode query) (f .decode query′) → verdictCallOf f (record { order = order; query = query; room = room }) ≡ verdictCallOf f (record { order = order; query = query′; room = room })
+  unfolding verdictCallOf call
+  report-stays order query query′ room a a′ r =
+      let i : Input = record { order = order; query = query; room = room } in
+      let j : Input = record { order = order; query = query′; room = room } in
+      rw (refusal-same i j refl refl a a′)
+      (ap (λ (o : Outcome). Option·elim (refusalOf (verdictChecksOf f) j) o (blank room)) (walked order room (f .decode query) (f .decode query′) (laws .accepted-query query a) (laws .accepted-query query′ a′) r))
 
 -- facts that a walk can hold are sane
 pub held-sane : (q : Query) → Accepted q → (s : Facts) → Held q s → Sane (termCount q) s
 held-sane q ok s h =
     row-all q (Invariant q) (λ s s′ m i c a k. branch-invariant q s m i a s′ k) (start-invariant q ok) (h .0) s (h .1) .sane
 
-pub joins-agree : JoinsAgree
-joins-agree =
+pub joins-agree-of : (f : CallForm) → FormLaws f → JoinsAgree f
+joins-agree-of f laws =
     record {
-      joins-any-order = λ query s ps qs a h r r′ same. joins-any-order (termCount (decode query)) ps qs s r r′ same (held-sane (decode query) (accepted query a) s h);
+      joins-any-order = λ query s ps qs a h r r′ same. joins-any-order (termCount (f .decode query)) ps qs s r r′ same (held-sane (f .decode query) (laws .accepted-query query a) s h);
       two-joins = λ query s ab cd a h r.
-          two-joins (termCount (decode query)) ab cd s (r ab (List·Memᴰ·head refl)) (r cd (List·Memᴰ·tail (List·Memᴰ·head refl))) (held-sane (decode query) (accepted query a) s h);
-      reach-any-side = λ n s ab ps. reach-any-side n ab ps s;
-      reach-either-side = λ n s ab cd. reach-either-side n ab cd s;
-      report-stays = report-stays;
+          two-joins (termCount (f .decode query)) ab cd s (r ab (List·Memᴰ·head refl)) (r cd (List·Memᴰ·tail (List·Memᴰ·head refl))) (held-sane (f .decode query) (laws .accepted-query query a) s h);
+      reach-any-side = λ n i s ab ps. reach-any-side n i ab ps s;
+      reach-either-side = λ n i s ab cd. reach-either-side n i ab cd s;
+      report-stays = report-stays f laws;
     }
+
+pub joins-agree : JoinsAgree oneLinkForm
+joins-agree = joins-agree-of oneLinkForm one-link-laws

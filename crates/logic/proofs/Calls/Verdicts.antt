@@ -1,7 +1,7 @@
 -- A verdict that a finished walk gives is right, whether the walk is ours or a hand's.
-use Prim.Native.Nat.{ℕ}
+use Prim.Native.Nat.{ℕ, _≤_}
 use native.Mathlib.Omega.{arith}
-use mathlib.Core.Path.{_≡_, refl, sym}
+use mathlib.Core.Path.{_≡_, refl, sym, subst}
 use mathlib.Core.Bool.{Bool, true, false, not, cond}
 use mathlib.Core.List.{List, [], _++_}
 use mathlib.Core.Option.{none, some}
@@ -14,7 +14,7 @@ use Rattle.logic.specs.Walk.{Ending, refutation, saturation, Verdict, Pi
 use Rattle.logic.specs.Shown.{report, heapIn}
 use Rattle.logic.specs.Demands.{Right}
 use Rattle.logic.proofs.Basics.Search.{none-some, and-left, and-right, not-true, isSome-false, any-true}
-use Rattle.logic.proofs.Query.Tied.{Accepted}
+use Rattle.logic.proofs.Query.Tied.{InLinks, Accepted}
 use Rattle.logic.proofs.Paths.Invariant.{Invariant, start-invariant, branch-invariant}
 use Rattle.logic.proofs.Walks.Order.{HoldsAll, rules-full, order-full}
 use Rattle.logic.proofs.Walks.Derives.{row-all}
@@ -30,18 +30,18 @@ use Rattle.logic.proofs.Completeness.ShownHeap.{shown}
 pub record Model (q : Query) (s : Facts) : Type 0 where
   pub invariant : Invariant q s
   pub no-clash : clash q s ≡ none
-  pub no-rule : Saturated (termCount q) (liveTerms (termCount q) s) (s .graph)
+  pub no-rule : (i : ℕ) → InLinks q i → Saturated (termCount q) (liveTerms (termCount q) s) (s .graph i)
 
 module _ (q : Query) (ok : Accepted q) where
   model : (order : List Rule) → HoldsAll order → (s : Facts) → Invariant q s → clash q s ≡ none → choose (termCount q) order s ≡ none → Model q s
-  model order full s i c h = record { invariant = i; no-clash = c; no-rule = saturated (termCount q) s order full (i .sane) h }
+  model order full s i c h = record { invariant = i; no-clash = c; no-rule = λ j k. saturated (termCount q) s order full (i .sane) h j (subst (λ (l : ℕ). (1 ≤ j) × (j ≤ l)) (sym (i .tied .same-links)) k) }
 
-  pub completed : (s : Facts) → Model q s → Completed (termCount q) (liveTerms (termCount q) s) (s .graph)
-  completed s m =
+  pub completed : (s : Facts) → Model q s → (i : ℕ) → InLinks q i → Completed (termCount q) (liveTerms (termCount q) s) (s .graph i)
+  completed s m i k =
       record {
-        completed-in = completed-in (termCount q) (liveTerms (termCount q) s) (s .graph) (m .no-rule);
-        completed-known = completed-known (termCount q) (liveTerms (termCount q) s) (s .graph) (m .no-rule);
-        completed-reach = completed-reach (termCount q) (liveTerms (termCount q) s) (s .graph) (m .no-rule);
+        completed-in = completed-in (termCount q) (liveTerms (termCount q) s) (s .graph i) (m .no-rule i k);
+        completed-known = completed-known (termCount q) (liveTerms (termCount q) s) (s .graph i) (m .no-rule i k);
+        completed-reach = completed-reach (termCount q) (liveTerms (termCount q) s) (s .graph i) (m .no-rule i k);
       }
 
   -- our walk: where it is saturated the path found is a model; where it refutes there is no heap
@@ -79,7 +79,7 @@ module _ (q : Query) (ok : Accepted q) where
   pub model-satisfiable : (s : Facts) → Model q s → Satisfiable q
   model-satisfiable s m =
       let sh = shown q s ok (m .invariant .tied) (completed s m) (m .no-clash) [] in
-      (heapIn (report q s ++ []), sh .meets)
+      (heapIn (q .links) (report q s ++ []), sh .meets)
 
 -- a verdict with its reason is right
 sat-not-refuted : Verdict.satisfiable ≡ Verdict.refuted → ⊥

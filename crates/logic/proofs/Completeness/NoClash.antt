@@ -58,10 +58,10 @@ module _ (q : Query) (s : Facts) (clean : clash q s ≡ none) where
       no-clash (line 9 2 (suc (r .0)) 0) (Memᴰ·append-left _ (alone-mem 2 (q .equalities) (r .0) (r .1))) (rw (r .2))
 
   -- a negated reachability fact is not held
-  pub reach-free : (l : Literal) → List·Memᴰ l (q .reachability) → l .plain ≡ false → s .graph .reach (s .rep (l .left)) (s .rep (l .right)) ≡ true → ⊥
+  pub reach-free : (l : Literal) → List·Memᴰ l (q .reachability) → l .plain ≡ false → s .graph (l .link) .reach (s .rep (l .left)) (s .rep (l .right)) ≡ true → ⊥
   unfolding isClash clashLines _and_ _or_
   reach-free l m e held =
-      let r = negated-found (q .reachability) (λ l. s .graph .reach (s .rep (l .left)) (s .rep (l .right))) l m held e in
+      let r = negated-found (q .reachability) (λ l. s .graph (l .link) .reach (s .rep (l .left)) (s .rep (l .right))) l m held e in
       no-clash (line 9 3 (suc (r .0)) 0)
       (Memᴰ·append-right (alone 2 (q .equalities)) (Memᴰ·append-left (paired 4 (q .fields)) (alone-mem 3 (q .reachability) (r .0) (r .1))))
       (rw (r .2))

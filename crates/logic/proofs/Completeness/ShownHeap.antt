@@ -1,39 +1,48 @@
 -- "Satisfiable" is right: the heap in the report of a saturated path without a clash meets every literal of the query (demand 2), and
 -- the report is well formed (demand 1). Graph theory enters by `Completed` alone.
-use Prim.Native.Nat.{ℕ, zero, suc, _+_, _-_, _≤_, _<_}
+use Prim.Native.Nat.{ℕ, zero, suc, _+_, _-_, _*_, _≤_, _<_}
 use native.Mathlib.Omega.{arith}
+use native.Mathlib.Nat.{mul-le-mul-left}
 use mathlib.Core.Path.{_≡_, refl, sym, ap, _∙_}
 use mathlib.Core.Logic.{_↔_, ⊎-elim}
 use mathlib.Core.Bool.{Bool, true, false}
 use mathlib.Core.List.{List, [], _++_, append-nil, List·Memᴰ}
 use mathlib.Core.Option.{none}
 use lib.ListN.{length, getD, replicate}
-use lib.Dec.{eqb}
+use lib.Dec.{eqb, ltb, leb}
 use borrow.Author.Tests.{eqb-true, eqb-false, eq-eqb}
 use Rattle.logic.specs.Search.{_and_, any}
-use Rattle.logic.specs.Query.{Literal, Query, namesNil, argumentOf, termCount}
+use Rattle.logic.specs.Query.{Literal, Query, namesNil, argumentOf, linkOf, termCount}
 use Rattle.logic.specs.Heap.{Heap, Reaches, Signed, Each, MeansEqual, MeansReach, MeansField, value, valueWithin}
 use Rattle.logic.specs.Facts.{Facts, liveTerms, clash}
 use Rattle.logic.specs.Shown.{shownLink, bitOf, fieldByte, report, heapIn, nodeIn, wellFormed}
 use Rattle.logic.specs.Demands.{Shows}
 use Rattle.logic.proofs.Basics.Search.{and-left, and-right, and-intro, bool-cases, any-true, any-intro}
-use Rattle.logic.proofs.Query.Tied.{InTerms, ToEight, Accepted, Tied}
+use Rattle.logic.proofs.Query.Tied.{InTerms, InLinks, ToEight, Accepted, Tied}
 use Rattle.logic.proofs.Query.Entries.{nil-range}
+use Rattle.logic.proofs.Paths.Ranged.{link-range}
 use Rattle.logic.proofs.Completeness.Completed.{Completed}
 use Rattle.logic.proofs.Completeness.Byte.{byte-bit}
 use Rattle.logic.proofs.Completeness.Placed.{getD-mem, placeOf-mem, placeOf-range, placeOf-injective}
 use Rattle.logic.proofs.Completeness.Renamed.{reaches-name}
 use Rattle.logic.proofs.Completeness.NoClash.{equal-free, reach-free, field-free}
 use Rattle.logic.proofs.Completeness.ShownNodes.{nodes-length, live-mem, live-node, shownLink-node}
-use Rattle.logic.proofs.Completeness.ReportBytes.{nodesOf, linkOf, place, report-laid}
-use Rattle.logic.proofs.Completeness.ReportHeap.{heap-link, heap-field, heap-listed, node-listed, is-heap, is-formed}
+use Rattle.logic.proofs.Completeness.ReportBytes.{nodesOf, linkShown, place, report-laid}
+use Rattle.logic.proofs.Completeness.ReportHeap.{heap-link, heap-loop, heap-field, heap-listed, node-listed, is-heap, is-formed}
 
--- "That is 2m+n+5 bytes"
-pub report-size : (q : Query) (s : Facts) → length (report q s) ≡ length (nodesOf q s) + termCount q + length (nodesOf q s) + 5
+-- "That is 2m+n+5 bytes", and m more for each further link
+pub report-size : (q : Query) (s : Facts) → length (report q s) ≡ q .links * length (nodesOf q s) + termCount q + length (nodesOf q s) + 5
 report-size q s = omega (arith, ap length (append-nil (report q s)), report-laid q s [] .total)
 
-pub report-length : (q : Query) (s : Facts) → Accepted q → length (report q s) ≤ 53
-report-length q s acc = omega (arith, report-size q s, nodes-length (termCount q) s (acc .term-count), acc .term-count)
+pub report-length : (q : Query) (s : Facts) → Accepted q → length (report q s) ≤ q .links * 16 + 37
+report-length q s acc =
+    let m = nodes-length (termCount q) s (acc .term-count) in
+    let rows = mul-le-mul-left (q .links) (m .1) in
+    omega (arith, report-size q s, m, rows, acc .term-count)
+
+-- with one link, 53
+pub report-fits : (q : Query) (s : Facts) → Accepted q → q .links ≡ 1 → length (report q s) ≤ 53
+report-fits q s acc one = let l = report-length q s acc in let e = ap (λ (k : ℕ). k * 16) one in omega (arith, l, e)
 
 -- a literal's meaning, from that of each sign
 signed : (b : Bool) (P : Type 0) → (b ≡ true → P) → (b ≡ false → P → ⊥) → Signed b P
@@ -68,12 +77,12 @@ InPlaces q s p = (1 ≤ p) × (p ≤ length (nodesOf q s))
 
 -- the heap that the report shows, whatever follows it, and the value of a term there
 abbrev heapOf : Query → Facts → List ℕ → Heap
-heapOf q s rest = heapIn (report q s ++ rest)
+heapOf q s rest = heapIn (q .links) (report q s ++ rest)
 
 abbrev valueOf : Query → Facts → List ℕ → ℕ → ℕ
 valueOf q s rest = value (heapOf q s rest) (q .entries)
 
-module _ (q : Query) (s : Facts) (acc : Accepted q) (tied : Tied q s) (comp : Completed (termCount q) (liveTerms (termCount q) s) (s .graph)) where
+module _ (q : Query) (s : Facts) (acc : Accepted q) (tied : Tied q s) (comp : (i : ℕ) → InLinks q i → Completed (termCount q) (liveTerms (termCount q) s) (s .graph i)) where
   pub rep-node : (t : ℕ) → InTerms q t → IsNode q s (s .rep t)
   rep-node t h = live-node (termCount q) s (s .rep t) (tied .rep-live t h)
 
@@ -86,49 +95,52 @@ module _ (q : Query) (s : Facts) (acc : Accepted q) (tied : Tied q s) (comp : Co
   unfolding termCount
   nil-in t h = nil-range (q .entries) t h
 
-  link-node : (v : ℕ) → IsNode q s v → IsNode q s (linkOf q s v)
-  link-node = shownLink-node (termCount q) s (λ t l h. tied .rep-live t (l, h)) comp
+  link-node : (i : ℕ) → InLinks q i → (v : ℕ) → IsNode q s v → IsNode q s (linkShown q s i v)
+  link-node i r = shownLink-node (termCount q) s i (λ t l h. tied .rep-live t (l, h)) (comp i r)
 
   nonempty : 1 ≤ length (nodesOf q s)
   nonempty = nodes-length (termCount q) s (acc .term-count) .0
 
   -- "every successor and node 1 to m"
-  links-in : (i : ℕ) → i < length (nodesOf q s) → InPlaces q s (place q s (linkOf q s (getD (nodesOf q s) i 0)))
-  links-in i h = placeOf-range _ (link-node _ (getD-mem (nodesOf q s) i h))
+  links-in : (k i : ℕ) → k < q .links → i < length (nodesOf q s) → InPlaces q s (place q s (linkShown q s (suc k) (getD (nodesOf q s) i 0)))
+  links-in k i l h = placeOf-range _ (link-node (suc k) (omega arith, l) _ (getD-mem (nodesOf q s) i h))
 
   listed-in : (i : ℕ) → i < termCount q → InPlaces q s (place q s (s .rep (suc i)))
   listed-in i h = placeOf-range _ (rep-node (suc i) (omega arith, h))
 
   -- What the heap says at the nodes of terms. A node's place is that of an equal element of the list, and there the report is read.
   module _ (rest : List ℕ) where
-    pub link-place : (v : ℕ) → IsNode q s v → heapOf q s rest .link (place q s v) ≡ place q s (linkOf q s v)
-    link-place v m =
+    pub link-place : (i : ℕ) → InLinks q i → (v : ℕ) → IsNode q s v → heapOf q s rest .link i (place q s v) ≡ place q s (linkShown q s i v)
+    link-place zero l v m = absurd (omega arith)
+    link-place (suc k) l v m =
         let r = placeOf-mem v m in
-        ap (heapOf q s rest .link) (r .placed) ∙ heap-link (report-laid q s rest) (r .index) (r .within) ∙ ap (λ (u : ℕ). place q s (linkOf q s u)) (r .element)
+        ap (heapOf q s rest .link (suc k)) (r .placed) ∙ heap-link (report-laid q s rest) (acc .some-link) k (r .index) (l .1) (r .within)
+        ∙ ap (λ (u : ℕ). place q s (linkShown q s (suc k) u)) (r .element)
 
     field-place : (j v : ℕ) → ToEight j → IsNode q s v → heapOf q s rest .field j (place q s v) ≡ any (setsField s j v) (q .fields)
     unfolding fieldByte
     field-place j v h m =
         let r = placeOf-mem v m in
         ap (heapOf q s rest .field j) (r .placed)
-        ∙ heap-field (report-laid q s rest) (r .index) j (r .within)
+        ∙ heap-field (report-laid q s rest) (acc .some-link) (r .index) j (r .within)
         ∙ ap (λ (u : ℕ). bitOf (fieldByte q s u) (j - 1)) (r .element)
         ∙ byte-bit (λ j. any (setsField s j v) (q .fields)) j (h .0) (h .1)
 
     variable-place : (t : ℕ) → InTerms q t → heapOf q s rest .variable t ≡ place q s (s .rep t)
     variable-place zero h = absurd (omega arith)
-    variable-place (suc i) h = heap-listed (report-laid q s rest) i (h .1)
+    variable-place (suc i) h = heap-listed (report-laid q s rest) (acc .some-link) i (h .1)
 
     listed-place : (t : ℕ) → InTerms q t → nodeIn (report q s ++ rest) t ≡ place q s (s .rep t)
     listed-place zero h = absurd (omega arith)
-    listed-place (suc i) h = node-listed (report-laid q s rest) i (h .1)
+    listed-place (suc i) h = node-listed (report-laid q s rest) (acc .some-link) i (h .1)
 
     -- the link fact of f of a term is kept
-    entry-place : (t : ℕ) → InTerms q t → InTerms q (argumentOf (q .entries) t) → heapOf q s rest .link (place q s (s .rep (argumentOf (q .entries) t))) ≡ place q s (s .rep t)
+    entry-place : (t : ℕ) → InTerms q t → InTerms q (argumentOf (q .entries) t) → heapOf q s rest .link (linkOf (q .entries) t) (place q s (s .rep (argumentOf (q .entries) t))) ≡ place q s (s .rep t)
     unfolding shownLink
     entry-place t h k =
         let j : ℕ = argumentOf (q .entries) t in
-        link-place (s .rep j) (rep-node j k) ∙ ap (place q s) (comp .completed-known (s .rep j) (s .rep t) (tied .entry-link t h (k .0)))
+        let l = acc .entry-linked t h (k .0) in
+        link-place (linkOf (q .entries) t) l (s .rep j) (rep-node j k) ∙ ap (place q s) (comp (linkOf (q .entries) t) l .completed-known (s .rep j) (s .rep t) (tied .entry-link t h (k .0)))
 
     -- the value of a term is the node of what it was replaced by
     value-within : (k t : ℕ) → InTerms q t → t ≤ k → valueWithin (heapOf q s rest) (q .entries) k t ≡ place q s (s .rep t)
@@ -139,19 +151,23 @@ module _ (q : Query) (s : Facts) (acc : Accepted q) (tied : Tied q s) (comp : Co
         let below = acc .entry-below t h in
         ⊎-elim
         (λ e. rw e (variable-place t h))
-        (λ e. rw e (ap (heapOf q s rest .link) (value-within k j (entry-in t h e) (omega arith)) ∙ entry-place t h (entry-in t h e)))
+        (λ e. rw e (ap (heapOf q s rest .link (linkOf (q .entries) t)) (value-within k j (entry-in t h e) (omega arith)) ∙ entry-place t h (entry-in t h e)))
         (bool-cases (eqb j 0))
 
     pub value-place : (t : ℕ) → InTerms q t → valueOf q s rest t ≡ place q s (s .rep t)
     unfolding value
     value-place t h = value-within t t h (omega arith)
 
-    -- nil's link fact is kept
-    nil-place : (t : ℕ) → namesNil (q .entries) t ≡ true → heapOf q s rest .link (valueOf q s rest t) ≡ valueOf q s rest t
+    -- nil's link facts are kept, and a link that is not shown leads to itself
+    nil-place : (i t : ℕ) → namesNil (q .entries) t ≡ true → heapOf q s rest .link i (valueOf q s rest t) ≡ valueOf q s rest t
     unfolding shownLink
-    nil-place t h =
-        let k = nil-in t h in
-        rw (value-place t k) (link-place (s .rep t) (rep-node t k) ∙ ap (place q s) (comp .completed-known (s .rep t) (s .rep t) (tied .nil-link t h)))
+    nil-place i t h = ⊎-elim shown-link (λ e. heap-loop (report-laid q s rest) (acc .some-link) i _ e) (bool-cases (ltb 0 i and leb i (q .links)))
+      where
+        shown-link : ltb 0 i and leb i (q .links) ≡ true → heapOf q s rest .link i (valueOf q s rest t) ≡ valueOf q s rest t
+        shown-link e =
+            let l = link-range (q .links) i e in
+            let k = nil-in t h in
+            rw (value-place t k) (link-place i l (s .rep t) (rep-node t k) ∙ ap (place q s) (comp i l .completed-known (s .rep t) (s .rep t) (tied .nil-link i t l h)))
 
     -- the values of two terms are equal exactly where the terms were joined
     equal-exactly : (a b : ℕ) → InTerms q a → InTerms q b → (s .rep a ≡ s .rep b) ↔ (valueOf q s rest a ≡ valueOf q s rest b)
@@ -159,11 +175,11 @@ module _ (q : Query) (s : Facts) (acc : Accepted q) (tied : Tied q s) (comp : Co
         rw (value-place a h, value-place b k) (λ e. ap (place q s) e, placeOf-injective (s .rep a) (s .rep b) (rep-node a h) (rep-node b k))
 
     -- one reaches the other exactly where the path holds it
-    pub reach-exactly : (a b : ℕ) → InTerms q a → InTerms q b → (s .graph .reach (s .rep a) (s .rep b) ≡ true) ↔ Reaches (heapOf q s rest .link) (valueOf q s rest a) (valueOf q s rest b)
+    pub reach-exactly : (i : ℕ) → InLinks q i → (a b : ℕ) → InTerms q a → InTerms q b → (s .graph i .reach (s .rep a) (s .rep b) ≡ true) ↔ Reaches (heapOf q s rest .link i) (valueOf q s rest a) (valueOf q s rest b)
     unfolding shownLink
-    reach-exactly a b h k =
-        let held = comp .completed-reach (s .rep a) (s .rep b) (live-mem (termCount q) s (s .rep a) (tied .rep-live a h)) in
-        let moved = reaches-name (linkOf q s) (heapOf q s rest .link) (place q s) (IsNode q s) link-node link-place (λ v w. placeOf-injective v w) (s .rep a) (s .rep b) (rep-node a h) (rep-node b k) in
+    reach-exactly i l a b h k =
+        let held = comp i l .completed-reach (s .rep a) (s .rep b) (live-mem (termCount q) s (s .rep a) (tied .rep-live a h)) in
+        let moved = reaches-name (linkShown q s i) (heapOf q s rest .link i) (place q s) (IsNode q s) (link-node i l) (link-place i l) (λ v w. placeOf-injective v w) (s .rep a) (s .rep b) (rep-node a h) (rep-node b k) in
         rw (value-place a h, value-place b k) (λ e. moved .0 (held .0 e), λ r. held .1 (moved .1 r))
 
     module _ (clean : clash q s ≡ none) where
@@ -176,7 +192,7 @@ module _ (q : Query) (s : Facts) (acc : Accepted q) (tied : Tied q s) (comp : Co
       reach-meant : Each (MeansReach (heapOf q s rest) (q .entries)) (q .reachability)
       reach-meant l m =
           let r = acc .reach-terms l m in
-          let e = reach-exactly (l .left) (l .right) (r .0) (r .1) in
+          let e = reach-exactly (l .link) (acc .reach-linked l m) (l .left) (l .right) (r .0) (r .1) in
           signed (l .plain) _ (λ p. e .0 (tied .reach-held l m p)) (λ p held. reach-free q s clean l m p (e .1 held))
 
       field-meant : Each (MeansField (heapOf q s rest) (q .entries)) (q .fields)
@@ -190,21 +206,21 @@ module _ (q : Query) (s : Facts) (acc : Accepted q) (tied : Tied q s) (comp : Co
           (λ p k t e. let r = setsField-true s j v p t in field-free q s clean l p m k e (r .0) (sym (r .1)) (sym (r .2)))
 
   -- the report, and zeros past it
-  pub formed : (k : ℕ) → wellFormed (report q s ++ replicate k 0) ≡ true
+  pub formed : (k : ℕ) → wellFormed (q .links) (report q s ++ replicate k 0) ≡ true
   formed k =
       let long = nodes-length (termCount q) s (acc .term-count) in
-      is-formed (report-laid q s (replicate k 0)) nonempty links-in listed-in (long .1) (acc .term-count) (getD-zeros k)
+      is-formed (report-laid q s (replicate k 0)) (acc .some-link) nonempty links-in listed-in (long .1) (acc .term-count) (getD-zeros k)
 
   pub shown : clash q s ≡ none → (rest : List ℕ) → Shows (report q s ++ rest) q
   shown clean rest =
       record {
         meets =
             record {
-              is-heap = is-heap (report-laid q s rest) nonempty links-in listed-in;
+              is-heap = is-heap (report-laid q s rest) (acc .some-link) nonempty links-in listed-in;
               nil-node =
                   record {
                     one-node = λ t u h k. equal-exactly rest t u (nil-in t h) (nil-in u k) .0 (tied .nil-same t u h k);
-                    own-link = λ t h. nil-place rest t h;
+                    own-link = λ i t h. nil-place rest i t h;
                   };
               equalities = equal-meant rest clean;
               reachability = reach-meant rest clean;

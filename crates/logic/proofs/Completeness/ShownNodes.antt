@@ -44,13 +44,13 @@ module _ (n : ℕ) (s : Facts) where
   live-node t e = let m = live-mem t e in rw (orZero-mem t m) m
 
 -- with no terms, the one node has no link fact, and so is linked to 0, itself
-no-terms : (s : Facts) (v : ℕ) → List·Memᴰ (shownLink 0 s v) (nodes 0 s)
+no-terms : (s : Facts) (i v : ℕ) → List·Memᴰ (shownLink 0 s i v) (nodes 0 s)
 unfolding shownLink linkEach nodes orZero liveTerms terms from select next find firstOf
-no-terms s v = List·Memᴰ·head refl
+no-terms s i v = List·Memᴰ·head refl
 
-pub shownLink-node : (n : ℕ) (s : Facts) → ((t : ℕ) → 1 ≤ t → t ≤ n → live n s (s .rep t) ≡ true) → Completed n (liveTerms n s) (s .graph) → (v : ℕ) → List·Memᴰ v (nodes n s) → List·Memᴰ (shownLink n s v) (nodes n s)
+pub shownLink-node : (n : ℕ) (s : Facts) (i : ℕ) → ((t : ℕ) → 1 ≤ t → t ≤ n → live n s (s .rep t) ≡ true) → Completed n (liveTerms n s) (s .graph i) → (v : ℕ) → List·Memᴰ v (nodes n s) → List·Memᴰ (shownLink n s i v) (nodes n s)
 unfolding nodes shownLink
-shownLink-node zero s tied comp v m = no-terms s v
-shownLink-node (suc n) s tied comp v m =
+shownLink-node zero s i tied comp v m = no-terms s i v
+shownLink-node (suc n) s i tied comp v m =
     let e = orZero-mem (s .rep 1) (live-mem (suc n) s (s .rep 1) (tied 1 (omega arith) (omega arith))) in
     rw e (comp .completed-in v (rw e at m))

@@ -62,7 +62,7 @@ module _ (n : ℕ) where
   Any x y = Unit {0}
 
   any-congruence : (s : Facts) → Congruence s Any
-  any-congruence s = record { same = λ x. tt; turned = λ x y e. tt; joined = λ x y z e f. tt; successors-too = λ x y u v e l l′. tt }
+  any-congruence s = record { same = λ x. tt; turned = λ x y e. tt; joined = λ x y z e f. tt; successors-too = λ i x y u v e l l′. tt }
 
   pub joinAll-quotient : (ps : List (ℕ × ℕ)) (s : Facts) → PairsIn n ps → Sane n s → Quotient n s (joinAll n ps s)
   joinAll-quotient ps s r h = joinAll-within (any-congruence s) ps s r (λ ab m. tt) h (within-refl n (any-congruence s)) .quotient

@@ -21,7 +21,7 @@ pub record Congruence (s : Facts) (E : ℕ → ℕ → Type 0) : Type 0 where
   pub same : (x : ℕ) → E x x
   pub turned : (x y : ℕ) → E x y → E y x
   pub joined : (x y z : ℕ) → E x y → E y z → E x z
-  pub successors-too : (x y u v : ℕ) → E x y → s .graph .link x u ≡ true → s .graph .link y v ≡ true → E u v
+  pub successors-too : (i x y u v : ℕ) → E x y → s .graph i .link x u ≡ true → s .graph i .link y v ≡ true → E u v
 
 module _ (n : ℕ) where
   -- a quotient that puts nothing together beyond E
@@ -61,11 +61,11 @@ module _ (n : ℕ) where
           same = c .same;
           turned = c .turned;
           joined = c .joined;
-          successors-too = λ x y u v e l l′.
-              let p = w .quotient .link-from x u l in
-              let p′ = w .quotient .link-from y v l′ in
+          successors-too = λ i x y u v e l l′.
+              let p = w .quotient .link-from i x u l in
+              let p′ = w .quotient .link-from i y v l′ in
               let at : (t t′ : ℕ) → w .quotient .class t ≡ t′ → E t t′ = λ t t′ q. subst (λ (z : ℕ). E t z) q (w .within t) in
-              let tails = c .successors-too (p .0) (p′ .0) (p .1) (p′ .1) (c .joined _ _ _ (at _ _ (p .3)) (c .joined _ _ _ e (c .turned _ _ (at _ _ (p′ .3))))) (p .2) (p′ .2) in
+              let tails = c .successors-too i (p .0) (p′ .0) (p .1) (p′ .1) (c .joined _ _ _ (at _ _ (p .3)) (c .joined _ _ _ e (c .turned _ _ (at _ _ (p′ .3))))) (p .2) (p′ .2) in
               c .joined _ _ _ (c .turned _ _ (at _ _ (p .4))) (c .joined _ _ _ tails (at _ _ (p′ .4)));
         }
 
@@ -74,9 +74,9 @@ module _ (n : ℕ) where
     settle-within k s′ r w =
         settle-keeps n (λ u. Ranged n u × Within E s u)
         (λ u ab h e. let l = doubled-live n u ab (h .0) e in
-        let d = doubled-some n (u .graph) ab e in
-        let held = within-congruence (h .1) .successors-too (d .0) (d .0) (ab .0) (ab .1) (c .same (d .0)) (d .1) (d .2) in
-        (ranged-replace n (ab .0) (ab .1) u (l .0) (l .1) (l .2) (h .0), within-trans (h .1) (within-replace (ab .0) (ab .1) u (l .0) (l .1) (d .3) held)))
+        let d = doubled-some n u ab e in
+        let held = within-congruence (h .1) .successors-too (d .link) (d .term) (d .term) (ab .0) (ab .1) (c .same (d .term)) (d .low) (d .high) in
+        (ranged-replace n (ab .0) (ab .1) u (l .0) (l .1) (l .2) (h .0), within-trans (h .1) (within-replace (ab .0) (ab .1) u (l .0) (l .1) (d .lower) held)))
         k s′ (r, w) .1
 
     pub join-within : (a b : ℕ) (s′ : Facts) → live n s′ a ≡ true → live n s′ b ≡ true → E a b → Ranged n s′ → Within E s s′ → Within E s (join n a b s′ .facts)
@@ -97,9 +97,9 @@ module _ (n : ℕ) where
         same = λ x. refl;
         turned = λ x y e. sym e;
         joined = λ x y z e f. e ∙ f;
-        successors-too = λ x y u v e l l′.
-            let k = p .link-held x u l in
-            let k′ = subst (λ (t : ℕ). s′ .graph .link t (p .class v) ≡ true) (sym e) (p .link-held y v l′) in
-            let r : (a b : ℕ) → s′ .graph .link a b ≡ true → InRange n a × InRange n b = λ a b m. (live-range n s′ a (h′ .ranged .link-live a b m .0), live-range n s′ b (h′ .ranged .link-live a b m .1)) in
-            doubled-none n (s′ .graph) (h′ .single) (p .class x) (p .class u) (p .class v) (r _ _ k .0) (r _ _ k .1) (r _ _ k′ .1) k k′;
+        successors-too = λ i x y u v e l l′.
+            let k = p .link-held i x u l in
+            let k′ = subst (λ (t : ℕ). s′ .graph i .link t (p .class v) ≡ true) (sym e) (p .link-held i y v l′) in
+            let r : (a b : ℕ) → s′ .graph i .link a b ≡ true → InRange n a × InRange n b = λ a b m. (live-range n s′ a (h′ .ranged .link-live i a b m .0), live-range n s′ b (h′ .ranged .link-live i a b m .1)) in
+            doubled-none n s′ (h′ .single) i (p .class x) (p .class u) (p .class v) (h′ .ranged .link-linked i _ _ k) (r _ _ k .0) (r _ _ k .1) (r _ _ k′ .1) k k′;
       }

@@ -9,8 +9,8 @@ use mathlib.Core.Option.{Option, none, some, Option·elim}
 use lib.ListN.{length, length-append}
 use lib.Dec.{eqb}
 use Rattle.logic.specs.Search.{_and_, select}
-use Rattle.logic.specs.Query.{Literal, Query, termCount}
-use Rattle.logic.specs.Facts.{Facts, Joined, live, replace, doubled, unjoined, joinPair, andThen, settle, join, joinEach, addReach, linksOf, reachEach, nilTerms, addLink, equalTo, addNilLink, joinNil, startJoins, start}
+use Rattle.logic.specs.Query.{Literal, Query, termCount, literal}
+use Rattle.logic.specs.Facts.{Facts, Joined, live, replace, doubled, unjoined, joinPair, andThen, settle, join, joinEach, addReach, linksOf, reachEach, nilTerms, addLinks, equalTo, addNilLinks, joinNil, startJoins, start}
 use Rattle.logic.specs.Rules.{Fact, equal, reaches, branch}
 use Rattle.logic.specs.JoinPairs.{followPairs, timesReplaced, Accounts}
 use Rattle.logic.proofs.Basics.Search.{not-of, true-false, map-mem}
@@ -18,7 +18,7 @@ use Rattle.logic.proofs.Basics.Compare.{eqb-intro, eqb-false, eq-cases}
 use Rattle.logic.proofs.Query.Tied.{Accepted}
 use Rattle.logic.proofs.Query.Entries.{nilTerms-names}
 use Rattle.logic.proofs.Paths.Doubled.{doubled-some}
-use Rattle.logic.proofs.Paths.Ranged.{InRange, Ranged, replace-live, replace-not-live, ranged-replace, ranged-addLink}
+use Rattle.logic.proofs.Paths.Ranged.{InRange, Ranged, replace-live, replace-not-live, ranged-replace, ranged-addLinks}
 use Rattle.logic.proofs.Paths.Settle.{doubled-live}
 use Rattle.logic.proofs.Paths.Kept.{Sane, LiveFact, kept-settle, low-high, join-kept}
 use Rattle.logic.proofs.Paths.Start.{linksOf-ranged, joinEach-kept, nilled-sane}
@@ -73,8 +73,8 @@ module _ (n : ℕ) where
   accounts-unjoined s s′ e =
       record {
         followed = λ t. ap (λ (r : ℕ → ℕ). r t) e;
-        once = λ t. sym (ap (λ (r : ℕ → ℕ). cond (live n s t and not (live n (record { rep = r; graph = s .graph }) t)) 1 0) e ∙ gone-none (live n s t));
-        stays = λ t h. subst (λ (r : ℕ → ℕ). live n (record { rep = r; graph = s .graph }) t ≡ true) e h;
+        once = λ t. sym (ap (λ (r : ℕ → ℕ). cond (live n s t and not (live n (record { rep = r; links = s .links; graph = s .graph }) t)) 1 0) e ∙ gone-none (live n s t));
+        stays = λ t h. subst (λ (r : ℕ → ℕ). live n (record { rep = r; links = s .links; graph = s .graph }) t ≡ true) e h;
         lower = λ ab m. absurd (List·Memᴰ·not-nil m);
       }
 
@@ -113,18 +113,18 @@ module _ (n : ℕ) where
   accounts-from s s′ j e a =
       record {
         followed = λ t. a .followed t ∙ ap (λ (r : ℕ → ℕ). followPairs (j .pairs) (r t)) e;
-        once = λ t. a .once t ∙ ap (λ (r : ℕ → ℕ). cond (live n (record { rep = r; graph = s .graph }) t and not (live n (j .facts) t)) 1 0) e;
-        stays = λ t h. subst (λ (r : ℕ → ℕ). live n (record { rep = r; graph = s .graph }) t ≡ true) e (a .stays t h);
+        once = λ t. a .once t ∙ ap (λ (r : ℕ → ℕ). cond (live n (record { rep = r; links = s .links; graph = s .graph }) t and not (live n (j .facts) t)) 1 0) e;
+        stays = λ t h. subst (λ (r : ℕ → ℕ). live n (record { rep = r; links = s .links; graph = s .graph }) t ≡ true) e (a .stays t h);
         lower = a .lower;
       }
 
-  nil-rep : (t : ℕ) (s : Facts) → addNilLink t s .rep ≡ s .rep
-  unfolding addNilLink addLink
+  nil-rep : (t : ℕ) (s : Facts) → addNilLinks t s .rep ≡ s .rep
+  unfolding addNilLinks addLinks
   nil-rep t s = refl
 
-  nil-ranged : (t : ℕ) (s : Facts) → live n s (s .rep t) ≡ true → Ranged n s → Ranged n (addNilLink t s)
-  unfolding addNilLink
-  nil-ranged t s l r = ranged-addLink n (s .rep t) (s .rep t) s l l r
+  nil-ranged : (t : ℕ) (s : Facts) → live n s (s .rep t) ≡ true → Ranged n s → Ranged n (addNilLinks t s)
+  unfolding addNilLinks
+  nil-ranged t s l r = ranged-addLinks n (s .rep t) (s .rep t) s l l r
 
   accounts-then : (s : Facts) (j : Joined) (f : Facts → Joined) → Accounts n s j → Accounts n (j .facts) (f (j .facts)) → Accounts n s (andThen j f)
   unfolding andThen goneOf
@@ -141,14 +141,14 @@ module _ (n : ℕ) where
   pub accounts-settle : (k : ℕ) (s : Facts) → Ranged n s → Accounts n s (settle n k s)
   unfolding settle joinPair Option·elim
   accounts-settle zero s r = accounts-unjoined s s refl
-  accounts-settle (suc k) s r = go (doubled n (s .graph)) refl (λ s′ r′. accounts-settle k s′ r′)
+  accounts-settle (suc k) s r = go (doubled n s) refl (λ s′ r′. accounts-settle k s′ r′)
     where
-      go : (o : Option (ℕ × ℕ)) → doubled n (s .graph) ≡ o → ((s′ : Facts) → Ranged n s′ → Accounts n s′ (settle n k s′)) → Accounts n s (Option·elim o (unjoined s) (λ ab. andThen (joinPair ab s) (settle n k)))
+      go : (o : Option (ℕ × ℕ)) → doubled n s ≡ o → ((s′ : Facts) → Ranged n s′ → Accounts n s′ (settle n k s′)) → Accounts n s (Option·elim o (unjoined s) (λ ab. andThen (joinPair ab s) (settle n k)))
       go none e ih = accounts-unjoined s s refl
       go (some ab) e ih =
           let l = doubled-live n s ab r e in
-          let d = doubled-some n (s .graph) ab e in
-          accounts-then s (joinPair ab s) (settle n k) (accounts-pair (ab .0) (ab .1) s (l .0) (l .1) (d .3))
+          let d = doubled-some n s ab e in
+          accounts-then s (joinPair ab s) (settle n k) (accounts-pair (ab .0) (ab .1) s (l .0) (l .1) (d .lower))
           (ih (replace (ab .0) (ab .1) s) (ranged-replace n (ab .0) (ab .1) s (l .0) (l .1) (l .2) r))
 
   pub accounts-join : (a b : ℕ) (s : Facts) → live n s a ≡ true → live n s b ≡ true → Ranged n s → Accounts n s (join n a b s)
@@ -182,7 +182,7 @@ module _ (n : ℕ) where
   unfolding joinNil equalTo
   accounts-joinNil [] s r h = accounts-unjoined s s refl
   accounts-joinNil (t ∷ us) s r h =
-      let nilPair : ℕ → Literal = λ u. record { plain = true; left = t; right = u } in
+      let nilPair : ℕ → Literal = λ u. literal true t u in
       let rt = r t (List·Memᴰ·head refl) in
       let in-range : (l : Literal) → List·Memᴰ l (equalTo t us) → InRange n (l .left) × InRange n (l .right) = λ l m.
       let (u, k, p) = map-mem nilPair l us m in
@@ -190,20 +190,20 @@ module _ (n : ℕ) where
       let j : Facts = joinEach n (equalTo t us) s .facts in
       let k = joinEach-kept n (equalTo t us) s in-range h .0 in
       let lt = k .sane .ranged .rep-live t rt in
-      accounts-then s (joinEach n (equalTo t us) s) (λ s′. settle n n (addNilLink t s′)) (accounts-joinEach (equalTo t us) s in-range h)
-      (accounts-from j (addNilLink t j) (settle n n (addNilLink t j)) (nil-rep t j) (accounts-settle n (addNilLink t j) (nil-ranged t j lt (k .sane .ranged))))
+      accounts-then s (joinEach n (equalTo t us) s) (λ s′. settle n n (addNilLinks t s′)) (accounts-joinEach (equalTo t us) s in-range h)
+      (accounts-from j (addNilLinks t j) (settle n n (addNilLinks t j)) (nil-rep t j) (accounts-settle n (addNilLinks t j) (nil-ranged t j lt (k .sane .ranged))))
 
   pub accounts-branch : (s : Facts) (c : Fact) → LiveFact n s c → Ranged n s → Accounts n s (branch n s c)
   unfolding branch LiveFact addReach
   accounts-branch s (equal a b) l r = accounts-join a b s (l .0) (l .1) r
-  accounts-branch s (reaches a b) l r = accounts-unjoined s (addReach a b s) refl
+  accounts-branch s (reaches i a b) l r = accounts-unjoined s (addReach i a b s) refl
 
 -- the start
-pub accounts-start : (q : Query) → Accepted q → Accounts (termCount q) (linksOf (q .entries)) (startJoins q)
+pub accounts-start : (q : Query) → Accepted q → Accounts (termCount q) (linksOf q) (startJoins q)
 unfolding startJoins andThen
 accounts-start q ok =
     let n = termCount q in
-    let links : Facts = linksOf (q .entries) in
+    let links : Facts = linksOf q in
     let r = linksOf-ranged q ok in
     let settled = accounts-settle n n links r in
     let nil = accounts-joinNil n (nilTerms q) (settle n n links .facts) (λ t m. nilTerms-names q t m .0) (kept-settle n links r .sane) in
@@ -217,7 +217,7 @@ unfolding reachEach addReach
 reachEach-rep [] s = refl
 reachEach-rep (l ∷ ls) s = reachEach-rep ls _ ∙ go (l .plain)
   where
-    go : (b : Bool) → cond b (addReach (s .rep (l .left)) (s .rep (l .right)) s) s .rep ≡ s .rep
+    go : (b : Bool) → cond b (addReach (l .link) (s .rep (l .left)) (s .rep (l .right)) s) s .rep ≡ s .rep
     go true = refl
     go false = refl
 

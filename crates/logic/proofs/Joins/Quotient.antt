@@ -19,10 +19,11 @@ module _ (n : ℕ) where
   pub record Quotient (s s′ : Facts) : Type 0 where
     pub class : ℕ → ℕ
     pub rep-class : (t : ℕ) → s′ .rep t ≡ class (s .rep t)
-    pub link-held : (a b : ℕ) → s .graph .link a b ≡ true → s′ .graph .link (class a) (class b) ≡ true
-    pub link-from : (a b : ℕ) → s′ .graph .link a b ≡ true → Mapped class (s .graph .link) a b
-    pub reach-held : (a b : ℕ) → s .graph .reach a b ≡ true → s′ .graph .reach (class a) (class b) ≡ true
-    pub reach-from : (a b : ℕ) → s′ .graph .reach a b ≡ true → Mapped class (s .graph .reach) a b
+    pub same-links : s′ .links ≡ s .links
+    pub link-held : (i a b : ℕ) → s .graph i .link a b ≡ true → s′ .graph i .link (class a) (class b) ≡ true
+    pub link-from : (i a b : ℕ) → s′ .graph i .link a b ≡ true → Mapped class (s .graph i .link) a b
+    pub reach-held : (i a b : ℕ) → s .graph i .reach a b ≡ true → s′ .graph i .reach (class a) (class b) ≡ true
+    pub reach-from : (i a b : ℕ) → s′ .graph i .reach a b ≡ true → Mapped class (s .graph i .reach) a b
     pub class-live : (t : ℕ) → live n s t ≡ true → live n s′ (class t) ≡ true
     pub live-class : (t : ℕ) → live n s′ t ≡ true → (live n s t ≡ true) × (class t ≡ t)
     pub others-stay : (t : ℕ) → live n s t ≡ false → class t ≡ t
@@ -33,10 +34,11 @@ module _ (n : ℕ) where
       record {
         class = λ t. t;
         rep-class = λ t. refl;
-        link-held = λ a b h. h;
-        link-from = λ a b h. (a, b, h, refl, refl);
-        reach-held = λ a b h. h;
-        reach-from = λ a b h. (a, b, h, refl, refl);
+        same-links = refl;
+        link-held = λ i a b h. h;
+        link-from = λ i a b h. (a, b, h, refl, refl);
+        reach-held = λ i a b h. h;
+        reach-from = λ i a b h. (a, b, h, refl, refl);
         class-live = λ t h. h;
         live-class = λ t h. (h, refl);
         others-stay = λ t h. refl;
@@ -54,10 +56,11 @@ module _ (n : ℕ) where
       record {
         class = λ t. p′ .class (p .class t);
         rep-class = λ t. p′ .rep-class t ∙ ap (p′ .class) (p .rep-class t);
-        link-held = λ a b h. p′ .link-held _ _ (p .link-held a b h);
-        link-from = λ a b h. mapped-trans (p .class) (p′ .class) (s .graph .link) (s′ .graph .link) (p .link-from) a b (p′ .link-from a b h);
-        reach-held = λ a b h. p′ .reach-held _ _ (p .reach-held a b h);
-        reach-from = λ a b h. mapped-trans (p .class) (p′ .class) (s .graph .reach) (s′ .graph .reach) (p .reach-from) a b (p′ .reach-from a b h);
+        same-links = p′ .same-links ∙ p .same-links;
+        link-held = λ i a b h. p′ .link-held i _ _ (p .link-held i a b h);
+        link-from = λ i a b h. mapped-trans (p .class) (p′ .class) (s .graph i .link) (s′ .graph i .link) (p .link-from i) a b (p′ .link-from i a b h);
+        reach-held = λ i a b h. p′ .reach-held i _ _ (p .reach-held i a b h);
+        reach-from = λ i a b h. mapped-trans (p .class) (p′ .class) (s .graph i .reach) (s′ .graph i .reach) (p .reach-from i) a b (p′ .reach-from i a b h);
         class-live = λ t h. p′ .class-live _ (p .class-live t h);
         live-class = λ t h.
             let l′ = p′ .live-class t h in
@@ -76,10 +79,11 @@ module _ (n : ℕ) where
       record {
         class = sub lo hi;
         rep-class = λ t. refl;
-        link-held = λ a b h. replaceIn-intro lo hi (s .graph .link) apart a b h;
-        link-from = λ a b h. replaceIn-true lo hi (s .graph .link) a b h;
-        reach-held = λ a b h. replaceIn-intro lo hi (s .graph .reach) apart a b h;
-        reach-from = λ a b h. replaceIn-true lo hi (s .graph .reach) a b h;
+        same-links = refl;
+        link-held = λ i a b h. replaceIn-intro lo hi (s .graph i .link) apart a b h;
+        link-from = λ i a b h. replaceIn-true lo hi (s .graph i .link) a b h;
+        reach-held = λ i a b h. replaceIn-intro lo hi (s .graph i .reach) apart a b h;
+        reach-from = λ i a b h. replaceIn-true lo hi (s .graph i .reach) a b h;
         class-live = λ t h. replace-live-sub n lo hi s llo lhi apart t h;
         live-class = λ t h. let r = replace-not-live n lo hi s llo lhi apart t h in (r .0, sub-miss lo hi t (r .1));
         others-stay = λ t h. sub-miss lo hi t (λ e. true-false (subst (λ (u : ℕ). live n s u ≡ true) (sym e) lhi) h);
@@ -112,12 +116,12 @@ module _ (n : ℕ) where
         (bool-cases (live n s x))
 
 -- the path that these functions make
-abbrev made : (ℕ → ℕ) → (ℕ → ℕ → Bool) → (ℕ → ℕ → Bool) → Facts
-made rep link reach = record { rep = rep; graph = record { link = link; reach = reach } }
+abbrev made : (ℕ → ℕ) → ℕ → (ℕ → ℕ → ℕ → Bool) → (ℕ → ℕ → ℕ → Bool) → Facts
+made rep links link reach = record { rep = rep; links = links; graph = λ i. record { link = link i; reach = reach i } }
 
 -- two paths are one where they answer alike
-pub alike : (s s′ : Facts) → ((t : ℕ) → s .rep t ≡ s′ .rep t) → ((a b : ℕ) → s .graph .link a b ≡ s′ .graph .link a b) → ((a b : ℕ) → s .graph .reach a b ≡ s′ .graph .reach a b) → s ≡ s′
-alike s s′ e f g = λ i. made (fun-ext e i) (fun-ext (λ a. fun-ext (f a)) i) (fun-ext (λ a. fun-ext (g a)) i)
+pub alike : (s s′ : Facts) → ((t : ℕ) → s .rep t ≡ s′ .rep t) → s .links ≡ s′ .links → ((i a b : ℕ) → s .graph i .link a b ≡ s′ .graph i .link a b) → ((i a b : ℕ) → s .graph i .reach a b ≡ s′ .graph i .reach a b) → s ≡ s′
+alike s s′ e k f g = λ i. made (fun-ext e i) (k i) (fun-ext (λ j. fun-ext (λ a. fun-ext (f j a))) i) (fun-ext (λ j. fun-ext (λ a. fun-ext (g j a))) i)
 
 -- tests that pass alike are equal
 pub test-same : (b c : Bool) → (b ≡ true → c ≡ true) → (c ≡ true → b ≡ true) → b ≡ c
@@ -140,8 +144,9 @@ pub quotient-unique : (n : ℕ) {s s₁ s₂ : Facts} (p : Quotient n s s₁) (p
 quotient-unique n {s} {s₁} {s₂} p p′ same back =
     alike s₁ s₂
     (λ t. p .rep-class t ∙ e (s .rep t) ∙ sym (p′ .rep-class t))
-    (relation-same (p .class) (p′ .class) e (s .graph .link) (s₁ .graph .link) (s₂ .graph .link) (p .link-from) (p .link-held) (p′ .link-from) (p′ .link-held))
-    (relation-same (p .class) (p′ .class) e (s .graph .reach) (s₁ .graph .reach) (s₂ .graph .reach) (p .reach-from) (p .reach-held) (p′ .reach-from) (p′ .reach-held))
+    (p .same-links ∙ sym (p′ .same-links))
+    (λ i. relation-same (p .class) (p′ .class) e (s .graph i .link) (s₁ .graph i .link) (s₂ .graph i .link) (p .link-from i) (p .link-held i) (p′ .link-from i) (p′ .link-held i))
+    (λ i. relation-same (p .class) (p′ .class) e (s .graph i .reach) (s₁ .graph i .reach) (s₂ .graph i .reach) (p .reach-from i) (p .reach-held i) (p′ .reach-from i) (p′ .reach-held i))
   where
     e : (x : ℕ) → p .class x ≡ p′ .class x
     e = class-same n p p′ same back

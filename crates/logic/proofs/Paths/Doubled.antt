@@ -6,8 +6,8 @@ use mathlib.Core.Logic.{_⊎_, ⊎-elim, inl, inr}
 use mathlib.Core.Bool.{Bool, true, false, cond}
 use mathlib.Core.List.{List, [], _∷_, List·Memᴰ, List·Memᴰ·head, List·Memᴰ·tail, List·Memᴰ·not-nil, List·Memᴰ·cases-cons}
 use mathlib.Core.Option.{Option, none, some}
-use Rattle.logic.specs.Search.{from, select}
-use Rattle.logic.specs.Facts.{Graph, terms, successors, firstTwo, doubled}
+use Rattle.logic.specs.Search.{from, select, firstOf}
+use Rattle.logic.specs.Facts.{Graph, Facts, linkNumbers, terms, successors, firstTwo, doubled}
 use Rattle.logic.proofs.Basics.Search.{bool-cases, none-some, firstOf-some, firstOf-none, select-mem, select-intro, from-mem, from-intro}
 use Rattle.logic.proofs.Basics.Compare.{cond-true, cond-false}
 
@@ -46,22 +46,37 @@ select-ascends p (suc k) i a b rest h =
         let l = from-mem k (suc i) b (m .0) in
         omega arith
 
-module _ (n : ℕ) (g : Graph) where
-  -- what is found are two successors of one term, the lower first
-  pub doubled-some : (ab : ℕ × ℕ) → doubled n g ≡ some ab → (t : ℕ) × (g .link t (ab .0) ≡ true) × (g .link t (ab .1) ≡ true) × (ab .0 < ab .1)
+-- two successors of one term by one link, the lower first
+pub record Fork (s : Facts) (ab : ℕ × ℕ) : Type 0 where
+  pub link : ℕ
+  pub term : ℕ
+  pub low : s .graph link .link term (ab .0) ≡ true
+  pub high : s .graph link .link term (ab .1) ≡ true
+  pub lower : ab .0 < ab .1
+
+module _ (n : ℕ) (s : Facts) where
+  -- the first two successors of a term by link i
+  abbrev twoAt : ℕ → ℕ → Option (ℕ × ℕ)
+  twoAt t i = firstTwo (successors n (s .graph i) t)
+
+  -- what is found are two successors of one term
+  pub doubled-some : (ab : ℕ × ℕ) → doubled n s ≡ some ab → Fork s ab
   unfolding doubled successors terms
   doubled-some ab h =
-      let f = firstOf-some (λ t. firstTwo (successors n g t)) (terms n) ab h in
-      let l = firstTwo-some (successors n g (f .0)) ab (f .2) in
+      let f = firstOf-some (λ t. firstOf (twoAt t) (linkNumbers (s .links))) (terms n) ab h in
+      let e = firstOf-some (twoAt (f .0)) (linkNumbers (s .links)) ab (f .2) in
+      let g = s .graph (e .0) in
+      let l = firstTwo-some (successors n g (f .0)) ab (e .2) in
       let m = select-mem (g .link (f .0)) (ab .0) (terms n) (subst (λ (xs : List ℕ). List·Memᴰ (ab .0) xs) (sym (l .1)) (List·Memᴰ·head refl)) in
       let m′ = select-mem (g .link (f .0)) (ab .1) (terms n) (subst (λ (xs : List ℕ). List·Memᴰ (ab .1) xs) (sym (l .1)) (List·Memᴰ·tail (List·Memᴰ·head refl))) in
-      (f .0, m .1, m′ .1, select-ascends (g .link (f .0)) n 1 (ab .0) (ab .1) (l .0) (l .1))
+      record { link = e .0; term = f .0; low = m .1; high = m′ .1; lower = select-ascends (g .link (f .0)) n 1 (ab .0) (ab .1) (l .0) (l .1) }
 
-  -- where nothing is found, a term of 1 to n has one successor there
-  pub doubled-none : doubled n g ≡ none → (a b c : ℕ) → (1 ≤ a) × (a ≤ n) → (1 ≤ b) × (b ≤ n) → (1 ≤ c) × (c ≤ n) → g .link a b ≡ true → g .link a c ≡ true → b ≡ c
-  unfolding doubled successors terms
-  doubled-none h a b c ra rb rc l l′ =
-      firstTwo-none (successors n g a) b c
-      (firstOf-none (λ t. firstTwo (successors n g t)) a h (from-intro n 1 a (ra .0) (omega arith)))
-      (select-intro (g .link a) b (from-intro n 1 b (rb .0) (omega arith)) l)
-      (select-intro (g .link a) c (from-intro n 1 c (rc .0) (omega arith)) l′)
+  -- where nothing is found, a term of 1 to n has one successor there by each link
+  pub doubled-none : doubled n s ≡ none → (i a b c : ℕ) → (1 ≤ i) × (i ≤ s .links) → (1 ≤ a) × (a ≤ n) → (1 ≤ b) × (b ≤ n) → (1 ≤ c) × (c ≤ n) → s .graph i .link a b ≡ true → s .graph i .link a c ≡ true → b ≡ c
+  unfolding doubled successors terms linkNumbers
+  doubled-none h i a b c ri ra rb rc l l′ =
+      let at-term = firstOf-none (λ t. firstOf (twoAt t) (from (s .links) 1)) a h (from-intro n 1 a (ra .0) (omega arith)) in
+      firstTwo-none (successors n (s .graph i) a) b c
+      (firstOf-none (twoAt a) i at-term (from-intro (s .links) 1 i (ri .0) (omega arith)))
+      (select-intro (s .graph i .link a) b (from-intro n 1 b (rb .0) (omega arith)) l)
+      (select-intro (s .graph i .link a) c (from-intro n 1 c (rc .0) (omega arith)) l′)

@@ -8,9 +8,9 @@ use lib.Dec.{eqb}
 use Rattle.logic.specs.Query.{Literal}
 use Rattle.logic.specs.Facts.{Facts, Joined, unjoined, joinPair, andThen, replace, doubled, settle, join, joinEach}
 
-pub settle-step : (n k : ℕ) (s : Facts) → settle n (suc k) s .facts ≡ Option·elim (doubled n (s .graph)) s (λ ab. settle n k (replace (ab .0) (ab .1) s) .facts)
+pub settle-step : (n k : ℕ) (s : Facts) → settle n (suc k) s .facts ≡ Option·elim (doubled n s) s (λ ab. settle n k (replace (ab .0) (ab .1) s) .facts)
 unfolding settle unjoined joinPair andThen Option·elim
-settle-step n k s = go (doubled n (s .graph))
+settle-step n k s = go (doubled n s)
   where
     go : (o : Option (ℕ × ℕ)) → Option·elim o (unjoined s) (λ ab. andThen (joinPair ab s) (settle n k)) .facts ≡ Option·elim o s (λ ab. settle n k (replace (ab .0) (ab .1) s) .facts)
     go none = refl

@@ -13,13 +13,13 @@ use Rattle.logic.proofs.Basics.Compare.{eqb-intro, eqb-false, eq-cases,
 use Rattle.logic.proofs.Paths.Replace.{sub, sub-hit, sub-miss}
 use Rattle.logic.proofs.Paths.Extends.{Extends, extends-refl, extends-trans, extends-replace, extends-addReach, rep-same}
 use Rattle.logic.proofs.Paths.Joined.{join-facts}
-use Rattle.logic.proofs.Paths.Ranged.{Ranged, replace-not-live, ranged-replace, ranged-addReach}
+use Rattle.logic.proofs.Paths.Ranged.{InRange, Ranged, replace-not-live, ranged-replace, ranged-addReach}
 use Rattle.logic.proofs.Paths.Settle.{liveCount-le, ranged-settle, extends-settle, settle-not-live, settle-done}
 
 -- facts in range, with single links
 pub record Sane (n : ℕ) (s : Facts) : Type 0 where
   pub ranged : Ranged n s
-  pub single : doubled n (s .graph) ≡ none
+  pub single : doubled n s ≡ none
 
 pub record Kept (n : ℕ) (s s′ : Facts) : Type 0 where
   pub sane : Sane n s′
@@ -87,20 +87,20 @@ module _ (n a b : ℕ) (s : Facts) (la : live n s a ≡ true) (lb : live n s b �
       gone lo hi llo lhi d t h = replace-not-live n lo hi s llo lhi d t (settle-not-live n n (replace lo hi s) (ranged-replace n lo hi s llo lhi d r) t h)
 
   -- adding a reachability fact between live terms keeps
-  pub addReach-kept : Sane n s → Kept n s (addReach a b s)
+  pub addReach-kept : (i : ℕ) → InRange (s .links) i → Sane n s → Kept n s (addReach i a b s)
   unfolding addReach doubled successors
-  addReach-kept h =
+  addReach-kept i ri h =
       record {
-        sane = record { ranged = ranged-addReach n a b s la lb (h .ranged); single = h .single };
-        extends = extends-addReach a b s;
+        sane = record { ranged = ranged-addReach n i a b s ri la lb (h .ranged); single = h .single };
+        extends = extends-addReach i a b s;
       }
 
--- both terms of a fact are live
+-- both terms of a fact are live, and there is the link that it is about
 unfoldable pub LiveFact : ℕ → Facts → Fact → Type 0
 LiveFact n s (equal a b) = (live n s a ≡ true) × (live n s b ≡ true)
-LiveFact n s (reaches a b) = (live n s a ≡ true) × (live n s b ≡ true)
+LiveFact n s (reaches i a b) = (live n s a ≡ true) × (live n s b ≡ true) × InRange (s .links) i
 
 pub add-kept : (n : ℕ) (s : Facts) (c : Fact) → LiveFact n s c → Sane n s → Kept n s (add n s c)
 unfolding LiveFact add branch unjoined
 add-kept n s (equal a b) l h = join-kept n a b s (l .0) (l .1) h .0
-add-kept n s (reaches a b) l h = addReach-kept n a b s (l .0) (l .1) h
+add-kept n s (reaches i a b) l h = addReach-kept n a b s (l .0) (l .1) i (l .2) h

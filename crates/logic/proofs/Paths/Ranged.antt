@@ -6,11 +6,11 @@ use mathlib.Core.Logic.{_⊎_, ⊎-elim, inl, inr}
 use mathlib.Core.Bool.{Bool, true, false, cond}
 use mathlib.Core.List.{List, [], _∷_, List·Memᴰ}
 use lib.ListN.{length}
-use lib.Dec.{eqb, ltb}
+use lib.Dec.{eqb, ltb, leb}
 use Rattle.logic.specs.Search.{_and_, _or_, from, select}
-use Rattle.logic.specs.Facts.{Graph, Facts, terms, live, liveTerms, replaceIn, replace, addReach, addLink}
+use Rattle.logic.specs.Facts.{Graph, Facts, terms, live, liveTerms, replaceIn, replace, addReach, addLinks}
 use Rattle.logic.proofs.Basics.Search.{bool-cases, true-false, not-of, and-left, and-right, and-intro, or-cases, select-mem, select-intro, from-mem, from-intro}
-use Rattle.logic.proofs.Basics.Compare.{eqb-true, eqb-intro, eqb-self, eq-cases, ltb-true, ltb-intro, cond-true, cond-false}
+use Rattle.logic.proofs.Basics.Compare.{eqb-true, eqb-intro, eqb-self, eq-cases, ltb-true, ltb-intro, leb-true, cond-true, cond-false}
 use Rattle.logic.proofs.Paths.Replace.{sub, sub-hit, sub-miss, replaceIn-true}
 
 abbrev pub InRange : ℕ → ℕ → Type 0
@@ -45,8 +45,11 @@ module _ (n : ℕ) (s : Facts) where
 
 pub record Ranged (n : ℕ) (s : Facts) : Type 0 where
   pub rep-live : (t : ℕ) → InRange n t → live n s (s .rep t) ≡ true
-  pub link-live : (a b : ℕ) → s .graph .link a b ≡ true → (live n s a ≡ true) × (live n s b ≡ true)
-  pub reach-live : (a b : ℕ) → s .graph .reach a b ≡ true → (live n s a ≡ true) × (live n s b ≡ true)
+  pub link-live : (i a b : ℕ) → s .graph i .link a b ≡ true → (live n s a ≡ true) × (live n s b ≡ true)
+  pub reach-live : (i a b : ℕ) → s .graph i .reach a b ≡ true → (live n s a ≡ true) × (live n s b ≡ true)
+  -- facts are about links that there are
+  pub link-linked : (i a b : ℕ) → s .graph i .link a b ≡ true → InRange (s .links) i
+  pub reach-linked : (i a b : ℕ) → s .graph i .reach a b ≡ true → InRange (s .links) i
 
 -- replacing a live term by another leaves all others live
 module _ (n lo hi : ℕ) (s : Facts) (llo : live n s lo ≡ true) (lhi : live n s hi ≡ true) (d : lo ≡ hi → ⊥) where
@@ -92,26 +95,51 @@ module _ (n lo hi : ℕ) (s : Facts) (llo : live n s lo ≡ true) (lhi : live n 
   ranged-replace r =
       record {
         rep-live = λ t i. replace-live-sub (s .rep t) (r .rep-live t i);
-        link-live = replaced-live (s .graph .link) (r .link-live);
-        reach-live = replaced-live (s .graph .reach) (r .reach-live);
+        link-live = λ i. replaced-live (s .graph i .link) (r .link-live i);
+        reach-live = λ i. replaced-live (s .graph i .reach) (r .reach-live i);
+        link-linked = λ i a b h. let p = replaceIn-true lo hi (s .graph i .link) a b h in r .link-linked i (p .0) (p .1) (p .2);
+        reach-linked = λ i a b h. let p = replaceIn-true lo hi (s .graph i .reach) a b h in r .reach-linked i (p .0) (p .1) (p .2);
       }
 
--- a relation with one more pair of live terms
-plus-live : (n a b : ℕ) (s : Facts) (R : ℕ → ℕ → Bool) → live n s a ≡ true → live n s b ≡ true → ((x y : ℕ) → R x y ≡ true → (live n s x ≡ true) × (live n s y ≡ true)) → (x y : ℕ) → R x y or (eqb x a and eqb y b) ≡ true → (live n s x ≡ true) × (live n s y ≡ true)
-plus-live n a b s R la lb r x y h =
+-- a relation with one more pair of live terms, where a test passes
+plus-live : (n a b : ℕ) (s : Facts) (R : ℕ → ℕ → Bool) (test : Bool) → live n s a ≡ true → live n s b ≡ true → ((x y : ℕ) → R x y ≡ true → (live n s x ≡ true) × (live n s y ≡ true)) → (x y : ℕ) → R x y or (test and eqb x a and eqb y b) ≡ true → (live n s x ≡ true) × (live n s y ≡ true)
+plus-live n a b s R test la lb r x y h =
     ⊎-elim (r x y)
     (λ e. (
-      subst (λ (u : ℕ). live n s u ≡ true) (sym (eqb-true x a (and-left (eqb x a) (eqb y b) e))) la,
-      subst (λ (u : ℕ). live n s u ≡ true) (sym (eqb-true y b (and-right (eqb x a) (eqb y b) e))) lb,
+      subst (λ (u : ℕ). live n s u ≡ true) (sym (eqb-true x a (and-right test (eqb x a) (and-left (test and eqb x a) (eqb y b) e)))) la,
+      subst (λ (u : ℕ). live n s u ≡ true) (sym (eqb-true y b (and-right (test and eqb x a) (eqb y b) e))) lb,
     ))
-    (or-cases (R x y) (eqb x a and eqb y b) h)
+    (or-cases (R x y) (test and eqb x a and eqb y b) h)
 
-pub ranged-addReach : (n a b : ℕ) (s : Facts) → live n s a ≡ true → live n s b ≡ true → Ranged n s → Ranged n (addReach a b s)
+pub ranged-addReach : (n i a b : ℕ) (s : Facts) → InRange (s .links) i → live n s a ≡ true → live n s b ≡ true → Ranged n s → Ranged n (addReach i a b s)
 unfolding addReach live
-ranged-addReach n a b s la lb r =
-    record { rep-live = r .rep-live; link-live = r .link-live; reach-live = plus-live n a b s (s .graph .reach) la lb (r .reach-live) }
+ranged-addReach n i a b s ri la lb r =
+    record {
+      rep-live = r .rep-live;
+      link-live = r .link-live;
+      reach-live = λ j. plus-live n a b s (s .graph j .reach) (eqb j i) la lb (r .reach-live j);
+      link-linked = r .link-linked;
+      reach-linked = λ j x y h.
+          ⊎-elim (r .reach-linked j x y)
+          (λ e. subst (InRange (s .links)) (sym (eqb-true j i (and-left (eqb j i) (eqb x a) (and-left (eqb j i and eqb x a) (eqb y b) e)))) ri)
+          (or-cases (s .graph j .reach x y) (eqb j i and eqb x a and eqb y b) h);
+    }
 
-pub ranged-addLink : (n a b : ℕ) (s : Facts) → live n s a ≡ true → live n s b ≡ true → Ranged n s → Ranged n (addLink a b s)
-unfolding addLink live
-ranged-addLink n a b s la lb r =
-    record { rep-live = r .rep-live; link-live = plus-live n a b s (s .graph .link) la lb (r .link-live); reach-live = r .reach-live }
+-- a link that there is
+pub link-range : (links i : ℕ) → (ltb 0 i and leb i links) ≡ true → InRange links i
+link-range links i h = (ltb-true 0 i (and-left (ltb 0 i) (leb i links) h), leb-true i links (and-right (ltb 0 i) (leb i links) h))
+
+pub ranged-addLinks : (n a b : ℕ) (s : Facts) → live n s a ≡ true → live n s b ≡ true → Ranged n s → Ranged n (addLinks a b s)
+unfolding addLinks live
+ranged-addLinks n a b s la lb r =
+    record {
+      rep-live = r .rep-live;
+      link-live = λ j. plus-live n a b s (s .graph j .link) (ltb 0 j and leb j (s .links)) la lb (r .link-live j);
+      reach-live = r .reach-live;
+      link-linked = λ j x y h.
+          let test : Bool = ltb 0 j and leb j (s .links) in
+          ⊎-elim (r .link-linked j x y)
+          (λ e. link-range (s .links) j (and-left test (eqb x a) (and-left (test and eqb x a) (eqb y b) e)))
+          (or-cases (s .graph j .link x y) (test and eqb x a and eqb y b) h);
+      reach-linked = r .reach-linked;
+    }

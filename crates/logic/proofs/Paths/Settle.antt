@@ -32,18 +32,18 @@ module _ (n : ℕ) where
       (not-of (λ h. replace-not-live n lo hi s llo lhi d hi h .1 refl))
 
   -- a term that is found doubled gives two different live terms
-  pub doubled-live : (s : Facts) (ab : ℕ × ℕ) → Ranged n s → doubled n (s .graph) ≡ some ab → (live n s (ab .0) ≡ true) × (live n s (ab .1) ≡ true) × (ab .0 ≡ ab .1 → ⊥)
+  pub doubled-live : (s : Facts) (ab : ℕ × ℕ) → Ranged n s → doubled n s ≡ some ab → (live n s (ab .0) ≡ true) × (live n s (ab .1) ≡ true) × (ab .0 ≡ ab .1 → ⊥)
   doubled-live s ab r h =
-      let f = doubled-some n (s .graph) ab h in
-      (r .link-live (f .0) (ab .0) (f .1) .1, r .link-live (f .0) (ab .1) (f .2) .1, λ e. omega (arith, f .3, e))
+      let f = doubled-some n s ab h in
+      (r .link-live (f .link) (f .term) (ab .0) (f .low) .1, r .link-live (f .link) (f .term) (ab .1) (f .high) .1, λ e. omega (arith, f .lower, e))
 
   -- what each such replacement keeps, settling keeps
-  pub settle-keeps : (P : Facts → Type 0) → ((s : Facts) (ab : ℕ × ℕ) → P s → doubled n (s .graph) ≡ some ab → P (replace (ab .0) (ab .1) s)) → (k : ℕ) (s : Facts) → P s → P (settle n k s .facts)
+  pub settle-keeps : (P : Facts → Type 0) → ((s : Facts) (ab : ℕ × ℕ) → P s → doubled n s ≡ some ab → P (replace (ab .0) (ab .1) s)) → (k : ℕ) (s : Facts) → P s → P (settle n k s .facts)
   unfolding settle unjoined Option·elim
   settle-keeps P keep zero s h = h
-  settle-keeps P keep (suc k) s h = rw (settle-step n k s) (go (doubled n (s .graph)) refl (λ ab e. settle-keeps P keep k (replace (ab .0) (ab .1) s) (keep s ab h e)))
+  settle-keeps P keep (suc k) s h = rw (settle-step n k s) (go (doubled n s) refl (λ ab e. settle-keeps P keep k (replace (ab .0) (ab .1) s) (keep s ab h e)))
     where
-      go : (o : Option (ℕ × ℕ)) → doubled n (s .graph) ≡ o → ((ab : ℕ × ℕ) → doubled n (s .graph) ≡ some ab → P (settle n k (replace (ab .0) (ab .1) s) .facts)) → P (Option·elim o s (λ ab. settle n k (replace (ab .0) (ab .1) s) .facts))
+      go : (o : Option (ℕ × ℕ)) → doubled n s ≡ o → ((ab : ℕ × ℕ) → doubled n s ≡ some ab → P (settle n k (replace (ab .0) (ab .1) s) .facts)) → P (Option·elim o s (λ ab. settle n k (replace (ab .0) (ab .1) s) .facts))
       go none e ih = h
       go (some ab) e ih = ih ab e
 
@@ -66,23 +66,23 @@ module _ (n : ℕ) where
       k s (r, λ t h. h) .1
 
   -- as many times as there are live terms are enough: then no term has two successors
-  pub settle-done : (k : ℕ) (s : Facts) → Ranged n s → liveCount s ≤ k → doubled n (settle n k s .facts .graph) ≡ none
+  pub settle-done : (k : ℕ) (s : Facts) → Ranged n s → liveCount s ≤ k → doubled n (settle n k s .facts) ≡ none
   unfolding settle unjoined Option·elim
-  settle-done zero s r l = go (doubled n (s .graph)) refl
+  settle-done zero s r l = go (doubled n s) refl
     where
-      go : (o : Option (ℕ × ℕ)) → doubled n (s .graph) ≡ o → doubled n (s .graph) ≡ none
+      go : (o : Option (ℕ × ℕ)) → doubled n s ≡ o → doubled n s ≡ none
       go none e = e
       go (some ab) e =
           let d = doubled-live s ab r e in
           let lt = liveCount-replace (ab .0) (ab .1) s (d .0) (d .1) (d .2) in
           absurd (omega arith)
-  settle-done (suc k) s r l = rw (settle-step n k s) (go (doubled n (s .graph)) refl (λ ab e. step ab (doubled-live s ab r e) (λ r′ l′. settle-done k (replace (ab .0) (ab .1) s) r′ l′)))
+  settle-done (suc k) s r l = rw (settle-step n k s) (go (doubled n s) refl (λ ab e. step ab (doubled-live s ab r e) (λ r′ l′. settle-done k (replace (ab .0) (ab .1) s) r′ l′)))
     where
-      step : (ab : ℕ × ℕ) → (live n s (ab .0) ≡ true) × (live n s (ab .1) ≡ true) × (ab .0 ≡ ab .1 → ⊥) → (Ranged n (replace (ab .0) (ab .1) s) → liveCount (replace (ab .0) (ab .1) s) ≤ k → doubled n (settle n k (replace (ab .0) (ab .1) s) .facts .graph) ≡ none) → doubled n (settle n k (replace (ab .0) (ab .1) s) .facts .graph) ≡ none
+      step : (ab : ℕ × ℕ) → (live n s (ab .0) ≡ true) × (live n s (ab .1) ≡ true) × (ab .0 ≡ ab .1 → ⊥) → (Ranged n (replace (ab .0) (ab .1) s) → liveCount (replace (ab .0) (ab .1) s) ≤ k → doubled n (settle n k (replace (ab .0) (ab .1) s) .facts) ≡ none) → doubled n (settle n k (replace (ab .0) (ab .1) s) .facts) ≡ none
       step ab d ih =
           let lt = liveCount-replace (ab .0) (ab .1) s (d .0) (d .1) (d .2) in
           ih (ranged-replace n (ab .0) (ab .1) s (d .0) (d .1) (d .2) r) (omega arith)
 
-      go : (o : Option (ℕ × ℕ)) → doubled n (s .graph) ≡ o → ((ab : ℕ × ℕ) → doubled n (s .graph) ≡ some ab → doubled n (settle n k (replace (ab .0) (ab .1) s) .facts .graph) ≡ none) → doubled n (Option·elim o s (λ ab. settle n k (replace (ab .0) (ab .1) s) .facts) .graph) ≡ none
+      go : (o : Option (ℕ × ℕ)) → doubled n s ≡ o → ((ab : ℕ × ℕ) → doubled n s ≡ some ab → doubled n (settle n k (replace (ab .0) (ab .1) s) .facts) ≡ none) → doubled n (Option·elim o s (λ ab. settle n k (replace (ab .0) (ab .1) s) .facts)) ≡ none
       go none e ih = e
       go (some ab) e ih = ih ab e

@@ -11,11 +11,11 @@ use lib.ListN.{length, getD}
 use lib.Dec.{eqb, ltb, leb}
 use borrow.Author.Tests.{ltb-true, leb-true, eq-eqb}
 use Rattle.logic.specs.Search.{_and_, _or_, from, at}
-use Rattle.logic.specs.Query.{Literal, entryOf, namesNil, argumentOf, termCount, Role, Section, Form, entryRole, signRole, termRole, numberRole, fourSections, booleanSection, fiveSections, sections, Layout, faulty, parts, rolesOf, firstByte, layoutBy, layoutOf, faultIn, layoutFault, byteFault, literals, section, queryOf, decode}
-use Rattle.logic.specs.Calls.{Input, Check, layoutCheck, byteCheck, formChecks, queryChecks, refused, refusalOf, accepts}
+use Rattle.logic.specs.Query.{Literal, oneLink, entryOf, namesNil, argumentOf, linkOf, termCount, Role, Section, Form, entryRole, signRole, termRole, numberRole, fourSections, booleanSection, fiveSections, sections, Layout, faulty, parts, rolesOf, firstByte, layoutBy, layoutOf, faultIn, layoutFault, byteFault, literals, section, queryOf, decode}
+use Rattle.logic.specs.Calls.{Input, Check, layoutCheck, byteCheck, formChecks, queryChecks, refused, refusalOf, accepts, acceptsBy, oneLinkForm}
 use Rattle.logic.proofs.Basics.Search.{true-false, and-left, and-right, or-cases, not-true, none-some, keep-none, isSome-false, firstOf-none, from-mem, from-intro, map-mem, map-intro, at-left}
 use Rattle.logic.proofs.Query.Tied.{InTerms, ToEight, Accepted}
-use Rattle.logic.proofs.Query.Bytes.{Allows, faultless-allowed, Regular, Part, part-at, first-sized, layoutNumbers, LayoutNumber, Excesses, three-number, retired-number, Numbered, layout-numbered, entry-allowed, literals-allowed}
+use Rattle.logic.proofs.Query.Bytes.{Allows, faultless-allowed, Regular, Part, part-at, first-sized, layoutNumbers, LayoutNumber, Excesses, three-number, retired-number, Numbered, layout-numbered, entry-allowed, literals-link, literals-allowed}
 
 -- The checks of a form of query
 
@@ -57,7 +57,7 @@ form-passes form i h =
     }
 
 pub query-passes : (bytes : List ℕ) → accepts bytes ≡ true → Passes sections bytes
-unfolding accepts refusalOf queryChecks
+unfolding acceptsBy refusalOf queryChecks
 query-passes bytes passes =
     form-passes sections (record { order = []; query = bytes; room = 0 })
     (λ c m. unmet (c .number) _ (firstOf-none _ c (isSome-false _ (not-true passes)) m))
@@ -79,7 +79,7 @@ up-to : (n b : ℕ) → ltb 0 b and leb b n ≡ true → (1 ≤ b) × (b ≤ n)
 up-to n b h = (ltb-true 0 b (and-left (ltb 0 b) (leb b n) h), leb-true b n (and-right (ltb 0 b) (leb b n) h))
 
 -- an entry that is not nil's is below its own term
-entry-allows : (t b : ℕ) → 1 ≤ t → Allows (entryRole t) b → cond (eqb b 255) 0 b < t
+pub entry-allows : (t b : ℕ) → 1 ≤ t → Allows (entryRole t) b → cond (eqb b 255) 0 b < t
 unfolding entryRole
 entry-allows t b one h = go (eqb b 255) (h (omega arith))
   where
@@ -87,11 +87,11 @@ entry-allows t b one h = go (eqb b 255) (h (omega arith))
     go true e = one
     go false e = ltb-true b t (⊎-elim (λ p. p) (λ p. absurd (false≢true p)) (or-cases (ltb b t) false e))
 
-term-allows : (n b : ℕ) → Allows (termRole n) b → (1 ≤ b) × (b ≤ n)
+pub term-allows : (n b : ℕ) → Allows (termRole n) b → (1 ≤ b) × (b ≤ n)
 unfolding termRole
 term-allows n b h = up-to n b (h (omega arith))
 
-number-allows : (b : ℕ) → Allows numberRole b → ToEight b
+pub number-allows : (b : ℕ) → Allows numberRole b → ToEight b
 unfolding numberRole
 number-allows b h = up-to 8 b (h (omega arith))
 
@@ -103,18 +103,21 @@ module _ (n : ℕ) (ps : List (List ℕ)) (count : length (section ps 0) ≡ n) 
   in-terms b h = rw count (term-allows n b h)
 
   parts-accepted : Accepted (queryOf (parts ps))
-  unfolding queryOf termCount entryOf namesNil argumentOf fourSections at
+  unfolding queryOf termCount linkOf entryOf namesNil argumentOf fourSections at
   parts-accepted =
       record {
         term-count = let p = part 0 _ refl in omega (arith, p .within, p .sized);
         entry-below = λ t h. entry-of t (h .0) (h .1);
+        some-link = omega arith;
+        entry-linked = λ t h one. (omega arith, omega arith);
         equal-terms = λ l m. terms-of 1 refl l m;
         reach-terms = λ l m. terms-of 2 refl l m;
+        reach-linked = λ l m. let e = literals-link (section ps 2) l m in (omega arith, omega arith);
         field-number = λ l m. number-allows (l .left) (literals-of numberRole (termRole n) 3 refl l m .0);
         field-term = λ l m. in-terms (l .right) (literals-of numberRole (termRole n) 3 refl l m .1);
       }
     where
-      entry-of : (t : ℕ) → 1 ≤ t → t ≤ length (section ps 0) → argumentOf (section ps 0) t < t
+      entry-of : (t : ℕ) → 1 ≤ t → t ≤ length (section ps 0) → argumentOf (oneLink (section ps 0)) t < t
       entry-of zero l u = absurd (omega arith)
       entry-of (suc t) l u =
           let p = part 0 _ refl in
@@ -197,3 +200,12 @@ sections-excesses = five-excesses _ 26 retired-number
 pub accepted : (bytes : List ℕ) → accepts bytes ≡ true → Accepted (decode bytes)
 unfolding decode layoutOf sections
 accepted bytes h = five-accepted _ 26 retired-number bytes (query-passes bytes h)
+
+-- every query in the form of 01 knows one link
+pub decode-links : (bytes : List ℕ) → decode bytes .links ≡ 1
+unfolding decode queryOf
+decode-links bytes = go (layoutOf bytes)
+  where
+    go : (l : Layout) → queryOf l .links ≡ 1
+    go (faulty k place) = refl
+    go (parts ps) = refl

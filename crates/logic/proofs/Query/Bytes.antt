@@ -8,7 +8,7 @@ use mathlib.Core.Logic.{⊎-elim}
 use mathlib.Core.Bool.{Bool, true, false, not, cond}
 use mathlib.Core.List.{List, [], _∷_, _++_, List·Memᴰ, List·Memᴰ·head, List·Memᴰ·tail, List·Memᴰ·cases-cons, List·Memᴰ·not-nil}
 use mathlib.Core.Option.{none, some}
-use lib.ListN.{length, getD, take, drop, length-append, take-append-drop}
+use lib.ListN.{length, getD, take, drop, length-append, take-append-drop, length-drop}
 use lib.Seq.{length-take-le}
 use lib.Dec.{eqb, leb}
 use borrow.Author.Tests.{leb-true, eq-eqb}
@@ -170,6 +170,21 @@ first-sized s ss place (c ∷ more) ps l =
     let p = passed s ss place c more ps l in
     ap (λ (qs : List (List ℕ)). length (section qs 0)) (p .first) ∙ length-take-le (c * s .width) more (p .fits)
 
+-- the bytes of a query that is laid out: each section's, and its count
+unfoldable pub total : List (List ℕ) → ℕ
+total [] = 0
+total (p ∷ ps) = 1 + length p + total ps
+
+pub laid-length : (ss : List Section) (place : ℕ) (bytes : List ℕ) (ps : List (List ℕ)) → layout ss place bytes ≡ parts ps → length bytes ≡ total ps
+unfolding layout total
+laid-length [] place [] ps l = let e : _≡_ {A = List (List ℕ)} [] ps = cc in rw (← e) refl
+laid-length [] place (b ∷ bytes) ps l = absurd (faulty-parts l)
+laid-length (s ∷ ss) place [] ps l = absurd (faulty-parts l)
+laid-length (s ∷ ss) place (c ∷ more) ps l =
+    let p = passed s ss place c more ps l in
+    let rest = laid-length ss (p .place) (drop (c * s .width) more) (p .others) (p .rest) in
+    rw (p .first) (omega (arith, rest, length-drop (c * s .width) more, length-take-le (c * s .width) more (p .fits), p .fits))
+
 -- the refusals of the walk from the front, and the forms of query whose counts meet no other
 unfoldable pub layoutNumbers : List ℕ
 layoutNumbers = 2 ∷ 3 ∷ 26 ∷ 4 ∷ []
@@ -228,7 +243,14 @@ entry-allowed role (suc c) i (b ∷ bytes) h zero l u = rw add-zero (h .0)
 entry-allowed role (suc c) i (b ∷ bytes) h (suc t) l u =
     rw (add-suc, ← suc-add) (entry-allowed role c (suc i) bytes (h .1) t (omega arith) (omega arith))
 
--- the literals of a section of three bytes an entry
+-- the literals of a section of three bytes an entry: they are about link 1, and their bytes are allowed
+pub literals-link : (bytes : List ℕ) (l : Literal) → List·Memᴰ l (literals bytes) → l .link ≡ 1
+unfolding literals
+literals-link [] l m = absurd (List·Memᴰ·not-nil m)
+literals-link (s ∷ []) l m = absurd (List·Memᴰ·not-nil m)
+literals-link (s ∷ a ∷ []) l m = absurd (List·Memᴰ·not-nil m)
+literals-link (s ∷ a ∷ b ∷ rest) l m = ⊎-elim (λ e. ap (λ (k : Literal). k .link) e) (literals-link rest l) (List·Memᴰ·cases-cons m)
+
 pub literals-allowed : (sign left right : Role) (c i : ℕ) (bytes : List ℕ) → length bytes ≡ c * 3 → Allowed (flatMap (λ j. sign ∷ left ∷ right ∷ []) (from c i)) bytes → (l : Literal) → List·Memᴰ l (literals bytes) → Allows left (l .left) × Allows right (l .right)
 unfolding flatMap from literals
 literals-allowed sign left right zero i [] e h l m = absurd (List·Memᴰ·not-nil m)

@@ -1,4 +1,4 @@
--- The places of refusals 2 to 8: none is past the query's end, or past the longest query, which has 561 bytes.
+-- The places of refusals 2 to 8: none is past the query's end, or past that of the longest query.
 use Prim.Native.Nat.{ℕ, suc, _+_, _*_, _≤_, _<_}
 use native.Mathlib.Omega.{arith}
 use native.Mathlib.Nat.{mul-le-mul, le-refl}
@@ -11,13 +11,13 @@ use lib.ListN.{length, take, drop, length-drop}
 use lib.Dec.{eqb, leb}
 use borrow.Author.Tests.{leb-true, leb-false}
 use Rattle.logic.specs.Search.{_and_, keep}
-use Rattle.logic.specs.Query.{Role, Section, fourSections, booleanSection, fiveSections, sections, Layout, faulty, parts, withPart, layout, firstByte, layoutBy, faultIn, layoutFault, roleFault, byteFault}
+use Rattle.logic.specs.Query.{Role, Section, Form, fourSections, booleanSection, fiveSections, sections, Layout, faulty, parts, withPart, layout, firstByte, layoutBy, faultIn, layoutFault, roleFault, byteFault}
 use Rattle.logic.proofs.Basics.Search.{none-some, keep-some, orElse-cases}
-use Rattle.logic.proofs.Query.Bytes.{cond-elim, LayoutNumber}
+use Rattle.logic.proofs.Query.Bytes.{cond-elim, LayoutNumber, Excesses}
 use Rattle.logic.proofs.Query.AcceptedBytes.{laid-out, sections-excesses}
 
 -- the most bytes that sections have, each with its count
-most : List Section → ℕ
+unfoldable pub most : List Section → ℕ
 most [] = 0
 most (s ∷ ss) = 1 + s .limit * s .width + most ss
 
@@ -49,24 +49,9 @@ layout-bounded (s ∷ ss) place (c ∷ more) =
     (λ f. (omega arith, omega (arith, small, leb-false (c * s .width) (length more) f))))
     (λ f. (omega arith, omega arith))
 
--- the bytes of a query and a place in it
-abbrev pub InQuery : List ℕ → ℕ → Type 0
-InQuery bytes place = (place ≤ length bytes) × (place ≤ 561)
-
-pub layout-place : (k : ℕ) (bytes : List ℕ) (place : ℕ) → layoutFault sections k bytes ≡ some place → InQuery bytes place
-unfolding layoutFault layoutBy faultIn
-layout-place k bytes place h = go (layoutBy sections bytes) (layout-bounded (sections (firstByte bytes)) 0 bytes) h
-  where
-    go : (l : Layout) → Bounded (sections (firstByte bytes)) 0 bytes l → faultIn k l ≡ some place → InQuery bytes place
-    go (faulty j p) b e = let q = keep-some (eqb j k) e in (omega (arith, b .0, q .1), omega (arith, b .1, q .1, most-bytes (firstByte bytes)))
-    go (parts ps) b e = absurd (none-some e)
-
--- a query that is laid out has at most 561 bytes
-laid-short : (bytes : List ℕ) (ps : List (List ℕ)) → layoutBy sections bytes ≡ parts ps → length bytes ≤ 561
-unfolding layoutBy
-laid-short bytes ps e =
-    let b : length bytes ≤ most (sections (firstByte bytes)) = subst (Bounded (sections (firstByte bytes)) 0 bytes) e (layout-bounded (sections (firstByte bytes)) 0 bytes) in
-    omega (arith, b, most-bytes (firstByte bytes))
+-- a place in a query
+abbrev InQuery : ℕ → List ℕ → ℕ → Type 0
+InQuery longest bytes place = (place ≤ length bytes) × (place ≤ longest)
 
 role-place : (k place : ℕ) (roles : List Role) (bytes : List ℕ) (p : ℕ) → roleFault k place roles bytes ≡ some p → p < place + length bytes
 unfolding roleFault
@@ -78,10 +63,34 @@ role-place k place (r ∷ roles) (b ∷ bytes) p h =
     (λ e. let ih = role-place k (suc place) roles bytes p (e .1) in omega arith)
     (orElse-cases (keep (eqb (r .refusal) k and not (r .allows b)) place) (roleFault k (suc place) roles bytes) p h)
 
--- refusals 5 to 8 are met only where those of the walk from the front are not
-pub byte-place : (k : ℕ) (bytes : List ℕ) (place : ℕ) → ((j : ℕ) → LayoutNumber j → layoutFault sections j bytes ≡ none) → byteFault sections k bytes ≡ some place → InQuery bytes place
-unfolding byteFault
-byte-place k bytes place passed h =
-    let p = role-place k 0 _ bytes place h in
-    let l = laid-out sections bytes (sections-excesses (firstByte bytes)) passed in
-    (omega arith, omega (arith, laid-short bytes (l .0) (l .1)))
+-- A form of query, and the bytes of its longest
+module _ (form : Form) (longest : ℕ) (most-form : (n : ℕ) → most (form n) ≡ longest) (excesses : (n : ℕ) → Excesses (form n)) where
+  pub layout-place-of : (k : ℕ) (bytes : List ℕ) (place : ℕ) → layoutFault form k bytes ≡ some place → InQuery longest bytes place
+  unfolding layoutFault layoutBy faultIn
+  layout-place-of k bytes place h = go (layoutBy form bytes) (layout-bounded (form (firstByte bytes)) 0 bytes) h
+    where
+      go : (l : Layout) → Bounded (form (firstByte bytes)) 0 bytes l → faultIn k l ≡ some place → InQuery longest bytes place
+      go (faulty j p) b e = let q = keep-some (eqb j k) e in (omega (arith, b .0, q .1), omega (arith, b .1, q .1, most-form (firstByte bytes)))
+      go (parts ps) b e = absurd (none-some e)
+
+  -- a query that is laid out is no longer
+  pub laid-short : (bytes : List ℕ) (ps : List (List ℕ)) → layoutBy form bytes ≡ parts ps → length bytes ≤ longest
+  unfolding layoutBy
+  laid-short bytes ps e =
+      let b : length bytes ≤ most (form (firstByte bytes)) = subst (Bounded (form (firstByte bytes)) 0 bytes) e (layout-bounded (form (firstByte bytes)) 0 bytes) in
+      omega (arith, b, most-form (firstByte bytes))
+
+  -- refusals 5 to 8 are met only where those of the walk from the front are not
+  pub byte-place-of : (k : ℕ) (bytes : List ℕ) (place : ℕ) → ((j : ℕ) → LayoutNumber j → layoutFault form j bytes ≡ none) → byteFault form k bytes ≡ some place → InQuery longest bytes place
+  unfolding byteFault
+  byte-place-of k bytes place passed h =
+      let p = role-place k 0 _ bytes place h in
+      let l = laid-out form bytes (excesses (firstByte bytes)) passed in
+      (omega arith, omega (arith, laid-short bytes (l .0) (l .1)))
+
+-- the form of 01
+pub layout-place : (k : ℕ) (bytes : List ℕ) (place : ℕ) → layoutFault sections k bytes ≡ some place → InQuery 561 bytes place
+layout-place = layout-place-of sections 561 most-bytes sections-excesses
+
+pub byte-place : (k : ℕ) (bytes : List ℕ) (place : ℕ) → ((j : ℕ) → LayoutNumber j → layoutFault sections j bytes ≡ none) → byteFault sections k bytes ≡ some place → InQuery 561 bytes place
+byte-place = byte-place-of sections 561 most-bytes sections-excesses

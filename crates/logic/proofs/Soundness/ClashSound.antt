@@ -50,11 +50,11 @@ module _ (q : Query) (ok : Accepted q) (h : Heap) (meets : Meets h q) (s : Facts
   equality-shown : (l : Literal) → List·Memᴰ l (q .equalities) → eqb (s .rep (l .left)) (s .rep (l .right)) ≡ true → val (l .left) ≡ val (l .right)
   equality-shown l m e = let r = ok .equal-terms l m in rep-equal (l .left) (l .right) (r .0 .0) (r .1 .0) e
 
-  reach-shown : (l : Literal) → List·Memᴰ l (q .reachability) → s .graph .reach (s .rep (l .left)) (s .rep (l .right)) ≡ true → Reaches (h .link) (val (l .left)) (val (l .right))
+  reach-shown : (l : Literal) → List·Memᴰ l (q .reachability) → s .graph (l .link) .reach (s .rep (l .left)) (s .rep (l .right)) ≡ true → Reaches (h .link (l .link)) (val (l .left)) (val (l .right))
   reach-shown l m e =
       let r = ok .reach-terms l m in
-      subst₂ (Reaches (h .link)) (holds .rep-true (l .left) (r .0 .0) .stands) (holds .rep-true (l .right) (r .1 .0) .stands)
-      (holds .graph-true .reach-true (s .rep (l .left)) (s .rep (l .right)) e .stands)
+      subst₂ (Reaches (h .link (l .link))) (holds .rep-true (l .left) (r .0 .0) .stands) (holds .rep-true (l .right) (r .1 .0) .stands)
+      (holds .graph-true (l .link) .reach-true (s .rep (l .left)) (s .rep (l .right)) e .stands)
 
   field-shown : (j : ℕ) (l : Literal) → List·Memᴰ l (q .fields) → plainAt (q .fields) j (λ m. eqb (l .left) (m .left) and eqb (s .rep (l .right)) (s .rep (m .right))) ≡ true → h .field (l .left) (val (l .right)) ≡ true
   field-shown j l m e =

@@ -8,17 +8,18 @@ use mathlib.Core.Logic.{⊎-elim}
 use mathlib.Core.Bool.{Bool, true, false, cond, false≢true}
 use mathlib.Core.List.{List, [], _∷_, List·Memᴰ, List·Memᴰ·head, List·Memᴰ·tail}
 use mathlib.Core.Option.{Option, none, some, Option·elim, Option·some-injective}
-use lib.Dec.{eqb}
+use lib.Dec.{eqb, ltb, leb}
 use Rattle.logic.specs.Search.{_and_, _or_}
-use Rattle.logic.specs.Query.{Literal, Query, argumentOf, termCount}
+use Rattle.logic.specs.Query.{Literal, Query, argumentOf, linkOf, termCount, literal}
 use Rattle.logic.specs.Heap.{Heap, Reaches, Meets, value}
-use Rattle.logic.specs.Facts.{Graph, Facts, terms, replaceIn, replace, successors, firstTwo, doubled, unjoined, andThen, settle, join, addReach, linksOf, joinEach, reachEach, nilTerms, addLink, equalTo, addNilLink, joinNil, startJoins, start}
+use Rattle.logic.specs.Facts.{Graph, Facts, linkNumbers, terms, replaceIn, replace, successors, firstTwo, doubled, unjoined, andThen, settle, join, addReach, linksOf, joinEach, reachEach, nilTerms, addLinks, equalTo, addNilLinks, joinNil, startJoins, start}
 use Rattle.logic.specs.Rules.{Fact, equal, reaches, branch, add}
 use Rattle.logic.proofs.Basics.Search.{none-some, and-left, and-right, or-cases, firstOf-some, select-mem, map-mem}
 use Rattle.logic.proofs.Basics.Compare.{eqb-true, ltb-true, eq-cases, le-cases}
 use Rattle.logic.proofs.Query.Tied.{Accepted}
 use Rattle.logic.proofs.Query.Entries.{argument-range, nilTerms-names}
 use Rattle.logic.proofs.Paths.Replace.{sub, sub-hit, sub-miss, replaceIn-true}
+use Rattle.logic.proofs.Paths.Doubled.{doubled-some}
 use Rattle.logic.proofs.Paths.Joined.{settle-step, join-facts, joinEach-step}
 use Rattle.logic.proofs.Soundness.Value.{accepted-below, value-link, signed-true}
 use Rattle.logic.proofs.Soundness.Truth.{Between, between, Same, Linked, Reached, TrueGraph, True, Holds, same-refl, between-same, rep-between}
@@ -38,34 +39,24 @@ module _ (val : ℕ → ℕ) (lo hi : ℕ) (same : Same val lo hi) where
       let r = h (p .0) (p .1) (p .2) in
       subst₂ (Between val R) (p .3) (p .4) (between-same (sub-same (p .0) (r .left-term)) (sub-same (p .1) (r .right-term)) r)
 
--- the two are among those listed
-firstTwo-mem : (xs : List ℕ) (ab : ℕ × ℕ) → firstTwo xs ≡ some ab → List·Memᴰ (ab .0) xs × List·Memᴰ (ab .1) xs
-unfolding firstTwo
-firstTwo-mem [] ab h = absurd (none-some h)
-firstTwo-mem (a ∷ []) ab h = absurd (none-some h)
-firstTwo-mem (a ∷ b ∷ rest) ab h =
-    subst (λ (p : ℕ × ℕ). List·Memᴰ (p .0) (a ∷ b ∷ rest) × List·Memᴰ (p .1) (a ∷ b ∷ rest)) (Option·some-injective (a, b) ab h) (List·Memᴰ·head refl, List·Memᴰ·tail (List·Memᴰ·head refl))
-
-module _ (f val : ℕ → ℕ) (n : ℕ) where
+module _ (f : ℕ → ℕ → ℕ) (val : ℕ → ℕ) (n : ℕ) where
   holds-replace : (lo hi : ℕ) → Same val lo hi → (s : Facts) → Holds f val s → Holds f val (replace lo hi s)
   unfolding replace sub
   holds-replace lo hi same s h =
       record {
         rep-true = λ t l. between-same (sub-same val lo hi same (s .rep t) (h .rep-true t l .left-term)) (same-refl val t l) (h .rep-true t l);
-        graph-true = record {
-          link-true = replaced-true val lo hi same (λ v w. f v ≡ w) (s .graph .link) (h .graph-true .link-true);
-          reach-true = replaced-true val lo hi same (Reaches f) (s .graph .reach) (h .graph-true .reach-true);
+        graph-true = λ i. record {
+          link-true = replaced-true val lo hi same (λ v w. f i v ≡ w) (s .graph i .link) (h .graph-true i .link-true);
+          reach-true = replaced-true val lo hi same (Reaches (f i)) (s .graph i .reach) (h .graph-true i .reach-true);
         };
       }
 
-  -- f has one value: two successors of a term are the same
-  doubled-same : (g : Graph) → TrueGraph f val g → (ab : ℕ × ℕ) → doubled n g ≡ some ab → Same val (ab .0) (ab .1)
-  unfolding doubled successors
-  doubled-same g h ab e =
-      let p = firstOf-some (λ t. firstTwo (successors n g t)) (terms n) ab e in
-      let m = firstTwo-mem (successors n g (p .0)) ab (p .2) in
-      let k = h .link-true (p .0) (ab .0) (select-mem (g .link (p .0)) (ab .0) (terms n) (m .0) .1) in
-      let l = h .link-true (p .0) (ab .1) (select-mem (g .link (p .0)) (ab .1) (terms n) (m .1) .1) in
+  -- a link has one value: two successors of a term by it are the same
+  doubled-same : (s : Facts) → Holds f val s → (ab : ℕ × ℕ) → doubled n s ≡ some ab → Same val (ab .0) (ab .1)
+  doubled-same s h ab e =
+      let d = doubled-some n s ab e in
+      let k = h .graph-true (d .link) .link-true (d .term) (ab .0) (d .low) in
+      let l = h .graph-true (d .link) .link-true (d .term) (ab .1) (d .high) in
       between (k .right-term) (l .right-term) (sym (k .stands) ∙ l .stands)
 
   holds-settle : (k : ℕ) (s : Facts) → Holds f val s → Holds f val (settle n k s .facts)
@@ -73,7 +64,7 @@ module _ (f val : ℕ → ℕ) (n : ℕ) where
   holds-settle zero s h = h
   holds-settle (suc k) s h =
       rw (settle-step n k s)
-      (go (doubled n (s .graph)) (λ ab e. holds-settle k (replace (ab .0) (ab .1) s) (holds-replace (ab .0) (ab .1) (doubled-same (s .graph) (h .graph-true) ab e) s h)))
+      (go (doubled n s) (λ ab e. holds-settle k (replace (ab .0) (ab .1) s) (holds-replace (ab .0) (ab .1) (doubled-same s h ab e) s h)))
     where
       go : (o : Option (ℕ × ℕ)) → ((ab : ℕ × ℕ) → o ≡ some ab → Holds f val (settle n k (replace (ab .0) (ab .1) s) .facts)) → Holds f val (Option·elim o s (λ ab. settle n k (replace (ab .0) (ab .1) s) .facts))
       go none r = h
@@ -101,32 +92,40 @@ module _ (f val : ℕ → ℕ) (n : ℕ) where
       (holds-cond (eqb a b) s (settle n n (replace (min a b) (max a b) s) .facts) (λ e. h)
       (λ e. holds-settle n (replace (min a b) (max a b) s) (holds-replace (min a b) (max a b) (same-ordered a b same) s h)))
 
-  pub holds-addReach : (a b : ℕ) → Reached f val a b → (s : Facts) → Holds f val s → Holds f val (addReach a b s)
+  pub holds-addReach : (i a b : ℕ) → Reached (f i) val a b → (s : Facts) → Holds f val s → Holds f val (addReach i a b s)
   unfolding addReach
-  holds-addReach a b r s h =
+  holds-addReach i a b r s h =
       record {
         rep-true = h .rep-true;
-        graph-true = record { link-true = h .graph-true .link-true; reach-true = λ x y e. ⊎-elim (h .graph-true .reach-true x y) (here x y) (or-cases (s .graph .reach x y) (eqb x a and eqb y b) e) };
+        graph-true = λ j. record {
+          link-true = h .graph-true j .link-true;
+          reach-true = λ x y e. ⊎-elim (h .graph-true j .reach-true x y) (here j x y) (or-cases (s .graph j .reach x y) (eqb j i and eqb x a and eqb y b) e);
+        };
       }
     where
-      here : (x y : ℕ) → eqb x a and eqb y b ≡ true → Reached f val x y
-      here x y e = subst₂ (Reached f val) (sym (eqb-true x a (and-left _ _ e))) (sym (eqb-true y b (and-right _ _ e))) r
+      here : (j x y : ℕ) → eqb j i and eqb x a and eqb y b ≡ true → Reached (f j) val x y
+      here j x y e =
+          subst (λ (k : ℕ). Reached (f k) val x y) (sym (eqb-true j i (and-left _ _ (and-left _ _ e))))
+          (subst₂ (Reached (f i) val) (sym (eqb-true x a (and-right _ _ (and-left _ _ e)))) (sym (eqb-true y b (and-right _ _ e))) r)
 
-  holds-addLink : (a b : ℕ) → Linked f val a b → (s : Facts) → Holds f val s → Holds f val (addLink a b s)
-  unfolding addLink
-  holds-addLink a b r s h =
+  holds-addLinks : (a b : ℕ) → ((i : ℕ) → Linked (f i) val a b) → (s : Facts) → Holds f val s → Holds f val (addLinks a b s)
+  unfolding addLinks
+  holds-addLinks a b r s h =
       record {
         rep-true = h .rep-true;
-        graph-true = record { link-true = λ x y e. ⊎-elim (h .graph-true .link-true x y) (here x y) (or-cases (s .graph .link x y) (eqb x a and eqb y b) e); reach-true = h .graph-true .reach-true };
+        graph-true = λ j. record {
+          link-true = λ x y e. ⊎-elim (h .graph-true j .link-true x y) (here j x y) (or-cases (s .graph j .link x y) (ltb 0 j and leb j (s .links) and eqb x a and eqb y b) e);
+          reach-true = h .graph-true j .reach-true;
+        };
       }
     where
-      here : (x y : ℕ) → eqb x a and eqb y b ≡ true → Linked f val x y
-      here x y e = subst₂ (Linked f val) (sym (eqb-true x a (and-left _ _ e))) (sym (eqb-true y b (and-right _ _ e))) r
+      here : (j x y : ℕ) → ltb 0 j and leb j (s .links) and eqb x a and eqb y b ≡ true → Linked (f j) val x y
+      here j x y e = subst₂ (Linked (f j) val) (sym (eqb-true x a (and-right _ _ (and-left _ _ e)))) (sym (eqb-true y b (and-right _ _ e))) (r j)
 
   pub holds-add : (c : Fact) → True f val c → (s : Facts) → Holds f val s → Holds f val (add n s c)
   unfolding add branch unjoined
   holds-add (equal a b) t s h = holds-join a b t s h
-  holds-add (reaches a b) t s h = holds-addReach a b t s h
+  holds-add (reaches i a b) t s h = holds-addReach i a b t s h
 
   -- literals that are true, read through `rep`
   holds-joinEach : (ls : List Literal) → ((l : Literal) → List·Memᴰ l ls → l .plain ≡ true → Same val (l .left) (l .right)) → (s : Facts) → Holds f val s → Holds f val (joinEach n ls s .facts)
@@ -137,45 +136,48 @@ module _ (f val : ℕ → ℕ) (n : ℕ) where
       (holds-joinEach ls (λ m i. p m (List·Memᴰ·tail i)) _
       (holds-cond (l .plain) (join n (s .rep (l .left)) (s .rep (l .right)) s .facts) s (λ e. holds-join _ _ (rep-between f val s h (p l (List·Memᴰ·head refl) e)) s h) (λ e. h)))
 
-  -- nil terms of one value, whose link goes to itself
-  holds-joinNil : (ts : List ℕ) → ((t u : ℕ) → List·Memᴰ t ts → List·Memᴰ u ts → Same val t u) → ((t : ℕ) → List·Memᴰ t ts → Linked f val t t) → (s : Facts) → Holds f val s → Holds f val (joinNil n ts s .facts)
-  unfolding joinNil unjoined andThen addNilLink equalTo
+  -- nil terms of one value, each of whose links goes to itself
+  holds-joinNil : (ts : List ℕ) → ((t u : ℕ) → List·Memᴰ t ts → List·Memᴰ u ts → Same val t u) → ((i t : ℕ) → List·Memᴰ t ts → Linked (f i) val t t) → (s : Facts) → Holds f val s → Holds f val (joinNil n ts s .facts)
+  unfolding joinNil unjoined andThen addNilLinks equalTo
   holds-joinNil [] same own s h = h
   holds-joinNil (t ∷ us) same own s h =
       let equal : (l : Literal) → List·Memᴰ l (equalTo t us) → l .plain ≡ true → Same val (l .left) (l .right) = λ l m e.
-      let (u, k, p) = map-mem (λ u. record { plain = true; left = t; right = u }) l us m in
+      let (u, k, p) = map-mem (λ u. literal true t u) l us m in
       subst (λ (x : Literal). Same val (x .left) (x .right)) (sym p) (same t u (List·Memᴰ·head refl) (List·Memᴰ·tail k)) in
       let j = holds-joinEach (equalTo t us) equal s h in
-      holds-settle n _ (holds-addLink _ _ (rep-between f val _ j (own t (List·Memᴰ·head refl))) _ j)
+      holds-settle n _ (holds-addLinks _ _ (λ i. rep-between f val _ j (own i t (List·Memᴰ·head refl))) _ j)
 
-  holds-reachEach : (ls : List Literal) → ((l : Literal) → List·Memᴰ l ls → l .plain ≡ true → Reached f val (l .left) (l .right)) → (s : Facts) → Holds f val s → Holds f val (reachEach ls s)
+  holds-reachEach : (ls : List Literal) → ((l : Literal) → List·Memᴰ l ls → l .plain ≡ true → Reached (f (l .link)) val (l .left) (l .right)) → (s : Facts) → Holds f val s → Holds f val (reachEach ls s)
   unfolding reachEach
   holds-reachEach [] p s h = h
   holds-reachEach (l ∷ ls) p s h =
       holds-reachEach ls (λ m i. p m (List·Memᴰ·tail i)) _
-      (holds-cond (l .plain) (addReach (s .rep (l .left)) (s .rep (l .right)) s) s (λ e. holds-addReach _ _ (rep-between f val s h (p l (List·Memᴰ·head refl) e)) s h) (λ e. h))
+      (holds-cond (l .plain) (addReach (l .link) (s .rep (l .left)) (s .rep (l .right)) s) s (λ e. holds-addReach (l .link) _ _ (rep-between f val s h (p l (List·Memᴰ·head refl) e)) s h) (λ e. h))
 
 module _ (q : Query) (ok : Accepted q) (h : Heap) where
   abbrev val : ℕ → ℕ
   val = value h (q .entries)
 
   -- the value of f of a term is the link of that term's value
-  links-hold : Holds (h .link) val (linksOf (q .entries))
+  links-hold : Holds (h .link) val (linksOf q)
   unfolding linksOf
   links-hold =
       record {
         rep-true = same-refl val;
-        graph-true = record {
-          link-true = λ a b e. linked a b (ltb-true 0 a (and-left _ _ e)) (eqb-true (argumentOf (q .entries) b) a (and-right _ _ e));
+        graph-true = λ i. record {
+          link-true = λ a b e.
+              let p = and-left _ _ e in
+              subst (λ (k : ℕ). Linked (h .link k) val a b) (eqb-true (linkOf (q .entries) b) i (and-right _ _ e))
+              (linked a b (ltb-true 0 a (and-left _ _ p)) (eqb-true (argumentOf (q .entries) b) a (and-right _ _ p)));
           reach-true = λ a b e. absurd (false≢true e);
         };
       }
     where
-      linked : (a b : ℕ) → 1 ≤ a → argumentOf (q .entries) b ≡ a → Linked (h .link) val a b
+      linked : (a b : ℕ) → 1 ≤ a → argumentOf (q .entries) b ≡ a → Linked (h .link (linkOf (q .entries) b)) val a b
       linked a b l e =
           let one : 1 ≤ argumentOf (q .entries) b = omega arith in
           between l (argument-range (q .entries) b one .0)
-          (ap (λ (t : ℕ). h .link (val t)) (sym e) ∙ sym (value-link h (q .entries) (accepted-below q ok) b one))
+          (ap (λ (t : ℕ). h .link (linkOf (q .entries) b) (val t)) (sym e) ∙ sym (value-link h (q .entries) (accepted-below q ok) b one))
 
   pub start-holds : Meets h q → Holds (h .link) (value h (q .entries)) (start q)
   unfolding start startJoins andThen
@@ -185,5 +187,5 @@ module _ (q : Query) (ok : Accepted q) (h : Heap) where
       (holds-joinEach (h .link) val n (q .equalities) (λ l i e. let t = ok .equal-terms l i in between (t .0 .0) (t .1 .0) (signed-true (l .plain) e (m .equalities l i))) _
       (holds-joinNil (h .link) val n (nilTerms q)
       (λ t u i k. let (r, e) = nilTerms-names q t i in let (r′, e′) = nilTerms-names q u k in between (r .0) (r′ .0) (m .nil-node .one-node t u e e′))
-      (λ t i. let (r, e) = nilTerms-names q t i in between (r .0) (r .0) (m .nil-node .own-link t e)) _
-      (holds-settle (h .link) val n n (linksOf (q .entries)) links-hold)))
+      (λ k t i. let (r, e) = nilTerms-names q t i in between (r .0) (r .0) (m .nil-node .own-link k t e)) _
+      (holds-settle (h .link) val n n (linksOf q) links-hold)))

@@ -11,12 +11,13 @@ use Rattle.logic.specs.Search.{_and_, all, any}
 use Rattle.logic.specs.Query.{Query, termCount}
 use Rattle.logic.specs.Heap.{Heap, Meets, Satisfiable, value}
 use Rattle.logic.specs.Facts.{Facts, Line, live, start, isClash, clashLines, clash}
-use Rattle.logic.specs.Rules.{Rule, ruleOf, Move, move, applies, add, branches}
+use Rattle.logic.specs.Rules.{Move, applies, add, branches, moveOf}
 use Rattle.logic.specs.Walk.{refuted, satisfiable, Pick, isClashed, isSaturated, picked, splice, pickEach, handRow, handVerdict}
 use Rattle.logic.specs.Derivation.{Derivation, Refutes, ends, follows, none-left, one-more}
 use Rattle.logic.proofs.Basics.Search.{none-some, isSome-true, and-left, and-right, all-true, find-some, map-intro}
 use Rattle.logic.proofs.Basics.Compare.{ltb-true}
 use Rattle.logic.proofs.Query.Tied.{Accepted}
+use Rattle.logic.proofs.Paths.Applies.{applies-met}
 use Rattle.logic.proofs.Soundness.Truth.{Holds}
 use Rattle.logic.proofs.Soundness.RuleSound.{rule-sound}
 use Rattle.logic.proofs.Soundness.FactsSound.{holds-add, start-holds}
@@ -36,10 +37,10 @@ module _ (q : Query) (h : Heap) where
 
   -- a path where a rule applies gives way to one that still holds
   pub branch-holds : (s : Facts) → HoldsIn s → (m : Move) → applies (termCount q) s m ≡ true → SomeHolds (branches (termCount q) s m)
-  unfolding applies branches
+  unfolding branches
   branch-holds s holds m e =
       let n = termCount q in
-      let (c, i, t) = rule-sound (h .link) (value h (q .entries)) n (s .graph) (holds .graph-true) (live n s) (live-term n s) m (and-left _ _ e) in
+      let (c, i, t) = rule-sound (h .link) (value h (q .entries)) n (s .graph) (holds .graph-true) (live n s) (live-term n s) m (applies-met n s m e) in
       (add n s c, map-intro (add n s) c i, holds-add (h .link) (value h (q .entries)) n c t s holds)
 
 module _ (q : Query) (ok : Accepted q) (h : Heap) (meets : Meets h q) where
@@ -67,7 +68,7 @@ derivation-sound q ok d (h, meets) = refutes-sound q ok h meets (d .refutes) (st
 module _ (q : Query) (h : Heap) where
   picked-holds : (p : Pick) (s : Facts) → HoldsIn q h s → SomeHolds q h (picked q p s)
   unfolding picked Option·elim
-  picked-holds p s holds = go (ruleOf (p .rule))
+  picked-holds p s holds = go (moveOf (s .links) (p .rule) (p .at-triple))
     where
       stays : SomeHolds q h (s ∷ [])
       stays = (s, List·Memᴰ·head refl, holds)
@@ -76,9 +77,9 @@ module _ (q : Query) (h : Heap) where
       pick true m e = branch-holds q h s holds m (e refl)
       pick false m e = stays
 
-      go : (o : Option Rule) → SomeHolds q h (Option·elim o (s ∷ []) (λ r. cond (not (isClashed q s) and applies (termCount q) s (move r (p .at-triple))) (branches (termCount q) s (move r (p .at-triple))) (s ∷ [])))
+      go : (o : Option Move) → SomeHolds q h (Option·elim o (s ∷ []) (λ m. cond (not (isClashed q s) and applies (termCount q) s m) (branches (termCount q) s m) (s ∷ [])))
       go none = stays
-      go (some r) = let m = move r (p .at-triple) in pick (not (isClashed q s) and applies (termCount q) s m) m (and-right (not (isClashed q s)) (applies (termCount q) s m))
+      go (some m) = pick (not (isClashed q s) and applies (termCount q) s m) m (and-right (not (isClashed q s)) (applies (termCount q) s m))
 
   module _ (f : Facts → List Facts) (kept : (s : Facts) → HoldsIn q h s → SomeHolds q h (f s)) where
     splice-holds : (i : ℕ) (row : List Facts) → SomeHolds q h row → SomeHolds q h (splice f i row)

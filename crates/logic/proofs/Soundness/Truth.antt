@@ -1,4 +1,4 @@
--- What it is for the facts of a path to be true of a function f and of values for the terms. 0 is no term: a true fact speaks of terms.
+-- What it is for the facts of a path to be true of functions, one a link, and of values for the terms. 0 is no term: a true fact speaks of terms.
 use Prim.Native.Nat.{ℕ, _≤_}
 use mathlib.Core.Path.{_≡_, refl, sym, subst₂}
 use mathlib.Core.Bool.{true}
@@ -34,14 +34,15 @@ module _ (f val : ℕ → ℕ) where
   abbrev pub Reached : ℕ → ℕ → Type 0
   Reached = Between val (Reaches f)
 
-  -- the facts about the link are true of f and the values
+  -- the facts about a link are true of f and the values
   pub record TrueGraph (g : Graph) : Type 0 where
     pub link-true : (a b : ℕ) → g .link a b ≡ true → Linked a b
     pub reach-true : (a b : ℕ) → g .reach a b ≡ true → Reached a b
 
+module _ (f : ℕ → ℕ → ℕ) (val : ℕ → ℕ) where
   abbrev pub True : Fact → Type 0
   True (equal a b) = Same val a b
-  True (reaches a b) = Reached a b
+  True (reaches i a b) = Reached (f i) val a b
 
   -- one of the facts is true
   abbrev pub SomeTrue : List Fact → Type 0
@@ -50,7 +51,7 @@ module _ (f val : ℕ → ℕ) where
   -- the facts are true of f and the values, and a term has the value of what it was replaced by
   pub record Holds (s : Facts) : Type 0 where
     pub rep-true : (t : ℕ) → 1 ≤ t → Same val (s .rep t) t
-    pub graph-true : TrueGraph (s .graph)
+    pub graph-true : (i : ℕ) → TrueGraph (f i) val (s .graph i)
 
   -- what stands between terms stands between those that they were replaced by
   pub rep-between : {R : ℕ → ℕ → Type 0} {a b : ℕ} (s : Facts) → Holds s → Between val R a b → Between val R (s .rep a) (s .rep b)

@@ -6,28 +6,28 @@ use mathlib.Core.Logic.{⊎-elim}
 use mathlib.Core.Bool.{Bool, true, false, cond, true≢false, false≢true}
 use mathlib.Core.List.{List}
 use lib.Dec.{eqb}
-use Rattle.logic.specs.Query.{Query, argumentOf, termCount}
+use Rattle.logic.specs.Query.{Query, argumentOf, linkOf, termCount, Entries}
 use Rattle.logic.specs.Heap.{Heap, Node, IsHeap, valueWithin, value, Signed}
 use Rattle.logic.proofs.Basics.Compare.{eqb-intro, eqb-false, le-cases, cond-true, cond-false}
 use Rattle.logic.proofs.Query.Tied.{Accepted}
 use Rattle.logic.proofs.Query.Entries.{argument-range}
 
 -- an argument is below its own term
-abbrev pub Below : List ℕ → Type 0
+abbrev pub Below : Entries → Type 0
 Below entries = (t : ℕ) → 1 ≤ argumentOf entries t → argumentOf entries t < t
 
 pub accepted-below : (q : Query) → Accepted q → Below (q .entries)
 unfolding termCount
 accepted-below q ok t one = ok .entry-below t (argument-range (q .entries) t one)
 
-module _ (h : Heap) (entries : List ℕ) where
+module _ (h : Heap) (entries : Entries) where
   -- the value within some steps, as its definition says it
   within-variable : (k t : ℕ) → argumentOf entries t ≡ 0 → valueWithin h entries k t ≡ h .variable t
   unfolding valueWithin
   within-variable zero t e = refl
   within-variable (suc k) t e = cond-true _ _ (eqb-intro e)
 
-  within-link : (k t : ℕ) → 1 ≤ argumentOf entries t → valueWithin h entries (suc k) t ≡ h .link (valueWithin h entries k (argumentOf entries t))
+  within-link : (k t : ℕ) → 1 ≤ argumentOf entries t → valueWithin h entries (suc k) t ≡ h .link (linkOf entries t) (valueWithin h entries k (argumentOf entries t))
   unfolding valueWithin
   within-link k t l = cond-false _ _ (eqb-false (argumentOf entries t) 0 (omega arith))
 
@@ -36,9 +36,9 @@ module _ (h : Heap) (entries : List ℕ) where
   within-node is zero t = is .variable-node t
   within-node is (suc k) t = go (eqb (argumentOf entries t) 0) (within-node is k (argumentOf entries t))
     where
-      go : (b : Bool) {v : ℕ} → Node h v → Node h (cond b (h .variable t) (h .link v))
+      go : (b : Bool) {v : ℕ} → Node h v → Node h (cond b (h .variable t) (h .link (linkOf entries t) v))
       go true m = is .variable-node t
-      go false {v} m = is .link-node v m
+      go false {v} m = is .link-node (linkOf entries t) v m
 
   pub value-variable : (t : ℕ) → argumentOf entries t ≡ 0 → value h entries t ≡ h .variable t
   unfolding value
@@ -58,16 +58,16 @@ module _ (h : Heap) (entries : List ℕ) where
     within-enough (suc j) zero t l m = within-variable (suc j) t (no-entry t (omega arith)) ∙ sym (within-variable zero t (no-entry t (omega arith)))
     within-enough (suc j) (suc k) t l m =
         ⊎-elim
-        (λ one. let b = below t one in within-link j t one ∙ ap (h .link) (within-enough j k (argumentOf entries t) (omega arith) (omega arith)) ∙ sym (within-link k t one))
+        (λ one. let b = below t one in within-link j t one ∙ ap (h .link (linkOf entries t)) (within-enough j k (argumentOf entries t) (omega arith) (omega arith)) ∙ sym (within-link k t one))
         (λ e. let z : argumentOf entries t ≡ 0 = omega arith in within-variable (suc j) t z ∙ sym (within-variable (suc k) t z))
         (le-cases 1 (argumentOf entries t))
 
-    pub value-link : (t : ℕ) → 1 ≤ argumentOf entries t → value h entries t ≡ h .link (value h entries (argumentOf entries t))
+    pub value-link : (t : ℕ) → 1 ≤ argumentOf entries t → value h entries t ≡ h .link (linkOf entries t) (value h entries (argumentOf entries t))
     unfolding value
     value-link t l =
         let b = below t l in
         within-enough t (suc t) t (omega arith) (omega arith) ∙ within-link t t l
-        ∙ ap (h .link) (within-enough t (argumentOf entries t) (argumentOf entries t) (omega arith) (omega arith))
+        ∙ ap (h .link (linkOf entries t)) (within-enough t (argumentOf entries t) (argumentOf entries t) (omega arith) (omega arith))
 
 -- A plain literal says what it means, and a negated one denies it
 

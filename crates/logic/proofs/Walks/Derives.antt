@@ -9,7 +9,7 @@ use mathlib.Core.Option.{Option, none, some, Option·elim}
 use Rattle.logic.specs.Search.{_and_}
 use Rattle.logic.specs.Query.{Query, termCount}
 use Rattle.logic.specs.Facts.{Facts, Line, joinLines, start, isClash, clashLines, clash}
-use Rattle.logic.specs.Rules.{Rule, ruleOf, Move, move, applies, branch, add, branches, choose, moveLine}
+use Rattle.logic.specs.Rules.{Rule, Move, applies, branch, add, branches, choose, moveLine, moveOf}
 use Rattle.logic.specs.Walk.{Look, clashing, applying, saturated, look, Ending, refutation, saturation, after, Pick, isClashed, picked, splice, pickEach, handRow}
 use Rattle.logic.specs.OurWalk.{Walks, clashes, saturates, goes-on, all-tried, refuted-first, saturated-first}
 use Rattle.logic.specs.Derivation.{Refutes, ends, follows, RefutesEach, none-left, one-more}
@@ -125,7 +125,7 @@ module _ (q : Query) (P : Facts → Type 0) (kept : Kept q P) where
 
   picked-all : (p : Pick) (s : Facts) → P s → Everywhere P (picked q p s)
   unfolding picked Option·elim isClashed
-  picked-all p s ps = at-rule (ruleOf (p .rule))
+  picked-all p s ps = at-move (moveOf (s .links) (p .rule) (p .at-triple))
     where
       vain : Everywhere P (s ∷ [])
       vain s′ m = subst P (sym (List·Memᴰ·eq-of-singleton m)) ps
@@ -139,9 +139,9 @@ module _ (q : Query) (P : Facts → Type 0) (kept : Kept q P) where
           (and-right (not (isClashed q s)) (applies (termCount q) s m) e) mem
       at-test m false e s′ mem = vain s′ mem
 
-      at-rule : (o : Option Rule) → Everywhere P (Option·elim o (s ∷ []) (λ r. cond (test (move r (p .at-triple))) (branches (termCount q) s (move r (p .at-triple))) (s ∷ [])))
-      at-rule none = vain
-      at-rule (some r) = at-test (move r (p .at-triple)) (test (move r (p .at-triple))) refl
+      at-move : (o : Option Move) → Everywhere P (Option·elim o (s ∷ []) (λ m. cond (test m) (branches (termCount q) s m) (s ∷ [])))
+      at-move none = vain
+      at-move (some m) = at-test m (test m) refl
 
   splice-all : (f : Facts → List Facts) → ((s : Facts) → P s → Everywhere P (f s)) → (i : ℕ) (row : List Facts) → Everywhere P row → Everywhere P (splice f i row)
   unfolding splice

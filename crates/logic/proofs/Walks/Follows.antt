@@ -8,13 +8,14 @@ use lib.ListN.{length}
 use Rattle.logic.specs.Search.{_and_, all, any, isSome}
 use Rattle.logic.specs.Query.{Query, isOrder, termCount}
 use Rattle.logic.specs.Facts.{Facts, Line, joinLines, startJoins, start, clash}
-use Rattle.logic.specs.Rules.{Rule, ruleNumber, rules, Move, move, applies, branch, add, branches, choose, moveLine}
+use Rattle.logic.specs.Rules.{Rule, rules, Move, move, applies, branch, add, branches, choose, moveNumber, moveLine}
 use Rattle.logic.specs.Walk.{orderOf, Ending, refutation, saturation, after, ourWalk, refuted, satisfiable, ourVerdict, Pick, isClashed, picked, splice, pickEach, handRow, isSaturated, handVerdict}
 use Rattle.logic.specs.OurWalk.{Walks, clashes, saturates, goes-on, all-tried, refuted-first, saturated-first}
 use Rattle.logic.proofs.Basics.Search.{not-of, true-false, all-true, all-append, any-intro}
 use Rattle.logic.proofs.Basics.Compare.{cond-true, cond-false}
 use Rattle.logic.proofs.Query.Tied.{Accepted}
-use Rattle.logic.proofs.Walks.Order.{ruleOf-number, order-full, choose-nothing}
+use Rattle.logic.proofs.Walks.Order.{moveOf-number, order-full, choose-nothing}
+use Rattle.logic.proofs.Paths.Applies.{hasLink-range, applies-linked}
 use Rattle.logic.proofs.Walks.Derives.{seen-clashing, seen-applying}
 use Rattle.logic.proofs.Walks.Limit.{walked, our-walks, our-headed, our-saturation}
 
@@ -41,18 +42,19 @@ module _ (q : Query) where
 
   -- the pick of a move at a position
   pickOf : ℕ → Move → Pick
-  pickOf i (move r t) = record { position = i; rule = ruleNumber r; at-triple = t }
+  pickOf p (move i r t) = record { position = p; rule = moveNumber i r; at-triple = t }
 
   -- a path without a clash gives way to the branches of a move that applies to it
   pick-move : (i : ℕ) (s : Facts) (m : Move) → clash q s ≡ none → applies (termCount q) s m ≡ true → picked q (pickOf i m) s ≡ branches (termCount q) s m
   unfolding picked pickOf Option·elim isClashed isSome _and_
-  pick-move i s (move r t) free app = rw (ruleOf-number r, free, app) refl
+  pick-move p s (move i r t) free app =
+      rw (moveOf-number (s .links) i r t (hasLink-range (s .links) i r t (applies-linked (termCount q) s (move i r t) app)), free, app) refl
 
   pick-at : (left : List Facts) (s : Facts) (right : List Facts) (m : Move) → clash q s ≡ none → applies (termCount q) s m ≡ true → pickEach q (pickOf (suc (length left)) m ∷ []) (left ++ (s ∷ right)) ≡ left ++ (branches (termCount q) s m ++ right)
   unfolding pickEach pickOf
-  pick-at left s right (move r t) free app =
-      let p = pickOf (suc (length left)) (move r t) in
-      splice-at (picked q p) left s right ∙ ap (λ (row : List Facts). left ++ (row ++ right)) (pick-move (suc (length left)) s (move r t) free app)
+  pick-at left s right (move i r t) free app =
+      let p = pickOf (suc (length left)) (move i r t) in
+      splice-at (picked q p) left s right ∙ ap (λ (row : List Facts). left ++ (row ++ right)) (pick-move (suc (length left)) s (move i r t) free app)
 
   -- What following comes to
 

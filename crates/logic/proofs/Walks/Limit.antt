@@ -1,8 +1,8 @@
 -- The path limit cannot bite (02, R-5): rule steps from the start are no more than what it can gain, whoever picks them; so our
 -- walk ends as it would without a limit.
-use Prim.Native.Nat.{ℕ, suc}
+use Prim.Native.Nat.{ℕ, suc, _+_, _*_, _≤_}
 use native.Mathlib.Omega.{arith}
-use mathlib.Core.Path.{_≡_, refl, sym, _∙_}
+use mathlib.Core.Path.{_≡_, refl, sym, _∙_, subst}
 use mathlib.Core.List.{List, List·Memᴰ}
 use Rattle.logic.specs.Query.{Query, termCount}
 use Rattle.logic.specs.Facts.{Facts, Line, joinLines, startJoins, start}
@@ -11,14 +11,17 @@ use Rattle.logic.specs.Steps.{Steps, at-first, one-more, AtMost}
 use Rattle.logic.specs.OurWalk.{Walks}
 use Rattle.logic.specs.Derivation.{Derivation}
 use Rattle.logic.proofs.Query.Tied.{Accepted}
-use Rattle.logic.proofs.Paths.Start.{start-sane}
+use Rattle.logic.proofs.Paths.Start.{start-sane, start-tied}
 use Rattle.logic.proofs.Walks.Derives.{after-refutation, after-saturation, walks-refutes, Kept, EndsIn, walks-saturation, row-all}
-use Rattle.logic.proofs.Walks.Gains.{gainsLeft-most, gains-atMost}
+use Rattle.logic.proofs.Walks.Gains.{gainsLeft, gainsLeft-most, gains-atMost}
 use Rattle.logic.proofs.Walks.OurWalk.{walk-walks}
 
 pub start-atMost : (q : Query) → Accepted q → AtMost (termCount q) (start q) (limit q)
 unfolding limit
-start-atMost q ok k s steps = omega (arith, gains-atMost (termCount q) (start q) (start-sane q ok) k s steps, gainsLeft-most (termCount q) (start q))
+start-atMost q ok k s steps =
+    let n = termCount q in
+    let most : gainsLeft n (start q) ≤ q .links * (n * n) + n = subst (λ (i : ℕ). gainsLeft n (start q) ≤ i * (n * n) + n) (start-tied q ok .same-links) (gainsLeft-most n (start q)) in
+    omega (arith, gains-atMost n (start q) (start-sane q ok) k s steps, most)
 
 -- a path of a hand's row: steps lead to it from the start
 pub row-steps : (q : Query) (picks : List Pick) (s : Facts) → List·Memᴰ s (handRow q picks) → (k : ℕ) × Steps (termCount q) (start q) k s

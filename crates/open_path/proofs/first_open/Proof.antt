@@ -19,7 +19,7 @@ use Rattle.open_path.proofs.first_open.Statement.{statement}
 use Rattle.open_path.proofs.first_open.Tie as tie
 
 abbrev Inv-loop : tie.InvT-loop
-Inv-loop query layout order left s rule x y z first witness n total how₀ i₀ how i = (i < total) × Struck (decode query) (pathOf s) (move (kindOf rule) (triple (x .0) (y .0) (z .0))) i
+Inv-loop query layout order left s rule x y z first witness n total how₀ i₀ how i = (i < total) × Struck (decode query) (pathOf s) (move 1 (kindOf rule) (triple (x .0) (y .0) (z .0))) i
 
 abbrev μ-loop : tie.MeasureT-loop
 μ-loop query layout order left s rule x y z first witness n total how₀ i₀ how i = total - i

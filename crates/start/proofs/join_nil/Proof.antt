@@ -4,7 +4,7 @@ use borrow.Author.Needs.{needs}
 use Prim.Native.Nat.{ℕ, _+_, _≤_}
 use mathlib.Core.Path.{_≡_, refl, sym, ap, _∙_, subst}
 use mathlib.Core.List.{List}
-use Rattle.logic.specs.Facts.{Facts, Joined, andThen, settle, addNilLink, joinNil}
+use Rattle.logic.specs.Facts.{Facts, Joined, andThen, settle, addNilLinks, joinNil}
 use Rattle.facts.specs.Path.{pathOf}
 use Rattle.facts.specs.Pairs.{joinedOf, Fits}
 use Rattle.facts.proofs.Joins.{fits-left}
@@ -16,18 +16,18 @@ use Rattle.start.proofs.join_nil.Statement.{statement}
 use Rattle.start.proofs.join_nil.Tie as tie
 
 -- the first nil term and the others
-opened : (bytes : List ℕ) (n first : ℕ) (j : Joined) → NextNil bytes n 1 first → first ≤ n → andThen j (joinNil n (nilFrom bytes n 1)) ≡ andThen (others n first (nilFrom bytes n (first + 1)) j) (λ s. settle n n (addNilLink first s))
+opened : (bytes : List ℕ) (n first : ℕ) (j : Joined) → NextNil bytes n 1 first → first ≤ n → andThen j (joinNil n (nilFrom bytes n 1)) ≡ andThen (others n first (nilFrom bytes n (first + 1)) j) (λ s. settle n n (addNilLinks first s))
 opened bytes n first j r h =
     ap (λ (us : List ℕ). andThen j (joinNil n us)) (r .found h) ∙ nil-some n first (nilFrom bytes n (first + 1)) j
 
 -- nil's link is settled behind the others
-settled-behind : (c : tie.After-add-link) → andThen (record { pairs = joinedOf (c .before .before .before .before .join-others .result) .pairs; facts = pathOf (c .add-link .result) }) (settle (c .before .before .before .before .before .before .before .before .args .n) (c .before .before .before .before .before .before .before .before .args .n)) ≡ andThen (joinedOf (c .before .before .before .before .join-others .result)) (λ s. settle (c .before .before .before .before .before .before .before .before .args .n) (c .before .before .before .before .before .before .before .before .args .n) (addNilLink (c .before .before .before .before .before .before .next-nil .result) s))
+settled-behind : (c : tie.After-add-link) → andThen (record { pairs = joinedOf (c .before .before .before .before .join-others .result) .pairs; facts = pathOf (c .add-link .result) }) (settle (c .before .before .before .before .before .before .before .before .args .n) (c .before .before .before .before .before .before .before .before .args .n)) ≡ andThen (joinedOf (c .before .before .before .before .join-others .result)) (λ s. settle (c .before .before .before .before .before .before .before .before .args .n) (c .before .before .before .before .before .before .before .before .args .n) (addNilLinks (c .before .before .before .before .before .before .next-nil .result) s))
 settled-behind c =
     linked-behind _ _ _ (joinedOf (c .before .before .before .before .join-others .result)) _ (rep-read (c .before .before .before .before .join-others .result .facts) _ _ refl (omega arith)) (c .add-link .ensures)
 
-whole : (c : tie.After-add-link) → andThen (joinedOf (c .before .before .before .before .join-others .result)) (λ s. settle (c .before .before .before .before .before .before .before .before .args .n) (c .before .before .before .before .before .before .before .before .args .n) (addNilLink (c .before .before .before .before .before .before .next-nil .result) s)) ≡ andThen (joinedOf (c .before .before .before .before .before .before .before .before .args .settled)) (joinNil (c .before .before .before .before .before .before .before .before .args .n) (nilFrom (c .before .before .before .before .before .before .before .before .args .query .now) (c .before .before .before .before .before .before .before .before .args .n) 1))
+whole : (c : tie.After-add-link) → andThen (joinedOf (c .before .before .before .before .join-others .result)) (λ s. settle (c .before .before .before .before .before .before .before .before .args .n) (c .before .before .before .before .before .before .before .before .args .n) (addNilLinks (c .before .before .before .before .before .before .next-nil .result) s)) ≡ andThen (joinedOf (c .before .before .before .before .before .before .before .before .args .settled)) (joinNil (c .before .before .before .before .before .before .before .before .args .n) (nilFrom (c .before .before .before .before .before .before .before .before .args .query .now) (c .before .before .before .before .before .before .before .before .args .n) 1))
 whole c =
-    ap (λ (j : Joined). andThen j (λ s. settle (c .before .before .before .before .before .before .before .before .args .n) (c .before .before .before .before .before .before .before .before .args .n) (addNilLink (c .before .before .before .before .before .before .next-nil .result) s))) (c .before .before .before .before .join-others .ensures .0)
+    ap (λ (j : Joined). andThen j (λ s. settle (c .before .before .before .before .before .before .before .before .args .n) (c .before .before .before .before .before .before .before .before .args .n) (addNilLinks (c .before .before .before .before .before .before .next-nil .result) s))) (c .before .before .before .before .join-others .ensures .0)
     ∙ sym (opened _ _ _ _ (c .before .before .before .before .before .before .next-nil .ensures) (omega arith))
 
 pub join-nil-spec : {M : Type 1} → statement M

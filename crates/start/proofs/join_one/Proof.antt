@@ -1,6 +1,6 @@
 -- A negated literal changes nothing; the terms of a plain one are joined. Assumes nothing.
 use borrow.Author.Needs.{needs}
-use mathlib.Core.Path.{_≡_, sym, ap, _∙_, subst}
+use mathlib.Core.Path.{_≡_, refl, sym, ap, _∙_, subst}
 use borrow.Author.Tests.{not-true, not-false}
 use Rattle.logic.specs.Query.{Literal}
 use Rattle.logic.specs.Facts.{andThen}
@@ -15,7 +15,7 @@ use Rattle.start.proofs.join_one.Tie as tie
 -- the literal that was read
 is : (c : tie.After-right) → literalIn (c .before .before .before .before .before .args .query .now) (c .before .before .before .before .before .args .at) (c .before .before .before .before .before .args .i) ≡ same (c .before .left .result .0) (c .right .result .0)
 is c =
-    plain-is _ _ _ (sym (c .before .before .before .sign .ensures) ∙ not-false _ (c .before .before .if1 .left)) (c .before .left .ensures) (c .right .ensures)
+    plain-is _ _ _ refl (sym (c .before .before .before .sign .ensures) ∙ not-false _ (c .before .before .if1 .left)) (c .before .left .ensures) (c .right .ensures)
 
 pub join-one-spec : {M : Type 1} → statement M
 join-one-spec =

@@ -2,7 +2,7 @@
 use native.Mathlib.Omega.{arith}
 use borrow.Author.Needs.{needs}
 use Prim.Native.Nat.{_+_, _-_, _*_}
-use mathlib.Core.Path.{_≡_, sym, _∙_, subst}
+use mathlib.Core.Path.{_≡_, refl, sym, _∙_, subst}
 use borrow.Author.Tests.{not-true, not-false}
 use lib.ListN.{length, length-set, take, drop}
 use Rattle.logic.specs.Query.{literals}
@@ -75,7 +75,7 @@ reach-each-spec =
     let a = c .before .before .before .before .before .before .before .before .before .before .before in
     let l = c .before .before .before .before .before .before .before .before .before .loop in
     let now = a .pre .1 .terms (l .i) (c .before .before .before .before .before .before .before .before .loop-test .taken) in
-    let e = reach-set (l .t) (literalIn (a .args .query .now) (a .args .at) (l .i)) _ _ (c .before .before .before .before .before .left .ensures) (c .before .before .before .before .right .ensures) now (l .inv .0) (l .inv .1) (sym (c .before .before .before .before .before .before .before .sign .ensures) ∙ not-false _ (c .before .before .before .before .before .before .if1 .left)) _ (c .before .only .ensures) in (
+    let e = reach-set (l .t) (literalIn (a .args .query .now) (a .args .at) (l .i)) _ _ (c .before .before .before .before .before .left .ensures) (c .before .before .before .before .right .ensures) now (l .inv .0) (l .inv .1) refl (sym (c .before .before .before .before .before .before .before .sign .ensures) ∙ not-false _ (c .before .before .before .before .before .before .if1 .left)) _ (c .before .only .ensures) in (
       simp length-set (l .inv .0),
       subst Bounded (sym e) (reach-bounded _ _ (l .inv .1)),
       subst (Left reachEach _ _ _ _ (l .i + 1)) (sym e) (each-next reaches _ _ _ (literals-are _ _ _ (a .pre .0)) _ (l .i) (pathOf (l .t)) (c .before .before .before .before .before .before .before .before .loop-test .taken) (l .inv .2)),

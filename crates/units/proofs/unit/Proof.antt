@@ -1,12 +1,12 @@
 -- What is proposed by the rows of a path applies at the path. Assumes nothing.
 use borrow.Author.Needs.{needs}
 use mathlib.Core.Path.{refl}
-use Rattle.facts.specs.Path.{pathOf}
+use Rattle.facts.specs.Path.{onlyLink, pathOf}
 use Rattle.units.proofs.unit.Statement.{statement}
 use Rattle.units.proofs.unit.Tie as tie
 
 pub unit-spec : {M : Type 1} → statement M
-unfolding pathOf
+unfolding pathOf onlyLink
 unit-spec =
     tie.close
     (tie.spec
@@ -27,4 +27,4 @@ unit-spec =
     -- place-requires
     (λ c κs. c .before .before .before .before .before .before .before .before .before .before .before .before .before .before .before .before .before .before .before .before .before .before .before .before .before .before .pre .terms-within)
     -- returns
-    (λ c. c .place .ensures (pathOf (c .before .before .before .before .before .before .before .before .before .before .before .before .before .before .before .before .before .before .before .before .before .before .before .before .before .before .before .args .s)) refl))
+    (λ c. c .place .ensures (pathOf (c .before .before .before .before .before .before .before .before .before .before .before .before .before .before .before .before .before .before .before .before .before .before .before .before .before .before .before .args .s)) (refl, refl)))
