@@ -110,8 +110,7 @@ fn read_line(
         }
         return Reading::Wrong;
     }
-    let rep = s.rep;
-    if let Clash::At(section, i, j) = clash::find_clash(query, layout, rep, &s.reach) {
+    if let Clash::At(section, i, j) = clash::find_clash(query, layout, &s.rep, &s.reach) {
         return Reading::Wrong;
     }
     let Numbered::Is(rule) = rules::rule_numbered(k) else {

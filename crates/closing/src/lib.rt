@@ -72,7 +72,7 @@ pub fn close(s: Facts, n: usize) -> Facts
     requires { ⌜ n ≤ 16 ⌝ }
     ensures { λ r. ⌜ Closes n (pathOf s) (pathOf r) × Closed n (pathOf r) ⌝ }
 {
-    let alive = facts::live(s, n);
+    let alive = facts::live(&s.rep, n);
     let reach = s.reach;
     let rows = seeded(alive, &s.link, reach);
     let mut t = s;

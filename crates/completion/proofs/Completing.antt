@@ -78,9 +78,9 @@ module _ (n : ℕ) (g : Graph) (p : ℕ → ℕ) (v : ℕ) where
       ⊎-elim (λ e. let b = new-below in rw (at-new rep e) (omega arith)) (λ e. rw (at-kept rep e) k) (bool-cases (eqb (rep v) v && eqb (p v) 0))
 
 -- a term that is not replaced and has no link, as the code tests it
-pub remains : (rep links : List Term) (v : ℕ) → v ≤ 16 → (eqb (repOf rep v) v && eqb (linkOf links v) 0) ≡ (eqb (getD rep v (record { 0 = 0 }) .0) v && eqb (getD links v (record { 0 = 0 }) .0) 0)
+pub remains : (rep : List ℕ) (links : List Term) (v stands : ℕ) → v ≤ 16 → stands ≡ getD rep v 0 → (eqb (repOf rep v) v && eqb (linkOf links v) 0) ≡ (eqb stands v && eqb (getD links v (record { 0 = 0 }) .0) 0)
 unfolding linkOf
-remains rep links v h = ap (λ (r : ℕ). eqb r v && eqb (linkOf links v) 0) (rep-in rep v h)
+remains rep links v stands h e = ap (λ (r : ℕ). eqb r v && eqb (linkOf links v) 0) (rep-in rep v h ∙ sym e)
 
 -- the link that such a term gets
 pub link-new : (n : ℕ) (g : Graph) (rep : ℕ → ℕ) (links : List Term) (v : ℕ) {r : Term} → (eqb (rep v) v && eqb (linkOf links v) 0) ≡ true → r .0 ≡ newLink n g (linkOf links) v → r .0 ≡ linkAt n g rep (linkOf links) v

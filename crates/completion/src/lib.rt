@@ -200,16 +200,16 @@ fn new_link(links: [Term; 17], reach: &[u32; 17], n: usize, v: Term) -> Term
 }
 
 // "Each remaining term v, ascending, gets a link": one that is not replaced and has none.
-fn link_each(links: [Term; 17], rep: [Term; 17], reach: &[u32; 17], n: usize) -> [Term; 17]
+fn link_each<'a>(links: [Term; 17], rep: &'a [u8; 17], reach: &'a [u32; 17], n: usize) -> [Term; 17]
     requires { ⌜ (n ≤ 16) × InRange links ⌝ }
-    ensures { λ r. ⌜ linkOf r ≡ linkEach n (reachIn (now (reach .entry))) (linkOf links) (select (λ v. eqb (repOf rep v) v) (from (n + 1 - 1) 1)) ⌝ }
+    ensures { λ r. ⌜ linkOf r ≡ linkEach n (reachIn (now (reach .entry))) (linkOf links) (select (λ v. eqb (repOf (now (rep .entry)) v) v) (from (n + 1 - 1) 1)) ⌝ }
 {
     let mut out = links;
     let mut v: usize = 1;
     while v <= n {
-        let stands = rep[v];
+        let stands = facts::wide(rep[v]);
         let known = out[v];
-        if !((stands.0 == v) & (known.0 == 0)) {
+        if !((stands == v) & (known.0 == 0)) {
             v += 1;
             continue;
         }
@@ -224,7 +224,6 @@ pub fn shown_links(s: Facts, n: usize) -> [Term; 17]
     requires { ⌜ n ≤ 16 ⌝ }
     ensures { λ r. ⌜ linkOf r ≡ shownLink n (pathOf s) 1 ⌝ }
 {
-    let rep = s.rep;
     let known = known_links(&s.link, n);
-    link_each(known, rep, &s.reach, n)
+    link_each(known, &s.rep, &s.reach, n)
 }

@@ -185,8 +185,7 @@ fn sees(query: &[u8], layout: Layout, how: usize, s: Facts) -> Seen
     requires { ⌜ LaysOut layout (now query) ⌝ }
     ensures { λ r. ⌜ Sees (decode (now (query .entry))) (pathOf s) r ⌝ }
 {
-    let rep = s.rep;
-    if let Clash::At(_, _, _) = clash::find_clash(query, layout, rep, &s.reach) {
+    if let Clash::At(_, _, _) = clash::find_clash(query, layout, &s.rep, &s.reach) {
         return Seen::Clashing;
     }
     let Choice::Apply(rule, x, y, z) = picking::pick(query, layout, how, s) else {

@@ -5,13 +5,12 @@ use mathlib.Core.List.{List}
 use lib.ListN.{getD}
 use lib.Dec.{ltb, eqb}
 use Rattle.facts.specs.Square.{square}
-use Rattle.facts.specs.declared.Term.{Term}
 use Rattle.facts.specs.declared.Facts as code
 use Rattle.logic.specs.Facts.{Graph, Facts}
 
 -- what a term was replaced by; a number above 16 is no term, and is not replaced
-unfoldable pub repOf : List Term → ℕ → ℕ
-repOf rep t = cond (ltb t 17) (getD rep t (record { 0 = 0 }) .0) t
+unfoldable pub repOf : List ℕ → ℕ → ℕ
+repOf rep t = cond (ltb t 17) (getD rep t 0) t
 
 unfoldable pub graphOf : List ℕ → List ℕ → Graph
 graphOf link reach = record { link = square link; reach = square reach }
@@ -29,6 +28,10 @@ linksIn link = record { link = square link; reach = λ a b. false }
 
 unfoldable pub linkedBy : List ℕ → Facts
 linkedBy link = record { rep = λ t. t; links = 1; graph = onlyLink (linksIn link) }
+
+-- a path with these representatives and no facts: what reads only these asks no more
+unfoldable pub replacedBy : List ℕ → Facts
+replacedBy rep = record { rep = repOf rep; links = 1; graph = λ i. record { link = λ a b. false; reach = λ a b. false } }
 
 -- what each term was replaced by, once hi is replaced by lo
 unfoldable pub replaceRep : ℕ → ℕ → (ℕ → ℕ) → ℕ → ℕ

@@ -24,8 +24,7 @@ struct Left {
 fn clashes(query: &[u8], layout: Layout, s: Facts) -> bool
     requires { ⌜ LaysOut layout (now query) ⌝ }
 {
-    let rep = s.rep;
-    if let Clash::At(_, _, _) = clash::find_clash(query, layout, rep, &s.reach) {
+    if let Clash::At(_, _, _) = clash::find_clash(query, layout, &s.rep, &s.reach) {
         return true;
     }
     false

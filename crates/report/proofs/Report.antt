@@ -14,12 +14,10 @@ use Rattle.logic.proofs.Completeness.ShownNodes.{nodes-length}
 use Rattle.logic.proofs.Calls.OneLink.{report-one}
 use Rattle.facts.specs.declared.Facts as code
 use Rattle.facts.specs.Path.{repOf, pathOf}
-use Rattle.facts.proofs.Rep.{rep-in}
 use Rattle.query.specs.declared.Layout.{Layout}
 use Rattle.query.proofs.Literals.{listed, fields-listed}
 use Rattle.query.proofs.Ranges.{field-number-term}
 use Rattle.report.specs.declared.Node.{Node}
-use Rattle.completion.specs.Links.{linkOf}
 use Rattle.report.specs.Nodes.{nodeOf, marked, nodesBy, Numbers}
 use Rattle.lent.specs.Appending.{Appends}
 use Rattle.report.specs.Bytes.{fieldHeld, literalsAt, FieldsIn, Reportable, sections}
@@ -46,10 +44,6 @@ map-alike f g (x ∷ xs) h = ap₂ (λ (y : ℕ) (ys : List ℕ). y ∷ ys) (h x
 
 module _ (l : Layout) (query : List ℕ) (s : code.Facts) (ready : Reportable l query s) where
   -- what the parts ask
-  pub rep-within : (t : ℕ) → 1 ≤ t → t ≤ l .terms → linkOf (s .rep) t ≤ 16
-  unfolding linkOf
-  rep-within t h k = omega (arith, ready .stands t h k, rep-in (s .rep) t (omega (arith, ready .laid .terms-within)))
-
   pub fields-in : FieldsIn query (l .«field_at») (l .«field_count») (repOf (s .rep))
   fields-in i h =
       let r = field-number-term l query (ready .laid) (ready .passes) i h in
@@ -67,20 +61,18 @@ module _ (l : Layout) (query : List ℕ) (s : code.Facts) (ready : Reportable l 
     node-within list e = numbers-below list (marked marks (l .terms)) e few-nodes
 
     -- the sections are the report's
-    module _ (list : List Node) (numbers : Numbers list (marked marks (l .terms))) (successors places fields : List ℕ) (linked : (t : ℕ) → t ≤ l .terms → getD successors t 0 ≡ nodeOf list (shownLink (l .terms) (pathOf s) 1 t)) (placed : (t : ℕ) → 1 ≤ t → t ≤ l .terms → getD places t 0 ≡ nodeOf list (linkOf (s .rep) t)) (held : (v : ℕ) → v ≤ l .terms → getD fields v 0 ≡ byteOf (fieldHeld (repOf (s .rep)) (literalsAt query (l .«field_at») (l .«field_count»)) v) 1 8) where
+    module _ (list : List Node) (numbers : Numbers list (marked marks (l .terms))) (successors places fields : List ℕ) (linked : (t : ℕ) → t ≤ l .terms → getD successors t 0 ≡ nodeOf list (shownLink (l .terms) (pathOf s) 1 t)) (placed : (t : ℕ) → 1 ≤ t → t ≤ l .terms → getD places t 0 ≡ nodeOf list (repOf (s .rep) t)) (held : (v : ℕ) → v ≤ l .terms → getD fields v 0 ≡ byteOf (fieldHeld (repOf (s .rep)) (literalsAt query (l .«field_at») (l .«field_count»)) v) 1 8) where
       successor : (v : ℕ) → List·Memᴰ v (marked marks (l .terms)) → getD successors v 0 ≡ placeOf (shownLink (l .terms) (pathOf s) 1 v) (marked marks (l .terms))
       successor v m =
           linked v (marked-below marks (l .terms) v m)
           ∙ numbers (shownLink (l .terms) (pathOf s) 1 v) (omega (arith, shown-below (l .terms) (pathOf s) 1 v, ready .laid .terms-within))
 
       node : (t : ℕ) → List·Memᴰ t (terms (l .terms)) → getD places t 0 ≡ placeOf (pathOf s .rep t) (marked marks (l .terms))
-      unfolding terms linkOf pathOf
+      unfolding terms pathOf
       node t m =
           let r = from-mem (l .terms) 1 t m in
           let h : t ≤ l .terms = omega arith in
-          placed t (r .0) h
-          ∙ numbers (linkOf (s .rep) t) (rep-within t (r .0) h)
-          ∙ ap (λ (x : ℕ). placeOf x (marked marks (l .terms))) (sym (rep-in (s .rep) t (omega (arith, ready .laid .terms-within))))
+          placed t (r .0) h ∙ numbers (repOf (s .rep) t) (ready .stands t (r .0) h)
 
       datum : (v : ℕ) → List·Memᴰ v (marked marks (l .terms)) → getD fields v 0 ≡ fieldByte (decode query) (pathOf s) v
       unfolding fieldByte fieldHeld literalsAt pathOf listed

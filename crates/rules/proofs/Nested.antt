@@ -17,7 +17,8 @@ use Rattle.logic.proofs.Basics.Search.{firstOf-empty}
 use Rattle.logic.proofs.Calls.OneLink.{choose-one, applies-local}
 use Rattle.facts.specs.declared.Facts as code
 use Rattle.facts.specs.Bits.{bit}
-use Rattle.facts.specs.Path.{onlyLink, graphOf, pathOf}
+use Rattle.facts.specs.Path.{onlyLink, graphOf, pathOf, replacedBy}
+use Rattle.facts.proofs.Alive.{live-path}
 use Rattle.rules.specs.Tests.{pairTest, thirdTest, looped}
 use Rattle.rules.specs.Smallest.{allowed, inThird, inSecond, inFirst, moveAt, triedAt}
 
@@ -203,9 +204,9 @@ choose-search n s one order =
     ∙ ap (λ (a : Rule → Triple → Bool). firstOf (λ r. firstOf (λ t. keep (a r t) (move 1 r t)) (triples n)) (orderOf order)) (fun-ext (λ r. fun-ext (applies-local n s one r)))
     ∙ firstOf-flatMap _ _ order ∙ ap (λ (f : ℕ → Option Move). firstOf f order) (fun-ext (λ k. firstOf-option _ (ruleOf k)))
 
-pub choose-lent : (n : ℕ) (s : code.Facts) (alive : ℕ) (order : List ℕ) → bit alive ≡ live n (pathOf s) → choose n (orderOf order) (pathOf s) ≡ firstOf (triedAt n (bit alive) (graphOf (s .link) (s .reach))) order
+pub choose-lent : (n : ℕ) (s : code.Facts) (alive : ℕ) (order : List ℕ) → bit alive ≡ live n (replacedBy (s .rep)) → choose n (orderOf order) (pathOf s) ≡ firstOf (triedAt n (bit alive) (graphOf (s .link) (s .reach))) order
 unfolding pathOf onlyLink
-choose-lent n s alive order e = choose-search n (pathOf s) refl order ∙ ap (λ (a : ℕ → Bool). firstOf (triedAt n a (graphOf (s .link) (s .reach))) order) (sym e)
+choose-lent n s alive order e = choose-search n (pathOf s) refl order ∙ ap (λ (a : ℕ → Bool). firstOf (triedAt n a (graphOf (s .link) (s .reach))) order) (sym (e ∙ live-path n s))
 
 module _ {B : Type 0} (f : ℕ → Option B) (xs : List ℕ) (i : ℕ) where
   pub rest-end : length xs ≤ i → firstOf f (drop i xs) ≡ none

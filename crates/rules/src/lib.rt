@@ -396,7 +396,7 @@ pub fn choose(order: &[u8], s: Facts, n: usize) -> Choice
     requires { ⌜ n ≤ 16 ⌝ }
     ensures { λ r. ⌜ choiceOf r ≡ choose n (orderOf (now (order .entry))) (pathOf s) ⌝ }
 {
-    let alive = facts::live(s, n);
+    let alive = facts::live(&s.rep, n);
     let link = s.link;
     let reach = s.reach;
     let mut back = [0u32; 17];

@@ -112,14 +112,14 @@ fn marked(rows: [u32; 17], a: usize, more: u32) -> [u32; 17] {
 }
 
 // What the negated literals of a section deny, of the terms that stand for theirs; an equality denies it both ways.
-fn denied(query: &[u8], at: usize, count: usize, reps: &[usize; 17], both: bool) -> [u32; 17]
+fn denied(query: &[u8], at: usize, count: usize, rep: &[u8; 17], both: bool) -> [u32; 17]
     requires { ⌜ at + 3 * count ≤ length (now query) ⌝ }
 {
     let mut out = [0u32; 17];
     for i in 0..count {
         if !query::sign(query, at, i) {
-            let a = clash::read_rep(reps, query::left(query, at, i));
-            let b = clash::read_rep(reps, query::right(query, at, i));
+            let a = facts::read_rep(rep, query::left(query, at, i));
+            let b = facts::read_rep(rep, query::right(query, at, i));
             let next = marked(out, a.0, alone(b.0));
             out = next;
             if both {
@@ -132,13 +132,13 @@ fn denied(query: &[u8], at: usize, count: usize, reps: &[usize; 17], both: bool)
 }
 
 // The fields that the data literals of one sign give each term.
-fn fields(query: &[u8], at: usize, count: usize, reps: &[usize; 17], plain: bool) -> [u32; 17]
+fn fields(query: &[u8], at: usize, count: usize, rep: &[u8; 17], plain: bool) -> [u32; 17]
     requires { ⌜ at + 3 * count ≤ length (now query) ⌝ }
 {
     let mut out = [0u32; 17];
     for i in 0..count {
         if query::sign(query, at, i) == plain {
-            let a = clash::read_rep(reps, query::right(query, at, i));
+            let a = facts::read_rep(rep, query::right(query, at, i));
             let next = marked(out, a.0, alone(query::field(query, at, i)));
             out = next;
         }
@@ -371,15 +371,15 @@ fn place(
 }
 
 // The terms held apart from each term by the equalities and the data literals.
-fn apart(query: &[u8], layout: Layout, reps: &[usize; 17]) -> [u32; 17]
+fn apart(query: &[u8], layout: Layout, rep: &[u8; 17]) -> [u32; 17]
     requires { ⌜ LaysOut layout (now query) ⌝ }
 {
-    let differ = denied(query, layout.equal_at, layout.equal_count, reps, true);
+    let differ = denied(query, layout.equal_at, layout.equal_count, rep, true);
     if layout.field_count == 0 {
         return differ;
     }
-    let have = fields(query, layout.field_at, layout.field_count, reps, true);
-    let lack = fields(query, layout.field_at, layout.field_count, reps, false);
+    let have = fields(query, layout.field_at, layout.field_count, rep, true);
+    let lack = fields(query, layout.field_at, layout.field_count, rep, false);
     let one = opposed(differ, &have, &lack);
     opposed(one, &lack, &have)
 }
@@ -390,15 +390,13 @@ pub fn unit(query: &[u8], layout: Layout, s: Facts) -> Choice
     ensures { λ r. ⌜ Proposes (layout .terms) (pathOf s) r ⌝ }
 {
     let n = layout.terms;
-    let rep = s.rep;
-    let reps = clash::numbers(rep);
     let link = s.link;
     let reach = s.reach;
-    let no = denied(query, layout.reach_at, layout.reach_count, &reps, false);
+    let no = denied(query, layout.reach_at, layout.reach_count, &s.rep, false);
     let behind = denied_behind(&reach, &no);
     let no_reach = unreachable(&reach, &behind);
     let no_back = facts::turned(&no_reach);
-    let differ = apart(query, layout, &reps);
+    let differ = apart(query, layout, &s.rep);
     let no_equal = merged(&differ, &no_reach, &no_back);
     place(&link, &reach, &no_equal, &no_reach, &no_back, n)
 }

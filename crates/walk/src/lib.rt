@@ -46,13 +46,6 @@ pub fn put_line(lines: &mut [u8], count: usize, a: usize, b: usize, c: usize, d:
     lines[at + 3] = d as u8;
 }
 
-// A byte as a number.
-fn wide(byte: u8) -> usize
-    ensures { λ r. ⌜ (r ≡ byte) × (r < 256) ⌝ }
-{
-    byte as usize
-}
-
 // "A line 10, kept term, replaced term, 0 for each" pair; the count of lines then. Where there is no room only the count moves.
 pub fn put_joins(lines: &mut [u8], first: usize, pairs: Pairs) -> usize
     requires { ⌜ (length (pairsOf pairs) ≤ 17) × (first ≤ 16001) ⌝ }
@@ -63,8 +56,8 @@ pub fn put_joins(lines: &mut [u8], first: usize, pairs: Pairs) -> usize
     let mut count = first;
     let mut i: usize = 0;
     while i < total {
-        let kept = wide(pairs.kept[i]);
-        let replaced = wide(pairs.replaced[i]);
+        let kept = facts::wide(pairs.kept[i]);
+        let replaced = facts::wide(pairs.replaced[i]);
         put_line(lines, count, 10, kept, replaced, 0);
         count = counted(count);
         i += 1;
@@ -101,8 +94,7 @@ pub fn look(query: &[u8], layout: Layout, order: &[u8], s: Facts) -> Seen
     ensures { λ r. ⌜ lookOf r ≡ look (decode (now (query .entry))) (orderOf (now (order .entry))) (pathOf s) ⌝ }
 {
     let n = layout.terms;
-    let rep = s.rep;
-    if let Clash::At(section, place, partner) = clash::find_clash(query, layout, rep, &s.reach) {
+    if let Clash::At(section, place, partner) = clash::find_clash(query, layout, &s.rep, &s.reach) {
         return Seen::Clashing(section, place, partner);
     }
     let Choice::Apply(rule, x, y, z) = rules::choose(order, s, n) else {

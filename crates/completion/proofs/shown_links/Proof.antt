@@ -13,6 +13,6 @@ shown-links-spec =
     -- known-links-requires
     (λ c κs. search needs)
     -- link-each-requires
-    (λ c κs. (omega arith, known-range _ _ _ (omega arith) (c .before .before .known-links .ensures)))
+    (λ c κs. (omega arith, known-range _ _ _ (omega arith) (c .before .before .before .known-links .ensures)))
     -- returns
-    (λ c. shown _ _ _ _ (c .before .before .before .known-links .ensures) (c .link-each .ensures)))
+    (λ c. shown _ _ _ _ (c .before .before .before .before .known-links .ensures) (c .link-each .ensures)))

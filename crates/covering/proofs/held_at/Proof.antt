@@ -17,13 +17,11 @@ held-at-spec =
     (λ c κs. search needs)
     -- returns
     (λ c e f. absurd (true-false f (sym (c .before .has .ensures) ∙ not-true _ (c .if1 .taken))))
-    -- mul-to
-    (λ c. search needs)
-    -- element-copy-out-to
-    (λ c. search needs)
+    -- read-rep-requires
+    (λ c κs. search needs)
     -- returns-2
     (λ c e f. absurd (false≢true e))
     -- has-requires-2
     (λ c κs. search needs)
     -- returns-3
-    (λ c e f. held-here _ _ _ (omega arith) (omega arith) (sym (c .has2 .ensures) ∙ e)))
+    (λ c e f. held-here _ _ _ (c .before .before .before .read-rep .ensures) (omega arith) (sym (c .has2 .ensures) ∙ e)))

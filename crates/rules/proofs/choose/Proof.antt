@@ -44,15 +44,15 @@ choose-spec =
     -- shared-slice-read-tried
     (λ c. omega arith)
     -- tried-requires
-    (λ c κs. (c .before .before .before .before .before .before .before .before .before .before .before .before .before .before .pre, λ e. turned-now _ _ _ _ _ (c .before .before .before .before .before .before .before .before .before .loop .inv .2) (c .before .before .before .before .turned-once .ensures .0) (c .before .before .before .before .turned-once .ensures .1) (c .before .before .before .before .before .before .looks-back .ensures ∙ e)))
+    (λ c κs. (c .before .before .before .before .before .before .before .before .before .before .before .before .before .before .before .before .pre, λ e. turned-now _ _ _ _ _ (c .before .before .before .before .before .before .before .before .before .loop .inv .2) (c .before .before .before .before .turned-once .ensures .0) (c .before .before .before .before .turned-once .ensures .1) (c .before .before .before .before .before .before .looks-back .ensures ∙ e)))
     -- enum-known-rule
     (λ c. search needs)
     -- returns
     (λ c.
     sym
-    (choose-lent _ (c .before .before .before .before .before .before .before .before .before .before .before .before .before .before .before .before .before .before .args .s) (c .before .before .before .before .before .before .before .before .before .before .before .before .before .before .before .before .live .result) (c .before .before .before .before .before .before .before .before .before .before .before .before .before .before .before .before .before .before .args .order .now) (c .before .before .before .before .before .before .before .before .before .before .before .before .before .before .before .before .live .ensures)
+    (choose-lent _ (c .before .before .before .before .before .before .before .before .before .before .before .before .before .before .before .before .before .before .before .before .args .t2) (c .before .before .before .before .before .before .before .before .before .before .before .before .before .before .before .before .live .result) (c .before .before .before .before .before .before .before .before .before .before .before .before .before .before .before .before .before .before .before .before .args .order .now) (c .before .before .before .before .before .before .before .before .before .before .before .before .before .before .before .before .live .ensures)
     ∙ c .before .before .before .before .before .before .before .before .before .before .before .before .before .loop .inv .1
-    ∙ rest-here _ (c .before .before .before .before .before .before .before .before .before .before .before .before .before .before .before .before .before .before .args .order .now) (c .before .before .before .before .before .before .before .before .before .before .before .before .before .loop .i) _ (omega arith) (sym (c .before .before .before .tried .ensures) ∙ ap choiceOf (c .before .rule .given .1))))
+    ∙ rest-here _ (c .before .before .before .before .before .before .before .before .before .before .before .before .before .before .before .before .before .before .before .before .args .order .now) (c .before .before .before .before .before .before .before .before .before .before .before .before .before .loop .i) _ (omega arith) (sym (c .before .before .before .tried .ensures) ∙ ap choiceOf (c .before .rule .given .1))))
     -- enum-told
     (λ c. search needs)
     -- add-i
@@ -60,10 +60,10 @@ choose-spec =
     -- loop-less
     (λ c. omega arith)
     -- loop-again
-    (λ c. (omega arith, c .before .before .before .before .before .before .before .before .before .before .before .before .loop .inv .1 ∙ rest-next _ (c .before .before .before .before .before .before .before .before .before .before .before .before .before .before .before .before .before .args .order .now) (c .before .before .before .before .before .before .before .before .before .before .before .before .loop .i) (omega arith) (sym (c .before .before .tried .ensures) ∙ ap choiceOf (c .enum-told .given .1)), turned-kept _ _ _ _ _ (c .before .before .before .before .before .before .before .before .before .before .before .before .loop .inv .2) (c .before .before .before .before .before .before .before .turned-once .ensures .0) (c .before .before .before .before .before .before .before .turned-once .ensures .1)))
+    (λ c. (omega arith, c .before .before .before .before .before .before .before .before .before .before .before .before .loop .inv .1 ∙ rest-next _ (c .before .before .before .before .before .before .before .before .before .before .before .before .before .before .before .before .before .before .before .args .order .now) (c .before .before .before .before .before .before .before .before .before .before .before .before .loop .i) (omega arith) (sym (c .before .before .tried .ensures) ∙ ap choiceOf (c .enum-told .given .1)), turned-kept _ _ _ _ _ (c .before .before .before .before .before .before .before .before .before .before .before .before .loop .inv .2) (c .before .before .before .before .before .before .before .turned-once .ensures .0) (c .before .before .before .before .before .before .before .turned-once .ensures .1)))
     -- returns-2
     (λ c.
     sym
-    (choose-lent _ (c .before .before .before .before .before .before .args .s) (c .before .before .before .before .live .result) (c .before .before .before .before .before .before .args .order .now) (c .before .before .before .before .live .ensures)
+    (choose-lent _ (c .before .before .before .before .before .before .before .before .args .t2) (c .before .before .before .before .live .result) (c .before .before .before .before .before .before .before .before .args .order .now) (c .before .before .before .before .live .ensures)
     ∙ c .before .loop .inv .1
-    ∙ rest-end _ (c .before .before .before .before .before .before .args .order .now) (c .before .loop .i) (omega arith))))
+    ∙ rest-end _ (c .before .before .before .before .before .before .before .before .args .order .now) (c .before .loop .i) (omega arith))))

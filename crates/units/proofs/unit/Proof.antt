@@ -10,8 +10,6 @@ unfolding pathOf onlyLink
 unit-spec =
     tie.close
     (tie.spec
-    -- numbers-requires
-    (λ c κs. search needs)
     -- denied-requires
     (λ c κs. search needs)
     -- denied-behind-requires
@@ -27,4 +25,4 @@ unit-spec =
     -- place-requires
     (λ c κs. c .before .before .before .before .before .before .before .before .before .before .before .before .before .before .before .before .before .before .before .before .before .before .before .before .before .before .pre .terms-within)
     -- returns
-    (λ c. c .place .ensures (pathOf (c .before .before .before .before .before .before .before .before .before .before .before .before .before .before .before .before .before .before .before .before .before .before .before .before .before .before .before .args .s)) (refl, refl)))
+    (λ c. c .place .ensures (pathOf (c .before .before .before .before .before .before .before .before .before .before .before .before .before .before .before .before .before .before .before .before .before .before .before .before .before .before .before .args .t3)) (refl, refl)))
