@@ -7,10 +7,11 @@ use mathlib.Core.Bool.{Bool, true, false, cond}
 use mathlib.Core.List.{List, [], _∷_}
 use mathlib.Core.Option.{Option, none}
 use lib.Dec.{eqb, ltb, leb}
+use borrow.Author.Tests.{ne-eqb}
 use Rattle.logic.specs.Search.{_and_, _or_, any, firstOf}
 use Rattle.logic.specs.Facts.{Graph, Facts, terms, became, replaceIn, replace, addReach, addLinks, successors, firstTwo, doubled}
-use Rattle.logic.proofs.Basics.Search.{not-of, and-intro}
-use Rattle.logic.proofs.Basics.Compare.{eq-cases, ltb-intro, leb-intro, eqb-intro}
+use Rattle.logic.proofs.Basics.Search.{not-of, true-false, and-intro}
+use Rattle.logic.proofs.Basics.Compare.{eq-cases, ltb-intro, leb-intro, eqb-intro, eqb-self}
 use Rattle.logic.proofs.Paths.Ranged.{link-range}
 use Rattle.logic.proofs.Calls.OneLink.{doubled-one}
 use Rattle.facts.specs.declared.Facts as code
@@ -91,6 +92,24 @@ pub doubled-links : (n : ℕ) (s : code.Facts) → doubled n (linkedBy (s .link)
 unfolding successors linksIn linkedBy pathOf graphOf onlyLink
 doubled-links n s = doubled-one n (linkedBy (s .link)) refl ∙ sym (doubled-one n (pathOf s) refl)
 
+-- what a path becomes with other reachability of link k
+module _ (k : ℕ) (f : ℕ → ℕ → Bool) (s : Facts) where
+  pub with-rep : withReach k f s .rep ≡ s .rep
+  unfolding withReach
+  with-rep = refl
+
+  pub with-links : withReach k f s .links ≡ s .links
+  unfolding withReach
+  with-links = refl
+
+  pub with-here : withReach k f s .graph k ≡ linking (s .graph k .link) f
+  unfolding withReach
+  with-here = rw (eqb-self k) refl
+
+  pub with-elsewhere : (i : ℕ) → (i ≡ k → ⊥) → withReach k f s .graph i ≡ s .graph i
+  unfolding withReach
+  with-elsewhere i d = rw (ne-eqb i k d) refl
+
 -- the code's paths have one link, and its rows are those of the record
 module _ (s : code.Facts) where
   pub first-link : (k : ℕ) → HasLink (pathOf s) k → k ≡ 1
@@ -100,3 +119,12 @@ module _ (s : code.Facts) where
   pub graph-is : (k : ℕ) → HasLink (pathOf s) k → graphOf (s .link) (s .reach) ≡ pathOf s .graph k
   unfolding pathOf onlyLink
   graph-is k h = sym (rw (first-link k h) refl)
+
+  -- facts are of the path's links alone
+  pub reach-within : (i a b : ℕ) → pathOf s .graph i .reach a b ≡ true → HasLink (pathOf s) i
+  unfolding pathOf onlyLink
+  reach-within i a b e = ⊎-elim (λ one. (omega (arith, one), omega (arith, one))) (λ d. absurd (true-false e (rw (d .1) refl))) (eq-cases i 1)
+
+  pub link-within : (i a b : ℕ) → pathOf s .graph i .link a b ≡ true → HasLink (pathOf s) i
+  unfolding pathOf onlyLink
+  link-within i a b e = ⊎-elim (λ one. (omega (arith, one), omega (arith, one))) (λ d. absurd (true-false e (rw (d .1) refl))) (eq-cases i 1)
