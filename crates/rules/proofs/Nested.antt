@@ -171,7 +171,7 @@ module _ (n : ℕ) (alive : ℕ → Bool) (g : Graph) (r : Rule) (l : looped r �
     third-at z f = third-search ∙ keep-through (λ z. thirdTest g x y z r) (triple x y) (from (n + 1 - 0) 0) ∙ rw f
 
 -- the test of a rule is the same by whichever link
-allowed-any : (i n : ℕ) (alive : ℕ → Bool) (g : Graph) (r : Rule) (t : Triple) → allowed n alive g (move i r t) ≡ allowed n alive g (move 1 r t)
+pub allowed-any : (i n : ℕ) (alive : ℕ → Bool) (g : Graph) (r : Rule) (t : Triple) → allowed n alive g (move i r t) ≡ allowed n alive g (move 1 r t)
 unfolding allowed conditions alternatives held any
 allowed-any i n alive g REFLEX (triple x y z) = refl
 allowed-any i n alive g TRANS1 (triple x y z) = refl
