@@ -112,6 +112,10 @@ module _ (k : ℕ) (f : ℕ → ℕ → Bool) (s : Facts) where
 
 -- the code's paths have one link, and its rows are those of the record
 module _ (s : code.Facts) where
+  pub links-few : (0 < pathOf s .links) × (pathOf s .links ≤ 3)
+  unfolding pathOf
+  links-few = (omega arith, omega arith)
+
   pub first-link : (k : ℕ) → HasLink (pathOf s) k → k ≡ 1
   unfolding pathOf
   first-link k h = omega (arith, h .0, h .1)
