@@ -264,7 +264,7 @@ fn grown(budget: usize, turn: usize) -> usize
 // The paths that a strategy may look at: one that probes takes longer at each.
 fn share(budget: usize, how: usize) -> usize {
     if how == 2 {
-        return budget / 32 + 1;
+        return budget / 8 + 1;
     }
     budget
 }

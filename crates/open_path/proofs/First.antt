@@ -39,6 +39,13 @@ mem-some (y ∷ ys) x m = omega arith
 reach-branch : (q : Query) (s : Facts) (m : Move) → Reachable q s → applies (termCount q) s m ≡ true → (i : ℕ) → i < length (branches (termCount q) s m) → Reachable q (getD (branches (termCount q) s m) i s)
 reach-branch q s m (k, steps) app i l = (suc k, one-more steps (record { rule-move = m; applicable = app; branch = getD-mem (branches (termCount q) s m) i s l }))
 
+-- a path with a heap where our walk from s₀ goes on with k of its k₀ steps left: it ends where that one does
+pub record Comes (q : Query) (order : List ℕ) (k₀ : ℕ) (s₀ : Facts) (k : ℕ) (s : Facts) : Type 0 where
+  pub reach : Reachable q s
+  pub most : AtMost (termCount q) s k
+  pub has-heap : HasHeap q s
+  pub ends : (u : Facts) → walk q (orderOf order) k s ≡ saturation u → walk q (orderOf order) k₀ s₀ ≡ saturation u
+
 -- a path with a heap has no clash
 pub never-clashes : (bytes order : List ℕ) → accepts bytes ≡ true → (s : Facts) → Reachable (decode bytes) s → HasHeap (decode bytes) s → (l : Line) → look (decode bytes) (orderOf order) s ≡ clashing l → ⊥
 never-clashes bytes order acc s reach has l h =
@@ -99,11 +106,14 @@ module _ (bytes order : List ℕ) (acc : accepts bytes ≡ true) (k : ℕ) (s : 
 
   -- the walk goes there
   module _ (t : Facts) (f : FirstOpen q s m t) where
-    pub first-reach : Reachable q t
+    first-reach : Reachable q t
     first-reach = subst (Reachable q) (f .branch-at) (reach-branch q s m reach app (f .place) (f .in-row))
 
-    pub first-fewer : AtMost (termCount q) t (k - 1)
+    first-fewer : AtMost (termCount q) t (k - 1)
     first-fewer = subst (λ (u : Facts). AtMost (termCount q) u (k - 1)) (f .branch-at) (row-fewer q (orderOf order) k s m most h (f .place) (f .in-row))
 
-    pub first-ends : isOrder order ≡ true → (u : Facts) → walk q (orderOf order) (k - 1) t ≡ saturation u → walk q (orderOf order) k s ≡ saturation u
+    first-ends : isOrder order ≡ true → (u : Facts) → walk q (orderOf order) (k - 1) t ≡ saturation u → walk q (orderOf order) k s ≡ saturation u
     first-ends o u e = walk-first q ok (orderOf order) (order-full order o) k s known most m h (f .place) (f .in-row) (f .struck) u (subst (λ (v : Facts). walk q (orderOf order) (k - 1) v ≡ saturation u) (sym (f .branch-at)) e)
+
+    pub comes-on : isOrder order ≡ true → (k₀ : ℕ) (s₀ : Facts) → Comes q order k₀ s₀ k s → Comes q order k₀ s₀ (k - 1) t
+    comes-on o k₀ s₀ c = record { reach = first-reach; most = first-fewer; has-heap = f .has-heap; ends = λ u e. c .ends u (first-ends o u e) }

@@ -97,14 +97,37 @@ pub fn descend(
     requires { ⌜ LaysOut layout (now query) × (accepts (now query) ≡ true) × (isOrder (now order) ≡ true) × Reachable (decode (now query)) (pathOf s) × AtMost (termCount (decode (now query))) (pathOf s) left × HasHeap (decode (now query)) (pathOf s) × HasHeap (decode (now query)) (pathOf witness) ⌝ }
     ensures { λ r. ⌜ walk (decode (now (query .entry))) (orderOf (now (order .entry))) left (pathOf s) ≡ saturation (pathOf r) ⌝ }
 {
-    match walk::look(query, layout, order, s) {
-        walk::Seen::Saturated => s,
-        walk::Seen::Clashing(_, _, _) => s,
-        walk::Seen::Applying(rule, x, y, z) => {
-            let chosen = first_open(query, layout, order, left, s, rule, x, y, z, first, witness);
-            let path = chosen.facts;
-            let other = chosen.witness;
-            descend(query, layout, order, left - 1, path, chosen.how, other)
+    let mut path = s;
+    let mut other = witness;
+    let mut how = first;
+    let mut steps = left;
+    loop {
+        match walk::look(query, layout, order, path) {
+            walk::Seen::Saturated => {
+                return path;
+            }
+            walk::Seen::Clashing(_, _, _) => {
+                return path;
+            }
+            walk::Seen::Applying(rule, x, y, z) => {
+                let chosen = first_open(
+                    query,
+                    layout,
+                    order,
+                    steps,
+                    path,
+                    rule,
+                    x,
+                    y,
+                    z,
+                    how,
+                    other,
+                );
+                path = chosen.facts;
+                other = chosen.witness;
+                how = chosen.how;
+                steps -= 1;
+            }
         }
     }
 }
