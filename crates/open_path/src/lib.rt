@@ -109,13 +109,14 @@ pub fn descend(
             walk::Seen::Clashing(_, _, _) => {
                 return path;
             }
-            walk::Seen::Applying(rule, x, y, z) => {
+            walk::Seen::Applying(k, rule, x, y, z) => {
                 let chosen = first_open(
                     query,
                     layout,
                     order,
                     steps,
                     path,
+                    k,
                     rule,
                     x,
                     y,

@@ -12,7 +12,7 @@ use Rattle.logic.proofs.Basics.Compare.{cond-true, cond-false}
 use Rattle.facts.specs.declared.Facts as code
 use Rattle.facts.specs.Bits.{bit}
 use Rattle.facts.specs.Path.{pathOf, graphOf}
-use Rattle.facts.proofs.Path.{alike, addReach-one}
+use Rattle.facts.proofs.Path.{alike, addReach-at}
 use Rattle.facts.proofs.Square.{square-add}
 use Rattle.facts.proofs.Rep.{rep-in}
 use Rattle.facts.proofs.Joins.{andThen-at, andThen-unjoined}
@@ -25,7 +25,7 @@ repAt s t = getD (s .rep) t (record { 0 = 0 }) .0
 
 row-set : (s : code.Facts) → length (s .reach) ≡ 17 → (a b w : ℕ) → a ≤ 16 → b ≤ 16 → ((i : ℕ) → bit w i ≡ eqb i b) → pathOf (record { rep = s .rep; link = s .link; reach = set (s .reach) a (bitOr (getD (s .reach) a 0) w) }) ≡ addReach 1 a b (pathOf s)
 unfolding pathOf graphOf
-row-set s full a b w h k only = alike refl refl (square-add (s .reach) full a b w h k only) ∙ sym (addReach-one _ _ _ a b)
+row-set s full a b w h k only = alike refl refl (square-add (s .reach) full a b w h k only) ∙ sym (addReach-at _ _ _ 1 a b refl)
 
 module _ (s : code.Facts) where
   pub read-bounded : Bounded (pathOf s) → (t : ℕ) → t ≤ 16 → repAt s t ≤ 16
