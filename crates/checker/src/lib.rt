@@ -2,6 +2,7 @@
 use clash::Clash;
 use facts::Facts;
 use facts::Joined;
+use facts::Link;
 use facts::Pairs;
 use facts::Term;
 use query::Checked;
@@ -157,7 +158,7 @@ pub fn check_goal(
             let mut to = at + 1;
             let mut i: usize = 0;
             while i < total {
-                let branch = branch::branch(s, n, rule, x, y, z, i);
+                let branch = branch::branch(s, n, Link(1), rule, x, y, z, i);
                 let judged = check_goal(query, layout, derivation, count, left - 1, branch, to);
                 if !judged.fits {
                     return judged;

@@ -2,6 +2,7 @@
 // our own. What each of them says is right whatever it picks, and one that runs out says nothing.
 use clash::Clash;
 use facts::Facts;
+use facts::Link;
 use facts::Term;
 use query::Layout;
 use rules::Choice;
@@ -62,7 +63,7 @@ pub struct Walked {
 // What a strategy sees at a path.
 pub enum Seen {
     Clashing,
-    Applying(Rule, Term, Term, Third),
+    Applying(Link, Rule, Term, Term, Third),
     Saturated,
 }
 
@@ -149,7 +150,7 @@ pub fn plain(
                 budget: spent(budget),
             };
         }
-        walk::Seen::Applying(rule, x, y, z) => {
+        walk::Seen::Applying(k, rule, x, y, z) => {
             let total = branch::count(rule, z);
             let mut fuel = spent(budget);
             let mut i: usize = 0;
@@ -161,7 +162,7 @@ pub fn plain(
                         budget: 0,
                     };
                 }
-                let joined = branch::branch(front, n, rule, x, y, z, i);
+                let joined = branch::branch(front, n, k, rule, x, y, z, i);
                 let path = joined.facts;
                 let w = plain(query, layout, order, left - 1, path, limited, fuel);
                 let kind = w.kind;
@@ -188,10 +189,10 @@ fn sees(query: &[u8], layout: Layout, how: usize, s: Facts) -> Seen
     if let Clash::At(_, _, _) = clash::find_clash(query, layout, &s.rep, &s.reach) {
         return Seen::Clashing;
     }
-    let Choice::Apply(rule, x, y, z) = picking::pick(query, layout, how, s) else {
+    let Choice::Apply(k, rule, x, y, z) = picking::pick(query, layout, how, s) else {
         return Seen::Saturated;
     };
-    Seen::Applying(rule, x, y, z)
+    Seen::Applying(k, rule, x, y, z)
 }
 
 // A strategy: the path is closed, and then branches where the strategy picks.
@@ -216,7 +217,7 @@ fn search(query: &[u8], layout: Layout, how: usize, left: usize, s: Facts, budge
                 facts: t,
             };
         }
-        Seen::Applying(rule, x, y, z) => {
+        Seen::Applying(k, rule, x, y, z) => {
             if left == 0 {
                 return Tried {
                     kind: Kind::Unknown,
@@ -235,7 +236,7 @@ fn search(query: &[u8], layout: Layout, how: usize, left: usize, s: Facts, budge
                         facts: t,
                     };
                 }
-                let joined = branch::branch(t, n, rule, x, y, z, i);
+                let joined = branch::branch(t, n, k, rule, x, y, z, i);
                 let path = joined.facts;
                 let w = search(query, layout, how, left - 1, path, fuel);
                 let kind = w.kind;

@@ -1,6 +1,6 @@
 -- The facts of a path that the code's arrays hold.
-use Prim.Native.Nat.{ℕ}
-use mathlib.Core.Bool.{false, cond}
+use Prim.Native.Nat.{ℕ, _≤_, _<_}
+use mathlib.Core.Bool.{Bool, false, cond}
 use mathlib.Core.List.{List}
 use lib.ListN.{getD}
 use lib.Dec.{ltb, eqb}
@@ -36,3 +36,16 @@ replacedBy rep = record { rep = repOf rep; links = 1; graph = λ i. record { lin
 -- what each term was replaced by, once hi is replaced by lo
 unfoldable pub replaceRep : ℕ → ℕ → (ℕ → ℕ) → ℕ → ℕ
 replaceRep lo hi rep t = cond (eqb (rep t) hi) lo (rep t)
+
+-- a link of the path, by its number
+abbrev pub HasLink : Facts → ℕ → Type 0
+HasLink s k = (0 < k) × (k ≤ s .links)
+
+-- the path with this reachability of link k in place of its own
+unfoldable pub withReach : ℕ → (ℕ → ℕ → Bool) → Facts → Facts
+withReach k reach s =
+    record {
+      rep = s .rep;
+      links = s .links;
+      graph = λ j. record { link = s .graph j .link; reach = cond (eqb j k) reach (s .graph j .reach) };
+    }

@@ -5,7 +5,7 @@ ghost use mathlib.Core.Bool.{Bool, not, cond};
 ghost use lib.Dec.{eqb, ltb};
 ghost use Rattle.facts.specs.Bits.{bit};
 ghost use Rattle.facts.specs.Square.{square, Turned, renamedRow, columns, rows};
-ghost use Rattle.facts.specs.Path.{pathOf, repOf, replaceRep, replacedBy, linksIn, linkedBy};
+ghost use Rattle.facts.specs.Path.{pathOf, repOf, replaceRep, replacedBy, linksIn, linkedBy, HasLink, withReach};
 ghost use Rattle.facts.specs.Answers.{foundOf, twoOf};
 ghost use Rattle.facts.specs.Pairs.{pairsOf, joinedAs, joinedOf, Fits};
 ghost use mathlib.Core.List.{[], _∷_, _++_};
@@ -16,6 +16,9 @@ ghost use Rattle.logic.specs.Facts.{terms, addReach, addLinks, replaceIn, repla
 
 // A term by its number.
 pub struct Term(pub usize);
+
+// A link by its number, from 1.
+pub struct Link(pub usize);
 
 // What each term was replaced by, as a byte, and whether f(a) = b and "a reaches b" are held: bit b of row a.
 pub struct Facts {
@@ -134,10 +137,42 @@ pub fn holds(rows: &[u32; 17], a: Term, b: Term) -> bool
     has(rows[at], b.0)
 }
 
+// How many links the path has.
+pub fn links(s: Facts) -> usize
+    ensures { λ r. ⌜ (r ≡ pathOf s .links) × (0 < r) × (r ≤ 3) ⌝ }
+{
+    1
+}
+
+// The facts of one link as rows: f(a) = b, and "a reaches b".
+pub fn link_rows(s: Facts, k: Link) -> [u32; 17]
+    requires { ⌜ HasLink (pathOf s) (k .0) ⌝ }
+    ensures { λ r. ⌜ square r ≡ pathOf s .graph (k .0) .link ⌝ }
+{
+    s.link
+}
+
+pub fn reach_rows(s: Facts, k: Link) -> [u32; 17]
+    requires { ⌜ HasLink (pathOf s) (k .0) ⌝ }
+    ensures { λ r. ⌜ square r ≡ pathOf s .graph (k .0) .reach ⌝ }
+{
+    s.reach
+}
+
+// Other rows of "a reaches b" for one link.
+pub fn with_reach(s: Facts, k: Link, rows: [u32; 17]) -> Facts
+    requires { ⌜ HasLink (pathOf s) (k .0) ⌝ }
+    ensures { λ r. ⌜ pathOf r ≡ withReach (k .0) (square rows) (pathOf s) ⌝ }
+{
+    let mut t = s;
+    t.reach = rows;
+    t
+}
+
 // The reachability fact is added.
-pub fn add_reach(s: Facts, a: Term, b: Term) -> Facts
-    requires { ⌜ (a .0 ≤ 16) × (b .0 ≤ 16) ⌝ }
-    ensures { λ r. ⌜ pathOf r ≡ addReach 1 (a .0) (b .0) (pathOf s) ⌝ }
+pub fn add_reach(s: Facts, k: Link, a: Term, b: Term) -> Facts
+    requires { ⌜ HasLink (pathOf s) (k .0) × (a .0 ≤ 16) × (b .0 ≤ 16) ⌝ }
+    ensures { λ r. ⌜ pathOf r ≡ addReach (k .0) (a .0) (b .0) (pathOf s) ⌝ }
 {
     let at = a.0;
     let added = only(b.0);

@@ -52,7 +52,7 @@ never-clashes bytes order acc s reach has l h =
     let ok = accepted bytes acc in
     clash-none (decode bytes) ok s (reachable-known (decode bytes) ok s reach) l (seen-clashing (decode bytes) (orderOf order) s h) has
 
-module _ (bytes order : List ℕ) (acc : accepts bytes ≡ true) (k : ℕ) (s : Facts) (reach : Reachable (decode bytes) s) (most : AtMost (termCount (decode bytes)) s k) (n : ℕ) (terms-are : n ≡ termCount (decode bytes)) (r : Rule) (x y z : ℕ) (h : look (decode bytes) (orderOf order) s ≡ applying (move 1 r (triple x y z))) where
+module _ (bytes order : List ℕ) (acc : accepts bytes ≡ true) (k : ℕ) (s : Facts) (reach : Reachable (decode bytes) s) (most : AtMost (termCount (decode bytes)) s k) (n : ℕ) (terms-are : n ≡ termCount (decode bytes)) (l : ℕ) (r : Rule) (x y z : ℕ) (h : look (decode bytes) (orderOf order) s ≡ applying (move l r (triple x y z))) where
   abbrev q : Query
   q = decode bytes
 
@@ -63,17 +63,17 @@ module _ (bytes order : List ℕ) (acc : accepts bytes ≡ true) (k : ℕ) (s : 
   known = reachable-known q ok s reach
 
   abbrev m : Move
-  m = move 1 r (triple x y z)
+  m = move l r (triple x y z)
 
   app : applies (termCount q) s m ≡ true
   app = seen-applying q (orderOf order) s h .1
 
-  module _ (i : ℕ) (l : i < countOf r z) (j : Joined) (e : j ≡ branch n s (alternativeAt n (s .graph 1) r x y z i)) where
+  module _ (i : ℕ) (here : i < countOf r z) (j : Joined) (e : j ≡ branch n s (alternativeAt l n (s .graph l) r x y z i)) where
     in-row : i < length (branches (termCount q) s m)
-    in-row = omega (arith, row-length q n s r x y z terms-are)
+    in-row = omega (arith, row-length q n s l r x y z terms-are)
 
     at : getD (branches (termCount q) s m) i s ≡ j .facts
-    at = sym (row-at q n s r x y z terms-are i j l e)
+    at = sym (row-at q n s l r x y z terms-are i j here e)
 
     pub open-reach : Reachable q (j .facts)
     open-reach = subst (Reachable q) at (reach-branch q s m reach app i in-row)
@@ -98,11 +98,11 @@ module _ (bytes order : List ℕ) (acc : accepts bytes ≡ true) (k : ℕ) (s : 
         }
 
     pub open-last : Struck q s m i → countOf r z ≤ i + 1 → HasHeap q s → FirstOpen q s m (j .facts)
-    open-last st last has = record { place = i; in-row = in-row; struck = st; branch-at = at; has-heap = subst (HasHeap q) at (last-open q ok s known m app i st (omega (arith, row-length q n s r x y z terms-are)) has) }
+    open-last st last has = record { place = i; in-row = in-row; struck = st; branch-at = at; has-heap = subst (HasHeap q) at (last-open q ok s known m app i st (omega (arith, row-length q n s l r x y z terms-are)) has) }
 
   -- a path with a heap has a branch
   pub some-branch : HasHeap q s → 0 < countOf r z
-  some-branch has = let (t, mem, has′) = heap-branch q ok s known m app has in omega (arith, mem-some (branches (termCount q) s m) t mem, row-length q n s r x y z terms-are)
+  some-branch has = let (t, mem, has′) = heap-branch q ok s known m app has in omega (arith, mem-some (branches (termCount q) s m) t mem, row-length q n s l r x y z terms-are)
 
   -- the walk goes there
   module _ (t : Facts) (f : FirstOpen q s m t) where

@@ -13,7 +13,7 @@ use Rattle.logic.proofs.Basics.Compare.{cond-true, cond-false}
 use Rattle.facts.specs.declared.Facts as code
 use Rattle.facts.specs.Bits.{bit}
 use Rattle.facts.specs.Path.{repOf, pathOf, graphOf}
-use Rattle.facts.proofs.Path.{alike, addReach-one}
+use Rattle.facts.proofs.Path.{alike, addReach-at}
 use Rattle.facts.proofs.Square.{square-add}
 use Rattle.facts.proofs.Joins.{andThen-at, andThen-unjoined}
 use Rattle.start.specs.Nil.{same}
@@ -21,7 +21,7 @@ use Rattle.start.specs.Taken.{joinOne, reachOne, Bounded}
 
 row-set : (s : code.Facts) → length (s .reach) ≡ 17 → (a b w : ℕ) → a ≤ 16 → b ≤ 16 → ((i : ℕ) → bit w i ≡ eqb i b) → pathOf (record { rep = s .rep; link = s .link; reach = set (s .reach) a (bitOr (getD (s .reach) a 0) w) }) ≡ addReach 1 a b (pathOf s)
 unfolding pathOf graphOf
-row-set s full a b w h k only = alike refl refl (square-add (s .reach) full a b w h k only) ∙ sym (addReach-one _ _ _ a b)
+row-set s full a b w h k only = alike refl refl (square-add (s .reach) full a b w h k only) ∙ sym (addReach-at _ _ _ 1 a b refl)
 
 module _ (s : code.Facts) where
   -- a number that is read for a term is what the term became

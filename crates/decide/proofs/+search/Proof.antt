@@ -12,7 +12,7 @@ use Rattle.logic.specs.Decision.{Struck}
 use Rattle.facts.specs.Path.{pathOf}
 use Rattle.rules.specs.Answers.{kindOf}
 use Rattle.decide.specs.Tells.{Sees}
-use Rattle.decide.proofs.Tells.{fewer-left, seen-as, struck-none, ends-nothing, ends-refuted, ends-as, tells-clash, ends-saturated, known-branch, struck-more, tells-branch, tells-struck}
+use Rattle.decide.proofs.Tells.{fewer-left, seen-as, struck-none, ends-nothing, ends-refuted, ends-as, tells-clash, ends-saturated, known-branch, struck-more, tells-branch, tells-struck, applied-linked}
 use Rattle.decide.proofs.search.Reads as search′
 use Rattle.decide.proofs.search.Kinds as search-kinds
 use Rattle.decide.proofs.+search.Lts-search as search-lts
@@ -35,10 +35,10 @@ abbrev search-below : ℕ → In 1 search-kinds.ps
 search-below t = and 1 search-kinds.ps (falls 1 search-kinds.ps _<_ μ-search t) search′.Pre
 
 abbrev search-Inv-loop : search-lts.InvT-loop
-search-Inv-loop query layout how left budget n t rule x y z total fuel₀ i₀ fuel i = (i ≤ total) × Struck (decode query) (pathOf t) (move 1 (kindOf rule) (triple (x .0) (y .0) (z .0))) i
+search-Inv-loop query layout how left budget n t k rule x y z total fuel₀ i₀ fuel i = (i ≤ total) × Struck (decode query) (pathOf t) (move (k .0) (kindOf rule) (triple (x .0) (y .0) (z .0))) i
 
 abbrev search-μ-loop : search-lts.MeasureT-loop
-search-μ-loop query layout how left budget n t rule x y z total fuel₀ i₀ fuel i = total - i
+search-μ-loop query layout how left budget n t k rule x y z total fuel₀ i₀ fuel i = total - i
 
 pub +search-spec : {M : Type 1} → statement M
 +search-spec = close μ-search λ t. search-lts.spec (
@@ -77,7 +77,7 @@ pub +search-spec : {M : Type 1} → statement M
     (λ c κs. search needs)
     -- returns-2
     (λ c. let a = seen-as _ _ _ _ (c .before .before .before .sees .ensures) (c .before .enum-told2 .given .1) in ends-refuted _ _ _ (tells-clash (c .before .before .before .before .before .before .args .query .now) (c .before .before .before .before .before .before .pre .1 .1) _ _ (c .before .before .before .before .before .before .pre .1 .2) _ (c .before .before .before .before .before .before .pre .1 .0 .term-count) (c .before .before .before .before .close .ensures .0) (a .0) (a .1)))
-    -- enum-known-rule
+    -- enum-known-k
     (λ c. search needs)
     -- returns-3
     (λ c. ends-nothing _ _ _)
@@ -90,20 +90,20 @@ pub +search-spec : {M : Type 1} → statement M
     -- returns-4
     (λ c. ends-nothing _ _ _)
     -- branch-requires
-    (λ c κs. let a = seen-as _ _ _ _ (c .before .before .before .before .before .before .before .before .before .sees .ensures) (c .before .before .before .before .before .before .before .rule .given .1) in (c .before .before .before .before .before .before .before .before .before .before .before .before .pre .1 .0 .terms-within, a .1, a .2, a .3))
+    (λ c κs. let a = seen-as _ _ _ _ (c .before .before .before .before .before .before .before .before .before .sees .ensures) (c .before .before .before .before .before .before .before .k .given .1) in (c .before .before .before .before .before .before .before .before .before .before .before .before .pre .1 .0 .terms-within, applied-linked _ _ _ _ _ _ _ (a .0), a .1, a .2, a .3))
     -- sub-search
     (λ c. omega arith)
     -- search-requires
-    (λ c κs. let a = seen-as _ _ _ _ (c .before .before .before .before .before .before .before .before .before .before .before .sees .ensures) (c .before .before .before .before .before .before .before .before .before .rule .given .1) in (fewer-left _ _ (c .before .before .before .before .before .before .before .if1 .left) (c .before .before .before .before .before .before .before .before .before .before .before .before .before .before .pre .0), (c .before .before .before .before .before .before .before .before .before .before .before .before .before .before .pre .1 .0, c .before .before .before .before .before .before .before .before .before .before .before .before .before .before .pre .1 .1, known-branch (c .before .before .before .before .before .before .before .before .before .before .before .before .before .before .args .query .now) (c .before .before .before .before .before .before .before .before .before .before .before .before .before .before .pre .1 .1) _ _ (c .before .before .before .before .before .before .before .before .before .before .before .before .before .before .pre .1 .2) _ (c .before .before .before .before .before .before .before .before .before .before .before .before .before .before .pre .1 .0 .term-count) (c .before .before .before .before .before .before .before .before .before .before .before .before .close .ensures .0) _ _ _ _ (a .0) _ (subst (λ (j : ℕ). c .before .before .before .before .loop .i < j) (c .before .before .before .before .before .before .count .ensures) (c .before .before .before .loop-test .taken)) _ (c .before .branch .ensures))))
+    (λ c κs. let a = seen-as _ _ _ _ (c .before .before .before .before .before .before .before .before .before .before .before .sees .ensures) (c .before .before .before .before .before .before .before .before .before .k .given .1) in (fewer-left _ _ (c .before .before .before .before .before .before .before .if1 .left) (c .before .before .before .before .before .before .before .before .before .before .before .before .before .before .pre .0), (c .before .before .before .before .before .before .before .before .before .before .before .before .before .before .pre .1 .0, c .before .before .before .before .before .before .before .before .before .before .before .before .before .before .pre .1 .1, known-branch (c .before .before .before .before .before .before .before .before .before .before .before .before .before .before .args .query .now) (c .before .before .before .before .before .before .before .before .before .before .before .before .before .before .pre .1 .1) _ _ (c .before .before .before .before .before .before .before .before .before .before .before .before .before .before .pre .1 .2) _ (c .before .before .before .before .before .before .before .before .before .before .before .before .before .before .pre .1 .0 .term-count) (c .before .before .before .before .before .before .before .before .before .before .before .before .close .ensures .0) _ _ _ _ _ (a .0) _ (subst (λ (j : ℕ). c .before .before .before .before .loop .i < j) (c .before .before .before .before .before .before .count .ensures) (c .before .before .before .loop-test .taken)) _ (c .before .branch .ensures))))
     -- is-refuted-requires
     (λ c κs. search needs)
     -- returns-5
-    (λ c. let a = seen-as _ _ _ _ (c .before .before .before .before .before .before .before .before .before .before .before .before .before .before .sees .ensures) (c .before .before .before .before .before .before .before .before .before .before .before .before .rule .given .1) in ends-as _ _ _ _ _ (c .before .before .search .ensures) (tells-branch (c .before .before .before .before .before .before .before .before .before .before .before .before .before .before .before .before .before .args .query .now) (c .before .before .before .before .before .before .before .before .before .before .before .before .before .before .before .before .before .pre .1 .1) _ _ (c .before .before .before .before .before .before .before .before .before .before .before .before .before .before .before .before .before .pre .1 .2) _ (c .before .before .before .before .before .before .before .before .before .before .before .before .before .before .before .before .before .pre .1 .0 .term-count) (c .before .before .before .before .before .before .before .before .before .before .before .before .before .before .before .close .ensures .0) _ _ _ _ (a .0) _ (subst (λ (j : ℕ). c .before .before .before .before .before .before .before .loop .i < j) (c .before .before .before .before .before .before .before .before .before .count .ensures) (c .before .before .before .before .before .before .loop-test .taken)) _ (c .before .before .before .before .branch .ensures) _ (c .before .before .search .ensures .tells) (sym (c .before .is-refuted .ensures) ∙ not-true _ (c .if3 .taken))))
+    (λ c. let a = seen-as _ _ _ _ (c .before .before .before .before .before .before .before .before .before .before .before .before .before .before .sees .ensures) (c .before .before .before .before .before .before .before .before .before .before .before .before .k .given .1) in ends-as _ _ _ _ _ (c .before .before .search .ensures) (tells-branch (c .before .before .before .before .before .before .before .before .before .before .before .before .before .before .before .before .before .args .query .now) (c .before .before .before .before .before .before .before .before .before .before .before .before .before .before .before .before .before .pre .1 .1) _ _ (c .before .before .before .before .before .before .before .before .before .before .before .before .before .before .before .before .before .pre .1 .2) _ (c .before .before .before .before .before .before .before .before .before .before .before .before .before .before .before .before .before .pre .1 .0 .term-count) (c .before .before .before .before .before .before .before .before .before .before .before .before .before .before .before .close .ensures .0) _ _ _ _ _ (a .0) _ (subst (λ (j : ℕ). c .before .before .before .before .before .before .before .loop .i < j) (c .before .before .before .before .before .before .before .before .before .count .ensures) (c .before .before .before .before .before .before .loop-test .taken)) _ (c .before .before .before .before .branch .ensures) _ (c .before .before .search .ensures .tells) (sym (c .before .is-refuted .ensures) ∙ not-true _ (c .if3 .taken))))
     -- add-i
     (λ c. search needs)
     -- loop-less
     (λ c. search needs)
     -- loop-again
-    (λ c. let a = seen-as _ _ _ _ (c .before .before .before .before .before .before .before .before .before .before .before .before .before .before .sees .ensures) (c .before .before .before .before .before .before .before .before .before .before .before .before .rule .given .1) in (omega arith, struck-more (c .before .before .before .before .before .before .before .before .before .before .before .before .before .before .before .before .before .args .query .now) (c .before .before .before .before .before .before .before .before .before .before .before .before .before .before .before .before .before .pre .1 .1) _ _ (c .before .before .before .before .before .before .before .before .before .before .before .before .before .before .before .before .before .pre .1 .2) _ (c .before .before .before .before .before .before .before .before .before .before .before .before .before .before .before .before .before .pre .1 .0 .term-count) (c .before .before .before .before .before .before .before .before .before .before .before .before .before .before .before .close .ensures .0) _ _ _ _ (a .0) _ (subst (λ (j : ℕ). c .before .before .before .before .before .before .before .loop .i < j) (c .before .before .before .before .before .before .before .before .before .count .ensures) (c .before .before .before .before .before .before .loop-test .taken)) _ (c .before .before .before .before .branch .ensures) (c .before .before .before .before .before .before .before .loop .inv .1) _ (c .before .before .search .ensures .tells) (sym (c .before .is-refuted .ensures) ∙ not-false _ (c .if3 .left))))
+    (λ c. let a = seen-as _ _ _ _ (c .before .before .before .before .before .before .before .before .before .before .before .before .before .before .sees .ensures) (c .before .before .before .before .before .before .before .before .before .before .before .before .k .given .1) in (omega arith, struck-more (c .before .before .before .before .before .before .before .before .before .before .before .before .before .before .before .before .before .args .query .now) (c .before .before .before .before .before .before .before .before .before .before .before .before .before .before .before .before .before .pre .1 .1) _ _ (c .before .before .before .before .before .before .before .before .before .before .before .before .before .before .before .before .before .pre .1 .2) _ (c .before .before .before .before .before .before .before .before .before .before .before .before .before .before .before .before .before .pre .1 .0 .term-count) (c .before .before .before .before .before .before .before .before .before .before .before .before .before .before .before .close .ensures .0) _ _ _ _ _ (a .0) _ (subst (λ (j : ℕ). c .before .before .before .before .before .before .before .loop .i < j) (c .before .before .before .before .before .before .before .before .before .count .ensures) (c .before .before .before .before .before .before .loop-test .taken)) _ (c .before .before .before .before .branch .ensures) (c .before .before .before .before .before .before .before .loop .inv .1) _ (c .before .before .search .ensures .tells) (sym (c .before .is-refuted .ensures) ∙ not-false _ (c .if3 .left))))
     -- returns-6
-    (λ c. let a = seen-as _ _ _ _ (c .before .before .before .before .before .before .before .before .sees .ensures) (c .before .before .before .before .before .before .rule .given .1) in ends-refuted _ _ _ (tells-struck (c .before .before .before .before .before .before .before .before .before .before .before .args .query .now) (c .before .before .before .before .before .before .before .before .before .before .before .pre .1 .1) _ _ (c .before .before .before .before .before .before .before .before .before .before .before .pre .1 .2) _ (c .before .before .before .before .before .before .before .before .before .before .before .pre .1 .0 .term-count) (c .before .before .before .before .before .before .before .before .before .close .ensures .0) _ _ _ _ (a .0) _ (c .before .loop .inv .1) (subst (λ (j : ℕ). j ≤ c .before .loop .i) (c .before .before .before .count .ensures) (c .loop-test .left))))
+    (λ c. let a = seen-as _ _ _ _ (c .before .before .before .before .before .before .before .before .sees .ensures) (c .before .before .before .before .before .before .k .given .1) in ends-refuted _ _ _ (tells-struck (c .before .before .before .before .before .before .before .before .before .before .before .args .query .now) (c .before .before .before .before .before .before .before .before .before .before .before .pre .1 .1) _ _ (c .before .before .before .before .before .before .before .before .before .before .before .pre .1 .2) _ (c .before .before .before .before .before .before .before .before .before .before .before .pre .1 .0 .term-count) (c .before .before .before .before .before .before .before .before .before .close .ensures .0) _ _ _ _ _ (a .0) _ (c .before .loop .inv .1) (subst (λ (j : ℕ). j ≤ c .before .loop .i) (c .before .before .before .count .ensures) (c .loop-test .left))))

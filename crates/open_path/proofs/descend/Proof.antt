@@ -41,25 +41,25 @@ descend-spec =
     (λ c.
     let i = c .before .before .before .loop .inv .0 in
     absurd (never-clashes (c .before .before .before .before .before .before .args .query .now) (c .before .before .before .before .before .before .args .order .now) (c .before .before .before .before .before .before .pre .1) _ (i .reach) (i .has-heap) _ (look-is _ _ _ (c .before .before .look .ensures) (c .enum-told2 .given .1))))
-    -- enum-known-rule
+    -- enum-known-k
     (λ c. search needs)
     -- first-open-requires
     (λ c κs.
     let p = c .before .before .before .before .before .before .before .pre in
     let i = c .before .before .before .before .loop .inv in
-    (p .0, p .1, p .2, i .0 .reach, i .0 .most, i .0 .has-heap, i .1, look-is _ _ _ (c .before .before .before .look .ensures) (c .before .rule .given .1)))
+    (p .0, p .1, p .2, i .0 .reach, i .0 .most, i .0 .has-heap, i .1, look-is _ _ _ (c .before .before .before .look .ensures) (c .before .k .given .1)))
     -- sub-steps
     (λ c.
     let p = c .before .before .before .before .before .before .before .before .before .before .pre in
     let i = c .before .before .before .before .before .before .before .loop .inv .0 in
-    some-left (c .before .before .before .before .before .before .before .before .before .before .args .query .now) (c .before .before .before .before .before .before .before .before .before .before .args .order .now) (p .1) (p .2) (c .before .before .before .before .before .before .before .loop .steps) _ (reachable-known _ (accepted _ (p .1)) _ (i .reach)) (i .most) _ (p .0 .term-count) _ _ _ _ (look-is _ _ _ (c .before .before .before .before .before .before .look .ensures) (c .before .before .before .before .rule .given .1)))
+    some-left (c .before .before .before .before .before .before .before .before .before .before .args .query .now) (c .before .before .before .before .before .before .before .before .before .before .args .order .now) (p .1) (p .2) (c .before .before .before .before .before .before .before .loop .steps) _ (reachable-known _ (accepted _ (p .1)) _ (i .reach)) (i .most) _ (p .0 .term-count) _ _ _ _ _ (look-is _ _ _ (c .before .before .before .before .before .before .look .ensures) (c .before .before .before .before .k .given .1)))
     -- loop-less
     (λ c.
     let p = c .before .before .before .before .before .before .before .before .before .before .pre in
     let i = c .before .before .before .before .before .before .before .loop .inv .0 in
-    omega (arith, some-left (c .before .before .before .before .before .before .before .before .before .before .args .query .now) (c .before .before .before .before .before .before .before .before .before .before .args .order .now) (p .1) (p .2) (c .before .before .before .before .before .before .before .loop .steps) _ (reachable-known _ (accepted _ (p .1)) _ (i .reach)) (i .most) _ (p .0 .term-count) _ _ _ _ (look-is _ _ _ (c .before .before .before .before .before .before .look .ensures) (c .before .before .before .before .rule .given .1))))
+    omega (arith, some-left (c .before .before .before .before .before .before .before .before .before .before .args .query .now) (c .before .before .before .before .before .before .before .before .before .before .args .order .now) (p .1) (p .2) (c .before .before .before .before .before .before .before .loop .steps) _ (reachable-known _ (accepted _ (p .1)) _ (i .reach)) (i .most) _ (p .0 .term-count) _ _ _ _ _ (look-is _ _ _ (c .before .before .before .before .before .before .look .ensures) (c .before .before .before .before .k .given .1))))
     -- loop-again
     (λ c.
     let p = c .before .before .before .before .before .before .before .before .before .before .pre in
     let i = c .before .before .before .before .before .before .before .loop .inv .0 in
-    (comes-on (c .before .before .before .before .before .before .before .before .before .before .args .query .now) (c .before .before .before .before .before .before .before .before .before .before .args .order .now) (p .1) (c .before .before .before .before .before .before .before .loop .steps) _ (i .reach) (i .most) _ (p .0 .term-count) _ _ _ _ (look-is _ _ _ (c .before .before .before .before .before .before .look .ensures) (c .before .before .before .before .rule .given .1)) _ (c .before .before .first-open .ensures .0) (p .2) _ _ i, c .before .before .first-open .ensures .1)))
+    (comes-on (c .before .before .before .before .before .before .before .before .before .before .args .query .now) (c .before .before .before .before .before .before .before .before .before .before .args .order .now) (p .1) (c .before .before .before .before .before .before .before .loop .steps) _ (i .reach) (i .most) _ (p .0 .term-count) _ _ _ _ _ (look-is _ _ _ (c .before .before .before .before .before .before .look .ensures) (c .before .before .before .before .k .given .1)) _ (c .before .before .first-open .ensures .0) (p .2) _ _ i, c .before .before .first-open .ensures .1)))
