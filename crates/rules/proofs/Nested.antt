@@ -249,7 +249,7 @@ module _ (n : ℕ) (s : Facts) where
       ∙ ap (λ (f : ℕ → Option Move). firstOf f order) (fun-ext (λ k. firstOf-option _ (ruleOf k) ∙ inside (ruleOf k)))
 
 -- rows that hold the facts of a link
-rows-are : (link reach : List ℕ) (g : Graph) → square link ≡ g .link → square reach ≡ g .reach → graphOf link reach ≡ g
+pub rows-are : (link reach : List ℕ) (g : Graph) → square link ≡ g .link → square reach ≡ g .reach → graphOf link reach ≡ g
 unfolding graphOf
 rows-are link reach g l h = ap₂ (λ (f e : ℕ → ℕ → Bool). record { link = f; reach = e }) l h
 

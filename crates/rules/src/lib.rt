@@ -406,7 +406,15 @@ fn choose_one(order: &[u8], alive: u32, link: &[u32; 17], reach: &[u32; 17], n: 
         let wanted = looks_back(order[i]);
         back = turned_once(reach, wanted & !turned, back);
         turned = turned | wanted;
-        if let Choice::Apply(l, rule, x, y, z) = tried(Link(1), order[i], alive, link, reach, &back, n) {
+        if let Choice::Apply(l, rule, x, y, z) = tried(
+            Link(1),
+            order[i],
+            alive,
+            link,
+            reach,
+            &back,
+            n,
+        ) {
             return Choice::Apply(l, rule, x, y, z);
         }
         i += 1;
