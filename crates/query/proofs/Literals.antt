@@ -14,7 +14,7 @@ use Rattle.logic.specs.Query.{Entries, Literal, Query, entryOf, literals}
 use Rattle.logic.proofs.Basics.Search.{from-intro, map-intro}
 use Rattle.query.specs.declared.Layout.{Layout}
 use Rattle.query.specs.LaysOut.{LaysOutAs, literalIn}
-use Rattle.entries.proofs.Loops.{drop-next}
+use Rattle.entries.proofs.Loops.{drop-three}
 use Rattle.facts.proofs.Loops.{from-end, from-next}
 
 -- Lists that are read by their places
@@ -94,15 +94,6 @@ module _ {A : Type 0} (f : ℕ → A) (p : A → Bool) (count i : ℕ) where
   any-listed-next h e = rw (listed-next f count i h, e)
 
 -- Sections
-
-module _ (bytes : List ℕ) (place : ℕ) where
-  drop-two : place + 2 ≤ length bytes → drop place bytes ≡ getD bytes place 0 ∷ getD bytes (place + 1) 0 ∷ drop (place + 2) bytes
-  drop-two h = drop-next bytes place (omega arith) ∙ ap (λ (xs : List ℕ). getD bytes place 0 ∷ xs) (drop-next bytes (place + 1) (omega arith) ∙ rw add-assoc)
-
-  drop-three : place + 3 ≤ length bytes → drop place bytes ≡ getD bytes place 0 ∷ getD bytes (place + 1) 0 ∷ getD bytes (place + 2) 0 ∷ drop (place + 3) bytes
-  drop-three h =
-      drop-two (omega arith)
-      ∙ ap (λ (xs : List ℕ). getD bytes place 0 ∷ getD bytes (place + 1) 0 ∷ xs) (drop-next bytes (place + 2) (omega arith) ∙ rw add-assoc)
 
 module _ (bytes : List ℕ) (at : ℕ) where
   literals-from : (count j : ℕ) → at + 3 * j + 3 * count ≤ length bytes → literals (take (3 * count) (drop (at + 3 * j) bytes)) ≡ map (literalIn bytes at) (from count j)
