@@ -18,13 +18,13 @@ use Rattle.entries.proofs.Links.{entry-links, reach-links}
 use Rattle.query.specs.declared.Layout.{Layout}
 use Rattle.query.specs.declared.FullLayout.{FullLayout}
 use Rattle.query.specs.Forms.{entryKind, reachKind, formBy}
-use Rattle.query.specs.declared.Checked.the-variants as checked
+use Rattle.query.specs.declared.FullChecked.{FullChecked}
 use Rattle.query.specs.declared.FullChecked.the-variants as answer
 use Rattle.query.specs.Sections.{Stands, Sections}
 use Rattle.query.specs.Answers.{ByteAnswer}
 use Rattle.query.proofs.Checks.{layout-refused, laid-out, part-is}
 use Rattle.link_query.specs.Said.{entryWidth, reachWidth, entriesBy, reachBy, said, Within}
-use Rattle.link_query.specs.Answers.{Taken, CheckedBy}
+use Rattle.link_query.specs.Answers.{LinksChecked, firstRefusal, Taken, CheckedBy}
 
 -- with three links the five sections are those of R-11
 pub three-form : linkSections ≡ formBy 3 0 26
@@ -110,13 +110,12 @@ module _ (full : FullLayout) (bytes : List ℕ) (s : Sections full bytes) (few :
   unfolding said entriesBy reachBy entryWidth reachWidth entryKind reachKind decodeLinks linkedQuery section
   links-said = rw (links-laid, three, part-at (l .terms) 2 0 1 refl, part-at (l .«equal_count») 3 (s .second) (l .«equal_at») (s .equal-at), part-at (l .«reach_count») 4 (s .third) (l .«reach_at») (s .reach-at), part-at (l .«field_count») 3 (s .fourth) (l .«field_at») (s .field-at))
 
-  -- where 22 does not stand, the search of the bytes answers
-  module _ (free : linkFault (layoutBy linkSections bytes) ≡ none) where
-    answered : {o : Option Answer} → ((i : Input) → i .query ≡ bytes → refusalOf (formChecks (formBy (l .links) 0 26)) i ≡ o) → (i : Input) → i .query ≡ bytes → refusalOf linkChecks i ≡ o
-    answered h i q = link-free bytes i q free ∙ rw (three-form, ← three) (h i q)
+  answered : linkFault (layoutBy linkSections bytes) ≡ none → {o : Option Answer} → ((i : Input) → i .query ≡ bytes → refusalOf (formChecks (formBy (l .links) 0 26)) i ≡ o) → (i : Input) → i .query ≡ bytes → refusalOf linkChecks i ≡ o
+  answered free h i q = link-free bytes i q free ∙ rw (three-form, ← three) (h i q)
 
-    pub byte-refused : (k place : ℕ) → ByteAnswer (answer.Refused k place) full (formBy (l .links) 0 26) bytes → CheckedBy threeLinkForm (checked.Refused k place) bytes
-    byte-refused k place h = answered h
-
-    pub taken : (m : FullLayout) → ByteAnswer (answer.Accepted m) full (formBy (l .links) 0 26) bytes → CheckedBy threeLinkForm (checked.Accepted (m .layout)) bytes
-    taken m h = subst (λ (f : FullLayout). Taken threeLinkForm (f .layout) bytes) (sym (h .1)) (record { free = answered (h .0); within = links-within; says = links-said })
+  -- where the walk from the front meets no refusal, 22 answers, and then the search of the bytes
+  pub first-checked : (links single : FullChecked) → LinksChecked links bytes → ByteAnswer single full (formBy (l .links) 0 26) bytes → CheckedBy threeLinkForm (firstRefusal links single) bytes
+  first-checked (answer.Refused k place) single e h = λ i q. link-refused bytes i q linkParts place links-laid (e .1) ∙ rw (e .0)
+  first-checked (answer.Accepted m) (answer.Refused k place) e h = answered e h
+  first-checked (answer.Accepted m) (answer.Accepted n) e h =
+      subst (λ (f : FullLayout). Taken threeLinkForm (f .layout) bytes) (sym (h .1)) (record { free = answered e (h .0); within = links-within; says = links-said })

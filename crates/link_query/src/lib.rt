@@ -6,27 +6,45 @@ use query::FullLayout;
 ghost use mathlib.Core.Path.{_≡_};
 ghost use Prim.Native.Nat.{_+_, _*_, _≤_, _<_};
 ghost use lib.ListN.{length, getD};
-ghost use Rattle.logic.specs.Query.{layoutBy};
-ghost use Rattle.logic.specs.ThreeLinks.{linkSections, linkFault, threeLinkForm};
-ghost use Rattle.entries.specs.Entries.{foundOf};
+ghost use Rattle.logic.specs.ThreeLinks.{threeLinkForm};
 ghost use Rattle.query.specs.Sections.{Sections};
 ghost use Rattle.link_query.specs.Said.{entryWidth, reachWidth, entryIn, linkIn, reachIn};
-ghost use Rattle.link_query.specs.Answers.{CheckedBy};
+ghost use Rattle.link_query.specs.Answers.{LinksChecked, firstRefusal, CheckedBy};
 
-// "22 (the lowest such link byte)": first of the terms, then of the reachability literals.
-fn link_fault(query: &[u8], full: FullLayout) -> entries::Found
+// "22 (the lowest such link byte)", of a query that is laid out: first of the terms, then of the reachability literals.
+fn check_link_bytes(query: &[u8], full: FullLayout) -> FullChecked
     requires { ⌜ Sections full (now query) × (full .«boolean_count» ≤ 0) × (full .layout .links ≡ 3) ⌝ }
-    ensures { λ r. ⌜ foundOf r ≡ linkFault (layoutBy linkSections (now (query .entry))) ⌝ }
+    ensures { λ r. ⌜ LinksChecked r (now (query .entry)) ⌝ }
 {
     let l = full.layout;
     match entries::link_fault(entries::Linked::Terms, query, 1, l.terms) {
-        entries::Found::At(p) => return entries::Found::At(p),
+        entries::Found::At(place) => return FullChecked::Refused(22, place),
         entries::Found::Nothing => {}
     }
-    entries::link_fault(entries::Linked::Pairs, query, l.reach_at, l.reach_count)
+    match entries::link_fault(entries::Linked::Pairs, query, l.reach_at, l.reach_count) {
+        entries::Found::At(place) => FullChecked::Refused(22, place),
+        entries::Found::Nothing => FullChecked::Accepted(full),
+    }
 }
 
-// "22 .. stands between 4 and 5".
+// The first of two answers, where it refuses, and else the second.
+fn first_refusal(first: FullChecked, second: FullChecked) -> Checked
+    ensures { λ r. ⌜ r ≡ firstRefusal first second ⌝ }
+{
+    match first {
+        FullChecked::Refused(k, place) => return Checked::Refused(k, place),
+        FullChecked::Accepted(full) => {}
+    }
+    match second {
+        FullChecked::Refused(k, place) => Checked::Refused(k, place),
+        FullChecked::Accepted(full) => {
+            let l = full.layout;
+            Checked::Accepted(l)
+        }
+    }
+}
+
+// The walk from the front answers first, and then 22 "stands between 4 and 5".
 pub fn check_links(query: &[u8]) -> Checked
     ensures { λ r. ⌜ CheckedBy threeLinkForm r (now (query .entry)) ⌝ }
 {
@@ -34,17 +52,9 @@ pub fn check_links(query: &[u8]) -> Checked
         FullChecked::Refused(k, place) => return Checked::Refused(k, place),
         FullChecked::Accepted(full) => full,
     };
-    match link_fault(query, full) {
-        entries::Found::At(place) => return Checked::Refused(22, place),
-        entries::Found::Nothing => {}
-    }
-    match query::check_bytes(query, full) {
-        FullChecked::Refused(k, place) => Checked::Refused(k, place),
-        FullChecked::Accepted(full) => {
-            let l = full.layout;
-            Checked::Accepted(l)
-        }
-    }
+    let links = check_link_bytes(query, full);
+    let bytes = query::check_bytes(query, full);
+    first_refusal(links, bytes)
 }
 
 // Term t of a query of so many links: the byte of its entry.
