@@ -3,14 +3,14 @@ use Prim.Native.Nat.{ℕ, _+_, _*_, _≤_}
 use native.Mathlib.Omega.{arith}
 use mathlib.Core.Path.{_≡_, refl, sym, ap, _∙_, subst}
 use mathlib.Core.Logic.{inr}
-use mathlib.Core.List.{List, [], _∷_, _++_, map}
+use mathlib.Core.List.{List, [], _∷_}
 use mathlib.Core.Option.{Option, none, some, Option·elim}
 use lib.ListN.{length, take, drop, length-drop}
 use lib.Seq.{length-take-le}
-use Rattle.logic.specs.Search.{keep, orElse, firstOf}
-use Rattle.logic.specs.Query.{faulty, parts, firstByte, layoutBy, faultIn, layoutFault, booleanSection, section, literals}
-use Rattle.logic.specs.Calls.{Input, Answer, layoutCheck, byteCheck, formChecks, refused, refusalOf}
-use Rattle.logic.specs.ThreeLinks.{linkSections, entryLinkFault, reachLinkFault, linkFault, linkCheck, linkChecks, linkedQuery, decodeLinks, threeLinkForm}
+use Rattle.logic.specs.Search.{orElse, firstOf}
+use Rattle.logic.specs.Query.{faulty, parts, firstByte, layoutBy, faultIn, layoutFault, booleanSection, section}
+use Rattle.logic.specs.Calls.{Input, Answer, layoutCheck, formChecks, refused, refusalOf}
+use Rattle.logic.specs.ThreeLinks.{linkSections, linkFault, linkCheck, linkChecks, linkedQuery, decodeLinks, threeLinkForm}
 use Rattle.logic.proofs.Query.ThreeLinks.{link-sections-excesses}
 use Rattle.entries.specs.declared.Linked.the-variants as linked
 use Rattle.entries.specs.Links.{linksFrom}

@@ -3,7 +3,7 @@ use Prim.Native.Nat.{ℕ, zero, suc, _+_, _-_, _*_, _≤_, _<_}
 use native.Mathlib.Nat.{mul-le-mul, one-mul, mul-suc, le-refl}
 use native.Mathlib.Numerals.{one-add}
 use native.Mathlib.Omega.{arith}
-use mathlib.Core.Path.{_≡_, refl, sym, ap, _∙_, subst}
+use mathlib.Core.Path.{_≡_, refl, sym, ap, _∙_}
 use mathlib.Core.Logic.{⊎-elim, inl}
 use mathlib.Core.Bool.{Bool, true, false}
 use mathlib.Core.List.{List}
@@ -11,7 +11,7 @@ use lib.ListN.{length, getD, take, drop, length-drop}
 use lib.Seq.{length-take-le, getD-drop, getD-take}
 use lib.Dec.{eqb}
 use borrow.Author.Tests.{eq-eqb, ne-eqb}
-use Rattle.logic.specs.Query.{Entries, Literal, Query, entryOf, linkOf, termCount, literals}
+use Rattle.logic.specs.Query.{Entries, Literal, Query, entryOf, linkOf, termCount}
 use Rattle.logic.specs.ThreeLinks.{firsts, seconds, linkedLiterals}
 use Rattle.logic.proofs.Basics.Compare.{eq-cases}
 use Rattle.entries.proofs.Loops.{drop-two, drop-four}

@@ -1,7 +1,7 @@
 -- The two forms of query bytes as one, by the number of links: with one link that of 01, else that of three links (02, R-11).
 use Prim.Native.Nat.{ℕ}
 use mathlib.Core.Bool.{cond}
-use mathlib.Core.List.{List, [], _∷_}
+use mathlib.Core.List.{[], _∷_}
 use lib.Dec.{eqb}
 use Rattle.logic.specs.Query.{Section, Form}
 use Rattle.entries.specs.declared.Kind.{Kind}
