@@ -37,23 +37,31 @@ blank-again bytes n e = e ∙ ap (λ (k : ℕ). replicate k 0) (sym (ap length e
 pub blank-long : (bytes : List ℕ) (n : ℕ) → bytes ≡ replicate n 0 → length bytes ≡ n
 blank-long bytes n e = ap length e ∙ length-replicate n 0
 
+-- a refusal leaves what was cleared, and a query is written into it
+pub does-blank : (room : ℕ) {o : Outcome} {k place : ℕ} {out : List ℕ} → o ≡ blank room (calls.refused k place) → out ≡ replicate room 0 → Does o (answer.Refused k place) out
+unfolding blank refusal
+does-blank room c e = record { answers = sym (ap (λ (x : Outcome). x .answer) c); leaves = e ∙ sym (ap (λ (x : Outcome). x .lent) c) }
+
+pub does-write : (room : ℕ) {o : Outcome} {r : ℕ} {bytes before after : List ℕ} → o ≡ writes room bytes → length bytes ≤ room → before ≡ replicate room 0 → Writes before 0 bytes after r → Does o (answer.Written r) after
+unfolding writes
+does-write room {r = r} {bytes = bytes} {after = after} c fits e w =
+    let done = writes-blank (subst (λ (xs : List ℕ). Writes xs 0 bytes after r) e w) fits in
+    record { answers = ap written (done .1) ∙ sym (ap (λ (x : Outcome). x .answer) c); leaves = done .0 ∙ sym (ap (λ (x : Outcome). x .lent) c) }
+
+-- the same room, as the buffer has it that was cleared
+pub moved : (call : ℕ → Outcome) {r : Rewritten} {out : List ℕ} {n room : ℕ} → n ≡ room → Does (call n) r out → Does (call room) r out
+moved call {r} {out} e h = subst (λ (k : ℕ). Does (call k) r out) e h
+
 no-literals : (bs : List Literal) → 0 ≡ length bs → bs ≡ []
 no-literals [] e = refl
 no-literals (b ∷ bs) e = absurd (omega arith)
 
 module _ (l : FullLayout) (bytes : List ℕ) (p : Passing l bytes) (room : ℕ) where
   full : hasRoom room (rewriteOf bytes) ≡ false → (out : List ℕ) → out ≡ replicate room 0 → Does (rewriteCall bytes room) (answer.Refused 27 0) out
-  unfolding blank refusal
-  full h out e =
-      let c = call-full rewritingOld bytes room (p .accepted) h in
-      record { answers = sym (ap (λ (o : Outcome). o .answer) c); leaves = e ∙ sym (ap (λ (o : Outcome). o .lent) c) }
+  full h out e = does-blank room (call-full rewritingOld bytes room (p .accepted) h) e
 
   wrote : hasRoom room (rewriteOf bytes) ≡ true → length (encode (rewriteOf bytes)) ≤ room → (before after : List ℕ) (r : ℕ) → before ≡ replicate room 0 → Writes before 0 (encode (rewriteOf bytes)) after r → Does (rewriteCall bytes room) (answer.Written r) after
-  unfolding writes
-  wrote h fits before after r e w =
-      let c = call-writes rewritingOld bytes room (p .accepted) h in
-      let done = writes-blank (subst (λ (xs : List ℕ). Writes xs 0 (encode (rewriteOf bytes)) after r) e w) fits in
-      record { answers = ap written (done .1) ∙ sym (ap (λ (o : Outcome). o .answer) c); leaves = done .0 ∙ sym (ap (λ (o : Outcome). o .lent) c) }
+  wrote h fits before after r e w = does-write room (call-writes rewritingOld bytes room (p .accepted) h) fits e w
 
   -- "others are copied"
   module _ (none-held : l .«boolean_count» ≡ 0) where
@@ -107,16 +115,9 @@ module _ (l : FullLayout) (bytes : List ℕ) (p : Passing l bytes) (room : ℕ) 
 
 -- The checks
 
-module _ (bytes : List ℕ) (room : ℕ) where
-  pub refuses : {k place : ℕ} → FullCheckedAs (checked.Refused k place) bytes 60 3 → (out : List ℕ) → out ≡ replicate room 0 → Does (rewriteCall bytes room) (answer.Refused k place) out
-  unfolding blank refusal oldSections layoutNumbers
-  refuses {k} {place} h out e =
-      let c = call-refused rewritingOld bytes room (calls.refused k place) (h three-number (given bytes room) refl) in
-      record { answers = sym (ap (λ (o : Outcome). o .answer) c); leaves = e ∙ sym (ap (λ (o : Outcome). o .lent) c) }
-
-  -- of a buffer that was cleared
-  pub moved : {r : Rewritten} {out : List ℕ} {n : ℕ} → n ≡ room → Does (rewriteCall bytes n) r out → Does (rewriteCall bytes room) r out
-  moved {r} {out} e h = subst (λ (k : ℕ). Does (rewriteCall bytes k) r out) e h
+pub refuses : (bytes : List ℕ) (room : ℕ) {k place : ℕ} → FullCheckedAs (checked.Refused k place) bytes 60 3 → (out : List ℕ) → out ≡ replicate room 0 → Does (rewriteCall bytes room) (answer.Refused k place) out
+unfolding oldSections layoutNumbers
+refuses bytes room {k} {place} h out e = does-blank room (call-refused rewritingOld bytes room (calls.refused k place) (h three-number (given bytes room) refl)) e
 
 pub passing : (l : FullLayout) (bytes : List ℕ) → FullCheckedAs (checked.Accepted l) bytes 60 3 → Passing l bytes
 unfolding oldSections
