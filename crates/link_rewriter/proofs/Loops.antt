@@ -1,13 +1,10 @@
 -- Laws of the loops over terms and over literals. Assumes nothing.
 use Prim.Native.Nat.{ℕ, zero, suc, _+_, _*_, _≤_, _<_}
 use native.Mathlib.Omega.{arith}
-use native.Mathlib.Numerals.{add-one}
 use mathlib.Core.Path.{_≡_, refl, sym, ap, _∙_}
-use mathlib.Core.Bool.{true, false}
 use mathlib.Core.List.{List, [], _∷_, _++_}
 use lib.ListN.{length, getD, drop}
-use lib.Seq.{drop-cons, drop-length}
-use lib.Dec.{eqb}
+use lib.Seq.{drop-length}
 use Rattle.logic.specs.Search.{_or_, flatMap}
 use Rattle.logic.proofs.Basics.Compare.{eqb-false}
 use Rattle.logic.proofs.Basics.Count.{length-flatMap}

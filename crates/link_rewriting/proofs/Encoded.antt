@@ -3,11 +3,11 @@ use Prim.Native.Nat.{ℕ, suc, _+_, _*_, _≤_, _<_}
 use native.Mathlib.Omega.{arith}
 use native.Mathlib.Nat.{add-zero, add-suc, suc-add}
 use mathlib.Core.Path.{_≡_, refl, sym, ap, _∙_}
-use mathlib.Core.Bool.{Bool, true, false, not, cond}
+use mathlib.Core.Bool.{Bool, true, false, cond}
 use mathlib.Core.List.{List, [], _∷_, _++_, map, List·Memᴰ, List·Memᴰ·head, List·Memᴰ·tail}
 use mathlib.Core.Option.{Option·elim, none}
 use lib.ListN.{length, getD, length-append}
-use lib.Dec.{eqb, ltb, leb}
+use lib.Dec.{eqb}
 use Rattle.logic.specs.Search.{_and_, _or_, from, keep, isSome, orElse, firstOf, flatMap}
 use Rattle.logic.specs.Query.{Literal, Query, termCount, Role, entryRole, signRole, termRole, countRole, booleanSection, parts, rolesOf, firstByte, layoutBy, faultIn, layoutFault, byteFault, section}
 use Rattle.logic.specs.Calls.{layoutCheck, byteCheck, refusalOf, acceptsBy}
@@ -15,7 +15,7 @@ use Rattle.logic.specs.ThreeLinks.{linkSections, isLink, mayPrecede, entryLinkF
 use Rattle.logic.proofs.Basics.Count.{length-flatMap}
 use Rattle.logic.proofs.Query.Tied.{InTerms}
 use Rattle.logic.proofs.Query.Bytes.{Allows, Allowed}
-use Rattle.encoding.specs.QueryBytes.{signByte, literalBytes, sectionBytes}
+use Rattle.encoding.specs.QueryBytes.{literalBytes, sectionBytes}
 use Rattle.encoding.proofs.Encoded.{sign-reads, AboutOne, literals-read, layout-part, layout-none, allowed-faultless, sign-allowed, literals-allowed, literal-bytes, section-allowed, roles-none, none-allowed, Limits, within-limits, Encodable, entry-allowed, term-allowed, number-allowed}
 use Rattle.link_rewriting.specs.LinkedQuery.{linkBefore, withLinkOne, entryBytes, reachBytes, encodeLinks}
 

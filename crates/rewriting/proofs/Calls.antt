@@ -2,8 +2,8 @@
 use Prim.Native.Nat.{ℕ, suc, _+_, _*_}
 use native.Mathlib.Omega.{arith}
 use mathlib.Core.Path.{_≡_, refl, sym, ap, _∙_}
-use mathlib.Core.Logic.{_↔_, ⊎-elim, inl, inr}
-use mathlib.Core.Bool.{Bool, true, false}
+use mathlib.Core.Logic.{⊎-elim, inl, inr}
+use mathlib.Core.Bool.{Bool, false}
 use mathlib.Core.List.{List, [], _∷_, List·Memᴰ}
 use mathlib.Core.Option.{none}
 use lib.ListN.{length, take, drop}
@@ -17,14 +17,13 @@ use Rattle.logic.proofs.Basics.Compare.{eqb-false}
 use Rattle.logic.proofs.Query.Bytes.{cond-elim}
 use Rattle.logic.proofs.Query.AcceptedBytes.{form-elim}
 use Rattle.logic.proofs.Calls.CheckingOrder.{first-own}
-use Rattle.encoding.specs.QueryBytes.{encode}
 use Rattle.encoding.specs.WritingCall.{refused, Outcome, given}
 use Rattle.encoding.proofs.WritingCall.{written-refused, refused-same, Case, by-check, by-room, by-writing, by-case, blank-answer, writes-answer}
 use Rattle.encoding.proofs.WritingCall as calls
 use Rattle.rewriting.specs.OldQuery.{oldSections}
 use Rattle.rewriting.specs.Call.{rewriteOf, hasRoom, rewritingOld, rewriteCall}
 use Rattle.rewriting.specs.Claims.{NoRoom, Refusals}
-use Rattle.rewriting.proofs.Encoded.{Room, room-has}
+use Rattle.rewriting.proofs.Encoded.{room-has}
 
 -- No refusal 26
 

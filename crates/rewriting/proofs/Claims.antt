@@ -10,7 +10,6 @@ use Rattle.logic.specs.Heap.{Satisfiable}
 use Rattle.logic.specs.Calls.{Input, layoutCheck, byteCheck, formChecks, accepts, padded}
 use Rattle.logic.specs.Demands.{numbers}
 use Rattle.logic.proofs.Calls.Demands.{demand2}
-use Rattle.encoding.specs.QueryBytes.{encode}
 use Rattle.encoding.specs.WritingCall.{Answer, roomCheck, writingChecks}
 use Rattle.encoding.proofs.Encoded.{Encodable, decoded}
 use Rattle.encoding.proofs.Decoded.{encoded-accepts}

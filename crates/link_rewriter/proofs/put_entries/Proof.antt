@@ -6,7 +6,7 @@ use mathlib.Core.Path.{_≡_, refl, ap}
 use mathlib.Core.List.{[], _∷_}
 use lib.ListN.{length, drop}
 use Rattle.logic.specs.Search.{flatMap}
-use Rattle.text.proofs.Writing.{Part, part-from, part-more, part-all, part-length, writes-as, writes-then}
+use Rattle.text.proofs.Writing.{Part, part-from, part-more, part-all, part-length, writes-as}
 use Rattle.link_rewriting.specs.LinkedQuery.{entryBytes}
 use Rattle.link_rewriter.proofs.Loops.{terms-next, terms-end}
 use Rattle.link_rewriter.proofs.put_entries.Statement.{statement}
