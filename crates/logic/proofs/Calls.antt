@@ -11,6 +11,7 @@ pub mod Demands
 pub mod Room
 pub mod Examples
 pub mod EdgeExamples
+pub mod HeapExamples
 pub mod Reordering
 pub mod JoinPairs
 pub mod Decision
