@@ -10,8 +10,8 @@ use Rattle.logic.specs.Search.{_and_}
 use Rattle.logic.specs.Query.{Literal, decode}
 use Rattle.logic.specs.Facts.{terms}
 use Rattle.logic.specs.Shown.{byteOf}
-use Rattle.logic.proofs.Basics.Search.{from-mem}
-use Rattle.logic.proofs.Completeness.Placed.{length-from}
+use Rattle.theory.proofs.Basics.Search.{from-mem}
+use Rattle.theory.proofs.Completeness.Placed.{length-from}
 use Rattle.facts.specs.Square.{square}
 use Rattle.query.specs.declared.Layout.{Layout}
 use Rattle.query.proofs.Literals.{listed, fields-listed}

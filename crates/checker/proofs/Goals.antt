@@ -10,7 +10,7 @@ use lib.ListN.{length, getD, drop, length-map}
 use Rattle.logic.specs.Query.{Query, termCount}
 use Rattle.logic.specs.Facts.{Facts, Joined, Line, joinLines}
 use Rattle.logic.specs.Rules.{Rule, triple, Move, move, Fact, equal, alternatives, applies, branch, add}
-use Rattle.logic.proofs.Query.Tied.{Accepted}
+use Rattle.theory.proofs.Query.Tied.{Accepted}
 use Rattle.branch.specs.Alternatives.{countOf, alternativeAt}
 use Rattle.branch.proofs.Alternatives.{count-is, alternative-is}
 use Rattle.checking.specs.Fitting.{Goal, goalOf, goalsOf}

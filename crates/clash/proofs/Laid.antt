@@ -7,7 +7,7 @@ use mathlib.Core.Option.{Option, none, some}
 use Rattle.logic.specs.Search.{orElse}
 use Rattle.logic.specs.Query.{Literal, decode}
 use Rattle.logic.specs.Facts.{Facts, Line, clash}
-use Rattle.logic.proofs.Query.Bytes.{literals-link}
+use Rattle.theory.proofs.Query.Bytes.{literals-link}
 use Rattle.query.specs.declared.Layout.{Layout}
 use Rattle.query.specs.LaysOut.{LaysOut}
 use Rattle.clash.specs.Sections.{literalsIn, oneTerm, reachHeld, sameField, alone, paired, pathClash}

@@ -11,9 +11,9 @@ use lib.Dec.{eqb}
 use Rattle.logic.specs.Search.{_and_, _or_}
 use Rattle.logic.specs.Facts.{Graph, Facts, live}
 use Rattle.logic.specs.Decision.{Follows, is-held, itself, by-link, onward, Closes}
-use Rattle.logic.proofs.Basics.Search.{true-false, and-left, and-right, and-intro, or-cases, or-left, or-right}
-use Rattle.logic.proofs.Basics.Compare.{eq-cases, eqb-true, eqb-self, le-cases}
-use Rattle.logic.proofs.Paths.Ranged.{live-range}
+use Rattle.theory.proofs.Basics.Search.{true-false, and-left, and-right, and-intro, or-cases, or-left, or-right}
+use Rattle.theory.proofs.Basics.Compare.{eq-cases, eqb-true, eqb-self, le-cases}
+use Rattle.theory.proofs.Paths.Ranged.{live-range}
 use Rattle.facts.specs.Bits.{bit}
 use Rattle.facts.specs.Square.{rowOf, square}
 use Rattle.facts.specs.Path.{HasLink, withReach}

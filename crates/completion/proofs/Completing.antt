@@ -13,7 +13,7 @@ use Rattle.logic.specs.Search.{_and_, from, any, select, find}
 use Rattle.logic.specs.Facts.{Graph, Facts, terms, live, liveTerms}
 use Rattle.logic.specs.Rules.{next}
 use Rattle.logic.specs.Shown.{reached, inBasin, heads, basinLink, treeLink, newLink, linkEach, shownLink, onPath}
-use Rattle.logic.proofs.Basics.Search.{bool-cases, select-mem, find-some, from-mem}
+use Rattle.theory.proofs.Basics.Search.{bool-cases, select-mem, find-some, from-mem}
 use Rattle.facts.specs.declared.Term.{Term}
 use Rattle.facts.specs.declared.Facts as code
 use Rattle.facts.specs.Path.{repOf, graphOf, onlyLink, pathOf, linksIn}

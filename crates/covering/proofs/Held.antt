@@ -8,8 +8,8 @@ use mathlib.Core.List.{List}
 use lib.ListN.{getD}
 use lib.Dec.{eqb}
 use Rattle.logic.specs.Facts.{Graph}
-use Rattle.logic.proofs.Basics.Search.{true-false}
-use Rattle.logic.proofs.Basics.Compare.{eq-cases, le-cases}
+use Rattle.theory.proofs.Basics.Search.{true-false}
+use Rattle.theory.proofs.Basics.Compare.{eq-cases, le-cases}
 use Rattle.facts.specs.Bits.{bit}
 use Rattle.facts.specs.Square.{rowOf, square}
 use Rattle.facts.proofs.Square.{row-in, row-none, square-row, square-in, square-above, square-beside}

@@ -18,7 +18,7 @@ ghost use Rattle.logic.specs.Query.{decode, termCount, isOrder};
 ghost use Rattle.logic.specs.Steps.{AtMost};
 ghost use Rattle.logic.specs.Calls.{accepts};
 ghost use Rattle.logic.specs.Decision.{Reachable};
-ghost use Rattle.logic.proofs.Calls.Decision.{Known};
+ghost use Rattle.theory.proofs.Calls.Decision.{Known};
 ghost use Rattle.facts.specs.Path.{pathOf};
 ghost use Rattle.query.specs.LaysOut.{LaysOut};
 ghost use Rattle.closing.specs.Closed.{Closed, begins};

@@ -13,12 +13,12 @@ use borrow.Author.Tests.{le-leb, leb-true, eqb-true, lt-ltb}
 use Rattle.logic.specs.Search.{_and_, _or_, from, keep, orElse, flatMap}
 use Rattle.logic.specs.Query.{Literal, Query, termCount, entryOf, namesNil, argumentOf, Role, Section, entryRole, signRole, termRole, numberRole, countRole, fourSections, booleanSection, fiveSections, sections, parts, withPart, layout, rolesOf, firstByte, layoutBy, layoutOf, faultIn, layoutFault, roleFault, byteFault, literals, section, queryOf, decode}
 use Rattle.logic.specs.Calls.{Input, Check, layoutCheck, byteCheck, queryChecks, refusalOf}
-use Rattle.logic.proofs.Basics.Search.{and-left, and-right, and-intro, or-left, or-right}
-use Rattle.logic.proofs.Basics.Count.{length-from, length-flatMap}
-use Rattle.logic.proofs.Query.Bytes.{Allows, Allowed}
-use Rattle.logic.proofs.Query.Tied.{Accepted, InTerms, ToEight}
-use Rattle.logic.proofs.Query.AcceptedBytes.{form-elim}
-use Rattle.logic.proofs.Calls.CallLaws.{refusalOf-clear}
+use Rattle.theory.proofs.Basics.Search.{and-left, and-right, and-intro, or-left, or-right}
+use Rattle.theory.proofs.Basics.Count.{length-from, length-flatMap}
+use Rattle.theory.proofs.Query.Bytes.{Allows, Allowed}
+use Rattle.theory.proofs.Query.Tied.{Accepted, InTerms, ToEight}
+use Rattle.theory.proofs.Query.AcceptedBytes.{form-elim}
+use Rattle.theory.proofs.Calls.CallLaws.{refusalOf-clear}
 use Rattle.encoding.specs.QueryBytes.{signByte, literalBytes, sectionBytes, encode, withinLimits}
 
 -- Literals read back

@@ -12,9 +12,9 @@ use Rattle.logic.specs.Search.{keep, isSome, orElse, firstOf}
 use Rattle.logic.specs.Calls.{Check, layoutCheck, byteCheck, formChecks, queryChecks, refusalOf, padded}
 use Rattle.logic.specs.Calls as calls
 use Rattle.logic.specs.Demands.{NoneStands, FirstStands}
-use Rattle.logic.proofs.Basics.Search.{not-true, isSome-false, bool-cases, map-intro}
-use Rattle.logic.proofs.Calls.CheckingOrder.{refusal-first, first-refusal, first-own, query-early}
-use Rattle.logic.proofs.Calls.CallLaws.{refusalOf-none, refusalOf-clear, refusalOf-append, padded-length}
+use Rattle.theory.proofs.Basics.Search.{not-true, isSome-false, bool-cases, map-intro}
+use Rattle.theory.proofs.Calls.CheckingOrder.{refusal-first, first-refusal, first-own, query-early}
+use Rattle.theory.proofs.Calls.CallLaws.{refusalOf-none, refusalOf-clear, refusalOf-append, padded-length}
 use Rattle.encoding.specs.WritingCall.{Answer, written, refused, Outcome, Writing, given, acceptsIn, roomCheck, writingChecks, refusal, blank, writes, writingCall, WritingRefusals}
 
 pub written-refused : {n k place : ℕ} → written n ≡ refused k place → ⊥

@@ -10,10 +10,10 @@ use lib.Dec.{eqb, ltb, leb}
 use borrow.Author.Tests.{ne-eqb}
 use Rattle.logic.specs.Search.{_and_, _or_, any, firstOf}
 use Rattle.logic.specs.Facts.{Graph, Facts, terms, became, replaceIn, replace, addReach, addLinks, successors, firstTwo, doubled}
-use Rattle.logic.proofs.Basics.Search.{not-of, true-false, and-intro}
-use Rattle.logic.proofs.Basics.Compare.{eq-cases, ltb-intro, leb-intro, eqb-intro, eqb-self}
-use Rattle.logic.proofs.Paths.Ranged.{link-range}
-use Rattle.logic.proofs.Calls.OneLink.{doubled-one}
+use Rattle.theory.proofs.Basics.Search.{not-of, true-false, and-intro}
+use Rattle.theory.proofs.Basics.Compare.{eq-cases, ltb-intro, leb-intro, eqb-intro, eqb-self}
+use Rattle.theory.proofs.Paths.Ranged.{link-range}
+use Rattle.theory.proofs.Calls.OneLink.{doubled-one}
 use Rattle.facts.specs.declared.Facts as code
 use Rattle.facts.specs.Path.{onlyLink, pathOf, graphOf, linksIn, linkedBy, replaceRep, HasLink, withReach}
 

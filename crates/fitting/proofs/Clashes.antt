@@ -11,7 +11,7 @@ use borrow.Author.Tests.{eq-eqb, ne-eqb}
 use Rattle.logic.specs.Search.{_and_, _or_, at, holdsOf}
 use Rattle.logic.specs.Query.{Query, Literal, decode}
 use Rattle.logic.specs.Facts.{Facts, line, negatedAt, plainAt, isClash}
-use Rattle.logic.proofs.Query.Bytes.{literals-link}
+use Rattle.theory.proofs.Query.Bytes.{literals-link}
 use Rattle.facts.specs.Square.{square}
 use Rattle.facts.specs.Path.{pathOf, onlyLink, repOf, graphOf}
 use Rattle.facts.specs.declared.Facts as code

@@ -6,8 +6,8 @@ use mathlib.Core.List.{List, []}
 use Rattle.logic.specs.Search.{isSome}
 use Rattle.logic.specs.Query.{termCount, argumentOf, linkOf}
 use Rattle.logic.specs.Calls.{CallForm, oneLinkForm, acceptsBy}
-use Rattle.logic.proofs.Query.Tied.{Accepted}
-use Rattle.logic.proofs.Calls.CallLaws.{FormLaws}
+use Rattle.theory.proofs.Query.Tied.{Accepted}
+use Rattle.theory.proofs.Calls.CallLaws.{FormLaws}
 use Rattle.query.specs.declared.Layout.{Layout}
 use Rattle.query.specs.declared.Checked.{Checked}
 use Rattle.query.specs.declared.Checked.the-variants as checked

@@ -11,7 +11,7 @@ use Rattle.logic.specs.Search.{orElse, firstOf}
 use Rattle.logic.specs.Query.{faulty, parts, firstByte, layoutBy, faultIn, layoutFault, booleanSection, section}
 use Rattle.logic.specs.Calls.{Input, Answer, layoutCheck, formChecks, refused, refusalOf}
 use Rattle.logic.specs.ThreeLinks.{linkSections, linkFault, linkCheck, linkChecks, linkedQuery, decodeLinks, threeLinkForm}
-use Rattle.logic.proofs.Query.ThreeLinks.{link-sections-excesses}
+use Rattle.theory.proofs.Query.ThreeLinks.{link-sections-excesses}
 use Rattle.entries.specs.declared.Linked.the-variants as linked
 use Rattle.entries.specs.Links.{linksFrom}
 use Rattle.entries.proofs.Links.{entry-links, reach-links}

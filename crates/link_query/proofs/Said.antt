@@ -13,7 +13,7 @@ use lib.Dec.{eqb}
 use borrow.Author.Tests.{eq-eqb, ne-eqb}
 use Rattle.logic.specs.Query.{Entries, Literal, Query, entryOf, linkOf, termCount}
 use Rattle.logic.specs.ThreeLinks.{firsts, seconds, linkedLiterals}
-use Rattle.logic.proofs.Basics.Compare.{eq-cases}
+use Rattle.theory.proofs.Basics.Compare.{eq-cases}
 use Rattle.entries.proofs.Loops.{drop-two, drop-four}
 use Rattle.query.specs.declared.Layout.{Layout}
 use Rattle.query.specs.Forms.{entryKind, reachKind}

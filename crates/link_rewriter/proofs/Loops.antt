@@ -6,8 +6,8 @@ use mathlib.Core.List.{List, [], _∷_, _++_}
 use lib.ListN.{length, getD, drop}
 use lib.Seq.{drop-length}
 use Rattle.logic.specs.Search.{_or_, flatMap}
-use Rattle.logic.proofs.Basics.Compare.{eqb-false}
-use Rattle.logic.proofs.Basics.Count.{length-flatMap}
+use Rattle.theory.proofs.Basics.Compare.{eqb-false}
+use Rattle.theory.proofs.Basics.Count.{length-flatMap}
 use Rattle.text.proofs.Writing.{left-first}
 use Rattle.rewriter.specs.Bytes.{cut}
 use Rattle.rewriter.proofs.Loops.{cut-long}

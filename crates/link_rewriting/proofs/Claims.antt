@@ -12,11 +12,11 @@ use Rattle.logic.specs.Heap.{Heap, Meets, Satisfiable}
 use Rattle.logic.specs.Calls.{Input, Check, CallForm, oneLinkForm, orderCheck, layoutCheck, byteCheck, formChecks, queryChecks, derivationChecksOf, verdictChecksOf, Answer, refused, accepts, acceptsBy, padded, verdictCall, verdictCallOf}
 use Rattle.logic.specs.Demands.{NotRefused, NoneStands, numbers}
 use Rattle.logic.specs.ThreeLinks.{decodeLinks, threeLinkForm}
-use Rattle.logic.proofs.Calls.CheckingOrder.{first-stands}
-use Rattle.logic.proofs.Calls.CallLaws.{FormLaws, accepts-checks, verdict-clear}
-use Rattle.logic.proofs.Calls.Refusals.{one-link-laws}
-use Rattle.logic.proofs.Calls.Demands.{demand1-of, demand2-of}
-use Rattle.logic.proofs.Calls.ThreeLinks.{three-link-laws}
+use Rattle.theory.proofs.Calls.CheckingOrder.{first-stands}
+use Rattle.theory.proofs.Calls.CallLaws.{FormLaws, accepts-checks, verdict-clear}
+use Rattle.theory.proofs.Calls.Refusals.{one-link-laws}
+use Rattle.theory.proofs.Calls.Demands.{demand1-of, demand2-of}
+use Rattle.theory.proofs.Calls.ThreeLinks.{three-link-laws}
 use Rattle.encoding.specs.WritingCall.{acceptsIn, roomCheck, writingChecks, WritingRefusals}
 use Rattle.encoding.specs.WritingCall as call
 use Rattle.encoding.proofs.Encoded.{Encodable}

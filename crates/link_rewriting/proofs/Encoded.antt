@@ -12,9 +12,9 @@ use Rattle.logic.specs.Search.{_and_, _or_, from, keep, isSome, orElse, firstOf
 use Rattle.logic.specs.Query.{Literal, Query, termCount, Role, entryRole, signRole, termRole, countRole, booleanSection, parts, rolesOf, firstByte, layoutBy, faultIn, layoutFault, byteFault, section}
 use Rattle.logic.specs.Calls.{layoutCheck, byteCheck, refusalOf, acceptsBy}
 use Rattle.logic.specs.ThreeLinks.{linkSections, isLink, mayPrecede, entryLinkFault, reachLinkFault, linkFault, linkCheck, linkChecks, firsts, seconds, linkedLiterals, linkedQuery, decodeLinks, threeLinkForm}
-use Rattle.logic.proofs.Basics.Count.{length-flatMap}
-use Rattle.logic.proofs.Query.Tied.{InTerms}
-use Rattle.logic.proofs.Query.Bytes.{Allows, Allowed}
+use Rattle.theory.proofs.Basics.Count.{length-flatMap}
+use Rattle.theory.proofs.Query.Tied.{InTerms}
+use Rattle.theory.proofs.Query.Bytes.{Allows, Allowed}
 use Rattle.encoding.specs.QueryBytes.{literalBytes, sectionBytes}
 use Rattle.encoding.proofs.Encoded.{sign-reads, AboutOne, literals-read, layout-part, layout-none, allowed-faultless, sign-allowed, literals-allowed, literal-bytes, section-allowed, roles-none, none-allowed, Limits, within-limits, Encodable, entry-allowed, term-allowed, number-allowed}
 use Rattle.link_rewriting.specs.LinkedQuery.{linkBefore, withLinkOne, entryBytes, reachBytes, encodeLinks}

@@ -10,9 +10,9 @@ use lib.Dec.{eqb}
 use Rattle.logic.specs.Search.{_or_}
 use Rattle.logic.specs.Query.{Literal, Entries, Query, entryOf, namesNil, argumentOf, linkOf}
 use Rattle.logic.specs.Heap.{Heap, valueWithin, value, Signed, NilNode, Meets, Reaches}
-use Rattle.logic.proofs.Basics.Search.{true-false}
-use Rattle.logic.proofs.Basics.Compare.{eqb-false, eqb-intro, eq-cases}
-use Rattle.logic.proofs.Query.Entries.{argument-range}
+use Rattle.theory.proofs.Basics.Search.{true-false}
+use Rattle.theory.proofs.Basics.Compare.{eqb-false, eqb-intro, eq-cases}
+use Rattle.theory.proofs.Query.Entries.{argument-range}
 use Rattle.link_rewriting.specs.LinkedQuery.{linkBefore, withLinkOne}
 
 -- the entries with link 1

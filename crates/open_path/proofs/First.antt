@@ -12,11 +12,11 @@ use Rattle.logic.specs.Walk.{Look, clashing, applying, saturated, look, orderOf
 use Rattle.logic.specs.Steps.{Steps, Step, one-more, AtMost}
 use Rattle.logic.specs.Calls.{accepts}
 use Rattle.logic.specs.Decision.{HasHeap, NoHeap, Reachable, Struck}
-use Rattle.logic.proofs.Query.AcceptedBytes.{accepted}
-use Rattle.logic.proofs.Query.Tied.{Accepted}
-use Rattle.logic.proofs.Walks.Order.{order-full}
-use Rattle.logic.proofs.Walks.Derives.{seen-applying, seen-clashing}
-use Rattle.logic.proofs.Calls.Decision.{Known, reachable-known, clash-none, heap-branch, struck-next, last-open, walk-first}
+use Rattle.theory.proofs.Query.AcceptedBytes.{accepted}
+use Rattle.theory.proofs.Query.Tied.{Accepted}
+use Rattle.theory.proofs.Walks.Order.{order-full}
+use Rattle.theory.proofs.Walks.Derives.{seen-applying, seen-clashing}
+use Rattle.theory.proofs.Calls.Decision.{Known, reachable-known, clash-none, heap-branch, struck-next, last-open, walk-first}
 use Rattle.branch.specs.Alternatives.{countOf, alternativeAt}
 use Rattle.covering.specs.Covers.{Covers}
 use Rattle.covering.proofs.Covered.{covered-heap}

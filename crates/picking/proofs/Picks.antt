@@ -10,8 +10,8 @@ use Rattle.logic.specs.Query.{isOrder}
 use Rattle.logic.specs.Facts.{Facts, linkNumbers}
 use Rattle.logic.specs.Rules.{Rule, rules, Triple, triple, Move, move, applies, triples, choose}
 use Rattle.logic.specs.Walk.{orderOf}
-use Rattle.logic.proofs.Basics.Search.{keep-some, firstOf-some, from-mem, flatMap-mem, map-mem, none-some}
-use Rattle.logic.proofs.Walks.Order.{order-full, choose-some, choose-nothing}
+use Rattle.theory.proofs.Basics.Search.{keep-some, firstOf-some, from-mem, flatMap-mem, map-mem, none-some}
+use Rattle.theory.proofs.Walks.Order.{order-full, choose-some, choose-nothing}
 use Rattle.rules.specs.Answers.{choiceOf}
 use Rattle.rules.specs.declared.Choice.{Choice}
 use Rattle.rules.specs.declared.Choice.the-variants as choice

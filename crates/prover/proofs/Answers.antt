@@ -13,9 +13,9 @@ use Rattle.logic.specs.Walk.{ourWalk, saturation}
 use Rattle.logic.specs.Shown.{report}
 use Rattle.logic.specs.Calls.{Input, orderCheck, queryChecks, verdictChecks, derivationChecks, refused, refusalOf, accepts, padded, blank, call, verdictOf, verdictCall, derivationOf, derivationCall, derivationCallOf, derivationChecksOf, verdictCallOf, verdictChecksOf}
 use Rattle.logic.specs.Calls as calls
-use Rattle.logic.proofs.Calls.CallLaws.{padded-length}
-use Rattle.logic.proofs.Query.AcceptedBytes.{accepted, decode-links}
-use Rattle.logic.proofs.Completeness.ShownHeap as fits
+use Rattle.theory.proofs.Calls.CallLaws.{padded-length}
+use Rattle.theory.proofs.Query.AcceptedBytes.{accepted, decode-links}
+use Rattle.theory.proofs.Completeness.ShownHeap as fits
 use Rattle.facts.specs.Path.{repOf, pathOf}
 use Rattle.facts.specs.declared.Facts as code
 use Rattle.query.specs.LaysOut.{LaysOut}

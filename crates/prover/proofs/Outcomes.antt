@@ -21,12 +21,12 @@ use Rattle.start.specs.Taken.{started}
 use Rattle.walk.specs.Lines.{countAll, putAll}
 use Rattle.walk.proofs.Lines.{countAll-small, countAll-large}
 use Rattle.walk.proofs.Padded.{derivation-written}
-use Rattle.logic.proofs.Basics.Compare.{le-cases}
-use Rattle.logic.proofs.Query.AcceptedBytes.{accepted, decode-links}
-use Rattle.logic.proofs.Calls.OneLink.{limit-one}
-use Rattle.logic.proofs.Paths.Ranged.{live-range}
-use Rattle.logic.proofs.Paths.Invariant.{Invariant, start-invariant, branch-invariant}
-use Rattle.logic.proofs.Walks.Limit.{start-atMost, our-saturation}
+use Rattle.theory.proofs.Basics.Compare.{le-cases}
+use Rattle.theory.proofs.Query.AcceptedBytes.{accepted, decode-links}
+use Rattle.theory.proofs.Calls.OneLink.{limit-one}
+use Rattle.theory.proofs.Paths.Ranged.{live-range}
+use Rattle.theory.proofs.Paths.Invariant.{Invariant, start-invariant, branch-invariant}
+use Rattle.theory.proofs.Walks.Limit.{start-atMost, our-saturation}
 use Rattle.prover.specs.Promise.{meaning, Does}
 use Rattle.prover.specs.declared.Answer.{Answer}
 use Rattle.prover.specs.declared.Answer.the-variants as answer

@@ -11,8 +11,8 @@ use lib.Seq.{drop-length, length-take-le}
 use Rattle.logic.specs.Search.{from, keep, orElse, firstOf}
 use Rattle.logic.specs.Query.{oneLink, termCount, Form, fourSections, booleanSection, fiveSections, faulty, parts, layout, firstByte, layoutBy, faultIn, layoutFault, byteFault, literals, section, queryOf}
 use Rattle.logic.specs.Calls.{Input, Answer, refused, layoutCheck, byteCheck, formChecks, refusalOf}
-use Rattle.logic.proofs.Query.Bytes.{layoutNumbers, LayoutNumber, Excesses, Numbered, layout-numbered}
-use Rattle.logic.proofs.Query.AcceptedBytes.{five-excesses}
+use Rattle.theory.proofs.Query.Bytes.{layoutNumbers, LayoutNumber, Excesses, Numbered, layout-numbered}
+use Rattle.theory.proofs.Query.AcceptedBytes.{five-excesses}
 use Rattle.entries.specs.Entries.{widthOf}
 use Rattle.query.specs.declared.Layout.{Layout}
 use Rattle.query.specs.declared.FullLayout.{FullLayout}

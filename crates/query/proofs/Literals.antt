@@ -11,7 +11,7 @@ use lib.ListN.{length, getD, take, drop}
 use lib.Seq.{getD-drop, getD-take}
 use Rattle.logic.specs.Search.{_or_, from, any, at}
 use Rattle.logic.specs.Query.{Entries, Query, entryOf, literals}
-use Rattle.logic.proofs.Basics.Search.{from-intro, map-intro}
+use Rattle.theory.proofs.Basics.Search.{from-intro, map-intro}
 use Rattle.query.specs.declared.Layout.{Layout}
 use Rattle.query.specs.LaysOut.{LaysOutAs, literalIn}
 use Rattle.entries.proofs.Loops.{drop-three}

@@ -6,8 +6,8 @@ use mathlib.Core.List.{List, [], List·Memᴰ}
 use Rattle.logic.specs.Search.{isSome}
 use Rattle.logic.specs.Query.{Literal, Query, argumentOf, linkOf, termCount, decode}
 use Rattle.logic.specs.Calls.{accepts, acceptsBy}
-use Rattle.logic.proofs.Query.Tied.{InTerms, Accepted}
-use Rattle.logic.proofs.Query.AcceptedBytes.{accepted}
+use Rattle.theory.proofs.Query.Tied.{InTerms, Accepted}
+use Rattle.theory.proofs.Query.AcceptedBytes.{accepted}
 use Rattle.query.specs.declared.Layout.{Layout}
 use Rattle.query.specs.declared.Checked.the-variants as checked
 use Rattle.query.specs.LaysOut.{LaysOut, literalIn}

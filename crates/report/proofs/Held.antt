@@ -15,7 +15,7 @@ use borrow.Author.Tests.{eqb-true, eqb-false, eq-eqb, ne-eqb}
 use Rattle.logic.specs.Search.{_and_, _or_, any}
 use Rattle.logic.specs.Query.{Literal}
 use Rattle.logic.specs.Shown.{byteOf}
-use Rattle.logic.proofs.Basics.Search.{bool-cases}
+use Rattle.theory.proofs.Basics.Search.{bool-cases}
 use Rattle.facts.specs.Bits.{bit}
 use Rattle.facts.specs.Square.{square}
 use Rattle.facts.proofs.Bits.{bit-is, bit-none}

@@ -9,9 +9,9 @@ use Rattle.logic.specs.Query.{Literal, decode}
 use Rattle.logic.specs.Facts.{terms}
 use Rattle.logic.specs.Calls.{padded}
 use Rattle.logic.specs.Shown.{nodes, placeOf, shownLink, byteOf, fieldByte, report}
-use Rattle.logic.proofs.Basics.Search.{from-mem}
-use Rattle.logic.proofs.Completeness.ShownNodes.{nodes-length}
-use Rattle.logic.proofs.Calls.OneLink.{report-one}
+use Rattle.theory.proofs.Basics.Search.{from-mem}
+use Rattle.theory.proofs.Completeness.ShownNodes.{nodes-length}
+use Rattle.theory.proofs.Calls.OneLink.{report-one}
 use Rattle.facts.specs.declared.Facts as code
 use Rattle.facts.specs.Path.{repOf, pathOf}
 use Rattle.query.specs.declared.Layout.{Layout}

@@ -6,7 +6,7 @@ use mathlib.Core.Logic.{⊎-elim}
 use mathlib.Core.List.{List}
 use lib.ListN.{length, take}
 use lib.Seq.{take-all}
-use Rattle.logic.proofs.Basics.Compare.{le-cases}
+use Rattle.theory.proofs.Basics.Compare.{le-cases}
 use Rattle.encoding.specs.WritingCall.{Answer, Outcome}
 use Rattle.wording.specs.Words.{refusalText}
 use Rattle.rewriting.specs.Call.{rewriteCall}

@@ -8,7 +8,7 @@ use mathlib.Core.List.{List, [], _∷_}
 use lib.ListN.{length, replicate, length-replicate}
 use Rattle.logic.specs.Query.{Literal, Query, termCount}
 use Rattle.logic.specs.Calls as calls
-use Rattle.logic.proofs.Query.Bytes.{layoutNumbers, three-number}
+use Rattle.theory.proofs.Query.Bytes.{layoutNumbers, three-number}
 use Rattle.encoding.specs.QueryBytes.{encode}
 use Rattle.encoding.specs.WritingCall.{Outcome, written, given, refusal, blank, writes}
 use Rattle.encoding.proofs.WritingCall.{none-accepts, call-refused, call-full, call-writes}

@@ -8,8 +8,8 @@ use lib.ListN.{length, take, drop, length-append, length-map, length-drop}
 use lib.Seq.{take-at, drop-at, length-take-le}
 use Rattle.logic.specs.Search.{from, flatMap}
 use Rattle.logic.specs.Query.{Literal, Query, termCount, Role, signRole, numberRole, booleanSection, parts, literals, section}
-use Rattle.logic.proofs.Basics.Count.{length-flatMap}
-use Rattle.logic.proofs.Query.Bytes.{Allowed}
+use Rattle.theory.proofs.Basics.Count.{length-flatMap}
+use Rattle.theory.proofs.Query.Bytes.{Allowed}
 use Rattle.encoding.specs.QueryBytes.{literalBytes, sectionBytes, encode}
 use Rattle.encoding.proofs.Recovered.{sign-allowed}
 use Rattle.query.specs.LaysOut.{LaysOutAs}

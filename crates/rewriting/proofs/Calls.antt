@@ -12,11 +12,11 @@ use borrow.Author.Tests.{leb-false}
 use Rattle.logic.specs.Search.{_and_, keep}
 use Rattle.logic.specs.Query.{Section, fourSections, booleanSection, fiveSections, Layout, faulty, parts, withPart, layout, firstByte, layoutBy, faultIn, layoutFault}
 use Rattle.logic.specs.Calls.{Check, layoutCheck, byteCheck, formChecks}
-use Rattle.logic.proofs.Basics.Search.{none-some, and-false-cases, bool-cases}
-use Rattle.logic.proofs.Basics.Compare.{eqb-false}
-use Rattle.logic.proofs.Query.Bytes.{cond-elim}
-use Rattle.logic.proofs.Query.AcceptedBytes.{form-elim}
-use Rattle.logic.proofs.Calls.CheckingOrder.{first-own}
+use Rattle.theory.proofs.Basics.Search.{none-some, and-false-cases, bool-cases}
+use Rattle.theory.proofs.Basics.Compare.{eqb-false}
+use Rattle.theory.proofs.Query.Bytes.{cond-elim}
+use Rattle.theory.proofs.Query.AcceptedBytes.{form-elim}
+use Rattle.theory.proofs.Calls.CheckingOrder.{first-own}
 use Rattle.encoding.specs.WritingCall.{refused, Outcome, given}
 use Rattle.encoding.proofs.WritingCall.{written-refused, refused-same, Case, by-check, by-room, by-writing, by-case, blank-answer, writes-answer}
 use Rattle.encoding.proofs.WritingCall as calls

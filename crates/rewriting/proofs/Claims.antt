@@ -9,7 +9,7 @@ use Rattle.logic.specs.Query.{decode}
 use Rattle.logic.specs.Heap.{Satisfiable}
 use Rattle.logic.specs.Calls.{Input, layoutCheck, byteCheck, formChecks, accepts, padded}
 use Rattle.logic.specs.Demands.{numbers}
-use Rattle.logic.proofs.Calls.Demands.{demand2}
+use Rattle.theory.proofs.Calls.Demands.{demand2}
 use Rattle.encoding.specs.WritingCall.{Answer, roomCheck, writingChecks}
 use Rattle.encoding.proofs.Encoded.{Encodable, decoded}
 use Rattle.encoding.proofs.Decoded.{encoded-accepts}

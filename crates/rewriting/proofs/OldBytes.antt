@@ -12,11 +12,11 @@ use borrow.Author.Tests.{ltb-true, leb-true}
 use Rattle.logic.specs.Search.{_and_, from, at, flatMap}
 use Rattle.logic.specs.Query.{Literal, Role, Section, signRole, numberRole, fourSections, booleanSection, fiveSections, Layout, parts, firstByte, layoutBy, section, queryOf, termCount, literals}
 use Rattle.logic.specs.Calls.{Check, formChecks}
-use Rattle.logic.proofs.Basics.Search.{and-left, and-right, not-true, isSome-false}
-use Rattle.logic.proofs.Query.Tied.{Accepted, ToEight}
-use Rattle.logic.proofs.Query.Bytes.{Allows, Allowed, Part, three-number}
-use Rattle.logic.proofs.Query.AcceptedBytes.{Passes, form-passes, LaidOut, booleans, five-laid, five-accepted}
-use Rattle.logic.proofs.Calls.CallLaws.{refusalOf-none}
+use Rattle.theory.proofs.Basics.Search.{and-left, and-right, not-true, isSome-false}
+use Rattle.theory.proofs.Query.Tied.{Accepted, ToEight}
+use Rattle.theory.proofs.Query.Bytes.{Allows, Allowed, Part, three-number}
+use Rattle.theory.proofs.Query.AcceptedBytes.{Passes, form-passes, LaidOut, booleans, five-laid, five-accepted}
+use Rattle.theory.proofs.Calls.CallLaws.{refusalOf-none}
 use Rattle.encoding.specs.WritingCall.{given, acceptsIn}
 use Rattle.encoding.proofs.Encoded.{Limits, AboutOne, OneLinked}
 use Rattle.encoding.proofs.Decoded.{layout-linked}

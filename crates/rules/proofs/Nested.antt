@@ -13,10 +13,10 @@ use Rattle.logic.specs.Search.{_and_, _or_, from, keep, any, orElse, firstOf, f
 use Rattle.logic.specs.Facts.{Graph, Facts, linkNumbers, live}
 use Rattle.logic.specs.Rules.{Rule, REFLEX, TRANS1, TRANS2, FUNC, CYCLE, SCC, TOTAL, SHARE, Triple, triple, Move, move, conditions, alternatives, held, hasLink, applies, triples, ruleOf, choose}
 use Rattle.logic.specs.Walk.{orderOf}
-use Rattle.logic.proofs.Basics.Search.{firstOf-empty, from-mem}
-use Rattle.logic.proofs.Paths.Ranged.{InRange}
-use Rattle.logic.proofs.Paths.Applies.{hasLink-intro}
-use Rattle.logic.proofs.Calls.OneLink.{firstOf-one, conditions-local, held-local}
+use Rattle.theory.proofs.Basics.Search.{firstOf-empty, from-mem}
+use Rattle.theory.proofs.Paths.Ranged.{InRange}
+use Rattle.theory.proofs.Paths.Applies.{hasLink-intro}
+use Rattle.theory.proofs.Calls.OneLink.{firstOf-one, conditions-local, held-local}
 use Rattle.facts.specs.Path.{graphOf}
 use Rattle.facts.specs.Square.{square}
 use Rattle.rules.specs.Tests.{pairTest, thirdTest, looped}

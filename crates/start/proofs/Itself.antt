@@ -7,8 +7,8 @@ use mathlib.Core.List.{List}
 use lib.ListN.{length, set}
 use lib.Dec.{eqb}
 use borrow.Author.Tests.{eqb-true, eqb-false}
-use Rattle.logic.proofs.Basics.Search.{bool-cases}
-use Rattle.logic.proofs.Basics.Compare.{le-cases}
+use Rattle.theory.proofs.Basics.Search.{bool-cases}
+use Rattle.theory.proofs.Basics.Compare.{le-cases}
 use Rattle.facts.specs.Path.{repOf}
 use Rattle.facts.proofs.Rep.{rep-same, rep-other, rep-beyond}
 

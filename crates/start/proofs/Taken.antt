@@ -9,7 +9,7 @@ use lib.Bits.{bitOr}
 use lib.Dec.{eqb}
 use Rattle.logic.specs.Query.{Literal}
 use Rattle.logic.specs.Facts.{Joined, unjoined, andThen, join, addReach}
-use Rattle.logic.proofs.Basics.Compare.{cond-true, cond-false}
+use Rattle.theory.proofs.Basics.Compare.{cond-true, cond-false}
 use Rattle.facts.specs.declared.Facts as code
 use Rattle.facts.specs.Bits.{bit}
 use Rattle.facts.specs.Path.{repOf, pathOf, graphOf}

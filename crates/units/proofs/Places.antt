@@ -11,9 +11,9 @@ use borrow.Author.Tests.{lt-ltb, le-ltb}
 use Rattle.logic.specs.Search.{_and_, _or_, from, find}
 use Rattle.logic.specs.Facts.{Graph, Facts, live}
 use Rattle.logic.specs.Rules.{Rule, FUNC, CYCLE, SCC, TOTAL, SHARE, Triple, triple, move, applies}
-use Rattle.logic.proofs.Basics.Search.{and-left, and-right, and-intro, not-intro, find-some, from-mem}
-use Rattle.logic.proofs.Paths.Ranged.{InRange}
-use Rattle.logic.proofs.Paths.Applies.{hasLink-range, applies-linked}
+use Rattle.theory.proofs.Basics.Search.{and-left, and-right, and-intro, not-intro, find-some, from-mem}
+use Rattle.theory.proofs.Paths.Ranged.{InRange}
+use Rattle.theory.proofs.Paths.Applies.{hasLink-range, applies-linked}
 use Rattle.facts.specs.Bits.{bit}
 use Rattle.facts.specs.Square.{square, Turned}
 use Rattle.facts.specs.Answers.{foundOf}

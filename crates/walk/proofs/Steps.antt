@@ -9,9 +9,9 @@ use Rattle.logic.specs.Facts.{Facts, Joined, Line, line, joinLines}
 use Rattle.logic.specs.Rules.{Rule, triple, Move, move, Fact, equal, moveNumber, moveLine, alternatives, branch, add}
 use Rattle.logic.specs.Walk.{Look, clashing, applying, saturated, look, Ending, refutation, saturation, after, walkBranch, walk}
 use Rattle.logic.specs.Steps.{AtMost}
-use Rattle.logic.proofs.Walks.OurWalk.{look-fewer}
-use Rattle.logic.proofs.Walks.Derives.{seen-applying}
-use Rattle.logic.proofs.Paths.Applies.{hasLink-range, applies-linked}
+use Rattle.theory.proofs.Walks.OurWalk.{look-fewer}
+use Rattle.theory.proofs.Walks.Derives.{seen-applying}
+use Rattle.theory.proofs.Paths.Applies.{hasLink-range, applies-linked}
 use Rattle.facts.specs.Path.{HasLink}
 use Rattle.query.specs.LaysOut.{LaysOut, literalIn}
 use Rattle.query.specs.declared.Layout.{Layout}

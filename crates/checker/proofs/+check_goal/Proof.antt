@@ -9,7 +9,7 @@ use borrow.Fn.Kinds.{In}
 use borrow.Fn.PlainCycle.{Measures, is, falls, and}
 use Rattle.logic.specs.Query.{decode}
 use Rattle.logic.specs.Rules.{triple, move}
-use Rattle.logic.proofs.Query.AcceptedBytes.{accepted}
+use Rattle.theory.proofs.Query.AcceptedBytes.{accepted}
 use Rattle.facts.specs.Path.{pathOf}
 use Rattle.facts.specs.Pairs.{pairsOf, joinedOf, Fits}
 use Rattle.facts.proofs.Path.{links-few}

@@ -4,7 +4,7 @@ use native.Mathlib.Omega.{arith}
 use mathlib.Core.Path.{sym, _∙_}
 use mathlib.Core.Bool.{false≢true}
 use borrow.Author.Tests.{not-true}
-use Rattle.logic.proofs.Basics.Search.{true-false}
+use Rattle.theory.proofs.Basics.Search.{true-false}
 use Rattle.covering.proofs.Held.{held-here}
 use Rattle.covering.proofs.held_at.Statement.{statement}
 use Rattle.covering.proofs.held_at.Tie as tie

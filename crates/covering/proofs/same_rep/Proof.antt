@@ -1,7 +1,7 @@
 -- One term. Assumes nothing.
 use borrow.Author.Needs.{needs}
 use mathlib.Core.Path.{sym, ap, _∙_}
-use Rattle.logic.proofs.Basics.Compare.{eqb-true}
+use Rattle.theory.proofs.Basics.Compare.{eqb-true}
 use Rattle.facts.specs.Path.{repOf}
 use Rattle.covering.proofs.same_rep.Statement.{statement}
 use Rattle.covering.proofs.same_rep.Tie as tie

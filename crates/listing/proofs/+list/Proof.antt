@@ -9,7 +9,7 @@ use borrow.Fn.Kinds.{In}
 use borrow.Fn.PlainCycle.{Measures, is, falls, and}
 use Rattle.logic.specs.Query.{decode, termCount}
 use Rattle.logic.specs.Walk.{orderOf}
-use Rattle.logic.proofs.Walks.OurWalk.{look-some}
+use Rattle.theory.proofs.Walks.OurWalk.{look-some}
 use Rattle.facts.specs.Path.{pathOf}
 use Rattle.facts.specs.Pairs.{joinedOf, Fits}
 use Rattle.facts.proofs.Path.{links-few}

@@ -4,8 +4,8 @@ use native.Mathlib.Omega.{arith}
 use Rattle.logic.specs.Query.{decode}
 use Rattle.logic.specs.Decision.{HasHeap}
 use Rattle.facts.specs.Path.{pathOf}
-use Rattle.logic.proofs.Query.AcceptedBytes.{accepted}
-use Rattle.logic.proofs.Calls.Decision.{reachable-known}
+use Rattle.theory.proofs.Query.AcceptedBytes.{accepted}
+use Rattle.theory.proofs.Calls.Decision.{reachable-known}
 use Rattle.walk.proofs.Walks.{walk-saturated}
 use Rattle.walk.proofs.Steps.{look-is}
 use Rattle.decide.proofs.Turns.{some-left}

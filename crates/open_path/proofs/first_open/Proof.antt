@@ -12,8 +12,8 @@ use Rattle.walk.proofs.Steps.{move-fits, move-linked}
 use Rattle.decide.specs.Tells.{Decides}
 use Rattle.decide.proofs.Tells.{struck-none}
 use Rattle.decide.proofs.Turns.{some-left}
-use Rattle.logic.proofs.Query.AcceptedBytes.{accepted}
-use Rattle.logic.proofs.Calls.Decision.{reachable-known}
+use Rattle.theory.proofs.Query.AcceptedBytes.{accepted}
+use Rattle.theory.proofs.Calls.Decision.{reachable-known}
 use Rattle.open_path.proofs.First.{open-reach, open-fewer, open-struck, open-here, open-covered, open-last, some-branch}
 use Rattle.open_path.proofs.first_open.Statement.{statement}
 use Rattle.open_path.proofs.first_open.Tie as tie
