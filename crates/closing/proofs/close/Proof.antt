@@ -6,6 +6,7 @@ use mathlib.Core.Path.{sym, ap, _∙_, subst}
 use Rattle.facts.specs.Bits.{bit}
 use Rattle.facts.specs.Path.{pathOf}
 use Rattle.facts.proofs.Path.{reach-within, link-within}
+use Rattle.facts.proofs.Alive.{live-path}
 use Rattle.closing.specs.Rows.{ClosedBelow}
 use Rattle.closing.proofs.Rows.{closed-none, closed-next, closed-last, closes, closed}
 use Rattle.closing.proofs.close.Statement.{statement}
@@ -40,4 +41,4 @@ close-spec =
     -- returns
     (λ c.
     let done = closed-last _ _ _ _ _ (c .before .before .links .ensures .0) (omega arith) (c .before .loop .inv .2) in
-    (closes _ _ _ _ (c .before .before .before .live .ensures) done (reach-within (c .before .before .before .before .args .s)) (link-within (c .before .before .before .before .args .s)), closed _ _ _ _ (c .before .before .before .live .ensures) done (reach-within (c .before .before .before .before .args .s)) (link-within (c .before .before .before .before .args .s)) (c .before .before .before .before .pre))))
+    (closes _ _ _ _ (c .before .before .before .live .ensures ∙ live-path _ (c .before .before .before .before .before .before .args .t1)) done (reach-within (c .before .before .before .before .before .before .args .t1)) (link-within (c .before .before .before .before .before .before .args .t1)), closed _ _ _ _ (c .before .before .before .live .ensures ∙ live-path _ (c .before .before .before .before .before .before .args .t1)) done (reach-within (c .before .before .before .before .before .before .args .t1)) (link-within (c .before .before .before .before .before .before .args .t1)) (c .before .before .before .before .before .before .pre))))

@@ -1,6 +1,7 @@
 -- A path of one link, or any. Assumes nothing.
 use borrow.Author.Needs.{needs}
 use mathlib.Core.Path.{sym, _∙_}
+use Rattle.facts.proofs.Alive.{live-path}
 use Rattle.rules.proofs.Nested.{choose-any, choose-first}
 use Rattle.rules.proofs.choose.Statement.{statement}
 use Rattle.rules.proofs.choose.Tie as tie
@@ -20,8 +21,8 @@ choose-spec =
     -- choose-one-requires
     (λ c κs. search needs)
     -- returns
-    (λ c. c .choose-one .ensures ∙ sym (choose-first _ _ _ _ _ (c .before .before .before .before .before .before .before .before .before .args .order .now) (c .before .before .before .before .before .before .before .live .ensures) (sym (c .before .before .before .before .before .before .links .ensures .0) ∙ c .before .before .before .before .before .if1 .taken) (c .before .before .before .before .link-rows .ensures) (c .before .before .before .reach-rows .ensures)))
+    (λ c. c .choose-one .ensures ∙ sym (choose-first _ _ _ _ _ (c .before .before .before .before .before .before .before .before .before .before .before .args .order .now) (c .before .before .before .before .before .before .before .live .ensures ∙ live-path _ (c .before .before .before .before .before .before .before .before .before .before .before .args .t2)) (sym (c .before .before .before .before .before .before .links .ensures .0) ∙ c .before .before .before .before .before .if1 .taken) (c .before .before .before .before .link-rows .ensures) (c .before .before .before .reach-rows .ensures)))
     -- choose-any-requires
     (λ c κs. search needs)
     -- returns-2
-    (λ c. c .choose-any .ensures ∙ sym (choose-any _ _ _ (c .before .before .before .before .before .args .order .now) (c .before .before .before .live .ensures))))
+    (λ c. c .choose-any .ensures ∙ sym (choose-any _ _ _ (c .before .before .before .before .before .before .before .args .order .now) (c .before .before .before .live .ensures ∙ live-path _ (c .before .before .before .before .before .before .before .args .t2)))))
