@@ -11,9 +11,9 @@ use Rattle.text.specs.Text.{decimal, decimalWithin, hexByte, hexDigit}
 use Rattle.wording.specs.Words.{behind, lineOf, refusedText, refusalText}
 use Rattle.join_printing.specs.JoinText.{hexLine}
 use Rattle.rewrite_printing.specs.RewriteText.{answerText, outcomeText}
-use Rattle.link_printing.specs.LinkText.{textOf, linkqueryText}
+use Rattle.link_printing.specs.LinkText.{textOf, rewritelinksText}
 use Rattle.link_printing.specs.Examples.{PrintsHold, prints}
 
 pub prints-hold : PrintsHold
-unfolding Option·elim _and_ _or_ from keep orElse firstOf flatMap termCount entryRole signRole termRole numberRole countRole fourSections booleanSection fiveSections sections withPart layout rolesOf firstByte layoutBy layoutOf faultIn layoutFault roleFault byteFault literals section queryOf decode layoutCheck byteCheck formChecks refusalOf padded signByte literalBytes sectionBytes roomCheck writingChecks refusal blank writes writingCall linkBefore entryBytes reachBytes encodeLinks decimal decimalWithin hexByte hexDigit behind lineOf refusedText refusalText hexLine answerText outcomeText textOf linkqueryText prints
+unfolding Option·elim _and_ _or_ from keep orElse firstOf flatMap termCount entryRole signRole termRole numberRole countRole fourSections booleanSection fiveSections sections withPart layout rolesOf firstByte layoutBy layoutOf faultIn layoutFault roleFault byteFault literals section queryOf decode layoutCheck byteCheck formChecks refusalOf padded signByte literalBytes sectionBytes roomCheck writingChecks refusal blank writes writingCall linkBefore entryBytes reachBytes encodeLinks decimal decimalWithin hexByte hexDigit behind lineOf refusedText refusalText hexLine answerText outcomeText textOf rewritelinksText prints
 prints-hold = refl

@@ -1,9 +1,9 @@
--- What linkquery prints of samples.
+-- What rewritelinks prints of samples.
 use Prim.Native.Nat.{ℕ}
 use mathlib.Core.Path.{_≡_}
 use mathlib.Core.List.{List, [], _∷_, map}
 use Rattle.text.specs.Text.{ascii}
-use Rattle.link_printing.specs.LinkText.{linkqueryText}
+use Rattle.link_printing.specs.LinkText.{rewritelinksText}
 
 pub record Print : Type 0 where
   pub input : List ℕ
@@ -20,4 +20,4 @@ prints =
     ∷ []
 
 abbrev pub PrintsHold : Type 0
-PrintsHold = map (λ (p : Print). linkqueryText (p .input)) prints ≡ map (λ (p : Print). p .text) prints
+PrintsHold = map (λ (p : Print). rewritelinksText (p .input)) prints ≡ map (λ (p : Print). p .text) prints

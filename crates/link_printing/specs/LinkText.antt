@@ -1,4 +1,4 @@
--- What linkquery prints, byte for byte, as a function of the bytes that it is given (02, R-11): a query in the old layout.
+-- What rewritelinks prints, byte for byte, as a function of the bytes that it is given (02, R-11): a query in the old layout.
 use Prim.Native.Nat.{ℕ}
 use mathlib.Core.List.{List}
 use lib.ListN.{take}
@@ -10,5 +10,5 @@ unfoldable pub textOf : List ℕ → List ℕ
 textOf query = outcomeText (linksRewriteCall query 637)
 
 -- at most the first 1,024 bytes of standard input, as heapverdict reads them
-unfoldable pub linkqueryText : List ℕ → List ℕ
-linkqueryText bytes = textOf (take 1024 bytes)
+unfoldable pub rewritelinksText : List ℕ → List ℕ
+rewritelinksText bytes = textOf (take 1024 bytes)

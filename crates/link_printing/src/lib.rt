@@ -1,6 +1,6 @@
-// What linkquery prints, made in a lent buffer (02, R-11). The program reads, asks for the text and writes it.
+// What rewritelinks prints, made in a lent buffer (02, R-11). The program reads, asks for the text and writes it.
 ghost use Rattle.text.specs.Text.{Writes};
-ghost use Rattle.link_printing.specs.LinkText.{textOf, linkqueryText};
+ghost use Rattle.link_printing.specs.LinkText.{textOf, rewritelinksText};
 
 // The query with three links, or the refusal.
 fn put_linked(buffer: &mut [u8], query: &[u8]) -> usize
@@ -14,7 +14,7 @@ fn put_linked(buffer: &mut [u8], query: &[u8]) -> usize
 // The text of these bytes, of which at most the first 1,024 are read. It answers the length of the text, which is stored as far as there is
 // room.
 pub fn put_text(buffer: &mut [u8], input: &[u8]) -> usize
-    ensures { λ r. ⌜ Writes (now (buffer .entry)) 0 (linkqueryText (now (input .entry))) (now (buffer .exit)) r ⌝ }
+    ensures { λ r. ⌜ Writes (now (buffer .entry)) 0 (rewritelinksText (now (input .entry))) (now (buffer .exit)) r ⌝ }
 {
     if 1024 < input.len() {
         return put_linked(buffer, &input[..1024]);

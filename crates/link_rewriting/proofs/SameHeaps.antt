@@ -33,6 +33,7 @@ before-term b h = go (eqb b 255) h
     go true one = absurd (omega arith)
     go false one = rw (eqb-false b 0 (λ e. omega (arith, e, one)))
 
+-- a number that is not 0
 above : (a : ℕ) → eqb a 0 ≡ false → 1 ≤ a
 above a z = ⊎-elim (λ e. absurd (true-false (eqb-intro e) z)) (λ n. omega (arith, n .0)) (eq-cases a 0)
 

@@ -3,8 +3,8 @@ use native.Mathlib.Omega.{arith}
 use borrow.Author.Needs.{needs}
 use mathlib.Core.Path.{sym}
 use lib.Seq.{length-take-le}
-use Rattle.linkquery.proofs.main.Statement.{statement}
-use Rattle.linkquery.proofs.main.Tie as tie
+use Rattle.rewritelinks.proofs.main.Statement.{statement}
+use Rattle.rewritelinks.proofs.main.Tie as tie
 
 pub main-spec : {M : Type 1} → statement M
 main-spec =
