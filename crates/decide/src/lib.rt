@@ -268,10 +268,10 @@ fn grown(budget: usize, turn: usize) -> usize
     4 * budget
 }
 
-// The paths that a strategy may look at: one that probes takes four times as long at each.
+// The paths that a strategy may look at: one that probes takes longer at each, and is done after far fewer.
 fn share(budget: usize, how: usize) -> usize {
     if how == 2 {
-        return budget / 4 + 1;
+        return budget / 2 + 1;
     }
     budget
 }
