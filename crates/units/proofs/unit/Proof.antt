@@ -18,8 +18,6 @@ unit-spec =
     (tie.spec
     Inv-loop
     μ-loop
-    -- numbers-requires
-    (λ c κs. search needs)
     -- apart-requires
     (λ c κs. search needs)
     -- links-requires
@@ -31,11 +29,11 @@ unit-spec =
     -- reach-rows-requires
     (λ c κs. link-counted _ _ _ (c .before .before .before .links .ensures .0) (c .before .before .loop .inv) (omega arith))
     -- unit-at-requires
-    (λ c κs. c .before .before .before .before .before .before .before .before .before .before .before .before .before .before .pre)
+    (λ c κs. c .before .before .before .before .before .before .before .before .before .before .before .before .before .pre)
     -- enum-known-rule
     (λ c. search needs)
     -- returns
-    (λ c. proposed-by _ _ _ _ (link-counted _ _ _ (c .before .before .before .before .before .before .before .before .before .before .before .before .links .ensures .0) (c .before .before .before .before .before .before .before .before .before .before .before .loop .inv) (omega arith)) (c .before .before .before .before .before .before .before .before .before .link-rows .ensures) (c .before .before .before .before .before .before .before .before .reach-rows .ensures) (c .before .before .before .before .before .before .before .before .before .before .before .before .before .before .before .before .before .before .args .layout .terms) _ _ _ _ _ (c .before .rule .given .1) (c .before .before .before .unit-at .ensures))
+    (λ c. proposed-by _ _ _ _ (link-counted _ _ _ (c .before .before .before .before .before .before .before .before .before .before .before .before .links .ensures .0) (c .before .before .before .before .before .before .before .before .before .before .before .loop .inv) (omega arith)) (c .before .before .before .before .before .before .before .before .before .link-rows .ensures) (c .before .before .before .before .before .before .before .before .reach-rows .ensures) (c .before .before .before .before .before .before .before .before .before .before .before .before .before .before .before .before .before .args .layout .terms) _ _ _ _ _ (c .before .rule .given .1) (c .before .before .before .unit-at .ensures))
     -- enum-told
     (λ c. search needs)
     -- add-k
