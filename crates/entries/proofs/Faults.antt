@@ -4,18 +4,64 @@ use native.Mathlib.Nat.{add-zero, add-suc, add-assoc, suc-add, suc-mul, sub-zero
 use native.Mathlib.Numerals.{add-one}
 use native.Mathlib.Omega.{arith}
 use mathlib.Core.Path.{_≡_, refl, sym, ap, _∙_}
-use mathlib.Core.Bool.{Bool, true, false, not}
+use mathlib.Core.Bool.{Bool, true, false, not, _||_, true≢false, false≢true}
 use mathlib.Core.List.{List, [], _∷_, _++_}
 use mathlib.Core.Option.{Option, none, some}
 use lib.ListN.{length, getD, drop}
 use lib.Seq.{drop-drop}
 use lib.Dec.{eqb}
-use Rattle.logic.specs.Search.{_and_, from, keep, orElse, flatMap}
-use Rattle.logic.specs.Query.{Role, countRole, roleFault}
+use Rattle.logic.specs.Search.{_and_, from, all, keep, orElse, flatMap}
+use Rattle.logic.specs.Query.{Role, entryRole, signRole, termRole, numberRole, countRole, roleFault}
+use Rattle.theory.proofs.Basics.Search.{all-append}
 use Rattle.entries.specs.declared.Kind.{Kind}
 use Rattle.entries.specs.declared.Kind.the-variants as kind
-use Rattle.entries.specs.Entries.{widthOf, rolesAt, meets, faultAt, sectionFault}
+use Rattle.entries.specs.Entries.{widthOf, rolesAt, concerned, meets, faultAt, sectionFault}
 use Rattle.entries.proofs.Loops.{drop-next}
+
+-- A section whose bytes are not held to refusal k
+
+abbrev Free : ℕ → List Role → Type 0
+Free k roles = all (λ r. not (eqb (r .refusal) k)) roles ≡ true
+
+free-none : (k place : ℕ) (roles : List Role) (bytes : List ℕ) → Free k roles → roleFault k place roles bytes ≡ none
+unfolding roleFault all keep orElse _and_
+free-none k place [] bytes h = refl
+free-none k place (r ∷ roles) [] h = refl
+free-none k place (r ∷ roles) (b ∷ bytes) h = go (eqb (r .refusal) k) h (λ f. free-none k (suc place) roles bytes f)
+  where
+    go : (t : Bool) → not t and all (λ r. not (eqb (r .refusal) k)) roles ≡ true → (Free k roles → roleFault k (suc place) roles bytes ≡ none) → orElse (keep (t and not (r .allows b)) place) (roleFault k (suc place) roles bytes) ≡ none
+    go true f rest = absurd (false≢true f)
+    go false f rest = rest f
+
+free-each : (k : ℕ) (roles : ℕ → List Role) → ((i : ℕ) → Free k (roles i)) → (xs : List ℕ) → Free k (flatMap roles xs)
+unfolding flatMap all
+free-each k roles h [] = refl
+free-each k roles h (x ∷ xs) = all-append (λ r. not (eqb (r .refusal) k)) (roles x) (flatMap roles xs) (h x) (free-each k roles h xs)
+
+or-left-false : (a b : Bool) → a || b ≡ false → a ≡ false
+or-left-false true b e = e
+or-left-false false b e = refl
+
+or-right-false : (a b : Bool) → a || b ≡ false → b ≡ false
+or-right-false true b e = absurd (true≢false e)
+or-right-false false b e = e
+
+free-kind : (k : ℕ) (s : Kind) → concerned s k ≡ false → (n i : ℕ) → Free k (rolesAt s n i)
+unfolding all _and_ entryRole signRole termRole numberRole countRole
+free-kind k kind.Terms e n i = rw e refl
+free-kind k kind.Pairs e n i = rw (or-left-false (eqb 6 k) (eqb 7 k) e, or-right-false (eqb 6 k) (eqb 7 k) e) refl
+free-kind k kind.Fields e n i =
+    let f = or-left-false (eqb 6 k || eqb 7 k) (eqb 8 k) e in
+    rw (or-left-false (eqb 6 k) (eqb 7 k) f, or-right-false (eqb 6 k) (eqb 7 k) f, or-right-false (eqb 6 k || eqb 7 k) (eqb 8 k) e) refl
+free-kind k kind.Booleans e n i = rw (or-left-false (eqb 6 k) (eqb 8 k) e, or-right-false (eqb 6 k) (eqb 8 k) e) refl
+free-kind k kind.LinkedTerms e n i = rw (or-left-false (eqb 0 k) (eqb 5 k) e, or-right-false (eqb 0 k) (eqb 5 k) e) refl
+free-kind k kind.LinkedPairs e n i =
+    let f = or-left-false (eqb 0 k || eqb 6 k) (eqb 7 k) e in
+    rw (or-left-false (eqb 0 k) (eqb 6 k) f, or-right-false (eqb 0 k) (eqb 6 k) f, or-right-false (eqb 0 k || eqb 6 k) (eqb 7 k) e) refl
+
+pub section-free : (k : ℕ) (s : Kind) (n at count : ℕ) (bytes : List ℕ) → concerned s k ≡ false → sectionFault k s n at count bytes ≡ none
+unfolding sectionFault
+section-free k s n at count bytes e = free-none k at _ (drop at bytes) (free-each k (rolesAt s n) (free-kind k s e n) (from count 1))
 
 module _ {A : Type 0} where
   pub orElse-some : {o : Option A} (o′ : Option A) {a : A} → o ≡ some a → orElse o o′ ≡ some a

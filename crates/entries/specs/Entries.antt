@@ -1,6 +1,6 @@
 -- The bytes of an entry, by the kind of its section, and the lowest one that meets a refusal.
 use Prim.Native.Nat.{ℕ}
-use mathlib.Core.Bool.{Bool, not}
+use mathlib.Core.Bool.{Bool, not, _||_}
 use mathlib.Core.List.{List, [], _∷_}
 use mathlib.Core.Option.{Option, none, some}
 use lib.ListN.{getD, drop}
@@ -29,6 +29,15 @@ rolesAt kind.Fields n i = signRole ∷ numberRole ∷ termRole n ∷ []
 rolesAt kind.Booleans n i = signRole ∷ numberRole ∷ []
 rolesAt kind.LinkedTerms n i = countRole ∷ entryRole i ∷ []
 rolesAt kind.LinkedPairs n i = signRole ∷ countRole ∷ termRole n ∷ termRole n ∷ []
+
+-- some byte of an entry is held to refusal k; 0 is none, and stands for a byte that is held to nothing
+abbrev pub concerned : Kind → ℕ → Bool
+concerned kind.Terms k = eqb 5 k
+concerned kind.Pairs k = eqb 6 k || eqb 7 k
+concerned kind.Fields k = (eqb 6 k || eqb 7 k) || eqb 8 k
+concerned kind.Booleans k = eqb 6 k || eqb 8 k
+concerned kind.LinkedTerms k = eqb 0 k || eqb 5 k
+concerned kind.LinkedPairs k = (eqb 0 k || eqb 6 k) || eqb 7 k
 
 -- the role of a byte that counts from 1 to `most`, with its refusal
 unfoldable pub countedRole : ℕ → ℕ → Role

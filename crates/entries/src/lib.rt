@@ -6,7 +6,7 @@ ghost use lib.ListN.{length, getD, drop};
 ghost use Rattle.logic.specs.Search.{orElse};
 ghost use Rattle.logic.specs.Query.{entryRole, signRole, termRole, roleFault};
 ghost use Rattle.logic.specs.ThreeLinks.{isLink, mayPrecede};
-ghost use Rattle.entries.specs.Entries.{widthOf, rolesAt, countedRole, meets, faultAt, sectionFault, foundOf};
+ghost use Rattle.entries.specs.Entries.{widthOf, rolesAt, countedRole, meets, faultAt, sectionFault, foundOf, concerned};
 ghost use Rattle.entries.specs.Links.{linkedTerms, linkedPairs, linkedWidth, linkAt, linksFrom};
 
 // What the bytes of a section's entries are held to: equalities and reachability literals are pairs of terms. With three links (02, R-11) a
@@ -138,11 +138,28 @@ pub fn width(kind: Kind) -> usize
     }
 }
 
+// Some byte of an entry is held to refusal k: where none is, a section need not be searched.
+fn concerned(kind: Kind, k: usize) -> bool
+    ensures { λ r. ⌜ r ≡ concerned kind k ⌝ }
+{
+    match kind {
+        Kind::Terms => 5 == k,
+        Kind::Pairs => (6 == k) | (7 == k),
+        Kind::Fields => (6 == k) | (7 == k) | (8 == k),
+        Kind::Booleans => (6 == k) | (8 == k),
+        Kind::LinkedTerms => (0 == k) | (5 == k),
+        Kind::LinkedPairs => (0 == k) | (6 == k) | (7 == k),
+    }
+}
+
 // The lowest byte that meets refusal k, among `count` entries at `at`.
 pub fn section_fault(k: usize, kind: Kind, n: usize, query: &[u8], at: usize, count: usize) -> Found
     requires { ⌜ at + count * widthOf kind ≤ length (now query) ⌝ }
     ensures { λ r. ⌜ foundOf r ≡ sectionFault k kind n at count (now (query .entry)) ⌝ }
 {
+    if !concerned(kind, k) {
+        return Found::Nothing;
+    }
     let step = width(kind);
     let mut place = at;
     let mut i: usize = 0;
