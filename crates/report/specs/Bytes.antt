@@ -1,5 +1,5 @@
 -- The report's bytes as they are written.
-use Prim.Native.Nat.{ℕ, _-_, _*_, _≤_, _<_}
+use Prim.Native.Nat.{ℕ, _-_, _≤_, _<_}
 use mathlib.Core.Path.{_≡_}
 use mathlib.Core.Bool.{Bool, true}
 use mathlib.Core.List.{List, [], _∷_, _++_, map}
@@ -40,8 +40,12 @@ pub record Reportable (l : Layout) (query : List ℕ) (s : Facts) : Type 0 where
 unfoldable pub successorsAmong : ℕ → logic.Facts → List ℕ → ℕ → List ℕ
 successorsAmong n s ts i = map (λ v. placeOf (shownLink n s i v) ts) ts
 
--- the four sections, from the terms that are nodes, their links, and the bytes of each; the byte of booleans is 0
-abbrev pub sections : ℕ → logic.Facts → List ℕ → (ℕ → ℕ) → (ℕ → ℕ) → List ℕ
-sections n s ts node datum =
-    (s .links * length ts ∷ flatMap (successorsAmong n s ts) (linkNumbers (s .links)))
+-- the successors along every link, link by link
+abbrev pub allSuccessors : ℕ → logic.Facts → List ℕ → List ℕ
+allSuccessors n s ts = flatMap (successorsAmong n s ts) (linkNumbers (s .links))
+
+-- the four sections, from the terms that are nodes, the successors, and the bytes of each; the byte of booleans is 0
+abbrev pub sections : ℕ → List ℕ → List ℕ → (ℕ → ℕ) → (ℕ → ℕ) → List ℕ
+sections n ts successors node datum =
+    (length successors ∷ successors)
     ++ ((n ∷ map node (terms n)) ++ ((length ts ∷ map datum ts) ++ (1 ∷ 0 ∷ [])))

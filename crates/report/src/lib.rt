@@ -5,15 +5,15 @@ ghost use mathlib.Core.List.{_∷_, map};
 ghost use lib.ListN.{length, getD};
 ghost use Rattle.facts.specs.Square.{square};
 ghost use Rattle.facts.specs.Path.{pathOf, repOf, HasLink};
-ghost use Rattle.logic.specs.Search.{from, flatMap};
+ghost use Rattle.logic.specs.Search.{from};
 ghost use Rattle.logic.specs.Query.{decode};
-ghost use Rattle.logic.specs.Facts.{terms, linkNumbers};
+ghost use Rattle.logic.specs.Facts.{terms};
 ghost use Rattle.logic.specs.Rules.{next};
 ghost use Rattle.logic.specs.Calls.{padded};
 ghost use Rattle.logic.specs.Shown.{byteOf, shownLink, report};
 ghost use Rattle.report.specs.Nodes.{nodeOf, marked, nodesBy, Numbers};
 ghost use Rattle.lent.specs.Appending.{Appends};
-ghost use Rattle.report.specs.Bytes.{fieldHeld, literalsAt, FieldsIn, Reportable, successorsAmong, sections};
+ghost use Rattle.report.specs.Bytes.{fieldHeld, literalsAt, FieldsIn, Reportable, allSuccessors, sections};
 ghost use Rattle.completion.specs.Links.{linkOf};
 use facts::Facts;
 use facts::Link;
@@ -222,7 +222,7 @@ fn put_successors(
     n: usize,
 ) -> usize
     requires { ⌜ (n ≤ 16) × (m ≤ 16) × (m ≡ length (marked (now marks) n)) × (at + pathOf s .links * m ≤ length (now buffer)) × Numbers nodes (marked (now marks) n) ⌝ }
-    ensures { λ r. ⌜ (r ≡ at + pathOf s .links * m) × Appends (now (buffer .entry)) (now (buffer .exit)) at (flatMap (successorsAmong n (pathOf s) (marked (now (marks .entry)) n)) (linkNumbers (pathOf s .links))) ⌝ }
+    ensures { λ r. ⌜ (r ≡ at + pathOf s .links * m) × Appends (now (buffer .entry)) (now (buffer .exit)) at (allSuccessors n (pathOf s) (marked (now (marks .entry)) n)) ⌝ }
 {
     let links = facts::links(s);
     let mut to = at;
@@ -247,7 +247,7 @@ fn put_successor_section(
     n: usize,
 ) -> usize
     requires { ⌜ (n ≤ 16) × (m ≤ 16) × (m ≡ length (marked (now marks) n)) × (at + 1 + pathOf s .links * m ≤ length (now buffer)) × Numbers nodes (marked (now marks) n) ⌝ }
-    ensures { λ r. ⌜ (r ≡ at + 1 + pathOf s .links * m) × Appends (now (buffer .entry)) (now (buffer .exit)) at (pathOf s .links * m ∷ flatMap (successorsAmong n (pathOf s) (marked (now (marks .entry)) n)) (linkNumbers (pathOf s .links))) ⌝ }
+    ensures { λ r. ⌜ (r ≡ at + 1 + pathOf s .links * m) × Appends (now (buffer .entry)) (now (buffer .exit)) at (pathOf s .links * m ∷ allSuccessors n (pathOf s) (marked (now (marks .entry)) n)) ⌝ }
 {
     let links = facts::links(s);
     let count = links * m;
@@ -294,7 +294,7 @@ fn write_sections(
     fields: &[u8; 17],
 )
     requires { ⌜ (n ≤ 16) × (m ≤ 16) × (m ≡ length (marked (now marks) n)) × (5 + n + m + pathOf s .links * m ≤ length (now buffer)) × Numbers nodes (marked (now marks) n) ⌝ }
-    ensures { λ r. ⌜ now (buffer .exit) ≡ padded (length (now (buffer .entry))) (sections n (pathOf s) (marked (now (marks .entry)) n) (λ t. getD (now (places .entry)) t 0) (λ t. getD (now (fields .entry)) t 0)) ⌝ }
+    ensures { λ r. ⌜ now (buffer .exit) ≡ padded (length (now (buffer .entry))) (sections n (marked (now (marks .entry)) n) (allSuccessors n (pathOf s) (marked (now (marks .entry)) n)) (λ t. getD (now (places .entry)) t 0) (λ t. getD (now (fields .entry)) t 0)) ⌝ }
 {
     lent::clear(buffer);
     let second = put_successor_section(buffer, 0, s, m, marks, nodes, n);
