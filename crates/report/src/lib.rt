@@ -4,7 +4,7 @@ ghost use Prim.Native.Nat.{ℕ, _+_, _-_, _*_, _≤_, _<_};
 ghost use mathlib.Core.List.{_∷_, map};
 ghost use lib.ListN.{length, getD};
 ghost use Rattle.facts.specs.Square.{square};
-ghost use Rattle.facts.specs.Path.{pathOf, repOf};
+ghost use Rattle.facts.specs.Path.{pathOf, repOf, HasLink};
 ghost use Rattle.logic.specs.Search.{from};
 ghost use Rattle.logic.specs.Query.{decode};
 ghost use Rattle.logic.specs.Facts.{terms};
@@ -13,9 +13,10 @@ ghost use Rattle.logic.specs.Calls.{padded};
 ghost use Rattle.logic.specs.Shown.{byteOf, shownLink, report};
 ghost use Rattle.report.specs.Nodes.{nodeOf, marked, nodesBy, Numbers};
 ghost use Rattle.lent.specs.Appending.{Appends};
-ghost use Rattle.report.specs.Bytes.{fieldHeld, literalsAt, FieldsIn, Reportable, sections};
+ghost use Rattle.report.specs.Bytes.{fieldHeld, literalsAt, FieldsIn, Reportable, allSuccessors, sections};
 ghost use Rattle.completion.specs.Links.{linkOf};
 use facts::Facts;
+use facts::Link;
 use facts::Term;
 use query::Layout;
 
@@ -192,12 +193,12 @@ pub fn row_bytes(marks: &[u32; 17], n: usize) -> [u8; 17]
     bytes
 }
 
-// The successors, at the numbers to n.
-fn successor_bytes(s: Facts, n: usize, nodes: [Node; 17]) -> [u8; 17]
-    requires { ⌜ (n ≤ 16) × ((t : ℕ) → t ≤ 16 → nodeOf nodes t ≤ 16) ⌝ }
-    ensures { λ r. ⌜ ((t : ℕ) → t ≤ n → getD r t 0 ≡ nodeOf nodes (shownLink n (pathOf s) 1 t)) ⌝ }
+// The successors along link k, at the numbers to n.
+fn successor_bytes(s: Facts, n: usize, nodes: [Node; 17], k: Link) -> [u8; 17]
+    requires { ⌜ (n ≤ 16) × ((t : ℕ) → t ≤ 16 → nodeOf nodes t ≤ 16) × HasLink (pathOf s) (k .0) ⌝ }
+    ensures { λ r. ⌜ ((t : ℕ) → t ≤ n → getD r t 0 ≡ nodeOf nodes (shownLink n (pathOf s) (k .0) t)) ⌝ }
 {
-    let links = completion::shown_links(s, n);
+    let links = completion::shown_links(s, n, k);
     nodes_linked(nodes, links, n)
 }
 
@@ -208,6 +209,50 @@ fn data_bytes(query: &[u8], at: usize, count: usize, rep: &[u8; 17], n: usize) -
 {
     let marks = mark_fields(query, at, count, rep);
     row_bytes(&marks, n)
+}
+
+// The successors of the m nodes, link by link.
+fn put_successors(
+    buffer: &mut [u8],
+    at: usize,
+    s: Facts,
+    m: usize,
+    marks: &[bool; 17],
+    nodes: [Node; 17],
+    n: usize,
+) -> usize
+    requires { ⌜ (n ≤ 16) × (m ≤ 16) × (m ≡ length (marked (now marks) n)) × (at + pathOf s .links * m ≤ length (now buffer)) × Numbers nodes (marked (now marks) n) ⌝ }
+    ensures { λ r. ⌜ (r ≡ at + pathOf s .links * m) × Appends (now (buffer .entry)) (now (buffer .exit)) at (allSuccessors n (pathOf s) (marked (now (marks .entry)) n)) ⌝ }
+{
+    let links = facts::links(s);
+    let mut to = at;
+    let mut k: usize = 1;
+    while k <= links {
+        let bytes = successor_bytes(s, n, nodes, Link(k));
+        put_nodes(buffer, to, &bytes, marks, nodes, n);
+        to += m;
+        k += 1;
+    }
+    to
+}
+
+// "m successors", or "3m successors, link by link, after the count 3m" (02, R-11).
+fn put_successor_section(
+    buffer: &mut [u8],
+    at: usize,
+    s: Facts,
+    m: usize,
+    marks: &[bool; 17],
+    nodes: [Node; 17],
+    n: usize,
+) -> usize
+    requires { ⌜ (n ≤ 16) × (m ≤ 16) × (m ≡ length (marked (now marks) n)) × (at + 1 + pathOf s .links * m ≤ length (now buffer)) × Numbers nodes (marked (now marks) n) ⌝ }
+    ensures { λ r. ⌜ (r ≡ at + 1 + pathOf s .links * m) × Appends (now (buffer .entry)) (now (buffer .exit)) at (pathOf s .links * m ∷ allSuccessors n (pathOf s) (marked (now (marks .entry)) n)) ⌝ }
+{
+    let links = facts::links(s);
+    let count = links * m;
+    let next = lent::put(buffer, at, count as u8);
+    put_successors(buffer, next, s, m, marks, nodes, n)
 }
 
 // A section of one byte for each node: the count of the nodes, and the bytes of the terms that are nodes.
@@ -237,22 +282,22 @@ pub fn put_term_section(buffer: &mut [u8], at: usize, n: usize, bytes: &[u8; 17]
     put_terms(buffer, next, bytes, n)
 }
 
-// "m successors; n nodes, one per term; m data bytes ..; one byte of booleans", which is 0 (02, R-13), and zeros past them.
+// The successors; "n nodes, one per term; m data bytes ..; one byte of booleans", which is 0 (02, R-13), and zeros past them.
 fn write_sections(
     buffer: &mut [u8],
+    s: Facts,
     marks: &[bool; 17],
     nodes: [Node; 17],
     m: usize,
     n: usize,
-    successors: &[u8; 17],
     places: &[u8; 17],
     fields: &[u8; 17],
 )
-    requires { ⌜ (n ≤ 16) × (m ≤ 16) × (m ≡ length (marked (now marks) n)) × (53 ≤ length (now buffer)) × Numbers nodes (marked (now marks) n) ⌝ }
-    ensures { λ r. ⌜ now (buffer .exit) ≡ padded (length (now (buffer .entry))) (sections n (marked (now (marks .entry)) n) (λ t. getD (now (successors .entry)) t 0) (λ t. getD (now (places .entry)) t 0) (λ t. getD (now (fields .entry)) t 0)) ⌝ }
+    requires { ⌜ (n ≤ 16) × (m ≤ 16) × (m ≡ length (marked (now marks) n)) × (5 + n + m + pathOf s .links * m ≤ length (now buffer)) × Numbers nodes (marked (now marks) n) ⌝ }
+    ensures { λ r. ⌜ now (buffer .exit) ≡ padded (length (now (buffer .entry))) (sections n (marked (now (marks .entry)) n) (allSuccessors n (pathOf s) (marked (now (marks .entry)) n)) (λ t. getD (now (places .entry)) t 0) (λ t. getD (now (fields .entry)) t 0)) ⌝ }
 {
     lent::clear(buffer);
-    let second = put_node_section(buffer, 0, m, successors, marks, nodes, n);
+    let second = put_successor_section(buffer, 0, s, m, marks, nodes, n);
     let third = put_term_section(buffer, second, n, places);
     let fourth = put_node_section(buffer, third, m, fields, marks, nodes, n);
     let last = lent::put(buffer, fourth, 1);
@@ -261,15 +306,14 @@ fn write_sections(
 
 // The heap report.
 pub fn write_report(buffer: &mut [u8], query: &[u8], l: Layout, s: Facts)
-    requires { ⌜ (53 ≤ length (now buffer)) × Reportable l (now query) s ⌝ }
+    requires { ⌜ (37 + 16 * (pathOf s .links) ≤ length (now buffer)) × Reportable l (now query) s ⌝ }
     ensures { λ r. ⌜ now (buffer .exit) ≡ padded (length (now (buffer .entry))) (report (decode (now (query .entry))) (pathOf s)) ⌝ }
 {
     let n = l.terms;
     let marks = mark_nodes(&s.rep, n);
     let m = count_marks(&marks, n);
     let nodes = number_nodes(&marks, n, m);
-    let successors = successor_bytes(s, n, nodes);
     let places = nodes_of_terms(nodes, &s.rep, n);
     let fields = data_bytes(query, l.field_at, l.field_count, &s.rep, n);
-    write_sections(buffer, &marks, nodes, m, n, &successors, &places, &fields);
+    write_sections(buffer, s, &marks, nodes, m, n, &places, &fields);
 }

@@ -5,16 +5,16 @@ use native.Mathlib.Nat.{div-one}
 use mathlib.Core.Path.{_≡_, refl, sym, ap, ap₂, _∙_, fun-ext}
 use mathlib.Core.Logic.{_⊎_, ⊎-elim, inl, inr}
 use mathlib.Core.Bool.{Bool, true, false, not, cond}
-use mathlib.Core.List.{List, [], _∷_, _++_, map, append-nil}
+use mathlib.Core.List.{List, [], _∷_, map}
 use mathlib.Core.Option.{Option, none, some, Option·elim}
 use lib.ListN.{length, getD}
 use lib.Dec.{eqb, ltb, leb}
-use Rattle.logic.specs.Search.{_and_, _or_, from, all, any, keep, orElse, firstOf, find, flatMap}
+use Rattle.logic.specs.Search.{_and_, _or_, from, all, any, keep, orElse, firstOf, find}
 use Rattle.logic.specs.Query.{Query, termCount}
 use Rattle.logic.specs.Facts.{Graph, Facts, Line, line, linkNumbers, terms, live, successors, firstTwo, doubled}
 use Rattle.logic.specs.Rules.{Rule, REFLEX, TRANS1, TRANS2, FUNC, CYCLE, SCC, TOTAL, SHARE, ruleNumber, rules, ruleOf, Triple, triple, triples, Move, move, equal, round, conditions, alternatives, held, hasLink, applies, choose, moveNumber, moveLine, moveOf}
 use Rattle.logic.specs.Walk.{limit}
-use Rattle.logic.specs.Shown.{shownLink, nodes, placeOf, fieldByte, successorsShown, report, isNode, sizeIn, nodeIn, heapIn, wellFormed}
+use Rattle.logic.specs.Shown.{isNode, sizeIn, nodeIn, heapIn, wellFormed}
 use Rattle.theory.proofs.Basics.Search.{not-of}
 use Rattle.theory.proofs.Basics.Compare.{eqb-self}
 use Rattle.theory.proofs.Paths.Applies.{hasLink-range, applies-linked}
@@ -79,15 +79,6 @@ unfolding limit
 limit-one q one = rw one (omega arith)
 
 -- Reports
-
-pub report-one : (q : Query) (s : Facts) → q .links ≡ 1 → report q s ≡ (length (nodes (termCount q) s) ∷ map (λ v. placeOf (shownLink (termCount q) s 1 v) (nodes (termCount q) s)) (nodes (termCount q) s)) ++ ((termCount q ∷ map (λ t. placeOf (s .rep t) (nodes (termCount q) s)) (terms (termCount q))) ++ ((length (nodes (termCount q) s) ∷ map (fieldByte q s) (nodes (termCount q) s)) ++ (1 ∷ 0 ∷ [])))
-unfolding report successorsShown linkNumbers from flatMap
-report-one q s one =
-    let m : ℕ = length (nodes (termCount q) s) in
-    let row : ℕ → List ℕ = successorsShown (termCount q) s in
-    let behind : List ℕ = (termCount q ∷ map (λ t. placeOf (s .rep t) (nodes (termCount q) s)) (terms (termCount q))) ++ ((m ∷ map (fieldByte q s) (nodes (termCount q) s)) ++ (1 ∷ 0 ∷ [])) in
-    let e : 1 * m ≡ m = omega arith in
-    ap (λ (k : ℕ). (k * m ∷ flatMap row (from k 1)) ++ behind) one ∙ ap₂ (λ (k : ℕ) (rows : List ℕ). (k ∷ rows) ++ behind) e (append-nil (row 1))
 
 pub wellFormed-one : (bytes : List ℕ) → wellFormed 1 bytes ≡ (isNode 16 (sizeIn bytes) and leb (getD bytes (sizeIn bytes + 1) 0) 16 and leb (sizeIn bytes + getD bytes (sizeIn bytes + 1) 0 + sizeIn bytes + 5) (length bytes) and eqb (getD bytes (sizeIn bytes + getD bytes (sizeIn bytes + 1) 0 + 2) 0) (sizeIn bytes) and eqb (getD bytes (sizeIn bytes + getD bytes (sizeIn bytes + 1) 0 + sizeIn bytes + 3) 0) 1 and all (λ i. isNode (sizeIn bytes) (getD bytes i 0)) (from (sizeIn bytes) 1) and all (λ i. isNode (sizeIn bytes) (getD bytes i 0)) (from (getD bytes (sizeIn bytes + 1) 0) (sizeIn bytes + 2)) and all (λ i. eqb (getD bytes i 0) 0) (from (length bytes - (sizeIn bytes + getD bytes (sizeIn bytes + 1) 0 + sizeIn bytes + 5)) (sizeIn bytes + getD bytes (sizeIn bytes + 1) 0 + sizeIn bytes + 5)))
 unfolding wellFormed _and_
