@@ -2,7 +2,7 @@
 //! the enumerator.
 
 use crate::reference::{derivation, encode, heapverdict, verdict, End};
-use crate::{check, generate, linkheaps, links, vectors};
+use crate::{check, generate, linkheaps, links, long, vectors};
 use std::path::Path;
 
 const ORDER: [u8; 8] = [1, 2, 3, 4, 5, 6, 7, 8];
@@ -160,4 +160,16 @@ fn three_links_rewritten() {
     for name in ["base", "R-3", "R-13", "rewritten"] {
         assert_eq!(linkheaps::rewritten(&directory.join(format!("{name}.bin"))), Ok(true));
     }
+}
+
+/// With link 1 the fourth of the long derivations has 16,000 lines, the third more than a derivation may have.
+#[test]
+fn three_links_long() {
+    let inputs = long::inputs();
+    let lines = [2, 3].map(|i| {
+        let (order, query) = inputs[i].split_at(8);
+        links::linksverdict(&[order, &linkheaps::linked(query, || 1)].concat())
+    });
+    assert_eq!(lines[0], "unsat\nrefused 12 at 0\n");
+    assert_eq!(lines[1].lines().count(), 16_001);
 }
