@@ -19,7 +19,7 @@
  *     the call.
  *
  * The calls keep nothing: no statics, no heap memory, no locks, no input or output. They may run in several threads at a
- * time. A call needs less than 900 kB of stack. It always returns, and no order list makes a verdict slow; queries of many
+ * time. A call needs less than 450 kB of stack. It always returns, and no order list makes a verdict slow; queries of many
  * terms can still be made on purpose that take a second or more.
  *
  * The answer is one number. Below 65,536 it is the call's own answer; else the call was refused, and it is the refusal's
@@ -75,7 +75,7 @@ extern "C" {
  *   24  the joined query passes a limit, or the lent bytes are too few for it
  *   25  the line does not begin with 9, or names no literal of either query
  *   26  the count of section 5, the booleans, which are retired, is not 0 (place: that count; it is met where 3 would be)
- *   27  an old query has no room for the fresh variable or its booleans, or the lent bytes are too few for it
+ *   27  an old query has no room for the fresh variable or its booleans, or the lent bytes are too few for the query rewritten
  *
  * There is no 10, and no call of this header has 22 or 28. The place is 0 for 1 and from 9 on, but for 17, 18 and 26. */
 static inline unsigned lemitsaka_refusal(uint64_t answer)
@@ -206,6 +206,18 @@ uint64_t lemitsaka_hand_back(const uint8_t *first, size_t first_len,
 #define LEMITSAKA_OLD_QUERY_SIZE 681
 uint64_t lemitsaka_rewrite(const uint8_t *old_query, size_t old_query_len,
                            uint8_t *query, size_t query_len);
+
+/* What does a query say where there are three links?
+ *
+ * The query written is the same with link 1, in the layout for three links: a term entry is two bytes, its link and its term byte, the
+ * link 0 before 0 and 255, else 1; a reachability literal is four, sign, 1, from and to. The same heaps meet both queries, so that
+ * both have the same verdict under every order list. The answer is the length of the query written, with zeros past it;
+ * LEMITSAKA_LINKS_QUERY_SIZE bytes hold every one.
+ *
+ *   refused   2 to 8 and 26 of the query, then 27: the lent bytes are too few; at 0 */
+#define LEMITSAKA_LINKS_QUERY_SIZE 637
+uint64_t lemitsaka_links_rewrite(const uint8_t *query, size_t query_len,
+                                 uint8_t *links_query, size_t links_query_len);
 
 #ifdef __cplusplus
 }

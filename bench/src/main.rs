@@ -11,6 +11,8 @@ mod enumerate;
 mod generate;
 #[cfg(feature = "library")]
 mod library;
+mod linkheaps;
+mod links;
 mod long;
 #[cfg(feature = "library")]
 mod luck;
@@ -43,6 +45,9 @@ luck DIR                      (feature library) workload-luck: every answer as s
 climb DIR SECONDS SEED        (feature library) look for queries that are bad for the verdict call
 differential N SEED           (feature library) compare library and reference on N random inputs
 heapverdict                   be the program heapverdict
+linksverdict                  be the program linksverdict, which takes three links (R-11)
+links DIR                     compare the reading of R-11 with its vectors, and base.bin's verdicts with those of its rewriting with link 1
+links random N SEED           compare it with every small heap on N random queries, and two orders on larger ones
 between FILE                  compare the plain search of R-10 with its vectors
 between                       time it on slow queries (with feature library: the library too)
 between N SEED                (feature library) compare it with the library on N random queries
@@ -64,6 +69,13 @@ fn main() -> ExitCode {
 
 fn number(word: &str) -> Result<u64, String> {
     word.parse().map_err(|_| format!("{word}: not a number"))
+}
+
+/// As much of standard input as the programs read.
+fn standard_input() -> Result<Vec<u8>, String> {
+    let mut input = Vec::new();
+    std::io::stdin().take(reference::INPUT_BYTES as u64).read_to_end(&mut input).map_err(|e| e.to_string())?;
+    Ok(input)
 }
 
 /// Whether all agreed.
@@ -109,10 +121,14 @@ fn run(words: &[&str]) -> Result<bool, String> {
         ["between", file] => between::compare(Path::new(file)),
         ["between"] => Ok(between_time()),
         ["between", count, seed] => between_differ(number(count)? as usize, number(seed)?),
+        ["links", "random", count, seed] => linkheaps::random(number(count)? as usize, number(seed)?),
+        ["links", directory] => linkheaps::compare(Path::new(directory)),
         ["heapverdict"] => {
-            let mut input = Vec::new();
-            std::io::stdin().take(reference::INPUT_BYTES as u64).read_to_end(&mut input).map_err(|e| e.to_string())?;
-            print!("{}", reference::heapverdict(&input));
+            print!("{}", reference::heapverdict(&standard_input()?));
+            Ok(true)
+        }
+        ["linksverdict"] => {
+            print!("{}", links::linksverdict(&standard_input()?));
             Ok(true)
         }
         _ => Err(USAGE.into()),

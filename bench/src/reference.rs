@@ -34,7 +34,7 @@ pub enum Verdict {
 
 pub type Answer = Result<Verdict, Refusal>;
 
-fn refuse<T>(number: u32, place: usize) -> Result<T, Refusal> {
+pub fn refuse<T>(number: u32, place: usize) -> Result<T, Refusal> {
     Err(Refusal { number, place })
 }
 
@@ -768,43 +768,57 @@ pub fn derivation(order: &[u8], query: &[u8], buffer: &mut [u8]) -> Answer {
     match walk(&order, &query, &mut scribe).0 {
         End::Satisfiable => refuse(11, 0),
         End::Stopped => unreachable!("nothing stops this walk"),
-        End::Refuted => {
-            let bytes = 2 + 4 * scribe.count;
-            if scribe.count > LINE_LIMIT || bytes > buffer.len() as u64 {
-                return refuse(12, 0);
-            }
-            buffer[0] = (scribe.count >> 8) as u8;
-            buffer[1] = scribe.count as u8;
-            for (i, line) in scribe.lines.iter().enumerate() {
-                buffer[2 + 4 * i..6 + 4 * i].copy_from_slice(line);
-            }
-            Ok(Verdict::Refuted)
-        }
+        End::Refuted => write_derivation(&scribe, buffer),
     }
+}
+
+/// The lines of a refuted walk, into a buffer that holds zeros.
+pub fn write_derivation(scribe: &Scribe, buffer: &mut [u8]) -> Answer {
+    let bytes = 2 + 4 * scribe.count;
+    if scribe.count > LINE_LIMIT || bytes > buffer.len() as u64 {
+        return refuse(12, 0);
+    }
+    buffer[0] = (scribe.count >> 8) as u8;
+    buffer[1] = scribe.count as u8;
+    for (i, line) in scribe.lines.iter().enumerate() {
+        buffer[2 + 4 * i..6 + 4 * i].copy_from_slice(line);
+    }
+    Ok(Verdict::Refuted)
 }
 
 // ------------------------------------------------------------------------------------------------
 // The program
 
+/// The order list and the query of a program's standard input.
+pub fn split(input: &[u8]) -> (&[u8], &[u8]) {
+    let input = &input[..input.len().min(INPUT_BYTES)];
+    input.split_at(input.len().min(ORDER_BYTES))
+}
+
 /// What heapverdict prints when this is its standard input.
 pub fn heapverdict(input: &[u8]) -> String {
-    use std::fmt::Write;
-    let input = &input[..input.len().min(INPUT_BYTES)];
-    let (order, query) = input.split_at(input.len().min(ORDER_BYTES));
+    let (order, query) = split(input);
     let mut report = [0u8; REPORT_BYTES];
+    let answer = verdict(order, query, &mut report);
+    let m = usize::from(report[0]);
+    let n = usize::from(report[m + 1]);
+    printed(answer, &report[..2 * m + n + 5], |buffer| derivation(order, query, buffer))
+}
+
+/// The text for an answer, with the report's bytes or what the derivation call writes.
+pub fn printed(answer: Answer, report: &[u8], derivation: impl FnOnce(&mut [u8]) -> Answer) -> String {
+    use std::fmt::Write;
     let mut text = String::new();
-    match verdict(order, query, &mut report) {
+    match answer {
         Err(r) => writeln!(text, "refused {} at {}", r.number, r.place).unwrap(),
         Ok(Verdict::Satisfiable) => {
-            let m = usize::from(report[0]);
-            let n = usize::from(report[m + 1]);
-            let row: Vec<String> = report[..2 * m + n + 5].iter().map(|b| format!("{b:02x}")).collect();
+            let row: Vec<String> = report.iter().map(|b| format!("{b:02x}")).collect();
             writeln!(text, "sat\n{}", row.join(" ")).unwrap();
         }
         Ok(Verdict::Refuted) => {
             text.push_str("unsat\n");
             let mut buffer = vec![0u8; DERIVATION_BYTES];
-            match derivation(order, query, &mut buffer) {
+            match derivation(&mut buffer) {
                 Err(r) => writeln!(text, "refused {} at {}", r.number, r.place).unwrap(),
                 Ok(_) => {
                     let count = usize::from(buffer[0]) << 8 | usize::from(buffer[1]);

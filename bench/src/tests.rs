@@ -2,7 +2,7 @@
 //! the enumerator.
 
 use crate::reference::{derivation, encode, heapverdict, verdict, End};
-use crate::{check, generate, vectors};
+use crate::{check, generate, linkheaps, links, long, vectors};
 use std::path::Path;
 
 const ORDER: [u8; 8] = [1, 2, 3, 4, 5, 6, 7, 8];
@@ -98,4 +98,78 @@ fn longest_path() {
     // A chain of 16 terms whose end reaches its beginning: all but one of 256 facts come from a step.
     let query = [&[16][..], &(0..16).collect::<Vec<u8>>(), &[0, 1, 1, 16, 1, 0, 0]].concat();
     assert_eq!(generate::walked(&ORDER, &query, 1_000), Some((End::Satisfiable, 255)));
+}
+
+/// E3 and E4 with link 1, nil's links, link bytes at fault, and the buffers (02, R-11).
+#[test]
+fn three_links() {
+    let printed = |order: &[u8], query: &str| links::linksverdict(&[order, &bytes(query)].concat());
+    let e4 = "03 00 00 01 01 00 00 01 00 01 03 02 01 01 01 03 00 01 02 03 00 00";
+    assert_eq!(printed(&ORDER, "00 00 00 00 00"), "sat\n03 01 01 01 00 01 00 01 00\n");
+    assert_eq!(
+        printed(&ORDER, "02 00 00 00 00 01 00 01 02 02 01 01 01 02 01 01 02 01 00 00"),
+        "sat\n06 02 01 01 02 01 02 02 01 02 02 00 00 01 00\n"
+    );
+    assert_eq!(printed(&[4, 1, 2, 3, 5, 6, 7, 8], e4), "unsat\n4 1 2 3\n10 1 3 0\n9 2 1 0\n9 3 2 0\n");
+    // Not 1 reaches 1 by link 3: REFLEX for links 1, 2 and 3.
+    assert_eq!(printed(&ORDER, "01 00 00 00 01 00 03 01 01 00 00"), "unsat\n1 1 0 0\n17 1 0 0\n33 1 0 0\n9 3 1 0\n");
+    // Term 1 has two successors by each of links 1 and 2: link 1 goes first.
+    assert_eq!(
+        printed(&ORDER, "05 00 00 02 01 02 01 01 01 01 01 01 00 02 03 00 00 00"),
+        "unsat\n10 4 5 0\n10 2 3 0\n9 2 1 0\n"
+    );
+    // Nil, with successors by links 1 and 2: its three links are there before the first join, so that 3 is joined to it, not 4 to 3.
+    assert_eq!(
+        printed(&ORDER, "04 00 ff 01 01 02 01 02 02 01 00 03 04 00 00 00"),
+        "unsat\n10 1 2 0\n10 1 3 0\n10 1 4 0\n9 2 1 0\n"
+    );
+    // A ring of three by link 2 and a term on it that is neither of the first two: CYCLE's third alternative.
+    assert_eq!(
+        printed(&ORDER, "05 00 00 02 01 02 02 02 03 00 00 03 01 01 04 00 01 05 00 02 05 01 01 02 01 05 00 00"),
+        "sat\n09 01 02 03 02 03 01 01 02 03 05 01 02 03 01 03 03 00 00 00 01 00\n"
+    );
+    for (query, refusal) in [
+        ("01 01 00 00 00 00 00", "refused 22 at 1\n"),
+        ("01 03 ff 00 00 00 00", "refused 22 at 1\n"),
+        ("02 00 09 00 01 00 00 00 00", "refused 22 at 1\n"),
+        ("02 00 00 04 01 00 00 00 00", "refused 22 at 3\n"),
+        ("01 01 01 01 02 00 00 01 00 00 01 01 00 00", "refused 22 at 9\n"),
+        ("01 01 01 01 02 00 00 01 00 01 01 01 00 00", "refused 5 at 2\n"),
+        ("01 01 00 00 00 00 01", "refused 26 at 6\n"),
+        ("01 01 00 00 00 00 00 00", "refused 4 at 7\n"),
+    ] {
+        assert_eq!(printed(&ORDER, query), refusal);
+    }
+    let empty = [0; 5];
+    assert_eq!(encode(links::verdict(&ORDER, &empty, &mut [7; 84])), 9 * 65_536);
+    assert_eq!(encode(links::verdict(&ORDER, &empty, &mut [7; 85])), 0);
+    assert_eq!(encode(links::derivation(&ORDER, &empty, &mut [7; 10])), 11 * 65_536);
+    assert_eq!(encode(links::derivation(&[4, 1, 2, 3, 5, 6, 7, 8], &bytes(e4), &mut [7; 17])), 12 * 65_536);
+    assert_eq!(encode(links::derivation(&[4, 1, 2, 3, 5, 6, 7, 8], &bytes(e4), &mut [7; 18])), 1);
+}
+
+#[test]
+fn three_links_small_heaps() {
+    assert_eq!(linkheaps::random(1_000, 5), Ok(true));
+}
+
+/// The stored queries have the verdicts of their rewritings with link 1.
+#[test]
+fn three_links_rewritten() {
+    let directory = Path::new(env!("CARGO_MANIFEST_DIR")).join("../tests/data");
+    for name in ["base", "R-3", "R-13", "rewritten"] {
+        assert_eq!(linkheaps::rewritten(&directory.join(format!("{name}.bin"))), Ok(true));
+    }
+}
+
+/// With link 1 the fourth of the long derivations has 16,000 lines, the third more than a derivation may have.
+#[test]
+fn three_links_long() {
+    let inputs = long::inputs();
+    let lines = [2, 3].map(|i| {
+        let (order, query) = inputs[i].split_at(8);
+        links::linksverdict(&[order, &linkheaps::linked(query, || 1)].concat())
+    });
+    assert_eq!(lines[0], "unsat\nrefused 12 at 0\n");
+    assert_eq!(lines[1].lines().count(), 16_001);
 }

@@ -78,25 +78,30 @@ pub fn compare(directory: &Path, program: Program) -> Result<bool, String> {
     }
     let mut all = true;
     for path in names {
-        let inputs = read_bin(&path)?;
-        let outputs = read_txt(&path.with_extension("txt"))?;
-        if inputs.len() != outputs.len() {
-            return Err(format!("{}: {} inputs but {} outputs", path.display(), inputs.len(), outputs.len()));
-        }
-        let mut agree = 0;
-        for (i, (input, expected)) in inputs.iter().zip(&outputs).enumerate() {
-            let printed = program(input)?;
-            if &printed == expected {
-                agree += 1;
-            } else {
-                println!("input {i}: {}", hex(input));
-                println!("expected:\n{}printed:\n{}", begin(expected), begin(&printed));
-            }
-        }
-        println!("{}: {agree} of {} agree", path.file_name().unwrap().to_string_lossy(), inputs.len());
-        all &= agree == inputs.len();
+        all &= agree(&path, &path.with_extension("txt"), program)?;
     }
     Ok(all)
+}
+
+/// Runs the inputs of one file, and compares with the stored output byte for byte.
+pub fn agree(bin: &Path, stored: &Path, program: Program) -> Result<bool, String> {
+    let inputs = read_bin(bin)?;
+    let outputs = read_txt(stored)?;
+    if inputs.len() != outputs.len() {
+        return Err(format!("{}: {} inputs but {} outputs", bin.display(), inputs.len(), outputs.len()));
+    }
+    let mut agree = 0;
+    for (i, (input, expected)) in inputs.iter().zip(&outputs).enumerate() {
+        let printed = program(input)?;
+        if &printed == expected {
+            agree += 1;
+        } else {
+            println!("input {i}: {}", hex(input));
+            println!("expected:\n{}printed:\n{}", begin(expected), begin(&printed));
+        }
+    }
+    println!("{}: {agree} of {} agree", bin.file_name().unwrap().to_string_lossy(), inputs.len());
+    Ok(agree == inputs.len())
 }
 
 /// The first lines of a long output.

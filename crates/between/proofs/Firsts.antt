@@ -10,10 +10,10 @@ use lib.Seq.{getD-append-add, getD-at}
 use lib.Dec.{eqb}
 use Rattle.logic.specs.Search.{from, any}
 use Rattle.logic.specs.Shown.{placeOf}
-use Rattle.logic.proofs.Basics.Search.{bool-cases, any-true, any-intro, any-false, from-mem, from-intro, true-false}
-use Rattle.logic.proofs.Basics.Compare.{eqb-true, eqb-intro, eqb-false, le-cases}
-use Rattle.logic.proofs.Completeness.Placed.{placeOf-mem, getD-mem}
-use Rattle.logic.proofs.Graph.Pigeonhole.{pigeonhole}
+use Rattle.theory.proofs.Basics.Search.{bool-cases, any-true, any-intro, any-false, from-mem, from-intro, true-false}
+use Rattle.theory.proofs.Basics.Compare.{eqb-true, eqb-intro, eqb-false, le-cases}
+use Rattle.theory.proofs.Completeness.Placed.{placeOf-mem, getD-mem}
+use Rattle.theory.proofs.Graph.Pigeonhole.{pigeonhole}
 
 -- a member's place in a list is not behind the list's first part that holds it
 place-front : (xs ys : List ℕ) (x : ℕ) → List·Memᴰ x xs → placeOf x (xs ++ ys) ≤ length xs

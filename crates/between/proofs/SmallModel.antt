@@ -13,14 +13,14 @@ use Rattle.logic.specs.Query.{Literal, Query, namesNil, argumentOf, linkOf, ter
 use Rattle.logic.specs.Heap.{Heap, Node, IsHeap, iterate, Reaches, Signed, Each, NilNode, Meets, value}
 use Rattle.logic.specs.Facts.{terms}
 use Rattle.logic.specs.Shown.{placeOf}
-use Rattle.logic.proofs.Basics.Search.{any-true, any-intro, from-intro, from-mem, map-mem, map-intro}
-use Rattle.logic.proofs.Basics.Compare.{eqb-true, eqb-self, le-cases, cond-true}
-use Rattle.logic.proofs.Graph.Orbit.{reaches-keeps}
-use Rattle.logic.proofs.Graph.Cycles.{Within}
-use Rattle.logic.proofs.Query.Tied.{Accepted}
-use Rattle.logic.proofs.Query.Entries.{nil-range}
-use Rattle.logic.proofs.Soundness.Value.{Below, accepted-below, value-variable, value-link, value-node}
-use Rattle.logic.proofs.Completeness.Placed.{Stands, placeOf-mem, placeOf-range, placeOf-injective, getD-mem, length-from}
+use Rattle.theory.proofs.Basics.Search.{any-true, any-intro, from-intro, from-mem, map-mem, map-intro}
+use Rattle.theory.proofs.Basics.Compare.{eqb-true, eqb-self, le-cases, cond-true}
+use Rattle.theory.proofs.Graph.Orbit.{reaches-keeps}
+use Rattle.theory.proofs.Graph.Cycles.{Within}
+use Rattle.theory.proofs.Query.Tied.{Accepted}
+use Rattle.theory.proofs.Query.Entries.{nil-range}
+use Rattle.theory.proofs.Soundness.Value.{Below, accepted-below, value-variable, value-link, value-node}
+use Rattle.theory.proofs.Completeness.Placed.{Stands, placeOf-mem, placeOf-range, placeOf-injective, getD-mem, length-from}
 use Rattle.between.specs.Meaning.{BetweenLiteral, BetweenQuery, Between, MeetsBetween}
 use Rattle.between.proofs.Until.{Until, here, on, Nothing, reaches-until, between-until}
 use Rattle.between.proofs.Firsts.{firsts, firsts-has, firsts-all, firsts-short}

@@ -5,7 +5,7 @@ use native.Mathlib.Decide.{ℕ-discrete}
 use mathlib.Core.Path.{_≡_, refl, sym, ap, _∙_, subst}
 use mathlib.Core.Logic.{_↔_, _⊎_, ⊎-elim, inl, inr}
 use Rattle.logic.specs.Heap.{iterate, Reaches}
-use Rattle.logic.proofs.Basics.Compare.{le-cases}
+use Rattle.theory.proofs.Basics.Compare.{le-cases}
 use Rattle.between.specs.Meaning.{MetAfter, Between}
 
 -- following f from v leads to w, and what is passed before w is not to be avoided

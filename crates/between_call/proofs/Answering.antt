@@ -11,7 +11,7 @@ use borrow.Author.Tests.{lt-ltb, le-ltb}
 use Rattle.logic.specs.Search.{keep, orElse, firstOf}
 use Rattle.logic.specs.Query.{firstByte, termCount}
 use Rattle.logic.specs.Calls.{Input, roomCheck, Answer, refused, refusalOf, padded, blank, roomUnder}
-use Rattle.logic.proofs.Calls.CallLaws.{refusalOf-append}
+use Rattle.theory.proofs.Calls.CallLaws.{refusalOf-append}
 use Rattle.query.specs.declared.Layout.{Layout}
 use Rattle.query.proofs.Ranges.{entry-below}
 use Rattle.between.specs.Meaning.{BetweenQuery}

@@ -1,23 +1,24 @@
 -- The report's bytes are those of the heap that was found.
 use Prim.Native.Nat.{ℕ, _≤_}
 use native.Mathlib.Omega.{arith}
-use mathlib.Core.Path.{_≡_, refl, sym, ap, ap₂, _∙_}
+use mathlib.Core.Path.{_≡_, refl, sym, ap, _∙_}
 use mathlib.Core.Bool.{Bool, true, false, _&&_}
-use mathlib.Core.List.{List, [], _∷_, map, List·Memᴰ, List·Memᴰ·head, List·Memᴰ·tail}
-use lib.ListN.{length, getD}
+use mathlib.Core.List.{List, map, List·Memᴰ}
+use lib.ListN.{length, getD, length-map}
 use lib.Dec.{eqb}
 use Rattle.logic.specs.Search.{_and_}
 use Rattle.logic.specs.Query.{Literal, decode}
 use Rattle.logic.specs.Facts.{terms}
 use Rattle.logic.specs.Shown.{byteOf}
-use Rattle.logic.proofs.Basics.Search.{from-mem}
-use Rattle.logic.proofs.Completeness.Placed.{length-from}
+use Rattle.theory.proofs.Basics.Search.{from-mem}
+use Rattle.theory.proofs.Completeness.Placed.{length-from}
 use Rattle.facts.specs.Square.{square}
 use Rattle.query.specs.declared.Layout.{Layout}
 use Rattle.query.proofs.Literals.{listed, fields-listed}
 use Rattle.query.proofs.Ranges.{field-number-term}
 use Rattle.report.specs.Bytes.{fieldHeld, literalsAt, FieldsIn, sections}
 use Rattle.report.proofs.Held.{byte-alike}
+use Rattle.report.proofs.Successors.{map-alike}
 use Rattle.between_search.specs.Search.{entry, dataByte, reportOf}
 use Rattle.between_search.proofs.Due.{any-alike}
 use Rattle.between_seek.specs.Answers.{queryIn}
@@ -33,10 +34,6 @@ unfolding _and_
 and-are true true c = refl
 and-are true false c = refl
 and-are false b c = refl
-
-map-alike : (f g : ℕ → ℕ) (xs : List ℕ) → ((x : ℕ) → List·Memᴰ x xs → f x ≡ g x) → map f xs ≡ map g xs
-map-alike f g [] h = refl
-map-alike f g (x ∷ xs) h = ap₂ (λ (y : ℕ) (ys : List ℕ). y ∷ ys) (h x (List·Memᴰ·head refl)) (map-alike f g xs (λ y m. h y (List·Memᴰ·tail m)))
 
 pub terms-length : (m : ℕ) → length (terms m) ≡ m
 unfolding terms
@@ -65,7 +62,7 @@ module _ (l : Layout) (base links nodes : List ℕ) (ready : Reportable l base l
         ∙ ap (λ (ls : List Literal). byteOf (fieldHeld (entry nodes) ls v) 1 8) (sym (fields-listed l base (ready .laid)))
         ∙ byte-alike _ _ 1 8 (λ j a b. any-alike _ _ (decode base .fields) (λ k i. and-are (k .plain) (eqb (k .left) j) (eqb (entry nodes (k .right)) v)))
 
-    pub report-is : (between : List ℕ) → sections (l .terms) (terms m) (λ t. getD links t 0) (λ t. getD nodes t 0) (λ t. getD fields t 0) ≡ reportOf (queryIn base between) (record { links = links; nodes = nodes })
+    pub report-is : (between : List ℕ) → sections (l .terms) (terms m) (map (λ t. getD links t 0) (terms m)) (λ t. getD nodes t 0) (λ t. getD fields t 0) ≡ reportOf (queryIn base between) (record { links = links; nodes = nodes })
     unfolding reportOf entry
     report-is between =
-        rw (terms-length m, map-alike _ _ (terms m) datum, ready .laid .term-count, counted)
+        rw (length-map (terms m) (λ t. getD links t 0), terms-length m, map-alike _ _ (terms m) datum, ready .laid .term-count, counted)

@@ -2,7 +2,7 @@
 use between_checks::SixChecked;
 use query::Layout;
 ghost use mathlib.Core.Path.{_≡_};
-ghost use mathlib.Core.List.{List};
+ghost use mathlib.Core.List.{List, map};
 ghost use Prim.Native.Nat.{ℕ, _+_, _*_, _≤_};
 ghost use lib.ListN.{length, getD};
 ghost use Rattle.logic.specs.Facts.{terms};
@@ -51,7 +51,7 @@ fn write_sections(
     fields: &[u8; 17],
 )
     requires { ⌜ (m ≤ 16) × (n ≤ 16) × (53 ≤ length (now buffer)) ⌝ }
-    ensures { λ r. ⌜ now (buffer .exit) ≡ padded (length (now (buffer .entry))) (sections n (terms m) (λ t. getD (now (links .entry)) t 0) (λ t. getD (now (nodes .entry)) t 0) (λ t. getD (now (fields .entry)) t 0)) ⌝ }
+    ensures { λ r. ⌜ now (buffer .exit) ≡ padded (length (now (buffer .entry))) (sections n (terms m) (map (λ t. getD (now (links .entry)) t 0) (terms m)) (λ t. getD (now (nodes .entry)) t 0) (λ t. getD (now (fields .entry)) t 0)) ⌝ }
 {
     lent::clear(buffer);
     let second = report::put_term_section(buffer, 0, m, links);

@@ -11,8 +11,8 @@ use lib.ListN.{length, getD, take, drop}
 use Rattle.logic.specs.Search.{from, flatMap, orElse, firstOf}
 use Rattle.logic.specs.Query.{Role, sections, faulty, parts, layout, layoutBy, layoutOf, firstByte, roleFault, byteFault}
 use Rattle.logic.specs.Calls.{Input, refused, refusalOf}
-use Rattle.logic.proofs.Query.Bytes.{layoutNumbers, LayoutNumber, Numbered, layout-numbered}
-use Rattle.logic.proofs.Query.AcceptedBytes.{sections-excesses}
+use Rattle.theory.proofs.Query.Bytes.{layoutNumbers, LayoutNumber, Numbered, layout-numbered}
+use Rattle.theory.proofs.Query.AcceptedBytes.{sections-excesses}
 use Rattle.query.specs.declared.Layout as code
 use Rattle.query.specs.declared.Checked.the-variants as five-checked
 use Rattle.query.specs.Answers.{CheckedAs}

@@ -13,7 +13,7 @@ use lib.Dec.{eqb, leb}
 use borrow.Author.Tests.{leb-true}
 use Rattle.logic.specs.Search.{_and_, from, flatMap, keep, orElse}
 use Rattle.logic.specs.Query.{Role, Section, countRole, signRole, termRole, fourSections, booleanSection, fiveSections, sections, faulty, parts, withPart, layout, rolesOf, firstByte, layoutBy, layoutOf, roleFault, byteFault, section, queryOf, decode, termCount}
-use Rattle.logic.proofs.Query.Bytes.{Regular, first-sized}
+use Rattle.theory.proofs.Query.Bytes.{Regular, first-sized}
 use Rattle.query.proofs.Reading.{above, short, passed}
 use Rattle.entries.proofs.Loops.{drop-next}
 use Rattle.query.specs.Sections.{Stands}

@@ -8,9 +8,9 @@ use mathlib.Core.Option.{Option, none, some, Option·elim}
 use Rattle.logic.specs.Search.{from, firstOf, orElse}
 use Rattle.logic.specs.Query.{Form, sections, Layout, faulty, parts, firstByte, layoutBy, layoutOf, faultIn, layoutFault, byteFault}
 use Rattle.logic.specs.Calls.{Input, Answer, refused, layoutCheck, byteCheck, formChecks, queryChecks, refusalOf}
-use Rattle.logic.proofs.Basics.Search.{none-some}
-use Rattle.logic.proofs.Query.AcceptedBytes.{sections-excesses}
-use Rattle.logic.proofs.Calls.Refusals.{refused-one}
+use Rattle.theory.proofs.Basics.Search.{none-some}
+use Rattle.theory.proofs.Query.AcceptedBytes.{sections-excesses}
+use Rattle.theory.proofs.Calls.Refusals.{refused-one}
 use Rattle.query.proofs.Checks.{layout-refused}
 
 some-one : {A : Type 0} {a b : A} → some a ≡ some b → a ≡ b

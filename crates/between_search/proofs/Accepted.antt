@@ -10,10 +10,10 @@ use lib.Dec.{ltb, leb}
 use borrow.Author.Tests.{ltb-true, leb-true}
 use Rattle.logic.specs.Search.{_and_, from, at, flatMap}
 use Rattle.logic.specs.Query.{termCount, Role, Form, signRole, termRole, fourSections, booleanSection, fiveSections, sections, Layout, parts, firstByte, section, queryOf}
-use Rattle.logic.proofs.Basics.Search.{and-left, and-right}
-use Rattle.logic.proofs.Query.Tied.{InTerms}
-use Rattle.logic.proofs.Query.Bytes.{Allows, Allowed, Excesses, three-number, retired-number}
-use Rattle.logic.proofs.Query.AcceptedBytes.{Passes, Orderly, LaidOut, four-excesses, form-laid, laid-accepted}
+use Rattle.theory.proofs.Basics.Search.{and-left, and-right}
+use Rattle.theory.proofs.Query.Tied.{InTerms}
+use Rattle.theory.proofs.Query.Bytes.{Allows, Allowed, Excesses, three-number, retired-number}
+use Rattle.theory.proofs.Query.AcceptedBytes.{Passes, Orderly, LaidOut, four-excesses, form-laid, laid-accepted}
 use Rattle.between.specs.Meaning.{BetweenLiteral}
 use Rattle.between_search.specs.Bytes.{betweenSection, sixSections, sixLayout, triples, betweensOf, decodeSix}
 use Rattle.between_search.proofs.OneLink.{AcceptedSix}

@@ -8,7 +8,7 @@ use mathlib.Core.List.{List, List·Memᴰ}
 use lib.Dec.{eqb, ltb, leb}
 use Rattle.logic.specs.Search.{_or_, from, any}
 use Rattle.logic.specs.Query.{Literal, namesNil, termCount}
-use Rattle.logic.proofs.Basics.Search.{bool-cases, from-mem}
+use Rattle.theory.proofs.Basics.Search.{bool-cases, from-mem}
 use Rattle.between.specs.Meaning.{BetweenLiteral, BetweenQuery}
 use Rattle.between.proofs.SmallModel.{AcceptedBetween}
 use Rattle.between_search.specs.Tests.{steps, agrees, duePair, dueTriple, pairBreaks, tripleBreaks, nilBreaks, opposed, fieldBreaks, isFresh, used, breaks}

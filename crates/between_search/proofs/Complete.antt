@@ -13,10 +13,10 @@ use Rattle.logic.specs.Query.{Literal, Query, argumentOf, termCount}
 use Rattle.logic.specs.Facts.{terms}
 use Rattle.logic.specs.Heap.{Heap, Node, IsHeap, value}
 use Rattle.logic.specs.Shown.{placeOf}
-use Rattle.logic.proofs.Basics.Search.{bool-cases, not-intro, true-false}
-use Rattle.logic.proofs.Basics.Compare.{eqb-true, eqb-intro, eqb-false, le-cases, ltb-true}
-use Rattle.logic.proofs.Soundness.Value.{accepted-below, value-node}
-use Rattle.logic.proofs.Completeness.Placed.{placeOf-injective, getD-from, length-from}
+use Rattle.theory.proofs.Basics.Search.{bool-cases, not-intro, true-false}
+use Rattle.theory.proofs.Basics.Compare.{eqb-true, eqb-intro, eqb-false, le-cases, ltb-true}
+use Rattle.theory.proofs.Soundness.Value.{accepted-below, value-node}
+use Rattle.theory.proofs.Completeness.Placed.{placeOf-injective, getD-from, length-from}
 use Rattle.between.specs.Meaning.{BetweenQuery, MeetsBetween}
 use Rattle.between.proofs.Firsts.{firsts, seenBefore, firsts-seen, firsts-new, firsts-has, firsts-short, firsts-place, firsts-length}
 use Rattle.between.proofs.SmallModel.{orOne}

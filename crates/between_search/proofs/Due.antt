@@ -9,8 +9,8 @@ use lib.Dec.{eqb, leb}
 use borrow.Author.Tests.{leb-true, le-leb}
 use Rattle.logic.specs.Search.{_or_, any}
 use Rattle.logic.specs.Heap.{Signed}
-use Rattle.logic.proofs.Basics.Search.{true-false, bool-cases}
-use Rattle.logic.proofs.Basics.Compare.{eqb-self, le-cases}
+use Rattle.theory.proofs.Basics.Search.{true-false, bool-cases}
+use Rattle.theory.proofs.Basics.Compare.{eqb-self, le-cases}
 use Rattle.between_search.specs.Tests.{agrees, duePair, dueTriple}
 
 pub both : {a b : Bool} → a ≡ true → b ≡ true → a && b ≡ true

@@ -8,7 +8,7 @@ use mathlib.Core.List.{List, [], _∷_, _++_, map, append-assoc, append-nil}
 use lib.ListN.{length, getD, length-append, List·getD-append}
 use lib.Seq.{getD-at}
 use Rattle.logic.specs.Search.{from}
-use Rattle.logic.proofs.Basics.Compare.{le-cases, eq-cases}
+use Rattle.theory.proofs.Basics.Compare.{le-cases, eq-cases}
 use Rattle.between_search.specs.Search.{entry}
 use Rattle.between_search.proofs.Seek.{Grown, whole, more}
 

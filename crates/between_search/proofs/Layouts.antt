@@ -10,7 +10,7 @@ use lib.Seq.{take-append-le, drop-append-le}
 use lib.Dec.{leb}
 use borrow.Author.Tests.{leb-true, le-leb}
 use Rattle.logic.specs.Query.{Section, Query, fourSections, fiveSections, sections, Layout, faulty, parts, withPart, layout, firstByte, layoutBy, layoutOf, section, queryOf, decode}
-use Rattle.logic.proofs.Basics.Search.{bool-cases}
+use Rattle.theory.proofs.Basics.Search.{bool-cases}
 use Rattle.between.specs.Meaning.{BetweenLiteral, BetweenQuery}
 use Rattle.between_search.specs.Bytes.{betweenSection, sixSections, sixLayout, triples, betweensOf, decodeSix}
 

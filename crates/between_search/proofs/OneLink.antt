@@ -5,8 +5,8 @@ use mathlib.Core.Path.{_≡_, ap, _∙_}
 use mathlib.Core.List.{List·Memᴰ}
 use Rattle.logic.specs.Query.{Literal, argumentOf, linkOf, termCount}
 use Rattle.logic.specs.Heap.{Heap, value}
-use Rattle.logic.proofs.Query.Entries.{argument-range}
-use Rattle.logic.proofs.Soundness.Value.{accepted-below, value-link}
+use Rattle.theory.proofs.Query.Entries.{argument-range}
+use Rattle.theory.proofs.Soundness.Value.{accepted-below, value-link}
 use Rattle.between.specs.Meaning.{BetweenQuery}
 use Rattle.between.proofs.SmallModel.{AcceptedBetween}
 

@@ -17,14 +17,14 @@ use Rattle.logic.specs.Heap.{Heap, IsHeap, Meets, Satisfiable, value}
 use Rattle.logic.specs.Shown.{heapIn, nodeIn, wellFormed}
 use Rattle.logic.specs.Calls.{Input, Check, roomCheck, oneLinkForm, Answer, refused, satisfiable, refuted, Outcome, refusalOf, accepts, padded, blank, verdictCall}
 use Rattle.logic.specs.Demands.{NotRefused, NoneStands, FirstStands}
-use Rattle.logic.proofs.Basics.Search.{keep-none}
-use Rattle.logic.proofs.Completeness.Placed.{length-from}
-use Rattle.logic.proofs.Query.AcceptedBytes.{Passes, form-passes, query-passes, laid-out, sections-excesses}
-use Rattle.logic.proofs.Calls.CheckingOrder.{first-unique, first-stands, refusal-first}
-use Rattle.logic.proofs.Calls.CallLaws.{refusalOf-none, verdict-passed}
-use Rattle.logic.proofs.Calls.Refusals.{refused-one, one-link-laws}
-use Rattle.logic.proofs.Calls.VerdictCall.{VerdictCase, by-refusal, by-lines, by-model, verdict-case}
-use Rattle.logic.proofs.Calls.Demands.{demand2}
+use Rattle.theory.proofs.Basics.Search.{keep-none}
+use Rattle.theory.proofs.Completeness.Placed.{length-from}
+use Rattle.theory.proofs.Query.AcceptedBytes.{Passes, form-passes, query-passes, laid-out, sections-excesses}
+use Rattle.theory.proofs.Calls.CheckingOrder.{first-unique, first-stands, refusal-first}
+use Rattle.theory.proofs.Calls.CallLaws.{refusalOf-none, verdict-passed}
+use Rattle.theory.proofs.Calls.Refusals.{refused-one, one-link-laws}
+use Rattle.theory.proofs.Calls.VerdictCall.{VerdictCase, by-refusal, by-lines, by-model, verdict-case}
+use Rattle.theory.proofs.Calls.Demands.{demand2}
 use Rattle.between.specs.Meaning.{BetweenLiteral, BetweenQuery, MeetsBetween, SatisfiableBetween}
 use Rattle.between_search.specs.Bytes.{sixSections, decodeSix, fiveTermsCheck, sixChecks, betweenChecks}
 use Rattle.between_search.specs.Search.{Found, entry, heapFound, reportOf, mostNodes}

@@ -16,11 +16,11 @@ use Rattle.logic.specs.Facts.{terms}
 use Rattle.logic.specs.Heap.{IsHeap}
 use Rattle.logic.specs.Shown.{byteOf, bitOf, heapIn, nodeIn, wellFormed}
 use Rattle.logic.specs.Calls.{padded}
-use Rattle.logic.proofs.Basics.Search.{not-of, and-left, and-right}
-use Rattle.logic.proofs.Completeness.Placed.{length-from, getD-from}
-use Rattle.logic.proofs.Completeness.Byte.{byte-bit}
-use Rattle.logic.proofs.Completeness.ReportBytes.{Laid}
-use Rattle.logic.proofs.Completeness.ReportHeap.{heap-size, heap-link, heap-loop, heap-field, heap-listed, node-listed, is-heap, is-formed}
+use Rattle.theory.proofs.Basics.Search.{not-of, and-left, and-right}
+use Rattle.theory.proofs.Completeness.Placed.{length-from, getD-from}
+use Rattle.theory.proofs.Completeness.Byte.{byte-bit}
+use Rattle.theory.proofs.Completeness.ReportBytes.{Laid}
+use Rattle.theory.proofs.Completeness.ReportHeap.{heap-size, heap-link, heap-loop, heap-field, heap-listed, node-listed, is-heap, is-formed}
 use Rattle.between.specs.Meaning.{BetweenQuery}
 use Rattle.between_search.specs.Search.{Found, entry, dataByte, reportOf}
 

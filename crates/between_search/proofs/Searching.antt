@@ -10,8 +10,8 @@ use lib.ListN.{length}
 use lib.Dec.{ltb}
 use Rattle.logic.specs.Query.{argumentOf, termCount}
 use Rattle.logic.specs.Calls.{padded}
-use Rattle.logic.proofs.Basics.Search.{none-some}
-use Rattle.logic.proofs.Basics.Compare.{le-cases, ltb-true}
+use Rattle.theory.proofs.Basics.Search.{none-some}
+use Rattle.theory.proofs.Basics.Compare.{le-cases, ltb-true}
 use Rattle.between.specs.Meaning.{BetweenQuery}
 use Rattle.between_search.specs.Tests.{used, breaks}
 use Rattle.between_search.specs.Search.{Found, seek, entry, lowestNode, highestNode, seekNodes, nodesFound, seekLinks, linksFound}

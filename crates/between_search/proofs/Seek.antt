@@ -8,8 +8,8 @@ use mathlib.Core.List.{List, [], _∷_, _++_, append-assoc, append-nil}
 use mathlib.Core.Option.{Option, none, some}
 use lib.ListN.{length}
 use Rattle.logic.specs.Search.{from, orElse, firstOf}
-use Rattle.logic.proofs.Basics.Search.{none-some, orElse-cases, firstOf-none, from-intro}
-use Rattle.logic.proofs.Basics.Compare.{eq-cases, le-cases}
+use Rattle.theory.proofs.Basics.Search.{none-some, orElse-cases, firstOf-none, from-intro}
+use Rattle.theory.proofs.Basics.Compare.{eq-cases, le-cases}
 use Rattle.between_search.specs.Search.{seek}
 use Rattle.between_search.specs.Promise.{Before, lower, same}
 

@@ -12,7 +12,7 @@ use lib.Dec.{eqb, leb}
 use borrow.Author.Tests.{leb-true, le-leb}
 use Rattle.logic.specs.Search.{_and_, from, flatMap, keep, orElse}
 use Rattle.logic.specs.Query.{Role, Section, countRole, fourSections, booleanSection, fiveSections, sections, Layout, faulty, parts, withPart, layout, rolesOf, roleFault}
-use Rattle.logic.proofs.Query.Bytes.{Regular}
+use Rattle.theory.proofs.Query.Bytes.{Regular}
 use Rattle.between_search.proofs.Layouts.{prepend, layout-append}
 
 -- what is met before the end of the five is met in the six

@@ -14,10 +14,10 @@ use Rattle.logic.specs.Query.{argumentOf, termCount}
 use Rattle.logic.specs.Facts.{terms}
 use Rattle.logic.specs.Heap.{Heap, Node, IsHeap, value}
 use Rattle.logic.specs.Shown.{placeOf}
-use Rattle.logic.proofs.Basics.Search.{none-some, bool-cases, true-false, firstOf-none, from-intro}
-use Rattle.logic.proofs.Basics.Compare.{eqb-true, eqb-intro, eqb-false, eq-cases, le-cases}
-use Rattle.logic.proofs.Soundness.Value.{value-node}
-use Rattle.logic.proofs.Completeness.Placed.{placeOf-injective, length-from}
+use Rattle.theory.proofs.Basics.Search.{none-some, bool-cases, true-false, firstOf-none, from-intro}
+use Rattle.theory.proofs.Basics.Compare.{eqb-true, eqb-intro, eqb-false, eq-cases, le-cases}
+use Rattle.theory.proofs.Soundness.Value.{value-node}
+use Rattle.theory.proofs.Completeness.Placed.{placeOf-injective, length-from}
 use Rattle.between.specs.Meaning.{BetweenQuery, MeetsBetween}
 use Rattle.between.proofs.Firsts.{firsts, firsts-has, firsts-short, firsts-within, firsts-place, firsts-length}
 use Rattle.between.proofs.SmallModel.{orOne, small, small-is, small-value, small-size, small-meets, small-named, named}

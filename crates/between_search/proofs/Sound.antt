@@ -10,10 +10,10 @@ use lib.Dec.{eqb, ltb}
 use Rattle.logic.specs.Search.{any}
 use Rattle.logic.specs.Query.{Literal, Query, namesNil, argumentOf, termCount}
 use Rattle.logic.specs.Heap.{Heap, Node, IsHeap, Signed, Meets, NilNode, value}
-use Rattle.logic.proofs.Basics.Search.{bool-cases, not-true, any-false}
-use Rattle.logic.proofs.Basics.Compare.{eqb-intro, eqb-false, le-cases, cond-true, cond-false, ltb-true}
-use Rattle.logic.proofs.Query.Entries.{nil-range}
-use Rattle.logic.proofs.Soundness.Value.{accepted-below, value-variable}
+use Rattle.theory.proofs.Basics.Search.{bool-cases, not-true, any-false}
+use Rattle.theory.proofs.Basics.Compare.{eqb-intro, eqb-false, le-cases, cond-true, cond-false, ltb-true}
+use Rattle.theory.proofs.Query.Entries.{nil-range}
+use Rattle.theory.proofs.Soundness.Value.{accepted-below, value-variable}
 use Rattle.between.specs.Meaning.{BetweenLiteral, BetweenQuery, MeetsBetween}
 use Rattle.between_search.specs.Tests.{used, breaks, nilBreaks, fieldBreaks, pairBreaks, tripleBreaks}
 use Rattle.between_search.specs.Search.{entry, lowestNode, highestNode}

@@ -8,10 +8,10 @@ use mathlib.Core.Bool.{Bool, true, false, cond, _&&_, false≢true}
 use lib.Dec.{eqb, leb}
 use borrow.Author.Tests.{leb-true, le-leb, lt-leb, leb-false}
 use Rattle.logic.specs.Heap.{iterate, Reaches}
-use Rattle.logic.proofs.Basics.Compare.{eqb-true, eqb-intro, eqb-false, le-cases}
-use Rattle.logic.proofs.Basics.Search.{bool-cases}
-use Rattle.logic.proofs.Basics.Iterate.{iterate-add}
-use Rattle.logic.proofs.Graph.Pigeonhole.{pigeonhole}
+use Rattle.theory.proofs.Basics.Compare.{eqb-true, eqb-intro, eqb-false, le-cases}
+use Rattle.theory.proofs.Basics.Search.{bool-cases}
+use Rattle.theory.proofs.Basics.Iterate.{iterate-add}
+use Rattle.theory.proofs.Graph.Pigeonhole.{pigeonhole}
 use Rattle.between.specs.Meaning.{MetAfter, Between}
 use Rattle.between.proofs.Until.{met-first}
 use Rattle.between_search.specs.Tests.{stepCount, steps}

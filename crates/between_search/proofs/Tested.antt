@@ -9,9 +9,9 @@ use lib.Dec.{eqb, ltb, leb}
 use Rattle.logic.specs.Search.{_or_, from, any}
 use Rattle.logic.specs.Query.{Literal, Entries, Query, namesNil, termCount}
 use Rattle.logic.specs.Heap.{Heap, Node, IsHeap, Reaches, Signed, MeansEqual, MeansReach, MeansField, NilNode, Meets, value}
-use Rattle.logic.proofs.Basics.Search.{bool-cases, true-false, not-true, not-intro, any-true, any-intro, any-false, from-mem, from-intro}
-use Rattle.logic.proofs.Basics.Compare.{eqb-true, eqb-intro, eqb-self, eq-cases, le-cases}
-use Rattle.logic.proofs.Soundness.Value.{value-node, signed-true, signed-false}
+use Rattle.theory.proofs.Basics.Search.{bool-cases, true-false, not-true, not-intro, any-true, any-intro, any-false, from-mem, from-intro}
+use Rattle.theory.proofs.Basics.Compare.{eqb-true, eqb-intro, eqb-self, eq-cases, le-cases}
+use Rattle.theory.proofs.Soundness.Value.{value-node, signed-true, signed-false}
 use Rattle.between.specs.Meaning.{BetweenLiteral, BetweenQuery, Between, MeansBetween, MeetsBetween}
 use Rattle.between.proofs.SmallModel.{AcceptedBetween}
 use Rattle.between_search.specs.Tests.{steps, agrees, duePair, dueTriple, pairBreaks, tripleBreaks, nilBreaks, saysField, hasField, opposed, fieldBreaks, used, breaks}

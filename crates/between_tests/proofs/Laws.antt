@@ -13,7 +13,7 @@ use lib.Seq.{getD-set-same, getD-set-other, set-out}
 use lib.Dec.{eqb, ltb, leb}
 use borrow.Author.Tests.{eq-eqb, ne-eqb, leb-true, eqb-true}
 use Rattle.logic.specs.Search.{from, any}
-use Rattle.logic.proofs.Basics.Compare.{le-cases}
+use Rattle.theory.proofs.Basics.Compare.{le-cases}
 use Rattle.logic.specs.Query.{Literal, Entries, entryOf, namesNil, argumentOf, decode}
 use Rattle.query.specs.declared.Layout.{Layout}
 use Rattle.query.specs.LaysOut.{LaysOut, literalIn}

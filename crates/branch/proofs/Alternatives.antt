@@ -28,14 +28,14 @@ getD-other [] i d e h = absurd (omega arith)
 getD-other (x ∷ xs) zero d e h = refl
 getD-other (x ∷ xs) (suc i) d e h = getD-other xs i d e (omega arith)
 
-module _ (n : ℕ) (g : ℕ → Graph) where
-  pub count-is : (r : Rule) (x y z : ℕ) → length (alternatives n g (move 1 r (triple x y z))) ≡ countOf r z
+module _ (k n : ℕ) (g : ℕ → Graph) where
+  pub count-is : (r : Rule) (x y z : ℕ) → length (alternatives n g (move k r (triple x y z))) ≡ countOf r z
   unfolding alternatives
   count-is REFLEX x y z = refl
   count-is TRANS1 x y z = refl
   count-is TRANS2 x y z = refl
   count-is FUNC x y z = refl
-  count-is CYCLE x y z = length-map (round n (g 1) z x) (equal y) ∙ round-length n (g 1) z x
+  count-is CYCLE x y z = length-map (round n (g k) z x) (equal y) ∙ round-length n (g k) z x
   count-is SCC x y z = refl
   count-is TOTAL x y z = refl
   count-is SHARE x y z = refl
@@ -49,10 +49,10 @@ module _ (n : ℕ) (g : ℕ → Graph) where
   at-two f e d (suc zero) h = refl
   at-two f e d (suc (suc i)) h = absurd (omega arith)
 
-  in-round : (x y z i : ℕ) (d : Fact) → i < z → getD (map (equal y) (round n (g 1) z x)) i d ≡ equal y (iterate (next n (g 1)) i x)
-  in-round x y z i d h = getD-other (map (equal y) (round n (g 1) z x)) i d (equal y 0) (omega (arith, length-map (round n (g 1) z x) (equal y), round-length n (g 1) z x)) ∙ List·getD-map (equal y) (round n (g 1) z x) i 0 ∙ ap (equal y) (round-at n (g 1) z x i 0 h)
+  in-round : (x y z i : ℕ) (d : Fact) → i < z → getD (map (equal y) (round n (g k) z x)) i d ≡ equal y (iterate (next n (g k)) i x)
+  in-round x y z i d h = getD-other (map (equal y) (round n (g k) z x)) i d (equal y 0) (omega (arith, length-map (round n (g k) z x) (equal y), round-length n (g k) z x)) ∙ List·getD-map (equal y) (round n (g k) z x) i 0 ∙ ap (equal y) (round-at n (g k) z x i 0 h)
 
-  pub alternative-is : (r : Rule) (x y z i : ℕ) (d : Fact) → i < countOf r z → getD (alternatives n g (move 1 r (triple x y z))) i d ≡ alternativeAt n (g 1) r x y z i
+  pub alternative-is : (r : Rule) (x y z i : ℕ) (d : Fact) → i < countOf r z → getD (alternatives n g (move k r (triple x y z))) i d ≡ alternativeAt k n (g k) r x y z i
   unfolding alternatives
   alternative-is REFLEX x y z i d h = at-one _ d i h
   alternative-is TRANS1 x y z i d h = at-one _ d i h

@@ -17,13 +17,13 @@ countOf SCC z = 2
 countOf TOTAL z = 2
 countOf SHARE z = 1
 
--- the one at i, from 0
-abbrev pub alternativeAt : ℕ → Graph → Rule → ℕ → ℕ → ℕ → ℕ → Fact
-alternativeAt n g REFLEX x y z i = reaches 1 x x
-alternativeAt n g TRANS1 x y z i = reaches 1 x y
-alternativeAt n g TRANS2 x y z i = reaches 1 x z
-alternativeAt n g FUNC x y z i = cond (eqb i 0) (equal x z) (reaches 1 y z)
-alternativeAt n g CYCLE x y z i = equal y (iterate (next n g) i x)
-alternativeAt n g SCC x y z i = cond (eqb i 0) (equal x y) (reaches 1 z x)
-alternativeAt n g TOTAL x y z i = cond (eqb i 0) (reaches 1 y z) (reaches 1 z y)
-alternativeAt n g SHARE x y z i = equal x y
+-- the one at i, from 0, by link k
+abbrev pub alternativeAt : ℕ → ℕ → Graph → Rule → ℕ → ℕ → ℕ → ℕ → Fact
+alternativeAt k n g REFLEX x y z i = reaches k x x
+alternativeAt k n g TRANS1 x y z i = reaches k x y
+alternativeAt k n g TRANS2 x y z i = reaches k x z
+alternativeAt k n g FUNC x y z i = cond (eqb i 0) (equal x z) (reaches k y z)
+alternativeAt k n g CYCLE x y z i = equal y (iterate (next n g) i x)
+alternativeAt k n g SCC x y z i = cond (eqb i 0) (equal x y) (reaches k z x)
+alternativeAt k n g TOTAL x y z i = cond (eqb i 0) (reaches k y z) (reaches k z y)
+alternativeAt k n g SHARE x y z i = equal x y

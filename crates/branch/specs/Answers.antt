@@ -4,9 +4,10 @@ use Rattle.logic.specs.Rules.{Fact, equal, reaches}
 use Rattle.branch.specs.declared.Fact as code
 use Rattle.branch.specs.declared.Fact.the-variants as fact
 
-abbrev pub factOf : code.Fact → Fact
-factOf (fact.Equal a b) = equal (a .0) (b .0)
-factOf (fact.Reaches a b) = reaches 1 (a .0) (b .0)
+-- what it says of link k
+abbrev pub factOf : ℕ → code.Fact → Fact
+factOf k (fact.Equal a b) = equal (a .0) (b .0)
+factOf k (fact.Reaches a b) = reaches k (a .0) (b .0)
 
 -- its terms are at most 16
 abbrev pub InRange : code.Fact → Type 0

@@ -1,19 +1,20 @@
 // The branches of a rule: its alternatives, left to right, each joined or added.
 use facts::Facts;
 use facts::Joined;
+use facts::Link;
 use facts::Term;
 use rules::Rule;
 use rules::Third;
 ghost use mathlib.Core.Path.{_≡_};
 ghost use Prim.Native.Nat.{_≤_};
 ghost use Rattle.logic.specs.Rules.{branch};
-ghost use Rattle.facts.specs.Path.{pathOf, linksIn};
+ghost use Rattle.facts.specs.Path.{pathOf, linksIn, HasLink};
 ghost use Rattle.facts.specs.Pairs.{joinedOf};
 ghost use Rattle.rules.specs.Answers.{kindOf};
 ghost use Rattle.branch.specs.Answers.{factOf, InRange};
 ghost use Rattle.branch.specs.Alternatives.{countOf, alternativeAt};
 
-// What a rule concludes.
+// What a rule concludes, of its link.
 pub enum Fact {
     Equal(Term, Term),
     Reaches(Term, Term),
@@ -35,10 +36,19 @@ pub fn count(rule: Rule, z: Third) -> usize
     }
 }
 
-// The alternative of a rule at i, from 0. That of CYCLE is the term i links on from x: 17 is no term, so that all i are followed.
-fn alternative(link: &[u32; 17], n: usize, rule: Rule, x: Term, y: Term, z: Third, i: usize) -> Fact
+// The alternative of a rule at i, from 0, by link k. That of CYCLE is the term i links on from x: 17 is no term, so that all i are followed.
+fn alternative(
+    link: &[u32; 17],
+    n: usize,
+    k: Link,
+    rule: Rule,
+    x: Term,
+    y: Term,
+    z: Third,
+    i: usize,
+) -> Fact
     requires { ⌜ (n ≤ 16) × (x .0 ≤ 16) × (y .0 ≤ 16) × (z .0 ≤ 16) ⌝ }
-    ensures { λ r. ⌜ (factOf r ≡ alternativeAt n (linksIn (now (link .entry))) (kindOf rule) (x .0) (y .0) (z .0) i) × InRange r ⌝ }
+    ensures { λ r. ⌜ (factOf (k .0) r ≡ alternativeAt (k .0) n (linksIn (now (link .entry))) (kindOf rule) (x .0) (y .0) (z .0) i) × InRange r ⌝ }
 {
     let t = rules::third_term(z);
     match rule {
@@ -72,15 +82,15 @@ fn alternative(link: &[u32; 17], n: usize, rule: Rule, x: Term, y: Term, z: Thir
     }
 }
 
-// A path with a fact joined or added, and the pairs joined to make it.
-fn added(s: Facts, n: usize, fact: Fact) -> Joined
-    requires { ⌜ (n ≤ 16) × InRange fact ⌝ }
-    ensures { λ r. ⌜ joinedOf r ≡ branch n (pathOf s) (factOf fact) ⌝ }
+// A path with a fact of link k joined or added, and the pairs joined to make it.
+fn added(s: Facts, n: usize, k: Link, fact: Fact) -> Joined
+    requires { ⌜ (n ≤ 16) × HasLink (pathOf s) (k .0) × InRange fact ⌝ }
+    ensures { λ r. ⌜ joinedOf r ≡ branch n (pathOf s) (factOf (k .0) fact) ⌝ }
 {
     match fact {
         Fact::Equal(a, b) => facts::join(s, n, a, b, facts::no_pairs()),
         Fact::Reaches(a, b) => {
-            let reached = facts::add_reach(s, a, b);
+            let reached = facts::add_reach(s, k, a, b);
             Joined {
                 pairs: facts::no_pairs(),
                 facts: reached,
@@ -89,12 +99,21 @@ fn added(s: Facts, n: usize, fact: Fact) -> Joined
     }
 }
 
-// The branch of a rule at i, from 0.
-pub fn branch(s: Facts, n: usize, rule: Rule, x: Term, y: Term, z: Third, i: usize) -> Joined
-    requires { ⌜ (n ≤ 16) × (x .0 ≤ 16) × (y .0 ≤ 16) × (z .0 ≤ 16) ⌝ }
-    ensures { λ r. ⌜ joinedOf r ≡ branch n (pathOf s) (alternativeAt n (pathOf s .graph 1) (kindOf rule) (x .0) (y .0) (z .0) i) ⌝ }
+// The branch of a rule by link k at i, from 0.
+pub fn branch(
+    s: Facts,
+    n: usize,
+    k: Link,
+    rule: Rule,
+    x: Term,
+    y: Term,
+    z: Third,
+    i: usize,
+) -> Joined
+    requires { ⌜ (n ≤ 16) × HasLink (pathOf s) (k .0) × (x .0 ≤ 16) × (y .0 ≤ 16) × (z .0 ≤ 16) ⌝ }
+    ensures { λ r. ⌜ joinedOf r ≡ branch n (pathOf s) (alternativeAt (k .0) n (pathOf s .graph (k .0)) (kindOf rule) (x .0) (y .0) (z .0) i) ⌝ }
 {
-    let link = s.link;
-    let fact = alternative(&link, n, rule, x, y, z, i);
-    added(s, n, fact)
+    let link = facts::link_rows(s, k);
+    let fact = alternative(&link, n, k, rule, x, y, z, i);
+    added(s, n, k, fact)
 }

@@ -11,8 +11,8 @@ use lib.Seq.{take-all, take-nil, length-take-le}
 use lib.Dec.{eqb, ltb}
 use borrow.Author.Tests.{lt-ltb, le-ltb, ne-eqb, eq-eqb, eqb-true}
 use Rattle.logic.specs.Search.{_and_, keep}
-use Rattle.logic.proofs.Basics.Search.{and-left, and-right, none-some, keep-some}
-use Rattle.logic.proofs.Basics.Compare.{le-cases}
+use Rattle.theory.proofs.Basics.Search.{and-left, and-right, none-some, keep-some}
+use Rattle.theory.proofs.Basics.Compare.{le-cases}
 use Rattle.text.specs.Text.{Writes, ascii, decimal, isDigit}
 use Rattle.text.proofs.Writing.{writes-then, writes-taken}
 use Rattle.wording.specs.Words.{refusedText}

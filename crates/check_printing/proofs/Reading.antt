@@ -11,7 +11,7 @@ use lib.Seq.{drop-cons}
 use lib.Dec.{eqb, ltb, leb}
 use borrow.Author.Tests.{lt-ltb, le-ltb, lt-leb, le-leb, leb-true, ne-eqb, eq-eqb, eqb-true}
 use Rattle.logic.specs.Search.{_and_, keep}
-use Rattle.logic.proofs.Basics.Search.{and-left, and-right}
+use Rattle.theory.proofs.Basics.Search.{and-left, and-right}
 use Rattle.text.specs.Text.{Writes, isDigit}
 use Rattle.text.proofs.Writing.{writes-none, writes-then}
 use Rattle.check_printing.specs.CheckText.{begins, endsNumber, nextPlace, isBetween, prepend, numbersFrom, newlineIn, newlines}

@@ -14,8 +14,8 @@ use Rattle.logic.specs.Facts.{Line, line}
 use Rattle.logic.specs.Query.{decode}
 use Rattle.logic.specs.Derivation.{Derivation, lineBytes, derivationBytes}
 use Rattle.logic.specs.Calls.{accepts}
-use Rattle.logic.proofs.Basics.Search.{and-left, and-right}
-use Rattle.logic.proofs.Basics.Compare.{le-cases}
+use Rattle.theory.proofs.Basics.Search.{and-left, and-right}
+use Rattle.theory.proofs.Basics.Compare.{le-cases}
 use Rattle.text.specs.Text.{ascii, decimal, numberFrom, numberIn, isDigit}
 use Rattle.text.proofs.Digits.{decimal-small, decimal-more, decimal-byte}
 use Rattle.text.proofs.Pinned.{decimal-reads, decimal-digits}

@@ -12,8 +12,8 @@ use Rattle.logic.specs.Facts.{Facts, Joined}
 use Rattle.logic.specs.Derivation.{linesIn}
 use Rattle.logic.specs.Calls.{accepts}
 use Rattle.logic.specs.Calls as calls
-use Rattle.logic.proofs.Query.AcceptedBytes as acceptance
-use Rattle.logic.proofs.Calls.OneLink.{limit-one}
+use Rattle.theory.proofs.Query.AcceptedBytes as acceptance
+use Rattle.theory.proofs.Calls.OneLink.{limit-one}
 use Rattle.query.specs.Answers.{CheckedAs}
 use Rattle.query.specs.declared.Layout.{Layout}
 use Rattle.query.specs.declared.Checked.the-variants as checked

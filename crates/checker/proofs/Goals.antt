@@ -10,7 +10,7 @@ use lib.ListN.{length, getD, drop, length-map}
 use Rattle.logic.specs.Query.{Query, termCount}
 use Rattle.logic.specs.Facts.{Facts, Joined, Line, joinLines}
 use Rattle.logic.specs.Rules.{Rule, triple, Move, move, Fact, equal, alternatives, applies, branch, add}
-use Rattle.logic.proofs.Query.Tied.{Accepted}
+use Rattle.theory.proofs.Query.Tied.{Accepted}
 use Rattle.branch.specs.Alternatives.{countOf, alternativeAt}
 use Rattle.branch.proofs.Alternatives.{count-is, alternative-is}
 use Rattle.checking.specs.Fitting.{Goal, goalOf, goalsOf}
@@ -123,20 +123,20 @@ module _ (q : Query) (bytes : List ℕ) (count : ℕ) (s : Facts) (at : ℕ) (ru
   other = equal 0 0
 
   many : length (alternatives (termCount q) (s .graph) m) ≡ countOf rule z
-  many = count-is (termCount q) (s .graph) rule x y z
+  many = count-is 1 (termCount q) (s .graph) rule x y z
 
-  same-branch : (i : ℕ) (j : Joined) → i < countOf rule z → j ≡ branch n s (alternativeAt n (s .graph 1) rule x y z i) → branch (termCount q) s (getD (alternatives (termCount q) (s .graph) m) i other) ≡ j
+  same-branch : (i : ℕ) (j : Joined) → i < countOf rule z → j ≡ branch n s (alternativeAt 1 n (s .graph 1) rule x y z i) → branch (termCount q) s (getD (alternatives (termCount q) (s .graph) m) i other) ≡ j
   same-branch i j l e =
-      ap (branch (termCount q) s) (alternative-is (termCount q) (s .graph) rule x y z i other l)
-      ∙ ap (λ (k : ℕ). branch k s (alternativeAt k (s .graph 1) rule x y z i)) (sym terms-are) ∙ sym e
+      ap (branch (termCount q) s) (alternative-is 1 (termCount q) (s .graph) rule x y z i other l)
+      ∙ ap (λ (k : ℕ). branch k s (alternativeAt 1 k (s .graph 1) rule x y z i)) (sym terms-are) ∙ sym e
 
-  next-goal : (i : ℕ) (j : Joined) → i < countOf rule z → j ≡ branch n s (alternativeAt n (s .graph 1) rule x y z i) → drop i (goalsOf (termCount q) s m) ≡ goalOf j ∷ drop (i + 1) (goalsOf (termCount q) s m)
+  next-goal : (i : ℕ) (j : Joined) → i < countOf rule z → j ≡ branch n s (alternativeAt 1 n (s .graph 1) rule x y z i) → drop i (goalsOf (termCount q) s m) ≡ goalOf j ∷ drop (i + 1) (goalsOf (termCount q) s m)
   unfolding goalsOf
   next-goal i j l e =
       drop-map (λ c. goalOf (branch (termCount q) s c)) (alternatives (termCount q) (s .graph) m) i other (omega (arith, many))
       ∙ ap (λ (k : Joined). goalOf k ∷ drop (i + 1) (map (λ c. goalOf (branch (termCount q) s c)) (alternatives (termCount q) (s .graph) m))) (same-branch i j l e)
 
-  module _ (i to : ℕ) (b : BranchesLeft q bytes count s at m i to) (in-row : i < countOf rule z) (j : Joined) (j-is : j ≡ branch n s (alternativeAt n (s .graph 1) rule x y z i)) (r : Judged) (judged : JudgesGoal q bytes count (goalOf j) to r) where
+  module _ (i to : ℕ) (b : BranchesLeft q bytes count s at m i to) (in-row : i < countOf rule z) (j : Joined) (j-is : j ≡ branch n s (alternativeAt 1 n (s .graph 1) rule x y z i)) (r : Judged) (judged : JudgesGoal q bytes count (goalOf j) to r) where
     at-branch : (gs : List Goal) → wrongAt q bytes (record { heading = []; facts = s } ∷ gs) at ≡ resumed q bytes (drop (i + 1) (goalsOf (termCount q) s m) ++ gs) r
     at-branch gs = b .left gs ∙ ap (λ (hs : List Goal). wrongAt q bytes (hs ++ gs) to) (next-goal i j in-row j-is) ∙ judged .judges (drop (i + 1) (goalsOf (termCount q) s m) ++ gs)
 
@@ -161,7 +161,7 @@ module _ (q : Query) (bytes : List ℕ) (count : ℕ) (s : Facts) (at : ℕ) (ru
       }
 
   -- a branch is one step deeper
-  pub branch-ahead : Accepted q → (left : ℕ) → Ahead q s left → applies (termCount q) s m ≡ true → (i : ℕ) (j : Joined) → i < countOf rule z → j ≡ branch n s (alternativeAt n (s .graph 1) rule x y z i) → Ahead q (j .facts) (left - 1)
+  pub branch-ahead : Accepted q → (left : ℕ) → Ahead q s left → applies (termCount q) s m ≡ true → (i : ℕ) (j : Joined) → i < countOf rule z → j ≡ branch n s (alternativeAt 1 n (s .graph 1) rule x y z i) → Ahead q (j .facts) (left - 1)
   unfolding add
   branch-ahead ok left ahead app i j l e =
       subst (λ (k : Joined). Ahead q (k .facts) (left - 1)) (same-branch i j l e)

@@ -13,17 +13,17 @@ use Rattle.logic.specs.Facts.{Graph, Facts, live, start}
 use Rattle.logic.specs.Rules.{Rule, REFLEX, TRANS1, TRANS2, FUNC, CYCLE, SCC, TOTAL, SHARE, triple, Move, move, Fact, next, returns, round, conditions, alternatives, applies, add, branches}
 use Rattle.logic.specs.Walk.{limit}
 use Rattle.logic.specs.Steps.{Step, Steps, at-first, one-more}
-use Rattle.logic.proofs.Basics.Search.{and-left, and-right, true-false, map-intro}
-use Rattle.logic.proofs.Basics.Compare.{eqb-true, eqb-intro, le-cases}
-use Rattle.logic.proofs.Graph.Cycles.{OnCycle, Within, cycle-short}
-use Rattle.logic.proofs.Query.Tied.{Accepted}
-use Rattle.logic.proofs.Paths.Ranged.{InRange, live-range}
-use Rattle.logic.proofs.Paths.Applies.{applies-met}
-use Rattle.logic.proofs.Paths.Kept.{Sane}
-use Rattle.logic.proofs.Paths.Round.{returns-cases, round-all}
-use Rattle.logic.proofs.Paths.Invariant.{Invariant, start-invariant, branch-invariant}
-use Rattle.logic.proofs.Walks.Gains.{applies-step}
-use Rattle.logic.proofs.Walks.Limit.{start-atMost}
+use Rattle.theory.proofs.Basics.Search.{and-left, and-right, true-false, map-intro}
+use Rattle.theory.proofs.Basics.Compare.{eqb-true, eqb-intro, le-cases}
+use Rattle.theory.proofs.Graph.Cycles.{OnCycle, Within, cycle-short}
+use Rattle.theory.proofs.Query.Tied.{Accepted}
+use Rattle.theory.proofs.Paths.Ranged.{InRange, live-range}
+use Rattle.theory.proofs.Paths.Applies.{applies-met}
+use Rattle.theory.proofs.Paths.Kept.{Sane}
+use Rattle.theory.proofs.Paths.Round.{returns-cases, round-all}
+use Rattle.theory.proofs.Paths.Invariant.{Invariant, start-invariant, branch-invariant}
+use Rattle.theory.proofs.Walks.Gains.{applies-step}
+use Rattle.theory.proofs.Walks.Limit.{start-atMost}
 use Rattle.checker.specs.Judging.{Ahead}
 
 -- A cycle of links

@@ -13,7 +13,7 @@ use Rattle.logic.specs.Query.{Query, termCount}
 use Rattle.logic.specs.Facts.{Facts, Line, line, isClash, clash}
 use Rattle.logic.specs.Rules.{Rule, rules, ruleNumber, ruleOf, triple, Move, move, applies}
 use Rattle.logic.specs.Walk.{isClashed}
-use Rattle.logic.proofs.Calls.OneLink.{moveOf-one}
+use Rattle.theory.proofs.Calls.OneLink.{moveOf-one}
 use Rattle.facts.specs.Square.{square}
 use Rattle.facts.specs.Path.{pathOf, onlyLink, repOf, graphOf}
 use Rattle.facts.specs.declared.Facts as code

@@ -2,6 +2,7 @@
 use clash::Clash;
 use facts::Facts;
 use facts::Joined;
+use facts::Link;
 use facts::Pairs;
 use facts::Term;
 use query::Checked;
@@ -110,8 +111,7 @@ fn read_line(
         }
         return Reading::Wrong;
     }
-    let rep = s.rep;
-    if let Clash::At(section, i, j) = clash::find_clash(query, layout, rep, &s.reach) {
+    if let Clash::At(section, i, j) = clash::find_clash(query, layout, &s.rep, &s.reach) {
         return Reading::Wrong;
     }
     let Numbered::Is(rule) = rules::rule_numbered(k) else {
@@ -158,7 +158,7 @@ pub fn check_goal(
             let mut to = at + 1;
             let mut i: usize = 0;
             while i < total {
-                let branch = branch::branch(s, n, rule, x, y, z, i);
+                let branch = branch::branch(s, n, Link(1), rule, x, y, z, i);
                 let judged = check_goal(query, layout, derivation, count, left - 1, branch, to);
                 if !judged.fits {
                     return judged;

@@ -16,15 +16,15 @@ use Rattle.logic.specs.Derivation.{Derivation, derivationBytes, linesFrom, line
 use Rattle.logic.specs.Calls.{Input, layoutCheck, byteCheck, formChecks, queryChecks, Answer, accepts, padded, derivationCall, acceptsBy}
 use Rattle.logic.specs.Calls as calls
 use Rattle.logic.specs.Demands.{FirstStands, numbers}
-use Rattle.logic.proofs.Basics.Search.{not-true, isSome-false}
-use Rattle.logic.proofs.Basics.Compare.{eqb-self}
-use Rattle.logic.proofs.Query.AcceptedBytes as acceptance
-use Rattle.logic.proofs.Soundness.Refuted.{derivation-sound}
-use Rattle.logic.proofs.Calls.CheckingOrder.{refusal-first, first-unique, first-numbered, first-stands, query-early}
-use Rattle.logic.proofs.Calls.CallLaws.{derivation-passed, refusalOf-none}
-use Rattle.logic.proofs.Calls.Refusals.{one-link-laws}
-use Rattle.logic.proofs.Calls.DerivationBytes.{derivation-length, lines-read}
-use Rattle.logic.proofs.Calls.Demands.{demand1, demand2}
+use Rattle.theory.proofs.Basics.Search.{not-true, isSome-false}
+use Rattle.theory.proofs.Basics.Compare.{eqb-self}
+use Rattle.theory.proofs.Query.AcceptedBytes as acceptance
+use Rattle.theory.proofs.Soundness.Refuted.{derivation-sound}
+use Rattle.theory.proofs.Calls.CheckingOrder.{refusal-first, first-unique, first-numbered, first-stands, query-early}
+use Rattle.theory.proofs.Calls.CallLaws.{derivation-passed, refusalOf-none}
+use Rattle.theory.proofs.Calls.Refusals.{one-link-laws}
+use Rattle.theory.proofs.Calls.DerivationBytes.{derivation-length, lines-read}
+use Rattle.theory.proofs.Calls.Demands.{demand1, demand2}
 use Rattle.checking.specs.Fitting.{FirstWrong, wrongLine}
 use Rattle.checking.specs.CheckCall.{Checked, accepted, wrong, refused, countIn, misshapen, byWrong, refusedQuery, queryRefusal, checkCall}
 use Rattle.checking.specs.Claims.{queryAlone, unpadded, Taken, Claims}

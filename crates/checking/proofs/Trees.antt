@@ -13,10 +13,10 @@ use Rattle.logic.specs.Facts.{Facts, Joined, Line, line, joinLines, startJoins,
 use Rattle.logic.specs.Rules.{Rule, REFLEX, TRANS1, TRANS2, FUNC, CYCLE, SCC, TOTAL, SHARE, rules, ruleNumber, Triple, triple, Move, move, Fact, alternatives, hasLink, applies, branch, add, moveNumber, moveLine, moveOf}
 use Rattle.logic.specs.Walk.{isClashed}
 use Rattle.logic.specs.Derivation.{Derivation, Refutes, ends, follows, RefutesEach, none-left, one-more}
-use Rattle.logic.proofs.Basics.Search.{none-some, keep-some, keep-none, and-left, and-right, and-intro, bool-cases, true-false, isSome-false, firstOf-some}
-use Rattle.logic.proofs.Basics.Compare.{eqb-true, eqb-false, eqb-self}
-use Rattle.logic.proofs.Paths.Applies.{hasLink-range, applies-linked}
-use Rattle.logic.proofs.Walks.Order.{moveOf-number}
+use Rattle.theory.proofs.Basics.Search.{none-some, keep-some, keep-none, and-left, and-right, and-intro, bool-cases, true-false, isSome-false, firstOf-some}
+use Rattle.theory.proofs.Basics.Compare.{eqb-true, eqb-false, eqb-self}
+use Rattle.theory.proofs.Paths.Applies.{hasLink-range, applies-linked}
+use Rattle.theory.proofs.Walks.Order.{moveOf-number}
 use Rattle.checking.specs.Fitting.{Goal, goalOf, sameLine, moveIn, goalsOf, afterRule, atPath, atGoal, step, startGoal, Fit}
 use Rattle.checking.specs.Fitting as fitting
 

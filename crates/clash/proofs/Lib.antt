@@ -1,4 +1,3 @@
-pub mod Reps
 pub mod Decomposed
 pub mod Sections
 pub mod Laid

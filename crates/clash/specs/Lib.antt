@@ -1,3 +1,2 @@
-pub mod Reps
 pub mod Sections
 pub mod Answers

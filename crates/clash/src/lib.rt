@@ -12,8 +12,7 @@ ghost use Rattle.logic.specs.Facts.{Facts, clash};
 ghost use Rattle.facts.specs.Square.{square};
 ghost use Rattle.facts.specs.Path.{repOf};
 ghost use Rattle.query.specs.LaysOut.{LaysOut, literalIn};
-ghost use Rattle.clash.specs.Sections.{literalsIn, oneTerm, reachHeld, sameField, alone, partner, paired, pathClash};
-ghost use Rattle.clash.specs.Reps.{repsOf};
+ghost use Rattle.clash.specs.Sections.{literalsIn, oneTerm, reachHeld, sameField, alone, partner, paired};
 ghost use Rattle.clash.specs.Answers.{placeOf, lineOf};
 
 // A clash: its section, the place of the negated literal, and that of its plain partner or 0.
@@ -26,31 +25,6 @@ pub enum Clash {
 enum Place {
     At(usize),
     Nothing,
-}
-
-// What each term was replaced by, as numbers: these can be lent.
-pub fn numbers(rep: [Term; 17]) -> [usize; 17]
-    ensures { λ r. ⌜ repsOf r ≡ repOf rep ⌝ }
-{
-    let mut out = [0usize; 17];
-    let mut t: usize = 0;
-    while t < 17 {
-        let u = rep[t];
-        out[t] = u.0;
-        t += 1;
-    }
-    out
-}
-
-// What the term t was replaced by; a number above 16 is no term, and is not replaced.
-pub fn read_rep(reps: &[usize; 17], t: Term) -> Term
-    ensures { λ r. ⌜ r .0 ≡ repsOf (now (reps .entry)) (t .0) ⌝ }
-{
-    let at = t.0;
-    if at < 17 {
-        return Term(reps[at]);
-    }
-    t
 }
 
 // "a reaches b" is held.
@@ -67,26 +41,26 @@ fn reaches(reach: &[u32; 17], a: Term, b: Term) -> bool
 }
 
 // Equality i is negated, and its terms have one representative.
-pub fn is_unequal_to_itself(query: &[u8], at: usize, i: usize, reps: &[usize; 17]) -> bool
+pub fn is_unequal_to_itself(query: &[u8], at: usize, i: usize, rep: &[u8; 17]) -> bool
     requires { ⌜ at + 3 * i + 3 ≤ length (now query) ⌝ }
-    ensures { λ r. ⌜ r ≡ (not (literalIn (now (query .entry)) at i .plain) and oneTerm (repsOf (now (reps .entry))) (literalIn (now (query .entry)) at i)) ⌝ }
+    ensures { λ r. ⌜ r ≡ (not (literalIn (now (query .entry)) at i .plain) and oneTerm (repOf (now (rep .entry))) (literalIn (now (query .entry)) at i)) ⌝ }
 {
     if query::sign(query, at, i) {
         return false;
     }
-    let a = read_rep(reps, query::left(query, at, i));
-    let b = read_rep(reps, query::right(query, at, i));
+    let a = facts::read_rep(rep, query::left(query, at, i));
+    let b = facts::read_rep(rep, query::right(query, at, i));
     a.0 == b.0
 }
 
 // "a negated equality of one term with itself"
-fn equality_clash(query: &[u8], at: usize, count: usize, reps: &[usize; 17]) -> Clash
+fn equality_clash(query: &[u8], at: usize, count: usize, rep: &[u8; 17]) -> Clash
     requires { ⌜ at + 3 * count ≤ length (now query) ⌝ }
-    ensures { λ r. ⌜ lineOf r ≡ alone 2 (literalsIn (now (query .entry)) at count) (oneTerm (repsOf (now (reps .entry)))) ⌝ }
+    ensures { λ r. ⌜ lineOf r ≡ alone 2 (literalsIn (now (query .entry)) at count) (oneTerm (repOf (now (rep .entry)))) ⌝ }
 {
     let mut i: usize = 0;
     while i < count {
-        if is_unequal_to_itself(query, at, i, reps) {
+        if is_unequal_to_itself(query, at, i, rep) {
             return Clash::At(2, i + 1, 0);
         }
         i += 1;
@@ -95,38 +69,26 @@ fn equality_clash(query: &[u8], at: usize, count: usize, reps: &[usize; 17]) -> 
 }
 
 // Reachability literal i is negated, and its fact is held.
-pub fn is_held_negated(
-    query: &[u8],
-    at: usize,
-    i: usize,
-    reps: &[usize; 17],
-    reach: &[u32; 17],
-) -> bool
+pub fn is_held_negated(query: &[u8], at: usize, i: usize, rep: &[u8; 17], reach: &[u32; 17]) -> bool
     requires { ⌜ at + 3 * i + 3 ≤ length (now query) ⌝ }
-    ensures { λ r. ⌜ r ≡ (not (literalIn (now (query .entry)) at i .plain) and reachHeld (repsOf (now (reps .entry))) (square (now (reach .entry))) (literalIn (now (query .entry)) at i)) ⌝ }
+    ensures { λ r. ⌜ r ≡ (not (literalIn (now (query .entry)) at i .plain) and reachHeld (repOf (now (rep .entry))) (square (now (reach .entry))) (literalIn (now (query .entry)) at i)) ⌝ }
 {
     if query::sign(query, at, i) {
         return false;
     }
-    let a = read_rep(reps, query::left(query, at, i));
-    let b = read_rep(reps, query::right(query, at, i));
+    let a = facts::read_rep(rep, query::left(query, at, i));
+    let b = facts::read_rep(rep, query::right(query, at, i));
     reaches(reach, a, b)
 }
 
 // "a negated reachability fact that is held"
-fn reach_clash(
-    query: &[u8],
-    at: usize,
-    count: usize,
-    reps: &[usize; 17],
-    reach: &[u32; 17],
-) -> Clash
+fn reach_clash(query: &[u8], at: usize, count: usize, rep: &[u8; 17], reach: &[u32; 17]) -> Clash
     requires { ⌜ at + 3 * count ≤ length (now query) ⌝ }
-    ensures { λ r. ⌜ lineOf r ≡ alone 3 (literalsIn (now (query .entry)) at count) (reachHeld (repsOf (now (reps .entry))) (square (now (reach .entry)))) ⌝ }
+    ensures { λ r. ⌜ lineOf r ≡ alone 3 (literalsIn (now (query .entry)) at count) (reachHeld (repOf (now (rep .entry))) (square (now (reach .entry)))) ⌝ }
 {
     let mut i: usize = 0;
     while i < count {
-        if is_held_negated(query, at, i, reps, reach) {
+        if is_held_negated(query, at, i, rep, reach) {
             return Clash::At(3, i + 1, 0);
         }
         i += 1;
@@ -139,12 +101,12 @@ pub fn is_field_partner(
     query: &[u8],
     at: usize,
     j: usize,
-    reps: &[usize; 17],
+    rep: &[u8; 17],
     field: usize,
     term: Term,
 ) -> bool
     requires { ⌜ at + 3 * j + 3 ≤ length (now query) ⌝ }
-    ensures { λ r. ⌜ r ≡ (literalIn (now (query .entry)) at j .plain and (eqb field (literalIn (now (query .entry)) at j .left) and eqb (term .0) (repsOf (now (reps .entry)) (literalIn (now (query .entry)) at j .right)))) ⌝ }
+    ensures { λ r. ⌜ r ≡ (literalIn (now (query .entry)) at j .plain and (eqb field (literalIn (now (query .entry)) at j .left) and eqb (term .0) (repOf (now (rep .entry)) (literalIn (now (query .entry)) at j .right)))) ⌝ }
 {
     if !query::sign(query, at, j) {
         return false;
@@ -153,23 +115,23 @@ pub fn is_field_partner(
     if field != other {
         return false;
     }
-    let same = read_rep(reps, query::right(query, at, j));
+    let same = facts::read_rep(rep, query::right(query, at, j));
     term.0 == same.0
 }
 
 // The lowest plain partner of data literal i, where that is negated.
-fn field_partner(query: &[u8], at: usize, count: usize, reps: &[usize; 17], i: usize) -> Place
+fn field_partner(query: &[u8], at: usize, count: usize, rep: &[u8; 17], i: usize) -> Place
     requires { ⌜ (at + 3 * count ≤ length (now query)) × (i < count) ⌝ }
-    ensures { λ r. ⌜ placeOf r ≡ partner (literalsIn (now (query .entry)) at count) (sameField (repsOf (now (reps .entry)))) (i + 1) ⌝ }
+    ensures { λ r. ⌜ placeOf r ≡ partner (literalsIn (now (query .entry)) at count) (sameField (repOf (now (rep .entry)))) (i + 1) ⌝ }
 {
     if query::sign(query, at, i) {
         return Place::Nothing;
     }
     let field = query::field(query, at, i);
-    let term = read_rep(reps, query::right(query, at, i));
+    let term = facts::read_rep(rep, query::right(query, at, i));
     let mut j: usize = 0;
     while j < count {
-        if is_field_partner(query, at, j, reps, field, term) {
+        if is_field_partner(query, at, j, rep, field, term) {
             return Place::At(j + 1);
         }
         j += 1;
@@ -178,13 +140,13 @@ fn field_partner(query: &[u8], at: usize, count: usize, reps: &[usize; 17], i: u
 }
 
 // "a data .. literal held plain and negated"
-fn field_clash(query: &[u8], at: usize, count: usize, reps: &[usize; 17]) -> Clash
+fn field_clash(query: &[u8], at: usize, count: usize, rep: &[u8; 17]) -> Clash
     requires { ⌜ at + 3 * count ≤ length (now query) ⌝ }
-    ensures { λ r. ⌜ lineOf r ≡ paired 4 (literalsIn (now (query .entry)) at count) (sameField (repsOf (now (reps .entry)))) ⌝ }
+    ensures { λ r. ⌜ lineOf r ≡ paired 4 (literalsIn (now (query .entry)) at count) (sameField (repOf (now (rep .entry)))) ⌝ }
 {
     let mut i: usize = 0;
     while i < count {
-        if let Place::At(j) = field_partner(query, at, count, reps, i) {
+        if let Place::At(j) = field_partner(query, at, count, rep, i) {
             return Clash::At(4, i + 1, j);
         }
         i += 1;
@@ -192,31 +154,27 @@ fn field_clash(query: &[u8], at: usize, count: usize, reps: &[usize; 17]) -> Cla
     Clash::Nothing
 }
 
-// "Lowest section, then lowest place, is reported", by what each term was replaced by.
-pub fn path_clash(query: &[u8], layout: Layout, reps: &[usize; 17], reach: &[u32; 17]) -> Clash
+// "Lowest section, then lowest place, is reported": the clash of every path with these representatives and this reachability.
+pub fn find_clash<'a>(
+    query: &[u8],
+    layout: Layout,
+    rep: &'a [u8; 17],
+    reach: &'a [u32; 17],
+) -> Clash
     requires { ⌜ LaysOut layout (now query) ⌝ }
-    ensures { λ r. ⌜ lineOf r ≡ pathClash (decode (now (query .entry))) (repsOf (now (reps .entry))) (square (now (reach .entry))) ⌝ }
+    ensures { λ r. ⌜ ((s : Facts) → s .rep ≡ repOf (now (rep .entry)) → s .graph 1 .reach ≡ square (now (reach .entry)) → lineOf r ≡ clash (decode (now (query .entry))) s) ⌝ }
 {
-    if let Clash::At(k, i, j) = equality_clash(query, layout.equal_at, layout.equal_count, reps) {
+    if let Clash::At(k, i, j) = equality_clash(query, layout.equal_at, layout.equal_count, rep) {
         return Clash::At(k, i, j);
     }
     if let Clash::At(k, i, j) = reach_clash(
         query,
         layout.reach_at,
         layout.reach_count,
-        reps,
+        rep,
         reach,
     ) {
         return Clash::At(k, i, j);
     }
-    field_clash(query, layout.field_at, layout.field_count, reps)
-}
-
-// The clash of every path with these representatives and this reachability.
-pub fn find_clash(query: &[u8], layout: Layout, rep: [Term; 17], reach: &[u32; 17]) -> Clash
-    requires { ⌜ LaysOut layout (now query) ⌝ }
-    ensures { λ r. ⌜ ((s : Facts) → s .rep ≡ repOf rep → s .graph 1 .reach ≡ square (now (reach .entry)) → lineOf r ≡ clash (decode (now (query .entry))) s) ⌝ }
-{
-    let reps = numbers(rep);
-    path_clash(query, layout, &reps, reach)
+    field_clash(query, layout.field_at, layout.field_count, rep)
 }

@@ -12,8 +12,8 @@ use borrow.Author.Tests.{eqb-true, ltb-true}
 use Rattle.logic.specs.Search.{flatMap}
 use Rattle.logic.specs.Rules.{Rule, REFLEX, TRANS1, TRANS2, FUNC, CYCLE, SCC, TOTAL, SHARE, ruleNumber, rules, ruleOf}
 use Rattle.logic.specs.Walk.{orderOf}
-use Rattle.logic.proofs.Basics.Search.{true-false, find-some, flatMap-mem, flatMap-intro}
-use Rattle.logic.proofs.Walks.Order.{ruleOf-number}
+use Rattle.theory.proofs.Basics.Search.{true-false, find-some, flatMap-mem, flatMap-intro}
+use Rattle.theory.proofs.Walks.Order.{ruleOf-number}
 use Rattle.closing.specs.Closed.{closing, Begins, threeOf, begins}
 
 six : (o t u x y z : Bool) → o && t && u && x && y && z ≡ true → (o ≡ true) × (t ≡ true) × (u ≡ true) × (x ≡ true) × (y ≡ true) × (z ≡ true)

@@ -9,19 +9,19 @@ use lib.ListN.{length, getD, set}
 use lib.Bits.{bitAnd, bitOr}
 use lib.Dec.{eqb}
 use Rattle.logic.specs.Search.{_and_, _or_}
-use Rattle.logic.specs.Facts.{Graph, live}
+use Rattle.logic.specs.Facts.{Graph, Facts, live}
 use Rattle.logic.specs.Decision.{Follows, is-held, itself, by-link, onward, Closes}
-use Rattle.logic.proofs.Basics.Search.{true-false, and-left, and-right, and-intro, or-cases, or-left, or-right}
-use Rattle.logic.proofs.Basics.Compare.{eq-cases, eqb-true, eqb-self, le-cases}
-use Rattle.logic.proofs.Paths.Ranged.{live-range}
+use Rattle.theory.proofs.Basics.Search.{true-false, and-left, and-right, and-intro, or-cases, or-left, or-right}
+use Rattle.theory.proofs.Basics.Compare.{eq-cases, eqb-true, eqb-self, le-cases}
+use Rattle.theory.proofs.Paths.Ranged.{live-range}
 use Rattle.facts.specs.Bits.{bit}
 use Rattle.facts.specs.Square.{rowOf, square}
-use Rattle.facts.specs.Path.{pathOf, graphOf, onlyLink}
-use Rattle.facts.specs.declared.Facts as code
+use Rattle.facts.specs.Path.{HasLink, withReach}
 use Rattle.facts.proofs.Bits.{bit-and, bit-or, bit-none}
+use Rattle.facts.proofs.Path.{with-rep, with-links, with-here, with-elsewhere}
 use Rattle.facts.proofs.Square.{row-or, row-in, row-beyond, row-none, square-row, square-in, square-above, square-beside, set-same, set-other}
 use Rattle.closing.specs.Closed.{Closed}
-use Rattle.closing.specs.Rows.{Within, Above, Seeded, Passed, OnwardBelow, Onward}
+use Rattle.closing.specs.Rows.{Within, Above, Seeded, Passed, OnwardBelow, Onward, LinkClosed, ClosesLink, ClosedBelow}
 
 module _ (rows : List ℕ) (full : length rows ≡ 17) (a w : ℕ) (h : a ≤ 16) where
   abbrev rows′ : List ℕ
@@ -216,54 +216,90 @@ pub passed-none : (row y far i : ℕ) → bit row y ≡ false → bit 0 i ≡ bi
 unfolding _and_
 passed-none row y far i e = bit-none i ∙ rw e refl
 
--- the facts of the links that the code's paths have not
-abbrev nothing : Graph
-nothing = record { link = λ a b. false; reach = λ a b. false }
+-- the closed rows in place of a link's own
+pub closes-link : (alive : ℕ) (k : ℕ) (s t : Facts) (link reach rows : List ℕ) → square link ≡ s .graph k .link → square reach ≡ s .graph k .reach → Within (bit alive) (square link) (square reach) rows → Above (square reach) rows → Seeded (bit alive) (square link) rows → Onward rows → t ≡ withReach k (square rows) s → ClosesLink (bit alive) k s t
+closes-link alive k s t link reach rows l h inside up (links, own) on e = subst (ClosesLink (bit alive) k s) (sym e) made
+  where
+    graph-here : _≡_ {A = Graph} (record { link = s .graph k .link; reach = square rows }) (withReach k (square rows) s .graph k)
+    graph-here = sym (with-here k (square rows) s)
 
--- a path with the rows in place of its own
-pub closes : (n : ℕ) (s t : code.Facts) (alive : ℕ) (rows : List ℕ) → bit alive ≡ live n (pathOf s) → t .rep ≡ s .rep → t .link ≡ s .link → Within (bit alive) (square (s .link)) (square (s .reach)) (t .reach) → Above (square (s .reach)) (t .reach) → Closes n (pathOf s) (pathOf t)
-unfolding pathOf graphOf onlyLink
-closes n s t alive rows e r l inside up =
+    made-here : LinkClosed (bit alive) (s .graph k) (record { link = s .graph k .link; reach = square rows })
+    made-here =
+        record {
+          same-link = refl;
+          reach-kept = λ a b f. up a b (ap (λ (r : ℕ → ℕ → Bool). r a b) h ∙ f);
+          reach-follows = λ a b f. subst (λ (r : ℕ → ℕ → Bool). Follows (bit alive) r (s .graph k .reach) a b) l (subst (λ (r : ℕ → ℕ → Bool). Follows (bit alive) (square link) r a b) h (inside a b f));
+          link-held = λ a b f. links a b (ap (λ (r : ℕ → ℕ → Bool). r a b) l ∙ f);
+          itself-held = own;
+          onward-held = on;
+        }
+
+    made : ClosesLink (bit alive) k s (withReach k (square rows) s)
+    made =
+        record {
+          same-rep = with-rep k (square rows) s;
+          same-links = with-links k (square rows) s;
+          here = subst (LinkClosed (bit alive) (s .graph k)) graph-here made-here;
+          elsewhere = with-elsewhere k (square rows) s;
+        }
+
+-- one link after the other
+pub closed-none : (alive : ℕ → Bool) (s : Facts) → ClosedBelow alive 1 s s
+closed-none alive s = record { same-rep = refl; same-links = refl; below = λ i l m. absurd (omega arith); elsewhere = λ i d. refl }
+
+pub closed-next : (alive : ℕ → Bool) (k : ℕ) (s t u : Facts) → 1 ≤ k → ClosedBelow alive k s t → ClosesLink alive k t u → ClosedBelow alive (k + 1) s u
+closed-next alive k s t u from-one c d =
     record {
-      same-rep = rw r;
-      same-links = refl;
-      same-link = λ i. same (eqb i 1);
-      reach-kept = λ i a b. kept a b (eqb i 1);
-      reach-linked = λ i a b h. ⊎-elim (λ k. (omega (arith, k), omega (arith, k))) (λ d. absurd (true-false h (rw (d .1) refl))) (eq-cases i 1);
-      reach-follows = λ i a b. follows a b (eqb i 1);
+      same-rep = d .same-rep ∙ c .same-rep;
+      same-links = d .same-links ∙ c .same-links;
+      below = λ i l m. ⊎-elim (now i) (λ ne. subst (LinkClosed alive (s .graph i)) (sym (d .elsewhere i (ne .0))) (c .below i l (let e = ne .0 in omega arith))) (eq-cases i k);
+      elsewhere = λ i out. d .elsewhere i (λ e. out (omega arith) (omega arith)) ∙ c .elsewhere i (λ l m. out l (omega arith));
     }
   where
-    same : (o : Bool) → cond o (graphOf (t .link) (t .reach)) nothing .link ≡ cond o (graphOf (s .link) (s .reach)) nothing .link
-    same true = rw l
-    same false = refl
+    as-was : t .graph k ≡ s .graph k
+    as-was = c .elsewhere k (λ l m. omega arith)
 
-    kept : (a b : ℕ) (o : Bool) → cond o (graphOf (s .link) (s .reach)) nothing .reach a b ≡ true → cond o (graphOf (t .link) (t .reach)) nothing .reach a b ≡ true
-    kept a b true h = up a b h
-    kept a b false h = h
+    now : (i : ℕ) → i ≡ k → LinkClosed alive (s .graph i) (u .graph i)
+    now i e = subst (λ (j : ℕ). LinkClosed alive (s .graph j) (u .graph j)) (sym e) (subst (λ (g : Graph). LinkClosed alive g (u .graph k)) as-was (d .here))
 
-    follows : (a b : ℕ) (o : Bool) → cond o (graphOf (t .link) (t .reach)) nothing .reach a b ≡ true → Follows (live n (pathOf s)) (cond o (graphOf (s .link) (s .reach)) nothing .link) (cond o (graphOf (s .link) (s .reach)) nothing .reach) a b
-    follows a b true h = subst (λ (f : ℕ → Bool). Follows f (square (s .link)) (square (s .reach)) a b) e (inside a b h)
-    follows a b false h = absurd (true-false h refl)
+pub closed-last : (alive : ℕ → Bool) (k total : ℕ) (s t : Facts) → total ≡ s .links → k ≡ total + 1 → ClosedBelow alive k s t → ClosedBelow alive (s .links + 1) s t
+closed-last alive k total s t e f c = subst (λ (m : ℕ). ClosedBelow alive m s t) (f ∙ ap (λ (m : ℕ). m + 1) e) c
 
-pub closed : (n : ℕ) (s t : code.Facts) (alive : ℕ) → n ≤ 16 → bit alive ≡ live n (pathOf s) → t .rep ≡ s .rep → t .link ≡ s .link → Seeded (bit alive) (square (s .link)) (t .reach) → Onward (t .reach) → Closed n (pathOf t)
-unfolding pathOf graphOf onlyLink live
-closed n s t alive small e r l (links, own) on =
-    record {
-      itself-held = λ i a low high h.
-          let one : i ≡ 1 = omega (arith, low, high) in
-          let live-a : live n (pathOf s) a ≡ true = same-live a h in
-          rw one (own a (let in-n = live-range n (pathOf s) a live-a in omega arith) (ap (λ (f : ℕ → Bool). f a) e ∙ live-a));
-      link-held = λ i a b. link-in a b (eqb i 1);
-      onward-held = λ i a b c. onward-in a b c (eqb i 1);
-    }
-  where
-    same-live : (a : ℕ) → live n (pathOf t) a ≡ true → live n (pathOf s) a ≡ true
-    same-live a h = rw (sym r) h
+-- all links: the path is closed. Facts are of its links alone.
+module _ (n : ℕ) (s t : Facts) (alive : ℕ → Bool) (e : alive ≡ live n s) (c : ClosedBelow alive (s .links + 1) s t)
+    (reach-within : (i a b : ℕ) → s .graph i .reach a b ≡ true → HasLink s i)
+    (link-within : (i a b : ℕ) → s .graph i .link a b ≡ true → HasLink s i) where
+  link-cases : (i : ℕ) → (LinkClosed alive (s .graph i) (t .graph i) × HasLink s i) ⊎ (t .graph i ≡ s .graph i)
+  link-cases i = ⊎-elim (λ l. ⊎-elim (λ m. inl (c .below i l (omega arith), (omega arith, m))) (λ m. inr (c .elsewhere i (λ f g. omega arith))) (le-cases i (s .links))) (λ l. inr (c .elsewhere i (λ f g. omega arith))) (le-cases 1 i)
 
-    link-in : (a b : ℕ) (o : Bool) → cond o (graphOf (t .link) (t .reach)) nothing .link a b ≡ true → cond o (graphOf (t .link) (t .reach)) nothing .reach a b ≡ true
-    link-in a b true h = links a b (rw l at h)
-    link-in a b false h = h
+  reach-is-within : (i a b : ℕ) → t .graph i .reach a b ≡ true → HasLink s i
+  reach-is-within i a b f = ⊎-elim (λ x. x .1) (λ x. reach-within i a b (sym (ap (λ (g : Graph). g .reach a b) x) ∙ f)) (link-cases i)
 
-    onward-in : (a b c : ℕ) (o : Bool) → cond o (graphOf (t .link) (t .reach)) nothing .reach a b ≡ true → cond o (graphOf (t .link) (t .reach)) nothing .reach b c ≡ true → cond o (graphOf (t .link) (t .reach)) nothing .reach a c ≡ true
-    onward-in a b c true h k = on a b c h k
-    onward-in a b c false h k = h
+  link-is-within : (i a b : ℕ) → t .graph i .link a b ≡ true → HasLink s i
+  link-is-within i a b f = ⊎-elim (λ x. x .1) (λ x. link-within i a b (sym (ap (λ (g : Graph). g .link a b) x) ∙ f)) (link-cases i)
+
+  closed-at : (i : ℕ) → HasLink s i → LinkClosed alive (s .graph i) (t .graph i)
+  closed-at i h = let l = h .0 in let m = h .1 in c .below i (omega arith) (omega arith)
+
+  pub closes : Closes n s t
+  closes =
+      record {
+        same-rep = c .same-rep;
+        same-links = c .same-links;
+        same-link = λ i. ⊎-elim (λ x. x .0 .same-link) (λ x. ap (λ (g : Graph). g .link) x) (link-cases i);
+        reach-kept = λ i a b f. ⊎-elim (λ x. x .0 .reach-kept a b f) (λ x. ap (λ (g : Graph). g .reach a b) x ∙ f) (link-cases i);
+        reach-linked = λ i a b f. let h = reach-is-within i a b f in let l = h .0 in (omega arith, h .1);
+        reach-follows = λ i a b f. subst (λ (p : ℕ → Bool). Follows p (s .graph i .link) (s .graph i .reach) a b) e (closed-at i (reach-is-within i a b f) .reach-follows a b f);
+      }
+
+  pub closed : n ≤ 16 → Closed n t
+  unfolding live
+  closed small =
+      record {
+        itself-held = λ i a low high h.
+            let live-a : live n s a ≡ true = rw (sym (c .same-rep)) h in
+            let m : i ≤ s .links = rw (sym (c .same-links)) high in
+            closed-at i (omega arith, m) .itself-held a (let in-n = live-range n s a live-a in omega arith) (ap (λ (p : ℕ → Bool). p a) e ∙ live-a);
+        link-held = λ i a b f. closed-at i (link-is-within i a b f) .link-held a b f;
+        onward-held = λ i a b d f g. closed-at i (reach-is-within i a b f) .onward-held a b d f g;
+      }

@@ -16,14 +16,14 @@ use Rattle.logic.specs.Walk.{look, clashing, applying, saturated, Ending, satur
 use Rattle.logic.specs.OurWalk.{Walks, goes-on, WalksEach, saturated-first}
 use Rattle.logic.specs.Steps.{Step, Steps, at-first, one-more, AtMost}
 use Rattle.logic.specs.Decision.{HasHeap, Follows, is-held, itself, by-link, onward, Closes}
-use Rattle.logic.proofs.Basics.Search.{bool-cases, true-false, not-of, and-left, and-right, and-intro, or-cases, or-left, none-some, keep-some, keep-none, any-false, any-true, firstOf-some, firstOf-none, firstOf-empty, firstOf-skip, from-mem, from-intro, map-intro}
-use Rattle.logic.proofs.Basics.Compare.{eqb-self, eqb-true}
-use Rattle.logic.proofs.Query.Tied.{Accepted}
-use Rattle.logic.proofs.Paths.Ranged.{InRange, Ranged, live-range}
-use Rattle.logic.proofs.Paths.Applies.{hasLink-range, hasLink-intro, applies-linked, applies-met, applies-new, applies-intro}
-use Rattle.logic.proofs.Walks.Order.{HoldsAll, triples-full, choose-some, choose-none}
-use Rattle.logic.proofs.Walks.OurWalk.{walks-unique, walk-walks}
-use Rattle.logic.proofs.Calls.Decision.{Known, clash-none, branch-known, heap-closed, walk-saturation, closed-known}
+use Rattle.theory.proofs.Basics.Search.{bool-cases, true-false, not-of, and-left, and-right, and-intro, or-cases, or-left, none-some, keep-some, keep-none, any-false, any-true, firstOf-some, firstOf-none, firstOf-empty, firstOf-skip, from-mem, from-intro, map-intro}
+use Rattle.theory.proofs.Basics.Compare.{eqb-self, eqb-true}
+use Rattle.theory.proofs.Query.Tied.{Accepted}
+use Rattle.theory.proofs.Paths.Ranged.{InRange, Ranged, live-range}
+use Rattle.theory.proofs.Paths.Applies.{hasLink-range, hasLink-intro, applies-linked, applies-met, applies-new, applies-intro}
+use Rattle.theory.proofs.Walks.Order.{HoldsAll, triples-full, choose-some, choose-none}
+use Rattle.theory.proofs.Walks.OurWalk.{walks-unique, walk-walks}
+use Rattle.theory.proofs.Calls.Decision.{Known, clash-none, branch-known, heap-closed, walk-saturation, closed-known}
 use Rattle.closing.specs.Closed.{Closed, closing, Begins}
 
 -- Of a rule that concludes one reachability fact

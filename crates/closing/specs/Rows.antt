@@ -4,6 +4,7 @@ use mathlib.Core.Path.{_≡_}
 use mathlib.Core.Bool.{Bool, true}
 use mathlib.Core.List.{List}
 use Rattle.logic.specs.Search.{_and_, _or_}
+use Rattle.logic.specs.Facts.{Graph, Facts}
 use Rattle.logic.specs.Decision.{Follows}
 use Rattle.facts.specs.Square.{square}
 
@@ -28,3 +29,25 @@ OnwardBelow rows k = (a b c : ℕ) → b < k → square rows a b ≡ true → sq
 
 abbrev pub Onward : List ℕ → Type 0
 Onward rows = (a b c : ℕ) → square rows a b ≡ true → square rows b c ≡ true → square rows a c ≡ true
+
+-- the facts of a link, once REFLEX, TRANS1 and TRANS2 have no more to add
+pub record LinkClosed (alive : ℕ → Bool) (g h : Graph) : Type 0 where
+  pub same-link : h .link ≡ g .link
+  pub reach-kept : (a b : ℕ) → g .reach a b ≡ true → h .reach a b ≡ true
+  pub reach-follows : (a b : ℕ) → h .reach a b ≡ true → Follows alive (g .link) (g .reach) a b
+  pub link-held : (a b : ℕ) → h .link a b ≡ true → h .reach a b ≡ true
+  pub itself-held : (a : ℕ) → a ≤ 16 → alive a ≡ true → h .reach a a ≡ true
+  pub onward-held : (a b c : ℕ) → h .reach a b ≡ true → h .reach b c ≡ true → h .reach a c ≡ true
+
+-- a path with the facts of link k closed, and with those of the links from 1 below k
+pub record ClosesLink (alive : ℕ → Bool) (k : ℕ) (s t : Facts) : Type 0 where
+  pub same-rep : t .rep ≡ s .rep
+  pub same-links : t .links ≡ s .links
+  pub here : LinkClosed alive (s .graph k) (t .graph k)
+  pub elsewhere : (i : ℕ) → (i ≡ k → ⊥) → t .graph i ≡ s .graph i
+
+pub record ClosedBelow (alive : ℕ → Bool) (k : ℕ) (s t : Facts) : Type 0 where
+  pub same-rep : t .rep ≡ s .rep
+  pub same-links : t .links ≡ s .links
+  pub below : (i : ℕ) → 1 ≤ i → i < k → LinkClosed alive (s .graph i) (t .graph i)
+  pub elsewhere : (i : ℕ) → (1 ≤ i → i < k → ⊥) → t .graph i ≡ s .graph i

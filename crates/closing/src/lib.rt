@@ -1,5 +1,6 @@
 // A path closed under the rules that neither branch nor join: REFLEX, TRANS1 and TRANS2, all at once.
 use facts::Facts;
+use facts::Link;
 ghost use mathlib.Core.Path.{_≡_};
 ghost use mathlib.Core.Bool.{Bool, true};
 ghost use Prim.Native.Nat.{ℕ, _≤_};
@@ -8,8 +9,8 @@ ghost use Rattle.logic.specs.Search.{_and_};
 ghost use Rattle.logic.specs.Decision.{Closes};
 ghost use Rattle.facts.specs.Bits.{bit};
 ghost use Rattle.facts.specs.Square.{square};
-ghost use Rattle.facts.specs.Path.{pathOf};
-ghost use Rattle.closing.specs.Rows.{Within, Above, Seeded, Passed, Onward};
+ghost use Rattle.facts.specs.Path.{pathOf, HasLink};
+ghost use Rattle.closing.specs.Rows.{Within, Above, Seeded, Passed, Onward, ClosesLink};
 ghost use Rattle.closing.specs.Closed.{Closed, threeOf, begins};
 
 // REFLEX and TRANS1: each row with its own term, where that is not replaced, and with what it is linked to.
@@ -67,17 +68,30 @@ fn closed_rows(rows: [u32; 17]) -> [u32; 17]
     out
 }
 
-// The path with all the facts that REFLEX, TRANS1 and TRANS2 give.
+// The path with all the facts that REFLEX, TRANS1 and TRANS2 give of link k.
+fn close_link(s: Facts, alive: u32, k: Link) -> Facts
+    requires { ⌜ HasLink (pathOf s) (k .0) ⌝ }
+    ensures { λ r. ⌜ ClosesLink (bit alive) (k .0) (pathOf s) (pathOf r) ⌝ }
+{
+    let link = facts::link_rows(s, k);
+    let reach = facts::reach_rows(s, k);
+    let rows = seeded(alive, &link, reach);
+    facts::with_reach(s, k, closed_rows(rows))
+}
+
+// The same of every link.
 pub fn close(s: Facts, n: usize) -> Facts
     requires { ⌜ n ≤ 16 ⌝ }
     ensures { λ r. ⌜ Closes n (pathOf s) (pathOf r) × Closed n (pathOf r) ⌝ }
 {
-    let alive = facts::live(s, n);
-    let reach = s.reach;
-    let rows = seeded(alive, &s.link, reach);
+    let alive = facts::live(&s.rep, n);
+    let total = facts::links(s);
     let mut t = s;
-    let closed = closed_rows(rows);
-    t.reach = closed;
+    let mut k: usize = 1;
+    while k <= total {
+        t = close_link(t, alive, Link(k));
+        k += 1;
+    }
     t
 }
 

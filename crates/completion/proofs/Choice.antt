@@ -10,7 +10,7 @@ use lib.Dec.{eqb}
 use borrow.Author.Tests.{eq-eqb, ne-eqb}
 use Rattle.logic.specs.Search.{_and_, _or_, from, any, select, firstOf, find}
 use Rattle.logic.specs.Facts.{Graph, terms, firstTwo}
-use Rattle.logic.proofs.Basics.Search.{none-some}
+use Rattle.theory.proofs.Basics.Search.{none-some}
 use Rattle.logic.specs.Shown.{reached, inBasin, heads, onPath, basinLink, treeLink}
 use Rattle.facts.specs.Square.{square}
 use Rattle.facts.proofs.Successors.{two-one, two-both}

@@ -13,12 +13,13 @@ use Rattle.logic.specs.Search.{_and_, from, any, select, find}
 use Rattle.logic.specs.Facts.{Graph, Facts, terms, live, liveTerms}
 use Rattle.logic.specs.Rules.{next}
 use Rattle.logic.specs.Shown.{reached, inBasin, heads, basinLink, treeLink, newLink, linkEach, shownLink, onPath}
-use Rattle.logic.proofs.Basics.Search.{bool-cases, select-mem, find-some, from-mem}
+use Rattle.theory.proofs.Basics.Search.{bool-cases, select-mem, find-some, from-mem}
 use Rattle.facts.specs.declared.Term.{Term}
-use Rattle.facts.specs.declared.Facts as code
-use Rattle.facts.specs.Path.{repOf, graphOf, onlyLink, pathOf, linksIn}
+use Rattle.facts.specs.Square.{square}
+use Rattle.facts.specs.Path.{repOf, linksIn}
 use Rattle.completion.specs.Links.{linkOf, InRange, reachIn, linkAt}
 use Rattle.facts.proofs.Selections.{terms-from, select-end, select-here, select-skip, select-alike, and-both}
+use Rattle.facts.proofs.Path.{linking}
 use Rattle.facts.proofs.Rep.{rep-in}
 use Rattle.completion.proofs.Links.{link-set, next-below}
 
@@ -78,9 +79,9 @@ module _ (n : ℕ) (g : Graph) (p : ℕ → ℕ) (v : ℕ) where
       ⊎-elim (λ e. let b = new-below in rw (at-new rep e) (omega arith)) (λ e. rw (at-kept rep e) k) (bool-cases (eqb (rep v) v && eqb (p v) 0))
 
 -- a term that is not replaced and has no link, as the code tests it
-pub remains : (rep links : List Term) (v : ℕ) → v ≤ 16 → (eqb (repOf rep v) v && eqb (linkOf links v) 0) ≡ (eqb (getD rep v (record { 0 = 0 }) .0) v && eqb (getD links v (record { 0 = 0 }) .0) 0)
+pub remains : (rep : List ℕ) (links : List Term) (v stands : ℕ) → v ≤ 16 → stands ≡ getD rep v 0 → (eqb (repOf rep v) v && eqb (linkOf links v) 0) ≡ (eqb stands v && eqb (getD links v (record { 0 = 0 }) .0) 0)
 unfolding linkOf
-remains rep links v h = ap (λ (r : ℕ). eqb r v && eqb (linkOf links v) 0) (rep-in rep v h)
+remains rep links v stands h e = ap (λ (r : ℕ). eqb r v && eqb (linkOf links v) 0) (rep-in rep v h ∙ sym e)
 
 -- the link that such a term gets
 pub link-new : (n : ℕ) (g : Graph) (rep : ℕ → ℕ) (links : List Term) (v : ℕ) {r : Term} → (eqb (rep v) v && eqb (linkOf links v) 0) ≡ true → r .0 ≡ newLink n g (linkOf links) v → r .0 ≡ linkAt n g rep (linkOf links) v
@@ -130,10 +131,10 @@ unfolding linkEach
 link-end n g q p v h = rw (select-end q (n + 1) v (omega arith))
 
 -- completing reads the reachability facts alone
-same-reach : (n : ℕ) (link reach : List ℕ) (p : ℕ → ℕ) (vs : List ℕ) → linkEach n (reachIn reach) p vs ≡ linkEach n (graphOf link reach) p vs
-unfolding linkEach newLink inBasin basinLink treeLink reached reachIn graphOf
-same-reach n link reach p [] = refl
-same-reach n link reach p (v ∷ vs) = same-reach n link reach _ vs
+same-reach : (n : ℕ) (link link′ reach : ℕ → ℕ → Bool) (p : ℕ → ℕ) (vs : List ℕ) → linkEach n (linking link reach) p vs ≡ linkEach n (linking link′ reach) p vs
+unfolding linkEach newLink inBasin basinLink treeLink reached
+same-reach n link link′ reach p [] = refl
+same-reach n link link′ reach p (v ∷ vs) = same-reach n link link′ reach _ vs
 
 pub live-selected : (n : ℕ) (s : Facts) → liveTerms n s ≡ select (λ t. eqb (s .rep t) t) (from (n + 1 - 1) 1)
 unfolding liveTerms terms live _and_
@@ -142,12 +143,24 @@ live-selected n s = select-alike _ _ n 1 each ∙ ap (select (λ t. eqb (s .rep 
     each : (t : ℕ) → 1 ≤ t → t < 1 + n → ltb 0 t and ltb t (suc n) and eqb (s .rep t) t ≡ eqb (s .rep t) t
     each t l h = rw (lt-ltb 0 t l, lt-ltb t (suc n) (omega arith))
 
-pub shown : (n : ℕ) (s : code.Facts) (known links : List Term) → linkOf known ≡ next n (linksIn (s .link)) → linkOf links ≡ linkEach n (reachIn (s .reach)) (linkOf known) (select (λ t. eqb (repOf (s .rep) t) t) (from (n + 1 - 1) 1)) → linkOf links ≡ shownLink n (pathOf s) 1
-unfolding shownLink pathOf graphOf onlyLink linksIn next
-shown n s known links e f =
-    f
-    ∙ same-reach n (s .link) (s .reach) (linkOf known) _
-    ∙ ap₂ (linkEach n (graphOf (s .link) (s .reach))) e (sym (live-selected n (pathOf s)))
+-- the links shown, from the rows of one link
+module _ (n : ℕ) (s : Facts) (k : ℕ) (rep link reach : List ℕ) (stands : repOf rep ≡ s .rep) (links-are : square link ≡ s .graph k .link) (reach-is : square reach ≡ s .graph k .reach) where
+  known-next : next n (linksIn link) ≡ next n (s .graph k)
+  unfolding next linksIn
+  known-next = ap {B = ℕ → ℕ} (λ f t. Option·getD (find (f t) (terms n)) 0) links-are
+
+  each-reach : (p : ℕ → ℕ) (vs : List ℕ) → linkEach n (reachIn reach) p vs ≡ linkEach n (s .graph k) p vs
+  unfolding reachIn
+  each-reach p vs =
+      ap (λ (f : ℕ → ℕ → Bool). linkEach n (linking (λ a b. false) f) p vs) reach-is
+      ∙ same-reach n (λ a b. false) (s .graph k .link) (s .graph k .reach) p vs
+
+  pub shown : (known links : List Term) → linkOf known ≡ next n (linksIn link) → linkOf links ≡ linkEach n (reachIn reach) (linkOf known) (select (λ t. eqb (repOf rep t) t) (from (n + 1 - 1) 1)) → linkOf links ≡ shownLink n s k
+  unfolding shownLink
+  shown known links e f =
+      f
+      ∙ each-reach (linkOf known) _
+      ∙ ap₂ (linkEach n (s .graph k)) (e ∙ known-next) (ap (λ (r : ℕ → ℕ). select (λ t. eqb (r t) t) (from (n + 1 - 1) 1)) stands ∙ sym (live-selected n s))
 
 -- every link shown is a term, or none
 each-below : (n : ℕ) (g : Graph) (p : ℕ → ℕ) (vs : List ℕ) → ((t : ℕ) → p t ≤ n) → (t : ℕ) → linkEach n g p vs t ≤ n

@@ -13,7 +13,7 @@ use borrow.Author.Tests.{ltb-true, ltb-false, eqb-true, eqb-false, eq-eqb}
 use Rattle.logic.specs.Search.{from, find}
 use Rattle.logic.specs.Facts.{Graph, terms}
 use Rattle.logic.specs.Rules.{next}
-use Rattle.logic.proofs.Basics.Search.{bool-cases, find-some, from-mem}
+use Rattle.theory.proofs.Basics.Search.{bool-cases, find-some, from-mem}
 use Rattle.facts.specs.declared.Term.{Term}
 use Rattle.facts.specs.Square.{square}
 use Rattle.facts.specs.Path.{linksIn}

@@ -2,7 +2,7 @@
 ghost use mathlib.Core.Path.{_≡_};
 ghost use Prim.Native.Nat.{_+_, _-_, _≤_, _<_};
 ghost use lib.Dec.{eqb};
-ghost use Rattle.facts.specs.Path.{pathOf, repOf, linksIn};
+ghost use Rattle.facts.specs.Path.{pathOf, repOf, linksIn, HasLink};
 ghost use Rattle.facts.specs.Answers.{foundOf};
 ghost use Rattle.logic.specs.Search.{from, find, select};
 ghost use Rattle.logic.specs.Rules.{next};
@@ -10,6 +10,7 @@ ghost use Rattle.logic.specs.Shown.{reached, inBasin, onPath, basinLink, treeLi
 ghost use Rattle.completion.specs.Links.{linkOf, InRange, reachIn, begins, beginsWithout, coversAll};
 use facts::Facts;
 use facts::Found;
+use facts::Link;
 use facts::Term;
 
 // The successor of t, or 0 where it has none.
@@ -200,16 +201,16 @@ fn new_link(links: [Term; 17], reach: &[u32; 17], n: usize, v: Term) -> Term
 }
 
 // "Each remaining term v, ascending, gets a link": one that is not replaced and has none.
-fn link_each(links: [Term; 17], rep: [Term; 17], reach: &[u32; 17], n: usize) -> [Term; 17]
+fn link_each<'a>(links: [Term; 17], rep: &'a [u8; 17], reach: &'a [u32; 17], n: usize) -> [Term; 17]
     requires { ⌜ (n ≤ 16) × InRange links ⌝ }
-    ensures { λ r. ⌜ linkOf r ≡ linkEach n (reachIn (now (reach .entry))) (linkOf links) (select (λ v. eqb (repOf rep v) v) (from (n + 1 - 1) 1)) ⌝ }
+    ensures { λ r. ⌜ linkOf r ≡ linkEach n (reachIn (now (reach .entry))) (linkOf links) (select (λ v. eqb (repOf (now (rep .entry)) v) v) (from (n + 1 - 1) 1)) ⌝ }
 {
     let mut out = links;
     let mut v: usize = 1;
     while v <= n {
-        let stands = rep[v];
+        let stands = facts::wide(rep[v]);
         let known = out[v];
-        if !((stands.0 == v) & (known.0 == 0)) {
+        if !((stands == v) & (known.0 == 0)) {
             v += 1;
             continue;
         }
@@ -219,12 +220,13 @@ fn link_each(links: [Term; 17], rep: [Term; 17], reach: &[u32; 17], n: usize) ->
     out
 }
 
-// The links of the heap shown.
-pub fn shown_links(s: Facts, n: usize) -> [Term; 17]
-    requires { ⌜ n ≤ 16 ⌝ }
-    ensures { λ r. ⌜ linkOf r ≡ shownLink n (pathOf s) 1 ⌝ }
+// The links of the heap shown, of link k.
+pub fn shown_links(s: Facts, n: usize, k: Link) -> [Term; 17]
+    requires { ⌜ (n ≤ 16) × HasLink (pathOf s) (k .0) ⌝ }
+    ensures { λ r. ⌜ linkOf r ≡ shownLink n (pathOf s) (k .0) ⌝ }
 {
-    let rep = s.rep;
-    let known = known_links(&s.link, n);
-    link_each(known, rep, &s.reach, n)
+    let link = facts::link_rows(s, k);
+    let reach = facts::reach_rows(s, k);
+    let known = known_links(&link, n);
+    link_each(known, &s.rep, &reach, n)
 }

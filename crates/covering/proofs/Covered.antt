@@ -6,9 +6,9 @@ use Rattle.logic.specs.Query.{Query, termCount}
 use Rattle.logic.specs.Heap.{Heap, Reaches, value}
 use Rattle.logic.specs.Facts.{Facts}
 use Rattle.logic.specs.Decision.{MeetsPath, HasHeap}
-use Rattle.logic.proofs.Query.Tied.{Accepted}
-use Rattle.logic.proofs.Paths.Ranged.{Ranged, live-range}
-use Rattle.logic.proofs.Calls.Decision.{Known}
+use Rattle.theory.proofs.Query.Tied.{Accepted}
+use Rattle.theory.proofs.Paths.Ranged.{Ranged, live-range}
+use Rattle.theory.proofs.Calls.Decision.{Known}
 use Rattle.covering.specs.Covers.{Covers}
 
 pub covered-heap : (q : Query) → Accepted q → (w s : Facts) → Known q s → Covers w s → HasHeap q w → HasHeap q s

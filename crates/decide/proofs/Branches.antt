@@ -15,17 +15,17 @@ getD-map f [] i d e l = absurd (omega arith)
 getD-map f (x ∷ xs) zero d e l = refl
 getD-map f (x ∷ xs) (suc i) d e l = getD-map f xs i d e (omega arith)
 
-module _ (q : Query) (n : ℕ) (s : Facts) (r : Rule) (x y z : ℕ) (terms-are : n ≡ termCount q) where
-  pub row-length : length (branches (termCount q) s (move 1 r (triple x y z))) ≡ countOf r z
+module _ (q : Query) (n : ℕ) (s : Facts) (l : ℕ) (r : Rule) (x y z : ℕ) (terms-are : n ≡ termCount q) where
+  pub row-length : length (branches (termCount q) s (move l r (triple x y z))) ≡ countOf r z
   unfolding branches
-  row-length = length-map (alternatives (termCount q) (s .graph) (move 1 r (triple x y z))) (add (termCount q) s) ∙ count-is (termCount q) (s .graph) r x y z
+  row-length = length-map (alternatives (termCount q) (s .graph) (move l r (triple x y z))) (add (termCount q) s) ∙ count-is l (termCount q) (s .graph) r x y z
 
-  pub row-at : (i : ℕ) (j : Joined) → i < countOf r z → j ≡ branch n s (alternativeAt n (s .graph 1) r x y z i) → j .facts ≡ getD (branches (termCount q) s (move 1 r (triple x y z))) i s
+  pub row-at : (i : ℕ) (j : Joined) → i < countOf r z → j ≡ branch n s (alternativeAt l n (s .graph l) r x y z i) → j .facts ≡ getD (branches (termCount q) s (move l r (triple x y z))) i s
   unfolding branches add
-  row-at i j l e =
-      let cs : List Fact = alternatives (termCount q) (s .graph) (move 1 r (triple x y z)) in
-      let long : i < length cs = omega (arith, count-is (termCount q) (s .graph) r x y z) in
+  row-at i j in-row e =
+      let cs : List Fact = alternatives (termCount q) (s .graph) (move l r (triple x y z)) in
+      let long : i < length cs = omega (arith, count-is l (termCount q) (s .graph) r x y z) in
       ap (λ (k : Joined). k .facts) e
-      ∙ ap (λ (m : ℕ). branch m s (alternativeAt m (s .graph 1) r x y z i) .facts) terms-are
-      ∙ ap (λ (c : Fact). branch (termCount q) s c .facts) (sym (alternative-is (termCount q) (s .graph) r x y z i (equal 0 0) l))
+      ∙ ap (λ (m : ℕ). branch m s (alternativeAt l m (s .graph l) r x y z i) .facts) terms-are
+      ∙ ap (λ (c : Fact). branch (termCount q) s c .facts) (sym (alternative-is l (termCount q) (s .graph) r x y z i (equal 0 0) in-row))
       ∙ sym (getD-map (add (termCount q) s) cs i (equal 0 0) s long)

@@ -13,13 +13,13 @@ use Rattle.logic.specs.Walk.{Look, clashing, applying, saturated, look, orderOf
 use Rattle.logic.specs.Steps.{AtMost}
 use Rattle.logic.specs.Calls.{accepts}
 use Rattle.logic.specs.Decision.{HasHeap, NoHeap, Reachable, Closes, Struck}
-use Rattle.logic.proofs.Basics.Search.{map-mem}
-use Rattle.logic.proofs.Query.AcceptedBytes.{accepted}
-use Rattle.logic.proofs.Query.Tied.{Accepted}
-use Rattle.logic.proofs.Walks.Order.{HoldsAll, rules-full, order-full}
-use Rattle.logic.proofs.Walks.Derives.{seen-applying, seen-clashing, seen-saturated}
-use Rattle.logic.proofs.Walks.OurWalk.{look-some, look-fewer}
-use Rattle.logic.proofs.Calls.Decision.{Known, reachable-known, clash-none, saturated-heap, struck-next, struck-all, open-branch, branch-at, walk-first, walk-saturation, closed-known, closed-heap, heap-closed}
+use Rattle.theory.proofs.Basics.Search.{map-mem}
+use Rattle.theory.proofs.Query.AcceptedBytes.{accepted}
+use Rattle.theory.proofs.Query.Tied.{Accepted}
+use Rattle.theory.proofs.Walks.Order.{HoldsAll, rules-full, order-full}
+use Rattle.theory.proofs.Walks.Derives.{seen-applying, seen-clashing, seen-saturated}
+use Rattle.theory.proofs.Walks.OurWalk.{look-some, look-fewer}
+use Rattle.theory.proofs.Calls.Decision.{Known, reachable-known, clash-none, saturated-heap, struck-next, struck-all, open-branch, branch-at, walk-first, walk-saturation, closed-known, closed-heap, heap-closed}
 use Rattle.walk.proofs.Walks.{walk-saturated}
 use Rattle.branch.specs.Alternatives.{countOf, alternativeAt}
 use Rattle.facts.specs.Path.{pathOf}

@@ -16,11 +16,11 @@ use Rattle.logic.specs.Walk.{Look, look, orderOf}
 use Rattle.logic.specs.Steps.{AtMost}
 use Rattle.logic.specs.Calls.{accepts}
 use Rattle.logic.specs.Decision.{Closes}
-use Rattle.logic.proofs.Basics.Search.{bool-cases, and-left}
-use Rattle.logic.proofs.Query.AcceptedBytes.{accepted}
-use Rattle.logic.proofs.Query.Tied.{Accepted}
-use Rattle.logic.proofs.Walks.Order.{order-full}
-use Rattle.logic.proofs.Calls.Decision.{Known, closed-known, closed-heap}
+use Rattle.theory.proofs.Basics.Search.{bool-cases, and-left}
+use Rattle.theory.proofs.Query.AcceptedBytes.{accepted}
+use Rattle.theory.proofs.Query.Tied.{Accepted}
+use Rattle.theory.proofs.Walks.Order.{order-full}
+use Rattle.theory.proofs.Calls.Decision.{Known, closed-known, closed-heap}
 use Rattle.closing.specs.Closed.{Closed, Begins, begins}
 use Rattle.closing.proofs.Order.{begins-with}
 use Rattle.closing.proofs.Walks.{closed-most, closed-walk, look-rest}

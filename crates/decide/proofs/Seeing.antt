@@ -13,6 +13,7 @@ use Rattle.rules.specs.declared.Choice.the-variants as choice
 use Rattle.rules.specs.declared.Rule.{Rule}
 use Rattle.rules.specs.declared.Third.{Third}
 use Rattle.facts.specs.declared.Term.{Term}
+use Rattle.facts.specs.declared.Link.{Link}
 use Rattle.clash.specs.Answers.{lineOf}
 use Rattle.clash.specs.declared.Clash.{Clash}
 use Rattle.clash.specs.declared.Clash.the-variants as found
@@ -28,8 +29,8 @@ module _ (q : Query) (s : code.Facts) (n : ℕ) (terms-are : n ≡ termCount q) 
   pub sees-clash : (a b d : ℕ) → c ≡ found.At a b d → Sees q (pathOf s) seen.Clashing
   sees-clash a b d e = (_, sym clash-is ∙ ap lineOf e)
 
-  pub sees-rule : (p : Choice) → Picks n (pathOf s) p → (r : Rule) (x y : Term) (z : Third) → p ≡ choice.Apply r x y z → Sees q (pathOf s) (seen.Applying r x y z)
-  sees-rule p picks r x y z e = subst (λ (m : ℕ). Picks m (pathOf s) (choice.Apply r x y z)) terms-are (subst (Picks n (pathOf s)) e picks)
+  pub sees-rule : (p : Choice) → Picks n (pathOf s) p → (i : Link) (r : Rule) (x y : Term) (z : Third) → p ≡ choice.Apply i r x y z → Sees q (pathOf s) (seen.Applying i r x y z)
+  sees-rule p picks i r x y z e = subst (λ (m : ℕ). Picks m (pathOf s) (choice.Apply i r x y z)) terms-are (subst (Picks n (pathOf s)) e picks)
 
   pub sees-none : (p : Choice) → Picks n (pathOf s) p → c ≡ found.Nothing → p ≡ choice.Nothing → Sees q (pathOf s) seen.Saturated
   sees-none p picks e f = (sym clash-is ∙ ap lineOf e, subst (λ (m : ℕ). Picks m (pathOf s) choice.Nothing) terms-are (subst (Picks n (pathOf s)) f picks))

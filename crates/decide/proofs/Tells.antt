@@ -13,16 +13,17 @@ use Rattle.logic.specs.Walk.{Look, clashing, applying, saturated, look, orderOf
 use Rattle.logic.specs.Steps.{AtMost}
 use Rattle.logic.specs.Calls.{accepts}
 use Rattle.logic.specs.Decision.{HasHeap, NoHeap, Reachable, Closes, Struck}
-use Rattle.logic.proofs.Basics.Search.{map-mem}
-use Rattle.logic.proofs.Query.AcceptedBytes.{accepted}
-use Rattle.logic.proofs.Query.Tied.{Accepted}
-use Rattle.logic.proofs.Walks.Order.{HoldsAll, rules-full, order-full}
-use Rattle.logic.proofs.Walks.Derives.{seen-applying, seen-clashing, seen-saturated}
-use Rattle.logic.proofs.Walks.OurWalk.{look-some, look-fewer}
-use Rattle.logic.proofs.Calls.Decision.{Known, reachable-known, clash-none, saturated-heap, struck-next, struck-all, open-branch, branch-at, walk-first, walk-saturation, closed-known, closed-heap, heap-closed}
+use Rattle.theory.proofs.Basics.Search.{map-mem}
+use Rattle.theory.proofs.Query.AcceptedBytes.{accepted}
+use Rattle.theory.proofs.Query.Tied.{Accepted}
+use Rattle.theory.proofs.Paths.Applies.{hasLink-range, applies-linked}
+use Rattle.theory.proofs.Walks.Order.{HoldsAll, rules-full, order-full}
+use Rattle.theory.proofs.Walks.Derives.{seen-applying, seen-clashing, seen-saturated}
+use Rattle.theory.proofs.Walks.OurWalk.{look-some, look-fewer}
+use Rattle.theory.proofs.Calls.Decision.{Known, reachable-known, clash-none, saturated-heap, struck-next, struck-all, open-branch, branch-at, walk-first, walk-saturation, closed-known, closed-heap, heap-closed}
 use Rattle.walk.proofs.Walks.{walk-saturated}
 use Rattle.branch.specs.Alternatives.{countOf, alternativeAt}
-use Rattle.facts.specs.Path.{pathOf}
+use Rattle.facts.specs.Path.{pathOf, HasLink}
 use Rattle.decide.specs.Tells.{isRefuted, isUnknown, Sees, Tells, Ends, Walks, Decides}
 use Rattle.decide.specs.declared.Kind.{Kind}
 use Rattle.decide.specs.declared.Kind.the-variants as kind
@@ -58,6 +59,12 @@ both-left false b e = absurd (false≢true e)
 
 pub fewer-left : (k t : ℕ) → (k ≡ 0 → ⊥) → k ≡ t → k - 1 < t
 fewer-left k t ne e = omega arith
+
+-- a rule that applies does so by a link of the path
+pub applied-linked : (n : ℕ) (s : Facts) (k : ℕ) (r : Rule) (x y z : ℕ) → applies n s (move k r (triple x y z)) ≡ true → HasLink s k
+applied-linked n s k r x y z app =
+    let l = hasLink-range (s .links) k r (triple x y z) (applies-linked n s (move k r (triple x y z)) app) in
+    (omega (arith, l), l .1)
 
 -- of a strategy
 module _ (q : Query) (s : Facts) where
@@ -102,25 +109,25 @@ module _ (bytes : List ℕ) (acc : accepts bytes ≡ true) (s t : Facts) (known 
   pub ends-saturated : clash q t ≡ none → choose (termCount q) rules t ≡ none → Ends q s kind.Open t
   ends-saturated free idle = let h = saturated-heap q ok t known-closed rules rules-full free idle in ends-open q s t (tells-open q s (heap-closed q ok s t known closes h)) h
 
-  module _ (r : Rule) (x y z : ℕ) (app : applies (termCount q) t (move 1 r (triple x y z)) ≡ true) where
+  module _ (k : ℕ) (r : Rule) (x y z : ℕ) (app : applies (termCount q) t (move k r (triple x y z)) ≡ true) where
     abbrev m : Move
-    m = move 1 r (triple x y z)
+    m = move k r (triple x y z)
 
-    module _ (i : ℕ) (l : i < countOf r z) (j : Joined) (e : j ≡ branch n t (alternativeAt n (t .graph 1) r x y z i)) where
+    module _ (i : ℕ) (l : i < countOf r z) (j : Joined) (e : j ≡ branch n t (alternativeAt k n (t .graph k) r x y z i)) where
       in-row : i < length (branches (termCount q) t m)
-      in-row = omega (arith, row-length q n t r x y z terms-are)
+      in-row = omega (arith, row-length q n t k r x y z terms-are)
 
       at : getD (branches (termCount q) t m) i t ≡ j .facts
-      at = sym (row-at q n t r x y z terms-are i j l e)
+      at = sym (row-at q n t k r x y z terms-are i j l e)
 
       pub known-branch : Known q (j .facts)
       known-branch = subst (Known q) at (branch-at q ok t known-closed m app i in-row)
 
-      pub struck-more : Struck q t m i → (k : Kind) → Tells q (j .facts) k → isRefuted k ≡ true → Struck q t m (i + 1)
-      struck-more st k told f = struck-next q ok t m i st (subst (NoHeap q) (sym at) (told .refuted (refuted-is k f)))
+      pub struck-more : Struck q t m i → (w : Kind) → Tells q (j .facts) w → isRefuted w ≡ true → Struck q t m (i + 1)
+      struck-more st w told f = struck-next q ok t m i st (subst (NoHeap q) (sym at) (told .refuted (refuted-is w f)))
 
-      pub tells-branch : (k : Kind) → Tells q (j .facts) k → isRefuted k ≡ false → Tells q s k
-      tells-branch k told f =
+      pub tells-branch : (w : Kind) → Tells q (j .facts) w → isRefuted w ≡ false → Tells q s w
+      tells-branch w told f =
           record {
             refuted = λ g. absurd (true≢false (sym (ap isRefuted g) ∙ f));
             has = λ g. heap-closed q ok s t known closes (open-branch q ok t known-closed m app i in-row (subst (HasHeap q) (sym at) (told .has g)));
@@ -128,4 +135,4 @@ module _ (bytes : List ℕ) (acc : accepts bytes ≡ true) (s t : Facts) (known 
 
     pub tells-struck : (i : ℕ) → Struck q t m i → countOf r z ≤ i → Tells q s kind.Refuted
     tells-struck i st past =
-        tells-refuted q s (λ h. struck-all q ok t known-closed m app i st (omega (arith, row-length q n t r x y z terms-are)) (closed-heap q ok s t known closes h))
+        tells-refuted q s (λ h. struck-all q ok t known-closed m app i st (omega (arith, row-length q n t k r x y z terms-are)) (closed-heap q ok s t known closes h))

@@ -13,13 +13,13 @@ use Rattle.logic.specs.Walk.{Look, clashing, applying, saturated, look, orderOf
 use Rattle.logic.specs.Steps.{AtMost}
 use Rattle.logic.specs.Calls.{accepts}
 use Rattle.logic.specs.Decision.{HasHeap, NoHeap, Reachable, Closes, Struck}
-use Rattle.logic.proofs.Basics.Search.{map-mem}
-use Rattle.logic.proofs.Query.AcceptedBytes.{accepted}
-use Rattle.logic.proofs.Query.Tied.{Accepted}
-use Rattle.logic.proofs.Walks.Order.{HoldsAll, rules-full, order-full}
-use Rattle.logic.proofs.Walks.Derives.{seen-applying, seen-clashing, seen-saturated}
-use Rattle.logic.proofs.Walks.OurWalk.{look-some, look-fewer}
-use Rattle.logic.proofs.Calls.Decision.{Known, reachable-known, clash-none, saturated-heap, struck-next, struck-all, open-branch, branch-at, walk-first, walk-saturation, closed-known, closed-heap, heap-closed}
+use Rattle.theory.proofs.Basics.Search.{map-mem}
+use Rattle.theory.proofs.Query.AcceptedBytes.{accepted}
+use Rattle.theory.proofs.Query.Tied.{Accepted}
+use Rattle.theory.proofs.Walks.Order.{HoldsAll, rules-full, order-full}
+use Rattle.theory.proofs.Walks.Derives.{seen-applying, seen-clashing, seen-saturated}
+use Rattle.theory.proofs.Walks.OurWalk.{look-some, look-fewer}
+use Rattle.theory.proofs.Calls.Decision.{Known, reachable-known, clash-none, saturated-heap, struck-next, struck-all, open-branch, branch-at, walk-first, walk-saturation, closed-known, closed-heap, heap-closed}
 use Rattle.walk.proofs.Walks.{walk-saturated}
 use Rattle.branch.specs.Alternatives.{countOf, alternativeAt}
 use Rattle.facts.specs.Path.{pathOf}
@@ -42,7 +42,7 @@ row-fewer q order k s m most h i l =
     let (c, ci, e) = map-mem (add (termCount q) s) (getD (branches (termCount q) s m) i s) (alternatives (termCount q) (s .graph) m) (getD-mem (branches (termCount q) s m) i s l) in
     subst (λ (t : Facts). AtMost (termCount q) t (k - 1)) (sym e) (look-fewer q order k s m most h c ci)
 
-module _ (bytes order : List ℕ) (acc : accepts bytes ≡ true) (o : isOrder order ≡ true) (k : ℕ) (s : Facts) (known : Known (decode bytes) s) (most : AtMost (termCount (decode bytes)) s k) (n : ℕ) (terms-are : n ≡ termCount (decode bytes)) (r : Rule) (x y z : ℕ) (h : look (decode bytes) (orderOf order) s ≡ applying (move 1 r (triple x y z))) where
+module _ (bytes order : List ℕ) (acc : accepts bytes ≡ true) (o : isOrder order ≡ true) (k : ℕ) (s : Facts) (known : Known (decode bytes) s) (most : AtMost (termCount (decode bytes)) s k) (n : ℕ) (terms-are : n ≡ termCount (decode bytes)) (l : ℕ) (r : Rule) (x y z : ℕ) (h : look (decode bytes) (orderOf order) s ≡ applying (move l r (triple x y z))) where
   abbrev q : Query
   q = decode bytes
 
@@ -50,7 +50,7 @@ module _ (bytes order : List ℕ) (acc : accepts bytes ≡ true) (o : isOrder or
   ok = accepted bytes acc
 
   abbrev m : Move
-  m = move 1 r (triple x y z)
+  m = move l r (triple x y z)
 
   app : applies (termCount q) s m ≡ true
   app = seen-applying q (orderOf order) s h .1
@@ -58,12 +58,12 @@ module _ (bytes order : List ℕ) (acc : accepts bytes ≡ true) (o : isOrder or
   pub some-left : 1 ≤ k
   some-left = look-some q (orderOf order) k s m most h
 
-  module _ (i : ℕ) (l : i < countOf r z) (j : Joined) (e : j ≡ branch n s (alternativeAt n (s .graph 1) r x y z i)) where
+  module _ (i : ℕ) (here : i < countOf r z) (j : Joined) (e : j ≡ branch n s (alternativeAt l n (s .graph l) r x y z i)) where
     in-row : i < length (branches (termCount q) s m)
-    in-row = omega (arith, row-length q n s r x y z terms-are)
+    in-row = omega (arith, row-length q n s l r x y z terms-are)
 
     at : getD (branches (termCount q) s m) i s ≡ j .facts
-    at = sym (row-at q n s r x y z terms-are i j l e)
+    at = sym (row-at q n s l r x y z terms-are i j here e)
 
     pub walked-known : Known q (j .facts)
     walked-known = subst (Known q) at (branch-at q ok s known m app i in-row)
@@ -85,7 +85,7 @@ module _ (bytes order : List ℕ) (acc : accepts bytes ≡ true) (o : isOrder or
   pub walked-all : (i : ℕ) → Struck q s m i → countOf r z ≤ i → (limited : Bool) (w : Walked) → w .kind ≡ kind.Refuted → Walks q order k s limited w
   walked-all i st past limited w e =
       record {
-        refuted = λ f. struck-all q ok s known m app i st (omega (arith, row-length q n s r x y z terms-are));
+        refuted = λ f. struck-all q ok s known m app i st (omega (arith, row-length q n s l r x y z terms-are));
         ends = λ f. absurd (refuted-open (sym e ∙ f));
         gives-up = λ f. absurd (refuted-unknown (sym e ∙ f));
       }

@@ -31,7 +31,7 @@ isUnknown kind.Unknown = true
 -- what is seen at a path: a clash; a rule that applies, whichever; or that there is neither
 abbrev pub Sees : Query → Facts → Seen → Type 0
 Sees q s seen.Clashing = (l : Line) × (clash q s ≡ some l)
-Sees q s (seen.Applying r x y z) = (applies (termCount q) s (move 1 (kindOf r) (triple (x .0) (y .0) (z .0))) ≡ true) × (x .0 ≤ 16) × (y .0 ≤ 16) × (z .0 ≤ 16)
+Sees q s (seen.Applying i r x y z) = (applies (termCount q) s (move (i .0) (kindOf r) (triple (x .0) (y .0) (z .0))) ≡ true) × (x .0 ≤ 16) × (y .0 ≤ 16) × (z .0 ≤ 16)
 Sees q s seen.Saturated = (clash q s ≡ none) × (choose (termCount q) rules s ≡ none)
 
 -- "refuted" only if no finite heap meets the query and the facts of the path, "open" only if some does; "unknown" says nothing

@@ -2,6 +2,7 @@
 // our own. What each of them says is right whatever it picks, and one that runs out says nothing.
 use clash::Clash;
 use facts::Facts;
+use facts::Link;
 use facts::Term;
 use query::Layout;
 use rules::Choice;
@@ -17,7 +18,7 @@ ghost use Rattle.logic.specs.Query.{decode, termCount, isOrder};
 ghost use Rattle.logic.specs.Steps.{AtMost};
 ghost use Rattle.logic.specs.Calls.{accepts};
 ghost use Rattle.logic.specs.Decision.{Reachable};
-ghost use Rattle.logic.proofs.Calls.Decision.{Known};
+ghost use Rattle.theory.proofs.Calls.Decision.{Known};
 ghost use Rattle.facts.specs.Path.{pathOf};
 ghost use Rattle.query.specs.LaysOut.{LaysOut};
 ghost use Rattle.closing.specs.Closed.{Closed, begins};
@@ -55,14 +56,14 @@ pub struct Decided {
 // What plain steps find out, the path where they end (where they do not, the one that was given), and the budget left.
 pub struct Walked {
     pub kind: Kind,
-    pub facts: Facts,
     pub budget: usize,
+    pub facts: Facts,
 }
 
 // What a strategy sees at a path.
 pub enum Seen {
     Clashing,
-    Applying(Rule, Term, Term, Third),
+    Applying(Link, Rule, Term, Term, Third),
     Saturated,
 }
 
@@ -133,31 +134,35 @@ pub fn plain(
     ensures { λ r. ⌜ Walks (decode (now (query .entry))) (now (order .entry)) left (pathOf s) limited r ⌝ }
 {
     let n = layout.terms;
-    if limited & (budget == 0) {
-        return Walked {
-            kind: Kind::Unknown,
-            facts: s,
-            budget: 0,
-        };
-    }
     let front = ahead(order, s, n);
     match look_ahead(query, layout, order, front) {
-        walk::Seen::Saturated => Walked {
-            kind: Kind::Open,
-            facts: front,
-            budget: spent(budget),
-        },
-        walk::Seen::Clashing(_, _, _) => Walked {
-            kind: Kind::Refuted,
-            facts: front,
-            budget: spent(budget),
-        },
-        walk::Seen::Applying(rule, x, y, z) => {
+        walk::Seen::Saturated => {
+            return Walked {
+                kind: Kind::Open,
+                facts: front,
+                budget: spent(budget),
+            };
+        }
+        walk::Seen::Clashing(_, _, _) => {
+            return Walked {
+                kind: Kind::Refuted,
+                facts: front,
+                budget: spent(budget),
+            };
+        }
+        walk::Seen::Applying(k, rule, x, y, z) => {
             let total = branch::count(rule, z);
             let mut fuel = spent(budget);
             let mut i: usize = 0;
             while i < total {
-                let joined = branch::branch(front, n, rule, x, y, z, i);
+                if limited & (fuel == 0) {
+                    return Walked {
+                        kind: Kind::Unknown,
+                        facts: front,
+                        budget: 0,
+                    };
+                }
+                let joined = branch::branch(front, n, k, rule, x, y, z, i);
                 let path = joined.facts;
                 let w = plain(query, layout, order, left - 1, path, limited, fuel);
                 let kind = w.kind;
@@ -167,11 +172,11 @@ pub fn plain(
                 fuel = w.budget;
                 i += 1;
             }
-            Walked {
+            return Walked {
                 kind: Kind::Refuted,
                 facts: front,
                 budget: fuel,
-            }
+            };
         }
     }
 }
@@ -181,14 +186,13 @@ fn sees(query: &[u8], layout: Layout, how: usize, s: Facts) -> Seen
     requires { ⌜ LaysOut layout (now query) ⌝ }
     ensures { λ r. ⌜ Sees (decode (now (query .entry))) (pathOf s) r ⌝ }
 {
-    let rep = s.rep;
-    if let Clash::At(_, _, _) = clash::find_clash(query, layout, rep, &s.reach) {
+    if let Clash::At(_, _, _) = clash::find_clash(query, layout, &s.rep, &s.reach) {
         return Seen::Clashing;
     }
-    let Choice::Apply(rule, x, y, z) = picking::pick(query, layout, how, s) else {
+    let Choice::Apply(k, rule, x, y, z) = picking::pick(query, layout, how, s) else {
         return Seen::Saturated;
     };
-    Seen::Applying(rule, x, y, z)
+    Seen::Applying(k, rule, x, y, z)
 }
 
 // A strategy: the path is closed, and then branches where the strategy picks.
@@ -197,38 +201,42 @@ fn search(query: &[u8], layout: Layout, how: usize, left: usize, s: Facts, budge
     ensures { λ r. ⌜ Ends (decode (now (query .entry))) (pathOf s) (r .kind) (pathOf (r .facts)) ⌝ }
 {
     let n = layout.terms;
-    if left == 0 {
-        return Tried {
-            kind: Kind::Unknown,
-            budget: 0,
-            facts: s,
-        };
-    }
-    if budget == 0 {
-        return Tried {
-            kind: Kind::Unknown,
-            budget: 0,
-            facts: s,
-        };
-    }
     let t = closing::close(s, n);
     match sees(query, layout, how, t) {
-        Seen::Saturated => Tried {
-            kind: Kind::Open,
-            budget: budget - 1,
-            facts: t,
-        },
-        Seen::Clashing => Tried {
-            kind: Kind::Refuted,
-            budget: budget - 1,
-            facts: t,
-        },
-        Seen::Applying(rule, x, y, z) => {
+        Seen::Saturated => {
+            return Tried {
+                kind: Kind::Open,
+                budget: spent(budget),
+                facts: t,
+            };
+        }
+        Seen::Clashing => {
+            return Tried {
+                kind: Kind::Refuted,
+                budget: spent(budget),
+                facts: t,
+            };
+        }
+        Seen::Applying(k, rule, x, y, z) => {
+            if left == 0 {
+                return Tried {
+                    kind: Kind::Unknown,
+                    budget: 0,
+                    facts: t,
+                };
+            }
             let total = branch::count(rule, z);
-            let mut fuel = budget - 1;
+            let mut fuel = spent(budget);
             let mut i: usize = 0;
             while i < total {
-                let joined = branch::branch(t, n, rule, x, y, z, i);
+                if fuel == 0 {
+                    return Tried {
+                        kind: Kind::Unknown,
+                        budget: 0,
+                        facts: t,
+                    };
+                }
+                let joined = branch::branch(t, n, k, rule, x, y, z, i);
                 let path = joined.facts;
                 let w = search(query, layout, how, left - 1, path, fuel);
                 let kind = w.kind;
@@ -238,11 +246,11 @@ fn search(query: &[u8], layout: Layout, how: usize, left: usize, s: Facts, budge
                 fuel = w.budget;
                 i += 1;
             }
-            Tried {
+            return Tried {
                 kind: Kind::Refuted,
                 budget: fuel,
                 facts: t,
-            }
+            };
         }
     }
 }
@@ -260,16 +268,17 @@ fn grown(budget: usize, turn: usize) -> usize
     4 * budget
 }
 
-// The paths that a strategy may look at: one that probes takes longer at each.
+// The paths that a strategy may look at: one that probes takes longer at each, and is done after far fewer.
 fn share(budget: usize, how: usize) -> usize {
     if how == 2 {
-        return budget / 32 + 1;
+        return budget / 2 + 1;
     }
     budget
 }
 
-// The strategies in turn, each with a budget; then all again with four times the budget, until one is done. Before them the cheapest has a
-// short try, and then strategy `first`: the one that was done with a path before this is often done with this one too.
+// The strategies in turn, each with a budget; then all again with four times the budget, until one is done. The one that probes begins: where
+// all take long, it is done soonest as a rule. Before them the cheapest has a short try, and then strategy `first`: the one that was done with
+// a path before this is often done with this one too.
 fn in_turn(query: &[u8], layout: Layout, s: Facts, first: usize) -> Settled
     requires { ⌜ LaysOut layout (now query) × (accepts (now query) ≡ true) × Known (decode (now query)) (pathOf s) ⌝ }
     ensures { λ r. ⌜ Ends (decode (now (query .entry))) (pathOf s) (r .kind) (pathOf (r .facts)) ⌝ }
@@ -297,7 +306,7 @@ fn in_turn(query: &[u8], layout: Layout, s: Facts, first: usize) -> Settled
     let mut budget: usize = 50;
     let mut turn: usize = 0;
     while turn < 36 {
-        let how = turn % 3;
+        let how = (turn + 2) % 3;
         let tried = search(query, layout, how, 300, s, share(budget, how));
         let kind = tried.kind;
         if !is_unknown(kind) {

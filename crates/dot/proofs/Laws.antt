@@ -10,8 +10,8 @@ use lib.Dec.{eqb, ltb, leb}
 use borrow.Author.Tests.{eqb-true, eqb-false, ltb-true, ltb-false, leb-true, lt-ltb, le-leb}
 use Rattle.logic.specs.Search.{_and_, from, all, select, flatMap}
 use Rattle.logic.specs.Shown.{sizeIn, isNode, wellFormed}
-use Rattle.logic.proofs.Basics.Search.{bool-cases, true-false, not-of, and-intro, and-right}
-use Rattle.logic.proofs.Calls.OneLink.{wellFormed-one}
+use Rattle.theory.proofs.Basics.Search.{bool-cases, true-false, not-of, and-intro, and-right}
+use Rattle.theory.proofs.Calls.OneLink.{wellFormed-one}
 use Rattle.text.specs.Text.{decimal}
 use Rattle.text.proofs.Writing.{Part, part-more, part-place, writes-none}
 use Rattle.facts.proofs.Loops.{from-end, from-next}

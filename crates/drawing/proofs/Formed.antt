@@ -10,8 +10,8 @@ use lib.Dec.{eqb, ltb, leb}
 use borrow.Author.Tests.{ltb-true, leb-true, eqb-true}
 use Rattle.logic.specs.Search.{_and_, all, from}
 use Rattle.logic.specs.Shown.{sizeIn, nodeIn, isNode, wellFormed}
-use Rattle.logic.proofs.Basics.Search.{and-left, and-right, all-true, from-intro}
-use Rattle.logic.proofs.Calls.OneLink.{wellFormed-one}
+use Rattle.theory.proofs.Basics.Search.{and-left, and-right, all-true, from-intro}
+use Rattle.theory.proofs.Calls.OneLink.{wellFormed-one}
 use Rattle.drawing.specs.Text.{countIn, linkIn, reportSize}
 
 pub record Formed (bytes : List ℕ) : Type 0 where

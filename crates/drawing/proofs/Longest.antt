@@ -9,8 +9,8 @@ use lib.Dec.{eqb, ltb}
 use borrow.Author.Tests.{ltb-true}
 use Rattle.logic.specs.Search.{_and_, from, all, select, flatMap}
 use Rattle.logic.specs.Shown.{sizeIn, nodeIn, isNode, wellFormed}
-use Rattle.logic.proofs.Basics.Search.{and-left, and-right, from-mem}
-use Rattle.logic.proofs.Completeness.Placed.{length-from}
+use Rattle.theory.proofs.Basics.Search.{and-left, and-right, from-mem}
+use Rattle.theory.proofs.Completeness.Placed.{length-from}
 use Rattle.text.specs.Text.{decimalWithin, decimal}
 use Rattle.text.proofs.Digits.{decimal-byte}
 use Rattle.drawing.specs.Text.{countIn, linkIn, datumIn, booleansIn, reportSize, opening, closing, commentOpen, newline, labelOpen, labelClose, arrow, lineEnd, slash, listed, termsAt, commentLine, nodeLine, arrowLine, text}

@@ -10,8 +10,8 @@ use lib.ListN.{length, length-append}
 use lib.Dec.{leb}
 use borrow.Author.Tests.{le-leb}
 use Rattle.logic.specs.Search.{_and_}
-use Rattle.logic.proofs.Basics.Search.{and-intro}
-use Rattle.logic.proofs.Basics.Compare.{le-cases}
+use Rattle.theory.proofs.Basics.Search.{and-intro}
+use Rattle.theory.proofs.Basics.Compare.{le-cases}
 use Rattle.text.specs.Text.{decimal, isDigit}
 use Rattle.text.proofs.Digits.{decimal-small, decimal-more}
 use Rattle.drawing.specs.Reader.{Read, read, atDigit, step, run}

@@ -12,9 +12,9 @@ use lib.Dec.{eqb}
 use borrow.Author.Tests.{eq-eqb, ne-eqb, eqb-true}
 use Rattle.logic.specs.Search.{from, any, select, flatMap}
 use Rattle.logic.specs.Shown.{sizeIn, nodeIn, wellFormed}
-use Rattle.logic.proofs.Basics.Search.{bool-cases, not-of, true-false, any-true, any-intro, select-mem, select-intro, from-mem, from-intro}
-use Rattle.logic.proofs.Basics.Compare.{eq-cases}
-use Rattle.logic.proofs.Completeness.Placed.{length-from}
+use Rattle.theory.proofs.Basics.Search.{bool-cases, not-of, true-false, any-true, any-intro, select-mem, select-intro, from-mem, from-intro}
+use Rattle.theory.proofs.Basics.Compare.{eq-cases}
+use Rattle.theory.proofs.Completeness.Placed.{length-from}
 use Rattle.drawing.specs.Text.{countIn, linkIn, datumIn, booleansIn, reportSize, commentLine, nodeLine, arrowLine, termsAt, text}
 use Rattle.drawing.specs.Reader.{Read, read, run, labelOf, reportOf, reportIn}
 use Rattle.drawing.specs.Claims.{unpadded}

@@ -9,9 +9,9 @@ use lib.ListN.{length}
 use Rattle.logic.specs.Search.{at, isSome}
 use Rattle.logic.specs.Query.{Literal, Query, termCount, Layout, faulty, parts, Section, fourSections, fiveSections, sections, firstByte, layoutOf, literals, section, queryOf, decode}
 use Rattle.logic.specs.Calls.{accepts, acceptsBy}
-use Rattle.logic.proofs.Basics.Search.{none-some}
-use Rattle.logic.proofs.Query.Bytes.{Part, retired-number, literals-link}
-use Rattle.logic.proofs.Query.AcceptedBytes.{accepted, query-passes, five-laid}
+use Rattle.theory.proofs.Basics.Search.{none-some}
+use Rattle.theory.proofs.Query.Bytes.{Part, retired-number, literals-link}
+use Rattle.theory.proofs.Query.AcceptedBytes.{accepted, query-passes, five-laid}
 use Rattle.encoding.specs.QueryBytes.{encode}
 use Rattle.encoding.proofs.Encoded.{Limits, limits-within, within-limits, OneLinked, Encodable, passed}
 

@@ -13,17 +13,17 @@ use borrow.Author.Tests.{le-leb, leb-true, eqb-true, lt-ltb}
 use Rattle.logic.specs.Search.{_and_, _or_, from, keep, orElse, flatMap}
 use Rattle.logic.specs.Query.{Literal, Query, termCount, entryOf, namesNil, argumentOf, Role, Section, entryRole, signRole, termRole, numberRole, countRole, fourSections, booleanSection, fiveSections, sections, parts, withPart, layout, rolesOf, firstByte, layoutBy, layoutOf, faultIn, layoutFault, roleFault, byteFault, literals, section, queryOf, decode}
 use Rattle.logic.specs.Calls.{Input, Check, layoutCheck, byteCheck, queryChecks, refusalOf}
-use Rattle.logic.proofs.Basics.Search.{and-left, and-right, and-intro, or-left, or-right}
-use Rattle.logic.proofs.Basics.Count.{length-from, length-flatMap}
-use Rattle.logic.proofs.Query.Bytes.{Allows, Allowed}
-use Rattle.logic.proofs.Query.Tied.{Accepted, InTerms, ToEight}
-use Rattle.logic.proofs.Query.AcceptedBytes.{form-elim}
-use Rattle.logic.proofs.Calls.CallLaws.{refusalOf-clear}
+use Rattle.theory.proofs.Basics.Search.{and-left, and-right, and-intro, or-left, or-right}
+use Rattle.theory.proofs.Basics.Count.{length-from, length-flatMap}
+use Rattle.theory.proofs.Query.Bytes.{Allows, Allowed}
+use Rattle.theory.proofs.Query.Tied.{Accepted, InTerms, ToEight}
+use Rattle.theory.proofs.Query.AcceptedBytes.{form-elim}
+use Rattle.theory.proofs.Calls.CallLaws.{refusalOf-clear}
 use Rattle.encoding.specs.QueryBytes.{signByte, literalBytes, sectionBytes, encode, withinLimits}
 
 -- Literals read back
 
-sign-reads : (b : Bool) → eqb (signByte b) 1 ≡ b
+pub sign-reads : (b : Bool) → eqb (signByte b) 1 ≡ b
 unfolding signByte
 sign-reads true = refl
 sign-reads false = refl
@@ -42,12 +42,12 @@ literals-read (l ∷ ls) one =
 -- Layout
 
 -- a section's part, where the others are laid out
-layout-part : (s : Section) (ss : List Section) (place c : ℕ) (part rest : List ℕ) (qs : List (List ℕ)) → c ≤ s .limit → length part ≡ c * s .width → layout ss (suc place + c * s .width) rest ≡ parts qs → layout (s ∷ ss) place (c ∷ (part ++ rest)) ≡ parts (part ∷ qs)
+pub layout-part : (s : Section) (ss : List Section) (place c : ℕ) (part rest : List ℕ) (qs : List (List ℕ)) → c ≤ s .limit → length part ≡ c * s .width → layout ss (suc place + c * s .width) rest ≡ parts qs → layout (s ∷ ss) place (c ∷ (part ++ rest)) ≡ parts (part ∷ qs)
 unfolding layout withPart
 layout-part s ss place c part rest qs within sized h =
     rw (le-leb c (s .limit) within, le-leb (c * s .width) (length (part ++ rest)) (omega (arith, sized, length-append part rest)), take-at part rest (c * s .width) sized, drop-at part rest (c * s .width) sized, h)
 
-layout-none : (place : ℕ) → layout [] place [] ≡ parts []
+pub layout-none : (place : ℕ) → layout [] place [] ≡ parts []
 unfolding layout
 layout-none place = refl
 
@@ -88,12 +88,12 @@ entries-allowed i (e ∷ es) h = (
   entries-allowed (suc i) es (λ j l. rw (suc-add, ← add-suc) (h (suc j) (omega arith))),
 )
 
-sign-allowed : (b : Bool) → Allows signRole (signByte b)
+pub sign-allowed : (b : Bool) → Allows signRole (signByte b)
 unfolding signRole signByte
 sign-allowed true c = refl
 sign-allowed false c = refl
 
-literals-allowed : (left right : Role) (i : ℕ) (ls : List Literal) → ((l : Literal) → List·Memᴰ l ls → Allows left (l .left) × Allows right (l .right)) → Allowed (flatMap (λ j. signRole ∷ left ∷ right ∷ []) (from (length ls) i)) (flatMap literalBytes ls)
+pub literals-allowed : (left right : Role) (i : ℕ) (ls : List Literal) → ((l : Literal) → List·Memᴰ l ls → Allows left (l .left) × Allows right (l .right)) → Allowed (flatMap (λ j. signRole ∷ left ∷ right ∷ []) (from (length ls) i)) (flatMap literalBytes ls)
 unfolding flatMap from literalBytes
 literals-allowed left right i [] h = tt
 literals-allowed left right i (l ∷ ls) h =
@@ -101,7 +101,7 @@ literals-allowed left right i (l ∷ ls) h =
     (sign-allowed (l .plain), (here .0, (here .1, literals-allowed left right (suc i) ls (λ x m. h x (List·Memᴰ·tail m)))))
 
 -- how many bytes and roles a section has
-literal-bytes : (ls : List Literal) → length (flatMap literalBytes ls) ≡ length ls * 3
+pub literal-bytes : (ls : List Literal) → length (flatMap literalBytes ls) ≡ length ls * 3
 unfolding literalBytes
 literal-bytes ls = length-flatMap literalBytes 3 (λ l. refl) ls
 
@@ -109,18 +109,18 @@ roles-sized : (f : ℕ → List Role) (w c : ℕ) → ((i : ℕ) → length (f i
 roles-sized f w c h = length-flatMap f w h (from c 1) ∙ ap (λ (k : ℕ). k * w) (length-from c 1)
 
 -- a section behind its count, and the sections behind it
-section-allowed : (s : Section) (ss : List Section) (c : ℕ) (part rest : List ℕ) → ((i : ℕ) → length (s .roles i) ≡ s .width) → length part ≡ c * s .width → Allowed (flatMap (s .roles) (from c 1)) part → Allowed (rolesOf ss rest) rest → Allowed (rolesOf (s ∷ ss) (c ∷ (part ++ rest))) (c ∷ (part ++ rest))
+pub section-allowed : (s : Section) (ss : List Section) (c : ℕ) (part rest : List ℕ) → ((i : ℕ) → length (s .roles i) ≡ s .width) → length part ≡ c * s .width → Allowed (flatMap (s .roles) (from c 1)) part → Allowed (rolesOf ss rest) rest → Allowed (rolesOf (s ∷ ss) (c ∷ (part ++ rest))) (c ∷ (part ++ rest))
 unfolding countRole
 section-allowed s ss c part rest regular sized h g =
     rw (roles-part s ss c part rest sized)
     (λ checked. absurd (omega (arith, checked .0)), allowed-append (flatMap (s .roles) (from c 1)) (rolesOf ss rest) part rest (roles-sized (s .roles) (s .width) c regular ∙ sym sized) h g)
 
-roles-none : Allowed (rolesOf [] []) []
+pub roles-none : Allowed (rolesOf [] []) []
 unfolding rolesOf
 roles-none = tt
 
 -- a section of no entries
-none-allowed : (f : ℕ → List Role) → Allowed (flatMap f (from 0 1)) []
+pub none-allowed : (f : ℕ → List Role) → Allowed (flatMap f (from 0 1)) []
 unfolding flatMap from
 none-allowed f = tt
 
@@ -163,6 +163,24 @@ pub record Encodable (q : Query) : Type 0 where
   pub accepted : Accepted q
   pub one-linked : OneLinked q
   pub within : withinLimits q ≡ true
+
+-- what the roles of bytes allow, of a query whose numbers are as they should be
+module _ (q : Query) (ok : Accepted q) where
+  pub entry-allowed : (j : ℕ) → j < length (q .entries .terms) → Allows (entryRole (1 + j)) (getD (q .entries .terms) j 0)
+  unfolding entryRole termCount entryOf argumentOf namesNil
+  entry-allowed j l checked = go (eqb (getD (q .entries .terms) j 0) 255) (ok .entry-below (suc j) (omega arith, l))
+    where
+      go : (c : Bool) → cond c 0 (getD (q .entries .terms) j 0) < suc j → (ltb (getD (q .entries .terms) j 0) (1 + j)) or c ≡ true
+      go true h = or-right _ refl
+      go false h = or-left false (lt-ltb (getD (q .entries .terms) j 0) (1 + j) (omega arith))
+
+  pub term-allowed : (t : ℕ) → InTerms q t → Allows (termRole (termCount q)) t
+  unfolding termRole
+  term-allowed t h checked = and-intro (lt-ltb 0 t (h .0)) (le-leb t (termCount q) (h .1))
+
+  pub number-allowed : (j : ℕ) → ToEight j → Allows numberRole j
+  unfolding numberRole
+  number-allowed j h checked = and-intro (lt-ltb 0 j (h .0)) (le-leb j 8 (h .1))
 
 module _ (q : Query) (ok : Encodable q) where
   unfoldable equal : List ℕ
@@ -218,30 +236,14 @@ module _ (q : Query) (ok : Encodable q) where
         fields = literals-read (q .fields) (f .fields) i;
       })
 
-  entry-allowed : (j : ℕ) → j < length (q .entries .terms) → Allows (entryRole (1 + j)) (getD (q .entries .terms) j 0)
-  unfolding entryRole termCount entryOf argumentOf namesNil
-  entry-allowed j l checked = go (eqb (getD (q .entries .terms) j 0) 255) (ok .accepted .entry-below (suc j) (omega arith, l))
-    where
-      go : (c : Bool) → cond c 0 (getD (q .entries .terms) j 0) < suc j → (ltb (getD (q .entries .terms) j 0) (1 + j)) or c ≡ true
-      go true h = or-right _ refl
-      go false h = or-left false (lt-ltb (getD (q .entries .terms) j 0) (1 + j) (omega arith))
-
-  term-allowed : (t : ℕ) → InTerms q t → Allows (termRole (termCount q)) t
-  unfolding termRole
-  term-allowed t h checked = and-intro (lt-ltb 0 t (h .0)) (le-leb t (termCount q) (h .1))
-
-  number-allowed : (j : ℕ) → ToEight j → Allows numberRole j
-  unfolding numberRole
-  number-allowed j h checked = and-intro (lt-ltb 0 j (h .0)) (le-leb j 8 (h .1))
-
   allowed : Allowed (rolesOf (sections (firstByte (encode q))) (encode q)) (encode q)
   unfolding sections fiveSections fourSections booleanSection firstByte termCount equal reach field tail5 tail4 tail3 tail2
   allowed =
       rw bytes-are
-      (section-allowed _ _ (termCount q) (q .entries .terms) tail2 (λ i. refl) (sym (mul-one (termCount q))) (entries-allowed 1 (q .entries .terms) entry-allowed)
-      (section-allowed _ _ (length (q .equalities)) equal tail3 (λ i. refl) (literal-bytes (q .equalities)) (literals-allowed _ _ 1 (q .equalities) (λ l m. let t = ok .accepted .equal-terms l m in (term-allowed (l .left) (t .0), term-allowed (l .right) (t .1))))
-      (section-allowed _ _ (length (q .reachability)) reach tail4 (λ i. refl) (literal-bytes (q .reachability)) (literals-allowed _ _ 1 (q .reachability) (λ l m. let t = ok .accepted .reach-terms l m in (term-allowed (l .left) (t .0), term-allowed (l .right) (t .1))))
-      (section-allowed _ _ (length (q .fields)) field tail5 (λ i. refl) (literal-bytes (q .fields)) (literals-allowed _ _ 1 (q .fields) (λ l m. (number-allowed (l .left) (ok .accepted .field-number l m), term-allowed (l .right) (ok .accepted .field-term l m))))
+      (section-allowed _ _ (termCount q) (q .entries .terms) tail2 (λ i. refl) (sym (mul-one (termCount q))) (entries-allowed 1 (q .entries .terms) (entry-allowed q (ok .accepted)))
+      (section-allowed _ _ (length (q .equalities)) equal tail3 (λ i. refl) (literal-bytes (q .equalities)) (literals-allowed _ _ 1 (q .equalities) (λ l m. let t = ok .accepted .equal-terms l m in (term-allowed q (ok .accepted) (l .left) (t .0), term-allowed q (ok .accepted) (l .right) (t .1))))
+      (section-allowed _ _ (length (q .reachability)) reach tail4 (λ i. refl) (literal-bytes (q .reachability)) (literals-allowed _ _ 1 (q .reachability) (λ l m. let t = ok .accepted .reach-terms l m in (term-allowed q (ok .accepted) (l .left) (t .0), term-allowed q (ok .accepted) (l .right) (t .1))))
+      (section-allowed _ _ (length (q .fields)) field tail5 (λ i. refl) (literal-bytes (q .fields)) (literals-allowed _ _ 1 (q .fields) (λ l m. (number-allowed q (ok .accepted) (l .left) (ok .accepted .field-number l m), term-allowed q (ok .accepted) (l .right) (ok .accepted .field-term l m))))
       (section-allowed _ _ 0 [] [] (λ i. refl) refl (none-allowed _) roles-none)))))
 
   layout-passed : (k : ℕ) → layoutFault sections k (encode q) ≡ none

@@ -2,3 +2,4 @@
 pub mod Encoded
 pub mod Decoded
 pub mod Recovered
+pub mod WritingCall

@@ -12,7 +12,7 @@ use borrow.Author.Tests.{ltb-true, leb-true, eqb-true, eqb-false}
 use Rattle.logic.specs.Search.{from, at, flatMap}
 use Rattle.logic.specs.Query.{termCount, Role, Section, signRole, termRole, numberRole, fourSections, booleanSection, fiveSections, sections, Layout, faulty, parts, withPart, layout, firstByte, layoutBy, layoutOf, literals, section, queryOf, decode}
 use Rattle.logic.specs.Calls.{accepts}
-use Rattle.logic.proofs.Query.Bytes.{Allows, Allowed, Part, cond-elim}
+use Rattle.theory.proofs.Query.Bytes.{Allows, Allowed, Part, cond-elim}
 use Rattle.encoding.specs.QueryBytes.{signByte, literalBytes, sectionBytes, encode}
 use Rattle.encoding.proofs.Decoded.{accepted-parts}
 

@@ -1,1 +1,2 @@
 pub mod QueryBytes
+pub mod WritingCall

@@ -1,21 +1,67 @@
 -- The search for a byte that meets refusal k, byte by byte and entry by entry.
 use Prim.Native.Nat.{ℕ, suc, _+_, _-_, _*_, _≤_, _<_}
-use native.Mathlib.Nat.{add-zero, add-suc, suc-add, suc-mul, sub-zero, sub-eq-zero-of-le}
+use native.Mathlib.Nat.{add-zero, add-suc, add-assoc, suc-add, suc-mul, sub-zero, sub-eq-zero-of-le}
 use native.Mathlib.Numerals.{add-one}
 use native.Mathlib.Omega.{arith}
 use mathlib.Core.Path.{_≡_, refl, sym, ap, _∙_}
-use mathlib.Core.Bool.{Bool, true, false, not}
+use mathlib.Core.Bool.{Bool, true, false, not, _||_, true≢false, false≢true}
 use mathlib.Core.List.{List, [], _∷_, _++_}
 use mathlib.Core.Option.{Option, none, some}
 use lib.ListN.{length, getD, drop}
 use lib.Seq.{drop-drop}
 use lib.Dec.{eqb}
-use Rattle.logic.specs.Search.{_and_, from, keep, orElse, flatMap}
-use Rattle.logic.specs.Query.{Role, roleFault}
+use Rattle.logic.specs.Search.{_and_, from, all, keep, orElse, flatMap}
+use Rattle.logic.specs.Query.{Role, entryRole, signRole, termRole, numberRole, countRole, roleFault}
+use Rattle.theory.proofs.Basics.Search.{all-append}
 use Rattle.entries.specs.declared.Kind.{Kind}
 use Rattle.entries.specs.declared.Kind.the-variants as kind
-use Rattle.entries.specs.Entries.{widthOf, rolesAt, meets, sectionFault}
+use Rattle.entries.specs.Entries.{widthOf, rolesAt, concerned, meets, faultAt, sectionFault}
 use Rattle.entries.proofs.Loops.{drop-next}
+
+-- A section whose bytes are not held to refusal k
+
+abbrev Free : ℕ → List Role → Type 0
+Free k roles = all (λ r. not (eqb (r .refusal) k)) roles ≡ true
+
+free-none : (k place : ℕ) (roles : List Role) (bytes : List ℕ) → Free k roles → roleFault k place roles bytes ≡ none
+unfolding roleFault all keep orElse _and_
+free-none k place [] bytes h = refl
+free-none k place (r ∷ roles) [] h = refl
+free-none k place (r ∷ roles) (b ∷ bytes) h = go (eqb (r .refusal) k) h (λ f. free-none k (suc place) roles bytes f)
+  where
+    go : (t : Bool) → not t and all (λ r. not (eqb (r .refusal) k)) roles ≡ true → (Free k roles → roleFault k (suc place) roles bytes ≡ none) → orElse (keep (t and not (r .allows b)) place) (roleFault k (suc place) roles bytes) ≡ none
+    go true f rest = absurd (false≢true f)
+    go false f rest = rest f
+
+free-each : (k : ℕ) (roles : ℕ → List Role) → ((i : ℕ) → Free k (roles i)) → (xs : List ℕ) → Free k (flatMap roles xs)
+unfolding flatMap all
+free-each k roles h [] = refl
+free-each k roles h (x ∷ xs) = all-append (λ r. not (eqb (r .refusal) k)) (roles x) (flatMap roles xs) (h x) (free-each k roles h xs)
+
+or-left-false : (a b : Bool) → a || b ≡ false → a ≡ false
+or-left-false true b e = e
+or-left-false false b e = refl
+
+or-right-false : (a b : Bool) → a || b ≡ false → b ≡ false
+or-right-false true b e = absurd (true≢false e)
+or-right-false false b e = e
+
+free-kind : (k : ℕ) (s : Kind) → concerned s k ≡ false → (n i : ℕ) → Free k (rolesAt s n i)
+unfolding all _and_ entryRole signRole termRole numberRole countRole
+free-kind k kind.Terms e n i = rw e refl
+free-kind k kind.Pairs e n i = rw (or-left-false (eqb 6 k) (eqb 7 k) e, or-right-false (eqb 6 k) (eqb 7 k) e) refl
+free-kind k kind.Fields e n i =
+    let f = or-left-false (eqb 6 k || eqb 7 k) (eqb 8 k) e in
+    rw (or-left-false (eqb 6 k) (eqb 7 k) f, or-right-false (eqb 6 k) (eqb 7 k) f, or-right-false (eqb 6 k || eqb 7 k) (eqb 8 k) e) refl
+free-kind k kind.Booleans e n i = rw (or-left-false (eqb 6 k) (eqb 8 k) e, or-right-false (eqb 6 k) (eqb 8 k) e) refl
+free-kind k kind.LinkedTerms e n i = rw (or-left-false (eqb 0 k) (eqb 5 k) e, or-right-false (eqb 0 k) (eqb 5 k) e) refl
+free-kind k kind.LinkedPairs e n i =
+    let f = or-left-false (eqb 0 k || eqb 6 k) (eqb 7 k) e in
+    rw (or-left-false (eqb 0 k) (eqb 6 k) f, or-right-false (eqb 0 k) (eqb 6 k) f, or-right-false (eqb 0 k || eqb 6 k) (eqb 7 k) e) refl
+
+pub section-free : (k : ℕ) (s : Kind) (n at count : ℕ) (bytes : List ℕ) → concerned s k ≡ false → sectionFault k s n at count bytes ≡ none
+unfolding sectionFault
+section-free k s n at count bytes e = free-none k at _ (drop at bytes) (free-each k (rolesAt s n) (free-kind k s e n) (from count 1))
 
 module _ {A : Type 0} where
   pub orElse-some : {o : Option A} (o′ : Option A) {a : A} → o ≡ some a → orElse o o′ ≡ some a
@@ -42,14 +88,38 @@ module _ {A : Type 0} where
 pub tested : {b v : Bool} {x y : ℕ} (r : Role) (k : ℕ) → b ≡ meets r k x → x ≡ y → b ≡ v → meets r k y ≡ v
 tested r k test e h = ap (meets r k) (sym e) ∙ (sym test ∙ h)
 
+module _ (r : Role) (k : ℕ) (bytes : List ℕ) (at : ℕ) where
+  pub fault-at : meets r k (getD bytes at 0) ≡ true → faultAt r k bytes at ≡ some at
+  unfolding faultAt keep
+  fault-at e = rw e
+
+  pub no-fault-at : meets r k (getD bytes at 0) ≡ false → faultAt r k bytes at ≡ none
+  unfolding faultAt keep
+  no-fault-at e = rw e
+
+and-never : (a : Bool) → a and false ≡ false
+unfolding _and_
+and-never true = refl
+and-never false = refl
+
+-- a count or a link is held to nothing
+pub free-at : (k : ℕ) (bytes : List ℕ) (at : ℕ) → faultAt countRole k bytes at ≡ none
+unfolding meets countRole
+free-at k bytes at = no-fault-at countRole k bytes at (and-never (eqb 0 k))
+
 module _ (k : ℕ) (bytes : List ℕ) (r : Role) (roles : List Role) (at : ℕ) (h : at < length bytes) where
+  pub fault-first : roleFault k at (r ∷ roles) (drop at bytes) ≡ orElse (faultAt r k bytes at) (roleFault k (at + 1) roles (drop (at + 1) bytes))
+  unfolding roleFault faultAt meets
+  fault-first = rw (drop-next bytes at h, add-one)
+
   pub fault-here : meets r k (getD bytes at 0) ≡ true → roleFault k at (r ∷ roles) (drop at bytes) ≡ some at
-  unfolding roleFault meets keep orElse
-  fault-here e = rw (drop-next bytes at h, e)
+  fault-here e = fault-first ∙ orElse-some _ (fault-at r k bytes at e)
 
   pub fault-next : meets r k (getD bytes at 0) ≡ false → roleFault k at (r ∷ roles) (drop at bytes) ≡ roleFault k (at + 1) roles (drop (at + 1) bytes)
-  unfolding roleFault meets keep orElse
-  fault-next e = rw (drop-next bytes at h, e, add-one)
+  fault-next e = fault-first ∙ orElse-next _ (no-fault-at r k bytes at e)
+
+pub free-first : (k : ℕ) (bytes : List ℕ) (roles : List Role) (at : ℕ) → at < length bytes → roleFault k at (countRole ∷ roles) (drop at bytes) ≡ roleFault k (at + 1) roles (drop (at + 1) bytes)
+free-first k bytes roles at h = fault-first k bytes countRole roles at h ∙ orElse-next _ (free-at k bytes at)
 
 pub fault-end : (k at : ℕ) (bytes : List ℕ) → roleFault k at [] bytes ≡ none
 unfolding roleFault
@@ -61,6 +131,27 @@ no-bytes k place [] = refl
 no-bytes k place (r ∷ roles) = refl
 
 -- Entries
+
+-- the bytes of an entry that are held to something, by the kinds of entry
+module _ (k : ℕ) (bytes : List ℕ) where
+  pub term-roles : (r : Role) (at : ℕ) → at + 1 ≤ length bytes → roleFault k at (r ∷ []) (drop at bytes) ≡ faultAt r k bytes at
+  term-roles r at h = fault-first k bytes r [] at (omega arith) ∙ rw fault-end (orElse-last _)
+
+  pub flag-roles : (a b : Role) (at : ℕ) → at + 2 ≤ length bytes → roleFault k at (a ∷ b ∷ []) (drop at bytes) ≡ orElse (faultAt a k bytes at) (faultAt b k bytes (at + 1))
+  flag-roles a b at h = fault-first k bytes a _ at (omega arith) ∙ ap (orElse _) (term-roles b (at + 1) (omega arith))
+
+  pub literal-roles : (a b c : Role) (at : ℕ) → at + 3 ≤ length bytes → roleFault k at (a ∷ b ∷ c ∷ []) (drop at bytes) ≡ orElse (orElse (faultAt a k bytes at) (faultAt b k bytes (at + 1))) (faultAt c k bytes (at + 1 + 1))
+  literal-roles a b c at h =
+      fault-first k bytes a _ at (omega arith) ∙ ap (orElse _) (flag-roles b c (at + 1) (omega arith)) ∙ sym (orElse-assoc _ _ _)
+
+  pub linked-term-roles : (r : Role) (at : ℕ) → at + 2 ≤ length bytes → roleFault k at (countRole ∷ r ∷ []) (drop at bytes) ≡ faultAt r k bytes (at + 1)
+  linked-term-roles r at h = free-first k bytes _ at (omega arith) ∙ term-roles r (at + 1) (omega arith)
+
+  pub linked-pair-roles : (a b c : Role) (at : ℕ) → at + 4 ≤ length bytes → roleFault k at (a ∷ countRole ∷ b ∷ c ∷ []) (drop at bytes) ≡ orElse (orElse (faultAt a k bytes at) (faultAt b k bytes (at + 2))) (faultAt c k bytes (at + 2 + 1))
+  linked-pair-roles a b c at h =
+      fault-first k bytes a _ at (omega arith)
+      ∙ ap (orElse _) (free-first k bytes _ (at + 1) (omega arith) ∙ rw (add-assoc at 1 1) (flag-roles b c (at + 2) (omega arith)))
+      ∙ sym (orElse-assoc _ _ _)
 
 -- the bytes of one list of roles, and then those of the next
 append : (k place : ℕ) (roles roles′ : List Role) (bytes : List ℕ) → roleFault k place (roles ++ roles′) bytes ≡ orElse (roleFault k place roles bytes) (roleFault k (place + length roles) roles′ (drop (length roles) bytes))
@@ -101,6 +192,8 @@ roles-regular kind.Terms n i = refl
 roles-regular kind.Pairs n i = refl
 roles-regular kind.Fields n i = refl
 roles-regular kind.Booleans n i = refl
+roles-regular kind.LinkedTerms n i = refl
+roles-regular kind.LinkedPairs n i = refl
 
 module _ (k : ℕ) (kind : Kind) (n count : ℕ) (bytes : List ℕ) (i at : ℕ) where
   pub entry-end : count ≤ i → roleFault k at (entriesLeft (rolesAt kind n) count i) (drop at bytes) ≡ none

@@ -1,7 +1,9 @@
 -- Tests and searches as a loop meets them: what is left at i, or of the numbers from k below m, equals the whole.
 use Prim.Native.Nat.{ℕ, _+_, _-_, _≤_, _<_}
+use native.Mathlib.Nat.{add-assoc}
 use native.Mathlib.Numerals.{add-one}
-use mathlib.Core.Path.{_≡_}
+use native.Mathlib.Omega.{arith}
+use mathlib.Core.Path.{_≡_, ap, _∙_}
 use mathlib.Core.Bool.{Bool, true, false}
 use mathlib.Core.List.{List, _∷_}
 use lib.ListN.{length, getD, drop, drop-of-length-le}
@@ -12,6 +14,20 @@ use Rattle.facts.proofs.Loops.{from-end, from-next}
 -- the bytes from i on begin with byte i
 pub drop-next : (xs : List ℕ) (i : ℕ) → i < length xs → drop i xs ≡ getD xs i 0 ∷ drop (i + 1) xs
 drop-next xs i h = rw (add-one, drop-cons xs i 0)
+
+-- and the next two, three and four bytes follow
+module _ (xs : List ℕ) (i : ℕ) where
+  pub drop-two : i + 2 ≤ length xs → drop i xs ≡ getD xs i 0 ∷ getD xs (i + 1) 0 ∷ drop (i + 2) xs
+  drop-two h = drop-next xs i (omega arith) ∙ ap (λ (ys : List ℕ). getD xs i 0 ∷ ys) (drop-next xs (i + 1) (omega arith) ∙ rw add-assoc)
+
+  pub drop-three : i + 3 ≤ length xs → drop i xs ≡ getD xs i 0 ∷ getD xs (i + 1) 0 ∷ getD xs (i + 2) 0 ∷ drop (i + 3) xs
+  drop-three h =
+      drop-two (omega arith) ∙ ap (λ (ys : List ℕ). getD xs i 0 ∷ getD xs (i + 1) 0 ∷ ys) (drop-next xs (i + 2) (omega arith) ∙ rw add-assoc)
+
+  pub drop-four : i + 4 ≤ length xs → drop i xs ≡ getD xs i 0 ∷ getD xs (i + 1) 0 ∷ getD xs (i + 2) 0 ∷ getD xs (i + 3) 0 ∷ drop (i + 4) xs
+  drop-four h =
+      drop-three (omega arith)
+      ∙ ap (λ (ys : List ℕ). getD xs i 0 ∷ getD xs (i + 1) 0 ∷ getD xs (i + 2) 0 ∷ ys) (drop-next xs (i + 3) (omega arith) ∙ rw add-assoc)
 
 module _ (p : ℕ → Bool) (xs : List ℕ) where
   pub any-end : (i : ℕ) → length xs ≤ i → any p (drop i xs) ≡ false

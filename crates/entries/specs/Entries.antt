@@ -1,12 +1,12 @@
 -- The bytes of an entry, by the kind of its section, and the lowest one that meets a refusal.
 use Prim.Native.Nat.{ℕ}
-use mathlib.Core.Bool.{Bool, not}
+use mathlib.Core.Bool.{Bool, not, _||_}
 use mathlib.Core.List.{List, [], _∷_}
 use mathlib.Core.Option.{Option, none, some}
-use lib.ListN.{drop}
+use lib.ListN.{getD, drop}
 use lib.Dec.{eqb, ltb, leb}
-use Rattle.logic.specs.Search.{_and_, from, flatMap}
-use Rattle.logic.specs.Query.{Role, entryRole, signRole, termRole, numberRole, roleFault}
+use Rattle.logic.specs.Search.{_and_, from, keep, flatMap}
+use Rattle.logic.specs.Query.{Role, entryRole, signRole, termRole, numberRole, countRole, roleFault}
 use Rattle.entries.specs.declared.Kind.{Kind}
 use Rattle.entries.specs.declared.Kind.the-variants as kind
 use Rattle.entries.specs.declared.Found.{Found}
@@ -18,6 +18,8 @@ widthOf kind.Terms = 1
 widthOf kind.Pairs = 3
 widthOf kind.Fields = 3
 widthOf kind.Booleans = 2
+widthOf kind.LinkedTerms = 2
+widthOf kind.LinkedPairs = 4
 
 -- the roles of the bytes of entry i, in a query of n terms
 abbrev pub rolesAt : Kind → ℕ → ℕ → List Role
@@ -25,6 +27,17 @@ rolesAt kind.Terms n i = entryRole i ∷ []
 rolesAt kind.Pairs n i = signRole ∷ termRole n ∷ termRole n ∷ []
 rolesAt kind.Fields n i = signRole ∷ numberRole ∷ termRole n ∷ []
 rolesAt kind.Booleans n i = signRole ∷ numberRole ∷ []
+rolesAt kind.LinkedTerms n i = countRole ∷ entryRole i ∷ []
+rolesAt kind.LinkedPairs n i = signRole ∷ countRole ∷ termRole n ∷ termRole n ∷ []
+
+-- some byte of an entry is held to refusal k; 0 is none, and stands for a byte that is held to nothing
+abbrev pub concerned : Kind → ℕ → Bool
+concerned kind.Terms k = eqb 5 k
+concerned kind.Pairs k = eqb 6 k || eqb 7 k
+concerned kind.Fields k = (eqb 6 k || eqb 7 k) || eqb 8 k
+concerned kind.Booleans k = eqb 6 k || eqb 8 k
+concerned kind.LinkedTerms k = eqb 0 k || eqb 5 k
+concerned kind.LinkedPairs k = (eqb 0 k || eqb 6 k) || eqb 7 k
 
 -- the role of a byte that counts from 1 to `most`, with its refusal
 unfoldable pub countedRole : ℕ → ℕ → Role
@@ -33,6 +46,10 @@ countedRole k most = record { refusal = k; allows = λ b. ltb 0 b and leb b most
 -- the byte b meets refusal k
 unfoldable pub meets : Role → ℕ → ℕ → Bool
 meets role k b = eqb (role .refusal) k and not (role .allows b)
+
+-- the place, where its byte meets refusal k
+unfoldable pub faultAt : Role → ℕ → List ℕ → ℕ → Option ℕ
+faultAt role k bytes place = keep (meets role k (getD bytes place 0)) place
 
 -- the lowest byte that meets refusal k, among `count` entries from a place on
 unfoldable pub sectionFault : ℕ → Kind → ℕ → ℕ → ℕ → List ℕ → Option ℕ

@@ -1,18 +1,29 @@
 // One entry of a query's sections: what its bytes are held to, and the lowest byte that meets a refusal 5 to 8.
 use facts::Term;
 ghost use mathlib.Core.Path.{_≡_};
-ghost use mathlib.Core.List.{[], _∷_};
 ghost use Prim.Native.Nat.{_+_, _*_, _≤_, _<_};
 ghost use lib.ListN.{length, getD, drop};
+ghost use Rattle.logic.specs.Search.{orElse};
 ghost use Rattle.logic.specs.Query.{entryRole, signRole, termRole, roleFault};
-ghost use Rattle.entries.specs.Entries.{widthOf, rolesAt, countedRole, meets, sectionFault, foundOf};
+ghost use Rattle.logic.specs.ThreeLinks.{isLink, mayPrecede};
+ghost use Rattle.entries.specs.Entries.{widthOf, rolesAt, countedRole, meets, faultAt, sectionFault, foundOf, concerned};
+ghost use Rattle.entries.specs.Links.{linkedTerms, linkedPairs, linkedWidth, linkAt, linksFrom};
 
-// What the bytes of a section's entries are held to: equalities and reachability literals are pairs of terms.
+// What the bytes of a section's entries are held to: equalities and reachability literals are pairs of terms. With three links (02, R-11) a
+// link stands before the byte of a term, and before the terms of a reachability literal.
 pub enum Kind {
     Terms,
     Pairs,
     Fields,
     Booleans,
+    LinkedTerms,
+    LinkedPairs,
+}
+
+// The entries that hold a link.
+pub enum Linked {
+    Terms,
+    Pairs,
 }
 
 // A place that was looked for.
@@ -50,10 +61,11 @@ fn number_refused(k: usize, own: usize, most: usize, byte: usize) -> bool
     (own == k) & !((0 < byte) & (byte <= most))
 }
 
-// The lowest byte of an entry that meets refusal k: of a term, of a boolean literal, and of a literal with two numbers.
+// The lowest byte of an entry that meets refusal k: of a term, of a boolean literal with its number at `left`, and of a literal with two
+// numbers from `left` on.
 fn term_fault(k: usize, t: Term, query: &[u8], at: usize) -> Found
     requires { ⌜ at + 1 ≤ length (now query) ⌝ }
-    ensures { λ r. ⌜ foundOf r ≡ roleFault k at (entryRole (t .0) ∷ []) (drop at (now (query .entry))) ⌝ }
+    ensures { λ r. ⌜ foundOf r ≡ faultAt (entryRole (t .0)) k (now (query .entry)) at ⌝ }
 {
     if entry_refused(k, t, byte_at(query, at)) {
         return Found::At(at);
@@ -61,11 +73,10 @@ fn term_fault(k: usize, t: Term, query: &[u8], at: usize) -> Found
     Found::Nothing
 }
 
-fn flag_fault(k: usize, own: usize, most: usize, query: &[u8], at: usize) -> Found
-    requires { ⌜ at + 2 ≤ length (now query) ⌝ }
-    ensures { λ r. ⌜ foundOf r ≡ roleFault k at (signRole ∷ countedRole own most ∷ []) (drop at (now (query .entry))) ⌝ }
+fn flag_fault(k: usize, own: usize, most: usize, query: &[u8], at: usize, left: usize) -> Found
+    requires { ⌜ (at < left) × (left + 1 ≤ length (now query)) ⌝ }
+    ensures { λ r. ⌜ foundOf r ≡ orElse (faultAt signRole k (now (query .entry)) at) (faultAt (countedRole own most) k (now (query .entry)) left) ⌝ }
 {
-    let left = at + 1;
     if sign_refused(k, byte_at(query, at)) {
         return Found::At(at);
     }
@@ -75,15 +86,23 @@ fn flag_fault(k: usize, own: usize, most: usize, query: &[u8], at: usize) -> Fou
     Found::Nothing
 }
 
-fn literal_fault(k: usize, own: usize, most: usize, n: usize, query: &[u8], at: usize) -> Found
-    requires { ⌜ at + 3 ≤ length (now query) ⌝ }
-    ensures { λ r. ⌜ foundOf r ≡ roleFault k at (signRole ∷ countedRole own most ∷ termRole n ∷ []) (drop at (now (query .entry))) ⌝ }
+fn literal_fault(
+    k: usize,
+    own: usize,
+    most: usize,
+    n: usize,
+    query: &[u8],
+    at: usize,
+    left: usize,
+) -> Found
+    requires { ⌜ (at < left) × (left + 2 ≤ length (now query)) ⌝ }
+    ensures { λ r. ⌜ foundOf r ≡ orElse (orElse (faultAt signRole k (now (query .entry)) at) (faultAt (countedRole own most) k (now (query .entry)) left)) (faultAt (termRole n) k (now (query .entry)) (left + 1)) ⌝ }
 {
-    match flag_fault(k, own, most, query, at) {
+    match flag_fault(k, own, most, query, at, left) {
         Found::At(p) => return Found::At(p),
         Found::Nothing => {}
     }
-    let right = at + 2;
+    let right = left + 1;
     if number_refused(k, 7, n, byte_at(query, right)) {
         return Found::At(right);
     }
@@ -97,14 +116,16 @@ fn entry_fault(k: usize, kind: Kind, n: usize, i: usize, query: &[u8], at: usize
 {
     match kind {
         Kind::Terms => term_fault(k, Term(i), query, at),
-        Kind::Pairs => literal_fault(k, 7, n, n, query, at),
-        Kind::Fields => literal_fault(k, 8, 8, n, query, at),
-        Kind::Booleans => flag_fault(k, 8, 8, query, at),
+        Kind::Pairs => literal_fault(k, 7, n, n, query, at, at + 1),
+        Kind::Fields => literal_fault(k, 8, 8, n, query, at, at + 1),
+        Kind::Booleans => flag_fault(k, 8, 8, query, at, at + 1),
+        Kind::LinkedTerms => term_fault(k, Term(i), query, at + 1),
+        Kind::LinkedPairs => literal_fault(k, 7, n, n, query, at, at + 2),
     }
 }
 
 // The bytes of an entry.
-fn width(kind: Kind) -> usize
+pub fn width(kind: Kind) -> usize
     ensures { λ r. ⌜ r ≡ widthOf kind ⌝ }
 {
     match kind {
@@ -112,6 +133,22 @@ fn width(kind: Kind) -> usize
         Kind::Pairs => 3,
         Kind::Fields => 3,
         Kind::Booleans => 2,
+        Kind::LinkedTerms => 2,
+        Kind::LinkedPairs => 4,
+    }
+}
+
+// Some byte of an entry is held to refusal k: where none is, a section need not be searched.
+fn concerned(kind: Kind, k: usize) -> bool
+    ensures { λ r. ⌜ r ≡ concerned kind k ⌝ }
+{
+    match kind {
+        Kind::Terms => 5 == k,
+        Kind::Pairs => (6 == k) | (7 == k),
+        Kind::Fields => (6 == k) | (7 == k) | (8 == k),
+        Kind::Booleans => (6 == k) | (8 == k),
+        Kind::LinkedTerms => (0 == k) | (5 == k),
+        Kind::LinkedPairs => (0 == k) | (6 == k) | (7 == k),
     }
 }
 
@@ -120,11 +157,92 @@ pub fn section_fault(k: usize, kind: Kind, n: usize, query: &[u8], at: usize, co
     requires { ⌜ at + count * widthOf kind ≤ length (now query) ⌝ }
     ensures { λ r. ⌜ foundOf r ≡ sectionFault k kind n at count (now (query .entry)) ⌝ }
 {
+    if !concerned(kind, k) {
+        return Found::Nothing;
+    }
     let step = width(kind);
     let mut place = at;
     let mut i: usize = 0;
     while i < count {
         match entry_fault(k, kind, n, i + 1, query, place) {
+            Found::At(p) => return Found::At(p),
+            Found::Nothing => {}
+        }
+        place += step;
+        i += 1;
+    }
+    Found::Nothing
+}
+
+// "a reachability link not 1 to 3"
+fn is_link(byte: usize) -> bool
+    ensures { λ b. ⌜ b ≡ isLink byte ⌝ }
+{
+    (0 < byte) & (byte <= 3)
+}
+
+// "a term's link not 0 before 0 or 255, or not 1 to 3 before another byte"
+fn may_precede(link: usize, byte: usize) -> bool
+    ensures { λ b. ⌜ b ≡ mayPrecede link byte ⌝ }
+{
+    if (byte == 0) | (byte == 255) {
+        return link == 0;
+    }
+    is_link(link)
+}
+
+// The link byte of an entry, where it may not stand there: of a term, and of a reachability literal.
+fn term_link_fault(query: &[u8], at: usize) -> Found
+    requires { ⌜ at + 2 ≤ length (now query) ⌝ }
+    ensures { λ r. ⌜ foundOf r ≡ linkAt linkedTerms (now (query .entry)) at ⌝ }
+{
+    let link = byte_at(query, at);
+    if may_precede(link, byte_at(query, at + 1)) {
+        return Found::Nothing;
+    }
+    Found::At(at)
+}
+
+fn pair_link_fault(query: &[u8], at: usize) -> Found
+    requires { ⌜ at + 4 ≤ length (now query) ⌝ }
+    ensures { λ r. ⌜ foundOf r ≡ linkAt linkedPairs (now (query .entry)) at ⌝ }
+{
+    let place = at + 1;
+    if is_link(byte_at(query, place)) {
+        return Found::Nothing;
+    }
+    Found::At(place)
+}
+
+fn entry_link_fault(linked: Linked, query: &[u8], at: usize) -> Found
+    requires { ⌜ at + linkedWidth linked ≤ length (now query) ⌝ }
+    ensures { λ r. ⌜ foundOf r ≡ linkAt linked (now (query .entry)) at ⌝ }
+{
+    match linked {
+        Linked::Terms => term_link_fault(query, at),
+        Linked::Pairs => pair_link_fault(query, at),
+    }
+}
+
+fn linked_width(linked: Linked) -> usize
+    ensures { λ r. ⌜ r ≡ linkedWidth linked ⌝ }
+{
+    match linked {
+        Linked::Terms => 2,
+        Linked::Pairs => 4,
+    }
+}
+
+// "22 (the lowest such link byte)", among `count` entries at `at`.
+pub fn link_fault(linked: Linked, query: &[u8], at: usize, count: usize) -> Found
+    requires { ⌜ at + count * linkedWidth linked ≤ length (now query) ⌝ }
+    ensures { λ r. ⌜ foundOf r ≡ linksFrom linked (now (query .entry)) count at ⌝ }
+{
+    let step = linked_width(linked);
+    let mut place = at;
+    let mut i: usize = 0;
+    while i < count {
+        match entry_link_fault(linked, query, place) {
             Found::At(p) => return Found::At(p),
             Found::Nothing => {}
         }

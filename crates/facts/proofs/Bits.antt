@@ -12,7 +12,7 @@ use lib.Bits.{bitAnd, bitOr, bitXor, differ, and-step, or-step, xor-step, and-se
 use lib.Count.{trailingZeros, under, trailing-le}
 use borrow.Author.Tests.{lt-ltb, le-ltb, ne-eqb, eqb-false}
 use Rattle.logic.specs.Search.{_and_, _or_}
-use Rattle.logic.proofs.Basics.Search.{bool-cases}
+use Rattle.theory.proofs.Basics.Search.{bool-cases}
 use Rattle.facts.specs.Bits.{bit}
 
 pub bit-is : (w b : ℕ) → bit w b ≡ eqb (w / 2 ^ b % 2) 1

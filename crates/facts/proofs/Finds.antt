@@ -12,8 +12,8 @@ use lib.Bits.{bitAnd}
 use lib.Dec.{eqb, ltb}
 use borrow.Author.Tests.{lt-ltb, ltb-true, eq-eqb, ne-eqb}
 use Rattle.logic.specs.Search.{_and_, from, keep, orElse, firstOf, find, select}
-use Rattle.logic.proofs.Basics.Search.{bool-cases, true-false, and-left, and-right, not-of, find-some, find-none, find-lowest, firstOf-empty, from-mem, from-intro}
-use Rattle.logic.proofs.Basics.Compare.{le-cases}
+use Rattle.theory.proofs.Basics.Search.{bool-cases, true-false, and-left, and-right, not-of, find-some, find-none, find-lowest, firstOf-empty, from-mem, from-intro}
+use Rattle.theory.proofs.Basics.Compare.{le-cases}
 use Rattle.facts.specs.Bits.{bit}
 use Rattle.facts.proofs.Bits.{lowest-set, lowest-in, lowest-least, bit-none, bit-and, bit-rest}
 

@@ -13,7 +13,7 @@ use lib.Dec.{eqb}
 use borrow.Author.Tests.{eq-eqb, ne-eqb}
 use Rattle.logic.specs.Facts.{Facts, Joined, unjoined, joinPair, andThen, replace, doubled, settle, join}
 use Rattle.logic.specs.Search.{from}
-use Rattle.logic.proofs.Basics.Count.{length-from}
+use Rattle.theory.proofs.Basics.Count.{length-from}
 use Rattle.facts.specs.Pairs.{pairAt, pairsOf, Fits}
 use Rattle.facts.specs.declared.Pairs.{Pairs}
 

@@ -1,5 +1,5 @@
 -- Two paths are one where they answer alike; and what each step makes of the code's paths, which have one link.
-use Prim.Native.Nat.{ℕ}
+use Prim.Native.Nat.{ℕ, _≤_, _<_}
 use native.Mathlib.Omega.{arith}
 use mathlib.Core.Path.{_≡_, refl, sym, ap, ap₂, fun-ext, _∙_}
 use mathlib.Core.Logic.{⊎-elim}
@@ -7,14 +7,15 @@ use mathlib.Core.Bool.{Bool, true, false, cond}
 use mathlib.Core.List.{List, [], _∷_}
 use mathlib.Core.Option.{Option, none}
 use lib.Dec.{eqb, ltb, leb}
+use borrow.Author.Tests.{ne-eqb}
 use Rattle.logic.specs.Search.{_and_, _or_, any, firstOf}
 use Rattle.logic.specs.Facts.{Graph, Facts, terms, became, replaceIn, replace, addReach, addLinks, successors, firstTwo, doubled}
-use Rattle.logic.proofs.Basics.Search.{not-of, and-intro}
-use Rattle.logic.proofs.Basics.Compare.{eq-cases, ltb-intro, leb-intro, eqb-intro}
-use Rattle.logic.proofs.Paths.Ranged.{link-range}
-use Rattle.logic.proofs.Calls.OneLink.{doubled-one}
+use Rattle.theory.proofs.Basics.Search.{not-of, true-false, and-intro}
+use Rattle.theory.proofs.Basics.Compare.{eq-cases, ltb-intro, leb-intro, eqb-intro, eqb-self}
+use Rattle.theory.proofs.Paths.Ranged.{link-range}
+use Rattle.theory.proofs.Calls.OneLink.{doubled-one}
 use Rattle.facts.specs.declared.Facts as code
-use Rattle.facts.specs.Path.{onlyLink, pathOf, graphOf, linksIn, linkedBy, replaceRep}
+use Rattle.facts.specs.Path.{onlyLink, pathOf, graphOf, linksIn, linkedBy, replaceRep, HasLink, withReach}
 
 -- the graph and the path that these functions make
 abbrev pub linking : (ℕ → ℕ → Bool) → (ℕ → ℕ → Bool) → Graph
@@ -35,11 +36,22 @@ same-graphs : (r : ℕ → ℕ) (f g : ℕ → Graph) → ((i : ℕ) → f i ≡
 same-graphs r f g e = λ i. record { rep = r; links = 1; graph = fun-ext e i }
 
 module _ (r : ℕ → ℕ) (l h : ℕ → ℕ → Bool) where
-  pub addReach-one : (a b : ℕ) → addReach 1 a b (made r l h) ≡ made r l (λ x y. h x y or (eqb x a and eqb y b))
+  addReach-one : (a b : ℕ) → addReach 1 a b (made r l h) ≡ made r l (λ x y. h x y or (eqb x a and eqb y b))
   unfolding addReach onlyLink _and_ _or_
   addReach-one a b = same-graphs r _ _ (λ j. go (eqb j 1))
     where
       go : (t : Bool) → _≡_ {A = Graph} (linking (cond t (linking l h) (linking never never) .link) (λ x y. cond t (linking l h) (linking never never) .reach x y or (t and eqb x a and eqb y b))) (cond t (linking l (λ x y. h x y or (eqb x a and eqb y b))) (linking never never))
+      go true = refl
+      go false = refl
+
+  pub addReach-at : (k a b : ℕ) → k ≡ 1 → addReach k a b (made r l h) ≡ made r l (λ x y. h x y or (eqb x a and eqb y b))
+  addReach-at k a b e = ap (λ (j : ℕ). addReach j a b (made r l h)) e ∙ addReach-one a b
+
+  pub withReach-one : (f : ℕ → ℕ → Bool) → withReach 1 f (made r l h) ≡ made r l f
+  unfolding withReach onlyLink
+  withReach-one f = same-graphs r _ _ (λ j. go (eqb j 1))
+    where
+      go : (t : Bool) → _≡_ {A = Graph} (linking (cond t (linking l h) (linking never never) .link) (cond t f (cond t (linking l h) (linking never never) .reach))) (cond t (linking l f) (linking never never))
       go true = refl
       go false = refl
 
@@ -79,3 +91,44 @@ module _ (r : ℕ → ℕ) (l h : ℕ → ℕ → Bool) where
 pub doubled-links : (n : ℕ) (s : code.Facts) → doubled n (linkedBy (s .link)) ≡ doubled n (pathOf s)
 unfolding successors linksIn linkedBy pathOf graphOf onlyLink
 doubled-links n s = doubled-one n (linkedBy (s .link)) refl ∙ sym (doubled-one n (pathOf s) refl)
+
+-- what a path becomes with other reachability of link k
+module _ (k : ℕ) (f : ℕ → ℕ → Bool) (s : Facts) where
+  pub with-rep : withReach k f s .rep ≡ s .rep
+  unfolding withReach
+  with-rep = refl
+
+  pub with-links : withReach k f s .links ≡ s .links
+  unfolding withReach
+  with-links = refl
+
+  pub with-here : withReach k f s .graph k ≡ linking (s .graph k .link) f
+  unfolding withReach
+  with-here = rw (eqb-self k) refl
+
+  pub with-elsewhere : (i : ℕ) → (i ≡ k → ⊥) → withReach k f s .graph i ≡ s .graph i
+  unfolding withReach
+  with-elsewhere i d = rw (ne-eqb i k d) refl
+
+-- the code's paths have one link, and its rows are those of the record
+module _ (s : code.Facts) where
+  pub links-few : (0 < pathOf s .links) × (pathOf s .links ≤ 3)
+  unfolding pathOf
+  links-few = (omega arith, omega arith)
+
+  pub first-link : (k : ℕ) → HasLink (pathOf s) k → k ≡ 1
+  unfolding pathOf
+  first-link k h = omega (arith, h .0, h .1)
+
+  pub graph-is : (k : ℕ) → HasLink (pathOf s) k → graphOf (s .link) (s .reach) ≡ pathOf s .graph k
+  unfolding pathOf onlyLink
+  graph-is k h = sym (rw (first-link k h) refl)
+
+  -- facts are of the path's links alone
+  pub reach-within : (i a b : ℕ) → pathOf s .graph i .reach a b ≡ true → HasLink (pathOf s) i
+  unfolding pathOf onlyLink
+  reach-within i a b e = ⊎-elim (λ one. (omega (arith, one), omega (arith, one))) (λ d. absurd (true-false e (rw (d .1) refl))) (eq-cases i 1)
+
+  pub link-within : (i a b : ℕ) → pathOf s .graph i .link a b ≡ true → HasLink (pathOf s) i
+  unfolding pathOf onlyLink
+  link-within i a b e = ⊎-elim (λ one. (omega (arith, one), omega (arith, one))) (λ d. absurd (true-false e (rw (d .1) refl))) (eq-cases i 1)

@@ -13,9 +13,9 @@ use lib.Dec.{ltb, eqb}
 use borrow.Author.Tests.{eq-eqb, ne-eqb, eqb-false, lt-ltb, ltb-true}
 use Rattle.logic.specs.Search.{_and_, from, keep, orElse, firstOf, find, select}
 use Rattle.logic.specs.Facts.{Facts, linkNumbers, terms, firstTwo, successors, doubled}
-use Rattle.logic.proofs.Basics.Search.{bool-cases, true-false, not-true, and-left, and-right, none-some, find-some, find-lowest, from-mem, firstOf-some}
-use Rattle.logic.proofs.Basics.Compare.{le-cases}
-use Rattle.logic.proofs.Calls.OneLink.{doubled-one}
+use Rattle.theory.proofs.Basics.Search.{bool-cases, true-false, not-true, and-left, and-right, none-some, find-some, find-lowest, from-mem, firstOf-some}
+use Rattle.theory.proofs.Basics.Compare.{le-cases}
+use Rattle.theory.proofs.Calls.OneLink.{doubled-one}
 use Rattle.facts.specs.Bits.{bit}
 use Rattle.facts.specs.Square.{square}
 use Rattle.facts.proofs.Bits.{bit-and}

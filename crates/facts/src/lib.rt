@@ -5,7 +5,7 @@ ghost use mathlib.Core.Bool.{Bool, not, cond};
 ghost use lib.Dec.{eqb, ltb};
 ghost use Rattle.facts.specs.Bits.{bit};
 ghost use Rattle.facts.specs.Square.{square, Turned, renamedRow, columns, rows};
-ghost use Rattle.facts.specs.Path.{pathOf, repOf, replaceRep, linksIn, linkedBy};
+ghost use Rattle.facts.specs.Path.{pathOf, repOf, replaceRep, replacedBy, linksIn, linkedBy, HasLink, withReach};
 ghost use Rattle.facts.specs.Answers.{foundOf, twoOf};
 ghost use Rattle.facts.specs.Pairs.{pairsOf, joinedAs, joinedOf, Fits};
 ghost use mathlib.Core.List.{[], _∷_, _++_};
@@ -17,9 +17,12 @@ ghost use Rattle.logic.specs.Facts.{terms, addReach, addLinks, replaceIn, repla
 // A term by its number.
 pub struct Term(pub usize);
 
-// What each term was replaced by, and whether f(a) = b and "a reaches b" are held: bit b of row a.
+// A link by its number, from 1.
+pub struct Link(pub usize);
+
+// What each term was replaced by, as a byte, and whether f(a) = b and "a reaches b" are held: bit b of row a.
 pub struct Facts {
-    pub rep: [Term; 17],
+    pub rep: [u8; 17],
     pub link: [u32; 17],
     pub reach: [u32; 17],
 }
@@ -48,6 +51,24 @@ pub enum Found {
 pub enum Two {
     Of(Term, Term),
     Nothing,
+}
+
+// A byte as a number.
+pub fn wide(byte: u8) -> usize
+    ensures { λ r. ⌜ (r ≡ byte) × (r < 256) ⌝ }
+{
+    byte as usize
+}
+
+// What the term t was replaced by; a number above 16 is no term, and is not replaced.
+pub fn read_rep(rep: &[u8; 17], t: Term) -> Term
+    ensures { λ r. ⌜ r .0 ≡ repOf (now (rep .entry)) (t .0) ⌝ }
+{
+    let at = t.0;
+    if at < 17 {
+        return Term(wide(rep[at]));
+    }
+    t
 }
 
 // Bit b of a row.
@@ -116,10 +137,42 @@ pub fn holds(rows: &[u32; 17], a: Term, b: Term) -> bool
     has(rows[at], b.0)
 }
 
+// How many links the path has.
+pub fn links(s: Facts) -> usize
+    ensures { λ r. ⌜ (r ≡ pathOf s .links) × (0 < r) × (r ≤ 3) ⌝ }
+{
+    1
+}
+
+// The facts of one link as rows: f(a) = b, and "a reaches b".
+pub fn link_rows(s: Facts, k: Link) -> [u32; 17]
+    requires { ⌜ HasLink (pathOf s) (k .0) ⌝ }
+    ensures { λ r. ⌜ square r ≡ pathOf s .graph (k .0) .link ⌝ }
+{
+    s.link
+}
+
+pub fn reach_rows(s: Facts, k: Link) -> [u32; 17]
+    requires { ⌜ HasLink (pathOf s) (k .0) ⌝ }
+    ensures { λ r. ⌜ square r ≡ pathOf s .graph (k .0) .reach ⌝ }
+{
+    s.reach
+}
+
+// Other rows of "a reaches b" for one link.
+pub fn with_reach(s: Facts, k: Link, rows: [u32; 17]) -> Facts
+    requires { ⌜ HasLink (pathOf s) (k .0) ⌝ }
+    ensures { λ r. ⌜ pathOf r ≡ withReach (k .0) (square rows) (pathOf s) ⌝ }
+{
+    let mut t = s;
+    t.reach = rows;
+    t
+}
+
 // The reachability fact is added.
-pub fn add_reach(s: Facts, a: Term, b: Term) -> Facts
-    requires { ⌜ (a .0 ≤ 16) × (b .0 ≤ 16) ⌝ }
-    ensures { λ r. ⌜ pathOf r ≡ addReach 1 (a .0) (b .0) (pathOf s) ⌝ }
+pub fn add_reach(s: Facts, k: Link, a: Term, b: Term) -> Facts
+    requires { ⌜ HasLink (pathOf s) (k .0) × (a .0 ≤ 16) × (b .0 ≤ 16) ⌝ }
+    ensures { λ r. ⌜ pathOf r ≡ addReach (k .0) (a .0) (b .0) (pathOf s) ⌝ }
 {
     let at = a.0;
     let added = only(b.0);
@@ -186,26 +239,27 @@ fn replace_in(rows: [u32; 17], lo: Term, hi: Term) -> [u32; 17]
     merge_rows(merge_columns(rows, lo, hi), lo, hi)
 }
 
-// lo for hi, and any other term for itself.
-fn renamed(t: Term, lo: Term, hi: Term) -> Term
-    ensures { λ r. ⌜ r .0 ≡ cond (eqb (t .0) (hi .0)) (lo .0) (t .0) ⌝ }
+// lo for hi, and any other byte for itself.
+fn renamed(t: u8, lo: u8, hi: u8) -> u8
+    ensures { λ r. ⌜ r ≡ cond (eqb t hi) lo t ⌝ }
 {
-    if t.0 == hi.0 {
+    if t == hi {
         return lo;
     }
     t
 }
 
 // Whatever was replaced by hi is now replaced by lo.
-fn replace_rep(rep: [Term; 17], lo: Term, hi: Term) -> [Term; 17]
-    requires { ⌜ hi .0 ≤ 16 ⌝ }
+fn replace_rep(rep: [u8; 17], lo: Term, hi: Term) -> [u8; 17]
+    requires { ⌜ (lo .0 < hi .0) × (hi .0 ≤ 16) ⌝ }
     ensures { λ r. ⌜ repOf r ≡ replaceRep (lo .0) (hi .0) (repOf rep) ⌝ }
 {
+    let low = lo.0 as u8;
+    let high = hi.0 as u8;
     let mut out = rep;
     let mut t: usize = 0;
     while t < 17 {
-        let old = out[t];
-        out[t] = renamed(old, lo, hi);
+        out[t] = renamed(out[t], low, high);
         t += 1;
     }
     out
@@ -367,16 +421,15 @@ pub fn with(row: u32, t: usize, wanted: bool) -> u32
 }
 
 // The row of the terms that are not replaced.
-pub fn live(s: Facts, n: usize) -> u32
+pub fn live(rep: &[u8; 17], n: usize) -> u32
     requires { ⌜ n ≤ 16 ⌝ }
-    ensures { λ r. ⌜ bit r ≡ live n (pathOf s) ⌝ }
+    ensures { λ r. ⌜ bit r ≡ live n (replacedBy (now (rep .entry))) ⌝ }
 {
-    let rep = s.rep;
     let mut out: u32 = 0;
     let mut t: usize = 0;
     while t < 17 {
-        let u = rep[t];
-        out = with(out, t, u.0 == t);
+        let to = wide(rep[t]);
+        out = with(out, t, to == t);
         t += 1;
     }
     out & term_row(n)

@@ -11,7 +11,7 @@ use borrow.Author.Tests.{eq-eqb, ne-eqb}
 use Rattle.logic.specs.Search.{_and_, _or_, at, holdsOf}
 use Rattle.logic.specs.Query.{Query, Literal, decode}
 use Rattle.logic.specs.Facts.{Facts, line, negatedAt, plainAt, isClash}
-use Rattle.logic.proofs.Query.Bytes.{literals-link}
+use Rattle.theory.proofs.Query.Bytes.{literals-link}
 use Rattle.facts.specs.Square.{square}
 use Rattle.facts.specs.Path.{pathOf, onlyLink, repOf, graphOf}
 use Rattle.facts.specs.declared.Facts as code
@@ -19,7 +19,6 @@ use Rattle.query.specs.declared.Layout.{Layout}
 use Rattle.query.specs.LaysOut.{LaysOut}
 use Rattle.query.proofs.Literals.{listed, listed-length}
 use Rattle.clash.specs.Sections.{literalsIn, oneTerm, reachHeld, sameField}
-use Rattle.clash.specs.Reps.{repsOf}
 use Rattle.clash.proofs.Sections.{negated-at, plain-at}
 use Rattle.clash.proofs.Decomposed.{negated-one}
 
@@ -125,32 +124,29 @@ module _ (q : Query) (s : Facts) (section i j : ℕ) where
       table false true x y = refl
       table false false x y = refl
 
--- each where the query's bytes have it, and through the numbers that the code holds
-module _ (l : Layout) (bytes : List ℕ) (laid : LaysOut l bytes) (s : code.Facts) (reps : List ℕ) (same : repsOf reps ≡ repOf (s .rep)) (section i j : ℕ) where
+-- each where the query's bytes have it
+module _ (l : Layout) (bytes : List ℕ) (laid : LaysOut l bytes) (s : code.Facts) (section i j : ℕ) where
   abbrev Clashes : Bool
   Clashes = isClash (decode bytes) (pathOf s) (line 9 section i j)
 
-  pub clash-fields : (v : Bool) → v ≡ negatedAt (literalsIn bytes (l .«field_at») (l .«field_count»)) i (λ x. plainAt (literalsIn bytes (l .«field_at») (l .«field_count»)) j (sameField (repsOf reps) x)) → section ≡ 4 → v ≡ Clashes
+  pub clash-fields : (v : Bool) → v ≡ negatedAt (literalsIn bytes (l .«field_at») (l .«field_count»)) i (λ x. plainAt (literalsIn bytes (l .«field_at») (l .«field_count»)) j (sameField (repOf (s .rep)) x)) → section ≡ 4 → v ≡ Clashes
   unfolding pathOf
   clash-fields v h e =
-      h ∙ ap (λ (ls : List Literal). negatedAt ls i (λ x. plainAt ls j (sameField (repsOf reps) x))) (sym (laid .field-are))
-      ∙ ap (λ (rep : ℕ → ℕ). negatedAt (decode bytes .fields) i (λ x. plainAt (decode bytes .fields) j (sameField rep x))) same
+      h ∙ ap (λ (ls : List Literal). negatedAt ls i (λ x. plainAt ls j (sameField (repOf (s .rep)) x))) (sym (laid .field-are))
       ∙ in-fields (decode bytes) (pathOf s) section i j e
 
-  pub clash-equalities : (v : Bool) → v ≡ negatedAt (literalsIn bytes (l .«equal_at») (l .«equal_count»)) i (oneTerm (repsOf reps)) → section ≡ 2 → j ≡ 0 → v ≡ Clashes
+  pub clash-equalities : (v : Bool) → v ≡ negatedAt (literalsIn bytes (l .«equal_at») (l .«equal_count»)) i (oneTerm (repOf (s .rep))) → section ≡ 2 → j ≡ 0 → v ≡ Clashes
   unfolding pathOf
   clash-equalities v h e f =
-      h ∙ ap (λ (ls : List Literal). negatedAt ls i (oneTerm (repsOf reps))) (sym (laid .equal-are))
-      ∙ ap (λ (rep : ℕ → ℕ). negatedAt (decode bytes .equalities) i (oneTerm rep)) same
+      h ∙ ap (λ (ls : List Literal). negatedAt ls i (oneTerm (repOf (s .rep)))) (sym (laid .equal-are))
       ∙ in-equalities (decode bytes) (pathOf s) section i j e f
 
   -- every reachability literal has link 1
   reach-one : (x : Literal) → List·Memᴰ x (decode bytes .reachability) → x .link ≡ 1
   reach-one x m = literals-link _ x (subst (List·Memᴰ x) (laid .reach-are) m)
 
-  pub clash-reachability : (v : Bool) → v ≡ negatedAt (literalsIn bytes (l .«reach_at») (l .«reach_count»)) i (reachHeld (repsOf reps) (square (s .reach))) → section ≡ 3 → j ≡ 0 → v ≡ Clashes
+  pub clash-reachability : (v : Bool) → v ≡ negatedAt (literalsIn bytes (l .«reach_at») (l .«reach_count»)) i (reachHeld (repOf (s .rep)) (square (s .reach))) → section ≡ 3 → j ≡ 0 → v ≡ Clashes
   unfolding pathOf onlyLink graphOf
   clash-reachability v h e f =
-      h ∙ ap (λ (ls : List Literal). negatedAt ls i (reachHeld (repsOf reps) (square (s .reach)))) (sym (laid .reach-are))
-      ∙ ap (λ (rep : ℕ → ℕ). negatedAt (decode bytes .reachability) i (reachHeld rep (square (s .reach)))) same
+      h ∙ ap (λ (ls : List Literal). negatedAt ls i (reachHeld (repOf (s .rep)) (square (s .reach)))) (sym (laid .reach-are))
       ∙ in-reachability (decode bytes) (pathOf s) section i j reach-one e f

@@ -11,8 +11,8 @@ use native.Mathlib.Nat.{eq-or-lt-of-le}
 use Rattle.logic.specs.Search.{_and_, any}
 use Rattle.logic.specs.Facts.{Facts, Graph, live}
 use Rattle.logic.specs.Rules.{Rule, REFLEX, TRANS1, TRANS2, FUNC, CYCLE, SCC, TOTAL, SHARE, Triple, triple, move, next, returns, conditions, alternatives, held, applies}
-use Rattle.logic.proofs.Basics.Search.{and-left}
-use Rattle.logic.proofs.Calls.OneLink.{applies-local}
+use Rattle.theory.proofs.Basics.Search.{and-left}
+use Rattle.theory.proofs.Calls.OneLink.{applies-local}
 use Rattle.facts.specs.Square.{square}
 use Rattle.facts.specs.Path.{graphOf, linksIn}
 use Rattle.rules.specs.Tests.{pairTest, thirdTest, looped}

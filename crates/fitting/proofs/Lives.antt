@@ -1,7 +1,7 @@
 -- Whether a term is not replaced.
 use Prim.Native.Nat.{ℕ, suc, _≤_, _<_}
 use native.Mathlib.Omega.{arith}
-use mathlib.Core.Path.{_≡_, refl, sym}
+use mathlib.Core.Path.{_≡_, refl, sym, ap, _∙_}
 use mathlib.Core.Bool.{Bool, true, false}
 use lib.ListN.{getD}
 use lib.Dec.{eqb, ltb}
@@ -24,6 +24,6 @@ module _ (n : ℕ) (s : code.Facts) (t : ℕ) where
       last true = refl
       last false = refl
 
-  pub live-here : n ≤ 16 → (t ≡ 0 → ⊥) → t ≤ n → eqb (getD (s .rep) t (record { 0 = 0 }) .0) t ≡ live n (pathOf s) t
+  pub live-here : n ≤ 16 → (t ≡ 0 → ⊥) → t ≤ n → (to : ℕ) → to ≡ getD (s .rep) t 0 → eqb to t ≡ live n (pathOf s) t
   unfolding live _and_ pathOf repOf
-  live-here b d h = sym (rw (lt-ltb 0 t (omega arith), lt-ltb t (suc n) (omega arith), lt-ltb t 17 (omega arith)) refl)
+  live-here b d h to e = ap (λ (r : ℕ). eqb r t) e ∙ sym (rw (lt-ltb 0 t (omega arith), lt-ltb t (suc n) (omega arith), lt-ltb t 17 (omega arith)) refl)

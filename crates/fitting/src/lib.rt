@@ -13,13 +13,12 @@ ghost use Rattle.logic.specs.Query.{decode};
 ghost use Rattle.logic.specs.Facts.{live, line, negatedAt, plainAt, isClash};
 ghost use Rattle.logic.specs.Rules.{CYCLE, triple, move, applies};
 ghost use Rattle.facts.specs.Square.{square};
-ghost use Rattle.facts.specs.Path.{graphOf, pathOf};
+ghost use Rattle.facts.specs.Path.{graphOf, pathOf, repOf};
 ghost use Rattle.query.specs.LaysOut.{LaysOut};
 ghost use Rattle.rules.specs.Answers.{kindOf};
 ghost use Rattle.rules.specs.Tests.{pairTest, thirdTest, looped};
 ghost use Rattle.rules.specs.Smallest.{allowed};
 ghost use Rattle.clash.specs.Sections.{literalsIn, oneTerm, reachHeld, sameField};
-ghost use Rattle.clash.specs.Reps.{repsOf};
 
 // The fact about a and b is held; a number above 16 has none.
 fn is_held(rows: &[u32; 17], a: usize, b: usize) -> bool
@@ -45,9 +44,8 @@ fn is_live(s: Facts, n: usize, t: usize) -> bool
     if n < t {
         return false;
     }
-    let rep = s.rep;
-    let u = rep[t];
-    u.0 == t
+    let to = facts::wide(s.rep[t]);
+    to == t
 }
 
 // A rule other than CYCLE applies at a triple; `alive` says whether x is not replaced.
@@ -128,9 +126,9 @@ pub fn applies(s: Facts, n: usize, rule: Rule, x: usize, y: usize, z: usize) -> 
 }
 
 // Equality i, from 1, is negated, and its terms have one representative.
-fn is_equality_clash(query: &[u8], at: usize, count: usize, reps: &[usize; 17], i: usize) -> bool
+fn is_equality_clash(query: &[u8], at: usize, count: usize, rep: &[u8; 17], i: usize) -> bool
     requires { ⌜ at + 3 * count ≤ length (now query) ⌝ }
-    ensures { λ r. ⌜ r ≡ negatedAt (literalsIn (now (query .entry)) at count) i (oneTerm (repsOf (now (reps .entry)))) ⌝ }
+    ensures { λ r. ⌜ r ≡ negatedAt (literalsIn (now (query .entry)) at count) i (oneTerm (repOf (now (rep .entry)))) ⌝ }
 {
     if i == 0 {
         return false;
@@ -138,20 +136,20 @@ fn is_equality_clash(query: &[u8], at: usize, count: usize, reps: &[usize; 17], 
     if count < i {
         return false;
     }
-    clash::is_unequal_to_itself(query, at, i - 1, reps)
+    clash::is_unequal_to_itself(query, at, i - 1, rep)
 }
 
 // Reachability literal i, from 1, is negated, and its fact is held.
-fn is_reach_clash(
+fn is_reach_clash<'a>(
     query: &[u8],
     at: usize,
     count: usize,
-    reps: &[usize; 17],
-    reach: &[u32; 17],
+    rep: &'a [u8; 17],
+    reach: &'a [u32; 17],
     i: usize,
 ) -> bool
     requires { ⌜ at + 3 * count ≤ length (now query) ⌝ }
-    ensures { λ r. ⌜ r ≡ negatedAt (literalsIn (now (query .entry)) at count) i (reachHeld (repsOf (now (reps .entry))) (square (now (reach .entry)))) ⌝ }
+    ensures { λ r. ⌜ r ≡ negatedAt (literalsIn (now (query .entry)) at count) i (reachHeld (repOf (now (rep .entry))) (square (now (reach .entry)))) ⌝ }
 {
     if i == 0 {
         return false;
@@ -159,20 +157,13 @@ fn is_reach_clash(
     if count < i {
         return false;
     }
-    clash::is_held_negated(query, at, i - 1, reps, reach)
+    clash::is_held_negated(query, at, i - 1, rep, reach)
 }
 
 // Data literal i, from 1, is negated, and literal j is a plain one of the same field and term.
-fn is_field_clash(
-    query: &[u8],
-    at: usize,
-    count: usize,
-    reps: &[usize; 17],
-    i: usize,
-    j: usize,
-) -> bool
+fn is_field_clash(query: &[u8], at: usize, count: usize, rep: &[u8; 17], i: usize, j: usize) -> bool
     requires { ⌜ at + 3 * count ≤ length (now query) ⌝ }
-    ensures { λ r. ⌜ r ≡ negatedAt (literalsIn (now (query .entry)) at count) i (λ l. plainAt (literalsIn (now (query .entry)) at count) j (sameField (repsOf (now (reps .entry))) l)) ⌝ }
+    ensures { λ r. ⌜ r ≡ negatedAt (literalsIn (now (query .entry)) at count) i (λ l. plainAt (literalsIn (now (query .entry)) at count) j (sameField (repOf (now (rep .entry))) l)) ⌝ }
 {
     if i == 0 {
         return false;
@@ -190,8 +181,8 @@ fn is_field_clash(
         return false;
     }
     let field = query::field(query, at, i - 1);
-    let term = clash::read_rep(reps, query::right(query, at, i - 1));
-    clash::is_field_partner(query, at, j - 1, reps, field, term)
+    let term = facts::read_rep(rep, query::right(query, at, i - 1));
+    clash::is_field_partner(query, at, j - 1, rep, field, term)
 }
 
 // The clash line 9, section, i, j is a true one at the path.
@@ -199,23 +190,21 @@ pub fn is_clash(query: &[u8], layout: Layout, s: Facts, section: usize, i: usize
     requires { ⌜ LaysOut layout (now query) ⌝ }
     ensures { λ r. ⌜ r ≡ isClash (decode (now (query .entry))) (pathOf s) (line 9 section i j) ⌝ }
 {
-    let rep = s.rep;
-    let reps = clash::numbers(rep);
     if section == 4 {
-        return is_field_clash(query, layout.field_at, layout.field_count, &reps, i, j);
+        return is_field_clash(query, layout.field_at, layout.field_count, &s.rep, i, j);
     }
     if j != 0 {
         return false;
     }
     if section == 2 {
-        return is_equality_clash(query, layout.equal_at, layout.equal_count, &reps, i);
+        return is_equality_clash(query, layout.equal_at, layout.equal_count, &s.rep, i);
     }
     if section == 3 {
         return is_reach_clash(
             query,
             layout.reach_at,
             layout.reach_count,
-            &reps,
+            &s.rep,
             &s.reach,
             i,
         );

@@ -5,7 +5,7 @@ use mathlib.Core.Path.{_≡_, refl, sym, ap, _∙_, subst}
 use mathlib.Core.List.{List}
 use lib.ListN.{length, replicate, length-replicate}
 use Rattle.logic.specs.Query.{Query, decode}
-use Rattle.logic.proofs.Calls.Demands.{demand1}
+use Rattle.theory.proofs.Calls.Demands.{demand1}
 use Rattle.encoding.proofs.Decoded.{at-within}
 use Rattle.formula.specs.Grammar.{Formula, disjunction, Reads}
 use Rattle.formula.specs.Expansion.{Conjunction, expand}

@@ -13,12 +13,12 @@ use Rattle.logic.specs.Shown.{heapIn, nodeIn, wellFormed}
 use Rattle.logic.specs.Calls.{Check, orderCheck, verdictChecks, refusalOf, accepts, verdictCall, derivationChecksOf}
 use Rattle.logic.specs.Calls as calls
 use Rattle.logic.specs.Demands.{NotRefused, NoneStands}
-use Rattle.logic.proofs.Basics.Search.{none-some, true-false, bool-cases}
-use Rattle.logic.proofs.Basics.Compare.{le-cases, cond-true, cond-false}
-use Rattle.logic.proofs.Calls.CheckingOrder.{first-stands}
-use Rattle.logic.proofs.Calls.Refusals.{one-link-laws}
-use Rattle.logic.proofs.Calls.CallLaws.{refusalOf-none, accepts-checks, derivation-known, verdict-clear, verdict-passed}
-use Rattle.logic.proofs.Calls.Demands.{demand1, demand2}
+use Rattle.theory.proofs.Basics.Search.{none-some, true-false, bool-cases}
+use Rattle.theory.proofs.Basics.Compare.{le-cases, cond-true, cond-false}
+use Rattle.theory.proofs.Calls.CheckingOrder.{first-stands}
+use Rattle.theory.proofs.Calls.Refusals.{one-link-laws}
+use Rattle.theory.proofs.Calls.CallLaws.{refusalOf-none, accepts-checks, derivation-known, verdict-clear, verdict-passed}
+use Rattle.theory.proofs.Calls.Demands.{demand1, demand2}
 use Rattle.encoding.proofs.Encoded.{Encodable, decoded}
 use Rattle.encoding.proofs.Decoded.{accepted-encodable, part-encodable, encoded-accepts, at-own}
 use Rattle.formula.specs.Grammar.{Formula}

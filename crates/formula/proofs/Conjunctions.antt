@@ -13,7 +13,7 @@ use borrow.Author.Tests.{eqb-true, eq-eqb, leb-true}
 use Rattle.logic.specs.Search.{_and_, at}
 use Rattle.logic.specs.Query.{Literal, Query}
 use Rattle.logic.specs.Heap.{Heap, Meets, Each}
-use Rattle.logic.proofs.Basics.Search.{none-some, and-left, and-right, and-intro, any-true, any-intro, flatMap-mem, flatMap-intro, map-mem, map-intro}
+use Rattle.theory.proofs.Basics.Search.{none-some, and-left, and-right, and-intro, any-true, any-intro, flatMap-mem, flatMap-intro, map-mem, map-intro}
 use Rattle.encoding.proofs.Decoded.{at-own, Fewer, Part-of}
 use Rattle.formula.specs.Grammar.{Letter, E, R, D, B, letterByte, Formula, literal, both, either}
 use Rattle.formula.specs.Expansion.{Name, Conjunction, expand}

@@ -8,7 +8,7 @@ use mathlib.Core.List.{List, [], _∷_, _++_, append-assoc, append-nil}
 use lib.ListN.{length, replicate}
 use lib.Dec.{eqb, ltb}
 use Rattle.logic.specs.Search.{_and_, all}
-use Rattle.logic.proofs.Basics.Search.{true-false, and-left, and-right, all-append, bool-cases}
+use Rattle.theory.proofs.Basics.Search.{true-false, and-left, and-right, all-append, bool-cases}
 use Rattle.text.specs.Text.{isDigit}
 use Rattle.formula.specs.Grammar.{Letter, E, letterByte, Formula, literal, both, either, isBlank, isPlace, shown, Level, disjunction, conjunction, item, Reads, one-and, one-item, name, parentheses, Text, Begins}
 use Rattle.formula.specs.Reader.{Mark, mark, blank, opening, closing, ampersand, bar, other, letter, digit}

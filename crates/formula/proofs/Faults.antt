@@ -10,7 +10,7 @@ use lib.Seq.{take-append-seam, drop-append-seam, getD-append-seam, take-append-l
 use lib.Dec.{eqb, ltb}
 use borrow.Author.Tests.{eqb-true, eqb-false, eq-eqb, ne-eqb, ltb-true, ltb-false, lt-ltb, le-ltb}
 use Rattle.logic.specs.Search.{_and_, all}
-use Rattle.logic.proofs.Basics.Search.{bool-cases, true-false, and-left, and-right, not-true, all-append}
+use Rattle.theory.proofs.Basics.Search.{bool-cases, true-false, and-left, and-right, not-true, all-append}
 use Rattle.text.specs.Text.{isDigit}
 use Rattle.formula.specs.Grammar.{Letter, letterByte, Formula, isPlace, shown, Level, disjunction, Reads, Text, Begins}
 use Rattle.formula.specs.Meaning.{AllPresent}

@@ -10,7 +10,7 @@ use lib.Seq.{take-append-seam, drop-append-seam, getD-append-seam, take-append-l
 use lib.Dec.{eqb, ltb}
 use borrow.Author.Tests.{eqb-true, eqb-false, eq-eqb, ne-eqb, ltb-true, ltb-false, lt-ltb}
 use Rattle.logic.specs.Search.{_and_}
-use Rattle.logic.proofs.Basics.Search.{bool-cases, true-false, and-left, and-right}
+use Rattle.theory.proofs.Basics.Search.{bool-cases, true-false, and-left, and-right}
 use Rattle.text.specs.Text.{isDigit}
 use Rattle.formula.specs.Grammar.{Letter, E, R, D, B, letterByte, Formula, isPlace, shown, disjunction, Reads, Text, Begins}
 use Rattle.formula.specs.Meaning.{AllPresent}

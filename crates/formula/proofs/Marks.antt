@@ -9,7 +9,7 @@ use lib.ListN.{length}
 use lib.Dec.{eqb, leb}
 use borrow.Author.Tests.{eqb-true, eqb-false, eq-eqb, ne-eqb}
 use Rattle.logic.specs.Search.{_and_, all}
-use Rattle.logic.proofs.Basics.Search.{bool-cases, true-false, and-left, and-right}
+use Rattle.theory.proofs.Basics.Search.{bool-cases, true-false, and-left, and-right}
 use Rattle.text.specs.Text.{isDigit}
 use Rattle.formula.specs.Grammar.{Letter, E, R, D, B, letterByte, isBlank, isPlace}
 use Rattle.formula.specs.Places.{digitsAt, pastDigits}

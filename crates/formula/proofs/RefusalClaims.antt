@@ -12,10 +12,10 @@ use lib.Dec.{ltb}
 use Rattle.logic.specs.Calls.{verdictChecks, refusalOf}
 use Rattle.logic.specs.Calls as calls
 use Rattle.logic.specs.Demands.{FirstStands, numbers}
-use Rattle.logic.proofs.Calls.CheckingOrder.{refusal-first, first-stands, Early}
-use Rattle.logic.proofs.Calls.Refusals.{one-link-laws, verdict-early}
-use Rattle.logic.proofs.Calls.CheckingOrder as checking
-use Rattle.logic.proofs.Calls.CallLaws.{refusalOf-none}
+use Rattle.theory.proofs.Calls.CheckingOrder.{refusal-first, first-stands, Early}
+use Rattle.theory.proofs.Calls.Refusals.{one-link-laws, verdict-early}
+use Rattle.theory.proofs.Calls.CheckingOrder as checking
+use Rattle.theory.proofs.Calls.CallLaws.{refusalOf-none}
 use Rattle.formula.specs.Grammar.{Formula}
 use Rattle.formula.specs.Expansion.{Conjunction, expand}
 use Rattle.formula.specs.Places.{FirstFault}

@@ -7,7 +7,7 @@ use mathlib.Core.List.{List, [], _∷_}
 use lib.Dec.{eqb, ltb}
 use borrow.Author.Tests.{eqb-true, eqb-false, eq-eqb, ne-eqb}
 use Rattle.logic.specs.Search.{_and_}
-use Rattle.logic.proofs.Basics.Search.{bool-cases}
+use Rattle.theory.proofs.Basics.Search.{bool-cases}
 use Rattle.text.specs.Text.{isDigit}
 use Rattle.formula.specs.Grammar.{Letter, letterByte, isPlace, shown}
 use Rattle.formula.specs.Places.{digitsAt, pastDigits}

@@ -15,9 +15,9 @@ use Rattle.logic.specs.Search.{_and_, _or_}
 use Rattle.logic.specs.Query.{decode, isOrder}
 use Rattle.logic.specs.Calls.{Input, verdictChecks, queryChecks, refusalOf, refused, verdictCall}
 use Rattle.logic.specs.Calls as calls
-use Rattle.logic.proofs.Basics.Search.{bool-cases, true-false, and-right}
-use Rattle.logic.proofs.Calls.Refusals.{one-link-laws}
-use Rattle.logic.proofs.Calls.VerdictCall.{VerdictCase, by-refusal, by-lines, by-model, verdict-case}
+use Rattle.theory.proofs.Basics.Search.{bool-cases, true-false, and-right}
+use Rattle.theory.proofs.Calls.Refusals.{one-link-laws}
+use Rattle.theory.proofs.Calls.VerdictCall.{VerdictCase, by-refusal, by-lines, by-model, verdict-case}
 use Rattle.text.specs.Text.{Writes}
 use Rattle.text.proofs.Writing.{writes-taken}
 use Rattle.query.specs.LaysOut.{LaysOut, literalIn}

@@ -8,7 +8,7 @@ use mathlib.Core.List.{List, [], _∷_, _++_}
 use lib.ListN.{length, getD, take, drop, length-drop, drop-of-length-le}
 use lib.Seq.{take-all, take-nil, take-take, take-add, drop-at, drop-drop, length-take-le}
 use Rattle.logic.specs.Shown.{wellFormed}
-use Rattle.logic.proofs.Basics.Compare.{le-cases}
+use Rattle.theory.proofs.Basics.Compare.{le-cases}
 use Rattle.text.specs.Text.{ascii, decimal}
 use Rattle.wording.specs.Words.{refusalText, reportText}
 use Rattle.formula.specs.Grammar.{Formula}

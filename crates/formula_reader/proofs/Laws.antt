@@ -11,7 +11,7 @@ use lib.Seq.{drop-cons}
 use lib.Dec.{eqb, ltb, leb}
 use borrow.Author.Tests.{eq-eqb, ne-eqb, lt-ltb, le-ltb, le-leb, lt-leb, ltb-true, ltb-false, leb-true, leb-false}
 use Rattle.logic.specs.Search.{_and_, all}
-use Rattle.logic.proofs.Basics.Search.{bool-cases, true-false}
+use Rattle.theory.proofs.Basics.Search.{bool-cases, true-false}
 use Rattle.text.specs.Text.{isDigit}
 use Rattle.formula.specs.Grammar.{Letter, E, R, D, B, isPlace, shown}
 use Rattle.formula.specs.Places.{digitsAt, pastDigits}

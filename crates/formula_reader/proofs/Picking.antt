@@ -11,7 +11,7 @@ use lib.Seq.{getD-append-add, getD-set-same, getD-set-other}
 use lib.Dec.{eqb, ltb}
 use borrow.Author.Tests.{ltb-true, ltb-false, eqb-true, eqb-false, eq-eqb, ne-eqb}
 use Rattle.logic.specs.Search.{_and_, _or_, any, flatMap}
-use Rattle.logic.proofs.Basics.Search.{true-false}
+use Rattle.theory.proofs.Basics.Search.{true-false}
 use Rattle.formula.specs.Grammar.{Letter, E, R, D, B, letterByte, Formula, literal, both, either}
 use Rattle.formula.specs.Expansion.{Name, Conjunction, expand}
 use Rattle.formula.specs.Meaning.{names, AllPresent}

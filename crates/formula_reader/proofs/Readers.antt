@@ -9,7 +9,7 @@ use lib.ListN.{length, getD, drop}
 use lib.Dec.{eqb, ltb, leb}
 use borrow.Author.Tests.{ltb-true, ltb-false, leb-true, not-true, eqb-true, eqb-false, le-ltb, lt-ltb, le-leb, lt-leb, eq-eqb, ne-eqb}
 use Rattle.logic.specs.Search.{_and_}
-use Rattle.logic.proofs.Basics.Search.{bool-cases, true-false, and-left, and-right}
+use Rattle.theory.proofs.Basics.Search.{bool-cases, true-false, and-left, and-right}
 use Rattle.text.specs.Text.{isDigit}
 use Rattle.formula.specs.Grammar.{Letter, Formula, literal, both, either, isPlace, shown, Level, disjunction, conjunction, item}
 use Rattle.formula.specs.Places.{digitsAt, pastDigits}

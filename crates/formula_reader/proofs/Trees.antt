@@ -11,7 +11,7 @@ use lib.Seq.{getD-set-same, getD-set-other}
 use lib.Dec.{ltb}
 use borrow.Author.Tests.{ltb-true, ltb-false}
 use Rattle.logic.specs.Search.{flatMap}
-use Rattle.logic.proofs.Basics.Search.{bool-cases}
+use Rattle.theory.proofs.Basics.Search.{bool-cases}
 use Rattle.formula.specs.Grammar.{Letter, Formula, literal, both, either}
 use Rattle.formula.specs.Expansion.{Conjunction, expand}
 use Rattle.formula_reader.specs.Tree.{letterCode, capped, conjunctions, putNode, Node, Tree, leaf, conjoined, disjoined}

@@ -13,7 +13,7 @@ use lib.Dec.{eqb}
 use Rattle.logic.specs.Search.{flatMap}
 use Rattle.text.specs.Text.{ascii, decimal, decimalWithin}
 use borrow.Author.Tests.{eq-eqb, ne-eqb}
-use Rattle.logic.proofs.Basics.Compare.{le-cases}
+use Rattle.theory.proofs.Basics.Compare.{le-cases}
 use Rattle.fractions.specs.Fractions.{Fraction, gcdWithin, gcd, share, totalOf, sharesOf, sumOf, fractionText, sharesText}
 use Rattle.fractions.specs.Claims.{GreatestCommonDivisor, LowestTerms, ExactlyOne, Claims}
 

@@ -2,6 +2,7 @@
 // no other place would add more is not, since no verdict rests on it.
 use facts::Facts;
 use facts::Found;
+use facts::Link;
 use facts::Term;
 use rules::Choice;
 use rules::Rule;
@@ -65,8 +66,8 @@ fn better(best: Best, score: usize, place: Choice) -> Best
 }
 
 // FUNC: x = z or y reaches z.
-fn func(link: &[u32; 17], reach: &[u32; 17], back: &[u32; 17], before: Best) -> Best
-    ensures { λ r. ⌜ ((n : ℕ) → Keeps n (now (link .entry)) (now (reach .entry)) before r) ⌝ }
+fn func(k: Link, link: &[u32; 17], reach: &[u32; 17], back: &[u32; 17], before: Best) -> Best
+    ensures { λ r. ⌜ ((n : ℕ) → Keeps n k (now (link .entry)) (now (reach .entry)) before r) ⌝ }
 {
     let mut best = before;
     for x in 0..17 {
@@ -76,7 +77,7 @@ fn func(link: &[u32; 17], reach: &[u32; 17], back: &[u32; 17], before: Best) -> 
             for z in 0..17 {
                 if facts::has(far, z) {
                     let score = product(joined(reach, back, x, z), added(reach, back, at, z));
-                    let place = Choice::Apply(Rule::Func, Term(x), y, Third(z));
+                    let place = Choice::Apply(k, Rule::Func, Term(x), y, Third(z));
                     let next = better(best, score, place);
                     best = next;
                 }
@@ -87,15 +88,15 @@ fn func(link: &[u32; 17], reach: &[u32; 17], back: &[u32; 17], before: Best) -> 
 }
 
 // CYCLE: y is one of the round of x. It has as many alternatives as the round has terms, and its score is low.
-fn cycle(link: &[u32; 17], reach: &[u32; 17], n: usize, before: Best) -> Best
+fn cycle(k: Link, link: &[u32; 17], reach: &[u32; 17], n: usize, before: Best) -> Best
     requires { ⌜ n ≤ 16 ⌝ }
-    ensures { λ r. ⌜ Keeps n (now (link .entry)) (now (reach .entry)) before r ⌝ }
+    ensures { λ r. ⌜ Keeps n k (now (link .entry)) (now (reach .entry)) before r ⌝ }
 {
     let mut best = before;
     for x in 0..17 {
         let round = units::around(link, reach, n, x);
         if let Found::At(y) = units::lowest(round.off) {
-            let place = Choice::Apply(Rule::Cycle, Term(x), y, Third(round.steps));
+            let place = Choice::Apply(k, Rule::Cycle, Term(x), y, Third(round.steps));
             let next = better(best, 50, place);
             best = next;
         }
@@ -104,9 +105,9 @@ fn cycle(link: &[u32; 17], reach: &[u32; 17], n: usize, before: Best) -> Best
 }
 
 // SCC: x = y or z reaches x.
-fn scc(reach: &[u32; 17], back: &[u32; 17], before: Best) -> Best
+fn scc(k: Link, reach: &[u32; 17], back: &[u32; 17], before: Best) -> Best
     requires { ⌜ Turned (now back) (now reach) ⌝ }
-    ensures { λ r. ⌜ ((n : ℕ) (link : List ℕ) → Keeps n link (now (reach .entry)) before r) ⌝ }
+    ensures { λ r. ⌜ ((n : ℕ) (link : List ℕ) → Keeps n k link (now (reach .entry)) before r) ⌝ }
 {
     let mut best = before;
     for x in 0..17 {
@@ -116,7 +117,7 @@ fn scc(reach: &[u32; 17], back: &[u32; 17], before: Best) -> Best
             for y in 0..17 {
                 if facts::has(both, y) {
                     let score = product(joined(reach, back, x, y), added(reach, back, out, x));
-                    let place = Choice::Apply(Rule::Scc, Term(x), Term(y), Third(out));
+                    let place = Choice::Apply(k, Rule::Scc, Term(x), Term(y), Third(out));
                     let next = better(best, score, place);
                     best = next;
                 }
@@ -127,9 +128,9 @@ fn scc(reach: &[u32; 17], back: &[u32; 17], before: Best) -> Best
 }
 
 // TOTAL of y with z, which some x reaches both: y reaches z or z reaches y.
-fn total_at(reach: &[u32; 17], back: &[u32; 17], y: usize, before: Best) -> Best
+fn total_at(k: Link, reach: &[u32; 17], back: &[u32; 17], y: usize, before: Best) -> Best
     requires { ⌜ (y ≤ 16) × Turned (now back) (now reach) ⌝ }
-    ensures { λ r. ⌜ ((n : ℕ) (link : List ℕ) → Keeps n link (now (reach .entry)) before r) ⌝ }
+    ensures { λ r. ⌜ ((n : ℕ) (link : List ℕ) → Keeps n k link (now (reach .entry)) before r) ⌝ }
 {
     let mut best = before;
     let from = back[y];
@@ -138,7 +139,7 @@ fn total_at(reach: &[u32; 17], back: &[u32; 17], y: usize, before: Best) -> Best
         if !facts::has(near, z) {
             if let Found::At(x) = units::lowest(from & back[z]) {
                 let score = product(added(reach, back, y, z), added(reach, back, z, y));
-                let place = Choice::Apply(Rule::Total, x, Term(y), Third(z));
+                let place = Choice::Apply(k, Rule::Total, x, Term(y), Third(z));
                 let next = better(best, score, place);
                 best = next;
             }
@@ -147,34 +148,48 @@ fn total_at(reach: &[u32; 17], back: &[u32; 17], y: usize, before: Best) -> Best
     best
 }
 
-fn total(reach: &[u32; 17], back: &[u32; 17], before: Best) -> Best
+fn total(k: Link, reach: &[u32; 17], back: &[u32; 17], before: Best) -> Best
     requires { ⌜ Turned (now back) (now reach) ⌝ }
-    ensures { λ r. ⌜ ((n : ℕ) (link : List ℕ) → Keeps n link (now (reach .entry)) before r) ⌝ }
+    ensures { λ r. ⌜ ((n : ℕ) (link : List ℕ) → Keeps n k link (now (reach .entry)) before r) ⌝ }
 {
     let mut best = before;
     for y in 0..17 {
-        let next = total_at(reach, back, y, best);
+        let next = total_at(k, reach, back, y, best);
         best = next;
     }
     best
 }
 
-// The place at a closed path whose alternatives would add most.
+// The better of the best place so far and those by link k, whose rows are lent.
+fn most_at(k: Link, link: &[u32; 17], reach: &[u32; 17], n: usize, before: Best) -> Best
+    requires { ⌜ n ≤ 16 ⌝ }
+    ensures { λ r. ⌜ Keeps n k (now (link .entry)) (now (reach .entry)) before r ⌝ }
+{
+    let back = facts::turned(reach);
+    let a = func(k, link, reach, &back, before);
+    let b = cycle(k, link, reach, n, a);
+    let c = scc(k, reach, &back, b);
+    total(k, reach, &back, c)
+}
+
+// The place at a closed path whose alternatives would add most, by any link.
 pub fn most(s: Facts, n: usize) -> Choice
     requires { ⌜ n ≤ 16 ⌝ }
     ensures { λ r. ⌜ Proposes n (pathOf s) r ⌝ }
 {
-    let link = s.link;
-    let reach = s.reach;
-    let back = facts::turned(&reach);
-    let none = Best {
+    let total = facts::links(s);
+    let mut best = Best {
         score: 0,
         place: Choice::Nothing,
     };
-    let a = func(&link, &reach, &back, none);
-    let b = cycle(&link, &reach, n, a);
-    let c = scc(&reach, &back, b);
-    let d = total(&reach, &back, c);
-    let place = d.place;
+    let mut k: usize = 1;
+    while k <= total {
+        let link = facts::link_rows(s, Link(k));
+        let reach = facts::reach_rows(s, Link(k));
+        let next = most_at(Link(k), &link, &reach, n, best);
+        best = next;
+        k += 1;
+    }
+    let place = best.place;
     place
 }

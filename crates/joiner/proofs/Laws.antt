@@ -10,8 +10,8 @@ use lib.Seq.{length-take-le}
 use lib.Dec.{ltb, leb}
 use Rattle.logic.specs.Search.{_and_, _or_, from, all, flatMap}
 use Rattle.logic.specs.Query.{Literal, literals}
-use Rattle.logic.proofs.Basics.Count.{length-flatMap}
-use Rattle.logic.proofs.Basics.Compare.{eqb-false}
+use Rattle.theory.proofs.Basics.Count.{length-flatMap}
+use Rattle.theory.proofs.Basics.Compare.{eqb-false}
 use Rattle.query.specs.LaysOut.{literalIn}
 use Rattle.query.proofs.Literals.{listed, listed-end, listed-next, listed-mem, listed-length, literals-are}
 use Rattle.entries.proofs.Loops.{drop-next}

@@ -11,11 +11,11 @@ use lib.Dec.{eqb, leb}
 use borrow.Author.Tests.{leb-true, eqb-true}
 use Rattle.logic.specs.Search.{_and_, _or_, flatMap}
 use Rattle.logic.specs.Query.{Literal, Entries, Query, termCount, entryOf, namesNil, argumentOf, firstByte, literals, decode}
-use Rattle.logic.proofs.Basics.Search.{and-left, and-right, all-true}
-use Rattle.logic.proofs.Basics.Compare.{eq-cases}
-use Rattle.logic.proofs.Basics.Count.{length-flatMap}
-use Rattle.logic.proofs.Query.Tied.{Accepted, InTerms}
-use Rattle.logic.proofs.Query.AcceptedBytes.{accepted}
+use Rattle.theory.proofs.Basics.Search.{and-left, and-right, all-true}
+use Rattle.theory.proofs.Basics.Compare.{eq-cases}
+use Rattle.theory.proofs.Basics.Count.{length-flatMap}
+use Rattle.theory.proofs.Query.Tied.{Accepted, InTerms}
+use Rattle.theory.proofs.Query.AcceptedBytes.{accepted}
 use Rattle.query.specs.declared.Layout.{Layout}
 use Rattle.query.proofs.Literals.{listed-length}
 use Rattle.joining.specs.Pairs.{Pair, pairsOf, hasTerms, isPairList}

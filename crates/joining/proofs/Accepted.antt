@@ -9,9 +9,9 @@ use mathlib.Core.List.{List, _++_, map, List·Memᴰ, List·Memᴰ·append-cases
 use lib.ListN.{length, length-append, length-map}
 use borrow.Author.Tests.{ltb-true, leb-true}
 use Rattle.logic.specs.Query.{Literal, Query, termCount, argumentOf, linkOf, decode}
-use Rattle.logic.proofs.Basics.Search.{and-left, and-right, map-mem, all-true}
-use Rattle.logic.proofs.Basics.Compare.{le-cases}
-use Rattle.logic.proofs.Query.Tied.{Accepted, InTerms}
+use Rattle.theory.proofs.Basics.Search.{and-left, and-right, map-mem, all-true}
+use Rattle.theory.proofs.Basics.Compare.{le-cases}
+use Rattle.theory.proofs.Query.Tied.{Accepted, InTerms}
 use Rattle.joining.specs.Pairs.{Pair, pairsOf, hasTerms, isPairList}
 use Rattle.joining.specs.Joined.{raised, raisedEntry, pairLiteral, joined}
 use Rattle.joining.specs.Claims.{Joinable}

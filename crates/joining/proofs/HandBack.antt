@@ -13,8 +13,8 @@ use Rattle.logic.specs.Search.{_and_, at, holdsOf}
 use Rattle.logic.specs.Query.{Literal, Query, termCount, decode}
 use Rattle.logic.specs.Facts.{Facts, line, isClash, negatedAt}
 use Rattle.logic.specs.Calls.{accepts, acceptsBy}
-use Rattle.logic.proofs.Basics.Search.{true-false, not-true, and-left, and-right, and-false-cases, or-cases, none-some, isSome-false, map-mem, at-left}
-use Rattle.logic.proofs.Basics.Compare.{eq-cases, eqb-self}
+use Rattle.theory.proofs.Basics.Search.{true-false, not-true, and-left, and-right, and-false-cases, or-cases, none-some, isSome-false, map-mem, at-left}
+use Rattle.theory.proofs.Basics.Compare.{eq-cases, eqb-self}
 use Rattle.joining.specs.Pairs.{Pair}
 use Rattle.joining.specs.Joined.{pairLiteral, joined}
 use Rattle.joining.specs.Call.{queryRefusal}

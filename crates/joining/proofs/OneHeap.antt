@@ -11,11 +11,11 @@ use lib.Dec.{leb}
 use borrow.Author.Tests.{le-leb, lt-leb}
 use Rattle.logic.specs.Query.{Literal, Entries, Query, termCount, namesNil, argumentOf, linkOf}
 use Rattle.logic.specs.Heap.{Heap, Node, IsHeap, value, Reaches, Signed, MeansEqual, MeansReach, MeansField, Each, Meets, Satisfiable}
-use Rattle.logic.proofs.Basics.Search.{map-mem, map-intro}
-use Rattle.logic.proofs.Basics.Compare.{le-cases}
-use Rattle.logic.proofs.Query.Tied.{InTerms}
-use Rattle.logic.proofs.Query.Entries.{nil-range}
-use Rattle.logic.proofs.Soundness.Value.{Below, accepted-below, value-variable, value-link}
+use Rattle.theory.proofs.Basics.Search.{map-mem, map-intro}
+use Rattle.theory.proofs.Basics.Compare.{le-cases}
+use Rattle.theory.proofs.Query.Tied.{InTerms}
+use Rattle.theory.proofs.Query.Entries.{nil-range}
+use Rattle.theory.proofs.Soundness.Value.{Below, accepted-below, value-variable, value-link}
 use Rattle.joining.specs.Pairs.{Pair}
 use Rattle.joining.specs.Joined.{raised, pairLiteral, joined}
 use Rattle.joining.specs.Heaps.{naming, OneHeap}

@@ -14,8 +14,8 @@ use borrow.Author.Tests.{leb-true}
 use Rattle.logic.specs.Search.{at}
 use Rattle.logic.specs.Query.{Literal, Query, literal, termCount, Section, fourSections, fiveSections, sections, Layout, faulty, parts, withPart, layout, layoutBy, layoutOf, literals, section, queryOf, decode}
 use Rattle.logic.specs.Calls.{accepts}
-use Rattle.logic.proofs.Basics.Compare.{eq-cases}
-use Rattle.logic.proofs.Query.Bytes.{cond-elim}
+use Rattle.theory.proofs.Basics.Compare.{eq-cases}
+use Rattle.theory.proofs.Query.Bytes.{cond-elim}
 use Rattle.encoding.proofs.Decoded.{accepted-parts}
 use Rattle.joining.specs.HandBack.{literalsIn, startIn, placeIn}
 

@@ -11,7 +11,7 @@ use lib.Seq.{getD-append-add}
 use lib.Dec.{eqb}
 use Rattle.logic.specs.Search.{_or_}
 use Rattle.logic.specs.Query.{Entries, oneLink, entryOf, linkOf, namesNil, argumentOf}
-use Rattle.logic.proofs.Basics.Compare.{eqb-false, eq-cases, le-cases}
+use Rattle.theory.proofs.Basics.Compare.{eqb-false, eq-cases, le-cases}
 use Rattle.joining.specs.Joined.{raisedEntry}
 
 -- an entry that is raised

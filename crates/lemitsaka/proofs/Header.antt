@@ -13,10 +13,10 @@ use Rattle.logic.specs.Walk.{ourWalk, refutation}
 use Rattle.logic.specs.Calls.{Input, Check, Outcome, verdictChecks, derivationChecks, verdictCall, derivationCall}
 use Rattle.logic.specs.Calls as calls
 use Rattle.logic.specs.Demands.{numbers, Refusals}
-use Rattle.logic.proofs.Calls.CheckingOrder.{Early}
-use Rattle.logic.proofs.Calls.Refusals.{one-link-laws, verdict-early, derivation-early}
-use Rattle.logic.proofs.Calls.Demands.{demand1, checks-in-order}
-use Rattle.logic.proofs.Calls.Room.{room-enough, report-short}
+use Rattle.theory.proofs.Calls.CheckingOrder.{Early}
+use Rattle.theory.proofs.Calls.Refusals.{one-link-laws, verdict-early, derivation-early}
+use Rattle.theory.proofs.Calls.Demands.{demand1, checks-in-order}
+use Rattle.theory.proofs.Calls.Room.{room-enough, report-short}
 use Rattle.prover.specs.Promise.{inputOf}
 use Rattle.lemitsaka.specs.VerdictPromise.{codeOf, answerIn, Codes}
 

@@ -4,6 +4,7 @@ mod check_export;
 mod dot_export;
 mod formula_export;
 mod join_export;
+mod links_rewrite_export;
 mod precedence_export;
 mod rewrite_export;
 pub mod verdict_export;

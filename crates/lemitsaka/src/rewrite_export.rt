@@ -7,7 +7,7 @@ ghost use Rattle.rewriter.specs.Promise.{meaning};
 ghost use Rattle.lemitsaka.specs.RewritePromise.{codeOfRewrite, RewriteCodes};
 
 // An answer as a number, for C: the length of the query, else the refusal's number times 65,536, and its place.
-fn coded_rewrite(answer: Rewritten) -> u64
+pub fn coded_rewrite(answer: Rewritten) -> u64
     ensures { λ r. ⌜ r ≡ codeOfRewrite (meaning answer) ⌝ }
 {
     match answer {

@@ -8,7 +8,7 @@ use mathlib.Core.List.{List, [], _∷_, _++_}
 use lib.ListN.{length, getD, drop}
 use Rattle.logic.specs.Query.{Query, termCount}
 use Rattle.logic.specs.Facts.{Facts, Joined, Line, line, joinLines}
-use Rattle.logic.specs.Rules.{Rule, triple, Move, move, Fact, equal, ruleNumber, moveLine, alternatives, branch}
+use Rattle.logic.specs.Rules.{Rule, triple, Move, move, Fact, equal, moveNumber, moveLine, alternatives, branch}
 use Rattle.logic.specs.Walk.{clashing, applying, saturated, look, Ending, refutation, saturation, after, walkBranch, walkEach, walk}
 use Rattle.branch.specs.Alternatives.{countOf, alternativeAt}
 use Rattle.branch.proofs.Alternatives.{count-is}
@@ -56,9 +56,9 @@ module _ (q : Query) (order : List Rule) (k : ℕ) (s : Facts) (r : Listed) (bef
   lists-saturated h l b = lists-open r (walk q order k s) s before c most bytes (walk-saturated q order k s h) l b
 
 -- The branches one after the other: those before i are refuted by lines that are written and counted; or one is not refuted
-module _ (q : Query) (order : List Rule) (k : ℕ) (s : Facts) (rule : Rule) (x y z : ℕ) where
+module _ (q : Query) (order : List Rule) (k : ℕ) (s : Facts) (link : ℕ) (rule : Rule) (x y z : ℕ) where
   abbrev m : Move
-  m = move 1 rule (triple x y z)
+  m = move link rule (triple x y z)
 
   abbrev cs : List Fact
   cs = alternatives (termCount q) (s .graph) m
@@ -79,12 +79,12 @@ module _ (q : Query) (order : List Rule) (k : ℕ) (s : Facts) (rule : Rule) (x 
   pub going-first : (before : List ℕ) (c : ℕ) → Going before c 0 before c
   going-first before c = inr (turn-first (termCount q) w s cs before c)
 
-  module _ (n : ℕ) (terms-are : n ≡ termCount q) (before : List ℕ) (c i : ℕ) (bytes bytes′ : List ℕ) (count most : ℕ) (in-row : i < countOf rule z) (j : Joined) (j-is : j ≡ branch n s (alternativeAt n (s .graph 1) rule x y z i)) (r : Listed) (listed : Lists r (walkBranch w j) bytes count most bytes′) where
+  module _ (n : ℕ) (terms-are : n ≡ termCount q) (before : List ℕ) (c i : ℕ) (bytes bytes′ : List ℕ) (count most : ℕ) (in-row : i < countOf rule z) (j : Joined) (j-is : j ≡ branch n s (alternativeAt link n (s .graph link) rule x y z i)) (r : Listed) (listed : Lists r (walkBranch w j) bytes count most bytes′) where
     in-alternatives : i < length cs
-    in-alternatives = omega (arith, count-is (termCount q) (s .graph) rule x y z)
+    in-alternatives = omega (arith, count-is link (termCount q) (s .graph) rule x y z)
 
     walked : (e : Ending) → walkBranch w j ≡ e → walkBranch w (branch (termCount q) s (getD cs i other)) ≡ e
-    walked e h = branch-walked q order (k - 1) n s j rule x y z i other terms-are in-row j-is ∙ h
+    walked e h = branch-walked q order (k - 1) n s j link rule x y z i other terms-are in-row j-is ∙ h
 
     open-now : (t : Turn (termCount q) w s cs before c i bytes count) (u : Facts) → walkBranch w j ≡ saturation u → each ≡ saturation u
     unfolding after
@@ -144,7 +144,7 @@ module _ (q : Query) (order : List Rule) (k : ℕ) (s : Facts) (rule : Rule) (x 
         }
 
   -- no branch is left
-  pub going-last : look q order s ≡ applying m → 1 ≤ k → (before : List ℕ) (c i : ℕ) (bytes : List ℕ) (count most : ℕ) → Going before c i bytes count → countOf rule z ≤ i → (r : Listed) (old : List ℕ) (c₀ a : ℕ) → a ≡ ruleNumber rule → before ≡ putLine old c₀ (line a x y z) → c ≡ counted c₀ → length bytes ≡ length old → count ≤ 16001 → r .stopped ≡ false → r .count ≡ count → Lists r (walk q order k s) old c₀ most bytes
+  pub going-last : look q order s ≡ applying m → 1 ≤ k → (before : List ℕ) (c i : ℕ) (bytes : List ℕ) (count most : ℕ) → Going before c i bytes count → countOf rule z ≤ i → (r : Listed) (old : List ℕ) (c₀ a : ℕ) → a ≡ moveNumber link rule → before ≡ putLine old c₀ (line a x y z) → c ≡ counted c₀ → length bytes ≡ length old → count ≤ 16001 → r .stopped ≡ false → r .count ≡ count → Lists r (walk q order k s) old c₀ most bytes
   unfolding after countAll putAll
   going-last seen some-left before c i bytes count most (inl o) past r old c₀ a num eb ec same b f rc =
       lists-open r (walk q order k s) (o .0) old c₀ most bytes (walk-applying q order k s m some-left seen ∙ ap (after (moveLine m ∷ [])) (o .1)) same (subst (λ (d : ℕ). d ≤ 16001) (sym rc) b)
@@ -157,13 +157,13 @@ module _ (q : Query) (order : List Rule) (k : ℕ) (s : Facts) (rule : Rule) (x 
       }
     where
       e : walk q order k s ≡ refutation (moveLine m ∷ t .lines)
-      e = walk-applying q order k s m some-left seen ∙ turn-whole (termCount q) w s cs before c i bytes count t (omega (arith, count-is (termCount q) (s .graph) rule x y z)) (moveLine m)
+      e = walk-applying q order k s m some-left seen ∙ turn-whole (termCount q) w s cs before c i bytes count t (omega (arith, count-is link (termCount q) (s .graph) rule x y z)) (moveLine m)
 
       counts-all : r .count ≡ countAll c₀ (moveLine m ∷ t .lines)
       counts-all = rc ∙ t .counts ∙ ap (λ (d : ℕ). countAll d (t .lines)) ec
 
       writes-all : bytes ≡ putAll old c₀ (moveLine m ∷ t .lines)
-      writes-all = t .written ∙ ap (λ (b : List ℕ). putAll b c (t .lines)) (eb ∙ ap (putLine old c₀) (move-line rule x y z a num)) ∙ ap (λ (d : ℕ). putAll (putLine old c₀ (moveLine m)) d (t .lines)) ec
+      writes-all = t .written ∙ ap (λ (b : List ℕ). putAll b c (t .lines)) (eb ∙ ap (putLine old c₀) (move-line link rule x y z a num)) ∙ ap (λ (d : ℕ). putAll (putLine old c₀ (moveLine m)) d (t .lines)) ec
 
 -- The lines of the joins stand in front, written and counted
 module _ (w : Facts → Ending) (j : Joined) (r : Listed) (before mid : List ℕ) (c c₁ most : ℕ) (ec : c₁ ≡ countAll c (joinLines (j .pairs))) (em : mid ≡ putAll before c (joinLines (j .pairs))) where

@@ -53,13 +53,13 @@ pub fn list(
                 count: walk::counted(count),
             }
         }
-        Seen::Applying(rule, x, y, z) => {
-            walk::put_line(lines, count, walk::number(rule), x.0, y.0, z.0);
+        Seen::Applying(k, rule, x, y, z) => {
+            walk::put_line(lines, count, walk::number(k, rule), x.0, y.0, z.0);
             let total = branch::count(rule, z);
             let mut written = walk::counted(count);
             let mut i: usize = 0;
             while i < total {
-                let branch = branch::branch(s, n, rule, x, y, z, i);
+                let branch = branch::branch(s, n, k, rule, x, y, z, i);
                 let w = list(query, layout, order, left - 1, branch, lines, written, most);
                 if w.stopped {
                     return w;

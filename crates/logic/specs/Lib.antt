@@ -12,6 +12,7 @@ pub mod Shown
 pub mod Calls
 pub mod Examples
 pub mod EdgeExamples
+pub mod HeapExamples
 pub mod Demands
 pub mod PathLimit
 pub mod Reordering

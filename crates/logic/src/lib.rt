@@ -1,1 +1,1 @@
-// The mathematics of the prover: definitions in specs/, theorems in proofs/. There is no code in this crate.
+// The definitions in specs/, and in proofs/ that their examples come out. There is no code in this crate.

@@ -12,11 +12,11 @@ use Rattle.logic.specs.Walk.{Look, clashing, applying, saturated, look, orderOf
 use Rattle.logic.specs.Steps.{Steps, Step, one-more, AtMost}
 use Rattle.logic.specs.Calls.{accepts}
 use Rattle.logic.specs.Decision.{HasHeap, NoHeap, Reachable, Struck}
-use Rattle.logic.proofs.Query.AcceptedBytes.{accepted}
-use Rattle.logic.proofs.Query.Tied.{Accepted}
-use Rattle.logic.proofs.Walks.Order.{order-full}
-use Rattle.logic.proofs.Walks.Derives.{seen-applying, seen-clashing}
-use Rattle.logic.proofs.Calls.Decision.{Known, reachable-known, clash-none, heap-branch, struck-next, last-open, walk-first}
+use Rattle.theory.proofs.Query.AcceptedBytes.{accepted}
+use Rattle.theory.proofs.Query.Tied.{Accepted}
+use Rattle.theory.proofs.Walks.Order.{order-full}
+use Rattle.theory.proofs.Walks.Derives.{seen-applying, seen-clashing}
+use Rattle.theory.proofs.Calls.Decision.{Known, reachable-known, clash-none, heap-branch, struck-next, last-open, walk-first}
 use Rattle.branch.specs.Alternatives.{countOf, alternativeAt}
 use Rattle.covering.specs.Covers.{Covers}
 use Rattle.covering.proofs.Covered.{covered-heap}
@@ -39,13 +39,20 @@ mem-some (y ∷ ys) x m = omega arith
 reach-branch : (q : Query) (s : Facts) (m : Move) → Reachable q s → applies (termCount q) s m ≡ true → (i : ℕ) → i < length (branches (termCount q) s m) → Reachable q (getD (branches (termCount q) s m) i s)
 reach-branch q s m (k, steps) app i l = (suc k, one-more steps (record { rule-move = m; applicable = app; branch = getD-mem (branches (termCount q) s m) i s l }))
 
+-- a path with a heap where our walk from s₀ goes on with k of its k₀ steps left: it ends where that one does
+pub record Comes (q : Query) (order : List ℕ) (k₀ : ℕ) (s₀ : Facts) (k : ℕ) (s : Facts) : Type 0 where
+  pub reach : Reachable q s
+  pub most : AtMost (termCount q) s k
+  pub has-heap : HasHeap q s
+  pub ends : (u : Facts) → walk q (orderOf order) k s ≡ saturation u → walk q (orderOf order) k₀ s₀ ≡ saturation u
+
 -- a path with a heap has no clash
 pub never-clashes : (bytes order : List ℕ) → accepts bytes ≡ true → (s : Facts) → Reachable (decode bytes) s → HasHeap (decode bytes) s → (l : Line) → look (decode bytes) (orderOf order) s ≡ clashing l → ⊥
 never-clashes bytes order acc s reach has l h =
     let ok = accepted bytes acc in
     clash-none (decode bytes) ok s (reachable-known (decode bytes) ok s reach) l (seen-clashing (decode bytes) (orderOf order) s h) has
 
-module _ (bytes order : List ℕ) (acc : accepts bytes ≡ true) (k : ℕ) (s : Facts) (reach : Reachable (decode bytes) s) (most : AtMost (termCount (decode bytes)) s k) (n : ℕ) (terms-are : n ≡ termCount (decode bytes)) (r : Rule) (x y z : ℕ) (h : look (decode bytes) (orderOf order) s ≡ applying (move 1 r (triple x y z))) where
+module _ (bytes order : List ℕ) (acc : accepts bytes ≡ true) (k : ℕ) (s : Facts) (reach : Reachable (decode bytes) s) (most : AtMost (termCount (decode bytes)) s k) (n : ℕ) (terms-are : n ≡ termCount (decode bytes)) (l : ℕ) (r : Rule) (x y z : ℕ) (h : look (decode bytes) (orderOf order) s ≡ applying (move l r (triple x y z))) where
   abbrev q : Query
   q = decode bytes
 
@@ -56,17 +63,17 @@ module _ (bytes order : List ℕ) (acc : accepts bytes ≡ true) (k : ℕ) (s : 
   known = reachable-known q ok s reach
 
   abbrev m : Move
-  m = move 1 r (triple x y z)
+  m = move l r (triple x y z)
 
   app : applies (termCount q) s m ≡ true
   app = seen-applying q (orderOf order) s h .1
 
-  module _ (i : ℕ) (l : i < countOf r z) (j : Joined) (e : j ≡ branch n s (alternativeAt n (s .graph 1) r x y z i)) where
+  module _ (i : ℕ) (here : i < countOf r z) (j : Joined) (e : j ≡ branch n s (alternativeAt l n (s .graph l) r x y z i)) where
     in-row : i < length (branches (termCount q) s m)
-    in-row = omega (arith, row-length q n s r x y z terms-are)
+    in-row = omega (arith, row-length q n s l r x y z terms-are)
 
     at : getD (branches (termCount q) s m) i s ≡ j .facts
-    at = sym (row-at q n s r x y z terms-are i j l e)
+    at = sym (row-at q n s l r x y z terms-are i j here e)
 
     pub open-reach : Reachable q (j .facts)
     open-reach = subst (Reachable q) at (reach-branch q s m reach app i in-row)
@@ -91,19 +98,22 @@ module _ (bytes order : List ℕ) (acc : accepts bytes ≡ true) (k : ℕ) (s : 
         }
 
     pub open-last : Struck q s m i → countOf r z ≤ i + 1 → HasHeap q s → FirstOpen q s m (j .facts)
-    open-last st last has = record { place = i; in-row = in-row; struck = st; branch-at = at; has-heap = subst (HasHeap q) at (last-open q ok s known m app i st (omega (arith, row-length q n s r x y z terms-are)) has) }
+    open-last st last has = record { place = i; in-row = in-row; struck = st; branch-at = at; has-heap = subst (HasHeap q) at (last-open q ok s known m app i st (omega (arith, row-length q n s l r x y z terms-are)) has) }
 
   -- a path with a heap has a branch
   pub some-branch : HasHeap q s → 0 < countOf r z
-  some-branch has = let (t, mem, has′) = heap-branch q ok s known m app has in omega (arith, mem-some (branches (termCount q) s m) t mem, row-length q n s r x y z terms-are)
+  some-branch has = let (t, mem, has′) = heap-branch q ok s known m app has in omega (arith, mem-some (branches (termCount q) s m) t mem, row-length q n s l r x y z terms-are)
 
   -- the walk goes there
   module _ (t : Facts) (f : FirstOpen q s m t) where
-    pub first-reach : Reachable q t
+    first-reach : Reachable q t
     first-reach = subst (Reachable q) (f .branch-at) (reach-branch q s m reach app (f .place) (f .in-row))
 
-    pub first-fewer : AtMost (termCount q) t (k - 1)
+    first-fewer : AtMost (termCount q) t (k - 1)
     first-fewer = subst (λ (u : Facts). AtMost (termCount q) u (k - 1)) (f .branch-at) (row-fewer q (orderOf order) k s m most h (f .place) (f .in-row))
 
-    pub first-ends : isOrder order ≡ true → (u : Facts) → walk q (orderOf order) (k - 1) t ≡ saturation u → walk q (orderOf order) k s ≡ saturation u
+    first-ends : isOrder order ≡ true → (u : Facts) → walk q (orderOf order) (k - 1) t ≡ saturation u → walk q (orderOf order) k s ≡ saturation u
     first-ends o u e = walk-first q ok (orderOf order) (order-full order o) k s known most m h (f .place) (f .in-row) (f .struck) u (subst (λ (v : Facts). walk q (orderOf order) (k - 1) v ≡ saturation u) (sym (f .branch-at)) e)
+
+    pub comes-on : isOrder order ≡ true → (k₀ : ℕ) (s₀ : Facts) → Comes q order k₀ s₀ k s → Comes q order k₀ s₀ (k - 1) t
+    comes-on o k₀ s₀ c = record { reach = first-reach; most = first-fewer; has-heap = f .has-heap; ends = λ u e. c .ends u (first-ends o u e) }

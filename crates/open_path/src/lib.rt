@@ -3,6 +3,7 @@
 use decide::Kind;
 use decide::Walked;
 use facts::Facts;
+use facts::Link;
 use facts::Term;
 use query::Layout;
 use rules::Rule;
@@ -37,6 +38,7 @@ fn first_open(
     order: &[u8],
     left: usize,
     s: Facts,
+    k: Link,
     rule: Rule,
     x: Term,
     y: Term,
@@ -44,15 +46,15 @@ fn first_open(
     first: usize,
     witness: Facts,
 ) -> Chosen
-    requires { ⌜ LaysOut layout (now query) × (accepts (now query) ≡ true) × (isOrder (now order) ≡ true) × Reachable (decode (now query)) (pathOf s) × AtMost (termCount (decode (now query))) (pathOf s) left × HasHeap (decode (now query)) (pathOf s) × HasHeap (decode (now query)) (pathOf witness) × (look (decode (now query)) (orderOf (now order)) (pathOf s) ≡ applying (move 1 (kindOf rule) (triple (x .0) (y .0) (z .0)))) ⌝ }
-    ensures { λ r. ⌜ FirstOpen (decode (now (query .entry))) (pathOf s) (move 1 (kindOf rule) (triple (x .0) (y .0) (z .0))) (pathOf (r .facts)) × HasHeap (decode (now (query .entry))) (pathOf (r .witness)) ⌝ }
+    requires { ⌜ LaysOut layout (now query) × (accepts (now query) ≡ true) × (isOrder (now order) ≡ true) × Reachable (decode (now query)) (pathOf s) × AtMost (termCount (decode (now query))) (pathOf s) left × HasHeap (decode (now query)) (pathOf s) × HasHeap (decode (now query)) (pathOf witness) × (look (decode (now query)) (orderOf (now order)) (pathOf s) ≡ applying (move (k .0) (kindOf rule) (triple (x .0) (y .0) (z .0)))) ⌝ }
+    ensures { λ r. ⌜ FirstOpen (decode (now (query .entry))) (pathOf s) (move (k .0) (kindOf rule) (triple (x .0) (y .0) (z .0))) (pathOf (r .facts)) × HasHeap (decode (now (query .entry))) (pathOf (r .witness)) ⌝ }
 {
     let n = layout.terms;
     let total = branch::count(rule, z);
     let mut how = first;
     let mut i: usize = 0;
     loop {
-        let joined = branch::branch(s, n, rule, x, y, z, i);
+        let joined = branch::branch(s, n, k, rule, x, y, z, i);
         let path = joined.facts;
         if total <= i + 1 {
             return Chosen {
@@ -95,14 +97,38 @@ pub fn descend(
     requires { ⌜ LaysOut layout (now query) × (accepts (now query) ≡ true) × (isOrder (now order) ≡ true) × Reachable (decode (now query)) (pathOf s) × AtMost (termCount (decode (now query))) (pathOf s) left × HasHeap (decode (now query)) (pathOf s) × HasHeap (decode (now query)) (pathOf witness) ⌝ }
     ensures { λ r. ⌜ walk (decode (now (query .entry))) (orderOf (now (order .entry))) left (pathOf s) ≡ saturation (pathOf r) ⌝ }
 {
-    match walk::look(query, layout, order, s) {
-        walk::Seen::Saturated => s,
-        walk::Seen::Clashing(_, _, _) => s,
-        walk::Seen::Applying(rule, x, y, z) => {
-            let chosen = first_open(query, layout, order, left, s, rule, x, y, z, first, witness);
-            let path = chosen.facts;
-            let other = chosen.witness;
-            descend(query, layout, order, left - 1, path, chosen.how, other)
+    let mut path = s;
+    let mut other = witness;
+    let mut how = first;
+    let mut steps = left;
+    loop {
+        match walk::look(query, layout, order, path) {
+            walk::Seen::Saturated => {
+                return path;
+            }
+            walk::Seen::Clashing(_, _, _) => {
+                return path;
+            }
+            walk::Seen::Applying(k, rule, x, y, z) => {
+                let chosen = first_open(
+                    query,
+                    layout,
+                    order,
+                    steps,
+                    path,
+                    k,
+                    rule,
+                    x,
+                    y,
+                    z,
+                    how,
+                    other,
+                );
+                path = chosen.facts;
+                other = chosen.witness;
+                how = chosen.how;
+                steps -= 1;
+            }
         }
     }
 }

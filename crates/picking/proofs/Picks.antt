@@ -10,8 +10,8 @@ use Rattle.logic.specs.Query.{isOrder}
 use Rattle.logic.specs.Facts.{Facts, linkNumbers}
 use Rattle.logic.specs.Rules.{Rule, rules, Triple, triple, Move, move, applies, triples, choose}
 use Rattle.logic.specs.Walk.{orderOf}
-use Rattle.logic.proofs.Basics.Search.{keep-some, firstOf-some, from-mem, flatMap-mem, map-mem, none-some}
-use Rattle.logic.proofs.Walks.Order.{order-full, choose-some, choose-nothing}
+use Rattle.theory.proofs.Basics.Search.{keep-some, firstOf-some, from-mem, flatMap-mem, map-mem, none-some}
+use Rattle.theory.proofs.Walks.Order.{order-full, choose-some, choose-nothing}
 use Rattle.rules.specs.Answers.{choiceOf}
 use Rattle.rules.specs.declared.Choice.{Choice}
 use Rattle.rules.specs.declared.Choice.the-variants as choice
@@ -45,7 +45,7 @@ choose-range n order s i r x y z h =
 
 -- a choice by an order list picks
 pub chosen-picks : (n : ℕ) → n ≤ 16 → (order : List ℕ) → isOrder order ≡ true → (s : Facts) (r : Choice) → choiceOf r ≡ choose n (orderOf order) s → Picks n s r
-chosen-picks n few order o s (choice.Apply r x y z) h =
+chosen-picks n few order o s (choice.Apply k r x y z) h =
     let (lx, ly, lz) = choose-range n (orderOf order) s _ _ _ _ _ (sym h) in
     (choose-some n s (orderOf order) _ (sym h), omega arith, omega arith, omega arith)
 chosen-picks n few order o s choice.Nothing h = choose-nothing n s (orderOf order) rules (order-full order o) (sym h)

@@ -8,7 +8,7 @@ use Rattle.rules.specs.declared.Choice.{Choice}
 use Rattle.rules.specs.declared.Choice.the-variants as choice
 use Rattle.units.specs.Proposes.{Applies}
 
--- the rule picked applies, wherever that is; where none is picked, none applies
+-- the rule picked applies, by whichever link and wherever that is; where none is picked, none applies
 abbrev pub Picks : ℕ → Facts → Choice → Type 0
-Picks n s (choice.Apply r x y z) = Applies n s r x y z
+Picks n s (choice.Apply k r x y z) = Applies n s k r x y z
 Picks n s choice.Nothing = choose n rules s ≡ none

@@ -1,4 +1,4 @@
-// Where a strategy goes on: a rule that applies, and its triple.
+// Where a strategy goes on: a rule that applies, by which link, and its triple.
 use facts::Facts;
 use query::Layout;
 use rules::Choice;
@@ -32,8 +32,8 @@ fn other(query: &[u8], layout: Layout, how: usize, s: Facts) -> Choice
     ensures { λ r. ⌜ Proposes (layout .terms) (pathOf s) r ⌝ }
 {
     if how == 2 {
-        if let Choice::Apply(rule, x, y, z) = probing::failing(query, layout, s) {
-            return Choice::Apply(rule, x, y, z);
+        if let Choice::Apply(k, rule, x, y, z) = probing::failing(query, layout, s) {
+            return Choice::Apply(k, rule, x, y, z);
         }
     }
     gains::most(s, layout.terms)
@@ -46,14 +46,14 @@ pub fn pick(query: &[u8], layout: Layout, how: usize, s: Facts) -> Choice
     ensures { λ r. ⌜ Picks (layout .terms) (pathOf s) r ⌝ }
 {
     let n = layout.terms;
-    if let Choice::Apply(rule, x, y, z) = units::unit(query, layout, s) {
-        return Choice::Apply(rule, x, y, z);
+    if let Choice::Apply(k, rule, x, y, z) = units::unit(query, layout, s) {
+        return Choice::Apply(k, rule, x, y, z);
     }
     if how == 1 {
         return total_first(s, n);
     }
-    if let Choice::Apply(rule, x, y, z) = other(query, layout, how, s) {
-        return Choice::Apply(rule, x, y, z);
+    if let Choice::Apply(k, rule, x, y, z) = other(query, layout, how, s) {
+        return Choice::Apply(k, rule, x, y, z);
     }
     plain(s, n)
 }

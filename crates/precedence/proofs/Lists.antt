@@ -9,8 +9,8 @@ use lib.ListN.{length, length-append}
 use lib.Dec.{eqb, ltb, leb}
 use Rattle.logic.specs.Search.{_and_, from, any, all}
 use Rattle.logic.specs.Query.{isOrder}
-use Rattle.logic.proofs.Basics.Search.{bool-cases, true-false, not-true, not-intro, not-of, and-left, and-right, and-intro, and-false-cases, any-true, any-intro, all-true, from-mem, from-intro}
-use Rattle.logic.proofs.Basics.Compare.{eqb-true, eqb-self, eqb-intro, eqb-false, ltb-true, ltb-intro, eq-cases}
+use Rattle.theory.proofs.Basics.Search.{bool-cases, true-false, not-true, not-intro, not-of, and-left, and-right, and-intro, and-false-cases, any-true, any-intro, all-true, from-mem, from-intro}
+use Rattle.theory.proofs.Basics.Compare.{eqb-true, eqb-self, eqb-intro, eqb-false, ltb-true, ltb-intro, eq-cases}
 use Rattle.precedence.specs.Kept.{eachOnce}
 use Rattle.precedence.specs.Sheet.{isRule}
 use borrow.Author.Tests.{leb-true, le-leb}

@@ -12,9 +12,9 @@ use lib.Dec.{eqb, ltb}
 use borrow.Author.Tests.{not-false}
 use Rattle.logic.specs.Search.{_and_, _or_, from, any, all, find}
 use Rattle.logic.specs.Query.{isOrder}
-use Rattle.logic.proofs.Basics.Search.{bool-cases, true-false, none-some, not-true, not-intro, not-of, and-left, and-right, and-intro, and-false-cases, or-cases, or-left, or-right, all-true, all-intro, all-false, find-some, find-none, find-lowest}
-use Rattle.logic.proofs.Basics.Compare.{eqb-true, eqb-self, eqb-intro, eqb-false, eq-cases, le-cases, ltb-intro}
-use Rattle.logic.proofs.Graph.Pigeonhole.{pigeonhole}
+use Rattle.theory.proofs.Basics.Search.{bool-cases, true-false, none-some, not-true, not-intro, not-of, and-left, and-right, and-intro, and-false-cases, or-cases, or-left, or-right, all-true, all-intro, all-false, find-some, find-none, find-lowest}
+use Rattle.theory.proofs.Basics.Compare.{eqb-true, eqb-self, eqb-intro, eqb-false, eq-cases, le-cases, ltb-intro}
+use Rattle.theory.proofs.Graph.Pigeonhole.{pigeonhole}
 use Rattle.precedence.specs.Sheet.{Pair, isRule, paired}
 use Rattle.precedence.specs.Kept.{placeOf, keeps, smaller, eachOnce, SmallestOrder}
 use Rattle.precedence.specs.Finding.{free, ready, nextRule, grow, leads}

@@ -9,8 +9,8 @@ use lib.ListN.{length}
 use lib.Dec.{eqb, ltb}
 use borrow.Author.Tests.{ne-eqb, eq-eqb, le-ltb, lt-ltb}
 use Rattle.logic.specs.Search.{_and_, _or_, any, all}
-use Rattle.logic.proofs.Basics.Search.{bool-cases, true-false, and-left, and-right, or-cases, all-true}
-use Rattle.logic.proofs.Basics.Compare.{eqb-true, eqb-self, eq-cases, le-cases, ltb-true}
+use Rattle.theory.proofs.Basics.Search.{bool-cases, true-false, and-left, and-right, or-cases, all-true}
+use Rattle.theory.proofs.Basics.Compare.{eqb-true, eqb-self, eq-cases, le-cases, ltb-true}
 use Rattle.precedence.specs.Sheet.{Pair}
 use Rattle.precedence.specs.Kept.{placeOf, keeps, smaller}
 use Rattle.precedence.proofs.Lists.{has}

@@ -13,7 +13,7 @@ use borrow.Author.Tests.{leb-true, leb-false}
 use Rattle.logic.specs.Search.{keep}
 use Rattle.logic.specs.Query.{isOrder}
 use Rattle.logic.specs.Calls.{Input, orderCheck, padded}
-use Rattle.logic.proofs.Basics.Search.{true-false}
+use Rattle.theory.proofs.Basics.Search.{true-false}
 use Rattle.precedence.specs.Sheet.{Pair, pairs, laidOut, rulesOnly}
 use Rattle.precedence.specs.Kept.{isRing, SmallestOrder, ShortestRing}
 use Rattle.precedence.specs.Finding.{nextRule, grow, shownRing}

@@ -11,8 +11,8 @@ use lib.ListN.{length, length-append}
 use lib.Dec.{eqb, ltb, leb}
 use Rattle.logic.specs.Search.{_and_, _or_, from, keep, any, all, orElse, firstOf, find}
 use Rattle.logic.specs.Query.{isOrder}
-use Rattle.logic.proofs.Basics.Search.{bool-cases, true-false, none-some, not-of, and-left, and-right, and-intro, any-true, any-intro, all-intro, all-true, orElse-cases, orElse-none, firstOf-none, find-some, find-none, find-lowest}
-use Rattle.logic.proofs.Basics.Compare.{eqb-true, eqb-self, eqb-intro, eq-cases, le-cases, ltb-intro}
+use Rattle.theory.proofs.Basics.Search.{bool-cases, true-false, none-some, not-of, and-left, and-right, and-intro, any-true, any-intro, all-intro, all-true, orElse-cases, orElse-none, firstOf-none, find-some, find-none, find-lowest}
+use Rattle.theory.proofs.Basics.Compare.{eqb-true, eqb-self, eqb-intro, eq-cases, le-cases, ltb-intro}
 use Rattle.precedence.specs.Sheet.{Pair, isRule, paired}
 use Rattle.precedence.specs.Kept.{placeOf, keeps, smaller, NoOrder, linked, eachOnce, isRing, fromLowest, ShortestRing}
 use Rattle.precedence.specs.Finding.{leads, onward, nextOn, follow, ringStart, ringOf, shownRing}

@@ -9,7 +9,7 @@ use lib.Seq.{getD-drop}
 use lib.Dec.{eqb, leb}
 use borrow.Author.Tests.{eqb-true, ne-eqb}
 use Rattle.logic.specs.Search.{_and_, from, all}
-use Rattle.logic.proofs.Basics.Search.{not-of, true-false, and-left, and-right, all-true, from-mem, map-mem}
+use Rattle.theory.proofs.Basics.Search.{not-of, true-false, and-left, and-right, all-true, from-mem, map-mem}
 use Rattle.precedence.specs.Sheet.{Pair, countOf, pairAt, pairs, laidOut, isRule, rulesOnly}
 use Rattle.precedence.proofs.Lists.{is-rule}
 use Rattle.precedence.proofs.Rings.{Numbered}

@@ -14,8 +14,8 @@ use lib.Dec.{eqb}
 use borrow.Author.Tests.{eq-eqb, ne-eqb}
 use Rattle.logic.specs.Search.{_and_, _or_, from, any, all, find, firstOf}
 use Rattle.logic.specs.Calls.{padded}
-use Rattle.logic.proofs.Basics.Search.{from-mem, find-some}
-use Rattle.logic.proofs.Basics.Compare.{eq-cases}
+use Rattle.theory.proofs.Basics.Search.{from-mem, find-some}
+use Rattle.theory.proofs.Basics.Compare.{eq-cases}
 use Rattle.entries.proofs.Loops.{drop-next, any-end, any-here, any-next}
 use Rattle.facts.proofs.Selections.{and-both, any-turn, any-end as any-none}
 use Rattle.precedence.specs.Sheet.{Pair, countOf, pairAt, pairs, laidOut, rulesOnly, paired}

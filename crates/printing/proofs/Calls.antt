@@ -11,11 +11,11 @@ use Rattle.logic.specs.Derivation.{linesIn}
 use Rattle.logic.specs.Calls.{Input, Outcome, verdictCall, derivationCall}
 use Rattle.logic.specs.Calls as calls
 use Rattle.logic.specs.Demands.{Fits}
-use Rattle.logic.proofs.Basics.Compare.{le-cases}
+use Rattle.theory.proofs.Basics.Compare.{le-cases}
 use Rattle.prover.specs.Promise.{meaning, Does}
 use Rattle.prover.specs.declared.Answer.{Answer}
 use Rattle.prover.specs.declared.Answer.the-variants as answer
-use Rattle.logic.proofs.Calls.Demands.{demand2}
+use Rattle.theory.proofs.Calls.Demands.{demand2}
 use Rattle.text.specs.Text.{ascii}
 use Rattle.wording.specs.Words.{refusalText, reportText, lineText}
 use Rattle.printing.specs.HeapverdictText.{answerText, firstLine, derivationText, verdictText, unsatText, textOf, heapverdictText}

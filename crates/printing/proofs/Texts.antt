@@ -14,7 +14,7 @@ use Rattle.logic.specs.Facts.{Line, line}
 use Rattle.logic.specs.Derivation.{lineBytes, linesFrom, linesIn}
 use Rattle.logic.specs.Shown.{sizeIn, isNode, wellFormed}
 use Rattle.logic.specs.Calls.{refused}
-use Rattle.logic.proofs.Basics.Search.{and-left, and-right}
+use Rattle.theory.proofs.Basics.Search.{and-left, and-right}
 use Rattle.prover.specs.Promise.{meaning}
 use Rattle.prover.specs.declared.Answer.{Answer}
 use Rattle.prover.specs.declared.Answer.the-variants as answer

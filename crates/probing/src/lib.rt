@@ -3,15 +3,17 @@
 use clash::Clash;
 use facts::Facts;
 use facts::Found;
+use facts::Link;
 use facts::Term;
 use query::Layout;
 use rules::Choice;
 use rules::Rule;
 use rules::Third;
+use units::Proposal;
 ghost use mathlib.Core.List.{List};
 ghost use Prim.Native.Nat.{ℕ, _≤_};
 ghost use Rattle.facts.specs.Square.{Turned};
-ghost use Rattle.facts.specs.Path.{pathOf};
+ghost use Rattle.facts.specs.Path.{pathOf, HasLink};
 ghost use Rattle.query.specs.LaysOut.{LaysOut};
 ghost use Rattle.units.specs.Proposes.{Proposes, ProposesIn, FoundIn};
 
@@ -24,8 +26,7 @@ struct Left {
 fn clashes(query: &[u8], layout: Layout, s: Facts) -> bool
     requires { ⌜ LaysOut layout (now query) ⌝ }
 {
-    let rep = s.rep;
-    if let Clash::At(_, _, _) = clash::find_clash(query, layout, rep, &s.reach) {
+    if let Clash::At(_, _, _) = clash::find_clash(query, layout, &s.rep, &s.reach) {
         return true;
     }
     false
@@ -39,11 +40,11 @@ fn and_left(left: Left, s: Facts) -> Left {
     Left { count: 2, facts: s }
 }
 
-// A branch, closed.
-fn taken(s: Facts, n: usize, rule: Rule, x: Term, y: Term, z: Third, i: usize) -> Facts
-    requires { ⌜ (n ≤ 16) × (x .0 ≤ 16) × (y .0 ≤ 16) × (z .0 ≤ 16) ⌝ }
+// A branch of a rule by link k, closed.
+fn taken(s: Facts, n: usize, k: Link, rule: Rule, x: Term, y: Term, z: Third, i: usize) -> Facts
+    requires { ⌜ (n ≤ 16) × HasLink (pathOf s) (k .0) × (x .0 ≤ 16) × (y .0 ≤ 16) × (z .0 ≤ 16) ⌝ }
 {
-    let joined = branch::branch(s, n, rule, x, y, z, i);
+    let joined = branch::branch(s, n, k, rule, x, y, z, i);
     let path = joined.facts;
     closing::close(path, n)
 }
@@ -53,18 +54,19 @@ fn still_left(
     query: &[u8],
     layout: Layout,
     s: Facts,
+    k: Link,
     rule: Rule,
     x: Term,
     y: Term,
     z: Third,
 ) -> Left
-    requires { ⌜ LaysOut layout (now query) × (x .0 ≤ 16) × (y .0 ≤ 16) × (z .0 ≤ 16) ⌝ }
+    requires { ⌜ LaysOut layout (now query) × HasLink (pathOf s) (k .0) × (x .0 ≤ 16) × (y .0 ≤ 16) × (z .0 ≤ 16) ⌝ }
 {
     let n = layout.terms;
     let total = branch::count(rule, z);
     let mut left = Left { count: 0, facts: s };
     for i in 0..total {
-        let path = taken(s, n, rule, x, y, z, i);
+        let path = taken(s, n, k, rule, x, y, z, i);
         if !clashes(query, layout, path) {
             let next = and_left(left, path);
             left = next;
@@ -83,10 +85,10 @@ fn sinks(query: &[u8], layout: Layout, s: Facts) -> bool
         if clashes(query, layout, t) {
             return true;
         }
-        let Choice::Apply(rule, x, y, z) = units::unit(query, layout, t) else {
+        let Choice::Apply(k, rule, x, y, z) = units::unit(query, layout, t) else {
             return false;
         };
-        let left = still_left(query, layout, t, rule, x, y, z);
+        let left = still_left(query, layout, t, k, rule, x, y, z);
         if left.count == 0 {
             return true;
         }
@@ -101,13 +103,22 @@ fn sinks(query: &[u8], layout: Layout, s: Facts) -> bool
 }
 
 // Some alternative of a place soon clashes.
-fn fails(query: &[u8], layout: Layout, s: Facts, rule: Rule, x: Term, y: Term, z: Third) -> bool
-    requires { ⌜ LaysOut layout (now query) × (x .0 ≤ 16) × (y .0 ≤ 16) × (z .0 ≤ 16) ⌝ }
+fn fails(
+    query: &[u8],
+    layout: Layout,
+    s: Facts,
+    k: Link,
+    rule: Rule,
+    x: Term,
+    y: Term,
+    z: Third,
+) -> bool
+    requires { ⌜ LaysOut layout (now query) × HasLink (pathOf s) (k .0) × (x .0 ≤ 16) × (y .0 ≤ 16) × (z .0 ≤ 16) ⌝ }
 {
     let n = layout.terms;
     let total = branch::count(rule, z);
     for i in 0..total {
-        let path = taken(s, n, rule, x, y, z, i);
+        let path = taken(s, n, k, rule, x, y, z, i);
         if sinks(query, layout, path) {
             return true;
         }
@@ -116,13 +127,13 @@ fn fails(query: &[u8], layout: Layout, s: Facts, rule: Rule, x: Term, y: Term, z
 }
 
 // FUNC at x and its successor y, with the terms of a row.
-fn func_at(query: &[u8], layout: Layout, s: Facts, far: u32, x: Term, y: Term) -> Found
-    requires { ⌜ LaysOut layout (now query) × (x .0 ≤ 16) × (y .0 ≤ 16) ⌝ }
+fn func_at(query: &[u8], layout: Layout, s: Facts, k: Link, far: u32, x: Term, y: Term) -> Found
+    requires { ⌜ LaysOut layout (now query) × HasLink (pathOf s) (k .0) × (x .0 ≤ 16) × (y .0 ≤ 16) ⌝ }
     ensures { λ r. ⌜ FoundIn far r ⌝ }
 {
     for z in 0..17 {
         if facts::has(far, z) {
-            if fails(query, layout, s, Rule::Func, x, y, Third(z)) {
+            if fails(query, layout, s, k, Rule::Func, x, y, Third(z)) {
                 return Found::At(Term(z));
             }
         }
@@ -130,29 +141,36 @@ fn func_at(query: &[u8], layout: Layout, s: Facts, far: u32, x: Term, y: Term) -
     Found::Nothing
 }
 
-fn func(query: &[u8], layout: Layout, s: Facts, link: &[u32; 17], reach: &[u32; 17]) -> Choice
-    requires { ⌜ LaysOut layout (now query) ⌝ }
+fn func(
+    query: &[u8],
+    layout: Layout,
+    s: Facts,
+    k: Link,
+    link: &[u32; 17],
+    reach: &[u32; 17],
+) -> Proposal
+    requires { ⌜ LaysOut layout (now query) × HasLink (pathOf s) (k .0) ⌝ }
     ensures { λ r. ⌜ ((n : ℕ) → ProposesIn n (now (link .entry)) (now (reach .entry)) r) ⌝ }
 {
     for x in 0..17 {
         if let Found::At(y) = units::lowest(link[x]) {
             let far = units::missed(reach, x, y.0);
-            if let Found::At(z) = func_at(query, layout, s, far, Term(x), y) {
-                return Choice::Apply(Rule::Func, Term(x), y, Third(z.0));
+            if let Found::At(z) = func_at(query, layout, s, k, far, Term(x), y) {
+                return Proposal::At(Rule::Func, Term(x), y, Third(z.0));
             }
         }
     }
-    Choice::Nothing
+    Proposal::Nothing
 }
 
 // SCC at x and its first way out, with the terms of a row.
-fn scc_at(query: &[u8], layout: Layout, s: Facts, both: u32, x: Term, z: Term) -> Found
-    requires { ⌜ LaysOut layout (now query) × (x .0 ≤ 16) × (z .0 ≤ 16) ⌝ }
+fn scc_at(query: &[u8], layout: Layout, s: Facts, k: Link, both: u32, x: Term, z: Term) -> Found
+    requires { ⌜ LaysOut layout (now query) × HasLink (pathOf s) (k .0) × (x .0 ≤ 16) × (z .0 ≤ 16) ⌝ }
     ensures { λ r. ⌜ FoundIn both r ⌝ }
 {
     for y in 0..17 {
         if facts::has(both, y) {
-            if fails(query, layout, s, Rule::Scc, x, Term(y), Third(z.0)) {
+            if fails(query, layout, s, k, Rule::Scc, x, Term(y), Third(z.0)) {
                 return Found::At(Term(y));
             }
         }
@@ -160,19 +178,26 @@ fn scc_at(query: &[u8], layout: Layout, s: Facts, both: u32, x: Term, z: Term) -
     Found::Nothing
 }
 
-fn scc(query: &[u8], layout: Layout, s: Facts, reach: &[u32; 17], back: &[u32; 17]) -> Choice
-    requires { ⌜ LaysOut layout (now query) × Turned (now back) (now reach) ⌝ }
+fn scc(
+    query: &[u8],
+    layout: Layout,
+    s: Facts,
+    k: Link,
+    reach: &[u32; 17],
+    back: &[u32; 17],
+) -> Proposal
+    requires { ⌜ LaysOut layout (now query) × HasLink (pathOf s) (k .0) × Turned (now back) (now reach) ⌝ }
     ensures { λ r. ⌜ ((n : ℕ) (link : List ℕ) → ProposesIn n link (now (reach .entry)) r) ⌝ }
 {
     for x in 0..17 {
         let both = units::both_ways(reach, back, x);
         if let Found::At(z) = units::lowest(units::ahead(reach, back, x)) {
-            if let Found::At(y) = scc_at(query, layout, s, both, Term(x), z) {
-                return Choice::Apply(Rule::Scc, Term(x), y, Third(z.0));
+            if let Found::At(y) = scc_at(query, layout, s, k, both, Term(x), z) {
+                return Proposal::At(Rule::Scc, Term(x), y, Third(z.0));
             }
         }
     }
-    Choice::Nothing
+    Proposal::Nothing
 }
 
 // TOTAL of y with each later z, which some x reaches both.
@@ -180,11 +205,12 @@ fn total_at(
     query: &[u8],
     layout: Layout,
     s: Facts,
+    k: Link,
     reach: &[u32; 17],
     back: &[u32; 17],
     y: usize,
-) -> Choice
-    requires { ⌜ LaysOut layout (now query) × (y ≤ 16) × Turned (now back) (now reach) ⌝ }
+) -> Proposal
+    requires { ⌜ LaysOut layout (now query) × HasLink (pathOf s) (k .0) × (y ≤ 16) × Turned (now back) (now reach) ⌝ }
     ensures { λ r. ⌜ ((n : ℕ) (link : List ℕ) → ProposesIn n link (now (reach .entry)) r) ⌝ }
 {
     let from = back[y];
@@ -193,41 +219,71 @@ fn total_at(
         if y < z {
             if !facts::has(near, z) {
                 if let Found::At(x) = units::lowest(from & back[z]) {
-                    if fails(query, layout, s, Rule::Total, x, Term(y), Third(z)) {
-                        return Choice::Apply(Rule::Total, x, Term(y), Third(z));
+                    if fails(query, layout, s, k, Rule::Total, x, Term(y), Third(z)) {
+                        return Proposal::At(Rule::Total, x, Term(y), Third(z));
                     }
                 }
             }
         }
     }
-    Choice::Nothing
+    Proposal::Nothing
 }
 
-fn total(query: &[u8], layout: Layout, s: Facts, reach: &[u32; 17], back: &[u32; 17]) -> Choice
-    requires { ⌜ LaysOut layout (now query) × Turned (now back) (now reach) ⌝ }
+fn total(
+    query: &[u8],
+    layout: Layout,
+    s: Facts,
+    k: Link,
+    reach: &[u32; 17],
+    back: &[u32; 17],
+) -> Proposal
+    requires { ⌜ LaysOut layout (now query) × HasLink (pathOf s) (k .0) × Turned (now back) (now reach) ⌝ }
     ensures { λ r. ⌜ ((n : ℕ) (link : List ℕ) → ProposesIn n link (now (reach .entry)) r) ⌝ }
 {
     for y in 0..17 {
-        if let Choice::Apply(rule, a, b, c) = total_at(query, layout, s, reach, back, y) {
-            return Choice::Apply(rule, a, b, c);
+        if let Proposal::At(rule, a, b, c) = total_at(query, layout, s, k, reach, back, y) {
+            return Proposal::At(rule, a, b, c);
         }
     }
-    Choice::Nothing
+    Proposal::Nothing
 }
 
-// A place at a closed path with an alternative that soon clashes.
+// A place by link k, whose rows are lent, with an alternative that soon clashes.
+fn failing_at(
+    query: &[u8],
+    layout: Layout,
+    s: Facts,
+    k: Link,
+    link: &[u32; 17],
+    reach: &[u32; 17],
+) -> Proposal
+    requires { ⌜ LaysOut layout (now query) × HasLink (pathOf s) (k .0) ⌝ }
+    ensures { λ r. ⌜ ProposesIn (layout .terms) (now (link .entry)) (now (reach .entry)) r ⌝ }
+{
+    let back = facts::turned(reach);
+    if let Proposal::At(rule, x, y, z) = func(query, layout, s, k, link, reach) {
+        return Proposal::At(rule, x, y, z);
+    }
+    if let Proposal::At(rule, x, y, z) = scc(query, layout, s, k, reach, &back) {
+        return Proposal::At(rule, x, y, z);
+    }
+    total(query, layout, s, k, reach, &back)
+}
+
+// A place at a closed path with an alternative that soon clashes, by the first link that has one.
 pub fn failing(query: &[u8], layout: Layout, s: Facts) -> Choice
     requires { ⌜ LaysOut layout (now query) ⌝ }
     ensures { λ r. ⌜ Proposes (layout .terms) (pathOf s) r ⌝ }
 {
-    let link = s.link;
-    let reach = s.reach;
-    let back = facts::turned(&reach);
-    if let Choice::Apply(rule, x, y, z) = func(query, layout, s, &link, &reach) {
-        return Choice::Apply(rule, x, y, z);
+    let total = facts::links(s);
+    let mut k: usize = 1;
+    while k <= total {
+        let link = facts::link_rows(s, Link(k));
+        let reach = facts::reach_rows(s, Link(k));
+        if let Proposal::At(rule, x, y, z) = failing_at(query, layout, s, Link(k), &link, &reach) {
+            return Choice::Apply(Link(k), rule, x, y, z);
+        }
+        k += 1;
     }
-    if let Choice::Apply(rule, x, y, z) = scc(query, layout, s, &reach, &back) {
-        return Choice::Apply(rule, x, y, z);
-    }
-    total(query, layout, s, &reach, &back)
+    Choice::Nothing
 }

@@ -1,5 +1,5 @@
 -- What the calls do, by the outcome of their checks.
-use Prim.Native.Nat.{ℕ, _≤_, _<_}
+use Prim.Native.Nat.{ℕ, _+_, _*_, _≤_, _<_}
 use native.Mathlib.Nat.{le-trans}
 use native.Mathlib.Omega.{arith}
 use mathlib.Core.Path.{_≡_, refl, sym, ap, _∙_, subst}
@@ -13,20 +13,23 @@ use Rattle.logic.specs.Walk.{ourWalk, saturation}
 use Rattle.logic.specs.Shown.{report}
 use Rattle.logic.specs.Calls.{Input, orderCheck, queryChecks, verdictChecks, derivationChecks, refused, refusalOf, accepts, padded, blank, call, verdictOf, verdictCall, derivationOf, derivationCall, derivationCallOf, derivationChecksOf, verdictCallOf, verdictChecksOf}
 use Rattle.logic.specs.Calls as calls
-use Rattle.logic.proofs.Calls.CallLaws.{padded-length}
-use Rattle.logic.proofs.Query.AcceptedBytes.{accepted, decode-links}
-use Rattle.logic.proofs.Completeness.ShownHeap as fits
+use Rattle.theory.proofs.Calls.CallLaws.{padded-length}
+use Rattle.theory.proofs.Query.AcceptedBytes.{accepted, decode-links}
+use Rattle.theory.proofs.Query.Tied.{Tied}
+use Rattle.theory.proofs.Paths.Ranged.{live-range}
+use Rattle.theory.proofs.Completeness.ShownHeap as fits
 use Rattle.facts.specs.Path.{repOf, pathOf}
 use Rattle.facts.specs.declared.Facts as code
 use Rattle.query.specs.LaysOut.{LaysOut}
 use Rattle.query.specs.Answers.{CheckedAs}
 use Rattle.query.specs.declared.Layout.{Layout}
 use Rattle.query.specs.declared.Checked.the-variants as checked
+use Rattle.report.specs.Bytes.{Reportable}
 use Rattle.prover.specs.Promise.{meaning, inputOf, Does}
 use Rattle.prover.specs.declared.Answer.{Answer}
 use Rattle.prover.specs.declared.Answer.the-variants as answer
 use Rattle.prover.proofs.Checks.{order-refused, query-refused, room-refused, verdict-clear, derivation-refused, derivation-clear, call-refused, call-walked}
-use Rattle.prover.proofs.Outcomes.{does-blank, saturated-stands}
+use Rattle.prover.proofs.Outcomes.{does-blank, saturated-tied}
 
 -- zeros are zeros again
 pub blank-again : (bytes : List ℕ) (n : ℕ) → bytes ≡ replicate n 0 → bytes ≡ replicate (length bytes) 0
@@ -44,10 +47,20 @@ report-fits bytes room s ok l =
     padded-length room (report (decode bytes) s) (le-trans (fits.report-fits (decode bytes) s (accepted bytes ok) (decode-links bytes)) l)
 
 -- what a report is written of
-pub stands-at : (bytes order : List ℕ) (l : Layout) (s : code.Facts) → LaysOut l bytes → accepts bytes ≡ true → ourWalk order (decode bytes) ≡ saturation (pathOf s) → (t : ℕ) → 1 ≤ t → t ≤ l .terms → repOf (s .rep) t ≤ 16
-unfolding pathOf
-stands-at bytes order l s laid ok h t lo hi =
-    saturated-stands bytes order (pathOf s) ok h t lo (subst (λ (n : ℕ). t ≤ n) (laid .term-count) hi)
+module _ (bytes : List ℕ) (l : Layout) (s : code.Facts) (laid : LaysOut l bytes) (ok : accepts bytes ≡ true) where
+  stands-at : Tied (decode bytes) (pathOf s) → (t : ℕ) → 1 ≤ t → t ≤ l .terms → repOf (s .rep) t ≤ 16
+  unfolding pathOf
+  stands-at tied t lo hi =
+      let r = live-range (termCount (decode bytes)) (pathOf s) (pathOf s .rep t) (tied .rep-live t (lo, subst (λ (n : ℕ). t ≤ n) (laid .term-count) hi)) in
+      omega (arith, r, accepted bytes ok .term-count)
+
+  pub reportable : (order : List ℕ) → ourWalk order (decode bytes) ≡ saturation (pathOf s) → Reportable l bytes s
+  reportable order h =
+      let tied = saturated-tied bytes order (pathOf s) ok h in
+      record { laid = laid; passes = ok; stands = stands-at tied; linked = tied .same-links }
+
+  pub report-room : (room : ℕ) → Reportable l bytes s → 53 ≤ room → 37 + 16 * (pathOf s .links) ≤ room
+  report-room room ready h = omega (arith, ready .linked, laid .links-are)
 
 module _ (order query before bytes : List ℕ) where
   abbrev i : Input

@@ -10,7 +10,7 @@ use Rattle.logic.specs.Walk.{Ending, refutation, saturation, after, walkBranch,
 use Rattle.logic.specs.Steps.{Steps, at-first, AtMost}
 use Rattle.logic.specs.Calls.{accepts}
 use Rattle.logic.specs.Decision.{Reachable}
-use Rattle.logic.proofs.Calls.Decision.{paths-decided}
+use Rattle.theory.proofs.Calls.Decision.{paths-decided}
 use Rattle.facts.specs.Path.{pathOf}
 use Rattle.start.specs.Taken.{started}
 use Rattle.decide.specs.Tells.{isRefuted, Walks}
@@ -19,7 +19,7 @@ use Rattle.decide.specs.declared.Kind.{Kind}
 use Rattle.decide.specs.declared.Kind.the-variants as kind
 use Rattle.decide.proofs.Tells.{refuted-is}
 use Rattle.prover.specs.Promise.{Settles}
-use Rattle.logic.proofs.Query.AcceptedBytes.{decode-links}
+use Rattle.theory.proofs.Query.AcceptedBytes.{decode-links}
 use Rattle.prover.proofs.Outcomes.{our-walk}
 
 -- the walk begins at a path that it can reach

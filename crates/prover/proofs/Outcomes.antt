@@ -21,12 +21,12 @@ use Rattle.start.specs.Taken.{started}
 use Rattle.walk.specs.Lines.{countAll, putAll}
 use Rattle.walk.proofs.Lines.{countAll-small, countAll-large}
 use Rattle.walk.proofs.Padded.{derivation-written}
-use Rattle.logic.proofs.Basics.Compare.{le-cases}
-use Rattle.logic.proofs.Query.AcceptedBytes.{accepted, decode-links}
-use Rattle.logic.proofs.Calls.OneLink.{limit-one}
-use Rattle.logic.proofs.Paths.Ranged.{live-range}
-use Rattle.logic.proofs.Paths.Invariant.{Invariant, start-invariant, branch-invariant}
-use Rattle.logic.proofs.Walks.Limit.{start-atMost, our-saturation}
+use Rattle.theory.proofs.Basics.Compare.{le-cases}
+use Rattle.theory.proofs.Query.AcceptedBytes.{accepted, decode-links}
+use Rattle.theory.proofs.Calls.OneLink.{limit-one}
+use Rattle.theory.proofs.Query.Tied.{Tied}
+use Rattle.theory.proofs.Paths.Invariant.{Invariant, start-invariant, branch-invariant}
+use Rattle.theory.proofs.Walks.Limit.{start-atMost, our-saturation}
 use Rattle.prover.specs.Promise.{meaning, Does}
 use Rattle.prover.specs.declared.Answer.{Answer}
 use Rattle.prover.specs.declared.Answer.the-variants as answer
@@ -124,11 +124,9 @@ module _ (room : ℕ) (w : Ending) where
         leaves = f ∙ ap (λ (j : ℕ). set (set (putAll (replicate room 0) 0 ls) 0 (j / 256)) 1 (j % 256)) n ∙ derivation-written room ls k g;
       })
 
--- the terms of a path that our walk finds saturated stand for terms of the query
-pub saturated-stands : (bytes order : List ℕ) (s : Facts) → accepts bytes ≡ true → ourWalk order (decode bytes) ≡ saturation s → (t : ℕ) → 1 ≤ t → t ≤ termCount (decode bytes) → s .rep t ≤ 16
-saturated-stands bytes order s ok h t lo hi =
+-- a path that our walk finds saturated is tied to the query: it has its links, and its terms stand for terms of the query
+pub saturated-tied : (bytes order : List ℕ) (s : Facts) → accepts bytes ≡ true → ourWalk order (decode bytes) ≡ saturation s → Tied (decode bytes) s
+saturated-tied bytes order s ok h =
     let q : Query = decode bytes in
     let acc = accepted bytes ok in
-    let i = our-saturation q acc (Invariant q) (λ s s′ m i c a k. branch-invariant q s m i a s′ k) order s (start-invariant q acc) h .0 in
-    let r = live-range (termCount q) s (s .rep t) (i .tied .rep-live t (lo, hi)) in
-    omega (arith, acc .term-count)
+    our-saturation q acc (Invariant q) (λ s s′ m i c a k. branch-invariant q s m i a s′ k) order s (start-invariant q acc) h .0 .tied

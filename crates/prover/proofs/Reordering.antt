@@ -8,7 +8,7 @@ use lib.ListN.{length}
 use Rattle.logic.specs.Query.{decode}
 use Rattle.logic.specs.Calls.{Input, Outcome, accepts, verdictCall}
 use Rattle.logic.specs.Reordering.{Reordered}
-use Rattle.logic.proofs.Calls.Reordering.{joins-agree}
+use Rattle.theory.proofs.Calls.Reordering.{joins-agree}
 use Rattle.prover.specs.Promise.{inputOf, Does}
 use Rattle.prover.specs.declared.Answer.{Answer}
 use Rattle.prover.proofs.Demands.{meaning-one}

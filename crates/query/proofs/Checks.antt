@@ -11,11 +11,16 @@ use lib.Seq.{drop-length, length-take-le}
 use Rattle.logic.specs.Search.{from, keep, orElse, firstOf}
 use Rattle.logic.specs.Query.{oneLink, termCount, Form, fourSections, booleanSection, fiveSections, faulty, parts, layout, firstByte, layoutBy, faultIn, layoutFault, byteFault, literals, section, queryOf}
 use Rattle.logic.specs.Calls.{Input, Answer, refused, layoutCheck, byteCheck, formChecks, refusalOf}
-use Rattle.logic.proofs.Query.Bytes.{layoutNumbers, LayoutNumber, Excesses, Numbered, layout-numbered}
-use Rattle.logic.proofs.Query.AcceptedBytes.{five-excesses}
+use Rattle.theory.proofs.Query.Bytes.{layoutNumbers, LayoutNumber, Excesses, Numbered, layout-numbered}
+use Rattle.theory.proofs.Query.AcceptedBytes.{five-excesses}
+use Rattle.entries.specs.Entries.{widthOf}
 use Rattle.query.specs.declared.Layout.{Layout}
 use Rattle.query.specs.declared.FullLayout.{FullLayout}
-use Rattle.query.specs.Sections.{Sections}
+use Rattle.query.specs.declared.FullChecked.{FullChecked}
+use Rattle.query.specs.declared.FullChecked.the-variants as full
+use Rattle.query.specs.Forms.{entryKind, reachKind, formBy}
+use Rattle.query.specs.Sections.{Stands, Sections}
+use Rattle.query.specs.Answers.{ByteAnswer, FullCheckedAs}
 use Rattle.query.specs.LaysOut.{LaysOutAs, FullLaysOut}
 use Rattle.query.proofs.Reading.{with-limit, pass-parts}
 
@@ -73,10 +78,15 @@ module _ (form : Form) (bytes : List ℕ) where
   unfolding refusalOf formChecks layoutCheck byteCheck layoutFault faultIn firstOf orElse Option·elim byteAnswer from
   byte-checks ps e i q = rw (q, e)
 
+-- with one link the five sections are those of 01
+pub one-form : (most excess : ℕ) → fiveSections most excess ≡ formBy 1 most excess
+unfolding fiveSections fourSections booleanSection formBy entryKind reachKind
+one-form most excess = refl
+
 -- a refusal of the walk from the front over the five sections
-pub five-refused : (bytes : List ℕ) (most excess k place : ℕ) → layoutBy (fiveSections most excess) bytes ≡ faulty k place → List·Memᴰ excess (2 ∷ 3 ∷ 26 ∷ 4 ∷ []) → (i : Input) → i .query ≡ bytes → refusalOf (formChecks (fiveSections most excess)) i ≡ some (refused k place)
+pub five-refused : (bytes : List ℕ) (most excess k place : ℕ) → layoutBy (formBy 1 most excess) bytes ≡ faulty k place → List·Memᴰ excess (2 ∷ 3 ∷ 26 ∷ 4 ∷ []) → (i : Input) → i .query ≡ bytes → refusalOf (formChecks (fiveSections most excess)) i ≡ some (refused k place)
 unfolding layoutNumbers
-five-refused bytes most excess k place e m = layout-refused (fiveSections most excess) bytes k place (five-excesses most excess m (firstByte bytes)) e
+five-refused bytes most excess k place e m = layout-refused (fiveSections most excess) bytes k place (five-excesses most excess m (firstByte bytes)) (rw one-form e)
 
 -- The sections
 
@@ -88,17 +98,17 @@ module _ (full : FullLayout) (bytes : List ℕ) (s : Sections full bytes) (most 
   abbrev l : Layout
   l = full .layout
 
-  abbrev sectionParts : List (List ℕ)
+  abbrev pub sectionParts : List (List ℕ)
   sectionParts =
-      take (l .terms * 1) (drop 1 bytes)
+      take (l .terms * widthOf (entryKind (l .links))) (drop 1 bytes)
       ∷ take (l .«equal_count» * 3) (drop (s .second + 1) bytes)
-      ∷ take (l .«reach_count» * 3) (drop (s .third + 1) bytes)
+      ∷ take (l .«reach_count» * widthOf (reachKind (l .links))) (drop (s .third + 1) bytes)
       ∷ take (l .«field_count» * 3) (drop (s .fourth + 1) bytes)
       ∷ take (full .«boolean_count» * 2) (drop (s .fifth + 1) bytes)
       ∷ []
 
-  pub laid-out : layoutBy (fiveSections most excess) bytes ≡ parts sectionParts
-  unfolding layoutBy fiveSections fourSections booleanSection
+  pub laid-out : layoutBy (formBy (l .links) most excess) bytes ≡ parts sectionParts
+  unfolding layoutBy formBy
   laid-out =
       pass-parts _ _ bytes 0 (l .terms) (s .second) (s .terms) _
       (pass-parts _ _ bytes (s .second) (l .«equal_count») (s .third) (s .equalities) _
@@ -106,41 +116,71 @@ module _ (full : FullLayout) (bytes : List ℕ) (s : Sections full bytes) (most 
       (pass-parts _ _ bytes (s .fourth) (l .«field_count») (s .fifth) (s .fields) _
       (pass-parts _ [] bytes (s .fifth) (full .«boolean_count») (length bytes) (with-limit most (s .booleans) few) [] (nothing-left bytes)))))
 
-  sized : length (take (l .terms * 1) (drop 1 bytes)) ≡ l .terms
-  sized = let t = s .terms in length-take-le (l .terms * 1) (drop 1 bytes) (rw length-drop (omega (arith, t .fits, t .next-is))) ∙ mul-one (l .terms)
-
   -- the bytes of a section at its place
-  part-is : (count width at place : ℕ) → place ≡ at + 1 → take (count * width) (drop (at + 1) bytes) ≡ take (width * count) (drop place bytes)
+  pub part-is : (count width at place : ℕ) → place ≡ at + 1 → take (count * width) (drop (at + 1) bytes) ≡ take (width * count) (drop place bytes)
   part-is count width at place e = rw (e, mul-comm count width)
 
-  four-lays-out : LaysOutAs (queryOf (layoutBy (fiveSections most excess) bytes)) l bytes
-  unfolding queryOf section termCount
-  four-lays-out =
-      record {
-        term-count = rw laid-out (sym sized);
-        terms-within = s .terms .within;
-        entries-fit = let t = s .terms in omega (arith, t .fits, t .next-is);
-        links-are = rw laid-out refl;
-        entries-are = rw laid-out (ap (λ (m : ℕ). oneLink (take m (drop 1 bytes))) (mul-one (l .terms)));
-        equal-within = s .equalities .within;
-        equal-fit = let t = s .equalities in omega (arith, t .fits, t .next-is, s .equal-at);
-        equal-are = rw laid-out (ap literals (part-is (l .«equal_count») 3 (s .second) (l .«equal_at») (s .equal-at)));
-        reach-within = s .reachability .within;
-        reach-fit = let t = s .reachability in omega (arith, t .fits, t .next-is, s .reach-at);
-        reach-are = rw laid-out (ap literals (part-is (l .«reach_count») 3 (s .third) (l .«reach_at») (s .reach-at)));
-        field-within = s .fields .within;
-        field-fit = let t = s .fields in omega (arith, t .fits, t .next-is, s .field-at);
-        field-are = rw laid-out (ap literals (part-is (l .«field_count») 3 (s .fourth) (l .«field_at») (s .field-at)));
-      }
+  -- a query in the form of 01
+  module _ (one : l .links ≡ 1) where
+    terms-stand : Stands bytes 16 1 0 (l .terms) (s .second)
+    unfolding entryKind
+    terms-stand = rw one at (s .terms)
 
-  pub lays-out : FullLaysOut full bytes most excess
-  unfolding section
-  lays-out =
-      record {
-        four = four-lays-out;
-        boolean-within = few;
-        boolean-fit = let t = s .booleans in omega (arith, t .fits, t .next-is, s .boolean-at);
-        ps = sectionParts;
-        laid = laid-out;
-        boolean-are = part-is (full .«boolean_count») 2 (s .fifth) (full .«boolean_at») (s .boolean-at);
-      }
+    reach-stands : Stands bytes 60 3 (s .third) (l .«reach_count») (s .fourth)
+    unfolding reachKind
+    reach-stands = rw one at (s .reachability)
+
+    abbrev oneParts : List (List ℕ)
+    oneParts =
+        take (l .terms * 1) (drop 1 bytes)
+        ∷ take (l .«equal_count» * 3) (drop (s .second + 1) bytes)
+        ∷ take (l .«reach_count» * 3) (drop (s .third + 1) bytes)
+        ∷ take (l .«field_count» * 3) (drop (s .fourth + 1) bytes)
+        ∷ take (full .«boolean_count» * 2) (drop (s .fifth + 1) bytes)
+        ∷ []
+
+    one-laid : layoutBy (fiveSections most excess) bytes ≡ parts oneParts
+    unfolding fiveSections fourSections booleanSection formBy entryKind reachKind
+    one-laid = rw one at laid-out
+
+    sized : length (take (l .terms * 1) (drop 1 bytes)) ≡ l .terms
+    sized = let t = terms-stand in length-take-le (l .terms * 1) (drop 1 bytes) (rw length-drop (omega (arith, t .fits, t .next-is))) ∙ mul-one (l .terms)
+
+    four-lays-out : LaysOutAs (queryOf (layoutBy (fiveSections most excess) bytes)) l bytes
+    unfolding queryOf section termCount
+    four-lays-out =
+        record {
+          term-count = rw one-laid (sym sized);
+          terms-within = s .terms .within;
+          entries-fit = let t = terms-stand in omega (arith, t .fits, t .next-is);
+          one-link = one;
+          links-are = rw one-laid refl;
+          entries-are = rw one-laid (ap (λ (m : ℕ). oneLink (take m (drop 1 bytes))) (mul-one (l .terms)));
+          equal-within = s .equalities .within;
+          equal-fit = let t = s .equalities in omega (arith, t .fits, t .next-is, s .equal-at);
+          equal-are = rw one-laid (ap literals (part-is (l .«equal_count») 3 (s .second) (l .«equal_at») (s .equal-at)));
+          reach-within = s .reachability .within;
+          reach-fit = let t = reach-stands in omega (arith, t .fits, t .next-is, s .reach-at);
+          reach-are = rw one-laid (ap literals (part-is (l .«reach_count») 3 (s .third) (l .«reach_at») (s .reach-at)));
+          field-within = s .fields .within;
+          field-fit = let t = s .fields in omega (arith, t .fits, t .next-is, s .field-at);
+          field-are = rw one-laid (ap literals (part-is (l .«field_count») 3 (s .fourth) (l .«field_at») (s .field-at)));
+        }
+
+    pub lays-out : FullLaysOut full bytes most excess
+    unfolding section
+    lays-out =
+        record {
+          four = four-lays-out;
+          boolean-within = few;
+          boolean-fit = let t = s .booleans in omega (arith, t .fits, t .next-is, s .boolean-at);
+          ps = oneParts;
+          laid = one-laid;
+          boolean-are = part-is (full .«boolean_count») 2 (s .fifth) (full .«boolean_at») (s .boolean-at);
+        }
+
+-- what the search of the bytes answers, of a query in the form of 01
+pub five-checked : (r : FullChecked) (l : FullLayout) (bytes : List ℕ) (most excess : ℕ) → Sections l bytes → l .«boolean_count» ≤ most → l .layout .links ≡ 1 → ByteAnswer r l (formBy (l .layout .links) most excess) bytes → FullCheckedAs r bytes most excess
+five-checked (full.Refused k place) l bytes most excess s few one h = λ m. rw (one-form, ← one) h
+five-checked (full.Accepted l′) l bytes most excess s few one h =
+    (rw (one-form, ← one) (h .0), subst (λ (m : FullLayout). FullLaysOut m bytes most excess) (sym (h .1)) (lays-out l bytes s most excess few one))

@@ -1,43 +1,36 @@
 -- The search for a byte that meets refusal k, section by section.
 use Prim.Native.Nat.{ℕ, zero, suc, _+_, _*_}
 use native.Mathlib.Nat.{suc-mul, zero-mul}
-use native.Mathlib.Numerals.{add-one}
 use native.Mathlib.Omega.{arith}
 use mathlib.Core.Path.{_≡_, refl, sym, ap, _∙_}
-use mathlib.Core.Bool.{Bool, true, false}
 use mathlib.Core.List.{List, [], _∷_, _++_}
 use mathlib.Core.Option.{Option}
 use lib.ListN.{length, drop, length-append}
 use lib.Seq.{drop-drop}
-use Rattle.logic.specs.Search.{_and_, from, keep, orElse, flatMap}
-use Rattle.logic.specs.Query.{Section, countRole, fourSections, booleanSection, fiveSections, rolesOf, firstByte, roleFault, byteFault}
+use Rattle.logic.specs.Search.{from, orElse, flatMap}
+use Rattle.logic.specs.Query.{Role, Section, countRole, rolesOf, firstByte, roleFault, byteFault}
 use Rattle.entries.specs.declared.Kind.{Kind}
 use Rattle.entries.specs.declared.Kind.the-variants as kind
 use Rattle.entries.specs.Entries.{widthOf, rolesAt, sectionFault}
 use Rattle.entries.proofs.Loops.{drop-next}
-use Rattle.entries.proofs.Faults.{orElse-last, append-at, roles-regular}
+use Rattle.entries.proofs.Faults.{orElse-last, free-first, append-at, roles-regular}
 use Rattle.query.specs.declared.FullLayout.{FullLayout}
+use Rattle.query.specs.Forms.{entryKind, reachKind, sectionOf, formBy}
 use Rattle.query.specs.Sections.{Stands, Sections}
-
-and-never : (a : Bool) → a and false ≡ false
-unfolding _and_
-and-never true = refl
-and-never false = refl
 
 section-length : (kind : Kind) (n count i : ℕ) → length (flatMap (rolesAt kind n) (from count i)) ≡ count * widthOf kind
 unfolding flatMap from
 section-length kind n zero i = sym (zero-mul (widthOf kind))
 section-length kind n (suc count) i = rw (length-append, suc-mul) (omega (arith, roles-regular kind n i, section-length kind n count (suc i)))
 
--- a section, by its kind
-abbrev sectionOf : Kind → ℕ → ℕ → ℕ → Section
-sectionOf kind n limit excess = record { limit = limit; excess = excess; width = widthOf kind; roles = rolesAt kind n }
-
 module _ (k : ℕ) (kind : Kind) (n limit excess : ℕ) (ss : List Section) (bytes : List ℕ) (at place count next : ℕ) {within : ℕ} (stands : Stands bytes within (widthOf kind) at count next) where
   -- the count is held to nothing
   behind-count : roleFault k at (rolesOf (sectionOf kind n limit excess ∷ ss) (drop at bytes)) (drop at bytes) ≡ roleFault k (at + 1) (flatMap (rolesAt kind n) (from count 1) ++ rolesOf ss (drop next bytes)) (drop (at + 1) bytes)
-  unfolding rolesOf roleFault countRole keep orElse
-  behind-count = rw (drop-next bytes at (stands .counted), and-never, stands .count-is, drop-drop, stands .next-is, add-one)
+  unfolding rolesOf
+  behind-count = ap (λ (rs : List Role). roleFault k at rs (drop at bytes)) roles-here ∙ free-first k bytes _ at (stands .counted)
+    where
+      roles-here : rolesOf (sectionOf kind n limit excess ∷ ss) (drop at bytes) ≡ countRole ∷ (flatMap (rolesAt kind n) (from count 1) ++ rolesOf ss (drop next bytes))
+      roles-here = rw (drop-next bytes at (stands .counted), stands .count-is, drop-drop, stands .next-is)
 
   pub section-first : place ≡ at + 1 → roleFault k at (rolesOf (sectionOf kind n limit excess ∷ ss) (drop at bytes)) (drop at bytes) ≡ orElse (sectionFault k kind n place count bytes) (roleFault k next (rolesOf ss (drop next bytes)) (drop next bytes))
   unfolding sectionFault
@@ -60,24 +53,27 @@ module _ (k : ℕ) (full : FullLayout) (bytes : List ℕ) where
   from₄ = orElse (sectionFault k kind.Fields (full .layout .terms) (full .layout .«field_at») (full .layout .«field_count») bytes) from₅
 
   abbrev pub from₃ : Option ℕ
-  from₃ = orElse (sectionFault k kind.Pairs (full .layout .terms) (full .layout .«reach_at») (full .layout .«reach_count») bytes) from₄
+  from₃ = orElse (sectionFault k (reachKind (full .layout .links)) (full .layout .terms) (full .layout .«reach_at») (full .layout .«reach_count») bytes) from₄
 
   abbrev pub from₂ : Option ℕ
   from₂ = orElse (sectionFault k kind.Pairs (full .layout .terms) (full .layout .«equal_at») (full .layout .«equal_count») bytes) from₃
 
   abbrev pub from₁ : Option ℕ
-  from₁ = orElse (sectionFault k kind.Terms (full .layout .terms) 1 (full .layout .terms) bytes) from₂
+  from₁ = orElse (sectionFault k (entryKind (full .layout .links)) (full .layout .terms) 1 (full .layout .terms) bytes) from₂
 
-  pub byte-faults : Sections full bytes → (most excess : ℕ) → byteFault (fiveSections most excess) k bytes ≡ from₁
-  unfolding byteFault fiveSections fourSections booleanSection firstByte
+  pub byte-faults : Sections full bytes → (most excess : ℕ) → byteFault (formBy (full .layout .links) most excess) k bytes ≡ from₁
+  unfolding byteFault formBy firstByte
   byte-faults s most excess =
-      ap (λ (n : ℕ). roleFault k 0 (rolesOf (fiveSections most excess n) bytes) bytes) (s .terms .count-is)
-      ∙ section-first k kind.Terms n 16 3 _ bytes 0 1 n (s .second) (s .terms) refl
+      ap (λ (n : ℕ). roleFault k 0 (rolesOf (formBy links most excess n) bytes) bytes) (s .terms .count-is)
+      ∙ section-first k (entryKind links) n 16 3 _ bytes 0 1 n (s .second) (s .terms) refl
       ∙ ap (orElse _) (section-first k kind.Pairs n 60 3 _ bytes (s .second) _ _ (s .third) (s .equalities) (s .equal-at)
-      ∙ ap (orElse _) (section-first k kind.Pairs n 60 3 _ bytes (s .third) _ _ (s .fourth) (s .reachability) (s .reach-at)
+      ∙ ap (orElse _) (section-first k (reachKind links) n 60 3 _ bytes (s .third) _ _ (s .fourth) (s .reachability) (s .reach-at)
       ∙ ap (orElse _) (section-first k kind.Fields n 60 3 _ bytes (s .fourth) _ _ (s .fifth) (s .fields) (s .field-at)
       ∙ ap (orElse _) (section-first k kind.Booleans n most excess [] bytes (s .fifth) _ _ (length bytes) (s .booleans) (s .boolean-at)
       ∙ behind-last k _ _ _))))
     where
       n : ℕ
       n = full .layout .terms
+
+      links : ℕ
+      links = full .layout .links

@@ -1,6 +1,6 @@
 -- The literals of a section as a list of what is read in place: f 0, f 1, and so on. A loop over i meets f i and what is left.
 use Prim.Native.Nat.{ℕ, zero, suc, _+_, _-_, _*_, _≤_, _<_}
-use native.Mathlib.Nat.{zero-add, add-zero, add-assoc, sub-zero, sub-eq-zero-of-le}
+use native.Mathlib.Nat.{zero-add, add-zero, mul-zero, mul-suc, sub-zero, sub-eq-zero-of-le}
 use native.Mathlib.Numerals.{add-one, one-add}
 use native.Mathlib.Omega.{arith}
 use mathlib.Core.Path.{_≡_, refl, sym, ap, _∙_}
@@ -10,11 +10,11 @@ use mathlib.Core.Option.{some}
 use lib.ListN.{length, getD, take, drop}
 use lib.Seq.{getD-drop, getD-take}
 use Rattle.logic.specs.Search.{_or_, from, any, at}
-use Rattle.logic.specs.Query.{Entries, Literal, Query, entryOf, literals}
-use Rattle.logic.proofs.Basics.Search.{from-intro, map-intro}
+use Rattle.logic.specs.Query.{Entries, Query, entryOf, literals}
+use Rattle.theory.proofs.Basics.Search.{from-intro, map-intro}
 use Rattle.query.specs.declared.Layout.{Layout}
 use Rattle.query.specs.LaysOut.{LaysOutAs, literalIn}
-use Rattle.entries.proofs.Loops.{drop-next}
+use Rattle.entries.proofs.Loops.{drop-three}
 use Rattle.facts.proofs.Loops.{from-end, from-next}
 
 -- Lists that are read by their places
@@ -95,36 +95,37 @@ module _ {A : Type 0} (f : ℕ → A) (p : A → Bool) (count i : ℕ) where
 
 -- Sections
 
-module _ (bytes : List ℕ) (place : ℕ) where
-  drop-two : place + 2 ≤ length bytes → drop place bytes ≡ getD bytes place 0 ∷ getD bytes (place + 1) 0 ∷ drop (place + 2) bytes
-  drop-two h = drop-next bytes place (omega arith) ∙ ap (λ (xs : List ℕ). getD bytes place 0 ∷ xs) (drop-next bytes (place + 1) (omega arith) ∙ rw add-assoc)
-
-  drop-three : place + 3 ≤ length bytes → drop place bytes ≡ getD bytes place 0 ∷ getD bytes (place + 1) 0 ∷ getD bytes (place + 2) 0 ∷ drop (place + 3) bytes
-  drop-three h =
-      drop-two (omega arith)
-      ∙ ap (λ (xs : List ℕ). getD bytes place 0 ∷ getD bytes (place + 1) 0 ∷ xs) (drop-next bytes (place + 2) (omega arith) ∙ rw add-assoc)
-
-module _ (bytes : List ℕ) (at : ℕ) where
-  literals-from : (count j : ℕ) → at + 3 * j + 3 * count ≤ length bytes → literals (take (3 * count) (drop (at + 3 * j) bytes)) ≡ map (literalIn bytes at) (from count j)
-  unfolding literals from
-  literals-from zero j h = refl
-  literals-from (suc count) j h =
-      rw (size, drop-three bytes (at + 3 * j) (omega arith), place)
-      (ap (λ (ls : List Literal). literalIn bytes at j ∷ ls) (literals-from count (suc j) (omega arith)))
+-- Bytes at `at` in entries of w bytes, of which g makes a list: it makes f j of entry j.
+module _ {A : Type 0} (w : ℕ) (g : List ℕ → List A) (f : ℕ → A) (bytes : List ℕ) (at : ℕ) (nothing : g [] ≡ []) (entry : (j m : ℕ) → at + w * j + w ≤ length bytes → g (take (w + m) (drop (at + w * j) bytes)) ≡ f j ∷ g (take m (drop (at + w * j + w) bytes))) where
+  split-from : (count j : ℕ) → at + w * j + w * count ≤ length bytes → g (take (w * count) (drop (at + w * j) bytes)) ≡ map f (from count j)
+  unfolding from
+  split-from zero j h = rw mul-zero nothing
+  split-from (suc count) j h =
+      rw size (entry j (w * count) (omega arith) ∙ ap (λ (ls : List A). f j ∷ ls) (rw place (split-from count (suc j) (omega (arith, place, size)))))
     where
-      size : 3 * suc count ≡ suc (suc (suc (3 * count)))
-      size = omega arith
+      size : w * suc count ≡ w + w * count
+      size = omega (arith, mul-suc w count)
 
-      place : at + 3 * j + 3 ≡ at + 3 * suc j
-      place = omega arith
+      place : at + w * j + w ≡ at + w * suc j
+      place = omega (arith, mul-suc w j)
 
-  module _ (count : ℕ) where
-    pub literals-are : at + 3 * count ≤ length bytes → literals (take (3 * count) (drop at bytes)) ≡ listed (literalIn bytes at) count 0
-    unfolding listed
-    literals-are h =
-        ap (λ (m : ℕ). literals (take (3 * count) (drop m bytes))) (sym (add-zero at))
-        ∙ literals-from count 0 (rw add-zero h)
-        ∙ ap (λ (m : ℕ). map (literalIn bytes at) (from m 0)) (sym (sub-zero count))
+  pub split-are : (count : ℕ) → at + w * count ≤ length bytes → g (take (w * count) (drop at bytes)) ≡ listed f count 0
+  unfolding listed
+  split-are count h =
+      ap (λ (m : ℕ). g (take (w * count) (drop m bytes))) (sym front)
+      ∙ split-from count 0 (rw front h)
+      ∙ ap (λ (m : ℕ). map f (from m 0)) (sym (sub-zero count))
+    where
+      front : at + w * 0 ≡ at
+      front = rw mul-zero (add-zero at)
+
+module _ (bytes : List ℕ) (at count : ℕ) where
+  pub literals-are : at + 3 * count ≤ length bytes → literals (take (3 * count) (drop at bytes)) ≡ listed (literalIn bytes at) count 0
+  unfolding literals
+  literals-are = split-are 3 literals (literalIn bytes at) bytes at refl (λ j m h. rw (drop-three bytes (at + 3 * j) h, one-more m)) count
+    where
+      one-more : (m : ℕ) → 3 + m ≡ suc (suc (suc m))
+      one-more m = omega arith
 
 -- What the query says, read in place
 

@@ -7,6 +7,9 @@ use lib.ListN.{length, getD, take, drop, length-drop}
 use lib.Seq.{drop-length, drop-drop}
 use borrow.Author.Tests.{le-leb, lt-leb}
 use Rattle.logic.specs.Query.{Section, Form, faulty, parts, withPart, layout, firstByte, layoutBy}
+use Rattle.entries.specs.declared.Kind.{Kind}
+use Rattle.entries.specs.declared.Kind.the-variants as kind
+use Rattle.entries.specs.Entries.{widthOf}
 use Rattle.query.specs.declared.Part.{Part}
 use Rattle.query.specs.declared.Read.{Read}
 use Rattle.query.specs.declared.Read.the-variants as read
@@ -53,6 +56,15 @@ module _ (s : Section) (ss : List Section) (bytes : List ℕ) (at : ℕ) where
     pub pass-parts : (ps : List (List ℕ)) → layout ss next (drop next bytes) ≡ parts ps → layout (s ∷ ss) at (drop at bytes) ≡ parts (take (count * s .width) (drop (at + 1) bytes) ∷ ps)
     unfolding withPart
     pass-parts ps e = passed ∙ rw e
+
+-- the widest entry has four bytes
+pub narrow : (kind : Kind) → widthOf kind ≤ 4
+narrow kind.Terms = omega arith
+narrow kind.Pairs = omega arith
+narrow kind.Fields = omega arith
+narrow kind.Booleans = omega arith
+narrow kind.LinkedTerms = omega arith
+narrow kind.LinkedPairs = omega arith
 
 -- what a section was read as, where the answer is known
 pub read-section : {r : Read} {part : Part} (bytes : List ℕ) (at limit excess width : ℕ) → r ≡ read.Section part → ReadAs r bytes at limit excess width → Stands bytes limit width at (part .count) (part .next)

@@ -3,10 +3,11 @@ use Prim.Native.Nat.{ℕ, _≤_}
 use mathlib.Core.Path.{_≡_}
 use mathlib.Core.List.{List, [], _∷_, List·Memᴰ}
 use mathlib.Core.Option.{none, some}
-use Rattle.logic.specs.Query.{fiveSections, faulty, layoutBy, byteFault}
+use Rattle.logic.specs.Query.{Form, fiveSections, faulty, layoutBy, byteFault}
 use Rattle.logic.specs.Calls.{Input, formChecks, queryChecks, refused, refusalOf}
 use Rattle.entries.specs.declared.Found.{Found}
 use Rattle.entries.specs.Entries.{foundOf}
+use Rattle.query.specs.Forms.{formBy}
 use Rattle.query.specs.Sections.{Sections}
 use Rattle.query.specs.LaysOut.{LaysOut, FullLaysOut}
 use Rattle.query.specs.declared.FullLayout.{FullLayout}
@@ -16,13 +17,22 @@ use Rattle.query.specs.declared.FullChecked.{FullChecked}
 use Rattle.query.specs.declared.FullChecked.the-variants as full
 
 -- the lowest byte that meets refusal k of 5 to 8, however many booleans pass
-abbrev pub FoundIn : Found → ℕ → List ℕ → Type 0
-FoundIn r k bytes = (most excess : ℕ) → foundOf r ≡ byteFault (fiveSections most excess) k bytes
+abbrev pub FoundIn : Found → ℕ → ℕ → List ℕ → Type 0
+FoundIn r k links bytes = (most excess : ℕ) → foundOf r ≡ byteFault (formBy links most excess) k bytes
 
 -- the refusal of the walk from the front, or the sections
-abbrev pub LaidOut : FullChecked → List ℕ → ℕ → ℕ → Type 0
-LaidOut (full.Refused k place) bytes most excess = layoutBy (fiveSections most excess) bytes ≡ faulty k place
-LaidOut (full.Accepted l) bytes most excess = Sections l bytes × (l .«boolean_count» ≤ most)
+abbrev pub LaidOut : FullChecked → List ℕ → ℕ → ℕ → ℕ → Type 0
+LaidOut (full.Refused k place) bytes links most excess = layoutBy (formBy links most excess) bytes ≡ faulty k place
+LaidOut (full.Accepted l) bytes links most excess = Sections l bytes × (l .«boolean_count» ≤ most) × (l .layout .links ≡ links)
+
+-- the refusal of a byte, or none, of a query that is laid out so
+abbrev pub ByteAnswer : FullChecked → FullLayout → Form → List ℕ → Type 0
+ByteAnswer (full.Refused k place) l form bytes = (i : Input) → i .query ≡ bytes → refusalOf (formChecks form) i ≡ some (refused k place)
+ByteAnswer (full.Accepted m) l form bytes = ((i : Input) → i .query ≡ bytes → refusalOf (formChecks form) i ≡ none) × (m ≡ l)
+
+-- the same, however many booleans pass
+abbrev pub BytesChecked : FullChecked → FullLayout → List ℕ → Type 0
+BytesChecked r l bytes = (most excess : ℕ) → l .«boolean_count» ≤ most → ByteAnswer r l (formBy (l .layout .links) most excess) bytes
 
 -- The checks of a form with these query bytes, whatever else a call is given. They answer every refusal that the walk from the front
 -- meets where that of an excess count is one of theirs.
@@ -31,10 +41,6 @@ FullCheckedAs (full.Refused k place) bytes most excess =
     List·Memᴰ excess (2 ∷ 3 ∷ 26 ∷ 4 ∷ []) → (i : Input) → i .query ≡ bytes → refusalOf (formChecks (fiveSections most excess)) i ≡ some (refused k place)
 FullCheckedAs (full.Accepted l) bytes most excess =
     ((i : Input) → i .query ≡ bytes → refusalOf (formChecks (fiveSections most excess)) i ≡ none) × FullLaysOut l bytes most excess
-
--- the same of a query with these sections, however many booleans pass
-abbrev pub BytesChecked : FullChecked → FullLayout → List ℕ → Type 0
-BytesChecked r l bytes = (most excess : ℕ) → l .«boolean_count» ≤ most → FullCheckedAs r bytes most excess
 
 -- checks 2 to 8 and 26 of any call with these query bytes
 abbrev pub CheckedAs : Checked → List ℕ → Type 0

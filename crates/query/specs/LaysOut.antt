@@ -13,6 +13,7 @@ pub record LaysOutAs (q : Query) (l : Layout) (bytes : List ℕ) : Type 0 where
   pub term-count : l .terms ≡ termCount q
   pub terms-within : l .terms ≤ 16
   pub entries-fit : l .terms + 1 ≤ length bytes
+  pub one-link : l .links ≡ 1
   pub links-are : q .links ≡ 1
   pub entries-are : q .entries ≡ oneLink (take (l .terms) (drop 1 bytes))
   pub equal-within : l .«equal_count» ≤ 60

@@ -4,6 +4,8 @@ use mathlib.Core.Path.{_≡_}
 use mathlib.Core.List.{List, _∷_}
 use lib.ListN.{length, getD, drop}
 use Rattle.logic.specs.Query.{Section, layout, faulty}
+use Rattle.entries.specs.Entries.{widthOf}
+use Rattle.query.specs.Forms.{entryKind, reachKind}
 use Rattle.query.specs.declared.Read.{Read}
 use Rattle.query.specs.declared.Read.the-variants as read
 use Rattle.query.specs.declared.FullLayout.{FullLayout}
@@ -28,9 +30,9 @@ pub record Sections (l : FullLayout) (bytes : List ℕ) : Type 0 where
   pub third : ℕ
   pub fourth : ℕ
   pub fifth : ℕ
-  pub terms : Stands bytes 16 1 0 (l .layout .terms) second
+  pub terms : Stands bytes 16 (widthOf (entryKind (l .layout .links))) 0 (l .layout .terms) second
   pub equalities : Stands bytes 60 3 second (l .layout .«equal_count») third
-  pub reachability : Stands bytes 60 3 third (l .layout .«reach_count») fourth
+  pub reachability : Stands bytes 60 (widthOf (reachKind (l .layout .links))) third (l .layout .«reach_count») fourth
   pub fields : Stands bytes 60 3 fourth (l .layout .«field_count») fifth
   pub booleans : Stands bytes (l .«boolean_count») 2 fifth (l .«boolean_count») (length bytes)
   pub equal-at : l .layout .«equal_at» ≡ second + 1

@@ -6,12 +6,15 @@ ghost use lib.ListN.{length};
 ghost use lib.Dec.{eqb};
 ghost use Rattle.logic.specs.Search.{any};
 ghost use Rattle.logic.specs.Query.{isOrder};
+ghost use Rattle.query.specs.Forms.{entryKind, reachKind};
 ghost use Rattle.query.specs.Sections.{ReadAs, Sections};
 ghost use Rattle.query.specs.LaysOut.{literalIn};
 ghost use Rattle.query.specs.Answers.{FoundIn, LaidOut, BytesChecked, FullCheckedAs, CheckedAs};
 
-// Where the sections of a query stand: the first byte of each behind its count, and the count. The terms stand at 1.
+// Where the sections of a query stand: the first byte of each behind its count, and the count. The terms stand at 1. With one link the query
+// has the form of 01, and with three that of 02, R-11.
 pub struct Layout {
+    pub links: usize,
     pub terms: usize,
     pub equal_at: usize,
     pub equal_count: usize,
@@ -86,7 +89,7 @@ pub fn is_order(order: &[u8]) -> bool
 
 // The section whose count stands at `at`: refused 2 where the query ends before it does, and `excess` where the count is above the limit.
 fn read_section(query: &[u8], at: usize, limit: usize, excess: usize, width: usize) -> Read
-    requires { ⌜ (at ≤ length (now query)) × (width ≤ 3) ⌝ }
+    requires { ⌜ (at ≤ length (now query)) × (width ≤ 4) ⌝ }
     ensures { λ r. ⌜ ReadAs r (now (query .entry)) at limit excess width ⌝ }
 {
     let len = query.len();
@@ -108,11 +111,32 @@ fn read_section(query: &[u8], at: usize, limit: usize, excess: usize, width: usi
     })
 }
 
-// The walk from the front over the five sections, where `most` booleans pass and more are refused `excess`: refusals 2 to 4, and 26.
-fn lay_out(query: &[u8], most: usize, excess: usize) -> FullChecked
-    ensures { λ r. ⌜ LaidOut r (now (query .entry)) most excess ⌝ }
+// The kinds of the entries of sections 1 and 3.
+fn entry_kind(links: usize) -> entries::Kind
+    ensures { λ r. ⌜ r ≡ entryKind links ⌝ }
 {
-    let terms = match read_section(query, 0, 16, 3, 1) {
+    if links == 1 {
+        return entries::Kind::Terms;
+    }
+    entries::Kind::LinkedTerms
+}
+
+fn reach_kind(links: usize) -> entries::Kind
+    ensures { λ r. ⌜ r ≡ reachKind links ⌝ }
+{
+    if links == 1 {
+        return entries::Kind::Pairs;
+    }
+    entries::Kind::LinkedPairs
+}
+
+// The walk from the front over the five sections, where `most` booleans pass and more are refused `excess`: refusals 2 to 4, and 26.
+pub fn lay_out(query: &[u8], links: usize, most: usize, excess: usize) -> FullChecked
+    ensures { λ r. ⌜ LaidOut r (now (query .entry)) links most excess ⌝ }
+{
+    let entry_width = entries::width(entry_kind(links));
+    let reach_width = entries::width(reach_kind(links));
+    let terms = match read_section(query, 0, 16, 3, entry_width) {
         Read::Refused(k, place) => return FullChecked::Refused(k, place),
         Read::Section(part) => part,
     };
@@ -120,7 +144,7 @@ fn lay_out(query: &[u8], most: usize, excess: usize) -> FullChecked
         Read::Refused(k, place) => return FullChecked::Refused(k, place),
         Read::Section(part) => part,
     };
-    let reach = match read_section(query, equal.next, 60, 3, 3) {
+    let reach = match read_section(query, equal.next, 60, 3, reach_width) {
         Read::Refused(k, place) => return FullChecked::Refused(k, place),
         Read::Section(part) => part,
     };
@@ -136,6 +160,7 @@ fn lay_out(query: &[u8], most: usize, excess: usize) -> FullChecked
         return FullChecked::Refused(4, boolean.next);
     }
     let layout = Layout {
+        links,
         terms: terms.count,
         equal_at: terms.next + 1,
         equal_count: equal.count,
@@ -154,11 +179,11 @@ fn lay_out(query: &[u8], most: usize, excess: usize) -> FullChecked
 // "For 5 to 8 the whole query is searched for one fault before the next, and the place is the lowest such byte."
 fn byte_fault(k: usize, query: &[u8], full: FullLayout) -> entries::Found
     requires { ⌜ Sections full (now query) ⌝ }
-    ensures { λ r. ⌜ FoundIn r k (now (query .entry)) ⌝ }
+    ensures { λ r. ⌜ FoundIn r k (full .layout .links) (now (query .entry)) ⌝ }
 {
     let l = full.layout;
     let n = l.terms;
-    match entries::section_fault(k, entries::Kind::Terms, n, query, 1, n) {
+    match entries::section_fault(k, entry_kind(l.links), n, query, 1, n) {
         entries::Found::At(p) => return entries::Found::At(p),
         entries::Found::Nothing => {}
     }
@@ -166,7 +191,7 @@ fn byte_fault(k: usize, query: &[u8], full: FullLayout) -> entries::Found
         entries::Found::At(p) => return entries::Found::At(p),
         entries::Found::Nothing => {}
     }
-    match entries::section_fault(k, entries::Kind::Pairs, n, query, l.reach_at, l.reach_count) {
+    match entries::section_fault(k, reach_kind(l.links), n, query, l.reach_at, l.reach_count) {
         entries::Found::At(p) => return entries::Found::At(p),
         entries::Found::Nothing => {}
     }
@@ -192,7 +217,7 @@ fn byte_fault(k: usize, query: &[u8], full: FullLayout) -> entries::Found
 }
 
 // Refusals 5 to 8, of a query that is laid out.
-fn check_bytes(query: &[u8], full: FullLayout) -> FullChecked
+pub fn check_bytes(query: &[u8], full: FullLayout) -> FullChecked
     requires { ⌜ Sections full (now query) ⌝ }
     ensures { λ r. ⌜ BytesChecked r full (now (query .entry)) ⌝ }
 {
@@ -212,7 +237,7 @@ fn check_bytes(query: &[u8], full: FullLayout) -> FullChecked
 pub fn check_with(query: &[u8], most: usize, excess: usize) -> FullChecked
     ensures { λ r. ⌜ FullCheckedAs r (now (query .entry)) most excess ⌝ }
 {
-    match lay_out(query, most, excess) {
+    match lay_out(query, 1, most, excess) {
         FullChecked::Refused(k, place) => FullChecked::Refused(k, place),
         FullChecked::Accepted(full) => check_bytes(query, full),
     }

@@ -15,12 +15,9 @@ use borrow.Author.Tests.{eqb-true, eqb-false, eq-eqb, ne-eqb}
 use Rattle.logic.specs.Search.{_and_, _or_, any}
 use Rattle.logic.specs.Query.{Literal}
 use Rattle.logic.specs.Shown.{byteOf}
-use Rattle.logic.proofs.Basics.Search.{bool-cases}
+use Rattle.theory.proofs.Basics.Search.{bool-cases}
 use Rattle.facts.specs.Bits.{bit}
 use Rattle.facts.specs.Square.{square}
-use Rattle.facts.specs.declared.Term.{Term}
-use Rattle.facts.specs.Path.{repOf}
-use Rattle.facts.proofs.Rep.{rep-in}
 use Rattle.facts.proofs.Bits.{bit-is, bit-none}
 use Rattle.facts.proofs.Square.{square-in, square-add}
 use Rattle.query.proofs.Literals.{listed, listed-end, listed-next}
@@ -54,10 +51,6 @@ held-cons rep l ls v j = refl
 
 no-marks : (v j : ℕ) → v ≤ 16 → j ≤ 16 → square (replicate 17 0) v j ≡ false
 no-marks v j h k = square-in (replicate 17 0) v j h k ∙ ap (λ (w : ℕ). bit w j) (getD-replicate 17 v 0 0 (omega arith)) ∙ bit-none j
-
--- the term that stands for a literal's
-pub stands-in : (rep : List Term) (t u : ℕ) → t ≡ u → u ≤ 16 → getD rep t (record { 0 = 0 }) .0 ≡ repOf rep u
-stands-in rep t u e h = ap (λ (x : ℕ). getD rep x (record { 0 = 0 }) .0) e ∙ sym (rep-in rep u h)
 
 -- row a with one more number, whose own row is o
 abbrev pub marked-at : List ℕ → ℕ → ℕ → List ℕ

@@ -1,4 +1,5 @@
 pub mod Nodes
 pub mod Writing
 pub mod Held
+pub mod Successors
 pub mod Report

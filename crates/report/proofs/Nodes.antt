@@ -12,8 +12,8 @@ use borrow.Author.Tests.{lt-ltb, eq-eqb, ne-eqb, eqb-true, eqb-false, ltb-true, 
 use Rattle.logic.specs.Search.{_or_, from, any, select}
 use Rattle.logic.specs.Facts.{Facts, terms}
 use Rattle.logic.specs.Shown.{orZero, nodes, placeOf}
-use Rattle.logic.proofs.Basics.Search.{bool-cases, select-mem, from-mem}
-use Rattle.logic.proofs.Completeness.Placed.{length-from}
+use Rattle.theory.proofs.Basics.Search.{bool-cases, select-mem, from-mem}
+use Rattle.theory.proofs.Completeness.Placed.{length-from}
 use Rattle.facts.proofs.Loops.{from-next}
 use Rattle.report.specs.declared.Node.{Node}
 use Rattle.report.specs.Nodes.{nodeOf, marked, nodesBy, Numbers}

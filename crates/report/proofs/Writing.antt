@@ -11,7 +11,7 @@ use borrow.Author.Tests.{eq-eqb, ne-eqb, eqb-true, eqb-false}
 use Rattle.logic.specs.Search.{from, select}
 use Rattle.logic.specs.Calls.{padded}
 use Rattle.logic.specs.Shown.{placeOf}
-use Rattle.logic.proofs.Basics.Search.{bool-cases}
+use Rattle.theory.proofs.Basics.Search.{bool-cases}
 use Rattle.lent.specs.Appending.{Appends}
 use Rattle.lent.proofs.Writing.{appends-none, appends-byte, appends-then}
 use Rattle.facts.proofs.Selections.{select-end, select-here, select-skip}

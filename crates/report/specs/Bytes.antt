@@ -5,12 +5,14 @@ use mathlib.Core.Bool.{Bool, true}
 use mathlib.Core.List.{List, [], _∷_, _++_, map}
 use lib.ListN.{length}
 use lib.Dec.{eqb}
-use Rattle.logic.specs.Search.{_and_, from, any}
-use Rattle.logic.specs.Query.{Literal}
-use Rattle.logic.specs.Facts.{terms}
+use Rattle.logic.specs.Search.{_and_, from, any, flatMap}
+use Rattle.logic.specs.Query.{Literal, decode}
+use Rattle.logic.specs.Facts.{terms, linkNumbers}
+use Rattle.logic.specs.Facts as logic
+use Rattle.logic.specs.Shown.{placeOf, shownLink}
 use Rattle.logic.specs.Calls.{accepts}
 use Rattle.facts.specs.declared.Facts.{Facts}
-use Rattle.facts.specs.Path.{repOf}
+use Rattle.facts.specs.Path.{repOf, pathOf}
 use Rattle.query.specs.declared.Layout.{Layout}
 use Rattle.query.specs.LaysOut.{LaysOut, literalIn}
 
@@ -27,14 +29,23 @@ abbrev pub FieldsIn : List ℕ → ℕ → ℕ → (ℕ → ℕ) → Type 0
 FieldsIn query at count rep =
     (i : ℕ) → i < count → (literalIn query at i .left ≤ 8) × (literalIn query at i .right ≤ 16) × (rep (literalIn query at i .right) ≤ 16)
 
--- What a report is written of: an accepted query, and facts in which every term stands for a term.
+-- What a report is written of: an accepted query, and facts of its links in which every term stands for a term.
 pub record Reportable (l : Layout) (query : List ℕ) (s : Facts) : Type 0 where
   pub laid : LaysOut l query
   pub passes : accepts query ≡ true
   pub stands : (t : ℕ) → 1 ≤ t → t ≤ l .terms → repOf (s .rep) t ≤ 16
+  pub linked : pathOf s .links ≡ decode query .links
 
--- the four sections, from the terms that are nodes and the bytes of each; the byte of booleans is 0
-abbrev pub sections : ℕ → List ℕ → (ℕ → ℕ) → (ℕ → ℕ) → (ℕ → ℕ) → List ℕ
-sections n ts successor node datum =
-    (length ts ∷ map successor ts)
+-- the successors along link i of the terms that are nodes, as nodes
+unfoldable pub successorsAmong : ℕ → logic.Facts → List ℕ → ℕ → List ℕ
+successorsAmong n s ts i = map (λ v. placeOf (shownLink n s i v) ts) ts
+
+-- the successors along every link, link by link
+abbrev pub allSuccessors : ℕ → logic.Facts → List ℕ → List ℕ
+allSuccessors n s ts = flatMap (successorsAmong n s ts) (linkNumbers (s .links))
+
+-- the four sections, from the terms that are nodes, the successors, and the bytes of each; the byte of booleans is 0
+abbrev pub sections : ℕ → List ℕ → List ℕ → (ℕ → ℕ) → (ℕ → ℕ) → List ℕ
+sections n ts successors node datum =
+    (length successors ∷ successors)
     ++ ((n ∷ map node (terms n)) ++ ((length ts ∷ map datum ts) ++ (1 ∷ 0 ∷ [])))

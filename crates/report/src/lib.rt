@@ -4,7 +4,7 @@ ghost use Prim.Native.Nat.{ℕ, _+_, _-_, _*_, _≤_, _<_};
 ghost use mathlib.Core.List.{_∷_, map};
 ghost use lib.ListN.{length, getD};
 ghost use Rattle.facts.specs.Square.{square};
-ghost use Rattle.facts.specs.Path.{pathOf, repOf};
+ghost use Rattle.facts.specs.Path.{pathOf, repOf, HasLink};
 ghost use Rattle.logic.specs.Search.{from};
 ghost use Rattle.logic.specs.Query.{decode};
 ghost use Rattle.logic.specs.Facts.{terms};
@@ -13,9 +13,10 @@ ghost use Rattle.logic.specs.Calls.{padded};
 ghost use Rattle.logic.specs.Shown.{byteOf, shownLink, report};
 ghost use Rattle.report.specs.Nodes.{nodeOf, marked, nodesBy, Numbers};
 ghost use Rattle.lent.specs.Appending.{Appends};
-ghost use Rattle.report.specs.Bytes.{fieldHeld, literalsAt, FieldsIn, Reportable, sections};
+ghost use Rattle.report.specs.Bytes.{fieldHeld, literalsAt, FieldsIn, Reportable, allSuccessors, sections};
 ghost use Rattle.completion.specs.Links.{linkOf};
 use facts::Facts;
+use facts::Link;
 use facts::Term;
 use query::Layout;
 
@@ -23,16 +24,16 @@ use query::Layout;
 pub struct Node(pub usize);
 
 // The terms that are nodes: those not replaced. With no terms, the one node is that of 0, which is no term.
-fn mark_nodes(rep: [Term; 17], n: usize) -> [bool; 17]
+fn mark_nodes(rep: &[u8; 17], n: usize) -> [bool; 17]
     requires { ⌜ n ≤ 16 ⌝ }
-    ensures { λ r. ⌜ marked r n ≡ nodesBy (repOf rep) n ⌝ }
+    ensures { λ r. ⌜ marked r n ≡ nodesBy (repOf (now (rep .entry))) n ⌝ }
 {
     let mut marks = [false; 17];
     let mut none = true;
     let mut t: usize = 1;
     while t <= n {
-        let to = rep[t];
-        let stands = to.0 == t;
+        let to = facts::wide(rep[t]);
+        let stands = to == t;
         marks[t] = stands;
         none = none & !stands;
         t += 1;
@@ -75,18 +76,40 @@ fn number_nodes(marks: &[bool; 17], n: usize, m: usize) -> [Node; 17]
     nodes
 }
 
-// The node of each term that a list of terms holds, at the numbers from k to n.
-fn nodes_of(nodes: [Node; 17], terms: [Term; 17], k: usize, n: usize) -> [u8; 17]
-    requires { ⌜ (n ≤ 16) × ((t : ℕ) → k ≤ t → t ≤ n → linkOf terms t ≤ 16) × ((t : ℕ) → t ≤ 16 → nodeOf nodes t ≤ 16) ⌝ }
-    ensures { λ r. ⌜ ((t : ℕ) → k ≤ t → t ≤ n → getD r t 0 ≡ nodeOf nodes (linkOf terms t)) ⌝ }
+// The node of a term, as a byte.
+fn node_byte(nodes: [Node; 17], t: usize) -> u8
+    requires { ⌜ (t ≤ 16) × ((u : ℕ) → u ≤ 16 → nodeOf nodes u ≤ 16) ⌝ }
+    ensures { λ r. ⌜ r ≡ nodeOf nodes t ⌝ }
+{
+    let number = nodes[t];
+    number.0 as u8
+}
+
+// The node of the term that each number to n links to.
+fn nodes_linked(nodes: [Node; 17], links: [Term; 17], n: usize) -> [u8; 17]
+    requires { ⌜ (n ≤ 16) × ((t : ℕ) → t ≤ n → linkOf links t ≤ 16) × ((t : ℕ) → t ≤ 16 → nodeOf nodes t ≤ 16) ⌝ }
+    ensures { λ r. ⌜ ((t : ℕ) → t ≤ n → getD r t 0 ≡ nodeOf nodes (linkOf links t)) ⌝ }
 {
     let mut bytes = [0u8; 17];
-    let mut t = k;
+    let mut t: usize = 0;
     while t <= n {
-        let term = terms[t];
-        let at = term.0;
-        let node = nodes[at];
-        bytes[t] = node.0 as u8;
+        let to = links[t];
+        bytes[t] = node_byte(nodes, to.0);
+        t += 1;
+    }
+    bytes
+}
+
+// The node of each term.
+fn nodes_of_terms(nodes: [Node; 17], rep: &[u8; 17], n: usize) -> [u8; 17]
+    requires { ⌜ (n ≤ 16) × ((t : ℕ) → 1 ≤ t → t ≤ n → repOf (now rep) t ≤ 16) × ((t : ℕ) → t ≤ 16 → nodeOf nodes t ≤ 16) ⌝ }
+    ensures { λ r. ⌜ ((t : ℕ) → 1 ≤ t → t ≤ n → getD r t 0 ≡ nodeOf nodes (repOf (now (rep .entry)) t)) ⌝ }
+{
+    let mut bytes = [0u8; 17];
+    let mut t: usize = 1;
+    while t <= n {
+        let to = facts::read_rep(rep, Term(t));
+        bytes[t] = node_byte(nodes, to.0);
         t += 1;
     }
     bytes
@@ -131,9 +154,9 @@ fn put_terms(buffer: &mut [u8], at: usize, bytes: &[u8; 17], n: usize) -> usize
 }
 
 // The fields that plain data literals set: field j at the node of term v is at v * 17 + j.
-fn mark_fields(query: &[u8], at: usize, count: usize, rep: [Term; 17]) -> [u32; 17]
-    requires { ⌜ (at + 3 * count ≤ length (now query)) × FieldsIn (now query) at count (repOf rep) ⌝ }
-    ensures { λ r. ⌜ ((v j : ℕ) → v ≤ 16 → j ≤ 16 → square r v j ≡ fieldHeld (repOf rep) (literalsAt (now (query .entry)) at count) v j) ⌝ }
+fn mark_fields(query: &[u8], at: usize, count: usize, rep: &[u8; 17]) -> [u32; 17]
+    requires { ⌜ (at + 3 * count ≤ length (now query)) × FieldsIn (now query) at count (repOf (now rep)) ⌝ }
+    ensures { λ r. ⌜ ((v j : ℕ) → v ≤ 16 → j ≤ 16 → square r v j ≡ fieldHeld (repOf (now (rep .entry))) (literalsAt (now (query .entry)) at count) v j) ⌝ }
 {
     let mut marks = [0u32; 17];
     for i in 0..count {
@@ -141,9 +164,7 @@ fn mark_fields(query: &[u8], at: usize, count: usize, rep: [Term; 17]) -> [u32; 
             continue;
         }
         let field = query::field(query, at, i);
-        let term = query::right(query, at, i);
-        let t = term.0;
-        let stands = rep[t];
+        let stands = facts::read_rep(rep, query::right(query, at, i));
         let v = stands.0;
         marks[v] = marks[v] | facts::only(field);
     }
@@ -172,22 +193,66 @@ pub fn row_bytes(marks: &[u32; 17], n: usize) -> [u8; 17]
     bytes
 }
 
-// The successors, at the numbers to n.
-fn successor_bytes(s: Facts, n: usize, nodes: [Node; 17]) -> [u8; 17]
-    requires { ⌜ (n ≤ 16) × ((t : ℕ) → t ≤ 16 → nodeOf nodes t ≤ 16) ⌝ }
-    ensures { λ r. ⌜ ((t : ℕ) → t ≤ n → getD r t 0 ≡ nodeOf nodes (shownLink n (pathOf s) 1 t)) ⌝ }
+// The successors along link k, at the numbers to n.
+fn successor_bytes(s: Facts, n: usize, nodes: [Node; 17], k: Link) -> [u8; 17]
+    requires { ⌜ (n ≤ 16) × ((t : ℕ) → t ≤ 16 → nodeOf nodes t ≤ 16) × HasLink (pathOf s) (k .0) ⌝ }
+    ensures { λ r. ⌜ ((t : ℕ) → t ≤ n → getD r t 0 ≡ nodeOf nodes (shownLink n (pathOf s) (k .0) t)) ⌝ }
 {
-    let links = completion::shown_links(s, n);
-    nodes_of(nodes, links, 0, n)
+    let links = completion::shown_links(s, n, k);
+    nodes_linked(nodes, links, n)
 }
 
 // "field j in bit j-1, set exactly by a plain literal", at the numbers to n.
-fn data_bytes(query: &[u8], at: usize, count: usize, rep: [Term; 17], n: usize) -> [u8; 17]
-    requires { ⌜ (n ≤ 16) × (at + 3 * count ≤ length (now query)) × FieldsIn (now query) at count (repOf rep) ⌝ }
-    ensures { λ r. ⌜ ((v : ℕ) → v ≤ n → getD r v 0 ≡ byteOf (fieldHeld (repOf rep) (literalsAt (now (query .entry)) at count) v) 1 8) ⌝ }
+fn data_bytes(query: &[u8], at: usize, count: usize, rep: &[u8; 17], n: usize) -> [u8; 17]
+    requires { ⌜ (n ≤ 16) × (at + 3 * count ≤ length (now query)) × FieldsIn (now query) at count (repOf (now rep)) ⌝ }
+    ensures { λ r. ⌜ ((v : ℕ) → v ≤ n → getD r v 0 ≡ byteOf (fieldHeld (repOf (now (rep .entry))) (literalsAt (now (query .entry)) at count) v) 1 8) ⌝ }
 {
     let marks = mark_fields(query, at, count, rep);
     row_bytes(&marks, n)
+}
+
+// The successors of the m nodes, link by link.
+fn put_successors(
+    buffer: &mut [u8],
+    at: usize,
+    s: Facts,
+    m: usize,
+    marks: &[bool; 17],
+    nodes: [Node; 17],
+    n: usize,
+) -> usize
+    requires { ⌜ (n ≤ 16) × (m ≤ 16) × (m ≡ length (marked (now marks) n)) × (at + pathOf s .links * m ≤ length (now buffer)) × Numbers nodes (marked (now marks) n) ⌝ }
+    ensures { λ r. ⌜ (r ≡ at + pathOf s .links * m) × Appends (now (buffer .entry)) (now (buffer .exit)) at (allSuccessors n (pathOf s) (marked (now (marks .entry)) n)) ⌝ }
+{
+    let links = facts::links(s);
+    let mut to = at;
+    let mut k: usize = 1;
+    while k <= links {
+        let bytes = successor_bytes(s, n, nodes, Link(k));
+        put_nodes(buffer, to, &bytes, marks, nodes, n);
+        to += m;
+        k += 1;
+    }
+    to
+}
+
+// "m successors", or "3m successors, link by link, after the count 3m" (02, R-11).
+fn put_successor_section(
+    buffer: &mut [u8],
+    at: usize,
+    s: Facts,
+    m: usize,
+    marks: &[bool; 17],
+    nodes: [Node; 17],
+    n: usize,
+) -> usize
+    requires { ⌜ (n ≤ 16) × (m ≤ 16) × (m ≡ length (marked (now marks) n)) × (at + 1 + pathOf s .links * m ≤ length (now buffer)) × Numbers nodes (marked (now marks) n) ⌝ }
+    ensures { λ r. ⌜ (r ≡ at + 1 + pathOf s .links * m) × Appends (now (buffer .entry)) (now (buffer .exit)) at (pathOf s .links * m ∷ allSuccessors n (pathOf s) (marked (now (marks .entry)) n)) ⌝ }
+{
+    let links = facts::links(s);
+    let count = links * m;
+    let next = lent::put(buffer, at, count as u8);
+    put_successors(buffer, next, s, m, marks, nodes, n)
 }
 
 // A section of one byte for each node: the count of the nodes, and the bytes of the terms that are nodes.
@@ -217,22 +282,22 @@ pub fn put_term_section(buffer: &mut [u8], at: usize, n: usize, bytes: &[u8; 17]
     put_terms(buffer, next, bytes, n)
 }
 
-// "m successors; n nodes, one per term; m data bytes ..; one byte of booleans", which is 0 (02, R-13), and zeros past them.
+// The successors; "n nodes, one per term; m data bytes ..; one byte of booleans", which is 0 (02, R-13), and zeros past them.
 fn write_sections(
     buffer: &mut [u8],
+    s: Facts,
     marks: &[bool; 17],
     nodes: [Node; 17],
     m: usize,
     n: usize,
-    successors: &[u8; 17],
     places: &[u8; 17],
     fields: &[u8; 17],
 )
-    requires { ⌜ (n ≤ 16) × (m ≤ 16) × (m ≡ length (marked (now marks) n)) × (53 ≤ length (now buffer)) × Numbers nodes (marked (now marks) n) ⌝ }
-    ensures { λ r. ⌜ now (buffer .exit) ≡ padded (length (now (buffer .entry))) (sections n (marked (now (marks .entry)) n) (λ t. getD (now (successors .entry)) t 0) (λ t. getD (now (places .entry)) t 0) (λ t. getD (now (fields .entry)) t 0)) ⌝ }
+    requires { ⌜ (n ≤ 16) × (m ≤ 16) × (m ≡ length (marked (now marks) n)) × (5 + n + m + pathOf s .links * m ≤ length (now buffer)) × Numbers nodes (marked (now marks) n) ⌝ }
+    ensures { λ r. ⌜ now (buffer .exit) ≡ padded (length (now (buffer .entry))) (sections n (marked (now (marks .entry)) n) (allSuccessors n (pathOf s) (marked (now (marks .entry)) n)) (λ t. getD (now (places .entry)) t 0) (λ t. getD (now (fields .entry)) t 0)) ⌝ }
 {
     lent::clear(buffer);
-    let second = put_node_section(buffer, 0, m, successors, marks, nodes, n);
+    let second = put_successor_section(buffer, 0, s, m, marks, nodes, n);
     let third = put_term_section(buffer, second, n, places);
     let fourth = put_node_section(buffer, third, m, fields, marks, nodes, n);
     let last = lent::put(buffer, fourth, 1);
@@ -241,16 +306,14 @@ fn write_sections(
 
 // The heap report.
 pub fn write_report(buffer: &mut [u8], query: &[u8], l: Layout, s: Facts)
-    requires { ⌜ (53 ≤ length (now buffer)) × Reportable l (now query) s ⌝ }
+    requires { ⌜ (37 + 16 * (pathOf s .links) ≤ length (now buffer)) × Reportable l (now query) s ⌝ }
     ensures { λ r. ⌜ now (buffer .exit) ≡ padded (length (now (buffer .entry))) (report (decode (now (query .entry))) (pathOf s)) ⌝ }
 {
     let n = l.terms;
-    let rep = s.rep;
-    let marks = mark_nodes(rep, n);
+    let marks = mark_nodes(&s.rep, n);
     let m = count_marks(&marks, n);
     let nodes = number_nodes(&marks, n, m);
-    let successors = successor_bytes(s, n, nodes);
-    let places = nodes_of(nodes, rep, 1, n);
-    let fields = data_bytes(query, l.field_at, l.field_count, rep, n);
-    write_sections(buffer, &marks, nodes, m, n, &successors, &places, &fields);
+    let places = nodes_of_terms(nodes, &s.rep, n);
+    let fields = data_bytes(query, l.field_at, l.field_count, &s.rep, n);
+    write_sections(buffer, s, &marks, nodes, m, n, &places, &fields);
 }

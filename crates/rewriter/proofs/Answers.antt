@@ -5,25 +5,25 @@ use mathlib.Core.Path.{_≡_, refl, sym, ap, _∙_, subst}
 use mathlib.Core.Logic.{inl, inr}
 use mathlib.Core.Bool.{true, false}
 use mathlib.Core.List.{List, [], _∷_}
-use mathlib.Core.Option.{none}
 use lib.ListN.{length, replicate, length-replicate}
 use Rattle.logic.specs.Query.{Literal, Query, termCount}
-use Rattle.logic.specs.Calls.{refusalOf}
 use Rattle.logic.specs.Calls as calls
-use Rattle.logic.proofs.Query.Bytes.{layoutNumbers, three-number}
+use Rattle.theory.proofs.Query.Bytes.{layoutNumbers, three-number}
 use Rattle.encoding.specs.QueryBytes.{encode}
+use Rattle.encoding.specs.WritingCall.{Outcome, written, given, refusal, blank, writes}
+use Rattle.encoding.proofs.WritingCall.{none-accepts, call-refused, call-full, call-writes}
 use Rattle.text.specs.Text.{Writes}
 use Rattle.text.proofs.Writing.{writes-as, writes-blank}
 use Rattle.query.specs.Answers.{FullCheckedAs}
 use Rattle.query.specs.declared.FullLayout.{FullLayout}
 use Rattle.query.specs.declared.FullChecked.the-variants as checked
-use Rattle.rewriting.specs.OldQuery.{oldSections, oldChecks, given, decodeOld}
+use Rattle.rewriting.specs.OldQuery.{oldSections, decodeOld}
 use Rattle.rewriting.specs.Rewritten.{rewritten, rewrite}
-use Rattle.rewriting.specs.Call.{Outcome, written, rewriteOf, hasRoom, refusal, blank, writes, rewriteCall}
+use Rattle.rewriting.specs.Call.{rewriteOf, hasRoom, rewritingOld, rewriteCall}
 use Rattle.rewriting.proofs.OldBytes.{base-limits}
 use Rattle.rewriting.proofs.Encoded.{room-intro}
 use Rattle.rewriting.proofs.Copied.{copied}
-use Rattle.rewriting.proofs.Calls.{accepts-none, none-accepts, has-not, call-refused, call-full, call-writes}
+use Rattle.rewriting.proofs.Calls.{has-not}
 use Rattle.rewriter.specs.Bytes.{rewrittenBytes}
 use Rattle.rewriter.specs.Promise.{Does, Passing}
 use Rattle.rewriter.specs.declared.Rewritten.{Rewritten}
@@ -37,26 +37,31 @@ blank-again bytes n e = e ∙ ap (λ (k : ℕ). replicate k 0) (sym (ap length e
 pub blank-long : (bytes : List ℕ) (n : ℕ) → bytes ≡ replicate n 0 → length bytes ≡ n
 blank-long bytes n e = ap length e ∙ length-replicate n 0
 
+-- a refusal leaves what was cleared, and a query is written into it
+pub does-blank : (room : ℕ) {o : Outcome} {k place : ℕ} {out : List ℕ} → o ≡ blank room (calls.refused k place) → out ≡ replicate room 0 → Does o (answer.Refused k place) out
+unfolding blank refusal
+does-blank room c e = record { answers = sym (ap (λ (x : Outcome). x .answer) c); leaves = e ∙ sym (ap (λ (x : Outcome). x .lent) c) }
+
+pub does-write : (room : ℕ) {o : Outcome} {r : ℕ} {bytes before after : List ℕ} → o ≡ writes room bytes → length bytes ≤ room → before ≡ replicate room 0 → Writes before 0 bytes after r → Does o (answer.Written r) after
+unfolding writes
+does-write room {r = r} {bytes = bytes} {after = after} c fits e w =
+    let done = writes-blank (subst (λ (xs : List ℕ). Writes xs 0 bytes after r) e w) fits in
+    record { answers = ap written (done .1) ∙ sym (ap (λ (x : Outcome). x .answer) c); leaves = done .0 ∙ sym (ap (λ (x : Outcome). x .lent) c) }
+
+-- the same room, as the buffer has it that was cleared
+pub moved : (call : ℕ → Outcome) {r : Rewritten} {out : List ℕ} {n room : ℕ} → n ≡ room → Does (call n) r out → Does (call room) r out
+moved call {r} {out} e h = subst (λ (k : ℕ). Does (call k) r out) e h
+
 no-literals : (bs : List Literal) → 0 ≡ length bs → bs ≡ []
 no-literals [] e = refl
 no-literals (b ∷ bs) e = absurd (omega arith)
 
 module _ (l : FullLayout) (bytes : List ℕ) (p : Passing l bytes) (room : ℕ) where
-  passed : refusalOf oldChecks (given bytes room) ≡ none
-  passed = accepts-none bytes room (p .accepted)
-
   full : hasRoom room (rewriteOf bytes) ≡ false → (out : List ℕ) → out ≡ replicate room 0 → Does (rewriteCall bytes room) (answer.Refused 27 0) out
-  unfolding blank refusal
-  full h out e =
-      let c = call-full bytes room passed h in
-      record { answers = sym (ap (λ (o : Outcome). o .answer) c); leaves = e ∙ sym (ap (λ (o : Outcome). o .lent) c) }
+  full h out e = does-blank room (call-full rewritingOld bytes room (p .accepted) h) e
 
   wrote : hasRoom room (rewriteOf bytes) ≡ true → length (encode (rewriteOf bytes)) ≤ room → (before after : List ℕ) (r : ℕ) → before ≡ replicate room 0 → Writes before 0 (encode (rewriteOf bytes)) after r → Does (rewriteCall bytes room) (answer.Written r) after
-  unfolding writes
-  wrote h fits before after r e w =
-      let c = call-writes bytes room passed h in
-      let done = writes-blank (subst (λ (xs : List ℕ). Writes xs 0 (encode (rewriteOf bytes)) after r) e w) fits in
-      record { answers = ap written (done .1) ∙ sym (ap (λ (o : Outcome). o .answer) c); leaves = done .0 ∙ sym (ap (λ (o : Outcome). o .lent) c) }
+  wrote h fits before after r e w = does-write room (call-writes rewritingOld bytes room (p .accepted) h) fits e w
 
   -- "others are copied"
   module _ (none-held : l .«boolean_count» ≡ 0) where
@@ -110,17 +115,10 @@ module _ (l : FullLayout) (bytes : List ℕ) (p : Passing l bytes) (room : ℕ) 
 
 -- The checks
 
-module _ (bytes : List ℕ) (room : ℕ) where
-  pub refuses : {k place : ℕ} → FullCheckedAs (checked.Refused k place) bytes 60 3 → (out : List ℕ) → out ≡ replicate room 0 → Does (rewriteCall bytes room) (answer.Refused k place) out
-  unfolding blank refusal oldChecks oldSections layoutNumbers
-  refuses {k} {place} h out e =
-      let c = call-refused bytes room (calls.refused k place) (h three-number (given bytes room) refl) in
-      record { answers = sym (ap (λ (o : Outcome). o .answer) c); leaves = e ∙ sym (ap (λ (o : Outcome). o .lent) c) }
-
-  -- of a buffer that was cleared
-  pub moved : {r : Rewritten} {out : List ℕ} {n : ℕ} → n ≡ room → Does (rewriteCall bytes n) r out → Does (rewriteCall bytes room) r out
-  moved {r} {out} e h = subst (λ (k : ℕ). Does (rewriteCall bytes k) r out) e h
+pub refuses : (bytes : List ℕ) (room : ℕ) {k place : ℕ} → FullCheckedAs (checked.Refused k place) bytes 60 3 → (out : List ℕ) → out ≡ replicate room 0 → Does (rewriteCall bytes room) (answer.Refused k place) out
+unfolding oldSections layoutNumbers
+refuses bytes room {k} {place} h out e = does-blank room (call-refused rewritingOld bytes room (calls.refused k place) (h three-number (given bytes room) refl)) e
 
 pub passing : (l : FullLayout) (bytes : List ℕ) → FullCheckedAs (checked.Accepted l) bytes 60 3 → Passing l bytes
-unfolding oldChecks oldSections
-passing l bytes h = record { laid = h .1; accepted = none-accepts bytes 0 (h .0 (given bytes 0) refl) }
+unfolding oldSections
+passing l bytes h = record { laid = h .1; accepted = none-accepts rewritingOld bytes 0 (h .0 (given bytes 0) refl) }

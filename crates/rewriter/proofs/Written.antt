@@ -8,11 +8,12 @@ use lib.ListN.{length, take, drop, length-append, length-map, length-drop}
 use lib.Seq.{take-at, drop-at, length-take-le}
 use Rattle.logic.specs.Search.{from, flatMap}
 use Rattle.logic.specs.Query.{Literal, Query, termCount, Role, signRole, numberRole, booleanSection, parts, literals, section}
-use Rattle.logic.proofs.Basics.Count.{length-flatMap}
-use Rattle.logic.proofs.Query.Bytes.{Allowed}
+use Rattle.theory.proofs.Basics.Count.{length-flatMap}
+use Rattle.theory.proofs.Query.Bytes.{Allowed}
 use Rattle.encoding.specs.QueryBytes.{literalBytes, sectionBytes, encode}
 use Rattle.encoding.proofs.Recovered.{sign-allowed}
 use Rattle.query.specs.LaysOut.{LaysOutAs}
+use Rattle.query.specs.declared.Layout.{Layout}
 use Rattle.query.specs.declared.FullLayout.{FullLayout}
 use Rattle.rewriting.specs.OldQuery.{oldSections, flags, decodeOld}
 use Rattle.rewriting.specs.Rewritten.{asField, withFresh, rewritten, rewrite}
@@ -24,7 +25,7 @@ use Rattle.rewriter.specs.Bytes.{cut, fieldBytes, termBytes, dataBytes, 
 use Rattle.rewriter.specs.Promise.{Passing}
 
 -- the part between two others
-cut-at : (xs ys zs : List ℕ) (i j : ℕ) → length xs ≡ i → i + length ys ≡ j → cut (xs ++ (ys ++ zs)) i j ≡ ys
+pub cut-at : (xs ys zs : List ℕ) (i j : ℕ) → length xs ≡ i → i + length ys ≡ j → cut (xs ++ (ys ++ zs)) i j ≡ ys
 unfolding cut
 cut-at xs ys zs i j e f =
     let n : length ys ≡ j - i = omega arith in
@@ -48,6 +49,22 @@ flatMap-append {B} g (x ∷ xs) ys = ap (λ (zs : List B). g x ++ zs) (flatMap-a
 literal-bytes : (ls : List Literal) → length (flatMap literalBytes ls) ≡ 3 * length ls
 unfolding literalBytes
 literal-bytes ls = length-flatMap literalBytes 3 (λ l. refl) ls ∙ omega arith
+
+-- how many literals the sections of a query have that is laid out
+module _ {q : Query} {l : Layout} {bytes : List ℕ} (laid : LaysOutAs q l bytes) where
+  counted : (ls : List Literal) (at k : ℕ) → at + 3 * k ≤ length bytes → ls ≡ literals (take (3 * k) (drop at bytes)) → k ≡ length ls
+  counted ls at k fit e =
+      let long : length (take (3 * k) (drop at bytes)) ≡ k * 3 = length-take-le (3 * k) (drop at bytes) (omega (arith, length-drop at bytes)) ∙ omega arith in
+      sym (ap length e ∙ literals-count k (take (3 * k) (drop at bytes)) long)
+
+  pub equal-count : l .«equal_count» ≡ length (q .equalities)
+  equal-count = counted (q .equalities) (l .«equal_at») (l .«equal_count») (laid .equal-fit) (laid .equal-are)
+
+  pub reach-count : l .«reach_count» ≡ length (q .reachability)
+  reach-count = counted (q .reachability) (l .«reach_at») (l .«reach_count») (laid .reach-fit) (laid .reach-are)
+
+  pub field-count : l .«field_count» ≡ length (q .fields)
+  field-count = counted (q .fields) (l .«field_at») (l .«field_count») (laid .field-fit) (laid .field-are)
 
 -- The parts of an old query whose first four sections say q, and whose booleans are these bytes
 module _ (q : Query) (booleans : List ℕ) where
@@ -154,20 +171,14 @@ module _ (l : FullLayout) (bytes : List ℕ) (p : Passing l bytes) where
   pub terms-are : l .layout .terms ≡ termCount base
   terms-are = four .term-count
 
-  -- so many literals stand between two places
-  counted : (ls : List Literal) (at k : ℕ) → at + 3 * k ≤ length bytes → ls ≡ literals (take (3 * k) (drop at bytes)) → k ≡ length ls
-  counted ls at k fit e =
-      let long : length (take (3 * k) (drop at bytes)) ≡ k * 3 = length-take-le (3 * k) (drop at bytes) (omega (arith, length-drop at bytes)) ∙ omega arith in
-      sym (ap length e ∙ literals-count k (take (3 * k) (drop at bytes)) long)
-
   pub equal-counted : l .layout .«equal_count» ≡ length (base .equalities)
-  equal-counted = counted (base .equalities) (l .layout .«equal_at») (l .layout .«equal_count») (four .equal-fit) (four .equal-are)
+  equal-counted = equal-count four
 
   pub reach-counted : l .layout .«reach_count» ≡ length (base .reachability)
-  reach-counted = counted (base .reachability) (l .layout .«reach_at») (l .layout .«reach_count») (four .reach-fit) (four .reach-are)
+  reach-counted = reach-count four
 
   pub field-counted : l .layout .«field_count» ≡ length (base .fields)
-  field-counted = counted (base .fields) (l .layout .«field_at») (l .layout .«field_count») (four .field-fit) (four .field-are)
+  field-counted = field-count four
 
   -- the booleans
   part-is : part ≡ take (2 * l .«boolean_count») (drop (l .«boolean_at») bytes)

@@ -6,8 +6,8 @@ use mathlib.Core.List.{List}
 use Rattle.query.specs.LaysOut.{FullLaysOut}
 use Rattle.query.specs.declared.FullLayout.{FullLayout}
 use Rattle.rewriting.specs.OldQuery.{acceptsOld}
-use Rattle.rewriting.specs.Call.{Outcome}
-use Rattle.rewriting.specs.Call as call
+use Rattle.encoding.specs.WritingCall.{Outcome}
+use Rattle.encoding.specs.WritingCall as call
 use Rattle.rewriter.specs.declared.Rewritten.{Rewritten}
 use Rattle.rewriter.specs.declared.Rewritten.the-variants as answer
 

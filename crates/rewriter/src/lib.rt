@@ -17,7 +17,7 @@ pub enum Rewritten {
 }
 
 // The bytes of the query from one place to another.
-fn put_part(query: &[u8], from: usize, end: usize, out: &mut [u8], to: usize) -> usize
+pub fn put_part(query: &[u8], from: usize, end: usize, out: &mut [u8], to: usize) -> usize
     requires { ⌜ (from ≤ end) × (end ≤ length (now query)) × (to + length (now query) ≤ 2000) ⌝ }
     ensures { λ r. ⌜ Writes (now (out .entry)) to (cut (now (query .entry)) from end) (now (out .exit)) r ⌝ }
 {

@@ -5,28 +5,27 @@ use mathlib.Core.Path.{_≡_, refl, sym, ap, _∙_, subst}
 use mathlib.Core.Logic.{_↔_}
 use mathlib.Core.Bool.{true}
 use mathlib.Core.List.{List, [], _∷_}
-use lib.ListN.{take}
-use lib.Seq.{take-at}
 use Rattle.logic.specs.Query.{decode}
 use Rattle.logic.specs.Heap.{Satisfiable}
 use Rattle.logic.specs.Calls.{Input, layoutCheck, byteCheck, formChecks, accepts, padded}
 use Rattle.logic.specs.Demands.{numbers}
-use Rattle.logic.proofs.Calls.Demands.{demand2}
-use Rattle.encoding.specs.QueryBytes.{encode}
+use Rattle.theory.proofs.Calls.Demands.{demand2}
+use Rattle.encoding.specs.WritingCall.{Answer, roomCheck, writingChecks}
 use Rattle.encoding.proofs.Encoded.{Encodable, decoded}
 use Rattle.encoding.proofs.Decoded.{encoded-accepts}
-use Rattle.rewriting.specs.OldQuery.{oldChecks, acceptsOld, decodeOld}
+use Rattle.encoding.proofs.WritingCall.{Wrote, wrote}
+use Rattle.rewriting.specs.OldQuery.{acceptsOld, decodeOld}
 use Rattle.rewriting.specs.OldHeap.{SatisfiableOld}
-use Rattle.rewriting.specs.Call.{Answer, rewriteOf, roomCheck, rewriteChecks, rewriteCall}
+use Rattle.rewriting.specs.Call.{rewriteOf, rewritingOld, rewriteCall}
 use Rattle.rewriting.specs.Claims.{Rewriting, Written, taken, Claims}
 use Rattle.rewriting.proofs.SameVerdict.{same-verdict}
 use Rattle.rewriting.proofs.OldBytes.{base-accepted, base-linked, booleans-linked, base-limits, boolean-number}
-use Rattle.rewriting.proofs.Encoded.{encode-within, rewrite-limits, rewrite-encodable}
+use Rattle.rewriting.proofs.Encoded.{Room, room-has, encode-within, rewrite-limits, rewrite-encodable}
 use Rattle.rewriting.proofs.Copied.{copied, copied-accepts}
-use Rattle.rewriting.proofs.Calls.{refusals, Wrote, wrote}
+use Rattle.rewriting.proofs.Calls.{refusals}
 
-pub checked-in-order : numbers rewriteChecks ≡ 2 ∷ 3 ∷ 26 ∷ 4 ∷ 5 ∷ 6 ∷ 7 ∷ 8 ∷ 27 ∷ []
-unfolding rewriteChecks oldChecks formChecks layoutCheck byteCheck roomCheck
+pub checked-in-order : numbers (writingChecks rewritingOld) ≡ 2 ∷ 3 ∷ 26 ∷ 4 ∷ 5 ∷ 6 ∷ 7 ∷ 8 ∷ 27 ∷ []
+unfolding writingChecks formChecks layoutCheck byteCheck roomCheck
 checked-in-order = refl
 
 pub rewriting : (bytes : List ℕ) → acceptsOld bytes ≡ true → Rewriting bytes
@@ -42,8 +41,11 @@ along : {P Q R : Type 0} → (P ↔ Q) → (Q ↔ R) → P ↔ R
 along e f = (λ p. f .0 (e .0 p), λ r. e .1 (f .1 r))
 
 module _ (bytes : List ℕ) (room n : ℕ) (h : rewriteCall bytes room .answer ≡ Answer.written n) where
-  did : Wrote bytes room n
-  did = wrote bytes room n h
+  did : Wrote rewritingOld bytes room n
+  did = wrote rewritingOld bytes room n h
+
+  room-there : Room room (rewriteOf bytes)
+  room-there = room-has room (rewriteOf bytes) (did .room-there)
 
   old-verdict : SatisfiableOld (decodeOld bytes) ↔ Satisfiable (rewriteOf bytes)
   old-verdict = same-verdict (decodeOld bytes) (base-accepted bytes (did .accepted))
@@ -51,14 +53,10 @@ module _ (bytes : List ℕ) (room n : ℕ) (h : rewriteCall bytes room .answer �
   encodable : Encodable (rewriteOf bytes)
   encodable =
       let a = did .accepted in
-      rewrite-encodable (decodeOld bytes) (base-accepted bytes a) (base-linked bytes) (booleans-linked bytes) (base-limits bytes a) (boolean-number bytes a) room (did .room-there)
-
-  is-rewriting : taken bytes room n ≡ encode (rewriteOf bytes)
-  unfolding padded
-  is-rewriting = ap (take n) (did .leaves) ∙ take-at (encode (rewriteOf bytes)) _ n (sym (did .counted))
+      rewrite-encodable (decodeOld bytes) (base-accepted bytes a) (base-linked bytes) (booleans-linked bytes) (base-limits bytes a) (boolean-number bytes a) room room-there
 
   says : decode (taken bytes room n) ≡ rewriteOf bytes
-  says = ap decode is-rewriting ∙ decoded (rewriteOf bytes) encodable
+  says = ap decode (did .taken) ∙ decoded (rewriteOf bytes) encodable
 
   verdict : SatisfiableOld (decodeOld bytes) ↔ Satisfiable (decode (taken bytes room n))
   verdict = subst (λ q. SatisfiableOld (decodeOld bytes) ↔ Satisfiable q) (sym says) old-verdict
@@ -70,10 +68,10 @@ module _ (bytes : List ℕ) (room n : ℕ) (h : rewriteCall bytes room .answer �
   pub written : Written bytes room n
   written =
       record {
-        is-rewriting = is-rewriting;
-        zeros-follow = did .leaves ∙ ap (padded room) (sym is-rewriting);
-        within = let a = did .accepted in omega (arith, did .counted, encode-within (rewriteOf bytes) (rewrite-limits (decodeOld bytes) (base-accepted bytes a) (base-linked bytes) (booleans-linked bytes) (base-limits bytes a) (boolean-number bytes a) room (did .room-there)));
-        accepted = ap accepts is-rewriting ∙ encoded-accepts (rewriteOf bytes) encodable;
+        is-rewriting = did .taken;
+        zeros-follow = did .leaves ∙ ap (padded room) (sym (did .taken));
+        within = let a = did .accepted in omega (arith, did .counted, encode-within (rewriteOf bytes) (rewrite-limits (decodeOld bytes) (base-accepted bytes a) (base-linked bytes) (booleans-linked bytes) (base-limits bytes a) (boolean-number bytes a) room room-there));
+        accepted = ap accepts (did .taken) ∙ encoded-accepts (rewriteOf bytes) encodable;
         says = says;
         same-verdict = verdict;
         satisfiable-exactly = λ i e r. along (demand2 .satisfiable-exactly i r) (of-call i e);

@@ -10,7 +10,7 @@ use lib.ListN.{length}
 use Rattle.logic.specs.Search.{at}
 use Rattle.logic.specs.Query.{Query, termCount, Section, termRole, numberRole, fourSections, booleanSection, fiveSections, parts, firstByte, layoutBy, section, queryOf}
 use Rattle.logic.specs.Calls.{accepts}
-use Rattle.logic.proofs.Query.Bytes.{Part}
+use Rattle.theory.proofs.Query.Bytes.{Part}
 use Rattle.encoding.specs.QueryBytes.{sectionBytes, encode}
 use Rattle.encoding.proofs.Encoded.{limits-within}
 use Rattle.encoding.proofs.Decoded.{encoded-accepts}

@@ -9,12 +9,12 @@ use lib.ListN.{length, length-append}
 use borrow.Author.Tests.{leb-true, le-leb}
 use Rattle.logic.specs.Search.{_and_}
 use Rattle.logic.specs.Query.{Literal, Query, termCount, argumentOf, linkOf}
-use Rattle.logic.proofs.Basics.Search.{and-left, and-right, and-intro, map-mem}
-use Rattle.logic.proofs.Basics.Compare.{le-cases}
-use Rattle.logic.proofs.Basics.Count.{length-flatMap}
-use Rattle.logic.proofs.Query.Tied.{Accepted, InTerms, InLinks, ToEight}
-use Rattle.logic.proofs.Query.Entries.{argument-range}
-use Rattle.logic.proofs.Soundness.Value.{accepted-below}
+use Rattle.theory.proofs.Basics.Search.{and-left, and-right, and-intro, map-mem}
+use Rattle.theory.proofs.Basics.Compare.{le-cases}
+use Rattle.theory.proofs.Basics.Count.{length-flatMap}
+use Rattle.theory.proofs.Query.Tied.{Accepted, InTerms, InLinks, ToEight}
+use Rattle.theory.proofs.Query.Entries.{argument-range}
+use Rattle.theory.proofs.Soundness.Value.{accepted-below}
 use Rattle.encoding.specs.QueryBytes.{literalBytes, sectionBytes, encode}
 use Rattle.encoding.proofs.Encoded.{Limits, limits-within, AboutOne, OneLinked, Encodable}
 use Rattle.rewriting.specs.OldQuery.{OldQuery}

@@ -10,10 +10,10 @@ use lib.ListN.{length, getD}
 use lib.Dec.{eqb}
 use Rattle.logic.specs.Query.{Literal, Entries, Query, entryOf, linkOf, namesNil, argumentOf, termCount}
 use Rattle.logic.specs.Heap.{Heap, valueWithin, value, Reaches, Signed, MeansField, Each, Meets}
-use Rattle.logic.proofs.Basics.Search.{map-mem, map-intro}
-use Rattle.logic.proofs.Basics.Compare.{le-cases}
-use Rattle.logic.proofs.Query.Entries.{argument-range}
-use Rattle.logic.proofs.Soundness.Value.{value-variable}
+use Rattle.theory.proofs.Basics.Search.{map-mem, map-intro}
+use Rattle.theory.proofs.Basics.Compare.{le-cases}
+use Rattle.theory.proofs.Query.Entries.{argument-range}
+use Rattle.theory.proofs.Soundness.Value.{value-variable}
 use Rattle.rewriting.specs.Rewritten.{asField, withFresh}
 
 -- what lies outside of the entries counts as a variable, so one more variable changes no entry

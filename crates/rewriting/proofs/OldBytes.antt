@@ -11,15 +11,16 @@ use lib.Dec.{ltb, leb}
 use borrow.Author.Tests.{ltb-true, leb-true}
 use Rattle.logic.specs.Search.{_and_, from, at, flatMap}
 use Rattle.logic.specs.Query.{Literal, Role, Section, signRole, numberRole, fourSections, booleanSection, fiveSections, Layout, parts, firstByte, layoutBy, section, queryOf, termCount, literals}
-use Rattle.logic.specs.Calls.{Check}
-use Rattle.logic.proofs.Basics.Search.{and-left, and-right, not-true, isSome-false}
-use Rattle.logic.proofs.Query.Tied.{Accepted, ToEight}
-use Rattle.logic.proofs.Query.Bytes.{Allows, Allowed, Part, three-number}
-use Rattle.logic.proofs.Query.AcceptedBytes.{Passes, form-passes, LaidOut, booleans, five-laid, five-accepted}
-use Rattle.logic.proofs.Calls.CallLaws.{refusalOf-none}
+use Rattle.logic.specs.Calls.{Check, formChecks}
+use Rattle.theory.proofs.Basics.Search.{and-left, and-right, not-true, isSome-false}
+use Rattle.theory.proofs.Query.Tied.{Accepted, ToEight}
+use Rattle.theory.proofs.Query.Bytes.{Allows, Allowed, Part, three-number}
+use Rattle.theory.proofs.Query.AcceptedBytes.{Passes, form-passes, LaidOut, booleans, five-laid, five-accepted}
+use Rattle.theory.proofs.Calls.CallLaws.{refusalOf-none}
+use Rattle.encoding.specs.WritingCall.{given, acceptsIn}
 use Rattle.encoding.proofs.Encoded.{Limits, AboutOne, OneLinked}
 use Rattle.encoding.proofs.Decoded.{layout-linked}
-use Rattle.rewriting.specs.OldQuery.{oldSections, oldChecks, given, acceptsOld, flags, booleanPart, decodeOld}
+use Rattle.rewriting.specs.OldQuery.{oldSections, acceptsOld, flags, booleanPart, decodeOld}
 
 -- the literals of sections of three bytes an entry, and of two
 pub literals-count : (c : ℕ) (bytes : List ℕ) → length bytes ≡ c * 3 → length (literals bytes) ≡ c
@@ -70,12 +71,12 @@ number-allows b h =
     (ltb-true 0 b (and-left (ltb 0 b) (leb b 8) e), leb-true b 8 (and-right (ltb 0 b) (leb b 8) e))
 
 module _ (bytes : List ℕ) (h : acceptsOld bytes ≡ true) where
-  pub old-clear : (c : Check) → List·Memᴰ c oldChecks → c .place (given bytes 0) ≡ none
-  unfolding acceptsOld
-  old-clear = refusalOf-none oldChecks (given bytes 0) (isSome-false _ (not-true h))
+  pub old-clear : (c : Check) → List·Memᴰ c (formChecks oldSections) → c .place (given bytes 0) ≡ none
+  unfolding acceptsIn
+  old-clear = refusalOf-none (formChecks oldSections) (given bytes 0) (isSome-false _ (not-true h))
 
   pub old-passes : Passes (fiveSections 60 3) bytes
-  unfolding oldChecks oldSections
+  unfolding oldSections
   old-passes = form-passes (fiveSections 60 3) (given bytes 0) old-clear
 
   pub old-laid : LaidOut (booleans 60 3 three-number) bytes

@@ -10,10 +10,10 @@ use lib.Dec.{eqb, leb}
 use borrow.Author.Tests.{le-leb, lt-leb}
 use Rattle.logic.specs.Query.{Literal, Query, argumentOf, linkOf, termCount}
 use Rattle.logic.specs.Heap.{Heap, Node, IsHeap, value, iterate, Reaches, Signed, Each, Meets, Satisfiable}
-use Rattle.logic.proofs.Basics.Compare.{eqb-self, eqb-false, le-cases}
-use Rattle.logic.proofs.Query.Tied.{Accepted, InTerms}
-use Rattle.logic.proofs.Query.Entries.{nil-range}
-use Rattle.logic.proofs.Soundness.Value.{Below, accepted-below, value-variable, value-link, value-node}
+use Rattle.theory.proofs.Basics.Compare.{eqb-self, eqb-false, le-cases}
+use Rattle.theory.proofs.Query.Tied.{Accepted, InTerms}
+use Rattle.theory.proofs.Query.Entries.{nil-range}
+use Rattle.theory.proofs.Soundness.Value.{Below, accepted-below, value-variable, value-link, value-node}
 use Rattle.rewriting.specs.OldQuery.{OldQuery}
 use Rattle.rewriting.specs.OldHeap.{OldHeap, MeansBoolean, SatisfiableOld}
 use Rattle.rewriting.specs.Rewritten.{rewritten, rewrite}

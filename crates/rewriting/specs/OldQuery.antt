@@ -1,11 +1,10 @@
 -- Queries as they stood with booleans: "Booleans, 0 to 60: sign, number 1 to 8." (01, "Query bytes")
 use Prim.Native.Nat.{ℕ}
-use mathlib.Core.Bool.{Bool, not}
+use mathlib.Core.Bool.{Bool}
 use mathlib.Core.List.{List, [], _∷_}
 use lib.Dec.{eqb}
-use Rattle.logic.specs.Search.{isSome}
 use Rattle.logic.specs.Query.{Literal, Query, literal, Form, fiveSections, Layout, faulty, parts, layoutBy, section, queryOf}
-use Rattle.logic.specs.Calls.{Input, Check, formChecks, refusalOf}
+use Rattle.encoding.specs.WritingCall.{acceptsIn}
 
 -- a query and its booleans; a boolean literal has its number on the left, and 0 on the right
 pub record OldQuery : Type 0 where
@@ -16,17 +15,9 @@ pub record OldQuery : Type 0 where
 unfoldable pub oldSections : Form
 oldSections = fiveSections 60 3
 
--- "the rewriting keeps 2 to 8 as they stood" (02, R-13)
-unfoldable pub oldChecks : List Check
-oldChecks = formChecks oldSections
-
--- bytes alone, as the checks take them
-abbrev pub given : List ℕ → ℕ → Input
-given bytes room = record { order = []; query = bytes; room = room }
-
--- "A query is accepted if it passes checks 2 to 8": these
-unfoldable pub acceptsOld : List ℕ → Bool
-acceptsOld bytes = not (isSome (refusalOf oldChecks (given bytes 0)))
+-- "A query is accepted if it passes checks 2 to 8": these, since "the rewriting keeps 2 to 8 as they stood" (02, R-13)
+abbrev pub acceptsOld : List ℕ → Bool
+acceptsOld = acceptsIn oldSections
 
 -- the literals of a section of two bytes an entry
 unfoldable pub flags : List ℕ → List Literal

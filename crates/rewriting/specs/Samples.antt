@@ -6,7 +6,8 @@ use lib.ListN.{length}
 use Rattle.logic.specs.Calls.{padded}
 use Rattle.logic.specs.Calls as calls
 use Rattle.logic.specs.EdgeExamples.{times}
-use Rattle.rewriting.specs.Call.{Outcome, written, blank, rewriteCall}
+use Rattle.encoding.specs.WritingCall.{Outcome, written, blank}
+use Rattle.rewriting.specs.Call.{rewriteCall}
 
 -- an old query, how many bytes are lent, and what the call answers and leaves
 pub record Sample : Type 0 where

@@ -14,9 +14,9 @@ use Rattle.logic.specs.Search.{_and_, _or_, from, keep, any, orElse, firstOf, f
 use Rattle.logic.specs.Heap.{iterate}
 use Rattle.logic.specs.Facts.{Graph, terms}
 use Rattle.logic.specs.Rules.{Rule, CYCLE, Triple, triple, move, equal, next, returns, round, conditions, alternatives, held}
-use Rattle.logic.proofs.Basics.Compare.{eq-cases, le-cases}
-use Rattle.logic.proofs.Basics.Search.{firstOf-empty, find-some, from-mem}
-use Rattle.logic.proofs.Basics.Iterate.{iterate-suc, iterate-add}
+use Rattle.theory.proofs.Basics.Compare.{eq-cases, le-cases}
+use Rattle.theory.proofs.Basics.Search.{firstOf-empty, find-some, from-mem}
+use Rattle.theory.proofs.Basics.Iterate.{iterate-suc, iterate-add}
 use Rattle.facts.specs.Path.{graphOf, linksIn}
 use Rattle.rules.specs.Cycle.{stepsTo}
 use Rattle.rules.specs.Smallest.{allowed, inThird, inSecond}

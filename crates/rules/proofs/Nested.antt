@@ -2,24 +2,25 @@
 use Prim.Native.Nat.{ℕ, suc, _+_, _-_, _≤_, _<_}
 use native.Mathlib.Omega.{arith}
 use native.Mathlib.Numerals.{add-one}
-use mathlib.Core.Path.{_≡_, refl, sym, ap, _∙_, fun-ext}
+use mathlib.Core.Path.{_≡_, refl, sym, ap, ap₂, _∙_, fun-ext}
 use mathlib.Core.Bool.{Bool, true, false, not, cond, true≢false, false≢true}
-use mathlib.Core.List.{List, [], _∷_, _++_, map}
+use mathlib.Core.List.{List, [], _∷_, _++_, map, List·Memᴰ, List·Memᴰ·head, List·Memᴰ·tail}
 use mathlib.Core.Option.{Option, none, some, Option·elim}
 use lib.ListN.{length, getD, drop, drop-of-length-le}
 use lib.Seq.{drop-cons}
 use lib.Dec.{eqb}
 use Rattle.logic.specs.Search.{_and_, _or_, from, keep, any, orElse, firstOf, find, flatMap}
-use Rattle.logic.specs.Facts.{Graph, Facts, live}
-use Rattle.logic.specs.Rules.{Rule, REFLEX, TRANS1, TRANS2, FUNC, CYCLE, SCC, TOTAL, SHARE, Triple, triple, Move, move, conditions, alternatives, held, triples, ruleOf, choose}
+use Rattle.logic.specs.Facts.{Graph, Facts, linkNumbers, live}
+use Rattle.logic.specs.Rules.{Rule, REFLEX, TRANS1, TRANS2, FUNC, CYCLE, SCC, TOTAL, SHARE, Triple, triple, Move, move, conditions, alternatives, held, hasLink, applies, triples, ruleOf, choose}
 use Rattle.logic.specs.Walk.{orderOf}
-use Rattle.logic.proofs.Basics.Search.{firstOf-empty}
-use Rattle.logic.proofs.Calls.OneLink.{choose-one, applies-local}
-use Rattle.facts.specs.declared.Facts as code
-use Rattle.facts.specs.Bits.{bit}
-use Rattle.facts.specs.Path.{onlyLink, graphOf, pathOf}
+use Rattle.theory.proofs.Basics.Search.{firstOf-empty, from-mem}
+use Rattle.theory.proofs.Paths.Ranged.{InRange}
+use Rattle.theory.proofs.Paths.Applies.{hasLink-intro}
+use Rattle.theory.proofs.Calls.OneLink.{firstOf-one, conditions-local, held-local}
+use Rattle.facts.specs.Path.{graphOf}
+use Rattle.facts.specs.Square.{square}
 use Rattle.rules.specs.Tests.{pairTest, thirdTest, looped}
-use Rattle.rules.specs.Smallest.{allowed, inThird, inSecond, inFirst, moveAt, triedAt}
+use Rattle.rules.specs.Smallest.{allowed, inThird, inSecond, inFirst, moveAt, triedAt, triedBy}
 
 -- a rule's test is in two halves
 module _ (n : ℕ) (alive : ℕ → Bool) (g : Graph) (x y z : ℕ) where
@@ -169,22 +170,36 @@ module _ (n : ℕ) (alive : ℕ → Bool) (g : Graph) (r : Rule) (l : looped r �
     unfolding Option·elim
     third-at z f = third-search ∙ keep-through (λ z. thirdTest g x y z r) (triple x y) (from (n + 1 - 0) 0) ∙ rw f
 
-module _ (n : ℕ) (alive : ℕ → Bool) (g : Graph) where
-  first-find : (r : Rule) → inFirst n alive g r ≡ find (λ t. allowed n alive g (move 1 r t)) (triples n)
-  unfolding inFirst inSecond inThird find
-  first-find r = sym (nested n (λ t. keep (allowed n alive g (move 1 r t)) t))
+-- the test of a rule is the same by whichever link
+pub allowed-any : (i n : ℕ) (alive : ℕ → Bool) (g : Graph) (r : Rule) (t : Triple) → allowed n alive g (move i r t) ≡ allowed n alive g (move 1 r t)
+unfolding allowed conditions alternatives held any
+allowed-any i n alive g REFLEX (triple x y z) = refl
+allowed-any i n alive g TRANS1 (triple x y z) = refl
+allowed-any i n alive g TRANS2 (triple x y z) = refl
+allowed-any i n alive g FUNC (triple x y z) = refl
+allowed-any i n alive g CYCLE (triple x y z) = refl
+allowed-any i n alive g SCC (triple x y z) = refl
+allowed-any i n alive g TOTAL (triple x y z) = refl
+allowed-any i n alive g SHARE (triple x y z) = refl
 
-  pub tried-none : (k : ℕ) → ruleOf k ≡ none → triedAt n alive g k ≡ none
+module _ (n : ℕ) (alive : ℕ → Bool) (g : Graph) (i : ℕ) where
+  first-find : (r : Rule) → inFirst n alive g r ≡ find (λ t. allowed n alive g (move i r t)) (triples n)
+  unfolding inFirst inSecond inThird find
+  first-find r =
+      sym (nested n (λ t. keep (allowed n alive g (move 1 r t)) t))
+      ∙ ap (λ (p : Triple → Bool). find p (triples n)) (fun-ext (λ t. sym (allowed-any i n alive g r t)))
+
+  pub tried-none : (k : ℕ) → ruleOf k ≡ none → triedAt i n alive g k ≡ none
   unfolding triedAt Option·elim
   tried-none k e = rw e
 
-  pub tried-nowhere : (k : ℕ) (r : Rule) → ruleOf k ≡ some r → inFirst n alive g r ≡ none → triedAt n alive g k ≡ none
+  pub tried-nowhere : (k : ℕ) (r : Rule) → ruleOf k ≡ some r → inFirst n alive g r ≡ none → triedAt i n alive g k ≡ none
   unfolding triedAt moveAt Option·elim
-  tried-nowhere k r e f = rw (e, keep-through (λ t. allowed n alive g (move 1 r t)) (move 1 r) (triples n), sym (first-find r), f)
+  tried-nowhere k r e f = rw (e, keep-through (λ t. allowed n alive g (move i r t)) (move i r) (triples n), sym (first-find r), f)
 
-  pub tried-at : (k : ℕ) (r : Rule) (t : Triple) → ruleOf k ≡ some r → inFirst n alive g r ≡ some t → triedAt n alive g k ≡ some (move 1 r t)
+  pub tried-is : (k : ℕ) (r : Rule) (t : Triple) → ruleOf k ≡ some r → inFirst n alive g r ≡ some t → triedAt i n alive g k ≡ some (move i r t)
   unfolding triedAt moveAt Option·elim
-  tried-at k r t e f = rw (e, keep-through (λ u. allowed n alive g (move 1 r u)) (move 1 r) (triples n), sym (first-find r), f)
+  tried-is k r t e f = rw (e, keep-through (λ u. allowed n alive g (move i r u)) (move i r) (triples n), sym (first-find r), f)
 
 firstOf-option : {A B : Type 0} (f : A → Option B) (o : Option A) → firstOf f (Option·elim o [] (λ a. a ∷ [])) ≡ Option·elim o none f
 unfolding firstOf orElse Option·elim
@@ -195,17 +210,73 @@ firstOf-option f (some a) = go (f a)
     go none = refl
     go (some b) = refl
 
--- the order list, byte after byte
-choose-search : (n : ℕ) (s : Facts) → s .links ≡ 1 → (order : List ℕ) → choose n (orderOf order) s ≡ firstOf (triedAt n (live n s) (s .graph 1)) order
-unfolding orderOf triedAt moveAt allowed
-choose-search n s one order =
-    choose-one n s one (orderOf order)
-    ∙ ap (λ (a : Rule → Triple → Bool). firstOf (λ r. firstOf (λ t. keep (a r t) (move 1 r t)) (triples n)) (orderOf order)) (fun-ext (λ r. fun-ext (applies-local n s one r)))
-    ∙ firstOf-flatMap _ _ order ∙ ap (λ (f : ℕ → Option Move). firstOf f order) (fun-ext (λ k. firstOf-option _ (ruleOf k)))
+-- searches that answer alike on what they meet
+firstOf-alike : {A B : Type 0} (f g : A → Option B) (xs : List A) → ((x : A) → List·Memᴰ x xs → f x ≡ g x) → firstOf f xs ≡ firstOf g xs
+unfolding firstOf
+firstOf-alike f g [] h = refl
+firstOf-alike f g (x ∷ xs) h = ap₂ orElse (h x (List·Memᴰ·head refl)) (firstOf-alike f g xs (λ y m. h y (List·Memᴰ·tail m)))
 
-pub choose-lent : (n : ℕ) (s : code.Facts) (alive : ℕ) (order : List ℕ) → bit alive ≡ live n (pathOf s) → choose n (orderOf order) (pathOf s) ≡ firstOf (triedAt n (bit alive) (graphOf (s .link) (s .reach))) order
-unfolding pathOf onlyLink
-choose-lent n s alive order e = choose-search n (pathOf s) refl order ∙ ap (λ (a : ℕ → Bool). firstOf (triedAt n a (graphOf (s .link) (s .reach))) order) (sym e)
+-- by a link of the path, a rule applies where its test allows it
+pub applies-allowed : (n : ℕ) (s : Facts) (i : ℕ) → InRange (s .links) i → (r : Rule) (t : Triple) → applies n s (move i r t) ≡ allowed n (live n s) (s .graph i) (move i r t)
+unfolding applies allowed _and_
+applies-allowed n s i h r t =
+    rw (hasLink-intro (s .links) i r t h) (ap₂ (λ (b c : Bool). b and not c) (conditions-local n (live n s) (s .graph) i r t) (held-local n (live n s) (s .graph) i r t))
+
+-- the order list, byte after byte, and for each the links
+module _ (n : ℕ) (s : Facts) where
+  abbrev moved : ℕ → Rule → Option Move
+  moved i = moveAt i n (live n s) (s .graph i)
+
+  in-links : (i : ℕ) → List·Memᴰ i (linkNumbers (s .links)) → InRange (s .links) i
+  unfolding linkNumbers
+  in-links i m = let r = from-mem (s .links) 1 i m in (omega (arith, r), omega (arith, r))
+
+  by-links : (r : Rule) → firstOf (λ i. firstOf (λ t. keep (applies n s (move i r t)) (move i r t)) (triples n)) (linkNumbers (s .links)) ≡ firstOf (λ i. moved i r) (linkNumbers (s .links))
+  unfolding moveAt
+  by-links r =
+      firstOf-alike _ _ (linkNumbers (s .links)) (λ i m. ap (λ (p : Triple → Bool). firstOf (λ t. keep (p t) (move i r t)) (triples n)) (fun-ext (applies-allowed n s i (in-links i m) r)))
+
+  inside : (o : Option Rule) → Option·elim o none (λ r. firstOf (λ i. moved i r) (linkNumbers (s .links))) ≡ firstOf (λ i. Option·elim o none (moved i)) (linkNumbers (s .links))
+  unfolding Option·elim
+  inside none = sym (firstOf-empty _ (linkNumbers (s .links)) (λ i m. refl))
+  inside (some r) = refl
+
+  choose-by : (order : List ℕ) → choose n (orderOf order) s ≡ firstOf (triedBy n (live n s) s) order
+  unfolding choose orderOf triedBy triedAt
+  choose-by order =
+      ap (λ (f : Rule → Option Move). firstOf f (orderOf order)) (fun-ext by-links)
+      ∙ firstOf-flatMap _ _ order
+      ∙ ap (λ (f : ℕ → Option Move). firstOf f order) (fun-ext (λ k. firstOf-option _ (ruleOf k) ∙ inside (ruleOf k)))
+
+-- rows that hold the facts of a link
+pub rows-are : (link reach : List ℕ) (g : Graph) → square link ≡ g .link → square reach ≡ g .reach → graphOf link reach ≡ g
+unfolding graphOf
+rows-are link reach g l h = ap₂ (λ (f e : ℕ → ℕ → Bool). record { link = f; reach = e }) l h
+
+pub tried-rows : (i n : ℕ) (alive : ℕ → Bool) (k : ℕ) (link reach : List ℕ) (g : Graph) → square link ≡ g .link → square reach ≡ g .reach → triedAt i n alive (graphOf link reach) k ≡ triedAt i n alive g k
+tried-rows i n alive k link reach g l h = ap (λ (f : Graph). triedAt i n alive f k) (rows-are link reach g l h)
+
+-- all links, as a loop that counts them begins with them
+pub tried-from : (n : ℕ) (alive : ℕ → Bool) (s : Facts) (k total : ℕ) → total ≡ s .links → triedBy n alive s k ≡ firstOf (λ i. triedAt i n alive (s .graph i) k) (from (total + 1 - 1) 1)
+unfolding triedBy linkNumbers
+tried-from n alive s k total e = ap (λ (m : ℕ). firstOf (λ i. triedAt i n alive (s .graph i) k) (from m 1)) (sym e ∙ same)
+  where
+    same : total ≡ total + 1 - 1
+    same = omega arith
+
+-- the same of the terms that the code has found not replaced; and of a path of one link, of the rows that the code lends
+pub choose-any : (n : ℕ) (s : Facts) (alive : ℕ → Bool) (order : List ℕ) → alive ≡ live n s → choose n (orderOf order) s ≡ firstOf (triedBy n alive s) order
+choose-any n s alive order e = choose-by n s order ∙ ap (λ (a : ℕ → Bool). firstOf (triedBy n a s) order) (sym e)
+
+tried-lone : (n : ℕ) (s : Facts) (alive : ℕ → Bool) → s .links ≡ 1 → (k : ℕ) → triedBy n alive s k ≡ triedAt 1 n alive (s .graph 1) k
+unfolding triedBy linkNumbers from
+tried-lone n s alive one k = rw one (firstOf-one (λ i. triedAt i n alive (s .graph i) k) 1)
+
+pub choose-first : (n : ℕ) (s : Facts) (alive : ℕ → Bool) (link reach : List ℕ) (order : List ℕ) → alive ≡ live n s → s .links ≡ 1 → square link ≡ s .graph 1 .link → square reach ≡ s .graph 1 .reach → choose n (orderOf order) s ≡ firstOf (triedAt 1 n alive (graphOf link reach)) order
+choose-first n s alive link reach order e one l h =
+    choose-any n s alive order e
+    ∙ ap (λ (f : ℕ → Option Move). firstOf f order) (fun-ext (tried-lone n s alive one))
+    ∙ ap (λ (g : Graph). firstOf (triedAt 1 n alive g) order) (sym (rows-are link reach (s .graph 1) l h))
 
 module _ {B : Type 0} (f : ℕ → Option B) (xs : List ℕ) (i : ℕ) where
   pub rest-end : length xs ≤ i → firstOf f (drop i xs) ≡ none

@@ -14,8 +14,8 @@ use Rattle.logic.specs.Search.{_and_, _or_, from, firstOf, find, orElse, select
 use Rattle.logic.specs.Heap.{iterate}
 use Rattle.logic.specs.Facts.{Graph}
 use Rattle.logic.specs.Rules.{Rule, REFLEX, TRANS1, TRANS2, FUNC, CYCLE, SCC, TOTAL, SHARE, Triple, next, ruleOf}
-use Rattle.logic.proofs.Basics.Search.{none-some, and-left, and-right, and-false-cases, true-false, find-some, select-mem, select-intro}
-use Rattle.logic.proofs.Basics.Compare.{eq-cases}
+use Rattle.theory.proofs.Basics.Search.{none-some, and-left, and-right, and-false-cases, true-false, find-some, select-mem, select-intro}
+use Rattle.theory.proofs.Basics.Compare.{eq-cases}
 use Rattle.facts.specs.Bits.{bit}
 use Rattle.facts.specs.Square.{square, Turned}
 use Rattle.facts.specs.Path.{graphOf, linksIn}

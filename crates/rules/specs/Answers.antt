@@ -29,5 +29,5 @@ numberedOf (numbered.Is r) = some (kindOf r)
 numberedOf numbered.Nothing = none
 
 abbrev pub choiceOf : Choice → Option Move
-choiceOf (choice.Apply r x y z) = some (move 1 (kindOf r) (triple (x .0) (y .0) (z .0)))
+choiceOf (choice.Apply i r x y z) = some (move (i .0) (kindOf r) (triple (x .0) (y .0) (z .0)))
 choiceOf choice.Nothing = none

@@ -3,7 +3,7 @@ use Prim.Native.Nat.{ℕ, suc, _+_, _-_}
 use mathlib.Core.Bool.{Bool, not}
 use mathlib.Core.Option.{Option, none, Option·elim}
 use Rattle.logic.specs.Search.{_and_, from, keep, any, firstOf}
-use Rattle.logic.specs.Facts.{Graph}
+use Rattle.logic.specs.Facts.{Graph, Facts, linkNumbers}
 use Rattle.logic.specs.Rules.{Rule, Triple, triple, Move, move, ruleOf, conditions, alternatives, held, triples}
 
 -- `applies`, of the parts of a path that it reads: a rule reads the facts of its own link alone
@@ -21,9 +21,13 @@ module _ (n : ℕ) (alive : ℕ → Bool) (g : Graph) (r : Rule) where
   unfoldable pub inFirst : Option Triple
   inFirst = firstOf inSecond (from (n + 1 - 0) 0)
 
--- a rule at the smallest triple, as `choose` looks for it; and the rule that has number k
-unfoldable pub moveAt : ℕ → (ℕ → Bool) → Graph → Rule → Option Move
-moveAt n alive g r = firstOf (λ t. keep (allowed n alive g (move 1 r t)) (move 1 r t)) (triples n)
+-- a rule by link i at the smallest triple, as `choose` looks for it; and the rule that has number k
+unfoldable pub moveAt : ℕ → ℕ → (ℕ → Bool) → Graph → Rule → Option Move
+moveAt i n alive g r = firstOf (λ t. keep (allowed n alive g (move i r t)) (move i r t)) (triples n)
 
-unfoldable pub triedAt : ℕ → (ℕ → Bool) → Graph → ℕ → Option Move
-triedAt n alive g k = Option·elim (ruleOf k) none (moveAt n alive g)
+unfoldable pub triedAt : ℕ → ℕ → (ℕ → Bool) → Graph → ℕ → Option Move
+triedAt i n alive g k = Option·elim (ruleOf k) none (moveAt i n alive g)
+
+-- "within a rule link 1 is tried first" (02, R-11): the rule that has number k, by the first link of a path that allows it
+unfoldable pub triedBy : ℕ → (ℕ → Bool) → Facts → ℕ → Option Move
+triedBy n alive s k = firstOf (λ i. triedAt i n alive (s .graph i) k) (linkNumbers (s .links))

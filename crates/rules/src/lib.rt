@@ -1,19 +1,21 @@
 // The eight rules: where one applies, at the smallest triple.
 use facts::Facts;
 use facts::Found;
+use facts::Link;
 use facts::Term;
 ghost use mathlib.Core.Path.{_≡_};
 ghost use mathlib.Core.Bool.{Bool, true, false};
 ghost use mathlib.Core.List.{List};
 ghost use lib.Dec.{ltb};
 ghost use Prim.Native.Nat.{ℕ, _+_, _-_, _≤_, _<_};
-ghost use Rattle.facts.specs.Path.{graphOf, linksIn, pathOf};
+ghost use Rattle.facts.specs.Path.{graphOf, linksIn, pathOf, HasLink};
 ghost use Rattle.rules.specs.Answers.{kindOf, placeOf, numberedOf, choiceOf};
 ghost use Rattle.facts.specs.Bits.{bit};
 ghost use Rattle.facts.specs.Square.{Turned};
 ghost use Rattle.rules.specs.Tests.{pairTest, thirdTest, looped, twoWay, looksBack};
-ghost use Rattle.rules.specs.Smallest.{inThird, inSecond, inFirst, triedAt};
+ghost use Rattle.rules.specs.Smallest.{inThird, inSecond, inFirst, triedAt, triedBy};
 ghost use Rattle.rules.specs.Cycle.{stepsTo};
+ghost use Rattle.logic.specs.Search.{firstOf};
 ghost use Rattle.logic.specs.Heap.{iterate};
 ghost use Rattle.logic.specs.Rules.{CYCLE, TRANS2, next, ruleOf, choose};
 ghost use Rattle.logic.specs.Walk.{orderOf};
@@ -44,9 +46,9 @@ pub enum Numbered {
     Nothing,
 }
 
-// The rule to apply, and its triple.
+// The rule to apply, by which link, and its triple.
 pub enum Choice {
-    Apply(Rule, Term, Term, Third),
+    Apply(Link, Rule, Term, Term, Third),
     Nothing,
 }
 
@@ -334,8 +336,9 @@ pub fn rule_numbered(k: u8) -> Numbered
     }
 }
 
-// The rule that has this number, at the smallest triple.
+// The rule that has this number, by link i whose facts are lent, at the smallest triple.
 fn tried(
+    i: Link,
     k: u8,
     alive: u32,
     link: &[u32; 17],
@@ -344,7 +347,7 @@ fn tried(
     n: usize,
 ) -> Choice
     requires { ⌜ (n ≤ 16) × (looksBack k ≡ true → Turned (now back) (now reach)) ⌝ }
-    ensures { λ r. ⌜ choiceOf r ≡ triedAt n (bit alive) (graphOf (now (link .entry)) (now (reach .entry))) k ⌝ }
+    ensures { λ r. ⌜ choiceOf r ≡ triedAt (i .0) n (bit alive) (graphOf (now (link .entry)) (now (reach .entry))) k ⌝ }
 {
     let Numbered::Is(rule) = rule_numbered(k) else {
         return Choice::Nothing;
@@ -352,7 +355,7 @@ fn tried(
     let Place::At(x, y, z) = smallest(rule, alive, link, reach, back, n) else {
         return Choice::Nothing;
     };
-    Choice::Apply(rule, x, y, z)
+    Choice::Apply(i, rule, x, y, z)
 }
 
 // The rule asks what is reached from where, and from where what is: it reads reachability turned round.
@@ -391,25 +394,87 @@ fn turned_once(reach: &[u32; 17], wanted: bool, before: [u32; 17]) -> [u32; 17]
     before
 }
 
-// "the first applicable rule of the order list, at the smallest triple"
-pub fn choose(order: &[u8], s: Facts, n: usize) -> Choice
+// The first applicable rule of the order list by link 1, whose facts are lent.
+fn choose_one(order: &[u8], alive: u32, link: &[u32; 17], reach: &[u32; 17], n: usize) -> Choice
     requires { ⌜ n ≤ 16 ⌝ }
-    ensures { λ r. ⌜ choiceOf r ≡ choose n (orderOf (now (order .entry))) (pathOf s) ⌝ }
+    ensures { λ r. ⌜ choiceOf r ≡ firstOf (triedAt 1 n (bit alive) (graphOf (now (link .entry)) (now (reach .entry)))) (now (order .entry)) ⌝ }
 {
-    let alive = facts::live(s, n);
-    let link = s.link;
-    let reach = s.reach;
     let mut back = [0u32; 17];
     let mut turned = false;
     let mut i: usize = 0;
     while i < order.len() {
         let wanted = looks_back(order[i]);
-        back = turned_once(&reach, wanted & !turned, back);
+        back = turned_once(reach, wanted & !turned, back);
         turned = turned | wanted;
-        if let Choice::Apply(rule, x, y, z) = tried(order[i], alive, &link, &reach, &back, n) {
-            return Choice::Apply(rule, x, y, z);
+        if let Choice::Apply(l, rule, x, y, z) = tried(
+            Link(1),
+            order[i],
+            alive,
+            link,
+            reach,
+            &back,
+            n,
+        ) {
+            return Choice::Apply(l, rule, x, y, z);
         }
         i += 1;
     }
     Choice::Nothing
+}
+
+// The rule that has this number, by link i.
+fn tried_at(i: Link, k: u8, s: Facts, alive: u32, n: usize) -> Choice
+    requires { ⌜ (n ≤ 16) × HasLink (pathOf s) (i .0) ⌝ }
+    ensures { λ r. ⌜ choiceOf r ≡ triedAt (i .0) n (bit alive) (pathOf s .graph (i .0)) k ⌝ }
+{
+    let link = facts::link_rows(s, i);
+    let reach = facts::reach_rows(s, i);
+    let unturned = [0u32; 17];
+    let back = turned_once(&reach, looks_back(k), unturned);
+    tried(i, k, alive, &link, &reach, &back, n)
+}
+
+// "within a rule link 1 is tried first" (02, R-11)
+fn tried_by(k: u8, s: Facts, alive: u32, n: usize) -> Choice
+    requires { ⌜ n ≤ 16 ⌝ }
+    ensures { λ r. ⌜ choiceOf r ≡ triedBy n (bit alive) (pathOf s) k ⌝ }
+{
+    let total = facts::links(s);
+    let mut i: usize = 1;
+    while i <= total {
+        if let Choice::Apply(l, rule, x, y, z) = tried_at(Link(i), k, s, alive, n) {
+            return Choice::Apply(l, rule, x, y, z);
+        }
+        i += 1;
+    }
+    Choice::Nothing
+}
+
+// The first applicable rule of the order list, by any link.
+fn choose_any(order: &[u8], s: Facts, alive: u32, n: usize) -> Choice
+    requires { ⌜ n ≤ 16 ⌝ }
+    ensures { λ r. ⌜ choiceOf r ≡ firstOf (triedBy n (bit alive) (pathOf s)) (now (order .entry)) ⌝ }
+{
+    let mut i: usize = 0;
+    while i < order.len() {
+        if let Choice::Apply(l, rule, x, y, z) = tried_by(order[i], s, alive, n) {
+            return Choice::Apply(l, rule, x, y, z);
+        }
+        i += 1;
+    }
+    Choice::Nothing
+}
+
+// "the first applicable rule of the order list, at the smallest triple". A path of one link has its rows read off once.
+pub fn choose(order: &[u8], s: Facts, n: usize) -> Choice
+    requires { ⌜ n ≤ 16 ⌝ }
+    ensures { λ r. ⌜ choiceOf r ≡ choose n (orderOf (now (order .entry))) (pathOf s) ⌝ }
+{
+    let alive = facts::live(&s.rep, n);
+    if facts::links(s) == 1 {
+        let link = facts::link_rows(s, Link(1));
+        let reach = facts::reach_rows(s, Link(1));
+        return choose_one(order, alive, &link, &reach, n);
+    }
+    choose_any(order, s, alive, n)
 }

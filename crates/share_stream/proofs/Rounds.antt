@@ -10,7 +10,7 @@ use lib.Seq.{take-all, take-nil, take-append-le, take-append-add, length-take-le
 use lib.Dec.{ltb}
 use borrow.Author.Tests.{ltb-true, ltb-false}
 use borrow.Rule.Slice.PartMut.{putMid, postOf, same-len-mid}
-use Rattle.logic.proofs.Basics.Compare.{le-cases}
+use Rattle.theory.proofs.Basics.Compare.{le-cases}
 use Rattle.text.specs.Text.{Writes}
 use Rattle.text.proofs.Writing.{writes-taken, writes-length}
 use Rattle.shares.specs.Output.{Turn, wanted, turnOf, firstTurn, firstLength, outputFrom}

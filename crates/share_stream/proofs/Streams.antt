@@ -8,7 +8,7 @@ use mathlib.Core.List.{List, [], _∷_, _++_, append-assoc, append-nil}
 use lib.ListN.{length, take, drop, length-append, length-drop, length-take, drop-of-length-le}
 use lib.Seq.{take-all, take-at, drop-at, take-append-le, drop-append-le, drop-drop, length-take-le}
 use Rattle.logic.specs.Search.{_or_}
-use Rattle.logic.proofs.Basics.Compare.{le-cases}
+use Rattle.theory.proofs.Basics.Compare.{le-cases}
 use Rattle.fractions.specs.Fractions.{sharesText}
 use Rattle.shares.specs.Output.{Turn, isBad, wanted, turnOf, firstTurn, firstLength, outputWithin, outputFrom}
 use Rattle.shares.proofs.Turns.{wanted-few}

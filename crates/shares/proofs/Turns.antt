@@ -12,7 +12,7 @@ use Rattle.logic.specs.Facts.{Line}
 use Rattle.logic.specs.Derivation.{linesFrom, linesIn}
 use Rattle.logic.specs.Calls.{Input, Outcome, verdictCall, derivationCall}
 use Rattle.logic.specs.Calls as calls
-use Rattle.logic.proofs.Calls.Demands.{demand1}
+use Rattle.theory.proofs.Calls.Demands.{demand1}
 use Rattle.prover.specs.Promise.{meaning, inputOf, Does}
 use Rattle.prover.specs.declared.Answer.{Answer}
 use Rattle.prover.specs.declared.Answer.the-variants as answer

@@ -5,8 +5,8 @@ use mathlib.Core.Bool.{Bool, true, false, cond}
 use lib.Dec.{eqb}
 use Rattle.logic.specs.Query.{Literal, Query}
 use Rattle.logic.specs.Facts.{Facts, Joined, linksOf, replace, unjoined, andThen, settle, join, addReach}
-use Rattle.logic.proofs.Paths.Joined.{join-facts}
-use Rattle.logic.proofs.Paths.Settle.{settle-keeps}
+use Rattle.theory.proofs.Paths.Joined.{join-facts}
+use Rattle.theory.proofs.Paths.Settle.{settle-keeps}
 use Rattle.facts.proofs.Successors.{doubled-below}
 use Rattle.start.specs.Taken.{joinOne, reachOne, Bounded, Terms}
 

@@ -12,8 +12,8 @@ use borrow.Author.Tests.{lt-ltb, le-ltb, ltb-true, ltb-false, eqb-true, eqb-fals
 use Rattle.logic.specs.Search.{_and_, _or_}
 use Rattle.logic.specs.Query.{Entries, oneLink, entryOf, linkOf, namesNil, argumentOf}
 use Rattle.logic.specs.Facts.{linksOf}
-use Rattle.logic.proofs.Basics.Search.{bool-cases}
-use Rattle.logic.proofs.Basics.Compare.{eq-cases}
+use Rattle.theory.proofs.Basics.Search.{bool-cases}
+use Rattle.theory.proofs.Basics.Compare.{eq-cases}
 use Rattle.facts.specs.Bits.{bit}
 use Rattle.facts.specs.Square.{square}
 use Rattle.facts.specs.Path.{onlyLink}

@@ -11,7 +11,7 @@ use Rattle.logic.specs.Calls.{accepts}
 use Rattle.query.specs.declared.Layout.{Layout}
 use Rattle.query.specs.LaysOut.{LaysOut}
 use Rattle.query.proofs.Ranges.{entry-below, equal-terms, reach-terms}
-use Rattle.logic.proofs.Query.AcceptedBytes.{accepted}
+use Rattle.theory.proofs.Query.AcceptedBytes.{accepted}
 use Rattle.facts.specs.Pairs.{Fits}
 use Rattle.facts.proofs.Joins.{unjoined-andThen}
 use Rattle.start.proofs.Room.{start-pairs}

@@ -12,11 +12,11 @@ use Rattle.logic.specs.Search.{_and_, select}
 use Rattle.logic.specs.Query.{Query, termCount}
 use Rattle.logic.specs.Facts.{Facts, Joined, live, linksOf, startJoins}
 use Rattle.logic.specs.JoinPairs.{timesReplaced, Accounts}
-use Rattle.logic.proofs.Basics.Search.{select-intro}
-use Rattle.logic.proofs.Basics.Compare.{eqb-self, eqb-intro, eq-cases, le-cases, ltb-true, ltb-intro}
-use Rattle.logic.proofs.Paths.Ranged.{InRange, live-range}
-use Rattle.logic.proofs.Query.Tied.{Accepted}
-use Rattle.logic.proofs.Joins.Pairs.{accounts-start}
+use Rattle.theory.proofs.Basics.Search.{select-intro}
+use Rattle.theory.proofs.Basics.Compare.{eqb-self, eqb-intro, eq-cases, le-cases, ltb-true, ltb-intro}
+use Rattle.theory.proofs.Paths.Ranged.{InRange, live-range}
+use Rattle.theory.proofs.Query.Tied.{Accepted}
+use Rattle.theory.proofs.Joins.Pairs.{accounts-start}
 
 -- the pairs whose replaced term is below k
 below : ℕ → List (ℕ × ℕ) → ℕ

@@ -19,13 +19,13 @@ ghost use Rattle.start.specs.Nil.{argumentBy, nilFrom, NextNil, same};
 ghost use Rattle.start.specs.Taken.{joinOne, onlyEntries, started, Bounded, Terms, TermsIn, EntriesIn};
 
 // No term is replaced.
-fn unreplaced() -> [Term; 17]
+fn unreplaced() -> [u8; 17]
     ensures { λ r. ⌜ ((t : ℕ) → repOf r t ≡ t) ⌝ }
 {
-    let mut rep = [Term(0); 17];
+    let mut rep = [0u8; 17];
     let mut t: usize = 0;
     while t < 17 {
-        rep[t] = Term(t);
+        rep[t] = t as u8;
         t += 1;
     }
     rep
@@ -84,11 +84,9 @@ fn join_terms(t: Joined, n: usize, left: Term, right: Term) -> Joined
     requires { ⌜ Fits (andThen (joinedOf t) (joinOne n (same (left .0) (right .0)))) ⌝ }
     ensures { λ r. ⌜ joinedOf r ≡ andThen (joinedOf t) (joinOne n (same (left .0) (right .0))) ⌝ }
 {
-    let l = left.0;
-    let r = right.0;
     let s = t.facts;
-    let a = s.rep[l];
-    let b = s.rep[r];
+    let a = facts::read_rep(&s.rep, left);
+    let b = facts::read_rep(&s.rep, right);
     facts::join(s, n, a, b, t.pairs)
 }
 
@@ -136,7 +134,7 @@ fn join_nil(settled: Joined, n: usize, query: &[u8]) -> Joined
     }
     let joined = join_others(settled, n, query, first);
     let s = joined.facts;
-    let nil = s.rep[first];
+    let nil = facts::read_rep(&s.rep, Term(first));
     let before = joined.pairs;
     let linked = Joined {
         pairs: before,
@@ -192,12 +190,8 @@ fn reach_each(s: Facts, query: &[u8], at: usize, count: usize) -> Facts
             i += 1;
             continue;
         }
-        let left = query::left(query, at, i);
-        let right = query::right(query, at, i);
-        let l = left.0;
-        let r = right.0;
-        let a = t.rep[l];
-        let b = t.rep[r];
+        let a = facts::read_rep(&t.rep, query::left(query, at, i));
+        let b = facts::read_rep(&t.rep, query::right(query, at, i));
         let from = a.0;
         let added = facts::only(b.0);
         t.reach[from] = t.reach[from] | added;

@@ -14,8 +14,8 @@ use borrow.Author.Tests.{le-leb, lt-leb, leb-true, eq-eqb, ne-eqb}
 use Rattle.logic.specs.Search.{_and_, all}
 use Rattle.logic.specs.Facts.{Line, line}
 use Rattle.logic.specs.Derivation.{linesFrom, linesIn}
-use Rattle.logic.proofs.Basics.Search.{and-left, and-right}
-use Rattle.logic.proofs.Basics.Compare.{le-cases}
+use Rattle.theory.proofs.Basics.Search.{and-left, and-right}
+use Rattle.theory.proofs.Basics.Compare.{le-cases}
 use Rattle.tally.specs.Counting.{kindOf, ruleLines, raisedFrom, raised, plus, fits, refusalOf, tallied, noLines, Below, Adds}
 
 -- Rule lines: those of the first line, and those of the others. Only the number that a line begins with counts.

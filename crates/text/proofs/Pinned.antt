@@ -8,8 +8,8 @@ use mathlib.Core.List.{List, [], _∷_, _++_}
 use lib.ListN.{length, getD, length-append, List·getD-append}
 use borrow.Author.Tests.{le-leb, lt-leb}
 use Rattle.logic.specs.Search.{_and_, _or_, all}
-use Rattle.logic.proofs.Basics.Search.{and-left, and-right, and-intro}
-use Rattle.logic.proofs.Basics.Compare.{le-cases}
+use Rattle.theory.proofs.Basics.Search.{and-left, and-right, and-intro}
+use Rattle.theory.proofs.Basics.Compare.{le-cases}
 use Rattle.text.specs.Text.{ascii, decimalWithin, decimal, hexDigit, hexByte, numberFrom, numberIn, isDigit, hexValue, hexFrom, hexIn, isHexDigit}
 use Rattle.text.proofs.Digits.{decimal-small, decimal-more, hexDigit-low, hexDigit-high}
 

@@ -8,15 +8,17 @@ use lib.ListN.{getD}
 use lib.Bits.{bitAnd, bitOr}
 use lib.Dec.{eqb, ltb}
 use borrow.Author.Tests.{lt-ltb, le-ltb}
-use Rattle.logic.specs.Search.{_and_, _or_, from, find, any}
+use Rattle.logic.specs.Search.{_and_, _or_, from, find}
 use Rattle.logic.specs.Facts.{Graph, Facts, live}
-use Rattle.logic.specs.Rules.{Rule, FUNC, CYCLE, SCC, TOTAL, SHARE, Triple, triple, move, conditions, alternatives, held, applies}
-use Rattle.logic.proofs.Basics.Search.{and-left, and-right, and-intro, not-intro, find-some, from-mem}
-use Rattle.logic.proofs.Calls.OneLink.{applies-local}
+use Rattle.logic.specs.Rules.{Rule, FUNC, CYCLE, SCC, TOTAL, SHARE, Triple, triple, move, applies}
+use Rattle.theory.proofs.Basics.Search.{and-left, and-right, and-intro, not-intro, find-some, from-mem}
+use Rattle.theory.proofs.Paths.Ranged.{InRange}
+use Rattle.theory.proofs.Paths.Applies.{hasLink-range, applies-linked}
 use Rattle.facts.specs.Bits.{bit}
 use Rattle.facts.specs.Square.{square, Turned}
 use Rattle.facts.specs.Answers.{foundOf}
-use Rattle.facts.specs.Path.{graphOf}
+use Rattle.facts.specs.Path.{graphOf, HasLink}
+use Rattle.facts.specs.declared.Link.{Link}
 use Rattle.facts.specs.declared.Term.{Term}
 use Rattle.facts.specs.declared.Found.{Found}
 use Rattle.facts.specs.declared.Found.the-variants as found
@@ -24,9 +26,13 @@ use Rattle.facts.proofs.Bits.{bit-and, bit-or, bit-none}
 use Rattle.facts.proofs.Square.{square-in}
 use Rattle.rules.specs.Tests.{pairTest, thirdTest, looped}
 use Rattle.rules.specs.Smallest.{allowed}
+use Rattle.rules.specs.declared.Rule as code
+use Rattle.rules.specs.declared.Third.{Third}
 use Rattle.rules.specs.declared.Choice.{Choice}
-use Rattle.rules.proofs.Nested.{halves}
-use Rattle.units.specs.Proposes.{Proposes, FoundIn}
+use Rattle.rules.proofs.Nested.{halves, allowed-any, applies-allowed, rows-are}
+use Rattle.units.specs.declared.Proposal.{Proposal}
+use Rattle.units.specs.declared.Proposal.the-variants as proposal
+use Rattle.units.specs.Proposes.{Applies, Proposes, RowsOf, ProposesIn, FoundIn}
 
 -- the row of b alone, which a number above 16 has none of
 pub alone-in : (b w : ℕ) → b < 17 → ((i : ℕ) → bit w i ≡ eqb i b) → (i : ℕ) → bit w i ≡ (ltb b 17 and eqb i b)
@@ -59,6 +65,24 @@ found-in w f t e h = subst (FoundIn w) e h
 pub handed-on : (n : ℕ) (s : Facts) (p q : Choice) → p ≡ q → Proposes n s p → Proposes n s q
 handed-on n s p q e h = subst (Proposes n s) e h
 
+pub handed-in : (n : ℕ) (link reach : List ℕ) (p q : Proposal) → p ≡ q → ProposesIn n link reach p → ProposesIn n link reach q
+handed-in n link reach p q e h = subst (ProposesIn n link reach) e h
+
+-- Links of a path: those that are counted, and one by which a rule applies
+pub link-counted : (links total k : ℕ) → total ≡ links → 1 ≤ k → k ≤ total → InRange links k
+link-counted links total k e h l = (h, omega (arith, e, l))
+
+pub applies-by : (n : ℕ) (s : Facts) (k : ℕ) (r : Rule) (t : Triple) → applies n s (move k r t) ≡ true → HasLink s k
+applies-by n s k r t h = hasLink-range (s .links) k r t (applies-linked n s (move k r t) h)
+
+-- what the rows of a link propose is proposed by that link
+module _ (s : Facts) (k : Link) (link reach : List ℕ) (h : HasLink s (k .0)) (l : square link ≡ s .graph (k .0) .link) (m : square reach ≡ s .graph (k .0) .reach) where
+  pub rows-of : RowsOf s k link reach
+  rows-of = (h, sym (rows-are link reach (s .graph (k .0)) l m))
+
+  pub proposed-by : (n : ℕ) (p : Proposal) (r : code.Rule) (x y : Term) (z : Third) → p ≡ proposal.At r x y z → ProposesIn n link reach p → Applies n s k r x y z
+  proposed-by n p r x y z e q = handed-in n link reach p (proposal.At r x y z) e q s k rows-of
+
 or-left-false : (a b : Bool) → a or b ≡ false → a ≡ false
 unfolding _or_
 or-left-false true b e = e
@@ -70,18 +94,19 @@ or-right-false true true e = e
 or-right-false true false e = refl
 or-right-false false b e = e
 
-module _ (n : ℕ) (link reach : List ℕ) (s : Facts) (same : (s .links ≡ 1) × (s .graph 1 ≡ graphOf link reach)) where
-  -- the rule applies at numbers that are in range
+module _ (n : ℕ) (link reach : List ℕ) (s : Facts) (j : Link) (rows : RowsOf s j link reach) where
+  -- the rule applies by the link at numbers that are in range
   abbrev At : Rule → ℕ → ℕ → ℕ → Type 0
-  At r x y z = (applies n s (move 1 r (triple x y z)) ≡ true) × (x ≤ 16) × (y ≤ 16) × (z ≤ 16)
+  At r x y z = (applies n s (move (j .0) r (triple x y z)) ≡ true) × (x ≤ 16) × (y ≤ 16) × (z ≤ 16)
 
-  applies-allowed : (r : Rule) (t : Triple) → applies n s (move 1 r t) ≡ allowed n (live n s) (graphOf link reach) (move 1 r t)
-  unfolding allowed
-  applies-allowed r t =
-      applies-local n s (same .0) r t ∙ ap (λ (g : Graph). conditions n (live n s) (λ j. g) (move 1 r t) and not (any (held (λ j. g)) (alternatives n (λ j. g) (move 1 r t)))) (same .1)
+  allowed-rows : (r : Rule) (t : Triple) → applies n s (move (j .0) r t) ≡ allowed n (live n s) (graphOf link reach) (move 1 r t)
+  allowed-rows r t =
+      applies-allowed n s (j .0) (rows .0) r t
+      ∙ ap (λ (g : Graph). allowed n (live n s) g (move (j .0) r t)) (rows .1)
+      ∙ allowed-any (j .0) n (live n s) (graphOf link reach) r t
 
-  tested : (r : Rule) → looped r ≡ true → (x y z : ℕ) → pairTest (live n s) (graphOf link reach) x y r ≡ true → thirdTest (graphOf link reach) x y z r ≡ true → applies n s (move 1 r (triple x y z)) ≡ true
-  tested r l x y z p t = applies-allowed r (triple x y z) ∙ halves n (live n s) (graphOf link reach) x y z r l ∙ and-intro p t
+  tested : (r : Rule) → looped r ≡ true → (x y z : ℕ) → pairTest (live n s) (graphOf link reach) x y r ≡ true → thirdTest (graphOf link reach) x y z r ≡ true → applies n s (move (j .0) r (triple x y z)) ≡ true
+  tested r l x y z p t = allowed-rows r (triple x y z) ∙ halves n (live n s) (graphOf link reach) x y z r l ∙ and-intro p t
 
   module _ (x y z : ℕ) where
     pub func-placed : (far : ℕ) → x ≤ 16 → In (getD link x 0) y → ((i : ℕ) → i ≤ 16 → bit far i ≡ (square reach x i and not (eqb x i) and not (square reach y i))) → In far z → At FUNC x y z
@@ -119,4 +144,4 @@ module _ (n : ℕ) (link reach : List ℕ) (s : Facts) (same : (s .links ≡ 1) 
         turned a h b k = sym (t a b) ∙ square-in back a b h k
 
     pub cycle-placed : (off : ℕ) → n ≤ 16 → x ≤ 16 → z ≤ n → ((lives : ℕ → Bool) (i : ℕ) → i ≤ 16 → bit off i ≡ allowed n lives (graphOf link reach) (move 1 CYCLE (triple x i z))) → In off y → At CYCLE x y z
-    cycle-placed off few h l f (k, p) = (applies-allowed CYCLE (triple x y z) ∙ sym (f (live n s) y k) ∙ p, h, k, omega arith)
+    cycle-placed off few h l f (k, p) = (allowed-rows CYCLE (triple x y z) ∙ sym (f (live n s) y k) ∙ p, h, k, omega arith)

@@ -6,7 +6,8 @@ use mathlib.Core.List.{List}
 use Rattle.logic.specs.Facts.{Facts}
 use Rattle.logic.specs.Rules.{triple, move, applies}
 use Rattle.facts.specs.Bits.{bit}
-use Rattle.facts.specs.Path.{graphOf}
+use Rattle.facts.specs.Path.{graphOf, HasLink}
+use Rattle.facts.specs.declared.Link.{Link}
 use Rattle.facts.specs.declared.Term.{Term}
 use Rattle.facts.specs.declared.Found.{Found}
 use Rattle.facts.specs.declared.Found.the-variants as found
@@ -15,19 +16,26 @@ use Rattle.rules.specs.declared.Rule.{Rule}
 use Rattle.rules.specs.declared.Third.{Third}
 use Rattle.rules.specs.declared.Choice.{Choice}
 use Rattle.rules.specs.declared.Choice.the-variants as choice
+use Rattle.units.specs.declared.Proposal.{Proposal}
+use Rattle.units.specs.declared.Proposal.the-variants as proposal
 
--- the rule applies at the triple, whose numbers are in range
-abbrev pub Applies : ℕ → Facts → Rule → Term → Term → Third → Type 0
-Applies n s r x y z = (applies n s (move 1 (kindOf r) (triple (x .0) (y .0) (z .0))) ≡ true) × (x .0 ≤ 16) × (y .0 ≤ 16) × (z .0 ≤ 16)
+-- the rule applies by the link at the triple, whose numbers are in range
+abbrev pub Applies : ℕ → Facts → Link → Rule → Term → Term → Third → Type 0
+Applies n s k r x y z = (applies n s (move (k .0) (kindOf r) (triple (x .0) (y .0) (z .0))) ≡ true) × (x .0 ≤ 16) × (y .0 ≤ 16) × (z .0 ≤ 16)
 
 -- the rule proposed applies at the place proposed; where none is, others go on, and no path is called saturated for that
 abbrev pub Proposes : ℕ → Facts → Choice → Type 0
-Proposes n s (choice.Apply r x y z) = Applies n s r x y z
+Proposes n s (choice.Apply k r x y z) = Applies n s k r x y z
 Proposes n s choice.Nothing = Unit {0}
 
--- the same of a search that reads links and reachability alone: at every path of one link that has these
-abbrev pub ProposesIn : ℕ → List ℕ → List ℕ → Choice → Type 0
-ProposesIn n link reach r = (s : Facts) → (s .links ≡ 1) × (s .graph 1 ≡ graphOf link reach) → Proposes n s r
+-- the rows are those of this link of the path
+abbrev pub RowsOf : Facts → Link → List ℕ → List ℕ → Type 0
+RowsOf s k link reach = HasLink s (k .0) × (s .graph (k .0) ≡ graphOf link reach)
+
+-- the same of a search that reads the rows of a link alone: at every path, by every link that has these
+abbrev pub ProposesIn : ℕ → List ℕ → List ℕ → Proposal → Type 0
+ProposesIn n link reach (proposal.At r x y z) = (s : Facts) (k : Link) → RowsOf s k link reach → Applies n s k r x y z
+ProposesIn n link reach proposal.Nothing = Unit {0}
 
 -- a number that is found is one of a row
 abbrev pub FoundIn : ℕ → Found → Type 0

@@ -2,6 +2,7 @@
 // at a place is proved; that so few alternatives are left is not, since no verdict rests on it. The rows that such searches read are here too.
 use facts::Facts;
 use facts::Found;
+use facts::Link;
 use facts::Term;
 use query::Layout;
 use rules::Choice;
@@ -28,6 +29,12 @@ pub struct Round {
     pub steps: usize,
     pub on: u32,
     pub off: u32,
+}
+
+// A rule and the triple at which it applies by a link whose rows are read. The search does not know which link that is.
+pub enum Proposal {
+    At(Rule, Term, Term, Third),
+    Nothing,
 }
 
 // The smallest number of a row, of those up to 16.
@@ -112,14 +119,14 @@ fn marked(rows: [u32; 17], a: usize, more: u32) -> [u32; 17] {
 }
 
 // What the negated literals of a section deny, of the terms that stand for theirs; an equality denies it both ways.
-fn denied(query: &[u8], at: usize, count: usize, reps: &[usize; 17], both: bool) -> [u32; 17]
+fn denied(query: &[u8], at: usize, count: usize, rep: &[u8; 17], both: bool) -> [u32; 17]
     requires { ⌜ at + 3 * count ≤ length (now query) ⌝ }
 {
     let mut out = [0u32; 17];
     for i in 0..count {
         if !query::sign(query, at, i) {
-            let a = clash::read_rep(reps, query::left(query, at, i));
-            let b = clash::read_rep(reps, query::right(query, at, i));
+            let a = facts::read_rep(rep, query::left(query, at, i));
+            let b = facts::read_rep(rep, query::right(query, at, i));
             let next = marked(out, a.0, alone(b.0));
             out = next;
             if both {
@@ -132,13 +139,13 @@ fn denied(query: &[u8], at: usize, count: usize, reps: &[usize; 17], both: bool)
 }
 
 // The fields that the data literals of one sign give each term.
-fn fields(query: &[u8], at: usize, count: usize, reps: &[usize; 17], plain: bool) -> [u32; 17]
+fn fields(query: &[u8], at: usize, count: usize, rep: &[u8; 17], plain: bool) -> [u32; 17]
     requires { ⌜ at + 3 * count ≤ length (now query) ⌝ }
 {
     let mut out = [0u32; 17];
     for i in 0..count {
         if query::sign(query, at, i) == plain {
-            let a = clash::read_rep(reps, query::right(query, at, i));
+            let a = facts::read_rep(rep, query::right(query, at, i));
             let next = marked(out, a.0, alone(query::field(query, at, i)));
             out = next;
         }
@@ -212,7 +219,7 @@ fn merged(a: &[u32; 17], b: &[u32; 17], c: &[u32; 17]) -> [u32; 17] {
 }
 
 // SHARE, wherever it applies: it has one alternative.
-fn share(link: &[u32; 17], reach: &[u32; 17], back: &[u32; 17]) -> Choice
+fn share(link: &[u32; 17], reach: &[u32; 17], back: &[u32; 17]) -> Proposal
     requires { ⌜ Turned (now back) (now reach) ⌝ }
     ensures { λ r. ⌜ ((n : ℕ) → ProposesIn n (now (link .entry)) (now (reach .entry)) r) ⌝ }
 {
@@ -223,17 +230,17 @@ fn share(link: &[u32; 17], reach: &[u32; 17], back: &[u32; 17]) -> Choice
             for y in 0..17 {
                 if facts::has(both, y) {
                     if let Found::At(z) = lowest(near & link[y]) {
-                        return Choice::Apply(Rule::Share, Term(x), Term(y), Third(z.0));
+                        return Proposal::At(Rule::Share, Term(x), Term(y), Third(z.0));
                     }
                 }
             }
         }
     }
-    Choice::Nothing
+    Proposal::Nothing
 }
 
 // FUNC: x = z or y reaches z.
-fn func(link: &[u32; 17], reach: &[u32; 17], no_equal: &[u32; 17], no_reach: &[u32; 17]) -> Choice
+fn func(link: &[u32; 17], reach: &[u32; 17], no_equal: &[u32; 17], no_reach: &[u32; 17]) -> Proposal
     ensures { λ r. ⌜ ((n : ℕ) → ProposesIn n (now (link .entry)) (now (reach .entry)) r) ⌝ }
 {
     for x in 0..17 {
@@ -241,11 +248,11 @@ fn func(link: &[u32; 17], reach: &[u32; 17], no_equal: &[u32; 17], no_reach: &[u
             let at = y.0;
             let struck = no_equal[x] | no_reach[at];
             if let Found::At(z) = lowest(missed(reach, x, at) & struck) {
-                return Choice::Apply(Rule::Func, Term(x), y, Third(z.0));
+                return Proposal::At(Rule::Func, Term(x), y, Third(z.0));
             }
         }
     }
-    Choice::Nothing
+    Proposal::Nothing
 }
 
 // CYCLE of a term with y, a term off its round: y is one of the round.
@@ -266,7 +273,7 @@ fn cycle_at(off: u32, on: u32, no_equal: &[u32; 17]) -> Found
     Found::Nothing
 }
 
-fn cycle(link: &[u32; 17], reach: &[u32; 17], no_equal: &[u32; 17], n: usize) -> Choice
+fn cycle(link: &[u32; 17], reach: &[u32; 17], no_equal: &[u32; 17], n: usize) -> Proposal
     requires { ⌜ n ≤ 16 ⌝ }
     ensures { λ r. ⌜ ProposesIn n (now (link .entry)) (now (reach .entry)) r ⌝ }
 {
@@ -275,16 +282,16 @@ fn cycle(link: &[u32; 17], reach: &[u32; 17], no_equal: &[u32; 17], n: usize) ->
             let round = around(link, reach, n, x);
             if round.off != 0 {
                 if let Found::At(y) = cycle_at(round.off, round.on, no_equal) {
-                    return Choice::Apply(Rule::Cycle, Term(x), y, Third(round.steps));
+                    return Proposal::At(Rule::Cycle, Term(x), y, Third(round.steps));
                 }
             }
         }
     }
-    Choice::Nothing
+    Proposal::Nothing
 }
 
 // SCC: x = y or z reaches x.
-fn scc(reach: &[u32; 17], back: &[u32; 17], no_equal: &[u32; 17], no_back: &[u32; 17]) -> Choice
+fn scc(reach: &[u32; 17], back: &[u32; 17], no_equal: &[u32; 17], no_back: &[u32; 17]) -> Proposal
     requires { ⌜ Turned (now back) (now reach) ⌝ }
     ensures { λ r. ⌜ ((n : ℕ) (link : List ℕ) → ProposesIn n link (now (reach .entry)) r) ⌝ }
 {
@@ -294,17 +301,17 @@ fn scc(reach: &[u32; 17], back: &[u32; 17], no_equal: &[u32; 17], no_back: &[u32
         if (out != 0) & (both != 0) {
             if let Found::At(y) = lowest(both & no_equal[x]) {
                 if let Found::At(z) = lowest(out) {
-                    return Choice::Apply(Rule::Scc, Term(x), y, Third(z.0));
+                    return Proposal::At(Rule::Scc, Term(x), y, Third(z.0));
                 }
             }
             if let Found::At(z) = lowest(out & no_back[x]) {
                 if let Found::At(y) = lowest(both) {
-                    return Choice::Apply(Rule::Scc, Term(x), y, Third(z.0));
+                    return Proposal::At(Rule::Scc, Term(x), y, Third(z.0));
                 }
             }
         }
     }
-    Choice::Nothing
+    Proposal::Nothing
 }
 
 // TOTAL of x with y: y reaches z or z reaches y.
@@ -314,7 +321,7 @@ fn total_at(
     no_reach: &[u32; 17],
     no_back: &[u32; 17],
     x: usize,
-) -> Choice
+) -> Proposal
     requires { ⌜ (x ≤ 16) × Turned (now back) (now reach) ⌝ }
     ensures { λ r. ⌜ ((n : ℕ) (link : List ℕ) → ProposesIn n link (now (reach .entry)) r) ⌝ }
 {
@@ -323,23 +330,23 @@ fn total_at(
         if facts::has(far, y) {
             let struck = no_reach[y] | no_back[y];
             if let Found::At(z) = lowest(unordered(reach, back, x, y) & struck) {
-                return Choice::Apply(Rule::Total, Term(x), Term(y), Third(z.0));
+                return Proposal::At(Rule::Total, Term(x), Term(y), Third(z.0));
             }
         }
     }
-    Choice::Nothing
+    Proposal::Nothing
 }
 
-fn total(reach: &[u32; 17], back: &[u32; 17], no_reach: &[u32; 17], no_back: &[u32; 17]) -> Choice
+fn total(reach: &[u32; 17], back: &[u32; 17], no_reach: &[u32; 17], no_back: &[u32; 17]) -> Proposal
     requires { ⌜ Turned (now back) (now reach) ⌝ }
     ensures { λ r. ⌜ ((n : ℕ) (link : List ℕ) → ProposesIn n link (now (reach .entry)) r) ⌝ }
 {
     for x in 0..17 {
-        if let Choice::Apply(rule, a, b, c) = total_at(reach, back, no_reach, no_back, x) {
-            return Choice::Apply(rule, a, b, c);
+        if let Proposal::At(rule, a, b, c) = total_at(reach, back, no_reach, no_back, x) {
+            return Proposal::At(rule, a, b, c);
         }
     }
-    Choice::Nothing
+    Proposal::Nothing
 }
 
 // The first place found, of SHARE and then of the rules that branch.
@@ -350,55 +357,76 @@ fn place(
     no_reach: &[u32; 17],
     no_back: &[u32; 17],
     n: usize,
-) -> Choice
+) -> Proposal
     requires { ⌜ n ≤ 16 ⌝ }
     ensures { λ r. ⌜ ProposesIn n (now (link .entry)) (now (reach .entry)) r ⌝ }
 {
     let back = facts::turned(reach);
-    if let Choice::Apply(rule, x, y, z) = share(link, reach, &back) {
-        return Choice::Apply(rule, x, y, z);
+    if let Proposal::At(rule, x, y, z) = share(link, reach, &back) {
+        return Proposal::At(rule, x, y, z);
     }
-    if let Choice::Apply(rule, x, y, z) = func(link, reach, no_equal, no_reach) {
-        return Choice::Apply(rule, x, y, z);
+    if let Proposal::At(rule, x, y, z) = func(link, reach, no_equal, no_reach) {
+        return Proposal::At(rule, x, y, z);
     }
-    if let Choice::Apply(rule, x, y, z) = cycle(link, reach, no_equal, n) {
-        return Choice::Apply(rule, x, y, z);
+    if let Proposal::At(rule, x, y, z) = cycle(link, reach, no_equal, n) {
+        return Proposal::At(rule, x, y, z);
     }
-    if let Choice::Apply(rule, x, y, z) = scc(reach, &back, no_equal, no_back) {
-        return Choice::Apply(rule, x, y, z);
+    if let Proposal::At(rule, x, y, z) = scc(reach, &back, no_equal, no_back) {
+        return Proposal::At(rule, x, y, z);
     }
     total(reach, &back, no_reach, no_back)
 }
 
 // The terms held apart from each term by the equalities and the data literals.
-fn apart(query: &[u8], layout: Layout, reps: &[usize; 17]) -> [u32; 17]
+fn apart(query: &[u8], layout: Layout, rep: &[u8; 17]) -> [u32; 17]
     requires { ⌜ LaysOut layout (now query) ⌝ }
 {
-    let differ = denied(query, layout.equal_at, layout.equal_count, reps, true);
+    let differ = denied(query, layout.equal_at, layout.equal_count, rep, true);
     if layout.field_count == 0 {
         return differ;
     }
-    let have = fields(query, layout.field_at, layout.field_count, reps, true);
-    let lack = fields(query, layout.field_at, layout.field_count, reps, false);
+    let have = fields(query, layout.field_at, layout.field_count, rep, true);
+    let lack = fields(query, layout.field_at, layout.field_count, rep, false);
     let one = opposed(differ, &have, &lack);
     opposed(one, &lack, &have)
 }
 
-// A place at a closed path where at most one alternative does not clash at once.
+// A place by the link whose rows are lent, where at most one alternative does not clash at once. `differ` has the terms held apart.
+fn unit_at(
+    query: &[u8],
+    layout: Layout,
+    reps: &[u8; 17],
+    differ: &[u32; 17],
+    link: &[u32; 17],
+    reach: &[u32; 17],
+) -> Proposal
+    requires { ⌜ LaysOut layout (now query) ⌝ }
+    ensures { λ r. ⌜ ProposesIn (layout .terms) (now (link .entry)) (now (reach .entry)) r ⌝ }
+{
+    let no = denied(query, layout.reach_at, layout.reach_count, reps, false);
+    let behind = denied_behind(reach, &no);
+    let no_reach = unreachable(reach, &behind);
+    let no_back = facts::turned(&no_reach);
+    let no_equal = merged(differ, &no_reach, &no_back);
+    place(link, reach, &no_equal, &no_reach, &no_back, layout.terms)
+}
+
+// A place at a closed path where at most one alternative does not clash at once, by the first link that has one.
 pub fn unit(query: &[u8], layout: Layout, s: Facts) -> Choice
     requires { ⌜ LaysOut layout (now query) ⌝ }
     ensures { λ r. ⌜ Proposes (layout .terms) (pathOf s) r ⌝ }
 {
-    let n = layout.terms;
-    let rep = s.rep;
-    let reps = clash::numbers(rep);
-    let link = s.link;
-    let reach = s.reach;
-    let no = denied(query, layout.reach_at, layout.reach_count, &reps, false);
-    let behind = denied_behind(&reach, &no);
-    let no_reach = unreachable(&reach, &behind);
-    let no_back = facts::turned(&no_reach);
+    let reps = s.rep;
     let differ = apart(query, layout, &reps);
-    let no_equal = merged(&differ, &no_reach, &no_back);
-    place(&link, &reach, &no_equal, &no_reach, &no_back, n)
+    let total = facts::links(s);
+    let mut k: usize = 1;
+    while k <= total {
+        let link = facts::link_rows(s, Link(k));
+        let reach = facts::reach_rows(s, Link(k));
+        if let Proposal::At(rule, x, y, z) = unit_at(query, layout, &reps, &differ, &link, &reach) {
+            return Choice::Apply(Link(k), rule, x, y, z);
+        }
+        k += 1;
+    }
+    Choice::Nothing
 }

@@ -12,7 +12,7 @@ use Rattle.logic.specs.Facts.{Line, line, joinLines}
 use Rattle.facts.specs.Pairs.{pairAt, pairsOf}
 use Rattle.facts.specs.declared.Pairs.{Pairs}
 use Rattle.facts.proofs.Loops.{from-end, from-next}
-use Rattle.logic.proofs.Basics.Compare.{le-cases}
+use Rattle.theory.proofs.Basics.Compare.{le-cases}
 use Rattle.walk.specs.Lines.{counted, countAll, putLine, putAll}
 
 pub counted-more : (c : ℕ) → c ≤ 16000 → counted c ≡ c + 1

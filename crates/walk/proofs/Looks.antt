@@ -15,7 +15,7 @@ use Rattle.logic.specs.Walk.{Look, clashing, applying, saturated, look}
 use Rattle.facts.specs.Square.{square}
 use Rattle.facts.specs.Path.{onlyLink, repOf, graphOf, pathOf}
 use Rattle.facts.specs.declared.Facts as code
-use Rattle.logic.proofs.Basics.Search.{keep-some, firstOf-some, find-some, from-mem, flatMap-mem, map-mem, none-some}
+use Rattle.theory.proofs.Basics.Search.{keep-some, firstOf-some, find-some, from-mem, flatMap-mem, map-mem, none-some}
 
 module _ (q : Query) (order : List Rule) (s : Facts) where
   pub look-clashing : (l : Line) → clash q s ≡ some l → look q order s ≡ clashing l

@@ -6,11 +6,13 @@ use mathlib.Core.List.{List, [], _∷_, List·Memᴰ, List·Memᴰ·head, List·
 use lib.ListN.{length, getD}
 use Rattle.logic.specs.Query.{Query, termCount, decode}
 use Rattle.logic.specs.Facts.{Facts, Joined, Line, line, joinLines}
-use Rattle.logic.specs.Rules.{Rule, triple, Move, move, Fact, equal, ruleNumber, moveLine, alternatives, branch, add}
+use Rattle.logic.specs.Rules.{Rule, triple, Move, move, Fact, equal, moveNumber, moveLine, alternatives, branch, add}
 use Rattle.logic.specs.Walk.{Look, clashing, applying, saturated, look, Ending, refutation, saturation, after, walkBranch, walk}
 use Rattle.logic.specs.Steps.{AtMost}
-use Rattle.logic.proofs.Walks.OurWalk.{look-fewer}
-use Rattle.logic.proofs.Calls.OneLink.{moveLine-one}
+use Rattle.theory.proofs.Walks.OurWalk.{look-fewer}
+use Rattle.theory.proofs.Walks.Derives.{seen-applying}
+use Rattle.theory.proofs.Paths.Applies.{hasLink-range, applies-linked}
+use Rattle.facts.specs.Path.{HasLink}
 use Rattle.query.specs.LaysOut.{LaysOut, literalIn}
 use Rattle.query.specs.declared.Layout.{Layout}
 use Rattle.query.proofs.Literals.{listed, listed-length, equalities-listed, reachability-listed, fields-listed}
@@ -42,26 +44,34 @@ module _ (bytes : List ℕ) (l : Layout) (laid : LaysOut l bytes) (order : List 
       h in
       (omega arith, omega arith, omega arith)
 
-  pub move-fits : (r : Rule) (x y z : ℕ) → look (decode bytes) order s ≡ applying (move 1 r (triple x y z)) → (x ≤ 16) × (y ≤ 16) × (z ≤ 16)
-  move-fits r x y z h =
-      let g = move-range (decode bytes) order s 1 r x y z h in
+  pub move-fits : (k : ℕ) (r : Rule) (x y z : ℕ) → look (decode bytes) order s ≡ applying (move k r (triple x y z)) → (x ≤ 16) × (y ≤ 16) × (z ≤ 16)
+  move-fits k r x y z h =
+      let g = move-range (decode bytes) order s k r x y z h in
       let t = laid .term-count in
       let w = laid .terms-within in
       (omega arith, omega arith, omega arith)
 
--- the walk of a branch that the code makes
-pub branch-walked : (q : Query) (order : List Rule) (k n : ℕ) (s : Facts) (j : Joined) (r : Rule) (x y z i : ℕ) (d : Fact) → n ≡ termCount q → i < countOf r z → j ≡ branch n s (alternativeAt n (s .graph 1) r x y z i) → walkBranch (walk q order k) (branch (termCount q) s (getD (alternatives (termCount q) (s .graph) (move 1 r (triple x y z))) i d)) ≡ walkBranch (walk q order k) j
-branch-walked q order k n s j r x y z i d e h f =
-    ap (walkBranch (walk q order k))
-    (ap (branch (termCount q) s) (alternative-is (termCount q) (s .graph) r x y z i d h) ∙ ap (λ (m : ℕ). branch m s (alternativeAt m (s .graph 1) r x y z i)) (sym e) ∙ sym f)
+-- a rule is seen by a link of the path
+pub move-linked : (q : Query) (order : List Rule) (s : Facts) (k : ℕ) (r : Rule) (x y z : ℕ) → look q order s ≡ applying (move k r (triple x y z)) → HasLink s k
+move-linked q order s k r x y z h =
+    let m : Move = move k r (triple x y z) in
+    let l = hasLink-range (s .links) k r (triple x y z) (applies-linked (termCount q) s m (seen-applying q order s h .1)) in
+    (omega (arith, l), l .1)
 
-pub move-line : (r : Rule) (x y z a : ℕ) → a ≡ ruleNumber r → line a x y z ≡ moveLine (move 1 r (triple x y z))
-move-line r x y z a e = ap (λ (j : ℕ). line j x y z) e ∙ sym (moveLine-one r x y z)
+-- the walk of a branch that the code makes
+pub branch-walked : (q : Query) (order : List Rule) (k n : ℕ) (s : Facts) (j : Joined) (l : ℕ) (r : Rule) (x y z i : ℕ) (d : Fact) → n ≡ termCount q → i < countOf r z → j ≡ branch n s (alternativeAt l n (s .graph l) r x y z i) → walkBranch (walk q order k) (branch (termCount q) s (getD (alternatives (termCount q) (s .graph) (move l r (triple x y z))) i d)) ≡ walkBranch (walk q order k) j
+branch-walked q order k n s j l r x y z i d e h f =
+    ap (walkBranch (walk q order k))
+    (ap (branch (termCount q) s) (alternative-is l (termCount q) (s .graph) r x y z i d h) ∙ ap (λ (m : ℕ). branch m s (alternativeAt l m (s .graph l) r x y z i)) (sym e) ∙ sym f)
+
+pub move-line : (l : ℕ) (r : Rule) (x y z a : ℕ) → a ≡ moveNumber l r → line a x y z ≡ moveLine (move l r (triple x y z))
+unfolding moveLine
+move-line l r x y z a e = ap (λ (j : ℕ). line j x y z) e
 
 -- A rule applies: its branches are walked with a step less
-module _ (q : Query) (order : List Rule) (k n : ℕ) (s : Facts) (rule : Rule) (x y z : ℕ) (seen : look q order s ≡ applying (move 1 rule (triple x y z))) (some-left : 1 ≤ k) (terms-are : n ≡ termCount q) where
+module _ (q : Query) (order : List Rule) (k n : ℕ) (s : Facts) (l : ℕ) (rule : Rule) (x y z : ℕ) (seen : look q order s ≡ applying (move l rule (triple x y z))) (some-left : 1 ≤ k) (terms-are : n ≡ termCount q) where
   abbrev m : Move
-  m = move 1 rule (triple x y z)
+  m = move l rule (triple x y z)
 
   abbrev cs : List Fact
   cs = alternatives (termCount q) (s .graph) m
@@ -71,13 +81,13 @@ module _ (q : Query) (order : List Rule) (k n : ℕ) (s : Facts) (rule : Rule) (
   other = equal 0 0
 
   -- no more rule steps are left from a branch than are counted
-  pub branch-fewer : AtMost (termCount q) s k → (j : Joined) (i : ℕ) → i < countOf rule z → j ≡ branch n s (alternativeAt n (s .graph 1) rule x y z i) → AtMost (termCount q) (j .facts) (k - 1)
+  pub branch-fewer : AtMost (termCount q) s k → (j : Joined) (i : ℕ) → i < countOf rule z → j ≡ branch n s (alternativeAt l n (s .graph l) rule x y z i) → AtMost (termCount q) (j .facts) (k - 1)
   unfolding add
   branch-fewer most j i in-row j-is =
-      let l : i < length cs = omega (arith, count-is (termCount q) (s .graph) rule x y z) in
-      let f = look-fewer q order k s m most seen (getD cs i other) (getD-member cs i other l) in
+      let in-cs : i < length cs = omega (arith, count-is l (termCount q) (s .graph) rule x y z) in
+      let f = look-fewer q order k s m most seen (getD cs i other) (getD-member cs i other in-cs) in
       subst (λ (b : Joined). AtMost (termCount q) (b .facts) (k - 1))
-      (ap (branch (termCount q) s) (alternative-is (termCount q) (s .graph) rule x y z i other in-row) ∙ ap (λ (m : ℕ). branch m s (alternativeAt m (s .graph 1) rule x y z i)) (sym terms-are) ∙ sym j-is)
+      (ap (branch (termCount q) s) (alternative-is l (termCount q) (s .graph) rule x y z i other in-row) ∙ ap (λ (m : ℕ). branch m s (alternativeAt l m (s .graph l) rule x y z i)) (sym terms-are) ∙ sym j-is)
       f
 
 -- the count behind them stays below its stop

@@ -10,7 +10,7 @@ use lib.Seq.{drop-cons}
 use Rattle.logic.specs.Query.{Query, termCount}
 use Rattle.logic.specs.Facts.{Facts, Line}
 use Rattle.logic.specs.Rules.{Rule, Move, Fact, alternatives, branch, moveLine}
-use Rattle.logic.proofs.Walks.Derives.{seen-clashing, seen-saturated}
+use Rattle.theory.proofs.Walks.Derives.{seen-clashing, seen-saturated}
 use Rattle.logic.specs.Walk.{Look, clashing, applying, saturated, look, Ending, refutation, saturation, after, thenEnding, walkBranch, walkEach, endAt, walk}
 
 module _ (q : Query) (order : List Rule) where

@@ -8,5 +8,5 @@ use Rattle.walk.specs.declared.Seen.the-variants as seen
 
 abbrev pub lookOf : Seen → Look
 lookOf (seen.Clashing section i j) = clashing (line 9 section i j)
-lookOf (seen.Applying r x y z) = applying (move 1 (kindOf r) (triple (x .0) (y .0) (z .0)))
+lookOf (seen.Applying i r x y z) = applying (move (i .0) (kindOf r) (triple (x .0) (y .0) (z .0)))
 lookOf seen.Saturated = saturated

@@ -1,6 +1,7 @@
 // One look of the branch walk, and the lines that it writes.
 use clash::Clash;
 use facts::Facts;
+use facts::Link;
 use facts::Pairs;
 use facts::Term;
 use query::Layout;
@@ -12,7 +13,7 @@ ghost use Prim.Native.Nat.{_+_, _*_, _≤_, _<_};
 ghost use lib.ListN.{length};
 ghost use Rattle.logic.specs.Facts.{line, joinLines};
 ghost use Rattle.logic.specs.Query.{decode};
-ghost use Rattle.logic.specs.Rules.{ruleNumber};
+ghost use Rattle.logic.specs.Rules.{ruleNumber, moveNumber};
 ghost use Rattle.logic.specs.Walk.{look, orderOf};
 ghost use Rattle.facts.specs.Path.{pathOf};
 ghost use Rattle.facts.specs.Pairs.{pairsOf};
@@ -46,13 +47,6 @@ pub fn put_line(lines: &mut [u8], count: usize, a: usize, b: usize, c: usize, d:
     lines[at + 3] = d as u8;
 }
 
-// A byte as a number.
-fn wide(byte: u8) -> usize
-    ensures { λ r. ⌜ (r ≡ byte) × (r < 256) ⌝ }
-{
-    byte as usize
-}
-
 // "A line 10, kept term, replaced term, 0 for each" pair; the count of lines then. Where there is no room only the count moves.
 pub fn put_joins(lines: &mut [u8], first: usize, pairs: Pairs) -> usize
     requires { ⌜ (length (pairsOf pairs) ≤ 17) × (first ≤ 16001) ⌝ }
@@ -63,8 +57,8 @@ pub fn put_joins(lines: &mut [u8], first: usize, pairs: Pairs) -> usize
     let mut count = first;
     let mut i: usize = 0;
     while i < total {
-        let kept = wide(pairs.kept[i]);
-        let replaced = wide(pairs.replaced[i]);
+        let kept = facts::wide(pairs.kept[i]);
+        let replaced = facts::wide(pairs.replaced[i]);
         put_line(lines, count, 10, kept, replaced, 0);
         count = counted(count);
         i += 1;
@@ -75,13 +69,13 @@ pub fn put_joins(lines: &mut [u8], first: usize, pairs: Pairs) -> usize
 // What is seen at a path: its clash, the rule to apply, or neither.
 pub enum Seen {
     Clashing(usize, usize, usize),
-    Applying(Rule, Term, Term, Third),
+    Applying(Link, Rule, Term, Term, Third),
     Saturated,
 }
 
-// The number of a rule, as a line has it.
-pub fn number(rule: Rule) -> usize
-    ensures { λ r. ⌜ (r ≡ ruleNumber (kindOf rule)) × (r < 256) ⌝ }
+// The number of a rule.
+fn rule_number(rule: Rule) -> usize
+    ensures { λ r. ⌜ (r ≡ ruleNumber (kindOf rule)) × (r < 9) ⌝ }
 {
     match rule {
         Rule::Reflex => 1,
@@ -95,18 +89,25 @@ pub fn number(rule: Rule) -> usize
     }
 }
 
+// The number of a rule by link k, as a line has it: it "gains 16 times (link minus 1)" (02, R-11).
+pub fn number(k: Link, rule: Rule) -> usize
+    requires { ⌜ (0 < k .0) × (k .0 ≤ 3) ⌝ }
+    ensures { λ r. ⌜ (r ≡ moveNumber (k .0) (kindOf rule)) × (r < 256) ⌝ }
+{
+    16 * (k.0 - 1) + rule_number(rule)
+}
+
 // "It is looked for before any rule and ends the path."
 pub fn look(query: &[u8], layout: Layout, order: &[u8], s: Facts) -> Seen
     requires { ⌜ LaysOut layout (now query) ⌝ }
     ensures { λ r. ⌜ lookOf r ≡ look (decode (now (query .entry))) (orderOf (now (order .entry))) (pathOf s) ⌝ }
 {
     let n = layout.terms;
-    let rep = s.rep;
-    if let Clash::At(section, place, partner) = clash::find_clash(query, layout, rep, &s.reach) {
+    if let Clash::At(section, place, partner) = clash::find_clash(query, layout, &s.rep, &s.reach) {
         return Seen::Clashing(section, place, partner);
     }
-    let Choice::Apply(rule, x, y, z) = rules::choose(order, s, n) else {
+    let Choice::Apply(k, rule, x, y, z) = rules::choose(order, s, n) else {
         return Seen::Saturated;
     };
-    Seen::Applying(rule, x, y, z)
+    Seen::Applying(k, rule, x, y, z)
 }

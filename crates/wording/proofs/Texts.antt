@@ -12,8 +12,8 @@ use Rattle.logic.specs.Search.{_and_}
 use Rattle.logic.specs.Facts.{line}
 use Rattle.logic.specs.Derivation.{lineBytes}
 use Rattle.logic.specs.Shown.{sizeIn, isNode, wellFormed}
-use Rattle.logic.proofs.Basics.Search.{and-left, and-right}
-use Rattle.logic.proofs.Calls.OneLink.{wellFormed-one}
+use Rattle.theory.proofs.Basics.Search.{and-left, and-right}
+use Rattle.theory.proofs.Calls.OneLink.{wellFormed-one}
 use Rattle.text.specs.Text.{ascii, decimal, hexByte}
 use Rattle.wording.specs.Words.{behind, lineOf, refusedText, refusalText, reportSize, reportText, lineText}
 

@@ -1,7 +1,8 @@
 -- Each section behind the one before, into zeros. Assumes nothing.
 use borrow.Author.Needs.{needs}
-use mathlib.Core.Path.{sym}
-use lib.ListN.{getD}
+use mathlib.Core.Path.{sym, _∙_}
+use mathlib.Core.List.{map}
+use lib.ListN.{getD, length-map}
 use Rattle.logic.specs.Facts.{terms}
 use Rattle.report.proofs.Report.{sections-written}
 use Rattle.between_call.proofs.Reporting.{terms-length}
@@ -30,7 +31,7 @@ write-sections-spec =
     (λ c.
     let a = c .before .before .before .before .before .before .before .before .before .before .before .before .before .before .before .before .before .before .before .before .before .before .before .before .before .args in
     sections-written _ (c .before .before .before .before .before .before .before .before .before .before .before .before .before .before .before .before .before .before .before .before .before .before .clear .last .0) (c .before .before .before .before .before .before .before .before .before .before .before .before .before .before .before .before .before .before .put-term-section .last .0) (c .before .before .before .before .before .before .before .before .before .before .before .before .before .before .put-term-section2 .last .0) (c .before .before .before .before .before .before .before .before .before .before .put-term-section3 .last .0) (c .before .before .before .before .before .before .put .last .0) (c .before .before .put2 .last .0)
-    _ _ (terms (a .m)) (λ t. getD (a .links .now) t 0) (λ t. getD (a .nodes .now) t 0) (λ t. getD (a .fields .now) t 0) _ _ _ _
-    (sym (terms-length (a .m))) (c .before .before .before .before .before .before .before .before .before .before .before .before .before .before .before .before .before .before .before .before .before .before .clear .ensures)
+    _ _ _ (terms (a .m)) (map (λ t. getD (a .links .now) t 0) (terms (a .m))) (λ t. getD (a .nodes .now) t 0) (λ t. getD (a .fields .now) t 0) _ _ _ _
+    (sym (terms-length (a .m))) (sym (length-map (terms (a .m)) (λ t. getD (a .links .now) t 0) ∙ terms-length (a .m))) (c .before .before .before .before .before .before .before .before .before .before .before .before .before .before .before .before .before .before .before .before .before .before .clear .ensures)
     (c .before .before .before .before .before .before .before .before .before .before .before .before .before .before .before .before .before .before .put-term-section .kept .0) (c .before .before .before .before .before .before .before .before .before .before .before .before .before .before .put-term-section2 .kept .0) (c .before .before .before .before .before .before .before .before .before .before .put-term-section3 .kept .0) (c .before .before .before .before .before .before .put .kept .0)
     (c .before .before .before .before .before .before .before .before .before .before .before .before .before .before .before .before .before .before .put-term-section .ensures) (c .before .before .before .before .before .before .before .before .before .before .before .before .before .before .put-term-section2 .ensures) (c .before .before .before .before .before .before .before .before .before .before .put-term-section3 .ensures) (c .before .before .before .before .before .before .put .ensures) (c .before .before .put2 .ensures .1)))

@@ -9,9 +9,10 @@ use borrow.Fn.Kinds.{In}
 use borrow.Fn.PlainCycle.{Measures, is, falls, and}
 use Rattle.logic.specs.Query.{decode}
 use Rattle.logic.specs.Rules.{triple, move}
-use Rattle.logic.proofs.Query.AcceptedBytes.{accepted}
+use Rattle.theory.proofs.Query.AcceptedBytes.{accepted}
 use Rattle.facts.specs.Path.{pathOf}
 use Rattle.facts.specs.Pairs.{pairsOf, joinedOf, Fits}
+use Rattle.facts.proofs.Path.{links-few}
 use Rattle.rules.specs.Answers.{kindOf}
 use Rattle.branch.proofs.Steps.{branch-fits}
 use Rattle.checking.specs.Fitting.{goalOf}
@@ -89,7 +90,7 @@ unfolding goalOf
     -- loop-holds
     (λ c. branches-begin _ _ _ (c .before .before .before .before .before .before .before .before .before .before .before .pre .1 .2) _ _ _ (reading-is readingOf _ _ _ (c .before .before .before .before .read-line .ensures) (c .before .before .rule .given .1)))
     -- branch-requires
-    (λ c κs. let f = ahead-numbers _ (accepted _ (c .before .before .before .before .before .before .before .before .before .before .before .before .before .pre .1 .1)) _ _ (c .before .before .before .before .before .before .before .before .before .before .before .before .before .pre .1 .3) _ _ _ _ _ (ruling-applies _ _ _ _ (reading-is readingOf _ _ _ (c .before .before .before .before .before .before .read-line .ensures) (c .before .before .before .before .rule .given .1))) in (c .before .before .before .before .before .before .before .before .before .before .before .before .before .pre .1 .0 .terms-within, f .0, f .1, f .2))
+    (λ c κs. let f = ahead-numbers _ (accepted _ (c .before .before .before .before .before .before .before .before .before .before .before .before .before .pre .1 .1)) _ _ (c .before .before .before .before .before .before .before .before .before .before .before .before .before .pre .1 .3) _ _ _ _ _ (ruling-applies _ _ _ _ (reading-is readingOf _ _ _ (c .before .before .before .before .before .before .read-line .ensures) (c .before .before .before .before .rule .given .1))) in (c .before .before .before .before .before .before .before .before .before .before .before .before .before .pre .1 .0 .terms-within, (omega arith, links-few (c .before .before .before .before .before .before .before .before .before .before .before .before .before .args .goal .facts) .0), f .0, f .1, f .2))
     -- sub-check-goal
     (λ c. ahead-some _ (accepted _ (c .before .before .before .before .before .before .before .before .before .before .before .before .before .before .pre .1 .1)) _ _ (c .before .before .before .before .before .before .before .before .before .before .before .before .before .before .pre .1 .3) _ (ruling-applies _ _ _ _ (reading-is readingOf _ _ _ (c .before .before .before .before .before .before .before .read-line .ensures) (c .before .before .before .before .before .rule .given .1))))
     -- check-goal-requires

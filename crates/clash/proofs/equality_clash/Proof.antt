@@ -2,7 +2,7 @@
 use native.Mathlib.Omega.{arith}
 use Prim.Native.Nat.{_-_}
 use mathlib.Core.Path.{sym, _∙_}
-use Rattle.clash.specs.Reps.{repsOf}
+use Rattle.facts.specs.Path.{repOf}
 use Rattle.query.proofs.Literals.{literals-are}
 use Rattle.clash.specs.Sections.{literalsIn, oneTerm}
 use Rattle.clash.proofs.Sections.{AloneLeft, alone-begin, alone-here, alone-next, alone-end}
@@ -10,10 +10,10 @@ use Rattle.clash.proofs.equality_clash.Statement.{statement}
 use Rattle.clash.proofs.equality_clash.Tie as tie
 
 abbrev Inv-loop : tie.InvT-loop
-Inv-loop query at count reps i₀ i = AloneLeft (literalsIn query at count) count 2 (oneTerm (repsOf reps)) i
+Inv-loop query at count rep i₀ i = AloneLeft (literalsIn query at count) count 2 (oneTerm (repOf rep)) i
 
 abbrev μ-loop : tie.MeasureT-loop
-μ-loop query at count reps i₀ i = count - i
+μ-loop query at count rep i₀ i = count - i
 
 pub equality-clash-spec : {M : Type 1} → statement M
 equality-clash-spec =

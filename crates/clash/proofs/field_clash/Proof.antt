@@ -3,7 +3,7 @@ use native.Mathlib.Omega.{arith}
 use borrow.Author.Needs.{needs}
 use Prim.Native.Nat.{_-_}
 use mathlib.Core.Path.{sym, ap, _∙_}
-use Rattle.clash.specs.Reps.{repsOf}
+use Rattle.facts.specs.Path.{repOf}
 use Rattle.query.proofs.Literals.{literals-are}
 use Rattle.clash.specs.Sections.{literalsIn, sameField}
 use Rattle.clash.specs.Answers.{placeOf}
@@ -12,10 +12,10 @@ use Rattle.clash.proofs.field_clash.Statement.{statement}
 use Rattle.clash.proofs.field_clash.Tie as tie
 
 abbrev Inv-loop : tie.InvT-loop
-Inv-loop query at count reps i₀ i = PairedLeft (literalsIn query at count) count 4 (sameField (repsOf reps)) i
+Inv-loop query at count rep i₀ i = PairedLeft (literalsIn query at count) count 4 (sameField (repOf rep)) i
 
 abbrev μ-loop : tie.MeasureT-loop
-μ-loop query at count reps i₀ i = count - i
+μ-loop query at count rep i₀ i = count - i
 
 pub field-clash-spec : {M : Type 1} → statement M
 field-clash-spec =

@@ -3,7 +3,7 @@ use native.Mathlib.Omega.{arith}
 use borrow.Author.Needs.{needs}
 use Prim.Native.Nat.{_+_, _-_}
 use mathlib.Core.Path.{sym, ap, _∙_}
-use Rattle.clash.specs.Reps.{repsOf}
+use Rattle.facts.specs.Path.{repOf}
 use Rattle.query.proofs.Literals.{literals-are}
 use Rattle.clash.specs.Sections.{literalsIn, sameField}
 use Rattle.clash.proofs.Sections.{PartnerLeft, partner-begin, partner-plain, partner-here, partner-next, partner-end}
@@ -11,10 +11,10 @@ use Rattle.clash.proofs.field_partner.Statement.{statement}
 use Rattle.clash.proofs.field_partner.Tie as tie
 
 abbrev Inv-loop : tie.InvT-loop
-Inv-loop query at count reps i field term j₀ j = PartnerLeft (literalsIn query at count) count (sameField (repsOf reps)) (i + 1) j
+Inv-loop query at count rep i field term j₀ j = PartnerLeft (literalsIn query at count) count (sameField (repOf rep)) (i + 1) j
 
 abbrev μ-loop : tie.MeasureT-loop
-μ-loop query at count reps i field term j₀ j = count - j
+μ-loop query at count rep i field term j₀ j = count - j
 
 pub field-partner-spec : {M : Type 1} → statement M
 field-partner-spec =
@@ -39,12 +39,12 @@ field-partner-spec =
     -- add-t13
     (λ c. omega arith)
     -- returns-2
-    (λ c. sym (partner-here _ _ _ (literals-are _ _ _ (c .before .before .before .before .before .before .before .before .before .before .pre .0)) _ _ (c .before .before .before .before .before .before .before .before .before .before .pre .1) _ (c .before .before .loop-test .taken) (sym (c .before .before .before .before .before .before .before .before .sign .ensures) ∙ c .before .before .before .before .before .before .before .if1 .left) (sym (rw (c .before .before .before .before .before .before .field .ensures, c .before .before .before .before .read-rep .ensures ∙ ap (repsOf _) (c .before .before .before .before .before .right .ensures)) at (c .before .is-field-partner .ensures)) ∙ c .if2 .taken) (c .before .before .before .loop .inv)))
+    (λ c. sym (partner-here _ _ _ (literals-are _ _ _ (c .before .before .before .before .before .before .before .before .before .before .pre .0)) _ _ (c .before .before .before .before .before .before .before .before .before .before .pre .1) _ (c .before .before .loop-test .taken) (sym (c .before .before .before .before .before .before .before .before .sign .ensures) ∙ c .before .before .before .before .before .before .before .if1 .left) (sym (rw (c .before .before .before .before .before .before .field .ensures, c .before .before .before .before .read-rep .ensures ∙ ap (repOf _) (c .before .before .before .before .before .right .ensures)) at (c .before .is-field-partner .ensures)) ∙ c .if2 .taken) (c .before .before .before .loop .inv)))
     -- add-j
     (λ c. omega arith)
     -- loop-less
     (λ c. omega arith)
     -- loop-again
-    (λ c. partner-next _ _ _ (literals-are _ _ _ (c .before .before .before .before .before .before .before .before .before .before .pre .0)) _ _ (c .before .before .before .before .before .before .before .before .before .before .pre .1) _ (c .before .before .loop-test .taken) (sym (c .before .before .before .before .before .before .before .before .sign .ensures) ∙ c .before .before .before .before .before .before .before .if1 .left) (sym (rw (c .before .before .before .before .before .before .field .ensures, c .before .before .before .before .read-rep .ensures ∙ ap (repsOf _) (c .before .before .before .before .before .right .ensures)) at (c .before .is-field-partner .ensures)) ∙ c .if2 .left) (c .before .before .before .loop .inv))
+    (λ c. partner-next _ _ _ (literals-are _ _ _ (c .before .before .before .before .before .before .before .before .before .before .pre .0)) _ _ (c .before .before .before .before .before .before .before .before .before .before .pre .1) _ (c .before .before .loop-test .taken) (sym (c .before .before .before .before .before .before .before .before .sign .ensures) ∙ c .before .before .before .before .before .before .before .if1 .left) (sym (rw (c .before .before .before .before .before .before .field .ensures, c .before .before .before .before .read-rep .ensures ∙ ap (repOf _) (c .before .before .before .before .before .right .ensures)) at (c .before .is-field-partner .ensures)) ∙ c .if2 .left) (c .before .before .before .loop .inv))
     -- returns-3
     (λ c. sym (partner-end _ _ _ (literals-are _ _ _ (c .before .before .before .before .before .before .before .before .pre .0)) _ _ (c .before .before .before .before .before .before .before .before .pre .1) _ (c .loop-test .left) (c .before .loop .inv))))

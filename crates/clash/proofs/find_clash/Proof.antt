@@ -1,7 +1,8 @@
--- The clash of the path that the arrays hold. Assumes nothing.
+-- The first section with a clash answers. Assumes nothing.
 use borrow.Author.Needs.{needs}
-use mathlib.Core.Path.{sym, _∙_}
-use Rattle.clash.proofs.Laid.{clash-at}
+use mathlib.Core.Path.{sym, ap, _∙_}
+use Rattle.clash.specs.Answers.{lineOf}
+use Rattle.clash.proofs.Laid.{equality-first, reach-second, fields-third}
 use Rattle.clash.proofs.find_clash.Statement.{statement}
 use Rattle.clash.proofs.find_clash.Tie as tie
 
@@ -9,9 +10,32 @@ pub find-clash-spec : {M : Type 1} → statement M
 find-clash-spec =
     tie.close
     (tie.spec
-    -- numbers-requires
-    (λ c κs. search needs)
-    -- path-clash-requires
-    (λ c κs. search needs)
+    -- equality-clash-requires
+    (λ c κs. c .before .pre .equal-fit)
+    -- enum-known-k
+    (λ c. search needs)
     -- returns
-    (λ c s e f. c .path-clash .ensures ∙ sym (clash-at (c .before .before .before .before .pre) _ _ s (e ∙ sym (c .before .before .numbers .ensures)) f)))
+    (λ c s e f. sym (equality-first (c .before .before .before .before .before .pre) _ _ s e f _ (sym (c .before .before .before .equality-clash .ensures) ∙ ap lineOf (c .before .k .given .1))))
+    -- enum-told
+    (λ c. search needs)
+    -- reach-clash-requires
+    (λ c κs. c .before .before .before .before .pre .reach-fit)
+    -- enum-known-k-2
+    (λ c. search needs)
+    -- returns-2
+    (λ c s e f.
+    sym
+    (reach-second (c .before .before .before .before .before .before .before .before .pre) _ _ s e f _
+    (sym (c .before .before .before .before .before .before .equality-clash .ensures) ∙ ap lineOf (c .before .before .before .before .enum-told .given .1))
+    (sym (c .before .before .before .reach-clash .ensures) ∙ ap lineOf (c .before .k2 .given .1))))
+    -- enum-told-2
+    (λ c. search needs)
+    -- field-clash-requires
+    (λ c κs. c .before .before .before .before .before .before .before .pre .field-fit)
+    -- returns-3
+    (λ c s e f.
+    c .field-clash .ensures
+    ∙ sym
+    (fields-third (c .before .before .before .before .before .before .before .before .pre) _ _ s e f
+    (sym (c .before .before .before .before .before .before .equality-clash .ensures) ∙ ap lineOf (c .before .before .before .before .enum-told .given .1))
+    (sym (c .before .before .before .reach-clash .ensures) ∙ ap lineOf (c .before .enum-told2 .given .1)))))

@@ -4,7 +4,7 @@ use mathlib.Core.Path.{sym, ap, _∙_}
 use lib.Dec.{eqb}
 use borrow.Author.Tests.{eq-eqb, ne-eqb, not-true, not-false}
 use Rattle.logic.specs.Search.{_and_}
-use Rattle.clash.specs.Reps.{repsOf}
+use Rattle.facts.specs.Path.{repOf}
 use Rattle.clash.proofs.is_field_partner.Statement.{statement}
 use Rattle.clash.proofs.is_field_partner.Tie as tie
 
@@ -28,4 +28,4 @@ is-field-partner-spec =
     -- returns-3
     (λ c.
     rw (sym (c .before .before .before .before .before .before .before .sign .ensures) ∙ not-false _ (c .before .before .before .before .before .before .if1 .left), ← c .before .before .before .before .before .field .ensures, eq-eqb _ _ (c .before .before .before .before .if2 .left))
-    (ap (eqb _) (c .before .before .read-rep .ensures ∙ ap (repsOf _) (c .before .before .before .right .ensures)))))
+    (ap (eqb _) (c .before .before .read-rep .ensures ∙ ap (repOf _) (c .before .before .before .right .ensures)))))

@@ -3,7 +3,7 @@ use borrow.Author.Needs.{needs}
 use mathlib.Core.Path.{sym, ap, ap₂, _∙_}
 use Rattle.logic.specs.Search.{_and_}
 use Rattle.facts.specs.Square.{square}
-use Rattle.clash.specs.Reps.{repsOf}
+use Rattle.facts.specs.Path.{repOf}
 use Rattle.clash.proofs.is_held_negated.Statement.{statement}
 use Rattle.clash.proofs.is_held_negated.Tie as tie
 
@@ -30,4 +30,4 @@ is-held-negated-spec =
     (λ c.
     rw (sym (c .before .before .before .before .before .before .sign .ensures) ∙ c .before .before .before .before .before .if1 .left)
     (c .reaches .ensures
-    ∙ ap₂ (square _) (c .before .before .before .read-rep .ensures ∙ ap (repsOf _) (c .before .before .before .before .left .ensures)) (c .before .read-rep2 .ensures ∙ ap (repsOf _) (c .before .before .right .ensures)))))
+    ∙ ap₂ (square _) (c .before .before .before .read-rep .ensures ∙ ap (repOf _) (c .before .before .before .before .left .ensures)) (c .before .read-rep2 .ensures ∙ ap (repOf _) (c .before .before .right .ensures)))))

@@ -3,7 +3,7 @@ use borrow.Author.Needs.{needs}
 use mathlib.Core.Path.{sym, ap, ap₂, _∙_}
 use lib.Dec.{eqb}
 use Rattle.logic.specs.Search.{_and_}
-use Rattle.clash.specs.Reps.{repsOf}
+use Rattle.facts.specs.Path.{repOf}
 use Rattle.clash.proofs.is_unequal_to_itself.Statement.{statement}
 use Rattle.clash.proofs.is_unequal_to_itself.Tie as tie
 
@@ -27,4 +27,4 @@ is-unequal-to-itself-spec =
     -- returns-2
     (λ c.
     rw (sym (c .before .before .before .before .before .before .before .sign .ensures) ∙ c .before .before .before .before .before .before .if1 .left)
-    (ap₂ eqb (c .before .before .before .before .read-rep .ensures ∙ ap (repsOf _) (c .before .before .before .before .before .left .ensures)) (c .before .before .read-rep2 .ensures ∙ ap (repsOf _) (c .before .before .before .right .ensures)))))
+    (ap₂ eqb (c .before .before .before .before .read-rep .ensures ∙ ap (repOf _) (c .before .before .before .before .before .left .ensures)) (c .before .before .read-rep2 .ensures ∙ ap (repOf _) (c .before .before .before .right .ensures)))))

@@ -3,7 +3,7 @@ use native.Mathlib.Omega.{arith}
 use Prim.Native.Nat.{_-_}
 use mathlib.Core.Path.{sym, _∙_}
 use Rattle.facts.specs.Square.{square}
-use Rattle.clash.specs.Reps.{repsOf}
+use Rattle.facts.specs.Path.{repOf}
 use Rattle.query.proofs.Literals.{literals-are}
 use Rattle.clash.specs.Sections.{literalsIn, reachHeld}
 use Rattle.clash.proofs.Sections.{AloneLeft, alone-begin, alone-here, alone-next, alone-end}
@@ -11,10 +11,10 @@ use Rattle.clash.proofs.reach_clash.Statement.{statement}
 use Rattle.clash.proofs.reach_clash.Tie as tie
 
 abbrev Inv-loop : tie.InvT-loop
-Inv-loop query at count reps reach i₀ i = AloneLeft (literalsIn query at count) count 3 (reachHeld (repsOf reps) (square reach)) i
+Inv-loop query at count rep reach i₀ i = AloneLeft (literalsIn query at count) count 3 (reachHeld (repOf rep) (square reach)) i
 
 abbrev μ-loop : tie.MeasureT-loop
-μ-loop query at count reps reach i₀ i = count - i
+μ-loop query at count rep reach i₀ i = count - i
 
 pub reach-clash-spec : {M : Type 1} → statement M
 reach-clash-spec =

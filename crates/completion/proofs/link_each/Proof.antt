@@ -15,13 +15,13 @@ use Rattle.completion.proofs.link_each.Statement.{statement}
 use Rattle.completion.proofs.link_each.Tie as tie
 
 abbrev Inv-loop : tie.InvT-loop
-Inv-loop reach n rep out₀ v₀ out v =
+Inv-loop rep reach n out₀ v₀ out v =
     (length out ≡ 17) × InRange out
     × (linkEach n (reachIn reach) (linkOf out₀) (select (λ t. eqb (repOf rep t) t) (from (n + 1 - 1) 1))
     ≡ linkEach n (reachIn reach) (linkOf out) (select (λ t. eqb (repOf rep t) t) (from (n + 1 - v) v)))
 
 abbrev μ-loop : tie.MeasureT-loop
-μ-loop reach n rep out₀ v₀ out v = n + 1 - v
+μ-loop rep reach n out₀ v₀ out v = n + 1 - v
 
 pub link-each-spec : {M : Type 1} → statement M
 link-each-spec =
@@ -31,10 +31,10 @@ link-each-spec =
     μ-loop
     -- loop-holds
     (λ c. (search needs, c .pre .1, refl))
-    -- mul-stands
+    -- element-copy-out-wide
     (λ c. omega arith)
-    -- array-copy-out-stands
-    (λ c. omega arith)
+    -- wide-requires
+    (λ c κs. search needs)
     -- mul-known
     (λ c. omega arith)
     -- array-copy-out-known
@@ -46,7 +46,7 @@ link-each-spec =
     -- loop-again
     (λ c.
     let l = c .before .before .before .before .before .before .loop in
-    (l .inv .0, l .inv .1, l .inv .2 ∙ link-kept _ _ _ (l .out) (l .inv .0) (l .v) (omega arith) (omega arith) (remains _ (l .out) (l .v) (omega arith) ∙ not-true _ (c .if1 .taken))))
+    (l .inv .0, l .inv .1, l .inv .2 ∙ link-kept _ _ _ (l .out) (l .inv .0) (l .v) (omega arith) (omega arith) (remains _ (l .out) (l .v) _ (omega arith) (c .before .before .before .wide .ensures .0) ∙ not-true _ (c .if1 .taken))))
     -- new-link-requires
     (λ c κs. (omega arith, omega arith, c .before .before .before .before .before .before .loop .inv .1))
     -- mul-out
@@ -60,7 +60,7 @@ link-each-spec =
     -- loop-again-2
     (λ c.
     let l = c .before .before .before .before .before .before .before .loop in
-    let given = link-new _ _ _ (l .out) (l .v) (remains _ (l .out) (l .v) (omega arith) ∙ not-false _ (c .before .if1 .left)) (c .new-link .ensures) in (
+    let given = link-new _ _ _ (l .out) (l .v) (remains _ (l .out) (l .v) _ (omega arith) (c .before .before .before .before .wide .ensures .0) ∙ not-false _ (c .before .if1 .left)) (c .new-link .ensures) in (
       simp length-set (l .inv .0),
       turn-range _ _ _ (l .out) (l .inv .0) (l .v) (omega arith) (omega arith) (c .new-link .result) given (l .inv .1),
       l .inv .2 ∙ link-turn _ _ _ (l .out) (l .inv .0) (l .v) (omega arith) (omega arith) (c .new-link .result) given,

@@ -10,10 +10,6 @@ pub covers-spec : {M : Type 1} → statement M
 covers-spec =
     tie.close
     (tie.spec
-    -- numbers-requires
-    (λ c κs. search needs)
-    -- numbers-requires-2
-    (λ c κs. search needs)
     -- same-reps-requires
     (λ c κs. search needs)
     -- returns
@@ -25,4 +21,4 @@ covers-spec =
     -- rows-held-requires-2
     (λ c κs. search needs)
     -- returns-3
-    (λ c e. covers-all _ _ _ _ (c .before .before .before .before .before .before .before .before .before .before .before .before .before .before .before .before .before .before .numbers .ensures) (c .before .before .before .before .before .before .before .before .before .before .before .before .before .before .before .before .before .numbers2 .ensures) (c .before .before .before .before .before .before .before .before .before .before .before .before .before .before .same-reps .ensures (not-false _ (c .before .before .before .before .before .before .before .before .before .before .before .before .before .if1 .left))) (c .before .before .before .before .before .before .before .rows-held .ensures (not-false _ (c .before .before .before .before .before .before .if2 .left))) (c .rows-held2 .ensures e)))
+    (λ c e. covers-all _ _ (c .before .before .before .before .before .before .before .before .before .before .before .before .before .before .same-reps .ensures (not-false _ (c .before .before .before .before .before .before .before .before .before .before .before .before .before .if1 .left))) (c .before .before .before .before .before .before .before .rows-held .ensures (not-false _ (c .before .before .before .before .before .before .if2 .left))) (c .rows-held2 .ensures e)))

@@ -16,10 +16,8 @@ facts-held-spec =
     (λ c. search needs)
     -- returns
     (λ c e. none-held _ _ _ _ (omega arith) (c .if1 .taken))
-    -- mul-at
-    (λ c. search needs)
-    -- element-copy-out-at
-    (λ c. search needs)
+    -- read-rep-requires
+    (λ c κs. search needs)
     -- returns-2
     (λ c e. absurd (false≢true e))
     -- mul-far
@@ -29,4 +27,4 @@ facts-held-spec =
     -- row-held-requires
     (λ c κs. search needs)
     -- returns-3
-    (λ c e. row-held _ _ _ _ (omega arith) (omega arith) (c .row-held .ensures e)))
+    (λ c e. row-held _ _ _ _ (omega arith) _ (c .before .before .before .read-rep .ensures) (omega arith) (c .row-held .ensures e)))

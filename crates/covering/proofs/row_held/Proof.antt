@@ -7,13 +7,13 @@ use mathlib.Core.Bool.{true, false≢true}
 use borrow.Author.Tests.{not-true, not-false}
 use Rattle.facts.specs.Bits.{bit}
 use Rattle.facts.specs.Square.{rowOf}
-use Rattle.clash.specs.Reps.{repsOf}
+use Rattle.facts.specs.Path.{repOf}
 use Rattle.covering.proofs.Held.{Below, below-none, below-more, below-all}
 use Rattle.covering.proofs.row_held.Statement.{statement}
 use Rattle.covering.proofs.row_held.Tie as tie
 
 abbrev Inv-loop : tie.InvT-loop
-Inv-loop row reps far b₀ b = (b ≤ 17) × Below (λ (b : ℕ). bit row b ≡ true → rowOf far (repsOf reps b) ≡ true) b
+Inv-loop row reps far b₀ b = (b ≤ 17) × Below (λ (b : ℕ). bit row b ≡ true → rowOf far (repOf reps b) ≡ true) b
 
 abbrev μ-loop : tie.MeasureT-loop
 μ-loop row reps far b₀ b = 17 - b

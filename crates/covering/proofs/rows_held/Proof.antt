@@ -6,13 +6,13 @@ use mathlib.Core.Path.{_≡_, sym, refl, _∙_}
 use mathlib.Core.Bool.{true, false≢true}
 use borrow.Author.Tests.{not-true, not-false}
 use Rattle.facts.specs.Square.{square}
-use Rattle.clash.specs.Reps.{repsOf}
+use Rattle.facts.specs.Path.{repOf}
 use Rattle.covering.proofs.Held.{Below, below-none, below-more, below-all, rows-held}
 use Rattle.covering.proofs.rows_held.Statement.{statement}
 use Rattle.covering.proofs.rows_held.Tie as tie
 
 abbrev Inv-loop : tie.InvT-loop
-Inv-loop rows reps others a₀ a = (a ≤ 17) × Below (λ (a : ℕ). (b : ℕ) → square rows a b ≡ true → square others (repsOf reps a) (repsOf reps b) ≡ true) a
+Inv-loop rows reps others a₀ a = (a ≤ 17) × Below (λ (a : ℕ). (b : ℕ) → square rows a b ≡ true → square others (repOf reps a) (repOf reps b) ≡ true) a
 
 abbrev μ-loop : tie.MeasureT-loop
 μ-loop rows reps others a₀ a = 17 - a

@@ -5,13 +5,13 @@ use native.Mathlib.Omega.{arith}
 use mathlib.Core.Path.{_≡_, sym, refl, _∙_}
 use mathlib.Core.Bool.{true, false≢true}
 use borrow.Author.Tests.{not-true, not-false}
-use Rattle.clash.specs.Reps.{repsOf}
+use Rattle.facts.specs.Path.{repOf}
 use Rattle.covering.proofs.Held.{Below, below-none, below-more, below-all}
 use Rattle.covering.proofs.same_reps.Statement.{statement}
 use Rattle.covering.proofs.same_reps.Tie as tie
 
 abbrev Inv-loop : tie.InvT-loop
-Inv-loop reps olds t₀ t = (t ≤ 17) × Below (λ (t : ℕ). repsOf reps (repsOf olds t) ≡ repsOf reps t) t
+Inv-loop reps olds t₀ t = (t ≤ 17) × Below (λ (t : ℕ). repOf reps (repOf olds t) ≡ repOf reps t) t
 
 abbrev μ-loop : tie.MeasureT-loop
 μ-loop reps olds t₀ t = 17 - t
@@ -25,7 +25,7 @@ same-reps-spec =
     -- loop-holds
     (λ c. (omega arith, below-none _ _ refl))
     -- same-rep-requires
-    (λ c κs. omega arith)
+    (λ c κs. search needs)
     -- returns
     (λ c e. absurd (false≢true e))
     -- add-t

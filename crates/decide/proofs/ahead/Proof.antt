@@ -1,7 +1,7 @@
 -- The closed path, or the path itself. Assumes nothing.
 use borrow.Author.Needs.{needs}
 use mathlib.Core.Path.{refl, sym, _∙_}
-use Rattle.logic.proofs.Basics.Search.{true-false}
+use Rattle.theory.proofs.Basics.Search.{true-false}
 use Rattle.decide.proofs.ahead.Statement.{statement}
 use Rattle.decide.proofs.ahead.Tie as tie
 

@@ -1,8 +1,8 @@
 -- What the strategies find out, or else plain steps without a limit. Assumes nothing.
 use borrow.Author.Needs.{needs}
 use mathlib.Core.Path.{refl}
-use Rattle.logic.proofs.Query.AcceptedBytes.{accepted}
-use Rattle.logic.proofs.Calls.Decision.{reachable-known}
+use Rattle.theory.proofs.Query.AcceptedBytes.{accepted}
+use Rattle.theory.proofs.Calls.Decision.{reachable-known}
 use Rattle.decide.proofs.Ended.{decides-open, decides-refuted, decides-walked}
 use Rattle.decide.proofs.has_heap.Statement.{statement}
 use Rattle.decide.proofs.has_heap.Tie as tie

@@ -34,6 +34,8 @@ in-turn-spec =
     (λ c. c .before .before .before .search2 .ensures)
     -- loop-holds
     (λ c. omega arith)
+    -- add-how
+    (λ c. omega arith)
     -- share-requires-2
     (λ c κs. search needs)
     -- search-requires-3

@@ -19,11 +19,11 @@ sees-spec =
     (λ c. search needs)
     -- pick-requires
     (λ c κs. search needs)
-    -- enum-known-rule
+    -- enum-known-k
     (λ c. search needs)
     -- enum-told-3
     (λ c. search needs)
     -- returns-2
     (λ c. sees-none _ _ _ (c .before .before .before .before .before .before .before .before .before .before .pre .term-count) (c .before .before .before .before .before .find-clash .result) (c .before .before .before .before .before .find-clash .ensures) (c .before .before .pick .result) (c .before .before .pick .ensures) (c .before .before .before .enum-told2 .given .1) (c .enum-told3 .given .1))
     -- returns-3
-    (λ c. sees-rule _ _ _ (c .before .before .before .before .before .before .before .before .before .before .before .pre .term-count) (c .before .before .before .before .before .before .find-clash .result) (c .before .before .before .before .before .before .find-clash .ensures) (c .before .before .before .pick .result) (c .before .before .before .pick .ensures) _ _ _ _ (c .before .rule .given .1)))
+    (λ c. sees-rule _ _ _ (c .before .before .before .before .before .before .before .before .before .before .before .pre .term-count) (c .before .before .before .before .before .before .find-clash .result) (c .before .before .before .before .before .before .find-clash .ensures) (c .before .before .before .pick .result) (c .before .before .before .pick .ensures) _ _ _ _ _ (c .before .k .given .1)))

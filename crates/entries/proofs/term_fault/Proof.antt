@@ -1,8 +1,8 @@
 -- The byte of an entry is held to the entry's role. Assumes nothing.
 use native.Mathlib.Omega.{arith}
 use borrow.Author.Needs.{needs}
-use mathlib.Core.Path.{sym, _∙_}
-use Rattle.entries.proofs.Faults.{tested, fault-here, fault-next, fault-end}
+use mathlib.Core.Path.{sym}
+use Rattle.entries.proofs.Faults.{tested, fault-at, no-fault-at}
 use Rattle.entries.proofs.term_fault.Statement.{statement}
 use Rattle.entries.proofs.term_fault.Tie as tie
 
@@ -15,6 +15,6 @@ term-fault-spec =
     -- entry-refused-requires
     (λ c κs. search needs)
     -- returns
-    (λ c. sym (fault-here _ (c .before .before .before .before .args .query .now) _ _ _ (omega arith) (tested _ _ (c .before .entry-refused .ensures) (c .before .before .byte-at .ensures) (c .if1 .taken))))
+    (λ c. sym (fault-at _ _ (c .before .before .before .before .args .query .now) _ (tested _ _ (c .before .entry-refused .ensures) (c .before .before .byte-at .ensures) (c .if1 .taken))))
     -- returns-2
-    (λ c. sym (fault-next _ (c .before .before .before .before .args .query .now) _ _ _ (omega arith) (tested _ _ (c .before .entry-refused .ensures) (c .before .before .byte-at .ensures) (c .if1 .left)) ∙ fault-end _ _ _)))
+    (λ c. sym (no-fault-at _ _ (c .before .before .before .before .args .query .now) _ (tested _ _ (c .before .entry-refused .ensures) (c .before .before .byte-at .ensures) (c .if1 .left)))))

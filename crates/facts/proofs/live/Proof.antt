@@ -1,8 +1,9 @@
 -- After t terms, those are told. Assumes nothing.
-use Prim.Native.Nat.{_-_, _≤_}
+use Prim.Native.Nat.{ℕ, _-_, _≤_}
 use native.Mathlib.Omega.{arith}
 use borrow.Author.Needs.{needs}
-use mathlib.Core.Path.{_≡_, refl}
+use mathlib.Core.Path.{_≡_, ap}
+use lib.Dec.{eqb}
 use Rattle.facts.specs.Bits.{bit}
 use Rattle.facts.proofs.Fill.{Filled, filled-none}
 use Rattle.facts.proofs.Alive.{itself, itself-more, live-all}
@@ -10,10 +11,10 @@ use Rattle.facts.proofs.live.Statement.{statement}
 use Rattle.facts.proofs.live.Tie as tie
 
 abbrev Inv-loop : tie.InvT-loop
-Inv-loop n rep out₀ t₀ out t = (t ≤ 17) × Filled (itself rep) (bit 0) t (bit out)
+Inv-loop rep n out₀ t₀ out t = (t ≤ 17) × Filled (itself rep) (bit 0) t (bit out)
 
 abbrev μ-loop : tie.MeasureT-loop
-μ-loop n rep out₀ t₀ out t = 17 - t
+μ-loop rep n out₀ t₀ out t = 17 - t
 
 whole : (c : tie.After-loop Inv-loop μ-loop) → c .before .loop .t ≡ 17
 whole c = omega arith
@@ -26,10 +27,10 @@ live-spec =
     μ-loop
     -- loop-holds
     (λ c. (omega arith, filled-none _ _))
-    -- mul-u
+    -- element-copy-out-wide
     (λ c. omega arith)
-    -- array-copy-out-u
-    (λ c. omega arith)
+    -- wide-requires
+    (λ c κs. search needs)
     -- with-requires
     (λ c κs. omega arith)
     -- add-t
@@ -39,7 +40,7 @@ live-spec =
     -- loop-again
     (λ c.
     let l = c .before .before .before .before .loop in
-    (omega arith, itself-more _ (l .t) (omega arith) (l .out) _ _ refl (c .with .ensures) (l .inv .1)))
+    (omega arith, itself-more _ (l .t) (omega arith) (l .out) _ _ (ap (λ (r : ℕ). eqb r (l .t)) (c .before .wide .ensures .0)) (c .with .ensures) (l .inv .1)))
     -- term-row-requires
     (λ c κs. search needs)
     -- returns

@@ -1,5 +1,5 @@
 -- After t terms, those are renamed. Assumes nothing.
-use Prim.Native.Nat.{_+_, _-_, _≤_}
+use Prim.Native.Nat.{_-_, _≤_}
 use native.Mathlib.Omega.{arith}
 use borrow.Author.Needs.{needs}
 use mathlib.Core.Path.{_≡_}
@@ -11,10 +11,10 @@ use Rattle.facts.proofs.replace_rep.Statement.{statement}
 use Rattle.facts.proofs.replace_rep.Tie as tie
 
 abbrev Inv-loop : tie.InvT-loop
-Inv-loop lo hi out₀ t₀ out t = (t ≤ 17) × (length out ≡ 17) × Filled (replaceRep (lo .0) (hi .0) (repOf out₀)) (repOf out₀) t (repOf out)
+Inv-loop low high out₀ t₀ out t = (t ≤ 17) × (length out ≡ 17) × Filled (replaceRep low high (repOf out₀)) (repOf out₀) t (repOf out)
 
 abbrev μ-loop : tie.MeasureT-loop
-μ-loop lo hi out₀ t₀ out t = 17 - t
+μ-loop low high out₀ t₀ out t = 17 - t
 
 whole : (c : tie.After-loop Inv-loop μ-loop) → c .before .loop .t ≡ 17
 whole c = omega arith
@@ -25,17 +25,17 @@ replace-rep-spec =
     (tie.spec
     Inv-loop
     μ-loop
+    -- cast-low
+    (λ c. omega arith)
+    -- cast-high
+    (λ c. omega arith)
     -- loop-holds
     (λ c. (omega arith, search needs, filled-none _ _))
-    -- mul-old
-    (λ c. omega arith)
-    -- array-copy-out-old
+    -- array-read-renamed
     (λ c. omega arith)
     -- renamed-requires
     (λ c κs. search needs)
-    -- mul-out
-    (λ c. omega arith)
-    -- array-set-from-out
+    -- array-write-out
     (λ c. omega arith)
     -- add-t
     (λ c. omega arith)
@@ -43,7 +43,7 @@ replace-rep-spec =
     (λ c. omega arith)
     -- loop-again
     (λ c.
-    let l = c .before .before .before .loop in (
+    let l = c .before .before .loop in (
       omega arith,
       simp length-set (l .inv .1),
       renamed-more _ _ _ (l .t) (omega arith) (l .out) (l .inv .1) (c .renamed .result) (c .renamed .ensures) (l .inv .2),

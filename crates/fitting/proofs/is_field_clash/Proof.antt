@@ -8,7 +8,7 @@ use lib.Dec.{eqb}
 use Rattle.logic.specs.Search.{_and_}
 use Rattle.query.specs.LaysOut.{literalIn}
 use Rattle.query.proofs.Literals.{literals-are}
-use Rattle.clash.specs.Reps.{repsOf}
+use Rattle.facts.specs.Path.{repOf}
 use Rattle.clash.specs.Sections.{sameField}
 use Rattle.fitting.proofs.Clashes.{negated-none, negated-past, pair-plain, pair-none, pair-past, pair-here}
 use Rattle.fitting.proofs.is_field_clash.Statement.{statement}
@@ -27,11 +27,11 @@ is-field-clash-spec =
     -- sign-requires
     (λ c κs. let d = c .before .if1 .left in let l = c .if2 .left in let p = c .before .before .before .pre in omega arith)
     -- returns-3
-    (λ c. pair-plain _ _ _ (literals-are _ _ _ (c .before .before .before .before .before .pre)) (sameField (repsOf (c .before .before .before .before .before .args .reps .now))) _ _ (c .before .before .before .if1 .left) (c .before .before .if2 .left) (sym (c .before .sign .ensures) ∙ c .if3 .taken))
+    (λ c. pair-plain _ _ _ (literals-are _ _ _ (c .before .before .before .before .before .pre)) (sameField (repOf (c .before .before .before .before .before .args .rep .now))) _ _ (c .before .before .before .if1 .left) (c .before .before .if2 .left) (sym (c .before .sign .ensures) ∙ c .if3 .taken))
     -- returns-4
-    (λ c. pair-none _ _ _ (literals-are _ _ _ (c .before .before .before .before .before .before .pre)) (sameField (repsOf (c .before .before .before .before .before .before .args .reps .now))) _ _ (c .before .before .before .before .if1 .left) (c .before .before .before .if2 .left) (c .if4 .taken))
+    (λ c. pair-none _ _ _ (literals-are _ _ _ (c .before .before .before .before .before .before .pre)) (sameField (repOf (c .before .before .before .before .before .before .args .rep .now))) _ _ (c .before .before .before .before .if1 .left) (c .before .before .before .if2 .left) (c .if4 .taken))
     -- returns-5
-    (λ c. pair-past _ _ _ (literals-are _ _ _ (c .before .before .before .before .before .before .before .pre)) (sameField (repsOf (c .before .before .before .before .before .before .before .args .reps .now))) _ _ (c .before .before .before .before .before .if1 .left) (c .before .before .before .before .if2 .left) (c .if5 .taken))
+    (λ c. pair-past _ _ _ (literals-are _ _ _ (c .before .before .before .before .before .before .before .pre)) (sameField (repOf (c .before .before .before .before .before .before .before .args .rep .now))) _ _ (c .before .before .before .before .before .if1 .left) (c .before .before .before .before .if2 .left) (c .if5 .taken))
     -- sub-field
     (λ c. let d = c .before .before .before .before .before .if1 .left in omega arith)
     -- field-requires
@@ -50,8 +50,8 @@ is-field-clash-spec =
     (λ c.
     let a = c .before .before .before .before .before .before .before .before .before .before .before .args in
     let other = literalIn (a .query .now) (a .at) (a .j - 1) in
-    let term = c .before .read-rep .ensures ∙ ap (repsOf (a .reps .now)) (c .before .before .right .ensures) in
+    let term = c .before .read-rep .ensures ∙ ap (repOf (a .rep .now)) (c .before .before .right .ensures) in
     c .is-field-partner .ensures
-    ∙ ap (λ (f : ℕ). other .plain and (eqb f (other .left) and eqb (c .before .read-rep .result .0) (repsOf (a .reps .now) (other .right)))) (c .before .before .before .field .ensures)
-    ∙ ap (λ (t : ℕ). other .plain and (eqb (literalIn (a .query .now) (a .at) (a .i - 1) .left) (other .left) and eqb t (repsOf (a .reps .now) (other .right)))) term
-    ∙ pair-here _ _ _ (literals-are _ _ _ (c .before .before .before .before .before .before .before .before .before .before .before .pre)) (sameField (repsOf (a .reps .now))) _ _ (c .before .before .before .before .before .before .before .before .before .if1 .left) (c .before .before .before .before .before .before .before .before .if2 .left) (sym (c .before .before .before .before .before .before .before .sign .ensures) ∙ c .before .before .before .before .before .before .if3 .left) (c .before .before .before .before .before .if4 .left) (c .before .before .before .before .if5 .left)))
+    ∙ ap (λ (f : ℕ). other .plain and (eqb f (other .left) and eqb (c .before .read-rep .result .0) (repOf (a .rep .now) (other .right)))) (c .before .before .before .field .ensures)
+    ∙ ap (λ (t : ℕ). other .plain and (eqb (literalIn (a .query .now) (a .at) (a .i - 1) .left) (other .left) and eqb t (repOf (a .rep .now) (other .right)))) term
+    ∙ pair-here _ _ _ (literals-are _ _ _ (c .before .before .before .before .before .before .before .before .before .before .before .pre)) (sameField (repOf (a .rep .now))) _ _ (c .before .before .before .before .before .before .before .before .before .if1 .left) (c .before .before .before .before .before .before .before .before .if2 .left) (sym (c .before .before .before .before .before .before .before .sign .ensures) ∙ c .before .before .before .before .before .before .if3 .left) (c .before .before .before .before .before .if4 .left) (c .before .before .before .before .if5 .left)))

@@ -10,12 +10,12 @@ is-live-spec =
     tie.close
     (tie.spec
     -- returns
-    (λ c. live-zero _ (c .before .args .s) _ (c .if1 .taken))
+    (λ c. live-zero _ (c .before .args .t1) _ (c .if1 .taken))
     -- returns-2
-    (λ c. live-above _ (c .before .before .args .s) _ (c .if2 .taken))
-    -- mul-u
-    (λ c. let l = c .before .if2 .left in let p = c .before .before .before .pre in omega arith)
-    -- array-copy-out-u
-    (λ c. let l = c .before .if2 .left in let p = c .before .before .before .pre in omega arith)
+    (λ c. live-above _ (c .before .before .args .t1) _ (c .if2 .taken))
+    -- element-copy-out-wide
+    (λ c. let l = c .if2 .left in let p = c .before .before .pre in omega arith)
+    -- wide-requires
+    (λ c κs. search needs)
     -- returns-3
-    (λ c. live-here _ (c .before .before .before .before .before .args .s) _ (c .before .before .before .before .before .pre) (c .before .before .before .before .if1 .left) (c .before .before .before .if2 .left)))
+    (λ c. live-here _ (c .before .before .before .before .args .t1) _ (c .before .before .before .before .pre) (c .before .before .before .if1 .left) (c .before .before .if2 .left) _ (c .wide .ensures .0)))

@@ -1,7 +1,7 @@
 -- The two scores are compared. Assumes nothing.
 use borrow.Author.Tests.{lt-ltb, le-ltb}
 use mathlib.Core.Path.{sym}
-use Rattle.logic.proofs.Basics.Compare.{cond-true, cond-false}
+use Rattle.theory.proofs.Basics.Compare.{cond-true, cond-false}
 use Rattle.gains.specs.Keeps.{better}
 use Rattle.gains.proofs.better.Statement.{statement}
 use Rattle.gains.proofs.better.Tie as tie

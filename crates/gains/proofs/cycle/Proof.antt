@@ -11,10 +11,10 @@ use Rattle.gains.proofs.cycle.Statement.{statement}
 use Rattle.gains.proofs.cycle.Tie as tie
 
 abbrev Inv-loop : tie.InvT-loop
-Inv-loop link reach n best₀ x₀ best x = (x ≤ 17) × Keeps n link reach best₀ best
+Inv-loop k link reach n best₀ x₀ best x = (x ≤ 17) × Keeps n k link reach best₀ best
 
 abbrev μ-loop : tie.MeasureT-loop
-μ-loop link reach n best₀ x₀ best x = 17 - x
+μ-loop k link reach n best₀ x₀ best x = 17 - x
 
 pub cycle-spec : {M : Type 1} → statement M
 cycle-spec =
@@ -45,7 +45,7 @@ cycle-spec =
           let a = c .before .before .before .before .before .args in
           let h = c .before .before .before .before .loop .inv .1 s e p in
           ⊎-elim
-          (λ w. kept-better (a .n) s _ _ _ _ (w .4 ∙ w .3 .ensures) h (cycle-placed (a .n) (a .link .now) (a .reach .now) s e _ _ _ _ (c .before .before .before .before .before .pre) (omega arith) (c .before .before .around .ensures .steps-within) (c .before .before .around .ensures .off-round) (lowest-in _ _ (w .1 .given .1) _ (c .before .lowest .ensures))))
+          (λ w. kept-better (a .n) s _ _ _ _ (w .4 ∙ w .3 .ensures) h (cycle-placed (a .n) (a .link .now) (a .reach .now) s (a .k) e _ _ _ _ (c .before .before .before .before .before .pre) (omega arith) (c .before .before .around .ensures .steps-within) (c .before .before .around .ensures .off-round) (lowest-in _ _ (w .1 .given .1) _ (c .before .lowest .ensures))))
           (λ w. kept-same (a .n) s _ _ (w .2) h)
           (c .match .came),
     ))

@@ -1,5 +1,4 @@
 -- Each place that is offered is one where FUNC applies. Assumes nothing.
-use Prim.Native.Nat.{_-_, _≤_}
 use Prim.Native.Nat.{ℕ, _-_, _≤_}
 use native.Mathlib.Omega.{arith}
 use borrow.Author.Needs.{needs}
@@ -12,16 +11,16 @@ use Rattle.gains.proofs.func.Statement.{statement}
 use Rattle.gains.proofs.func.Tie as tie
 
 abbrev Inv-loop2 : tie.InvT-loop2
-Inv-loop2 link reach back best₀ x y at far z₀ best z = (z ≤ 17) × ((n : ℕ) → Keeps n link reach best₀ best)
+Inv-loop2 k link reach back best₀ x y at far z₀ best z = (z ≤ 17) × ((n : ℕ) → Keeps n k link reach best₀ best)
 
 abbrev μ-loop2 : tie.MeasureT-loop2
-μ-loop2 link reach back best₀ x y at far z₀ best z = 17 - z
+μ-loop2 k link reach back best₀ x y at far z₀ best z = 17 - z
 
 abbrev Inv-loop : tie.InvT-loop
-Inv-loop link reach back best₀ x₀ best x = (x ≤ 17) × ((n : ℕ) → Keeps n link reach best₀ best)
+Inv-loop k link reach back best₀ x₀ best x = (x ≤ 17) × ((n : ℕ) → Keeps n k link reach best₀ best)
 
 abbrev μ-loop : tie.MeasureT-loop
-μ-loop link reach back best₀ x₀ best x = 17 - x
+μ-loop k link reach back best₀ x₀ best x = 17 - x
 
 pub func-spec : {M : Type 1} → statement M
 func-spec =
@@ -66,7 +65,7 @@ func-spec =
           let a = c .before .before .before .before .before .before .before .before .before .before .before .before .args in
           let h = c .before .before .before .loop2 .inv .1 n s e p in
           ⊎-elim
-          (λ w. kept-better n s _ _ _ _ (w .5 ∙ w .4 .ensures) h (func-placed n (a .link .now) (a .reach .now) s e _ _ _ _ (omega arith) (lowest-in _ _ (c .before .before .before .before .before .before .y .given .1) _ (c .before .before .before .before .before .before .before .before .lowest .ensures)) (c .before .before .before .before .missed .ensures) (omega arith, sym (c .before .has .ensures) ∙ w .0 .taken)))
+          (λ w. kept-better n s _ _ _ _ (w .5 ∙ w .4 .ensures) h (func-placed n (a .link .now) (a .reach .now) s (a .k) e _ _ _ _ (omega arith) (lowest-in _ _ (c .before .before .before .before .before .before .y .given .1) _ (c .before .before .before .before .before .before .before .before .lowest .ensures)) (c .before .before .before .before .missed .ensures) (omega arith, sym (c .before .has .ensures) ∙ w .0 .taken)))
           (λ w. kept-same n s _ _ (w .1) h)
           (c .if1 .came),
     ))

@@ -1,5 +1,4 @@
 -- Each place that is offered is one where SCC applies. Assumes nothing.
-use Prim.Native.Nat.{_-_, _≤_}
 use Prim.Native.Nat.{ℕ, _-_, _≤_}
 use native.Mathlib.Omega.{arith}
 use borrow.Author.Needs.{needs}
@@ -13,16 +12,16 @@ use Rattle.gains.proofs.scc.Statement.{statement}
 use Rattle.gains.proofs.scc.Tie as tie
 
 abbrev Inv-loop2 : tie.InvT-loop2
-Inv-loop2 reach back best₀ x both out y₀ best y = (y ≤ 17) × ((n : ℕ) (link : List ℕ) → Keeps n link reach best₀ best)
+Inv-loop2 k reach back best₀ x both out y₀ best y = (y ≤ 17) × ((n : ℕ) (link : List ℕ) → Keeps n k link reach best₀ best)
 
 abbrev μ-loop2 : tie.MeasureT-loop2
-μ-loop2 reach back best₀ x both out y₀ best y = 17 - y
+μ-loop2 k reach back best₀ x both out y₀ best y = 17 - y
 
 abbrev Inv-loop : tie.InvT-loop
-Inv-loop reach back best₀ x₀ best x = (x ≤ 17) × ((n : ℕ) (link : List ℕ) → Keeps n link reach best₀ best)
+Inv-loop k reach back best₀ x₀ best x = (x ≤ 17) × ((n : ℕ) (link : List ℕ) → Keeps n k link reach best₀ best)
 
 abbrev μ-loop : tie.MeasureT-loop
-μ-loop reach back best₀ x₀ best x = 17 - x
+μ-loop k reach back best₀ x₀ best x = 17 - x
 
 pub scc-spec : {M : Type 1} → statement M
 scc-spec =
@@ -65,7 +64,7 @@ scc-spec =
           let a = c .before .before .before .before .before .before .before .before .before .before .before .before .args in
           let h = c .before .before .before .loop2 .inv .1 n link s e p in
           ⊎-elim
-          (λ w. kept-better n s _ _ _ _ (w .5 ∙ w .4 .ensures) h (scc-placed n link (a .reach .now) s e _ _ _ _ _ (omega arith) (c .before .before .before .before .before .before .before .before .before .both-ways .ensures) (omega arith, sym (c .before .has .ensures) ∙ w .0 .taken) (c .before .before .before .before .before .before .before .before .ahead .ensures) (lowest-in _ _ (c .before .before .before .before .before .z .given .1) _ (c .before .before .before .before .before .before .before .lowest .ensures))))
+          (λ w. kept-better n s _ _ _ _ (w .5 ∙ w .4 .ensures) h (scc-placed n link (a .reach .now) s (a .k) e _ _ _ _ _ (omega arith) (c .before .before .before .before .before .before .before .before .before .both-ways .ensures) (omega arith, sym (c .before .has .ensures) ∙ w .0 .taken) (c .before .before .before .before .before .before .before .before .ahead .ensures) (lowest-in _ _ (c .before .before .before .before .before .z .given .1) _ (c .before .before .before .before .before .before .before .lowest .ensures))))
           (λ w. kept-same n s _ _ (w .1) h)
           (c .if1 .came),
     ))

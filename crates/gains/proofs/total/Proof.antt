@@ -7,10 +7,10 @@ use Rattle.gains.proofs.total.Statement.{statement}
 use Rattle.gains.proofs.total.Tie as tie
 
 abbrev Inv-loop : tie.InvT-loop
-Inv-loop reach back best₀ y₀ best y = (y ≤ 17) × ((n : ℕ) (link : List ℕ) → Keeps n link reach best₀ best)
+Inv-loop k reach back best₀ y₀ best y = (y ≤ 17) × ((n : ℕ) (link : List ℕ) → Keeps n k link reach best₀ best)
 
 abbrev μ-loop : tie.MeasureT-loop
-μ-loop reach back best₀ y₀ best y = 17 - y
+μ-loop k reach back best₀ y₀ best y = 17 - y
 
 pub total-spec : {M : Type 1} → statement M
 total-spec =

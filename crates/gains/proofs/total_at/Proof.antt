@@ -1,5 +1,4 @@
 -- Each place that is offered is one where TOTAL applies. Assumes nothing.
-use Prim.Native.Nat.{_-_, _≤_}
 use Prim.Native.Nat.{ℕ, _-_, _≤_}
 use native.Mathlib.Omega.{arith}
 use borrow.Author.Needs.{needs}
@@ -14,10 +13,10 @@ use Rattle.gains.proofs.total_at.Statement.{statement}
 use Rattle.gains.proofs.total_at.Tie as tie
 
 abbrev Inv-loop : tie.InvT-loop
-Inv-loop reach back y best₀ from near z₀ best z = (z ≤ 17) × ((n : ℕ) (link : List ℕ) → Keeps n link reach best₀ best)
+Inv-loop k reach back y best₀ from near z₀ best z = (z ≤ 17) × ((n : ℕ) (link : List ℕ) → Keeps n k link reach best₀ best)
 
 abbrev μ-loop : tie.MeasureT-loop
-μ-loop reach back y best₀ from near z₀ best z = 17 - z
+μ-loop k reach back y best₀ from near z₀ best z = 17 - z
 
 pub total-at-spec : {M : Type 1} → statement M
 total-at-spec =
@@ -66,7 +65,7 @@ total-at-spec =
           let a = c .before .before .before .before .before .before .args in
           let h = c .before .before .before .loop .inv .1 n link s e p in
           ⊎-elim
-          (λ w. kept-better n s _ _ _ _ (w .10 ∙ w .9 .ensures) h (total-found n link (a .reach .now) s e _ _ _ (a .back .now) (c .before .before .before .before .before .before .pre .1) (c .before .before .before .before .before .before .pre .0) (omega arith) (sym (c .before .has .ensures) ∙ not-true _ (w .0 .taken)) (lowest-in _ _ (w .4 .given .1) _ (w .2 .ensures))))
+          (λ w. kept-better n s _ _ _ _ (w .10 ∙ w .9 .ensures) h (total-found n link (a .reach .now) s (a .k) e _ _ _ (a .back .now) (c .before .before .before .before .before .before .pre .1) (c .before .before .before .before .before .before .pre .0) (omega arith) (sym (c .before .has .ensures) ∙ not-true _ (w .0 .taken)) (lowest-in _ _ (w .4 .given .1) _ (w .2 .ensures))))
           (λ v. ⊎-elim (λ w. kept-same n s _ _ (w .5) h) (λ w. kept-same n s _ _ (w .1) h) v)
           (c .if1 .came),
     ))

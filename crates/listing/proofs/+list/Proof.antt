@@ -1,7 +1,7 @@
 -- The branch walk with its lines: one look, and then each branch in order, with a step less left to it. Assumes nothing.
 use Prim.Native.Nat.{ℕ, _≤_, _<_, _-_}
 use mathlib.Core.Path.{_≡_, refl, sym, ap, _∙_, subst}
-use native.Mathlib.Nat.{lt-of-le-of-lt}
+use native.Mathlib.Nat.{lt-of-le-of-lt, le-trans}
 use lib.ListN.{length}
 use lib.Dec.{lit<}
 use borrow.Author.Needs.{needs}
@@ -9,13 +9,14 @@ use borrow.Fn.Kinds.{In}
 use borrow.Fn.PlainCycle.{Measures, is, falls, and}
 use Rattle.logic.specs.Query.{decode, termCount}
 use Rattle.logic.specs.Walk.{orderOf}
-use Rattle.logic.proofs.Walks.OurWalk.{look-some}
+use Rattle.theory.proofs.Walks.OurWalk.{look-some}
 use Rattle.facts.specs.Path.{pathOf}
 use Rattle.facts.specs.Pairs.{joinedOf, Fits}
+use Rattle.facts.proofs.Path.{links-few}
 use Rattle.branch.proofs.Steps.{branch-fits}
 use Rattle.rules.specs.Answers.{kindOf}
 use Rattle.walk.proofs.Lines.{counted-bound, putLine-length, putAll-length}
-use Rattle.walk.proofs.Steps.{look-is, clash-fits, move-fits, branch-fewer, headed-bound, less-left}
+use Rattle.walk.proofs.Steps.{look-is, clash-fits, move-fits, move-linked, branch-fewer, headed-bound, less-left}
 use Rattle.listing.proofs.Listing.{Going, going-first, going-next, going-stop, going-last, lists-clash, lists-saturated, lists-after, lists-early}
 use Rattle.listing.proofs.list.Reads as list
 use Rattle.listing.proofs.list.Kinds as list-kinds
@@ -40,13 +41,13 @@ abbrev list-below : ℕ → In 3 list-kinds.ps
 list-below t = and 3 list-kinds.ps (falls 3 list-kinds.ps _<_ μ-list t) list.Pre
 
 abbrev list-Inv-loop : list-lts.InvT-loop
-list-Inv-loop query layout order left lines₀ first most n s count rule x y z total written₀ i₀ lines written i =
-    Going (decode query) (orderOf order) left (pathOf s) (kindOf rule) (x .0) (y .0) (z .0) lines₀ written₀ i lines written
+list-Inv-loop query layout order left lines₀ first most n s count k rule x y z total written₀ i₀ lines written i =
+    Going (decode query) (orderOf order) left (pathOf s) (k .0) (kindOf rule) (x .0) (y .0) (z .0) lines₀ written₀ i lines written
     × (written ≤ 16001)
     × (length lines ≡ length lines₀)
 
 abbrev list-μ-loop : list-lts.MeasureT-loop
-list-μ-loop query layout order left lines₀ first most n s count rule x y z total written₀ i₀ lines written i = total - i
+list-μ-loop query layout order left lines₀ first most n s count k rule x y z total written₀ i₀ lines written i = total - i
 
 pub +list-spec : {M : Type 1} → statement M
 +list-spec = close μ-list λ t. list-lts.spec (
@@ -87,34 +88,34 @@ pub +list-spec : {M : Type 1} → statement M
     (λ c κs. let f = clash-fits _ _ (c .before .before .before .before .before .before .before .before .before .before .before .before .before .before .pre .1 .0) _ _ _ _ _ (look-is _ _ _ (c .before .before .before .before .look .ensures) (c .before .before .section .given .1)) in ((headed-bound _ _ _ (c .before .before .before .before .before .before .before .before .put-joins .ensures .0) (c .before .before .before .before .before .before .before .before .before .before .before .before .before .before .pre .1 .2)), lit< tt, f .0, f .1, f .2))
     -- counted-requires
     (λ c κs. search needs)
-    -- enum-known-rule
+    -- enum-known-k
     (λ c. search needs)
     -- number-requires
-    (λ c κs. search needs)
+    (λ c κs. let l = move-linked _ _ _ _ _ _ _ _ (look-is _ _ _ (c .before .before .before .before .look .ensures) (c .before .before .k .given .1)) in (l .0, le-trans (l .1) (links-few (c .before .before .before .before .before .before .before .before .before .before .before .before .before .before .args .path .facts) .1)))
     -- put-line-requires-2
-    (λ c κs. let f = move-fits _ _ (c .before .before .before .before .before .before .before .before .before .before .before .before .before .before .before .pre .1 .0) _ _ _ _ _ _ (look-is _ _ _ (c .before .before .before .before .before .look .ensures) (c .before .before .before .rule .given .1)) in ((headed-bound _ _ _ (c .before .before .before .before .before .before .before .before .before .put-joins .ensures .0) (c .before .before .before .before .before .before .before .before .before .before .before .before .before .before .before .pre .1 .2)), c .number .ensures .1, lt-of-le-of-lt (f .0) (lit< tt), lt-of-le-of-lt (f .1) (lit< tt), lt-of-le-of-lt (f .2) (lit< tt)))
+    (λ c κs. let f = move-fits _ _ (c .before .before .before .before .before .before .before .before .before .before .before .before .before .before .before .pre .1 .0) _ _ _ _ _ _ _ (look-is _ _ _ (c .before .before .before .before .before .look .ensures) (c .before .before .before .k .given .1)) in ((headed-bound _ _ _ (c .before .before .before .before .before .before .before .before .before .put-joins .ensures .0) (c .before .before .before .before .before .before .before .before .before .before .before .before .before .before .before .pre .1 .2)), c .number .ensures .1, lt-of-le-of-lt (f .0) (lit< tt), lt-of-le-of-lt (f .1) (lit< tt), lt-of-le-of-lt (f .2) (lit< tt)))
     -- count-requires
     (λ c κs. search needs)
     -- counted-requires-2
     (λ c κs. search needs)
     -- loop-holds
-    (λ c. (going-first _ _ _ _ _ _ _ _ _ _, subst (λ (j : ℕ). j ≤ 16001) (sym (c .counted2 .ensures)) (counted-bound _ (headed-bound _ _ _ (c .before .before .before .before .before .before .before .before .before .before .before .before .before .before .put-joins .ensures .0) (c .before .before .before .before .before .before .before .before .before .before .before .before .before .before .before .before .before .before .before .before .pre .1 .2))), refl))
+    (λ c. (going-first _ _ _ _ _ _ _ _ _ _ _, subst (λ (j : ℕ). j ≤ 16001) (sym (c .counted2 .ensures)) (counted-bound _ (headed-bound _ _ _ (c .before .before .before .before .before .before .before .before .before .before .before .before .before .before .put-joins .ensures .0) (c .before .before .before .before .before .before .before .before .before .before .before .before .before .before .before .before .before .before .before .before .pre .1 .2))), refl))
     -- branch-requires
-    (λ c κs. let f = move-fits _ _ (c .before .before .before .before .before .before .before .before .before .before .before .before .before .before .before .before .before .before .before .before .before .before .pre .1 .0) _ _ _ _ _ _ (look-is _ _ _ (c .before .before .before .before .before .before .before .before .before .before .before .before .look .ensures) (c .before .before .before .before .before .before .before .before .before .before .rule .given .1)) in (c .before .before .before .before .before .before .before .before .before .before .before .before .before .before .before .before .before .before .before .before .before .before .pre .1 .0 .terms-within, f .0, f .1, f .2))
+    (λ c κs. let f = move-fits _ _ (c .before .before .before .before .before .before .before .before .before .before .before .before .before .before .before .before .before .before .before .before .before .before .pre .1 .0) _ _ _ _ _ _ _ (look-is _ _ _ (c .before .before .before .before .before .before .before .before .before .before .before .before .look .ensures) (c .before .before .before .before .before .before .before .before .before .before .k .given .1)) in (c .before .before .before .before .before .before .before .before .before .before .before .before .before .before .before .before .before .before .before .before .before .before .pre .1 .0 .terms-within, move-linked _ _ _ _ _ _ _ _ (look-is _ _ _ (c .before .before .before .before .before .before .before .before .before .before .before .before .look .ensures) (c .before .before .before .before .before .before .before .before .before .before .k .given .1)), f .0, f .1, f .2))
     -- sub-list
-    (λ c. look-some _ _ _ _ _ (c .before .before .before .before .before .before .before .before .before .before .before .before .before .before .before .before .before .before .before .before .before .before .before .pre .1 .3) (look-is _ _ _ (c .before .before .before .before .before .before .before .before .before .before .before .before .before .look .ensures) (c .before .before .before .before .before .before .before .before .before .before .before .rule .given .1)))
+    (λ c. look-some _ _ _ _ _ (c .before .before .before .before .before .before .before .before .before .before .before .before .before .before .before .before .before .before .before .before .before .before .before .pre .1 .3) (look-is _ _ _ (c .before .before .before .before .before .before .before .before .before .before .before .before .before .look .ensures) (c .before .before .before .before .before .before .before .before .before .before .before .k .given .1)))
     -- list-requires
-    (λ c κs. let h = (look-is _ _ _ (c .before .before .before .before .before .before .before .before .before .before .before .before .before .before .look .ensures) (c .before .before .before .before .before .before .before .before .before .before .before .before .rule .given .1)) in let p = c .before .before .before .before .before .before .before .before .before .before .before .before .before .before .before .before .before .before .before .before .before .before .before .before .pre in let some-left = look-some _ _ _ _ _ (p .1 .3) h in (less-left _ _ some-left (p .0), (p .1 .0, subst Fits (sym (c .before .branch .ensures)) (branch-fits _ _ _ (p .1 .0 .terms-within)), c .before .before .before .loop .inv .1, branch-fewer _ _ _ _ _ _ _ _ _ h some-left (p .1 .0 .term-count) (p .1 .3) (joinedOf (c .before .branch .result)) _ (subst (λ (j : ℕ). c .before .before .before .loop .i < j) (c .before .before .before .before .before .count .ensures) (c .before .before .loop-test .taken)) (c .before .branch .ensures))))
+    (λ c κs. let h = (look-is _ _ _ (c .before .before .before .before .before .before .before .before .before .before .before .before .before .before .look .ensures) (c .before .before .before .before .before .before .before .before .before .before .before .before .k .given .1)) in let p = c .before .before .before .before .before .before .before .before .before .before .before .before .before .before .before .before .before .before .before .before .before .before .before .before .pre in let some-left = look-some _ _ _ _ _ (p .1 .3) h in (less-left _ _ some-left (p .0), (p .1 .0, subst Fits (sym (c .before .branch .ensures)) (branch-fits _ _ _ (p .1 .0 .terms-within)), c .before .before .before .loop .inv .1, branch-fewer _ _ _ _ _ _ _ _ _ _ h some-left (p .1 .0 .term-count) (p .1 .3) (joinedOf (c .before .branch .result)) _ (subst (λ (j : ℕ). c .before .before .before .loop .i < j) (c .before .before .before .before .before .count .ensures) (c .before .before .loop-test .taken)) (c .before .branch .ensures))))
     -- same-length-2
     (λ c. c .before .before .before .list .ensures .same-length ∙ c .before .before .before .before .before .before .before .loop .inv .2 ∙ ap length (c .before .before .before .before .before .before .before .before .before .before .before .before .put-line2 .ensures) ∙ putLine-length _ _ _ ∙ ap length (c .before .before .before .before .before .before .before .before .before .before .before .before .before .before .before .before .before .before .before .before .before .before .put-joins .ensures .1) ∙ putAll-length _ _ _)
     -- returns-2
-    (λ c. lists-after _ (joinedOf (c .before .before .before .before .before .before .before .before .before .before .before .before .before .before .before .before .before .before .before .before .before .before .before .before .before .before .before .before .args .path)) _ _ _ _ _ _ (c .before .before .before .before .before .before .before .before .before .before .before .before .before .before .before .before .before .before .before .before .before .before .put-joins .ensures .0) (c .before .before .before .before .before .before .before .before .before .before .before .before .before .before .before .before .before .before .before .before .before .before .put-joins .ensures .1) _ (going-stop _ _ _ _ _ _ _ _ _ (c .before .before .before .before .before .before .before .before .before .before .before .before .before .before .before .before .before .before .before .before .before .before .before .before .before .before .before .before .pre .1 .0 .term-count) _ _ _ _ _ _ _ (subst (λ (j : ℕ). c .before .before .before .before .before .before .before .loop .i < j) (c .before .before .before .before .before .before .before .before .before .count .ensures) (c .before .before .before .before .before .before .loop-test .taken)) _ (c .before .before .before .before .before .branch .ensures) _ (c .before .before .before .list .ensures) (look-is _ _ _ (c .before .before .before .before .before .before .before .before .before .before .before .before .before .before .before .before .before .before .look .ensures) (c .before .before .before .before .before .before .before .before .before .before .before .before .before .before .before .before .rule .given .1)) (look-some _ _ _ _ _ (c .before .before .before .before .before .before .before .before .before .before .before .before .before .before .before .before .before .before .before .before .before .before .before .before .before .before .before .before .pre .1 .3) (look-is _ _ _ (c .before .before .before .before .before .before .before .before .before .before .before .before .before .before .before .before .before .before .look .ensures) (c .before .before .before .before .before .before .before .before .before .before .before .before .before .before .before .before .rule .given .1))) _ _ (c .before .before .before .before .before .before .before .before .counted2 .ensures) (c .before .before .before .before .before .before .before .loop .inv .2 ∙ ap length (c .before .before .before .before .before .before .before .before .before .before .before .before .put-line2 .ensures) ∙ putLine-length _ _ _) (c .before .before .before .before .before .before .before .loop .inv .0) (c .if2 .taken)))
+    (λ c. lists-after _ (joinedOf (c .before .before .before .before .before .before .before .before .before .before .before .before .before .before .before .before .before .before .before .before .before .before .before .before .before .before .before .before .args .path)) _ _ _ _ _ _ (c .before .before .before .before .before .before .before .before .before .before .before .before .before .before .before .before .before .before .before .before .before .before .put-joins .ensures .0) (c .before .before .before .before .before .before .before .before .before .before .before .before .before .before .before .before .before .before .before .before .before .before .put-joins .ensures .1) _ (going-stop _ _ _ _ _ _ _ _ _ _ (c .before .before .before .before .before .before .before .before .before .before .before .before .before .before .before .before .before .before .before .before .before .before .before .before .before .before .before .before .pre .1 .0 .term-count) _ _ _ _ _ _ _ (subst (λ (j : ℕ). c .before .before .before .before .before .before .before .loop .i < j) (c .before .before .before .before .before .before .before .before .before .count .ensures) (c .before .before .before .before .before .before .loop-test .taken)) _ (c .before .before .before .before .before .branch .ensures) _ (c .before .before .before .list .ensures) (look-is _ _ _ (c .before .before .before .before .before .before .before .before .before .before .before .before .before .before .before .before .before .before .look .ensures) (c .before .before .before .before .before .before .before .before .before .before .before .before .before .before .before .before .k .given .1)) (look-some _ _ _ _ _ (c .before .before .before .before .before .before .before .before .before .before .before .before .before .before .before .before .before .before .before .before .before .before .before .before .before .before .before .before .pre .1 .3) (look-is _ _ _ (c .before .before .before .before .before .before .before .before .before .before .before .before .before .before .before .before .before .before .look .ensures) (c .before .before .before .before .before .before .before .before .before .before .before .before .before .before .before .before .k .given .1))) _ _ (c .before .before .before .before .before .before .before .before .counted2 .ensures) (c .before .before .before .before .before .before .before .loop .inv .2 ∙ ap length (c .before .before .before .before .before .before .before .before .before .before .before .before .put-line2 .ensures) ∙ putLine-length _ _ _) (c .before .before .before .before .before .before .before .loop .inv .0) (c .if2 .taken)))
     -- add-i
     (λ c. search needs)
     -- loop-less
     (λ c. search needs)
     -- loop-again
-    (λ c. (going-next _ _ _ _ _ _ _ _ _ (c .before .before .before .before .before .before .before .before .before .before .before .before .before .before .before .before .before .before .before .before .before .before .before .before .before .before .before .before .pre .1 .0 .term-count) _ _ _ _ _ _ _ (subst (λ (j : ℕ). c .before .before .before .before .before .before .before .loop .i < j) (c .before .before .before .before .before .before .before .before .before .count .ensures) (c .before .before .before .before .before .before .loop-test .taken)) _ (c .before .before .before .before .before .branch .ensures) _ (c .before .before .before .list .ensures) (c .before .before .before .before .before .before .before .loop .inv .0) (c .if2 .left), c .before .before .before .list .ensures .bounded, c .before .before .before .list .ensures .same-length ∙ c .before .before .before .before .before .before .before .loop .inv .2))
+    (λ c. (going-next _ _ _ _ _ _ _ _ _ _ (c .before .before .before .before .before .before .before .before .before .before .before .before .before .before .before .before .before .before .before .before .before .before .before .before .before .before .before .before .pre .1 .0 .term-count) _ _ _ _ _ _ _ (subst (λ (j : ℕ). c .before .before .before .before .before .before .before .loop .i < j) (c .before .before .before .before .before .before .before .before .before .count .ensures) (c .before .before .before .before .before .before .loop-test .taken)) _ (c .before .before .before .before .before .branch .ensures) _ (c .before .before .before .list .ensures) (c .before .before .before .before .before .before .before .loop .inv .0) (c .if2 .left), c .before .before .before .list .ensures .bounded, c .before .before .before .list .ensures .same-length ∙ c .before .before .before .before .before .before .before .loop .inv .2))
     -- same-length-3
     (λ c. ap length (c .before .before .before .before .before .before .put-joins .ensures .1) ∙ putAll-length _ _ _)
     -- returns-3
@@ -126,4 +127,4 @@ pub +list-spec : {M : Type 1} → statement M
     -- same-length-5
     (λ c. c .before .loop .inv .2 ∙ ap length (c .before .before .before .before .before .before .put-line2 .ensures) ∙ putLine-length _ _ _ ∙ ap length (c .before .before .before .before .before .before .before .before .before .before .before .before .before .before .before .before .put-joins .ensures .1) ∙ putAll-length _ _ _)
     -- returns-5
-    (λ c. lists-after _ (joinedOf (c .before .before .before .before .before .before .before .before .before .before .before .before .before .before .before .before .before .before .before .before .before .before .args .path)) _ _ _ _ _ _ (c .before .before .before .before .before .before .before .before .before .before .before .before .before .before .before .before .put-joins .ensures .0) (c .before .before .before .before .before .before .before .before .before .before .before .before .before .before .before .before .put-joins .ensures .1) _ (going-last _ _ _ _ _ _ _ _ (look-is _ _ _ (c .before .before .before .before .before .before .before .before .before .before .before .before .look .ensures) (c .before .before .before .before .before .before .before .before .before .before .rule .given .1)) (look-some _ _ _ _ _ (c .before .before .before .before .before .before .before .before .before .before .before .before .before .before .before .before .before .before .before .before .before .before .pre .1 .3) (look-is _ _ _ (c .before .before .before .before .before .before .before .before .before .before .before .before .look .ensures) (c .before .before .before .before .before .before .before .before .before .before .rule .given .1))) _ _ _ _ _ _ (c .before .loop .inv .0) (subst (λ (j : ℕ). j ≤ c .before .loop .i) (c .before .before .before .count .ensures) (c .loop-test .left)) _ _ _ _ (c .before .before .before .before .before .before .before .number .ensures .0) (c .before .before .before .before .before .before .put-line2 .ensures) (c .before .before .counted2 .ensures) (c .before .loop .inv .2 ∙ ap length (c .before .before .before .before .before .before .put-line2 .ensures) ∙ putLine-length _ _ _) (c .before .loop .inv .1) refl refl))
+    (λ c. lists-after _ (joinedOf (c .before .before .before .before .before .before .before .before .before .before .before .before .before .before .before .before .before .before .before .before .before .before .args .path)) _ _ _ _ _ _ (c .before .before .before .before .before .before .before .before .before .before .before .before .before .before .before .before .put-joins .ensures .0) (c .before .before .before .before .before .before .before .before .before .before .before .before .before .before .before .before .put-joins .ensures .1) _ (going-last _ _ _ _ _ _ _ _ _ (look-is _ _ _ (c .before .before .before .before .before .before .before .before .before .before .before .before .look .ensures) (c .before .before .before .before .before .before .before .before .before .before .k .given .1)) (look-some _ _ _ _ _ (c .before .before .before .before .before .before .before .before .before .before .before .before .before .before .before .before .before .before .before .before .before .before .pre .1 .3) (look-is _ _ _ (c .before .before .before .before .before .before .before .before .before .before .before .before .look .ensures) (c .before .before .before .before .before .before .before .before .before .before .k .given .1))) _ _ _ _ _ _ (c .before .loop .inv .0) (subst (λ (j : ℕ). j ≤ c .before .loop .i) (c .before .before .before .count .ensures) (c .loop-test .left)) _ _ _ _ (c .before .before .before .before .before .before .before .number .ensures .0) (c .before .before .before .before .before .before .put-line2 .ensures) (c .before .before .counted2 .ensures) (c .before .loop .inv .2 ∙ ap length (c .before .before .before .before .before .before .put-line2 .ensures) ∙ putLine-length _ _ _) (c .before .loop .inv .1) refl refl))

@@ -2,8 +2,8 @@
 use borrow.Author.Needs.{needs}
 use mathlib.Core.Path.{refl, sym, _∙_}
 use borrow.Author.Tests.{not-true, not-false}
-use Rattle.logic.proofs.Query.AcceptedBytes.{accepted}
-use Rattle.logic.proofs.Calls.Decision.{reachable-known}
+use Rattle.theory.proofs.Query.AcceptedBytes.{accepted}
+use Rattle.theory.proofs.Calls.Decision.{reachable-known}
 use Rattle.open_path.proofs.Settled.{settled-plain, settled-refuted, settled-open}
 use Rattle.open_path.proofs.settle.Statement.{statement}
 use Rattle.open_path.proofs.settle.Tie as tie

@@ -10,10 +10,10 @@ other-spec =
     (tie.spec
     -- failing-requires
     (λ c κs. search needs)
-    -- enum-known-rule
+    -- enum-known-k
     (λ c. search needs)
     -- returns
-    (λ c. handed-on _ _ _ _ (c .before .rule .given .1) (c .before .before .before .failing .ensures))
+    (λ c. handed-on _ _ _ _ (c .before .k .given .1) (c .before .before .before .failing .ensures))
     -- enum-told
     (λ c. search needs)
     -- most-requires

@@ -10,10 +10,10 @@ pick-spec =
     (tie.spec
     -- unit-requires
     (λ c κs. search needs)
-    -- enum-known-rule
+    -- enum-known-k
     (λ c. search needs)
     -- returns
-    (λ c. handed-on _ _ _ _ (c .before .rule .given .1) (c .before .before .before .unit .ensures))
+    (λ c. handed-on _ _ _ _ (c .before .k .given .1) (c .before .before .before .unit .ensures))
     -- enum-told
     (λ c. search needs)
     -- total-first-requires
@@ -22,10 +22,10 @@ pick-spec =
     (λ c. search needs)
     -- other-requires
     (λ c κs. search needs)
-    -- enum-known-rule-2
+    -- enum-known-k-2
     (λ c. search needs)
     -- returns-3
-    (λ c. handed-on _ _ _ _ (c .before .rule2 .given .1) (c .before .before .before .other .ensures))
+    (λ c. handed-on _ _ _ _ (c .before .k2 .given .1) (c .before .before .before .other .ensures))
     -- enum-told-2
     (λ c. search needs)
     -- plain-requires

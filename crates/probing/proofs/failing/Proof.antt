@@ -1,35 +1,44 @@
--- Whichever proposes first. Assumes nothing.
+-- What is proposed by the rows of a link applies by that link of the path. Assumes nothing.
+use Prim.Native.Nat.{_+_, _-_, _≤_}
+use native.Mathlib.Omega.{arith}
 use borrow.Author.Needs.{needs}
-use mathlib.Core.Path.{refl}
-use Rattle.facts.specs.Path.{onlyLink, pathOf}
-use Rattle.units.proofs.Places.{handed-on}
+use Rattle.units.proofs.Places.{link-counted, proposed-by}
 use Rattle.probing.proofs.failing.Statement.{statement}
 use Rattle.probing.proofs.failing.Tie as tie
 
+abbrev Inv-loop : tie.InvT-loop
+Inv-loop query layout s total k₀ k = 1 ≤ k
+
+abbrev μ-loop : tie.MeasureT-loop
+μ-loop query layout s total k₀ k = total + 1 - k
+
 pub failing-spec : {M : Type 1} → statement M
-unfolding pathOf onlyLink
 failing-spec =
     tie.close
     (tie.spec
-    -- turned-requires
+    Inv-loop
+    μ-loop
+    -- links-requires
     (λ c κs. search needs)
-    -- func-requires
-    (λ c κs. search needs)
+    -- loop-holds
+    (λ c. omega arith)
+    -- link-rows-requires
+    (λ c κs. link-counted _ _ _ (c .before .before .links .ensures .0) (c .before .loop .inv) (omega arith))
+    -- reach-rows-requires
+    (λ c κs. link-counted _ _ _ (c .before .before .before .links .ensures .0) (c .before .before .loop .inv) (omega arith))
+    -- failing-at-requires
+    (λ c κs. (c .before .before .before .before .before .before .before .before .pre, link-counted _ _ _ (c .before .before .before .before .before .before .links .ensures .0) (c .before .before .before .before .before .loop .inv) (omega arith)))
     -- enum-known-rule
     (λ c. search needs)
     -- returns
-    (λ c. let a = c .before .before .before .before .before .before .before .before .before .before .before .args in handed-on (a .layout .terms) (pathOf (a .s)) _ _ (c .before .rule .given .1) (c .before .before .before .func .ensures (a .layout .terms) (pathOf (a .s)) (refl, refl)))
+    (λ c. proposed-by _ _ _ _ (link-counted _ _ _ (c .before .before .before .before .before .before .before .before .before .before .links .ensures .0) (c .before .before .before .before .before .before .before .before .before .loop .inv) (omega arith)) (c .before .before .before .before .before .before .before .link-rows .ensures) (c .before .before .before .before .before .before .reach-rows .ensures) (c .before .before .before .before .before .before .before .before .before .before .before .before .args .layout .terms) _ _ _ _ _ (c .before .rule .given .1) (c .before .before .before .failing-at .ensures))
     -- enum-told
     (λ c. search needs)
-    -- scc-requires
-    (λ c κs. search needs)
-    -- enum-known-rule-2
-    (λ c. search needs)
+    -- add-k
+    (λ c. omega (arith, c .before .before .before .before .before .before .before .before .before .links .ensures .2))
+    -- loop-less
+    (λ c. omega arith)
+    -- loop-again
+    (λ c. omega arith)
     -- returns-2
-    (λ c. let a = c .before .before .before .before .before .before .before .before .before .before .before .before .before .before .before .before .args in handed-on (a .layout .terms) (pathOf (a .s)) _ _ (c .before .rule2 .given .1) (c .before .before .before .scc .ensures (a .layout .terms) (a .s .link) (pathOf (a .s)) (refl, refl)))
-    -- enum-told-2
-    (λ c. search needs)
-    -- total-requires
-    (λ c κs. search needs)
-    -- returns-3
-    (λ c. let a = c .before .before .before .before .before .before .before .before .before .before .before .before .before .before .before .before .before .before .args in c .total .ensures (a .layout .terms) (a .s .link) (pathOf (a .s)) (refl, refl)))
+    (λ c. search needs))

@@ -6,10 +6,10 @@ use Rattle.probing.proofs.fails.Statement.{statement}
 use Rattle.probing.proofs.fails.Tie as tie
 
 abbrev Inv-loop : tie.InvT-loop
-Inv-loop query layout s rule x y z n total i₀ i = i ≤ total
+Inv-loop query layout s k rule x y z n total i₀ i = i ≤ total
 
 abbrev μ-loop : tie.MeasureT-loop
-μ-loop query layout s rule x y z n total i₀ i = total - i
+μ-loop query layout s k rule x y z n total i₀ i = total - i
 
 pub fails-spec : {M : Type 1} → statement M
 fails-spec =

@@ -7,10 +7,10 @@ use Rattle.probing.proofs.func.Statement.{statement}
 use Rattle.probing.proofs.func.Tie as tie
 
 abbrev Inv-loop : tie.InvT-loop
-Inv-loop query layout s link reach x₀ x = x ≤ 17
+Inv-loop query layout s k link reach x₀ x = x ≤ 17
 
 abbrev μ-loop : tie.MeasureT-loop
-μ-loop query layout s link reach x₀ x = 17 - x
+μ-loop query layout s k link reach x₀ x = 17 - x
 
 pub func-spec : {M : Type 1} → statement M
 func-spec =
@@ -31,11 +31,11 @@ func-spec =
     -- missed-requires
     (λ c κs. let h = lowest-in _ _ (c .before .y .given .1) _ (c .before .before .before .lowest .ensures) in (omega arith, h .0))
     -- func-at-requires
-    (λ c κs. let h = lowest-in _ _ (c .before .before .y .given .1) _ (c .before .before .before .before .lowest .ensures) in (c .before .before .before .before .before .before .before .before .before .pre, omega arith, h .0))
+    (λ c κs. let h = lowest-in _ _ (c .before .before .y .given .1) _ (c .before .before .before .before .lowest .ensures) in let p = c .before .before .before .before .before .before .before .before .before .pre in (p .0, p .1, omega arith, h .0))
     -- enum-known-z
     (λ c. search needs)
     -- returns
-    (λ c. λ n s e. func-placed n (c .before .before .before .before .before .before .before .before .before .before .before .before .before .args .link .now) (c .before .before .before .before .before .before .before .before .before .before .before .before .before .args .reach .now) s e _ _ _ _ (omega arith) (lowest-in _ _ (c .before .before .before .before .before .before .y .given .1) _ (c .before .before .before .before .before .before .before .before .lowest .ensures)) (c .before .before .before .before .missed .ensures) (found-in _ _ _ (c .before .z .given .1) (c .before .before .before .func-at .ensures)))
+    (λ c. λ n s k e. func-placed n (c .before .before .before .before .before .before .before .before .before .before .before .before .before .args .link .now) (c .before .before .before .before .before .before .before .before .before .before .before .before .before .args .reach .now) s k e _ _ _ _ (omega arith) (lowest-in _ _ (c .before .before .before .before .before .before .y .given .1) _ (c .before .before .before .before .before .before .before .before .lowest .ensures)) (c .before .before .before .before .missed .ensures) (found-in _ _ _ (c .before .z .given .1) (c .before .before .before .func-at .ensures)))
     -- enum-told
     (λ c. search needs)
     -- enum-told-2

@@ -7,10 +7,10 @@ use Rattle.probing.proofs.func_at.Statement.{statement}
 use Rattle.probing.proofs.func_at.Tie as tie
 
 abbrev Inv-loop : tie.InvT-loop
-Inv-loop query layout s far x y z₀ z = z ≤ 17
+Inv-loop query layout s k far x y z₀ z = z ≤ 17
 
 abbrev μ-loop : tie.MeasureT-loop
-μ-loop query layout s far x y z₀ z = 17 - z
+μ-loop query layout s k far x y z₀ z = 17 - z
 
 pub func-at-spec : {M : Type 1} → statement M
 func-at-spec =
@@ -23,7 +23,7 @@ func-at-spec =
     -- has-requires
     (λ c κs. omega arith)
     -- fails-requires
-    (λ c κs. let p = c .before .before .before .before .before .pre in (p .0, p .1, p .2, omega arith))
+    (λ c κs. let p = c .before .before .before .before .before .pre in (p .0, p .1, p .2, p .3, omega arith))
     -- returns
     (λ c. (omega arith, sym (c .before .before .before .has .ensures) ∙ c .before .before .if1 .taken))
     -- add-z

@@ -7,10 +7,10 @@ use Rattle.probing.proofs.scc_at.Statement.{statement}
 use Rattle.probing.proofs.scc_at.Tie as tie
 
 abbrev Inv-loop : tie.InvT-loop
-Inv-loop query layout s both x z y₀ y = y ≤ 17
+Inv-loop query layout s k both x z y₀ y = y ≤ 17
 
 abbrev μ-loop : tie.MeasureT-loop
-μ-loop query layout s both x z y₀ y = 17 - y
+μ-loop query layout s k both x z y₀ y = 17 - y
 
 pub scc-at-spec : {M : Type 1} → statement M
 scc-at-spec =
@@ -23,7 +23,7 @@ scc-at-spec =
     -- has-requires
     (λ c κs. omega arith)
     -- fails-requires
-    (λ c κs. let p = c .before .before .before .before .before .pre in (p .0, p .1, omega arith, p .2))
+    (λ c κs. let p = c .before .before .before .before .before .pre in (p .0, p .1, p .2, omega arith, p .3))
     -- returns
     (λ c. (omega arith, sym (c .before .before .before .has .ensures) ∙ c .before .before .if1 .taken))
     -- add-y

@@ -1,9 +1,9 @@
--- A place that is proposed has numbers in range. Assumes nothing.
+-- A place that is proposed has numbers in range, and a link of the path. Assumes nothing.
 use Prim.Native.Nat.{_-_, _≤_}
 use native.Mathlib.Omega.{arith}
 use borrow.Author.Needs.{needs}
 use Rattle.facts.specs.Path.{pathOf}
-use Rattle.units.proofs.Places.{handed-on}
+use Rattle.units.proofs.Places.{applies-by, handed-on}
 use Rattle.probing.proofs.sinks.Statement.{statement}
 use Rattle.probing.proofs.sinks.Tie as tie
 
@@ -27,14 +27,14 @@ sinks-spec =
     (λ c. search needs)
     -- unit-requires
     (λ c κs. search needs)
-    -- enum-known-rule
+    -- enum-known-k
     (λ c. search needs)
     -- enum-told
     (λ c. search needs)
     -- returns-2
     (λ c. search needs)
     -- still-left-requires
-    (λ c κs. let h = handed-on (c .before .before .before .before .before .before .before .before .before .args .layout .terms) (pathOf (c .before .before .before .before .before .before .before .loop .t)) _ _ (c .before .rule .given .1) (c .before .before .before .unit .ensures) in (c .before .before .before .before .before .before .before .before .before .pre, h .1, h .2, h .3))
+    (λ c κs. let n = c .before .before .before .before .before .before .before .before .before .args .layout .terms in let s = pathOf (c .before .before .before .before .before .before .before .loop .t) in let h = handed-on n s _ _ (c .before .k .given .1) (c .before .before .before .unit .ensures) in (c .before .before .before .before .before .before .before .before .before .pre, applies-by n s _ _ _ (h .0), h .1, h .2, h .3))
     -- returns-3
     (λ c. search needs)
     -- returns-4

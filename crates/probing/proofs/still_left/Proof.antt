@@ -6,10 +6,10 @@ use Rattle.probing.proofs.still_left.Statement.{statement}
 use Rattle.probing.proofs.still_left.Tie as tie
 
 abbrev Inv-loop : tie.InvT-loop
-Inv-loop query layout s rule x y z n total left₀ i₀ left i = i ≤ total
+Inv-loop query layout s k rule x y z n total left₀ i₀ left i = i ≤ total
 
 abbrev μ-loop : tie.MeasureT-loop
-μ-loop query layout s rule x y z n total left₀ i₀ left i = total - i
+μ-loop query layout s k rule x y z n total left₀ i₀ left i = total - i
 
 pub still-left-spec : {M : Type 1} → statement M
 still-left-spec =

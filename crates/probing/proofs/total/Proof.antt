@@ -2,15 +2,15 @@
 use Prim.Native.Nat.{_-_, _≤_}
 use native.Mathlib.Omega.{arith}
 use borrow.Author.Needs.{needs}
-use Rattle.units.proofs.Places.{handed-on}
+use Rattle.units.proofs.Places.{handed-in}
 use Rattle.probing.proofs.total.Statement.{statement}
 use Rattle.probing.proofs.total.Tie as tie
 
 abbrev Inv-loop : tie.InvT-loop
-Inv-loop query layout s reach back y₀ y = y ≤ 17
+Inv-loop query layout s k reach back y₀ y = y ≤ 17
 
 abbrev μ-loop : tie.MeasureT-loop
-μ-loop query layout s reach back y₀ y = 17 - y
+μ-loop query layout s k reach back y₀ y = 17 - y
 
 pub total-spec : {M : Type 1} → statement M
 total-spec =
@@ -21,11 +21,11 @@ total-spec =
     -- loop-holds
     (λ c. omega arith)
     -- total-at-requires
-    (λ c κs. let p = c .before .before .before .pre in (p .0, omega arith, p .1))
+    (λ c κs. let p = c .before .before .before .pre in (p .0, p .1, omega arith, p .2))
     -- enum-known-rule
     (λ c. search needs)
     -- returns
-    (λ c. λ n link s e. handed-on n s _ _ (c .before .rule .given .1) (c .before .before .before .total-at .ensures n link s e))
+    (λ c. λ n link. handed-in n link _ _ _ (c .before .rule .given .1) (c .before .before .before .total-at .ensures n link))
     -- enum-told
     (λ c. search needs)
     -- add-y

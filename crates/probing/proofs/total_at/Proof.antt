@@ -9,10 +9,10 @@ use Rattle.probing.proofs.total_at.Statement.{statement}
 use Rattle.probing.proofs.total_at.Tie as tie
 
 abbrev Inv-loop : tie.InvT-loop
-Inv-loop query layout s reach back y from near z₀ z = z ≤ 17
+Inv-loop query layout s k reach back y from near z₀ z = z ≤ 17
 
 abbrev μ-loop : tie.MeasureT-loop
-μ-loop query layout s reach back y from near z₀ z = 17 - z
+μ-loop query layout s k reach back y from near z₀ z = 17 - z
 
 pub total-at-spec : {M : Type 1} → statement M
 total-at-spec =
@@ -41,9 +41,9 @@ total-at-spec =
     -- enum-known-x
     (λ c. search needs)
     -- fails-requires
-    (λ c κs. let h = lowest-in _ _ (c .before .x .given .1) _ (c .before .before .before .lowest .ensures) in (c .before .before .before .before .before .before .before .before .before .before .before .before .before .pre .0, h .0, c .before .before .before .before .before .before .before .before .before .before .before .before .before .pre .1, omega arith))
+    (λ c κs. let h = lowest-in _ _ (c .before .x .given .1) _ (c .before .before .before .lowest .ensures) in let p = c .before .before .before .before .before .before .before .before .before .before .before .before .before .pre in (p .0, p .1, h .0, p .2, omega arith))
     -- returns
-    (λ c. λ n link s e. total-found n link (c .before .before .before .before .before .before .before .before .before .before .before .before .before .before .before .args .reach .now) s e _ _ _ (c .before .before .before .before .before .before .before .before .before .before .before .before .before .before .before .args .back .now) (c .before .before .before .before .before .before .before .before .before .before .before .before .before .before .before .pre .2) (c .before .before .before .before .before .before .before .before .before .before .before .before .before .before .before .pre .1) (omega arith) (sym (c .before .before .before .before .before .before .before .before .has .ensures) ∙ not-true _ (c .before .before .before .before .before .before .before .if2 .taken)) (lowest-in _ _ (c .before .before .before .x .given .1) _ (c .before .before .before .before .before .lowest .ensures)))
+    (λ c. λ n link s k e. total-found n link (c .before .before .before .before .before .before .before .before .before .before .before .before .before .before .before .args .reach .now) s k e _ _ _ (c .before .before .before .before .before .before .before .before .before .before .before .before .before .before .before .args .back .now) (c .before .before .before .before .before .before .before .before .before .before .before .before .before .before .before .pre .3) (c .before .before .before .before .before .before .before .before .before .before .before .before .before .before .before .pre .2) (omega arith) (sym (c .before .before .before .before .before .before .before .before .has .ensures) ∙ not-true _ (c .before .before .before .before .before .before .before .if2 .taken)) (lowest-in _ _ (c .before .before .before .x .given .1) _ (c .before .before .before .before .before .lowest .ensures)))
     -- enum-told
     (λ c. search needs)
     -- add-z

@@ -2,7 +2,7 @@
 use borrow.Author.Needs.{needs}
 use mathlib.Core.Path.{sym, _∙_}
 use Rattle.prover.proofs.Outcomes.{verdict-satisfiable, verdict-refuted}
-use Rattle.prover.proofs.Answers.{stands-at}
+use Rattle.prover.proofs.Answers.{reportable, report-room}
 use Rattle.prover.proofs.Endings.{refuted-lines}
 use Rattle.prover.proofs.decide.Statement.{statement}
 use Rattle.prover.proofs.decide.Tie as tie
@@ -18,7 +18,10 @@ decide-spec =
     -- returns
     (λ c. let (ls, e) = refuted-lines _ (c .before .before .before .settled .ensures .refuted (sym (c .before .is-refuted .ensures) ∙ c .if1 .taken)) in verdict-refuted _ _ _ ls _ e (c .before .before .before .before .before .before .before .pre .4))
     -- write-report-requires
-    (λ c κs. let p = c .before .before .before .before .before .before .before .before .pre in (p .3, record { laid = p .0; passes = p .1; stands = stands-at _ _ _ _ (p .0) (p .1) (c .before .before .before .before .settled .ensures .shown (sym (c .before .before .is-refuted .ensures) ∙ c .before .if1 .left)) }))
+    (λ c κs.
+    let p = c .before .before .before .before .before .before .before .before .pre in
+    let r = reportable _ _ _ (p .0) (p .1) _ (c .before .before .before .before .settled .ensures .shown (sym (c .before .before .is-refuted .ensures) ∙ c .before .if1 .left)) in
+    (report-room _ _ _ (p .0) (p .1) _ r (p .3), r))
     -- same-length
     (λ c. search needs)
     -- returns-2

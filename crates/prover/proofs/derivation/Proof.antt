@@ -6,7 +6,7 @@ use lib.ListN.{length}
 use Rattle.query.specs.Answers.{CheckedAs}
 use Rattle.query.specs.declared.Checked.{Checked}
 use Rattle.query.proofs.Ranges.{checked-accepts}
-use Rattle.logic.proofs.Calls.DerivationCall.{derivation-whole}
+use Rattle.theory.proofs.Calls.DerivationCall.{derivation-whole}
 use Rattle.prover.proofs.Answers.{blank-again, blank-long, derivation-order, derivation-query, derivation-walked}
 use Rattle.prover.proofs.derivation.Statement.{statement}
 use Rattle.prover.proofs.derivation.Tie as tie

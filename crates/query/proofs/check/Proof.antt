@@ -2,7 +2,7 @@
 use borrow.Author.Needs.{needs}
 use Rattle.logic.specs.Query.{sections, layoutOf, decode}
 use Rattle.logic.specs.Calls.{queryChecks}
-use Rattle.logic.proofs.Query.Bytes.{layoutNumbers, retired-number}
+use Rattle.theory.proofs.Query.Bytes.{layoutNumbers, retired-number}
 use Rattle.query.proofs.check.Statement.{statement}
 use Rattle.query.proofs.check.Tie as tie
 

@@ -2,19 +2,19 @@
 use Prim.Native.Nat.{ℕ, _-_, _≤_}
 use native.Mathlib.Omega.{arith}
 use borrow.Author.Needs.{needs}
-use mathlib.Core.Path.{_≡_, sym, ap, _∙_}
+use mathlib.Core.Path.{_≡_, refl, sym, ap, _∙_}
 use Rattle.logic.specs.Search.{from, firstOf}
-use Rattle.logic.specs.Query.{fiveSections}
 use Rattle.logic.specs.Calls.{Input, formChecks, refusalOf}
 use Rattle.entries.specs.Entries.{foundOf}
 use Rattle.facts.proofs.Loops.{first-end, first-here, first-next}
-use Rattle.query.proofs.Checks.{byteAnswer, answer-some, answer-none, byte-checks, laid-out, lays-out}
+use Rattle.query.specs.Forms.{formBy}
+use Rattle.query.proofs.Checks.{byteAnswer, answer-some, answer-none, byte-checks, laid-out}
 use Rattle.query.proofs.check_bytes.Statement.{statement}
 use Rattle.query.proofs.check_bytes.Tie as tie
 
 abbrev Inv-loop : tie.InvT-loop
 Inv-loop query full k₀ k =
-    (most excess : ℕ) → full .«boolean_count» ≤ most → (i : Input) → i .query ≡ query → refusalOf (formChecks (fiveSections most excess)) i ≡ firstOf (byteAnswer (fiveSections most excess) query) (from (9 - k) k)
+    (most excess : ℕ) → full .«boolean_count» ≤ most → (i : Input) → i .query ≡ query → refusalOf (formChecks (formBy (full .layout .links) most excess)) i ≡ firstOf (byteAnswer (formBy (full .layout .links) most excess) query) (from (9 - k) k)
 
 abbrev μ-loop : tie.MeasureT-loop
 μ-loop query full k₀ k = 9 - k
@@ -32,7 +32,7 @@ check-bytes-spec =
     -- enum-known-place
     (λ c. search needs)
     -- returns
-    (λ c most excess few m i q. c .before .before .before .before .before .loop .inv most excess few i q ∙ first-here _ _ _ _ (c .before .before .before .before .loop-test .taken) (answer-some _ _ _ _ (sym (c .before .before .before .byte-fault .ensures most excess) ∙ ap foundOf (c .before .place .given .1))))
+    (λ c most excess few i q. c .before .before .before .before .before .loop .inv most excess few i q ∙ first-here _ _ _ _ (c .before .before .before .before .loop-test .taken) (answer-some _ _ _ _ (sym (c .before .before .before .byte-fault .ensures most excess) ∙ ap foundOf (c .before .place .given .1))))
     -- enum-told
     (λ c. search needs)
     -- add-k
@@ -42,4 +42,4 @@ check-bytes-spec =
     -- loop-again
     (λ c most excess few i q. c .before .before .before .before .loop .inv most excess few i q ∙ first-next _ _ _ (c .before .before .before .loop-test .taken) (answer-none _ _ _ (sym (c .before .before .byte-fault .ensures most excess) ∙ ap foundOf (c .enum-told .given .1))))
     -- returns-2
-    (λ c most excess few. (λ i q. c .before .loop .inv most excess few i q ∙ first-end _ _ _ (c .loop-test .left), lays-out _ _ (c .before .before .before .pre) most excess few)))
+    (λ c most excess few. (λ i q. c .before .loop .inv most excess few i q ∙ first-end _ _ _ (c .loop-test .left), refl)))

@@ -1,6 +1,6 @@
 -- What the walk from the front refuses is refused; the rest goes by its bytes. Assumes nothing.
 use borrow.Author.Needs.{needs}
-use Rattle.query.proofs.Checks.{five-refused}
+use Rattle.query.proofs.Checks.{five-refused, five-checked}
 use Rattle.query.proofs.check_with.Statement.{statement}
 use Rattle.query.proofs.check_with.Tie as tie
 
@@ -19,4 +19,6 @@ check-with-spec =
     -- returns
     (λ c. five-refused _ _ _ _ _ (rw (c .before .k .given .1) at (c .before .before .before .lay-out .ensures)))
     -- returns-2
-    (λ c. c .check-bytes .ensures _ _ ((rw (c .before .before .full .given .1) at (c .before .before .before .before .lay-out .ensures)) .1)))
+    (λ c.
+    let laid = rw (c .before .before .full .given .1) at (c .before .before .before .before .lay-out .ensures) in
+    five-checked (c .check-bytes .result) _ _ _ (c .before .before .before .before .before .before .args .excess) (laid .0) (laid .1) (laid .2) (c .check-bytes .ensures _ _ (laid .1))))

@@ -3,34 +3,49 @@ use Prim.Native.Nat.{ℕ, _+_, _≤_, _<_, _^_}
 use native.Mathlib.Omega.{arith}
 use borrow.Author.Needs.{needs}
 use native.Mathlib.Nat.{le-antisymm, le-refl}
-use mathlib.Core.Path.{refl, subst}
+use mathlib.Core.Path.{_≡_, refl, ap, _∙_, subst}
 use mathlib.Core.List.{List}
 use lib.ListN.{length, drop}
 use mir.Val.{Fits}
 use mir.Syntax.{w64}
-use Rattle.logic.specs.Query.{Form, fourSections, booleanSection, fiveSections, firstByte}
+use Rattle.logic.specs.Query.{Form, firstByte}
+use Rattle.entries.specs.Entries.{widthOf}
+use Rattle.query.specs.Forms.{entryKind, reachKind, formBy}
 use Rattle.query.specs.Sections.{Stands}
 use Rattle.query.specs.declared.Part.{Part}
-use Rattle.query.proofs.Reading.{read-section, with-limit, Reached, at-front, beyond, stopped, trailing}
+use Rattle.query.proofs.Reading.{narrow, read-section, with-limit, Reached, at-front, beyond, stopped, trailing}
 use Rattle.query.proofs.lay_out.Statement.{statement}
 use Rattle.query.proofs.lay_out.Tie as tie
 
+-- the widths of sections 1 and 3
+entry-width : (w : tie.After-width2) → w .before .before .width .result ≡ widthOf (entryKind (w .before .before .before .before .before .args .links))
+entry-width w = w .before .before .width .ensures ∙ ap widthOf (w .before .before .before .entry-kind .ensures)
+
+reach-width : (w : tie.After-width2) → w .width2 .result ≡ widthOf (reachKind (w .before .before .before .before .before .args .links))
+reach-width w = w .width2 .ensures ∙ ap widthOf (w .before .reach-kind .ensures)
+
 -- Behind each section that was read: the bytes, the section, that it stands there, and where the walk has come to.
 
+abbrev widths₁ : tie.After-known-told2 → tie.After-width2
+widths₁ c = c .before .before .before .before
+
+abbrev start₁ : tie.After-known-told2 → tie.Start
+start₁ c = widths₁ c .before .before .before .before .before
+
 abbrev bytes₁ : tie.After-known-told2 → List ℕ
-bytes₁ c = c .before .before .before .before .before .args .query .now
+bytes₁ c = start₁ c .args .query .now
 
 abbrev form₁ : tie.After-known-told2 → Form
-form₁ c = let a = c .before .before .before .before .before .args in fiveSections (a .most) (a .excess)
+form₁ c = let a = start₁ c .args in formBy (a .links) (a .most) (a .excess)
 
 abbrev part₁ : tie.After-known-told2 → Part
 part₁ c = c .before .part .given .0 .0
 
-stands₁ : (c : tie.After-known-told2) → Stands (bytes₁ c) 16 1 0 (part₁ c .count) (part₁ c .next)
-stands₁ c = read-section _ _ _ _ _ (c .before .part .given .1) (c .before .before .before .read-section .ensures)
+stands₁ : (c : tie.After-known-told2) → Stands (bytes₁ c) 16 (widthOf (entryKind (start₁ c .args .links))) 0 (part₁ c .count) (part₁ c .next)
+stands₁ c = rw (entry-width (widths₁ c)) at (read-section _ _ _ _ _ (c .before .part .given .1) (c .before .before .before .read-section .ensures))
 
 reached₁ : (c : tie.After-known-told2) → Reached (form₁ c) (bytes₁ c) (drop 1 (form₁ c (firstByte (bytes₁ c)))) (part₁ c .next)
-unfolding fiveSections fourSections booleanSection
+unfolding formBy
 reached₁ c = beyond (at-front _ _) (stands₁ c)
 
 abbrev bytes₂ : tie.After-known-told4 → List ℕ
@@ -46,8 +61,14 @@ stands₂ : (c : tie.After-known-told4) → Stands (bytes₂ c) 60 3 (part₁ (c
 stands₂ c = read-section _ _ _ _ _ (c .before .part2 .given .1) (c .before .before .before .read-section2 .ensures)
 
 reached₂ : (c : tie.After-known-told4) → Reached (form₂ c) (bytes₂ c) (drop 2 (form₂ c (firstByte (bytes₂ c)))) (part₂ c .next)
-unfolding fiveSections fourSections booleanSection
+unfolding formBy
 reached₂ c = beyond (reached₁ (c .before .before .before .before)) (stands₂ c)
+
+abbrev widths₃ : tie.After-known-told6 → tie.After-width2
+widths₃ c = widths₁ (c .before .before .before .before .before .before .before .before)
+
+abbrev start₃ : tie.After-known-told6 → tie.Start
+start₃ c = start₁ (c .before .before .before .before .before .before .before .before)
 
 abbrev bytes₃ : tie.After-known-told6 → List ℕ
 bytes₃ c = bytes₂ (c .before .before .before .before)
@@ -58,11 +79,11 @@ form₃ c = form₂ (c .before .before .before .before)
 abbrev part₃ : tie.After-known-told6 → Part
 part₃ c = c .before .part3 .given .0 .0
 
-stands₃ : (c : tie.After-known-told6) → Stands (bytes₃ c) 60 3 (part₂ (c .before .before .before .before) .next) (part₃ c .count) (part₃ c .next)
-stands₃ c = read-section _ _ _ _ _ (c .before .part3 .given .1) (c .before .before .before .read-section3 .ensures)
+stands₃ : (c : tie.After-known-told6) → Stands (bytes₃ c) 60 (widthOf (reachKind (start₃ c .args .links))) (part₂ (c .before .before .before .before) .next) (part₃ c .count) (part₃ c .next)
+stands₃ c = rw (reach-width (widths₃ c)) at (read-section _ _ _ _ _ (c .before .part3 .given .1) (c .before .before .before .read-section3 .ensures))
 
 reached₃ : (c : tie.After-known-told6) → Reached (form₃ c) (bytes₃ c) (drop 3 (form₃ c (firstByte (bytes₃ c)))) (part₃ c .next)
-unfolding fiveSections fourSections booleanSection
+unfolding formBy
 reached₃ c = beyond (reached₂ (c .before .before .before .before)) (stands₃ c)
 
 abbrev bytes₄ : tie.After-known-told8 → List ℕ
@@ -78,7 +99,7 @@ stands₄ : (c : tie.After-known-told8) → Stands (bytes₄ c) 60 3 (part₃ (c
 stands₄ c = read-section _ _ _ _ _ (c .before .part4 .given .1) (c .before .before .before .read-section4 .ensures)
 
 reached₄ : (c : tie.After-known-told8) → Reached (form₄ c) (bytes₄ c) (drop 4 (form₄ c (firstByte (bytes₄ c)))) (part₄ c .next)
-unfolding fiveSections fourSections booleanSection
+unfolding formBy
 reached₄ c = beyond (reached₃ (c .before .before .before .before)) (stands₄ c)
 
 abbrev bytes₅ : tie.After-known-told10 → List ℕ
@@ -90,11 +111,11 @@ form₅ c = form₄ (c .before .before .before .before)
 abbrev part₅ : tie.After-known-told10 → Part
 part₅ c = c .before .part5 .given .0 .0
 
-stands₅ : (c : tie.After-known-told10) → Stands (bytes₅ c) (c .before .before .before .before .before .before .before .before .before .before .before .before .before .before .before .before .before .before .before .before .before .args .most) 2 (part₄ (c .before .before .before .before) .next) (part₅ c .count) (part₅ c .next)
+stands₅ : (c : tie.After-known-told10) → Stands (bytes₅ c) (start₁ (c .before .before .before .before .before .before .before .before .before .before .before .before .before .before .before .before) .args .most) 2 (part₄ (c .before .before .before .before) .next) (part₅ c .count) (part₅ c .next)
 stands₅ c = read-section _ _ _ _ _ (c .before .part5 .given .1) (c .before .before .before .read-section5 .ensures)
 
 reached₅ : (c : tie.After-known-told10) → Reached (form₅ c) (bytes₅ c) (drop 5 (form₅ c (firstByte (bytes₅ c)))) (part₅ c .next)
-unfolding fiveSections fourSections booleanSection
+unfolding formBy
 reached₅ c = beyond (reached₄ (c .before .before .before .before)) (stands₅ c)
 
 -- from behind the fifth section to behind the others
@@ -111,7 +132,7 @@ abbrev to₁ : tie.After-known-told10 → tie.After-known-told2
 to₁ c = to₂ c .before .before .before .before
 
 short : (c : tie.After-known-told2) → length (bytes₁ c) < 2 ^ 64
-short c = c .before .before .before .before .before .good .0 .0
+short c = start₁ c .good .0 .0
 
 -- the place behind a count
 fits-behind : {bytes : List ℕ} {limit width at count next : ℕ} → Stands bytes limit width at count next → length bytes < 2 ^ 64 → Fits w64 (at + 1)
@@ -122,16 +143,24 @@ to-end : {bytes : List ℕ} {limit width at count next : ℕ} → Stands bytes l
 to-end {bytes} {limit} {width} {at} {count} {next} stands h = subst (Stands bytes count width at count) (le-antisymm (stands .fits) h) (with-limit count stands (le-refl count))
 
 pub lay-out-spec : {M : Type 1} → statement M
-unfolding fiveSections fourSections booleanSection
+unfolding formBy
 lay-out-spec =
     tie.close
     (tie.spec
-    -- read-section-requires
+    -- entry-kind-requires
     (λ c κs. search needs)
+    -- width-requires
+    (λ c κs. search needs)
+    -- reach-kind-requires
+    (λ c κs. search needs)
+    -- width-requires-2
+    (λ c κs. search needs)
+    -- read-section-requires
+    (λ c κs. (omega arith, rw (entry-width c) (narrow (entryKind _))))
     -- enum-known-k
     (λ c. search needs)
     -- returns
-    (λ c. stopped (at-front _ _) (c .before .k .given .1) (c .before .before .before .read-section .ensures))
+    (λ c. stopped (at-front _ _) (c .before .k .given .1) (rw (entry-width (c .before .before .before .before)) at (c .before .before .before .read-section .ensures)))
     -- enum-known-part
     (λ c. search needs)
     -- read-section-requires-2
@@ -143,11 +172,11 @@ lay-out-spec =
     -- enum-known-part-2
     (λ c. search needs)
     -- read-section-requires-3
-    (λ c κs. omega (arith, stands₂ c .fits))
+    (λ c κs. (stands₂ c .fits, rw (reach-width (widths₁ (c .before .before .before .before))) (narrow (reachKind _))))
     -- enum-known-k-3
     (λ c. search needs)
     -- returns-3
-    (λ c. stopped (reached₂ (c .before .before .before .before)) (c .before .k3 .given .1) (c .before .before .before .read-section3 .ensures))
+    (λ c. stopped (reached₂ (c .before .before .before .before)) (c .before .k3 .given .1) (rw (reach-width (widths₁ (c .before .before .before .before .before .before .before .before))) at (c .before .before .before .read-section3 .ensures)))
     -- enum-known-part-3
     (λ c. search needs)
     -- read-section-requires-4
@@ -195,4 +224,5 @@ lay-out-spec =
         boolean-at = refl;
       },
       stands₅ d .within,
+      refl,
     )))

@@ -10,7 +10,7 @@ use Rattle.query.proofs.Reading.{missing, above, short}
 use Rattle.query.proofs.read_section.Statement.{statement}
 use Rattle.query.proofs.read_section.Tie as tie
 
-size-fits : {count width : ℕ} → count < 256 → width ≤ 3 → Fits w64 (count * width)
+size-fits : {count width : ℕ} → count < 256 → width ≤ 4 → Fits w64 (count * width)
 size-fits h l = record { fits = omega (arith, mul-le-mul (le-of-lt h) l) }
 
 pub read-section-spec : {M : Type 1} → statement M

@@ -4,12 +4,12 @@ use native.Mathlib.Omega.{arith}
 use borrow.Author.Needs.{needs}
 use borrow.Author.Tests.{not-true, not-false}
 use mathlib.Core.Path.{_≡_, sym, ap, _∙_}
-use lib.ListN.{length, getD, length-set}
+use lib.ListN.{length, length-set}
 use Rattle.facts.specs.Path.{repOf}
 use Rattle.query.specs.LaysOut.{literalIn}
 use Rattle.query.proofs.Literals.{listed}
 use Rattle.report.specs.Bytes.{literalsAt}
-use Rattle.report.proofs.Held.{stands-in, FieldMarks, fields-none, fields-skip, fields-here, fields-all}
+use Rattle.report.proofs.Held.{FieldMarks, fields-none, fields-skip, fields-here, fields-all}
 use Rattle.report.proofs.mark_fields.Statement.{statement}
 use Rattle.report.proofs.mark_fields.Tie as tie
 
@@ -18,6 +18,13 @@ Inv-loop query at count rep marks₀ i₀ marks i = (length marks ≡ 17) × Fie
 
 abbrev μ-loop : tie.MeasureT-loop
 μ-loop query at count rep marks₀ i₀ marks i = count - i
+
+-- the term that stands for a literal's
+stands-is : (c : tie.After-read-rep Inv-loop μ-loop) → c .read-rep .result .0 ≡ repOf (c .before .before .before .before .before .before .before .before .args .rep .now) (literalIn (c .before .before .before .before .before .before .before .before .args .query .now) (c .before .before .before .before .before .before .before .before .args .at) (c .before .before .before .before .before .before .loop .i) .right)
+stands-is c = c .read-rep .ensures ∙ ap (repOf _) (c .before .right .ensures)
+
+stands-within : (c : tie.After-read-rep Inv-loop μ-loop) → c .read-rep .result .0 ≤ 16
+stands-within c = omega (arith, stands-is c, c .before .before .before .before .before .before .before .before .pre .1 (c .before .before .before .before .before .before .loop .i) (omega arith) .2)
 
 returns : tie.Need-returns Inv-loop μ-loop
 unfolding literalsAt listed
@@ -43,28 +50,26 @@ mark-fields-spec =
     (λ c κs. omega arith)
     -- right-requires
     (λ c κs. omega arith)
-    -- mul-stands
-    (λ c. let r = c .before .before .before .before .before .before .before .pre .1 (c .before .before .before .before .before .loop .i) (omega arith) in omega arith)
-    -- array-copy-out-stands
-    (λ c. let r = c .before .before .before .before .before .before .before .pre .1 (c .before .before .before .before .before .loop .i) (omega arith) in omega arith)
+    -- read-rep-requires
+    (λ c κs. search needs)
     -- mul-marks
-    (λ c. let s = c .before .before .before .before .before .before .before .before in let l = c .before .before .before .before .before .before .loop in let r = s .pre .1 (l .i) (omega arith) in let e = stands-in (s .args .t4) _ _ (c .before .right .ensures) (omega arith) in omega arith)
+    (λ c. omega (arith, stands-within c))
     -- array-read-marks
-    (λ c. let s = c .before .before .before .before .before .before .before .before in let l = c .before .before .before .before .before .before .loop in let r = s .pre .1 (l .i) (omega arith) in let e = stands-in (s .args .t4) _ _ (c .before .right .ensures) (omega arith) in omega arith)
+    (λ c. omega (arith, stands-within c))
     -- only-requires
     (λ c κs. let r = c .before .before .before .before .before .before .before .before .pre .1 (c .before .before .before .before .before .before .loop .i) (omega arith) in omega (arith, c .before .before .field .ensures))
     -- mul-marks-2
-    (λ c. let s = c .before .before .before .before .before .before .before .before .before in let l = c .before .before .before .before .before .before .before .loop in let r = s .pre .1 (l .i) (omega arith) in let e = stands-in (s .args .t4) _ _ (c .before .before .right .ensures) (omega arith) in omega arith)
+    (λ c. omega (arith, stands-within (c .before)))
     -- array-write-marks
-    (λ c. let s = c .before .before .before .before .before .before .before .before .before in let l = c .before .before .before .before .before .before .before .loop in let r = s .pre .1 (l .i) (omega arith) in let e = stands-in (s .args .t4) _ _ (c .before .before .right .ensures) (omega arith) in omega arith)
+    (λ c. omega (arith, stands-within (c .before)))
     -- add-i-2
     (λ c. omega arith)
     -- loop-less-2
     (λ c. omega arith)
     -- loop-again-2
     (λ c.
-    let s = c .before .before .before .before .before .before .before .before .before in let l = c .before .before .before .before .before .before .before .loop in let r = s .pre .1 (l .i) (omega arith) in let e = stands-in (s .args .t4) _ _ (c .before .before .right .ensures) (omega arith) in (
+    let l = c .before .before .before .before .before .before .before .loop in let r = c .before .before .before .before .before .before .before .before .before .pre .1 (l .i) (omega arith) in (
       simp length-set (l .inv .0),
-      fields-here _ _ _ (l .i) (l .marks) (l .inv .0) (omega arith) (sym (c .before .before .before .before .before .sign .ensures) ∙ not-false _ (c .before .before .before .before .if1 .left)) _ _ _ (omega arith) (omega (arith, c .before .before .before .field .ensures)) (c .only .ensures) e (c .before .before .before .field .ensures) (l .inv .1),
+      fields-here _ _ _ (l .i) (l .marks) (l .inv .0) (omega arith) (sym (c .before .before .before .before .before .sign .ensures) ∙ not-false _ (c .before .before .before .before .if1 .left)) _ _ _ (stands-within (c .before)) (omega (arith, c .before .before .before .field .ensures)) (c .only .ensures) (stands-is (c .before)) (c .before .before .before .field .ensures) (l .inv .1),
     ))
     returns)

@@ -2,7 +2,7 @@
 use Prim.Native.Nat.{ℕ, _+_, _-_}
 use native.Mathlib.Omega.{arith}
 use borrow.Author.Needs.{needs}
-use mathlib.Core.Path.{ap, sym}
+use mathlib.Core.Path.{ap, sym, _∙_}
 use lib.ListN.{length-set}
 use lib.Dec.{eqb}
 use Rattle.facts.specs.Path.{repOf}
@@ -13,10 +13,10 @@ use Rattle.report.proofs.mark_nodes.Statement.{statement}
 use Rattle.report.proofs.mark_nodes.Tie as tie
 
 abbrev Inv-loop : tie.InvT-loop
-Inv-loop n rep marks₀ none₀ t₀ marks none t = Marked (λ x. eqb (repOf rep x) x) n t marks none
+Inv-loop rep n marks₀ none₀ t₀ marks none t = Marked (λ x. eqb (repOf rep x) x) n t marks none
 
 abbrev μ-loop : tie.MeasureT-loop
-μ-loop n rep marks₀ none₀ t₀ marks none t = n + 1 - t
+μ-loop rep n marks₀ none₀ t₀ marks none t = n + 1 - t
 
 returns : tie.Need-returns Inv-loop μ-loop
 unfolding nodesBy
@@ -30,10 +30,10 @@ mark-nodes-spec =
     μ-loop
     -- loop-holds
     (λ c. marked-none _ _ _ (search needs))
-    -- mul-to
+    -- element-copy-out-wide
     (λ c. omega arith)
-    -- array-copy-out-to
-    (λ c. omega arith)
+    -- wide-requires
+    (λ c κs. search needs)
     -- array-write-marks
     (λ c. omega arith)
     -- add-t
@@ -44,7 +44,7 @@ mark-nodes-spec =
     (λ c.
     let l = c .before .before .before .loop in
     marked-more _ _ (l .t) (l .marks) _ (l .inv) (omega arith) (omega arith) _
-    (ap (λ (r : ℕ). eqb r (l .t)) (sym (rep-in _ (l .t) (omega arith))))
+    (ap (λ (r : ℕ). eqb r (l .t)) (c .wide .ensures .0 ∙ sym (rep-in _ (l .t) (omega arith))))
     (simp length-set (l .inv .full)))
     -- array-write-marks-2
     (λ c. omega arith)

@@ -15,9 +15,9 @@ successor-bytes-spec =
     (tie.spec
     -- shown-links-requires
     (λ c κs. search needs)
-    -- nodes-of-requires
+    -- nodes-linked-requires
     (λ c κs.
     let s = c .before in
-    (s .pre .0, λ t l r. rw (c .shown-links .ensures) (omega (arith, shown-below (s .args .n) (pathOf (s .args .s)) 1 t)), s .pre .1))
+    (s .pre .0, λ t r. rw (c .shown-links .ensures) (omega (arith, shown-below (s .args .n) (pathOf (s .args .s)) (s .args .k .0) t)), s .pre .1))
     -- returns
-    (λ c. λ t h. c .nodes-of .ensures t (omega arith) h ∙ ap (λ (f : ℕ → ℕ). nodeOf (c .before .before .args .nodes) (f t)) (c .before .shown-links .ensures)))
+    (λ c. λ t h. c .nodes-linked .ensures t h ∙ ap (λ (f : ℕ → ℕ). nodeOf (c .before .before .args .nodes) (f t)) (c .before .shown-links .ensures)))

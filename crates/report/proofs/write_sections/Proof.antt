@@ -1,8 +1,12 @@
 -- Each section behind the one before, into zeros. Assumes nothing.
+use Prim.Native.Nat.{ℕ, _*_}
 use borrow.Author.Needs.{needs}
+use mathlib.Core.Path.{ap, sym, _∙_}
 use lib.ListN.{getD}
+use Rattle.facts.specs.Path.{pathOf}
 use Rattle.report.specs.Nodes.{marked}
-use Rattle.report.proofs.Report.{sections-written}
+use Rattle.report.specs.Bytes.{allSuccessors}
+use Rattle.report.proofs.Report.{sections-written, successors-counted}
 use Rattle.report.proofs.write_sections.Statement.{statement}
 use Rattle.report.proofs.write_sections.Tie as tie
 
@@ -12,11 +16,11 @@ write-sections-spec =
     (tie.spec
     -- clear-requires
     (λ c κs. search needs)
-    -- put-node-section-requires
+    -- put-successor-section-requires
     (λ c κs. search needs)
     -- put-term-section-requires
     (λ c κs. search needs)
-    -- put-node-section-requires-2
+    -- put-node-section-requires
     (λ c κs. search needs)
     -- put-requires
     (λ c κs. search needs)
@@ -28,8 +32,8 @@ write-sections-spec =
     (λ c.
     let p = c .before .before .before .before .before .before .before .before .before .before .before .before .before .before .before .before .before .before .before .before .before .before .before .before .before .pre in
     let a = c .before .before .before .before .before .before .before .before .before .before .before .before .before .before .before .before .before .before .before .before .before .before .before .before .before .args in
-    sections-written _ (c .before .before .before .before .before .before .before .before .before .before .before .before .before .before .before .before .before .before .before .before .before .before .clear .last .0) (c .before .before .before .before .before .before .before .before .before .before .before .before .before .before .before .before .before .before .put-node-section .last .0) (c .before .before .before .before .before .before .before .before .before .before .before .before .before .before .put-term-section .last .0) (c .before .before .before .before .before .before .before .before .before .before .put-node-section2 .last .0) (c .before .before .before .before .before .before .put .last .0) (c .before .before .put2 .last .0)
-    _ _ (marked (a .marks .now) (a .n)) (λ t. getD (a .successors .now) t 0) (λ t. getD (a .places .now) t 0) (λ t. getD (a .fields .now) t 0) _ _ _ _
-    (p .2) (c .before .before .before .before .before .before .before .before .before .before .before .before .before .before .before .before .before .before .before .before .before .before .clear .ensures)
-    (c .before .before .before .before .before .before .before .before .before .before .before .before .before .before .before .before .before .before .put-node-section .kept .0) (c .before .before .before .before .before .before .before .before .before .before .before .before .before .before .put-term-section .kept .0) (c .before .before .before .before .before .before .before .before .before .before .put-node-section2 .kept .0) (c .before .before .before .before .before .before .put .kept .0)
-    (c .before .before .before .before .before .before .before .before .before .before .before .before .before .before .before .before .before .before .put-node-section .ensures) (c .before .before .before .before .before .before .before .before .before .before .before .before .before .before .put-term-section .ensures) (c .before .before .before .before .before .before .before .before .before .before .put-node-section2 .ensures) (c .before .before .before .before .before .before .put .ensures) (c .before .before .put2 .ensures .1)))
+    sections-written _ (c .before .before .before .before .before .before .before .before .before .before .before .before .before .before .before .before .before .before .before .before .before .before .clear .last .0) (c .before .before .before .before .before .before .before .before .before .before .before .before .before .before .before .before .before .before .put-successor-section .last .0) (c .before .before .before .before .before .before .before .before .before .before .before .before .before .before .put-term-section .last .0) (c .before .before .before .before .before .before .before .before .before .before .put-node-section .last .0) (c .before .before .before .before .before .before .put .last .0) (c .before .before .put2 .last .0)
+    _ _ _ (marked (a .marks .now) (a .n)) (allSuccessors (a .n) (pathOf (a .s)) (marked (a .marks .now) (a .n))) (λ t. getD (a .places .now) t 0) (λ t. getD (a .fields .now) t 0) _ _ _ _
+    (p .2) (ap (λ (k : ℕ). pathOf (a .s) .links * k) (p .2) ∙ sym (successors-counted (a .n) (pathOf (a .s)) (marked (a .marks .now) (a .n)))) (c .before .before .before .before .before .before .before .before .before .before .before .before .before .before .before .before .before .before .before .before .before .before .clear .ensures)
+    (c .before .before .before .before .before .before .before .before .before .before .before .before .before .before .before .before .before .before .put-successor-section .kept .0) (c .before .before .before .before .before .before .before .before .before .before .before .before .before .before .put-term-section .kept .0) (c .before .before .before .before .before .before .before .before .before .before .put-node-section .kept .0) (c .before .before .before .before .before .before .put .kept .0)
+    (c .before .before .before .before .before .before .before .before .before .before .before .before .before .before .before .before .before .before .put-successor-section .ensures) (c .before .before .before .before .before .before .before .before .before .before .before .before .before .before .put-term-section .ensures) (c .before .before .before .before .before .before .before .before .before .before .put-node-section .ensures) (c .before .before .before .before .before .before .put .ensures) (c .before .before .put2 .ensures .1)))

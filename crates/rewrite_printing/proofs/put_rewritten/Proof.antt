@@ -1,13 +1,9 @@
--- The query in hex, or the refusal. Assumes nothing.
+-- What the call answers, as text. Assumes nothing.
 use Prim.Native.Nat.{ℕ}
-use native.Mathlib.Omega.{arith}
 use borrow.Author.Needs.{needs}
-use mathlib.Core.Path.{sym}
 use lib.ListN.{length-replicate}
-use lib.Seq.{length-take-le}
 use Rattle.text.proofs.Writing.{writes-as}
-use Rattle.join_printing.proofs.Texts.{taken-within}
-use Rattle.rewrite_printing.proofs.Texts.{written-text, refused-text}
+use Rattle.rewrite_printing.proofs.Texts.{rewritten-text}
 use Rattle.rewrite_printing.proofs.put_rewritten.Statement.{statement}
 use Rattle.rewrite_printing.proofs.put_rewritten.Tie as tie
 
@@ -19,25 +15,11 @@ put-rewritten-spec =
     (λ c. search needs)
     -- rewrite-requires
     (λ c κs. search needs)
-    -- enum-known-length
+    -- slice-aggregate-put-answer
     (λ c. search needs)
-    -- at-most-requires
-    (λ c κs. search needs)
-    -- array-share-prefix-out
-    (λ c. omega arith)
-    -- slice-aggregate-put-hex-line
-    (λ c. sym (length-take-le _ _ (omega arith)))
-    -- put-hex-line-requires
-    (λ c κs. (omega arith, taken-within (c .before .before .at-most .result) _ _ (omega arith)))
-    -- enum-known-k
-    (λ c. search needs)
-    -- put-refusal-requires
+    -- put-answer-requires
     (λ c κs. search needs)
     -- same-length
     (λ c. search needs)
     -- returns
-    (λ c. writes-as (written-text _ _ _ _ (c .before .before .before .before .before .before .before .before .before .before .rewrite .ensures) (length-replicate {A = ℕ} 561 0) _ _ (c .before .before .before .before .before .before .before .length .given .1) (c .before .before .before .before .before .at-most .ensures) (c .before .before .before .before .before .before .before .before .before .before .rewrite .kept .1 .0)) (c .before .before .put-hex-line .ensures))
-    -- same-length-2
-    (λ c. search needs)
-    -- returns-2
-    (λ c. writes-as (refused-text _ _ _ _ (c .before .before .before .before .before .before .before .before .rewrite .ensures) (length-replicate {A = ℕ} 561 0) _ _ (c .before .before .before .before .before .k .given .1)) (c .before .before .put-refusal .ensures .0)))
+    (λ c. writes-as (rewritten-text (c .before .before .before .before .before .before .before .before .before .before .args .query .now) _ (c .before .before .before .before .before .before .rewrite .ensures) (length-replicate {A = ℕ} 561 0)) (c .before .before .put-answer .ensures)))

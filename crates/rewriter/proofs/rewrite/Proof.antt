@@ -5,6 +5,7 @@ use mathlib.Core.Path.{subst}
 use lib.ListN.{length}
 use Rattle.query.specs.Answers.{FullCheckedAs}
 use Rattle.query.specs.declared.FullChecked.{FullChecked}
+use Rattle.rewriting.specs.Call.{rewriteCall}
 use Rattle.rewriter.proofs.Answers as law
 use Rattle.rewriter.proofs.rewrite.Statement.{statement}
 use Rattle.rewriter.proofs.rewrite.Tie as tie
@@ -33,4 +34,4 @@ rewrite-spec =
     -- same-length-2
     (λ c. search needs)
     -- returns-2
-    (λ c. law.moved (c .before .before .before .before .before .before .before .before .before .before .before .before .before .before .args .query .now) (length (c .before .before .before .before .before .before .before .before .before .before .before .before .before .before .args .out .now)) (law.blank-long _ (length (c .before .before .before .before .before .before .before .before .before .before .before .before .before .before .args .out .now)) (c .before .before .before .before .before .before .before .before .before .before .clear .ensures)) (c .before .before .rewrite-checked .ensures)))
+    (λ c. law.moved (rewriteCall (c .before .before .before .before .before .before .before .before .before .before .before .before .before .before .args .query .now)) (law.blank-long _ (length (c .before .before .before .before .before .before .before .before .before .before .before .before .before .before .args .out .now)) (c .before .before .before .before .before .before .before .before .before .before .clear .ensures)) (c .before .before .rewrite-checked .ensures)))

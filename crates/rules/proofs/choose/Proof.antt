@@ -1,69 +1,28 @@
--- What is left of the order list finds what the whole does. Assumes nothing.
-use Prim.Native.Nat.{_+_, _-_, _≤_}
-use native.Mathlib.Omega.{arith}
+-- A path of one link, or any. Assumes nothing.
 use borrow.Author.Needs.{needs}
-use mathlib.Core.Path.{_≡_, refl, sym, ap, _∙_}
-use mathlib.Core.Bool.{true, false≢true}
-use lib.ListN.{length, drop}
-use Rattle.logic.specs.Search.{firstOf}
-use Rattle.facts.specs.Bits.{bit}
-use Rattle.facts.specs.Square.{Turned}
-use Rattle.facts.specs.Path.{graphOf}
-use Rattle.rules.specs.Answers.{choiceOf}
-use Rattle.rules.specs.Smallest.{triedAt}
-use Rattle.rules.proofs.Nested.{choose-lent, rest-end, rest-here, rest-next}
-use Rattle.rules.proofs.Rows.{turned-kept, turned-now}
+use mathlib.Core.Path.{sym, _∙_}
+use Rattle.facts.proofs.Alive.{live-path}
+use Rattle.rules.proofs.Nested.{choose-any, choose-first}
 use Rattle.rules.proofs.choose.Statement.{statement}
 use Rattle.rules.proofs.choose.Tie as tie
-
-abbrev Inv-loop : tie.InvT-loop
-Inv-loop order n alive link reach back₀ turned₀ i₀ back turned i =
-    (i ≤ length order)
-    × (firstOf (triedAt n (bit alive) (graphOf link reach)) order ≡ firstOf (triedAt n (bit alive) (graphOf link reach)) (drop i order))
-    × (turned ≡ true → Turned back reach)
-
-abbrev μ-loop : tie.MeasureT-loop
-μ-loop order n alive link reach back₀ turned₀ i₀ back turned i = length order - i
 
 pub choose-spec : {M : Type 1} → statement M
 choose-spec =
     tie.close
     (tie.spec
-    Inv-loop
-    μ-loop
     -- live-requires
     (λ c κs. search needs)
-    -- loop-holds
-    (λ c. (omega arith, refl, λ e. absurd (false≢true e)))
-    -- shared-slice-read-looks-back
-    (λ c. omega arith)
-    -- looks-back-requires
+    -- links-requires
     (λ c κs. search needs)
-    -- turned-once-requires
+    -- link-rows-requires
     (λ c κs. search needs)
-    -- shared-slice-read-tried
-    (λ c. omega arith)
-    -- tried-requires
-    (λ c κs. (c .before .before .before .before .before .before .before .before .before .before .before .before .before .before .pre, λ e. turned-now _ _ _ _ _ (c .before .before .before .before .before .before .before .before .before .loop .inv .2) (c .before .before .before .before .turned-once .ensures .0) (c .before .before .before .before .turned-once .ensures .1) (c .before .before .before .before .before .before .looks-back .ensures ∙ e)))
-    -- enum-known-rule
-    (λ c. search needs)
+    -- reach-rows-requires
+    (λ c κs. search needs)
+    -- choose-one-requires
+    (λ c κs. search needs)
     -- returns
-    (λ c.
-    sym
-    (choose-lent _ (c .before .before .before .before .before .before .before .before .before .before .before .before .before .before .before .before .before .before .args .s) (c .before .before .before .before .before .before .before .before .before .before .before .before .before .before .before .before .live .result) (c .before .before .before .before .before .before .before .before .before .before .before .before .before .before .before .before .before .before .args .order .now) (c .before .before .before .before .before .before .before .before .before .before .before .before .before .before .before .before .live .ensures)
-    ∙ c .before .before .before .before .before .before .before .before .before .before .before .before .before .loop .inv .1
-    ∙ rest-here _ (c .before .before .before .before .before .before .before .before .before .before .before .before .before .before .before .before .before .before .args .order .now) (c .before .before .before .before .before .before .before .before .before .before .before .before .before .loop .i) _ (omega arith) (sym (c .before .before .before .tried .ensures) ∙ ap choiceOf (c .before .rule .given .1))))
-    -- enum-told
-    (λ c. search needs)
-    -- add-i
-    (λ c. omega arith)
-    -- loop-less
-    (λ c. omega arith)
-    -- loop-again
-    (λ c. (omega arith, c .before .before .before .before .before .before .before .before .before .before .before .before .loop .inv .1 ∙ rest-next _ (c .before .before .before .before .before .before .before .before .before .before .before .before .before .before .before .before .before .args .order .now) (c .before .before .before .before .before .before .before .before .before .before .before .before .loop .i) (omega arith) (sym (c .before .before .tried .ensures) ∙ ap choiceOf (c .enum-told .given .1)), turned-kept _ _ _ _ _ (c .before .before .before .before .before .before .before .before .before .before .before .before .loop .inv .2) (c .before .before .before .before .before .before .before .turned-once .ensures .0) (c .before .before .before .before .before .before .before .turned-once .ensures .1)))
+    (λ c. c .choose-one .ensures ∙ sym (choose-first _ _ _ _ _ (c .before .before .before .before .before .before .before .before .before .before .before .args .order .now) (c .before .before .before .before .before .before .before .live .ensures ∙ live-path _ (c .before .before .before .before .before .before .before .before .before .before .before .args .t2)) (sym (c .before .before .before .before .before .before .links .ensures .0) ∙ c .before .before .before .before .before .if1 .taken) (c .before .before .before .before .link-rows .ensures) (c .before .before .before .reach-rows .ensures)))
+    -- choose-any-requires
+    (λ c κs. search needs)
     -- returns-2
-    (λ c.
-    sym
-    (choose-lent _ (c .before .before .before .before .before .before .args .s) (c .before .before .before .before .live .result) (c .before .before .before .before .before .before .args .order .now) (c .before .before .before .before .live .ensures)
-    ∙ c .before .loop .inv .1
-    ∙ rest-end _ (c .before .before .before .before .before .before .args .order .now) (c .before .loop .i) (omega arith))))
+    (λ c. c .choose-any .ensures ∙ sym (choose-any _ _ _ (c .before .before .before .before .before .before .before .args .order .now) (c .before .before .before .live .ensures ∙ live-path _ (c .before .before .before .before .before .before .before .args .t2)))))

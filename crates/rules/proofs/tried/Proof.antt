@@ -3,7 +3,7 @@ use borrow.Author.Needs.{needs}
 use mathlib.Core.Path.{sym, ap, _∙_}
 use Rattle.rules.specs.Answers.{numberedOf, placeOf}
 use Rattle.rules.proofs.Rows.{looks-some}
-use Rattle.rules.proofs.Nested.{tried-none, tried-nowhere, tried-at}
+use Rattle.rules.proofs.Nested.{tried-none, tried-nowhere, tried-is}
 use Rattle.rules.proofs.tried.Statement.{statement}
 use Rattle.rules.proofs.tried.Tie as tie
 
@@ -18,7 +18,7 @@ tried-spec =
     -- enum-told
     (λ c. search needs)
     -- returns
-    (λ c. sym (tried-none _ _ _ _ (sym (c .before .before .rule-numbered .ensures) ∙ ap numberedOf (c .enum-told .given .1))))
+    (λ c. sym (tried-none _ _ _ _ _ (sym (c .before .before .rule-numbered .ensures) ∙ ap numberedOf (c .enum-told .given .1))))
     -- smallest-requires
     (λ c κs. (c .before .before .before .before .pre .0, λ e. c .before .before .before .before .pre .1 (looks-some _ _ (sym (c .before .before .before .rule-numbered .ensures) ∙ ap numberedOf (c .before .rule .given .1)) ∙ e)))
     -- enum-known-x
@@ -28,12 +28,12 @@ tried-spec =
     -- returns-2
     (λ c.
     sym
-    (tried-nowhere _ _ _ _ _
+    (tried-nowhere _ _ _ _ _ _
     (sym (c .before .before .before .before .before .before .rule-numbered .ensures) ∙ ap numberedOf (c .before .before .before .before .rule .given .1))
     (sym (c .before .before .smallest .ensures) ∙ ap placeOf (c .enum-told2 .given .1))))
     -- returns-3
     (λ c.
     sym
-    (tried-at _ _ _ _ _ _
+    (tried-is _ _ _ _ _ _ _
     (sym (c .before .before .before .before .before .before .before .rule-numbered .ensures) ∙ ap numberedOf (c .before .before .before .before .before .rule .given .1))
     (sym (c .before .before .before .smallest .ensures) ∙ ap placeOf (c .before .x .given .1)))))

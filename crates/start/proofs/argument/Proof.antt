@@ -2,7 +2,7 @@
 use borrow.Author.Needs.{needs}
 use mathlib.Core.Path.{sym}
 use borrow.Author.Tests.{eq-eqb, ne-eqb}
-use Rattle.logic.proofs.Basics.Compare.{cond-true, cond-false}
+use Rattle.theory.proofs.Basics.Compare.{cond-true, cond-false}
 use Rattle.start.specs.Nil.{argumentBy}
 use Rattle.start.proofs.argument.Statement.{statement}
 use Rattle.start.proofs.argument.Tie as tie

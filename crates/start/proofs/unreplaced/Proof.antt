@@ -25,9 +25,9 @@ unreplaced-spec =
     μ-loop
     -- loop-holds
     (λ c. (omega arith, search needs, λ x h. absurd (omega arith)))
-    -- mul-rep
+    -- cast-rep
     (λ c. omega arith)
-    -- array-set-from-rep
+    -- array-write-rep
     (λ c. omega arith)
     -- add-t
     (λ c. omega arith)

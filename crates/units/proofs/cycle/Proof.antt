@@ -31,7 +31,7 @@ cycle-spec =
     -- enum-known-y
     (λ c. search needs)
     -- returns
-    (λ c. λ s e. cycle-placed (c .before .before .before .before .before .before .before .before .before .before .before .args .n) (c .before .before .before .before .before .before .before .before .before .before .before .args .link .now) (c .before .before .before .before .before .before .before .before .before .before .before .args .reach .now) s e _ _ _ _ (c .before .before .before .before .before .before .before .before .before .before .before .pre) (omega arith) (c .before .before .before .before .before .before .around .ensures .steps-within) (c .before .before .before .before .before .before .around .ensures .off-round) (found-in _ _ _ (c .before .y .given .1) (c .before .before .before .cycle-at .ensures)))
+    (λ c. λ s k e. cycle-placed (c .before .before .before .before .before .before .before .before .before .before .before .args .n) (c .before .before .before .before .before .before .before .before .before .before .before .args .link .now) (c .before .before .before .before .before .before .before .before .before .before .before .args .reach .now) s k e _ _ _ _ (c .before .before .before .before .before .before .before .before .before .before .before .pre) (omega arith) (c .before .before .before .before .before .before .around .ensures .steps-within) (c .before .before .before .before .before .before .around .ensures .off-round) (found-in _ _ _ (c .before .y .given .1) (c .before .before .before .cycle-at .ensures)))
     -- enum-told
     (λ c. search needs)
     -- add-x

@@ -6,10 +6,10 @@ use Rattle.units.proofs.denied.Statement.{statement}
 use Rattle.units.proofs.denied.Tie as tie
 
 abbrev Inv-loop : tie.InvT-loop
-Inv-loop query at count reps both out₀ i₀ out i = i ≤ count
+Inv-loop query at count rep both out₀ i₀ out i = i ≤ count
 
 abbrev μ-loop : tie.MeasureT-loop
-μ-loop query at count reps both out₀ i₀ out i = count - i
+μ-loop query at count rep both out₀ i₀ out i = count - i
 
 pub denied-spec : {M : Type 1} → statement M
 denied-spec =

@@ -43,7 +43,7 @@ func-spec =
     -- enum-known-z
     (λ c. search needs)
     -- returns
-    (λ c. λ n s e. func-placed n (c .before .before .before .before .before .before .before .before .before .before .before .before .before .before .args .link .now) (c .before .before .before .before .before .before .before .before .before .before .before .before .before .before .args .reach .now) s e _ _ _ _ (omega arith) (lowest-in _ _ (c .before .before .before .before .before .before .before .before .y .given .1) _ (c .before .before .before .before .before .before .before .before .before .before .lowest .ensures)) (c .before .before .before .before .missed .ensures) (lowest-left _ _ (c .before .z .given .1) _ _ (c .before .before .before .lowest2 .ensures)))
+    (λ c. λ n s k e. func-placed n (c .before .before .before .before .before .before .before .before .before .before .before .before .before .before .args .link .now) (c .before .before .before .before .before .before .before .before .before .before .before .before .before .before .args .reach .now) s k e _ _ _ _ (omega arith) (lowest-in _ _ (c .before .before .before .before .before .before .before .before .y .given .1) _ (c .before .before .before .before .before .before .before .before .before .before .lowest .ensures)) (c .before .before .before .before .missed .ensures) (lowest-left _ _ (c .before .z .given .1) _ _ (c .before .before .before .lowest2 .ensures)))
     -- enum-told
     (λ c. search needs)
     -- enum-told-2

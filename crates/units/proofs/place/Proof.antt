@@ -1,6 +1,6 @@
 -- Whichever proposes first. Assumes nothing.
 use borrow.Author.Needs.{needs}
-use Rattle.units.proofs.Places.{handed-on}
+use Rattle.units.proofs.Places.{handed-in}
 use Rattle.units.proofs.place.Statement.{statement}
 use Rattle.units.proofs.place.Tie as tie
 
@@ -15,7 +15,7 @@ place-spec =
     -- enum-known-rule
     (λ c. search needs)
     -- returns
-    (λ c. λ s e. handed-on (c .before .before .before .before .before .before .args .n) s _ _ (c .before .rule .given .1) (c .before .before .before .share .ensures (c .before .before .before .before .before .before .args .n) s e))
+    (λ c. let a = c .before .before .before .before .before .before .args in handed-in (a .n) (a .link .now) (a .reach .now) _ _ (c .before .rule .given .1) (c .before .before .before .share .ensures (a .n)))
     -- enum-told
     (λ c. search needs)
     -- func-requires
@@ -23,7 +23,7 @@ place-spec =
     -- enum-known-rule-2
     (λ c. search needs)
     -- returns-2
-    (λ c. λ s e. handed-on (c .before .before .before .before .before .before .before .before .before .args .n) s _ _ (c .before .rule2 .given .1) (c .before .before .before .func .ensures (c .before .before .before .before .before .before .before .before .before .args .n) s e))
+    (λ c. let a = c .before .before .before .before .before .before .before .before .before .args in handed-in (a .n) (a .link .now) (a .reach .now) _ _ (c .before .rule2 .given .1) (c .before .before .before .func .ensures (a .n)))
     -- enum-told-2
     (λ c. search needs)
     -- cycle-requires
@@ -31,7 +31,7 @@ place-spec =
     -- enum-known-rule-3
     (λ c. search needs)
     -- returns-3
-    (λ c. λ s e. handed-on (c .before .before .before .before .before .before .before .before .before .before .before .before .args .n) s _ _ (c .before .rule3 .given .1) (c .before .before .before .cycle .ensures s e))
+    (λ c. let a = c .before .before .before .before .before .before .before .before .before .before .before .before .args in handed-in (a .n) (a .link .now) (a .reach .now) _ _ (c .before .rule3 .given .1) (c .before .before .before .cycle .ensures))
     -- enum-told-3
     (λ c. search needs)
     -- scc-requires
@@ -39,7 +39,7 @@ place-spec =
     -- enum-known-rule-4
     (λ c. search needs)
     -- returns-4
-    (λ c. λ s e. handed-on (c .before .before .before .before .before .before .before .before .before .before .before .before .before .before .before .before .args .n) s _ _ (c .before .rule4 .given .1) (c .before .before .before .scc .ensures (c .before .before .before .before .before .before .before .before .before .before .before .before .before .before .before .before .args .n) (c .before .before .before .before .before .before .before .before .before .before .before .before .before .before .before .before .args .link .now) s e))
+    (λ c. let a = c .before .before .before .before .before .before .before .before .before .before .before .before .before .before .before .before .args in handed-in (a .n) (a .link .now) (a .reach .now) _ _ (c .before .rule4 .given .1) (c .before .before .before .scc .ensures (a .n) (a .link .now)))
     -- enum-told-4
     (λ c. search needs)
     -- total-requires

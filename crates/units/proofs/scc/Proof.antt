@@ -37,7 +37,7 @@ scc-spec =
     -- enum-known-z
     (λ c. search needs)
     -- returns
-    (λ c. λ n link s e. scc-placed n link (c .before .before .before .before .before .before .before .before .before .before .before .before .before .before .args .reach .now) s e _ _ _ _ _ (omega arith) (c .before .before .before .before .before .before .before .before .before .before .both-ways .ensures) (lowest-left _ _ (c .before .before .before .before .before .y .given .1) _ _ (c .before .before .before .before .before .before .before .lowest .ensures)) (c .before .before .before .before .before .before .before .before .before .before .before .ahead .ensures) (lowest-in _ _ (c .before .z .given .1) _ (c .before .before .before .lowest2 .ensures)))
+    (λ c. λ n link s k e. scc-placed n link (c .before .before .before .before .before .before .before .before .before .before .before .before .before .before .args .reach .now) s k e _ _ _ _ _ (omega arith) (c .before .before .before .before .before .before .before .before .before .before .both-ways .ensures) (lowest-left _ _ (c .before .before .before .before .before .y .given .1) _ _ (c .before .before .before .before .before .before .before .lowest .ensures)) (c .before .before .before .before .before .before .before .before .before .before .before .ahead .ensures) (lowest-in _ _ (c .before .z .given .1) _ (c .before .before .before .lowest2 .ensures)))
     -- enum-told
     (λ c. search needs)
     -- enum-told-2
@@ -55,7 +55,7 @@ scc-spec =
     -- enum-known-y-2
     (λ c. search needs)
     -- returns-2
-    (λ c. λ n link s e. scc-placed n link (c .before .before .before .before .before .before .before .before .before .before .before .before .before .before .before .before .before .args .reach .now) s e _ _ _ _ _ (omega arith) (c .before .before .before .before .before .before .before .before .before .before .before .before .before .both-ways .ensures) (lowest-in _ _ (c .before .y2 .given .1) _ (c .before .before .before .lowest4 .ensures)) (c .before .before .before .before .before .before .before .before .before .before .before .before .before .before .ahead .ensures) (lowest-left _ _ (c .before .before .before .before .before .z2 .given .1) _ _ (c .before .before .before .before .before .before .before .lowest3 .ensures)))
+    (λ c. λ n link s k e. scc-placed n link (c .before .before .before .before .before .before .before .before .before .before .before .before .before .before .before .before .before .args .reach .now) s k e _ _ _ _ _ (omega arith) (c .before .before .before .before .before .before .before .before .before .before .before .before .before .both-ways .ensures) (lowest-in _ _ (c .before .y2 .given .1) _ (c .before .before .before .lowest4 .ensures)) (c .before .before .before .before .before .before .before .before .before .before .before .before .before .before .ahead .ensures) (lowest-left _ _ (c .before .before .before .before .before .z2 .given .1) _ _ (c .before .before .before .before .before .before .before .lowest3 .ensures)))
     -- enum-told-3
     (λ c. search needs)
     -- enum-told-4

@@ -48,7 +48,7 @@ share-spec =
     -- enum-known-z
     (λ c. search needs)
     -- returns
-    (λ c. λ n s e. share-placed n (c .before .before .before .before .before .before .before .before .before .before .before .before .before .before .args .link .now) (c .before .before .before .before .before .before .before .before .before .before .before .before .before .before .args .reach .now) s e _ _ _ _ (omega arith) (c .before .before .before .before .before .before .before .before .before .both-ways .ensures) (omega arith, sym (c .before .before .before .before .before .before .has .ensures) ∙ c .before .before .before .before .before .if2 .taken) (lowest-in _ _ (c .before .z .given .1) _ (c .before .before .before .lowest .ensures)))
+    (λ c. λ n s k e. share-placed n (c .before .before .before .before .before .before .before .before .before .before .before .before .before .before .args .link .now) (c .before .before .before .before .before .before .before .before .before .before .before .before .before .before .args .reach .now) s k e _ _ _ _ (omega arith) (c .before .before .before .before .before .before .before .before .before .both-ways .ensures) (omega arith, sym (c .before .before .before .before .before .before .has .ensures) ∙ c .before .before .before .before .before .if2 .taken) (lowest-in _ _ (c .before .z .given .1) _ (c .before .before .before .lowest .ensures)))
     -- enum-told
     (λ c. search needs)
     -- add-y

@@ -2,7 +2,7 @@
 use Prim.Native.Nat.{_-_, _≤_}
 use native.Mathlib.Omega.{arith}
 use borrow.Author.Needs.{needs}
-use Rattle.units.proofs.Places.{handed-on}
+use Rattle.units.proofs.Places.{handed-in}
 use Rattle.units.proofs.total.Statement.{statement}
 use Rattle.units.proofs.total.Tie as tie
 
@@ -25,7 +25,7 @@ total-spec =
     -- enum-known-rule
     (λ c. search needs)
     -- returns
-    (λ c. λ n link s e. handed-on n s _ _ (c .before .rule .given .1) (c .before .before .before .total-at .ensures n link s e))
+    (λ c. λ n link. handed-in n link _ _ _ (c .before .rule .given .1) (c .before .before .before .total-at .ensures n link))
     -- enum-told
     (λ c. search needs)
     -- add-x

@@ -42,7 +42,7 @@ total-at-spec =
     -- enum-known-z
     (λ c. search needs)
     -- returns
-    (λ c. λ n link s e. total-placed n link (c .before .before .before .before .before .before .before .before .before .before .before .before .args .reach .now) s e _ _ _ _ (c .before .before .before .before .before .before .before .before .before .before .before .before .pre .0) (omega arith, sym (c .before .before .before .before .before .before .before .before .has .ensures) ∙ c .before .before .before .before .before .before .before .if1 .taken) (c .before .before .before .before .unordered .ensures) (lowest-left _ _ (c .before .z .given .1) _ _ (c .before .before .before .lowest .ensures)))
+    (λ c. λ n link s k e. total-placed n link (c .before .before .before .before .before .before .before .before .before .before .before .before .args .reach .now) s k e _ _ _ _ (c .before .before .before .before .before .before .before .before .before .before .before .before .pre .0) (omega arith, sym (c .before .before .before .before .before .before .before .before .has .ensures) ∙ c .before .before .before .before .before .before .before .if1 .taken) (c .before .before .before .before .unordered .ensures) (lowest-left _ _ (c .before .z .given .1) _ _ (c .before .before .before .lowest .ensures)))
     -- enum-told
     (λ c. search needs)
     -- add-y

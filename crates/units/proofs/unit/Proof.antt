@@ -1,30 +1,46 @@
--- What is proposed by the rows of a path applies at the path. Assumes nothing.
+-- What is proposed by the rows of a link applies by that link of the path. Assumes nothing.
+use Prim.Native.Nat.{_+_, _-_, _≤_}
+use native.Mathlib.Omega.{arith}
 use borrow.Author.Needs.{needs}
-use mathlib.Core.Path.{refl}
-use Rattle.facts.specs.Path.{onlyLink, pathOf}
+use Rattle.units.proofs.Places.{link-counted, proposed-by}
 use Rattle.units.proofs.unit.Statement.{statement}
 use Rattle.units.proofs.unit.Tie as tie
 
+abbrev Inv-loop : tie.InvT-loop
+Inv-loop query layout s reps differ total k₀ k = 1 ≤ k
+
+abbrev μ-loop : tie.MeasureT-loop
+μ-loop query layout s reps differ total k₀ k = total + 1 - k
+
 pub unit-spec : {M : Type 1} → statement M
-unfolding pathOf onlyLink
 unit-spec =
     tie.close
     (tie.spec
-    -- numbers-requires
-    (λ c κs. search needs)
-    -- denied-requires
-    (λ c κs. search needs)
-    -- denied-behind-requires
-    (λ c κs. search needs)
-    -- unreachable-requires
-    (λ c κs. search needs)
-    -- turned-requires
-    (λ c κs. search needs)
+    Inv-loop
+    μ-loop
     -- apart-requires
     (λ c κs. search needs)
-    -- merged-requires
+    -- links-requires
     (λ c κs. search needs)
-    -- place-requires
-    (λ c κs. c .before .before .before .before .before .before .before .before .before .before .before .before .before .before .before .before .before .before .before .before .before .before .before .before .before .before .pre .terms-within)
+    -- loop-holds
+    (λ c. omega arith)
+    -- link-rows-requires
+    (λ c κs. link-counted _ _ _ (c .before .before .links .ensures .0) (c .before .loop .inv) (omega arith))
+    -- reach-rows-requires
+    (λ c κs. link-counted _ _ _ (c .before .before .before .links .ensures .0) (c .before .before .loop .inv) (omega arith))
+    -- unit-at-requires
+    (λ c κs. c .before .before .before .before .before .before .before .before .before .before .before .before .before .pre)
+    -- enum-known-rule
+    (λ c. search needs)
     -- returns
-    (λ c. c .place .ensures (pathOf (c .before .before .before .before .before .before .before .before .before .before .before .before .before .before .before .before .before .before .before .before .before .before .before .before .before .before .before .args .s)) (refl, refl)))
+    (λ c. proposed-by _ _ _ _ (link-counted _ _ _ (c .before .before .before .before .before .before .before .before .before .before .before .before .links .ensures .0) (c .before .before .before .before .before .before .before .before .before .before .before .loop .inv) (omega arith)) (c .before .before .before .before .before .before .before .before .before .link-rows .ensures) (c .before .before .before .before .before .before .before .before .reach-rows .ensures) (c .before .before .before .before .before .before .before .before .before .before .before .before .before .before .before .before .before .args .layout .terms) _ _ _ _ _ (c .before .rule .given .1) (c .before .before .before .unit-at .ensures))
+    -- enum-told
+    (λ c. search needs)
+    -- add-k
+    (λ c. omega (arith, c .before .before .before .before .before .before .before .before .before .before .before .links .ensures .2))
+    -- loop-less
+    (λ c. omega arith)
+    -- loop-again
+    (λ c. omega arith)
+    -- returns-2
+    (λ c. search needs))

@@ -21,11 +21,11 @@ look-spec =
     (λ c. search needs)
     -- choose-requires
     (λ c κs. c .before .before .before .before .before .before .before .before .pre .terms-within)
-    -- enum-known-rule
+    -- enum-known-k
     (λ c. search needs)
     -- enum-told-2
     (λ c. search needs)
     -- returns-2
     (λ c. seen-saturated _ _ _ _ (c .before .before .before .before .before .before .before .before .before .before .before .pre .term-count) _ _ (c .before .before .before .before .before .find-clash .ensures) (ap lineOf (c .before .before .before .enum-told .given .1)) (c .before .before .choose .ensures) (ap choiceOf (c .enum-told2 .given .1)))
     -- returns-3
-    (λ c. seen-applying _ _ _ _ (c .before .before .before .before .before .before .before .before .before .before .before .before .pre .term-count) _ _ _ (c .before .before .before .before .before .before .find-clash .ensures) (ap lineOf (c .before .before .before .before .enum-told .given .1)) (c .before .before .before .choose .ensures) (ap choiceOf (c .before .rule .given .1))))
+    (λ c. seen-applying _ _ _ _ (c .before .before .before .before .before .before .before .before .before .before .before .before .pre .term-count) _ _ _ (c .before .before .before .before .before .before .find-clash .ensures) (ap lineOf (c .before .before .before .before .enum-told .given .1)) (c .before .before .before .choose .ensures) (ap choiceOf (c .before .k .given .1))))

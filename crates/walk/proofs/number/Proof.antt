@@ -1,43 +1,23 @@
--- Each rule's own number. Assumes nothing.
+-- The link's part and the rule's. Assumes nothing.
 use borrow.Author.Needs.{needs}
-use Rattle.logic.specs.Rules.{ruleNumber}
+use Rattle.logic.specs.Rules.{moveNumber}
 use Rattle.walk.proofs.number.Statement.{statement}
 use Rattle.walk.proofs.number.Tie as tie
 
+returns : tie.Need-returns
+unfolding moveNumber
+returns c = search needs
+
 pub number-spec : {M : Type 1} → statement M
-unfolding ruleNumber
 number-spec =
     tie.close
     (tie.spec
-    -- enum-told
+    -- sub-result
     (λ c. search needs)
-    -- enum-told-2
+    -- mul-result
     (λ c. search needs)
-    -- enum-told-3
+    -- rule-number-requires
+    (λ c κs. search needs)
+    -- add-result
     (λ c. search needs)
-    -- enum-told-4
-    (λ c. search needs)
-    -- enum-told-5
-    (λ c. search needs)
-    -- enum-told-6
-    (λ c. search needs)
-    -- enum-told-7
-    (λ c. search needs)
-    -- enum-told-8
-    (λ c. search needs)
-    -- returns
-    (λ c. search needs)
-    -- returns-2
-    (λ c. search needs)
-    -- returns-3
-    (λ c. search needs)
-    -- returns-4
-    (λ c. search needs)
-    -- returns-5
-    (λ c. search needs)
-    -- returns-6
-    (λ c. search needs)
-    -- returns-7
-    (λ c. search needs)
-    -- returns-8
-    (λ c. search needs))
+    returns)

@@ -1,0 +1,24 @@
+-- The link behind the sign is tested. Assumes nothing.
+use native.Mathlib.Omega.{arith}
+use borrow.Author.Needs.{needs}
+use mathlib.Core.Path.{sym}
+use Rattle.logic.specs.Search.{keep}
+use Rattle.entries.proofs.Links.{pair-tested}
+use Rattle.entries.proofs.pair_link_fault.Statement.{statement}
+use Rattle.entries.proofs.pair_link_fault.Tie as tie
+
+pub pair-link-fault-spec : {M : Type 1} → statement M
+unfolding keep
+pair-link-fault-spec =
+    tie.close
+    (tie.spec
+    -- add-place
+    (λ c. omega arith)
+    -- byte-at-requires
+    (λ c κs. omega arith)
+    -- is-link-requires
+    (λ c κs. search needs)
+    -- returns
+    (λ c. sym (pair-tested (c .before .before .before .before .args .query .now) _ (c .before .is-link .ensures) (c .before .before .byte-at .ensures) (c .if1 .taken)))
+    -- returns-2
+    (λ c. sym (pair-tested (c .before .before .before .before .args .query .now) _ (c .before .is-link .ensures) (c .before .before .byte-at .ensures) (c .if1 .left))))

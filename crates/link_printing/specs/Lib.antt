@@ -1,0 +1,2 @@
+pub mod LinkText
+pub mod Examples

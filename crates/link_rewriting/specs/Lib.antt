@@ -1,0 +1,4 @@
+pub mod LinkedQuery
+pub mod Call
+pub mod Claims
+pub mod Samples

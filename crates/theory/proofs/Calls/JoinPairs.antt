@@ -1,0 +1,25 @@
+-- The pairs account for what joining makes of every path of a walk.
+use Rattle.logic.specs.Query.{termCount}
+use Rattle.logic.specs.Calls.{CallForm, oneLinkForm}
+use Rattle.logic.specs.JoinPairs.{PairsAccount}
+use Rattle.theory.proofs.Paths.Applies.{applies-linked, applies-met}
+use Rattle.theory.proofs.Paths.Invariant.{alternatives-live}
+use Rattle.theory.proofs.Joins.Pairs.{accounts-branch, accounts-start, start-followed}
+use Rattle.theory.proofs.Calls.CallLaws.{FormLaws}
+use Rattle.theory.proofs.Calls.Refusals.{one-link-laws}
+use Rattle.theory.proofs.Calls.Reordering.{held-sane}
+
+pub pairs-account-of : (f : CallForm) → FormLaws f → PairsAccount f
+pairs-account-of f laws =
+    record {
+      start-pairs = λ query a. accounts-start (f .decode query) (laws .accepted-query query a);
+      start-followed = λ query a. start-followed (f .decode query) (laws .accepted-query query a);
+      branch-pairs = λ query s m c a h app mem.
+          let n = termCount (f .decode query) in
+          let r = held-sane (f .decode query) (laws .accepted-query query a) s h .ranged in
+          accounts-branch n s c
+          (alternatives-live n s r m (applies-linked n s m app) (applies-met n s m app) c mem) r;
+    }
+
+pub pairs-account : PairsAccount oneLinkForm
+pairs-account = pairs-account-of oneLinkForm one-link-laws
