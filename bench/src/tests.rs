@@ -155,6 +155,13 @@ fn three_links_small_heaps() {
 
 /// The stored queries have the verdicts of their rewritings with link 1.
 #[test]
+fn three_links_vectors() {
+    let directory = Path::new(env!("CARGO_MANIFEST_DIR")).join("../tests/data");
+    let program = |input: &[u8]| Ok(links::linksverdict(input));
+    assert!(vectors::agree(&directory.join("R-11.bin"), &directory.join("R-11.out"), &program).unwrap());
+}
+
+#[test]
 fn three_links_rewritten() {
     let directory = Path::new(env!("CARGO_MANIFEST_DIR")).join("../tests/data");
     for name in ["base", "R-3", "R-13", "rewritten"] {
