@@ -277,20 +277,25 @@ module _ (s : code.Facts) where
   unfolding pathOf graphs
   graph-third k e d = sym (rw (e, d) refl)
 
+  -- what holds of each link, and of any number without facts, holds of every number
+  pub by-link : (P : ℕ → Type 0) → ((k : ℕ) → pathOf s .graph k ≡ noFacts → P k) → ((k : ℕ) → k ≡ 1 → P k) → ((k : ℕ) → k ≡ 2 → s .single ≡ false → P k) → ((k : ℕ) → k ≡ 3 → s .single ≡ false → P k) → (k : ℕ) → P k
+  unfolding pathOf graphs
+  by-link P no-link at-first at-second at-third k = ⊎-elim (at-first k) (λ d. go d (s .single) refl) (eq-cases k 1)
+    where
+      go : ((k ≡ 1 → ⊥) × (eqb k 1 ≡ false)) → (b : Bool) → s .single ≡ b → P k
+      go d true e = no-link k (rw (d .1, e) refl)
+      go d false e =
+          ⊎-elim (λ i. at-second k i e) (λ d′. ⊎-elim (λ i. at-third k i e) (λ d″. no-link k (rw (d .1, e, d′ .1, d″ .1) refl)) (eq-cases k 3)) (eq-cases k 2)
+
   -- facts are of the path's links alone
   within : (k : ℕ) → HasLink (pathOf s) k ⊎ (pathOf s .graph k ≡ noFacts)
-  unfolding pathOf graphs
-  within k = go (s .single)
+  within =
+      by-link (λ k. HasLink (pathOf s) k ⊎ (pathOf s .graph k ≡ noFacts)) (λ k e. inr e) (λ k e. inl (omega (arith, e), omega (arith, e, links-few .0)))
+      (λ k e d. inl (omega (arith, e), omega (arith, e, all d)))
+      (λ k e d. inl (omega (arith, e), omega (arith, e, all d)))
     where
-      go : (b : Bool) → ((0 < k) × (k ≤ cond b 1 3)) ⊎ (graphs b (first s) (second s) (third s) k ≡ noFacts)
-      go true = ⊎-elim (λ e. inl (omega (arith, e), omega (arith, e))) (λ d. inr (rw (d .1) refl)) (eq-cases k 1)
-      go false =
-          ⊎-elim (λ e. inl (omega (arith, e), omega (arith, e)))
-          (λ d.
-          ⊎-elim (λ e. inl (omega (arith, e), omega (arith, e)))
-          (λ d′. ⊎-elim (λ e. inl (omega (arith, e), omega (arith, e))) (λ d″. inr (rw (d .1, d′ .1, d″ .1) refl)) (eq-cases k 3))
-          (eq-cases k 2))
-          (eq-cases k 1)
+      all : s .single ≡ false → pathOf s .links ≡ 3
+      all d = links-is ∙ ap (λ (b : Bool). cond {A = ℕ} b 1 3) d
 
   pub no-reach : (k : ℕ) → (HasLink (pathOf s) k → ⊥) → (a b : ℕ) → false ≡ pathOf s .graph k .reach a b
   unfolding noFacts
