@@ -15,7 +15,7 @@ use Rattle.logic.specs.Rules.{Rule, rules, ruleNumber, ruleOf, triple, Move, mo
 use Rattle.logic.specs.Walk.{isClashed}
 use Rattle.theory.proofs.Calls.OneLink.{moveOf-one}
 use Rattle.facts.specs.Square.{square}
-use Rattle.facts.specs.Path.{pathOf, onlyLink, repOf, graphOf}
+use Rattle.facts.specs.Path.{pathOf, graphs, repOf, graphOf}
 use Rattle.facts.specs.declared.Facts as code
 use Rattle.checking.specs.Fitting.{moveIn}
 use Rattle.checker.specs.Reading.{Shaped, lineAt, Read, ending, ruling, unfit, readRule, readLine, readAt}
@@ -62,7 +62,7 @@ module _ (q : Query) (s : code.Facts) (bytes : List ℕ) (count i : ℕ) (shape 
       no-clash = rw (ne-eqb k 9 other) refl
 
       stands : o ≡ clash q (pathOf s)
-      unfolding pathOf onlyLink graphOf
+      unfolding pathOf graphs graphOf
       stands = found (pathOf s) refl refl
 
       pub read-clashed : (l : Line) → o ≡ some l → Reads unfit

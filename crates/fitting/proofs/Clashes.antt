@@ -13,7 +13,7 @@ use Rattle.logic.specs.Query.{Query, Literal, decode}
 use Rattle.logic.specs.Facts.{Facts, line, negatedAt, plainAt, isClash}
 use Rattle.theory.proofs.Query.Bytes.{literals-link}
 use Rattle.facts.specs.Square.{square}
-use Rattle.facts.specs.Path.{pathOf, onlyLink, repOf, graphOf}
+use Rattle.facts.specs.Path.{pathOf, graphs, repOf, graphOf}
 use Rattle.facts.specs.declared.Facts as code
 use Rattle.query.specs.declared.Layout.{Layout}
 use Rattle.query.specs.LaysOut.{LaysOut}
@@ -146,7 +146,7 @@ module _ (l : Layout) (bytes : List ℕ) (laid : LaysOut l bytes) (s : code.Fact
   reach-one x m = literals-link _ x (subst (List·Memᴰ x) (laid .reach-are) m)
 
   pub clash-reachability : (v : Bool) → v ≡ negatedAt (literalsIn bytes (l .«reach_at») (l .«reach_count»)) i (reachHeld (repOf (s .rep)) (square (s .reach))) → section ≡ 3 → j ≡ 0 → v ≡ Clashes
-  unfolding pathOf onlyLink graphOf
+  unfolding pathOf graphs graphOf
   clash-reachability v h e f =
       h ∙ ap (λ (ls : List Literal). negatedAt ls i (reachHeld (repOf (s .rep)) (square (s .reach)))) (sym (laid .reach-are))
       ∙ in-reachability (decode bytes) (pathOf s) section i j reach-one e f

@@ -13,7 +13,7 @@ use Rattle.logic.specs.Facts.{Facts, linkNumbers, Line, line, isClash, clashLin
 use Rattle.logic.specs.Rules.{Rule, Triple, triple, Move, move, applies, triples, choose}
 use Rattle.logic.specs.Walk.{Look, clashing, applying, saturated, look}
 use Rattle.facts.specs.Square.{square}
-use Rattle.facts.specs.Path.{onlyLink, repOf, graphOf, pathOf}
+use Rattle.facts.specs.Path.{graphs, repOf, graphOf, pathOf}
 use Rattle.facts.specs.declared.Facts as code
 use Rattle.theory.proofs.Basics.Search.{keep-some, firstOf-some, find-some, from-mem, flatMap-mem, map-mem, none-some}
 
@@ -110,7 +110,7 @@ clash-range q order s m l a b c h =
 module _ (q : Query) (order : List Rule) (s : code.Facts) (n : ℕ) (terms-are : n ≡ termCount q) where
   -- the clash of every path with these representatives and this reachability is that of the path
   path-clash : (o : Option Line) → ((t : Facts) → t .rep ≡ repOf (s .rep) → t .graph 1 .reach ≡ square (s .reach) → o ≡ clash q t) → o ≡ clash q (pathOf s)
-  unfolding pathOf graphOf onlyLink
+  unfolding pathOf graphOf graphs
   path-clash o h = h (pathOf s) refl refl
 
   abbrev ClashIs : Option Line → Type 0
