@@ -5,7 +5,7 @@ ghost use mathlib.Core.Bool.{Bool, not, cond};
 ghost use lib.Dec.{eqb, ltb};
 ghost use Rattle.facts.specs.Bits.{bit};
 ghost use Rattle.facts.specs.Square.{square, Turned, renamedRow, columns, rows};
-ghost use Rattle.facts.specs.Path.{pathOf, repOf, replaceRep, replacedBy, linksIn, twoIn, unlinked, HasLink, withReach, withLink};
+ghost use Rattle.facts.specs.Path.{pathOf, repOf, replaceRep, replacedBy, linksIn, twoIn, doubledIn, unlinked, HasLink, withReach, withLink};
 ghost use Rattle.facts.specs.Answers.{foundOf, twoOf};
 ghost use Rattle.facts.specs.Pairs.{pairsOf, joinedAs, joinedOf, Fits};
 ghost use mathlib.Core.List.{[], _∷_, _++_};
@@ -509,15 +509,29 @@ fn doubled_of<'a>(
     Two::Nothing
 }
 
+// The same of a single link or of three. The rows are lent, so that a join copies no path for it.
+fn doubled_rows<'a>(
+    single: bool,
+    first: &'a [u32; 17],
+    second: &'a [u32; 17],
+    third: &'a [u32; 17],
+    n: usize,
+) -> Two
+    requires { ⌜ n ≤ 16 ⌝ }
+    ensures { λ r. ⌜ twoOf r ≡ doubledIn n single (now (first .entry)) (now (second .entry)) (now (third .entry)) ⌝ }
+{
+    if single {
+        return doubled_in(first, n);
+    }
+    doubled_of(first, second, third, n)
+}
+
 // "the two lowest successors of the lowest such term"
 pub fn doubled(s: Facts, n: usize) -> Two
     requires { ⌜ n ≤ 16 ⌝ }
     ensures { λ r. ⌜ twoOf r ≡ doubled n (pathOf s) ⌝ }
 {
-    if s.single {
-        return doubled_in(&s.link, n);
-    }
-    doubled_of(&s.link, &s.link2, &s.link3, n)
+    doubled_rows(s.single, &s.link, &s.link2, &s.link3, n)
 }
 
 // No pair.
@@ -554,7 +568,13 @@ pub fn settle(before: Joined, n: usize) -> Joined
     let mut j = before;
     let mut left = n;
     while 0 < left {
-        let Two::Of(a, b) = doubled(j.facts, n) else {
+        let Two::Of(a, b) = doubled_rows(
+            j.facts.single,
+            &j.facts.link,
+            &j.facts.link2,
+            &j.facts.link3,
+            n,
+        ) else {
             return j;
         };
         let s = j.facts;
@@ -578,7 +598,13 @@ fn join_lower(s: Facts, n: usize, lo: Term, hi: Term, before: Pairs) -> Joined
         pairs: and_pair(before, lo, hi),
         facts: replace(s, lo, hi),
     };
-    let Two::Of(_, _) = doubled(made.facts, n) else {
+    let Two::Of(_, _) = doubled_rows(
+        made.facts.single,
+        &made.facts.link,
+        &made.facts.link2,
+        &made.facts.link3,
+        n,
+    ) else {
         return made;
     };
     settle(made, n)
