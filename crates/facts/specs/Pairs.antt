@@ -13,8 +13,12 @@ use Rattle.facts.specs.declared.Joined as joined
 abbrev pub pairAt : List ℕ → List ℕ → ℕ → ℕ × ℕ
 pairAt kept replaced i = (getD kept i 0, getD replaced i 0)
 
+-- so many pairs in two arrays
+abbrev pub pairsIn : List ℕ → List ℕ → ℕ → List (ℕ × ℕ)
+pairsIn kept replaced count = map (pairAt kept replaced) (from count 0)
+
 unfoldable pub pairsOf : Pairs → List (ℕ × ℕ)
-pairsOf p = map (pairAt (p .kept) (p .replaced)) (from (p .count) 0)
+pairsOf p = pairsIn (p .kept) (p .replaced) (p .count)
 
 -- pairs that were joined, and the facts then
 abbrev pub joinedAs : Pairs → code.Facts → Joined

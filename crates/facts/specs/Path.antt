@@ -25,13 +25,17 @@ noFacts = record { link = λ a b. false; reach = λ a b. false }
 unfoldable pub graphs : Bool → Graph → Graph → Graph → ℕ → Graph
 graphs single f g h i = cond (eqb i 1) f (cond single noFacts (cond (eqb i 2) g (cond (eqb i 3) h noFacts)))
 
-unfoldable pub pathOf : code.Facts → Facts
-pathOf s =
+-- the path that these arrays hold, of a single link or of three
+abbrev pub pathAs : Bool → List ℕ → List ℕ → List ℕ → List ℕ → List ℕ → List ℕ → List ℕ → Facts
+pathAs single rep link reach link2 reach2 link3 reach3 =
     record {
-      rep = repOf (s .rep);
-      links = cond (s .single) 1 3;
-      graph = graphs (s .single) (graphOf (s .link) (s .reach)) (graphOf (s .link2) (s .reach2)) (graphOf (s .link3) (s .reach3));
+      rep = repOf rep;
+      links = cond single 1 3;
+      graph = graphs single (graphOf link reach) (graphOf link2 reach2) (graphOf link3 reach3);
     }
+
+unfoldable pub pathOf : code.Facts → Facts
+pathOf s = pathAs (s .single) (s .rep) (s .link) (s .reach) (s .link2) (s .reach2) (s .link3) (s .reach3)
 
 -- a path that holds nothing
 unfoldable pub unlinked : Bool → Facts
