@@ -8,20 +8,20 @@ use Rattle.facts.specs.Bits.{bit}
 use Rattle.facts.specs.Square.{square}
 use Rattle.closing.specs.Rows.{Within, Above}
 use Rattle.closing.proofs.Rows.{within-first, within-more, above-more, seed-follows, SeededBelow, seeded-none, seeded-more, seeded-all}
-use Rattle.closing.proofs.seeded.Statement.{statement}
-use Rattle.closing.proofs.seeded.Tie as tie
+use Rattle.closing.proofs.seed.Statement.{statement}
+use Rattle.closing.proofs.seed.Tie as tie
 
 abbrev Inv-loop : tie.InvT-loop
-Inv-loop alive link out₀ a₀ out a = (a ≤ 17) × (length out ≡ 17) × Within (bit alive) (square link) (square out₀) out × Above (square out₀) out × SeededBelow alive link a out
+Inv-loop alive link reach₀ a₀ reach a = (a ≤ 17) × (length reach ≡ 17) × Within (bit alive) (square link) (square reach₀) reach × Above (square reach₀) reach × SeededBelow alive link a reach
 
 abbrev μ-loop : tie.MeasureT-loop
-μ-loop alive link out₀ a₀ out a = 17 - a
+μ-loop alive link reach₀ a₀ reach a = 17 - a
 
 whole : (c : tie.After-loop Inv-loop μ-loop) → c .before .loop .a ≡ 17
 whole c = omega arith
 
-pub seeded-spec : {M : Type 1} → statement M
-seeded-spec =
+pub seed-spec : {M : Type 1} → statement M
+seed-spec =
     tie.close
     (tie.spec
     Inv-loop
@@ -30,17 +30,17 @@ seeded-spec =
     (λ c. (omega arith, search needs, within-first _ _ _, λ a b e. e, seeded-none _ _ _))
     -- only-requires
     (λ c κs. omega arith)
-    -- mul-out
+    -- mul-reach
     (λ c. omega arith)
-    -- array-read-out
+    -- element-copy-out-reach
     (λ c. omega arith)
-    -- mul-out-2
+    -- mul-reach-2
     (λ c. omega arith)
-    -- element-copy-out-out
+    -- element-copy-out-reach-2
     (λ c. omega arith)
-    -- mul-out-3
+    -- mul-reach-3
     (λ c. omega arith)
-    -- array-write-out
+    -- element-write-reach
     (λ c. omega arith)
     -- add-a
     (λ c. omega arith)
@@ -48,12 +48,12 @@ seeded-spec =
     (λ c. omega arith)
     -- loop-again
     (λ c.
-    let l = c .before .before .before .loop in (
+    let l = c .before .before .before .before .loop in (
       omega arith,
       simp length-set (l .inv .1),
-      within-more _ (l .inv .1) _ _ (omega arith) _ _ _ (l .inv .2) (seed-follows _ _ _ _ _ (omega arith) (c .before .only .ensures)),
+      within-more _ (l .inv .1) _ _ (omega arith) _ _ _ (l .inv .2) (seed-follows _ _ _ _ _ (omega arith) (c .before .before .only .ensures)),
       above-more _ (l .inv .1) _ _ (omega arith) _ (l .inv .3),
-      seeded-more _ _ _ _ _ (l .inv .1) (omega arith) (c .before .only .ensures) (l .inv .4),
+      seeded-more _ _ _ _ _ (l .inv .1) (omega arith) (c .before .before .only .ensures) (l .inv .4),
     ))
     -- returns
-    (λ c. (c .before .loop .inv .2, c .before .loop .inv .3, seeded-all _ _ _ (rw (whole c) at (c .before .loop .inv .4)))))
+    (λ c. (c .before .loop .inv .2, c .before .loop .inv .3, seeded-all _ _ _ (rw (whole c) at (c .before .loop .inv .4)), c .before .loop .inv .1)))

@@ -8,8 +8,8 @@ use lib.ListN.{length}
 use Rattle.facts.specs.Square.{square}
 use Rattle.closing.specs.Rows.{Within, Above, OnwardBelow}
 use Rattle.closing.proofs.Rows.{passed-within, passed-kept, passed-onward, onward-none, onward-all}
-use Rattle.closing.proofs.closed_rows.Statement.{statement}
-use Rattle.closing.proofs.closed_rows.Tie as tie
+use Rattle.closing.proofs.pass_on.Statement.{statement}
+use Rattle.closing.proofs.pass_on.Tie as tie
 
 abbrev Inv-loop : tie.InvT-loop
 Inv-loop out₀ y₀ out y = (y ≤ 17) × (length out ≡ 17) × ((alive : ℕ → Bool) (link reach : ℕ → ℕ → Bool) → Within alive link reach out₀ → Within alive link reach out) × Above (square out₀) out × OnwardBelow out y
@@ -20,8 +20,8 @@ abbrev μ-loop : tie.MeasureT-loop
 whole : (c : tie.After-loop Inv-loop μ-loop) → c .before .loop .y ≡ 17
 whole c = omega arith
 
-pub closed-rows-spec : {M : Type 1} → statement M
-closed-rows-spec =
+pub pass-on-spec : {M : Type 1} → statement M
+pass-on-spec =
     tie.close
     (tie.spec
     Inv-loop
@@ -44,4 +44,4 @@ closed-rows-spec =
       passed-onward _ _ _ (c .through .ensures .0) (l .inv .4),
     ))
     -- returns
-    (λ c. (c .before .loop .inv .2, c .before .loop .inv .3, onward-all _ (rw (whole c) at (c .before .loop .inv .4)))))
+    (λ c. (c .before .loop .inv .2, c .before .loop .inv .3, onward-all _ (rw (whole c) at (c .before .loop .inv .4)), c .before .loop .inv .1)))
