@@ -13,20 +13,20 @@ use Rattle.rules.specs.Answers.{choiceOf}
 use Rattle.rules.specs.Smallest.{triedAt}
 use Rattle.rules.proofs.Nested.{rest-end, rest-here, rest-next}
 use Rattle.rules.proofs.Rows.{turned-kept, turned-now}
-use Rattle.rules.proofs.choose_one.Statement.{statement}
-use Rattle.rules.proofs.choose_one.Tie as tie
+use Rattle.rules.proofs.choose_by.Statement.{statement}
+use Rattle.rules.proofs.choose_by.Tie as tie
 
 abbrev Inv-loop : tie.InvT-loop
-Inv-loop order alive link reach n back₀ turned₀ i₀ back turned i =
+Inv-loop k order alive link reach n back₀ turned₀ i₀ back turned i =
     (i ≤ length order)
-    × (firstOf (triedAt 1 n (bit alive) (graphOf link reach)) order ≡ firstOf (triedAt 1 n (bit alive) (graphOf link reach)) (drop i order))
+    × (firstOf (triedAt (k .0) n (bit alive) (graphOf link reach)) order ≡ firstOf (triedAt (k .0) n (bit alive) (graphOf link reach)) (drop i order))
     × (turned ≡ true → Turned back reach)
 
 abbrev μ-loop : tie.MeasureT-loop
-μ-loop order alive link reach n back₀ turned₀ i₀ back turned i = length order - i
+μ-loop k order alive link reach n back₀ turned₀ i₀ back turned i = length order - i
 
-pub choose-one-spec : {M : Type 1} → statement M
-choose-one-spec =
+pub choose-by-spec : {M : Type 1} → statement M
+choose-by-spec =
     tie.close
     (tie.spec
     Inv-loop
