@@ -19,7 +19,7 @@ ghost use Rattle.facts.specs.Bits.{bit};
 ghost use Rattle.facts.specs.Square.{square, Turned};
 ghost use Rattle.facts.specs.Answers.{foundOf};
 ghost use Rattle.facts.specs.Path.{graphOf, pathOf};
-ghost use Rattle.query.specs.LaysOut.{LaysOut};
+ghost use Rattle.link_query.specs.Said.{Within};
 ghost use Rattle.units.specs.Rounds.{Rounds};
 ghost use Rattle.units.specs.Proposes.{Proposes, ProposesIn, FoundIn};
 
@@ -118,8 +118,8 @@ fn marked(rows: [u32; 17], a: usize, more: u32) -> [u32; 17] {
     out
 }
 
-// What the negated literals of a section deny, of the terms that stand for theirs; an equality denies it both ways.
-fn denied(query: &[u8], at: usize, count: usize, rep: &[u8; 17], both: bool) -> [u32; 17]
+// What the negated equalities hold apart, both ways, of the terms that stand for theirs.
+fn unequal(query: &[u8], at: usize, count: usize, rep: &[u8; 17]) -> [u32; 17]
     requires { ⌜ at + 3 * count ≤ length (now query) ⌝ }
 {
     let mut out = [0u32; 17];
@@ -128,10 +128,28 @@ fn denied(query: &[u8], at: usize, count: usize, rep: &[u8; 17], both: bool) -> 
             let a = facts::read_rep(rep, query::left(query, at, i));
             let b = facts::read_rep(rep, query::right(query, at, i));
             let next = marked(out, a.0, alone(b.0));
-            out = next;
-            if both {
-                let also = marked(out, b.0, alone(a.0));
-                out = also;
+            let also = marked(next, b.0, alone(a.0));
+            out = also;
+        }
+    }
+    out
+}
+
+// What the negated reachability literals of link k deny, of the terms that stand for theirs.
+fn denied(query: &[u8], layout: Layout, rep: &[u8; 17], k: Link) -> [u32; 17]
+    requires { ⌜ Within layout (now query) ⌝ }
+{
+    let links = layout.links;
+    let at = layout.reach_at;
+    let count = layout.reach_count;
+    let mut out = [0u32; 17];
+    for i in 0..count {
+        if !link_query::reach_sign(query, links, at, i) {
+            if link_query::reach_link(query, links, at, i) == k.0 {
+                let a = facts::read_rep(rep, link_query::reach_left(query, links, at, i));
+                let b = facts::read_rep(rep, link_query::reach_right(query, links, at, i));
+                let next = marked(out, a.0, alone(b.0));
+                out = next;
             }
         }
     }
@@ -379,9 +397,9 @@ fn place(
 
 // The terms held apart from each term by the equalities and the data literals.
 fn apart(query: &[u8], layout: Layout, rep: &[u8; 17]) -> [u32; 17]
-    requires { ⌜ LaysOut layout (now query) ⌝ }
+    requires { ⌜ Within layout (now query) ⌝ }
 {
-    let differ = denied(query, layout.equal_at, layout.equal_count, rep, true);
+    let differ = unequal(query, layout.equal_at, layout.equal_count, rep);
     if layout.field_count == 0 {
         return differ;
     }
@@ -391,19 +409,20 @@ fn apart(query: &[u8], layout: Layout, rep: &[u8; 17]) -> [u32; 17]
     opposed(one, &lack, &have)
 }
 
-// A place by the link whose rows are lent, where at most one alternative does not clash at once. `differ` has the terms held apart.
+// A place by link k, whose rows are lent, where at most one alternative does not clash at once. `differ` has the terms held apart.
 fn unit_at(
     query: &[u8],
     layout: Layout,
     reps: &[u8; 17],
     differ: &[u32; 17],
+    k: Link,
     link: &[u32; 17],
     reach: &[u32; 17],
 ) -> Proposal
-    requires { ⌜ LaysOut layout (now query) ⌝ }
+    requires { ⌜ Within layout (now query) ⌝ }
     ensures { λ r. ⌜ ProposesIn (layout .terms) (now (link .entry)) (now (reach .entry)) r ⌝ }
 {
-    let no = denied(query, layout.reach_at, layout.reach_count, reps, false);
+    let no = denied(query, layout, reps, k);
     let behind = denied_behind(reach, &no);
     let no_reach = unreachable(reach, &behind);
     let no_back = facts::turned(&no_reach);
@@ -413,7 +432,7 @@ fn unit_at(
 
 // A place at a closed path where at most one alternative does not clash at once, by the first link that has one.
 pub fn unit(query: &[u8], layout: Layout, s: Facts) -> Choice
-    requires { ⌜ LaysOut layout (now query) ⌝ }
+    requires { ⌜ Within layout (now query) ⌝ }
     ensures { λ r. ⌜ Proposes (layout .terms) (pathOf s) r ⌝ }
 {
     let reps = s.rep;
@@ -423,7 +442,15 @@ pub fn unit(query: &[u8], layout: Layout, s: Facts) -> Choice
     while k <= total {
         let link = facts::link_rows(s, Link(k));
         let reach = facts::reach_rows(s, Link(k));
-        if let Proposal::At(rule, x, y, z) = unit_at(query, layout, &reps, &differ, &link, &reach) {
+        if let Proposal::At(rule, x, y, z) = unit_at(
+            query,
+            layout,
+            &reps,
+            &differ,
+            Link(k),
+            &link,
+            &reach,
+        ) {
             return Choice::Apply(Link(k), rule, x, y, z);
         }
         k += 1;
