@@ -1,4 +1,6 @@
-// The clash of a path, over the query's bytes in place and the arrays that hold the path.
+// The clash of a path, over the query's bytes in place.
+use facts::Facts;
+use facts::Link;
 use facts::Term;
 use query::Layout;
 ghost use mathlib.Core.Path.{_≡_};
@@ -7,11 +9,10 @@ ghost use Prim.Native.Nat.{ℕ, _+_, _*_, _≤_, _<_};
 ghost use lib.ListN.{length};
 ghost use lib.Dec.{eqb};
 ghost use Rattle.logic.specs.Search.{_and_};
-ghost use Rattle.logic.specs.Query.{decode};
-ghost use Rattle.logic.specs.Facts.{Facts, clash};
-ghost use Rattle.facts.specs.Square.{square};
-ghost use Rattle.facts.specs.Path.{repOf};
-ghost use Rattle.query.specs.LaysOut.{LaysOut, literalIn};
+ghost use Rattle.logic.specs.Facts.{clash};
+ghost use Rattle.facts.specs.Path.{repOf, pathOf};
+ghost use Rattle.query.specs.LaysOut.{literalIn};
+ghost use Rattle.link_query.specs.Said.{reachWidth, reachIn, said, Within};
 ghost use Rattle.clash.specs.Sections.{literalsIn, oneTerm, reachHeld, sameField, alone, partner, paired};
 ghost use Rattle.clash.specs.Answers.{placeOf, lineOf};
 
@@ -25,19 +26,6 @@ pub enum Clash {
 enum Place {
     At(usize),
     Nothing,
-}
-
-// "a reaches b" is held.
-fn reaches(reach: &[u32; 17], a: Term, b: Term) -> bool
-    ensures { λ r. ⌜ r ≡ square (now (reach .entry)) (a .0) (b .0) ⌝ }
-{
-    if 16 < a.0 {
-        return false;
-    }
-    if 16 < b.0 {
-        return false;
-    }
-    facts::holds(reach, a, b)
 }
 
 // Equality i is negated, and its terms have one representative.
@@ -68,27 +56,29 @@ fn equality_clash(query: &[u8], at: usize, count: usize, rep: &[u8; 17]) -> Clas
     Clash::Nothing
 }
 
-// Reachability literal i is negated, and its fact is held.
-pub fn is_held_negated(query: &[u8], at: usize, i: usize, rep: &[u8; 17], reach: &[u32; 17]) -> bool
-    requires { ⌜ at + 3 * i + 3 ≤ length (now query) ⌝ }
-    ensures { λ r. ⌜ r ≡ (not (literalIn (now (query .entry)) at i .plain) and reachHeld (repOf (now (rep .entry))) (square (now (reach .entry))) (literalIn (now (query .entry)) at i)) ⌝ }
+// Reachability literal i is negated, and its fact is held. Of a plain one only the sign is read.
+pub fn is_held_negated(query: &[u8], links: usize, at: usize, i: usize, s: Facts) -> bool
+    requires { ⌜ at + reachWidth links * i + reachWidth links ≤ length (now query) ⌝ }
+    ensures { λ r. ⌜ r ≡ (not (reachIn links (now (query .entry)) at i .plain) and reachHeld (pathOf s) (reachIn links (now (query .entry)) at i)) ⌝ }
 {
-    if query::sign(query, at, i) {
+    if link_query::reach_sign(query, links, at, i) {
         return false;
     }
-    let a = facts::read_rep(rep, query::left(query, at, i));
-    let b = facts::read_rep(rep, query::right(query, at, i));
-    reaches(reach, a, b)
+    let k = Link(link_query::reach_link(query, links, at, i));
+    let a = facts::read_rep(&s.rep, link_query::reach_left(query, links, at, i));
+    let b = facts::read_rep(&s.rep, link_query::reach_right(query, links, at, i));
+    facts::reaches(s, k, a, b)
 }
 
 // "a negated reachability fact that is held"
-fn reach_clash(query: &[u8], at: usize, count: usize, rep: &[u8; 17], reach: &[u32; 17]) -> Clash
-    requires { ⌜ at + 3 * count ≤ length (now query) ⌝ }
-    ensures { λ r. ⌜ lineOf r ≡ alone 3 (literalsIn (now (query .entry)) at count) (reachHeld (repOf (now (rep .entry))) (square (now (reach .entry)))) ⌝ }
+fn reach_clash(query: &[u8], layout: Layout, s: Facts) -> Clash
+    requires { ⌜ Within layout (now query) ⌝ }
+    ensures { λ r. ⌜ lineOf r ≡ alone 3 (said layout (now (query .entry)) .reachability) (reachHeld (pathOf s)) ⌝ }
 {
+    let count = layout.reach_count;
     let mut i: usize = 0;
     while i < count {
-        if is_held_negated(query, at, i, rep, reach) {
+        if is_held_negated(query, layout.links, layout.reach_at, i, s) {
             return Clash::At(3, i + 1, 0);
         }
         i += 1;
@@ -154,27 +144,16 @@ fn field_clash(query: &[u8], at: usize, count: usize, rep: &[u8; 17]) -> Clash
     Clash::Nothing
 }
 
-// "Lowest section, then lowest place, is reported": the clash of every path with these representatives and this reachability.
-pub fn find_clash<'a>(
-    query: &[u8],
-    layout: Layout,
-    rep: &'a [u8; 17],
-    reach: &'a [u32; 17],
-) -> Clash
-    requires { ⌜ LaysOut layout (now query) ⌝ }
-    ensures { λ r. ⌜ ((s : Facts) → s .rep ≡ repOf (now (rep .entry)) → s .graph 1 .reach ≡ square (now (reach .entry)) → lineOf r ≡ clash (decode (now (query .entry))) s) ⌝ }
+// "Lowest section, then lowest place, is reported"; "a clash line names no link" (02, R-11).
+pub fn find_clash(query: &[u8], layout: Layout, s: Facts) -> Clash
+    requires { ⌜ Within layout (now query) ⌝ }
+    ensures { λ r. ⌜ lineOf r ≡ clash (said layout (now (query .entry))) (pathOf s) ⌝ }
 {
-    if let Clash::At(k, i, j) = equality_clash(query, layout.equal_at, layout.equal_count, rep) {
+    if let Clash::At(k, i, j) = equality_clash(query, layout.equal_at, layout.equal_count, &s.rep) {
         return Clash::At(k, i, j);
     }
-    if let Clash::At(k, i, j) = reach_clash(
-        query,
-        layout.reach_at,
-        layout.reach_count,
-        rep,
-        reach,
-    ) {
+    if let Clash::At(k, i, j) = reach_clash(query, layout, s) {
         return Clash::At(k, i, j);
     }
-    field_clash(query, layout.field_at, layout.field_count, rep)
+    field_clash(query, layout.field_at, layout.field_count, &s.rep)
 }
