@@ -14,13 +14,13 @@ ghost use mathlib.Core.Logic.{_⊎_};
 ghost use Prim.Native.Nat.{ℕ, _*_, _≤_};
 ghost use lib.ListN.{length};
 ghost use Rattle.logic.specs.Walk.{look, orderOf};
-ghost use Rattle.logic.specs.Query.{decode, termCount, isOrder};
+ghost use Rattle.logic.specs.Query.{termCount, isOrder};
 ghost use Rattle.logic.specs.Steps.{AtMost};
-ghost use Rattle.logic.specs.Calls.{accepts};
 ghost use Rattle.logic.specs.Decision.{Reachable};
+ghost use Rattle.theory.proofs.Query.Tied.{Accepted};
 ghost use Rattle.theory.proofs.Calls.Decision.{Known};
 ghost use Rattle.facts.specs.Path.{pathOf};
-ghost use Rattle.query.specs.LaysOut.{LaysOut};
+ghost use Rattle.link_query.specs.Said.{said, Within};
 ghost use Rattle.closing.specs.Closed.{Closed, begins};
 ghost use Rattle.walk.specs.Looks.{lookOf};
 ghost use Rattle.decide.specs.Tells.{isRefuted, isUnknown, Sees, Ends, Ahead, Walks, Shows};
@@ -110,8 +110,8 @@ fn ahead(order: &[u8], s: Facts, n: usize) -> Facts
 
 // What our walk sees at such a path: a closed one leaves nothing to the rules that closed it.
 fn look_ahead(query: &[u8], layout: Layout, order: &[u8], t: Facts) -> walk::Seen
-    requires { ⌜ LaysOut layout (now query) × (3 ≤ length (now order)) × (begins (now order) ≡ true → Closed (layout .terms) (pathOf t)) ⌝ }
-    ensures { λ r. ⌜ lookOf r ≡ look (decode (now (query .entry))) (orderOf (now (order .entry))) (pathOf t) ⌝ }
+    requires { ⌜ Within layout (now query) × (3 ≤ length (now order)) × (begins (now order) ≡ true → Closed (layout .terms) (pathOf t)) ⌝ }
+    ensures { λ r. ⌜ lookOf r ≡ look (said layout (now (query .entry))) (orderOf (now (order .entry))) (pathOf t) ⌝ }
 {
     if closing::begins(order) {
         return walk::look(query, layout, &order[3..], t);
@@ -130,8 +130,8 @@ pub fn plain(
     limited: bool,
     budget: usize,
 ) -> Walked
-    requires { ⌜ LaysOut layout (now query) × (accepts (now query) ≡ true) × (isOrder (now order) ≡ true) × Known (decode (now query)) (pathOf s) × AtMost (termCount (decode (now query))) (pathOf s) left ⌝ }
-    ensures { λ r. ⌜ Walks (decode (now (query .entry))) (now (order .entry)) left (pathOf s) limited r ⌝ }
+    requires { ⌜ Within layout (now query) × Accepted (said layout (now query)) × (isOrder (now order) ≡ true) × Known (said layout (now query)) (pathOf s) × AtMost (termCount (said layout (now query))) (pathOf s) left ⌝ }
+    ensures { λ r. ⌜ Walks (said layout (now (query .entry))) (now (order .entry)) left (pathOf s) limited r ⌝ }
 {
     let n = layout.terms;
     let front = ahead(order, s, n);
@@ -183,10 +183,10 @@ pub fn plain(
 
 // What strategy `how` sees at a path: its clash, the rule that it picks, or neither.
 fn sees(query: &[u8], layout: Layout, how: usize, s: Facts) -> Seen
-    requires { ⌜ LaysOut layout (now query) ⌝ }
-    ensures { λ r. ⌜ Sees (decode (now (query .entry))) (pathOf s) r ⌝ }
+    requires { ⌜ Within layout (now query) ⌝ }
+    ensures { λ r. ⌜ Sees (said layout (now (query .entry))) (pathOf s) r ⌝ }
 {
-    if let Clash::At(_, _, _) = clash::find_clash(query, layout, &s.rep, &s.reach) {
+    if let Clash::At(_, _, _) = clash::find_clash(query, layout, s) {
         return Seen::Clashing;
     }
     let Choice::Apply(k, rule, x, y, z) = picking::pick(query, layout, how, s) else {
@@ -197,8 +197,8 @@ fn sees(query: &[u8], layout: Layout, how: usize, s: Facts) -> Seen
 
 // A strategy: the path is closed, and then branches where the strategy picks.
 fn search(query: &[u8], layout: Layout, how: usize, left: usize, s: Facts, budget: usize) -> Tried
-    requires { ⌜ LaysOut layout (now query) × (accepts (now query) ≡ true) × Known (decode (now query)) (pathOf s) ⌝ }
-    ensures { λ r. ⌜ Ends (decode (now (query .entry))) (pathOf s) (r .kind) (pathOf (r .facts)) ⌝ }
+    requires { ⌜ Within layout (now query) × Accepted (said layout (now query)) × Known (said layout (now query)) (pathOf s) ⌝ }
+    ensures { λ r. ⌜ Ends (said layout (now (query .entry))) (pathOf s) (r .kind) (pathOf (r .facts)) ⌝ }
 {
     let n = layout.terms;
     let t = closing::close(s, n);
@@ -280,8 +280,8 @@ fn share(budget: usize, how: usize) -> usize {
 // all take long, it is done soonest as a rule. Before them the cheapest has a short try, and then strategy `first`: the one that was done with
 // a path before this is often done with this one too.
 fn in_turn(query: &[u8], layout: Layout, s: Facts, first: usize) -> Settled
-    requires { ⌜ LaysOut layout (now query) × (accepts (now query) ≡ true) × Known (decode (now query)) (pathOf s) ⌝ }
-    ensures { λ r. ⌜ Ends (decode (now (query .entry))) (pathOf s) (r .kind) (pathOf (r .facts)) ⌝ }
+    requires { ⌜ Within layout (now query) × Accepted (said layout (now query)) × Known (said layout (now query)) (pathOf s) ⌝ }
+    ensures { λ r. ⌜ Ends (said layout (now (query .entry))) (pathOf s) (r .kind) (pathOf (r .facts)) ⌝ }
 {
     let quick = search(query, layout, 0, 300, s, 50);
     let known = quick.kind;
@@ -337,8 +337,8 @@ pub fn has_heap(
     s: Facts,
     first: usize,
 ) -> Decided
-    requires { ⌜ LaysOut layout (now query) × (accepts (now query) ≡ true) × (isOrder (now order) ≡ true) × Reachable (decode (now query)) (pathOf s) × AtMost (termCount (decode (now query))) (pathOf s) left ⌝ }
-    ensures { λ r. ⌜ Shows (decode (now (query .entry))) (pathOf s) (r .has) (pathOf (r .facts)) ⌝ }
+    requires { ⌜ Within layout (now query) × Accepted (said layout (now query)) × (isOrder (now order) ≡ true) × Reachable (said layout (now query)) (pathOf s) × AtMost (termCount (said layout (now query))) (pathOf s) left ⌝ }
+    ensures { λ r. ⌜ Shows (said layout (now (query .entry))) (pathOf s) (r .has) (pathOf (r .facts)) ⌝ }
 {
     let settled = in_turn(query, layout, s, first);
     let found = settled.kind;

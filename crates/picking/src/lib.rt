@@ -4,7 +4,7 @@ use query::Layout;
 use rules::Choice;
 ghost use Prim.Native.Nat.{_≤_};
 ghost use Rattle.facts.specs.Path.{pathOf};
-ghost use Rattle.query.specs.LaysOut.{LaysOut};
+ghost use Rattle.link_query.specs.Said.{Within};
 ghost use Rattle.units.specs.Proposes.{Proposes};
 ghost use Rattle.picking.specs.Picks.{Picks};
 
@@ -28,7 +28,7 @@ fn total_first(s: Facts, n: usize) -> Choice
 
 // Where strategies other than 1 look next.
 fn other(query: &[u8], layout: Layout, how: usize, s: Facts) -> Choice
-    requires { ⌜ LaysOut layout (now query) ⌝ }
+    requires { ⌜ Within layout (now query) ⌝ }
     ensures { λ r. ⌜ Proposes (layout .terms) (pathOf s) r ⌝ }
 {
     if how == 2 {
@@ -42,7 +42,7 @@ fn other(query: &[u8], layout: Layout, how: usize, s: Facts) -> Choice
 // What strategy `how` picks. Each of them looks for a place with at most one alternative left first. Then 1 goes by an order list, 2 to a
 // place with an alternative that soon clashes, and else to where most facts would be added.
 pub fn pick(query: &[u8], layout: Layout, how: usize, s: Facts) -> Choice
-    requires { ⌜ LaysOut layout (now query) ⌝ }
+    requires { ⌜ Within layout (now query) ⌝ }
     ensures { λ r. ⌜ Picks (layout .terms) (pathOf s) r ⌝ }
 {
     let n = layout.terms;
