@@ -15,7 +15,7 @@ sees-spec =
     -- enum-told
     (λ c. search needs)
     -- returns
-    (λ c. sees-clash _ _ _ (sym (terms-said _ _ (c .before .before .before .before .before .before .before .pre))) (c .before .before .find-clash .result) (c .before .before .find-clash .ensures) _ _ _ (c .enum-told .given .1))
+    (λ c. sees-clash _ _ _ (sym (terms-said _ _ (c .before .before .before .before .pre))) (c .before .before .find-clash .result) (c .before .before .find-clash .ensures) _ _ _ (c .enum-told .given .1))
     -- enum-told-2
     (λ c. search needs)
     -- pick-requires
@@ -25,6 +25,6 @@ sees-spec =
     -- enum-told-3
     (λ c. search needs)
     -- returns-2
-    (λ c. sees-none _ _ _ (sym (terms-said _ _ (c .before .before .before .before .before .before .before .before .before .before .pre))) (c .before .before .before .before .before .find-clash .result) (c .before .before .before .before .before .find-clash .ensures) (c .before .before .pick .result) (c .before .before .pick .ensures) (c .before .before .before .enum-told2 .given .1) (c .enum-told3 .given .1))
+    (λ c. sees-none _ _ _ (sym (terms-said _ _ (c .before .before .before .before .before .before .before .pre))) (c .before .before .before .before .before .find-clash .result) (c .before .before .before .before .before .find-clash .ensures) (c .before .before .pick .result) (c .before .before .pick .ensures) (c .before .before .before .enum-told2 .given .1) (c .enum-told3 .given .1))
     -- returns-3
-    (λ c. sees-rule _ _ _ (sym (terms-said _ _ (c .before .before .before .before .before .before .before .before .before .before .before .pre))) (c .before .before .before .before .before .before .find-clash .result) (c .before .before .before .before .before .before .find-clash .ensures) (c .before .before .before .pick .result) (c .before .before .before .pick .ensures) _ _ _ _ _ (c .before .k .given .1)))
+    (λ c. sees-rule _ _ _ (sym (terms-said _ _ (c .before .before .before .before .before .before .before .before .pre))) (c .before .before .before .before .before .before .find-clash .result) (c .before .before .before .before .before .before .find-clash .ensures) (c .before .before .before .pick .result) (c .before .before .before .pick .ensures) _ _ _ _ _ (c .before .k .given .1)))
