@@ -37,6 +37,12 @@ pub enum Proposal {
     Nothing,
 }
 
+// The terms that each term cannot come to reach, and the same turned round.
+struct Barred {
+    pub ahead: [u32; 17],
+    pub behind: [u32; 17],
+}
+
 // The smallest number of a row, of those up to 16.
 pub fn lowest(row: u32) -> Found
     ensures { λ r. ⌜ foundOf r ≡ find (bit row) (from 17 0) ⌝ }
@@ -195,35 +201,33 @@ fn opposed(rows: [u32; 17], some: &[u32; 17], other: &[u32; 17]) -> [u32; 17] {
     out
 }
 
-// What is denied to each term, or to one that reaches it.
-fn denied_behind(reach: &[u32; 17], denied: &[u32; 17]) -> [u32; 17] {
-    let mut out = [0u32; 17];
-    for x in 0..17 {
-        let no = denied[x];
-        if no != 0 {
-            let far = reach[x];
-            for a in 0..17 {
-                if facts::has(far, a) {
-                    let next = marked(out, a, no);
-                    out = next;
-                }
-            }
+// The rows, with more in each row of some.
+fn spread(rows: [u32; 17], some: u32, more: u32) -> [u32; 17] {
+    let mut out = rows;
+    for a in 0..17 {
+        if facts::has(some, a) {
+            out[a] = out[a] | more;
         }
     }
     out
 }
 
-// The terms that no term of a row can reach, since they reach what is denied behind it.
-fn unreachable(reach: &[u32; 17], behind: &[u32; 17]) -> [u32; 17] {
-    let mut out = [0u32; 17];
-    for a in 0..17 {
-        let no = behind[a];
+// What no term can come to reach: where x is denied to reach d, no term that x reaches can reach one that reaches d.
+fn bars(reach: &[u32; 17], denied: &[u32; 17]) -> Barred {
+    let mut ahead = [0u32; 17];
+    let mut behind = [0u32; 17];
+    for x in 0..17 {
+        let no = denied[x];
         if no != 0 {
-            let next = marked(out, a, having(no, reach));
-            out = next;
+            let far = reach[x];
+            let off = having(no, reach);
+            let next = spread(ahead, far, off);
+            ahead = next;
+            let also = spread(behind, off, far);
+            behind = also;
         }
     }
-    out
+    Barred { ahead, behind }
 }
 
 // One row each of three, together.
@@ -332,25 +336,43 @@ fn scc(reach: &[u32; 17], back: &[u32; 17], no_equal: &[u32; 17], no_back: &[u32
     Proposal::Nothing
 }
 
-// TOTAL of x with y: y reaches z or z reaches y.
-fn total_at(
+// The terms that TOTAL would order with each term, where one way is struck. What does not depend on x is found once.
+fn struck(
     reach: &[u32; 17],
     back: &[u32; 17],
     no_reach: &[u32; 17],
     no_back: &[u32; 17],
+) -> [u32; 17] {
+    let mut out = [0u32; 17];
+    for y in 0..17 {
+        out[y] = facts::without(no_reach[y] | no_back[y], reach[y] | back[y]);
+    }
+    out
+}
+
+// TOTAL of x with y, one of the terms of `some`: y reaches z or z reaches y.
+fn total_at(
+    reach: &[u32; 17],
+    back: &[u32; 17],
+    struck: &[u32; 17],
+    some: u32,
     x: usize,
 ) -> Proposal
     requires { ⌜ (x ≤ 16) × Turned (now back) (now reach) ⌝ }
     ensures { λ r. ⌜ ((n : ℕ) (link : List ℕ) → ProposesIn n link (now (reach .entry)) r) ⌝ }
 {
-    let far = reach[x];
-    for y in 0..17 {
-        if facts::has(far, y) {
-            let struck = no_reach[y] | no_back[y];
-            if let Found::At(z) = lowest(unordered(reach, back, x, y) & struck) {
-                return Proposal::At(Rule::Total, Term(x), Term(y), Third(z.0));
-            }
+    let mut left = reach[x] & some;
+    let mut turn: usize = 0;
+    while turn < 17 {
+        let Found::At(y) = lowest(left) else {
+            return Proposal::Nothing;
+        };
+        let at = y.0;
+        if let Found::At(z) = lowest(unordered(reach, back, x, at) & struck[at]) {
+            return Proposal::At(Rule::Total, Term(x), y, Third(z.0));
         }
+        left = facts::without(left, facts::only(at));
+        turn += 1;
     }
     Proposal::Nothing
 }
@@ -359,8 +381,10 @@ fn total(reach: &[u32; 17], back: &[u32; 17], no_reach: &[u32; 17], no_back: &[u
     requires { ⌜ Turned (now back) (now reach) ⌝ }
     ensures { λ r. ⌜ ((n : ℕ) (link : List ℕ) → ProposesIn n link (now (reach .entry)) r) ⌝ }
 {
+    let open = struck(reach, back, no_reach, no_back);
+    let some = having(facts::up_to(16), &open);
     for x in 0..17 {
-        if let Proposal::At(rule, a, b, c) = total_at(reach, back, no_reach, no_back, x) {
+        if let Proposal::At(rule, a, b, c) = total_at(reach, back, &open, some, x) {
             return Proposal::At(rule, a, b, c);
         }
     }
@@ -423,9 +447,9 @@ fn unit_at(
     ensures { λ r. ⌜ ProposesIn (layout .terms) (now (link .entry)) (now (reach .entry)) r ⌝ }
 {
     let no = denied(query, layout, reps, k);
-    let behind = denied_behind(reach, &no);
-    let no_reach = unreachable(reach, &behind);
-    let no_back = facts::turned(&no_reach);
+    let off = bars(reach, &no);
+    let no_reach = off.ahead;
+    let no_back = off.behind;
     let no_equal = merged(differ, &no_reach, &no_back);
     place(link, reach, &no_equal, &no_reach, &no_back, layout.terms)
 }
