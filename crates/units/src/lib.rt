@@ -109,13 +109,11 @@ fn alone(b: usize) -> u32
     0
 }
 
-// The rows with more in row a.
-fn marked(rows: [u32; 17], a: usize, more: u32) -> [u32; 17] {
-    let mut out = rows;
+// More in row a, in place: rows that are copied for each mark cost more than all else here.
+fn mark(rows: &mut [u32; 17], a: usize, more: u32) {
     if a < 17 {
-        out[a] = out[a] | more;
+        rows[a] = rows[a] | more;
     }
-    out
 }
 
 // What the negated literals of a section deny, of the terms that stand for theirs; an equality denies it both ways.
@@ -127,11 +125,9 @@ fn denied(query: &[u8], at: usize, count: usize, rep: &[u8; 17], both: bool) -> 
         if !query::sign(query, at, i) {
             let a = facts::read_rep(rep, query::left(query, at, i));
             let b = facts::read_rep(rep, query::right(query, at, i));
-            let next = marked(out, a.0, alone(b.0));
-            out = next;
+            mark(&mut out, a.0, alone(b.0));
             if both {
-                let also = marked(out, b.0, alone(a.0));
-                out = also;
+                mark(&mut out, b.0, alone(a.0));
             }
         }
     }
@@ -146,8 +142,7 @@ fn fields(query: &[u8], at: usize, count: usize, rep: &[u8; 17], plain: bool) ->
     for i in 0..count {
         if query::sign(query, at, i) == plain {
             let a = facts::read_rep(rep, query::right(query, at, i));
-            let next = marked(out, a.0, alone(query::field(query, at, i)));
-            out = next;
+            mark(&mut out, a.0, alone(query::field(query, at, i)));
         }
     }
     out
@@ -170,8 +165,7 @@ fn opposed(rows: [u32; 17], some: &[u32; 17], other: &[u32; 17]) -> [u32; 17] {
     for a in 0..17 {
         let own = some[a];
         if own != 0 {
-            let next = marked(out, a, having(own, other));
-            out = next;
+            mark(&mut out, a, having(own, other));
         }
     }
     out
@@ -186,8 +180,7 @@ fn denied_behind(reach: &[u32; 17], denied: &[u32; 17]) -> [u32; 17] {
             let far = reach[x];
             for a in 0..17 {
                 if facts::has(far, a) {
-                    let next = marked(out, a, no);
-                    out = next;
+                    mark(&mut out, a, no);
                 }
             }
         }
@@ -201,8 +194,7 @@ fn unreachable(reach: &[u32; 17], behind: &[u32; 17]) -> [u32; 17] {
     for a in 0..17 {
         let no = behind[a];
         if no != 0 {
-            let next = marked(out, a, having(no, reach));
-            out = next;
+            mark(&mut out, a, having(no, reach));
         }
     }
     out
@@ -212,8 +204,7 @@ fn unreachable(reach: &[u32; 17], behind: &[u32; 17]) -> [u32; 17] {
 fn merged(a: &[u32; 17], b: &[u32; 17], c: &[u32; 17]) -> [u32; 17] {
     let mut out = [0u32; 17];
     for x in 0..17 {
-        let next = marked(out, x, a[x] | b[x] | c[x]);
-        out = next;
+        mark(&mut out, x, a[x] | b[x] | c[x]);
     }
     out
 }

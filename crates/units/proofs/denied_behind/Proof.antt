@@ -39,7 +39,7 @@ denied-behind-spec =
     (λ c. omega arith)
     -- has-requires
     (λ c κs. omega arith)
-    -- marked-requires
+    -- mark-requires
     (λ c κs. search needs)
     -- add-a
     (λ c. omega arith)
