@@ -111,7 +111,15 @@ fn read_line(
         }
         return Reading::Wrong;
     }
-    if let Clash::At(section, i, j) = clash::find_clash(query, layout, s) {
+    if let Clash::At(section, i, j) = clash::find_clash(
+        query,
+        layout,
+        &s.rep,
+        true,
+        &s.reach,
+        &s.reach,
+        &s.reach,
+    ) {
         return Reading::Wrong;
     }
     let Numbered::Is(rule) = rules::rule_numbered(k) else {

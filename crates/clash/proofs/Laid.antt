@@ -5,13 +5,16 @@ use mathlib.Core.Bool.{Bool, true, false, cond}
 use mathlib.Core.List.{List}
 use mathlib.Core.Option.{Option, none, some}
 use Rattle.logic.specs.Search.{orElse}
-use Rattle.logic.specs.Facts.{Line, clash}
+use Rattle.logic.specs.Facts.{Facts, Line, clash}
 use lib.Dec.{eqb}
 use Rattle.facts.specs.Square.{square}
 use Rattle.facts.specs.Path.{repOf, pathOf, onlyLink, graphOf}
 use Rattle.facts.specs.declared.Facts as code
 use Rattle.query.specs.declared.Layout.{Layout}
 use Rattle.link_query.specs.Said.{said}
+use Rattle.logic.specs.Query.{Query}
+use Rattle.clash.specs.declared.Clash.{Clash}
+use Rattle.clash.specs.Answers.{lineOf, ClashOf}
 use Rattle.clash.specs.Sections.{literalsIn, oneTerm, rowsOf, rowsHeld, sameField, alone, paired, pathClash}
 use Rattle.clash.proofs.Decomposed.{clash-split}
 
@@ -27,30 +30,36 @@ path-reach s = fun-ext (λ k. go (eqb k 1))
     go true = refl
     go false = refl
 
-module _ (l : Layout) (bytes : List ℕ) (s : code.Facts) where
-  abbrev inEqualities : Option Line
-  inEqualities = alone 2 (literalsIn bytes (l .«equal_at») (l .«equal_count»)) (oneTerm (repOf (s .rep)))
+-- what is found with the rows of a path lent is the clash of that path
+pub path-clash : (r : Clash) (q : Query) (s : code.Facts) → ClashOf r q (repOf (s .rep)) (reachOf s) → lineOf r ≡ clash q (pathOf s)
+unfolding pathOf
+path-clash r q s h = h (pathOf s) refl (path-reach s)
 
-  abbrev inReachability : Option Line
-  inReachability = alone 3 (said l bytes .reachability) (rowsHeld (repOf (s .rep)) (reachOf s))
+module _ (l : Layout) (bytes : List ℕ) (rep : ℕ → ℕ) (reach : ℕ → ℕ → ℕ → Bool) (s : Facts) (same-rep : s .rep ≡ rep) (same-reach : (λ k. s .graph k .reach) ≡ reach) where
+  abbrev inEqualities : (ℕ → ℕ) → Option Line
+  inEqualities r = alone 2 (literalsIn bytes (l .«equal_at») (l .«equal_count»)) (oneTerm r)
 
-  abbrev inFields : Option Line
-  inFields = paired 4 (literalsIn bytes (l .«field_at») (l .«field_count»)) (sameField (repOf (s .rep)))
+  abbrev inReachability : (ℕ → ℕ) → (ℕ → ℕ → ℕ → Bool) → Option Line
+  inReachability r g = alone 3 (said l bytes .reachability) (rowsHeld r g)
 
-  clash-laid : clash (said l bytes) (pathOf s) ≡ orElse inEqualities (orElse inReachability inFields)
-  unfolding pathClash said pathOf
+  abbrev inFields : (ℕ → ℕ) → Option Line
+  inFields r = paired 4 (literalsIn bytes (l .«field_at») (l .«field_count»)) (sameField r)
+
+  clash-laid : clash (said l bytes) s ≡ orElse (inEqualities rep) (orElse (inReachability rep reach) (inFields rep))
+  unfolding pathClash said
   clash-laid =
-      clash-split (said l bytes) (pathOf s)
-      ∙ ap (λ (reach : ℕ → ℕ → ℕ → Bool). orElse inEqualities (orElse (alone 3 (said l bytes .reachability) (rowsHeld (repOf (s .rep)) reach)) inFields)) (path-reach s)
+      clash-split (said l bytes) s
+      ∙ ap (λ (r : ℕ → ℕ). orElse (inEqualities r) (orElse (inReachability r (λ k. s .graph k .reach)) (inFields r))) same-rep
+      ∙ ap (λ (g : ℕ → ℕ → ℕ → Bool). orElse (inEqualities rep) (orElse (inReachability rep g) (inFields rep))) same-reach
 
-  pub equality-first : (x : Line) → inEqualities ≡ some x → clash (said l bytes) (pathOf s) ≡ some x
+  pub equality-first : (x : Line) → inEqualities rep ≡ some x → clash (said l bytes) s ≡ some x
   unfolding orElse
   equality-first x g = clash-laid ∙ rw g
 
-  pub reach-second : (x : Line) → inEqualities ≡ none → inReachability ≡ some x → clash (said l bytes) (pathOf s) ≡ some x
+  pub reach-second : (x : Line) → inEqualities rep ≡ none → inReachability rep reach ≡ some x → clash (said l bytes) s ≡ some x
   unfolding orElse
   reach-second x g h = clash-laid ∙ rw (g, h)
 
-  pub fields-third : inEqualities ≡ none → inReachability ≡ none → clash (said l bytes) (pathOf s) ≡ inFields
+  pub fields-third : inEqualities rep ≡ none → inReachability rep reach ≡ none → clash (said l bytes) s ≡ inFields rep
   unfolding orElse
   fields-third g h = clash-laid ∙ rw (g, h)

@@ -186,7 +186,15 @@ fn sees(query: &[u8], layout: Layout, how: usize, s: Facts) -> Seen
     requires { ⌜ Within layout (now query) ⌝ }
     ensures { λ r. ⌜ Sees (said layout (now (query .entry))) (pathOf s) r ⌝ }
 {
-    if let Clash::At(_, _, _) = clash::find_clash(query, layout, s) {
+    if let Clash::At(_, _, _) = clash::find_clash(
+        query,
+        layout,
+        &s.rep,
+        true,
+        &s.reach,
+        &s.reach,
+        &s.reach,
+    ) {
         return Seen::Clashing;
     }
     let Choice::Apply(k, rule, x, y, z) = picking::pick(query, layout, how, s) else {

@@ -26,7 +26,15 @@ struct Left {
 fn clashes(query: &[u8], layout: Layout, s: Facts) -> bool
     requires { ⌜ Within layout (now query) ⌝ }
 {
-    if let Clash::At(_, _, _) = clash::find_clash(query, layout, s) {
+    if let Clash::At(_, _, _) = clash::find_clash(
+        query,
+        layout,
+        &s.rep,
+        true,
+        &s.reach,
+        &s.reach,
+        &s.reach,
+    ) {
         return true;
     }
     false

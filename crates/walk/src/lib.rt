@@ -102,7 +102,15 @@ pub fn look(query: &[u8], layout: Layout, order: &[u8], s: Facts) -> Seen
     ensures { λ r. ⌜ lookOf r ≡ look (said layout (now (query .entry))) (orderOf (now (order .entry))) (pathOf s) ⌝ }
 {
     let n = layout.terms;
-    if let Clash::At(section, place, partner) = clash::find_clash(query, layout, s) {
+    if let Clash::At(section, place, partner) = clash::find_clash(
+        query,
+        layout,
+        &s.rep,
+        true,
+        &s.reach,
+        &s.reach,
+        &s.reach,
+    ) {
         return Seen::Clashing(section, place, partner);
     }
     let Choice::Apply(k, rule, x, y, z) = rules::choose(order, s, n) else {
