@@ -263,11 +263,11 @@ fn search(query: &[u8], layout: Layout, how: usize, left: usize, s: Facts, budge
     }
 }
 
-// Four times the budget once all three strategies had theirs.
+// Four times the budget once all four strategies had theirs.
 fn grown(budget: usize, turn: usize) -> usize
     ensures { λ r. ⌜ (r ≡ budget) ⊎ ((budget ≤ 1000000000000) × (r ≡ 4 * budget)) ⌝ }
 {
-    if turn % 3 != 2 {
+    if turn % 4 != 3 {
         return budget;
     }
     if 1000000000000 < budget {
@@ -276,8 +276,8 @@ fn grown(budget: usize, turn: usize) -> usize
     4 * budget
 }
 
-// The strategies in turn, each with a budget; then all again with four times the budget, until one is done. The one that probes begins: where
-// all take long, it is done soonest as a rule. Before them the cheapest has a short try, and then strategy `first`: the one that was done with
+// The strategies in turn, each with a budget; then all again with four times the budget, until one is done. The two that probe begin: where
+// all take long, one of them is done soonest as a rule. Before them the cheapest has a short try, and then strategy `first`: the one that was done with
 // a path before this is often done with this one too.
 fn in_turn(query: &[u8], layout: Layout, s: Facts, first: usize) -> Settled
     requires { ⌜ Within layout (now query) × Accepted (said layout (now query)) × Known (said layout (now query)) (pathOf s) ⌝ }
@@ -305,8 +305,8 @@ fn in_turn(query: &[u8], layout: Layout, s: Facts, first: usize) -> Settled
     }
     let mut budget: usize = 50;
     let mut turn: usize = 0;
-    while turn < 36 {
-        let how = (turn + 2) % 3;
+    while turn < 48 {
+        let how = (turn + 2) % 4;
         let tried = search(query, layout, how, 300, s, budget);
         let kind = tried.kind;
         if !is_unknown(kind) {

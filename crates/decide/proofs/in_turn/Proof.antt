@@ -7,10 +7,10 @@ use Rattle.decide.proofs.in_turn.Statement.{statement}
 use Rattle.decide.proofs.in_turn.Tie as tie
 
 abbrev Inv-loop : tie.InvT-loop
-Inv-loop query layout s first budget₀ turn₀ budget turn = turn ≤ 36
+Inv-loop query layout s first budget₀ turn₀ budget turn = turn ≤ 48
 
 abbrev μ-loop : tie.MeasureT-loop
-μ-loop query layout s first budget₀ turn₀ budget turn = 36 - turn
+μ-loop query layout s first budget₀ turn₀ budget turn = 48 - turn
 
 pub in-turn-spec : {M : Type 1} → statement M
 in-turn-spec =
