@@ -19,7 +19,7 @@ ghost use Rattle.logic.specs.Steps.{AtMost};
 ghost use Rattle.logic.specs.Decision.{Reachable};
 ghost use Rattle.theory.proofs.Query.Tied.{Accepted};
 ghost use Rattle.theory.proofs.Calls.Decision.{Known};
-ghost use Rattle.facts.specs.Path.{pathOf};
+ghost use Rattle.facts.specs.Path.{pathAs, pathOf};
 ghost use Rattle.link_query.specs.Said.{said, Within};
 ghost use Rattle.closing.specs.Closed.{Closed, begins};
 ghost use Rattle.walk.specs.Looks.{lookOf};
@@ -109,14 +109,50 @@ fn ahead(order: &[u8], s: Facts, n: usize) -> Facts
 }
 
 // What our walk sees at such a path: a closed one leaves nothing to the rules that closed it.
-fn look_ahead(query: &[u8], layout: Layout, order: &[u8], t: Facts) -> walk::Seen
-    requires { ⌜ Within layout (now query) × (3 ≤ length (now order)) × (begins (now order) ≡ true → Closed (layout .terms) (pathOf t)) ⌝ }
-    ensures { λ r. ⌜ lookOf r ≡ look (said layout (now (query .entry))) (orderOf (now (order .entry))) (pathOf t) ⌝ }
+fn look_ahead<'a>(
+    query: &[u8],
+    layout: Layout,
+    order: &[u8],
+    single: bool,
+    rep: &'a [u8; 17],
+    link: &'a [u32; 17],
+    reach: &'a [u32; 17],
+    link2: &'a [u32; 17],
+    reach2: &'a [u32; 17],
+    link3: &'a [u32; 17],
+    reach3: &'a [u32; 17],
+) -> walk::Seen
+    requires { ⌜ Within layout (now query) × (3 ≤ length (now order)) × (begins (now order) ≡ true → Closed (layout .terms) (pathAs single (now rep) (now link) (now reach) (now link2) (now reach2) (now link3) (now reach3))) ⌝ }
+    ensures { λ r. ⌜ lookOf r ≡ look (said layout (now (query .entry))) (orderOf (now (order .entry))) (pathAs single (now (rep .entry)) (now (link .entry)) (now (reach .entry)) (now (link2 .entry)) (now (reach2 .entry)) (now (link3 .entry)) (now (reach3 .entry))) ⌝ }
 {
     if closing::begins(order) {
-        return walk::look(query, layout, &order[3..], t);
+        return walk::look(
+            query,
+            layout,
+            &order[3..],
+            single,
+            rep,
+            link,
+            reach,
+            link2,
+            reach2,
+            link3,
+            reach3,
+        );
     }
-    walk::look(query, layout, order, t)
+    walk::look(
+        query,
+        layout,
+        order,
+        single,
+        rep,
+        link,
+        reach,
+        link2,
+        reach2,
+        link3,
+        reach3,
+    )
 }
 
 // Plain steps: our walk under the order list, without its lines. Where it is limited it gives up as its budget runs out; where it is not, it
@@ -135,7 +171,19 @@ pub fn plain(
 {
     let n = layout.terms;
     let front = ahead(order, s, n);
-    match look_ahead(query, layout, order, front) {
+    match look_ahead(
+        query,
+        layout,
+        order,
+        front.single,
+        &front.rep,
+        &front.link,
+        &front.reach,
+        &front.link2,
+        &front.reach2,
+        &front.link3,
+        &front.reach3,
+    ) {
         walk::Seen::Saturated => {
             return Walked {
                 kind: Kind::Open,
@@ -190,10 +238,10 @@ fn sees(query: &[u8], layout: Layout, how: usize, s: Facts) -> Seen
         query,
         layout,
         &s.rep,
-        true,
+        s.single,
         &s.reach,
-        &s.reach,
-        &s.reach,
+        &s.reach2,
+        &s.reach3,
     ) {
         return Seen::Clashing;
     }
