@@ -19,11 +19,12 @@ ghost use Rattle.logic.specs.Steps.{AtMost};
 ghost use Rattle.logic.specs.Decision.{Reachable};
 ghost use Rattle.theory.proofs.Query.Tied.{Accepted};
 ghost use Rattle.theory.proofs.Calls.Decision.{Known};
+ghost use Rattle.facts.specs.Bits.{bit};
 ghost use Rattle.facts.specs.Path.{pathAs, pathOf};
 ghost use Rattle.link_query.specs.Said.{said, Within};
 ghost use Rattle.closing.specs.Closed.{Closed, begins};
 ghost use Rattle.walk.specs.Looks.{lookOf};
-ghost use Rattle.decide.specs.Tells.{isRefuted, isUnknown, Sees, Ends, Ahead, Walks, Shows};
+ghost use Rattle.decide.specs.Tells.{isRefuted, isUnknown, Sees, Ends, LinkAhead, Walks, Shows};
 
 // What is found out of a path.
 pub enum Kind {
@@ -97,18 +98,17 @@ fn spent(budget: usize) -> usize
     0
 }
 
-// The path closed under REFLEX, TRANS1 and TRANS2, where the order list begins with these: our walk comes there by steps of theirs alone.
-fn ahead(order: &[u8], s: Facts, n: usize) -> Facts
-    requires { ⌜ (n ≤ 16) × (3 ≤ length (now order)) ⌝ }
-    ensures { λ r. ⌜ Ahead n (now (order .entry)) (pathOf s) (pathOf r) ⌝ }
+// The rows of a link closed under REFLEX, TRANS1 and TRANS2, where that is wanted.
+fn ahead(wanted: bool, alive: u32, link: &[u32; 17], reach: &mut [u32; 17])
+    requires { ⌜ length (now reach) ≡ 17 ⌝ }
+    ensures { λ _. ⌜ LinkAhead wanted (bit alive) (now (link .entry)) (now (reach .entry)) (now (reach .exit)) × (length (now (reach .exit)) ≡ 17) ⌝ }
 {
-    if closing::begins(order) {
-        return closing::close(s, n);
+    if wanted {
+        closing::close_link(alive, link, reach);
     }
-    s
 }
 
-// What our walk sees at such a path: a closed one leaves nothing to the rules that closed it.
+// What our walk sees at a path that is closed where the order list begins with these rules: they have nothing left there.
 fn look_ahead<'a>(
     query: &[u8],
     layout: Layout,
@@ -156,7 +156,8 @@ fn look_ahead<'a>(
 }
 
 // Plain steps: our walk under the order list, without its lines. Where it is limited it gives up as its budget runs out; where it is not, it
-// always ends, since at most `left` rule steps are possible from the path.
+// always ends, since at most `left` rule steps are possible from the path. Where the order list begins with REFLEX, TRANS1 and TRANS2, the path
+// is closed under these first, in place: our walk comes there by steps of theirs alone.
 pub fn plain(
     query: &[u8],
     layout: Layout,
@@ -170,7 +171,13 @@ pub fn plain(
     ensures { λ r. ⌜ Walks (said layout (now (query .entry))) (now (order .entry)) left (pathOf s) limited r ⌝ }
 {
     let n = layout.terms;
-    let front = ahead(order, s, n);
+    let begun = closing::begins(order);
+    let others = begun & !s.single;
+    let alive = facts::live(&s.rep, n);
+    let mut front = s;
+    ahead(begun, alive, &s.link, &mut front.reach);
+    ahead(others, alive, &s.link2, &mut front.reach2);
+    ahead(others, alive, &s.link3, &mut front.reach3);
     match look_ahead(
         query,
         layout,
