@@ -22,14 +22,10 @@ pub andThen-at : (j : Joined) (f g : Facts → Joined) → f (j .facts) ≡ g (j
 unfolding andThen
 andThen-at j f g e = ap (λ (i : Joined). record { pairs = j .pairs ++ i .pairs; facts = i .facts }) e
 
--- nothing joined, behind or in front
+-- nothing joined behind
 pub andThen-unjoined : (j : Joined) → andThen j unjoined ≡ j
 unfolding andThen unjoined
 andThen-unjoined j = ap (λ (ps : List (ℕ × ℕ)). record { pairs = ps; facts = j .facts }) (append-nil (j .pairs))
-
-pub unjoined-andThen : (s : Facts) (f : Facts → Joined) → andThen (unjoined s) f ≡ f s
-unfolding andThen unjoined
-unjoined-andThen s f = refl
 
 pub andThen-andThen : (j : Joined) (f g : Facts → Joined) → andThen j (λ s. andThen (f s) g) ≡ andThen (andThen j f) g
 unfolding andThen
