@@ -11,8 +11,8 @@ use lib.Dec.{eqb, ltb, leb}
 use borrow.Author.Tests.{ne-eqb}
 use Rattle.logic.specs.Search.{_and_, _or_, from, any, orElse, firstOf}
 use Rattle.logic.specs.Facts.{Graph, Facts, linkNumbers, terms, became, replaceIn, replace, addReach, addLinks, successors, firstTwo, doubled}
-use Rattle.theory.proofs.Basics.Search.{bool-cases, not-of, true-false, and-intro}
-use Rattle.theory.proofs.Basics.Compare.{cond-true, cond-false, eq-cases, ltb-intro, leb-intro, eqb-intro, eqb-self}
+use Rattle.theory.proofs.Basics.Search.{bool-cases, not-of, true-false}
+use Rattle.theory.proofs.Basics.Compare.{cond-true, cond-false, eq-cases, eqb-self}
 use Rattle.theory.proofs.Paths.Ranged.{link-range}
 use Rattle.theory.proofs.Calls.OneLink.{firstOf-one, doubled-one}
 use Rattle.facts.specs.declared.Facts as code

@@ -11,14 +11,13 @@ use Rattle.logic.specs.Facts.{Facts, Joined, linksOf, andThen, settle, terms, n
 use Rattle.theory.proofs.Query.Tied.{Accepted}
 use Rattle.theory.proofs.Paths.Start.{start-tied}
 use Rattle.query.specs.declared.Layout.{Layout}
-use Rattle.query.specs.LaysOut.{literalIn}
 use Rattle.query.proofs.Ranges.{UpTo, below-of, equal-terms-of, reach-terms-of, reach-linked-of}
 use Rattle.link_query.specs.Said.{said, Within, reachIn}
 use Rattle.link_query.proofs.Said.{terms-said, equalities-said, reachability-said}
 use Rattle.facts.specs.Square.{square}
 use Rattle.facts.specs.Path.{repOf}
 use Rattle.facts.specs.Pairs.{joinedIn, Fits}
-use Rattle.facts.proofs.Joins.{none-before}
+use Rattle.facts.proofs.Joins.{none-before, fits-left}
 use Rattle.start.proofs.Entries.{linked-in-rows}
 use Rattle.start.proofs.Room.{start-pairs}
 use Rattle.start.specs.Nil.{nilFrom}
@@ -41,8 +40,18 @@ module _ {l : Layout} {bytes : List ℕ} (w : Within l bytes) where
   abbrev pub links : Joined
   links = settle (l .terms) (l .terms) (linksOf (said l bytes))
 
+  abbrev withNil : Joined → Joined
+  withNil j = andThen j (joinNil (l .terms) (nilFrom (said l bytes .entries) (l .terms) 1))
+
+  abbrev withEqualities : Joined → Joined
+  withEqualities j = andThen j (joinEach (l .terms) equalities)
+
   abbrev pub joins : Joined
-  joins = andThen (andThen links (joinNil (l .terms) (nilFrom (said l bytes .entries) (l .terms) 1))) (joinEach (l .terms) equalities)
+  joins = withEqualities (withNil links)
+
+  -- each made of the one before
+  pub joins-made : (settled nilled joined : Joined) → settled ≡ links → nilled ≡ withNil settled → joined ≡ withEqualities nilled → joined ≡ joins
+  joins-made settled nilled joined e f g = g ∙ ap (λ (j : Joined). withEqualities j) (f ∙ ap (λ (j : Joined). withNil j) e)
 
   nil-laid : nilTerms (said l bytes) ≡ nilFrom (said l bytes .entries) (l .terms) 1
   unfolding nilTerms terms nilFrom
@@ -82,6 +91,12 @@ module _ {l : Layout} {bytes : List ℕ} (w : Within l bytes) where
     -- there is room for all pairs
     pub joins-fit : Fits joins
     joins-fit = subst Fits joins-laid (omega (arith, start-pairs (said l bytes) acc, counted, w .terms-within))
+
+    pub nil-fits : (settled : Joined) → settled ≡ links → Fits (withNil settled)
+    nil-fits settled e = subst (λ (j : Joined). Fits (withNil j)) (sym e) (fits-left _ _ joins-fit)
+
+    pub equalities-fit : (settled nilled : Joined) → settled ≡ links → nilled ≡ withNil settled → Fits (withEqualities nilled)
+    equalities-fit settled nilled e f = subst (λ (j : Joined). Fits (withEqualities j)) (sym (f ∙ ap (λ (j : Joined). withNil j) e)) joins-fit
 
     pub started-fits : Fits (started (said l bytes))
     unfolding started

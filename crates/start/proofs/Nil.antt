@@ -1,23 +1,20 @@
 -- The terms that name nil as loops meet them, and nil joined behind what was joined before.
-use Prim.Native.Nat.{ℕ, zero, suc, _+_, _-_, _≤_, _<_}
+use Prim.Native.Nat.{ℕ, _+_, _-_, _≤_, _<_}
 use native.Mathlib.Omega.{arith}
-use mathlib.Core.Path.{_≡_, refl, sym, ap, _∙_, subst}
-use mathlib.Core.Bool.{Bool, true, false, cond}
+use mathlib.Core.Path.{_≡_, sym, ap, _∙_, subst}
 use mathlib.Core.List.{List, [], _∷_}
-use lib.Dec.{eqb}
 use borrow.Author.Tests.{eq-eqb, ne-eqb}
-use Rattle.logic.specs.Search.{select, from}
-use Rattle.logic.specs.Query.{Literal, Entries}
-use Rattle.logic.specs.Facts.{Facts, Joined, unjoined, andThen, settle, joinEach, equalTo, addLinks, addNilLinks, joinNil}
+use Rattle.logic.specs.Search.{select}
+use Rattle.logic.specs.Query.{Entries}
+use Rattle.logic.specs.Facts.{Facts, Joined, andThen, settle, joinEach, equalTo, addLinks, addNilLinks, joinNil}
 use Rattle.facts.specs.Path.{repOf, replacedBy}
-use Rattle.facts.specs.Pairs.{Fits}
 use Rattle.query.specs.declared.Layout.{Layout}
 use Rattle.link_query.specs.Said.{said, Within, entryIn}
 use Rattle.facts.proofs.Loops.{from-end, from-next}
-use Rattle.facts.proofs.Joins.{andThen-unjoined, andThen-andThen, fits-left}
-use Rattle.start.specs.Taken.{joinOne, Bounded, Terms}
+use Rattle.facts.proofs.Joins.{andThen-unjoined, andThen-andThen}
+use Rattle.start.specs.Taken.{joinOne, Bounded}
 use Rattle.start.specs.Nil.{nilFrom, NextNil, same}
-use Rattle.start.proofs.Bounded.{settled, behind-bounded, path-bounded}
+use Rattle.start.proofs.Bounded.{settled, path-bounded}
 use Rattle.start.proofs.Each.{joins}
 use Rattle.start.proofs.Entries.{nil-read}
 

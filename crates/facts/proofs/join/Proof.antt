@@ -1,6 +1,5 @@
 -- The lower of the two stays. Assumes nothing.
 use native.Mathlib.Omega.{arith}
-use borrow.Author.Needs.{needs}
 use mathlib.Core.Path.{sym, _∙_, subst}
 use Rattle.facts.specs.Pairs.{joinedIn, Fits}
 use Rattle.facts.proofs.Joins.{join-same, join-either}

@@ -1,6 +1,5 @@
 -- The pair is put behind the others, and then the rest is settled. Assumes nothing.
 use native.Mathlib.Omega.{arith}
-use borrow.Author.Needs.{needs}
 use mathlib.Core.Path.{sym, _∙_, subst}
 use Rattle.facts.specs.Pairs.{joinedIn, Fits}
 use Rattle.facts.proofs.Joins.{fits-pair, count-pairs, join-lower, lower-made}

@@ -1,5 +1,4 @@
 -- A replacement in the facts of each link. Assumes nothing.
-use borrow.Author.Needs.{needs}
 use mathlib.Core.Path.{sym, _∙_}
 use Rattle.facts.specs.Path.{graphOf}
 use Rattle.facts.proofs.Path.{alike, alike-graph, alone, replace-each}

@@ -1,5 +1,4 @@
 -- The fact is added to the rows of each link. Assumes nothing.
-use borrow.Author.Needs.{needs}
 use mathlib.Core.Path.{refl, sym, _∙_}
 use Rattle.facts.specs.Path.{graphOf}
 use Rattle.facts.proofs.Path.{alike, alike-graph, alone, addLinks-each}

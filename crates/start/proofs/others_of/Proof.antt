@@ -1,5 +1,4 @@
 -- A query of one link has no links by another. Assumes nothing.
-use borrow.Author.Needs.{needs}
 use Rattle.link_query.specs.Said.{said}
 use Rattle.facts.proofs.Square.{nothing-held}
 use Rattle.start.proofs.Entries.{nothing-linked}
