@@ -11,12 +11,12 @@ use lib.Dec.{eqb, ltb, leb}
 use borrow.Author.Tests.{ne-eqb}
 use Rattle.logic.specs.Search.{_and_, _or_, from, any, orElse, firstOf}
 use Rattle.logic.specs.Facts.{Graph, Facts, linkNumbers, terms, became, replaceIn, replace, addReach, addLinks, successors, firstTwo, doubled}
-use Rattle.theory.proofs.Basics.Search.{bool-cases, not-of, true-false, and-intro}
-use Rattle.theory.proofs.Basics.Compare.{cond-true, cond-false, eq-cases, ltb-intro, leb-intro, eqb-intro, eqb-self}
+use Rattle.theory.proofs.Basics.Search.{bool-cases, not-of, true-false}
+use Rattle.theory.proofs.Basics.Compare.{cond-true, cond-false, eq-cases, eqb-self}
 use Rattle.theory.proofs.Paths.Ranged.{link-range}
 use Rattle.theory.proofs.Calls.OneLink.{firstOf-one, doubled-one}
 use Rattle.facts.specs.declared.Facts as code
-use Rattle.facts.specs.Path.{repOf, noFacts, graphs, pathOf, graphOf, unlinked, linksIn, twoIn, doubledIn, replaceRep, HasLink, withReach, withLink}
+use Rattle.facts.specs.Path.{noFacts, graphs, pathAs, pathOf, repOf, graphOf, linksIn, twoIn, doubledIn, replaceRep, HasLink, withReach}
 
 -- the graph and the path that these functions make
 abbrev pub linking : (ℕ → ℕ → Bool) → (ℕ → ℕ → Bool) → Graph
@@ -95,9 +95,6 @@ linkedTo a b g = linking (λ x y. g .link x y or (eqb x a and eqb y b)) (g .reac
 abbrev pub reachedBy : (ℕ → ℕ → Bool) → Graph → Graph
 reachedBy f g = linking (g .link) f
 
-abbrev pub linkedBy : (ℕ → ℕ → Bool) → Graph → Graph
-linkedBy f g = linking f (g .reach)
-
 abbrev pub replacedIn : ℕ → ℕ → Graph → Graph
 replacedIn lo hi g = linking (replaceIn lo hi (g .link)) (replaceIn lo hi (g .reach))
 
@@ -126,14 +123,6 @@ module _ (k : ℕ) (s : Facts) where
   withReach-changed f = same-graphs (s .rep) (s .links) _ _ (λ j. go (eqb j k) (s .graph j))
     where
       go : (t : Bool) (g : Graph) → linking (g .link) (cond t f (g .reach)) ≡ cond t (reachedBy f g) g
-      go true g = refl
-      go false g = refl
-
-  pub withLink-changed : (f : ℕ → ℕ → Bool) → withLink k f s ≡ changed k (linkedBy f) s
-  unfolding withLink
-  withLink-changed f = same-graphs (s .rep) (s .links) _ _ (λ j. go (eqb j k) (s .graph j))
-    where
-      go : (t : Bool) (g : Graph) → linking (cond t f (g .link)) (g .reach) ≡ cond t (linkedBy f g) g
       go true g = refl
       go false g = refl
 
@@ -216,28 +205,6 @@ module _ (s : code.Facts) (k : ℕ) (op : Graph → Graph) (f : Graph) where
   unfolding pathOf
   set-third e d h = alike (s .single) refl refl refl h ∙ sym (changed-third (repOf (s .rep)) (s .single) (first s) (second s) (third s) op k e d)
 
--- the path with a link fact more of every link, and with one term replaced
-module _ (s : code.Facts) where
-  pub addLinks-is : (a b : ℕ) → addLinks a b (pathOf s) ≡ made (repOf (s .rep)) (s .single) (linkedTo a b (first s)) (linkedTo a b (second s)) (linkedTo a b (third s))
-  unfolding pathOf
-  addLinks-is a b = addLinks-each (repOf (s .rep)) (s .single) (first s) (second s) (third s) a b
-
-  pub replace-is : (lo hi : ℕ) → replace lo hi (pathOf s) ≡ made (replaceRep lo hi (repOf (s .rep))) (s .single) (replacedIn lo hi (first s)) (replacedIn lo hi (second s)) (replacedIn lo hi (third s))
-  unfolding pathOf
-  replace-is lo hi = replace-each (repOf (s .rep)) (s .single) (first s) (second s) (third s) lo hi
-
--- rows that hold nothing
-pub nothing-made : (single : Bool) (f : Graph) → f ≡ noFacts → made (λ t. t) single f f f ≡ unlinked single
-unfolding unlinked graphs
-nothing-made single f e = rw e (same-graphs (λ t. t) (cond single 1 3) _ _ (λ j. go (eqb j 1) single (eqb j 2) (eqb j 3)))
-  where
-    go : (t u v w : Bool) → cond t noFacts (cond u noFacts (cond v noFacts (cond w noFacts noFacts))) ≡ noFacts
-    go true u v w = refl
-    go false true v w = refl
-    go false false true w = refl
-    go false false false true = refl
-    go false false false false = refl
-
 -- how many links the path of the record has, and what its rows are
 module _ (s : code.Facts) where
   pub links-is : pathOf s .links ≡ cond (s .single) 1 3
@@ -313,18 +280,21 @@ module _ (s : code.Facts) where
   link-within i a b e = ⊎-elim (λ h. h) (λ none. absurd (true-false e (ap (λ (g : Graph). g .link a b) none))) (within i)
 
 -- what is doubled is read off the links alone
-module _ (n : ℕ) (s : code.Facts) where
-  doubled-single : s .single ≡ true → doubled n (pathOf s) ≡ firstOf (λ t. firstTwo (successors n (linksIn (s .link)) t)) (terms n)
-  unfolding successors linksIn pathOf graphOf graphs
-  doubled-single e = doubled-one n (pathOf s) (ap (λ (b : Bool). cond b 1 3) e)
+module _ (n : ℕ) (single : Bool) (rep link reach link2 reach2 link3 reach3 : List ℕ) where
+  abbrev path : Facts
+  path = pathAs single rep link reach link2 reach2 link3 reach3
 
-  doubled-three : s .single ≡ false → doubled n (pathOf s) ≡ firstOf (twoIn n (s .link) (s .link2) (s .link3)) (terms n)
-  unfolding doubled linkNumbers from firstOf twoIn successors linksIn pathOf graphOf graphs
+  doubled-single : single ≡ true → doubled n path ≡ firstOf (λ t. firstTwo (successors n (linksIn link) t)) (terms n)
+  unfolding successors linksIn graphOf graphs
+  doubled-single e = doubled-one n path (ap (λ (b : Bool). cond b 1 3) e)
+
+  doubled-three : single ≡ false → doubled n path ≡ firstOf (twoIn n link link2 link3) (terms n)
+  unfolding doubled linkNumbers from firstOf twoIn successors linksIn graphOf graphs
   doubled-three e = rw e refl
 
-  pub doubled-links : doubledIn n (s .single) (s .link) (s .link2) (s .link3) ≡ doubled n (pathOf s)
+  pub doubled-links : doubledIn n single link link2 link3 ≡ doubled n path
   unfolding doubledIn
-  doubled-links = ⊎-elim (λ e. cond-true _ _ e ∙ sym (doubled-single e)) (λ e. cond-false _ _ e ∙ sym (doubled-three e)) (bool-cases (s .single))
+  doubled-links = ⊎-elim (λ e. cond-true _ _ e ∙ sym (doubled-single e)) (λ e. cond-false _ _ e ∙ sym (doubled-three e)) (bool-cases single)
 
 -- the first of three links that has two successors
 module _ (n : ℕ) (f g h : List ℕ) (t : ℕ) where

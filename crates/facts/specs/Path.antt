@@ -1,9 +1,10 @@
 -- The facts of a path that the code's arrays hold.
 use Prim.Native.Nat.{ℕ, _≤_, _<_}
+use mathlib.Core.Path.{_≡_}
 use mathlib.Core.Bool.{Bool, false, cond}
 use mathlib.Core.List.{List, [], _∷_}
 use mathlib.Core.Option.{Option}
-use lib.ListN.{getD}
+use lib.ListN.{length, getD}
 use lib.Dec.{ltb, eqb}
 use Rattle.facts.specs.Square.{square}
 use Rattle.facts.specs.declared.Facts as code
@@ -37,9 +38,15 @@ pathAs single rep link reach link2 reach2 link3 reach3 =
 unfoldable pub pathOf : code.Facts → Facts
 pathOf s = pathAs (s .single) (s .rep) (s .link) (s .reach) (s .link2) (s .reach2) (s .link3) (s .reach3)
 
--- a path that holds nothing
-unfoldable pub unlinked : Bool → Facts
-unlinked single = record { rep = λ t. t; links = cond single 1 3; graph = λ i. noFacts }
+-- arrays of the size that the code gives them: those that are lent to be written do not tell it
+pub record Whole (rep link reach link2 reach2 link3 reach3 : List ℕ) : Type 0 where
+  pub of-rep : length rep ≡ 17
+  pub of-link : length link ≡ 17
+  pub of-reach : length reach ≡ 17
+  pub of-link2 : length link2 ≡ 17
+  pub of-reach2 : length reach2 ≡ 17
+  pub of-link3 : length link3 ≡ 17
+  pub of-reach3 : length reach3 ≡ 17
 
 -- a graph with these links alone: what reads only links asks no more
 unfoldable pub linksIn : List ℕ → Graph
@@ -73,13 +80,4 @@ withReach k reach s =
       rep = s .rep;
       links = s .links;
       graph = λ j. record { link = s .graph j .link; reach = cond (eqb j k) reach (s .graph j .reach) };
-    }
-
--- the same with these links
-unfoldable pub withLink : ℕ → (ℕ → ℕ → Bool) → Facts → Facts
-withLink k link s =
-    record {
-      rep = s .rep;
-      links = s .links;
-      graph = λ j. record { link = cond (eqb j k) link (s .graph j .link); reach = s .graph j .reach };
     }

@@ -1,18 +1,18 @@
 // The facts of a path as the code holds them: rows of bits over the numbers 0 to 16, of which 1 to 16 are terms.
 ghost use mathlib.Core.Path.{_≡_};
-ghost use Prim.Native.Nat.{ℕ, _+_, _-_, _*_, _≤_, _<_};
-ghost use mathlib.Core.Bool.{Bool, not, cond};
+ghost use Prim.Native.Nat.{ℕ, _+_, _-_, _≤_, _<_};
+ghost use mathlib.Core.Bool.{not, cond};
 ghost use lib.Dec.{eqb, ltb};
 ghost use Rattle.facts.specs.Bits.{bit};
 ghost use Rattle.facts.specs.Square.{square, Turned, renamedRow, columns, rows};
-ghost use Rattle.facts.specs.Path.{pathOf, repOf, replaceRep, replacedBy, linksIn, twoIn, doubledIn, unlinked, HasLink, withReach, withLink};
+ghost use Rattle.facts.specs.Path.{pathAs, pathOf, Whole, repOf, replaceRep, replacedBy, linksIn, twoIn, doubledIn, HasLink, withReach};
 ghost use Rattle.facts.specs.Answers.{foundOf, twoOf};
-ghost use Rattle.facts.specs.Pairs.{pairsOf, joinedAs, joinedOf, Fits};
+ghost use Rattle.facts.specs.Pairs.{pairsIn, pairsOf, joinedIn, Fits};
 ghost use mathlib.Core.List.{[], _∷_, _++_};
 ghost use lib.ListN.{length};
 ghost use mathlib.Core.Option.{some};
 ghost use Rattle.logic.specs.Search.{_and_, _or_, from, firstOf, find, select};
-ghost use Rattle.logic.specs.Facts.{terms, addReach, addLinks, replaceIn, replace, firstTwo, successors, doubled, andThen, settle, join, live};
+ghost use Rattle.logic.specs.Facts.{terms, addReach, replaceIn, replace, firstTwo, successors, andThen, settle, join, live};
 
 // A term by its number.
 pub struct Term(pub usize);
@@ -157,7 +157,7 @@ pub fn is_held(rows: &[u32; 17], a: usize, b: usize) -> bool
 }
 
 // No term is replaced.
-fn unreplaced() -> [u8; 17]
+pub fn unreplaced() -> [u8; 17]
     ensures { λ r. ⌜ repOf r ≡ (λ t. t) ⌝ }
 {
     let mut rep = [0u8; 17];
@@ -167,24 +167,6 @@ fn unreplaced() -> [u8; 17]
         t += 1;
     }
     rep
-}
-
-// A path of one link or of three that holds nothing.
-pub fn unlinked(single: bool) -> Facts
-    ensures { λ r. ⌜ pathOf r ≡ unlinked single ⌝ }
-{
-    let rep = unreplaced();
-    let none = [0u32; 17];
-    Facts {
-        rep,
-        single,
-        link: none,
-        reach: none,
-        link2: none,
-        reach2: none,
-        link3: none,
-        reach3: none,
-    }
 }
 
 // How many links the path has.
@@ -261,24 +243,6 @@ pub fn with_reach(s: Facts, k: Link, rows: [u32; 17]) -> Facts
     t
 }
 
-// Other rows of f(a) = b for one link.
-pub fn with_link(s: Facts, k: Link, rows: [u32; 17]) -> Facts
-    requires { ⌜ HasLink (pathOf s) (k .0) ⌝ }
-    ensures { λ r. ⌜ pathOf r ≡ withLink (k .0) (square rows) (pathOf s) ⌝ }
-{
-    let mut t = s;
-    if k.0 == 1 {
-        t.link = rows;
-        return t;
-    }
-    if k.0 == 2 {
-        t.link2 = rows;
-        return t;
-    }
-    t.link3 = rows;
-    t
-}
-
 // The reachability fact is added.
 pub fn add_reach(s: Facts, k: Link, a: Term, b: Term) -> Facts
     requires { ⌜ HasLink (pathOf s) (k .0) × (a .0 ≤ 16) × (b .0 ≤ 16) ⌝ }
@@ -299,23 +263,6 @@ pub fn add_reach(s: Facts, k: Link, a: Term, b: Term) -> Facts
     t
 }
 
-// The link fact is added for every link.
-pub fn add_link(s: Facts, a: Term, b: Term) -> Facts
-    requires { ⌜ (a .0 ≤ 16) × (b .0 ≤ 16) ⌝ }
-    ensures { λ r. ⌜ pathOf r ≡ addLinks (a .0) (b .0) (pathOf s) ⌝ }
-{
-    let at = a.0;
-    let added = only(b.0);
-    let mut t = s;
-    t.link[at] = t.link[at] | added;
-    if t.single {
-        return t;
-    }
-    t.link2[at] = t.link2[at] | added;
-    t.link3[at] = t.link3[at] | added;
-    t
-}
-
 // A row in which hi is replaced by lo.
 fn renamed_row(row: u32, lo: usize, hi: usize) -> u32
     requires { ⌜ (lo < hi) × (hi ≤ 16) ⌝ }
@@ -326,40 +273,37 @@ fn renamed_row(row: u32, lo: usize, hi: usize) -> u32
 }
 
 // In every row, the lower number stands where the higher did.
-fn merge_columns(rows: [u32; 17], lo: Term, hi: Term) -> [u32; 17]
-    requires { ⌜ (lo .0 < hi .0) × (hi .0 ≤ 16) ⌝ }
-    ensures { λ r. ⌜ square r ≡ columns (lo .0) (hi .0) (square rows) ⌝ }
+fn merge_columns(rows: &mut [u32; 17], lo: Term, hi: Term)
+    requires { ⌜ (lo .0 < hi .0) × (hi .0 ≤ 16) × (length (now rows) ≡ 17) ⌝ }
+    ensures { λ _. ⌜ (square (now (rows .exit)) ≡ columns (lo .0) (hi .0) (square (now (rows .entry)))) × (length (now (rows .exit)) ≡ 17) ⌝ }
 {
     let low = lo.0;
     let high = hi.0;
-    let mut out = rows;
     let mut a: usize = 0;
     while a < 17 {
-        out[a] = renamed_row(out[a], low, high);
+        rows[a] = renamed_row(rows[a], low, high);
         a += 1;
     }
-    out
 }
 
 // The lower row gets what the higher holds, and the higher is cleared.
-fn merge_rows(cells: [u32; 17], lo: Term, hi: Term) -> [u32; 17]
-    requires { ⌜ (lo .0 < hi .0) × (hi .0 ≤ 16) ⌝ }
-    ensures { λ r. ⌜ square r ≡ rows (lo .0) (hi .0) (square cells) ⌝ }
+fn merge_rows(cells: &mut [u32; 17], lo: Term, hi: Term)
+    requires { ⌜ (lo .0 < hi .0) × (hi .0 ≤ 16) × (length (now cells) ≡ 17) ⌝ }
+    ensures { λ _. ⌜ (square (now (cells .exit)) ≡ rows (lo .0) (hi .0) (square (now (cells .entry)))) × (length (now (cells .exit)) ≡ 17) ⌝ }
 {
     let low = lo.0;
     let high = hi.0;
-    let mut out = cells;
-    out[low] = out[low] | out[high];
-    out[high] = 0;
-    out
+    cells[low] = cells[low] | cells[high];
+    cells[high] = 0;
 }
 
 // hi is replaced by lo in a relation.
-fn replace_in(rows: [u32; 17], lo: Term, hi: Term) -> [u32; 17]
-    requires { ⌜ (lo .0 < hi .0) × (hi .0 ≤ 16) ⌝ }
-    ensures { λ r. ⌜ square r ≡ replaceIn (lo .0) (hi .0) (square rows) ⌝ }
+fn replace_in(rows: &mut [u32; 17], lo: Term, hi: Term)
+    requires { ⌜ (lo .0 < hi .0) × (hi .0 ≤ 16) × (length (now rows) ≡ 17) ⌝ }
+    ensures { λ _. ⌜ (square (now (rows .exit)) ≡ replaceIn (lo .0) (hi .0) (square (now (rows .entry)))) × (length (now (rows .exit)) ≡ 17) ⌝ }
 {
-    merge_rows(merge_columns(rows, lo, hi), lo, hi)
+    merge_columns(rows, lo, hi);
+    merge_rows(rows, lo, hi);
 }
 
 // lo for hi, and any other byte for itself.
@@ -373,52 +317,45 @@ fn renamed(t: u8, lo: u8, hi: u8) -> u8
 }
 
 // Whatever was replaced by hi is now replaced by lo.
-fn replace_rep(rep: [u8; 17], lo: Term, hi: Term) -> [u8; 17]
-    requires { ⌜ (lo .0 < hi .0) × (hi .0 ≤ 16) ⌝ }
-    ensures { λ r. ⌜ repOf r ≡ replaceRep (lo .0) (hi .0) (repOf rep) ⌝ }
+fn replace_rep(rep: &mut [u8; 17], lo: Term, hi: Term)
+    requires { ⌜ (lo .0 < hi .0) × (hi .0 ≤ 16) × (length (now rep) ≡ 17) ⌝ }
+    ensures { λ _. ⌜ (repOf (now (rep .exit)) ≡ replaceRep (lo .0) (hi .0) (repOf (now (rep .entry)))) × (length (now (rep .exit)) ≡ 17) ⌝ }
 {
     let low = lo.0 as u8;
     let high = hi.0 as u8;
-    let mut out = rep;
     let mut t: usize = 0;
     while t < 17 {
-        out[t] = renamed(out[t], low, high);
+        rep[t] = renamed(rep[t], low, high);
         t += 1;
     }
-    out
 }
 
 // "replaces the higher number by the lower in every fact"
-pub fn replace(s: Facts, lo: Term, hi: Term) -> Facts
-    requires { ⌜ (lo .0 < hi .0) × (hi .0 ≤ 16) ⌝ }
-    ensures { λ r. ⌜ pathOf r ≡ replace (lo .0) (hi .0) (pathOf s) ⌝ }
+fn replace(
+    single: bool,
+    rep: &mut [u8; 17],
+    link: &mut [u32; 17],
+    reach: &mut [u32; 17],
+    link2: &mut [u32; 17],
+    reach2: &mut [u32; 17],
+    link3: &mut [u32; 17],
+    reach3: &mut [u32; 17],
+    lo: Term,
+    hi: Term,
+)
+    requires { ⌜ (lo .0 < hi .0) × (hi .0 ≤ 16) × Whole (now rep) (now link) (now reach) (now link2) (now reach2) (now link3) (now reach3) ⌝ }
+    ensures { λ _. ⌜ (pathAs single (now (rep .exit)) (now (link .exit)) (now (reach .exit)) (now (link2 .exit)) (now (reach2 .exit)) (now (link3 .exit)) (now (reach3 .exit)) ≡ replace (lo .0) (hi .0) (pathAs single (now (rep .entry)) (now (link .entry)) (now (reach .entry)) (now (link2 .entry)) (now (reach2 .entry)) (now (link3 .entry)) (now (reach3 .entry)))) × Whole (now (rep .exit)) (now (link .exit)) (now (reach .exit)) (now (link2 .exit)) (now (reach2 .exit)) (now (link3 .exit)) (now (reach3 .exit)) ⌝ }
 {
-    let mut t = s;
-    let rep = s.rep;
-    let new_rep = replace_rep(rep, lo, hi);
-    t.rep = new_rep;
-    let link = s.link;
-    let new_link = replace_in(link, lo, hi);
-    t.link = new_link;
-    let reach = s.reach;
-    let new_reach = replace_in(reach, lo, hi);
-    t.reach = new_reach;
-    if s.single {
-        return t;
+    replace_rep(rep, lo, hi);
+    replace_in(link, lo, hi);
+    replace_in(reach, lo, hi);
+    if single {
+        return;
     }
-    let link2 = s.link2;
-    let new_link2 = replace_in(link2, lo, hi);
-    t.link2 = new_link2;
-    let reach2 = s.reach2;
-    let new_reach2 = replace_in(reach2, lo, hi);
-    t.reach2 = new_reach2;
-    let link3 = s.link3;
-    let new_link3 = replace_in(link3, lo, hi);
-    t.link3 = new_link3;
-    let reach3 = s.reach3;
-    let new_reach3 = replace_in(reach3, lo, hi);
-    t.reach3 = new_reach3;
-    t
+    replace_in(link2, lo, hi);
+    replace_in(reach2, lo, hi);
+    replace_in(link3, lo, hi);
+    replace_in(reach3, lo, hi);
 }
 
 // The row of the successors of t.
@@ -526,14 +463,6 @@ fn doubled_rows<'a>(
     doubled_of(first, second, third, n)
 }
 
-// "the two lowest successors of the lowest such term"
-pub fn doubled(s: Facts, n: usize) -> Two
-    requires { ⌜ n ≤ 16 ⌝ }
-    ensures { λ r. ⌜ twoOf r ≡ doubled n (pathOf s) ⌝ }
-{
-    doubled_rows(s.single, &s.link, &s.link2, &s.link3, n)
-}
-
 // No pair.
 pub fn no_pairs() -> Pairs
     ensures { λ r. ⌜ pairsOf r ≡ [] ⌝ }
@@ -548,83 +477,158 @@ pub fn no_pairs() -> Pairs
 }
 
 // One pair more, behind the others.
-fn and_pair(pairs: Pairs, kept: Term, replaced: Term) -> Pairs
-    requires { ⌜ (length (pairsOf pairs) < 17) × (kept .0 ≤ 16) × (replaced .0 ≤ 16) ⌝ }
-    ensures { λ r. ⌜ pairsOf r ≡ pairsOf pairs ++ ((kept .0, replaced .0) ∷ []) ⌝ }
+fn and_pair(kept: &mut [u8; 17], replaced: &mut [u8; 17], count: usize, lo: Term, hi: Term)
+    requires { ⌜ (count < 17) × (lo .0 ≤ 16) × (hi .0 ≤ 16) × (length (now kept) ≡ 17) × (length (now replaced) ≡ 17) ⌝ }
+    ensures { λ _. ⌜ (pairsIn (now (kept .exit)) (now (replaced .exit)) (count + 1) ≡ pairsIn (now (kept .entry)) (now (replaced .entry)) count ++ ((lo .0, hi .0) ∷ [])) × (length (now (kept .exit)) ≡ 17) × (length (now (replaced .exit)) ≡ 17) ⌝ }
 {
-    let mut out = pairs;
-    let last = out.count;
-    out.kept[last] = kept.0 as u8;
-    out.replaced[last] = replaced.0 as u8;
-    out.count = last + 1;
-    out
+    kept[count] = lo.0 as u8;
+    replaced[count] = hi.0 as u8;
 }
 
 // "While a term has two successors, the two lowest successors of the lowest such term are joined", after what was joined before
-pub fn settle(before: Joined, n: usize) -> Joined
-    requires { ⌜ (n ≤ 16) × Fits (andThen (joinedOf before) (settle n n)) ⌝ }
-    ensures { λ r. ⌜ joinedOf r ≡ andThen (joinedOf before) (settle n n) ⌝ }
+pub fn settle(
+    single: bool,
+    rep: &mut [u8; 17],
+    link: &mut [u32; 17],
+    reach: &mut [u32; 17],
+    link2: &mut [u32; 17],
+    reach2: &mut [u32; 17],
+    link3: &mut [u32; 17],
+    reach3: &mut [u32; 17],
+    kept: &mut [u8; 17],
+    replaced: &mut [u8; 17],
+    count: usize,
+    n: usize,
+) -> usize
+    requires { ⌜ (n ≤ 16) × Fits (andThen (joinedIn single (now rep) (now link) (now reach) (now link2) (now reach2) (now link3) (now reach3) (now kept) (now replaced) count) (settle n n)) ⌝ }
+    requires { ⌜ Whole (now rep) (now link) (now reach) (now link2) (now reach2) (now link3) (now reach3) × (length (now kept) ≡ 17) × (length (now replaced) ≡ 17) ⌝ }
+    ensures { λ r. ⌜ joinedIn single (now (rep .exit)) (now (link .exit)) (now (reach .exit)) (now (link2 .exit)) (now (reach2 .exit)) (now (link3 .exit)) (now (reach3 .exit)) (now (kept .exit)) (now (replaced .exit)) r ≡ andThen (joinedIn single (now (rep .entry)) (now (link .entry)) (now (reach .entry)) (now (link2 .entry)) (now (reach2 .entry)) (now (link3 .entry)) (now (reach3 .entry)) (now (kept .entry)) (now (replaced .entry)) count) (settle n n) ⌝ }
+    ensures { λ _. ⌜ Whole (now (rep .exit)) (now (link .exit)) (now (reach .exit)) (now (link2 .exit)) (now (reach2 .exit)) (now (link3 .exit)) (now (reach3 .exit)) × (length (now (kept .exit)) ≡ 17) × (length (now (replaced .exit)) ≡ 17) ⌝ }
 {
-    let mut j = before;
+    let mut total = count;
     let mut left = n;
     while 0 < left {
-        let Two::Of(a, b) = doubled_rows(
-            j.facts.single,
-            &j.facts.link,
-            &j.facts.link2,
-            &j.facts.link3,
-            n,
-        ) else {
-            return j;
+        let Two::Of(a, b) = doubled_rows(single, link, link2, link3, n) else {
+            return total;
         };
-        let s = j.facts;
-        let pairs = j.pairs;
-        j = Joined {
-            pairs: and_pair(pairs, a, b),
-            facts: replace(s, a, b),
-        };
+        and_pair(kept, replaced, total, a, b);
+        total += 1;
+        replace(single, rep, link, reach, link2, reach2, link3, reach3, a, b);
         left -= 1;
     }
-    j
+    total
 }
 
-// Joining a lower and a higher number, after the pairs that were joined before. Mostly no term has two successors then, and nothing is
-// left to settle.
-fn join_lower(s: Facts, n: usize, lo: Term, hi: Term, before: Pairs) -> Joined
-    requires { ⌜ (n ≤ 16) × (lo .0 < hi .0) × (hi .0 ≤ 16) × Fits (andThen (joinedAs before s) (join n (lo .0) (hi .0))) ⌝ }
-    ensures { λ r. ⌜ joinedOf r ≡ andThen (joinedAs before s) (join n (lo .0) (hi .0)) ⌝ }
+// Joining a lower and a higher number, after the pairs that were joined before.
+fn join_lower(
+    single: bool,
+    rep: &mut [u8; 17],
+    link: &mut [u32; 17],
+    reach: &mut [u32; 17],
+    link2: &mut [u32; 17],
+    reach2: &mut [u32; 17],
+    link3: &mut [u32; 17],
+    reach3: &mut [u32; 17],
+    kept: &mut [u8; 17],
+    replaced: &mut [u8; 17],
+    count: usize,
+    n: usize,
+    lo: Term,
+    hi: Term,
+) -> usize
+    requires { ⌜ (n ≤ 16) × (lo .0 < hi .0) × (hi .0 ≤ 16) × Fits (andThen (joinedIn single (now rep) (now link) (now reach) (now link2) (now reach2) (now link3) (now reach3) (now kept) (now replaced) count) (join n (lo .0) (hi .0))) ⌝ }
+    requires { ⌜ Whole (now rep) (now link) (now reach) (now link2) (now reach2) (now link3) (now reach3) × (length (now kept) ≡ 17) × (length (now replaced) ≡ 17) ⌝ }
+    ensures { λ r. ⌜ joinedIn single (now (rep .exit)) (now (link .exit)) (now (reach .exit)) (now (link2 .exit)) (now (reach2 .exit)) (now (link3 .exit)) (now (reach3 .exit)) (now (kept .exit)) (now (replaced .exit)) r ≡ andThen (joinedIn single (now (rep .entry)) (now (link .entry)) (now (reach .entry)) (now (link2 .entry)) (now (reach2 .entry)) (now (link3 .entry)) (now (reach3 .entry)) (now (kept .entry)) (now (replaced .entry)) count) (join n (lo .0) (hi .0)) ⌝ }
+    ensures { λ _. ⌜ Whole (now (rep .exit)) (now (link .exit)) (now (reach .exit)) (now (link2 .exit)) (now (reach2 .exit)) (now (link3 .exit)) (now (reach3 .exit)) × (length (now (kept .exit)) ≡ 17) × (length (now (replaced .exit)) ≡ 17) ⌝ }
 {
-    let made = Joined {
-        pairs: and_pair(before, lo, hi),
-        facts: replace(s, lo, hi),
-    };
-    let Two::Of(_, _) = doubled_rows(
-        made.facts.single,
-        &made.facts.link,
-        &made.facts.link2,
-        &made.facts.link3,
+    and_pair(kept, replaced, count, lo, hi);
+    replace(
+        single,
+        rep,
+        link,
+        reach,
+        link2,
+        reach2,
+        link3,
+        reach3,
+        lo,
+        hi,
+    );
+    settle(
+        single,
+        rep,
+        link,
+        reach,
+        link2,
+        reach2,
+        link3,
+        reach3,
+        kept,
+        replaced,
+        count + 1,
         n,
-    ) else {
-        return made;
-    };
-    settle(made, n)
+    )
 }
 
 // "Joining a and b", after the pairs that were joined before. A term joined with itself is no pair.
-pub fn join(s: Facts, n: usize, a: Term, b: Term, before: Pairs) -> Joined
-    requires { ⌜ (n ≤ 16) × (a .0 ≤ 16) × (b .0 ≤ 16) × Fits (andThen (joinedAs before s) (join n (a .0) (b .0))) ⌝ }
-    ensures { λ r. ⌜ joinedOf r ≡ andThen (joinedAs before s) (join n (a .0) (b .0)) ⌝ }
+pub fn join(
+    single: bool,
+    rep: &mut [u8; 17],
+    link: &mut [u32; 17],
+    reach: &mut [u32; 17],
+    link2: &mut [u32; 17],
+    reach2: &mut [u32; 17],
+    link3: &mut [u32; 17],
+    reach3: &mut [u32; 17],
+    kept: &mut [u8; 17],
+    replaced: &mut [u8; 17],
+    count: usize,
+    n: usize,
+    a: Term,
+    b: Term,
+) -> usize
+    requires { ⌜ (n ≤ 16) × (a .0 ≤ 16) × (b .0 ≤ 16) × Fits (andThen (joinedIn single (now rep) (now link) (now reach) (now link2) (now reach2) (now link3) (now reach3) (now kept) (now replaced) count) (join n (a .0) (b .0))) ⌝ }
+    requires { ⌜ Whole (now rep) (now link) (now reach) (now link2) (now reach2) (now link3) (now reach3) × (length (now kept) ≡ 17) × (length (now replaced) ≡ 17) ⌝ }
+    ensures { λ r. ⌜ joinedIn single (now (rep .exit)) (now (link .exit)) (now (reach .exit)) (now (link2 .exit)) (now (reach2 .exit)) (now (link3 .exit)) (now (reach3 .exit)) (now (kept .exit)) (now (replaced .exit)) r ≡ andThen (joinedIn single (now (rep .entry)) (now (link .entry)) (now (reach .entry)) (now (link2 .entry)) (now (reach2 .entry)) (now (link3 .entry)) (now (reach3 .entry)) (now (kept .entry)) (now (replaced .entry)) count) (join n (a .0) (b .0)) ⌝ }
+    ensures { λ _. ⌜ Whole (now (rep .exit)) (now (link .exit)) (now (reach .exit)) (now (link2 .exit)) (now (reach2 .exit)) (now (link3 .exit)) (now (reach3 .exit)) × (length (now (kept .exit)) ≡ 17) × (length (now (replaced .exit)) ≡ 17) ⌝ }
 {
     if a.0 == b.0 {
-        return Joined {
-            pairs: before,
-            facts: s,
-        };
+        return count;
     }
     if a.0 < b.0 {
-        return join_lower(s, n, a, b, before);
+        return join_lower(
+            single,
+            rep,
+            link,
+            reach,
+            link2,
+            reach2,
+            link3,
+            reach3,
+            kept,
+            replaced,
+            count,
+            n,
+            a,
+            b,
+        );
     }
-    join_lower(s, n, b, a, before)
+    join_lower(
+        single,
+        rep,
+        link,
+        reach,
+        link2,
+        reach2,
+        link3,
+        reach3,
+        kept,
+        replaced,
+        count,
+        n,
+        b,
+        a,
+    )
 }
 
 // A row with t, where it is to have it.

@@ -3,16 +3,16 @@ use Prim.Native.Nat.{ℕ, zero, suc, _+_, _*_, _≤_, _<_}
 use native.Mathlib.Omega.{arith}
 use native.Mathlib.Nat.{mul-le-mul, le-refl}
 use mathlib.Core.Path.{_≡_, refl, sym, ap, _∙_, fun-ext}
-use mathlib.Core.Logic.{⊎-elim}
+use mathlib.Core.Logic.{_⊎_, ⊎-elim}
 use mathlib.Core.Bool.{Bool, true, false, cond}
 use mathlib.Core.List.{List}
-use lib.ListN.{length, getD, set}
+use lib.ListN.{length, getD, set, replicate}
 use lib.Arith.{lt-of-le-ne}
 use lib.Dec.{ltb, eqb}
 use borrow.Author.Tests.{lt-ltb, le-ltb, ltb-false, eqb-true, eqb-false, eq-eqb, ne-eqb}
 use Rattle.logic.specs.Search.{_and_, _or_}
 use Rattle.logic.specs.Query.{Query, Entries, entryOf, linkOf, namesNil, argumentOf, termCount}
-use Rattle.logic.specs.Facts.{Facts, linksOf}
+use Rattle.logic.specs.Facts.{Graph, linksOf}
 use Rattle.theory.proofs.Basics.Search.{bool-cases, not-of}
 use Rattle.theory.proofs.Basics.Compare.{eq-cases, le-cases}
 use Rattle.theory.proofs.Query.Entries.{argument-range}
@@ -23,9 +23,9 @@ use Rattle.link_query.specs.Said.{entryWidth, said, Within, entryIn}
 use Rattle.link_query.proofs.Said.{terms-said, entry-said}
 use Rattle.facts.specs.Bits.{bit}
 use Rattle.facts.specs.Square.{square}
-use Rattle.facts.specs.Path.{noFacts, unlinked, withLink}
-use Rattle.facts.proofs.Path.{linking}
-use Rattle.facts.proofs.Square.{square-with}
+use Rattle.facts.specs.Path.{repOf, graphOf, noFacts, graphs, pathAs}
+use Rattle.facts.proofs.Path.{linking, made, alike, alike-graph}
+use Rattle.facts.proofs.Square.{square-with, nothing-held}
 use Rattle.facts.proofs.Fill.{ltb-next}
 use Rattle.start.specs.Nil.{argumentBy}
 
@@ -135,15 +135,22 @@ module _ (q : Query) (acc : Accepted q) where
   unfolding linksOf
   elsewhere k d = fun-ext (λ a. fun-ext (λ b. not-of (λ e. d (linksOf-ranged q acc .link-linked k a b e))))
 
-  pub linked-one : q .links ≡ 1 → withLink 1 (links 1) (unlinked true) ≡ linksOf q
-  unfolding withLink unlinked noFacts linksOf
+  pub nothing-linked : q .links ≡ 1 → (k : ℕ) → 1 < k → (rows : ℕ → ℕ → Bool) → ((a b : ℕ) → rows a b ≡ false) → rows ≡ links k
+  nothing-linked one k h rows none = fun-ext (λ a. fun-ext (none a)) ∙ sym (elsewhere k (λ r. omega (arith, one, r .1, h)))
+
+  -- the facts of link k at the start
+  abbrev linkedBy : ℕ → Graph
+  linkedBy k = linking (links k) (λ a b. false)
+
+  linked-one : q .links ≡ 1 → made (λ t. t) true (linkedBy 1) (linkedBy 2) (linkedBy 3) ≡ linksOf q
+  unfolding graphs noFacts linksOf
   linked-one one = λ i. record { rep = λ t. t; links = sym one i; graph = fun-ext each i }
     where
-      each : (k : ℕ) → linking (cond (eqb k 1) (links 1) (λ a b. false)) (λ a b. false) ≡ linking (links k) (λ a b. false)
+      each : (k : ℕ) → cond (eqb k 1) (linkedBy 1) noFacts ≡ linkedBy k
       each k = ⊎-elim (λ e. rw e refl) (λ d. rw (d .1) (ap (λ (f : ℕ → ℕ → Bool). linking f (λ a b. false)) (sym (elsewhere k (λ r. d .0 (omega (arith, one, r .0, r .1))))))) (eq-cases k 1)
 
-  pub linked-three : q .links ≡ 3 → withLink 3 (links 3) (withLink 2 (links 2) (withLink 1 (links 1) (unlinked false))) ≡ linksOf q
-  unfolding withLink unlinked noFacts linksOf
+  linked-three : q .links ≡ 3 → made (λ t. t) false (linkedBy 1) (linkedBy 2) (linkedBy 3) ≡ linksOf q
+  unfolding graphs noFacts linksOf
   linked-three three = λ i. record { rep = λ t. t; links = sym three i; graph = fun-ext each i }
     where
       outside : (k : ℕ) → (k ≡ 1 → ⊥) → (k ≡ 2 → ⊥) → (k ≡ 3 → ⊥) → InLinks q k → ⊥
@@ -152,7 +159,7 @@ module _ (q : Query) (acc : Accepted q) where
           let past = lt-of-le-ne above (λ z. e (sym z)) in
           f (omega (arith, three, r .1, past))
 
-      each : (k : ℕ) → linking (cond (eqb k 3) (links 3) (cond (eqb k 2) (links 2) (cond (eqb k 1) (links 1) (λ a b. false)))) (λ a b. false) ≡ linking (links k) (λ a b. false)
+      each : (k : ℕ) → cond (eqb k 1) (linkedBy 1) (cond (eqb k 2) (linkedBy 2) (cond (eqb k 3) (linkedBy 3) noFacts)) ≡ linkedBy k
       each k =
           ⊎-elim (λ e. rw e refl)
           (λ d.
@@ -164,15 +171,12 @@ module _ (q : Query) (acc : Accepted q) where
           (eq-cases k 2))
           (eq-cases k 1)
 
--- how many links there are
-pub links-one : {s : Facts} → s ≡ unlinked true → s .links ≡ 1
-unfolding unlinked
-links-one e = ap (λ (s : Facts). s .links) e
-
-pub links-three : {s : Facts} → s ≡ unlinked false → s .links ≡ 3
-unfolding unlinked
-links-three e = ap (λ (s : Facts). s .links) e
-
-pub links-with : (k : ℕ) (f : ℕ → ℕ → Bool) (s : Facts) {t : Facts} → t ≡ withLink k f s → t .links ≡ s .links
-unfolding withLink
-links-with k f s e = ap (λ (t : Facts). t .links) e
+  -- rows that hold these links and no reachability hold the path
+  pub linked-in-rows : (single : Bool) (rep link link2 link3 : List ℕ) → single ≡ eqb (q .links) 1 → (q .links ≡ 1) ⊎ (q .links ≡ 3) → repOf rep ≡ (λ t. t) → square link ≡ links 1 → square link2 ≡ links 2 → square link3 ≡ links 3 → pathAs single rep link (replicate 17 0) link2 (replicate 17 0) link3 (replicate 17 0) ≡ linksOf q
+  unfolding graphOf
+  linked-in-rows single rep link link2 link3 e o r f g h =
+      alike single r (alike-graph f none) (alike-graph g none) (alike-graph h none)
+      ∙ ⊎-elim (λ one. rw (e ∙ eq-eqb (q .links) 1 one) (linked-one one)) (λ three. rw (e ∙ ne-eqb (q .links) 1 (λ z. omega (arith, z, three))) (linked-three three)) o
+    where
+      none : square (replicate 17 0) ≡ (λ a b. false)
+      none = fun-ext (λ a. fun-ext (λ b. nothing-held 17 a b))

@@ -4,24 +4,24 @@ use native.Mathlib.Omega.{arith}
 use mathlib.Core.Path.{_≡_, refl, sym, ap, ap₂, _∙_, subst}
 use mathlib.Core.Bool.{Bool, true, false, cond}
 use mathlib.Core.List.{List, [], _∷_}
-use lib.ListN.{take, drop}
+use lib.ListN.{take, drop, replicate}
+use lib.Dec.{eqb}
 use Rattle.logic.specs.Query.{Literal, literals, termCount, argumentOf}
-use Rattle.logic.specs.Facts.{Facts, Joined, unjoined, linksOf, andThen, settle, terms, nilTerms, joinNil, joinEach, addReach, reachEach, startJoins, start}
+use Rattle.logic.specs.Facts.{Facts, Joined, linksOf, andThen, settle, terms, nilTerms, joinNil, joinEach, addReach, reachEach, startJoins, start}
 use Rattle.theory.proofs.Query.Tied.{Accepted}
 use Rattle.theory.proofs.Paths.Start.{start-tied}
 use Rattle.query.specs.declared.Layout.{Layout}
-use Rattle.query.specs.LaysOut.{literalIn}
 use Rattle.query.proofs.Ranges.{UpTo, below-of, equal-terms-of, reach-terms-of, reach-linked-of}
 use Rattle.link_query.specs.Said.{said, Within, reachIn}
 use Rattle.link_query.proofs.Said.{terms-said, equalities-said, reachability-said}
-use Rattle.facts.specs.declared.Facts as code
-use Rattle.facts.specs.Path.{pathOf, HasLink}
-use Rattle.facts.specs.Pairs.{Fits}
-use Rattle.facts.proofs.Joins.{unjoined-andThen}
-use Rattle.start.proofs.Bounded.{reach-bounded}
+use Rattle.facts.specs.Square.{square}
+use Rattle.facts.specs.Path.{repOf}
+use Rattle.facts.specs.Pairs.{joinedIn, Fits}
+use Rattle.facts.proofs.Joins.{none-before, fits-left}
+use Rattle.start.proofs.Entries.{linked-in-rows}
 use Rattle.start.proofs.Room.{start-pairs}
 use Rattle.start.specs.Nil.{nilFrom}
-use Rattle.start.specs.Taken.{reachOne, started, Bounded, Terms, TermsIn}
+use Rattle.start.specs.Taken.{started, Terms, TermsIn}
 
 -- adding reachability leaves the links that there are
 reachEach-links : (ls : List Literal) (s : Facts) → reachEach ls s .links ≡ s .links
@@ -33,17 +33,6 @@ reachEach-links (l ∷ ls) s = reachEach-links ls _ ∙ go (l .plain)
     go true = refl
     go false = refl
 
--- a literal taken leaves terms within the arrays, and the links
-pub kept : (m : Literal) (s t : code.Facts) → pathOf t ≡ reachOne m (pathOf s) → {links : ℕ} → Bounded (pathOf s) × (pathOf s .links ≡ links) → Bounded (pathOf t) × (pathOf t .links ≡ links)
-unfolding reachEach reachOne
-kept m s t e b = (subst Bounded (sym e) (reach-bounded m (pathOf s) (b .0)), ap (λ (u : Facts). u .links) e ∙ reachEach-links (m ∷ []) (pathOf s) ∙ b .1)
-
--- the links are settled behind no pair
-pub settled-laid : (n : ℕ) (s t : Facts) (ps : List (ℕ × ℕ)) → ps ≡ [] → s ≡ t → andThen (record { pairs = ps; facts = s }) (settle n n) ≡ settle n n t
-unfolding unjoined
-settled-laid n s t ps e h =
-    ap₂ (λ (ps : List (ℕ × ℕ)) (s : Facts). andThen (record { pairs = ps; facts = s }) (settle n n)) e h ∙ unjoined-andThen t (settle n n)
-
 module _ {l : Layout} {bytes : List ℕ} (w : Within l bytes) where
   abbrev pub equalities : List Literal
   equalities = literals (take (3 * l .«equal_count») (drop (l .«equal_at») bytes))
@@ -51,8 +40,18 @@ module _ {l : Layout} {bytes : List ℕ} (w : Within l bytes) where
   abbrev pub links : Joined
   links = settle (l .terms) (l .terms) (linksOf (said l bytes))
 
+  abbrev withNil : Joined → Joined
+  withNil j = andThen j (joinNil (l .terms) (nilFrom (said l bytes .entries) (l .terms) 1))
+
+  abbrev withEqualities : Joined → Joined
+  withEqualities j = andThen j (joinEach (l .terms) equalities)
+
   abbrev pub joins : Joined
-  joins = andThen (andThen links (joinNil (l .terms) (nilFrom (said l bytes .entries) (l .terms) 1))) (joinEach (l .terms) equalities)
+  joins = withEqualities (withNil links)
+
+  -- each made of the one before
+  pub joins-made : (settled nilled joined : Joined) → settled ≡ links → nilled ≡ withNil settled → joined ≡ withEqualities nilled → joined ≡ joins
+  joins-made settled nilled joined e f g = g ∙ ap (λ (j : Joined). withEqualities j) (f ∙ ap (λ (j : Joined). withNil j) e)
 
   nil-laid : nilTerms (said l bytes) ≡ nilFrom (said l bytes .entries) (l .terms) 1
   unfolding nilTerms terms nilFrom
@@ -75,6 +74,13 @@ module _ {l : Layout} {bytes : List ℕ} (w : Within l bytes) where
     counted : l .terms ≡ termCount (said l bytes)
     counted = sym (terms-said l bytes w)
 
+    -- the links that rows hold are settled behind no pair
+    pub links-laid : (single : Bool) (rep link link2 link3 : List ℕ) → single ≡ eqb (l .links) 1 → repOf rep ≡ (λ t. t) → square link ≡ linksOf (said l bytes) .graph 1 .link → square link2 ≡ linksOf (said l bytes) .graph 2 .link → square link3 ≡ linksOf (said l bytes) .graph 3 .link → andThen (joinedIn single rep link (replicate 17 0) link2 (replicate 17 0) link3 (replicate 17 0) (replicate 17 0) (replicate 17 0) 0) (settle (l .terms) (l .terms)) ≡ links
+    unfolding said
+    links-laid single rep link link2 link3 e r f g h =
+        none-before (replicate 17 0) (replicate 17 0) _ (settle (l .terms) (l .terms))
+        ∙ ap (settle (l .terms) (l .terms)) (linked-in-rows (said l bytes) acc single rep link link2 link3 e (w .one-or-three) r f g h)
+
     -- the joins leave the links that there are
     pub joins-links : joins .facts .links ≡ l .links
     unfolding start said
@@ -85,6 +91,12 @@ module _ {l : Layout} {bytes : List ℕ} (w : Within l bytes) where
     -- there is room for all pairs
     pub joins-fit : Fits joins
     joins-fit = subst Fits joins-laid (omega (arith, start-pairs (said l bytes) acc, counted, w .terms-within))
+
+    pub nil-fits : (settled : Joined) → settled ≡ links → Fits (withNil settled)
+    nil-fits settled e = subst (λ (j : Joined). Fits (withNil j)) (sym e) (fits-left _ _ joins-fit)
+
+    pub equalities-fit : (settled nilled : Joined) → settled ≡ links → nilled ≡ withNil settled → Fits (withEqualities nilled)
+    equalities-fit settled nilled e f = subst (λ (j : Joined). Fits (withEqualities j)) (sym (f ∙ ap (λ (j : Joined). withNil j) e)) joins-fit
 
     pub started-fits : Fits (started (said l bytes))
     unfolding started
@@ -109,5 +121,5 @@ module _ {l : Layout} {bytes : List ℕ} (w : Within l bytes) where
       reach-linked = reach-linked-of acc counted _ (l .«reach_count») i h (reachability-said l bytes w)
 
       -- the link of a literal is one of the path
-      pub linked-in : (s : code.Facts) → pathOf s .links ≡ l .links → HasLink (pathOf s) (reachIn (l .links) bytes (l .«reach_at») i .link)
-      linked-in s e = let r = reach-linked in (r .0, omega (arith, e, r .1))
+      pub linked-in : (links : ℕ) → links ≡ l .links → (0 < reachIn (l .links) bytes (l .«reach_at») i .link) × (reachIn (l .links) bytes (l .«reach_at») i .link ≤ links)
+      linked-in links e = let r = reach-linked in (r .0, omega (arith, e, r .1))

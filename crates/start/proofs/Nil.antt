@@ -1,22 +1,20 @@
 -- The terms that name nil as loops meet them, and nil joined behind what was joined before.
-use Prim.Native.Nat.{ℕ, zero, suc, _+_, _-_, _≤_, _<_}
+use Prim.Native.Nat.{ℕ, _+_, _-_, _≤_, _<_}
 use native.Mathlib.Omega.{arith}
-use mathlib.Core.Path.{_≡_, refl, sym, ap, _∙_, subst}
-use mathlib.Core.Bool.{Bool, true, false, cond}
+use mathlib.Core.Path.{_≡_, sym, ap, _∙_, subst}
 use mathlib.Core.List.{List, [], _∷_}
-use lib.Dec.{eqb}
 use borrow.Author.Tests.{eq-eqb, ne-eqb}
-use Rattle.logic.specs.Search.{select, from}
-use Rattle.logic.specs.Query.{Literal, Entries}
-use Rattle.logic.specs.Facts.{Facts, Joined, unjoined, andThen, settle, joinEach, equalTo, addLinks, addNilLinks, joinNil}
-use Rattle.facts.specs.Pairs.{Fits}
+use Rattle.logic.specs.Search.{select}
+use Rattle.logic.specs.Query.{Entries}
+use Rattle.logic.specs.Facts.{Facts, Joined, andThen, settle, joinEach, equalTo, addLinks, addNilLinks, joinNil}
+use Rattle.facts.specs.Path.{repOf, replacedBy}
 use Rattle.query.specs.declared.Layout.{Layout}
 use Rattle.link_query.specs.Said.{said, Within, entryIn}
 use Rattle.facts.proofs.Loops.{from-end, from-next}
-use Rattle.facts.proofs.Joins.{andThen-unjoined, andThen-andThen, fits-left}
-use Rattle.start.specs.Taken.{joinOne, Bounded, Terms}
+use Rattle.facts.proofs.Joins.{andThen-unjoined, andThen-andThen}
+use Rattle.start.specs.Taken.{joinOne, Bounded}
 use Rattle.start.specs.Nil.{nilFrom, NextNil, same}
-use Rattle.start.proofs.Bounded.{settled, behind-bounded}
+use Rattle.start.proofs.Bounded.{settled, path-bounded}
 use Rattle.start.proofs.Each.{joins}
 use Rattle.start.proofs.Entries.{nil-read}
 
@@ -64,15 +62,30 @@ pub nil-none : (n : ℕ) (j : Joined) → andThen j (joinNil n []) ≡ j
 unfolding joinNil
 nil-none n j = andThen-unjoined j
 
-pub nil-some : (n t : ℕ) (us : List ℕ) (j : Joined) → andThen j (joinNil n (t ∷ us)) ≡ andThen (others n t us j) (λ s. settle n n (addNilLinks t s))
+nil-some : (n t : ℕ) (us : List ℕ) (j : Joined) → andThen j (joinNil n (t ∷ us)) ≡ andThen (others n t us j) (λ s. settle n n (addNilLinks t s))
 unfolding joinNil
 nil-some n t us j = andThen-andThen j (joinEach n (equalTo t us)) (λ s. settle n n (addNilLinks t s))
 
 -- nil's link is that of what nil became
-pub linked-behind : (n t r : ℕ) (j : Joined) (s : Facts) → r ≡ j .facts .rep t → s ≡ addLinks r r (j .facts) → andThen (record { pairs = j .pairs; facts = s }) (settle n n) ≡ andThen j (λ s. settle n n (addNilLinks t s))
+linked-behind : (n t r : ℕ) (j : Joined) (s : Facts) → r ≡ j .facts .rep t → s ≡ addLinks r r (j .facts) → andThen (record { pairs = j .pairs; facts = s }) (settle n n) ≡ andThen j (λ s. settle n n (addNilLinks t s))
 unfolding andThen addNilLinks
 linked-behind n t r j s e h = rw (h, e)
 
-pub nil-bounded : (n t : ℕ) (j : Joined) → n ≤ 16 → Bounded (j .facts) → Bounded (andThen j (λ s. settle n n (addNilLinks t s)) .facts)
+nil-bounded : (n t : ℕ) (j : Joined) → n ≤ 16 → Bounded (j .facts) → Bounded (andThen j (λ s. settle n n (addNilLinks t s)) .facts)
 unfolding andThen addNilLinks addLinks
 nil-bounded n t j h b = settled n h n _ (record { within = b .within })
+
+-- all of it: the first nil term and the others, and then nil's link
+module _ (entries : Entries) (n first : ℕ) (found : NextNil entries n 1 first) (below : first ≤ n) (j : Joined) where
+  pub nil-opened : andThen j (joinNil n (nilFrom entries n 1)) ≡ andThen (others n first (nilFrom entries n (first + 1)) j) (λ s. settle n n (addNilLinks first s))
+  nil-opened =
+      ap (λ (us : List ℕ). andThen j (joinNil n us)) (found .found below) ∙ nil-some n first (nilFrom entries n (first + 1)) j
+
+  module _ (joined : Joined) (are : joined ≡ others n first (nilFrom entries n (first + 1)) j) (r : ℕ) (s : Facts) (e : r ≡ joined .facts .rep first) (h : s ≡ addLinks r r (joined .facts)) where
+    pub nil-whole : andThen (record { pairs = joined .pairs; facts = s }) (settle n n) ≡ andThen j (joinNil n (nilFrom entries n 1))
+    nil-whole =
+        linked-behind n first r joined s e h ∙ ap (λ (i : Joined). andThen i (λ s. settle n n (addNilLinks first s))) are ∙ sym nil-opened
+
+    pub nil-settled : (out : Joined) → out ≡ andThen (record { pairs = joined .pairs; facts = s }) (settle n n) → n ≤ 16 → (rep : List ℕ) → repOf rep ≡ joined .facts .rep → Bounded (replacedBy rep) → Bounded (out .facts)
+    nil-settled out d few rep f b =
+        subst (λ (i : Joined). Bounded (i .facts)) (sym (d ∙ linked-behind n first r joined s e h)) (nil-bounded n first joined few (path-bounded rep (joined .facts) f b))
