@@ -9,7 +9,7 @@ use Rattle.logic.specs.Facts.{Facts, joinLines, start}
 use Rattle.logic.specs.Walk.{limit}
 use Rattle.logic.specs.Steps.{Steps}
 use Rattle.logic.specs.Derivation.{linesIn}
-use Rattle.checking.specs.Fitting.{Goal, wrongFrom}
+use Rattle.checking.specs.Fitting.{Goal, goalOf, wrongFrom}
 use Rattle.checker.specs.declared.Judged.{Judged}
 
 -- the first wrong line where i lines are read and these goals are left, or 0
@@ -19,6 +19,10 @@ wrongAt q bytes gs i = wrongFrom q gs (i + 1) (drop i (linesIn bytes))
 -- the same, by the code's answer: these goals are left where lines fit so far
 unfoldable pub resumed : Query → List ℕ → List Goal → Judged → ℕ
 resumed q bytes gs r = cond (r .fits) (wrongAt q bytes gs (r .at)) (r .at)
+
+-- the goal of a path, these pairs having been joined to make it
+abbrev pub goalIn : List (ℕ × ℕ) → Facts → Goal
+goalIn pairs s = goalOf (record { pairs = pairs; facts = s })
 
 -- The first goal, from i lines on; whatever goals follow it.
 pub record JudgesGoal (q : Query) (bytes : List ℕ) (count : ℕ) (g : Goal) (i : ℕ) (r : Judged) : Type 0 where

@@ -11,6 +11,7 @@ use Rattle.logic.specs.Facts.{Facts, Line, isClash}
 use Rattle.logic.specs.Rules.{triple, Move, move, applies}
 use Rattle.logic.specs.Walk.{isClashed}
 use Rattle.logic.specs.Derivation.{linesIn}
+use Rattle.facts.specs.Path.{pathOf}
 use Rattle.rules.specs.Answers.{kindOf}
 use Rattle.checking.specs.Fitting.{sameLine, moveIn}
 use Rattle.checking.specs.CheckCall.{countIn, misshapen}
@@ -35,6 +36,10 @@ lineAt bytes i = at (linesIn bytes) (suc i)
 unfoldable pub isLine : Option Line → Line → Bool
 isLine none h = false
 isLine (some l) h = sameLine l h
+
+-- the path that has these rows
+abbrev pub pathIn : List ℕ → List ℕ → List ℕ → Facts
+pathIn rep link reach = pathOf (record { rep = rep; link = link; reach = reach })
 
 -- What a line is at a path: its end, a rule that applies there, or wrong.
 pub data Read : Type 0 where

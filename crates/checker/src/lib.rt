@@ -16,15 +16,18 @@ ghost use Prim.Native.Nat.{_+_, _*_, _≤_, _<_};
 ghost use lib.ListN.{length};
 ghost use Rattle.logic.specs.Query.{decode};
 ghost use Rattle.logic.specs.Facts.{line};
+ghost use Rattle.logic.specs.Rules.{branch};
 ghost use Rattle.logic.specs.Calls.{accepts};
 ghost use Rattle.facts.specs.Path.{pathOf};
-ghost use Rattle.facts.specs.Pairs.{pairsOf, joinedOf, Fits};
+ghost use Rattle.facts.specs.Pairs.{pairsOf, joinedOf};
 ghost use Rattle.query.specs.LaysOut.{LaysOut};
+ghost use Rattle.rules.specs.Answers.{kindOf};
+ghost use Rattle.branch.specs.Alternatives.{alternativeAt};
 ghost use Rattle.logic.specs.Derivation.{linesIn};
-ghost use Rattle.checking.specs.Fitting.{goalOf, wrongLine};
+ghost use Rattle.checking.specs.Fitting.{wrongLine};
 ghost use Rattle.checking.specs.CheckCall.{countIn, byWrong, checkCall};
-ghost use Rattle.checker.specs.Reading.{lineAt, isLine, readAt, readingOf, shapely, Shaped};
-ghost use Rattle.checker.specs.Judging.{JudgesHead, JudgesGoal, Ahead};
+ghost use Rattle.checker.specs.Reading.{lineAt, isLine, pathIn, readAt, readingOf, shapely, Shaped};
+ghost use Rattle.checker.specs.Judging.{goalIn, JudgesHead, JudgesGoal, Ahead};
 ghost use Rattle.checker.specs.Promise.{meaning};
 
 // How far lines fit: `at` of them were read and all fit; or the first wrong line has number `at`.
@@ -94,7 +97,7 @@ fn read_line(
     at: usize,
     s: Facts,
 ) -> Reading
-    requires { ⌜ LaysOut layout (now query) × Shaped (now derivation) count ⌝ }
+    requires { ⌜ LaysOut layout (now query) × Shaped (now derivation) count × (pathOf s .links ≡ 1) ⌝ }
     ensures { λ r. ⌜ readingOf r ≡ readAt (decode (now (query .entry))) (pathOf s) (lineAt (now (derivation .entry)) at) ⌝ }
 {
     if count <= at {
@@ -111,7 +114,15 @@ fn read_line(
         }
         return Reading::Wrong;
     }
-    if let Clash::At(section, i, j) = clash::find_clash(query, layout, &s.rep, &s.reach) {
+    if let Clash::At(section, i, j) = clash::find_clash(
+        query,
+        layout,
+        &s.rep,
+        true,
+        &s.reach,
+        &s.reach,
+        &s.reach,
+    ) {
         return Reading::Wrong;
     }
     let Numbered::Is(rule) = rules::rule_numbered(k) else {
@@ -123,28 +134,82 @@ fn read_line(
     Reading::Wrong
 }
 
+// The path of one link with these rows.
+fn held<'a>(rep: &'a [u8; 17], link: &'a [u32; 17], reach: &'a [u32; 17]) -> Facts
+    ensures { λ r. ⌜ pathOf r ≡ pathIn (now (rep .entry)) (now (link .entry)) (now (reach .entry)) ⌝ }
+{
+    let own_rep = *rep;
+    let own_link = *link;
+    let own_reach = *reach;
+    Facts {
+        rep: own_rep,
+        link: own_link,
+        reach: own_reach,
+    }
+}
+
+// What line `at` is at the path with these rows.
+fn read_at<'a>(
+    query: &[u8],
+    layout: Layout,
+    derivation: &[u8],
+    count: usize,
+    at: usize,
+    rep: &'a [u8; 17],
+    link: &'a [u32; 17],
+    reach: &'a [u32; 17],
+) -> Reading
+    requires { ⌜ LaysOut layout (now query) × Shaped (now derivation) count ⌝ }
+    ensures { λ r. ⌜ readingOf r ≡ readAt (decode (now (query .entry))) (pathIn (now (rep .entry)) (now (link .entry)) (now (reach .entry))) (lineAt (now (derivation .entry)) at) ⌝ }
+{
+    let s = held(rep, link, reach);
+    read_line(query, layout, derivation, count, at, s)
+}
+
+// The branch of a rule at i, from 0, at the path with these rows.
+fn branch_at<'a>(
+    rep: &'a [u8; 17],
+    link: &'a [u32; 17],
+    reach: &'a [u32; 17],
+    n: usize,
+    rule: Rule,
+    x: Term,
+    y: Term,
+    z: Third,
+    i: usize,
+) -> Joined
+    requires { ⌜ (n ≤ 16) × (x .0 ≤ 16) × (y .0 ≤ 16) × (z .0 ≤ 16) ⌝ }
+    ensures { λ r. ⌜ joinedOf r ≡ branch n (pathIn (now (rep .entry)) (now (link .entry)) (now (reach .entry))) (alternativeAt 1 n (pathIn (now (rep .entry)) (now (link .entry)) (now (reach .entry)) .graph 1) (kindOf rule) (x .0) (y .0) (z .0) i) ⌝ }
+{
+    let s = held(rep, link, reach);
+    branch::branch(s, n, Link(1), rule, x, y, z, i)
+}
+
 // A branch: the lines of its joins, then its own, and then those of its branches in order, each checked by the same routine, one step
-// deeper. `left` of the rule steps that a path can have are left, so that the routine is at most 272 deep.
-pub fn check_goal(
+// deeper. `left` of the rule steps that a path can have are left, so that the routine is at most 272 deep. The path's rows are lent: a
+// path by value would be copied at each depth.
+pub fn check_goal<'a>(
     query: &[u8],
     layout: Layout,
     derivation: &[u8],
     count: usize,
     left: usize,
-    goal: Joined,
+    pairs: Pairs,
+    rep: &'a [u8; 17],
+    link: &'a [u32; 17],
+    reach: &'a [u32; 17],
     first: usize,
 ) -> Judged
-    requires { ⌜ LaysOut layout (now query) × (accepts (now query) ≡ true) × Shaped (now derivation) count × Ahead (decode (now query)) (pathOf (goal .facts)) left × Fits (joinedOf goal) × (first ≤ count) ⌝ }
-    ensures { λ r. ⌜ JudgesGoal (decode (now (query .entry))) (now (derivation .entry)) count (goalOf (joinedOf goal)) first r ⌝ }
+    requires { ⌜ LaysOut layout (now query) × (accepts (now query) ≡ true) × Shaped (now derivation) count × Ahead (decode (now query)) (pathIn (now rep) (now link) (now reach)) left × (length (pairsOf pairs) ≤ 17) × (first ≤ count) ⌝ }
+    ensures { λ r. ⌜ JudgesGoal (decode (now (query .entry))) (now (derivation .entry)) count (goalIn (pairsOf pairs) (pathIn (now (rep .entry)) (now (link .entry)) (now (reach .entry)))) first r ⌝ }
 {
     let n = layout.terms;
-    let s = goal.facts;
-    let head = check_head(derivation, count, goal.pairs, first);
+    let head = check_head(derivation, count, pairs, first);
     if !head.fits {
         return head;
     }
     let at = head.at;
-    match read_line(query, layout, derivation, count, at, s) {
+    match read_at(query, layout, derivation, count, at, rep, link, reach) {
         Reading::Wrong => Judged {
             fits: false,
             at: at + 1,
@@ -158,8 +223,19 @@ pub fn check_goal(
             let mut to = at + 1;
             let mut i: usize = 0;
             while i < total {
-                let branch = branch::branch(s, n, Link(1), rule, x, y, z, i);
-                let judged = check_goal(query, layout, derivation, count, left - 1, branch, to);
+                let branch = branch_at(rep, link, reach, n, rule, x, y, z, i);
+                let judged = check_goal(
+                    query,
+                    layout,
+                    derivation,
+                    count,
+                    left - 1,
+                    branch.pairs,
+                    &branch.facts.rep,
+                    &branch.facts.link,
+                    &branch.facts.reach,
+                    to,
+                );
                 if !judged.fits {
                     return judged;
                 }
@@ -209,7 +285,18 @@ fn judge(query: &[u8], layout: Layout, derivation: &[u8]) -> CheckAnswer
     let count = count_of(derivation);
     let n = layout.terms;
     let goal = start::start(query, layout);
-    let judged = check_goal(query, layout, derivation, count, limit(n), goal, 0);
+    let judged = check_goal(
+        query,
+        layout,
+        derivation,
+        count,
+        limit(n),
+        goal.pairs,
+        &goal.facts.rep,
+        &goal.facts.link,
+        &goal.facts.reach,
+        0,
+    );
     let at = judged.at;
     if !judged.fits {
         return CheckAnswer::Wrong(at);

@@ -1,11 +1,11 @@
 -- The search for a clash goes by sections.
-use Prim.Native.Nat.{ℕ, zero, suc}
+use Prim.Native.Nat.{ℕ}
 use mathlib.Core.Path.{_≡_, refl, sym, ap, ap₂, _∙_, fun-ext}
-use mathlib.Core.Bool.{Bool, true, false, not}
-use mathlib.Core.List.{List, [], _∷_, _++_, map, List·Memᴰ, List·Memᴰ·head, List·Memᴰ·tail}
+use mathlib.Core.Bool.{Bool, true, false}
+use mathlib.Core.List.{List, [], _∷_, _++_, map}
 use mathlib.Core.Option.{Option, none, some}
 use lib.ListN.{length}
-use Rattle.logic.specs.Search.{_and_, _or_, at, holdsOf, from, keep, orElse, firstOf, find, flatMap}
+use Rattle.logic.specs.Search.{_and_, _or_, from, keep, orElse, firstOf, find, flatMap}
 use Rattle.logic.specs.Query.{Literal, Query}
 use Rattle.logic.specs.Facts.{Facts, Line, line, negatedAt, plainAt, isClash, clashLines, clash}
 use Rattle.clash.specs.Sections.{oneTerm, reachHeld, sameField, alone, paired, pathClash}
@@ -39,23 +39,15 @@ unfolding _or_
 or-false true = refl
 or-false false = refl
 
--- a test that reads the link of a literal, where every literal of the list has link 1
-pub negated-one : (ls : List Literal) → ((l : Literal) → List·Memᴰ l ls → l .link ≡ 1) → (p : ℕ → Literal → Bool) (i : ℕ) → negatedAt ls i (λ l. p (l .link) l) ≡ negatedAt ls i (p 1)
-unfolding negatedAt at holdsOf
-negated-one ls one p zero = refl
-negated-one [] one p (suc i) = refl
-negated-one (l ∷ ls) one p (suc zero) = ap (λ (k : ℕ). not (l .plain) and p k l) (one l (List·Memᴰ·head refl))
-negated-one (l ∷ ls) one p (suc (suc i)) = negated-one ls (λ m h. one m (List·Memᴰ·tail h)) p (suc i)
-
-module _ (q : Query) (one : (l : Literal) → List·Memᴰ l (q .reachability) → l .link ≡ 1) (s : Facts) where
+module _ (q : Query) (s : Facts) where
   -- what makes a line of each section a clash
   line2 : (i : ℕ) → isClash q s (line 9 2 i 0) ≡ negatedAt (q .equalities) i (oneTerm (s .rep))
   unfolding isClash _and_ _or_
   line2 i = or-false _ ∙ or-false _
 
-  line3 : (i : ℕ) → isClash q s (line 9 3 i 0) ≡ negatedAt (q .reachability) i (reachHeld (s .rep) (s .graph 1 .reach))
+  line3 : (i : ℕ) → isClash q s (line 9 3 i 0) ≡ negatedAt (q .reachability) i (reachHeld s)
   unfolding isClash _and_ _or_
-  line3 i = or-false _ ∙ negated-one (q .reachability) one (λ k. reachHeld (s .rep) (s .graph k .reach)) i
+  line3 i = or-false _
 
   line4 : (i j : ℕ) → isClash q s (line 9 4 i j) ≡ negatedAt (q .fields) i (λ l. plainAt (q .fields) j (sameField (s .rep) l))
   unfolding isClash _and_ _or_
@@ -77,11 +69,11 @@ module _ (q : Query) (one : (l : Literal) → List·Memᴰ l (q .reachability) �
       ∙ ap (λ (t : ℕ → Bool). firstOf (λ j. keep (t j) (line 9 k i j)) (from (length ls) 1)) (fun-ext (e i))))
 
   -- "Lowest section, then lowest place, is reported"
-  pub clash-split : clash q s ≡ pathClash q (s .rep) (s .graph 1 .reach)
+  pub clash-split : clash q s ≡ pathClash q s
   unfolding clash clashLines pathClash
   clash-split =
       find-append (isClash q s) _ _
       ∙ ap₂ orElse (find-alone 2 (q .equalities) (oneTerm (s .rep)) line2)
       (find-append (isClash q s) _ _
-      ∙ ap₂ orElse (find-alone 3 (q .reachability) (reachHeld (s .rep) (s .graph 1 .reach)) line3)
+      ∙ ap₂ orElse (find-alone 3 (q .reachability) (reachHeld s) line3)
       (find-paired 4 (q .fields) (sameField (s .rep)) line4))

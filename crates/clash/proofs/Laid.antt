@@ -1,53 +1,65 @@
 -- The searches of the sections, each where the query's bytes have it, make up the clash of a path.
 use Prim.Native.Nat.{ℕ}
-use mathlib.Core.Path.{_≡_, ap, ap₂, _∙_, subst}
-use mathlib.Core.Bool.{Bool}
-use mathlib.Core.List.{List, List·Memᴰ}
+use mathlib.Core.Path.{_≡_, refl, ap, _∙_, fun-ext}
+use mathlib.Core.Bool.{Bool, true, false, cond}
+use mathlib.Core.List.{List}
 use mathlib.Core.Option.{Option, none, some}
 use Rattle.logic.specs.Search.{orElse}
-use Rattle.logic.specs.Query.{Literal, decode}
 use Rattle.logic.specs.Facts.{Facts, Line, clash}
-use Rattle.theory.proofs.Query.Bytes.{literals-link}
+use lib.Dec.{eqb}
+use Rattle.facts.specs.Square.{square}
+use Rattle.facts.specs.Path.{repOf, pathOf, onlyLink, graphOf}
+use Rattle.facts.specs.declared.Facts as code
 use Rattle.query.specs.declared.Layout.{Layout}
-use Rattle.query.specs.LaysOut.{LaysOut}
-use Rattle.clash.specs.Sections.{literalsIn, oneTerm, reachHeld, sameField, alone, paired, pathClash}
+use Rattle.link_query.specs.Said.{said}
+use Rattle.logic.specs.Query.{Query}
+use Rattle.clash.specs.declared.Clash.{Clash}
+use Rattle.clash.specs.Answers.{lineOf, ClashOf}
+use Rattle.clash.specs.Sections.{literalsIn, oneTerm, rowsOf, rowsHeld, sameField, alone, paired, pathClash}
 use Rattle.clash.proofs.Decomposed.{clash-split}
 
-module _ {l : Layout} {bytes : List ℕ} (laid : LaysOut l bytes) where
-  -- every reachability literal has link 1
-  reach-one : (x : Literal) → List·Memᴰ x (decode bytes .reachability) → x .link ≡ 1
-  reach-one x m = literals-link _ x (subst (List·Memᴰ x) (laid .reach-are) m)
+-- the rows that hold a path's reachability
+abbrev pub reachOf : code.Facts → ℕ → ℕ → ℕ → Bool
+reachOf s = rowsOf true (s .reach) (s .reach) (s .reach)
 
-  module _ (rep : ℕ → ℕ) (reach : ℕ → ℕ → Bool) where
-    abbrev inEqualities : Option Line
-    inEqualities = alone 2 (literalsIn bytes (l .«equal_at») (l .«equal_count»)) (oneTerm rep)
+pub path-reach : (s : code.Facts) → (λ k. pathOf s .graph k .reach) ≡ reachOf s
+unfolding pathOf onlyLink graphOf rowsOf
+path-reach s = fun-ext (λ k. go (eqb k 1))
+  where
+    go : (t : Bool) → cond t (graphOf (s .link) (s .reach)) (record { link = λ a b. false; reach = λ a b. false }) .reach ≡ (λ a b. cond t (square (s .reach) a b) false)
+    go true = refl
+    go false = refl
 
-    abbrev inReachability : Option Line
-    inReachability = alone 3 (literalsIn bytes (l .«reach_at») (l .«reach_count»)) (reachHeld rep reach)
+-- what is found with the rows of a path lent is the clash of that path
+pub path-clash : (r : Clash) (q : Query) (s : code.Facts) → ClashOf r q (repOf (s .rep)) (reachOf s) → lineOf r ≡ clash q (pathOf s)
+unfolding pathOf
+path-clash r q s h = h (pathOf s) refl (path-reach s)
 
-    abbrev inFields : Option Line
-    inFields = paired 4 (literalsIn bytes (l .«field_at») (l .«field_count»)) (sameField rep)
+module _ (l : Layout) (bytes : List ℕ) (rep : ℕ → ℕ) (reach : ℕ → ℕ → ℕ → Bool) (s : Facts) (same-rep : s .rep ≡ rep) (same-reach : (λ k. s .graph k .reach) ≡ reach) where
+  abbrev inEqualities : (ℕ → ℕ) → Option Line
+  inEqualities r = alone 2 (literalsIn bytes (l .«equal_at») (l .«equal_count»)) (oneTerm r)
 
-    sections-laid : pathClash (decode bytes) rep reach ≡ orElse inEqualities (orElse inReachability inFields)
-    unfolding pathClash
-    sections-laid =
-        ap₂ orElse (ap (λ (ls : List Literal). alone 2 ls (oneTerm rep)) (laid .equal-are))
-        (ap₂ orElse (ap (λ (ls : List Literal). alone 3 ls (reachHeld rep reach)) (laid .reach-are))
-        (ap (λ (ls : List Literal). paired 4 ls (sameField rep)) (laid .field-are)))
+  abbrev inReachability : (ℕ → ℕ) → (ℕ → ℕ → ℕ → Bool) → Option Line
+  inReachability r g = alone 3 (said l bytes .reachability) (rowsHeld r g)
 
-    -- the clash of every path with these representatives and this reachability
-    module _ (s : Facts) (e : s .rep ≡ rep) (f : s .graph 1 .reach ≡ reach) where
-      clash-laid : clash (decode bytes) s ≡ orElse inEqualities (orElse inReachability inFields)
-      clash-laid = clash-split (decode bytes) reach-one s ∙ ap₂ (pathClash (decode bytes)) e f ∙ sections-laid
+  abbrev inFields : (ℕ → ℕ) → Option Line
+  inFields r = paired 4 (literalsIn bytes (l .«field_at») (l .«field_count»)) (sameField r)
 
-      pub equality-first : (x : Line) → inEqualities ≡ some x → clash (decode bytes) s ≡ some x
-      unfolding orElse
-      equality-first x g = clash-laid ∙ rw g
+  clash-laid : clash (said l bytes) s ≡ orElse (inEqualities rep) (orElse (inReachability rep reach) (inFields rep))
+  unfolding pathClash said
+  clash-laid =
+      clash-split (said l bytes) s
+      ∙ ap (λ (r : ℕ → ℕ). orElse (inEqualities r) (orElse (inReachability r (λ k. s .graph k .reach)) (inFields r))) same-rep
+      ∙ ap (λ (g : ℕ → ℕ → ℕ → Bool). orElse (inEqualities rep) (orElse (inReachability rep g) (inFields rep))) same-reach
 
-      pub reach-second : (x : Line) → inEqualities ≡ none → inReachability ≡ some x → clash (decode bytes) s ≡ some x
-      unfolding orElse
-      reach-second x g h = clash-laid ∙ rw (g, h)
+  pub equality-first : (x : Line) → inEqualities rep ≡ some x → clash (said l bytes) s ≡ some x
+  unfolding orElse
+  equality-first x g = clash-laid ∙ rw g
 
-      pub fields-third : inEqualities ≡ none → inReachability ≡ none → clash (decode bytes) s ≡ inFields
-      unfolding orElse
-      fields-third g h = clash-laid ∙ rw (g, h)
+  pub reach-second : (x : Line) → inEqualities rep ≡ none → inReachability rep reach ≡ some x → clash (said l bytes) s ≡ some x
+  unfolding orElse
+  reach-second x g h = clash-laid ∙ rw (g, h)
+
+  pub fields-third : inEqualities rep ≡ none → inReachability rep reach ≡ none → clash (said l bytes) s ≡ inFields rep
+  unfolding orElse
+  fields-third g h = clash-laid ∙ rw (g, h)

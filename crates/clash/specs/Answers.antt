@@ -1,7 +1,11 @@
 -- The code's answers as the definitions' options.
 use Prim.Native.Nat.{ℕ}
+use mathlib.Core.Path.{_≡_}
+use mathlib.Core.Bool.{Bool}
 use mathlib.Core.Option.{Option, none, some}
-use Rattle.logic.specs.Facts.{Line, line}
+use Rattle.logic.specs.Query.{Query}
+use Rattle.logic.specs.Facts.{Facts, Line, line}
+use Rattle.logic.specs.Facts as logic
 use Rattle.clash.specs.declared.Place.{Place}
 use Rattle.clash.specs.declared.Place.the-variants as place
 use Rattle.clash.specs.declared.Clash.{Clash}
@@ -15,3 +19,7 @@ placeOf place.Nothing = none
 abbrev pub lineOf : Clash → Option Line
 lineOf (clash.At section i j) = some (line 9 section i j)
 lineOf clash.Nothing = none
+
+-- the clash of every path with these representatives and this reachability
+abbrev pub ClashOf : Clash → Query → (ℕ → ℕ) → (ℕ → ℕ → ℕ → Bool) → Type 0
+ClashOf r q rep reach = (s : Facts) → s .rep ≡ rep → (λ k. s .graph k .reach) ≡ reach → lineOf r ≡ logic.clash q s

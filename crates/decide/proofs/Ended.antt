@@ -6,15 +6,13 @@ use mathlib.Core.Bool.{Bool, true, false, not, true≢false, false≢true}
 use mathlib.Core.List.{List, [], _∷_, List·Memᴰ, List·Memᴰ·head, List·Memᴰ·tail}
 use mathlib.Core.Option.{none, some}
 use lib.ListN.{length, getD}
-use Rattle.logic.specs.Query.{Query, termCount, isOrder, decode}
+use Rattle.logic.specs.Query.{Query, termCount, isOrder}
 use Rattle.logic.specs.Facts.{Facts, Line, Joined, clash}
 use Rattle.logic.specs.Rules.{Rule, rules, triple, Move, move, applies, alternatives, add, branch, branches, choose}
 use Rattle.logic.specs.Walk.{Look, clashing, applying, saturated, look, orderOf, walk, saturation}
 use Rattle.logic.specs.Steps.{AtMost}
-use Rattle.logic.specs.Calls.{accepts}
 use Rattle.logic.specs.Decision.{HasHeap, NoHeap, Reachable, Closes, Struck}
 use Rattle.theory.proofs.Basics.Search.{map-mem}
-use Rattle.theory.proofs.Query.AcceptedBytes.{accepted}
 use Rattle.theory.proofs.Query.Tied.{Accepted}
 use Rattle.theory.proofs.Walks.Order.{HoldsAll, rules-full, order-full}
 use Rattle.theory.proofs.Walks.Derives.{seen-applying, seen-clashing, seen-saturated}
@@ -31,13 +29,7 @@ use Rattle.decide.proofs.Branches.{row-length, row-at}
 use Rattle.decide.proofs.Tells.{refuted-open, refuted-unknown, open-unknown, refuted-is}
 
 -- of plain steps
-module _ (bytes order : List ℕ) (acc : accepts bytes ≡ true) (o : isOrder order ≡ true) (k : ℕ) (s : Facts) (known : Known (decode bytes) s) (limited : Bool) (w : Walked) where
-  abbrev q : Query
-  q = decode bytes
-
-  ok : Accepted q
-  ok = accepted bytes acc
-
+module _ {q : Query} (order : List ℕ) (ok : Accepted q) (o : isOrder order ≡ true) (k : ℕ) (s : Facts) (known : Known q s) (limited : Bool) (w : Walked) where
   full : HoldsAll (orderOf order)
   full = order-full order o
 
@@ -69,15 +61,15 @@ module _ (bytes order : List ℕ) (acc : accepts bytes ≡ true) (o : isOrder or
       }
 
 -- the decision
-module _ (bytes : List ℕ) (acc : accepts bytes ≡ true) (s : Facts) where
-  pub decides-open : (k : Kind) (w : Facts) → Ends (decode bytes) s k w → k ≡ kind.Open → Shows (decode bytes) s true w
+module _ {q : Query} (s : Facts) where
+  pub decides-open : (k : Kind) (w : Facts) → Ends q s k w → k ≡ kind.Open → Shows q s true w
   decides-open k w told e =
       record {
         decides = record { yes-right = λ f. told .tells .has e; no-right = λ f. absurd (true≢false f) };
         shows = λ f. told .shows e;
       }
 
-  pub decides-refuted : (k : Kind) (w : Facts) → Ends (decode bytes) s k w → k ≡ kind.Refuted → (v : Facts) → Shows (decode bytes) s false v
+  pub decides-refuted : (k : Kind) (w : Facts) → Ends q s k w → k ≡ kind.Refuted → (v : Facts) → Shows q s false v
   decides-refuted k w told e v =
       record {
         decides = record { yes-right = λ f. absurd (false≢true f); no-right = λ f. told .tells .refuted e };
@@ -85,16 +77,16 @@ module _ (bytes : List ℕ) (acc : accepts bytes ≡ true) (s : Facts) where
       }
 
   -- the path itself has a heap
-  shows-itself : (b : Bool) → Decides (decode bytes) s b → Shows (decode bytes) s b s
+  shows-itself : (b : Bool) → Decides q s b → Shows q s b s
   shows-itself b d = record { decides = d; shows = d .yes-right }
 
-  pub decides-walked : (order : List ℕ) → isOrder order ≡ true → (k : ℕ) → Reachable (decode bytes) s → AtMost (termCount (decode bytes)) s k → (w : Walked) → Walks (decode bytes) order k s false w → (b : Bool) → b ≡ isRefuted (w .kind) → Shows (decode bytes) s (not b) s
-  decides-walked order o k reach most w told b e = shows-itself (not b) (go (w .kind) refl (e))
+  pub decides-walked : Accepted q → (order : List ℕ) → isOrder order ≡ true → (k : ℕ) → Reachable q s → AtMost (termCount q) s k → (w : Walked) → Walks q order k s false w → (b : Bool) → b ≡ isRefuted (w .kind) → Shows q s (not b) s
+  decides-walked ok order o k reach most w told b e = shows-itself (not b) (go (w .kind) refl (e))
     where
-      known : Known (decode bytes) s
-      known = reachable-known (decode bytes) (accepted bytes acc) s reach
+      known : Known q s
+      known = reachable-known q ok s reach
 
-      go : (c : Kind) → w .kind ≡ c → b ≡ isRefuted c → Decides (decode bytes) s (not b)
+      go : (c : Kind) → w .kind ≡ c → b ≡ isRefuted c → Decides q s (not b)
       go kind.Refuted f g = rw g (record { yes-right = λ z. absurd (false≢true z); no-right = λ z. told .refuted f })
-      go kind.Open f g = rw g (record { yes-right = λ z. walk-saturation (decode bytes) (accepted bytes acc) (orderOf order) (order-full order o) k s known most (pathOf (w .facts)) (told .ends f); no-right = λ z. absurd (true≢false z) })
+      go kind.Open f g = rw g (record { yes-right = λ z. walk-saturation q ok (orderOf order) (order-full order o) k s known most (pathOf (w .facts)) (told .ends f); no-right = λ z. absurd (true≢false z) })
       go kind.Unknown f g = absurd (false≢true (told .gives-up f))

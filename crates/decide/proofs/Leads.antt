@@ -10,14 +10,12 @@ use lib.Seq.{take-length}
 use lib.Dec.{eqb}
 use borrow.Author.Tests.{eqb-true}
 use Rattle.logic.specs.Search.{from, any, all}
-use Rattle.logic.specs.Query.{Query, termCount, isOrder, decode}
+use Rattle.logic.specs.Query.{Query, termCount, isOrder}
 use Rattle.logic.specs.Facts.{Facts}
 use Rattle.logic.specs.Walk.{Look, look, orderOf}
 use Rattle.logic.specs.Steps.{AtMost}
-use Rattle.logic.specs.Calls.{accepts}
 use Rattle.logic.specs.Decision.{Closes}
 use Rattle.theory.proofs.Basics.Search.{bool-cases, and-left}
-use Rattle.theory.proofs.Query.AcceptedBytes.{accepted}
 use Rattle.theory.proofs.Query.Tied.{Accepted}
 use Rattle.theory.proofs.Walks.Order.{order-full}
 use Rattle.theory.proofs.Calls.Decision.{Known, closed-known, closed-heap}
@@ -38,13 +36,7 @@ look-behind q order n t e long b cl =
     look-rest q (orderOf order) (orderOf (drop 3 order)) (begins-with order long b) t (subst (λ (m : ℕ). Closed m t) e cl)
     ∙ ap (λ (ks : List ℕ). look q (orderOf ks) t) (sym (ap (λ (m : ℕ). take m (drop 3 order)) (sym (length-drop 3 order)) ∙ take-length (drop 3 order)))
 
-module _ (bytes order : List ℕ) (acc : accepts bytes ≡ true) (o : isOrder order ≡ true) (k : ℕ) (s t : Facts) (known : Known (decode bytes) s) (most : AtMost (termCount (decode bytes)) s k) (n : ℕ) (terms-are : n ≡ termCount (decode bytes)) (a : Ahead n order s t) where
-  abbrev q : Query
-  q = decode bytes
-
-  ok : Accepted q
-  ok = accepted bytes acc
-
+module _ {q : Query} (order : List ℕ) (ok : Accepted q) (o : isOrder order ≡ true) (k : ℕ) (s t : Facts) (known : Known q s) (most : AtMost (termCount q) s k) (n : ℕ) (terms-are : n ≡ termCount q) (a : Ahead n order s t) where
   closes : begins order ≡ true → Closes (termCount q) s t
   closes b = subst (λ (m : ℕ). Closes m s t) terms-are (a .0 b .0)
 

@@ -6,15 +6,13 @@ use mathlib.Core.Bool.{Bool, true, false, not, _&&_, true≢false, false≢true}
 use mathlib.Core.List.{List, [], _∷_, List·Memᴰ, List·Memᴰ·head, List·Memᴰ·tail}
 use mathlib.Core.Option.{none, some}
 use lib.ListN.{length, getD}
-use Rattle.logic.specs.Query.{Query, termCount, isOrder, decode}
+use Rattle.logic.specs.Query.{Query, termCount, isOrder}
 use Rattle.logic.specs.Facts.{Facts, Line, Joined, clash}
 use Rattle.logic.specs.Rules.{Rule, rules, triple, Move, move, applies, alternatives, add, branch, branches, choose}
 use Rattle.logic.specs.Walk.{Look, clashing, applying, saturated, look, orderOf, walk, saturation}
 use Rattle.logic.specs.Steps.{AtMost}
-use Rattle.logic.specs.Calls.{accepts}
 use Rattle.logic.specs.Decision.{HasHeap, NoHeap, Reachable, Closes, Struck}
 use Rattle.theory.proofs.Basics.Search.{map-mem}
-use Rattle.theory.proofs.Query.AcceptedBytes.{accepted}
 use Rattle.theory.proofs.Query.Tied.{Accepted}
 use Rattle.theory.proofs.Paths.Applies.{hasLink-range, applies-linked}
 use Rattle.theory.proofs.Walks.Order.{HoldsAll, rules-full, order-full}
@@ -90,13 +88,7 @@ module _ (q : Query) (s : Facts) where
     pub ends-as : (s′ : Facts) (k : Kind) → Ends q s′ k w → Tells q s k → Ends q s k w
     ends-as s′ k ended told = record { tells = told; shows = ended .shows }
 
-module _ (bytes : List ℕ) (acc : accepts bytes ≡ true) (s t : Facts) (known : Known (decode bytes) s) (n : ℕ) (terms-are : n ≡ termCount (decode bytes)) (cl : Closes n s t) where
-  abbrev q : Query
-  q = decode bytes
-
-  ok : Accepted q
-  ok = accepted bytes acc
-
+module _ {q : Query} (ok : Accepted q) (s t : Facts) (known : Known q s) (n : ℕ) (terms-are : n ≡ termCount q) (cl : Closes n s t) where
   closes : Closes (termCount q) s t
   closes = subst (λ (m : ℕ). Closes m s t) terms-are cl
 

@@ -6,15 +6,13 @@ use mathlib.Core.Bool.{Bool, true, false, not, true≢false, false≢true}
 use mathlib.Core.List.{List, [], _∷_, List·Memᴰ, List·Memᴰ·head, List·Memᴰ·tail}
 use mathlib.Core.Option.{none, some}
 use lib.ListN.{length, getD}
-use Rattle.logic.specs.Query.{Query, termCount, isOrder, decode}
+use Rattle.logic.specs.Query.{Query, termCount, isOrder}
 use Rattle.logic.specs.Facts.{Facts, Line, Joined, clash}
 use Rattle.logic.specs.Rules.{Rule, rules, triple, Move, move, applies, alternatives, add, branch, branches, choose}
 use Rattle.logic.specs.Walk.{Look, clashing, applying, saturated, look, orderOf, walk, saturation}
 use Rattle.logic.specs.Steps.{AtMost}
-use Rattle.logic.specs.Calls.{accepts}
 use Rattle.logic.specs.Decision.{HasHeap, NoHeap, Reachable, Closes, Struck}
 use Rattle.theory.proofs.Basics.Search.{map-mem}
-use Rattle.theory.proofs.Query.AcceptedBytes.{accepted}
 use Rattle.theory.proofs.Query.Tied.{Accepted}
 use Rattle.theory.proofs.Walks.Order.{HoldsAll, rules-full, order-full}
 use Rattle.theory.proofs.Walks.Derives.{seen-applying, seen-clashing, seen-saturated}
@@ -42,13 +40,7 @@ row-fewer q order k s m most h i l =
     let (c, ci, e) = map-mem (add (termCount q) s) (getD (branches (termCount q) s m) i s) (alternatives (termCount q) (s .graph) m) (getD-mem (branches (termCount q) s m) i s l) in
     subst (λ (t : Facts). AtMost (termCount q) t (k - 1)) (sym e) (look-fewer q order k s m most h c ci)
 
-module _ (bytes order : List ℕ) (acc : accepts bytes ≡ true) (o : isOrder order ≡ true) (k : ℕ) (s : Facts) (known : Known (decode bytes) s) (most : AtMost (termCount (decode bytes)) s k) (n : ℕ) (terms-are : n ≡ termCount (decode bytes)) (l : ℕ) (r : Rule) (x y z : ℕ) (h : look (decode bytes) (orderOf order) s ≡ applying (move l r (triple x y z))) where
-  abbrev q : Query
-  q = decode bytes
-
-  ok : Accepted q
-  ok = accepted bytes acc
-
+module _ {q : Query} (order : List ℕ) (ok : Accepted q) (o : isOrder order ≡ true) (k : ℕ) (s : Facts) (known : Known q s) (most : AtMost (termCount q) s k) (n : ℕ) (terms-are : n ≡ termCount q) (l : ℕ) (r : Rule) (x y z : ℕ) (h : look q (orderOf order) s ≡ applying (move l r (triple x y z))) where
   abbrev m : Move
   m = move l r (triple x y z)
 

@@ -14,13 +14,13 @@ ghost use mathlib.Core.Logic.{_⊎_};
 ghost use Prim.Native.Nat.{ℕ, _*_, _≤_};
 ghost use lib.ListN.{length};
 ghost use Rattle.logic.specs.Walk.{look, orderOf};
-ghost use Rattle.logic.specs.Query.{decode, termCount, isOrder};
+ghost use Rattle.logic.specs.Query.{termCount, isOrder};
 ghost use Rattle.logic.specs.Steps.{AtMost};
-ghost use Rattle.logic.specs.Calls.{accepts};
 ghost use Rattle.logic.specs.Decision.{Reachable};
+ghost use Rattle.theory.proofs.Query.Tied.{Accepted};
 ghost use Rattle.theory.proofs.Calls.Decision.{Known};
 ghost use Rattle.facts.specs.Path.{pathOf};
-ghost use Rattle.query.specs.LaysOut.{LaysOut};
+ghost use Rattle.link_query.specs.Said.{said, Within};
 ghost use Rattle.closing.specs.Closed.{Closed, begins};
 ghost use Rattle.walk.specs.Looks.{lookOf};
 ghost use Rattle.decide.specs.Tells.{isRefuted, isUnknown, Sees, Ends, Ahead, Walks, Shows};
@@ -110,8 +110,8 @@ fn ahead(order: &[u8], s: Facts, n: usize) -> Facts
 
 // What our walk sees at such a path: a closed one leaves nothing to the rules that closed it.
 fn look_ahead(query: &[u8], layout: Layout, order: &[u8], t: Facts) -> walk::Seen
-    requires { ⌜ LaysOut layout (now query) × (3 ≤ length (now order)) × (begins (now order) ≡ true → Closed (layout .terms) (pathOf t)) ⌝ }
-    ensures { λ r. ⌜ lookOf r ≡ look (decode (now (query .entry))) (orderOf (now (order .entry))) (pathOf t) ⌝ }
+    requires { ⌜ Within layout (now query) × (3 ≤ length (now order)) × (begins (now order) ≡ true → Closed (layout .terms) (pathOf t)) ⌝ }
+    ensures { λ r. ⌜ lookOf r ≡ look (said layout (now (query .entry))) (orderOf (now (order .entry))) (pathOf t) ⌝ }
 {
     if closing::begins(order) {
         return walk::look(query, layout, &order[3..], t);
@@ -130,8 +130,8 @@ pub fn plain(
     limited: bool,
     budget: usize,
 ) -> Walked
-    requires { ⌜ LaysOut layout (now query) × (accepts (now query) ≡ true) × (isOrder (now order) ≡ true) × Known (decode (now query)) (pathOf s) × AtMost (termCount (decode (now query))) (pathOf s) left ⌝ }
-    ensures { λ r. ⌜ Walks (decode (now (query .entry))) (now (order .entry)) left (pathOf s) limited r ⌝ }
+    requires { ⌜ Within layout (now query) × Accepted (said layout (now query)) × (isOrder (now order) ≡ true) × Known (said layout (now query)) (pathOf s) × AtMost (termCount (said layout (now query))) (pathOf s) left ⌝ }
+    ensures { λ r. ⌜ Walks (said layout (now (query .entry))) (now (order .entry)) left (pathOf s) limited r ⌝ }
 {
     let n = layout.terms;
     let front = ahead(order, s, n);
@@ -183,10 +183,18 @@ pub fn plain(
 
 // What strategy `how` sees at a path: its clash, the rule that it picks, or neither.
 fn sees(query: &[u8], layout: Layout, how: usize, s: Facts) -> Seen
-    requires { ⌜ LaysOut layout (now query) ⌝ }
-    ensures { λ r. ⌜ Sees (decode (now (query .entry))) (pathOf s) r ⌝ }
+    requires { ⌜ Within layout (now query) ⌝ }
+    ensures { λ r. ⌜ Sees (said layout (now (query .entry))) (pathOf s) r ⌝ }
 {
-    if let Clash::At(_, _, _) = clash::find_clash(query, layout, &s.rep, &s.reach) {
+    if let Clash::At(_, _, _) = clash::find_clash(
+        query,
+        layout,
+        &s.rep,
+        true,
+        &s.reach,
+        &s.reach,
+        &s.reach,
+    ) {
         return Seen::Clashing;
     }
     let Choice::Apply(k, rule, x, y, z) = picking::pick(query, layout, how, s) else {
@@ -197,8 +205,8 @@ fn sees(query: &[u8], layout: Layout, how: usize, s: Facts) -> Seen
 
 // A strategy: the path is closed, and then branches where the strategy picks.
 fn search(query: &[u8], layout: Layout, how: usize, left: usize, s: Facts, budget: usize) -> Tried
-    requires { ⌜ LaysOut layout (now query) × (accepts (now query) ≡ true) × Known (decode (now query)) (pathOf s) ⌝ }
-    ensures { λ r. ⌜ Ends (decode (now (query .entry))) (pathOf s) (r .kind) (pathOf (r .facts)) ⌝ }
+    requires { ⌜ Within layout (now query) × Accepted (said layout (now query)) × Known (said layout (now query)) (pathOf s) ⌝ }
+    ensures { λ r. ⌜ Ends (said layout (now (query .entry))) (pathOf s) (r .kind) (pathOf (r .facts)) ⌝ }
 {
     let n = layout.terms;
     let t = closing::close(s, n);
@@ -255,11 +263,11 @@ fn search(query: &[u8], layout: Layout, how: usize, left: usize, s: Facts, budge
     }
 }
 
-// Four times the budget once all three strategies had theirs.
+// Four times the budget once all four strategies had theirs.
 fn grown(budget: usize, turn: usize) -> usize
     ensures { λ r. ⌜ (r ≡ budget) ⊎ ((budget ≤ 1000000000000) × (r ≡ 4 * budget)) ⌝ }
 {
-    if turn % 3 != 2 {
+    if turn % 4 != 3 {
         return budget;
     }
     if 1000000000000 < budget {
@@ -268,20 +276,12 @@ fn grown(budget: usize, turn: usize) -> usize
     4 * budget
 }
 
-// The paths that a strategy may look at: one that probes takes longer at each, and is done after far fewer.
-fn share(budget: usize, how: usize) -> usize {
-    if how == 2 {
-        return budget / 2 + 1;
-    }
-    budget
-}
-
-// The strategies in turn, each with a budget; then all again with four times the budget, until one is done. The one that probes begins: where
-// all take long, it is done soonest as a rule. Before them the cheapest has a short try, and then strategy `first`: the one that was done with
+// The strategies in turn, each with a budget; then all again with four times the budget, until one is done. The two that probe begin: where
+// all take long, one of them is done soonest as a rule. Before them the cheapest has a short try, and then strategy `first`: the one that was done with
 // a path before this is often done with this one too.
 fn in_turn(query: &[u8], layout: Layout, s: Facts, first: usize) -> Settled
-    requires { ⌜ LaysOut layout (now query) × (accepts (now query) ≡ true) × Known (decode (now query)) (pathOf s) ⌝ }
-    ensures { λ r. ⌜ Ends (decode (now (query .entry))) (pathOf s) (r .kind) (pathOf (r .facts)) ⌝ }
+    requires { ⌜ Within layout (now query) × Accepted (said layout (now query)) × Known (said layout (now query)) (pathOf s) ⌝ }
+    ensures { λ r. ⌜ Ends (said layout (now (query .entry))) (pathOf s) (r .kind) (pathOf (r .facts)) ⌝ }
 {
     let quick = search(query, layout, 0, 300, s, 50);
     let known = quick.kind;
@@ -293,7 +293,7 @@ fn in_turn(query: &[u8], layout: Layout, s: Facts, first: usize) -> Settled
             facts: end,
         };
     }
-    let soon = search(query, layout, first, 300, s, share(400, first));
+    let soon = search(query, layout, first, 300, s, 400);
     let found = soon.kind;
     if !is_unknown(found) {
         let end = soon.facts;
@@ -305,9 +305,9 @@ fn in_turn(query: &[u8], layout: Layout, s: Facts, first: usize) -> Settled
     }
     let mut budget: usize = 50;
     let mut turn: usize = 0;
-    while turn < 36 {
-        let how = (turn + 2) % 3;
-        let tried = search(query, layout, how, 300, s, share(budget, how));
+    while turn < 48 {
+        let how = (turn + 2) % 4;
+        let tried = search(query, layout, how, 300, s, budget);
         let kind = tried.kind;
         if !is_unknown(kind) {
             let end = tried.facts;
@@ -337,8 +337,8 @@ pub fn has_heap(
     s: Facts,
     first: usize,
 ) -> Decided
-    requires { ⌜ LaysOut layout (now query) × (accepts (now query) ≡ true) × (isOrder (now order) ≡ true) × Reachable (decode (now query)) (pathOf s) × AtMost (termCount (decode (now query))) (pathOf s) left ⌝ }
-    ensures { λ r. ⌜ Shows (decode (now (query .entry))) (pathOf s) (r .has) (pathOf (r .facts)) ⌝ }
+    requires { ⌜ Within layout (now query) × Accepted (said layout (now query)) × (isOrder (now order) ≡ true) × Reachable (said layout (now query)) (pathOf s) × AtMost (termCount (said layout (now query))) (pathOf s) left ⌝ }
+    ensures { λ r. ⌜ Shows (said layout (now (query .entry))) (pathOf s) (r .has) (pathOf (r .facts)) ⌝ }
 {
     let settled = in_turn(query, layout, s, first);
     let found = settled.kind;

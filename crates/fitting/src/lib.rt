@@ -9,12 +9,11 @@ ghost use Prim.Native.Nat.{ℕ, _+_, _*_, _≤_, _<_};
 ghost use lib.ListN.{length};
 ghost use lib.Dec.{eqb};
 ghost use Rattle.logic.specs.Search.{_and_};
-ghost use Rattle.logic.specs.Query.{decode};
 ghost use Rattle.logic.specs.Facts.{live, line, negatedAt, plainAt, isClash};
 ghost use Rattle.logic.specs.Rules.{CYCLE, triple, move, applies};
 ghost use Rattle.facts.specs.Square.{square};
 ghost use Rattle.facts.specs.Path.{graphOf, pathOf, repOf};
-ghost use Rattle.query.specs.LaysOut.{LaysOut};
+ghost use Rattle.link_query.specs.Said.{said, Within};
 ghost use Rattle.rules.specs.Answers.{kindOf};
 ghost use Rattle.rules.specs.Tests.{pairTest, thirdTest, looped};
 ghost use Rattle.rules.specs.Smallest.{allowed};
@@ -140,24 +139,18 @@ fn is_equality_clash(query: &[u8], at: usize, count: usize, rep: &[u8; 17], i: u
 }
 
 // Reachability literal i, from 1, is negated, and its fact is held.
-fn is_reach_clash<'a>(
-    query: &[u8],
-    at: usize,
-    count: usize,
-    rep: &'a [u8; 17],
-    reach: &'a [u32; 17],
-    i: usize,
-) -> bool
-    requires { ⌜ at + 3 * count ≤ length (now query) ⌝ }
-    ensures { λ r. ⌜ r ≡ negatedAt (literalsIn (now (query .entry)) at count) i (reachHeld (repOf (now (rep .entry))) (square (now (reach .entry)))) ⌝ }
+fn is_reach_clash(query: &[u8], layout: Layout, s: Facts, i: usize) -> bool
+    requires { ⌜ Within layout (now query) ⌝ }
+    ensures { λ r. ⌜ r ≡ negatedAt (said layout (now (query .entry)) .reachability) i (reachHeld (pathOf s)) ⌝ }
 {
     if i == 0 {
         return false;
     }
+    let count = layout.reach_count;
     if count < i {
         return false;
     }
-    clash::is_held_negated(query, at, i - 1, rep, reach)
+    clash::is_held_negated(query, layout.links, layout.reach_at, i - 1, s)
 }
 
 // Data literal i, from 1, is negated, and literal j is a plain one of the same field and term.
@@ -187,8 +180,8 @@ fn is_field_clash(query: &[u8], at: usize, count: usize, rep: &[u8; 17], i: usiz
 
 // The clash line 9, section, i, j is a true one at the path.
 pub fn is_clash(query: &[u8], layout: Layout, s: Facts, section: usize, i: usize, j: usize) -> bool
-    requires { ⌜ LaysOut layout (now query) ⌝ }
-    ensures { λ r. ⌜ r ≡ isClash (decode (now (query .entry))) (pathOf s) (line 9 section i j) ⌝ }
+    requires { ⌜ Within layout (now query) ⌝ }
+    ensures { λ r. ⌜ r ≡ isClash (said layout (now (query .entry))) (pathOf s) (line 9 section i j) ⌝ }
 {
     if section == 4 {
         return is_field_clash(query, layout.field_at, layout.field_count, &s.rep, i, j);
@@ -200,14 +193,7 @@ pub fn is_clash(query: &[u8], layout: Layout, s: Facts, section: usize, i: usize
         return is_equality_clash(query, layout.equal_at, layout.equal_count, &s.rep, i);
     }
     if section == 3 {
-        return is_reach_clash(
-            query,
-            layout.reach_at,
-            layout.reach_count,
-            &s.rep,
-            &s.reach,
-            i,
-        );
+        return is_reach_clash(query, layout, s, i);
     }
     false
 }

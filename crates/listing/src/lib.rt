@@ -3,12 +3,12 @@ use facts::Joined;
 use query::Layout;
 use walk::Seen;
 ghost use Prim.Native.Nat.{_≤_};
-ghost use Rattle.logic.specs.Query.{decode, termCount};
+ghost use Rattle.logic.specs.Query.{termCount};
 ghost use Rattle.logic.specs.Steps.{AtMost};
 ghost use Rattle.logic.specs.Walk.{walkBranch, walk, orderOf};
 ghost use Rattle.facts.specs.Path.{pathOf};
 ghost use Rattle.facts.specs.Pairs.{joinedOf, Fits};
-ghost use Rattle.query.specs.LaysOut.{LaysOut};
+ghost use Rattle.link_query.specs.Said.{said, Within};
 ghost use Rattle.listing.specs.Lists.{Lists};
 
 // Whether the lines are broken off, and their count by then.
@@ -29,8 +29,8 @@ pub fn list(
     first: usize,
     most: usize,
 ) -> Listed
-    requires { ⌜ LaysOut layout (now query) × Fits (joinedOf path) × (first ≤ 16001) × AtMost (termCount (decode (now query))) (pathOf (path .facts)) left ⌝ }
-    ensures { λ r. ⌜ Lists r (walkBranch (walk (decode (now (query .entry))) (orderOf (now (order .entry))) left) (joinedOf path)) (now (lines .entry)) first most (now (lines .exit)) ⌝ }
+    requires { ⌜ Within layout (now query) × Fits (joinedOf path) × (first ≤ 16001) × AtMost (termCount (said layout (now query))) (pathOf (path .facts)) left ⌝ }
+    ensures { λ r. ⌜ Lists r (walkBranch (walk (said layout (now (query .entry))) (orderOf (now (order .entry))) left) (joinedOf path)) (now (lines .entry)) first most (now (lines .exit)) ⌝ }
 {
     let n = layout.terms;
     let s = path.facts;

@@ -5,14 +5,12 @@ use mathlib.Core.Path.{_≡_, refl, sym, ap, _∙_, subst}
 use mathlib.Core.Bool.{Bool, true, false}
 use mathlib.Core.List.{List, [], _∷_, List·Memᴰ, List·Memᴰ·head, List·Memᴰ·tail, List·Memᴰ·not-nil}
 use lib.ListN.{length, getD}
-use Rattle.logic.specs.Query.{Query, termCount, isOrder, decode}
+use Rattle.logic.specs.Query.{Query, termCount, isOrder}
 use Rattle.logic.specs.Facts.{Facts, Line, Joined}
 use Rattle.logic.specs.Rules.{Rule, triple, Move, move, applies, branch, branches}
 use Rattle.logic.specs.Walk.{Look, clashing, applying, saturated, look, orderOf, walk, saturation}
 use Rattle.logic.specs.Steps.{Steps, Step, one-more, AtMost}
-use Rattle.logic.specs.Calls.{accepts}
 use Rattle.logic.specs.Decision.{HasHeap, NoHeap, Reachable, Struck}
-use Rattle.theory.proofs.Query.AcceptedBytes.{accepted}
 use Rattle.theory.proofs.Query.Tied.{Accepted}
 use Rattle.theory.proofs.Walks.Order.{order-full}
 use Rattle.theory.proofs.Walks.Derives.{seen-applying, seen-clashing}
@@ -47,18 +45,10 @@ pub record Comes (q : Query) (order : List ℕ) (k₀ : ℕ) (s₀ : Facts) (k :
   pub ends : (u : Facts) → walk q (orderOf order) k s ≡ saturation u → walk q (orderOf order) k₀ s₀ ≡ saturation u
 
 -- a path with a heap has no clash
-pub never-clashes : (bytes order : List ℕ) → accepts bytes ≡ true → (s : Facts) → Reachable (decode bytes) s → HasHeap (decode bytes) s → (l : Line) → look (decode bytes) (orderOf order) s ≡ clashing l → ⊥
-never-clashes bytes order acc s reach has l h =
-    let ok = accepted bytes acc in
-    clash-none (decode bytes) ok s (reachable-known (decode bytes) ok s reach) l (seen-clashing (decode bytes) (orderOf order) s h) has
+pub never-clashes : {q : Query} (order : List ℕ) → Accepted q → (s : Facts) → Reachable q s → HasHeap q s → (l : Line) → look q (orderOf order) s ≡ clashing l → ⊥
+never-clashes {q} order ok s reach has l h = clash-none q ok s (reachable-known q ok s reach) l (seen-clashing q (orderOf order) s h) has
 
-module _ (bytes order : List ℕ) (acc : accepts bytes ≡ true) (k : ℕ) (s : Facts) (reach : Reachable (decode bytes) s) (most : AtMost (termCount (decode bytes)) s k) (n : ℕ) (terms-are : n ≡ termCount (decode bytes)) (l : ℕ) (r : Rule) (x y z : ℕ) (h : look (decode bytes) (orderOf order) s ≡ applying (move l r (triple x y z))) where
-  abbrev q : Query
-  q = decode bytes
-
-  ok : Accepted q
-  ok = accepted bytes acc
-
+module _ {q : Query} (order : List ℕ) (ok : Accepted q) (k : ℕ) (s : Facts) (reach : Reachable q s) (most : AtMost (termCount q) s k) (n : ℕ) (terms-are : n ≡ termCount q) (l : ℕ) (r : Rule) (x y z : ℕ) (h : look q (orderOf order) s ≡ applying (move l r (triple x y z))) where
   known : Known q s
   known = reachable-known q ok s reach
 

@@ -11,15 +11,15 @@ use rules::Third;
 ghost use mathlib.Core.Path.{_≡_};
 ghost use mathlib.Core.Bool.{true, false};
 ghost use Prim.Native.Nat.{ℕ, _-_, _≤_, _<_};
-ghost use Rattle.logic.specs.Query.{decode, termCount, isOrder};
+ghost use Rattle.logic.specs.Query.{termCount, isOrder};
 ghost use Rattle.logic.specs.Rules.{triple, move, applies};
 ghost use Rattle.logic.specs.Walk.{look, applying, orderOf, walk, saturation};
 ghost use Rattle.logic.specs.Steps.{AtMost};
-ghost use Rattle.logic.specs.Calls.{accepts};
 ghost use Rattle.logic.specs.Decision.{Reachable, HasHeap};
 ghost use Rattle.facts.specs.Path.{pathOf};
 ghost use Rattle.rules.specs.Answers.{kindOf};
-ghost use Rattle.query.specs.LaysOut.{LaysOut};
+ghost use Rattle.theory.proofs.Query.Tied.{Accepted};
+ghost use Rattle.link_query.specs.Said.{said, Within};
 ghost use Rattle.decide.specs.Tells.{Walks};
 ghost use Rattle.open_path.specs.First.{FirstOpen};
 
@@ -46,8 +46,8 @@ fn first_open(
     first: usize,
     witness: Facts,
 ) -> Chosen
-    requires { ⌜ LaysOut layout (now query) × (accepts (now query) ≡ true) × (isOrder (now order) ≡ true) × Reachable (decode (now query)) (pathOf s) × AtMost (termCount (decode (now query))) (pathOf s) left × HasHeap (decode (now query)) (pathOf s) × HasHeap (decode (now query)) (pathOf witness) × (look (decode (now query)) (orderOf (now order)) (pathOf s) ≡ applying (move (k .0) (kindOf rule) (triple (x .0) (y .0) (z .0)))) ⌝ }
-    ensures { λ r. ⌜ FirstOpen (decode (now (query .entry))) (pathOf s) (move (k .0) (kindOf rule) (triple (x .0) (y .0) (z .0))) (pathOf (r .facts)) × HasHeap (decode (now (query .entry))) (pathOf (r .witness)) ⌝ }
+    requires { ⌜ Within layout (now query) × Accepted (said layout (now query)) × (isOrder (now order) ≡ true) × Reachable (said layout (now query)) (pathOf s) × AtMost (termCount (said layout (now query))) (pathOf s) left × HasHeap (said layout (now query)) (pathOf s) × HasHeap (said layout (now query)) (pathOf witness) × (look (said layout (now query)) (orderOf (now order)) (pathOf s) ≡ applying (move (k .0) (kindOf rule) (triple (x .0) (y .0) (z .0)))) ⌝ }
+    ensures { λ r. ⌜ FirstOpen (said layout (now (query .entry))) (pathOf s) (move (k .0) (kindOf rule) (triple (x .0) (y .0) (z .0))) (pathOf (r .facts)) × HasHeap (said layout (now (query .entry))) (pathOf (r .witness)) ⌝ }
 {
     let n = layout.terms;
     let total = branch::count(rule, z);
@@ -94,8 +94,8 @@ pub fn descend(
     first: usize,
     witness: Facts,
 ) -> Facts
-    requires { ⌜ LaysOut layout (now query) × (accepts (now query) ≡ true) × (isOrder (now order) ≡ true) × Reachable (decode (now query)) (pathOf s) × AtMost (termCount (decode (now query))) (pathOf s) left × HasHeap (decode (now query)) (pathOf s) × HasHeap (decode (now query)) (pathOf witness) ⌝ }
-    ensures { λ r. ⌜ walk (decode (now (query .entry))) (orderOf (now (order .entry))) left (pathOf s) ≡ saturation (pathOf r) ⌝ }
+    requires { ⌜ Within layout (now query) × Accepted (said layout (now query)) × (isOrder (now order) ≡ true) × Reachable (said layout (now query)) (pathOf s) × AtMost (termCount (said layout (now query))) (pathOf s) left × HasHeap (said layout (now query)) (pathOf s) × HasHeap (said layout (now query)) (pathOf witness) ⌝ }
+    ensures { λ r. ⌜ walk (said layout (now (query .entry))) (orderOf (now (order .entry))) left (pathOf s) ≡ saturation (pathOf r) ⌝ }
 {
     let mut path = s;
     let mut other = witness;
@@ -136,8 +136,8 @@ pub fn descend(
 // How our walk of a path ends: a few plain steps first, which is all that most queries need; where these run out, the path is decided, and
 // where it has a heap the walk goes down to its end.
 pub fn settle(query: &[u8], layout: Layout, order: &[u8], left: usize, s: Facts) -> Walked
-    requires { ⌜ LaysOut layout (now query) × (accepts (now query) ≡ true) × (isOrder (now order) ≡ true) × Reachable (decode (now query)) (pathOf s) × AtMost (termCount (decode (now query))) (pathOf s) left ⌝ }
-    ensures { λ r. ⌜ Walks (decode (now (query .entry))) (now (order .entry)) left (pathOf s) false r ⌝ }
+    requires { ⌜ Within layout (now query) × Accepted (said layout (now query)) × (isOrder (now order) ≡ true) × Reachable (said layout (now query)) (pathOf s) × AtMost (termCount (said layout (now query))) (pathOf s) left ⌝ }
+    ensures { λ r. ⌜ Walks (said layout (now (query .entry))) (now (order .entry)) left (pathOf s) false r ⌝ }
 {
     let w = decide::plain(query, layout, order, left, s, true, 40);
     let kind = w.kind;

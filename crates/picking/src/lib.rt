@@ -4,7 +4,7 @@ use query::Layout;
 use rules::Choice;
 ghost use Prim.Native.Nat.{_≤_};
 ghost use Rattle.facts.specs.Path.{pathOf};
-ghost use Rattle.query.specs.LaysOut.{LaysOut};
+ghost use Rattle.link_query.specs.Said.{Within};
 ghost use Rattle.units.specs.Proposes.{Proposes};
 ghost use Rattle.picking.specs.Picks.{Picks};
 
@@ -26,23 +26,27 @@ fn total_first(s: Facts, n: usize) -> Choice
     rules::choose(&order, s, n)
 }
 
-// Where strategies other than 1 look next.
+// Where strategies other than 1 look next. 2 leaves the choice to an order list where nothing soon clashes: what is slow for one is seldom slow
+// for the other.
 fn other(query: &[u8], layout: Layout, how: usize, s: Facts) -> Choice
-    requires { ⌜ LaysOut layout (now query) ⌝ }
+    requires { ⌜ Within layout (now query) ⌝ }
     ensures { λ r. ⌜ Proposes (layout .terms) (pathOf s) r ⌝ }
 {
-    if how == 2 {
+    if 2 <= how {
         if let Choice::Apply(k, rule, x, y, z) = probing::failing(query, layout, s) {
             return Choice::Apply(k, rule, x, y, z);
         }
     }
+    if how == 2 {
+        return Choice::Nothing;
+    }
     gains::most(s, layout.terms)
 }
 
-// What strategy `how` picks. Each of them looks for a place with at most one alternative left first. Then 1 goes by an order list, 2 to a
-// place with an alternative that soon clashes, and else to where most facts would be added.
+// What strategy `how` picks. Each of them looks for a place with at most one alternative left first, and 2 and 3 then for one with an alternative
+// that soon clashes. Else 1 and 2 go by an order list, and 0 and 3 to where most facts would be added.
 pub fn pick(query: &[u8], layout: Layout, how: usize, s: Facts) -> Choice
-    requires { ⌜ LaysOut layout (now query) ⌝ }
+    requires { ⌜ Within layout (now query) ⌝ }
     ensures { λ r. ⌜ Picks (layout .terms) (pathOf s) r ⌝ }
 {
     let n = layout.terms;

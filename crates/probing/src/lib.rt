@@ -14,7 +14,7 @@ ghost use mathlib.Core.List.{List};
 ghost use Prim.Native.Nat.{ℕ, _≤_};
 ghost use Rattle.facts.specs.Square.{Turned};
 ghost use Rattle.facts.specs.Path.{pathOf, HasLink};
-ghost use Rattle.query.specs.LaysOut.{LaysOut};
+ghost use Rattle.link_query.specs.Said.{Within};
 ghost use Rattle.units.specs.Proposes.{Proposes, ProposesIn, FoundIn};
 
 // How many alternatives of a place do not clash at once, up to two, and the path of the last of them.
@@ -24,9 +24,17 @@ struct Left {
 }
 
 fn clashes(query: &[u8], layout: Layout, s: Facts) -> bool
-    requires { ⌜ LaysOut layout (now query) ⌝ }
+    requires { ⌜ Within layout (now query) ⌝ }
 {
-    if let Clash::At(_, _, _) = clash::find_clash(query, layout, &s.rep, &s.reach) {
+    if let Clash::At(_, _, _) = clash::find_clash(
+        query,
+        layout,
+        &s.rep,
+        true,
+        &s.reach,
+        &s.reach,
+        &s.reach,
+    ) {
         return true;
     }
     false
@@ -60,7 +68,7 @@ fn still_left(
     y: Term,
     z: Third,
 ) -> Left
-    requires { ⌜ LaysOut layout (now query) × HasLink (pathOf s) (k .0) × (x .0 ≤ 16) × (y .0 ≤ 16) × (z .0 ≤ 16) ⌝ }
+    requires { ⌜ Within layout (now query) × HasLink (pathOf s) (k .0) × (x .0 ≤ 16) × (y .0 ≤ 16) × (z .0 ≤ 16) ⌝ }
 {
     let n = layout.terms;
     let total = branch::count(rule, z);
@@ -77,7 +85,7 @@ fn still_left(
 
 // A closed path soon clashes.
 fn sinks(query: &[u8], layout: Layout, s: Facts) -> bool
-    requires { ⌜ LaysOut layout (now query) ⌝ }
+    requires { ⌜ Within layout (now query) ⌝ }
 {
     let mut t = s;
     let mut turn: usize = 0;
@@ -113,7 +121,7 @@ fn fails(
     y: Term,
     z: Third,
 ) -> bool
-    requires { ⌜ LaysOut layout (now query) × HasLink (pathOf s) (k .0) × (x .0 ≤ 16) × (y .0 ≤ 16) × (z .0 ≤ 16) ⌝ }
+    requires { ⌜ Within layout (now query) × HasLink (pathOf s) (k .0) × (x .0 ≤ 16) × (y .0 ≤ 16) × (z .0 ≤ 16) ⌝ }
 {
     let n = layout.terms;
     let total = branch::count(rule, z);
@@ -128,7 +136,7 @@ fn fails(
 
 // FUNC at x and its successor y, with the terms of a row.
 fn func_at(query: &[u8], layout: Layout, s: Facts, k: Link, far: u32, x: Term, y: Term) -> Found
-    requires { ⌜ LaysOut layout (now query) × HasLink (pathOf s) (k .0) × (x .0 ≤ 16) × (y .0 ≤ 16) ⌝ }
+    requires { ⌜ Within layout (now query) × HasLink (pathOf s) (k .0) × (x .0 ≤ 16) × (y .0 ≤ 16) ⌝ }
     ensures { λ r. ⌜ FoundIn far r ⌝ }
 {
     for z in 0..17 {
@@ -149,7 +157,7 @@ fn func(
     link: &[u32; 17],
     reach: &[u32; 17],
 ) -> Proposal
-    requires { ⌜ LaysOut layout (now query) × HasLink (pathOf s) (k .0) ⌝ }
+    requires { ⌜ Within layout (now query) × HasLink (pathOf s) (k .0) ⌝ }
     ensures { λ r. ⌜ ((n : ℕ) → ProposesIn n (now (link .entry)) (now (reach .entry)) r) ⌝ }
 {
     for x in 0..17 {
@@ -165,7 +173,7 @@ fn func(
 
 // SCC at x and its first way out, with the terms of a row.
 fn scc_at(query: &[u8], layout: Layout, s: Facts, k: Link, both: u32, x: Term, z: Term) -> Found
-    requires { ⌜ LaysOut layout (now query) × HasLink (pathOf s) (k .0) × (x .0 ≤ 16) × (z .0 ≤ 16) ⌝ }
+    requires { ⌜ Within layout (now query) × HasLink (pathOf s) (k .0) × (x .0 ≤ 16) × (z .0 ≤ 16) ⌝ }
     ensures { λ r. ⌜ FoundIn both r ⌝ }
 {
     for y in 0..17 {
@@ -186,7 +194,7 @@ fn scc(
     reach: &[u32; 17],
     back: &[u32; 17],
 ) -> Proposal
-    requires { ⌜ LaysOut layout (now query) × HasLink (pathOf s) (k .0) × Turned (now back) (now reach) ⌝ }
+    requires { ⌜ Within layout (now query) × HasLink (pathOf s) (k .0) × Turned (now back) (now reach) ⌝ }
     ensures { λ r. ⌜ ((n : ℕ) (link : List ℕ) → ProposesIn n link (now (reach .entry)) r) ⌝ }
 {
     for x in 0..17 {
@@ -210,7 +218,7 @@ fn total_at(
     back: &[u32; 17],
     y: usize,
 ) -> Proposal
-    requires { ⌜ LaysOut layout (now query) × HasLink (pathOf s) (k .0) × (y ≤ 16) × Turned (now back) (now reach) ⌝ }
+    requires { ⌜ Within layout (now query) × HasLink (pathOf s) (k .0) × (y ≤ 16) × Turned (now back) (now reach) ⌝ }
     ensures { λ r. ⌜ ((n : ℕ) (link : List ℕ) → ProposesIn n link (now (reach .entry)) r) ⌝ }
 {
     let from = back[y];
@@ -237,7 +245,7 @@ fn total(
     reach: &[u32; 17],
     back: &[u32; 17],
 ) -> Proposal
-    requires { ⌜ LaysOut layout (now query) × HasLink (pathOf s) (k .0) × Turned (now back) (now reach) ⌝ }
+    requires { ⌜ Within layout (now query) × HasLink (pathOf s) (k .0) × Turned (now back) (now reach) ⌝ }
     ensures { λ r. ⌜ ((n : ℕ) (link : List ℕ) → ProposesIn n link (now (reach .entry)) r) ⌝ }
 {
     for y in 0..17 {
@@ -257,7 +265,7 @@ fn failing_at(
     link: &[u32; 17],
     reach: &[u32; 17],
 ) -> Proposal
-    requires { ⌜ LaysOut layout (now query) × HasLink (pathOf s) (k .0) ⌝ }
+    requires { ⌜ Within layout (now query) × HasLink (pathOf s) (k .0) ⌝ }
     ensures { λ r. ⌜ ProposesIn (layout .terms) (now (link .entry)) (now (reach .entry)) r ⌝ }
 {
     let back = facts::turned(reach);
@@ -272,7 +280,7 @@ fn failing_at(
 
 // A place at a closed path with an alternative that soon clashes, by the first link that has one.
 pub fn failing(query: &[u8], layout: Layout, s: Facts) -> Choice
-    requires { ⌜ LaysOut layout (now query) ⌝ }
+    requires { ⌜ Within layout (now query) ⌝ }
     ensures { λ r. ⌜ Proposes (layout .terms) (pathOf s) r ⌝ }
 {
     let total = facts::links(s);

@@ -24,12 +24,14 @@ use Rattle.query.specs.LaysOut.{LaysOut}
 use Rattle.query.specs.Answers.{CheckedAs}
 use Rattle.query.specs.declared.Layout.{Layout}
 use Rattle.query.specs.declared.Checked.the-variants as checked
+use Rattle.link_query.specs.Said.{said}
+use Rattle.link_query.proofs.Said.{one-within, one-said}
 use Rattle.report.specs.Bytes.{Reportable}
 use Rattle.prover.specs.Promise.{meaning, inputOf, Does}
 use Rattle.prover.specs.declared.Answer.{Answer}
 use Rattle.prover.specs.declared.Answer.the-variants as answer
 use Rattle.prover.proofs.Checks.{order-refused, query-refused, room-refused, verdict-clear, derivation-refused, derivation-clear, call-refused, call-walked}
-use Rattle.prover.proofs.Outcomes.{does-blank, saturated-tied}
+use Rattle.prover.proofs.Outcomes.{said-accepted, does-blank, saturated-tied}
 
 -- zeros are zeros again
 pub blank-again : (bytes : List ℕ) (n : ℕ) → bytes ≡ replicate n 0 → bytes ≡ replicate (length bytes) 0
@@ -46,6 +48,10 @@ pub report-fits : (bytes : List ℕ) (room : ℕ) (s : Facts) → accepts bytes 
 report-fits bytes room s ok l =
     padded-length room (report (decode bytes) s) (le-trans (fits.report-fits (decode bytes) s (accepted bytes ok) (decode-links bytes)) l)
 
+-- the report of the query read in place
+pub said-report : (bytes : List ℕ) (l : Layout) → LaysOut l bytes → (room : ℕ) (s : Facts) (lent : List ℕ) → lent ≡ padded room (report (said l bytes) s) → lent ≡ padded room (report (decode bytes) s)
+said-report bytes l laid room s lent e = e ∙ ap (λ (q : Query). padded room (report q s)) (one-said l bytes laid)
+
 -- what a report is written of
 module _ (bytes : List ℕ) (l : Layout) (s : code.Facts) (laid : LaysOut l bytes) (ok : accepts bytes ≡ true) where
   stands-at : Tied (decode bytes) (pathOf s) → (t : ℕ) → 1 ≤ t → t ≤ l .terms → repOf (s .rep) t ≤ 16
@@ -57,10 +63,15 @@ module _ (bytes : List ℕ) (l : Layout) (s : code.Facts) (laid : LaysOut l byte
   pub reportable : (order : List ℕ) → ourWalk order (decode bytes) ≡ saturation (pathOf s) → Reportable l bytes s
   reportable order h =
       let tied = saturated-tied bytes order (pathOf s) ok h in
-      record { laid = laid; passes = ok; stands = stands-at tied; linked = tied .same-links }
+      record {
+        laid = one-within l bytes laid;
+        passes = said-accepted bytes l laid ok;
+        stands = stands-at tied;
+        linked = tied .same-links ∙ ap (λ (q : Query). q .links) (sym (one-said l bytes laid));
+      }
 
   pub report-room : (room : ℕ) → Reportable l bytes s → 53 ≤ room → 37 + 16 * (pathOf s .links) ≤ room
-  report-room room ready h = omega (arith, ready .linked, laid .links-are)
+  report-room room ready h = omega (arith, ready .linked, ap (λ (q : Query). q .links) (one-said l bytes laid), laid .links-are)
 
 module _ (order query before bytes : List ℕ) where
   abbrev i : Input

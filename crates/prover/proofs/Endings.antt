@@ -12,6 +12,10 @@ use Rattle.logic.specs.Calls.{accepts}
 use Rattle.logic.specs.Decision.{Reachable}
 use Rattle.theory.proofs.Calls.Decision.{paths-decided}
 use Rattle.facts.specs.Path.{pathOf}
+use Rattle.query.specs.declared.Layout.{Layout}
+use Rattle.query.specs.LaysOut.{LaysOut}
+use Rattle.link_query.specs.Said.{said}
+use Rattle.link_query.proofs.Said.{one-said}
 use Rattle.start.specs.Taken.{started}
 use Rattle.decide.specs.Tells.{isRefuted, Walks}
 use Rattle.decide.specs.declared.Walked.{Walked}
@@ -27,6 +31,9 @@ pub start-reached : (q : Query) (j : Joined) → j ≡ started q → Reachable q
 unfolding started
 start-reached q j e = subst (Reachable q) (sym (ap (λ (i : Joined). i .facts) e)) (0, at-first)
 
+pub said-reached : (bytes : List ℕ) (l : Layout) → LaysOut l bytes → (j : Joined) → j ≡ started (decode bytes) → Reachable (said l bytes) (j .facts)
+said-reached bytes l laid j e = subst (λ (q : Query). Reachable q (j .facts)) (sym (one-said l bytes laid)) (start-reached (decode bytes) j e)
+
 -- a refuted walk has lines
 pub refuted-lines : (e : Ending) → ourVerdict e ≡ Verdict.refuted → (ls : List Line) × (e ≡ refutation ls)
 unfolding ourVerdict
@@ -39,9 +46,12 @@ unfolding ourVerdict after
 after-refuted ls (refutation ms) h = refl
 after-refuted ls (saturation s) h = h
 
-module _ (bytes order : List ℕ) (n k : ℕ) (j : Joined) (acc : accepts bytes ≡ true) (o : isOrder order ≡ true) (en : n ≡ termCount (decode bytes)) (ek : k ≡ n * n + n) (ej : j ≡ started (decode bytes)) (most : AtMost (termCount (decode bytes)) (j .facts) k) (r : Walked) (told : Walks (decode bytes) order k (j .facts) false r) where
+module _ (bytes order : List ℕ) (n k : ℕ) (j : Joined) (acc : accepts bytes ≡ true) (o : isOrder order ≡ true) (en : n ≡ termCount (decode bytes)) (ek : k ≡ n * n + n) (ej : j ≡ started (decode bytes)) (most : AtMost (termCount (decode bytes)) (j .facts) k) (l : Layout) (laid : LaysOut l bytes) (r : Walked) (seen : Walks (said l bytes) order k (j .facts) false r) where
   abbrev q : Query
   q = decode bytes
+
+  told : Walks q order k (j .facts) false r
+  told = subst (λ (p : Query). Walks p order k (j .facts) false r) (one-said l bytes laid) seen
 
   whole : walkBranch (walk q (orderOf order) k) j ≡ ourWalk order q
   whole = our-walk q order n k j (decode-links bytes) en ek ej

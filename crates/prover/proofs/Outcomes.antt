@@ -2,7 +2,7 @@
 use Prim.Native.Nat.{ℕ, _+_, _*_, _/_, _%_, _≤_, _<_}
 use native.Mathlib.Omega.{arith}
 use native.Mathlib.Nat.{zero-add}
-use mathlib.Core.Path.{_≡_, refl, sym, ap, _∙_}
+use mathlib.Core.Path.{_≡_, refl, sym, ap, _∙_, subst}
 use mathlib.Core.Logic.{_⊎_, ⊎-elim}
 use mathlib.Core.Bool.{true}
 use mathlib.Core.List.{List}
@@ -24,7 +24,11 @@ use Rattle.walk.proofs.Padded.{derivation-written}
 use Rattle.theory.proofs.Basics.Compare.{le-cases}
 use Rattle.theory.proofs.Query.AcceptedBytes.{accepted, decode-links}
 use Rattle.theory.proofs.Calls.OneLink.{limit-one}
-use Rattle.theory.proofs.Query.Tied.{Tied}
+use Rattle.theory.proofs.Query.Tied.{Accepted, Tied}
+use Rattle.query.specs.declared.Layout.{Layout}
+use Rattle.query.specs.LaysOut.{LaysOut}
+use Rattle.link_query.specs.Said.{said}
+use Rattle.link_query.proofs.Said.{one-said}
 use Rattle.theory.proofs.Paths.Invariant.{Invariant, start-invariant, branch-invariant}
 use Rattle.theory.proofs.Walks.Limit.{start-atMost, our-saturation}
 use Rattle.prover.specs.Promise.{meaning, Does}
@@ -46,12 +50,21 @@ count-long ls count c l =
     (λ h. h)
     (le-cases (length ls) 16000)
 
+-- a query in the form of 01, read in place, is all that the theory asks
+pub said-accepted : (bytes : List ℕ) (l : Layout) → LaysOut l bytes → accepts bytes ≡ true → Accepted (said l bytes)
+said-accepted bytes l laid ok = subst Accepted (sym (one-said l bytes laid)) (accepted bytes ok)
+
 -- the walk that the code makes is our walk
 pub our-walk : (q : Query) (order : List ℕ) (n k : ℕ) (j : Joined) → q .links ≡ 1 → n ≡ termCount q → k ≡ n * n + n → j ≡ started q → walkBranch (walk q (orderOf order) k) j ≡ ourWalk order q
 unfolding ourWalk walkBranch started
 our-walk q order n k j one en ek ej =
     ap (λ (i : Joined). walkBranch (walk q (orderOf order) k) i) ej
     ∙ ap (λ (i : ℕ). walkBranch (walk q (orderOf order) i) (started q)) (ek ∙ ap (λ (m : ℕ). m * m + m) en ∙ sym (limit-one q one))
+
+-- and so is the walk of the query read in place
+pub said-walk : (bytes : List ℕ) (l : Layout) → LaysOut l bytes → (order : List ℕ) (n k : ℕ) (j : Joined) → n ≡ termCount (decode bytes) → k ≡ n * n + n → j ≡ started (decode bytes) → walkBranch (walk (said l bytes) (orderOf order) k) j ≡ ourWalk order (decode bytes)
+said-walk bytes l laid order n k j en ek ej =
+    ap (λ (q : Query). walkBranch (walk q (orderOf order) k) j) (one-said l bytes laid) ∙ our-walk (decode bytes) order n k j (decode-links bytes) en ek ej
 
 -- and no more rule steps are possible from its start than it counts
 pub start-steps : (bytes : List ℕ) (n k : ℕ) (j : Joined) → accepts bytes ≡ true → n ≡ termCount (decode bytes) → k ≡ n * n + n → j ≡ started (decode bytes) → AtMost (termCount (decode bytes)) (j .facts) k
@@ -60,6 +73,11 @@ start-steps bytes n k j ok en ek ej =
     let e : k ≡ limit (decode bytes) = ek ∙ ap (λ (m : ℕ). m * m + m) en ∙ sym (limit-one (decode bytes) (decode-links bytes)) in
     let es : j .facts ≡ start (decode bytes) = ap (λ (i : Joined). i .facts) ej in
     rw (es, e) (start-atMost (decode bytes) (accepted bytes ok))
+
+-- the same of the query read in place
+pub said-steps : (bytes : List ℕ) (l : Layout) → LaysOut l bytes → (n k : ℕ) (j : Joined) → accepts bytes ≡ true → n ≡ termCount (decode bytes) → k ≡ n * n + n → j ≡ started (decode bytes) → AtMost (termCount (said l bytes)) (j .facts) k
+said-steps bytes l laid n k j ok en ek ej =
+    subst (λ (q : Query). AtMost (termCount q) (j .facts) k) (sym (one-said l bytes laid)) (start-steps bytes n k j ok en ek ej)
 
 -- an outcome, done
 pub does-blank : (o : Outcome) (room : ℕ) (r : Answer) (bytes : List ℕ) → o ≡ blank room (meaning r) → bytes ≡ replicate room 0 → Does o r bytes

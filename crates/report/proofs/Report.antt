@@ -7,7 +7,7 @@ use mathlib.Core.Bool.{Bool}
 use mathlib.Core.List.{List, [], _∷_, _++_, map, List·Memᴰ}
 use lib.ListN.{length, getD, replicate, length-map}
 use Rattle.logic.specs.Search.{flatMap}
-use Rattle.logic.specs.Query.{Literal, Query, termCount, decode}
+use Rattle.logic.specs.Query.{Literal, Query, termCount}
 use Rattle.logic.specs.Facts.{Facts, linkNumbers, terms}
 use Rattle.logic.specs.Calls.{padded}
 use Rattle.logic.specs.Shown.{nodes, placeOf, byteOf, fieldByte, successorsShown, report}
@@ -16,8 +16,10 @@ use Rattle.theory.proofs.Completeness.ShownNodes.{nodes-length}
 use Rattle.facts.specs.declared.Facts as code
 use Rattle.facts.specs.Path.{repOf, pathOf}
 use Rattle.query.specs.declared.Layout.{Layout}
-use Rattle.query.proofs.Literals.{listed, fields-listed}
-use Rattle.query.proofs.Ranges.{field-number-term}
+use Rattle.query.proofs.Literals.{listed}
+use Rattle.query.proofs.Ranges.{field-number-term-of}
+use Rattle.link_query.specs.Said.{said}
+use Rattle.link_query.proofs.Said.{terms-said, fields-said}
 use Rattle.report.specs.declared.Node.{Node}
 use Rattle.report.specs.Nodes.{nodeOf, marked, nodesBy, Numbers}
 use Rattle.lent.specs.Appending.{Appends}
@@ -58,10 +60,13 @@ report-sections q s e =
     ∙ ap (λ (k : ℕ). (k * length ts ∷ flatMap (successorsShown n s) (linkNumbers k)) ++ behind) e
 
 module _ (l : Layout) (query : List ℕ) (s : code.Facts) (ready : Reportable l query s) where
+  counted : l .terms ≡ termCount (said l query)
+  counted = sym (terms-said l query (ready .laid))
+
   -- what the parts ask
   pub fields-in : FieldsIn query (l .«field_at») (l .«field_count») (repOf (s .rep))
   fields-in i h =
-      let r = field-number-term l query (ready .laid) (ready .passes) i h in
+      let r = field-number-term-of (ready .passes) counted _ (l .«field_count») i h (fields-said l query (ready .laid)) in
       (r .0 .1, omega (arith, r .1 .1, ready .laid .terms-within), ready .stands _ (r .1 .0) (r .1 .1))
 
   module _ (marks : List Bool) (are : marked marks (l .terms) ≡ nodesBy (repOf (s .rep)) (l .terms)) where
@@ -84,16 +89,16 @@ module _ (l : Layout) (query : List ℕ) (s : code.Facts) (ready : Reportable l 
           let h : t ≤ l .terms = omega arith in
           placed t (r .0) h ∙ numbers (repOf (s .rep) t) (ready .stands t (r .0) h)
 
-      datum : (v : ℕ) → List·Memᴰ v (marked marks (l .terms)) → getD fields v 0 ≡ fieldByte (decode query) (pathOf s) v
+      datum : (v : ℕ) → List·Memᴰ v (marked marks (l .terms)) → getD fields v 0 ≡ fieldByte (said l query) (pathOf s) v
       unfolding fieldByte fieldHeld literalsAt pathOf listed
-      datum v m = held v (marked-below marks (l .terms) v m) ∙ ap (λ (ls : List Literal). byteOf (fieldHeld (repOf (s .rep)) ls v) 1 8) (sym (fields-listed l query (ready .laid)))
+      datum v m = held v (marked-below marks (l .terms) v m) ∙ ap (λ (ls : List Literal). byteOf (fieldHeld (repOf (s .rep)) ls v) 1 8) (sym (fields-said l query (ready .laid)))
 
-      pub report-is : sections (l .terms) (marked marks (l .terms)) (allSuccessors (l .terms) (pathOf s) (marked marks (l .terms))) (λ t. getD places t 0) (λ t. getD fields t 0) ≡ report (decode query) (pathOf s)
+      pub report-is : sections (l .terms) (marked marks (l .terms)) (allSuccessors (l .terms) (pathOf s) (marked marks (l .terms))) (λ t. getD places t 0) (λ t. getD fields t 0) ≡ report (said l query) (pathOf s)
       report-is =
           parts
-          ∙ ap (λ (ts : List ℕ). sections (l .terms) ts (allSuccessors (l .terms) (pathOf s) ts) (λ t. placeOf (pathOf s .rep t) ts) (fieldByte (decode query) (pathOf s))) are-nodes
-          ∙ ap (λ (n : ℕ). sections n (nodes n (pathOf s)) (allSuccessors n (pathOf s) (nodes n (pathOf s))) (λ t. placeOf (pathOf s .rep t) (nodes n (pathOf s))) (fieldByte (decode query) (pathOf s))) (ready .laid .term-count)
-          ∙ report-sections (decode query) (pathOf s) (ready .linked)
+          ∙ ap (λ (ts : List ℕ). sections (l .terms) ts (allSuccessors (l .terms) (pathOf s) ts) (λ t. placeOf (pathOf s .rep t) ts) (fieldByte (said l query) (pathOf s))) are-nodes
+          ∙ ap (λ (n : ℕ). sections n (nodes n (pathOf s)) (allSuccessors n (pathOf s) (nodes n (pathOf s))) (λ t. placeOf (pathOf s .rep t) (nodes n (pathOf s))) (fieldByte (said l query) (pathOf s))) counted
+          ∙ report-sections (said l query) (pathOf s) (ready .linked)
         where
-          parts : sections (l .terms) (marked marks (l .terms)) (allSuccessors (l .terms) (pathOf s) (marked marks (l .terms))) (λ t. getD places t 0) (λ t. getD fields t 0) ≡ sections (l .terms) (marked marks (l .terms)) (allSuccessors (l .terms) (pathOf s) (marked marks (l .terms))) (λ t. placeOf (pathOf s .rep t) (marked marks (l .terms))) (fieldByte (decode query) (pathOf s))
+          parts : sections (l .terms) (marked marks (l .terms)) (allSuccessors (l .terms) (pathOf s) (marked marks (l .terms))) (λ t. getD places t 0) (λ t. getD fields t 0) ≡ sections (l .terms) (marked marks (l .terms)) (allSuccessors (l .terms) (pathOf s) (marked marks (l .terms))) (λ t. placeOf (pathOf s .rep t) (marked marks (l .terms))) (fieldByte (said l query) (pathOf s))
           parts = rw (map-alike _ _ (terms (l .terms)) node, map-alike _ _ (marked marks (l .terms)) datum)

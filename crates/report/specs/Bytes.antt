@@ -6,15 +6,16 @@ use mathlib.Core.List.{List, [], _∷_, _++_, map}
 use lib.ListN.{length}
 use lib.Dec.{eqb}
 use Rattle.logic.specs.Search.{_and_, from, any, flatMap}
-use Rattle.logic.specs.Query.{Literal, decode}
+use Rattle.logic.specs.Query.{Literal}
 use Rattle.logic.specs.Facts.{terms, linkNumbers}
 use Rattle.logic.specs.Facts as logic
 use Rattle.logic.specs.Shown.{placeOf, shownLink}
-use Rattle.logic.specs.Calls.{accepts}
+use Rattle.theory.proofs.Query.Tied.{Accepted}
 use Rattle.facts.specs.declared.Facts.{Facts}
 use Rattle.facts.specs.Path.{repOf, pathOf}
 use Rattle.query.specs.declared.Layout.{Layout}
-use Rattle.query.specs.LaysOut.{LaysOut, literalIn}
+use Rattle.query.specs.LaysOut.{literalIn}
+use Rattle.link_query.specs.Said.{said, Within}
 
 -- "set exactly by a plain literal": the field j of the node of term v
 unfoldable pub fieldHeld : (ℕ → ℕ) → List Literal → ℕ → ℕ → Bool
@@ -31,10 +32,10 @@ FieldsIn query at count rep =
 
 -- What a report is written of: an accepted query, and facts of its links in which every term stands for a term.
 pub record Reportable (l : Layout) (query : List ℕ) (s : Facts) : Type 0 where
-  pub laid : LaysOut l query
-  pub passes : accepts query ≡ true
+  pub laid : Within l query
+  pub passes : Accepted (said l query)
   pub stands : (t : ℕ) → 1 ≤ t → t ≤ l .terms → repOf (s .rep) t ≤ 16
-  pub linked : pathOf s .links ≡ decode query .links
+  pub linked : pathOf s .links ≡ said l query .links
 
 -- the successors along link i of the terms that are nodes, as nodes
 unfoldable pub successorsAmong : ℕ → logic.Facts → List ℕ → ℕ → List ℕ

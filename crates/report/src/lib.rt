@@ -6,7 +6,6 @@ ghost use lib.ListN.{length, getD};
 ghost use Rattle.facts.specs.Square.{square};
 ghost use Rattle.facts.specs.Path.{pathOf, repOf, HasLink};
 ghost use Rattle.logic.specs.Search.{from};
-ghost use Rattle.logic.specs.Query.{decode};
 ghost use Rattle.logic.specs.Facts.{terms};
 ghost use Rattle.logic.specs.Rules.{next};
 ghost use Rattle.logic.specs.Calls.{padded};
@@ -14,6 +13,7 @@ ghost use Rattle.logic.specs.Shown.{byteOf, shownLink, report};
 ghost use Rattle.report.specs.Nodes.{nodeOf, marked, nodesBy, Numbers};
 ghost use Rattle.lent.specs.Appending.{Appends};
 ghost use Rattle.report.specs.Bytes.{fieldHeld, literalsAt, FieldsIn, Reportable, allSuccessors, sections};
+ghost use Rattle.link_query.specs.Said.{said};
 ghost use Rattle.completion.specs.Links.{linkOf};
 use facts::Facts;
 use facts::Link;
@@ -307,7 +307,7 @@ fn write_sections(
 // The heap report.
 pub fn write_report(buffer: &mut [u8], query: &[u8], l: Layout, s: Facts)
     requires { ⌜ (37 + 16 * (pathOf s .links) ≤ length (now buffer)) × Reportable l (now query) s ⌝ }
-    ensures { λ r. ⌜ now (buffer .exit) ≡ padded (length (now (buffer .entry))) (report (decode (now (query .entry))) (pathOf s)) ⌝ }
+    ensures { λ r. ⌜ now (buffer .exit) ≡ padded (length (now (buffer .entry))) (report (said l (now (query .entry))) (pathOf s)) ⌝ }
 {
     let n = l.terms;
     let marks = mark_nodes(&s.rep, n);

@@ -58,6 +58,16 @@ module _ (f : Found) (t : Term) (is : f ≡ found.At t) where
   pub lowest-left : (v w : ℕ) → foundOf f ≡ find (bit (bitAnd v w)) (from 17 0) → In v (t .0)
   lowest-left v w e = let h = lowest-in (bitAnd v w) e in (h .0, and-left (bit v (t .0)) (bit w (t .0)) (sym (bit-and v w (t .0)) ∙ h .1))
 
+-- rows whose numbers are all in another: what two rows have, and what is left of such a row
+abbrev pub Among : ℕ → ℕ → Type 0
+Among v w = (i : ℕ) → bit v i ≡ true → bit w i ≡ true
+
+pub both-among : (v w : ℕ) → Among (bitAnd v w) v
+both-among v w i h = and-left (bit v i) (bit w i) (sym (bit-and v w i) ∙ h)
+
+pub left-among : (v u r w : ℕ) → Among v w → ((i : ℕ) → bit r i ≡ (bit v i and not (bit u i))) → Among r w
+left-among v u r w a e i h = a i (and-left (bit v i) (not (bit u i)) (sym (e i) ∙ h))
+
 -- a number that is known to be one of a row; a place that is handed on
 pub found-in : (w : ℕ) (f : Found) (t : Term) → f ≡ found.At t → FoundIn w f → In w (t .0)
 found-in w f t e h = subst (FoundIn w) e h

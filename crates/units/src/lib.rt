@@ -19,7 +19,7 @@ ghost use Rattle.facts.specs.Bits.{bit};
 ghost use Rattle.facts.specs.Square.{square, Turned};
 ghost use Rattle.facts.specs.Answers.{foundOf};
 ghost use Rattle.facts.specs.Path.{graphOf, pathOf};
-ghost use Rattle.query.specs.LaysOut.{LaysOut};
+ghost use Rattle.link_query.specs.Said.{Within};
 ghost use Rattle.units.specs.Rounds.{Rounds};
 ghost use Rattle.units.specs.Proposes.{Proposes, ProposesIn, FoundIn};
 
@@ -35,6 +35,12 @@ pub struct Round {
 pub enum Proposal {
     At(Rule, Term, Term, Third),
     Nothing,
+}
+
+// The terms that each term cannot come to reach, and the same turned round.
+struct Barred {
+    pub ahead: [u32; 17],
+    pub behind: [u32; 17],
 }
 
 // The smallest number of a row, of those up to 16.
@@ -109,17 +115,15 @@ fn alone(b: usize) -> u32
     0
 }
 
-// The rows with more in row a.
-fn marked(rows: [u32; 17], a: usize, more: u32) -> [u32; 17] {
-    let mut out = rows;
+// More in row a, in place: rows that are copied for each mark cost more than all else here.
+fn mark(rows: &mut [u32; 17], a: usize, more: u32) {
     if a < 17 {
-        out[a] = out[a] | more;
+        rows[a] = rows[a] | more;
     }
-    out
 }
 
-// What the negated literals of a section deny, of the terms that stand for theirs; an equality denies it both ways.
-fn denied(query: &[u8], at: usize, count: usize, rep: &[u8; 17], both: bool) -> [u32; 17]
+// What the negated equalities hold apart, both ways, of the terms that stand for theirs.
+fn unequal(query: &[u8], at: usize, count: usize, rep: &[u8; 17]) -> [u32; 17]
     requires { ⌜ at + 3 * count ≤ length (now query) ⌝ }
 {
     let mut out = [0u32; 17];
@@ -127,11 +131,27 @@ fn denied(query: &[u8], at: usize, count: usize, rep: &[u8; 17], both: bool) -> 
         if !query::sign(query, at, i) {
             let a = facts::read_rep(rep, query::left(query, at, i));
             let b = facts::read_rep(rep, query::right(query, at, i));
-            let next = marked(out, a.0, alone(b.0));
-            out = next;
-            if both {
-                let also = marked(out, b.0, alone(a.0));
-                out = also;
+            mark(&mut out, a.0, alone(b.0));
+            mark(&mut out, b.0, alone(a.0));
+        }
+    }
+    out
+}
+
+// What the negated reachability literals of link k deny, of the terms that stand for theirs.
+fn denied(query: &[u8], layout: Layout, rep: &[u8; 17], k: Link) -> [u32; 17]
+    requires { ⌜ Within layout (now query) ⌝ }
+{
+    let links = layout.links;
+    let at = layout.reach_at;
+    let count = layout.reach_count;
+    let mut out = [0u32; 17];
+    for i in 0..count {
+        if !link_query::reach_sign(query, links, at, i) {
+            if link_query::reach_link(query, links, at, i) == k.0 {
+                let a = facts::read_rep(rep, link_query::reach_left(query, links, at, i));
+                let b = facts::read_rep(rep, link_query::reach_right(query, links, at, i));
+                mark(&mut out, a.0, alone(b.0));
             }
         }
     }
@@ -146,8 +166,7 @@ fn fields(query: &[u8], at: usize, count: usize, rep: &[u8; 17], plain: bool) ->
     for i in 0..count {
         if query::sign(query, at, i) == plain {
             let a = facts::read_rep(rep, query::right(query, at, i));
-            let next = marked(out, a.0, alone(query::field(query, at, i)));
-            out = next;
+            mark(&mut out, a.0, alone(query::field(query, at, i)));
         }
     }
     out
@@ -170,50 +189,42 @@ fn opposed(rows: [u32; 17], some: &[u32; 17], other: &[u32; 17]) -> [u32; 17] {
     for a in 0..17 {
         let own = some[a];
         if own != 0 {
-            let next = marked(out, a, having(own, other));
-            out = next;
+            mark(&mut out, a, having(own, other));
         }
     }
     out
 }
 
-// What is denied to each term, or to one that reaches it.
-fn denied_behind(reach: &[u32; 17], denied: &[u32; 17]) -> [u32; 17] {
-    let mut out = [0u32; 17];
+// More in each row of some, in place.
+fn spread(rows: &mut [u32; 17], some: u32, more: u32) {
+    for a in 0..17 {
+        if facts::has(some, a) {
+            rows[a] = rows[a] | more;
+        }
+    }
+}
+
+// What no term can come to reach: where x is denied to reach d, no term that x reaches can reach one that reaches d.
+fn bars(reach: &[u32; 17], denied: &[u32; 17]) -> Barred {
+    let mut ahead = [0u32; 17];
+    let mut behind = [0u32; 17];
     for x in 0..17 {
         let no = denied[x];
         if no != 0 {
             let far = reach[x];
-            for a in 0..17 {
-                if facts::has(far, a) {
-                    let next = marked(out, a, no);
-                    out = next;
-                }
-            }
+            let off = having(no, reach);
+            spread(&mut ahead, far, off);
+            spread(&mut behind, off, far);
         }
     }
-    out
-}
-
-// The terms that no term of a row can reach, since they reach what is denied behind it.
-fn unreachable(reach: &[u32; 17], behind: &[u32; 17]) -> [u32; 17] {
-    let mut out = [0u32; 17];
-    for a in 0..17 {
-        let no = behind[a];
-        if no != 0 {
-            let next = marked(out, a, having(no, reach));
-            out = next;
-        }
-    }
-    out
+    Barred { ahead, behind }
 }
 
 // One row each of three, together.
 fn merged(a: &[u32; 17], b: &[u32; 17], c: &[u32; 17]) -> [u32; 17] {
     let mut out = [0u32; 17];
     for x in 0..17 {
-        let next = marked(out, x, a[x] | b[x] | c[x]);
-        out = next;
+        mark(&mut out, x, a[x] | b[x] | c[x]);
     }
     out
 }
@@ -314,25 +325,43 @@ fn scc(reach: &[u32; 17], back: &[u32; 17], no_equal: &[u32; 17], no_back: &[u32
     Proposal::Nothing
 }
 
-// TOTAL of x with y: y reaches z or z reaches y.
-fn total_at(
+// The terms that TOTAL would order with each term, where one way is struck. What does not depend on x is found once.
+fn struck(
     reach: &[u32; 17],
     back: &[u32; 17],
     no_reach: &[u32; 17],
     no_back: &[u32; 17],
+) -> [u32; 17] {
+    let mut out = [0u32; 17];
+    for y in 0..17 {
+        out[y] = facts::without(no_reach[y] | no_back[y], reach[y] | back[y]);
+    }
+    out
+}
+
+// TOTAL of x with y, one of the terms of `some`: y reaches z or z reaches y.
+fn total_at(
+    reach: &[u32; 17],
+    back: &[u32; 17],
+    struck: &[u32; 17],
+    some: u32,
     x: usize,
 ) -> Proposal
     requires { ⌜ (x ≤ 16) × Turned (now back) (now reach) ⌝ }
     ensures { λ r. ⌜ ((n : ℕ) (link : List ℕ) → ProposesIn n link (now (reach .entry)) r) ⌝ }
 {
-    let far = reach[x];
-    for y in 0..17 {
-        if facts::has(far, y) {
-            let struck = no_reach[y] | no_back[y];
-            if let Found::At(z) = lowest(unordered(reach, back, x, y) & struck) {
-                return Proposal::At(Rule::Total, Term(x), Term(y), Third(z.0));
-            }
+    let mut left = reach[x] & some;
+    let mut turn: usize = 0;
+    while turn < 17 {
+        let Found::At(y) = lowest(left) else {
+            return Proposal::Nothing;
+        };
+        let at = y.0;
+        if let Found::At(z) = lowest(unordered(reach, back, x, at) & struck[at]) {
+            return Proposal::At(Rule::Total, Term(x), y, Third(z.0));
         }
+        left = facts::without(left, facts::only(at));
+        turn += 1;
     }
     Proposal::Nothing
 }
@@ -341,8 +370,10 @@ fn total(reach: &[u32; 17], back: &[u32; 17], no_reach: &[u32; 17], no_back: &[u
     requires { ⌜ Turned (now back) (now reach) ⌝ }
     ensures { λ r. ⌜ ((n : ℕ) (link : List ℕ) → ProposesIn n link (now (reach .entry)) r) ⌝ }
 {
+    let open = struck(reach, back, no_reach, no_back);
+    let some = having(facts::up_to(16), &open);
     for x in 0..17 {
-        if let Proposal::At(rule, a, b, c) = total_at(reach, back, no_reach, no_back, x) {
+        if let Proposal::At(rule, a, b, c) = total_at(reach, back, &open, some, x) {
             return Proposal::At(rule, a, b, c);
         }
     }
@@ -379,9 +410,9 @@ fn place(
 
 // The terms held apart from each term by the equalities and the data literals.
 fn apart(query: &[u8], layout: Layout, rep: &[u8; 17]) -> [u32; 17]
-    requires { ⌜ LaysOut layout (now query) ⌝ }
+    requires { ⌜ Within layout (now query) ⌝ }
 {
-    let differ = denied(query, layout.equal_at, layout.equal_count, rep, true);
+    let differ = unequal(query, layout.equal_at, layout.equal_count, rep);
     if layout.field_count == 0 {
         return differ;
     }
@@ -391,29 +422,30 @@ fn apart(query: &[u8], layout: Layout, rep: &[u8; 17]) -> [u32; 17]
     opposed(one, &lack, &have)
 }
 
-// A place by the link whose rows are lent, where at most one alternative does not clash at once. `differ` has the terms held apart.
+// A place by link k, whose rows are lent, where at most one alternative does not clash at once. `differ` has the terms held apart.
 fn unit_at(
     query: &[u8],
     layout: Layout,
     reps: &[u8; 17],
     differ: &[u32; 17],
+    k: Link,
     link: &[u32; 17],
     reach: &[u32; 17],
 ) -> Proposal
-    requires { ⌜ LaysOut layout (now query) ⌝ }
+    requires { ⌜ Within layout (now query) ⌝ }
     ensures { λ r. ⌜ ProposesIn (layout .terms) (now (link .entry)) (now (reach .entry)) r ⌝ }
 {
-    let no = denied(query, layout.reach_at, layout.reach_count, reps, false);
-    let behind = denied_behind(reach, &no);
-    let no_reach = unreachable(reach, &behind);
-    let no_back = facts::turned(&no_reach);
+    let no = denied(query, layout, reps, k);
+    let off = bars(reach, &no);
+    let no_reach = off.ahead;
+    let no_back = off.behind;
     let no_equal = merged(differ, &no_reach, &no_back);
     place(link, reach, &no_equal, &no_reach, &no_back, layout.terms)
 }
 
 // A place at a closed path where at most one alternative does not clash at once, by the first link that has one.
 pub fn unit(query: &[u8], layout: Layout, s: Facts) -> Choice
-    requires { ⌜ LaysOut layout (now query) ⌝ }
+    requires { ⌜ Within layout (now query) ⌝ }
     ensures { λ r. ⌜ Proposes (layout .terms) (pathOf s) r ⌝ }
 {
     let reps = s.rep;
@@ -423,7 +455,15 @@ pub fn unit(query: &[u8], layout: Layout, s: Facts) -> Choice
     while k <= total {
         let link = facts::link_rows(s, Link(k));
         let reach = facts::reach_rows(s, Link(k));
-        if let Proposal::At(rule, x, y, z) = unit_at(query, layout, &reps, &differ, &link, &reach) {
+        if let Proposal::At(rule, x, y, z) = unit_at(
+            query,
+            layout,
+            &reps,
+            &differ,
+            Link(k),
+            &link,
+            &reach,
+        ) {
             return Choice::Apply(Link(k), rule, x, y, z);
         }
         k += 1;

@@ -12,9 +12,6 @@ use Rattle.logic.specs.Query.{Literal, Query, termCount}
 use Rattle.logic.specs.Facts.{Facts, linkNumbers, Line, line, isClash, clashLines, clash}
 use Rattle.logic.specs.Rules.{Rule, Triple, triple, Move, move, applies, triples, choose}
 use Rattle.logic.specs.Walk.{Look, clashing, applying, saturated, look}
-use Rattle.facts.specs.Square.{square}
-use Rattle.facts.specs.Path.{onlyLink, repOf, graphOf, pathOf}
-use Rattle.facts.specs.declared.Facts as code
 use Rattle.theory.proofs.Basics.Search.{keep-some, firstOf-some, find-some, from-mem, flatMap-mem, map-mem, none-some}
 
 module _ (q : Query) (order : List Rule) (s : Facts) where
@@ -107,22 +104,16 @@ clash-range q order s m l a b c h =
     (λ p. paired-small m 4 (q .fields) l (omega arith) c p) (List·Memᴰ·append-cases _ p)) (List·Memᴰ·append-cases _ i)
 
 -- What the code's searches find, as what is seen
-module _ (q : Query) (order : List Rule) (s : code.Facts) (n : ℕ) (terms-are : n ≡ termCount q) where
-  -- the clash of every path with these representatives and this reachability is that of the path
-  path-clash : (o : Option Line) → ((t : Facts) → t .rep ≡ repOf (s .rep) → t .graph 1 .reach ≡ square (s .reach) → o ≡ clash q t) → o ≡ clash q (pathOf s)
-  unfolding pathOf graphOf onlyLink
-  path-clash o h = h (pathOf s) refl refl
+module _ (q : Query) (order : List Rule) (s : Facts) (n : ℕ) (terms-are : n ≡ termCount q) (o : Option Line) (found : o ≡ clash q s) where
+  pub seen-clashing : (l : Line) → o ≡ some l → clashing l ≡ look q order s
+  seen-clashing l e = sym (look-clashing q order s l (sym found ∙ e))
 
-  abbrev ClashIs : Option Line → Type 0
-  ClashIs o = (t : Facts) → t .rep ≡ repOf (s .rep) → t .graph 1 .reach ≡ square (s .reach) → o ≡ clash q t
+  module _ (p : Option Move) (none-clash : o ≡ none) (chosen : p ≡ choose n order s) where
+    choice : choose (termCount q) order s ≡ p
+    choice = ap (λ (j : ℕ). choose j order s) (sym terms-are) ∙ sym chosen
 
-  pub seen-clashing : (o : Option Line) (l : Line) → ClashIs o → o ≡ some l → clashing l ≡ look q order (pathOf s)
-  seen-clashing o l h e = sym (look-clashing q order (pathOf s) l (sym (path-clash o h) ∙ e))
+    pub seen-applying : (m : Move) → p ≡ some m → applying m ≡ look q order s
+    seen-applying m f = sym (look-applying q order s m (sym found ∙ none-clash) (choice ∙ f))
 
-  pub seen-applying : (o : Option Line) (m : Move) (p : Option Move) → ClashIs o → o ≡ none → p ≡ choose n order (pathOf s) → p ≡ some m → applying m ≡ look q order (pathOf s)
-  seen-applying o m p h e k f =
-      sym (look-applying q order (pathOf s) m (sym (path-clash o h) ∙ e) (ap (λ (j : ℕ). choose j order (pathOf s)) (sym terms-are) ∙ sym k ∙ f))
-
-  pub seen-saturated : (o : Option Line) (p : Option Move) → ClashIs o → o ≡ none → p ≡ choose n order (pathOf s) → p ≡ none → saturated ≡ look q order (pathOf s)
-  seen-saturated o p h e k f =
-      sym (look-saturated q order (pathOf s) (sym (path-clash o h) ∙ e) (ap (λ (j : ℕ). choose j order (pathOf s)) (sym terms-are) ∙ sym k ∙ f))
+    pub seen-saturated : p ≡ none → saturated ≡ look q order s
+    seen-saturated f = sym (look-saturated q order s (sym found ∙ none-clash) (choice ∙ f))

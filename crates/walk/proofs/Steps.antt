@@ -4,7 +4,7 @@ use native.Mathlib.Omega.{arith}
 use mathlib.Core.Path.{_≡_, refl, sym, ap, _∙_, subst}
 use mathlib.Core.List.{List, [], _∷_, List·Memᴰ, List·Memᴰ·head, List·Memᴰ·tail}
 use lib.ListN.{length, getD}
-use Rattle.logic.specs.Query.{Query, termCount, decode}
+use Rattle.logic.specs.Query.{Query, termCount}
 use Rattle.logic.specs.Facts.{Facts, Joined, Line, line, joinLines}
 use Rattle.logic.specs.Rules.{Rule, triple, Move, move, Fact, equal, moveNumber, moveLine, alternatives, branch, add}
 use Rattle.logic.specs.Walk.{Look, clashing, applying, saturated, look, Ending, refutation, saturation, after, walkBranch, walk}
@@ -13,9 +13,11 @@ use Rattle.theory.proofs.Walks.OurWalk.{look-fewer}
 use Rattle.theory.proofs.Walks.Derives.{seen-applying}
 use Rattle.theory.proofs.Paths.Applies.{hasLink-range, applies-linked}
 use Rattle.facts.specs.Path.{HasLink}
-use Rattle.query.specs.LaysOut.{LaysOut, literalIn}
+use Rattle.query.specs.LaysOut.{literalIn}
 use Rattle.query.specs.declared.Layout.{Layout}
-use Rattle.query.proofs.Literals.{listed, listed-length, equalities-listed, reachability-listed, fields-listed}
+use Rattle.query.proofs.Literals.{listed, listed-length}
+use Rattle.link_query.specs.Said.{said, Within, reachIn}
+use Rattle.link_query.proofs.Said.{terms-said, equalities-said, reachability-said, fields-said}
 use Rattle.branch.specs.Alternatives.{countOf, alternativeAt}
 use Rattle.branch.proofs.Alternatives.{count-is, alternative-is}
 use Rattle.walk.specs.Lines.{countAll}
@@ -34,20 +36,20 @@ pub look-is : (v v′ : Seen) (l : Look) → lookOf v ≡ l → v ≡ v′ → l
 look-is v v′ l h e = sym h ∙ ap lookOf e
 
 -- the numbers of a line fit a byte
-module _ (bytes : List ℕ) (l : Layout) (laid : LaysOut l bytes) (order : List Rule) (s : Facts) where
-  pub clash-fits : (a i j : ℕ) → look (decode bytes) order s ≡ clashing (line 9 a i j) → (a < 256) × (i < 256) × (j < 256)
+module _ (bytes : List ℕ) (l : Layout) (laid : Within l bytes) (order : List Rule) (s : Facts) where
+  pub clash-fits : (a i j : ℕ) → look (said l bytes) order s ≡ clashing (line 9 a i j) → (a < 256) × (i < 256) × (j < 256)
   clash-fits a i j h =
-      let r = clash-range (decode bytes) order s 60 (line 9 a i j)
-      (omega (arith, ap length (equalities-listed l bytes laid), listed-length (literalIn bytes (l .«equal_at»)) (l .«equal_count»), laid .equal-within))
-      (omega (arith, ap length (reachability-listed l bytes laid), listed-length (literalIn bytes (l .«reach_at»)) (l .«reach_count»), laid .reach-within))
-      (omega (arith, ap length (fields-listed l bytes laid), listed-length (literalIn bytes (l .«field_at»)) (l .«field_count»), laid .field-within))
+      let r = clash-range (said l bytes) order s 60 (line 9 a i j)
+      (omega (arith, ap length (equalities-said l bytes laid), listed-length (literalIn bytes (l .«equal_at»)) (l .«equal_count»), laid .equal-within))
+      (omega (arith, ap length (reachability-said l bytes laid), listed-length (reachIn (l .links) bytes (l .«reach_at»)) (l .«reach_count»), laid .reach-within))
+      (omega (arith, ap length (fields-said l bytes laid), listed-length (literalIn bytes (l .«field_at»)) (l .«field_count»), laid .field-within))
       h in
       (omega arith, omega arith, omega arith)
 
-  pub move-fits : (k : ℕ) (r : Rule) (x y z : ℕ) → look (decode bytes) order s ≡ applying (move k r (triple x y z)) → (x ≤ 16) × (y ≤ 16) × (z ≤ 16)
+  pub move-fits : (k : ℕ) (r : Rule) (x y z : ℕ) → look (said l bytes) order s ≡ applying (move k r (triple x y z)) → (x ≤ 16) × (y ≤ 16) × (z ≤ 16)
   move-fits k r x y z h =
-      let g = move-range (decode bytes) order s k r x y z h in
-      let t = laid .term-count in
+      let g = move-range (said l bytes) order s k r x y z h in
+      let t = terms-said l bytes laid in
       let w = laid .terms-within in
       (omega arith, omega arith, omega arith)
 

@@ -12,12 +12,11 @@ ghost use mathlib.Core.Path.{_≡_};
 ghost use Prim.Native.Nat.{_+_, _*_, _≤_, _<_};
 ghost use lib.ListN.{length};
 ghost use Rattle.logic.specs.Facts.{line, joinLines};
-ghost use Rattle.logic.specs.Query.{decode};
 ghost use Rattle.logic.specs.Rules.{ruleNumber, moveNumber};
 ghost use Rattle.logic.specs.Walk.{look, orderOf};
 ghost use Rattle.facts.specs.Path.{pathOf};
 ghost use Rattle.facts.specs.Pairs.{pairsOf};
-ghost use Rattle.query.specs.LaysOut.{LaysOut};
+ghost use Rattle.link_query.specs.Said.{said, Within};
 ghost use Rattle.rules.specs.Answers.{kindOf};
 ghost use Rattle.walk.specs.Lines.{counted, countAll, putLine, putAll};
 ghost use Rattle.walk.specs.Looks.{lookOf};
@@ -99,11 +98,19 @@ pub fn number(k: Link, rule: Rule) -> usize
 
 // "It is looked for before any rule and ends the path."
 pub fn look(query: &[u8], layout: Layout, order: &[u8], s: Facts) -> Seen
-    requires { ⌜ LaysOut layout (now query) ⌝ }
-    ensures { λ r. ⌜ lookOf r ≡ look (decode (now (query .entry))) (orderOf (now (order .entry))) (pathOf s) ⌝ }
+    requires { ⌜ Within layout (now query) ⌝ }
+    ensures { λ r. ⌜ lookOf r ≡ look (said layout (now (query .entry))) (orderOf (now (order .entry))) (pathOf s) ⌝ }
 {
     let n = layout.terms;
-    if let Clash::At(section, place, partner) = clash::find_clash(query, layout, &s.rep, &s.reach) {
+    if let Clash::At(section, place, partner) = clash::find_clash(
+        query,
+        layout,
+        &s.rep,
+        true,
+        &s.reach,
+        &s.reach,
+        &s.reach,
+    ) {
         return Seen::Clashing(section, place, partner);
     }
     let Choice::Apply(k, rule, x, y, z) = rules::choose(order, s, n) else {

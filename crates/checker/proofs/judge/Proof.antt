@@ -21,12 +21,12 @@ judge-spec =
     -- limit-requires
     (λ c κs. c .before .before .before .before .pre .0 .terms-within)
     -- check-goal-requires
-    (λ c κs. (c .before .before .before .before .before .pre .0, c .before .before .before .before .before .pre .1, (shaped _ (c .before .before .before .before .before .pre .2) _ (c .before .before .count-of .ensures .0)), start-ahead _ (joinedOf (c .before .start .result)) _ _ (c .before .before .before .before .before .pre .1) (c .before .start .ensures) (c .before .before .before .before .before .pre .0 .term-count) (c .limit .ensures), subst Fits (sym (c .before .start .ensures)) (started-fits (c .before .before .before .before .before .pre .0) (c .before .before .before .before .before .pre .1)), omega arith))
+    (λ c κs. (c .before .before .before .before .before .before .before .before .before .before .pre .0, c .before .before .before .before .before .before .before .before .before .before .pre .1, (shaped _ (c .before .before .before .before .before .before .before .before .before .before .pre .2) _ (c .before .before .before .before .before .before .before .count-of .ensures .0)), start-ahead _ (joinedOf (c .before .before .before .before .before .before .start .result)) _ _ (c .before .before .before .before .before .before .before .before .before .before .pre .1) (c .before .before .before .before .before .before .start .ensures) (c .before .before .before .before .before .before .before .before .before .before .pre .0 .term-count) (c .before .before .before .before .before .limit .ensures), subst Fits (sym (c .before .before .before .before .before .before .start .ensures)) (started-fits (c .before .before .before .before .before .before .before .before .before .before .pre .0) (c .before .before .before .before .before .before .before .before .before .before .pre .1)), omega arith))
     -- returns
-    (λ c. judged-wrong _ _ _ (shaped _ (c .before .before .before .before .before .before .before .before .pre .2) _ (c .before .before .before .before .before .count-of .ensures .0)) (joinedOf (c .before .before .before .before .start .result)) (c .before .before .before .before .start .ensures) _ (c .before .before .check-goal .ensures) (not-true _ (c .if1 .taken)))
-    -- add-t11
-    (λ c. let l = c .if2 .taken in let u = c .before .before .before .before .before .before .count-of .ensures .1 in omega arith)
+    (λ c. judged-wrong _ _ _ (shaped _ (c .before .before .before .before .before .before .before .before .before .before .before .before .before .pre .2) _ (c .before .before .before .before .before .before .before .before .before .before .count-of .ensures .0)) (joinedOf (c .before .before .before .before .before .before .before .before .before .start .result)) (c .before .before .before .before .before .before .before .before .before .start .ensures) _ (c .before .before .check-goal .ensures) (not-true _ (c .if1 .taken)))
+    -- add-t16
+    (λ c. let l = c .if2 .taken in let u = c .before .before .before .before .before .before .before .before .before .before .before .count-of .ensures .1 in omega arith)
     -- returns-2
-    (λ c. judged-more _ _ _ (shaped _ (c .before .before .before .before .before .before .before .before .before .pre .2) _ (c .before .before .before .before .before .before .count-of .ensures .0)) (joinedOf (c .before .before .before .before .before .start .result)) (c .before .before .before .before .before .start .ensures) _ (c .before .before .before .check-goal .ensures) (not-false _ (c .before .if1 .left)) (c .if2 .taken))
+    (λ c. judged-more _ _ _ (shaped _ (c .before .before .before .before .before .before .before .before .before .before .before .before .before .before .pre .2) _ (c .before .before .before .before .before .before .before .before .before .before .before .count-of .ensures .0)) (joinedOf (c .before .before .before .before .before .before .before .before .before .before .start .result)) (c .before .before .before .before .before .before .before .before .before .before .start .ensures) _ (c .before .before .before .check-goal .ensures) (not-false _ (c .before .if1 .left)) (c .if2 .taken))
     -- returns-3
-    (λ c. judged-all _ _ _ (shaped _ (c .before .before .before .before .before .before .before .before .before .pre .2) _ (c .before .before .before .before .before .before .count-of .ensures .0)) (joinedOf (c .before .before .before .before .before .start .result)) (c .before .before .before .before .before .start .ensures) _ (c .before .before .before .check-goal .ensures) (not-false _ (c .before .if1 .left)) (c .if2 .left)))
+    (λ c. judged-all _ _ _ (shaped _ (c .before .before .before .before .before .before .before .before .before .before .before .before .before .before .pre .2) _ (c .before .before .before .before .before .before .before .before .before .before .before .count-of .ensures .0)) (joinedOf (c .before .before .before .before .before .before .before .before .before .before .start .result)) (c .before .before .before .before .before .before .before .before .before .before .start .ensures) _ (c .before .before .before .check-goal .ensures) (not-false _ (c .before .if1 .left)) (c .if2 .left)))

@@ -15,27 +15,18 @@ find-clash-spec =
     -- enum-known-k
     (λ c. search needs)
     -- returns
-    (λ c s e f. sym (equality-first (c .before .before .before .before .before .pre) _ _ s e f _ (sym (c .before .before .before .equality-clash .ensures) ∙ ap lineOf (c .before .k .given .1))))
+    (λ c s e f. sym (equality-first _ _ _ _ s e f _ (sym (c .before .before .before .equality-clash .ensures) ∙ ap lineOf (c .before .k .given .1))))
     -- enum-told
     (λ c. search needs)
     -- reach-clash-requires
-    (λ c κs. c .before .before .before .before .pre .reach-fit)
+    (λ c κs. c .before .before .before .before .pre)
     -- enum-known-k-2
     (λ c. search needs)
     -- returns-2
-    (λ c s e f.
-    sym
-    (reach-second (c .before .before .before .before .before .before .before .before .pre) _ _ s e f _
-    (sym (c .before .before .before .before .before .before .equality-clash .ensures) ∙ ap lineOf (c .before .before .before .before .enum-told .given .1))
-    (sym (c .before .before .before .reach-clash .ensures) ∙ ap lineOf (c .before .k2 .given .1))))
+    (λ c s e f. sym (reach-second _ _ _ _ s e f _ (sym (c .before .before .before .before .before .before .equality-clash .ensures) ∙ ap lineOf (c .before .before .before .before .enum-told .given .1)) (sym (c .before .before .before .reach-clash .ensures) ∙ ap lineOf (c .before .k2 .given .1))))
     -- enum-told-2
     (λ c. search needs)
     -- field-clash-requires
     (λ c κs. c .before .before .before .before .before .before .before .pre .field-fit)
     -- returns-3
-    (λ c s e f.
-    c .field-clash .ensures
-    ∙ sym
-    (fields-third (c .before .before .before .before .before .before .before .before .pre) _ _ s e f
-    (sym (c .before .before .before .before .before .before .equality-clash .ensures) ∙ ap lineOf (c .before .before .before .before .enum-told .given .1))
-    (sym (c .before .before .before .reach-clash .ensures) ∙ ap lineOf (c .before .enum-told2 .given .1)))))
+    (λ c s e f. c .field-clash .ensures ∙ sym (fields-third _ _ _ _ s e f (sym (c .before .before .before .before .before .before .equality-clash .ensures) ∙ ap lineOf (c .before .before .before .before .enum-told .given .1)) (sym (c .before .before .before .reach-clash .ensures) ∙ ap lineOf (c .before .enum-told2 .given .1)))))

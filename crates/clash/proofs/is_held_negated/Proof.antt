@@ -1,33 +1,25 @@
--- A plain literal is no clash; of a negated one the fact is looked up through rep. Assumes nothing.
+-- The path's rows are lent. Assumes nothing.
 use borrow.Author.Needs.{needs}
-use mathlib.Core.Path.{sym, ap, ap₂, _∙_}
+use Prim.Native.Nat.{ℕ}
+use mathlib.Core.Path.{sym, ap, _∙_}
+use mathlib.Core.Bool.{Bool, not}
 use Rattle.logic.specs.Search.{_and_}
-use Rattle.facts.specs.Square.{square}
-use Rattle.facts.specs.Path.{repOf}
+use Rattle.facts.specs.Path.{pathOf, repOf}
+use Rattle.link_query.specs.Said.{reachIn}
+use Rattle.clash.specs.Sections.{rowsHeld}
+use Rattle.clash.proofs.Laid.{path-reach}
 use Rattle.clash.proofs.is_held_negated.Statement.{statement}
 use Rattle.clash.proofs.is_held_negated.Tie as tie
 
 pub is-held-negated-spec : {M : Type 1} → statement M
-unfolding _and_
+unfolding pathOf
 is-held-negated-spec =
     tie.close
     (tie.spec
-    -- sign-requires
+    -- is-held-in-requires
     (λ c κs. search needs)
     -- returns
-    (λ c. rw (sym (c .before .sign .ensures) ∙ c .if1 .taken))
-    -- left-requires
-    (λ c κs. search needs)
-    -- read-rep-requires
-    (λ c κs. search needs)
-    -- right-requires
-    (λ c κs. search needs)
-    -- read-rep-requires-2
-    (λ c κs. search needs)
-    -- reaches-requires
-    (λ c κs. search needs)
-    -- returns-2
     (λ c.
-    rw (sym (c .before .before .before .before .before .before .sign .ensures) ∙ c .before .before .before .before .before .if1 .left)
-    (c .reaches .ensures
-    ∙ ap₂ (square _) (c .before .before .before .read-rep .ensures ∙ ap (repOf _) (c .before .before .before .before .left .ensures)) (c .before .read-rep2 .ensures ∙ ap (repOf _) (c .before .before .right .ensures)))))
+    let a = c .before .before .before .before .before .before .before .args in
+    let l = reachIn (a .links) (a .query .now) (a .at) (a .i) in
+    c .is-held-in .ensures ∙ ap (λ (reach : ℕ → ℕ → ℕ → Bool). not (l .plain) and rowsHeld (repOf (a .t5 .rep)) reach l) (sym (path-reach (a .t5)))))

@@ -6,11 +6,12 @@ use mathlib.Core.Path.{_≡_, refl, sym, ap, _∙_, subst}
 use borrow.Fn.Kinds.{In}
 use borrow.Fn.PlainCycle.{Measures, is, falls, and}
 use borrow.Author.Tests.{not-true, not-false}
-use Rattle.logic.specs.Query.{decode}
 use Rattle.logic.specs.Rules.{triple, move}
 use Rattle.logic.specs.Decision.{Struck}
 use Rattle.facts.specs.Path.{pathOf}
 use Rattle.rules.specs.Answers.{kindOf}
+use Rattle.link_query.specs.Said.{said}
+use Rattle.link_query.proofs.Said.{terms-said}
 use Rattle.decide.specs.Tells.{Sees}
 use Rattle.decide.proofs.Tells.{fewer-left, seen-as, struck-none, ends-nothing, ends-refuted, ends-as, tells-clash, ends-saturated, known-branch, struck-more, tells-branch, tells-struck, applied-linked}
 use Rattle.decide.proofs.search.Reads as search′
@@ -35,7 +36,7 @@ abbrev search-below : ℕ → In 1 search-kinds.ps
 search-below t = and 1 search-kinds.ps (falls 1 search-kinds.ps _<_ μ-search t) search′.Pre
 
 abbrev search-Inv-loop : search-lts.InvT-loop
-search-Inv-loop query layout how left budget n t k rule x y z total fuel₀ i₀ fuel i = (i ≤ total) × Struck (decode query) (pathOf t) (move (k .0) (kindOf rule) (triple (x .0) (y .0) (z .0))) i
+search-Inv-loop query layout how left budget n t k rule x y z total fuel₀ i₀ fuel i = (i ≤ total) × Struck (said layout query) (pathOf t) (move (k .0) (kindOf rule) (triple (x .0) (y .0) (z .0))) i
 
 abbrev search-μ-loop : search-lts.MeasureT-loop
 search-μ-loop query layout how left budget n t k rule x y z total fuel₀ i₀ fuel i = total - i
@@ -70,13 +71,13 @@ pub +search-spec : {M : Type 1} → statement M
     -- spent-requires
     (λ c κs. search needs)
     -- returns
-    (λ c. let a = seen-as _ _ _ _ (c .before .before .before .sees .ensures) (c .before .enum-told .given .1) in ends-saturated (c .before .before .before .before .before .before .args .query .now) (c .before .before .before .before .before .before .pre .1 .1) _ _ (c .before .before .before .before .before .before .pre .1 .2) _ (c .before .before .before .before .before .before .pre .1 .0 .term-count) (c .before .before .before .before .close .ensures .0) (a .0) (a .1))
+    (λ c. let a = seen-as _ _ _ _ (c .before .before .before .sees .ensures) (c .before .enum-told .given .1) in ends-saturated (c .before .before .before .before .before .before .pre .1 .1) _ _ (c .before .before .before .before .before .before .pre .1 .2) _ (sym (terms-said _ _ (c .before .before .before .before .before .before .pre .1 .0))) (c .before .before .before .before .close .ensures .0) (a .0) (a .1))
     -- enum-told-2
     (λ c. search needs)
     -- spent-requires-2
     (λ c κs. search needs)
     -- returns-2
-    (λ c. let a = seen-as _ _ _ _ (c .before .before .before .sees .ensures) (c .before .enum-told2 .given .1) in ends-refuted _ _ _ (tells-clash (c .before .before .before .before .before .before .args .query .now) (c .before .before .before .before .before .before .pre .1 .1) _ _ (c .before .before .before .before .before .before .pre .1 .2) _ (c .before .before .before .before .before .before .pre .1 .0 .term-count) (c .before .before .before .before .close .ensures .0) (a .0) (a .1)))
+    (λ c. let a = seen-as _ _ _ _ (c .before .before .before .sees .ensures) (c .before .enum-told2 .given .1) in ends-refuted _ _ _ (tells-clash (c .before .before .before .before .before .before .pre .1 .1) _ _ (c .before .before .before .before .before .before .pre .1 .2) _ (sym (terms-said _ _ (c .before .before .before .before .before .before .pre .1 .0))) (c .before .before .before .before .close .ensures .0) (a .0) (a .1)))
     -- enum-known-k
     (λ c. search needs)
     -- returns-3
@@ -94,16 +95,16 @@ pub +search-spec : {M : Type 1} → statement M
     -- sub-search
     (λ c. omega arith)
     -- search-requires
-    (λ c κs. let a = seen-as _ _ _ _ (c .before .before .before .before .before .before .before .before .before .before .before .sees .ensures) (c .before .before .before .before .before .before .before .before .before .k .given .1) in (fewer-left _ _ (c .before .before .before .before .before .before .before .if1 .left) (c .before .before .before .before .before .before .before .before .before .before .before .before .before .before .pre .0), (c .before .before .before .before .before .before .before .before .before .before .before .before .before .before .pre .1 .0, c .before .before .before .before .before .before .before .before .before .before .before .before .before .before .pre .1 .1, known-branch (c .before .before .before .before .before .before .before .before .before .before .before .before .before .before .args .query .now) (c .before .before .before .before .before .before .before .before .before .before .before .before .before .before .pre .1 .1) _ _ (c .before .before .before .before .before .before .before .before .before .before .before .before .before .before .pre .1 .2) _ (c .before .before .before .before .before .before .before .before .before .before .before .before .before .before .pre .1 .0 .term-count) (c .before .before .before .before .before .before .before .before .before .before .before .before .close .ensures .0) _ _ _ _ _ (a .0) _ (subst (λ (j : ℕ). c .before .before .before .before .loop .i < j) (c .before .before .before .before .before .before .count .ensures) (c .before .before .before .loop-test .taken)) _ (c .before .branch .ensures))))
+    (λ c κs. let a = seen-as _ _ _ _ (c .before .before .before .before .before .before .before .before .before .before .before .sees .ensures) (c .before .before .before .before .before .before .before .before .before .k .given .1) in (fewer-left _ _ (c .before .before .before .before .before .before .before .if1 .left) (c .before .before .before .before .before .before .before .before .before .before .before .before .before .before .pre .0), (c .before .before .before .before .before .before .before .before .before .before .before .before .before .before .pre .1 .0, c .before .before .before .before .before .before .before .before .before .before .before .before .before .before .pre .1 .1, known-branch (c .before .before .before .before .before .before .before .before .before .before .before .before .before .before .pre .1 .1) _ _ (c .before .before .before .before .before .before .before .before .before .before .before .before .before .before .pre .1 .2) _ (sym (terms-said _ _ (c .before .before .before .before .before .before .before .before .before .before .before .before .before .before .pre .1 .0))) (c .before .before .before .before .before .before .before .before .before .before .before .before .close .ensures .0) _ _ _ _ _ (a .0) _ (subst (λ (j : ℕ). c .before .before .before .before .loop .i < j) (c .before .before .before .before .before .before .count .ensures) (c .before .before .before .loop-test .taken)) _ (c .before .branch .ensures))))
     -- is-refuted-requires
     (λ c κs. search needs)
     -- returns-5
-    (λ c. let a = seen-as _ _ _ _ (c .before .before .before .before .before .before .before .before .before .before .before .before .before .before .sees .ensures) (c .before .before .before .before .before .before .before .before .before .before .before .before .k .given .1) in ends-as _ _ _ _ _ (c .before .before .search .ensures) (tells-branch (c .before .before .before .before .before .before .before .before .before .before .before .before .before .before .before .before .before .args .query .now) (c .before .before .before .before .before .before .before .before .before .before .before .before .before .before .before .before .before .pre .1 .1) _ _ (c .before .before .before .before .before .before .before .before .before .before .before .before .before .before .before .before .before .pre .1 .2) _ (c .before .before .before .before .before .before .before .before .before .before .before .before .before .before .before .before .before .pre .1 .0 .term-count) (c .before .before .before .before .before .before .before .before .before .before .before .before .before .before .before .close .ensures .0) _ _ _ _ _ (a .0) _ (subst (λ (j : ℕ). c .before .before .before .before .before .before .before .loop .i < j) (c .before .before .before .before .before .before .before .before .before .count .ensures) (c .before .before .before .before .before .before .loop-test .taken)) _ (c .before .before .before .before .branch .ensures) _ (c .before .before .search .ensures .tells) (sym (c .before .is-refuted .ensures) ∙ not-true _ (c .if3 .taken))))
+    (λ c. let a = seen-as _ _ _ _ (c .before .before .before .before .before .before .before .before .before .before .before .before .before .before .sees .ensures) (c .before .before .before .before .before .before .before .before .before .before .before .before .k .given .1) in ends-as _ _ _ _ _ (c .before .before .search .ensures) (tells-branch (c .before .before .before .before .before .before .before .before .before .before .before .before .before .before .before .before .before .pre .1 .1) _ _ (c .before .before .before .before .before .before .before .before .before .before .before .before .before .before .before .before .before .pre .1 .2) _ (sym (terms-said _ _ (c .before .before .before .before .before .before .before .before .before .before .before .before .before .before .before .before .before .pre .1 .0))) (c .before .before .before .before .before .before .before .before .before .before .before .before .before .before .before .close .ensures .0) _ _ _ _ _ (a .0) _ (subst (λ (j : ℕ). c .before .before .before .before .before .before .before .loop .i < j) (c .before .before .before .before .before .before .before .before .before .count .ensures) (c .before .before .before .before .before .before .loop-test .taken)) _ (c .before .before .before .before .branch .ensures) _ (c .before .before .search .ensures .tells) (sym (c .before .is-refuted .ensures) ∙ not-true _ (c .if3 .taken))))
     -- add-i
     (λ c. search needs)
     -- loop-less
     (λ c. search needs)
     -- loop-again
-    (λ c. let a = seen-as _ _ _ _ (c .before .before .before .before .before .before .before .before .before .before .before .before .before .before .sees .ensures) (c .before .before .before .before .before .before .before .before .before .before .before .before .k .given .1) in (omega arith, struck-more (c .before .before .before .before .before .before .before .before .before .before .before .before .before .before .before .before .before .args .query .now) (c .before .before .before .before .before .before .before .before .before .before .before .before .before .before .before .before .before .pre .1 .1) _ _ (c .before .before .before .before .before .before .before .before .before .before .before .before .before .before .before .before .before .pre .1 .2) _ (c .before .before .before .before .before .before .before .before .before .before .before .before .before .before .before .before .before .pre .1 .0 .term-count) (c .before .before .before .before .before .before .before .before .before .before .before .before .before .before .before .close .ensures .0) _ _ _ _ _ (a .0) _ (subst (λ (j : ℕ). c .before .before .before .before .before .before .before .loop .i < j) (c .before .before .before .before .before .before .before .before .before .count .ensures) (c .before .before .before .before .before .before .loop-test .taken)) _ (c .before .before .before .before .branch .ensures) (c .before .before .before .before .before .before .before .loop .inv .1) _ (c .before .before .search .ensures .tells) (sym (c .before .is-refuted .ensures) ∙ not-false _ (c .if3 .left))))
+    (λ c. let a = seen-as _ _ _ _ (c .before .before .before .before .before .before .before .before .before .before .before .before .before .before .sees .ensures) (c .before .before .before .before .before .before .before .before .before .before .before .before .k .given .1) in (omega arith, struck-more (c .before .before .before .before .before .before .before .before .before .before .before .before .before .before .before .before .before .pre .1 .1) _ _ (c .before .before .before .before .before .before .before .before .before .before .before .before .before .before .before .before .before .pre .1 .2) _ (sym (terms-said _ _ (c .before .before .before .before .before .before .before .before .before .before .before .before .before .before .before .before .before .pre .1 .0))) (c .before .before .before .before .before .before .before .before .before .before .before .before .before .before .before .close .ensures .0) _ _ _ _ _ (a .0) _ (subst (λ (j : ℕ). c .before .before .before .before .before .before .before .loop .i < j) (c .before .before .before .before .before .before .before .before .before .count .ensures) (c .before .before .before .before .before .before .loop-test .taken)) _ (c .before .before .before .before .branch .ensures) (c .before .before .before .before .before .before .before .loop .inv .1) _ (c .before .before .search .ensures .tells) (sym (c .before .is-refuted .ensures) ∙ not-false _ (c .if3 .left))))
     -- returns-6
-    (λ c. let a = seen-as _ _ _ _ (c .before .before .before .before .before .before .before .before .sees .ensures) (c .before .before .before .before .before .before .k .given .1) in ends-refuted _ _ _ (tells-struck (c .before .before .before .before .before .before .before .before .before .before .before .args .query .now) (c .before .before .before .before .before .before .before .before .before .before .before .pre .1 .1) _ _ (c .before .before .before .before .before .before .before .before .before .before .before .pre .1 .2) _ (c .before .before .before .before .before .before .before .before .before .before .before .pre .1 .0 .term-count) (c .before .before .before .before .before .before .before .before .before .close .ensures .0) _ _ _ _ _ (a .0) _ (c .before .loop .inv .1) (subst (λ (j : ℕ). j ≤ c .before .loop .i) (c .before .before .before .count .ensures) (c .loop-test .left))))
+    (λ c. let a = seen-as _ _ _ _ (c .before .before .before .before .before .before .before .before .sees .ensures) (c .before .before .before .before .before .before .k .given .1) in ends-refuted _ _ _ (tells-struck (c .before .before .before .before .before .before .before .before .before .before .before .pre .1 .1) _ _ (c .before .before .before .before .before .before .before .before .before .before .before .pre .1 .2) _ (sym (terms-said _ _ (c .before .before .before .before .before .before .before .before .before .before .before .pre .1 .0))) (c .before .before .before .before .before .before .before .before .before .close .ensures .0) _ _ _ _ _ (a .0) _ (c .before .loop .inv .1) (subst (λ (j : ℕ). j ≤ c .before .loop .i) (c .before .before .before .count .ensures) (c .loop-test .left))))

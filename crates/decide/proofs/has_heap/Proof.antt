@@ -1,7 +1,6 @@
 -- What the strategies find out, or else plain steps without a limit. Assumes nothing.
 use borrow.Author.Needs.{needs}
 use mathlib.Core.Path.{refl}
-use Rattle.theory.proofs.Query.AcceptedBytes.{accepted}
 use Rattle.theory.proofs.Calls.Decision.{reachable-known}
 use Rattle.decide.proofs.Ended.{decides-open, decides-refuted, decides-walked}
 use Rattle.decide.proofs.has_heap.Statement.{statement}
@@ -12,7 +11,7 @@ has-heap-spec =
     tie.close
     (tie.spec
     -- in-turn-requires
-    (λ c κs. (c .before .before .pre .0, c .before .before .pre .1, reachable-known _ (accepted _ (c .before .before .pre .1)) _ (c .before .before .pre .3)))
+    (λ c κs. (c .before .before .pre .0, c .before .before .pre .1, reachable-known _ (c .before .before .pre .1) _ (c .before .before .pre .3)))
     -- enum-told
     (λ c. search needs)
     -- enum-told-2
@@ -20,12 +19,12 @@ has-heap-spec =
     -- enum-told-3
     (λ c. search needs)
     -- plain-requires
-    (λ c κs. (c .before .before .before .before .before .before .pre .0, c .before .before .before .before .before .before .pre .1, c .before .before .before .before .before .before .pre .2, reachable-known _ (accepted _ (c .before .before .before .before .before .before .pre .1)) _ (c .before .before .before .before .before .before .pre .3), c .before .before .before .before .before .before .pre .4))
+    (λ c κs. (c .before .before .before .before .before .before .pre .0, c .before .before .before .before .before .before .pre .1, c .before .before .before .before .before .before .pre .2, reachable-known _ (c .before .before .before .before .before .before .pre .1) _ (c .before .before .before .before .before .before .pre .3), c .before .before .before .before .before .before .pre .4))
     -- is-refuted-requires
     (λ c κs. search needs)
     -- returns
-    (λ c. decides-open (c .before .before .before .before .before .before .args .query .now) (c .before .before .before .before .before .before .pre .1) _ _ _ (c .before .before .before .in-turn .ensures) (c .enum-told .given .1))
+    (λ c. decides-open _ _ _ (c .before .before .before .in-turn .ensures) (c .enum-told .given .1))
     -- returns-2
-    (λ c. decides-refuted (c .before .before .before .before .before .before .args .query .now) (c .before .before .before .before .before .before .pre .1) _ _ _ (c .before .before .before .in-turn .ensures) (c .enum-told2 .given .1) _)
+    (λ c. decides-refuted _ _ _ (c .before .before .before .in-turn .ensures) (c .enum-told2 .given .1) _)
     -- returns-3
-    (λ c. decides-walked (c .before .before .before .before .before .before .before .before .args .query .now) (c .before .before .before .before .before .before .before .before .pre .1) _ (c .before .before .before .before .before .before .before .before .args .order .now) (c .before .before .before .before .before .before .before .before .pre .2) _ (c .before .before .before .before .before .before .before .before .pre .3) (c .before .before .before .before .before .before .before .before .pre .4) _ (c .before .plain .ensures) _ (c .is-refuted .ensures)))
+    (λ c. decides-walked _ (c .before .before .before .before .before .before .before .before .pre .1) (c .before .before .before .before .before .before .before .before .args .order .now) (c .before .before .before .before .before .before .before .before .pre .2) _ (c .before .before .before .before .before .before .before .before .pre .3) (c .before .before .before .before .before .before .before .before .pre .4) _ (c .before .plain .ensures) _ (c .is-refuted .ensures)))

@@ -7,10 +7,10 @@ use Rattle.decide.proofs.in_turn.Statement.{statement}
 use Rattle.decide.proofs.in_turn.Tie as tie
 
 abbrev Inv-loop : tie.InvT-loop
-Inv-loop query layout s first budget₀ turn₀ budget turn = turn ≤ 36
+Inv-loop query layout s first budget₀ turn₀ budget turn = turn ≤ 48
 
 abbrev μ-loop : tie.MeasureT-loop
-μ-loop query layout s first budget₀ turn₀ budget turn = 36 - turn
+μ-loop query layout s first budget₀ turn₀ budget turn = 48 - turn
 
 pub in-turn-spec : {M : Type 1} → statement M
 in-turn-spec =
@@ -24,8 +24,6 @@ in-turn-spec =
     (λ c κs. search needs)
     -- returns
     (λ c. c .before .before .before .search .ensures)
-    -- share-requires
-    (λ c κs. search needs)
     -- search-requires-2
     (λ c κs. search needs)
     -- is-unknown-requires-2
@@ -36,8 +34,6 @@ in-turn-spec =
     (λ c. omega arith)
     -- add-how
     (λ c. omega arith)
-    -- share-requires-2
-    (λ c κs. search needs)
     -- search-requires-3
     (λ c κs. search needs)
     -- is-unknown-requires-3

@@ -2,6 +2,7 @@
 use borrow.Author.Needs.{needs}
 use native.Mathlib.Omega.{arith}
 use mathlib.Core.Path.{sym, _∙_}
+use Rattle.link_query.proofs.Said.{terms-said}
 use Rattle.decide.proofs.Leads.{look-behind}
 use Rattle.decide.proofs.look_ahead.Statement.{statement}
 use Rattle.decide.proofs.look_ahead.Tie as tie
@@ -21,7 +22,7 @@ look-ahead-spec =
     -- look-requires
     (λ c κs. search needs)
     -- returns
-    (λ c. let start = c .before .before .before .before .before .before in let b = sym (c .before .before .before .begins .ensures) ∙ c .before .before .if1 .taken in c .look .ensures ∙ sym (look-behind _ _ _ _ (start .pre .0 .term-count) (start .pre .1) b (start .pre .2 b)))
+    (λ c. let start = c .before .before .before .before .before .before in let b = sym (c .before .before .before .begins .ensures) ∙ c .before .before .if1 .taken in c .look .ensures ∙ sym (look-behind _ _ _ _ (sym (terms-said _ _ (start .pre .0))) (start .pre .1) b (start .pre .2 b)))
     -- look-requires-2
     (λ c κs. search needs)
     -- returns-2

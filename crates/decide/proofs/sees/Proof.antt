@@ -1,6 +1,8 @@
 -- What is seen is what the searches find, the clash first. Assumes nothing.
 use borrow.Author.Needs.{needs}
-use mathlib.Core.Path.{refl, ap}
+use mathlib.Core.Path.{sym}
+use Rattle.link_query.proofs.Said.{terms-said}
+use Rattle.clash.proofs.Laid.{path-clash}
 use Rattle.decide.proofs.Seeing.{sees-clash, sees-rule, sees-none}
 use Rattle.decide.proofs.sees.Statement.{statement}
 use Rattle.decide.proofs.sees.Tie as tie
@@ -14,7 +16,7 @@ sees-spec =
     -- enum-told
     (λ c. search needs)
     -- returns
-    (λ c. sees-clash _ _ _ (c .before .before .before .before .before .before .before .pre .term-count) (c .before .before .find-clash .result) (c .before .before .find-clash .ensures) _ _ _ (c .enum-told .given .1))
+    (λ c. sees-clash _ _ _ (sym (terms-said _ _ (c .before .before .before .before .before .before .before .before .before .pre))) (c .before .before .find-clash .result) (path-clash (c .before .before .find-clash .result) _ _ (c .before .before .find-clash .ensures)) _ _ _ (c .enum-told .given .1))
     -- enum-told-2
     (λ c. search needs)
     -- pick-requires
@@ -24,6 +26,6 @@ sees-spec =
     -- enum-told-3
     (λ c. search needs)
     -- returns-2
-    (λ c. sees-none _ _ _ (c .before .before .before .before .before .before .before .before .before .before .pre .term-count) (c .before .before .before .before .before .find-clash .result) (c .before .before .before .before .before .find-clash .ensures) (c .before .before .pick .result) (c .before .before .pick .ensures) (c .before .before .before .enum-told2 .given .1) (c .enum-told3 .given .1))
+    (λ c. sees-none _ _ _ (sym (terms-said _ _ (c .before .before .before .before .before .before .before .before .before .before .before .before .pre))) (c .before .before .before .before .before .find-clash .result) (path-clash (c .before .before .before .before .before .find-clash .result) _ _ (c .before .before .before .before .before .find-clash .ensures)) (c .before .before .pick .result) (c .before .before .pick .ensures) (c .before .before .before .enum-told2 .given .1) (c .enum-told3 .given .1))
     -- returns-3
-    (λ c. sees-rule _ _ _ (c .before .before .before .before .before .before .before .before .before .before .before .pre .term-count) (c .before .before .before .before .before .before .find-clash .result) (c .before .before .before .before .before .before .find-clash .ensures) (c .before .before .before .pick .result) (c .before .before .before .pick .ensures) _ _ _ _ _ (c .before .k .given .1)))
+    (λ c. sees-rule _ _ _ (sym (terms-said _ _ (c .before .before .before .before .before .before .before .before .before .before .before .before .before .pre))) (c .before .before .before .before .before .before .find-clash .result) (path-clash (c .before .before .before .before .before .before .find-clash .result) _ _ (c .before .before .before .before .before .before .find-clash .ensures)) (c .before .before .before .pick .result) (c .before .before .before .pick .ensures) _ _ _ _ _ (c .before .k .given .1)))

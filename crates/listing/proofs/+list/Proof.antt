@@ -7,12 +7,14 @@ use lib.Dec.{lit<}
 use borrow.Author.Needs.{needs}
 use borrow.Fn.Kinds.{In}
 use borrow.Fn.PlainCycle.{Measures, is, falls, and}
-use Rattle.logic.specs.Query.{decode, termCount}
+use Rattle.logic.specs.Query.{termCount}
 use Rattle.logic.specs.Walk.{orderOf}
 use Rattle.theory.proofs.Walks.OurWalk.{look-some}
 use Rattle.facts.specs.Path.{pathOf}
 use Rattle.facts.specs.Pairs.{joinedOf, Fits}
 use Rattle.facts.proofs.Path.{links-few}
+use Rattle.link_query.specs.Said.{said}
+use Rattle.link_query.proofs.Said.{terms-said}
 use Rattle.branch.proofs.Steps.{branch-fits}
 use Rattle.rules.specs.Answers.{kindOf}
 use Rattle.walk.proofs.Lines.{counted-bound, putLine-length, putAll-length}
@@ -42,7 +44,7 @@ list-below t = and 3 list-kinds.ps (falls 3 list-kinds.ps _<_ μ-list t) list.Pr
 
 abbrev list-Inv-loop : list-lts.InvT-loop
 list-Inv-loop query layout order left lines₀ first most n s count k rule x y z total written₀ i₀ lines written i =
-    Going (decode query) (orderOf order) left (pathOf s) (k .0) (kindOf rule) (x .0) (y .0) (z .0) lines₀ written₀ i lines written
+    Going (said layout query) (orderOf order) left (pathOf s) (k .0) (kindOf rule) (x .0) (y .0) (z .0) lines₀ written₀ i lines written
     × (written ≤ 16001)
     × (length lines ≡ length lines₀)
 
@@ -105,17 +107,17 @@ pub +list-spec : {M : Type 1} → statement M
     -- sub-list
     (λ c. look-some _ _ _ _ _ (c .before .before .before .before .before .before .before .before .before .before .before .before .before .before .before .before .before .before .before .before .before .before .before .pre .1 .3) (look-is _ _ _ (c .before .before .before .before .before .before .before .before .before .before .before .before .before .look .ensures) (c .before .before .before .before .before .before .before .before .before .before .before .k .given .1)))
     -- list-requires
-    (λ c κs. let h = (look-is _ _ _ (c .before .before .before .before .before .before .before .before .before .before .before .before .before .before .look .ensures) (c .before .before .before .before .before .before .before .before .before .before .before .before .k .given .1)) in let p = c .before .before .before .before .before .before .before .before .before .before .before .before .before .before .before .before .before .before .before .before .before .before .before .before .pre in let some-left = look-some _ _ _ _ _ (p .1 .3) h in (less-left _ _ some-left (p .0), (p .1 .0, subst Fits (sym (c .before .branch .ensures)) (branch-fits _ _ _ (p .1 .0 .terms-within)), c .before .before .before .loop .inv .1, branch-fewer _ _ _ _ _ _ _ _ _ _ h some-left (p .1 .0 .term-count) (p .1 .3) (joinedOf (c .before .branch .result)) _ (subst (λ (j : ℕ). c .before .before .before .loop .i < j) (c .before .before .before .before .before .count .ensures) (c .before .before .loop-test .taken)) (c .before .branch .ensures))))
+    (λ c κs. let h = (look-is _ _ _ (c .before .before .before .before .before .before .before .before .before .before .before .before .before .before .look .ensures) (c .before .before .before .before .before .before .before .before .before .before .before .before .k .given .1)) in let p = c .before .before .before .before .before .before .before .before .before .before .before .before .before .before .before .before .before .before .before .before .before .before .before .before .pre in let some-left = look-some _ _ _ _ _ (p .1 .3) h in (less-left _ _ some-left (p .0), (p .1 .0, subst Fits (sym (c .before .branch .ensures)) (branch-fits _ _ _ (p .1 .0 .terms-within)), c .before .before .before .loop .inv .1, branch-fewer _ _ _ _ _ _ _ _ _ _ h some-left (sym (terms-said _ _ (p .1 .0))) (p .1 .3) (joinedOf (c .before .branch .result)) _ (subst (λ (j : ℕ). c .before .before .before .loop .i < j) (c .before .before .before .before .before .count .ensures) (c .before .before .loop-test .taken)) (c .before .branch .ensures))))
     -- same-length-2
     (λ c. c .before .before .before .list .ensures .same-length ∙ c .before .before .before .before .before .before .before .loop .inv .2 ∙ ap length (c .before .before .before .before .before .before .before .before .before .before .before .before .put-line2 .ensures) ∙ putLine-length _ _ _ ∙ ap length (c .before .before .before .before .before .before .before .before .before .before .before .before .before .before .before .before .before .before .before .before .before .before .put-joins .ensures .1) ∙ putAll-length _ _ _)
     -- returns-2
-    (λ c. lists-after _ (joinedOf (c .before .before .before .before .before .before .before .before .before .before .before .before .before .before .before .before .before .before .before .before .before .before .before .before .before .before .before .before .args .path)) _ _ _ _ _ _ (c .before .before .before .before .before .before .before .before .before .before .before .before .before .before .before .before .before .before .before .before .before .before .put-joins .ensures .0) (c .before .before .before .before .before .before .before .before .before .before .before .before .before .before .before .before .before .before .before .before .before .before .put-joins .ensures .1) _ (going-stop _ _ _ _ _ _ _ _ _ _ (c .before .before .before .before .before .before .before .before .before .before .before .before .before .before .before .before .before .before .before .before .before .before .before .before .before .before .before .before .pre .1 .0 .term-count) _ _ _ _ _ _ _ (subst (λ (j : ℕ). c .before .before .before .before .before .before .before .loop .i < j) (c .before .before .before .before .before .before .before .before .before .count .ensures) (c .before .before .before .before .before .before .loop-test .taken)) _ (c .before .before .before .before .before .branch .ensures) _ (c .before .before .before .list .ensures) (look-is _ _ _ (c .before .before .before .before .before .before .before .before .before .before .before .before .before .before .before .before .before .before .look .ensures) (c .before .before .before .before .before .before .before .before .before .before .before .before .before .before .before .before .k .given .1)) (look-some _ _ _ _ _ (c .before .before .before .before .before .before .before .before .before .before .before .before .before .before .before .before .before .before .before .before .before .before .before .before .before .before .before .before .pre .1 .3) (look-is _ _ _ (c .before .before .before .before .before .before .before .before .before .before .before .before .before .before .before .before .before .before .look .ensures) (c .before .before .before .before .before .before .before .before .before .before .before .before .before .before .before .before .k .given .1))) _ _ (c .before .before .before .before .before .before .before .before .counted2 .ensures) (c .before .before .before .before .before .before .before .loop .inv .2 ∙ ap length (c .before .before .before .before .before .before .before .before .before .before .before .before .put-line2 .ensures) ∙ putLine-length _ _ _) (c .before .before .before .before .before .before .before .loop .inv .0) (c .if2 .taken)))
+    (λ c. lists-after _ (joinedOf (c .before .before .before .before .before .before .before .before .before .before .before .before .before .before .before .before .before .before .before .before .before .before .before .before .before .before .before .before .args .path)) _ _ _ _ _ _ (c .before .before .before .before .before .before .before .before .before .before .before .before .before .before .before .before .before .before .before .before .before .before .put-joins .ensures .0) (c .before .before .before .before .before .before .before .before .before .before .before .before .before .before .before .before .before .before .before .before .before .before .put-joins .ensures .1) _ (going-stop _ _ _ _ _ _ _ _ _ _ (sym (terms-said _ _ (c .before .before .before .before .before .before .before .before .before .before .before .before .before .before .before .before .before .before .before .before .before .before .before .before .before .before .before .before .pre .1 .0))) _ _ _ _ _ _ _ (subst (λ (j : ℕ). c .before .before .before .before .before .before .before .loop .i < j) (c .before .before .before .before .before .before .before .before .before .count .ensures) (c .before .before .before .before .before .before .loop-test .taken)) _ (c .before .before .before .before .before .branch .ensures) _ (c .before .before .before .list .ensures) (look-is _ _ _ (c .before .before .before .before .before .before .before .before .before .before .before .before .before .before .before .before .before .before .look .ensures) (c .before .before .before .before .before .before .before .before .before .before .before .before .before .before .before .before .k .given .1)) (look-some _ _ _ _ _ (c .before .before .before .before .before .before .before .before .before .before .before .before .before .before .before .before .before .before .before .before .before .before .before .before .before .before .before .before .pre .1 .3) (look-is _ _ _ (c .before .before .before .before .before .before .before .before .before .before .before .before .before .before .before .before .before .before .look .ensures) (c .before .before .before .before .before .before .before .before .before .before .before .before .before .before .before .before .k .given .1))) _ _ (c .before .before .before .before .before .before .before .before .counted2 .ensures) (c .before .before .before .before .before .before .before .loop .inv .2 ∙ ap length (c .before .before .before .before .before .before .before .before .before .before .before .before .put-line2 .ensures) ∙ putLine-length _ _ _) (c .before .before .before .before .before .before .before .loop .inv .0) (c .if2 .taken)))
     -- add-i
     (λ c. search needs)
     -- loop-less
     (λ c. search needs)
     -- loop-again
-    (λ c. (going-next _ _ _ _ _ _ _ _ _ _ (c .before .before .before .before .before .before .before .before .before .before .before .before .before .before .before .before .before .before .before .before .before .before .before .before .before .before .before .before .pre .1 .0 .term-count) _ _ _ _ _ _ _ (subst (λ (j : ℕ). c .before .before .before .before .before .before .before .loop .i < j) (c .before .before .before .before .before .before .before .before .before .count .ensures) (c .before .before .before .before .before .before .loop-test .taken)) _ (c .before .before .before .before .before .branch .ensures) _ (c .before .before .before .list .ensures) (c .before .before .before .before .before .before .before .loop .inv .0) (c .if2 .left), c .before .before .before .list .ensures .bounded, c .before .before .before .list .ensures .same-length ∙ c .before .before .before .before .before .before .before .loop .inv .2))
+    (λ c. (going-next _ _ _ _ _ _ _ _ _ _ (sym (terms-said _ _ (c .before .before .before .before .before .before .before .before .before .before .before .before .before .before .before .before .before .before .before .before .before .before .before .before .before .before .before .before .pre .1 .0))) _ _ _ _ _ _ _ (subst (λ (j : ℕ). c .before .before .before .before .before .before .before .loop .i < j) (c .before .before .before .before .before .before .before .before .before .count .ensures) (c .before .before .before .before .before .before .loop-test .taken)) _ (c .before .before .before .before .before .branch .ensures) _ (c .before .before .before .list .ensures) (c .before .before .before .before .before .before .before .loop .inv .0) (c .if2 .left), c .before .before .before .list .ensures .bounded, c .before .before .before .list .ensures .same-length ∙ c .before .before .before .before .before .before .before .loop .inv .2))
     -- same-length-3
     (λ c. ap length (c .before .before .before .before .before .before .put-joins .ensures .1) ∙ putAll-length _ _ _)
     -- returns-3

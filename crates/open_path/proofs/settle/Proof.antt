@@ -2,7 +2,6 @@
 use borrow.Author.Needs.{needs}
 use mathlib.Core.Path.{refl, sym, _∙_}
 use borrow.Author.Tests.{not-true, not-false}
-use Rattle.theory.proofs.Query.AcceptedBytes.{accepted}
 use Rattle.theory.proofs.Calls.Decision.{reachable-known}
 use Rattle.open_path.proofs.Settled.{settled-plain, settled-refuted, settled-open}
 use Rattle.open_path.proofs.settle.Statement.{statement}
@@ -13,7 +12,7 @@ settle-spec =
     tie.close
     (tie.spec
     -- plain-requires
-    (λ c κs. (c .before .before .pre .0, c .before .before .pre .1, c .before .before .pre .2, reachable-known _ (accepted _ (c .before .before .pre .1)) _ (c .before .before .pre .3), c .before .before .pre .4))
+    (λ c κs. (c .before .before .pre .0, c .before .before .pre .1, c .before .before .pre .2, reachable-known _ (c .before .before .pre .1) _ (c .before .before .pre .3), c .before .before .pre .4))
     -- is-unknown-requires
     (λ c κs. search needs)
     -- returns

@@ -16,7 +16,9 @@ other-spec =
     (λ c. handed-on _ _ _ _ (c .before .k .given .1) (c .before .before .before .failing .ensures))
     -- enum-told
     (λ c. search needs)
+    -- returns-2
+    (λ c. search needs)
     -- most-requires
     (λ c κs. search needs)
-    -- returns-2
+    -- returns-3
     (λ c. search needs))

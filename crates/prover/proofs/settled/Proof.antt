@@ -1,8 +1,9 @@
 -- What is settled of the start is how our walk ends. Assumes nothing.
 use borrow.Author.Needs.{needs}
 use Rattle.facts.specs.Pairs.{joinedOf}
-use Rattle.prover.proofs.Outcomes.{start-steps}
-use Rattle.prover.proofs.Endings.{start-reached, settles}
+use Rattle.link_query.proofs.Said.{one-within}
+use Rattle.prover.proofs.Outcomes.{said-accepted, start-steps, said-steps}
+use Rattle.prover.proofs.Endings.{said-reached, settles}
 use Rattle.prover.proofs.settled.Statement.{statement}
 use Rattle.prover.proofs.settled.Tie as tie
 
@@ -17,8 +18,8 @@ settled-spec =
     -- settle-requires
     (λ c κs.
     let p = c .before .before .before .before .before .pre in
-    (p .0, p .1, p .2, start-reached _ (joinedOf (c .before .before .start .result)) (c .before .before .start .ensures), start-steps _ _ _ (joinedOf (c .before .before .start .result)) (p .1) (p .0 .term-count) (c .limit .ensures) (c .before .before .start .ensures)))
+    (one-within _ _ (p .0), said-accepted _ _ (p .0) (p .1), p .2, said-reached _ _ (p .0) (joinedOf (c .before .before .start .result)) (c .before .before .start .ensures), said-steps _ _ (p .0) _ _ (joinedOf (c .before .before .start .result)) (p .1) (p .0 .term-count) (c .limit .ensures) (c .before .before .start .ensures)))
     -- returns
     (λ c.
     let p = c .before .before .before .before .before .before .pre in
-    settles _ _ _ _ (joinedOf (c .before .before .before .start .result)) (p .1) (p .2) (p .0 .term-count) (c .before .limit .ensures) (c .before .before .before .start .ensures) (start-steps _ _ _ (joinedOf (c .before .before .before .start .result)) (p .1) (p .0 .term-count) (c .before .limit .ensures) (c .before .before .before .start .ensures)) _ (c .settle .ensures)))
+    settles _ _ _ _ (joinedOf (c .before .before .before .start .result)) (p .1) (p .2) (p .0 .term-count) (c .before .limit .ensures) (c .before .before .before .start .ensures) (start-steps _ _ _ (joinedOf (c .before .before .before .start .result)) (p .1) (p .0 .term-count) (c .before .limit .ensures) (c .before .before .before .start .ensures)) _ (p .0) _ (c .settle .ensures)))

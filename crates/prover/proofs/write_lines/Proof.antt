@@ -6,9 +6,10 @@ use mathlib.Core.Path.{refl, sym, ap, _∙_, subst}
 use mathlib.Core.List.{List}
 use lib.ListN.{set}
 use Rattle.facts.specs.Pairs.{joinedOf, Fits}
+use Rattle.link_query.proofs.Said.{one-within}
 use Rattle.start.proofs.Laid.{started-fits}
 use Rattle.walk.specs.Lines.{putAll}
-use Rattle.prover.proofs.Outcomes.{our-walk, start-steps, derivation-none, derivation-over, derivation-refuted}
+use Rattle.prover.proofs.Outcomes.{said-walk, said-steps, derivation-none, derivation-over, derivation-refuted}
 use Rattle.prover.proofs.Answers.{zeros-as}
 use Rattle.prover.proofs.Endings.{refuted-lines}
 use Rattle.prover.proofs.write_lines.Statement.{statement}
@@ -29,7 +30,7 @@ write-lines-spec =
     -- list-requires
     (λ c κs.
     let p = c .before .before .before .before .before .before .before .before .pre in
-    (p .0, subst Fits (sym (c .before .before .start .ensures)) (started-fits (p .0) (p .1)), omega arith, start-steps _ _ _ (joinedOf (c .before .before .start .result)) (p .1) (p .0 .term-count) (c .before .limit .ensures) (c .before .before .start .ensures)))
+    (one-within _ _ (p .0), subst Fits (sym (c .before .before .start .ensures)) (started-fits (p .0) (p .1)), omega arith, said-steps _ _ (p .0) _ _ (joinedOf (c .before .before .start .result)) (p .1) (p .0 .term-count) (c .before .limit .ensures) (c .before .before .start .ensures)))
     -- clear-requires
     (λ c κs. search needs)
     -- same-length
@@ -37,7 +38,7 @@ write-lines-spec =
     -- returns-2
     (λ c.
     let (ls, e) = refuted-lines _ (c .before .before .before .before .before .before .before .before .before .before .before .before .before .before .before .before .pre .3) in
-    let w = our-walk _ (c .before .before .before .before .before .before .before .before .before .before .before .before .before .before .before .before .args .order .now) _ _ (joinedOf (c .before .before .before .before .before .before .before .before .before .before .start .result)) (c .before .before .before .before .before .before .before .before .before .before .before .before .before .before .before .before .pre .0 .links-are) (c .before .before .before .before .before .before .before .before .before .before .before .before .before .before .before .before .pre .0 .term-count) (c .before .before .before .before .before .before .before .before .before .limit .ensures) (c .before .before .before .before .before .before .before .before .before .before .start .ensures) in
+    let w = said-walk _ _ (c .before .before .before .before .before .before .before .before .before .before .before .before .before .before .before .before .pre .0) (c .before .before .before .before .before .before .before .before .before .before .before .before .before .before .before .before .args .order .now) _ _ (joinedOf (c .before .before .before .before .before .before .before .before .before .before .start .result)) (c .before .before .before .before .before .before .before .before .before .before .before .before .before .before .before .before .pre .0 .term-count) (c .before .before .before .before .before .before .before .before .before .limit .ensures) (c .before .before .before .before .before .before .before .before .before .before .start .ensures) in
     derivation-over _ _ ls _ _ _ e refl (c .before .before .before .before .before .before .before .list .ensures .more ls (w ∙ e) (c .before .before .before .before .if2 .taken)) (c .before .before .before .before .before .before .before .before .before .before .before .most-lines .ensures .2) (zeros-as _ _ _ (c .before .before .clear .ensures) (c .before .before .before .before .before .before .before .list .ensures .same-length)))
     -- clear-requires-2
     (λ c κs. search needs)
@@ -46,7 +47,7 @@ write-lines-spec =
     -- returns-3
     (λ c.
     let (ls, e) = refuted-lines _ (c .before .before .before .before .before .before .before .before .before .before .before .before .before .before .before .before .before .pre .3) in
-    let w = our-walk _ (c .before .before .before .before .before .before .before .before .before .before .before .before .before .before .before .before .before .args .order .now) _ _ (joinedOf (c .before .before .before .before .before .before .before .before .before .before .before .start .result)) (c .before .before .before .before .before .before .before .before .before .before .before .before .before .before .before .before .before .pre .0 .links-are) (c .before .before .before .before .before .before .before .before .before .before .before .before .before .before .before .before .before .pre .0 .term-count) (c .before .before .before .before .before .before .before .before .before .before .limit .ensures) (c .before .before .before .before .before .before .before .before .before .before .before .start .ensures) in
+    let w = said-walk _ _ (c .before .before .before .before .before .before .before .before .before .before .before .before .before .before .before .before .before .pre .0) (c .before .before .before .before .before .before .before .before .before .before .before .before .before .before .before .before .before .args .order .now) _ _ (joinedOf (c .before .before .before .before .before .before .before .before .before .before .before .start .result)) (c .before .before .before .before .before .before .before .before .before .before .before .before .before .before .before .before .before .pre .0 .term-count) (c .before .before .before .before .before .before .before .before .before .before .limit .ensures) (c .before .before .before .before .before .before .before .before .before .before .before .start .ensures) in
     derivation-over _ _ ls _ _ _ e (c .before .before .before .before .before .before .before .before .list .ensures .whole ls (w ∙ e) (c .before .before .before .before .before .if2 .left) .0) (c .before .before .before .before .if3 .taken) (c .before .before .before .before .before .before .before .before .before .before .before .before .most-lines .ensures .2) (zeros-as _ _ _ (c .before .before .clear2 .ensures) (c .before .before .before .before .before .before .before .before .list .ensures .same-length)))
     -- cast-buffer
     (λ c. search needs)
@@ -61,7 +62,7 @@ write-lines-spec =
     -- returns-4
     (λ c.
     let (ls, e) = refuted-lines _ (c .before .before .before .before .before .before .before .before .before .before .before .before .before .pre .3) in
-    let w = our-walk _ (c .before .before .before .before .before .before .before .before .before .before .before .before .before .args .order .now) _ _ (joinedOf (c .before .before .before .before .before .before .before .start .result)) (c .before .before .before .before .before .before .before .before .before .before .before .before .before .pre .0 .links-are) (c .before .before .before .before .before .before .before .before .before .before .before .before .before .pre .0 .term-count) (c .before .before .before .before .before .before .limit .ensures) (c .before .before .before .before .before .before .before .start .ensures) in
+    let w = said-walk _ _ (c .before .before .before .before .before .before .before .before .before .before .before .before .before .pre .0) (c .before .before .before .before .before .before .before .before .before .before .before .before .before .args .order .now) _ _ (joinedOf (c .before .before .before .before .before .before .before .start .result)) (c .before .before .before .before .before .before .before .before .before .before .before .before .before .pre .0 .term-count) (c .before .before .before .before .before .before .limit .ensures) (c .before .before .before .before .before .before .before .start .ensures) in
     let (n, b) = c .before .before .before .before .list .ensures .whole ls (w ∙ e) (c .before .if2 .left) in
     let m = c .before .before .before .before .before .before .before .before .most-lines .ensures in
     derivation-refuted _ _ ls _ _ e n (omega (arith, m .0, c .if3 .left)) (omega (arith, m .1, c .if3 .left))

@@ -1,23 +1,20 @@
 -- What the general definitions come to where there is one link: the form of 01.
-use Prim.Native.Nat.{ℕ, zero, suc, _+_, _-_, _*_, _/_, _≤_}
+use Prim.Native.Nat.{ℕ, suc, _+_, _-_, _*_, _/_}
 use native.Mathlib.Omega.{arith}
 use native.Mathlib.Nat.{div-one}
-use mathlib.Core.Path.{_≡_, refl, sym, ap, ap₂, _∙_, fun-ext}
-use mathlib.Core.Logic.{_⊎_, ⊎-elim, inl, inr}
-use mathlib.Core.Bool.{Bool, true, false, not, cond}
+use mathlib.Core.Path.{_≡_, refl, ap, ap₂, _∙_, fun-ext}
+use mathlib.Core.Bool.{Bool, true, false, not}
 use mathlib.Core.List.{List, [], _∷_, map}
 use mathlib.Core.Option.{Option, none, some, Option·elim}
 use lib.ListN.{length, getD}
-use lib.Dec.{eqb, ltb, leb}
+use lib.Dec.{eqb, leb}
 use Rattle.logic.specs.Search.{_and_, _or_, from, all, any, keep, orElse, firstOf, find}
 use Rattle.logic.specs.Query.{Query, termCount}
-use Rattle.logic.specs.Facts.{Graph, Facts, Line, line, linkNumbers, terms, live, successors, firstTwo, doubled}
-use Rattle.logic.specs.Rules.{Rule, REFLEX, TRANS1, TRANS2, FUNC, CYCLE, SCC, TOTAL, SHARE, ruleNumber, rules, ruleOf, Triple, triple, triples, Move, move, equal, round, conditions, alternatives, held, hasLink, applies, choose, moveNumber, moveLine, moveOf}
+use Rattle.logic.specs.Facts.{Graph, Facts, linkNumbers, terms, live, successors, firstTwo, doubled}
+use Rattle.logic.specs.Rules.{Rule, REFLEX, TRANS1, TRANS2, FUNC, CYCLE, SCC, TOTAL, SHARE, ruleNumber, rules, ruleOf, Triple, triple, move, equal, round, conditions, alternatives, held, hasLink, applies, moveNumber, moveOf}
 use Rattle.logic.specs.Walk.{limit}
-use Rattle.logic.specs.Shown.{isNode, sizeIn, nodeIn, heapIn, wellFormed}
-use Rattle.theory.proofs.Basics.Search.{not-of}
+use Rattle.logic.specs.Shown.{isNode, sizeIn, heapIn, wellFormed}
 use Rattle.theory.proofs.Basics.Compare.{eqb-self}
-use Rattle.theory.proofs.Paths.Applies.{hasLink-range, applies-linked}
 
 -- Searches
 
@@ -51,17 +48,6 @@ module _ (n : ℕ) (s : Facts) (one : s .links ≡ 1) where
   unfolding applies hasLink _and_
   applies-one r t = rw one refl
 
-  -- no rule applies to a link that is not there
-  pub applies-elsewhere : (i : ℕ) (r : Rule) (t : Triple) → (i ≡ 1 → ⊥) → applies n s (move i r t) ≡ false
-  applies-elsewhere i r t d =
-      not-of (λ h. let l = hasLink-range (s .links) i r t (applies-linked n s (move i r t) h) in d (omega (arith, l, one)))
-
-  pub choose-one : (order : List Rule) → choose n order s ≡ firstOf (λ r. firstOf (λ t. keep (applies n s (move 1 r t)) (move 1 r t)) (triples n)) order
-  unfolding choose linkNumbers from
-  choose-one order =
-      let at : Rule → ℕ → Option Move = λ r k. firstOf (λ t. keep (applies n s (move k r t)) (move k r t)) (triples n) in
-      ap (λ (k : ℕ). firstOf (λ r. firstOf (at r) (from k 1)) order) one ∙ ap (λ (f : Rule → Option Move). firstOf f order) (λ i r. firstOf-one (at r) 1 i)
-
 pub moveOf-one : (b : ℕ) (t : Triple) → moveOf 1 b t ≡ Option·elim (ruleOf b) none (λ r. some (move 1 r t))
 unfolding moveOf linkNumbers from moveNumber ruleOf
 moveOf-one b t =
@@ -69,10 +55,6 @@ moveOf-one b t =
     firstOf-one (λ i. firstOf (λ r. keep (eqb (moveNumber i r) b) (move i r t)) rules) 1
     ∙ ap (λ (f : Rule → ℕ). firstOf (λ r. keep (eqb (f r) b) (move 1 r t)) rules) (fun-ext same)
     ∙ firstOf-keep (λ r. eqb (ruleNumber r) b) (λ r. move 1 r t) rules
-
-pub moveLine-one : (r : Rule) (x y z : ℕ) → moveLine (move 1 r (triple x y z)) ≡ line (ruleNumber r) x y z
-unfolding moveLine moveNumber
-moveLine-one r x y z = ap (λ (k : ℕ). line k x y z) (omega arith)
 
 pub limit-one : (q : Query) → q .links ≡ 1 → limit q ≡ termCount q * termCount q + termCount q
 unfolding limit

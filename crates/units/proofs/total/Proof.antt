@@ -7,10 +7,10 @@ use Rattle.units.proofs.total.Statement.{statement}
 use Rattle.units.proofs.total.Tie as tie
 
 abbrev Inv-loop : tie.InvT-loop
-Inv-loop reach back no-reach no-back x₀ x = x ≤ 17
+Inv-loop reach back no-reach no-back held some x₀ x = x ≤ 17
 
 abbrev μ-loop : tie.MeasureT-loop
-μ-loop reach back no-reach no-back x₀ x = 17 - x
+μ-loop reach back no-reach no-back held some x₀ x = 17 - x
 
 pub total-spec : {M : Type 1} → statement M
 total-spec =
@@ -18,10 +18,16 @@ total-spec =
     (tie.spec
     Inv-loop
     μ-loop
+    -- struck-requires
+    (λ c κs. search needs)
+    -- up-to-requires
+    (λ c κs. search needs)
+    -- having-requires
+    (λ c κs. search needs)
     -- loop-holds
     (λ c. omega arith)
     -- total-at-requires
-    (λ c κs. (omega arith, c .before .before .pre))
+    (λ c κs. (omega arith, c .before .before .before .before .before .before .before .pre))
     -- enum-known-rule
     (λ c. search needs)
     -- returns

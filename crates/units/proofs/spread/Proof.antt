@@ -2,31 +2,33 @@
 use Prim.Native.Nat.{_-_, _≤_}
 use native.Mathlib.Omega.{arith}
 use borrow.Author.Needs.{needs}
-use Rattle.units.proofs.unreachable.Statement.{statement}
-use Rattle.units.proofs.unreachable.Tie as tie
+use Rattle.units.proofs.spread.Statement.{statement}
+use Rattle.units.proofs.spread.Tie as tie
 
 abbrev Inv-loop : tie.InvT-loop
-Inv-loop reach behind out₀ a₀ out a = a ≤ 17
+Inv-loop some more out₀ a₀ out a = a ≤ 17
 
 abbrev μ-loop : tie.MeasureT-loop
-μ-loop reach behind out₀ a₀ out a = 17 - a
+μ-loop some more out₀ a₀ out a = 17 - a
 
-pub unreachable-spec : {M : Type 1} → statement M
-unreachable-spec =
+pub spread-spec : {M : Type 1} → statement M
+spread-spec =
     tie.close
     (tie.spec
     Inv-loop
     μ-loop
     -- loop-holds
     (λ c. omega arith)
-    -- mul-no
+    -- has-requires
+    (λ c κs. omega arith)
+    -- mul-out
     (λ c. omega arith)
-    -- element-copy-out-no
+    -- array-read-out
     (λ c. omega arith)
-    -- having-requires
-    (λ c κs. search needs)
-    -- marked-requires
-    (λ c κs. search needs)
+    -- mul-out-2
+    (λ c. omega arith)
+    -- array-write-out
+    (λ c. omega arith)
     -- add-a
     (λ c. omega arith)
     -- loop-less

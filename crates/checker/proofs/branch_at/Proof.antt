@@ -1,0 +1,19 @@
+-- The path is the one that has the rows. Assumes nothing.
+use native.Mathlib.Omega.{arith}
+use borrow.Author.Needs.{needs}
+use Rattle.facts.proofs.Path.{links-few}
+use Rattle.rules.specs.Answers.{kindOf}
+use Rattle.checker.proofs.Rows.{branch-rows}
+use Rattle.checker.proofs.branch_at.Statement.{statement}
+use Rattle.checker.proofs.branch_at.Tie as tie
+
+pub branch-at-spec : {M : Type 1} → statement M
+branch-at-spec =
+    tie.close
+    (tie.spec
+    -- held-requires
+    (λ c κs. search needs)
+    -- branch-requires
+    (λ c κs. let p = c .before .pre in (p .0, (omega arith, links-few (c .held .result) .0), p .1, p .2, p .3))
+    -- returns
+    (λ c. let a = c .before .before .args in branch-rows _ _ _ _ (c .before .held .ensures) (a .n) (kindOf (a .rule)) (a .x .0) (a .y .0) (a .z .0) (a .i) _ (c .branch .ensures)))
