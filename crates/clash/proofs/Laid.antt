@@ -8,7 +8,7 @@ use Rattle.logic.specs.Search.{orElse}
 use Rattle.logic.specs.Facts.{Line, clash}
 use lib.Dec.{eqb}
 use Rattle.facts.specs.Square.{square}
-use Rattle.facts.specs.Path.{repOf, pathOf, onlyLink, graphOf}
+use Rattle.facts.specs.Path.{repOf, pathOf, graphs, graphOf, noFacts}
 use Rattle.facts.specs.declared.Facts as code
 use Rattle.query.specs.declared.Layout.{Layout}
 use Rattle.link_query.specs.Said.{said}
@@ -17,15 +17,18 @@ use Rattle.clash.proofs.Decomposed.{clash-split}
 
 -- the rows that hold a path's reachability
 abbrev pub reachOf : code.Facts → ℕ → ℕ → ℕ → Bool
-reachOf s = rowsOf true (s .reach) (s .reach) (s .reach)
+reachOf s = rowsOf (s .single) (s .reach) (s .reach2) (s .reach3)
 
 pub path-reach : (s : code.Facts) → (λ k. pathOf s .graph k .reach) ≡ reachOf s
-unfolding pathOf onlyLink graphOf rowsOf
-path-reach s = fun-ext (λ k. go (eqb k 1))
+unfolding pathOf graphs graphOf noFacts rowsOf
+path-reach s = fun-ext (λ k. go (eqb k 1) (s .single) (eqb k 2) (eqb k 3))
   where
-    go : (t : Bool) → cond t (graphOf (s .link) (s .reach)) (record { link = λ a b. false; reach = λ a b. false }) .reach ≡ (λ a b. cond t (square (s .reach) a b) false)
-    go true = refl
-    go false = refl
+    go : (a b c d : Bool) → cond a (graphOf (s .link) (s .reach)) (cond b noFacts (cond c (graphOf (s .link2) (s .reach2)) (cond d (graphOf (s .link3) (s .reach3)) noFacts))) .reach ≡ (λ x y. cond a (square (s .reach) x y) (cond b false (cond c (square (s .reach2) x y) (cond d (square (s .reach3) x y) false))))
+    go true b c d = refl
+    go false true c d = refl
+    go false false true d = refl
+    go false false false true = refl
+    go false false false false = refl
 
 module _ (l : Layout) (bytes : List ℕ) (s : code.Facts) where
   abbrev inEqualities : Option Line

@@ -9,7 +9,6 @@ ghost use lib.ListN.{length};
 ghost use lib.Dec.{eqb};
 ghost use Rattle.logic.specs.Search.{_and_};
 ghost use Rattle.logic.specs.Facts.{clash};
-ghost use Rattle.facts.specs.Square.{square};
 ghost use Rattle.facts.specs.Path.{repOf, pathOf};
 ghost use Rattle.query.specs.LaysOut.{literalIn};
 ghost use Rattle.link_query.specs.Said.{reachWidth, reachIn, said, Within};
@@ -56,19 +55,6 @@ fn equality_clash(query: &[u8], at: usize, count: usize, rep: &[u8; 17]) -> Clas
     Clash::Nothing
 }
 
-// "a reaches b" is held in these rows.
-fn reaches(rows: &[u32; 17], a: Term, b: Term) -> bool
-    ensures { λ r. ⌜ r ≡ square (now (rows .entry)) (a .0) (b .0) ⌝ }
-{
-    if 16 < a.0 {
-        return false;
-    }
-    if 16 < b.0 {
-        return false;
-    }
-    facts::holds(rows, a, b)
-}
-
 // "a reaches b" by link k is held in the rows of a single link, or of three.
 fn reaches_by<'a>(
     single: bool,
@@ -82,16 +68,16 @@ fn reaches_by<'a>(
     ensures { λ r. ⌜ r ≡ rowsOf single (now (first .entry)) (now (second .entry)) (now (third .entry)) k (a .0) (b .0) ⌝ }
 {
     if k == 1 {
-        return reaches(first, a, b);
+        return facts::is_held(first, a.0, b.0);
     }
     if single {
         return false;
     }
     if k == 2 {
-        return reaches(second, a, b);
+        return facts::is_held(second, a.0, b.0);
     }
     if k == 3 {
-        return reaches(third, a, b);
+        return facts::is_held(third, a.0, b.0);
     }
     false
 }
@@ -132,10 +118,10 @@ pub fn is_held_negated(query: &[u8], links: usize, at: usize, i: usize, s: Facts
         at,
         i,
         &s.rep,
-        true,
+        s.single,
         &s.reach,
-        &s.reach,
-        &s.reach,
+        &s.reach2,
+        &s.reach3,
     )
 }
 
@@ -243,10 +229,10 @@ pub fn find_clash(query: &[u8], layout: Layout, s: Facts) -> Clash
         query,
         layout,
         &s.rep,
-        true,
+        s.single,
         &s.reach,
-        &s.reach,
-        &s.reach,
+        &s.reach2,
+        &s.reach3,
     ) {
         return Clash::At(k, i, j);
     }

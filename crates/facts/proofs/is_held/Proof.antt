@@ -2,12 +2,12 @@
 use native.Mathlib.Omega.{arith}
 use borrow.Author.Needs.{needs}
 use mathlib.Core.Path.{sym}
 use Rattle.facts.proofs.Square.{square-above, square-beside}
-use Rattle.clash.proofs.reaches.Statement.{statement}
-use Rattle.clash.proofs.reaches.Tie as tie
+use Rattle.facts.proofs.is_held.Statement.{statement}
+use Rattle.facts.proofs.is_held.Tie as tie
 
-pub reaches-spec : {M : Type 1} → statement M
-reaches-spec =
+pub is-held-spec : {M : Type 1} → statement M
+is-held-spec =
     tie.close
     (tie.spec
     -- returns

@@ -4,9 +4,9 @@ use borrow.Author.Needs.{needs}
 use Prim.Native.Nat.{_-_, _≤_}
 use mathlib.Core.Path.{_≡_}
 use lib.ListN.{length, length-set}
-use Rattle.start.proofs.Itself.{Itself, itself-more, itself-all}
-use Rattle.start.proofs.unreplaced.Statement.{statement}
-use Rattle.start.proofs.unreplaced.Tie as tie
+use Rattle.facts.proofs.Itself.{Itself, itself-more, itself-all}
+use Rattle.facts.proofs.unreplaced.Statement.{statement}
+use Rattle.facts.proofs.unreplaced.Tie as tie
 
 abbrev Inv-loop : tie.InvT-loop
 Inv-loop rep₀ t₀ rep t = (t ≤ 17) × (length rep ≡ 17) × Itself t rep
