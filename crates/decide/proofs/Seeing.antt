@@ -6,7 +6,7 @@ use mathlib.Core.Option.{Option, none, some}
 use Rattle.logic.specs.Query.{Query, termCount}
 use Rattle.logic.specs.Facts.{Facts, Line, clash}
 use Rattle.facts.specs.Square.{square}
-use Rattle.facts.specs.Path.{onlyLink, repOf, graphOf, pathOf}
+use Rattle.facts.specs.Path.{graphs, repOf, graphOf, pathOf}
 use Rattle.facts.specs.declared.Facts as code
 use Rattle.rules.specs.declared.Choice.{Choice}
 use Rattle.rules.specs.declared.Choice.the-variants as choice
@@ -23,7 +23,7 @@ use Rattle.decide.specs.declared.Seen.the-variants as seen
 
 module _ (q : Query) (s : code.Facts) (n : ℕ) (terms-are : n ≡ termCount q) (c : Clash) (is : (t : Facts) → t .rep ≡ repOf (s .rep) → t .graph 1 .reach ≡ square (s .reach) → lineOf c ≡ clash q t) where
   clash-is : lineOf c ≡ clash q (pathOf s)
-  unfolding pathOf graphOf onlyLink
+  unfolding pathOf graphOf graphs
   clash-is = is (pathOf s) refl refl
 
   pub sees-clash : (a b d : ℕ) → c ≡ found.At a b d → Sees q (pathOf s) seen.Clashing
