@@ -14,9 +14,13 @@ use Rattle.logic.specs.Calls.{accepts}
 use Rattle.logic.specs.Calls as calls
 use Rattle.theory.proofs.Query.AcceptedBytes as acceptance
 use Rattle.theory.proofs.Calls.OneLink.{limit-one}
+use Rattle.theory.proofs.Query.Tied.{Accepted}
+use Rattle.query.specs.LaysOut.{LaysOut}
 use Rattle.query.specs.Answers.{CheckedAs}
 use Rattle.query.specs.declared.Layout.{Layout}
 use Rattle.query.specs.declared.Checked.the-variants as checked
+use Rattle.link_query.specs.Said.{said}
+use Rattle.link_query.proofs.Said.{one-said}
 use Rattle.start.specs.Taken.{started}
 use Rattle.checking.specs.Fitting.{Goal, goalOf, startGoal, step, shortOf, wrongFrom, wrongLine}
 use Rattle.checking.specs.CheckCall.{Checked, accepted, wrong, refused, misshapen, byWrong, queryRefusal, checkCall}
@@ -32,6 +36,14 @@ by-some : (k : ℕ) → 1 ≤ k → wrong k ≡ byWrong k
 unfolding byWrong
 by-some zero h = absurd (omega arith)
 by-some (suc k) h = refl
+
+-- a query in the form of 01, read by where its sections stand
+module _ (l : Layout) (bytes : List ℕ) (laid : LaysOut l bytes) where
+  pub accepted-in : accepts bytes ≡ true → Accepted (said l bytes)
+  accepted-in ok = subst Accepted (sym (one-said l bytes laid)) (acceptance.accepted bytes ok)
+
+  pub started-in : (j : Joined) → j ≡ started (said l bytes) → j ≡ started (decode bytes)
+  started-in j e = e ∙ ap started (one-said l bytes laid)
 
 pub start-goal : (q : Query) (j : Joined) → j ≡ started q → goalOf j ≡ startGoal q
 unfolding goalOf startGoal started
