@@ -143,6 +143,9 @@ module _ (q : Query) (ok : Accepted q) where
           led = subst (λ (k : ℕ). Steps (termCount q) (start q) k (add (termCount q) s c)) e (one-more (ahead .led) (record { rule-move = m; applicable = app; branch = map-intro (add (termCount q) s) c mem }));
         }
 
+  pub ahead-links : (s : Facts) (left : ℕ) → Ahead q s left → s .links ≡ q .links
+  ahead-links s left ahead = steps-invariant (ahead .led) .tied .same-links
+
   pub ahead-numbers : (s : Facts) (left : ℕ) → Ahead q s left → (i : ℕ) (r : Rule) (x y z : ℕ) → applies (termCount q) s (move i r (triple x y z)) ≡ true → (x ≤ 16) × (y ≤ 16) × (z ≤ 16)
   ahead-numbers s left ahead i r x y z app =
       let l = move-numbers (termCount q) s (steps-invariant (ahead .led) .sane) i r x y z app in

@@ -94,7 +94,7 @@ fn read_line(
     at: usize,
     s: Facts,
 ) -> Reading
-    requires { ⌜ LaysOut layout (now query) × Shaped (now derivation) count ⌝ }
+    requires { ⌜ LaysOut layout (now query) × Shaped (now derivation) count × (pathOf s .links ≡ 1) ⌝ }
     ensures { λ r. ⌜ readingOf r ≡ readAt (decode (now (query .entry))) (pathOf s) (lineAt (now (derivation .entry)) at) ⌝ }
 {
     if count <= at {
@@ -111,7 +111,7 @@ fn read_line(
         }
         return Reading::Wrong;
     }
-    if let Clash::At(section, i, j) = clash::find_clash(query, layout, &s.rep, &s.reach) {
+    if let Clash::At(section, i, j) = clash::find_clash(query, layout, s) {
         return Reading::Wrong;
     }
     let Numbered::Is(rule) = rules::rule_numbered(k) else {

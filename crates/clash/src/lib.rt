@@ -1,6 +1,5 @@
 // The clash of a path, over the query's bytes in place.
 use facts::Facts;
-use facts::Link;
 use facts::Term;
 use query::Layout;
 ghost use mathlib.Core.Path.{_≡_};
@@ -10,10 +9,11 @@ ghost use lib.ListN.{length};
 ghost use lib.Dec.{eqb};
 ghost use Rattle.logic.specs.Search.{_and_};
 ghost use Rattle.logic.specs.Facts.{clash};
+ghost use Rattle.facts.specs.Square.{square};
 ghost use Rattle.facts.specs.Path.{repOf, pathOf};
 ghost use Rattle.query.specs.LaysOut.{literalIn};
 ghost use Rattle.link_query.specs.Said.{reachWidth, reachIn, said, Within};
-ghost use Rattle.clash.specs.Sections.{literalsIn, oneTerm, reachHeld, sameField, alone, partner, paired};
+ghost use Rattle.clash.specs.Sections.{literalsIn, oneTerm, rowsOf, rowsHeld, reachHeld, sameField, alone, partner, paired};
 ghost use Rattle.clash.specs.Answers.{placeOf, lineOf};
 
 // A clash: its section, the place of the negated literal, and that of its plain partner or 0.
@@ -56,29 +56,116 @@ fn equality_clash(query: &[u8], at: usize, count: usize, rep: &[u8; 17]) -> Clas
     Clash::Nothing
 }
 
-// Reachability literal i is negated, and its fact is held. Of a plain one only the sign is read.
-pub fn is_held_negated(query: &[u8], links: usize, at: usize, i: usize, s: Facts) -> bool
+// "a reaches b" is held in these rows.
+fn reaches(rows: &[u32; 17], a: Term, b: Term) -> bool
+    ensures { λ r. ⌜ r ≡ square (now (rows .entry)) (a .0) (b .0) ⌝ }
+{
+    if 16 < a.0 {
+        return false;
+    }
+    if 16 < b.0 {
+        return false;
+    }
+    facts::holds(rows, a, b)
+}
+
+// "a reaches b" by link k is held in the rows of a single link, or of three.
+fn reaches_by<'a>(
+    single: bool,
+    first: &'a [u32; 17],
+    second: &'a [u32; 17],
+    third: &'a [u32; 17],
+    k: usize,
+    a: Term,
+    b: Term,
+) -> bool
+    ensures { λ r. ⌜ r ≡ rowsOf single (now (first .entry)) (now (second .entry)) (now (third .entry)) k (a .0) (b .0) ⌝ }
+{
+    if k == 1 {
+        return reaches(first, a, b);
+    }
+    if single {
+        return false;
+    }
+    if k == 2 {
+        return reaches(second, a, b);
+    }
+    if k == 3 {
+        return reaches(third, a, b);
+    }
+    false
+}
+
+// Reachability literal i is negated, and its fact is held in these rows. Of a plain one only the sign is read. The rows are lent: a path by
+// value would be copied for each literal.
+fn is_held_in<'a>(
+    query: &[u8],
+    links: usize,
+    at: usize,
+    i: usize,
+    rep: &'a [u8; 17],
+    single: bool,
+    first: &'a [u32; 17],
+    second: &'a [u32; 17],
+    third: &'a [u32; 17],
+) -> bool
     requires { ⌜ at + reachWidth links * i + reachWidth links ≤ length (now query) ⌝ }
-    ensures { λ r. ⌜ r ≡ (not (reachIn links (now (query .entry)) at i .plain) and reachHeld (pathOf s) (reachIn links (now (query .entry)) at i)) ⌝ }
+    ensures { λ r. ⌜ r ≡ (not (reachIn links (now (query .entry)) at i .plain) and rowsHeld (repOf (now (rep .entry))) (rowsOf single (now (first .entry)) (now (second .entry)) (now (third .entry))) (reachIn links (now (query .entry)) at i)) ⌝ }
 {
     if link_query::reach_sign(query, links, at, i) {
         return false;
     }
-    let k = Link(link_query::reach_link(query, links, at, i));
-    let a = facts::read_rep(&s.rep, link_query::reach_left(query, links, at, i));
-    let b = facts::read_rep(&s.rep, link_query::reach_right(query, links, at, i));
-    facts::reaches(s, k, a, b)
+    let k = link_query::reach_link(query, links, at, i);
+    let a = facts::read_rep(rep, link_query::reach_left(query, links, at, i));
+    let b = facts::read_rep(rep, link_query::reach_right(query, links, at, i));
+    reaches_by(single, first, second, third, k, a, b)
+}
+
+// Reachability literal i is negated, and its fact is held.
+pub fn is_held_negated(query: &[u8], links: usize, at: usize, i: usize, s: Facts) -> bool
+    requires { ⌜ at + reachWidth links * i + reachWidth links ≤ length (now query) ⌝ }
+    ensures { λ r. ⌜ r ≡ (not (reachIn links (now (query .entry)) at i .plain) and reachHeld (pathOf s) (reachIn links (now (query .entry)) at i)) ⌝ }
+{
+    is_held_in(
+        query,
+        links,
+        at,
+        i,
+        &s.rep,
+        true,
+        &s.reach,
+        &s.reach,
+        &s.reach,
+    )
 }
 
 // "a negated reachability fact that is held"
-fn reach_clash(query: &[u8], layout: Layout, s: Facts) -> Clash
+fn reach_clash<'a>(
+    query: &[u8],
+    layout: Layout,
+    rep: &'a [u8; 17],
+    single: bool,
+    first: &'a [u32; 17],
+    second: &'a [u32; 17],
+    third: &'a [u32; 17],
+) -> Clash
     requires { ⌜ Within layout (now query) ⌝ }
-    ensures { λ r. ⌜ lineOf r ≡ alone 3 (said layout (now (query .entry)) .reachability) (reachHeld (pathOf s)) ⌝ }
+    ensures { λ r. ⌜ lineOf r ≡ alone 3 (said layout (now (query .entry)) .reachability) (rowsHeld (repOf (now (rep .entry))) (rowsOf single (now (first .entry)) (now (second .entry)) (now (third .entry)))) ⌝ }
 {
     let count = layout.reach_count;
     let mut i: usize = 0;
     while i < count {
-        if is_held_negated(query, layout.links, layout.reach_at, i, s) {
+        if is_held_in(
+            query,
+            layout.links,
+            layout.reach_at,
+            i,
+            rep,
+            single,
+            first,
+            second,
+            third,
+        ) {
             return Clash::At(3, i + 1, 0);
         }
         i += 1;
@@ -152,7 +239,15 @@ pub fn find_clash(query: &[u8], layout: Layout, s: Facts) -> Clash
     if let Clash::At(k, i, j) = equality_clash(query, layout.equal_at, layout.equal_count, &s.rep) {
         return Clash::At(k, i, j);
     }
-    if let Clash::At(k, i, j) = reach_clash(query, layout, s) {
+    if let Clash::At(k, i, j) = reach_clash(
+        query,
+        layout,
+        &s.rep,
+        true,
+        &s.reach,
+        &s.reach,
+        &s.reach,
+    ) {
         return Clash::At(k, i, j);
     }
     field_clash(query, layout.field_at, layout.field_count, &s.rep)

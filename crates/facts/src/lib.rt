@@ -462,19 +462,3 @@ pub fn turned(rows: &[u32; 17]) -> [u32; 17]
     }
     out
 }
-
-// "a reaches b" by link k is held; a number that is no link, or no term, has no facts.
-pub fn reaches(s: Facts, k: Link, a: Term, b: Term) -> bool
-    ensures { λ r. ⌜ r ≡ pathOf s .graph (k .0) .reach (a .0) (b .0) ⌝ }
-{
-    if k.0 != 1 {
-        return false;
-    }
-    if 16 < a.0 {
-        return false;
-    }
-    if 16 < b.0 {
-        return false;
-    }
-    holds(&s.reach, a, b)
-}

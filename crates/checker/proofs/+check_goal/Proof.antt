@@ -9,7 +9,7 @@ use borrow.Fn.Kinds.{In}
 use borrow.Fn.PlainCycle.{Measures, is, falls, and}
 use Rattle.logic.specs.Query.{decode}
 use Rattle.logic.specs.Rules.{triple, move}
-use Rattle.theory.proofs.Query.AcceptedBytes.{accepted}
+use Rattle.theory.proofs.Query.AcceptedBytes.{accepted, decode-links}
 use Rattle.facts.specs.Path.{pathOf}
 use Rattle.facts.specs.Pairs.{pairsOf, joinedOf, Fits}
 use Rattle.facts.proofs.Path.{links-few}
@@ -18,7 +18,7 @@ use Rattle.branch.proofs.Steps.{branch-fits}
 use Rattle.checking.specs.Fitting.{goalOf}
 use Rattle.checker.specs.Reading.{readingOf}
 use Rattle.checker.proofs.Readings.{ruling-applies}
-use Rattle.checker.proofs.Range.{ahead-some, ahead-numbers}
+use Rattle.checker.proofs.Range.{ahead-some, ahead-links, ahead-numbers}
 use Rattle.checker.proofs.Goals.{head-judged, after-head, goal-ends, goal-wrong, BranchesLeft, branches-begin, branches-next, branches-wrong, branches-end, branch-ahead, reading-is}
 use Rattle.checker.proofs.check_goal.Reads as check-goal
 use Rattle.checker.proofs.check_goal.Kinds as check-goal-kinds
@@ -72,7 +72,9 @@ unfolding goalOf
     -- returns
     (λ c. head-judged _ _ _ _ _ _ _ (c .before .before .check-head .ensures) (not-true _ (c .if1 .taken)))
     -- read-line-requires
-    (λ c κs. (c .before .before .before .before .before .before .pre .1 .0, c .before .before .before .before .before .before .pre .1 .2))
+    (λ c κs.
+    let p = c .before .before .before .before .before .before .pre .1 in
+    (p .0, p .2, ahead-links _ (accepted _ (p .1)) _ _ (p .3) ∙ decode-links _))
     -- enum-told
     (λ c. search needs)
     -- add-t24

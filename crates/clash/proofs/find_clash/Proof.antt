@@ -19,14 +19,14 @@ find-clash-spec =
     -- enum-told
     (λ c. search needs)
     -- reach-clash-requires
-    (λ c κs. c .before .before .before .before .before .before .pre)
+    (λ c κs. c .before .before .before .before .before .before .before .before .before .before .before .pre)
     -- enum-known-k-2
     (λ c. search needs)
     -- returns-2
-    (λ c. sym (reach-second _ _ _ _ (sym (c .before .before .before .before .before .before .equality-clash .ensures) ∙ ap lineOf (c .before .before .before .before .enum-told .given .1)) (sym (c .before .before .before .reach-clash .ensures) ∙ ap lineOf (c .before .k2 .given .1))))
+    (λ c. sym (reach-second _ _ _ _ (sym (c .before .before .before .before .before .before .before .before .before .before .before .equality-clash .ensures) ∙ ap lineOf (c .before .before .before .before .before .before .before .before .before .enum-told .given .1)) (sym (c .before .before .before .reach-clash .ensures) ∙ ap lineOf (c .before .k2 .given .1))))
     -- enum-told-2
     (λ c. search needs)
     -- field-clash-requires
-    (λ c κs. c .before .before .before .before .before .before .before .before .before .before .before .pre .field-fit)
+    (λ c κs. c .before .before .before .before .before .before .before .before .before .before .before .before .before .before .before .before .pre .field-fit)
     -- returns-3
-    (λ c. c .field-clash .ensures ∙ sym (fields-third _ _ _ (sym (c .before .before .before .before .before .before .before .before .equality-clash .ensures) ∙ ap lineOf (c .before .before .before .before .before .before .enum-told .given .1)) (sym (c .before .before .before .before .before .reach-clash .ensures) ∙ ap lineOf (c .before .before .before .enum-told2 .given .1)))))
+    (λ c. c .field-clash .ensures ∙ sym (fields-third _ _ _ (sym (c .before .before .before .before .before .before .before .before .before .before .before .before .before .equality-clash .ensures) ∙ ap lineOf (c .before .before .before .before .before .before .before .before .before .before .before .enum-told .given .1)) (sym (c .before .before .before .before .before .reach-clash .ensures) ∙ ap lineOf (c .before .before .before .enum-told2 .given .1)))))

@@ -2,19 +2,19 @@
 use native.Mathlib.Omega.{arith}
 use Prim.Native.Nat.{_-_}
 use mathlib.Core.Path.{sym, _∙_}
-use Rattle.facts.specs.Path.{pathOf}
+use Rattle.facts.specs.Path.{repOf}
 use Rattle.link_query.specs.Said.{said}
 use Rattle.link_query.proofs.Said.{literal-fits, reachability-said}
-use Rattle.clash.specs.Sections.{reachHeld}
+use Rattle.clash.specs.Sections.{rowsOf, rowsHeld}
 use Rattle.clash.proofs.Sections.{AloneLeft, alone-begin, alone-here, alone-next, alone-end}
 use Rattle.clash.proofs.reach_clash.Statement.{statement}
 use Rattle.clash.proofs.reach_clash.Tie as tie
 
 abbrev Inv-loop : tie.InvT-loop
-Inv-loop query layout s count i₀ i = AloneLeft (said layout query .reachability) (layout .«reach_count») 3 (reachHeld (pathOf s)) i
+Inv-loop query layout rep single first second third count i₀ i = AloneLeft (said layout query .reachability) (layout .«reach_count») 3 (rowsHeld (repOf rep) (rowsOf single first second third)) i
 
 abbrev μ-loop : tie.MeasureT-loop
-μ-loop query layout s count i₀ i = count - i
+μ-loop query layout rep single first second third count i₀ i = count - i
 
 pub reach-clash-spec : {M : Type 1} → statement M
 reach-clash-spec =
@@ -24,17 +24,17 @@ reach-clash-spec =
     μ-loop
     -- loop-holds
     (λ c. alone-begin _ _ _ (reachability-said _ _ (c .before .pre)) _ _)
-    -- is-held-negated-requires
+    -- is-held-in-requires
     (λ c κs. literal-fits _ _ _ _ _ (c .loop-test .taken) (c .before .before .before .pre .reach-fit))
-    -- add-t8
+    -- add-t12
     (λ c. omega (arith, c .before .before .before .before .before .pre .reach-within))
     -- returns
-    (λ c. sym (alone-here _ _ _ (reachability-said _ _ (c .before .before .before .before .before .pre)) _ _ _ (c .before .before .loop-test .taken) (sym (c .before .is-held-negated .ensures) ∙ c .if1 .taken) (c .before .before .before .loop .inv)))
+    (λ c. sym (alone-here _ _ _ (reachability-said _ _ (c .before .before .before .before .before .pre)) _ _ _ (c .before .before .loop-test .taken) (sym (c .before .is-held-in .ensures) ∙ c .if1 .taken) (c .before .before .before .loop .inv)))
     -- add-i
     (λ c. omega (arith, c .before .before .before .before .before .pre .reach-within))
     -- loop-less
     (λ c. omega arith)
     -- loop-again
-    (λ c. alone-next _ _ _ (reachability-said _ _ (c .before .before .before .before .before .pre)) _ _ _ (c .before .before .loop-test .taken) (sym (c .before .is-held-negated .ensures) ∙ c .if1 .left) (c .before .before .before .loop .inv))
+    (λ c. alone-next _ _ _ (reachability-said _ _ (c .before .before .before .before .before .pre)) _ _ _ (c .before .before .loop-test .taken) (sym (c .before .is-held-in .ensures) ∙ c .if1 .left) (c .before .before .before .loop .inv))
     -- returns-2
     (λ c. sym (alone-end _ _ _ (reachability-said _ _ (c .before .before .before .pre)) _ _ _ (c .loop-test .left) (c .before .loop .inv))))
