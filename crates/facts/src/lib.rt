@@ -5,13 +5,13 @@ ghost use mathlib.Core.Bool.{Bool, not, cond};
 ghost use lib.Dec.{eqb, ltb};
 ghost use Rattle.facts.specs.Bits.{bit};
 ghost use Rattle.facts.specs.Square.{square, Turned, renamedRow, columns, rows};
-ghost use Rattle.facts.specs.Path.{pathOf, repOf, replaceRep, replacedBy, linksIn, linkedBy, HasLink, withReach};
+ghost use Rattle.facts.specs.Path.{pathOf, repOf, replaceRep, replacedBy, linksIn, twoIn, unlinked, HasLink, withReach, addLink};
 ghost use Rattle.facts.specs.Answers.{foundOf, twoOf};
 ghost use Rattle.facts.specs.Pairs.{pairsOf, joinedAs, joinedOf, Fits};
 ghost use mathlib.Core.List.{[], _∷_, _++_};
 ghost use lib.ListN.{length};
 ghost use mathlib.Core.Option.{some};
-ghost use Rattle.logic.specs.Search.{_and_, _or_, from, find, select};
+ghost use Rattle.logic.specs.Search.{_and_, _or_, from, firstOf, find, select};
 ghost use Rattle.logic.specs.Facts.{terms, addReach, addLinks, replaceIn, replace, firstTwo, successors, doubled, andThen, settle, join, live};
 
 // A term by its number.
@@ -20,11 +20,17 @@ pub struct Term(pub usize);
 // A link by its number, from 1.
 pub struct Link(pub usize);
 
-// What each term was replaced by, as a byte, and whether f(a) = b and "a reaches b" are held: bit b of row a.
+// What each term was replaced by, as a byte, and the facts of each link: f(a) = b, and "a reaches b", are bit b of row a. A single link is
+// held in `link` and `reach`, and the rows of the other two are not read then.
 pub struct Facts {
     pub rep: [u8; 17],
+    pub single: bool,
     pub link: [u32; 17],
     pub reach: [u32; 17],
+    pub link2: [u32; 17],
+    pub reach2: [u32; 17],
+    pub link3: [u32; 17],
+    pub reach3: [u32; 17],
 }
 
 // The pairs that were joined, in order, `count` of them: the term that was kept, and the one that it replaced. One join of at most
@@ -137,11 +143,58 @@ pub fn holds(rows: &[u32; 17], a: Term, b: Term) -> bool
     has(rows[at], b.0)
 }
 
+// The same of any numbers: above 16 there are no facts.
+pub fn is_held(rows: &[u32; 17], a: usize, b: usize) -> bool
+    ensures { λ r. ⌜ r ≡ square (now (rows .entry)) a b ⌝ }
+{
+    if 16 < a {
+        return false;
+    }
+    if 16 < b {
+        return false;
+    }
+    holds(rows, Term(a), Term(b))
+}
+
+// No term is replaced.
+fn unreplaced() -> [u8; 17]
+    ensures { λ r. ⌜ repOf r ≡ (λ t. t) ⌝ }
+{
+    let mut rep = [0u8; 17];
+    let mut t: usize = 0;
+    while t < 17 {
+        rep[t] = t as u8;
+        t += 1;
+    }
+    rep
+}
+
+// A path of one link or of three that holds nothing.
+pub fn unlinked(single: bool) -> Facts
+    ensures { λ r. ⌜ pathOf r ≡ unlinked single ⌝ }
+{
+    let rep = unreplaced();
+    let none = [0u32; 17];
+    Facts {
+        rep,
+        single,
+        link: none,
+        reach: none,
+        link2: none,
+        reach2: none,
+        link3: none,
+        reach3: none,
+    }
+}
+
 // How many links the path has.
 pub fn links(s: Facts) -> usize
     ensures { λ r. ⌜ (r ≡ pathOf s .links) × (0 < r) × (r ≤ 3) ⌝ }
 {
-    1
+    if s.single {
+        return 1;
+    }
+    3
 }
 
 // The facts of one link as rows: f(a) = b, and "a reaches b".
@@ -149,14 +202,45 @@ pub fn link_rows(s: Facts, k: Link) -> [u32; 17]
     requires { ⌜ HasLink (pathOf s) (k .0) ⌝ }
     ensures { λ r. ⌜ square r ≡ pathOf s .graph (k .0) .link ⌝ }
 {
-    s.link
+    if k.0 == 1 {
+        return s.link;
+    }
+    if k.0 == 2 {
+        return s.link2;
+    }
+    s.link3
 }
 
 pub fn reach_rows(s: Facts, k: Link) -> [u32; 17]
     requires { ⌜ HasLink (pathOf s) (k .0) ⌝ }
     ensures { λ r. ⌜ square r ≡ pathOf s .graph (k .0) .reach ⌝ }
 {
-    s.reach
+    if k.0 == 1 {
+        return s.reach;
+    }
+    if k.0 == 2 {
+        return s.reach2;
+    }
+    s.reach3
+}
+
+// a reaches b by link k; what is no link or no term has no facts.
+pub fn reaches(s: Facts, k: Link, a: Term, b: Term) -> bool
+    ensures { λ r. ⌜ r ≡ pathOf s .graph (k .0) .reach (a .0) (b .0) ⌝ }
+{
+    if k.0 == 1 {
+        return is_held(&s.reach, a.0, b.0);
+    }
+    if s.single {
+        return false;
+    }
+    if k.0 == 2 {
+        return is_held(&s.reach2, a.0, b.0);
+    }
+    if k.0 == 3 {
+        return is_held(&s.reach3, a.0, b.0);
+    }
+    false
 }
 
 // Other rows of "a reaches b" for one link.
@@ -165,7 +249,15 @@ pub fn with_reach(s: Facts, k: Link, rows: [u32; 17]) -> Facts
     ensures { λ r. ⌜ pathOf r ≡ withReach (k .0) (square rows) (pathOf s) ⌝ }
 {
     let mut t = s;
-    t.reach = rows;
+    if k.0 == 1 {
+        t.reach = rows;
+        return t;
+    }
+    if k.0 == 2 {
+        t.reach2 = rows;
+        return t;
+    }
+    t.reach3 = rows;
     t
 }
 
@@ -177,11 +269,39 @@ pub fn add_reach(s: Facts, k: Link, a: Term, b: Term) -> Facts
     let at = a.0;
     let added = only(b.0);
     let mut t = s;
-    t.reach[at] = t.reach[at] | added;
+    if k.0 == 1 {
+        t.reach[at] = t.reach[at] | added;
+        return t;
+    }
+    if k.0 == 2 {
+        t.reach2[at] = t.reach2[at] | added;
+        return t;
+    }
+    t.reach3[at] = t.reach3[at] | added;
     t
 }
 
-// The link fact is added.
+// The link fact is added for one link.
+pub fn add_link_of(s: Facts, k: Link, a: Term, b: Term) -> Facts
+    requires { ⌜ HasLink (pathOf s) (k .0) × (a .0 ≤ 16) × (b .0 ≤ 16) ⌝ }
+    ensures { λ r. ⌜ pathOf r ≡ addLink (k .0) (a .0) (b .0) (pathOf s) ⌝ }
+{
+    let at = a.0;
+    let added = only(b.0);
+    let mut t = s;
+    if k.0 == 1 {
+        t.link[at] = t.link[at] | added;
+        return t;
+    }
+    if k.0 == 2 {
+        t.link2[at] = t.link2[at] | added;
+        return t;
+    }
+    t.link3[at] = t.link3[at] | added;
+    t
+}
+
+// The link fact is added for every link.
 pub fn add_link(s: Facts, a: Term, b: Term) -> Facts
     requires { ⌜ (a .0 ≤ 16) × (b .0 ≤ 16) ⌝ }
     ensures { λ r. ⌜ pathOf r ≡ addLinks (a .0) (b .0) (pathOf s) ⌝ }
@@ -190,6 +310,11 @@ pub fn add_link(s: Facts, a: Term, b: Term) -> Facts
     let added = only(b.0);
     let mut t = s;
     t.link[at] = t.link[at] | added;
+    if t.single {
+        return t;
+    }
+    t.link2[at] = t.link2[at] | added;
+    t.link3[at] = t.link3[at] | added;
     t
 }
 
@@ -270,14 +395,32 @@ pub fn replace(s: Facts, lo: Term, hi: Term) -> Facts
     requires { ⌜ (lo .0 < hi .0) × (hi .0 ≤ 16) ⌝ }
     ensures { λ r. ⌜ pathOf r ≡ replace (lo .0) (hi .0) (pathOf s) ⌝ }
 {
+    let mut t = s;
     let rep = s.rep;
+    let new_rep = replace_rep(rep, lo, hi);
+    t.rep = new_rep;
     let link = s.link;
+    let new_link = replace_in(link, lo, hi);
+    t.link = new_link;
     let reach = s.reach;
-    Facts {
-        rep: replace_rep(rep, lo, hi),
-        link: replace_in(link, lo, hi),
-        reach: replace_in(reach, lo, hi),
+    let new_reach = replace_in(reach, lo, hi);
+    t.reach = new_reach;
+    if s.single {
+        return t;
     }
+    let link2 = s.link2;
+    let new_link2 = replace_in(link2, lo, hi);
+    t.link2 = new_link2;
+    let reach2 = s.reach2;
+    let new_reach2 = replace_in(reach2, lo, hi);
+    t.reach2 = new_reach2;
+    let link3 = s.link3;
+    let new_link3 = replace_in(link3, lo, hi);
+    t.link3 = new_link3;
+    let reach3 = s.reach3;
+    let new_reach3 = replace_in(reach3, lo, hi);
+    t.reach3 = new_reach3;
+    t
 }
 
 // The row of the successors of t.
@@ -313,10 +456,10 @@ pub fn first_two(link: &[u32; 17], n: usize, t: Term) -> Two
     Two::Of(a, b)
 }
 
-// "the two lowest successors of the lowest such term"
-pub fn doubled(link: &[u32; 17], n: usize) -> Two
+// "the two lowest successors of the lowest such term", of one link
+fn doubled_in(link: &[u32; 17], n: usize) -> Two
     requires { ⌜ n ≤ 16 ⌝ }
-    ensures { λ r. ⌜ twoOf r ≡ doubled n (linkedBy (now (link .entry))) ⌝ }
+    ensures { λ r. ⌜ twoOf r ≡ firstOf (λ t. firstTwo (successors n (linksIn (now (link .entry))) t)) (terms n) ⌝ }
 {
     let mut t: usize = 1;
     while t <= n {
@@ -326,6 +469,57 @@ pub fn doubled(link: &[u32; 17], n: usize) -> Two
         t += 1;
     }
     Two::Nothing
+}
+
+// The two lowest successors of t by the lowest of three links that has two.
+fn first_two_of<'a>(
+    first: &'a [u32; 17],
+    second: &'a [u32; 17],
+    third: &'a [u32; 17],
+    n: usize,
+    t: Term,
+) -> Two
+    requires { ⌜ (n ≤ 16) × (t .0 ≤ 16) ⌝ }
+    ensures { λ r. ⌜ twoOf r ≡ twoIn n (now (first .entry)) (now (second .entry)) (now (third .entry)) (t .0) ⌝ }
+{
+    if let Two::Of(a, b) = first_two(first, n, t) {
+        return Two::Of(a, b);
+    }
+    if let Two::Of(a, b) = first_two(second, n, t) {
+        return Two::Of(a, b);
+    }
+    first_two(third, n, t)
+}
+
+// "by lowest term, then link" (02, R-11)
+fn doubled_of<'a>(
+    first: &'a [u32; 17],
+    second: &'a [u32; 17],
+    third: &'a [u32; 17],
+    n: usize,
+) -> Two
+    requires { ⌜ n ≤ 16 ⌝ }
+    ensures { λ r. ⌜ twoOf r ≡ firstOf (twoIn n (now (first .entry)) (now (second .entry)) (now (third .entry))) (terms n) ⌝ }
+{
+    let mut t: usize = 1;
+    while t <= n {
+        if let Two::Of(a, b) = first_two_of(first, second, third, n, Term(t)) {
+            return Two::Of(a, b);
+        }
+        t += 1;
+    }
+    Two::Nothing
+}
+
+// "the two lowest successors of the lowest such term"
+pub fn doubled(s: Facts, n: usize) -> Two
+    requires { ⌜ n ≤ 16 ⌝ }
+    ensures { λ r. ⌜ twoOf r ≡ doubled n (pathOf s) ⌝ }
+{
+    if s.single {
+        return doubled_in(&s.link, n);
+    }
+    doubled_of(&s.link, &s.link2, &s.link3, n)
 }
 
 // No pair.
@@ -362,7 +556,7 @@ pub fn settle(before: Joined, n: usize) -> Joined
     let mut j = before;
     let mut left = n;
     while 0 < left {
-        let Two::Of(a, b) = doubled(&j.facts.link, n) else {
+        let Two::Of(a, b) = doubled(j.facts, n) else {
             return j;
         };
         let s = j.facts;
@@ -386,7 +580,7 @@ fn join_lower(s: Facts, n: usize, lo: Term, hi: Term, before: Pairs) -> Joined
         pairs: and_pair(before, lo, hi),
         facts: replace(s, lo, hi),
     };
-    let Two::Of(_, _) = doubled(&made.facts.link, n) else {
+    let Two::Of(_, _) = doubled(made.facts, n) else {
         return made;
     };
     settle(made, n)

@@ -1,49 +1,19 @@
--- What is left to search equals the whole. Assumes nothing.
-use Prim.Native.Nat.{ℕ, _+_, _-_}
-use native.Mathlib.Omega.{arith}
+-- A search of the rows of one link, or of three. Assumes nothing.
 use borrow.Author.Needs.{needs}
-use mathlib.Core.Path.{_≡_, refl, sym, ap, _∙_}
-use mathlib.Core.List.{List}
-use Rattle.logic.specs.Search.{from, firstOf}
-use Rattle.logic.specs.Facts.{firstTwo, successors, doubled}
-use Rattle.facts.specs.Path.{onlyLink, linksIn, linkedBy}
-use Rattle.facts.specs.Answers.{twoOf}
-use Rattle.facts.proofs.Loops.{first-end, first-here, first-next}
-use Rattle.facts.proofs.Successors.{doubled-search}
+use mathlib.Core.Path.{sym, _∙_}
+use Rattle.facts.proofs.Path.{doubled-single, doubled-three}
 use Rattle.facts.proofs.doubled.Statement.{statement}
 use Rattle.facts.proofs.doubled.Tie as tie
-
-holds : (n : ℕ) (link : List ℕ) → doubled n (linkedBy link) ≡ firstOf (λ u. firstTwo (successors n (linksIn link) u)) (from (n + 1 - 1) 1)
-unfolding linkedBy onlyLink
-holds n link = doubled-search n (linkedBy link) refl
-
-abbrev Inv-loop : tie.InvT-loop
-Inv-loop link n t₀ t = doubled n (linkedBy link) ≡ firstOf (λ u. firstTwo (successors n (linksIn link) u)) (from (n + 1 - t) t)
-
-abbrev μ-loop : tie.MeasureT-loop
-μ-loop link n t₀ t = n + 1 - t
 
 pub doubled-spec : {M : Type 1} → statement M
 doubled-spec =
     tie.close
     (tie.spec
-    Inv-loop
-    μ-loop
-    -- loop-holds
-    (λ c. holds _ _)
-    -- first-two-requires
-    (λ c κs. omega arith)
-    -- enum-known-a
-    (λ c. search needs)
+    -- doubled-in-requires
+    (λ c κs. search needs)
     -- returns
-    (λ c. sym (c .before .before .before .before .before .loop .inv ∙ first-here _ _ _ _ (omega arith) (sym (c .before .before .before .first-two .ensures) ∙ ap twoOf (c .before .a .given .1))))
-    -- enum-told
-    (λ c. search needs)
-    -- add-t
-    (λ c. omega arith)
-    -- loop-less
-    (λ c. omega arith)
-    -- loop-again
-    (λ c. c .before .before .before .before .loop .inv ∙ first-next _ _ _ (omega arith) (sym (c .before .before .first-two .ensures) ∙ ap twoOf (c .enum-told .given .1)))
+    (λ c. c .doubled-in .ensures ∙ sym (doubled-single _ (c .before .before .before .before .args .t1) (c .before .before .before .if1 .taken)))
+    -- doubled-of-requires
+    (λ c κs. search needs)
     -- returns-2
-    (λ c. sym (c .before .loop .inv ∙ first-end _ _ _ (omega arith))))
+    (λ c. c .doubled-of .ensures ∙ sym (doubled-three _ (c .before .before .before .before .before .before .args .t1) (c .before .before .before .before .before .if1 .left))))

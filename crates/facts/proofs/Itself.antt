@@ -1,7 +1,7 @@
 -- Each term is made to stand for itself, one after the other.
 use Prim.Native.Nat.{ℕ, _+_, _≤_, _<_}
 use native.Mathlib.Omega.{arith}
-use mathlib.Core.Path.{_≡_, refl, sym, ap, _∙_}
+use mathlib.Core.Path.{_≡_, refl, sym, ap, _∙_, fun-ext}
 use mathlib.Core.Logic.{⊎-elim}
 use mathlib.Core.List.{List}
 use lib.ListN.{length, set}
@@ -23,5 +23,5 @@ itself-more rep full t h m x l =
     (λ e. let d = eqb-false x t e in rep-other rep t t x d ∙ m x (omega arith))
     (bool-cases (eqb x t))
 
-pub itself-all : (rep : List ℕ) → Itself 17 rep → (x : ℕ) → repOf rep x ≡ x
-itself-all rep m x = ⊎-elim (λ h. rep-beyond rep x h) (λ h. m x h) (le-cases 17 x)
+pub itself-all : (rep : List ℕ) → Itself 17 rep → repOf rep ≡ (λ x. x)
+itself-all rep m = fun-ext (λ x. ⊎-elim (λ h. rep-beyond rep x h) (λ h. m x h) (le-cases 17 x))
