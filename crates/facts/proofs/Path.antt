@@ -16,7 +16,7 @@ use Rattle.theory.proofs.Basics.Compare.{eq-cases, ltb-intro, leb-intro, eqb-in
 use Rattle.theory.proofs.Paths.Ranged.{link-range}
 use Rattle.theory.proofs.Calls.OneLink.{firstOf-one, doubled-one}
 use Rattle.facts.specs.declared.Facts as code
-use Rattle.facts.specs.Path.{repOf, noFacts, graphs, pathOf, graphOf, unlinked, linksIn, twoIn, replaceRep, HasLink, withReach, addLink}
+use Rattle.facts.specs.Path.{repOf, noFacts, graphs, pathOf, graphOf, unlinked, linksIn, twoIn, replaceRep, HasLink, withReach, withLink}
 
 -- the graph and the path that these functions make
 abbrev pub linking : (ℕ → ℕ → Bool) → (ℕ → ℕ → Bool) → Graph
@@ -95,6 +95,9 @@ linkedTo a b g = linking (λ x y. g .link x y or (eqb x a and eqb y b)) (g .reac
 abbrev pub reachedBy : (ℕ → ℕ → Bool) → Graph → Graph
 reachedBy f g = linking (g .link) f
 
+abbrev pub linkedBy : (ℕ → ℕ → Bool) → Graph → Graph
+linkedBy f g = linking f (g .reach)
+
 abbrev pub replacedIn : ℕ → ℕ → Graph → Graph
 replacedIn lo hi g = linking (replaceIn lo hi (g .link)) (replaceIn lo hi (g .reach))
 
@@ -118,19 +121,19 @@ module _ (k : ℕ) (s : Facts) where
       go true g = refl
       go false g = refl
 
-  pub addLink-changed : (a b : ℕ) → addLink k a b s ≡ changed k (linkedTo a b) s
-  unfolding addLink
-  addLink-changed a b = same-graphs (s .rep) (s .links) _ _ (λ j. ap (λ (l : ℕ → ℕ → Bool). linking l (s .graph j .reach)) (added (s .graph j .link) (eqb j k) a b) ∙ go (eqb j k) (s .graph j))
-    where
-      go : (t : Bool) (g : Graph) → linking (cond t (λ x y. g .link x y or (eqb x a and eqb y b)) (g .link)) (g .reach) ≡ cond t (linkedTo a b g) g
-      go true g = refl
-      go false g = refl
-
   pub withReach-changed : (f : ℕ → ℕ → Bool) → withReach k f s ≡ changed k (reachedBy f) s
   unfolding withReach
   withReach-changed f = same-graphs (s .rep) (s .links) _ _ (λ j. go (eqb j k) (s .graph j))
     where
       go : (t : Bool) (g : Graph) → linking (g .link) (cond t f (g .reach)) ≡ cond t (reachedBy f g) g
+      go true g = refl
+      go false g = refl
+
+  pub withLink-changed : (f : ℕ → ℕ → Bool) → withLink k f s ≡ changed k (linkedBy f) s
+  unfolding withLink
+  withLink-changed f = same-graphs (s .rep) (s .links) _ _ (λ j. go (eqb j k) (s .graph j))
+    where
+      go : (t : Bool) (g : Graph) → linking (cond t f (g .link)) (g .reach) ≡ cond t (linkedBy f g) g
       go true g = refl
       go false g = refl
 

@@ -66,11 +66,11 @@ withReach k reach s =
       graph = λ j. record { link = s .graph j .link; reach = cond (eqb j k) reach (s .graph j .reach) };
     }
 
--- the link fact f(a) = b about link k added
-unfoldable pub addLink : ℕ → ℕ → ℕ → Facts → Facts
-addLink k a b s =
+-- the same with these links
+unfoldable pub withLink : ℕ → (ℕ → ℕ → Bool) → Facts → Facts
+withLink k link s =
     record {
       rep = s .rep;
       links = s .links;
-      graph = λ j. record { link = λ x y. s .graph j .link x y or (eqb j k and eqb x a and eqb y b); reach = s .graph j .reach };
+      graph = λ j. record { link = cond (eqb j k) link (s .graph j .link); reach = s .graph j .reach };
     }

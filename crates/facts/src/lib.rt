@@ -5,7 +5,7 @@ ghost use mathlib.Core.Bool.{Bool, not, cond};
 ghost use lib.Dec.{eqb, ltb};
 ghost use Rattle.facts.specs.Bits.{bit};
 ghost use Rattle.facts.specs.Square.{square, Turned, renamedRow, columns, rows};
-ghost use Rattle.facts.specs.Path.{pathOf, repOf, replaceRep, replacedBy, linksIn, twoIn, unlinked, HasLink, withReach, addLink};
+ghost use Rattle.facts.specs.Path.{pathOf, repOf, replaceRep, replacedBy, linksIn, twoIn, unlinked, HasLink, withReach, withLink};
 ghost use Rattle.facts.specs.Answers.{foundOf, twoOf};
 ghost use Rattle.facts.specs.Pairs.{pairsOf, joinedAs, joinedOf, Fits};
 ghost use mathlib.Core.List.{[], _∷_, _++_};
@@ -261,6 +261,24 @@ pub fn with_reach(s: Facts, k: Link, rows: [u32; 17]) -> Facts
     t
 }
 
+// Other rows of f(a) = b for one link.
+pub fn with_link(s: Facts, k: Link, rows: [u32; 17]) -> Facts
+    requires { ⌜ HasLink (pathOf s) (k .0) ⌝ }
+    ensures { λ r. ⌜ pathOf r ≡ withLink (k .0) (square rows) (pathOf s) ⌝ }
+{
+    let mut t = s;
+    if k.0 == 1 {
+        t.link = rows;
+        return t;
+    }
+    if k.0 == 2 {
+        t.link2 = rows;
+        return t;
+    }
+    t.link3 = rows;
+    t
+}
+
 // The reachability fact is added.
 pub fn add_reach(s: Facts, k: Link, a: Term, b: Term) -> Facts
     requires { ⌜ HasLink (pathOf s) (k .0) × (a .0 ≤ 16) × (b .0 ≤ 16) ⌝ }
@@ -278,26 +296,6 @@ pub fn add_reach(s: Facts, k: Link, a: Term, b: Term) -> Facts
         return t;
     }
     t.reach3[at] = t.reach3[at] | added;
-    t
-}
-
-// The link fact is added for one link.
-pub fn add_link_of(s: Facts, k: Link, a: Term, b: Term) -> Facts
-    requires { ⌜ HasLink (pathOf s) (k .0) × (a .0 ≤ 16) × (b .0 ≤ 16) ⌝ }
-    ensures { λ r. ⌜ pathOf r ≡ addLink (k .0) (a .0) (b .0) (pathOf s) ⌝ }
-{
-    let at = a.0;
-    let added = only(b.0);
-    let mut t = s;
-    if k.0 == 1 {
-        t.link[at] = t.link[at] | added;
-        return t;
-    }
-    if k.0 == 2 {
-        t.link2[at] = t.link2[at] | added;
-        return t;
-    }
-    t.link3[at] = t.link3[at] | added;
     t
 }
 

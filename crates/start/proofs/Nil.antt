@@ -4,37 +4,34 @@ use native.Mathlib.Omega.{arith}
 use mathlib.Core.Path.{_≡_, refl, sym, ap, _∙_, subst}
 use mathlib.Core.Bool.{Bool, true, false, cond}
 use mathlib.Core.List.{List, [], _∷_}
-use lib.ListN.{length, getD, take, drop}
 use lib.Dec.{eqb}
 use borrow.Author.Tests.{eq-eqb, ne-eqb}
 use Rattle.logic.specs.Search.{select, from}
-use Rattle.logic.specs.Query.{Literal, oneLink, namesNil}
+use Rattle.logic.specs.Query.{Literal, Entries}
 use Rattle.logic.specs.Facts.{Facts, Joined, unjoined, andThen, settle, joinEach, equalTo, addLinks, addNilLinks, joinNil}
 use Rattle.facts.specs.Pairs.{Fits}
+use Rattle.query.specs.declared.Layout.{Layout}
+use Rattle.link_query.specs.Said.{said, Within, entryIn}
 use Rattle.facts.proofs.Loops.{from-end, from-next}
 use Rattle.facts.proofs.Joins.{andThen-unjoined, andThen-andThen, fits-left}
 use Rattle.start.specs.Taken.{joinOne, Bounded, Terms}
 use Rattle.start.specs.Nil.{nilFrom, NextNil, same}
 use Rattle.start.proofs.Bounded.{settled, behind-bounded}
 use Rattle.start.proofs.Each.{joins}
-use Rattle.start.proofs.Entries.{nil-in}
+use Rattle.start.proofs.Entries.{nil-read}
 
-module _ (bytes : List ℕ) (n : ℕ) where
-  pub nil-end : (t : ℕ) → n < t → nilFrom bytes n t ≡ []
+pub nil-end : (entries : Entries) (n t : ℕ) → n < t → nilFrom entries n t ≡ []
+unfolding nilFrom select
+nil-end entries n t h = rw (from-end (n + 1) t (omega arith))
+
+module _ (l : Layout) (bytes : List ℕ) (w : Within l bytes) (t : ℕ) (one : 1 ≤ t) (within : t ≤ l .terms) (byte : ℕ) (read : byte ≡ entryIn (l .links) bytes t) where
+  pub nil-here : byte ≡ 255 → nilFrom (said l bytes .entries) (l .terms) t ≡ t ∷ nilFrom (said l bytes .entries) (l .terms) (t + 1)
   unfolding nilFrom select
-  nil-end t h = rw (from-end (n + 1) t (omega arith))
+  nil-here e = rw (from-next (l .terms + 1) t (omega arith), nil-read l bytes w t one within byte read, eq-eqb byte 255 e)
 
-  module _ (fits : n < length bytes) (t : ℕ) (one : 1 ≤ t) (within : t ≤ n) (byte : ℕ) (read : byte ≡ getD bytes t 0) where
-    named : namesNil (oneLink (take n (drop 1 bytes))) t ≡ eqb byte 255
-    named = nil-in bytes n fits t one within ∙ ap (λ (x : ℕ). eqb x 255) (sym read)
-
-    pub nil-here : byte ≡ 255 → nilFrom bytes n t ≡ t ∷ nilFrom bytes n (t + 1)
-    unfolding nilFrom select
-    nil-here e = rw (from-next (n + 1) t (omega arith), named, eq-eqb byte 255 e)
-
-    pub nil-next : (byte ≡ 255 → ⊥) → nilFrom bytes n t ≡ nilFrom bytes n (t + 1)
-    unfolding nilFrom select
-    nil-next d = rw (from-next (n + 1) t (omega arith), named, ne-eqb byte 255 d)
+  pub nil-next : (byte ≡ 255 → ⊥) → nilFrom (said l bytes .entries) (l .terms) t ≡ nilFrom (said l bytes .entries) (l .terms) (t + 1)
+  unfolding nilFrom select
+  nil-next d = rw (from-next (l .terms + 1) t (omega arith), nil-read l bytes w t one within byte read, ne-eqb byte 255 d)
 
 -- the terms that are left are joined to the first
 abbrev pub others : ℕ → ℕ → List ℕ → Joined → Joined
@@ -50,14 +47,14 @@ module _ (n first : ℕ) (j : Joined) where
   others-next u us = joins n .next (same first u) (equalTo first us) j
 
 -- what is left of the others, where u is the next of them or there is none
-pub record OthersLeft (bytes : List ℕ) (n first : ℕ) (whole : Joined) (u : ℕ) (j : Joined) : Type 0 where
+pub record OthersLeft (entries : Entries) (n first : ℕ) (whole : Joined) (u : ℕ) (j : Joined) : Type 0 where
   pub start : ℕ
-  pub next : NextNil bytes n start u
-  pub left : whole ≡ others n first (nilFrom bytes n start) j
+  pub next : NextNil entries n start u
+  pub left : whole ≡ others n first (nilFrom entries n start) j
 
-module _ (bytes : List ℕ) (n first : ℕ) (whole : Joined) (u : ℕ) (j : Joined) (o : OthersLeft bytes n first whole u j) where
-  pub others-step : u ≤ n → whole ≡ others n first (nilFrom bytes n (u + 1)) (andThen j (joinOne n (same first u)))
-  others-step h = o .left ∙ ap (λ (us : List ℕ). others n first us j) (o .next .found h) ∙ others-next n first j u (nilFrom bytes n (u + 1))
+module _ (entries : Entries) (n first : ℕ) (whole : Joined) (u : ℕ) (j : Joined) (o : OthersLeft entries n first whole u j) where
+  pub others-step : u ≤ n → whole ≡ others n first (nilFrom entries n (u + 1)) (andThen j (joinOne n (same first u)))
+  others-step h = o .left ∙ ap (λ (us : List ℕ). others n first us j) (o .next .found h) ∙ others-next n first j u (nilFrom entries n (u + 1))
 
   pub others-done : n < u → whole ≡ j
   others-done h = o .left ∙ ap (λ (us : List ℕ). others n first us j) (o .next .nothing h) ∙ others-end n first j

@@ -13,15 +13,11 @@ use Rattle.theory.proofs.Basics.Compare.{cond-true, cond-false}
 use Rattle.facts.specs.declared.Facts as code
 use Rattle.facts.specs.Bits.{bit}
 use Rattle.facts.specs.Path.{repOf, pathOf, graphOf}
-use Rattle.facts.proofs.Path.{alike, addReach-at}
+use Rattle.facts.proofs.Path.{alike-graph, reaching, changed, addReach-changed, set-first, set-second, set-third}
 use Rattle.facts.proofs.Square.{square-add}
 use Rattle.facts.proofs.Joins.{andThen-at, andThen-unjoined}
 use Rattle.start.specs.Nil.{same}
 use Rattle.start.specs.Taken.{joinOne, reachOne, Bounded}
-
-row-set : (s : code.Facts) → length (s .reach) ≡ 17 → (a b w : ℕ) → a ≤ 16 → b ≤ 16 → ((i : ℕ) → bit w i ≡ eqb i b) → pathOf (record { rep = s .rep; link = s .link; reach = set (s .reach) a (bitOr (getD (s .reach) a 0) w) }) ≡ addReach 1 a b (pathOf s)
-unfolding pathOf graphOf
-row-set s full a b w h k only = alike refl refl (square-add (s .reach) full a b w h k only) ∙ sym (addReach-at _ _ _ 1 a b refl)
 
 module _ (s : code.Facts) where
   -- a number that is read for a term is what the term became
@@ -40,16 +36,33 @@ module _ (s : code.Facts) where
         andThen-at (record { pairs = ps; facts = pathOf s }) (join n a b) (joinOne n l)
         (ap₂ (λ a b. join n a b (pathOf s)) (rep-read (l .left) a e) (rep-read (l .right) b f) ∙ sym (cond-true _ _ p))
 
-    reach-plain : l .link ≡ 1 → l .plain ≡ true → addReach 1 a b (pathOf s) ≡ reachOne l (pathOf s)
+    pub reach-plain : l .plain ≡ true → addReach (l .link) a b (pathOf s) ≡ reachOne l (pathOf s)
     unfolding reachOne
-    reach-plain one p =
-        ap₂ (λ a b. addReach 1 a b (pathOf s)) (rep-read (l .left) a e) (rep-read (l .right) b f)
-        ∙ ap (λ k. addReach k (pathOf s .rep (l .left)) (pathOf s .rep (l .right)) (pathOf s)) (sym one)
-        ∙ sym (cond-true _ _ p)
+    reach-plain p = ap₂ (λ a b. addReach (l .link) a b (pathOf s)) (rep-read (l .left) a e) (rep-read (l .right) b f) ∙ sym (cond-true _ _ p)
 
-    -- the bit of the fact is set in its row
-    pub reach-set : length (s .reach) ≡ 17 → a ≤ 16 → b ≤ 16 → l .link ≡ 1 → l .plain ≡ true → (w : ℕ) → ((i : ℕ) → bit w i ≡ eqb i b) → pathOf (record { rep = s .rep; link = s .link; reach = set (s .reach) a (bitOr (getD (s .reach) a 0) w) }) ≡ reachOne l (pathOf s)
-    reach-set full h k one p w only = row-set s full a b w h k only ∙ reach-plain one p
+    -- the bit of the fact is set in its row, of whichever link
+    module _ (h : a ≤ 16) (k : b ≤ 16) (p : l .plain ≡ true) (w : ℕ) (only : (i : ℕ) → bit w i ≡ eqb i b) where
+      abbrev set-in : List ℕ → List ℕ
+      set-in rows = set rows a (bitOr (getD rows a 0) w)
+
+      reached : (link rows : List ℕ) → length rows ≡ 17 → graphOf link (set-in rows) ≡ reaching a b (graphOf link rows)
+      unfolding graphOf
+      reached link rows full = alike-graph refl (square-add rows full a b w h k only)
+
+      add-is : changed (l .link) (reaching a b) (pathOf s) ≡ reachOne l (pathOf s)
+      add-is = sym (addReach-changed (l .link) (pathOf s) a b) ∙ reach-plain p
+
+      pub reach-first : l .link ≡ 1 → length (s .reach) ≡ 17 → pathOf (record { rep = s .rep; single = s .single; link = s .link; reach = set-in (s .reach); link2 = s .link2; reach2 = s .reach2; link3 = s .link3; reach3 = s .reach3 }) ≡ reachOne l (pathOf s)
+      unfolding pathOf
+      reach-first one full = set-first s (l .link) (reaching a b) _ one (reached (s .link) (s .reach) full) ∙ add-is
+
+      pub reach-second : l .link ≡ 2 → s .single ≡ false → length (s .reach2) ≡ 17 → pathOf (record { rep = s .rep; single = s .single; link = s .link; reach = s .reach; link2 = s .link2; reach2 = set-in (s .reach2); link3 = s .link3; reach3 = s .reach3 }) ≡ reachOne l (pathOf s)
+      unfolding pathOf
+      reach-second two many full = set-second s (l .link) (reaching a b) _ two many (reached (s .link2) (s .reach2) full) ∙ add-is
+
+      pub reach-third : l .link ≡ 3 → s .single ≡ false → length (s .reach3) ≡ 17 → pathOf (record { rep = s .rep; single = s .single; link = s .link; reach = s .reach; link2 = s .link2; reach2 = s .reach2; link3 = s .link3; reach3 = set-in (s .reach3) }) ≡ reachOne l (pathOf s)
+      unfolding pathOf
+      reach-third last many full = set-third s (l .link) (reaching a b) _ last many (reached (s .link3) (s .reach3) full) ∙ add-is
 
   module _ (l : Literal) where
     pub join-negated : (n : ℕ) (ps : List (ℕ × ℕ)) → l .plain ≡ false → record { pairs = ps; facts = pathOf s } ≡ andThen (record { pairs = ps; facts = pathOf s }) (joinOne n l)

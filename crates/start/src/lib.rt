@@ -1,35 +1,23 @@
 // The start of a query: the path that holds its links, nil's, its plain equalities and its plain reachability facts.
 use facts::Facts;
 use facts::Joined;
+use facts::Link;
 use facts::Term;
 use facts::Two;
 use query::Layout;
 ghost use mathlib.Core.Path.{_≡_};
-ghost use mathlib.Core.Bool.{true};
 ghost use Prim.Native.Nat.{ℕ, _+_, _*_, _≤_, _<_};
 ghost use lib.ListN.{length, take, drop};
-ghost use Rattle.logic.specs.Query.{literals, decode};
+ghost use Rattle.logic.specs.Query.{literals};
 ghost use Rattle.logic.specs.Facts.{linksOf, andThen, settle, joinEach, reachEach, equalTo, joinNil};
-ghost use Rattle.logic.specs.Calls.{accepts};
+ghost use Rattle.theory.proofs.Query.Tied.{Accepted};
 ghost use Rattle.facts.specs.Square.{square};
-ghost use Rattle.facts.specs.Path.{pathOf, repOf};
+ghost use Rattle.facts.specs.Path.{pathOf};
 ghost use Rattle.facts.specs.Pairs.{joinedOf, Fits};
-ghost use Rattle.query.specs.LaysOut.{LaysOut, literalIn};
+ghost use Rattle.query.specs.LaysOut.{literalIn};
+ghost use Rattle.link_query.specs.Said.{said, Within};
 ghost use Rattle.start.specs.Nil.{argumentBy, nilFrom, NextNil, same};
-ghost use Rattle.start.specs.Taken.{joinOne, onlyEntries, started, Bounded, Terms, TermsIn, EntriesIn};
-
-// No term is replaced.
-fn unreplaced() -> [u8; 17]
-    ensures { λ r. ⌜ ((t : ℕ) → repOf r t ≡ t) ⌝ }
-{
-    let mut rep = [0u8; 17];
-    let mut t: usize = 0;
-    while t < 17 {
-        rep[t] = t as u8;
-        t += 1;
-    }
-    rep
-}
+ghost use Rattle.start.specs.Taken.{joinOne, started, Bounded, Terms, TermsIn};
 
 // The term that a term is f of, by its byte: none (0) for a variable and for nil.
 fn argument(byte: usize) -> usize
@@ -41,15 +29,20 @@ fn argument(byte: usize) -> usize
     byte
 }
 
-// f(a) = b for each term b that is f of a term a.
-fn links(query: &[u8], n: usize) -> [u32; 17]
-    requires { ⌜ (n ≤ 16) × (n < length (now query)) × EntriesIn (now query) n ⌝ }
-    ensures { λ r. ⌜ square r ≡ linksOf (onlyEntries (take n (drop 1 (now (query .entry))))) .graph 1 .link ⌝ }
+// f(a) = b for each term b that is f of a term a by link k.
+fn links_of(query: &[u8], layout: Layout, k: usize) -> [u32; 17]
+    requires { ⌜ Within layout (now query) × Accepted (said layout (now query)) ⌝ }
+    ensures { λ r. ⌜ square r ≡ linksOf (said layout (now (query .entry))) .graph k .link ⌝ }
 {
     let mut link = [0u32; 17];
     let mut b: usize = 1;
-    while b <= n {
-        let a = argument(entries::byte_at(query, b));
+    while b <= layout.terms {
+        let by = link_query::entry_link(query, layout.links, Term(b));
+        if by != k {
+            b += 1;
+            continue;
+        }
+        let a = argument(link_query::entry(query, layout.links, Term(b)));
         link[a] = facts::with(link[a], b, 0 < a);
         b += 1;
     }
@@ -57,14 +50,16 @@ fn links(query: &[u8], n: usize) -> [u32; 17]
 }
 
 // "The start holds the links of section 1"
-fn linked(query: &[u8], n: usize) -> Facts
-    requires { ⌜ (n ≤ 16) × (n < length (now query)) × EntriesIn (now query) n ⌝ }
-    ensures { λ r. ⌜ pathOf r ≡ linksOf (onlyEntries (take n (drop 1 (now (query .entry))))) ⌝ }
+fn linked(query: &[u8], layout: Layout) -> Facts
+    requires { ⌜ Within layout (now query) × Accepted (said layout (now query)) ⌝ }
+    ensures { λ r. ⌜ pathOf r ≡ linksOf (said layout (now (query .entry))) ⌝ }
 {
-    let rep = unreplaced();
-    let link = links(query, n);
-    let reach = [0u32; 17];
-    Facts { rep, link, reach }
+    if layout.links == 1 {
+        return facts::with_link(facts::unlinked(true), Link(1), links_of(query, layout, 1));
+    }
+    let first = facts::with_link(facts::unlinked(false), Link(1), links_of(query, layout, 1));
+    let second = facts::with_link(first, Link(2), links_of(query, layout, 2));
+    facts::with_link(second, Link(3), links_of(query, layout, 3))
 }
 
 // The links of section 1, settled. Mostly no term has two successors, and nothing is left to do.
@@ -72,7 +67,7 @@ fn settle_links(links: Joined, n: usize) -> Joined
     requires { ⌜ (n ≤ 16) × Fits (andThen (joinedOf links) (settle n n)) ⌝ }
     ensures { λ r. ⌜ joinedOf r ≡ andThen (joinedOf links) (settle n n) ⌝ }
 {
-    let Two::Of(_, _) = facts::doubled(&links.facts.link, n) else {
+    let Two::Of(_, _) = facts::doubled(links.facts, n) else {
         return links;
     };
     facts::settle(links, n)
@@ -90,14 +85,14 @@ fn join_terms(t: Joined, n: usize, left: Term, right: Term) -> Joined
     facts::join(s, n, a, b, t.pairs)
 }
 
-// The first term from `start` on that names nil, or one above n.
-fn next_nil(query: &[u8], n: usize, start: usize) -> usize
-    requires { ⌜ (n ≤ 16) × (n < length (now query)) × (1 ≤ start) ⌝ }
-    ensures { λ r. ⌜ NextNil (now (query .entry)) n start r ⌝ }
+// The first term from `start` on that names nil, or one above all.
+fn next_nil(query: &[u8], layout: Layout, start: usize) -> usize
+    requires { ⌜ Within layout (now query) × (1 ≤ start) ⌝ }
+    ensures { λ r. ⌜ NextNil (said layout (now (query .entry)) .entries) (layout .terms) start r ⌝ }
 {
     let mut t = start;
-    while t <= n {
-        if entries::byte_at(query, t) == 255 {
+    while t <= layout.terms {
+        if link_query::entry(query, layout.links, Term(t)) == 255 {
             return t;
         }
         t += 1;
@@ -106,33 +101,34 @@ fn next_nil(query: &[u8], n: usize, start: usize) -> usize
 }
 
 // "joins the nil terms to the lowest, ascending" (02, R-3)
-fn join_others(settled: Joined, n: usize, query: &[u8], first: usize) -> Joined
-    requires { ⌜ (n ≤ 16) × (n < length (now query)) × (first ≤ n) × Bounded (pathOf (settled .facts)) ⌝ }
-    requires { ⌜ Fits (andThen (joinedOf settled) (joinEach n (equalTo first (nilFrom (now query) n (first + 1))))) ⌝ }
-    ensures { λ r. ⌜ joinedOf r ≡ andThen (joinedOf settled) (joinEach n (equalTo first (nilFrom (now (query .entry)) n (first + 1)))) ⌝ }
+fn join_others(settled: Joined, query: &[u8], layout: Layout, first: usize) -> Joined
+    requires { ⌜ Within layout (now query) × (first ≤ layout .terms) × Bounded (pathOf (settled .facts)) ⌝ }
+    requires { ⌜ Fits (andThen (joinedOf settled) (joinEach (layout .terms) (equalTo first (nilFrom (said layout (now query) .entries) (layout .terms) (first + 1))))) ⌝ }
+    ensures { λ r. ⌜ joinedOf r ≡ andThen (joinedOf settled) (joinEach (layout .terms) (equalTo first (nilFrom (said layout (now (query .entry)) .entries) (layout .terms) (first + 1)))) ⌝ }
     ensures { λ r. ⌜ Bounded (pathOf (r .facts)) ⌝ }
 {
     let mut t = settled;
-    let mut u = next_nil(query, n, first + 1);
-    while u <= n {
-        t = join_terms(t, n, Term(first), Term(u));
-        u = next_nil(query, n, u + 1);
+    let mut u = next_nil(query, layout, first + 1);
+    while u <= layout.terms {
+        t = join_terms(t, layout.terms, Term(first), Term(u));
+        u = next_nil(query, layout, u + 1);
     }
     t
 }
 
-// "then adds nil's link and joins its doubled successors"
-fn join_nil(settled: Joined, n: usize, query: &[u8]) -> Joined
-    requires { ⌜ (n ≤ 16) × (n < length (now query)) × Bounded (pathOf (settled .facts)) ⌝ }
-    requires { ⌜ Fits (andThen (joinedOf settled) (joinNil n (nilFrom (now query) n 1))) ⌝ }
-    ensures { λ r. ⌜ joinedOf r ≡ andThen (joinedOf settled) (joinNil n (nilFrom (now (query .entry)) n 1)) ⌝ }
+// "then adds nil's link and joins its doubled successors"; nil's links "are added before their joins" (02, R-11)
+fn join_nil(settled: Joined, query: &[u8], layout: Layout) -> Joined
+    requires { ⌜ Within layout (now query) × Bounded (pathOf (settled .facts)) ⌝ }
+    requires { ⌜ Fits (andThen (joinedOf settled) (joinNil (layout .terms) (nilFrom (said layout (now query) .entries) (layout .terms) 1))) ⌝ }
+    ensures { λ r. ⌜ joinedOf r ≡ andThen (joinedOf settled) (joinNil (layout .terms) (nilFrom (said layout (now (query .entry)) .entries) (layout .terms) 1)) ⌝ }
     ensures { λ r. ⌜ Bounded (pathOf (r .facts)) ⌝ }
 {
-    let first = next_nil(query, n, 1);
+    let n = layout.terms;
+    let first = next_nil(query, layout, 1);
     if n < first {
         return settled;
     }
-    let joined = join_others(settled, n, query, first);
+    let joined = join_others(settled, query, layout, first);
     let s = joined.facts;
     let nil = facts::read_rep(&s.rep, Term(first));
     let before = joined.pairs;
@@ -177,24 +173,41 @@ fn join_each(settled: Joined, n: usize, query: &[u8], at: usize, count: usize) -
     t
 }
 
-// "then the plain reachability facts", each set in its row: a path is not copied for it.
-fn reach_each(s: Facts, query: &[u8], at: usize, count: usize) -> Facts
-    requires { ⌜ (at + 3 * count ≤ length (now query)) × TermsIn (now query) at count × Bounded (pathOf s) ⌝ }
-    ensures { λ r. ⌜ pathOf r ≡ reachEach (literals (take (3 * count) (drop at (now (query .entry))))) (pathOf s) ⌝ }
+// "then the plain reachability facts", each set in its row of its link: a path is not copied for it.
+fn reach_each(s: Facts, query: &[u8], layout: Layout) -> Facts
+    requires { ⌜ Within layout (now query) × Accepted (said layout (now query)) × Bounded (pathOf s) × (pathOf s .links ≡ layout .links) ⌝ }
+    ensures { λ r. ⌜ pathOf r ≡ reachEach (said layout (now (query .entry)) .reachability) (pathOf s) ⌝ }
 {
     let mut t = s;
     let mut i: usize = 0;
-    while i < count {
-        let plain = query::sign(query, at, i);
+    while i < layout.reach_count {
+        let plain = link_query::reach_sign(query, layout.links, layout.reach_at, i);
         if !plain {
             i += 1;
             continue;
         }
-        let a = facts::read_rep(&t.rep, query::left(query, at, i));
-        let b = facts::read_rep(&t.rep, query::right(query, at, i));
+        let a = facts::read_rep(
+            &t.rep,
+            link_query::reach_left(query, layout.links, layout.reach_at, i),
+        );
+        let b = facts::read_rep(
+            &t.rep,
+            link_query::reach_right(query, layout.links, layout.reach_at, i),
+        );
         let from = a.0;
         let added = facts::only(b.0);
-        t.reach[from] = t.reach[from] | added;
+        let by = link_query::reach_link(query, layout.links, layout.reach_at, i);
+        if by == 1 {
+            t.reach[from] = t.reach[from] | added;
+            i += 1;
+            continue;
+        }
+        if by == 2 {
+            t.reach2[from] = t.reach2[from] | added;
+            i += 1;
+            continue;
+        }
+        t.reach3[from] = t.reach3[from] | added;
         i += 1;
     }
     t
@@ -202,21 +215,21 @@ fn reach_each(s: Facts, query: &[u8], at: usize, count: usize) -> Facts
 
 // The start of an accepted query, and the pairs joined to make it.
 pub fn start(query: &[u8], layout: Layout) -> Joined
-    requires { ⌜ LaysOut layout (now query) × (accepts (now query) ≡ true) ⌝ }
-    ensures { λ r. ⌜ joinedOf r ≡ started (decode (now (query .entry))) ⌝ }
+    requires { ⌜ Within layout (now query) × Accepted (said layout (now query)) ⌝ }
+    ensures { λ r. ⌜ joinedOf r ≡ started (said layout (now (query .entry))) ⌝ }
 {
     let n = layout.terms;
     let links = Joined {
         pairs: facts::no_pairs(),
-        facts: linked(query, n),
+        facts: linked(query, layout),
     };
     let settled = settle_links(links, n);
-    let linked = join_nil(settled, n, query);
+    let linked = join_nil(settled, query, layout);
     let joined = join_each(linked, n, query, layout.equal_at, layout.equal_count);
     let pairs = joined.pairs;
     let s = joined.facts;
     Joined {
         pairs,
-        facts: reach_each(s, query, layout.reach_at, layout.reach_count),
+        facts: reach_each(s, query, layout),
     }
 }

@@ -7,6 +7,7 @@ use Rattle.logic.specs.Facts.{Joined}
 use Rattle.facts.specs.Path.{pathOf}
 use Rattle.facts.specs.Pairs.{joinedOf, Fits}
 use Rattle.facts.proofs.Joins.{fits-left}
+use Rattle.link_query.specs.Said.{said}
 use Rattle.start.specs.Taken.{Bounded}
 use Rattle.start.specs.Nil.{nilFrom}
 use Rattle.start.proofs.Bounded.{behind-bounded}
@@ -15,11 +16,12 @@ use Rattle.start.proofs.join_others.Statement.{statement}
 use Rattle.start.proofs.join_others.Tie as tie
 
 abbrev Inv-loop : tie.InvT-loop
-Inv-loop n query first t₀ u₀ t u =
-    Bounded (pathOf (t .facts)) × OthersLeft query n first (others n first (nilFrom query n (first + 1)) (joinedOf t₀)) u (joinedOf t)
+Inv-loop query layout first t₀ u₀ t u =
+    Bounded (pathOf (t .facts))
+    × OthersLeft (said layout query .entries) (layout .terms) first (others (layout .terms) first (nilFrom (said layout query .entries) (layout .terms) (first + 1)) (joinedOf t₀)) u (joinedOf t)
 
 abbrev μ-loop : tie.MeasureT-loop
-μ-loop n query first t₀ u₀ t u = n + 1 - u
+μ-loop query layout first t₀ u₀ t u = layout .terms + 1 - u
 
 pub join-others-spec : {M : Type 1} → statement M
 join-others-spec =
@@ -28,33 +30,35 @@ join-others-spec =
     Inv-loop
     μ-loop
     -- add-next-nil
-    (λ c. omega arith)
+    (λ c. omega (arith, c .before .pre .0 .1, c .before .pre .0 .0 .terms-within))
     -- next-nil-requires
-    (λ c κs. omega arith)
+    (λ c κs. (c .before .pre .0 .0, omega arith))
     -- loop-holds
-    (λ c. (c .before .before .pre .0 .3, record { start = _; next = c .next-nil .ensures; left = refl }))
+    (λ c. (c .before .before .pre .0 .2, record { start = _; next = c .next-nil .ensures; left = refl }))
     -- join-terms-requires
     (λ c κs.
-    let p = c .before .before .before .before .pre in
-    let l = c .before .loop in
-    ((p .0 .0, record { left-within = omega arith; right-within = omega arith }, l .inv .0), fits-left _ _ (subst Fits (others-step _ _ _ _ _ _ (l .inv .1) (c .loop-test .taken)) (p .1))))
+    let p = c .before .before .before .before .before .pre in
+    let l = c .before .before .loop in
+    let few = p .0 .0 .terms-within in
+    ((few, record { left-within = omega (arith, few, p .0 .1); right-within = omega (arith, few, c .if1 .taken) }, l .inv .0), fits-left _ _ (subst Fits (others-step _ _ _ _ _ _ (l .inv .1) (c .if1 .taken)) (p .1))))
     -- add-next-nil-2
-    (λ c. omega arith)
+    (λ c. omega (arith, c .before .if1 .taken, c .before .before .before .before .before .before .pre .0 .0 .terms-within))
     -- next-nil-requires-2
-    (λ c κs. omega arith)
+    (λ c κs. (c .before .before .before .before .before .before .pre .0 .0, omega arith))
     -- loop-less
-    (λ c. omega (arith, c .next-nil2 .ensures .later))
+    (λ c. omega (arith, c .before .before .if1 .taken, c .next-nil2 .ensures .later))
     -- loop-again
     (λ c.
-    let a = c .before .before .before .before .before .before in
-    let l = c .before .before .before .loop in
-    let e = c .before .join-terms .ensures in (
-      subst (λ (j : Joined). Bounded (j .facts)) (sym e) (behind-bounded _ _ (joinedOf (l .t)) (a .pre .0 .0) (record { left-within = omega arith; right-within = omega arith }) (l .inv .0)),
+    let a = c .before .before .before .before .before .before .before in
+    let l = c .before .before .before .before .loop in
+    let e = c .before .join-terms .ensures in
+    let few = a .pre .0 .0 .terms-within in (
+      subst (λ (j : Joined). Bounded (j .facts)) (sym e) (behind-bounded _ _ (joinedOf (l .t)) few (record { left-within = omega (arith, few, a .pre .0 .1); right-within = omega (arith, few, c .before .before .if1 .taken) }) (l .inv .0)),
       record {
         start = _;
         next = c .next-nil2 .ensures;
-        left = others-step _ _ _ _ _ _ (l .inv .1) (c .before .before .loop-test .taken) ∙ ap (others (a .args .n) (a .args .first) _) (sym e);
+        left = others-step _ _ _ _ _ _ (l .inv .1) (c .before .before .if1 .taken) ∙ ap (others (a .args .layout .terms) (a .args .first) _) (sym e);
       },
     ))
     -- returns
-    (λ c. (sym (others-done _ _ _ _ _ _ (c .before .loop .inv .1) (omega arith)), c .before .loop .inv .0)))
+    (λ c. (sym (others-done _ _ _ _ _ _ (c .before .before .loop .inv .1) (omega (arith, c .if1 .left))), c .before .before .loop .inv .0)))

@@ -2,7 +2,6 @@
 use borrow.Author.Needs.{needs}
 use mathlib.Core.Path.{sym, ap, _∙_}
 use Rattle.facts.specs.Answers.{twoOf}
-use Rattle.facts.proofs.Path.{doubled-links}
 use Rattle.facts.proofs.Joins.{settle-done}
 use Rattle.start.proofs.settle_links.Statement.{statement}
 use Rattle.start.proofs.settle_links.Tie as tie
@@ -18,8 +17,8 @@ settle-links-spec =
     -- enum-told-2
     (λ c. search needs)
     -- returns
-    (λ c. sym (settle-done _ _ _ (sym (doubled-links _ _) ∙ sym (c .before .before .doubled .ensures) ∙ ap twoOf (c .enum-told2 .given .1))))
+    (λ c. sym (settle-done _ _ _ (sym (c .before .before .doubled .ensures) ∙ ap twoOf (c .enum-told2 .given .1))))
     -- settle-requires
-    (λ c κs. c .before .before .before .before .before .pre)
+    (λ c κs. c .before .before .before .pre)
     -- returns-2
     (λ c. c .settle .ensures))
