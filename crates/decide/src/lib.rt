@@ -268,14 +268,6 @@ fn grown(budget: usize, turn: usize) -> usize
     4 * budget
 }
 
-// The paths that a strategy may look at: one that probes takes longer at each, and is done after far fewer.
-fn share(budget: usize, how: usize) -> usize {
-    if how == 2 {
-        return budget / 2 + 1;
-    }
-    budget
-}
-
 // The strategies in turn, each with a budget; then all again with four times the budget, until one is done. The one that probes begins: where
 // all take long, it is done soonest as a rule. Before them the cheapest has a short try, and then strategy `first`: the one that was done with
 // a path before this is often done with this one too.
@@ -293,7 +285,7 @@ fn in_turn(query: &[u8], layout: Layout, s: Facts, first: usize) -> Settled
             facts: end,
         };
     }
-    let soon = search(query, layout, first, 300, s, share(400, first));
+    let soon = search(query, layout, first, 300, s, 400);
     let found = soon.kind;
     if !is_unknown(found) {
         let end = soon.facts;
@@ -307,7 +299,7 @@ fn in_turn(query: &[u8], layout: Layout, s: Facts, first: usize) -> Settled
     let mut turn: usize = 0;
     while turn < 36 {
         let how = (turn + 2) % 3;
-        let tried = search(query, layout, how, 300, s, share(budget, how));
+        let tried = search(query, layout, how, 300, s, budget);
         let kind = tried.kind;
         if !is_unknown(kind) {
             let end = tried.facts;

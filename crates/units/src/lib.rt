@@ -115,13 +115,11 @@ fn alone(b: usize) -> u32
     0
 }
 
-// The rows with more in row a.
-fn marked(rows: [u32; 17], a: usize, more: u32) -> [u32; 17] {
-    let mut out = rows;
+// More in row a, in place: rows that are copied for each mark cost more than all else here.
+fn mark(rows: &mut [u32; 17], a: usize, more: u32) {
     if a < 17 {
-        out[a] = out[a] | more;
+        rows[a] = rows[a] | more;
     }
-    out
 }
 
 // What the negated equalities hold apart, both ways, of the terms that stand for theirs.
@@ -133,9 +131,8 @@ fn unequal(query: &[u8], at: usize, count: usize, rep: &[u8; 17]) -> [u32; 17]
         if !query::sign(query, at, i) {
             let a = facts::read_rep(rep, query::left(query, at, i));
             let b = facts::read_rep(rep, query::right(query, at, i));
-            let next = marked(out, a.0, alone(b.0));
-            let also = marked(next, b.0, alone(a.0));
-            out = also;
+            mark(&mut out, a.0, alone(b.0));
+            mark(&mut out, b.0, alone(a.0));
         }
     }
     out
@@ -154,8 +151,7 @@ fn denied(query: &[u8], layout: Layout, rep: &[u8; 17], k: Link) -> [u32; 17]
             if link_query::reach_link(query, links, at, i) == k.0 {
                 let a = facts::read_rep(rep, link_query::reach_left(query, links, at, i));
                 let b = facts::read_rep(rep, link_query::reach_right(query, links, at, i));
-                let next = marked(out, a.0, alone(b.0));
-                out = next;
+                mark(&mut out, a.0, alone(b.0));
             }
         }
     }
@@ -170,8 +166,7 @@ fn fields(query: &[u8], at: usize, count: usize, rep: &[u8; 17], plain: bool) ->
     for i in 0..count {
         if query::sign(query, at, i) == plain {
             let a = facts::read_rep(rep, query::right(query, at, i));
-            let next = marked(out, a.0, alone(query::field(query, at, i)));
-            out = next;
+            mark(&mut out, a.0, alone(query::field(query, at, i)));
         }
     }
     out
@@ -194,22 +189,19 @@ fn opposed(rows: [u32; 17], some: &[u32; 17], other: &[u32; 17]) -> [u32; 17] {
     for a in 0..17 {
         let own = some[a];
         if own != 0 {
-            let next = marked(out, a, having(own, other));
-            out = next;
+            mark(&mut out, a, having(own, other));
         }
     }
     out
 }
 
-// The rows, with more in each row of some.
-fn spread(rows: [u32; 17], some: u32, more: u32) -> [u32; 17] {
-    let mut out = rows;
+// More in each row of some, in place.
+fn spread(rows: &mut [u32; 17], some: u32, more: u32) {
     for a in 0..17 {
         if facts::has(some, a) {
-            out[a] = out[a] | more;
+            rows[a] = rows[a] | more;
         }
     }
-    out
 }
 
 // What no term can come to reach: where x is denied to reach d, no term that x reaches can reach one that reaches d.
@@ -221,10 +213,8 @@ fn bars(reach: &[u32; 17], denied: &[u32; 17]) -> Barred {
         if no != 0 {
             let far = reach[x];
             let off = having(no, reach);
-            let next = spread(ahead, far, off);
-            ahead = next;
-            let also = spread(behind, off, far);
-            behind = also;
+            spread(&mut ahead, far, off);
+            spread(&mut behind, off, far);
         }
     }
     Barred { ahead, behind }
@@ -234,8 +224,7 @@ fn bars(reach: &[u32; 17], denied: &[u32; 17]) -> Barred {
 fn merged(a: &[u32; 17], b: &[u32; 17], c: &[u32; 17]) -> [u32; 17] {
     let mut out = [0u32; 17];
     for x in 0..17 {
-        let next = marked(out, x, a[x] | b[x] | c[x]);
-        out = next;
+        mark(&mut out, x, a[x] | b[x] | c[x]);
     }
     out
 }

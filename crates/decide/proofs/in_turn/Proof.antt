@@ -24,8 +24,6 @@ in-turn-spec =
     (λ c κs. search needs)
     -- returns
     (λ c. c .before .before .before .search .ensures)
-    -- share-requires
-    (λ c κs. search needs)
     -- search-requires-2
     (λ c κs. search needs)
     -- is-unknown-requires-2
@@ -36,8 +34,6 @@ in-turn-spec =
     (λ c. omega arith)
     -- add-how
     (λ c. omega arith)
-    -- share-requires-2
-    (λ c κs. search needs)
     -- search-requires-3
     (λ c κs. search needs)
     -- is-unknown-requires-3

@@ -34,7 +34,7 @@ denied-spec =
     (λ c κs. search needs)
     -- alone-requires
     (λ c κs. search needs)
-    -- marked-requires
+    -- mark-requires
     (λ c κs. search needs)
     -- add-i
     (λ c. omega (arith, c .before .before .before .before .before .pre .reach-within))

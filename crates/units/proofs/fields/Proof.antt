@@ -29,7 +29,7 @@ fields-spec =
     (λ c κs. omega arith)
     -- alone-requires
     (λ c κs. search needs)
-    -- marked-requires
+    -- mark-requires
     (λ c κs. search needs)
     -- add-i
     (λ c. omega arith)

@@ -31,7 +31,7 @@ merged-spec =
     (λ c. omega arith)
     -- element-copy-out-marked-3
     (λ c. omega arith)
-    -- marked-requires
+    -- mark-requires
     (λ c κs. search needs)
     -- add-x
     (λ c. omega arith)

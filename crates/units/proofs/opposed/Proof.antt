@@ -25,7 +25,7 @@ opposed-spec =
     (λ c. omega arith)
     -- having-requires
     (λ c κs. search needs)
-    -- marked-requires
+    -- mark-requires
     (λ c κs. search needs)
     -- add-a
     (λ c. omega arith)

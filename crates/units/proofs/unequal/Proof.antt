@@ -31,11 +31,11 @@ unequal-spec =
     (λ c κs. search needs)
     -- alone-requires
     (λ c κs. search needs)
-    -- marked-requires
+    -- mark-requires
     (λ c κs. search needs)
     -- alone-requires-2
     (λ c κs. search needs)
-    -- marked-requires-2
+    -- mark-requires-2
     (λ c κs. search needs)
     -- add-i
     (λ c. omega arith)
