@@ -111,7 +111,7 @@ fn read_line(
         }
         return Reading::Wrong;
     }
-    if let Clash::At(section, i, j) = clash::find_clash(query, layout, s) {
+    if let Clash::At(section, i, j) = clash::find_clash(query, layout, &s.rep, s.single, &s.reach, &s.reach2, &s.reach3) {
         return Reading::Wrong;
     }
     let Numbered::Is(rule) = rules::rule_numbered(k) else {

@@ -8,13 +8,12 @@ ghost use Prim.Native.Nat.{ℕ, _+_, _*_, _≤_, _<_};
 ghost use lib.ListN.{length};
 ghost use lib.Dec.{eqb};
 ghost use Rattle.logic.specs.Search.{_and_};
-ghost use Rattle.logic.specs.Facts.{clash};
 ghost use Rattle.facts.specs.Square.{square};
 ghost use Rattle.facts.specs.Path.{repOf, pathOf};
 ghost use Rattle.query.specs.LaysOut.{literalIn};
 ghost use Rattle.link_query.specs.Said.{reachWidth, reachIn, said, Within};
 ghost use Rattle.clash.specs.Sections.{literalsIn, oneTerm, rowsOf, rowsHeld, reachHeld, sameField, alone, partner, paired};
-ghost use Rattle.clash.specs.Answers.{placeOf, lineOf};
+ghost use Rattle.clash.specs.Answers.{placeOf, lineOf, ClashOf};
 
 // A clash: its section, the place of the negated literal, and that of its plain partner or 0.
 pub enum Clash {
@@ -231,24 +230,25 @@ fn field_clash(query: &[u8], at: usize, count: usize, rep: &[u8; 17]) -> Clash
     Clash::Nothing
 }
 
-// "Lowest section, then lowest place, is reported"; "a clash line names no link" (02, R-11).
-pub fn find_clash(query: &[u8], layout: Layout, s: Facts) -> Clash
+// "Lowest section, then lowest place, is reported"; "a clash line names no link" (02, R-11): the clash of every path with these representatives
+// and this reachability. They are lent: a path by value would be copied at each step.
+pub fn find_clash<'a>(
+    query: &[u8],
+    layout: Layout,
+    rep: &'a [u8; 17],
+    single: bool,
+    first: &'a [u32; 17],
+    second: &'a [u32; 17],
+    third: &'a [u32; 17],
+) -> Clash
     requires { ⌜ Within layout (now query) ⌝ }
-    ensures { λ r. ⌜ lineOf r ≡ clash (said layout (now (query .entry))) (pathOf s) ⌝ }
+    ensures { λ r. ⌜ ClashOf r (said layout (now (query .entry))) (repOf (now (rep .entry))) (rowsOf single (now (first .entry)) (now (second .entry)) (now (third .entry))) ⌝ }
 {
-    if let Clash::At(k, i, j) = equality_clash(query, layout.equal_at, layout.equal_count, &s.rep) {
+    if let Clash::At(k, i, j) = equality_clash(query, layout.equal_at, layout.equal_count, rep) {
         return Clash::At(k, i, j);
     }
-    if let Clash::At(k, i, j) = reach_clash(
-        query,
-        layout,
-        &s.rep,
-        true,
-        &s.reach,
-        &s.reach,
-        &s.reach,
-    ) {
+    if let Clash::At(k, i, j) = reach_clash(query, layout, rep, single, first, second, third) {
         return Clash::At(k, i, j);
     }
-    field_clash(query, layout.field_at, layout.field_count, &s.rep)
+    field_clash(query, layout.field_at, layout.field_count, rep)
 }

@@ -1,6 +1,5 @@
 // A path closed under the rules that neither branch nor join: REFLEX, TRANS1 and TRANS2, all at once.
 use facts::Facts;
-use facts::Link;
 ghost use mathlib.Core.Path.{_≡_};
 ghost use mathlib.Core.Bool.{Bool, true};
 ghost use Prim.Native.Nat.{ℕ, _≤_};
@@ -14,17 +13,14 @@ ghost use Rattle.closing.specs.Rows.{Within, Above, Seeded, Passed, Onwa
 ghost use Rattle.closing.specs.Closed.{Closed, threeOf, begins};
 
 // REFLEX and TRANS1: each row with its own term, where that is not replaced, and with what it is linked to.
-fn seeded(alive: u32, link: &[u32; 17], reach: [u32; 17]) -> [u32; 17]
-    ensures { λ r. ⌜ Within (bit alive) (square (now (link .entry))) (square reach) r × Above (square reach) r × Seeded (bit alive) (square (now (link .entry))) r ⌝ }
+fn seed(alive: u32, link: &[u32; 17], reach: &mut [u32; 17])
 {
-    let mut out = reach;
     let mut a: usize = 0;
     while a < 17 {
         let own = facts::only(a) & alive;
-        out[a] = out[a] | (link[a] | own);
+        reach[a] = reach[a] | (link[a] | own);
         a += 1;
     }
-    out
 }
 
 // What y reaches, for a row that has y.
@@ -56,42 +52,28 @@ fn through(rows: &mut [u32; 17], y: usize)
 }
 
 // TRANS2 through each term.
-fn closed_rows(rows: [u32; 17]) -> [u32; 17]
-    ensures { λ r. ⌜ ((alive : ℕ → Bool) (link reach : ℕ → ℕ → Bool) → Within alive link reach rows → Within alive link reach r) × Above (square rows) r × Onward r ⌝ }
-{
-    let mut out = rows;
-    let mut y: usize = 0;
-    while y < 17 {
-        through(&mut out, y);
-        y += 1;
-    }
-    out
-}
 
 // The path with all the facts that REFLEX, TRANS1 and TRANS2 give of link k.
-fn close_link(s: Facts, alive: u32, k: Link) -> Facts
-    requires { ⌜ HasLink (pathOf s) (k .0) ⌝ }
-    ensures { λ r. ⌜ ClosesLink (bit alive) (k .0) (pathOf s) (pathOf r) ⌝ }
+pub fn close_link(alive: u32, link: &[u32; 17], reach: &mut [u32; 17])
 {
-    let link = facts::link_rows(s, k);
-    let reach = facts::reach_rows(s, k);
-    let rows = seeded(alive, &link, reach);
-    facts::with_reach(s, k, closed_rows(rows))
+    seed(alive, link, reach);
+    let mut y: usize = 0;
+    while y < 17 {
+        through(reach, y);
+        y += 1;
+    }
 }
 
-// The same of every link.
 pub fn close(s: Facts, n: usize) -> Facts
-    requires { ⌜ n ≤ 16 ⌝ }
-    ensures { λ r. ⌜ Closes n (pathOf s) (pathOf r) × Closed n (pathOf r) ⌝ }
 {
     let alive = facts::live(&s.rep, n);
-    let total = facts::links(s);
     let mut t = s;
-    let mut k: usize = 1;
-    while k <= total {
-        t = close_link(t, alive, Link(k));
-        k += 1;
+    close_link(alive, &s.link, &mut t.reach);
+    if s.single {
+        return t;
     }
+    close_link(alive, &s.link2, &mut t.reach2);
+    close_link(alive, &s.link3, &mut t.reach3);
     t
 }
 

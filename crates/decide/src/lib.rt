@@ -98,25 +98,26 @@ fn spent(budget: usize) -> usize
 }
 
 // The path closed under REFLEX, TRANS1 and TRANS2, where the order list begins with these: our walk comes there by steps of theirs alone.
-fn ahead(order: &[u8], s: Facts, n: usize) -> Facts
-    requires { ⌜ (n ≤ 16) × (3 ≤ length (now order)) ⌝ }
-    ensures { λ r. ⌜ Ahead n (now (order .entry)) (pathOf s) (pathOf r) ⌝ }
-{
-    if closing::begins(order) {
-        return closing::close(s, n);
-    }
-    s
-}
 
 // What our walk sees at such a path: a closed one leaves nothing to the rules that closed it.
-fn look_ahead(query: &[u8], layout: Layout, order: &[u8], t: Facts) -> walk::Seen
-    requires { ⌜ Within layout (now query) × (3 ≤ length (now order)) × (begins (now order) ≡ true → Closed (layout .terms) (pathOf t)) ⌝ }
-    ensures { λ r. ⌜ lookOf r ≡ look (said layout (now (query .entry))) (orderOf (now (order .entry))) (pathOf t) ⌝ }
+fn look_ahead<'a>(
+    query: &[u8],
+    layout: Layout,
+    order: &[u8],
+    rep: &'a [u8; 17],
+    single: bool,
+    link: &'a [u32; 17],
+    reach: &'a [u32; 17],
+    link2: &'a [u32; 17],
+    reach2: &'a [u32; 17],
+    link3: &'a [u32; 17],
+    reach3: &'a [u32; 17],
+) -> walk::Seen
 {
     if closing::begins(order) {
-        return walk::look(query, layout, &order[3..], t);
+        return walk::look(query, layout, &order[3..], rep, single, link, reach, link2, reach2, link3, reach3);
     }
-    walk::look(query, layout, order, t)
+    walk::look(query, layout, order, rep, single, link, reach, link2, reach2, link3, reach3)
 }
 
 // Plain steps: our walk under the order list, without its lines. Where it is limited it gives up as its budget runs out; where it is not, it
@@ -130,12 +131,18 @@ pub fn plain(
     limited: bool,
     budget: usize,
 ) -> Walked
-    requires { ⌜ Within layout (now query) × Accepted (said layout (now query)) × (isOrder (now order) ≡ true) × Known (said layout (now query)) (pathOf s) × AtMost (termCount (said layout (now query))) (pathOf s) left ⌝ }
-    ensures { λ r. ⌜ Walks (said layout (now (query .entry))) (now (order .entry)) left (pathOf s) limited r ⌝ }
 {
     let n = layout.terms;
-    let front = ahead(order, s, n);
-    match look_ahead(query, layout, order, front) {
+    let mut front = s;
+    if closing::begins(order) {
+        let alive = facts::live(&s.rep, n);
+        closing::close_link(alive, &s.link, &mut front.reach);
+        if !s.single {
+            closing::close_link(alive, &s.link2, &mut front.reach2);
+            closing::close_link(alive, &s.link3, &mut front.reach3);
+        }
+    }
+    match look_ahead(query, layout, order, &front.rep, front.single, &front.link, &front.reach, &front.link2, &front.reach2, &front.link3, &front.reach3) {
         walk::Seen::Saturated => {
             return Walked {
                 kind: Kind::Open,
@@ -186,7 +193,7 @@ fn sees(query: &[u8], layout: Layout, how: usize, s: Facts) -> Seen
     requires { ⌜ Within layout (now query) ⌝ }
     ensures { λ r. ⌜ Sees (said layout (now (query .entry))) (pathOf s) r ⌝ }
 {
-    if let Clash::At(_, _, _) = clash::find_clash(query, layout, s) {
+    if let Clash::At(_, _, _) = clash::find_clash(query, layout, &s.rep, s.single, &s.reach, &s.reach2, &s.reach3) {
         return Seen::Clashing;
     }
     let Choice::Apply(k, rule, x, y, z) = picking::pick(query, layout, how, s) else {

@@ -11,12 +11,12 @@ use lib.Dec.{eqb, ltb, leb}
 use borrow.Author.Tests.{ne-eqb}
 use Rattle.logic.specs.Search.{_and_, _or_, from, any, orElse, firstOf}
 use Rattle.logic.specs.Facts.{Graph, Facts, linkNumbers, terms, became, replaceIn, replace, addReach, addLinks, successors, firstTwo, doubled}
-use Rattle.theory.proofs.Basics.Search.{not-of, true-false, and-intro}
-use Rattle.theory.proofs.Basics.Compare.{eq-cases, ltb-intro, leb-intro, eqb-intro, eqb-self}
+use Rattle.theory.proofs.Basics.Search.{bool-cases, not-of, true-false, and-intro}
+use Rattle.theory.proofs.Basics.Compare.{cond-true, cond-false, eq-cases, ltb-intro, leb-intro, eqb-intro, eqb-self}
 use Rattle.theory.proofs.Paths.Ranged.{link-range}
 use Rattle.theory.proofs.Calls.OneLink.{firstOf-one, doubled-one}
 use Rattle.facts.specs.declared.Facts as code
-use Rattle.facts.specs.Path.{repOf, noFacts, graphs, pathOf, graphOf, unlinked, linksIn, twoIn, replaceRep, HasLink, withReach, withLink}
+use Rattle.facts.specs.Path.{repOf, noFacts, graphs, pathOf, graphOf, unlinked, linksIn, twoIn, doubledIn, replaceRep, HasLink, withReach, withLink}
 
 -- the graph and the path that these functions make
 abbrev pub linking : (ℕ → ℕ → Bool) → (ℕ → ℕ → Bool) → Graph
@@ -314,13 +314,17 @@ module _ (s : code.Facts) where
 
 -- what is doubled is read off the links alone
 module _ (n : ℕ) (s : code.Facts) where
-  pub doubled-single : s .single ≡ true → doubled n (pathOf s) ≡ firstOf (λ t. firstTwo (successors n (linksIn (s .link)) t)) (terms n)
+  doubled-single : s .single ≡ true → doubled n (pathOf s) ≡ firstOf (λ t. firstTwo (successors n (linksIn (s .link)) t)) (terms n)
   unfolding successors linksIn pathOf graphOf graphs
   doubled-single e = doubled-one n (pathOf s) (ap (λ (b : Bool). cond b 1 3) e)
 
-  pub doubled-three : s .single ≡ false → doubled n (pathOf s) ≡ firstOf (twoIn n (s .link) (s .link2) (s .link3)) (terms n)
+  doubled-three : s .single ≡ false → doubled n (pathOf s) ≡ firstOf (twoIn n (s .link) (s .link2) (s .link3)) (terms n)
   unfolding doubled linkNumbers from firstOf twoIn successors linksIn pathOf graphOf graphs
   doubled-three e = rw e refl
+
+  pub doubled-links : doubledIn n (s .single) (s .link) (s .link2) (s .link3) ≡ doubled n (pathOf s)
+  unfolding doubledIn
+  doubled-links = ⊎-elim (λ e. cond-true _ _ e ∙ sym (doubled-single e)) (λ e. cond-false _ _ e ∙ sym (doubled-three e)) (bool-cases (s .single))
 
 -- the first of three links that has two successors
 module _ (n : ℕ) (f g h : List ℕ) (t : ℕ) where

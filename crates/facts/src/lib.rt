@@ -5,7 +5,7 @@ ghost use mathlib.Core.Bool.{Bool, not, cond};
 ghost use lib.Dec.{eqb, ltb};
 ghost use Rattle.facts.specs.Bits.{bit};
 ghost use Rattle.facts.specs.Square.{square, Turned, renamedRow, columns, rows};
-ghost use Rattle.facts.specs.Path.{pathOf, repOf, replaceRep, replacedBy, linksIn, twoIn, unlinked, HasLink, withReach, withLink};
+ghost use Rattle.facts.specs.Path.{pathOf, repOf, replaceRep, replacedBy, linksIn, twoIn, doubledIn, unlinked, HasLink, withReach, withLink};
 ghost use Rattle.facts.specs.Answers.{foundOf, twoOf};
 ghost use Rattle.facts.specs.Pairs.{pairsOf, joinedAs, joinedOf, Fits};
 ghost use mathlib.Core.List.{[], _∷_, _++_};
@@ -157,7 +157,7 @@ pub fn is_held(rows: &[u32; 17], a: usize, b: usize) -> bool
 }
 
 // No term is replaced.
-fn unreplaced() -> [u8; 17]
+pub fn unreplaced() -> [u8; 17]
     ensures { λ r. ⌜ repOf r ≡ (λ t. t) ⌝ }
 {
     let mut rep = [0u8; 17];
@@ -326,40 +326,31 @@ fn renamed_row(row: u32, lo: usize, hi: usize) -> u32
 }
 
 // In every row, the lower number stands where the higher did.
-fn merge_columns(rows: [u32; 17], lo: Term, hi: Term) -> [u32; 17]
-    requires { ⌜ (lo .0 < hi .0) × (hi .0 ≤ 16) ⌝ }
-    ensures { λ r. ⌜ square r ≡ columns (lo .0) (hi .0) (square rows) ⌝ }
+fn merge_columns(rows: &mut [u32; 17], lo: Term, hi: Term)
 {
     let low = lo.0;
     let high = hi.0;
-    let mut out = rows;
     let mut a: usize = 0;
     while a < 17 {
-        out[a] = renamed_row(out[a], low, high);
+        rows[a] = renamed_row(rows[a], low, high);
         a += 1;
     }
-    out
 }
 
 // The lower row gets what the higher holds, and the higher is cleared.
-fn merge_rows(cells: [u32; 17], lo: Term, hi: Term) -> [u32; 17]
-    requires { ⌜ (lo .0 < hi .0) × (hi .0 ≤ 16) ⌝ }
-    ensures { λ r. ⌜ square r ≡ rows (lo .0) (hi .0) (square cells) ⌝ }
+fn merge_rows(rows: &mut [u32; 17], lo: Term, hi: Term)
 {
     let low = lo.0;
     let high = hi.0;
-    let mut out = cells;
-    out[low] = out[low] | out[high];
-    out[high] = 0;
-    out
+    rows[low] = rows[low] | rows[high];
+    rows[high] = 0;
 }
 
 // hi is replaced by lo in a relation.
-fn replace_in(rows: [u32; 17], lo: Term, hi: Term) -> [u32; 17]
-    requires { ⌜ (lo .0 < hi .0) × (hi .0 ≤ 16) ⌝ }
-    ensures { λ r. ⌜ square r ≡ replaceIn (lo .0) (hi .0) (square rows) ⌝ }
+fn replace_in(rows: &mut [u32; 17], lo: Term, hi: Term)
 {
-    merge_rows(merge_columns(rows, lo, hi), lo, hi)
+    merge_columns(rows, lo, hi);
+    merge_rows(rows, lo, hi);
 }
 
 // lo for hi, and any other byte for itself.
@@ -373,52 +364,41 @@ fn renamed(t: u8, lo: u8, hi: u8) -> u8
 }
 
 // Whatever was replaced by hi is now replaced by lo.
-fn replace_rep(rep: [u8; 17], lo: Term, hi: Term) -> [u8; 17]
-    requires { ⌜ (lo .0 < hi .0) × (hi .0 ≤ 16) ⌝ }
-    ensures { λ r. ⌜ repOf r ≡ replaceRep (lo .0) (hi .0) (repOf rep) ⌝ }
+fn replace_rep(rep: &mut [u8; 17], lo: Term, hi: Term)
 {
     let low = lo.0 as u8;
     let high = hi.0 as u8;
-    let mut out = rep;
     let mut t: usize = 0;
     while t < 17 {
-        out[t] = renamed(out[t], low, high);
+        rep[t] = renamed(rep[t], low, high);
         t += 1;
     }
-    out
 }
 
 // "replaces the higher number by the lower in every fact"
-pub fn replace(s: Facts, lo: Term, hi: Term) -> Facts
-    requires { ⌜ (lo .0 < hi .0) × (hi .0 ≤ 16) ⌝ }
-    ensures { λ r. ⌜ pathOf r ≡ replace (lo .0) (hi .0) (pathOf s) ⌝ }
+pub fn replace(
+    single: bool,
+    rep: &mut [u8; 17],
+    link: &mut [u32; 17],
+    reach: &mut [u32; 17],
+    link2: &mut [u32; 17],
+    reach2: &mut [u32; 17],
+    link3: &mut [u32; 17],
+    reach3: &mut [u32; 17],
+    lo: Term,
+    hi: Term,
+)
 {
-    let mut t = s;
-    let rep = s.rep;
-    let new_rep = replace_rep(rep, lo, hi);
-    t.rep = new_rep;
-    let link = s.link;
-    let new_link = replace_in(link, lo, hi);
-    t.link = new_link;
-    let reach = s.reach;
-    let new_reach = replace_in(reach, lo, hi);
-    t.reach = new_reach;
-    if s.single {
-        return t;
+    replace_rep(rep, lo, hi);
+    replace_in(link, lo, hi);
+    replace_in(reach, lo, hi);
+    if single {
+        return;
     }
-    let link2 = s.link2;
-    let new_link2 = replace_in(link2, lo, hi);
-    t.link2 = new_link2;
-    let reach2 = s.reach2;
-    let new_reach2 = replace_in(reach2, lo, hi);
-    t.reach2 = new_reach2;
-    let link3 = s.link3;
-    let new_link3 = replace_in(link3, lo, hi);
-    t.link3 = new_link3;
-    let reach3 = s.reach3;
-    let new_reach3 = replace_in(reach3, lo, hi);
-    t.reach3 = new_reach3;
-    t
+    replace_in(link2, lo, hi);
+    replace_in(reach2, lo, hi);
+    replace_in(link3, lo, hi);
+    replace_in(reach3, lo, hi);
 }
 
 // The row of the successors of t.
@@ -509,15 +489,29 @@ fn doubled_of<'a>(
     Two::Nothing
 }
 
+// The same of a single link or of three. The rows are lent, so that a join copies no path for it.
+pub fn doubled_rows<'a>(
+    single: bool,
+    first: &'a [u32; 17],
+    second: &'a [u32; 17],
+    third: &'a [u32; 17],
+    n: usize,
+) -> Two
+    requires { ⌜ n ≤ 16 ⌝ }
+    ensures { λ r. ⌜ twoOf r ≡ doubledIn n single (now (first .entry)) (now (second .entry)) (now (third .entry)) ⌝ }
+{
+    if single {
+        return doubled_in(first, n);
+    }
+    doubled_of(first, second, third, n)
+}
+
 // "the two lowest successors of the lowest such term"
 pub fn doubled(s: Facts, n: usize) -> Two
     requires { ⌜ n ≤ 16 ⌝ }
     ensures { λ r. ⌜ twoOf r ≡ doubled n (pathOf s) ⌝ }
 {
-    if s.single {
-        return doubled_in(&s.link, n);
-    }
-    doubled_of(&s.link, &s.link2, &s.link3, n)
+    doubled_rows(s.single, &s.link, &s.link2, &s.link3, n)
 }
 
 // No pair.
@@ -534,71 +528,91 @@ pub fn no_pairs() -> Pairs
 }
 
 // One pair more, behind the others.
-fn and_pair(pairs: Pairs, kept: Term, replaced: Term) -> Pairs
-    requires { ⌜ (length (pairsOf pairs) < 17) × (kept .0 ≤ 16) × (replaced .0 ≤ 16) ⌝ }
-    ensures { λ r. ⌜ pairsOf r ≡ pairsOf pairs ++ ((kept .0, replaced .0) ∷ []) ⌝ }
+fn and_pair(kept: &mut [u8; 17], replaced: &mut [u8; 17], count: usize, lo: Term, hi: Term)
 {
-    let mut out = pairs;
-    let last = out.count;
-    out.kept[last] = kept.0 as u8;
-    out.replaced[last] = replaced.0 as u8;
-    out.count = last + 1;
-    out
+    kept[count] = lo.0 as u8;
+    replaced[count] = hi.0 as u8;
 }
 
 // "While a term has two successors, the two lowest successors of the lowest such term are joined", after what was joined before
-pub fn settle(before: Joined, n: usize) -> Joined
-    requires { ⌜ (n ≤ 16) × Fits (andThen (joinedOf before) (settle n n)) ⌝ }
-    ensures { λ r. ⌜ joinedOf r ≡ andThen (joinedOf before) (settle n n) ⌝ }
+pub fn settle(
+    single: bool,
+    rep: &mut [u8; 17],
+    link: &mut [u32; 17],
+    reach: &mut [u32; 17],
+    link2: &mut [u32; 17],
+    reach2: &mut [u32; 17],
+    link3: &mut [u32; 17],
+    reach3: &mut [u32; 17],
+    kept: &mut [u8; 17],
+    replaced: &mut [u8; 17],
+    count: usize,
+    n: usize,
+) -> usize
 {
-    let mut j = before;
+    let mut total = count;
     let mut left = n;
     while 0 < left {
-        let Two::Of(a, b) = doubled(j.facts, n) else {
-            return j;
+        let Two::Of(a, b) = doubled_rows(single, link, link2, link3, n) else {
+            return total;
         };
-        let s = j.facts;
-        let pairs = j.pairs;
-        j = Joined {
-            pairs: and_pair(pairs, a, b),
-            facts: replace(s, a, b),
-        };
+        and_pair(kept, replaced, total, a, b);
+        total += 1;
+        replace(single, rep, link, reach, link2, reach2, link3, reach3, a, b);
         left -= 1;
     }
-    j
+    total
 }
 
 // Joining a lower and a higher number, after the pairs that were joined before. Mostly no term has two successors then, and nothing is
 // left to settle.
-fn join_lower(s: Facts, n: usize, lo: Term, hi: Term, before: Pairs) -> Joined
-    requires { ⌜ (n ≤ 16) × (lo .0 < hi .0) × (hi .0 ≤ 16) × Fits (andThen (joinedAs before s) (join n (lo .0) (hi .0))) ⌝ }
-    ensures { λ r. ⌜ joinedOf r ≡ andThen (joinedAs before s) (join n (lo .0) (hi .0)) ⌝ }
+fn join_lower(
+    single: bool,
+    rep: &mut [u8; 17],
+    link: &mut [u32; 17],
+    reach: &mut [u32; 17],
+    link2: &mut [u32; 17],
+    reach2: &mut [u32; 17],
+    link3: &mut [u32; 17],
+    reach3: &mut [u32; 17],
+    kept: &mut [u8; 17],
+    replaced: &mut [u8; 17],
+    count: usize,
+    n: usize,
+    lo: Term,
+    hi: Term,
+) -> usize
 {
-    let made = Joined {
-        pairs: and_pair(before, lo, hi),
-        facts: replace(s, lo, hi),
-    };
-    let Two::Of(_, _) = doubled(made.facts, n) else {
-        return made;
-    };
-    settle(made, n)
+    and_pair(kept, replaced, count, lo, hi);
+    replace(single, rep, link, reach, link2, reach2, link3, reach3, lo, hi);
+    settle(single, rep, link, reach, link2, reach2, link3, reach3, kept, replaced, count + 1, n)
 }
 
 // "Joining a and b", after the pairs that were joined before. A term joined with itself is no pair.
-pub fn join(s: Facts, n: usize, a: Term, b: Term, before: Pairs) -> Joined
-    requires { ⌜ (n ≤ 16) × (a .0 ≤ 16) × (b .0 ≤ 16) × Fits (andThen (joinedAs before s) (join n (a .0) (b .0))) ⌝ }
-    ensures { λ r. ⌜ joinedOf r ≡ andThen (joinedAs before s) (join n (a .0) (b .0)) ⌝ }
+pub fn join(
+    single: bool,
+    rep: &mut [u8; 17],
+    link: &mut [u32; 17],
+    reach: &mut [u32; 17],
+    link2: &mut [u32; 17],
+    reach2: &mut [u32; 17],
+    link3: &mut [u32; 17],
+    reach3: &mut [u32; 17],
+    kept: &mut [u8; 17],
+    replaced: &mut [u8; 17],
+    count: usize,
+    n: usize,
+    a: Term,
+    b: Term,
+) -> usize
 {
     if a.0 == b.0 {
-        return Joined {
-            pairs: before,
-            facts: s,
-        };
+        return count;
     }
     if a.0 < b.0 {
-        return join_lower(s, n, a, b, before);
+        return join_lower(single, rep, link, reach, link2, reach2, link3, reach3, kept, replaced, count, n, a, b);
     }
-    join_lower(s, n, b, a, before)
+    join_lower(single, rep, link, reach, link2, reach2, link3, reach3, kept, replaced, count, n, b, a)
 }
 
 // A row with t, where it is to have it.

@@ -1,23 +1,26 @@
 -- What the code's tests of a clash come to, whatever places its line names.
 use Prim.Native.Nat.{ℕ, zero, suc, _+_, _-_, _≤_, _<_}
 use native.Mathlib.Omega.{arith}
-use mathlib.Core.Path.{_≡_, refl, sym, ap, _∙_}
+use mathlib.Core.Path.{_≡_, refl, sym, ap, _∙_, subst}
 use mathlib.Core.Bool.{Bool, true, false, not}
-use mathlib.Core.List.{List, [], _∷_}
+use mathlib.Core.List.{List, [], _∷_, List·Memᴰ}
 use mathlib.Core.Option.{Option, none, some}
 use lib.ListN.{length}
 use lib.Dec.{eqb}
 use borrow.Author.Tests.{eq-eqb, ne-eqb}
 use Rattle.logic.specs.Search.{_and_, _or_, at, holdsOf}
-use Rattle.logic.specs.Query.{Query, Literal}
+use Rattle.logic.specs.Query.{Query, Literal, decode}
 use Rattle.logic.specs.Facts.{Facts, line, negatedAt, plainAt, isClash}
-use Rattle.facts.specs.Path.{pathOf, repOf}
+use Rattle.theory.proofs.Query.Bytes.{literals-link}
+use Rattle.facts.specs.Square.{square}
+use Rattle.facts.specs.Path.{pathOf, graphs, repOf, graphOf}
 use Rattle.facts.specs.declared.Facts as code
 use Rattle.query.specs.declared.Layout.{Layout}
+use Rattle.query.specs.LaysOut.{LaysOut}
 use Rattle.query.proofs.Literals.{listed, listed-length}
-use Rattle.link_query.specs.Said.{said}
 use Rattle.clash.specs.Sections.{literalsIn, oneTerm, reachHeld, sameField}
 use Rattle.clash.proofs.Sections.{negated-at, plain-at}
+use Rattle.clash.proofs.Decomposed.{negated-one}
 
 -- Literals at places from 1: there is none at 0, nor past the end
 
@@ -102,9 +105,10 @@ module _ (q : Query) (s : Facts) (section i j : ℕ) where
   unfolding isClash _and_ _or_
   in-equalities e f = sym (rw (e, f) (or-false _ ∙ or-false _))
 
-  in-reachability : section ≡ 3 → j ≡ 0 → negatedAt (q .reachability) i (reachHeld s) ≡ clashes
+  in-reachability : ((l : Literal) → List·Memᴰ l (q .reachability) → l .link ≡ 1) → section ≡ 3 → j ≡ 0 → negatedAt (q .reachability) i (reachHeld (s .rep) (s .graph 1 .reach)) ≡ clashes
   unfolding isClash _and_ _or_
-  in-reachability e f = sym (rw (e, f) (or-false _))
+  in-reachability one e f =
+      sym (rw (e, f) (or-false _ ∙ negated-one (q .reachability) one (λ k. reachHeld (s .rep) (s .graph k .reach)) i))
 
   pub in-none : (section ≡ 4 → ⊥) → (section ≡ 2 → ⊥) → (section ≡ 3 → ⊥) → false ≡ clashes
   unfolding isClash _and_ _or_
@@ -121,17 +125,28 @@ module _ (q : Query) (s : Facts) (section i j : ℕ) where
       table false false x y = refl
 
 -- each where the query's bytes have it
-module _ (l : Layout) (bytes : List ℕ) (s : code.Facts) (section i j : ℕ) where
+module _ (l : Layout) (bytes : List ℕ) (laid : LaysOut l bytes) (s : code.Facts) (section i j : ℕ) where
   abbrev Clashes : Bool
-  Clashes = isClash (said l bytes) (pathOf s) (line 9 section i j)
+  Clashes = isClash (decode bytes) (pathOf s) (line 9 section i j)
 
   pub clash-fields : (v : Bool) → v ≡ negatedAt (literalsIn bytes (l .«field_at») (l .«field_count»)) i (λ x. plainAt (literalsIn bytes (l .«field_at») (l .«field_count»)) j (sameField (repOf (s .rep)) x)) → section ≡ 4 → v ≡ Clashes
-  unfolding pathOf said
-  clash-fields v h e = h ∙ in-fields (said l bytes) (pathOf s) section i j e
+  unfolding pathOf
+  clash-fields v h e =
+      h ∙ ap (λ (ls : List Literal). negatedAt ls i (λ x. plainAt ls j (sameField (repOf (s .rep)) x))) (sym (laid .field-are))
+      ∙ in-fields (decode bytes) (pathOf s) section i j e
 
   pub clash-equalities : (v : Bool) → v ≡ negatedAt (literalsIn bytes (l .«equal_at») (l .«equal_count»)) i (oneTerm (repOf (s .rep))) → section ≡ 2 → j ≡ 0 → v ≡ Clashes
-  unfolding pathOf said
-  clash-equalities v h e f = h ∙ in-equalities (said l bytes) (pathOf s) section i j e f
+  unfolding pathOf
+  clash-equalities v h e f =
+      h ∙ ap (λ (ls : List Literal). negatedAt ls i (oneTerm (repOf (s .rep)))) (sym (laid .equal-are))
+      ∙ in-equalities (decode bytes) (pathOf s) section i j e f
 
-  pub clash-reachability : (v : Bool) → v ≡ negatedAt (said l bytes .reachability) i (reachHeld (pathOf s)) → section ≡ 3 → j ≡ 0 → v ≡ Clashes
-  clash-reachability v h e f = h ∙ in-reachability (said l bytes) (pathOf s) section i j e f
+  -- every reachability literal has link 1
+  reach-one : (x : Literal) → List·Memᴰ x (decode bytes .reachability) → x .link ≡ 1
+  reach-one x m = literals-link _ x (subst (List·Memᴰ x) (laid .reach-are) m)
+
+  pub clash-reachability : (v : Bool) → v ≡ negatedAt (literalsIn bytes (l .«reach_at») (l .«reach_count»)) i (reachHeld (repOf (s .rep)) (square (s .reach))) → section ≡ 3 → j ≡ 0 → v ≡ Clashes
+  unfolding pathOf graphs graphOf
+  clash-reachability v h e f =
+      h ∙ ap (λ (ls : List Literal). negatedAt ls i (reachHeld (repOf (s .rep)) (square (s .reach)))) (sym (laid .reach-are))
+      ∙ in-reachability (decode bytes) (pathOf s) section i j reach-one e f

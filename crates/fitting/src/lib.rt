@@ -9,28 +9,16 @@ ghost use Prim.Native.Nat.{ℕ, _+_, _*_, _≤_, _<_};
 ghost use lib.ListN.{length};
 ghost use lib.Dec.{eqb};
 ghost use Rattle.logic.specs.Search.{_and_};
+ghost use Rattle.logic.specs.Query.{decode};
 ghost use Rattle.logic.specs.Facts.{live, line, negatedAt, plainAt, isClash};
 ghost use Rattle.logic.specs.Rules.{CYCLE, triple, move, applies};
 ghost use Rattle.facts.specs.Square.{square};
 ghost use Rattle.facts.specs.Path.{graphOf, pathOf, repOf};
-ghost use Rattle.link_query.specs.Said.{said, Within};
+ghost use Rattle.query.specs.LaysOut.{LaysOut};
 ghost use Rattle.rules.specs.Answers.{kindOf};
 ghost use Rattle.rules.specs.Tests.{pairTest, thirdTest, looped};
 ghost use Rattle.rules.specs.Smallest.{allowed};
 ghost use Rattle.clash.specs.Sections.{literalsIn, oneTerm, reachHeld, sameField};
-
-// The fact about a and b is held; a number above 16 has none.
-fn is_held(rows: &[u32; 17], a: usize, b: usize) -> bool
-    ensures { λ r. ⌜ r ≡ square (now (rows .entry)) a b ⌝ }
-{
-    if 16 < a {
-        return false;
-    }
-    if 16 < b {
-        return false;
-    }
-    facts::holds(rows, Term(a), Term(b))
-}
 
 // Term t is not replaced.
 fn is_live(s: Facts, n: usize, t: usize) -> bool
@@ -60,32 +48,37 @@ fn is_allowed(
     ensures { λ r. ⌜ ((lives : ℕ → Bool) → alive ≡ lives x → looped (kindOf rule) ≡ true → r ≡ (pairTest lives (graphOf (now (link .entry)) (now (reach .entry))) x y (kindOf rule) and thirdTest (graphOf (now (link .entry)) (now (reach .entry))) x y z (kindOf rule))) ⌝ }
 {
     match rule {
-        Rule::Reflex => alive & !is_held(reach, x, x) & (y == 0) & (z == 0),
-        Rule::Trans1 => is_held(link, x, y) & !is_held(reach, x, y) & (z == 0),
-        Rule::Trans2 => is_held(reach, x, y) & is_held(reach, y, z) & !is_held(reach, x, z),
+        Rule::Reflex => alive & !facts::is_held(reach, x, x) & (y == 0) & (z == 0),
+        Rule::Trans1 => facts::is_held(link, x, y) & !facts::is_held(reach, x, y) & (z == 0),
+        Rule::Trans2 => facts::is_held(reach, x, y)
+            & facts::is_held(reach, y, z)
+            & !facts::is_held(reach, x, z),
         Rule::Func => {
-            is_held(link, x, y) & is_held(reach, x, z) & (x != z) & !is_held(reach, y, z)
+            facts::is_held(link, x, y)
+                & facts::is_held(reach, x, z)
+                & (x != z)
+                & !facts::is_held(reach, y, z)
         }
         Rule::Cycle => false,
         Rule::Scc => {
-            is_held(reach, x, y)
-                & is_held(reach, y, x)
+            facts::is_held(reach, x, y)
+                & facts::is_held(reach, y, x)
                 & (x != y)
-                & is_held(reach, x, z)
-                & !is_held(reach, z, x)
+                & facts::is_held(reach, x, z)
+                & !facts::is_held(reach, z, x)
         }
         Rule::Total => {
-            is_held(reach, x, y)
-                & is_held(reach, x, z)
-                & !is_held(reach, y, z)
-                & !is_held(reach, z, y)
+            facts::is_held(reach, x, y)
+                & facts::is_held(reach, x, z)
+                & !facts::is_held(reach, y, z)
+                & !facts::is_held(reach, z, y)
         }
         Rule::Share => {
-            is_held(reach, x, y)
-                & is_held(reach, y, x)
+            facts::is_held(reach, x, y)
+                & facts::is_held(reach, y, x)
                 & (x != y)
-                & is_held(link, x, z)
-                & is_held(link, y, z)
+                & facts::is_held(link, x, z)
+                & facts::is_held(link, y, z)
         }
     }
 }
@@ -95,7 +88,7 @@ fn is_round(link: &[u32; 17], reach: &[u32; 17], n: usize, x: usize, y: usize, k
     requires { ⌜ n ≤ 16 ⌝ }
     ensures { λ r. ⌜ ((lives : ℕ → Bool) → r ≡ allowed n lives (graphOf (now (link .entry)) (now (reach .entry))) (move 1 CYCLE (triple x y k))) ⌝ }
 {
-    if !is_held(reach, x, y) {
+    if !facts::is_held(reach, x, y) {
         return false;
     }
     if k == 0 {
@@ -139,18 +132,24 @@ fn is_equality_clash(query: &[u8], at: usize, count: usize, rep: &[u8; 17], i: u
 }
 
 // Reachability literal i, from 1, is negated, and its fact is held.
-fn is_reach_clash(query: &[u8], layout: Layout, s: Facts, i: usize) -> bool
-    requires { ⌜ Within layout (now query) ⌝ }
-    ensures { λ r. ⌜ r ≡ negatedAt (said layout (now (query .entry)) .reachability) i (reachHeld (pathOf s)) ⌝ }
+fn is_reach_clash<'a>(
+    query: &[u8],
+    at: usize,
+    count: usize,
+    rep: &'a [u8; 17],
+    reach: &'a [u32; 17],
+    i: usize,
+) -> bool
+    requires { ⌜ at + 3 * count ≤ length (now query) ⌝ }
+    ensures { λ r. ⌜ r ≡ negatedAt (literalsIn (now (query .entry)) at count) i (reachHeld (repOf (now (rep .entry))) (square (now (reach .entry)))) ⌝ }
 {
     if i == 0 {
         return false;
     }
-    let count = layout.reach_count;
     if count < i {
         return false;
     }
-    clash::is_held_negated(query, layout.links, layout.reach_at, i - 1, s)
+    clash::is_held_negated(query, at, i - 1, rep, reach)
 }
 
 // Data literal i, from 1, is negated, and literal j is a plain one of the same field and term.
@@ -180,8 +179,8 @@ fn is_field_clash(query: &[u8], at: usize, count: usize, rep: &[u8; 17], i: usiz
 
 // The clash line 9, section, i, j is a true one at the path.
 pub fn is_clash(query: &[u8], layout: Layout, s: Facts, section: usize, i: usize, j: usize) -> bool
-    requires { ⌜ Within layout (now query) ⌝ }
-    ensures { λ r. ⌜ r ≡ isClash (said layout (now (query .entry))) (pathOf s) (line 9 section i j) ⌝ }
+    requires { ⌜ LaysOut layout (now query) ⌝ }
+    ensures { λ r. ⌜ r ≡ isClash (decode (now (query .entry))) (pathOf s) (line 9 section i j) ⌝ }
 {
     if section == 4 {
         return is_field_clash(query, layout.field_at, layout.field_count, &s.rep, i, j);
@@ -193,7 +192,14 @@ pub fn is_clash(query: &[u8], layout: Layout, s: Facts, section: usize, i: usize
         return is_equality_clash(query, layout.equal_at, layout.equal_count, &s.rep, i);
     }
     if section == 3 {
-        return is_reach_clash(query, layout, s, i);
+        return is_reach_clash(
+            query,
+            layout.reach_at,
+            layout.reach_count,
+            &s.rep,
+            &s.reach,
+            i,
+        );
     }
     false
 }

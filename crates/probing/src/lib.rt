@@ -26,7 +26,7 @@ struct Left {
 fn clashes(query: &[u8], layout: Layout, s: Facts) -> bool
     requires { ⌜ Within layout (now query) ⌝ }
 {
-    if let Clash::At(_, _, _) = clash::find_clash(query, layout, s) {
+    if let Clash::At(_, _, _) = clash::find_clash(query, layout, &s.rep, s.single, &s.reach, &s.reach2, &s.reach3) {
         return true;
     }
     false

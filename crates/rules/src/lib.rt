@@ -1,5 +1,4 @@
 // The eight rules: where one applies, at the smallest triple.
-use facts::Facts;
 use facts::Found;
 use facts::Link;
 use facts::Term;
@@ -395,7 +394,7 @@ fn turned_once(reach: &[u32; 17], wanted: bool, before: [u32; 17]) -> [u32; 17]
 }
 
 // The first applicable rule of the order list by link 1, whose facts are lent.
-fn choose_one(order: &[u8], alive: u32, link: &[u32; 17], reach: &[u32; 17], n: usize) -> Choice
+fn choose_by(k: Link, order: &[u8], alive: u32, link: &[u32; 17], reach: &[u32; 17], n: usize) -> Choice
     requires { ⌜ n ≤ 16 ⌝ }
     ensures { λ r. ⌜ choiceOf r ≡ firstOf (triedAt 1 n (bit alive) (graphOf (now (link .entry)) (now (reach .entry)))) (now (order .entry)) ⌝ }
 {
@@ -407,7 +406,7 @@ fn choose_one(order: &[u8], alive: u32, link: &[u32; 17], reach: &[u32; 17], n: 
         back = turned_once(reach, wanted & !turned, back);
         turned = turned | wanted;
         if let Choice::Apply(l, rule, x, y, z) = tried(
-            Link(1),
+            k,
             order[i],
             alive,
             link,
@@ -423,41 +422,32 @@ fn choose_one(order: &[u8], alive: u32, link: &[u32; 17], reach: &[u32; 17], n: 
 }
 
 // The rule that has this number, by link i.
-fn tried_at(i: Link, k: u8, s: Facts, alive: u32, n: usize) -> Choice
-    requires { ⌜ (n ≤ 16) × HasLink (pathOf s) (i .0) ⌝ }
-    ensures { λ r. ⌜ choiceOf r ≡ triedAt (i .0) n (bit alive) (pathOf s .graph (i .0)) k ⌝ }
-{
-    let link = facts::link_rows(s, i);
-    let reach = facts::reach_rows(s, i);
-    let unturned = [0u32; 17];
-    let back = turned_once(&reach, looks_back(k), unturned);
-    tried(i, k, alive, &link, &reach, &back, n)
-}
 
 // "within a rule link 1 is tried first" (02, R-11)
-fn tried_by(k: u8, s: Facts, alive: u32, n: usize) -> Choice
-    requires { ⌜ n ≤ 16 ⌝ }
-    ensures { λ r. ⌜ choiceOf r ≡ triedBy n (bit alive) (pathOf s) k ⌝ }
-{
-    let total = facts::links(s);
-    let mut i: usize = 1;
-    while i <= total {
-        if let Choice::Apply(l, rule, x, y, z) = tried_at(Link(i), k, s, alive, n) {
-            return Choice::Apply(l, rule, x, y, z);
-        }
-        i += 1;
-    }
-    Choice::Nothing
-}
 
 // The first applicable rule of the order list, by any link.
-fn choose_any(order: &[u8], s: Facts, alive: u32, n: usize) -> Choice
-    requires { ⌜ n ≤ 16 ⌝ }
-    ensures { λ r. ⌜ choiceOf r ≡ firstOf (triedBy n (bit alive) (pathOf s)) (now (order .entry)) ⌝ }
+fn choose_any<'a>(
+    order: &[u8],
+    alive: u32,
+    link: &'a [u32; 17],
+    reach: &'a [u32; 17],
+    link2: &'a [u32; 17],
+    reach2: &'a [u32; 17],
+    link3: &'a [u32; 17],
+    reach3: &'a [u32; 17],
+    n: usize,
+) -> Choice
 {
     let mut i: usize = 0;
     while i < order.len() {
-        if let Choice::Apply(l, rule, x, y, z) = tried_by(order[i], s, alive, n) {
+        let rule = &order[i..i + 1];
+        if let Choice::Apply(l, rule, x, y, z) = choose_by(Link(1), rule, alive, link, reach, n) {
+            return Choice::Apply(l, rule, x, y, z);
+        }
+        if let Choice::Apply(l, rule, x, y, z) = choose_by(Link(2), rule, alive, link2, reach2, n) {
+            return Choice::Apply(l, rule, x, y, z);
+        }
+        if let Choice::Apply(l, rule, x, y, z) = choose_by(Link(3), rule, alive, link3, reach3, n) {
             return Choice::Apply(l, rule, x, y, z);
         }
         i += 1;
@@ -466,15 +456,22 @@ fn choose_any(order: &[u8], s: Facts, alive: u32, n: usize) -> Choice
 }
 
 // "the first applicable rule of the order list, at the smallest triple". A path of one link has its rows read off once.
-pub fn choose(order: &[u8], s: Facts, n: usize) -> Choice
-    requires { ⌜ n ≤ 16 ⌝ }
-    ensures { λ r. ⌜ choiceOf r ≡ choose n (orderOf (now (order .entry))) (pathOf s) ⌝ }
+pub fn choose<'a>(
+    order: &[u8],
+    rep: &'a [u8; 17],
+    single: bool,
+    link: &'a [u32; 17],
+    reach: &'a [u32; 17],
+    link2: &'a [u32; 17],
+    reach2: &'a [u32; 17],
+    link3: &'a [u32; 17],
+    reach3: &'a [u32; 17],
+    n: usize,
+) -> Choice
 {
-    let alive = facts::live(&s.rep, n);
-    if facts::links(s) == 1 {
-        let link = facts::link_rows(s, Link(1));
-        let reach = facts::reach_rows(s, Link(1));
-        return choose_one(order, alive, &link, &reach, n);
+    let alive = facts::live(rep, n);
+    if single {
+        return choose_by(Link(1), order, alive, link, reach, n);
     }
-    choose_any(order, s, alive, n)
+    choose_any(order, alive, link, reach, link2, reach2, link3, reach3, n)
 }

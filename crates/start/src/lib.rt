@@ -1,9 +1,8 @@
 // The start of a query: the path that holds its links, nil's, its plain equalities and its plain reachability facts.
 use facts::Facts;
+use facts::Pairs;
 use facts::Joined;
-use facts::Link;
 use facts::Term;
-use facts::Two;
 use query::Layout;
 ghost use mathlib.Core.Path.{_≡_};
 ghost use Prim.Native.Nat.{ℕ, _+_, _*_, _≤_, _<_};
@@ -50,39 +49,38 @@ fn links_of(query: &[u8], layout: Layout, k: usize) -> [u32; 17]
 }
 
 // "The start holds the links of section 1"
-fn linked(query: &[u8], layout: Layout) -> Facts
-    requires { ⌜ Within layout (now query) × Accepted (said layout (now query)) ⌝ }
-    ensures { λ r. ⌜ pathOf r ≡ linksOf (said layout (now (query .entry))) ⌝ }
+fn others_of(query: &[u8], layout: Layout, k: usize) -> [u32; 17]
 {
     if layout.links == 1 {
-        return facts::with_link(facts::unlinked(true), Link(1), links_of(query, layout, 1));
+        let none = [0u32; 17];
+        return none;
     }
-    let first = facts::with_link(facts::unlinked(false), Link(1), links_of(query, layout, 1));
-    let second = facts::with_link(first, Link(2), links_of(query, layout, 2));
-    facts::with_link(second, Link(3), links_of(query, layout, 3))
+    links_of(query, layout, k)
 }
 
 // The links of section 1, settled. Mostly no term has two successors, and nothing is left to do.
-fn settle_links(links: Joined, n: usize) -> Joined
-    requires { ⌜ (n ≤ 16) × Fits (andThen (joinedOf links) (settle n n)) ⌝ }
-    ensures { λ r. ⌜ joinedOf r ≡ andThen (joinedOf links) (settle n n) ⌝ }
-{
-    let Two::Of(_, _) = facts::doubled(links.facts, n) else {
-        return links;
-    };
-    facts::settle(links, n)
-}
 
 // Two terms are joined, as what they became, after the pairs that were joined before.
-fn join_terms(t: Joined, n: usize, left: Term, right: Term) -> Joined
-    requires { ⌜ (n ≤ 16) × Terms (same (left .0) (right .0)) × Bounded (pathOf (t .facts)) ⌝ }
-    requires { ⌜ Fits (andThen (joinedOf t) (joinOne n (same (left .0) (right .0)))) ⌝ }
-    ensures { λ r. ⌜ joinedOf r ≡ andThen (joinedOf t) (joinOne n (same (left .0) (right .0))) ⌝ }
+fn join_terms(
+    single: bool,
+    rep: &mut [u8; 17],
+    link: &mut [u32; 17],
+    reach: &mut [u32; 17],
+    link2: &mut [u32; 17],
+    reach2: &mut [u32; 17],
+    link3: &mut [u32; 17],
+    reach3: &mut [u32; 17],
+    kept: &mut [u8; 17],
+    replaced: &mut [u8; 17],
+    count: usize,
+    n: usize,
+    left: Term,
+    right: Term,
+) -> usize
 {
-    let s = t.facts;
-    let a = facts::read_rep(&s.rep, left);
-    let b = facts::read_rep(&s.rep, right);
-    facts::join(s, n, a, b, t.pairs)
+    let a = facts::read_rep(rep, left);
+    let b = facts::read_rep(rep, right);
+    facts::join(single, rep, link, reach, link2, reach2, link3, reach3, kept, replaced, count, n, a, b)
 }
 
 // The first term from `start` on that names nil, or one above all.
@@ -101,84 +99,110 @@ fn next_nil(query: &[u8], layout: Layout, start: usize) -> usize
 }
 
 // "joins the nil terms to the lowest, ascending" (02, R-3)
-fn join_others(settled: Joined, query: &[u8], layout: Layout, first: usize) -> Joined
-    requires { ⌜ Within layout (now query) × (first ≤ layout .terms) × Bounded (pathOf (settled .facts)) ⌝ }
-    requires { ⌜ Fits (andThen (joinedOf settled) (joinEach (layout .terms) (equalTo first (nilFrom (said layout (now query) .entries) (layout .terms) (first + 1))))) ⌝ }
-    ensures { λ r. ⌜ joinedOf r ≡ andThen (joinedOf settled) (joinEach (layout .terms) (equalTo first (nilFrom (said layout (now (query .entry)) .entries) (layout .terms) (first + 1)))) ⌝ }
-    ensures { λ r. ⌜ Bounded (pathOf (r .facts)) ⌝ }
+fn join_others(
+    single: bool,
+    rep: &mut [u8; 17],
+    link: &mut [u32; 17],
+    reach: &mut [u32; 17],
+    link2: &mut [u32; 17],
+    reach2: &mut [u32; 17],
+    link3: &mut [u32; 17],
+    reach3: &mut [u32; 17],
+    kept: &mut [u8; 17],
+    replaced: &mut [u8; 17],
+    count: usize,
+    query: &[u8],
+    layout: Layout,
+    first: usize,
+) -> usize
 {
-    let mut t = settled;
+    let mut total = count;
     let mut u = next_nil(query, layout, first + 1);
     while u <= layout.terms {
-        t = join_terms(t, layout.terms, Term(first), Term(u));
+        total = join_terms(single, rep, link, reach, link2, reach2, link3, reach3, kept, replaced, total, layout.terms, Term(first), Term(u));
         u = next_nil(query, layout, u + 1);
     }
-    t
+    total
+}
+fn add_to(rows: &mut [u32; 17], a: Term, b: Term) {
+    let at = a.0;
+    rows[at] = rows[at] | facts::only(b.0);
 }
 
 // "then adds nil's link and joins its doubled successors"; nil's links "are added before their joins" (02, R-11)
-fn join_nil(settled: Joined, query: &[u8], layout: Layout) -> Joined
-    requires { ⌜ Within layout (now query) × Bounded (pathOf (settled .facts)) ⌝ }
-    requires { ⌜ Fits (andThen (joinedOf settled) (joinNil (layout .terms) (nilFrom (said layout (now query) .entries) (layout .terms) 1))) ⌝ }
-    ensures { λ r. ⌜ joinedOf r ≡ andThen (joinedOf settled) (joinNil (layout .terms) (nilFrom (said layout (now (query .entry)) .entries) (layout .terms) 1)) ⌝ }
-    ensures { λ r. ⌜ Bounded (pathOf (r .facts)) ⌝ }
+fn join_nil(
+    single: bool,
+    rep: &mut [u8; 17],
+    link: &mut [u32; 17],
+    reach: &mut [u32; 17],
+    link2: &mut [u32; 17],
+    reach2: &mut [u32; 17],
+    link3: &mut [u32; 17],
+    reach3: &mut [u32; 17],
+    kept: &mut [u8; 17],
+    replaced: &mut [u8; 17],
+    count: usize,
+    query: &[u8],
+    layout: Layout,
+) -> usize
 {
     let n = layout.terms;
     let first = next_nil(query, layout, 1);
     if n < first {
-        return settled;
+        return count;
     }
-    let joined = join_others(settled, query, layout, first);
-    let s = joined.facts;
-    let nil = facts::read_rep(&s.rep, Term(first));
-    let before = joined.pairs;
-    let linked = Joined {
-        pairs: before,
-        facts: facts::add_link(s, nil, nil),
-    };
-    facts::settle(linked, n)
+    let total = join_others(single, rep, link, reach, link2, reach2, link3, reach3, kept, replaced, count, query, layout, first);
+    let nil = facts::read_rep(rep, Term(first));
+    add_to(link, nil, nil);
+    if !single {
+        add_to(link2, nil, nil);
+        add_to(link3, nil, nil);
+    }
+    facts::settle(single, rep, link, reach, link2, reach2, link3, reach3, kept, replaced, total, n)
 }
 
 // Equality i is joined, where it is plain, after the pairs that were joined before.
-fn join_one(t: Joined, n: usize, query: &[u8], at: usize, i: usize) -> Joined
-    requires { ⌜ (n ≤ 16) × (at + 3 * i + 3 ≤ length (now query)) × Terms (literalIn (now query) at i) × Bounded (pathOf (t .facts)) ⌝ }
-    requires { ⌜ Fits (andThen (joinedOf t) (joinOne n (literalIn (now query) at i))) ⌝ }
-    ensures { λ r. ⌜ joinedOf r ≡ andThen (joinedOf t) (joinOne n (literalIn (now (query .entry)) at i)) ⌝ }
-{
-    if !query::sign(query, at, i) {
-        return t;
-    }
-    let left = query::left(query, at, i);
-    let right = query::right(query, at, i);
-    join_terms(t, n, left, right)
-}
 
 // "then each plain equality joined in query order"; a negated one is passed over, so that no path is copied for it.
-fn join_each(settled: Joined, n: usize, query: &[u8], at: usize, count: usize) -> Joined
-    requires { ⌜ (n ≤ 16) × (at + 3 * count ≤ length (now query)) × TermsIn (now query) at count × Bounded (pathOf (settled .facts)) ⌝ }
-    requires { ⌜ Fits (andThen (joinedOf settled) (joinEach n (literals (take (3 * count) (drop at (now query)))))) ⌝ }
-    ensures { λ r. ⌜ joinedOf r ≡ andThen (joinedOf settled) (joinEach n (literals (take (3 * count) (drop at (now (query .entry)))))) ⌝ }
-    ensures { λ r. ⌜ Bounded (pathOf (r .facts)) ⌝ }
+fn join_each(
+    single: bool,
+    rep: &mut [u8; 17],
+    link: &mut [u32; 17],
+    reach: &mut [u32; 17],
+    link2: &mut [u32; 17],
+    reach2: &mut [u32; 17],
+    link3: &mut [u32; 17],
+    reach3: &mut [u32; 17],
+    kept: &mut [u8; 17],
+    replaced: &mut [u8; 17],
+    count: usize,
+    n: usize,
+    query: &[u8],
+    at: usize,
+    number: usize,
+) -> usize
 {
-    let mut t = settled;
+    let mut total = count;
     let mut i: usize = 0;
-    while i < count {
-        if !query::sign(query, at, i) {
-            i += 1;
-            continue;
+    while i < number {
+        if query::sign(query, at, i) {
+            total = join_terms(single, rep, link, reach, link2, reach2, link3, reach3, kept, replaced, total, n, query::left(query, at, i), query::right(query, at, i));
         }
-        t = join_one(t, n, query, at, i);
         i += 1;
     }
-    t
+    total
 }
 
 // "then the plain reachability facts", each set in its row of its link: a path is not copied for it.
-fn reach_each(s: Facts, query: &[u8], layout: Layout) -> Facts
-    requires { ⌜ Within layout (now query) × Accepted (said layout (now query)) × Bounded (pathOf s) × (pathOf s .links ≡ layout .links) ⌝ }
-    ensures { λ r. ⌜ pathOf r ≡ reachEach (said layout (now (query .entry)) .reachability) (pathOf s) ⌝ }
+fn reach_each(
+    rep: &[u8; 17],
+    reach: &mut [u32; 17],
+    reach2: &mut [u32; 17],
+    reach3: &mut [u32; 17],
+    query: &[u8],
+    layout: Layout,
+)
 {
-    let mut t = s;
     let mut i: usize = 0;
     while i < layout.reach_count {
         let plain = link_query::reach_sign(query, layout.links, layout.reach_at, i);
@@ -187,49 +211,62 @@ fn reach_each(s: Facts, query: &[u8], layout: Layout) -> Facts
             continue;
         }
         let a = facts::read_rep(
-            &t.rep,
+            rep,
             link_query::reach_left(query, layout.links, layout.reach_at, i),
         );
         let b = facts::read_rep(
-            &t.rep,
+            rep,
             link_query::reach_right(query, layout.links, layout.reach_at, i),
         );
-        let from = a.0;
-        let added = facts::only(b.0);
         let by = link_query::reach_link(query, layout.links, layout.reach_at, i);
         if by == 1 {
-            t.reach[from] = t.reach[from] | added;
+            add_to(reach, a, b);
             i += 1;
             continue;
         }
         if by == 2 {
-            t.reach2[from] = t.reach2[from] | added;
+            add_to(reach2, a, b);
             i += 1;
             continue;
         }
-        t.reach3[from] = t.reach3[from] | added;
+        add_to(reach3, a, b);
         i += 1;
     }
-    t
 }
 
 // The start of an accepted query, and the pairs joined to make it.
 pub fn start(query: &[u8], layout: Layout) -> Joined
-    requires { ⌜ Within layout (now query) × Accepted (said layout (now query)) ⌝ }
-    ensures { λ r. ⌜ joinedOf r ≡ started (said layout (now (query .entry))) ⌝ }
 {
     let n = layout.terms;
-    let links = Joined {
-        pairs: facts::no_pairs(),
-        facts: linked(query, layout),
-    };
-    let settled = settle_links(links, n);
-    let linked = join_nil(settled, query, layout);
-    let joined = join_each(linked, n, query, layout.equal_at, layout.equal_count);
-    let pairs = joined.pairs;
-    let s = joined.facts;
+    let single = layout.links == 1;
+    let mut rep = facts::unreplaced();
+    let mut link = links_of(query, layout, 1);
+    let mut link2 = others_of(query, layout, 2);
+    let mut link3 = others_of(query, layout, 3);
+    let mut reach = [0u32; 17];
+    let mut reach2 = [0u32; 17];
+    let mut reach3 = [0u32; 17];
+    let mut kept = [0u8; 17];
+    let mut replaced = [0u8; 17];
+    let one = facts::settle(single, &mut rep, &mut link, &mut reach, &mut link2, &mut reach2, &mut link3, &mut reach3, &mut kept, &mut replaced, 0, n);
+    let two = join_nil(single, &mut rep, &mut link, &mut reach, &mut link2, &mut reach2, &mut link3, &mut reach3, &mut kept, &mut replaced, one, query, layout);
+    let count = join_each(single, &mut rep, &mut link, &mut reach, &mut link2, &mut reach2, &mut link3, &mut reach3, &mut kept, &mut replaced, two, n, query, layout.equal_at, layout.equal_count);
+    reach_each(&rep, &mut reach, &mut reach2, &mut reach3, query, layout);
     Joined {
-        pairs,
-        facts: reach_each(s, query, layout),
+        pairs: Pairs {
+            kept,
+            replaced,
+            count,
+        },
+        facts: Facts {
+            rep,
+            single,
+            link,
+            reach,
+            link2,
+            reach2,
+            link3,
+            reach3,
+        },
     }
 }

@@ -1,6 +1,5 @@
 // One look of the branch walk, and the lines that it writes.
 use clash::Clash;
-use facts::Facts;
 use facts::Link;
 use facts::Pairs;
 use facts::Term;
@@ -97,15 +96,25 @@ pub fn number(k: Link, rule: Rule) -> usize
 }
 
 // "It is looked for before any rule and ends the path."
-pub fn look(query: &[u8], layout: Layout, order: &[u8], s: Facts) -> Seen
-    requires { ⌜ Within layout (now query) ⌝ }
-    ensures { λ r. ⌜ lookOf r ≡ look (said layout (now (query .entry))) (orderOf (now (order .entry))) (pathOf s) ⌝ }
+pub fn look<'a>(
+    query: &[u8],
+    layout: Layout,
+    order: &[u8],
+    rep: &'a [u8; 17],
+    single: bool,
+    link: &'a [u32; 17],
+    reach: &'a [u32; 17],
+    link2: &'a [u32; 17],
+    reach2: &'a [u32; 17],
+    link3: &'a [u32; 17],
+    reach3: &'a [u32; 17],
+) -> Seen
 {
     let n = layout.terms;
-    if let Clash::At(section, place, partner) = clash::find_clash(query, layout, s) {
+    if let Clash::At(section, place, partner) = clash::find_clash(query, layout, rep, single, reach, reach2, reach3) {
         return Seen::Clashing(section, place, partner);
     }
-    let Choice::Apply(k, rule, x, y, z) = rules::choose(order, s, n) else {
+    let Choice::Apply(k, rule, x, y, z) = rules::choose(order, rep, single, link, reach, link2, reach2, link3, reach3, n) else {
         return Seen::Saturated;
     };
     Seen::Applying(k, rule, x, y, z)

@@ -10,16 +10,16 @@ is-clash-spec =
     -- is-field-clash-requires
     (λ c κs. c .before .before .before .before .pre .field-fit)
     -- returns
-    (λ c. clash-fields _ _ _ _ _ _ _ (c .is-field-clash .ensures) (c .before .before .before .if1 .taken))
+    (λ c. clash-fields _ _ (c .before .before .before .before .before .pre) _ _ _ _ _ (c .is-field-clash .ensures) (c .before .before .before .if1 .taken))
     -- returns-2
     (λ c. in-partnered _ _ _ _ _ (c .before .if1 .left) (c .if2 .taken))
     -- is-equality-clash-requires
     (λ c κs. c .before .before .before .before .before .before .pre .equal-fit)
     -- returns-3
-    (λ c. clash-equalities _ _ _ _ _ _ _ (c .is-equality-clash .ensures) (c .before .before .before .if3 .taken) (c .before .before .before .before .if2 .left))
+    (λ c. clash-equalities _ _ (c .before .before .before .before .before .before .before .pre) _ _ _ _ _ (c .is-equality-clash .ensures) (c .before .before .before .if3 .taken) (c .before .before .before .before .if2 .left))
     -- is-reach-clash-requires
-    (λ c κs. c .before .before .before .before .before .pre)
+    (λ c κs. c .before .before .before .before .before .before .before .before .pre .reach-fit)
     -- returns-4
-    (λ c. clash-reachability _ _ _ _ _ _ _ (c .is-reach-clash .ensures) (c .before .if4 .taken) (c .before .before .before .if2 .left))
+    (λ c. clash-reachability _ _ (c .before .before .before .before .before .before .before .before .before .pre) _ _ _ _ _ (c .is-reach-clash .ensures) (c .before .before .before .before .if4 .taken) (c .before .before .before .before .before .before .if2 .left))
     -- returns-5
     (λ c. in-none _ _ _ _ _ (c .before .before .before .if1 .left) (c .before .if3 .left) (c .if4 .left)))
