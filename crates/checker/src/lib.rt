@@ -118,10 +118,10 @@ fn read_line(
         query,
         layout,
         &s.rep,
-        true,
+        s.single,
         &s.reach,
-        &s.reach,
-        &s.reach,
+        &s.reach2,
+        &s.reach3,
     ) {
         return Reading::Wrong;
     }
