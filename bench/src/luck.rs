@@ -4,9 +4,9 @@
 use crate::generate::{self, Draft, Random};
 use crate::library;
 use crate::reference;
-use crate::{linkheaps, links};
 use crate::timing;
 use crate::vectors;
+use crate::{linkheaps, links};
 use std::hint::black_box;
 use std::path::Path;
 use std::time::Instant;
