@@ -3,7 +3,8 @@
  *     rt staticlib lemitsaka
  *     cc -Iinclude yours.c target/staticlib/liblemitsaka.a
  *
- * examples/c/verdict.c is a whole program. docs/manual has the bytes of a query, of a report and of a derivation, and a page for C.
+ * examples/c/verdict.c is a whole program, and examples/c/insert.c one for three links. docs/manual has the bytes of a query, of a
+ * report and of a derivation, and a page for C.
  *
  * Every slice is a pointer and a length in bytes:
  *
@@ -20,8 +21,8 @@
  *     the call.
  *
  * The calls keep nothing: no statics, no heap memory, no locks, no input or output. They may run in several threads at a
- * time. A call needs less than 450 kB of stack. It always returns, and no order list makes a verdict slow; queries of many
- * terms can still be made on purpose that take a second or more.
+ * time. A call needs less than 700 kB of stack, one for three links less than 1.9 MB. It always returns, and no order list makes
+ * a verdict slow; queries of many terms can still be made on purpose that take a second or more.
  *
  * The answer is one number. Below 65,536 it is the call's own answer; else the call was refused, and it is the refusal's
  * number times 65,536, plus its place, counted from 0 in the query. After a refusal all of the lent bytes are zero.
