@@ -72,19 +72,17 @@ fn stored_data() {
     assert_eq!(vectors::compare(&directory, &|input| Ok(heapverdict(input))), Ok(true));
 }
 
-/// What the gate's programs `vectors` and `link_vectors` read and must print is the stored data, one file after another.
+/// What the gate's program `vectors` reads and must print is the stored data, one file after another, and 65,535 behind a row.
 #[test]
 fn gate_data() {
     let root = Path::new(env!("CARGO_MANIFEST_DIR")).join("..");
-    let one_link: &[&str] = &["base", "edges", "random", "long", "R-1", "R-3", "R-13", "rewritten"];
-    for (program, names, ending) in [("vectors", one_link, "txt"), ("link_vectors", &["R-11", "link-edges"], "out")] {
-        for (ending, joined) in [("bin", "stdin"), (ending, "stdout")] {
-            let part = |name: &&str| std::fs::read(root.join(format!("tests/data/{name}.{ending}"))).unwrap();
-            let parts: Vec<Vec<u8>> = names.iter().map(part).collect();
-            let whole = std::fs::read(root.join("crates").join(program).join(joined)).unwrap();
-            assert!(parts.concat() == whole, "{program} {joined}");
-        }
-    }
+    let part = |name: &str| std::fs::read(root.join("tests/data").join(name)).unwrap();
+    let one_link = ["base", "edges", "random", "long", "R-1", "R-3", "R-13", "rewritten"];
+    let row = |names: &[&str], ending: &str| names.iter().map(|name| part(&format!("{name}.{ending}"))).collect::<Vec<_>>().concat();
+    let rows = |first: &str, others: &str| [row(&one_link, first), row(&["luck"], others), row(&["R-11", "link-edges"], others)];
+    let stored = |file: &str| std::fs::read(root.join("crates/vectors").join(file)).unwrap();
+    assert!(rows("bin", "bin").join(&[255u8; 2][..]) == stored("stdin"));
+    assert!(rows("txt", "out").concat() == stored("stdout"));
 }
 
 #[test]

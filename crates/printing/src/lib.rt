@@ -2,14 +2,16 @@
 use prover::Answer;
 ghost use mathlib.Core.Path.{_≡_};
 ghost use Prim.Native.Nat.{ℕ, _+_, _≤_, _<_, min};
-ghost use lib.ListN.{length};
+ghost use lib.ListN.{length, replicate};
 ghost use Rattle.logic.specs.Search.{flatMap};
 ghost use Rattle.logic.specs.Derivation.{linesIn};
+ghost use Rattle.logic.specs.Calls.{oneLinkForm, verdictCallOf};
+ghost use Rattle.logic.specs.ThreeLinks.{threeLinkForm};
 ghost use Rattle.logic.specs.Demands.{Fits};
-ghost use Rattle.prover.specs.Promise.{meaning, formOf};
+ghost use Rattle.prover.specs.Promise.{meaning, formOf, inputOf, Does};
 ghost use Rattle.text.specs.Text.{Writes};
 ghost use Rattle.wording.specs.Words.{lineText};
-ghost use Rattle.printing.specs.HeapverdictText.{answerText, unsatText, textOf, textBy, heapverdictText, linksverdictText};
+ghost use Rattle.printing.specs.HeapverdictText.{answerText, unsatText, textOf, heapverdictText, linksverdictText};
 
 // The lines of a derivation.
 fn put_lines(buffer: &mut [u8], at: usize, lines: &[u8]) -> usize
@@ -46,23 +48,13 @@ pub fn put_answer(buffer: &mut [u8], at: usize, answer: Answer) -> usize
     }
 }
 
-// The derivation call and the verdict call of either form.
-fn derivation(three: bool, order: &[u8], query: &[u8], lines: &mut [u8]) -> Answer
-    ensures { λ r. ⌜ Does (derivationCallOf (formOf three) (inputOf (now (order .entry)) (now (query .entry)) (now (lines .entry)))) r (now (lines .exit)) ⌝ }
-{
-    if three {
-        return prover::links_derivation(order, query, lines);
-    }
-    prover::derivation(order, query, lines)
-}
-
 // What follows `unsat`: the derivation, "or `refused 12 at 0`".
 fn put_derivation(buffer: &mut [u8], at: usize, three: bool, order: &[u8], query: &[u8]) -> usize
     requires { ⌜ at ≤ 6 ⌝ }
     ensures { λ r. ⌜ Writes (now (buffer .entry)) at (unsatText (formOf three) (now (order .entry)) (now (query .entry))) (now (buffer .exit)) r × (r ≤ at + 256000) ⌝ }
 {
     let mut lines = [0u8; 64002];
-    match derivation(three, order, query, &mut lines) {
+    match prover::derivation_in(three, order, query, &mut lines) {
         Answer::Refuted => put_lines(buffer, at, &lines),
         Answer::Refused(k, place) => wording::put_refusal(buffer, at, k, place),
         Answer::Satisfiable => at,
@@ -79,7 +71,7 @@ fn put_verdict(
     report: &[u8],
     links: usize,
 ) -> usize
-    requires { ⌜ (links ≡ formOf three .links) × Does (verdictCallOf (formOf three) (record { order = now order; query = now query; room = formOf three .room })) answer (now report) ⌝ }
+    requires { ⌜ (links ≡ formOf three .links) × Does (verdictCallOf (formOf three) (inputOf (now order) (now query) (replicate (formOf three .room) 0))) answer (now report) ⌝ }
     ensures { λ r. ⌜ Writes (now (buffer .entry)) 0 (textOf (formOf three) (now (order .entry)) (now (query .entry))) (now (buffer .exit)) r × (r ≤ 256006) ⌝ }
 {
     match answer {

@@ -80,7 +80,7 @@ fn room(three: bool) -> usize
 }
 
 // The verdict call of either form.
-fn verdict_in(three: bool, order: &[u8], query: &[u8], report: &mut [u8]) -> Answer
+pub fn verdict_in(three: bool, order: &[u8], query: &[u8], report: &mut [u8]) -> Answer
     ensures { λ r. ⌜ Does (verdictCallOf (formOf three) (inputOf (now (order .entry)) (now (query .entry)) (now (report .entry)))) r (now (report .exit)) ⌝ }
 {
     lent::clear(report);
@@ -149,7 +149,7 @@ fn derive(order: &[u8], query: &[u8], layout: Layout, buffer: &mut [u8]) -> Answ
 }
 
 // The derivation call of either form.
-fn derivation_in(three: bool, order: &[u8], query: &[u8], buffer: &mut [u8]) -> Answer
+pub fn derivation_in(three: bool, order: &[u8], query: &[u8], buffer: &mut [u8]) -> Answer
     ensures { λ r. ⌜ Does (derivationCallOf (formOf three) (inputOf (now (order .entry)) (now (query .entry)) (now (buffer .entry)))) r (now (buffer .exit)) ⌝ }
 {
     lent::clear(buffer);

@@ -15,8 +15,8 @@ checked-spec =
     -- check-links-requires
     (λ c κs. search needs)
     -- returns
-    (λ c. subst (λ (b : Bool). CheckedBy (formOf b) _ _) (sym (c .before .if1 .taken)) (c .check-links .ensures))
+    (λ c. subst (λ (b : Bool). CheckedBy (formOf b) (c .check-links .result) (c .before .before .before .args .query .now)) (sym (c .before .if1 .taken)) (c .check-links .ensures))
     -- check-requires
     (λ c κs. search needs)
     -- returns-2
-    (λ c. subst (λ (b : Bool). CheckedBy (formOf b) _ _) (sym (c .before .if1 .left)) (one-checked _ _ (c .check .ensures))))
+    (λ c. subst (λ (b : Bool). CheckedBy (formOf b) (c .check .result) (c .before .before .before .args .query .now)) (sym (c .before .if1 .left)) (one-checked (c .check .result) (c .before .before .before .args .query .now) (c .check .ensures))))

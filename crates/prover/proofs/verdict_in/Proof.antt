@@ -49,6 +49,6 @@ verdict-in-spec =
     -- returns-3
     (λ c. verdict-query (formOf (c .before .before .before .before .before .before .before .before .before .before .before .before .before .args .three)) (laws-of (c .before .before .before .before .before .before .before .before .before .before .before .before .before .args .three)) (c .before .before .before .before .before .before .before .before .before .before .before .before .before .args .order .now) (c .before .before .before .before .before .before .before .before .before .before .before .before .before .args .query .now) (c .before .before .before .before .before .before .before .before .before .before .before .before .before .args .report .now) _ _ _ (sym (c .before .before .before .before .before .is-order .ensures) ∙ not-false _ (c .before .before .before .before .if1 .left)) (subst (λ (x : Checked). CheckedBy (formOf (c .before .before .before .before .before .before .before .before .before .before .before .before .before .args .three)) x (c .before .before .before .before .before .before .before .before .before .before .before .before .before .args .query .now)) (c .before .k .given .1) (c .before .before .before .checked .ensures)) (c .before .before .before .before .before .before .before .before .clear .ensures))
     -- same-length-4
-    (λ c. report-whole (formOf (c .before .before .before .before .before .before .before .before .before .before .before .before .before .before .before .before .before .before .before .args .three)) (laws-of (c .before .before .before .before .before .before .before .before .before .before .before .before .before .before .before .before .before .before .before .args .three)) (c .before .before .before .before .before .before .before .before .before .before .before .before .before .before .before .before .before .before .before .args .order .now) (c .before .before .before .before .before .before .before .before .before .before .before .before .before .before .before .before .before .before .before .args .query .now) (c .before .before .before .before .before .before .before .before .before .before .before .before .before .before .before .before .before .before .before .args .report .now) _ (c .before .before .decide .result) (verdict-walked (formOf (c .before .before .before .before .before .before .before .before .before .before .before .before .before .before .before .before .before .before .before .args .three)) (laws-of (c .before .before .before .before .before .before .before .before .before .before .before .before .before .before .before .before .before .before .before .args .three)) (c .before .before .before .before .before .before .before .before .before .before .before .before .before .before .before .before .before .before .before .args .order .now) (c .before .before .before .before .before .before .before .before .before .before .before .before .before .before .before .before .before .before .before .args .query .now) (c .before .before .before .before .before .before .before .before .before .before .before .before .before .before .before .before .before .before .before .args .report .now) _ _ _ _ (sym (c .before .before .before .before .before .before .before .before .before .before .before .is-order .ensures) ∙ not-false _ (c .before .before .before .before .before .before .before .before .before .before .if1 .left)) (subst (λ (x : Checked). CheckedBy (formOf (c .before .before .before .before .before .before .before .before .before .before .before .before .before .before .before .before .before .before .before .args .three)) x (c .before .before .before .before .before .before .before .before .before .before .before .before .before .before .before .before .before .before .before .args .query .now)) (c .before .before .before .before .before .before .before .layout .given .1) (c .before .before .before .before .before .before .before .before .before .checked .ensures)) (blank-long _ (length (c .before .before .before .before .before .before .before .before .before .before .before .before .before .before .before .before .before .before .before .args .report .now)) (c .before .before .before .before .before .before .before .before .before .before .before .before .before .before .clear .ensures)) (subst (λ (k : ℕ). k ≤ _) (c .before .before .before .before .before .room .ensures) (c .before .before .before .before .if2 .left)) (c .before .before .decide .ensures)))
+    (λ c. report-whole (formOf (c .before .before .before .before .before .before .before .before .before .before .before .before .before .before .before .before .before .before .before .args .three)) (laws-of (c .before .before .before .before .before .before .before .before .before .before .before .before .before .before .before .before .before .before .before .args .three)) (c .before .before .before .before .before .before .before .before .before .before .before .before .before .before .before .before .before .before .before .args .order .now) (c .before .before .before .before .before .before .before .before .before .before .before .before .before .before .before .before .before .before .before .args .query .now) (c .before .before .before .before .before .before .before .before .before .before .before .before .before .before .before .before .before .before .before .args .report .now) _ (c .before .before .decide .result) (verdict-walked (formOf (c .before .before .before .before .before .before .before .before .before .before .before .before .before .before .before .before .before .before .before .args .three)) (laws-of (c .before .before .before .before .before .before .before .before .before .before .before .before .before .before .before .before .before .before .before .args .three)) (c .before .before .before .before .before .before .before .before .before .before .before .before .before .before .before .before .before .before .before .args .order .now) (c .before .before .before .before .before .before .before .before .before .before .before .before .before .before .before .before .before .before .before .args .query .now) (c .before .before .before .before .before .before .before .before .before .before .before .before .before .before .before .before .before .before .before .args .report .now) _ _ _ _ (sym (c .before .before .before .before .before .before .before .before .before .before .before .is-order .ensures) ∙ not-false _ (c .before .before .before .before .before .before .before .before .before .before .if1 .left)) (subst (λ (x : Checked). CheckedBy (formOf (c .before .before .before .before .before .before .before .before .before .before .before .before .before .before .before .before .before .before .before .args .three)) x (c .before .before .before .before .before .before .before .before .before .before .before .before .before .before .before .before .before .before .before .args .query .now)) (c .before .before .before .before .before .before .before .layout .given .1) (c .before .before .before .before .before .before .before .before .before .checked .ensures)) (blank-long _ (length (c .before .before .before .before .before .before .before .before .before .before .before .before .before .before .before .before .before .before .before .args .report .now)) (c .before .before .before .before .before .before .before .before .before .before .before .before .before .before .clear .ensures)) (omega (arith, c .before .before .before .before .before .room .ensures, c .before .before .before .before .if2 .left)) (c .before .before .decide .ensures)))
     -- returns-4
-    (λ c. verdict-walked (formOf (c .before .before .before .before .before .before .before .before .before .before .before .before .before .before .before .before .before .before .before .args .three)) (laws-of (c .before .before .before .before .before .before .before .before .before .before .before .before .before .before .before .before .before .before .before .args .three)) (c .before .before .before .before .before .before .before .before .before .before .before .before .before .before .before .before .before .before .before .args .order .now) (c .before .before .before .before .before .before .before .before .before .before .before .before .before .before .before .before .before .before .before .args .query .now) (c .before .before .before .before .before .before .before .before .before .before .before .before .before .before .before .before .before .before .before .args .report .now) _ _ _ _ (sym (c .before .before .before .before .before .before .before .before .before .before .before .is-order .ensures) ∙ not-false _ (c .before .before .before .before .before .before .before .before .before .before .if1 .left)) (subst (λ (x : Checked). CheckedBy (formOf (c .before .before .before .before .before .before .before .before .before .before .before .before .before .before .before .before .before .before .before .args .three)) x (c .before .before .before .before .before .before .before .before .before .before .before .before .before .before .before .before .before .before .before .args .query .now)) (c .before .before .before .before .before .before .before .layout .given .1) (c .before .before .before .before .before .before .before .before .before .checked .ensures)) (blank-long _ (length (c .before .before .before .before .before .before .before .before .before .before .before .before .before .before .before .before .before .before .before .args .report .now)) (c .before .before .before .before .before .before .before .before .before .before .before .before .before .before .clear .ensures)) (subst (λ (k : ℕ). k ≤ _) (c .before .before .before .before .before .room .ensures) (c .before .before .before .before .if2 .left)) (c .before .before .decide .ensures)))
+    (λ c. verdict-walked (formOf (c .before .before .before .before .before .before .before .before .before .before .before .before .before .before .before .before .before .before .before .args .three)) (laws-of (c .before .before .before .before .before .before .before .before .before .before .before .before .before .before .before .before .before .before .before .args .three)) (c .before .before .before .before .before .before .before .before .before .before .before .before .before .before .before .before .before .before .before .args .order .now) (c .before .before .before .before .before .before .before .before .before .before .before .before .before .before .before .before .before .before .before .args .query .now) (c .before .before .before .before .before .before .before .before .before .before .before .before .before .before .before .before .before .before .before .args .report .now) _ _ _ _ (sym (c .before .before .before .before .before .before .before .before .before .before .before .is-order .ensures) ∙ not-false _ (c .before .before .before .before .before .before .before .before .before .before .if1 .left)) (subst (λ (x : Checked). CheckedBy (formOf (c .before .before .before .before .before .before .before .before .before .before .before .before .before .before .before .before .before .before .before .args .three)) x (c .before .before .before .before .before .before .before .before .before .before .before .before .before .before .before .before .before .before .before .args .query .now)) (c .before .before .before .before .before .before .before .layout .given .1) (c .before .before .before .before .before .before .before .before .before .checked .ensures)) (blank-long _ (length (c .before .before .before .before .before .before .before .before .before .before .before .before .before .before .before .before .before .before .before .args .report .now)) (c .before .before .before .before .before .before .before .before .before .before .before .before .before .before .clear .ensures)) (omega (arith, c .before .before .before .before .before .room .ensures, c .before .before .before .before .if2 .left)) (c .before .before .decide .ensures)))

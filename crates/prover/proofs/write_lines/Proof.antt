@@ -22,15 +22,15 @@ write-lines-spec =
     -- returns
     (λ c. let (ls, e) = refuted-lines _ (c .before .before .before .before .pre .3) in derivation-none _ _ ls _ e (c .if1 .taken) (c .before .before .before .before .pre .2))
     -- limit-requires
-    (λ c κs. let p = c .before .before .before .before .before .pre in (few-links _ _ (p .0), p .0 .terms-within))
+    (λ c κs. let p = c .before .before .before .before .pre in (few-links _ _ (p .0), p .0 .terms-within))
     -- most-lines-requires
     (λ c κs. search needs)
     -- start-requires
-    (λ c κs. let p = c .before .before .before .before .before .before .before .pre in (p .0, p .1))
+    (λ c κs. let p = c .before .before .before .before .before .before .pre in (p .0, p .1))
     -- list-requires
     (λ c κs.
     let p = c .before .before .before .before .before .before .before .before .pre in
-    (p .0, subst Fits (sym (c .before .start .ensures)) (started-fits (p .1)), omega arith, start-steps _ _ _ _ (joinedOf (c .before .start .result)) (said-links _ _) (sym (terms-said _ _ (p .0))) (c .before .before .before .limit .ensures) (c .before .start .ensures) (p .1)))
+    (p .0, subst Fits (sym (c .before .start .ensures)) (started-fits (p .0) (p .1)), omega arith, start-steps _ _ _ _ (joinedOf (c .before .start .result)) (said-links _ _) (sym (terms-said _ _ (p .0))) (c .before .before .before .limit .ensures) (c .before .start .ensures) (p .1)))
     -- clear-requires
     (λ c κs. search needs)
     -- same-length

@@ -1,16 +1,16 @@
 -- Assumes nothing.
 use borrow.Author.Needs.{needs}
-use Rattle.luck_vectors.proofs.main.Statement.{statement}
-use Rattle.luck_vectors.proofs.main.Tie as tie
+use Rattle.vectors.proofs.run_row.Statement.{statement}
+use Rattle.vectors.proofs.run_row.Tie as tie
 
 abbrev Inv-loop : tie.InvT-loop
-Inv-loop turns₀ turns = Unit {0}
+Inv-loop row turns₀ turns = Unit {0}
 
 abbrev μ-loop : tie.MeasureT-loop
-μ-loop turns₀ turns = turns
+μ-loop row turns₀ turns = turns
 
-pub main-spec : {M : Type 1} → statement M
-main-spec =
+pub run-row-spec : {M : Type 1} → statement M
+run-row-spec =
     tie.close
     (tie.spec
     Inv-loop
