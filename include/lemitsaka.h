@@ -9,8 +9,9 @@
  * Every slice is a pointer and a length in bytes:
  *
  *   order    the order in which the rules are tried: eight bytes, each of 1 to 8 once
- *   query    the statements, at most 561 bytes; the term byte 255 names null, one node whose link goes to itself. The calls with
- *            `links` in their names know three links, and their queries have a layout of their own, at most 637 bytes
+ *   query    the statements, at most 561 bytes; the term byte 255 names null, one node whose link goes to itself.
+ *            lemitsaka_links_verdict and lemitsaka_links_derivation know three links: their queries have a layout of their own,
+ *            at most 637 bytes
  *   report, buffer, and all others that are not const    lent to the call, which writes every byte, whatever it answers
  *
  * Any bytes and any lengths will do: what is no order list, no query and so on is refused. What the library cannot see for
