@@ -12,7 +12,7 @@ fn put_answer(buffer: &mut [u8], query: &[u8]) -> usize
     match between_call::between(query, &mut report) {
         BetweenAnswer::Heap => {
             let to = text::put_bytes(buffer, 0, b"sat\n");
-            wording::put_report(buffer, to, &report)
+            wording::put_report(buffer, to, &report, 1)
         }
         BetweenAnswer::Nothing => text::put_bytes(buffer, 0, b"unsat\n"),
         BetweenAnswer::Refused(k, place) => wording::put_refusal(buffer, 0, k, place),

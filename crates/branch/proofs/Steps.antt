@@ -18,26 +18,25 @@ use Rattle.logic.specs.Facts.{Graph, Facts, Joined, terms, unjoined, andThen, j
 use Rattle.logic.specs.Rules.{Rule, REFLEX, TRANS1, TRANS2, FUNC, CYCLE, SCC, TOTAL, SHARE, Fact, equal, reaches, next, branch}
 use Rattle.facts.specs.Path.{linksIn}
 use Rattle.facts.specs.Square.{square}
-use Rattle.facts.specs.Pairs.{Fits}
-use Rattle.facts.proofs.Joins.{join-pairs}
+use Rattle.facts.specs.Pairs.{pairsIn, Fits}
+use Rattle.facts.proofs.Joins.{none-before, join-pairs}
 use Rattle.branch.specs.Answers.{factOf}
 use Rattle.branch.specs.declared.Fact as code
 use Rattle.branch.specs.declared.Fact.the-variants as fact
 use Rattle.facts.specs.declared.Term.{Term}
 
--- no pair stands in front of a single join
-pub alone-fits : (n a b : ℕ) (s : Facts) (ps : List (ℕ × ℕ)) → n ≤ 16 → ps ≡ [] → Fits (andThen (record { pairs = ps; facts = s }) (join n a b))
-unfolding andThen
-alone-fits n a b s ps h e = rw e (omega (arith, join-pairs n a b s))
+-- no pair stands before a single join
+pub alone-fits : (kept replaced : List ℕ) (n a b : ℕ) (s : Facts) → n ≤ 16 → Fits (andThen (record { pairs = pairsIn kept replaced 0; facts = s }) (join n a b))
+alone-fits kept replaced n a b s h = rw (none-before kept replaced s (join n a b)) (omega (arith, join-pairs n a b s))
 
 pub branch-fits : (n : ℕ) (s : Facts) (c : Fact) → n ≤ 16 → Fits (branch n s c)
 unfolding branch unjoined
 branch-fits n s (equal a b) h = omega (arith, join-pairs n a b s)
 branch-fits n s (reaches i a b) h = omega arith
 
-pub added-equal : (k n : ℕ) (f : code.Fact) (a b : Term) (s : Facts) (ps : List (ℕ × ℕ)) (j : Joined) → f ≡ fact.Equal a b → ps ≡ [] → j ≡ andThen (record { pairs = ps; facts = s }) (join n (a .0) (b .0)) → j ≡ branch n s (factOf k f)
-unfolding branch andThen
-added-equal k n f a b s ps j e p h = h ∙ ap (λ (qs : List (ℕ × ℕ)). andThen (record { pairs = qs; facts = s }) (join n (a .0) (b .0))) p ∙ ap (λ (x : code.Fact). branch n s (factOf k x)) (sym e)
+pub added-equal : (k n : ℕ) (f : code.Fact) (a b : Term) (s : Facts) (j : Joined) → f ≡ fact.Equal a b → j ≡ join n (a .0) (b .0) s → j ≡ branch n s (factOf k f)
+unfolding branch
+added-equal k n f a b s j e h = h ∙ ap (λ (x : code.Fact). branch n s (factOf k x)) (sym e)
 
 pub added-reaches : (k n : ℕ) (f : code.Fact) (a b : Term) (s p : Facts) (ps : List (ℕ × ℕ)) → f ≡ fact.Reaches a b → ps ≡ [] → p ≡ addReach k (a .0) (b .0) s → record { pairs = ps; facts = p } ≡ branch n s (factOf k f)
 unfolding branch unjoined

@@ -2,11 +2,13 @@
 use facts::Facts;
 use facts::Joined;
 use facts::Link;
+use facts::Pairs;
 use facts::Term;
 use rules::Rule;
 use rules::Third;
 ghost use mathlib.Core.Path.{_≡_};
 ghost use Prim.Native.Nat.{_≤_};
+ghost use Rattle.logic.specs.Facts.{join};
 ghost use Rattle.logic.specs.Rules.{branch};
 ghost use Rattle.facts.specs.Path.{pathOf, linksIn, HasLink};
 ghost use Rattle.facts.specs.Pairs.{joinedOf};
@@ -82,13 +84,63 @@ fn alternative(
     }
 }
 
+// A path with two terms joined, and the pairs joined to make it. The join works on the arrays of one copy.
+fn equated(s: Facts, n: usize, a: Term, b: Term) -> Joined
+    requires { ⌜ (n ≤ 16) × (a .0 ≤ 16) × (b .0 ≤ 16) ⌝ }
+    ensures { λ r. ⌜ joinedOf r ≡ join n (a .0) (b .0) (pathOf s) ⌝ }
+{
+    let single = s.single;
+    let mut rep = s.rep;
+    let mut link = s.link;
+    let mut reach = s.reach;
+    let mut link2 = s.link2;
+    let mut reach2 = s.reach2;
+    let mut link3 = s.link3;
+    let mut reach3 = s.reach3;
+    let mut kept = [0u8; 17];
+    let mut replaced = [0u8; 17];
+    let count = facts::join(
+        single,
+        &mut rep,
+        &mut link,
+        &mut reach,
+        &mut link2,
+        &mut reach2,
+        &mut link3,
+        &mut reach3,
+        &mut kept,
+        &mut replaced,
+        0,
+        n,
+        a,
+        b,
+    );
+    Joined {
+        pairs: Pairs {
+            kept,
+            replaced,
+            count,
+        },
+        facts: Facts {
+            rep,
+            single,
+            link,
+            reach,
+            link2,
+            reach2,
+            link3,
+            reach3,
+        },
+    }
+}
+
 // A path with a fact of link k joined or added, and the pairs joined to make it.
 fn added(s: Facts, n: usize, k: Link, fact: Fact) -> Joined
     requires { ⌜ (n ≤ 16) × HasLink (pathOf s) (k .0) × InRange fact ⌝ }
     ensures { λ r. ⌜ joinedOf r ≡ branch n (pathOf s) (factOf (k .0) fact) ⌝ }
 {
     match fact {
-        Fact::Equal(a, b) => facts::join(s, n, a, b, facts::no_pairs()),
+        Fact::Equal(a, b) => equated(s, n, a, b),
         Fact::Reaches(a, b) => {
             let reached = facts::add_reach(s, k, a, b);
             Joined {

@@ -12,11 +12,16 @@ use Rattle.logic.specs.Facts.{Facts, Joined}
 use Rattle.logic.specs.Derivation.{linesIn}
 use Rattle.logic.specs.Calls.{accepts}
 use Rattle.logic.specs.Calls as calls
+use Rattle.theory.proofs.Query.Tied.{Accepted}
 use Rattle.theory.proofs.Query.AcceptedBytes as acceptance
+use Rattle.theory.proofs.Paths.Start.{start-tied}
 use Rattle.theory.proofs.Calls.OneLink.{limit-one}
+use Rattle.query.specs.LaysOut.{LaysOut}
 use Rattle.query.specs.Answers.{CheckedAs}
 use Rattle.query.specs.declared.Layout.{Layout}
 use Rattle.query.specs.declared.Checked.the-variants as checked
+use Rattle.link_query.specs.Said.{said}
+use Rattle.link_query.proofs.Said.{one-said}
 use Rattle.start.specs.Taken.{started}
 use Rattle.checking.specs.Fitting.{Goal, goalOf, startGoal, step, shortOf, wrongFrom, wrongLine}
 use Rattle.checking.specs.CheckCall.{Checked, accepted, wrong, refused, misshapen, byWrong, queryRefusal, checkCall}
@@ -32,6 +37,19 @@ by-some : (k : ℕ) → 1 ≤ k → wrong k ≡ byWrong k
 unfolding byWrong
 by-some zero h = absurd (omega arith)
 by-some (suc k) h = refl
+
+-- a query in the form of 01, read by where its sections stand
+module _ (l : Layout) (bytes : List ℕ) (laid : LaysOut l bytes) where
+  pub accepted-in : accepts bytes ≡ true → Accepted (said l bytes)
+  accepted-in ok = subst Accepted (sym (one-said l bytes laid)) (acceptance.accepted bytes ok)
+
+  pub started-in : (j : Joined) → j ≡ started (said l bytes) → j ≡ started (decode bytes)
+  started-in j e = e ∙ ap started (one-said l bytes laid)
+
+-- the start has the one link of its query
+pub start-one : (bytes : List ℕ) → accepts bytes ≡ true → (j : Joined) → j ≡ started (decode bytes) → j .facts .links ≡ 1
+unfolding started
+start-one bytes ok j e = ap (λ (i : Joined). i .facts .links) e ∙ start-tied (decode bytes) (acceptance.accepted bytes ok) .same-links ∙ acceptance.decode-links bytes
 
 pub start-goal : (q : Query) (j : Joined) → j ≡ started q → goalOf j ≡ startGoal q
 unfolding goalOf startGoal started

@@ -1,22 +1,63 @@
--- A path by its rows: what is asked of the record is asked of them.
-use Prim.Native.Nat.{ℕ}
-use mathlib.Core.Path.{_≡_, refl, ap, _∙_}
+-- A path of one link by its rows: what is asked of the record is asked of them.
+use Prim.Native.Nat.{ℕ, min, max}
+use native.Mathlib.Omega.{arith}
+use mathlib.Core.Path.{_≡_, refl, sym, ap, _∙_}
+use mathlib.Core.Bool.{Bool, true, false, cond}
 use mathlib.Core.List.{List}
 use mathlib.Core.Option.{Option}
+use lib.Dec.{eqb}
 use Rattle.logic.specs.Query.{Query}
-use Rattle.logic.specs.Facts.{Facts, Joined, Line}
-use Rattle.logic.specs.Rules.{Rule, branch}
-use Rattle.facts.specs.Path.{pathOf}
+use Rattle.logic.specs.Facts.{Facts, Joined, Line, unjoined, joinPair, andThen, replace, settle, join, addReach}
+use Rattle.logic.specs.Rules.{Rule, Fact, equal, reaches, branch}
+use Rattle.theory.proofs.Paths.Settle.{settle-keeps}
+use Rattle.facts.specs.Path.{graphs, pathOf}
+use Rattle.facts.specs.Pairs.{pairsOf, joinedOf}
+use Rattle.facts.specs.declared.Facts as facts
+use Rattle.facts.specs.declared.Joined as joined
 use Rattle.branch.specs.Alternatives.{alternativeAt}
-use Rattle.checker.specs.Reading.{pathIn, Read, readAt}
+use Rattle.checker.specs.Reading.{pathIn, singleOf, Read, readAt}
+
+-- a record of a single link has the path of that link's rows, whatever its other rows hold
+pub rows-path : (s : facts.Facts) → s .single ≡ true → pathOf s ≡ pathIn (s .rep) (s .link) (s .reach)
+unfolding pathOf pathIn graphs
+rows-path s e = rw e refl
+
+one-single : (s : facts.Facts) → pathOf s .links ≡ 1 → s .single ≡ true
+unfolding pathOf
+one-single s = go (s .single)
+  where
+    go : (b : Bool) → cond {A = ℕ} b 1 3 ≡ 1 → b ≡ true
+    go true e = refl
+    go false e = absurd (omega (arith, e))
+
+-- so nothing of a branch of one link is lost with its other rows
+pub rows-joined : (j : joined.Joined) → pathOf (j .facts) .links ≡ 1 → singleOf (record { pairs = j .pairs; rep = j .facts .rep; link = j .facts .link; reach = j .facts .reach }) ≡ joinedOf j
+rows-joined j e = ap (λ (s : Facts). record { pairs = pairsOf (j .pairs); facts = s }) (sym (rows-path (j .facts) (one-single (j .facts) e)))
+
+-- a branch has the links of its path: joining replaces terms alone
+settle-links : (n k : ℕ) (s : Facts) → settle n k s .facts .links ≡ s .links
+unfolding replace
+settle-links n k s = settle-keeps n (λ t. t .links ≡ s .links) (λ t ab h e. h) k s refl
+
+branch-links : (n : ℕ) (s : Facts) (c : Fact) → branch n s c .facts .links ≡ s .links
+unfolding branch join unjoined joinPair andThen replace addReach
+branch-links n s (equal a b) = go (eqb a b)
+  where
+    go : (t : Bool) → cond t (unjoined s) (andThen (joinPair (min a b, max a b) s) (settle n n)) .facts .links ≡ s .links
+    go true = refl
+    go false = settle-links n n (replace (min a b) (max a b) s)
+branch-links n s (reaches i a b) = refl
 
 rows-links : (rep link reach : List ℕ) → pathIn rep link reach .links ≡ 1
-unfolding pathOf
+unfolding pathIn
 rows-links rep link reach = refl
 
 module _ (s : Facts) (rep link reach : List ℕ) (e : s ≡ pathIn rep link reach) where
   pub one-link : s .links ≡ 1
   one-link = ap (λ (t : Facts). t .links) e ∙ rows-links rep link reach
+
+  pub branch-one : (n : ℕ) (c : Fact) (j : Joined) → j ≡ branch n s c → j .facts .links ≡ 1
+  branch-one n c j h = ap (λ (i : Joined). i .facts .links) h ∙ branch-links n s c ∙ one-link
 
   pub reading-rows : (q : Query) (l : Option Line) (r : Read) → r ≡ readAt q s l → r ≡ readAt q (pathIn rep link reach) l
   reading-rows q l r h = h ∙ ap (λ (t : Facts). readAt q t l) e

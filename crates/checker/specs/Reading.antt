@@ -5,16 +5,19 @@ use mathlib.Core.Bool.{Bool, false, not, cond}
 use mathlib.Core.List.{List}
 use mathlib.Core.Option.{Option, none, some, Option·elim}
 use lib.ListN.{length}
+use lib.Dec.{eqb}
 use Rattle.logic.specs.Search.{at}
 use Rattle.logic.specs.Query.{Query, termCount}
-use Rattle.logic.specs.Facts.{Facts, Line, isClash}
+use Rattle.logic.specs.Facts.{Facts, Joined, Line, isClash}
 use Rattle.logic.specs.Rules.{triple, Move, move, applies}
 use Rattle.logic.specs.Walk.{isClashed}
 use Rattle.logic.specs.Derivation.{linesIn}
-use Rattle.facts.specs.Path.{pathOf}
+use Rattle.facts.specs.Path.{repOf, graphOf, noFacts}
+use Rattle.facts.specs.Pairs.{pairsOf}
 use Rattle.rules.specs.Answers.{kindOf}
 use Rattle.checking.specs.Fitting.{sameLine, moveIn}
 use Rattle.checking.specs.CheckCall.{countIn, misshapen}
+use Rattle.checker.specs.declared.Single.{Single}
 use Rattle.checker.specs.declared.Reading.{Reading}
 use Rattle.checker.specs.declared.Reading.the-variants as reading
 
@@ -37,9 +40,13 @@ unfoldable pub isLine : Option Line → Line → Bool
 isLine none h = false
 isLine (some l) h = sameLine l h
 
--- the path that has these rows
-abbrev pub pathIn : List ℕ → List ℕ → List ℕ → Facts
-pathIn rep link reach = pathOf (record { rep = rep; link = link; reach = reach })
+-- the path of one link that has these rows
+unfoldable pub pathIn : List ℕ → List ℕ → List ℕ → Facts
+pathIn rep link reach = record { rep = repOf rep; links = 1; graph = λ i. cond (eqb i 1) (graphOf link reach) noFacts }
+
+-- pairs that were joined, and the path then
+abbrev pub singleOf : Single → Joined
+singleOf j = record { pairs = pairsOf (j .pairs); facts = pathIn (j .rep) (j .link) (j .reach) }
 
 -- What a line is at a path: its end, a rule that applies there, or wrong.
 pub data Read : Type 0 where

@@ -26,7 +26,7 @@ ghost use Rattle.branch.specs.Alternatives.{alternativeAt};
 ghost use Rattle.logic.specs.Derivation.{linesIn};
 ghost use Rattle.checking.specs.Fitting.{wrongLine};
 ghost use Rattle.checking.specs.CheckCall.{countIn, byWrong, checkCall};
-ghost use Rattle.checker.specs.Reading.{lineAt, isLine, pathIn, readAt, readingOf, shapely, Shaped};
+ghost use Rattle.checker.specs.Reading.{lineAt, isLine, pathIn, singleOf, readAt, readingOf, shapely, Shaped};
 ghost use Rattle.checker.specs.Judging.{goalIn, JudgesHead, JudgesGoal, Ahead};
 ghost use Rattle.checker.specs.Promise.{meaning};
 
@@ -41,6 +41,14 @@ pub enum Reading {
     Ends,
     Applies(Rule, Term, Term, Third),
     Wrong,
+}
+
+// A branch of one link: the pairs that were joined to make it, and the rows of its path.
+pub struct Single {
+    pub pairs: Pairs,
+    pub rep: [u8; 17],
+    pub link: [u32; 17],
+    pub reach: [u32; 17],
 }
 
 // What the call answers: no fault, the first wrong line's number, or a refusal's number and place.
@@ -118,10 +126,10 @@ fn read_line(
         query,
         layout,
         &s.rep,
-        true,
+        s.single,
         &s.reach,
-        &s.reach,
-        &s.reach,
+        &s.reach2,
+        &s.reach3,
     ) {
         return Reading::Wrong;
     }
@@ -141,10 +149,34 @@ fn held<'a>(rep: &'a [u8; 17], link: &'a [u32; 17], reach: &'a [u32; 17]) -> Fac
     let own_rep = *rep;
     let own_link = *link;
     let own_reach = *reach;
+    let none = [0u32; 17];
     Facts {
         rep: own_rep,
+        single: true,
         link: own_link,
         reach: own_reach,
+        link2: none,
+        reach2: none,
+        link3: none,
+        reach3: none,
+    }
+}
+
+// A branch without rows for links that it does not have: they would stand on the stack at each depth.
+fn rows_of(j: Joined) -> Single
+    requires { ⌜ pathOf (j .facts) .links ≡ 1 ⌝ }
+    ensures { λ r. ⌜ singleOf r ≡ joinedOf j ⌝ }
+{
+    let pairs = j.pairs;
+    let s = j.facts;
+    let rep = s.rep;
+    let link = s.link;
+    let reach = s.reach;
+    Single {
+        pairs,
+        rep,
+        link,
+        reach,
     }
 }
 
@@ -177,12 +209,12 @@ fn branch_at<'a>(
     y: Term,
     z: Third,
     i: usize,
-) -> Joined
+) -> Single
     requires { ⌜ (n ≤ 16) × (x .0 ≤ 16) × (y .0 ≤ 16) × (z .0 ≤ 16) ⌝ }
-    ensures { λ r. ⌜ joinedOf r ≡ branch n (pathIn (now (rep .entry)) (now (link .entry)) (now (reach .entry))) (alternativeAt 1 n (pathIn (now (rep .entry)) (now (link .entry)) (now (reach .entry)) .graph 1) (kindOf rule) (x .0) (y .0) (z .0) i) ⌝ }
+    ensures { λ r. ⌜ singleOf r ≡ branch n (pathIn (now (rep .entry)) (now (link .entry)) (now (reach .entry))) (alternativeAt 1 n (pathIn (now (rep .entry)) (now (link .entry)) (now (reach .entry)) .graph 1) (kindOf rule) (x .0) (y .0) (z .0) i) ⌝ }
 {
     let s = held(rep, link, reach);
-    branch::branch(s, n, Link(1), rule, x, y, z, i)
+    rows_of(branch::branch(s, n, Link(1), rule, x, y, z, i))
 }
 
 // A branch: the lines of its joins, then its own, and then those of its branches in order, each checked by the same routine, one step
@@ -231,9 +263,9 @@ pub fn check_goal<'a>(
                     count,
                     left - 1,
                     branch.pairs,
-                    &branch.facts.rep,
-                    &branch.facts.link,
-                    &branch.facts.reach,
+                    &branch.rep,
+                    &branch.link,
+                    &branch.reach,
                     to,
                 );
                 if !judged.fits {
@@ -284,7 +316,7 @@ fn judge(query: &[u8], layout: Layout, derivation: &[u8]) -> CheckAnswer
 {
     let count = count_of(derivation);
     let n = layout.terms;
-    let goal = start::start(query, layout);
+    let goal = rows_of(start::start(query, layout));
     let judged = check_goal(
         query,
         layout,
@@ -292,9 +324,9 @@ fn judge(query: &[u8], layout: Layout, derivation: &[u8]) -> CheckAnswer
         count,
         limit(n),
         goal.pairs,
-        &goal.facts.rep,
-        &goal.facts.link,
-        &goal.facts.reach,
+        &goal.rep,
+        &goal.link,
+        &goal.reach,
         0,
     );
     let at = judged.at;

@@ -8,7 +8,7 @@ use Rattle.logic.specs.Search.{orElse}
 use Rattle.logic.specs.Facts.{Facts, Line, clash}
 use lib.Dec.{eqb}
 use Rattle.facts.specs.Square.{square}
-use Rattle.facts.specs.Path.{repOf, pathOf, onlyLink, graphOf}
+use Rattle.facts.specs.Path.{repOf, graphOf, noFacts, graphs, pathAs, pathOf}
 use Rattle.facts.specs.declared.Facts as code
 use Rattle.query.specs.declared.Layout.{Layout}
 use Rattle.link_query.specs.Said.{said}
@@ -18,22 +18,36 @@ use Rattle.clash.specs.Answers.{lineOf, ClashOf}
 use Rattle.clash.specs.Sections.{literalsIn, oneTerm, rowsOf, rowsHeld, sameField, alone, paired, pathClash}
 use Rattle.clash.proofs.Decomposed.{clash-split}
 
--- the rows that hold a path's reachability
+-- the rows that hold the reachability of the path that arrays hold: what is found with these lent is the clash of that path
+module _ (single : Bool) (rep link reach link2 reach2 link3 reach3 : List ℕ) where
+  abbrev path : Facts
+  path = pathAs single rep link reach link2 reach2 link3 reach3
+
+  pub rows-reach : (λ k. path .graph k .reach) ≡ rowsOf single reach reach2 reach3
+  unfolding graphs graphOf noFacts rowsOf
+  rows-reach = fun-ext (λ k. go (eqb k 1) single (eqb k 2) (eqb k 3))
+    where
+      go : (t u v w : Bool) → cond t (graphOf link reach) (cond u noFacts (cond v (graphOf link2 reach2) (cond w (graphOf link3 reach3) noFacts))) .reach ≡ (λ a b. cond t (square reach a b) (cond u false (cond v (square reach2 a b) (cond w (square reach3 a b) false))))
+      go true u v w = refl
+      go false true v w = refl
+      go false false true w = refl
+      go false false false true = refl
+      go false false false false = refl
+
+  pub rows-clash : (r : Clash) (q : Query) → ClashOf r q (repOf rep) (rowsOf single reach reach2 reach3) → lineOf r ≡ clash q path
+  rows-clash r q h = h path refl rows-reach
+
+-- the same of a path's record
 abbrev pub reachOf : code.Facts → ℕ → ℕ → ℕ → Bool
-reachOf s = rowsOf true (s .reach) (s .reach) (s .reach)
+reachOf s = rowsOf (s .single) (s .reach) (s .reach2) (s .reach3)
 
 pub path-reach : (s : code.Facts) → (λ k. pathOf s .graph k .reach) ≡ reachOf s
-unfolding pathOf onlyLink graphOf rowsOf
-path-reach s = fun-ext (λ k. go (eqb k 1))
-  where
-    go : (t : Bool) → cond t (graphOf (s .link) (s .reach)) (record { link = λ a b. false; reach = λ a b. false }) .reach ≡ (λ a b. cond t (square (s .reach) a b) false)
-    go true = refl
-    go false = refl
+unfolding pathOf
+path-reach s = rows-reach (s .single) (s .rep) (s .link) (s .reach) (s .link2) (s .reach2) (s .link3) (s .reach3)
 
--- what is found with the rows of a path lent is the clash of that path
 pub path-clash : (r : Clash) (q : Query) (s : code.Facts) → ClashOf r q (repOf (s .rep)) (reachOf s) → lineOf r ≡ clash q (pathOf s)
 unfolding pathOf
-path-clash r q s h = h (pathOf s) refl (path-reach s)
+path-clash r q s = rows-clash (s .single) (s .rep) (s .link) (s .reach) (s .link2) (s .reach2) (s .link3) (s .reach3) r q
 
 module _ (l : Layout) (bytes : List ℕ) (rep : ℕ → ℕ) (reach : ℕ → ℕ → ℕ → Bool) (s : Facts) (same-rep : s .rep ≡ rep) (same-reach : (λ k. s .graph k .reach) ≡ reach) where
   abbrev inEqualities : (ℕ → ℕ) → Option Line

@@ -131,10 +131,10 @@ pub fn is_held_negated(query: &[u8], links: usize, at: usize, i: usize, s: Facts
         at,
         i,
         &s.rep,
-        true,
+        s.single,
         &s.reach,
-        &s.reach,
-        &s.reach,
+        &s.reach2,
+        &s.reach3,
     )
 }
 

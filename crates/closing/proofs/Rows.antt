@@ -7,6 +7,7 @@ use mathlib.Core.Bool.{Bool, true, false, cond}
 use mathlib.Core.List.{List}
 use lib.ListN.{length, getD, set}
 use lib.Bits.{bitAnd, bitOr}
+use lib.Arith.{lt-of-le-ne}
 use lib.Dec.{eqb}
 use Rattle.logic.specs.Search.{_and_, _or_}
 use Rattle.logic.specs.Facts.{Graph, Facts, live}
@@ -16,12 +17,11 @@ use Rattle.theory.proofs.Basics.Compare.{eq-cases, eqb-true, eqb-self, le-cases
 use Rattle.theory.proofs.Paths.Ranged.{live-range}
 use Rattle.facts.specs.Bits.{bit}
 use Rattle.facts.specs.Square.{rowOf, square}
-use Rattle.facts.specs.Path.{HasLink, withReach}
+use Rattle.facts.specs.Path.{graphOf, noFacts, graphs, pathAs, replacedBy, HasLink}
 use Rattle.facts.proofs.Bits.{bit-and, bit-or, bit-none}
-use Rattle.facts.proofs.Path.{with-rep, with-links, with-here, with-elsewhere}
 use Rattle.facts.proofs.Square.{row-or, row-in, row-beyond, row-none, square-row, square-in, square-above, square-beside, set-same, set-other}
 use Rattle.closing.specs.Closed.{Closed}
-use Rattle.closing.specs.Rows.{Within, Above, Seeded, Passed, OnwardBelow, Onward, LinkClosed, ClosesLink, ClosedBelow}
+use Rattle.closing.specs.Rows.{Within, Above, Seeded, Passed, OnwardBelow, Onward, LinkClosed}
 
 module _ (rows : List ℕ) (full : length rows ≡ 17) (a w : ℕ) (h : a ≤ 16) where
   abbrev rows′ : List ℕ
@@ -216,90 +216,99 @@ pub passed-none : (row y far i : ℕ) → bit row y ≡ false → bit 0 i ≡ bi
 unfolding _and_
 passed-none row y far i e = bit-none i ∙ rw e refl
 
--- the closed rows in place of a link's own
-pub closes-link : (alive : ℕ) (k : ℕ) (s t : Facts) (link reach rows : List ℕ) → square link ≡ s .graph k .link → square reach ≡ s .graph k .reach → Within (bit alive) (square link) (square reach) rows → Above (square reach) rows → Seeded (bit alive) (square link) rows → Onward rows → t ≡ withReach k (square rows) s → ClosesLink (bit alive) k s t
-closes-link alive k s t link reach rows l h inside up (links, own) on e = subst (ClosesLink (bit alive) k s) (sym e) made
-  where
-    graph-here : _≡_ {A = Graph} (record { link = s .graph k .link; reach = square rows }) (withReach k (square rows) s .graph k)
-    graph-here = sym (with-here k (square rows) s)
+-- the rows of a link with all that follows
+pub link-closed : (alive : ℕ) (link reach rows : List ℕ) → Within (bit alive) (square link) (square reach) rows → Above (square reach) rows → Seeded (bit alive) (square link) rows → Onward rows → LinkClosed (bit alive) (graphOf link reach) (graphOf link rows)
+unfolding graphOf
+link-closed alive link reach rows inside up (links, own) on =
+    record { same-link = refl; reach-kept = up; reach-follows = inside; link-held = links; itself-held = own; onward-held = on }
 
-    made-here : LinkClosed (bit alive) (s .graph k) (record { link = s .graph k .link; reach = square rows })
-    made-here =
-        record {
-          same-link = refl;
-          reach-kept = λ a b f. up a b (ap (λ (r : ℕ → ℕ → Bool). r a b) h ∙ f);
-          reach-follows = λ a b f. subst (λ (r : ℕ → ℕ → Bool). Follows (bit alive) r (s .graph k .reach) a b) l (subst (λ (r : ℕ → ℕ → Bool). Follows (bit alive) (square link) r a b) h (inside a b f));
-          link-held = λ a b f. links a b (ap (λ (r : ℕ → ℕ → Bool). r a b) l ∙ f);
-          itself-held = own;
-          onward-held = on;
-        }
+-- a path, and another with all that follows of each of its links: facts are of these alone
+module _ (n : ℕ) (s t : Facts) (alive : ℕ → Bool) (e : alive ≡ live n s) (same-rep : t .rep ≡ s .rep) (same-links : t .links ≡ s .links)
+    (at-link : (i : ℕ) → HasLink s i → LinkClosed alive (s .graph i) (t .graph i))
+    (elsewhere : (i : ℕ) → HasLink s i ⊎ ((s .graph i ≡ noFacts) × (t .graph i ≡ noFacts))) where
+  reach-within : (i a b : ℕ) → t .graph i .reach a b ≡ true → HasLink s i
+  unfolding noFacts
+  reach-within i a b f = ⊎-elim (λ h. h) (λ none. absurd (true-false f (ap (λ (g : Graph). g .reach a b) (none .1)))) (elsewhere i)
 
-    made : ClosesLink (bit alive) k s (withReach k (square rows) s)
-    made =
-        record {
-          same-rep = with-rep k (square rows) s;
-          same-links = with-links k (square rows) s;
-          here = subst (LinkClosed (bit alive) (s .graph k)) graph-here made-here;
-          elsewhere = with-elsewhere k (square rows) s;
-        }
+  link-within : (i a b : ℕ) → t .graph i .link a b ≡ true → HasLink s i
+  unfolding noFacts
+  link-within i a b f = ⊎-elim (λ h. h) (λ none. absurd (true-false f (ap (λ (g : Graph). g .link a b) (none .1)))) (elsewhere i)
 
--- one link after the other
-pub closed-none : (alive : ℕ → Bool) (s : Facts) → ClosedBelow alive 1 s s
-closed-none alive s = record { same-rep = refl; same-links = refl; below = λ i l m. absurd (omega arith); elsewhere = λ i d. refl }
-
-pub closed-next : (alive : ℕ → Bool) (k : ℕ) (s t u : Facts) → 1 ≤ k → ClosedBelow alive k s t → ClosesLink alive k t u → ClosedBelow alive (k + 1) s u
-closed-next alive k s t u from-one c d =
-    record {
-      same-rep = d .same-rep ∙ c .same-rep;
-      same-links = d .same-links ∙ c .same-links;
-      below = λ i l m. ⊎-elim (now i) (λ ne. subst (LinkClosed alive (s .graph i)) (sym (d .elsewhere i (ne .0))) (c .below i l (let e = ne .0 in omega arith))) (eq-cases i k);
-      elsewhere = λ i out. d .elsewhere i (λ e. out (omega arith) (omega arith)) ∙ c .elsewhere i (λ l m. out l (omega arith));
-    }
-  where
-    as-was : t .graph k ≡ s .graph k
-    as-was = c .elsewhere k (λ l m. omega arith)
-
-    now : (i : ℕ) → i ≡ k → LinkClosed alive (s .graph i) (u .graph i)
-    now i e = subst (λ (j : ℕ). LinkClosed alive (s .graph j) (u .graph j)) (sym e) (subst (λ (g : Graph). LinkClosed alive g (u .graph k)) as-was (d .here))
-
-pub closed-last : (alive : ℕ → Bool) (k total : ℕ) (s t : Facts) → total ≡ s .links → k ≡ total + 1 → ClosedBelow alive k s t → ClosedBelow alive (s .links + 1) s t
-closed-last alive k total s t e f c = subst (λ (m : ℕ). ClosedBelow alive m s t) (f ∙ ap (λ (m : ℕ). m + 1) e) c
-
--- all links: the path is closed. Facts are of its links alone.
-module _ (n : ℕ) (s t : Facts) (alive : ℕ → Bool) (e : alive ≡ live n s) (c : ClosedBelow alive (s .links + 1) s t)
-    (reach-within : (i a b : ℕ) → s .graph i .reach a b ≡ true → HasLink s i)
-    (link-within : (i a b : ℕ) → s .graph i .link a b ≡ true → HasLink s i) where
-  link-cases : (i : ℕ) → (LinkClosed alive (s .graph i) (t .graph i) × HasLink s i) ⊎ (t .graph i ≡ s .graph i)
-  link-cases i = ⊎-elim (λ l. ⊎-elim (λ m. inl (c .below i l (omega arith), (omega arith, m))) (λ m. inr (c .elsewhere i (λ f g. omega arith))) (le-cases i (s .links))) (λ l. inr (c .elsewhere i (λ f g. omega arith))) (le-cases 1 i)
-
-  reach-is-within : (i a b : ℕ) → t .graph i .reach a b ≡ true → HasLink s i
-  reach-is-within i a b f = ⊎-elim (λ x. x .1) (λ x. reach-within i a b (sym (ap (λ (g : Graph). g .reach a b) x) ∙ f)) (link-cases i)
-
-  link-is-within : (i a b : ℕ) → t .graph i .link a b ≡ true → HasLink s i
-  link-is-within i a b f = ⊎-elim (λ x. x .1) (λ x. link-within i a b (sym (ap (λ (g : Graph). g .link a b) x) ∙ f)) (link-cases i)
-
-  closed-at : (i : ℕ) → HasLink s i → LinkClosed alive (s .graph i) (t .graph i)
-  closed-at i h = let l = h .0 in let m = h .1 in c .below i (omega arith) (omega arith)
-
-  pub closes : Closes n s t
+  closes : Closes n s t
   closes =
       record {
-        same-rep = c .same-rep;
-        same-links = c .same-links;
-        same-link = λ i. ⊎-elim (λ x. x .0 .same-link) (λ x. ap (λ (g : Graph). g .link) x) (link-cases i);
-        reach-kept = λ i a b f. ⊎-elim (λ x. x .0 .reach-kept a b f) (λ x. ap (λ (g : Graph). g .reach a b) x ∙ f) (link-cases i);
-        reach-linked = λ i a b f. let h = reach-is-within i a b f in let l = h .0 in (omega arith, h .1);
-        reach-follows = λ i a b f. subst (λ (p : ℕ → Bool). Follows p (s .graph i .link) (s .graph i .reach) a b) e (closed-at i (reach-is-within i a b f) .reach-follows a b f);
+        same-rep = same-rep;
+        same-links = same-links;
+        same-link = λ i. ⊎-elim (λ h. at-link i h .same-link) (λ none. ap (λ (g : Graph). g .link) (none .1 ∙ sym (none .0))) (elsewhere i);
+        reach-kept = λ i a b f. ⊎-elim (λ h. at-link i h .reach-kept a b f) (λ none. ap (λ (g : Graph). g .reach a b) (none .1 ∙ sym (none .0)) ∙ f) (elsewhere i);
+        reach-linked = λ i a b f. let h = reach-within i a b f in let l = h .0 in (omega arith, h .1);
+        reach-follows = λ i a b f. subst (λ (p : ℕ → Bool). Follows p (s .graph i .link) (s .graph i .reach) a b) e (at-link i (reach-within i a b f) .reach-follows a b f);
       }
 
-  pub closed : n ≤ 16 → Closed n t
+  closed : n ≤ 16 → Closed n t
   unfolding live
   closed small =
       record {
         itself-held = λ i a low high h.
-            let live-a : live n s a ≡ true = rw (sym (c .same-rep)) h in
-            let m : i ≤ s .links = rw (sym (c .same-links)) high in
-            closed-at i (omega arith, m) .itself-held a (let in-n = live-range n s a live-a in omega arith) (ap (λ (p : ℕ → Bool). p a) e ∙ live-a);
-        link-held = λ i a b f. closed-at i (link-is-within i a b f) .link-held a b f;
-        onward-held = λ i a b d f g. closed-at i (reach-is-within i a b f) .onward-held a b d f g;
+            let live-a : live n s a ≡ true = rw (sym same-rep) h in
+            let m : i ≤ s .links = rw (sym same-links) high in
+            at-link i (omega arith, m) .itself-held a (let in-n = live-range n s a live-a in omega arith) (ap (λ (p : ℕ → Bool). p a) e ∙ live-a);
+        link-held = λ i a b f. at-link i (link-within i a b f) .link-held a b f;
+        onward-held = λ i a b d f g. at-link i (reach-within i a b f) .onward-held a b d f g;
       }
+
+-- the same of the path that arrays hold
+module _ (n : ℕ) (single : Bool) (rep link reach link2 reach2 link3 reach3 later later2 later3 : List ℕ) (alive : ℕ → Bool) (e : alive ≡ live n (replacedBy rep))
+    (first : LinkClosed alive (graphOf link reach) (graphOf link later))
+    (others : single ≡ false → LinkClosed alive (graphOf link2 reach2) (graphOf link2 later2) × LinkClosed alive (graphOf link3 reach3) (graphOf link3 later3)) where
+  abbrev was : Facts
+  was = pathAs single rep link reach link2 reach2 link3 reach3
+
+  abbrev becomes : Facts
+  becomes = pathAs single rep link later link2 later2 link3 later3
+
+  alive-is : alive ≡ live n was
+  unfolding live replacedBy
+  alive-is = e
+
+  one-of : (i : ℕ) → (i ≡ 1) ⊎ (((single ≡ false) × ((i ≡ 2) ⊎ (i ≡ 3))) ⊎ ((HasLink was i → ⊥) × (was .graph i ≡ noFacts) × (becomes .graph i ≡ noFacts)))
+  unfolding graphs
+  one-of i = ⊎-elim inl (λ d. inr (go d single refl)) (eq-cases i 1)
+    where
+      go : ((i ≡ 1 → ⊥) × (eqb i 1 ≡ false)) → (b : Bool) → single ≡ b → ((single ≡ false) × ((i ≡ 2) ⊎ (i ≡ 3))) ⊎ ((HasLink was i → ⊥) × (was .graph i ≡ noFacts) × (becomes .graph i ≡ noFacts))
+      go d true f = inr (rw f (λ h. d .0 (omega (arith, h .0, h .1))), rw (d .1, f) refl, rw (d .1, f) refl)
+      go d false f =
+          ⊎-elim (λ p. inl (f, inl p))
+          (λ d′.
+          ⊎-elim (λ p. inl (f, inr p))
+          (λ d″. inr (rw f (λ h. d″ .0 (let above = lt-of-le-ne (h .0) (λ z. d .0 (sym z)) in let past = lt-of-le-ne above (λ z. d′ .0 (sym z)) in omega (arith, h .1, past))), rw (d .1, f, d′ .1, d″ .1) refl, rw (d .1, f, d′ .1, d″ .1) refl))
+          (eq-cases i 3))
+          (eq-cases i 2)
+
+  at-first : (i : ℕ) → i ≡ 1 → HasLink was i × LinkClosed alive (was .graph i) (becomes .graph i)
+  unfolding graphs
+  at-first i p = rw p ((omega arith, few single), first)
+    where
+      few : (b : Bool) → 1 ≤ cond b 1 3
+      few true = omega arith
+      few false = omega arith
+
+  at-second : (i : ℕ) → i ≡ 2 → single ≡ false → HasLink was i × LinkClosed alive (was .graph i) (becomes .graph i)
+  unfolding graphs
+  at-second i p f = rw (p, f) ((omega arith, omega arith), others f .0)
+
+  at-third : (i : ℕ) → i ≡ 3 → single ≡ false → HasLink was i × LinkClosed alive (was .graph i) (becomes .graph i)
+  unfolding graphs
+  at-third i p f = rw (p, f) ((omega arith, omega arith), others f .1)
+
+  each : (i : ℕ) → (HasLink was i × LinkClosed alive (was .graph i) (becomes .graph i)) ⊎ ((HasLink was i → ⊥) × (was .graph i ≡ noFacts) × (becomes .graph i ≡ noFacts))
+  each i = ⊎-elim (λ p. inl (at-first i p)) (λ m. ⊎-elim (λ x. inl (⊎-elim (λ p. at-second i p (x .0)) (λ p. at-third i p (x .0)) (x .1))) inr m) (one-of i)
+
+  at-each : (i : ℕ) → HasLink was i → LinkClosed alive (was .graph i) (becomes .graph i)
+  at-each i h = ⊎-elim (λ x. x .1) (λ x. absurd (x .0 h)) (each i)
+
+  outside : (i : ℕ) → HasLink was i ⊎ ((was .graph i ≡ noFacts) × (becomes .graph i ≡ noFacts))
+  outside i = ⊎-elim (λ x. inl (x .0)) (λ x. inr (x .1, x .2)) (each i)
+
+  pub rows-closed : n ≤ 16 → Closes n was becomes × Closed n becomes
+  rows-closed small = (closes n was becomes alive alive-is refl refl at-each outside, closed n was becomes alive alive-is refl refl at-each outside small)

@@ -4,7 +4,7 @@ use mathlib.Core.Path.{_≡_}
 use mathlib.Core.Bool.{Bool, true}
 use mathlib.Core.List.{List}
 use Rattle.logic.specs.Search.{_and_, _or_}
-use Rattle.logic.specs.Facts.{Graph, Facts}
+use Rattle.logic.specs.Facts.{Graph}
 use Rattle.logic.specs.Decision.{Follows}
 use Rattle.facts.specs.Square.{square}
 
@@ -38,16 +38,3 @@ pub record LinkClosed (alive : ℕ → Bool) (g h : Graph) : Type 0 where
   pub link-held : (a b : ℕ) → h .link a b ≡ true → h .reach a b ≡ true
   pub itself-held : (a : ℕ) → a ≤ 16 → alive a ≡ true → h .reach a a ≡ true
   pub onward-held : (a b c : ℕ) → h .reach a b ≡ true → h .reach b c ≡ true → h .reach a c ≡ true
-
--- a path with the facts of link k closed, and with those of the links from 1 below k
-pub record ClosesLink (alive : ℕ → Bool) (k : ℕ) (s t : Facts) : Type 0 where
-  pub same-rep : t .rep ≡ s .rep
-  pub same-links : t .links ≡ s .links
-  pub here : LinkClosed alive (s .graph k) (t .graph k)
-  pub elsewhere : (i : ℕ) → (i ≡ k → ⊥) → t .graph i ≡ s .graph i
-
-pub record ClosedBelow (alive : ℕ → Bool) (k : ℕ) (s t : Facts) : Type 0 where
-  pub same-rep : t .rep ≡ s .rep
-  pub same-links : t .links ≡ s .links
-  pub below : (i : ℕ) → 1 ≤ i → i < k → LinkClosed alive (s .graph i) (t .graph i)
-  pub elsewhere : (i : ℕ) → (1 ≤ i → i < k → ⊥) → t .graph i ≡ s .graph i

@@ -1,6 +1,5 @@
 // A path closed under the rules that neither branch nor join: REFLEX, TRANS1 and TRANS2, all at once.
 use facts::Facts;
-use facts::Link;
 ghost use mathlib.Core.Path.{_≡_};
 ghost use mathlib.Core.Bool.{Bool, true};
 ghost use Prim.Native.Nat.{ℕ, _≤_};
@@ -9,22 +8,21 @@ ghost use Rattle.logic.specs.Search.{_and_};
 ghost use Rattle.logic.specs.Decision.{Closes};
 ghost use Rattle.facts.specs.Bits.{bit};
 ghost use Rattle.facts.specs.Square.{square};
-ghost use Rattle.facts.specs.Path.{pathOf, HasLink};
-ghost use Rattle.closing.specs.Rows.{Within, Above, Seeded, Passed, Onward, ClosesLink};
+ghost use Rattle.facts.specs.Path.{graphOf, pathAs, pathOf};
+ghost use Rattle.closing.specs.Rows.{Within, Above, Seeded, Passed, Onward, LinkClosed};
 ghost use Rattle.closing.specs.Closed.{Closed, threeOf, begins};
 
 // REFLEX and TRANS1: each row with its own term, where that is not replaced, and with what it is linked to.
-fn seeded(alive: u32, link: &[u32; 17], reach: [u32; 17]) -> [u32; 17]
-    ensures { λ r. ⌜ Within (bit alive) (square (now (link .entry))) (square reach) r × Above (square reach) r × Seeded (bit alive) (square (now (link .entry))) r ⌝ }
+fn seed(alive: u32, link: &[u32; 17], reach: &mut [u32; 17])
+    requires { ⌜ length (now reach) ≡ 17 ⌝ }
+    ensures { λ _. ⌜ Within (bit alive) (square (now (link .entry))) (square (now (reach .entry))) (now (reach .exit)) × Above (square (now (reach .entry))) (now (reach .exit)) × Seeded (bit alive) (square (now (link .entry))) (now (reach .exit)) × (length (now (reach .exit)) ≡ 17) ⌝ }
 {
-    let mut out = reach;
     let mut a: usize = 0;
     while a < 17 {
         let own = facts::only(a) & alive;
-        out[a] = out[a] | (link[a] | own);
+        reach[a] = reach[a] | (link[a] | own);
         a += 1;
     }
-    out
 }
 
 // What y reaches, for a row that has y.
@@ -56,42 +54,63 @@ fn through(rows: &mut [u32; 17], y: usize)
 }
 
 // TRANS2 through each term.
-fn closed_rows(rows: [u32; 17]) -> [u32; 17]
-    ensures { λ r. ⌜ ((alive : ℕ → Bool) (link reach : ℕ → ℕ → Bool) → Within alive link reach rows → Within alive link reach r) × Above (square rows) r × Onward r ⌝ }
+fn pass_on(rows: &mut [u32; 17])
+    requires { ⌜ length (now rows) ≡ 17 ⌝ }
+    ensures { λ _. ⌜ ((alive : ℕ → Bool) (link reach : ℕ → ℕ → Bool) → Within alive link reach (now (rows .entry)) → Within alive link reach (now (rows .exit))) × Above (square (now (rows .entry))) (now (rows .exit)) × Onward (now (rows .exit)) × (length (now (rows .exit)) ≡ 17) ⌝ }
 {
-    let mut out = rows;
     let mut y: usize = 0;
     while y < 17 {
-        through(&mut out, y);
+        through(rows, y);
         y += 1;
     }
-    out
 }
 
-// The path with all the facts that REFLEX, TRANS1 and TRANS2 give of link k.
-fn close_link(s: Facts, alive: u32, k: Link) -> Facts
-    requires { ⌜ HasLink (pathOf s) (k .0) ⌝ }
-    ensures { λ r. ⌜ ClosesLink (bit alive) (k .0) (pathOf s) (pathOf r) ⌝ }
+// All the facts that REFLEX, TRANS1 and TRANS2 give of a link, in its rows.
+pub fn close_link(alive: u32, link: &[u32; 17], reach: &mut [u32; 17])
+    requires { ⌜ length (now reach) ≡ 17 ⌝ }
+    ensures { λ _. ⌜ LinkClosed (bit alive) (graphOf (now (link .entry)) (now (reach .entry))) (graphOf (now (link .entry)) (now (reach .exit))) × (length (now (reach .exit)) ≡ 17) ⌝ }
 {
-    let link = facts::link_rows(s, k);
-    let reach = facts::reach_rows(s, k);
-    let rows = seeded(alive, &link, reach);
-    facts::with_reach(s, k, closed_rows(rows))
+    seed(alive, link, reach);
+    pass_on(reach);
 }
 
-// The same of every link.
+// The same of every link of a path.
+pub fn close_rows<'a>(
+    single: bool,
+    rep: &'a [u8; 17],
+    link: &'a [u32; 17],
+    reach: &'a mut [u32; 17],
+    link2: &'a [u32; 17],
+    reach2: &'a mut [u32; 17],
+    link3: &'a [u32; 17],
+    reach3: &'a mut [u32; 17],
+    n: usize,
+)
+    requires { ⌜ (n ≤ 16) × (length (now reach) ≡ 17) × (length (now reach2) ≡ 17) × (length (now reach3) ≡ 17) ⌝ }
+    ensures { λ _. ⌜ Closes n (pathAs single (now (rep .entry)) (now (link .entry)) (now (reach .entry)) (now (link2 .entry)) (now (reach2 .entry)) (now (link3 .entry)) (now (reach3 .entry))) (pathAs single (now (rep .entry)) (now (link .entry)) (now (reach .exit)) (now (link2 .entry)) (now (reach2 .exit)) (now (link3 .entry)) (now (reach3 .exit))) × Closed n (pathAs single (now (rep .entry)) (now (link .entry)) (now (reach .exit)) (now (link2 .entry)) (now (reach2 .exit)) (now (link3 .entry)) (now (reach3 .exit))) × (length (now (reach .exit)) ≡ 17) × (length (now (reach2 .exit)) ≡ 17) × (length (now (reach3 .exit)) ≡ 17) ⌝ }
+{
+    let alive = facts::live(rep, n);
+    close_link(alive, link, reach);
+    if single {
+        return;
+    }
+    close_link(alive, link2, reach2);
+    close_link(alive, link3, reach3);
+}
+
+// The path closed: its record is copied once, and its rows are closed in place.
 pub fn close(s: Facts, n: usize) -> Facts
     requires { ⌜ n ≤ 16 ⌝ }
     ensures { λ r. ⌜ Closes n (pathOf s) (pathOf r) × Closed n (pathOf r) ⌝ }
 {
     let alive = facts::live(&s.rep, n);
-    let total = facts::links(s);
     let mut t = s;
-    let mut k: usize = 1;
-    while k <= total {
-        t = close_link(t, alive, Link(k));
-        k += 1;
+    close_link(alive, &s.link, &mut t.reach);
+    if s.single {
+        return t;
     }
+    close_link(alive, &s.link2, &mut t.reach2);
+    close_link(alive, &s.link3, &mut t.reach3);
     t
 }
 

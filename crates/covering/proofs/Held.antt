@@ -13,9 +13,10 @@ use Rattle.theory.proofs.Basics.Compare.{eq-cases, le-cases}
 use Rattle.facts.specs.Bits.{bit}
 use Rattle.facts.specs.Square.{rowOf, square}
 use Rattle.facts.proofs.Square.{row-in, row-none, square-row, square-in, square-above, square-beside}
-use Rattle.facts.specs.Path.{onlyLink, repOf, graphOf, pathOf}
+use Rattle.facts.specs.Path.{noFacts, repOf, graphOf, pathOf}
+use Rattle.facts.proofs.Path.{first, second, third, by-link, graph-first, graph-second, graph-third}
 use Rattle.facts.specs.declared.Facts as code
-use Rattle.covering.specs.Covers.{RowHeld, RowsHeld, SameReps, Covers}
+use Rattle.covering.specs.Covers.{RowHeld, RowsHeld, GraphHeld, SameReps, Covers}
 
 -- a property of all numbers below k, of k, and so of all below k + 1
 abbrev pub Below : (ℕ → Type 0) → ℕ → Type 0
@@ -55,24 +56,30 @@ pub rows-held : (rows reps others : List ℕ) → ((a : ℕ) → a ≤ 16 → (b
 rows-held rows reps others h a b e =
     ⊎-elim (λ l. h a l b e) (λ l. absurd (true-false e (square-above rows a b (omega arith)))) (le-cases a 16)
 
--- facts of the one link; another has none
-one-held : (rep : ℕ → ℕ) (g g′ : Graph) → RowsHeld (g .link) rep (g′ .link) × RowsHeld (g .reach) rep (g′ .reach) → (i : ℕ) → RowsHeld (onlyLink g i .link) rep (onlyLink g′ i .link) × RowsHeld (onlyLink g i .reach) rep (onlyLink g′ i .reach)
-unfolding onlyLink
-one-held rep g g′ h i = go (eqb i 1)
-  where
-    none : Graph
-    none = record { link = λ a b. false; reach = λ a b. false }
+-- the whole path: the first link, and where there are three the others; another number has no facts
+module _ (w s : code.Facts) (same : SameReps (repOf (w .rep)) (repOf (s .rep))) (here : GraphHeld (first s) (repOf (w .rep)) (first w)) where
+  abbrev Held : ℕ → Type 0
+  Held i = GraphHeld (pathOf s .graph i) (repOf (w .rep)) (pathOf w .graph i)
 
-    go : (t : Bool) → RowsHeld (cond t g none .link) rep (cond t g′ none .link) × RowsHeld (cond t g none .reach) rep (cond t g′ none .reach)
-    go true = h
-    go false = (λ a b e. absurd (false≢true e), λ a b e. absurd (false≢true e))
+  covered : ((i : ℕ) → Held i) → Covers (pathOf w) (pathOf s)
+  unfolding pathOf
+  covered h = record { same-reps = same; links-held = λ i. h i .0; reach-held = λ i. h i .1 }
 
--- the whole path
-pub covers-all : (w s : code.Facts) → SameReps (repOf (w .rep)) (repOf (s .rep)) → RowsHeld (square (s .link)) (repOf (w .rep)) (square (w .link)) → RowsHeld (square (s .reach)) (repOf (w .rep)) (square (w .reach)) → Covers (pathOf w) (pathOf s)
-unfolding pathOf graphOf
-covers-all w s same links reach =
-    record {
-      same-reps = same;
-      links-held = λ i. one-held (repOf (w .rep)) (graphOf (s .link) (s .reach)) (graphOf (w .link) (w .reach)) (links, reach) i .0;
-      reach-held = λ i. one-held (repOf (w .rep)) (graphOf (s .link) (s .reach)) (graphOf (w .link) (w .reach)) (links, reach) i .1;
-    }
+  none : (i : ℕ) → pathOf s .graph i ≡ noFacts → Held i
+  unfolding noFacts
+  none i e = (λ a b f. absurd (true-false f (ap (λ (g : Graph). g .link a b) e)), λ a b f. absurd (true-false f (ap (λ (g : Graph). g .reach a b) e)))
+
+  at : (i : ℕ) (f g : Graph) → f ≡ pathOf s .graph i → g ≡ pathOf w .graph i → GraphHeld f (repOf (w .rep)) g → Held i
+  at i f g e d h = subst (λ (f : Graph). GraphHeld f (repOf (w .rep)) (pathOf w .graph i)) e (subst (λ (g : Graph). GraphHeld f (repOf (w .rep)) g) d h)
+
+  first-held : (i : ℕ) → i ≡ 1 → Held i
+  first-held i e = at i (first s) (first w) (graph-first s i e) (graph-first w i e) here
+
+  pub covers-one : s .single ≡ true → Covers (pathOf w) (pathOf s)
+  covers-one e = covered (by-link s Held none first-held (λ i f d. absurd (true-false e d)) (λ i f d. absurd (true-false e d)))
+
+  pub covers-three : w .single ≡ false → GraphHeld (second s) (repOf (w .rep)) (second w) → GraphHeld (third s) (repOf (w .rep)) (third w) → Covers (pathOf w) (pathOf s)
+  covers-three few h k =
+      covered
+      (by-link s Held none first-held (λ i e d. at i (second s) (second w) (graph-second s i e d) (graph-second w i e few) h)
+      (λ i e d. at i (third s) (third w) (graph-third s i e d) (graph-third w i e few) k))

@@ -2,7 +2,7 @@
 use Prim.Native.Nat.{ℕ, _≤_}
 use mathlib.Core.Path.{_≡_}
 use mathlib.Core.Bool.{Bool, true}
-use Rattle.logic.specs.Facts.{Facts}
+use Rattle.logic.specs.Facts.{Graph, Facts}
 use Rattle.facts.specs.Bits.{bit}
 use Rattle.facts.specs.Square.{rowOf}
 
@@ -13,6 +13,10 @@ RowHeld row rep far = (b : ℕ) → b ≤ 16 → bit row b ≡ true → rowOf fa
 -- where a relation holds, another does of what stands for both
 abbrev pub RowsHeld : (ℕ → ℕ → Bool) → (ℕ → ℕ) → (ℕ → ℕ → Bool) → Type 0
 RowsHeld f rep g = (a b : ℕ) → f a b ≡ true → g (rep a) (rep b) ≡ true
+
+-- the same of the facts of one link
+abbrev pub GraphHeld : Graph → (ℕ → ℕ) → Graph → Type 0
+GraphHeld f rep g = RowsHeld (f .link) rep (g .link) × RowsHeld (f .reach) rep (g .reach)
 
 -- what stands for a term stands for what it was replaced by
 abbrev pub SameReps : (ℕ → ℕ) → (ℕ → ℕ) → Type 0

@@ -6,8 +6,8 @@ ghost use mathlib.Core.Bool.{true};
 ghost use Prim.Native.Nat.{ℕ, _≤_};
 ghost use Rattle.facts.specs.Bits.{bit};
 ghost use Rattle.facts.specs.Square.{rowOf, square};
-ghost use Rattle.facts.specs.Path.{pathOf, repOf};
-ghost use Rattle.covering.specs.Covers.{RowHeld, RowsHeld, SameReps, Covers};
+ghost use Rattle.facts.specs.Path.{pathOf, repOf, graphOf};
+ghost use Rattle.covering.specs.Covers.{RowHeld, RowsHeld, GraphHeld, SameReps, Covers};
 
 // Where a row has b, another has what stands for b.
 fn held_at(row: u32, b: usize, reps: &[u8; 17], far: u32) -> bool
@@ -94,15 +94,40 @@ fn same_reps(reps: &[u8; 17], olds: &[u8; 17]) -> bool
     true
 }
 
-// The path w holds the facts of s.
+// The facts of one link, others hold.
+fn graph_held<'a>(
+    link: &'a [u32; 17],
+    reach: &'a [u32; 17],
+    reps: &'a [u8; 17],
+    other_link: &'a [u32; 17],
+    other_reach: &'a [u32; 17],
+) -> bool
+    ensures { λ r. ⌜ (r ≡ true → GraphHeld (graphOf (now (link .entry)) (now (reach .entry))) (repOf (now (reps .entry))) (graphOf (now («other_link» .entry)) (now («other_reach» .entry)))) ⌝ }
+{
+    if !rows_held(link, reps, other_link) {
+        return false;
+    }
+    rows_held(reach, reps, other_reach)
+}
+
+// The path w holds the facts of s: a path of one link holds none about another.
 pub fn covers(w: Facts, s: Facts) -> bool
     ensures { λ r. ⌜ (r ≡ true → Covers (pathOf w) (pathOf s)) ⌝ }
 {
     if !same_reps(&w.rep, &s.rep) {
         return false;
     }
-    if !rows_held(&s.link, &w.rep, &w.link) {
+    if !graph_held(&s.link, &s.reach, &w.rep, &w.link, &w.reach) {
         return false;
     }
-    rows_held(&s.reach, &w.rep, &w.reach)
+    if s.single {
+        return true;
+    }
+    if w.single {
+        return false;
+    }
+    if !graph_held(&s.link2, &s.reach2, &w.rep, &w.link2, &w.reach2) {
+        return false;
+    }
+    graph_held(&s.link3, &s.reach3, &w.rep, &w.link3, &w.reach3)
 }

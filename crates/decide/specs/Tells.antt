@@ -9,9 +9,10 @@ use Rattle.logic.specs.Facts.{Facts, Line, clash}
 use Rattle.logic.specs.Rules.{triple, move, applies, rules, choose}
 use Rattle.logic.specs.Walk.{orderOf, walk, saturation}
 use Rattle.logic.specs.Decision.{HasHeap, NoHeap, Closes}
-use Rattle.facts.specs.Path.{pathOf}
+use Rattle.facts.specs.Path.{graphOf, pathOf}
 use Rattle.rules.specs.Answers.{kindOf}
 use Rattle.closing.specs.Closed.{Closed, begins}
+use Rattle.closing.specs.Rows.{LinkClosed}
 use Rattle.decide.specs.declared.Kind.{Kind}
 use Rattle.decide.specs.declared.Kind.the-variants as kind
 use Rattle.decide.specs.declared.Walked.{Walked}
@@ -47,6 +48,10 @@ pub record Ends (q : Query) (s : Facts) (k : Kind) (w : Facts) : Type 0 where
 -- the path that plain steps look at: closed under REFLEX, TRANS1 and TRANS2 where the order list begins with these
 abbrev pub Ahead : ℕ → List ℕ → Facts → Facts → Type 0
 Ahead n order s t = (begins order ≡ true → Closes n s t × Closed n t) × (begins order ≡ false → t ≡ s)
+
+-- the rows of one of its links: closed where that is wanted, and else as they were
+abbrev pub LinkAhead : Bool → (ℕ → Bool) → List ℕ → List ℕ → List ℕ → Type 0
+LinkAhead wanted alive link reach later = (wanted ≡ true → LinkClosed alive (graphOf link reach) (graphOf link later)) × (wanted ≡ false → later ≡ reach)
 
 -- the same of plain steps: where they find the path open, they end where our walk does; they give up only where they are limited
 pub record Walks (q : Query) (order : List ℕ) (k : ℕ) (s : Facts) (limited : Bool) (r : Walked) : Type 0 where

@@ -19,11 +19,12 @@ ghost use Rattle.logic.specs.Steps.{AtMost};
 ghost use Rattle.logic.specs.Decision.{Reachable};
 ghost use Rattle.theory.proofs.Query.Tied.{Accepted};
 ghost use Rattle.theory.proofs.Calls.Decision.{Known};
-ghost use Rattle.facts.specs.Path.{pathOf};
+ghost use Rattle.facts.specs.Bits.{bit};
+ghost use Rattle.facts.specs.Path.{pathAs, pathOf};
 ghost use Rattle.link_query.specs.Said.{said, Within};
 ghost use Rattle.closing.specs.Closed.{Closed, begins};
 ghost use Rattle.walk.specs.Looks.{lookOf};
-ghost use Rattle.decide.specs.Tells.{isRefuted, isUnknown, Sees, Ends, Ahead, Walks, Shows};
+ghost use Rattle.decide.specs.Tells.{isRefuted, isUnknown, Sees, Ends, LinkAhead, Walks, Shows};
 
 // What is found out of a path.
 pub enum Kind {
@@ -97,30 +98,66 @@ fn spent(budget: usize) -> usize
     0
 }
 
-// The path closed under REFLEX, TRANS1 and TRANS2, where the order list begins with these: our walk comes there by steps of theirs alone.
-fn ahead(order: &[u8], s: Facts, n: usize) -> Facts
-    requires { ⌜ (n ≤ 16) × (3 ≤ length (now order)) ⌝ }
-    ensures { λ r. ⌜ Ahead n (now (order .entry)) (pathOf s) (pathOf r) ⌝ }
+// The rows of a link closed under REFLEX, TRANS1 and TRANS2, where that is wanted.
+fn ahead(wanted: bool, alive: u32, link: &[u32; 17], reach: &mut [u32; 17])
+    requires { ⌜ length (now reach) ≡ 17 ⌝ }
+    ensures { λ _. ⌜ LinkAhead wanted (bit alive) (now (link .entry)) (now (reach .entry)) (now (reach .exit)) × (length (now (reach .exit)) ≡ 17) ⌝ }
 {
-    if closing::begins(order) {
-        return closing::close(s, n);
+    if wanted {
+        closing::close_link(alive, link, reach);
     }
-    s
 }
 
-// What our walk sees at such a path: a closed one leaves nothing to the rules that closed it.
-fn look_ahead(query: &[u8], layout: Layout, order: &[u8], t: Facts) -> walk::Seen
-    requires { ⌜ Within layout (now query) × (3 ≤ length (now order)) × (begins (now order) ≡ true → Closed (layout .terms) (pathOf t)) ⌝ }
-    ensures { λ r. ⌜ lookOf r ≡ look (said layout (now (query .entry))) (orderOf (now (order .entry))) (pathOf t) ⌝ }
+// What our walk sees at a path that is closed where the order list begins with these rules: they have nothing left there.
+fn look_ahead<'a>(
+    query: &[u8],
+    layout: Layout,
+    order: &[u8],
+    single: bool,
+    rep: &'a [u8; 17],
+    link: &'a [u32; 17],
+    reach: &'a [u32; 17],
+    link2: &'a [u32; 17],
+    reach2: &'a [u32; 17],
+    link3: &'a [u32; 17],
+    reach3: &'a [u32; 17],
+) -> walk::Seen
+    requires { ⌜ Within layout (now query) × (3 ≤ length (now order)) × (begins (now order) ≡ true → Closed (layout .terms) (pathAs single (now rep) (now link) (now reach) (now link2) (now reach2) (now link3) (now reach3))) ⌝ }
+    ensures { λ r. ⌜ lookOf r ≡ look (said layout (now (query .entry))) (orderOf (now (order .entry))) (pathAs single (now (rep .entry)) (now (link .entry)) (now (reach .entry)) (now (link2 .entry)) (now (reach2 .entry)) (now (link3 .entry)) (now (reach3 .entry))) ⌝ }
 {
     if closing::begins(order) {
-        return walk::look(query, layout, &order[3..], t);
+        return walk::look(
+            query,
+            layout,
+            &order[3..],
+            single,
+            rep,
+            link,
+            reach,
+            link2,
+            reach2,
+            link3,
+            reach3,
+        );
     }
-    walk::look(query, layout, order, t)
+    walk::look(
+        query,
+        layout,
+        order,
+        single,
+        rep,
+        link,
+        reach,
+        link2,
+        reach2,
+        link3,
+        reach3,
+    )
 }
 
 // Plain steps: our walk under the order list, without its lines. Where it is limited it gives up as its budget runs out; where it is not, it
-// always ends, since at most `left` rule steps are possible from the path.
+// always ends, since at most `left` rule steps are possible from the path. Where the order list begins with REFLEX, TRANS1 and TRANS2, the path
+// is closed under these first, in place: our walk comes there by steps of theirs alone.
 pub fn plain(
     query: &[u8],
     layout: Layout,
@@ -134,8 +171,26 @@ pub fn plain(
     ensures { λ r. ⌜ Walks (said layout (now (query .entry))) (now (order .entry)) left (pathOf s) limited r ⌝ }
 {
     let n = layout.terms;
-    let front = ahead(order, s, n);
-    match look_ahead(query, layout, order, front) {
+    let begun = closing::begins(order);
+    let others = begun & !s.single;
+    let alive = facts::live(&s.rep, n);
+    let mut front = s;
+    ahead(begun, alive, &s.link, &mut front.reach);
+    ahead(others, alive, &s.link2, &mut front.reach2);
+    ahead(others, alive, &s.link3, &mut front.reach3);
+    match look_ahead(
+        query,
+        layout,
+        order,
+        front.single,
+        &front.rep,
+        &front.link,
+        &front.reach,
+        &front.link2,
+        &front.reach2,
+        &front.link3,
+        &front.reach3,
+    ) {
         walk::Seen::Saturated => {
             return Walked {
                 kind: Kind::Open,
@@ -190,10 +245,10 @@ fn sees(query: &[u8], layout: Layout, how: usize, s: Facts) -> Seen
         query,
         layout,
         &s.rep,
-        true,
+        s.single,
         &s.reach,
-        &s.reach,
-        &s.reach,
+        &s.reach2,
+        &s.reach3,
     ) {
         return Seen::Clashing;
     }

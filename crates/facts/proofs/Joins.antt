@@ -3,7 +3,7 @@ use Prim.Native.Nat.{ℕ, zero, suc, _+_, _-_, _≤_, _<_, min, max}
 use native.Mathlib.Omega.{arith}
 use native.Mathlib.Nat.{zero-add}
 use native.Mathlib.Numerals.{add-one}
-use mathlib.Core.Path.{_≡_, refl, sym, ap, ap₂, _∙_}
+use mathlib.Core.Path.{_≡_, refl, sym, ap, ap₂, _∙_, subst}
 use mathlib.Core.Bool.{Bool, true, false, cond}
 use mathlib.Core.List.{List, [], _∷_, _++_, map, append-nil, append-assoc, map-append}
 use mathlib.Core.Option.{Option, none, some, Option·elim}
@@ -14,7 +14,7 @@ use borrow.Author.Tests.{eq-eqb, ne-eqb}
 use Rattle.logic.specs.Facts.{Facts, Joined, unjoined, joinPair, andThen, replace, doubled, settle, join}
 use Rattle.logic.specs.Search.{from}
 use Rattle.theory.proofs.Basics.Count.{length-from}
-use Rattle.facts.specs.Pairs.{pairAt, pairsOf, Fits}
+use Rattle.facts.specs.Pairs.{pairAt, pairsIn, pairsOf, Fits}
 use Rattle.facts.specs.declared.Pairs.{Pairs}
 
 -- what follows joins is done to their facts
@@ -22,14 +22,10 @@ pub andThen-at : (j : Joined) (f g : Facts → Joined) → f (j .facts) ≡ g (j
 unfolding andThen
 andThen-at j f g e = ap (λ (i : Joined). record { pairs = j .pairs ++ i .pairs; facts = i .facts }) e
 
--- nothing joined, behind or in front
+-- nothing joined behind
 pub andThen-unjoined : (j : Joined) → andThen j unjoined ≡ j
 unfolding andThen unjoined
 andThen-unjoined j = ap (λ (ps : List (ℕ × ℕ)). record { pairs = ps; facts = j .facts }) (append-nil (j .pairs))
-
-pub unjoined-andThen : (s : Facts) (f : Facts → Joined) → andThen (unjoined s) f ≡ f s
-unfolding andThen unjoined
-unjoined-andThen s f = refl
 
 pub andThen-andThen : (j : Joined) (f g : Facts → Joined) → andThen j (λ s. andThen (f s) g) ≡ andThen (andThen j f) g
 unfolding andThen
@@ -79,6 +75,10 @@ module _ (n : ℕ) (j : Joined) where
       left : k ≡ suc k - 1
       left = omega arith
 
+  -- there is room for the pair of such a turn
+  pub fits-turn : (k a b : ℕ) → 0 < k → doubled n (j .facts) ≡ some (a, b) → (whole : Joined) → whole ≡ andThen j (settle n k) → Fits whole → length (j .pairs) < 17
+  fits-turn k a b h e whole w f = fits-pair j a b (settle n (k - 1)) (subst Fits (w ∙ settle-turn k a b h e) f)
+
   pub join-same : (a b : ℕ) → a ≡ b → andThen j (join n a b) ≡ j
   unfolding join
   join-same a b e = andThen-at j (join n a b) unjoined (rw (eq-eqb a b e)) ∙ andThen-unjoined j
@@ -120,9 +120,17 @@ join-pairs n a b s = go (eqb a b)
     go false = omega (arith, settle-pairs n n (replace (min a b) (max a b) s))
 
 -- the code's pairs: how many, and one more
+pub count-pairs : (kept replaced : List ℕ) (count : ℕ) → length (pairsIn kept replaced count) ≡ count
+count-pairs kept replaced count = length-map (from count 0) (pairAt kept replaced) ∙ length-from count 0
+
 pub pairs-count : (p : Pairs) → length (pairsOf p) ≡ p .count
 unfolding pairsOf
-pairs-count p = length-map (from (p .count) 0) (pairAt (p .kept) (p .replaced)) ∙ length-from (p .count) 0
+pairs-count p = count-pairs (p .kept) (p .replaced) (p .count)
+
+-- no pair stands before
+pub none-before : (kept replaced : List ℕ) (s : Facts) (f : Facts → Joined) → andThen (record { pairs = pairsIn kept replaced 0; facts = s }) f ≡ f s
+unfolding from andThen
+none-before kept replaced s f = refl
 
 -- numbers up to c, and c behind them
 from-more : (c k : ℕ) → from (suc c) k ≡ from c k ++ ((k + c) ∷ [])
@@ -137,7 +145,7 @@ unfolding from
 map-below f g zero k c h e = refl
 map-below f g (suc m) k c h e = ap₂ (λ (x : ℕ × ℕ) (l : List (ℕ × ℕ)). x ∷ l) (e k (omega arith)) (map-below f g m (suc k) c (omega arith) e)
 
-pub pairs-more : (kept replaced : List ℕ) (c a b : ℕ) → c < length kept → c < length replaced → map (pairAt (set kept c a) (set replaced c b)) (from (c + 1) 0) ≡ map (pairAt kept replaced) (from c 0) ++ ((a, b) ∷ [])
+pub pairs-more : (kept replaced : List ℕ) (c a b : ℕ) → c < length kept → c < length replaced → pairsIn (set kept c a) (set replaced c b) (c + 1) ≡ pairsIn kept replaced c ++ ((a, b) ∷ [])
 pairs-more kept replaced c a b h k =
     let f : ℕ → ℕ × ℕ = pairAt (set kept c a) (set replaced c b) in
     ap (λ (m : ℕ). map f (from m 0)) (add-one c) ∙ ap (map f) (from-more c 0 ∙ ap (λ (i : ℕ). from c 0 ++ (i ∷ [])) (zero-add c))

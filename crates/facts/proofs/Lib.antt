@@ -8,6 +8,7 @@ pub mod Fill
 pub mod Merge
 pub mod Turning
 pub mod Rep
+pub mod Itself
 pub mod Path
 pub mod Successors
 pub mod Joins

@@ -1,96 +1,168 @@
--- Two paths are one where they answer alike; and what each step makes of the code's paths, which have one link.
+-- Two paths are one where they answer alike; and what each step makes of the code's paths, which have one link or three.
 use Prim.Native.Nat.{ℕ, _≤_, _<_}
 use native.Mathlib.Omega.{arith}
 use mathlib.Core.Path.{_≡_, refl, sym, ap, ap₂, fun-ext, _∙_}
-use mathlib.Core.Logic.{⊎-elim}
+use mathlib.Core.Logic.{_⊎_, ⊎-elim, inl, inr}
 use mathlib.Core.Bool.{Bool, true, false, cond}
 use mathlib.Core.List.{List, [], _∷_}
-use mathlib.Core.Option.{Option, none}
+use mathlib.Core.Option.{Option, none, some}
+use lib.Arith.{lt-of-le-ne}
 use lib.Dec.{eqb, ltb, leb}
 use borrow.Author.Tests.{ne-eqb}
-use Rattle.logic.specs.Search.{_and_, _or_, any, firstOf}
-use Rattle.logic.specs.Facts.{Graph, Facts, terms, became, replaceIn, replace, addReach, addLinks, successors, firstTwo, doubled}
-use Rattle.theory.proofs.Basics.Search.{not-of, true-false, and-intro}
-use Rattle.theory.proofs.Basics.Compare.{eq-cases, ltb-intro, leb-intro, eqb-intro, eqb-self}
+use Rattle.logic.specs.Search.{_and_, _or_, from, any, orElse, firstOf}
+use Rattle.logic.specs.Facts.{Graph, Facts, linkNumbers, terms, became, replaceIn, replace, addReach, addLinks, successors, firstTwo, doubled}
+use Rattle.theory.proofs.Basics.Search.{bool-cases, not-of, true-false}
+use Rattle.theory.proofs.Basics.Compare.{cond-true, cond-false, eq-cases, eqb-self}
 use Rattle.theory.proofs.Paths.Ranged.{link-range}
-use Rattle.theory.proofs.Calls.OneLink.{doubled-one}
+use Rattle.theory.proofs.Calls.OneLink.{firstOf-one, doubled-one}
 use Rattle.facts.specs.declared.Facts as code
-use Rattle.facts.specs.Path.{onlyLink, pathOf, graphOf, linksIn, linkedBy, replaceRep, HasLink, withReach}
+use Rattle.facts.specs.Path.{noFacts, graphs, pathAs, pathOf, repOf, graphOf, linksIn, twoIn, doubledIn, replaceRep, HasLink, withReach}
 
 -- the graph and the path that these functions make
 abbrev pub linking : (ℕ → ℕ → Bool) → (ℕ → ℕ → Bool) → Graph
 linking link reach = record { link = link; reach = reach }
 
-abbrev pub made : (ℕ → ℕ) → (ℕ → ℕ → Bool) → (ℕ → ℕ → Bool) → Facts
-made rep link reach = record { rep = rep; links = 1; graph = onlyLink (linking link reach) }
+abbrev pub made : (ℕ → ℕ) → Bool → Graph → Graph → Graph → Facts
+made rep single f g h = record { rep = rep; links = cond single 1 3; graph = graphs single f g h }
 
-pub alike : {r r′ : ℕ → ℕ} {l l′ h h′ : ℕ → ℕ → Bool} → r ≡ r′ → l ≡ l′ → h ≡ h′ → made r l h ≡ made r′ l′ h′
-alike e f g = λ i. made (e i) (f i) (g i)
+pub alike : {r r′ : ℕ → ℕ} {f f′ g g′ h h′ : Graph} (b : Bool) → r ≡ r′ → f ≡ f′ → g ≡ g′ → h ≡ h′ → made r b f g h ≡ made r′ b f′ g′ h′
+alike b d e f g = λ i. made (d i) b (e i) (f i) (g i)
 
--- no facts
-abbrev never : ℕ → ℕ → Bool
-never a b = false
+pub alike-graph : {l l′ h h′ : ℕ → ℕ → Bool} → l ≡ l′ → h ≡ h′ → linking l h ≡ linking l′ h′
+alike-graph e f = λ i. linking (e i) (f i)
 
--- paths of one link that have the same graphs
-same-graphs : (r : ℕ → ℕ) (f g : ℕ → Graph) → ((i : ℕ) → f i ≡ g i) → _≡_ {A = Facts} (record { rep = r; links = 1; graph = f }) (record { rep = r; links = 1; graph = g })
-same-graphs r f g e = λ i. record { rep = r; links = 1; graph = fun-ext e i }
+-- the rows of the other links do not matter to a path of one
+pub alone : {r r′ : ℕ → ℕ} {f f′ : Graph} (g g′ h h′ : Graph) (b : Bool) → b ≡ true → r ≡ r′ → f ≡ f′ → made r b f g h ≡ made r′ b f′ g′ h′
+unfolding graphs
+alone g g′ h h′ true e d f = λ i. record { rep = d i; links = 1; graph = λ j. cond (eqb j 1) (f i) noFacts }
+alone g g′ h h′ false e d f = absurd (true-false e refl)
 
-module _ (r : ℕ → ℕ) (l h : ℕ → ℕ → Bool) where
-  addReach-one : (a b : ℕ) → addReach 1 a b (made r l h) ≡ made r l (λ x y. h x y or (eqb x a and eqb y b))
-  unfolding addReach onlyLink _and_ _or_
-  addReach-one a b = same-graphs r _ _ (λ j. go (eqb j 1))
+-- paths that have the same graphs
+same-graphs : (r : ℕ → ℕ) (m : ℕ) (f g : ℕ → Graph) → ((i : ℕ) → f i ≡ g i) → _≡_ {A = Facts} (record { rep = r; links = m; graph = f }) (record { rep = r; links = m; graph = g })
+same-graphs r m f g e = λ i. record { rep = r; links = m; graph = fun-ext e i }
+
+-- A change of the facts of one link, and one of the facts of every link
+
+abbrev pub changed : ℕ → (Graph → Graph) → Facts → Facts
+changed k op s = record { rep = s .rep; links = s .links; graph = λ j. cond (eqb j k) (op (s .graph j)) (s .graph j) }
+
+module _ (r : ℕ → ℕ) (b : Bool) (f g h : Graph) (op : Graph → Graph) where
+  changed-first : (k : ℕ) → k ≡ 1 → changed k op (made r b f g h) ≡ made r b (op f) g h
+  unfolding graphs
+  changed-first k e = rw e (same-graphs r (cond b 1 3) _ _ (λ j. go (eqb j 1) (cond b noFacts (cond (eqb j 2) g (cond (eqb j 3) h noFacts)))))
     where
-      go : (t : Bool) → _≡_ {A = Graph} (linking (cond t (linking l h) (linking never never) .link) (λ x y. cond t (linking l h) (linking never never) .reach x y or (t and eqb x a and eqb y b))) (cond t (linking l (λ x y. h x y or (eqb x a and eqb y b))) (linking never never))
+      go : (t : Bool) (z : Graph) → cond t (op (cond t f z)) (cond t f z) ≡ cond t (op f) z
+      go true z = refl
+      go false z = refl
+
+  changed-second : (k : ℕ) → k ≡ 2 → b ≡ false → changed k op (made r b f g h) ≡ made r b f (op g) h
+  unfolding graphs
+  changed-second k e d = rw (e, d) (same-graphs r 3 _ _ (λ j. ⊎-elim (λ i. rw i refl) (λ i. rw (i .1) (go (eqb j 2) (cond (eqb j 3) h noFacts))) (eq-cases j 1)))
+    where
+      go : (t : Bool) (z : Graph) → cond t (op (cond t g z)) (cond t g z) ≡ cond t (op g) z
+      go true z = refl
+      go false z = refl
+
+  changed-third : (k : ℕ) → k ≡ 3 → b ≡ false → changed k op (made r b f g h) ≡ made r b f g (op h)
+  unfolding graphs
+  changed-third k e d =
+      rw (e, d)
+      (same-graphs r 3 _ _
+      (λ j. ⊎-elim (λ i. rw i refl) (λ i. rw (i .1) (⊎-elim (λ l. rw l refl) (λ l. rw (l .1) (go (eqb j 3))) (eq-cases j 2))) (eq-cases j 1)))
+    where
+      go : (t : Bool) → cond t (op (cond t h noFacts)) (cond t h noFacts) ≡ cond t (op h) noFacts
       go true = refl
       go false = refl
 
-  pub addReach-at : (k a b : ℕ) → k ≡ 1 → addReach k a b (made r l h) ≡ made r l (λ x y. h x y or (eqb x a and eqb y b))
-  addReach-at k a b e = ap (λ (j : ℕ). addReach j a b (made r l h)) e ∙ addReach-one a b
-
-  pub withReach-one : (f : ℕ → ℕ → Bool) → withReach 1 f (made r l h) ≡ made r l f
-  unfolding withReach onlyLink
-  withReach-one f = same-graphs r _ _ (λ j. go (eqb j 1))
+  through : op noFacts ≡ noFacts → (j : ℕ) → op (graphs b f g h j) ≡ graphs b (op f) (op g) (op h) j
+  unfolding graphs
+  through e j = go (eqb j 1) b (eqb j 2) (eqb j 3)
     where
-      go : (t : Bool) → _≡_ {A = Graph} (linking (cond t (linking l h) (linking never never) .link) (cond t f (cond t (linking l h) (linking never never) .reach))) (cond t (linking l f) (linking never never))
-      go true = refl
-      go false = refl
+      go : (t u v w : Bool) → op (cond t f (cond u noFacts (cond v g (cond w h noFacts)))) ≡ cond t (op f) (cond u noFacts (cond v (op g) (cond w (op h) noFacts)))
+      go true u v w = refl
+      go false true v w = e
+      go false false true w = refl
+      go false false false true = refl
+      go false false false false = e
 
-  -- 1 is the one link
-  one-link : (j : ℕ) → (ltb 0 j and leb j 1) ≡ eqb j 1
-  one-link j =
-      ⊎-elim
-      (λ e. and-intro (ltb-intro {m = 0} {n = j} (omega (arith, e))) (leb-intro {m = j} {n = 1} (omega (arith, e))) ∙ sym (eqb-intro e))
-      (λ d. not-of (λ t. let k = link-range 1 j t in d .0 (omega (arith, k))) ∙ sym (d .1))
-      (eq-cases j 1)
+-- what adding a fact and setting rows change
+abbrev pub reaching : ℕ → ℕ → Graph → Graph
+reaching a b g = linking (g .link) (λ x y. g .reach x y or (eqb x a and eqb y b))
 
-  pub addLinks-one : (a b : ℕ) → addLinks a b (made r l h) ≡ made r (λ x y. l x y or (eqb x a and eqb y b)) h
-  unfolding addLinks onlyLink _and_ _or_
-  addLinks-one a b =
-      same-graphs r _ _ (λ j. ap (λ (t : Bool). linking (λ x y. cond (eqb j 1) (linking l h) (linking never never) .link x y or (t and eqb x a and eqb y b)) (cond (eqb j 1) (linking l h) (linking never never) .reach)) (one-link j) ∙ go (eqb j 1))
+abbrev pub linkedTo : ℕ → ℕ → Graph → Graph
+linkedTo a b g = linking (λ x y. g .link x y or (eqb x a and eqb y b)) (g .reach)
+
+abbrev pub reachedBy : (ℕ → ℕ → Bool) → Graph → Graph
+reachedBy f g = linking (g .link) f
+
+abbrev pub replacedIn : ℕ → ℕ → Graph → Graph
+replacedIn lo hi g = linking (replaceIn lo hi (g .link)) (replaceIn lo hi (g .reach))
+
+or-none : (t : Bool) → t or false ≡ t
+unfolding _or_
+or-none true = refl
+or-none false = refl
+
+-- nothing is added where the test fails
+added : (rows : ℕ → ℕ → Bool) (t : Bool) (a b : ℕ) → (λ x y. rows x y or (t and eqb x a and eqb y b)) ≡ cond t (λ x y. rows x y or (eqb x a and eqb y b)) rows
+unfolding _and_
+added rows true a b = refl
+added rows false a b = fun-ext (λ x. fun-ext (λ y. or-none (rows x y)))
+
+module _ (k : ℕ) (s : Facts) where
+  pub addReach-changed : (a b : ℕ) → addReach k a b s ≡ changed k (reaching a b) s
+  unfolding addReach
+  addReach-changed a b = same-graphs (s .rep) (s .links) _ _ (λ j. ap (linking (s .graph j .link)) (added (s .graph j .reach) (eqb j k) a b) ∙ go (eqb j k) (s .graph j))
     where
-      go : (t : Bool) → _≡_ {A = Graph} (linking (λ x y. cond t (linking l h) (linking never never) .link x y or (t and eqb x a and eqb y b)) (cond t (linking l h) (linking never never) .reach)) (cond t (linking (λ x y. l x y or (eqb x a and eqb y b)) h) (linking never never))
-      go true = refl
-      go false = refl
+      go : (t : Bool) (g : Graph) → linking (g .link) (cond t (λ x y. g .reach x y or (eqb x a and eqb y b)) (g .reach)) ≡ cond t (reaching a b g) g
+      go true g = refl
+      go false g = refl
 
-  pub replace-one : (lo hi : ℕ) → replace lo hi (made r l h) ≡ made (replaceRep lo hi r) (replaceIn lo hi l) (replaceIn lo hi h)
-  unfolding replace onlyLink replaceRep replaceIn any _or_
-  replace-one lo hi = same-graphs (replaceRep lo hi r) _ _ (λ j. go (eqb j 1))
+  pub withReach-changed : (f : ℕ → ℕ → Bool) → withReach k f s ≡ changed k (reachedBy f) s
+  unfolding withReach
+  withReach-changed f = same-graphs (s .rep) (s .links) _ _ (λ j. go (eqb j k) (s .graph j))
+    where
+      go : (t : Bool) (g : Graph) → linking (g .link) (cond t f (g .reach)) ≡ cond t (reachedBy f g) g
+      go true g = refl
+      go false g = refl
+
+module _ (r : ℕ → ℕ) (b : Bool) (f g h : Graph) where
+  pub addLinks-each : (x y : ℕ) → addLinks x y (made r b f g h) ≡ made r b (linkedTo x y f) (linkedTo x y g) (linkedTo x y h)
+  unfolding addLinks graphs noFacts _and_ _or_
+  addLinks-each x y = same-graphs r (cond b 1 3) _ _ (λ j. ap (λ (l : ℕ → ℕ → Bool). linking l (graphs b f g h j .reach)) (added (graphs b f g h j .link) (ltb 0 j and leb j (cond b 1 3)) x y) ∙ at b j)
+    where
+      outside : (m j : ℕ) → (j ≤ m → 0 < j → ⊥) → (ltb 0 j and leb j m) ≡ false
+      outside m j d = not-of (λ t. let i = link-range m j t in d (i .1) (i .0))
+
+      far : (m j : ℕ) → (j ≤ m → 0 < j → ⊥) → (g : Graph) → linking (cond (ltb 0 j and leb j m) (λ u v. g .link u v or (eqb u x and eqb v y)) (g .link)) (g .reach) ≡ g
+      far m j d g = rw (outside m j d) refl
+
+      at : (b : Bool) (j : ℕ) → linking (cond (ltb 0 j and leb j (cond b 1 3)) (λ u v. graphs b f g h j .link u v or (eqb u x and eqb v y)) (graphs b f g h j .link)) (graphs b f g h j .reach) ≡ graphs b (linkedTo x y f) (linkedTo x y g) (linkedTo x y h) j
+      at true j = ⊎-elim (λ e. rw e refl) (λ d. rw (d .1) (far 1 j (λ i l. d .0 (omega (arith, i, l))) noFacts)) (eq-cases j 1)
+      at false j =
+          ⊎-elim (λ e. rw e refl)
+          (λ d.
+          ⊎-elim (λ e. rw e refl)
+          (λ d′.
+          ⊎-elim (λ e. rw e refl)
+          (λ d″. rw (d .1, d′ .1, d″ .1) (far 3 j (λ i l. d″ .0 (let above = lt-of-le-ne l (λ z. d .0 (sym z)) in let past = lt-of-le-ne above (λ z. d′ .0 (sym z)) in omega (arith, i, past))) noFacts))
+          (eq-cases j 3))
+          (eq-cases j 2))
+          (eq-cases j 1)
+
+  pub replace-each : (lo hi : ℕ) → replace lo hi (made r b f g h) ≡ made (replaceRep lo hi r) b (replacedIn lo hi f) (replacedIn lo hi g) (replacedIn lo hi h)
+  unfolding replace replaceRep replaceIn any _or_ noFacts
+  replace-each lo hi = same-graphs (replaceRep lo hi r) (cond b 1 3) _ _ (through r b f g h (replacedIn lo hi) nothing)
     where
       any-never : (xs : List ℕ) → any (λ x. false) xs ≡ false
       any-never [] = refl
       any-never (x ∷ xs) = any-never xs
 
-      nowhere : replaceIn lo hi never ≡ never
+      nowhere : replaceIn lo hi (λ a b. false) ≡ (λ a b. false)
       nowhere = fun-ext (λ a. fun-ext (λ b. ap (λ (t : ℕ → Bool). any t (became lo hi a)) (fun-ext (λ x. any-never (became lo hi b))) ∙ any-never (became lo hi a)))
 
-      go : (t : Bool) → _≡_ {A = Graph} (linking (replaceIn lo hi (cond t (linking l h) (linking never never) .link)) (replaceIn lo hi (cond t (linking l h) (linking never never) .reach))) (cond t (linking (replaceIn lo hi l) (replaceIn lo hi h)) (linking never never))
-      go true = refl
-      go false = ap₂ linking nowhere nowhere
-
--- what is doubled is read off the links alone
-pub doubled-links : (n : ℕ) (s : code.Facts) → doubled n (linkedBy (s .link)) ≡ doubled n (pathOf s)
-unfolding successors linksIn linkedBy pathOf graphOf onlyLink
-doubled-links n s = doubled-one n (linkedBy (s .link)) refl ∙ sym (doubled-one n (pathOf s) refl)
+      nothing : replacedIn lo hi noFacts ≡ noFacts
+      nothing = ap₂ linking nowhere nowhere
 
 -- what a path becomes with other reachability of link k
 module _ (k : ℕ) (f : ℕ → ℕ → Bool) (s : Facts) where
@@ -110,25 +182,133 @@ module _ (k : ℕ) (f : ℕ → ℕ → Bool) (s : Facts) where
   unfolding withReach
   with-elsewhere i d = rw (ne-eqb i k d) refl
 
--- the code's paths have one link, and its rows are those of the record
+-- the facts of the record's links, and the path with others in place of those of one link
+abbrev pub first : code.Facts → Graph
+first s = graphOf (s .link) (s .reach)
+
+abbrev pub second : code.Facts → Graph
+second s = graphOf (s .link2) (s .reach2)
+
+abbrev pub third : code.Facts → Graph
+third s = graphOf (s .link3) (s .reach3)
+
+module _ (s : code.Facts) (k : ℕ) (op : Graph → Graph) (f : Graph) where
+  pub set-first : k ≡ 1 → f ≡ op (first s) → made (repOf (s .rep)) (s .single) f (second s) (third s) ≡ changed k op (pathOf s)
+  unfolding pathOf
+  set-first e h = alike (s .single) refl h refl refl ∙ sym (changed-first (repOf (s .rep)) (s .single) (first s) (second s) (third s) op k e)
+
+  pub set-second : k ≡ 2 → s .single ≡ false → f ≡ op (second s) → made (repOf (s .rep)) (s .single) (first s) f (third s) ≡ changed k op (pathOf s)
+  unfolding pathOf
+  set-second e d h = alike (s .single) refl refl h refl ∙ sym (changed-second (repOf (s .rep)) (s .single) (first s) (second s) (third s) op k e d)
+
+  pub set-third : k ≡ 3 → s .single ≡ false → f ≡ op (third s) → made (repOf (s .rep)) (s .single) (first s) (second s) f ≡ changed k op (pathOf s)
+  unfolding pathOf
+  set-third e d h = alike (s .single) refl refl refl h ∙ sym (changed-third (repOf (s .rep)) (s .single) (first s) (second s) (third s) op k e d)
+
+-- how many links the path of the record has, and what its rows are
 module _ (s : code.Facts) where
+  pub links-is : pathOf s .links ≡ cond (s .single) 1 3
+  unfolding pathOf
+  links-is = refl
+
   pub links-few : (0 < pathOf s .links) × (pathOf s .links ≤ 3)
   unfolding pathOf
-  links-few = (omega arith, omega arith)
+  links-few = go (s .single)
+    where
+      go : (b : Bool) → (0 < cond b 1 3) × (cond b 1 3 ≤ 3)
+      go true = (omega arith, omega arith)
+      go false = (omega arith, omega arith)
 
-  pub first-link : (k : ℕ) → HasLink (pathOf s) k → k ≡ 1
+  -- a link other than the first is one of three
+  pub three : (k : ℕ) → HasLink (pathOf s) k → (k ≡ 1 → ⊥) → s .single ≡ false
   unfolding pathOf
-  first-link k h = omega (arith, h .0, h .1)
+  three k h d = go (s .single) h
+    where
+      go : (b : Bool) → (0 < k) × (k ≤ cond b 1 3) → b ≡ false
+      go true h = absurd (d (omega (arith, h .0, h .1)))
+      go false h = refl
 
-  pub graph-is : (k : ℕ) → HasLink (pathOf s) k → graphOf (s .link) (s .reach) ≡ pathOf s .graph k
-  unfolding pathOf onlyLink
-  graph-is k h = sym (rw (first-link k h) refl)
+  pub last : (k : ℕ) → HasLink (pathOf s) k → (k ≡ 1 → ⊥) → (k ≡ 2 → ⊥) → k ≡ 3
+  last k h d e =
+      let l = links-few in
+      let above = lt-of-le-ne (h .0) (λ z. d (sym z)) in
+      let past = lt-of-le-ne above (λ z. e (sym z)) in
+      omega (arith, h .1, l .1, past)
+
+  pub graph-first : (k : ℕ) → k ≡ 1 → first s ≡ pathOf s .graph k
+  unfolding pathOf graphs
+  graph-first k e = sym (rw e refl)
+
+  pub graph-second : (k : ℕ) → k ≡ 2 → s .single ≡ false → second s ≡ pathOf s .graph k
+  unfolding pathOf graphs
+  graph-second k e d = sym (rw (e, d) refl)
+
+  pub graph-third : (k : ℕ) → k ≡ 3 → s .single ≡ false → third s ≡ pathOf s .graph k
+  unfolding pathOf graphs
+  graph-third k e d = sym (rw (e, d) refl)
+
+  -- what holds of each link, and of any number without facts, holds of every number
+  pub by-link : (P : ℕ → Type 0) → ((k : ℕ) → pathOf s .graph k ≡ noFacts → P k) → ((k : ℕ) → k ≡ 1 → P k) → ((k : ℕ) → k ≡ 2 → s .single ≡ false → P k) → ((k : ℕ) → k ≡ 3 → s .single ≡ false → P k) → (k : ℕ) → P k
+  unfolding pathOf graphs
+  by-link P no-link at-first at-second at-third k = ⊎-elim (at-first k) (λ d. go d (s .single) refl) (eq-cases k 1)
+    where
+      go : ((k ≡ 1 → ⊥) × (eqb k 1 ≡ false)) → (b : Bool) → s .single ≡ b → P k
+      go d true e = no-link k (rw (d .1, e) refl)
+      go d false e =
+          ⊎-elim (λ i. at-second k i e) (λ d′. ⊎-elim (λ i. at-third k i e) (λ d″. no-link k (rw (d .1, e, d′ .1, d″ .1) refl)) (eq-cases k 3)) (eq-cases k 2)
 
   -- facts are of the path's links alone
+  within : (k : ℕ) → HasLink (pathOf s) k ⊎ (pathOf s .graph k ≡ noFacts)
+  within =
+      by-link (λ k. HasLink (pathOf s) k ⊎ (pathOf s .graph k ≡ noFacts)) (λ k e. inr e) (λ k e. inl (omega (arith, e), omega (arith, e, links-few .0)))
+      (λ k e d. inl (omega (arith, e), omega (arith, e, all d)))
+      (λ k e d. inl (omega (arith, e), omega (arith, e, all d)))
+    where
+      all : s .single ≡ false → pathOf s .links ≡ 3
+      all d = links-is ∙ ap (λ (b : Bool). cond {A = ℕ} b 1 3) d
+
+  pub no-reach : (k : ℕ) → (HasLink (pathOf s) k → ⊥) → (a b : ℕ) → false ≡ pathOf s .graph k .reach a b
+  unfolding noFacts
+  no-reach k d a b = ⊎-elim (λ h. absurd (d h)) (λ none. sym (ap (λ (g : Graph). g .reach a b) none)) (within k)
+
   pub reach-within : (i a b : ℕ) → pathOf s .graph i .reach a b ≡ true → HasLink (pathOf s) i
-  unfolding pathOf onlyLink
-  reach-within i a b e = ⊎-elim (λ one. (omega (arith, one), omega (arith, one))) (λ d. absurd (true-false e (rw (d .1) refl))) (eq-cases i 1)
+  unfolding noFacts
+  reach-within i a b e = ⊎-elim (λ h. h) (λ none. absurd (true-false e (ap (λ (g : Graph). g .reach a b) none))) (within i)
 
   pub link-within : (i a b : ℕ) → pathOf s .graph i .link a b ≡ true → HasLink (pathOf s) i
-  unfolding pathOf onlyLink
-  link-within i a b e = ⊎-elim (λ one. (omega (arith, one), omega (arith, one))) (λ d. absurd (true-false e (rw (d .1) refl))) (eq-cases i 1)
+  unfolding noFacts
+  link-within i a b e = ⊎-elim (λ h. h) (λ none. absurd (true-false e (ap (λ (g : Graph). g .link a b) none))) (within i)
+
+-- what is doubled is read off the links alone
+module _ (n : ℕ) (single : Bool) (rep link reach link2 reach2 link3 reach3 : List ℕ) where
+  abbrev path : Facts
+  path = pathAs single rep link reach link2 reach2 link3 reach3
+
+  doubled-single : single ≡ true → doubled n path ≡ firstOf (λ t. firstTwo (successors n (linksIn link) t)) (terms n)
+  unfolding successors linksIn graphOf graphs
+  doubled-single e = doubled-one n path (ap (λ (b : Bool). cond b 1 3) e)
+
+  doubled-three : single ≡ false → doubled n path ≡ firstOf (twoIn n link link2 link3) (terms n)
+  unfolding doubled linkNumbers from firstOf twoIn successors linksIn graphOf graphs
+  doubled-three e = rw e refl
+
+  pub doubled-links : doubledIn n single link link2 link3 ≡ doubled n path
+  unfolding doubledIn
+  doubled-links = ⊎-elim (λ e. cond-true _ _ e ∙ sym (doubled-single e)) (λ e. cond-false _ _ e ∙ sym (doubled-three e)) (bool-cases single)
+
+-- the first of three links that has two successors
+module _ (n : ℕ) (f g h : List ℕ) (t : ℕ) where
+  abbrev two : List ℕ → Option (ℕ × ℕ)
+  two l = firstTwo (successors n (linksIn l) t)
+
+  pub two-first : (ab : ℕ × ℕ) → two f ≡ some ab → twoIn n f g h t ≡ some ab
+  unfolding twoIn firstOf orElse
+  two-first ab e = rw e refl
+
+  pub two-second : (ab : ℕ × ℕ) → two f ≡ none → two g ≡ some ab → twoIn n f g h t ≡ some ab
+  unfolding twoIn firstOf orElse
+  two-second ab e d = rw (e, d) refl
+
+  pub two-third : two f ≡ none → two g ≡ none → twoIn n f g h t ≡ two h
+  unfolding twoIn firstOf orElse
+  two-third e d = rw (e, d) (firstOf-one two h)

@@ -1,10 +1,10 @@
 -- Rows read and written. Callers use these laws and know nothing of words.
-use Prim.Native.Nat.{ℕ, _≤_, _<_}
+use Prim.Native.Nat.{ℕ, zero, suc, _≤_, _<_}
 use native.Mathlib.Omega.{arith}
 use mathlib.Core.Path.{_≡_, refl, sym, ap, _∙_, fun-ext}
 use mathlib.Core.Bool.{Bool, true, false, cond}
 use mathlib.Core.List.{List}
-use lib.ListN.{length, getD, set}
+use lib.ListN.{length, getD, set, replicate}
 use lib.Seq.{getD-set-same, getD-set-other}
 use lib.Bits.{bitOr}
 use lib.Dec.{ltb, eqb}
@@ -82,6 +82,20 @@ module _ (rows : List ℕ) (a w : ℕ) where
   pub set-other : (x : ℕ) → (x ≡ a → ⊥) → square (set rows a w) x ≡ square rows x
   unfolding square
   set-other x n = fun-ext (λ b. ap (λ (v : ℕ). ltb x 17 and rowOf v b) (getD-set-other rows a x w 0 n))
+
+-- nothing is held
+nothing-at : (k i : ℕ) → _≡_ {A = ℕ} (getD (replicate k 0) i 0) 0
+nothing-at zero i = refl
+nothing-at (suc k) zero = refl
+nothing-at (suc k) (suc i) = nothing-at k i
+
+pub nothing-held : (k a b : ℕ) → square (replicate k 0) a b ≡ false
+unfolding square _and_
+nothing-held k a b = rw (nothing-at k a, row-none b) (go (ltb a 17))
+  where
+    go : (t : Bool) → t and false ≡ false
+    go true = refl
+    go false = refl
 
 -- a bit is added to a row
 pub square-add : (rows : List ℕ) → length rows ≡ 17 → (a b w : ℕ) → a ≤ 16 → b ≤ 16 → ((i : ℕ) → bit w i ≡ eqb i b) → square (set rows a (bitOr (getD rows a 0) w)) ≡ (λ x y. square rows x y or (eqb x a and eqb y b))

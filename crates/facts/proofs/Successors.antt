@@ -15,7 +15,6 @@ use Rattle.logic.specs.Search.{_and_, from, keep, orElse, firstOf, find, select
 use Rattle.logic.specs.Facts.{Facts, linkNumbers, terms, firstTwo, successors, doubled}
 use Rattle.theory.proofs.Basics.Search.{bool-cases, true-false, not-true, and-left, and-right, none-some, find-some, find-lowest, from-mem, firstOf-some}
 use Rattle.theory.proofs.Basics.Compare.{le-cases}
-use Rattle.theory.proofs.Calls.OneLink.{doubled-one}
 use Rattle.facts.specs.Bits.{bit}
 use Rattle.facts.specs.Square.{square}
 use Rattle.facts.proofs.Bits.{bit-and}
@@ -152,10 +151,10 @@ module _ (p : ℕ → Bool) (n : ℕ) (few : n ≤ 16) (w : ℕ) (e : (i : ℕ) 
         let past = lt-of-le-ne above (λ z. other (sym z)) in
         (omega arith, omega arith)))
 
--- the search for a doubled term as a loop meets it
-pub doubled-search : (n : ℕ) (s : Facts) → s .links ≡ 1 → doubled n s ≡ firstOf (λ t. firstTwo (successors n (s .graph 1) t)) (from (n + 1 - 1) 1)
+-- the search of all terms as a loop meets it
+pub all-terms : (n : ℕ) (f : ℕ → Option (ℕ × ℕ)) → firstOf f (terms n) ≡ firstOf f (from (n + 1 - 1) 1)
 unfolding terms
-doubled-search n s one = doubled-one n s one ∙ ap (λ (j : ℕ). firstOf (λ t. firstTwo (successors n (s .graph 1) t)) (from j 1)) one-less
+all-terms n f = ap (λ (j : ℕ). firstOf f (from j 1)) one-less
   where
     one-less : n ≡ n + 1 - 1
     one-less = omega arith

@@ -1,12 +1,15 @@
 -- The facts of a path that the code's arrays hold.
 use Prim.Native.Nat.{ℕ, _≤_, _<_}
+use mathlib.Core.Path.{_≡_}
 use mathlib.Core.Bool.{Bool, false, cond}
-use mathlib.Core.List.{List}
-use lib.ListN.{getD}
+use mathlib.Core.List.{List, [], _∷_}
+use mathlib.Core.Option.{Option}
+use lib.ListN.{length, getD}
 use lib.Dec.{ltb, eqb}
 use Rattle.facts.specs.Square.{square}
 use Rattle.facts.specs.declared.Facts as code
-use Rattle.logic.specs.Facts.{Graph, Facts}
+use Rattle.logic.specs.Search.{_and_, _or_, firstOf}
+use Rattle.logic.specs.Facts.{Graph, Facts, terms, firstTwo, successors}
 
 -- what a term was replaced by; a number above 16 is no term, and is not replaced
 unfoldable pub repOf : List ℕ → ℕ → ℕ
@@ -15,23 +18,52 @@ repOf rep t = cond (ltb t 17) (getD rep t 0) t
 unfoldable pub graphOf : List ℕ → List ℕ → Graph
 graphOf link reach = record { link = square link; reach = square reach }
 
--- The code's paths have one link: no other has facts.
-unfoldable pub onlyLink : Graph → ℕ → Graph
-onlyLink g i = cond (eqb i 1) g (record { link = λ a b. false; reach = λ a b. false })
+-- no facts
+unfoldable pub noFacts : Graph
+noFacts = record { link = λ a b. false; reach = λ a b. false }
+
+-- the facts of a single link or of three, by number: no other number has facts
+unfoldable pub graphs : Bool → Graph → Graph → Graph → ℕ → Graph
+graphs single f g h i = cond (eqb i 1) f (cond single noFacts (cond (eqb i 2) g (cond (eqb i 3) h noFacts)))
+
+-- the path that these arrays hold, of a single link or of three
+abbrev pub pathAs : Bool → List ℕ → List ℕ → List ℕ → List ℕ → List ℕ → List ℕ → List ℕ → Facts
+pathAs single rep link reach link2 reach2 link3 reach3 =
+    record {
+      rep = repOf rep;
+      links = cond single 1 3;
+      graph = graphs single (graphOf link reach) (graphOf link2 reach2) (graphOf link3 reach3);
+    }
 
 unfoldable pub pathOf : code.Facts → Facts
-pathOf s = record { rep = repOf (s .rep); links = 1; graph = onlyLink (graphOf (s .link) (s .reach)) }
+pathOf s = pathAs (s .single) (s .rep) (s .link) (s .reach) (s .link2) (s .reach2) (s .link3) (s .reach3)
+
+-- arrays of the size that the code gives them: those that are lent to be written do not tell it
+pub record Whole (rep link reach link2 reach2 link3 reach3 : List ℕ) : Type 0 where
+  pub of-rep : length rep ≡ 17
+  pub of-link : length link ≡ 17
+  pub of-reach : length reach ≡ 17
+  pub of-link2 : length link2 ≡ 17
+  pub of-reach2 : length reach2 ≡ 17
+  pub of-link3 : length link3 ≡ 17
+  pub of-reach3 : length reach3 ≡ 17
 
 -- a graph with these links alone: what reads only links asks no more
 unfoldable pub linksIn : List ℕ → Graph
 linksIn link = record { link = square link; reach = λ a b. false }
 
-unfoldable pub linkedBy : List ℕ → Facts
-linkedBy link = record { rep = λ t. t; links = 1; graph = onlyLink (linksIn link) }
+-- the two lowest successors of a term, by the first of three links that has two: "by lowest term, then link" (02, R-11)
+unfoldable pub twoIn : ℕ → List ℕ → List ℕ → List ℕ → ℕ → Option (ℕ × ℕ)
+twoIn n first second third t = firstOf (λ link. firstTwo (successors n (linksIn link) t)) (first ∷ second ∷ third ∷ [])
+
+-- what is doubled, by the links of a single link or of three
+unfoldable pub doubledIn : ℕ → Bool → List ℕ → List ℕ → List ℕ → Option (ℕ × ℕ)
+doubledIn n single first second third =
+    cond single (firstOf (λ t. firstTwo (successors n (linksIn first) t)) (terms n)) (firstOf (twoIn n first second third) (terms n))
 
 -- a path with these representatives and no facts: what reads only these asks no more
 unfoldable pub replacedBy : List ℕ → Facts
-replacedBy rep = record { rep = repOf rep; links = 1; graph = λ i. record { link = λ a b. false; reach = λ a b. false } }
+replacedBy rep = record { rep = repOf rep; links = 1; graph = λ i. noFacts }
 
 -- what each term was replaced by, once hi is replaced by lo
 unfoldable pub replaceRep : ℕ → ℕ → (ℕ → ℕ) → ℕ → ℕ

@@ -1,18 +1,18 @@
 // The facts of a path as the code holds them: rows of bits over the numbers 0 to 16, of which 1 to 16 are terms.
 ghost use mathlib.Core.Path.{_≡_};
-ghost use Prim.Native.Nat.{ℕ, _+_, _-_, _*_, _≤_, _<_};
-ghost use mathlib.Core.Bool.{Bool, not, cond};
+ghost use Prim.Native.Nat.{ℕ, _+_, _-_, _≤_, _<_};
+ghost use mathlib.Core.Bool.{not, cond};
 ghost use lib.Dec.{eqb, ltb};
 ghost use Rattle.facts.specs.Bits.{bit};
 ghost use Rattle.facts.specs.Square.{square, Turned, renamedRow, columns, rows};
-ghost use Rattle.facts.specs.Path.{pathOf, repOf, replaceRep, replacedBy, linksIn, linkedBy, HasLink, withReach};
+ghost use Rattle.facts.specs.Path.{pathAs, pathOf, Whole, repOf, replaceRep, replacedBy, linksIn, twoIn, doubledIn, HasLink, withReach};
 ghost use Rattle.facts.specs.Answers.{foundOf, twoOf};
-ghost use Rattle.facts.specs.Pairs.{pairsOf, joinedAs, joinedOf, Fits};
+ghost use Rattle.facts.specs.Pairs.{pairsIn, pairsOf, joinedIn, Fits};
 ghost use mathlib.Core.List.{[], _∷_, _++_};
 ghost use lib.ListN.{length};
 ghost use mathlib.Core.Option.{some};
-ghost use Rattle.logic.specs.Search.{_and_, _or_, from, find, select};
-ghost use Rattle.logic.specs.Facts.{terms, addReach, addLinks, replaceIn, replace, firstTwo, successors, doubled, andThen, settle, join, live};
+ghost use Rattle.logic.specs.Search.{_and_, _or_, from, firstOf, find, select};
+ghost use Rattle.logic.specs.Facts.{terms, addReach, replaceIn, replace, firstTwo, successors, andThen, settle, join, live};
 
 // A term by its number.
 pub struct Term(pub usize);
@@ -20,11 +20,17 @@ pub struct Term(pub usize);
 // A link by its number, from 1.
 pub struct Link(pub usize);
 
-// What each term was replaced by, as a byte, and whether f(a) = b and "a reaches b" are held: bit b of row a.
+// What each term was replaced by, as a byte, and the facts of each link: f(a) = b, and "a reaches b", are bit b of row a. A single link is
+// held in `link` and `reach`, and the rows of the other two are not read then.
 pub struct Facts {
     pub rep: [u8; 17],
+    pub single: bool,
     pub link: [u32; 17],
     pub reach: [u32; 17],
+    pub link2: [u32; 17],
+    pub reach2: [u32; 17],
+    pub link3: [u32; 17],
+    pub reach3: [u32; 17],
 }
 
 // The pairs that were joined, in order, `count` of them: the term that was kept, and the one that it replaced. One join of at most
@@ -137,11 +143,40 @@ pub fn holds(rows: &[u32; 17], a: Term, b: Term) -> bool
     has(rows[at], b.0)
 }
 
+// The same of any numbers: above 16 there are no facts.
+pub fn is_held(rows: &[u32; 17], a: usize, b: usize) -> bool
+    ensures { λ r. ⌜ r ≡ square (now (rows .entry)) a b ⌝ }
+{
+    if 16 < a {
+        return false;
+    }
+    if 16 < b {
+        return false;
+    }
+    holds(rows, Term(a), Term(b))
+}
+
+// No term is replaced.
+pub fn unreplaced() -> [u8; 17]
+    ensures { λ r. ⌜ repOf r ≡ (λ t. t) ⌝ }
+{
+    let mut rep = [0u8; 17];
+    let mut t: usize = 0;
+    while t < 17 {
+        rep[t] = t as u8;
+        t += 1;
+    }
+    rep
+}
+
 // How many links the path has.
 pub fn links(s: Facts) -> usize
     ensures { λ r. ⌜ (r ≡ pathOf s .links) × (0 < r) × (r ≤ 3) ⌝ }
 {
-    1
+    if s.single {
+        return 1;
+    }
+    3
 }
 
 // The facts of one link as rows: f(a) = b, and "a reaches b".
@@ -149,14 +184,45 @@ pub fn link_rows(s: Facts, k: Link) -> [u32; 17]
     requires { ⌜ HasLink (pathOf s) (k .0) ⌝ }
     ensures { λ r. ⌜ square r ≡ pathOf s .graph (k .0) .link ⌝ }
 {
-    s.link
+    if k.0 == 1 {
+        return s.link;
+    }
+    if k.0 == 2 {
+        return s.link2;
+    }
+    s.link3
 }
 
 pub fn reach_rows(s: Facts, k: Link) -> [u32; 17]
     requires { ⌜ HasLink (pathOf s) (k .0) ⌝ }
     ensures { λ r. ⌜ square r ≡ pathOf s .graph (k .0) .reach ⌝ }
 {
-    s.reach
+    if k.0 == 1 {
+        return s.reach;
+    }
+    if k.0 == 2 {
+        return s.reach2;
+    }
+    s.reach3
+}
+
+// a reaches b by link k; what is no link or no term has no facts.
+pub fn reaches(s: Facts, k: Link, a: Term, b: Term) -> bool
+    ensures { λ r. ⌜ r ≡ pathOf s .graph (k .0) .reach (a .0) (b .0) ⌝ }
+{
+    if k.0 == 1 {
+        return is_held(&s.reach, a.0, b.0);
+    }
+    if s.single {
+        return false;
+    }
+    if k.0 == 2 {
+        return is_held(&s.reach2, a.0, b.0);
+    }
+    if k.0 == 3 {
+        return is_held(&s.reach3, a.0, b.0);
+    }
+    false
 }
 
 // Other rows of "a reaches b" for one link.
@@ -165,7 +231,15 @@ pub fn with_reach(s: Facts, k: Link, rows: [u32; 17]) -> Facts
     ensures { λ r. ⌜ pathOf r ≡ withReach (k .0) (square rows) (pathOf s) ⌝ }
 {
     let mut t = s;
-    t.reach = rows;
+    if k.0 == 1 {
+        t.reach = rows;
+        return t;
+    }
+    if k.0 == 2 {
+        t.reach2 = rows;
+        return t;
+    }
+    t.reach3 = rows;
     t
 }
 
@@ -177,19 +251,15 @@ pub fn add_reach(s: Facts, k: Link, a: Term, b: Term) -> Facts
     let at = a.0;
     let added = only(b.0);
     let mut t = s;
-    t.reach[at] = t.reach[at] | added;
-    t
-}
-
-// The link fact is added.
-pub fn add_link(s: Facts, a: Term, b: Term) -> Facts
-    requires { ⌜ (a .0 ≤ 16) × (b .0 ≤ 16) ⌝ }
-    ensures { λ r. ⌜ pathOf r ≡ addLinks (a .0) (b .0) (pathOf s) ⌝ }
-{
-    let at = a.0;
-    let added = only(b.0);
-    let mut t = s;
-    t.link[at] = t.link[at] | added;
+    if k.0 == 1 {
+        t.reach[at] = t.reach[at] | added;
+        return t;
+    }
+    if k.0 == 2 {
+        t.reach2[at] = t.reach2[at] | added;
+        return t;
+    }
+    t.reach3[at] = t.reach3[at] | added;
     t
 }
 
@@ -203,40 +273,37 @@ fn renamed_row(row: u32, lo: usize, hi: usize) -> u32
 }
 
 // In every row, the lower number stands where the higher did.
-fn merge_columns(rows: [u32; 17], lo: Term, hi: Term) -> [u32; 17]
-    requires { ⌜ (lo .0 < hi .0) × (hi .0 ≤ 16) ⌝ }
-    ensures { λ r. ⌜ square r ≡ columns (lo .0) (hi .0) (square rows) ⌝ }
+fn merge_columns(rows: &mut [u32; 17], lo: Term, hi: Term)
+    requires { ⌜ (lo .0 < hi .0) × (hi .0 ≤ 16) × (length (now rows) ≡ 17) ⌝ }
+    ensures { λ _. ⌜ (square (now (rows .exit)) ≡ columns (lo .0) (hi .0) (square (now (rows .entry)))) × (length (now (rows .exit)) ≡ 17) ⌝ }
 {
     let low = lo.0;
     let high = hi.0;
-    let mut out = rows;
     let mut a: usize = 0;
     while a < 17 {
-        out[a] = renamed_row(out[a], low, high);
+        rows[a] = renamed_row(rows[a], low, high);
         a += 1;
     }
-    out
 }
 
 // The lower row gets what the higher holds, and the higher is cleared.
-fn merge_rows(cells: [u32; 17], lo: Term, hi: Term) -> [u32; 17]
-    requires { ⌜ (lo .0 < hi .0) × (hi .0 ≤ 16) ⌝ }
-    ensures { λ r. ⌜ square r ≡ rows (lo .0) (hi .0) (square cells) ⌝ }
+fn merge_rows(cells: &mut [u32; 17], lo: Term, hi: Term)
+    requires { ⌜ (lo .0 < hi .0) × (hi .0 ≤ 16) × (length (now cells) ≡ 17) ⌝ }
+    ensures { λ _. ⌜ (square (now (cells .exit)) ≡ rows (lo .0) (hi .0) (square (now (cells .entry)))) × (length (now (cells .exit)) ≡ 17) ⌝ }
 {
     let low = lo.0;
     let high = hi.0;
-    let mut out = cells;
-    out[low] = out[low] | out[high];
-    out[high] = 0;
-    out
+    cells[low] = cells[low] | cells[high];
+    cells[high] = 0;
 }
 
 // hi is replaced by lo in a relation.
-fn replace_in(rows: [u32; 17], lo: Term, hi: Term) -> [u32; 17]
-    requires { ⌜ (lo .0 < hi .0) × (hi .0 ≤ 16) ⌝ }
-    ensures { λ r. ⌜ square r ≡ replaceIn (lo .0) (hi .0) (square rows) ⌝ }
+fn replace_in(rows: &mut [u32; 17], lo: Term, hi: Term)
+    requires { ⌜ (lo .0 < hi .0) × (hi .0 ≤ 16) × (length (now rows) ≡ 17) ⌝ }
+    ensures { λ _. ⌜ (square (now (rows .exit)) ≡ replaceIn (lo .0) (hi .0) (square (now (rows .entry)))) × (length (now (rows .exit)) ≡ 17) ⌝ }
 {
-    merge_rows(merge_columns(rows, lo, hi), lo, hi)
+    merge_columns(rows, lo, hi);
+    merge_rows(rows, lo, hi);
 }
 
 // lo for hi, and any other byte for itself.
@@ -250,34 +317,45 @@ fn renamed(t: u8, lo: u8, hi: u8) -> u8
 }
 
 // Whatever was replaced by hi is now replaced by lo.
-fn replace_rep(rep: [u8; 17], lo: Term, hi: Term) -> [u8; 17]
-    requires { ⌜ (lo .0 < hi .0) × (hi .0 ≤ 16) ⌝ }
-    ensures { λ r. ⌜ repOf r ≡ replaceRep (lo .0) (hi .0) (repOf rep) ⌝ }
+fn replace_rep(rep: &mut [u8; 17], lo: Term, hi: Term)
+    requires { ⌜ (lo .0 < hi .0) × (hi .0 ≤ 16) × (length (now rep) ≡ 17) ⌝ }
+    ensures { λ _. ⌜ (repOf (now (rep .exit)) ≡ replaceRep (lo .0) (hi .0) (repOf (now (rep .entry)))) × (length (now (rep .exit)) ≡ 17) ⌝ }
 {
     let low = lo.0 as u8;
     let high = hi.0 as u8;
-    let mut out = rep;
     let mut t: usize = 0;
     while t < 17 {
-        out[t] = renamed(out[t], low, high);
+        rep[t] = renamed(rep[t], low, high);
         t += 1;
     }
-    out
 }
 
 // "replaces the higher number by the lower in every fact"
-pub fn replace(s: Facts, lo: Term, hi: Term) -> Facts
-    requires { ⌜ (lo .0 < hi .0) × (hi .0 ≤ 16) ⌝ }
-    ensures { λ r. ⌜ pathOf r ≡ replace (lo .0) (hi .0) (pathOf s) ⌝ }
+fn replace(
+    single: bool,
+    rep: &mut [u8; 17],
+    link: &mut [u32; 17],
+    reach: &mut [u32; 17],
+    link2: &mut [u32; 17],
+    reach2: &mut [u32; 17],
+    link3: &mut [u32; 17],
+    reach3: &mut [u32; 17],
+    lo: Term,
+    hi: Term,
+)
+    requires { ⌜ (lo .0 < hi .0) × (hi .0 ≤ 16) × Whole (now rep) (now link) (now reach) (now link2) (now reach2) (now link3) (now reach3) ⌝ }
+    ensures { λ _. ⌜ (pathAs single (now (rep .exit)) (now (link .exit)) (now (reach .exit)) (now (link2 .exit)) (now (reach2 .exit)) (now (link3 .exit)) (now (reach3 .exit)) ≡ replace (lo .0) (hi .0) (pathAs single (now (rep .entry)) (now (link .entry)) (now (reach .entry)) (now (link2 .entry)) (now (reach2 .entry)) (now (link3 .entry)) (now (reach3 .entry)))) × Whole (now (rep .exit)) (now (link .exit)) (now (reach .exit)) (now (link2 .exit)) (now (reach2 .exit)) (now (link3 .exit)) (now (reach3 .exit)) ⌝ }
 {
-    let rep = s.rep;
-    let link = s.link;
-    let reach = s.reach;
-    Facts {
-        rep: replace_rep(rep, lo, hi),
-        link: replace_in(link, lo, hi),
-        reach: replace_in(reach, lo, hi),
+    replace_rep(rep, lo, hi);
+    replace_in(link, lo, hi);
+    replace_in(reach, lo, hi);
+    if single {
+        return;
     }
+    replace_in(link2, lo, hi);
+    replace_in(reach2, lo, hi);
+    replace_in(link3, lo, hi);
+    replace_in(reach3, lo, hi);
 }
 
 // The row of the successors of t.
@@ -313,10 +391,10 @@ pub fn first_two(link: &[u32; 17], n: usize, t: Term) -> Two
     Two::Of(a, b)
 }
 
-// "the two lowest successors of the lowest such term"
-pub fn doubled(link: &[u32; 17], n: usize) -> Two
+// "the two lowest successors of the lowest such term", of one link
+fn doubled_in(link: &[u32; 17], n: usize) -> Two
     requires { ⌜ n ≤ 16 ⌝ }
-    ensures { λ r. ⌜ twoOf r ≡ doubled n (linkedBy (now (link .entry))) ⌝ }
+    ensures { λ r. ⌜ twoOf r ≡ firstOf (λ t. firstTwo (successors n (linksIn (now (link .entry))) t)) (terms n) ⌝ }
 {
     let mut t: usize = 1;
     while t <= n {
@@ -326,6 +404,63 @@ pub fn doubled(link: &[u32; 17], n: usize) -> Two
         t += 1;
     }
     Two::Nothing
+}
+
+// The two lowest successors of t by the lowest of three links that has two.
+fn first_two_of<'a>(
+    first: &'a [u32; 17],
+    second: &'a [u32; 17],
+    third: &'a [u32; 17],
+    n: usize,
+    t: Term,
+) -> Two
+    requires { ⌜ (n ≤ 16) × (t .0 ≤ 16) ⌝ }
+    ensures { λ r. ⌜ twoOf r ≡ twoIn n (now (first .entry)) (now (second .entry)) (now (third .entry)) (t .0) ⌝ }
+{
+    if let Two::Of(a, b) = first_two(first, n, t) {
+        return Two::Of(a, b);
+    }
+    if let Two::Of(a, b) = first_two(second, n, t) {
+        return Two::Of(a, b);
+    }
+    first_two(third, n, t)
+}
+
+// "by lowest term, then link" (02, R-11)
+fn doubled_of<'a>(
+    first: &'a [u32; 17],
+    second: &'a [u32; 17],
+    third: &'a [u32; 17],
+    n: usize,
+) -> Two
+    requires { ⌜ n ≤ 16 ⌝ }
+    ensures { λ r. ⌜ twoOf r ≡ firstOf (twoIn n (now (first .entry)) (now (second .entry)) (now (third .entry))) (terms n) ⌝ }
+{
+    let mut t: usize = 1;
+    while t <= n {
+        if let Two::Of(a, b) = first_two_of(first, second, third, n, Term(t)) {
+            return Two::Of(a, b);
+        }
+        t += 1;
+    }
+    Two::Nothing
+}
+
+// The same of a single link or of three. The rows are lent, so that a join copies no path for it.
+fn doubled_rows<'a>(
+    single: bool,
+    first: &'a [u32; 17],
+    second: &'a [u32; 17],
+    third: &'a [u32; 17],
+    n: usize,
+) -> Two
+    requires { ⌜ n ≤ 16 ⌝ }
+    ensures { λ r. ⌜ twoOf r ≡ doubledIn n single (now (first .entry)) (now (second .entry)) (now (third .entry)) ⌝ }
+{
+    if single {
+        return doubled_in(first, n);
+    }
+    doubled_of(first, second, third, n)
 }
 
 // No pair.
@@ -342,71 +477,158 @@ pub fn no_pairs() -> Pairs
 }
 
 // One pair more, behind the others.
-fn and_pair(pairs: Pairs, kept: Term, replaced: Term) -> Pairs
-    requires { ⌜ (length (pairsOf pairs) < 17) × (kept .0 ≤ 16) × (replaced .0 ≤ 16) ⌝ }
-    ensures { λ r. ⌜ pairsOf r ≡ pairsOf pairs ++ ((kept .0, replaced .0) ∷ []) ⌝ }
+fn and_pair(kept: &mut [u8; 17], replaced: &mut [u8; 17], count: usize, lo: Term, hi: Term)
+    requires { ⌜ (count < 17) × (lo .0 ≤ 16) × (hi .0 ≤ 16) × (length (now kept) ≡ 17) × (length (now replaced) ≡ 17) ⌝ }
+    ensures { λ _. ⌜ (pairsIn (now (kept .exit)) (now (replaced .exit)) (count + 1) ≡ pairsIn (now (kept .entry)) (now (replaced .entry)) count ++ ((lo .0, hi .0) ∷ [])) × (length (now (kept .exit)) ≡ 17) × (length (now (replaced .exit)) ≡ 17) ⌝ }
 {
-    let mut out = pairs;
-    let last = out.count;
-    out.kept[last] = kept.0 as u8;
-    out.replaced[last] = replaced.0 as u8;
-    out.count = last + 1;
-    out
+    kept[count] = lo.0 as u8;
+    replaced[count] = hi.0 as u8;
 }
 
 // "While a term has two successors, the two lowest successors of the lowest such term are joined", after what was joined before
-pub fn settle(before: Joined, n: usize) -> Joined
-    requires { ⌜ (n ≤ 16) × Fits (andThen (joinedOf before) (settle n n)) ⌝ }
-    ensures { λ r. ⌜ joinedOf r ≡ andThen (joinedOf before) (settle n n) ⌝ }
+pub fn settle(
+    single: bool,
+    rep: &mut [u8; 17],
+    link: &mut [u32; 17],
+    reach: &mut [u32; 17],
+    link2: &mut [u32; 17],
+    reach2: &mut [u32; 17],
+    link3: &mut [u32; 17],
+    reach3: &mut [u32; 17],
+    kept: &mut [u8; 17],
+    replaced: &mut [u8; 17],
+    count: usize,
+    n: usize,
+) -> usize
+    requires { ⌜ (n ≤ 16) × Fits (andThen (joinedIn single (now rep) (now link) (now reach) (now link2) (now reach2) (now link3) (now reach3) (now kept) (now replaced) count) (settle n n)) ⌝ }
+    requires { ⌜ Whole (now rep) (now link) (now reach) (now link2) (now reach2) (now link3) (now reach3) × (length (now kept) ≡ 17) × (length (now replaced) ≡ 17) ⌝ }
+    ensures { λ r. ⌜ joinedIn single (now (rep .exit)) (now (link .exit)) (now (reach .exit)) (now (link2 .exit)) (now (reach2 .exit)) (now (link3 .exit)) (now (reach3 .exit)) (now (kept .exit)) (now (replaced .exit)) r ≡ andThen (joinedIn single (now (rep .entry)) (now (link .entry)) (now (reach .entry)) (now (link2 .entry)) (now (reach2 .entry)) (now (link3 .entry)) (now (reach3 .entry)) (now (kept .entry)) (now (replaced .entry)) count) (settle n n) ⌝ }
+    ensures { λ _. ⌜ Whole (now (rep .exit)) (now (link .exit)) (now (reach .exit)) (now (link2 .exit)) (now (reach2 .exit)) (now (link3 .exit)) (now (reach3 .exit)) × (length (now (kept .exit)) ≡ 17) × (length (now (replaced .exit)) ≡ 17) ⌝ }
 {
-    let mut j = before;
+    let mut total = count;
     let mut left = n;
     while 0 < left {
-        let Two::Of(a, b) = doubled(&j.facts.link, n) else {
-            return j;
+        let Two::Of(a, b) = doubled_rows(single, link, link2, link3, n) else {
+            return total;
         };
-        let s = j.facts;
-        let pairs = j.pairs;
-        j = Joined {
-            pairs: and_pair(pairs, a, b),
-            facts: replace(s, a, b),
-        };
+        and_pair(kept, replaced, total, a, b);
+        total += 1;
+        replace(single, rep, link, reach, link2, reach2, link3, reach3, a, b);
         left -= 1;
     }
-    j
+    total
 }
 
-// Joining a lower and a higher number, after the pairs that were joined before. Mostly no term has two successors then, and nothing is
-// left to settle.
-fn join_lower(s: Facts, n: usize, lo: Term, hi: Term, before: Pairs) -> Joined
-    requires { ⌜ (n ≤ 16) × (lo .0 < hi .0) × (hi .0 ≤ 16) × Fits (andThen (joinedAs before s) (join n (lo .0) (hi .0))) ⌝ }
-    ensures { λ r. ⌜ joinedOf r ≡ andThen (joinedAs before s) (join n (lo .0) (hi .0)) ⌝ }
+// Joining a lower and a higher number, after the pairs that were joined before.
+fn join_lower(
+    single: bool,
+    rep: &mut [u8; 17],
+    link: &mut [u32; 17],
+    reach: &mut [u32; 17],
+    link2: &mut [u32; 17],
+    reach2: &mut [u32; 17],
+    link3: &mut [u32; 17],
+    reach3: &mut [u32; 17],
+    kept: &mut [u8; 17],
+    replaced: &mut [u8; 17],
+    count: usize,
+    n: usize,
+    lo: Term,
+    hi: Term,
+) -> usize
+    requires { ⌜ (n ≤ 16) × (lo .0 < hi .0) × (hi .0 ≤ 16) × Fits (andThen (joinedIn single (now rep) (now link) (now reach) (now link2) (now reach2) (now link3) (now reach3) (now kept) (now replaced) count) (join n (lo .0) (hi .0))) ⌝ }
+    requires { ⌜ Whole (now rep) (now link) (now reach) (now link2) (now reach2) (now link3) (now reach3) × (length (now kept) ≡ 17) × (length (now replaced) ≡ 17) ⌝ }
+    ensures { λ r. ⌜ joinedIn single (now (rep .exit)) (now (link .exit)) (now (reach .exit)) (now (link2 .exit)) (now (reach2 .exit)) (now (link3 .exit)) (now (reach3 .exit)) (now (kept .exit)) (now (replaced .exit)) r ≡ andThen (joinedIn single (now (rep .entry)) (now (link .entry)) (now (reach .entry)) (now (link2 .entry)) (now (reach2 .entry)) (now (link3 .entry)) (now (reach3 .entry)) (now (kept .entry)) (now (replaced .entry)) count) (join n (lo .0) (hi .0)) ⌝ }
+    ensures { λ _. ⌜ Whole (now (rep .exit)) (now (link .exit)) (now (reach .exit)) (now (link2 .exit)) (now (reach2 .exit)) (now (link3 .exit)) (now (reach3 .exit)) × (length (now (kept .exit)) ≡ 17) × (length (now (replaced .exit)) ≡ 17) ⌝ }
 {
-    let made = Joined {
-        pairs: and_pair(before, lo, hi),
-        facts: replace(s, lo, hi),
-    };
-    let Two::Of(_, _) = doubled(&made.facts.link, n) else {
-        return made;
-    };
-    settle(made, n)
+    and_pair(kept, replaced, count, lo, hi);
+    replace(
+        single,
+        rep,
+        link,
+        reach,
+        link2,
+        reach2,
+        link3,
+        reach3,
+        lo,
+        hi,
+    );
+    settle(
+        single,
+        rep,
+        link,
+        reach,
+        link2,
+        reach2,
+        link3,
+        reach3,
+        kept,
+        replaced,
+        count + 1,
+        n,
+    )
 }
 
 // "Joining a and b", after the pairs that were joined before. A term joined with itself is no pair.
-pub fn join(s: Facts, n: usize, a: Term, b: Term, before: Pairs) -> Joined
-    requires { ⌜ (n ≤ 16) × (a .0 ≤ 16) × (b .0 ≤ 16) × Fits (andThen (joinedAs before s) (join n (a .0) (b .0))) ⌝ }
-    ensures { λ r. ⌜ joinedOf r ≡ andThen (joinedAs before s) (join n (a .0) (b .0)) ⌝ }
+pub fn join(
+    single: bool,
+    rep: &mut [u8; 17],
+    link: &mut [u32; 17],
+    reach: &mut [u32; 17],
+    link2: &mut [u32; 17],
+    reach2: &mut [u32; 17],
+    link3: &mut [u32; 17],
+    reach3: &mut [u32; 17],
+    kept: &mut [u8; 17],
+    replaced: &mut [u8; 17],
+    count: usize,
+    n: usize,
+    a: Term,
+    b: Term,
+) -> usize
+    requires { ⌜ (n ≤ 16) × (a .0 ≤ 16) × (b .0 ≤ 16) × Fits (andThen (joinedIn single (now rep) (now link) (now reach) (now link2) (now reach2) (now link3) (now reach3) (now kept) (now replaced) count) (join n (a .0) (b .0))) ⌝ }
+    requires { ⌜ Whole (now rep) (now link) (now reach) (now link2) (now reach2) (now link3) (now reach3) × (length (now kept) ≡ 17) × (length (now replaced) ≡ 17) ⌝ }
+    ensures { λ r. ⌜ joinedIn single (now (rep .exit)) (now (link .exit)) (now (reach .exit)) (now (link2 .exit)) (now (reach2 .exit)) (now (link3 .exit)) (now (reach3 .exit)) (now (kept .exit)) (now (replaced .exit)) r ≡ andThen (joinedIn single (now (rep .entry)) (now (link .entry)) (now (reach .entry)) (now (link2 .entry)) (now (reach2 .entry)) (now (link3 .entry)) (now (reach3 .entry)) (now (kept .entry)) (now (replaced .entry)) count) (join n (a .0) (b .0)) ⌝ }
+    ensures { λ _. ⌜ Whole (now (rep .exit)) (now (link .exit)) (now (reach .exit)) (now (link2 .exit)) (now (reach2 .exit)) (now (link3 .exit)) (now (reach3 .exit)) × (length (now (kept .exit)) ≡ 17) × (length (now (replaced .exit)) ≡ 17) ⌝ }
 {
     if a.0 == b.0 {
-        return Joined {
-            pairs: before,
-            facts: s,
-        };
+        return count;
     }
     if a.0 < b.0 {
-        return join_lower(s, n, a, b, before);
+        return join_lower(
+            single,
+            rep,
+            link,
+            reach,
+            link2,
+            reach2,
+            link3,
+            reach3,
+            kept,
+            replaced,
+            count,
+            n,
+            a,
+            b,
+        );
     }
-    join_lower(s, n, b, a, before)
+    join_lower(
+        single,
+        rep,
+        link,
+        reach,
+        link2,
+        reach2,
+        link3,
+        reach3,
+        kept,
+        replaced,
+        count,
+        n,
+        b,
+        a,
+    )
 }
 
 // A row with t, where it is to have it.

@@ -12,13 +12,12 @@ use Rattle.logic.specs.Search.{_and_, any}
 use Rattle.logic.specs.Facts.{Facts, Graph, live}
 use Rattle.logic.specs.Rules.{Rule, REFLEX, TRANS1, TRANS2, FUNC, CYCLE, SCC, TOTAL, SHARE, Triple, triple, move, next, returns, conditions, alternatives, held, applies}
 use Rattle.theory.proofs.Basics.Search.{and-left}
-use Rattle.theory.proofs.Calls.OneLink.{applies-local}
 use Rattle.facts.specs.Square.{square}
-use Rattle.facts.specs.Path.{graphOf, linksIn}
+use Rattle.facts.specs.Path.{graphOf, linksIn, HasLink}
 use Rattle.rules.specs.Tests.{pairTest, thirdTest, looped}
 use Rattle.rules.specs.Smallest.{allowed}
 use Rattle.rules.specs.Cycle.{stepsTo}
-use Rattle.rules.proofs.Nested.{halves}
+use Rattle.rules.proofs.Nested.{halves, applies-allowed}
 use Rattle.rules.proofs.Around.{steps-le, returns-not, returns-at, round-is, steps-links}
 
 -- Tests that are made one after the other
@@ -104,13 +103,9 @@ pub cycle-looped : (r : Rule) → r ≡ CYCLE → looped r ≡ true → ⊥
 unfolding looped
 cycle-looped r e h = false≢true (sym (ap looped e) ∙ h)
 
-module _ (n : ℕ) (s : Facts) (one : s .links ≡ 1) where
-  pub applies-allowed : (r : Rule) (t : Triple) → applies n s (move 1 r t) ≡ allowed n (live n s) (s .graph 1) (move 1 r t)
-  unfolding allowed
-  applies-allowed r t = applies-local n s one r t
-
-  pub applies-halves : (r : Rule) (x y z : ℕ) → looped r ≡ true → applies n s (move 1 r (triple x y z)) ≡ (pairTest (live n s) (s .graph 1) x y r and thirdTest (s .graph 1) x y z r)
-  applies-halves r x y z h = applies-allowed r (triple x y z) ∙ halves n (live n s) (s .graph 1) x y z r h
+-- a rule of link 1, by its two tests
+pub applies-halves : (n : ℕ) (s : Facts) → HasLink s 1 → (r : Rule) (x y z : ℕ) → looped r ≡ true → applies n s (move 1 r (triple x y z)) ≡ (pairTest (live n s) (s .graph 1) x y r and thirdTest (s .graph 1) x y z r)
+applies-halves n s has r x y z h = applies-allowed n s 1 has r (triple x y z) ∙ halves n (live n s) (s .graph 1) x y z r h
 
 -- CYCLE
 

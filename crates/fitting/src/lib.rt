@@ -19,19 +19,6 @@ ghost use Rattle.rules.specs.Tests.{pairTest, thirdTest, looped};
 ghost use Rattle.rules.specs.Smallest.{allowed};
 ghost use Rattle.clash.specs.Sections.{literalsIn, oneTerm, reachHeld, sameField};
 
-// The fact about a and b is held; a number above 16 has none.
-fn is_held(rows: &[u32; 17], a: usize, b: usize) -> bool
-    ensures { λ r. ⌜ r ≡ square (now (rows .entry)) a b ⌝ }
-{
-    if 16 < a {
-        return false;
-    }
-    if 16 < b {
-        return false;
-    }
-    facts::holds(rows, Term(a), Term(b))
-}
-
 // Term t is not replaced.
 fn is_live(s: Facts, n: usize, t: usize) -> bool
     requires { ⌜ n ≤ 16 ⌝ }
@@ -60,32 +47,37 @@ fn is_allowed(
     ensures { λ r. ⌜ ((lives : ℕ → Bool) → alive ≡ lives x → looped (kindOf rule) ≡ true → r ≡ (pairTest lives (graphOf (now (link .entry)) (now (reach .entry))) x y (kindOf rule) and thirdTest (graphOf (now (link .entry)) (now (reach .entry))) x y z (kindOf rule))) ⌝ }
 {
     match rule {
-        Rule::Reflex => alive & !is_held(reach, x, x) & (y == 0) & (z == 0),
-        Rule::Trans1 => is_held(link, x, y) & !is_held(reach, x, y) & (z == 0),
-        Rule::Trans2 => is_held(reach, x, y) & is_held(reach, y, z) & !is_held(reach, x, z),
+        Rule::Reflex => alive & !facts::is_held(reach, x, x) & (y == 0) & (z == 0),
+        Rule::Trans1 => facts::is_held(link, x, y) & !facts::is_held(reach, x, y) & (z == 0),
+        Rule::Trans2 => facts::is_held(reach, x, y)
+            & facts::is_held(reach, y, z)
+            & !facts::is_held(reach, x, z),
         Rule::Func => {
-            is_held(link, x, y) & is_held(reach, x, z) & (x != z) & !is_held(reach, y, z)
+            facts::is_held(link, x, y)
+                & facts::is_held(reach, x, z)
+                & (x != z)
+                & !facts::is_held(reach, y, z)
         }
         Rule::Cycle => false,
         Rule::Scc => {
-            is_held(reach, x, y)
-                & is_held(reach, y, x)
+            facts::is_held(reach, x, y)
+                & facts::is_held(reach, y, x)
                 & (x != y)
-                & is_held(reach, x, z)
-                & !is_held(reach, z, x)
+                & facts::is_held(reach, x, z)
+                & !facts::is_held(reach, z, x)
         }
         Rule::Total => {
-            is_held(reach, x, y)
-                & is_held(reach, x, z)
-                & !is_held(reach, y, z)
-                & !is_held(reach, z, y)
+            facts::is_held(reach, x, y)
+                & facts::is_held(reach, x, z)
+                & !facts::is_held(reach, y, z)
+                & !facts::is_held(reach, z, y)
         }
         Rule::Share => {
-            is_held(reach, x, y)
-                & is_held(reach, y, x)
+            facts::is_held(reach, x, y)
+                & facts::is_held(reach, y, x)
                 & (x != y)
-                & is_held(link, x, z)
-                & is_held(link, y, z)
+                & facts::is_held(link, x, z)
+                & facts::is_held(link, y, z)
         }
     }
 }
@@ -95,7 +87,7 @@ fn is_round(link: &[u32; 17], reach: &[u32; 17], n: usize, x: usize, y: usize, k
     requires { ⌜ n ≤ 16 ⌝ }
     ensures { λ r. ⌜ ((lives : ℕ → Bool) → r ≡ allowed n lives (graphOf (now (link .entry)) (now (reach .entry))) (move 1 CYCLE (triple x y k))) ⌝ }
 {
-    if !is_held(reach, x, y) {
+    if !facts::is_held(reach, x, y) {
         return false;
     }
     if k == 0 {

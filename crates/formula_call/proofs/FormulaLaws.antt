@@ -202,13 +202,13 @@ module _ (order query text before bytes : List ℕ) where
   formula-order o b = call-refused 1 0 (unfold calls.verdictChecksOf in order-refused (record { order = order; query = query; room = length before }) _ o) b
 
   pub formula-query : (k place : ℕ) → isOrder order ≡ true → CheckedAs (checked.Refused k place) query → bytes ≡ replicate (length before) 0 → DoesFormula (formulaCall given) (answer.Refused k place) bytes
-  formula-query k place o h b = call-refused k place (unfold calls.verdictChecksOf in query-refused (record { order = order; query = query; room = length before }) _ (refused k place) o (h (record { order = order; query = query; room = length before }) refl)) b
+  formula-query k place o h b = call-refused k place (unfold calls.verdictChecksOf in query-refused (record { order = order; query = query; room = length before }) calls.queryChecks _ (refused k place) o (h (record { order = order; query = query; room = length before }) refl)) b
 
   pub formula-room : (l : Layout) → isOrder order ≡ true → CheckedAs (checked.Accepted l) query → length before < 53 → bytes ≡ replicate (length before) 0 → DoesFormula (formulaCall given) (answer.Refused 9 0) bytes
-  formula-room l o h r b = call-refused 9 0 (room-refused (record { order = order; query = query; room = length before }) o (h .0 (record { order = order; query = query; room = length before }) refl) r) b
+  formula-room l o h r b = call-refused 9 0 (room-refused (record { order = order; query = query; room = length before }) calls.oneLinkForm o (h .0 (record { order = order; query = query; room = length before }) refl) r) b
 
   pub formula-text : (l : Layout) (r : FormulaAnswer) → isOrder order ≡ true → CheckedAs (checked.Accepted l) query → 53 ≤ length before → DoesFormula (textOutcome given) r bytes → DoesFormula (formulaCall given) r bytes
-  formula-text l r o h k d = call-text r (verdict-clear (record { order = order; query = query; room = length before }) o (h .0 (record { order = order; query = query; room = length before }) refl) k) d
+  formula-text l r o h k d = call-text r (verdict-clear (record { order = order; query = query; room = length before }) calls.oneLinkForm o (h .0 (record { order = order; query = query; room = length before }) refl) k) d
 
 -- The formula that is read, as the code holds it
 

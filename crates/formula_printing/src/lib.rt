@@ -16,7 +16,7 @@ fn put_sat(buffer: &mut [u8], n: usize, report: &[u8]) -> usize
     let number = text::put_bytes(buffer, 0, b"sat ");
     let behind = text::put_decimal(buffer, number, n);
     let line = text::put_byte(buffer, behind, b'\n');
-    wording::put_report(buffer, line, report)
+    wording::put_report(buffer, line, report, 1)
 }
 
 // The answer and, behind `sat`, its heap.

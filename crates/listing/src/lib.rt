@@ -41,7 +41,19 @@ pub fn list(
             count,
         };
     }
-    match walk::look(query, layout, order, s) {
+    match walk::look(
+        query,
+        layout,
+        order,
+        s.single,
+        &s.rep,
+        &s.link,
+        &s.reach,
+        &s.link2,
+        &s.reach2,
+        &s.link3,
+        &s.reach3,
+    ) {
         Seen::Saturated => Listed {
             stopped: true,
             count,

@@ -102,7 +102,19 @@ pub fn descend(
     let mut how = first;
     let mut steps = left;
     loop {
-        match walk::look(query, layout, order, path) {
+        match walk::look(
+            query,
+            layout,
+            order,
+            path.single,
+            &path.rep,
+            &path.link,
+            &path.reach,
+            &path.link2,
+            &path.reach2,
+            &path.link3,
+            &path.reach3,
+        ) {
             walk::Seen::Saturated => {
                 return path;
             }

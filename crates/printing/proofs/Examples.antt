@@ -14,8 +14,8 @@ use Rattle.logic.specs.Examples.{inOrder}
 use Rattle.text.specs.Text.{decimal, decimalWithin, hexByte, hexDigit}
 use Rattle.wording.specs.Words.{behind, lineOf, refusedText, reportSize, reportText, lineText}
 use Rattle.printing.specs.Examples.{PrintsHold, prints}
-use Rattle.printing.specs.HeapverdictText.{answerText, firstLine, derivationText, verdictText, unsatText, textOf, heapverdictText}
+use Rattle.printing.specs.HeapverdictText.{answerText, firstLine, derivationText, verdictText, unsatText, textOf, textBy}
 
 pub prints-hold : PrintsHold
-unfolding Option·elim _and_ _or_ from keep any all select at holdsOf orElse firstOf flatMap find termCount entryOf namesNil argumentOf entryRole signRole termRole numberRole countRole fourSections booleanSection fiveSections sections withPart layout rolesOf firstByte layoutBy layoutOf faultIn layoutFault roleFault byteFault isOrder literals section queryOf decode terms live liveTerms became replaceIn replace successors firstTwo doubled unjoined joinPair andThen settle join addReach linksOf joinEach reachEach nilTerms equalTo joinNil startJoins start joinLines negatedAt plainAt isClash clashLines clash ruleNumber rules ruleOf next returns round conditions alternatives held applies branch add branches triples choose moveLine orderOf look after thenEnding walkBranch walkEach endAt walk limit ourWalk lineBytes derivationBytes reached inBasin heads onPath basinLink treeLink newLink linkEach shownLink orZero nodes placeOf byteOf fieldByte report orderCheck layoutCheck byteCheck formChecks roomUnder queryChecks verdictChecksOf derivationChecksOf refusalOf padded blank call verdictOf verdictCallOf derivationOf derivationCallOf sizeIn inOrder prints decimal decimalWithin hexByte hexDigit behind lineOf refusedText answerText firstLine reportSize reportText lineText linesFrom linesIn derivationText verdictText unsatText textOf heapverdictText linkOf linkNumbers addLinks addNilLinks hasLink moveNumber successorsShown
+unfolding Option·elim _and_ _or_ from keep any all select at holdsOf orElse firstOf flatMap find termCount entryOf namesNil argumentOf entryRole signRole termRole numberRole countRole fourSections booleanSection fiveSections sections withPart layout rolesOf firstByte layoutBy layoutOf faultIn layoutFault roleFault byteFault isOrder literals section queryOf decode terms live liveTerms became replaceIn replace successors firstTwo doubled unjoined joinPair andThen settle join addReach linksOf joinEach reachEach nilTerms equalTo joinNil startJoins start joinLines negatedAt plainAt isClash clashLines clash ruleNumber rules ruleOf next returns round conditions alternatives held applies branch add branches triples choose moveLine orderOf look after thenEnding walkBranch walkEach endAt walk limit ourWalk lineBytes derivationBytes reached inBasin heads onPath basinLink treeLink newLink linkEach shownLink orZero nodes placeOf byteOf fieldByte report orderCheck layoutCheck byteCheck formChecks roomUnder queryChecks verdictChecksOf derivationChecksOf refusalOf padded blank call verdictOf verdictCallOf derivationOf derivationCallOf sizeIn inOrder prints decimal decimalWithin hexByte hexDigit behind lineOf refusedText answerText firstLine reportSize reportText lineText linesFrom linesIn derivationText verdictText unsatText textOf textBy linkOf linkNumbers addLinks addNilLinks hasLink moveNumber successorsShown
 prints-hold = refl

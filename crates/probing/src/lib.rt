@@ -30,10 +30,10 @@ fn clashes(query: &[u8], layout: Layout, s: Facts) -> bool
         query,
         layout,
         &s.rep,
-        true,
+        s.single,
         &s.reach,
-        &s.reach,
-        &s.reach,
+        &s.reach2,
+        &s.reach3,
     ) {
         return true;
     }

@@ -7,10 +7,9 @@ use mathlib.Core.Option.{Option, none, some, Option·elim}
 use lib.Dec.{ltb}
 use borrow.Author.Tests.{lt-ltb, le-ltb}
 use Rattle.logic.specs.Search.{keep, orElse, firstOf}
-use Rattle.logic.specs.Query.{isOrder, decode}
+use Rattle.logic.specs.Query.{isOrder}
 use Rattle.logic.specs.Walk.{Ending, ourWalk}
-use Rattle.logic.specs.Calls as calls
-use Rattle.logic.specs.Calls.{Input, Check, orderCheck, roomCheck, queryChecks, verdictChecks, derivationChecks, Answer, refused, Outcome, refusalOf, blank, call, derivationChecksOf, roomUnder, verdictChecksOf}
+use Rattle.logic.specs.Calls.{Input, Check, CallForm, orderCheck, Answer, refused, Outcome, refusalOf, blank, call, derivationChecksOf, roomUnder, verdictChecksOf}
 
 -- a search of one list behind another
 firstOf-append : {A B : Type 0} (f : A → Option B) (xs ys : List A) → firstOf f (xs ++ ys) ≡ orElse (firstOf f xs) (firstOf f ys)
@@ -37,36 +36,37 @@ module _ (i : Input) where
   behind cs ds = firstOf-append _ cs ds
 
   -- the query is refused
-  pub query-refused : (ds : List Check) (a : Answer) → isOrder (i .order) ≡ true → refusalOf queryChecks i ≡ some a → refusalOf (orderCheck ∷ (queryChecks ++ ds)) i ≡ some a
+  pub query-refused : (cs ds : List Check) (a : Answer) → isOrder (i .order) ≡ true → refusalOf cs i ≡ some a → refusalOf (orderCheck ∷ (cs ++ ds)) i ≡ some a
   unfolding orElse
-  query-refused ds a o h = order-passed (queryChecks ++ ds) o ∙ behind queryChecks ds ∙ ap (λ (x : Option Answer). orElse x (refusalOf ds i)) h
+  query-refused cs ds a o h = order-passed (cs ++ ds) o ∙ behind cs ds ∙ ap (λ (x : Option Answer). orElse x (refusalOf ds i)) h
 
   -- the query passes
-  query-passed : (ds : List Check) → isOrder (i .order) ≡ true → refusalOf queryChecks i ≡ none → refusalOf (orderCheck ∷ (queryChecks ++ ds)) i ≡ refusalOf ds i
+  query-passed : (cs ds : List Check) → isOrder (i .order) ≡ true → refusalOf cs i ≡ none → refusalOf (orderCheck ∷ (cs ++ ds)) i ≡ refusalOf ds i
   unfolding orElse
-  query-passed ds o h = order-passed (queryChecks ++ ds) o ∙ behind queryChecks ds ∙ ap (λ (x : Option Answer). orElse x (refusalOf ds i)) h
+  query-passed cs ds o h = order-passed (cs ++ ds) o ∙ behind cs ds ∙ ap (λ (x : Option Answer). orElse x (refusalOf ds i)) h
 
-  pub room-refused : isOrder (i .order) ≡ true → refusalOf queryChecks i ≡ none → i .room < 53 → refusalOf verdictChecks i ≡ some (refused 9 0)
-  unfolding verdictChecksOf refusalOf firstOf roomUnder keep orElse Option·elim
-  room-refused o h l = query-passed (roomCheck ∷ []) o h ∙ rw (lt-ltb (i .room) 53 l)
+  module _ (f : CallForm) where
+    pub room-refused : isOrder (i .order) ≡ true → refusalOf (f .checks) i ≡ none → i .room < f .room → refusalOf (verdictChecksOf f) i ≡ some (refused 9 0)
+    unfolding verdictChecksOf refusalOf firstOf roomUnder keep orElse Option·elim
+    room-refused o h l = query-passed (f .checks) (roomUnder (f .room) ∷ []) o h ∙ rw (lt-ltb (i .room) (f .room) l)
 
-  pub verdict-clear : isOrder (i .order) ≡ true → refusalOf queryChecks i ≡ none → 53 ≤ i .room → refusalOf verdictChecks i ≡ none
-  unfolding verdictChecksOf refusalOf firstOf roomUnder keep orElse Option·elim
-  verdict-clear o h l = query-passed (roomCheck ∷ []) o h ∙ rw (le-ltb (i .room) 53 l)
+    pub verdict-clear : isOrder (i .order) ≡ true → refusalOf (f .checks) i ≡ none → f .room ≤ i .room → refusalOf (verdictChecksOf f) i ≡ none
+    unfolding verdictChecksOf refusalOf firstOf roomUnder keep orElse Option·elim
+    verdict-clear o h l = query-passed (f .checks) (roomUnder (f .room) ∷ []) o h ∙ rw (le-ltb (i .room) (f .room) l)
 
-  pub derivation-refused : (a : Answer) → isOrder (i .order) ≡ true → refusalOf queryChecks i ≡ some a → refusalOf derivationChecks i ≡ some a
-  unfolding derivationChecksOf
-  derivation-refused a o h = order-passed queryChecks o ∙ h
+    pub derivation-refused : (a : Answer) → isOrder (i .order) ≡ true → refusalOf (f .checks) i ≡ some a → refusalOf (derivationChecksOf f) i ≡ some a
+    unfolding derivationChecksOf
+    derivation-refused a o h = order-passed (f .checks) o ∙ h
 
-  pub derivation-clear : isOrder (i .order) ≡ true → refusalOf queryChecks i ≡ none → refusalOf derivationChecks i ≡ none
-  unfolding derivationChecksOf
-  derivation-clear o h = order-passed queryChecks o ∙ h
+    pub derivation-clear : isOrder (i .order) ≡ true → refusalOf (f .checks) i ≡ none → refusalOf (derivationChecksOf f) i ≡ none
+    unfolding derivationChecksOf
+    derivation-clear o h = order-passed (f .checks) o ∙ h
 
-  -- what the call then does
-  pub call-refused : (cs : List Check) (result : Ending → Outcome) (a : Answer) → refusalOf cs i ≡ some a → call calls.oneLinkForm cs result i ≡ blank (i .room) a
-  unfolding call Option·elim
-  call-refused cs result a h = rw h
+    -- what the call then does
+    pub call-refused : (cs : List Check) (result : Ending → Outcome) (a : Answer) → refusalOf cs i ≡ some a → call f cs result i ≡ blank (i .room) a
+    unfolding call Option·elim
+    call-refused cs result a h = rw h
 
-  pub call-walked : (cs : List Check) (result : Ending → Outcome) → refusalOf cs i ≡ none → call calls.oneLinkForm cs result i ≡ result (ourWalk (i .order) (decode (i .query)))
-  unfolding call Option·elim
-  call-walked cs result h = rw h
+    pub call-walked : (cs : List Check) (result : Ending → Outcome) → refusalOf cs i ≡ none → call f cs result i ≡ result (ourWalk (i .order) (f .decode (i .query)))
+    unfolding call Option·elim
+    call-walked cs result h = rw h

@@ -2,19 +2,19 @@
 use Prim.Native.Nat.{ℕ, _+_, _*_, _/_, _%_, _≤_, _<_}
 use native.Mathlib.Omega.{arith}
 use native.Mathlib.Nat.{zero-add}
-use mathlib.Core.Path.{_≡_, refl, sym, ap, _∙_, subst}
+use mathlib.Core.Path.{_≡_, refl, sym, ap, _∙_}
 use mathlib.Core.Logic.{_⊎_, ⊎-elim}
 use mathlib.Core.Bool.{true}
 use mathlib.Core.List.{List}
 use lib.ListN.{length, set, replicate}
 use borrow.Author.Tests.{lt-ltb, le-ltb}
 use Rattle.logic.specs.Search.{_or_}
-use Rattle.logic.specs.Query.{Query, termCount, decode}
+use Rattle.logic.specs.Query.{Query, termCount}
 use Rattle.logic.specs.Facts.{Facts, Joined, Line, start}
 use Rattle.logic.specs.Walk.{Ending, refutation, saturation, walkBranch, walk, orderOf, limit, ourWalk}
 use Rattle.logic.specs.Shown.{report}
 use Rattle.logic.specs.Steps.{AtMost}
-use Rattle.logic.specs.Calls.{Outcome, blank, padded, accepts, verdictOf, derivationOf}
+use Rattle.logic.specs.Calls.{Outcome, blank, padded, verdictOf, derivationOf}
 use Rattle.logic.specs.Calls as calls
 use Rattle.facts.specs.Path.{pathOf}
 use Rattle.start.specs.Taken.{started}
@@ -22,13 +22,7 @@ use Rattle.walk.specs.Lines.{countAll, putAll}
 use Rattle.walk.proofs.Lines.{countAll-small, countAll-large}
 use Rattle.walk.proofs.Padded.{derivation-written}
 use Rattle.theory.proofs.Basics.Compare.{le-cases}
-use Rattle.theory.proofs.Query.AcceptedBytes.{accepted, decode-links}
-use Rattle.theory.proofs.Calls.OneLink.{limit-one}
 use Rattle.theory.proofs.Query.Tied.{Accepted, Tied}
-use Rattle.query.specs.declared.Layout.{Layout}
-use Rattle.query.specs.LaysOut.{LaysOut}
-use Rattle.link_query.specs.Said.{said}
-use Rattle.link_query.proofs.Said.{one-said}
 use Rattle.theory.proofs.Paths.Invariant.{Invariant, start-invariant, branch-invariant}
 use Rattle.theory.proofs.Walks.Limit.{start-atMost, our-saturation}
 use Rattle.prover.specs.Promise.{meaning, Does}
@@ -50,34 +44,21 @@ count-long ls count c l =
     (λ h. h)
     (le-cases (length ls) 16000)
 
--- a query in the form of 01, read in place, is all that the theory asks
-pub said-accepted : (bytes : List ℕ) (l : Layout) → LaysOut l bytes → accepts bytes ≡ true → Accepted (said l bytes)
-said-accepted bytes l laid ok = subst Accepted (sym (one-said l bytes laid)) (accepted bytes ok)
+-- The walk that the code makes is our walk, and no more rule steps are possible from its start than it counts.
+module _ (q : Query) (links n k : ℕ) (j : Joined) (same-links : links ≡ q .links) (same-terms : n ≡ termCount q) (counted : k ≡ links * (n * n) + n) (begun : j ≡ started q) where
+  counted-limit : k ≡ limit q
+  unfolding limit
+  counted-limit = counted ∙ ap (λ (i : ℕ). i * (n * n) + n) same-links ∙ ap (λ (m : ℕ). q .links * (m * m) + m) same-terms
 
--- the walk that the code makes is our walk
-pub our-walk : (q : Query) (order : List ℕ) (n k : ℕ) (j : Joined) → q .links ≡ 1 → n ≡ termCount q → k ≡ n * n + n → j ≡ started q → walkBranch (walk q (orderOf order) k) j ≡ ourWalk order q
-unfolding ourWalk walkBranch started
-our-walk q order n k j one en ek ej =
-    ap (λ (i : Joined). walkBranch (walk q (orderOf order) k) i) ej
-    ∙ ap (λ (i : ℕ). walkBranch (walk q (orderOf order) i) (started q)) (ek ∙ ap (λ (m : ℕ). m * m + m) en ∙ sym (limit-one q one))
+  pub our-walk : (order : List ℕ) → walkBranch (walk q (orderOf order) k) j ≡ ourWalk order q
+  unfolding ourWalk walkBranch started
+  our-walk order = ap (λ (i : Joined). walkBranch (walk q (orderOf order) k) i) begun ∙ ap (λ (i : ℕ). walkBranch (walk q (orderOf order) i) (started q)) counted-limit
 
--- and so is the walk of the query read in place
-pub said-walk : (bytes : List ℕ) (l : Layout) → LaysOut l bytes → (order : List ℕ) (n k : ℕ) (j : Joined) → n ≡ termCount (decode bytes) → k ≡ n * n + n → j ≡ started (decode bytes) → walkBranch (walk (said l bytes) (orderOf order) k) j ≡ ourWalk order (decode bytes)
-said-walk bytes l laid order n k j en ek ej =
-    ap (λ (q : Query). walkBranch (walk q (orderOf order) k) j) (one-said l bytes laid) ∙ our-walk (decode bytes) order n k j (decode-links bytes) en ek ej
-
--- and no more rule steps are possible from its start than it counts
-pub start-steps : (bytes : List ℕ) (n k : ℕ) (j : Joined) → accepts bytes ≡ true → n ≡ termCount (decode bytes) → k ≡ n * n + n → j ≡ started (decode bytes) → AtMost (termCount (decode bytes)) (j .facts) k
-unfolding started
-start-steps bytes n k j ok en ek ej =
-    let e : k ≡ limit (decode bytes) = ek ∙ ap (λ (m : ℕ). m * m + m) en ∙ sym (limit-one (decode bytes) (decode-links bytes)) in
-    let es : j .facts ≡ start (decode bytes) = ap (λ (i : Joined). i .facts) ej in
-    rw (es, e) (start-atMost (decode bytes) (accepted bytes ok))
-
--- the same of the query read in place
-pub said-steps : (bytes : List ℕ) (l : Layout) → LaysOut l bytes → (n k : ℕ) (j : Joined) → accepts bytes ≡ true → n ≡ termCount (decode bytes) → k ≡ n * n + n → j ≡ started (decode bytes) → AtMost (termCount (said l bytes)) (j .facts) k
-said-steps bytes l laid n k j ok en ek ej =
-    subst (λ (q : Query). AtMost (termCount q) (j .facts) k) (sym (one-said l bytes laid)) (start-steps bytes n k j ok en ek ej)
+  pub start-steps : Accepted q → AtMost (termCount q) (j .facts) k
+  unfolding started
+  start-steps ok =
+      let es : j .facts ≡ start q = ap (λ (i : Joined). i .facts) begun in
+      rw (es, counted-limit) (start-atMost q ok)
 
 -- an outcome, done
 pub does-blank : (o : Outcome) (room : ℕ) (r : Answer) (bytes : List ℕ) → o ≡ blank room (meaning r) → bytes ≡ replicate room 0 → Does o r bytes
@@ -143,8 +124,6 @@ module _ (room : ℕ) (w : Ending) where
       })
 
 -- a path that our walk finds saturated is tied to the query: it has its links, and its terms stand for terms of the query
-pub saturated-tied : (bytes order : List ℕ) (s : Facts) → accepts bytes ≡ true → ourWalk order (decode bytes) ≡ saturation s → Tied (decode bytes) s
-saturated-tied bytes order s ok h =
-    let q : Query = decode bytes in
-    let acc = accepted bytes ok in
-    our-saturation q acc (Invariant q) (λ s s′ m i c a k. branch-invariant q s m i a s′ k) order s (start-invariant q acc) h .0 .tied
+pub saturated-tied : (q : Query) (order : List ℕ) (s : Facts) → Accepted q → ourWalk order q ≡ saturation s → Tied q s
+saturated-tied q order s ok h =
+    our-saturation q ok (Invariant q) (λ s s′ m i c a k. branch-invariant q s m i a s′ k) order s (start-invariant q ok) h .0 .tied

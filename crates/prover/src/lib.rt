@@ -1,17 +1,21 @@
-// Lemitsaka's two calls: a verdict with its heap, and a derivation. Neither asks anything of its caller.
+// Lemitsaka's calls: a verdict with its heap, and a derivation, of queries in the form of 01 or with three links (02, R-11). None asks
+// anything of its caller.
 use decide::Walked;
 use query::Checked;
 use query::Layout;
 ghost use mathlib.Core.Path.{_≡_};
-ghost use mathlib.Core.Bool.{true};
 ghost use mathlib.Core.Logic.{_⊎_};
+ghost use mathlib.Core.Bool.{true};
 ghost use Prim.Native.Nat.{ℕ, _+_, _*_, _≤_, _<_};
 ghost use lib.ListN.{length, replicate};
-ghost use Rattle.logic.specs.Query.{decode, isOrder};
+ghost use Rattle.logic.specs.Query.{isOrder};
 ghost use Rattle.logic.specs.Walk.{Verdict, ourWalk, ourVerdict};
-ghost use Rattle.logic.specs.Calls.{accepts, verdictOf, verdictCall, derivationOf, derivationCall};
-ghost use Rattle.query.specs.LaysOut.{LaysOut};
-ghost use Rattle.prover.specs.Promise.{meaning, inputOf, Does, Settles};
+ghost use Rattle.logic.specs.Calls.{verdictOf, verdictCall, verdictCallOf, derivationOf, derivationCall, derivationCallOf};
+ghost use Rattle.logic.specs.ThreeLinks.{threeLinkForm};
+ghost use Rattle.theory.proofs.Query.Tied.{Accepted};
+ghost use Rattle.link_query.specs.Said.{said, Within};
+ghost use Rattle.link_query.specs.Answers.{CheckedBy};
+ghost use Rattle.prover.specs.Promise.{meaning, formOf, inputOf, Does, Settles};
 
 // What a call answers: a verdict, or a refusal's number and place.
 pub enum Answer {
@@ -20,30 +24,30 @@ pub enum Answer {
     Refused(usize, usize),
 }
 
-// "n times n plus n rule steps"
-fn limit(n: usize) -> usize
-    requires { ⌜ n ≤ 16 ⌝ }
-    ensures { λ r. ⌜ r ≡ n * n + n ⌝ }
+// "n times n plus n rule steps", and with three links "3 n n + n" (02, R-11)
+fn limit(links: usize, n: usize) -> usize
+    requires { ⌜ (links ≤ 3) × (n ≤ 16) ⌝ }
+    ensures { λ r. ⌜ r ≡ links * (n * n) + n ⌝ }
 {
-    n * n + n
+    links * (n * n) + n
 }
 
 // How our walk of a query that passes its checks ends. Its lines are not written, and most branches are decided by other means than
 // walking them: the verdict is the same.
 fn settled(order: &[u8], query: &[u8], layout: Layout) -> Walked
-    requires { ⌜ LaysOut layout (now query) × (accepts (now query) ≡ true) × (isOrder (now order) ≡ true) ⌝ }
-    ensures { λ r. ⌜ Settles (ourWalk (now (order .entry)) (decode (now (query .entry)))) r ⌝ }
+    requires { ⌜ Within layout (now query) × Accepted (said layout (now query)) × (isOrder (now order) ≡ true) ⌝ }
+    ensures { λ r. ⌜ Settles (ourWalk (now (order .entry)) (said layout (now (query .entry)))) r ⌝ }
 {
-    let n = layout.terms;
+    let steps = limit(layout.links, layout.terms);
     let first = start::start(query, layout);
     let s = first.facts;
-    open_path::settle(query, layout, order, limit(n), s)
+    open_path::settle(query, layout, order, steps, s)
 }
 
 // The verdict of a query that passes its checks, and the heap shown in a blank report.
 fn decide(order: &[u8], query: &[u8], layout: Layout, report: &mut [u8]) -> Answer
-    requires { ⌜ LaysOut layout (now query) × (accepts (now query) ≡ true) × (isOrder (now order) ≡ true) × (53 ≤ length (now report)) × (now report ≡ replicate (length (now report)) 0) ⌝ }
-    ensures { λ r. ⌜ Does (verdictOf (decode (now (query .entry))) (length (now (report .entry))) (ourWalk (now (order .entry)) (decode (now (query .entry))))) r (now (report .exit)) ⌝ }
+    requires { ⌜ Within layout (now query) × Accepted (said layout (now query)) × (isOrder (now order) ≡ true) × (37 + 16 * (layout .links) ≤ length (now report)) × (now report ≡ replicate (length (now report)) 0) ⌝ }
+    ensures { λ r. ⌜ Does (verdictOf (said layout (now (query .entry))) (length (now (report .entry))) (ourWalk (now (order .entry)) (said layout (now (query .entry))))) r (now (report .exit)) ⌝ }
 {
     let w = settled(order, query, layout);
     let kind = w.kind;
@@ -55,18 +59,38 @@ fn decide(order: &[u8], query: &[u8], layout: Layout, report: &mut [u8]) -> Answ
     Answer::Satisfiable
 }
 
-// The verdict call: "satisfiable" with the heap shown in the report, "refuted", or one of the refusals 1 to 9 and 26.
-pub fn verdict(order: &[u8], query: &[u8], report: &mut [u8]) -> Answer
-    ensures { λ r. ⌜ Does (verdictCall (inputOf (now (order .entry)) (now (query .entry)) (now (report .entry)))) r (now (report .exit)) ⌝ }
+// The checks of a query's bytes: with three links, or in the form of 01.
+fn checked(three: bool, query: &[u8]) -> Checked
+    ensures { λ r. ⌜ CheckedBy (formOf three) r (now (query .entry)) ⌝ }
+{
+    if three {
+        return link_query::check_links(query);
+    }
+    query::check(query)
+}
+
+// The bytes that a report needs: "9 reads 85" with three links.
+fn room(three: bool) -> usize
+    ensures { λ r. ⌜ r ≡ formOf three .room ⌝ }
+{
+    if three {
+        return 85;
+    }
+    53
+}
+
+// The verdict call of either form.
+pub fn verdict_in(three: bool, order: &[u8], query: &[u8], report: &mut [u8]) -> Answer
+    ensures { λ r. ⌜ Does (verdictCallOf (formOf three) (inputOf (now (order .entry)) (now (query .entry)) (now (report .entry)))) r (now (report .exit)) ⌝ }
 {
     lent::clear(report);
     if !query::is_order(order) {
         return Answer::Refused(1, 0);
     }
-    match query::check(query) {
+    match checked(three, query) {
         Checked::Refused(k, place) => Answer::Refused(k, place),
         Checked::Accepted(layout) => {
-            if report.len() < 53 {
+            if report.len() < room(three) {
                 return Answer::Refused(9, 0);
             }
             decide(order, query, layout, report)
@@ -87,16 +111,16 @@ fn most_lines(length: usize) -> usize
 
 // The derivation of a query that is refuted, in a blank buffer. The walk writes its lines until there are too many of them.
 fn write_lines(order: &[u8], query: &[u8], layout: Layout, buffer: &mut [u8]) -> Answer
-    requires { ⌜ LaysOut layout (now query) × (accepts (now query) ≡ true) × (now buffer ≡ replicate (length (now buffer)) 0) × (ourVerdict (ourWalk (now order) (decode (now query))) ≡ Verdict.refuted) ⌝ }
-    ensures { λ r. ⌜ Does (derivationOf (length (now (buffer .entry))) (ourWalk (now (order .entry)) (decode (now (query .entry))))) r (now (buffer .exit)) ⌝ }
+    requires { ⌜ Within layout (now query) × Accepted (said layout (now query)) × (now buffer ≡ replicate (length (now buffer)) 0) × (ourVerdict (ourWalk (now order) (said layout (now query))) ≡ Verdict.refuted) ⌝ }
+    ensures { λ r. ⌜ Does (derivationOf (length (now (buffer .entry))) (ourWalk (now (order .entry)) (said layout (now (query .entry))))) r (now (buffer .exit)) ⌝ }
 {
     if buffer.len() < 2 {
         return Answer::Refused(12, 0);
     }
-    let n = layout.terms;
+    let steps = limit(layout.links, layout.terms);
     let most = most_lines(buffer.len());
     let first = start::start(query, layout);
-    let listed = listing::list(query, layout, order, limit(n), first, buffer, 0, most);
+    let listed = listing::list(query, layout, order, steps, first, buffer, 0, most);
     let count = listed.count;
     if listed.stopped {
         lent::clear(buffer);
@@ -113,8 +137,8 @@ fn write_lines(order: &[u8], query: &[u8], layout: Layout, buffer: &mut [u8]) ->
 
 // The derivation of a query that passes its checks, in a blank buffer: the verdict is settled first.
 fn derive(order: &[u8], query: &[u8], layout: Layout, buffer: &mut [u8]) -> Answer
-    requires { ⌜ LaysOut layout (now query) × (accepts (now query) ≡ true) × (isOrder (now order) ≡ true) × (now buffer ≡ replicate (length (now buffer)) 0) ⌝ }
-    ensures { λ r. ⌜ Does (derivationOf (length (now (buffer .entry))) (ourWalk (now (order .entry)) (decode (now (query .entry))))) r (now (buffer .exit)) ⌝ }
+    requires { ⌜ Within layout (now query) × Accepted (said layout (now query)) × (isOrder (now order) ≡ true) × (now buffer ≡ replicate (length (now buffer)) 0) ⌝ }
+    ensures { λ r. ⌜ Does (derivationOf (length (now (buffer .entry))) (ourWalk (now (order .entry)) (said layout (now (query .entry))))) r (now (buffer .exit)) ⌝ }
 {
     let w = settled(order, query, layout);
     let kind = w.kind;
@@ -124,16 +148,43 @@ fn derive(order: &[u8], query: &[u8], layout: Layout, buffer: &mut [u8]) -> Answ
     Answer::Refused(11, 0)
 }
 
-// The derivation call: "refuted" with the derivation in the buffer, or one of the refusals 1 to 8, 26, 11 and 12.
-pub fn derivation(order: &[u8], query: &[u8], buffer: &mut [u8]) -> Answer
-    ensures { λ r. ⌜ Does (derivationCall (inputOf (now (order .entry)) (now (query .entry)) (now (buffer .entry)))) r (now (buffer .exit)) ⌝ }
+// The derivation call of either form.
+pub fn derivation_in(three: bool, order: &[u8], query: &[u8], buffer: &mut [u8]) -> Answer
+    ensures { λ r. ⌜ Does (derivationCallOf (formOf three) (inputOf (now (order .entry)) (now (query .entry)) (now (buffer .entry)))) r (now (buffer .exit)) ⌝ }
 {
     lent::clear(buffer);
     if !query::is_order(order) {
         return Answer::Refused(1, 0);
     }
-    match query::check(query) {
+    match checked(three, query) {
         Checked::Refused(k, place) => Answer::Refused(k, place),
         Checked::Accepted(layout) => derive(order, query, layout, buffer),
     }
+}
+
+// The verdict call: "satisfiable" with the heap shown in the report, "refuted", or one of the refusals 1 to 9 and 26.
+pub fn verdict(order: &[u8], query: &[u8], report: &mut [u8]) -> Answer
+    ensures { λ r. ⌜ Does (verdictCall (inputOf (now (order .entry)) (now (query .entry)) (now (report .entry)))) r (now (report .exit)) ⌝ }
+{
+    verdict_in(false, order, query, report)
+}
+
+// The derivation call: "refuted" with the derivation in the buffer, or one of the refusals 1 to 8, 26, 11 and 12.
+pub fn derivation(order: &[u8], query: &[u8], buffer: &mut [u8]) -> Answer
+    ensures { λ r. ⌜ Does (derivationCall (inputOf (now (order .entry)) (now (query .entry)) (now (buffer .entry)))) r (now (buffer .exit)) ⌝ }
+{
+    derivation_in(false, order, query, buffer)
+}
+
+// The same of queries with three links: "Calls of their own take queries with links 1 to 3", with refusal 22 besides.
+pub fn links_verdict(order: &[u8], query: &[u8], report: &mut [u8]) -> Answer
+    ensures { λ r. ⌜ Does (verdictCallOf threeLinkForm (inputOf (now (order .entry)) (now (query .entry)) (now (report .entry)))) r (now (report .exit)) ⌝ }
+{
+    verdict_in(true, order, query, report)
+}
+
+pub fn links_derivation(order: &[u8], query: &[u8], buffer: &mut [u8]) -> Answer
+    ensures { λ r. ⌜ Does (derivationCallOf threeLinkForm (inputOf (now (order .entry)) (now (query .entry)) (now (buffer .entry)))) r (now (buffer .exit)) ⌝ }
+{
+    derivation_in(true, order, query, buffer)
 }

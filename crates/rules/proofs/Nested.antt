@@ -17,7 +17,7 @@ use Rattle.theory.proofs.Basics.Search.{firstOf-empty, from-mem}
 use Rattle.theory.proofs.Paths.Ranged.{InRange}
 use Rattle.theory.proofs.Paths.Applies.{hasLink-intro}
 use Rattle.theory.proofs.Calls.OneLink.{firstOf-one, conditions-local, held-local}
-use Rattle.facts.specs.Path.{graphOf}
+use Rattle.facts.specs.Path.{graphOf, graphs, pathAs, replacedBy}
 use Rattle.facts.specs.Square.{square}
 use Rattle.rules.specs.Tests.{pairTest, thirdTest, looped}
 use Rattle.rules.specs.Smallest.{allowed, inThird, inSecond, inFirst, moveAt, triedAt, triedBy}
@@ -241,8 +241,11 @@ module _ (n : ℕ) (s : Facts) where
   inside none = sym (firstOf-empty _ (linkNumbers (s .links)) (λ i m. refl))
   inside (some r) = refl
 
-  choose-by : (order : List ℕ) → choose n (orderOf order) s ≡ firstOf (triedBy n (live n s) s) order
-  unfolding choose orderOf triedBy triedAt
+  abbrev by-number : ℕ → Option Move
+  by-number k = firstOf (λ i. triedAt i n (live n s) (s .graph i) k) (linkNumbers (s .links))
+
+  choose-by : (order : List ℕ) → choose n (orderOf order) s ≡ firstOf by-number order
+  unfolding choose orderOf triedAt
   choose-by order =
       ap (λ (f : Rule → Option Move). firstOf f (orderOf order)) (fun-ext by-links)
       ∙ firstOf-flatMap _ _ order
@@ -253,30 +256,45 @@ pub rows-are : (link reach : List ℕ) (g : Graph) → square link ≡ g .link �
 unfolding graphOf
 rows-are link reach g l h = ap₂ (λ (f e : ℕ → ℕ → Bool). record { link = f; reach = e }) l h
 
-pub tried-rows : (i n : ℕ) (alive : ℕ → Bool) (k : ℕ) (link reach : List ℕ) (g : Graph) → square link ≡ g .link → square reach ≡ g .reach → triedAt i n alive (graphOf link reach) k ≡ triedAt i n alive g k
-tried-rows i n alive k link reach g l h = ap (λ (f : Graph). triedAt i n alive f k) (rows-are link reach g l h)
+-- the first of three links that allows the rule
+module _ (n : ℕ) (alive : ℕ → Bool) (f g h : Graph) (k : ℕ) where
+  pub tried-first : (m : Move) → triedAt 1 n alive f k ≡ some m → triedBy n alive f g h k ≡ some m
+  unfolding triedBy orElse
+  tried-first m e = rw e refl
 
--- all links, as a loop that counts them begins with them
-pub tried-from : (n : ℕ) (alive : ℕ → Bool) (s : Facts) (k total : ℕ) → total ≡ s .links → triedBy n alive s k ≡ firstOf (λ i. triedAt i n alive (s .graph i) k) (from (total + 1 - 1) 1)
-unfolding triedBy linkNumbers
-tried-from n alive s k total e = ap (λ (m : ℕ). firstOf (λ i. triedAt i n alive (s .graph i) k) (from m 1)) (sym e ∙ same)
-  where
-    same : total ≡ total + 1 - 1
-    same = omega arith
+  pub tried-second : (m : Move) → triedAt 1 n alive f k ≡ none → triedAt 2 n alive g k ≡ some m → triedBy n alive f g h k ≡ some m
+  unfolding triedBy orElse
+  tried-second m e d = rw (e, d) refl
 
--- the same of the terms that the code has found not replaced; and of a path of one link, of the rows that the code lends
-pub choose-any : (n : ℕ) (s : Facts) (alive : ℕ → Bool) (order : List ℕ) → alive ≡ live n s → choose n (orderOf order) s ≡ firstOf (triedBy n alive s) order
-choose-any n s alive order e = choose-by n s order ∙ ap (λ (a : ℕ → Bool). firstOf (triedBy n a s) order) (sym e)
+  pub tried-third : triedAt 1 n alive f k ≡ none → triedAt 2 n alive g k ≡ none → triedBy n alive f g h k ≡ triedAt 3 n alive h k
+  unfolding triedBy orElse
+  tried-third e d = rw (e, d) refl
 
-tried-lone : (n : ℕ) (s : Facts) (alive : ℕ → Bool) → s .links ≡ 1 → (k : ℕ) → triedBy n alive s k ≡ triedAt 1 n alive (s .graph 1) k
-unfolding triedBy linkNumbers from
-tried-lone n s alive one k = rw one (firstOf-one (λ i. triedAt i n alive (s .graph i) k) 1)
+-- the choice at the path that arrays hold, of a single link or of three
+module _ (n : ℕ) (single : Bool) (rep link reach link2 reach2 link3 reach3 order : List ℕ) (alive : ℕ → Bool) (e : alive ≡ live n (replacedBy rep)) where
+  abbrev path : Facts
+  path = pathAs single rep link reach link2 reach2 link3 reach3
 
-pub choose-first : (n : ℕ) (s : Facts) (alive : ℕ → Bool) (link reach : List ℕ) (order : List ℕ) → alive ≡ live n s → s .links ≡ 1 → square link ≡ s .graph 1 .link → square reach ≡ s .graph 1 .reach → choose n (orderOf order) s ≡ firstOf (triedAt 1 n alive (graphOf link reach)) order
-choose-first n s alive link reach order e one l h =
-    choose-any n s alive order e
-    ∙ ap (λ (f : ℕ → Option Move). firstOf f order) (fun-ext (tried-lone n s alive one))
-    ∙ ap (λ (g : Graph). firstOf (triedAt 1 n alive g) order) (sym (rows-are link reach (s .graph 1) l h))
+  abbrev by-links-of : (ℕ → Bool) → ℕ → Option Move
+  by-links-of a k = firstOf (λ i. triedAt i n a (path .graph i) k) (linkNumbers (path .links))
+
+  choose-path : choose n (orderOf order) path ≡ firstOf (by-links-of alive) order
+  unfolding live replacedBy
+  choose-path = choose-by n path order ∙ ap (λ (a : ℕ → Bool). firstOf (by-links-of a) order) (sym e)
+
+  single-tried : single ≡ true → (k : ℕ) → by-links-of alive k ≡ triedAt 1 n alive (graphOf link reach) k
+  unfolding linkNumbers from graphs
+  single-tried one k = rw one (firstOf-one (λ i. triedAt i n alive (graphs true (graphOf link reach) (graphOf link2 reach2) (graphOf link3 reach3) i) k) 1)
+
+  three-tried : single ≡ false → (k : ℕ) → by-links-of alive k ≡ triedBy n alive (graphOf link reach) (graphOf link2 reach2) (graphOf link3 reach3) k
+  unfolding linkNumbers from graphs triedBy firstOf
+  three-tried three k = rw three (ap (λ (o : Option Move). orElse (triedAt 1 n alive (graphOf link reach) k) (orElse (triedAt 2 n alive (graphOf link2 reach2) k) o)) (firstOf-one (λ i. triedAt i n alive (graphOf link3 reach3) k) 3))
+
+  pub choose-single : single ≡ true → choose n (orderOf order) path ≡ firstOf (triedAt 1 n alive (graphOf link reach)) order
+  choose-single one = choose-path ∙ ap (λ (f : ℕ → Option Move). firstOf f order) (fun-ext (single-tried one))
+
+  pub choose-three : single ≡ false → choose n (orderOf order) path ≡ firstOf (triedBy n alive (graphOf link reach) (graphOf link2 reach2) (graphOf link3 reach3)) order
+  choose-three three = choose-path ∙ ap (λ (f : ℕ → Option Move). firstOf f order) (fun-ext (three-tried three))
 
 module _ {B : Type 0} (f : ℕ → Option B) (xs : List ℕ) (i : ℕ) where
   pub rest-end : length xs ≤ i → firstOf f (drop i xs) ≡ none

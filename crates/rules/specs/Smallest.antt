@@ -2,8 +2,8 @@
 use Prim.Native.Nat.{ℕ, suc, _+_, _-_}
 use mathlib.Core.Bool.{Bool, not}
 use mathlib.Core.Option.{Option, none, Option·elim}
-use Rattle.logic.specs.Search.{_and_, from, keep, any, firstOf}
-use Rattle.logic.specs.Facts.{Graph, Facts, linkNumbers}
+use Rattle.logic.specs.Search.{_and_, from, keep, any, orElse, firstOf}
+use Rattle.logic.specs.Facts.{Graph}
 use Rattle.logic.specs.Rules.{Rule, Triple, triple, Move, move, ruleOf, conditions, alternatives, held, triples}
 
 -- `applies`, of the parts of a path that it reads: a rule reads the facts of its own link alone
@@ -28,6 +28,6 @@ moveAt i n alive g r = firstOf (λ t. keep (allowed n alive g (move i r t)) (mov
 unfoldable pub triedAt : ℕ → ℕ → (ℕ → Bool) → Graph → ℕ → Option Move
 triedAt i n alive g k = Option·elim (ruleOf k) none (moveAt i n alive g)
 
--- "within a rule link 1 is tried first" (02, R-11): the rule that has number k, by the first link of a path that allows it
-unfoldable pub triedBy : ℕ → (ℕ → Bool) → Facts → ℕ → Option Move
-triedBy n alive s k = firstOf (λ i. triedAt i n alive (s .graph i) k) (linkNumbers (s .links))
+-- "within a rule link 1 is tried first" (02, R-11): the rule that has number k, by the first of three links that allows it
+unfoldable pub triedBy : ℕ → (ℕ → Bool) → Graph → Graph → Graph → ℕ → Option Move
+triedBy n alive f g h k = orElse (triedAt 1 n alive f k) (orElse (triedAt 2 n alive g k) (triedAt 3 n alive h k))

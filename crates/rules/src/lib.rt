@@ -1,5 +1,4 @@
 // The eight rules: where one applies, at the smallest triple.
-use facts::Facts;
 use facts::Found;
 use facts::Link;
 use facts::Term;
@@ -8,7 +7,7 @@ ghost use mathlib.Core.Bool.{Bool, true, false};
 ghost use mathlib.Core.List.{List};
 ghost use lib.Dec.{ltb};
 ghost use Prim.Native.Nat.{ℕ, _+_, _-_, _≤_, _<_};
-ghost use Rattle.facts.specs.Path.{graphOf, linksIn, pathOf, HasLink};
+ghost use Rattle.facts.specs.Path.{graphOf, linksIn, pathAs};
 ghost use Rattle.rules.specs.Answers.{kindOf, placeOf, numberedOf, choiceOf};
 ghost use Rattle.facts.specs.Bits.{bit};
 ghost use Rattle.facts.specs.Square.{Turned};
@@ -394,10 +393,17 @@ fn turned_once(reach: &[u32; 17], wanted: bool, before: [u32; 17]) -> [u32; 17]
     before
 }
 
-// The first applicable rule of the order list by link 1, whose facts are lent.
-fn choose_one(order: &[u8], alive: u32, link: &[u32; 17], reach: &[u32; 17], n: usize) -> Choice
+// The first applicable rule of the order list by link k, whose facts are lent.
+fn choose_by(
+    k: Link,
+    order: &[u8],
+    alive: u32,
+    link: &[u32; 17],
+    reach: &[u32; 17],
+    n: usize,
+) -> Choice
     requires { ⌜ n ≤ 16 ⌝ }
-    ensures { λ r. ⌜ choiceOf r ≡ firstOf (triedAt 1 n (bit alive) (graphOf (now (link .entry)) (now (reach .entry)))) (now (order .entry)) ⌝ }
+    ensures { λ r. ⌜ choiceOf r ≡ firstOf (triedAt (k .0) n (bit alive) (graphOf (now (link .entry)) (now (reach .entry)))) (now (order .entry)) ⌝ }
 {
     let mut back = [0u32; 17];
     let mut turned = false;
@@ -406,13 +412,74 @@ fn choose_one(order: &[u8], alive: u32, link: &[u32; 17], reach: &[u32; 17], n: 
         let wanted = looks_back(order[i]);
         back = turned_once(reach, wanted & !turned, back);
         turned = turned | wanted;
-        if let Choice::Apply(l, rule, x, y, z) = tried(
-            Link(1),
+        if let Choice::Apply(l, rule, x, y, z) = tried(k, order[i], alive, link, reach, &back, n) {
+            return Choice::Apply(l, rule, x, y, z);
+        }
+        i += 1;
+    }
+    Choice::Nothing
+}
+
+// The rule that has this number, by link i, with reachability turned round where the rule reads it so.
+fn tried_at(i: Link, k: u8, alive: u32, link: &[u32; 17], reach: &[u32; 17], n: usize) -> Choice
+    requires { ⌜ n ≤ 16 ⌝ }
+    ensures { λ r. ⌜ choiceOf r ≡ triedAt (i .0) n (bit alive) (graphOf (now (link .entry)) (now (reach .entry))) k ⌝ }
+{
+    let unturned = [0u32; 17];
+    let back = turned_once(reach, looks_back(k), unturned);
+    tried(i, k, alive, link, reach, &back, n)
+}
+
+// "within a rule link 1 is tried first" (02, R-11)
+fn tried_by<'a>(
+    k: u8,
+    alive: u32,
+    link: &'a [u32; 17],
+    reach: &'a [u32; 17],
+    link2: &'a [u32; 17],
+    reach2: &'a [u32; 17],
+    link3: &'a [u32; 17],
+    reach3: &'a [u32; 17],
+    n: usize,
+) -> Choice
+    requires { ⌜ n ≤ 16 ⌝ }
+    ensures { λ r. ⌜ choiceOf r ≡ triedBy n (bit alive) (graphOf (now (link .entry)) (now (reach .entry))) (graphOf (now (link2 .entry)) (now (reach2 .entry))) (graphOf (now (link3 .entry)) (now (reach3 .entry))) k ⌝ }
+{
+    if let Choice::Apply(l, rule, x, y, z) = tried_at(Link(1), k, alive, link, reach, n) {
+        return Choice::Apply(l, rule, x, y, z);
+    }
+    if let Choice::Apply(l, rule, x, y, z) = tried_at(Link(2), k, alive, link2, reach2, n) {
+        return Choice::Apply(l, rule, x, y, z);
+    }
+    tried_at(Link(3), k, alive, link3, reach3, n)
+}
+
+// The first applicable rule of the order list, by any of three links.
+fn choose_any<'a>(
+    order: &[u8],
+    alive: u32,
+    link: &'a [u32; 17],
+    reach: &'a [u32; 17],
+    link2: &'a [u32; 17],
+    reach2: &'a [u32; 17],
+    link3: &'a [u32; 17],
+    reach3: &'a [u32; 17],
+    n: usize,
+) -> Choice
+    requires { ⌜ n ≤ 16 ⌝ }
+    ensures { λ r. ⌜ choiceOf r ≡ firstOf (triedBy n (bit alive) (graphOf (now (link .entry)) (now (reach .entry))) (graphOf (now (link2 .entry)) (now (reach2 .entry))) (graphOf (now (link3 .entry)) (now (reach3 .entry)))) (now (order .entry)) ⌝ }
+{
+    let mut i: usize = 0;
+    while i < order.len() {
+        if let Choice::Apply(l, rule, x, y, z) = tried_by(
             order[i],
             alive,
             link,
             reach,
-            &back,
+            link2,
+            reach2,
+            link3,
+            reach3,
             n,
         ) {
             return Choice::Apply(l, rule, x, y, z);
@@ -422,59 +489,25 @@ fn choose_one(order: &[u8], alive: u32, link: &[u32; 17], reach: &[u32; 17], n: 
     Choice::Nothing
 }
 
-// The rule that has this number, by link i.
-fn tried_at(i: Link, k: u8, s: Facts, alive: u32, n: usize) -> Choice
-    requires { ⌜ (n ≤ 16) × HasLink (pathOf s) (i .0) ⌝ }
-    ensures { λ r. ⌜ choiceOf r ≡ triedAt (i .0) n (bit alive) (pathOf s .graph (i .0)) k ⌝ }
-{
-    let link = facts::link_rows(s, i);
-    let reach = facts::reach_rows(s, i);
-    let unturned = [0u32; 17];
-    let back = turned_once(&reach, looks_back(k), unturned);
-    tried(i, k, alive, &link, &reach, &back, n)
-}
-
-// "within a rule link 1 is tried first" (02, R-11)
-fn tried_by(k: u8, s: Facts, alive: u32, n: usize) -> Choice
+// "the first applicable rule of the order list, at the smallest triple". The arrays of the path are lent: its record is not copied.
+pub fn choose<'a>(
+    order: &[u8],
+    single: bool,
+    rep: &'a [u8; 17],
+    link: &'a [u32; 17],
+    reach: &'a [u32; 17],
+    link2: &'a [u32; 17],
+    reach2: &'a [u32; 17],
+    link3: &'a [u32; 17],
+    reach3: &'a [u32; 17],
+    n: usize,
+) -> Choice
     requires { ⌜ n ≤ 16 ⌝ }
-    ensures { λ r. ⌜ choiceOf r ≡ triedBy n (bit alive) (pathOf s) k ⌝ }
+    ensures { λ r. ⌜ choiceOf r ≡ choose n (orderOf (now (order .entry))) (pathAs single (now (rep .entry)) (now (link .entry)) (now (reach .entry)) (now (link2 .entry)) (now (reach2 .entry)) (now (link3 .entry)) (now (reach3 .entry))) ⌝ }
 {
-    let total = facts::links(s);
-    let mut i: usize = 1;
-    while i <= total {
-        if let Choice::Apply(l, rule, x, y, z) = tried_at(Link(i), k, s, alive, n) {
-            return Choice::Apply(l, rule, x, y, z);
-        }
-        i += 1;
+    let alive = facts::live(rep, n);
+    if single {
+        return choose_by(Link(1), order, alive, link, reach, n);
     }
-    Choice::Nothing
-}
-
-// The first applicable rule of the order list, by any link.
-fn choose_any(order: &[u8], s: Facts, alive: u32, n: usize) -> Choice
-    requires { ⌜ n ≤ 16 ⌝ }
-    ensures { λ r. ⌜ choiceOf r ≡ firstOf (triedBy n (bit alive) (pathOf s)) (now (order .entry)) ⌝ }
-{
-    let mut i: usize = 0;
-    while i < order.len() {
-        if let Choice::Apply(l, rule, x, y, z) = tried_by(order[i], s, alive, n) {
-            return Choice::Apply(l, rule, x, y, z);
-        }
-        i += 1;
-    }
-    Choice::Nothing
-}
-
-// "the first applicable rule of the order list, at the smallest triple". A path of one link has its rows read off once.
-pub fn choose(order: &[u8], s: Facts, n: usize) -> Choice
-    requires { ⌜ n ≤ 16 ⌝ }
-    ensures { λ r. ⌜ choiceOf r ≡ choose n (orderOf (now (order .entry))) (pathOf s) ⌝ }
-{
-    let alive = facts::live(&s.rep, n);
-    if facts::links(s) == 1 {
-        let link = facts::link_rows(s, Link(1));
-        let reach = facts::reach_rows(s, Link(1));
-        return choose_one(order, alive, &link, &reach, n);
-    }
-    choose_any(order, s, alive, n)
+    choose_any(order, alive, link, reach, link2, reach2, link3, reach3, n)
 }

@@ -1,14 +1,17 @@
 -- What a literal makes of a path keeps its terms within the arrays.
 use Prim.Native.Nat.{ℕ, _≤_, min, max}
 use native.Mathlib.Omega.{arith}
+use mathlib.Core.Path.{_≡_, sym, subst}
 use mathlib.Core.Bool.{Bool, true, false, cond}
+use mathlib.Core.List.{List}
 use lib.Dec.{eqb}
 use Rattle.logic.specs.Query.{Literal, Query}
-use Rattle.logic.specs.Facts.{Facts, Joined, linksOf, replace, unjoined, andThen, settle, join, addReach}
+use Rattle.logic.specs.Facts.{Facts, Joined, linksOf, replace, unjoined, andThen, settle, join}
 use Rattle.theory.proofs.Paths.Joined.{join-facts}
 use Rattle.theory.proofs.Paths.Settle.{settle-keeps}
 use Rattle.facts.proofs.Successors.{doubled-below}
-use Rattle.start.specs.Taken.{joinOne, reachOne, Bounded, Terms}
+use Rattle.facts.specs.Path.{repOf, replacedBy}
+use Rattle.start.specs.Taken.{joinOne, Bounded, Terms}
 
 replaced : (lo hi : ℕ) (s : Facts) → lo ≤ 16 → Bounded s → Bounded (replace lo hi s)
 unfolding replace
@@ -47,10 +50,12 @@ pub behind-bounded : (n : ℕ) (l : Literal) (j : Joined) → n ≤ 16 → Terms
 unfolding andThen
 behind-bounded n l j h t b = join-bounded n l (j .facts) h t b
 
-pub reach-bounded : (l : Literal) (s : Facts) → Bounded s → Bounded (reachOne l s)
-unfolding reachOne addReach
-reach-bounded l s b = go (l .plain)
-  where
-    go : (x : Bool) → Bounded (cond x (addReach (l .link) (s .rep (l .left)) (s .rep (l .right)) s) s)
-    go true = record { within = b .within }
-    go false = b
+-- of a path it is what its array of representatives tells
+module _ (rep : List ℕ) (s : Facts) (e : repOf rep ≡ s .rep) where
+  pub rep-bounded : Bounded s → Bounded (replacedBy rep)
+  unfolding replacedBy
+  rep-bounded b = record { within = λ t h. subst (λ (f : ℕ → ℕ). f t ≤ 16) (sym e) (b .within t h) }
+
+  pub path-bounded : Bounded (replacedBy rep) → Bounded s
+  unfolding replacedBy
+  path-bounded b = record { within = λ t h. subst (λ (f : ℕ → ℕ). f t ≤ 16) e (b .within t h) }

@@ -1,83 +1,125 @@
--- The start of a query, from its sections where the query's bytes have them.
+-- The start of a query, from its sections as the bytes say them.
 use Prim.Native.Nat.{ℕ, _+_, _-_, _*_, _≤_, _<_}
 use native.Mathlib.Omega.{arith}
 use mathlib.Core.Path.{_≡_, refl, sym, ap, ap₂, _∙_, subst}
-use mathlib.Core.Bool.{true}
-use mathlib.Core.List.{List, []}
-use lib.ListN.{take, drop}
-use Rattle.logic.specs.Query.{Literal, Entries, argumentOf, termCount, literals, decode}
-use Rattle.logic.specs.Facts.{Facts, Joined, unjoined, linksOf, andThen, settle, terms, nilTerms, joinNil, joinEach, reachEach, startJoins, start}
-use Rattle.logic.specs.Calls.{accepts}
+use mathlib.Core.Bool.{Bool, true, false, cond}
+use mathlib.Core.List.{List, [], _∷_}
+use lib.ListN.{take, drop, replicate}
+use lib.Dec.{eqb}
+use Rattle.logic.specs.Query.{Literal, literals, termCount, argumentOf}
+use Rattle.logic.specs.Facts.{Facts, Joined, linksOf, andThen, settle, terms, nilTerms, joinNil, joinEach, addReach, reachEach, startJoins, start}
+use Rattle.theory.proofs.Query.Tied.{Accepted}
+use Rattle.theory.proofs.Paths.Start.{start-tied}
 use Rattle.query.specs.declared.Layout.{Layout}
-use Rattle.query.specs.LaysOut.{LaysOut}
-use Rattle.query.proofs.Ranges.{entry-below, equal-terms, reach-terms}
-use Rattle.theory.proofs.Query.AcceptedBytes.{accepted}
-use Rattle.facts.specs.Pairs.{Fits}
-use Rattle.facts.proofs.Joins.{unjoined-andThen}
+use Rattle.query.proofs.Ranges.{UpTo, below-of, equal-terms-of, reach-terms-of, reach-linked-of}
+use Rattle.link_query.specs.Said.{said, Within, reachIn}
+use Rattle.link_query.proofs.Said.{terms-said, equalities-said, reachability-said}
+use Rattle.facts.specs.Square.{square}
+use Rattle.facts.specs.Path.{repOf}
+use Rattle.facts.specs.Pairs.{joinedIn, Fits}
+use Rattle.facts.proofs.Joins.{none-before, fits-left}
+use Rattle.start.proofs.Entries.{linked-in-rows}
 use Rattle.start.proofs.Room.{start-pairs}
 use Rattle.start.specs.Nil.{nilFrom}
-use Rattle.start.specs.Taken.{onlyEntries, started, TermsIn, EntriesIn}
+use Rattle.start.specs.Taken.{started, Terms, TermsIn}
 
-module _ {l : Layout} {bytes : List ℕ} (laid : LaysOut l bytes) where
+-- adding reachability leaves the links that there are
+reachEach-links : (ls : List Literal) (s : Facts) → reachEach ls s .links ≡ s .links
+unfolding reachEach addReach
+reachEach-links [] s = refl
+reachEach-links (l ∷ ls) s = reachEach-links ls _ ∙ go (l .plain)
+  where
+    go : (b : Bool) → cond b (addReach (l .link) (s .rep (l .left)) (s .rep (l .right)) s) s .links ≡ s .links
+    go true = refl
+    go false = refl
+
+module _ {l : Layout} {bytes : List ℕ} (w : Within l bytes) where
   abbrev pub equalities : List Literal
   equalities = literals (take (3 * l .«equal_count») (drop (l .«equal_at») bytes))
 
   abbrev pub links : Joined
-  links = settle (l .terms) (l .terms) (linksOf (onlyEntries (take (l .terms) (drop 1 bytes))))
+  links = settle (l .terms) (l .terms) (linksOf (said l bytes))
 
-  nil-laid : nilTerms (decode bytes) ≡ nilFrom bytes (l .terms) 1
+  abbrev withNil : Joined → Joined
+  withNil j = andThen j (joinNil (l .terms) (nilFrom (said l bytes .entries) (l .terms) 1))
+
+  abbrev withEqualities : Joined → Joined
+  withEqualities j = andThen j (joinEach (l .terms) equalities)
+
+  abbrev pub joins : Joined
+  joins = withEqualities (withNil links)
+
+  -- each made of the one before
+  pub joins-made : (settled nilled joined : Joined) → settled ≡ links → nilled ≡ withNil settled → joined ≡ withEqualities nilled → joined ≡ joins
+  joins-made settled nilled joined e f g = g ∙ ap (λ (j : Joined). withEqualities j) (f ∙ ap (λ (j : Joined). withNil j) e)
+
+  nil-laid : nilTerms (said l bytes) ≡ nilFrom (said l bytes .entries) (l .terms) 1
   unfolding nilTerms terms nilFrom
-  nil-laid = rw (← laid .term-count, laid .entries-are, all)
+  nil-laid = rw (terms-said l bytes w, all)
     where
       all : l .terms + 1 - 1 ≡ l .terms
       all = omega arith
 
-  links-laid : linksOf (decode bytes) ≡ linksOf (onlyEntries (take (l .terms) (drop 1 bytes)))
-  unfolding linksOf
-  links-laid =
-      ap₂ (λ (c : ℕ) (es : Entries). linksOf (record { links = c; entries = es; equalities = []; reachability = []; fields = [] })) (laid .links-are) (laid .entries-are)
+  joins-laid : startJoins (said l bytes) ≡ joins
+  unfolding startJoins said
+  joins-laid = rw (nil-laid, terms-said l bytes w)
 
-  pub joins-laid : startJoins (decode bytes) ≡ andThen (andThen links (joinNil (l .terms) (nilFrom bytes (l .terms) 1))) (joinEach (l .terms) equalities)
-  unfolding startJoins
-  joins-laid = rw (nil-laid, links-laid, ← laid .term-count, laid .equal-are)
-
-  -- the links are settled behind no pair
-  pub settled-laid : (n : ℕ) (s t : Facts) (ps : List (ℕ × ℕ)) → ps ≡ [] → s ≡ t → andThen (record { pairs = ps; facts = s }) (settle n n) ≡ settle n n t
-  unfolding unjoined
-  settled-laid n s t ps e h =
-      ap₂ (λ (ps : List (ℕ × ℕ)) (s : Facts). andThen (record { pairs = ps; facts = s }) (settle n n)) e h ∙ unjoined-andThen t (settle n n)
-
-  pub start-laid : (j : Joined) (s : Facts) → j ≡ andThen (andThen links (joinNil (l .terms) (nilFrom bytes (l .terms) 1))) (joinEach (l .terms) equalities) → s ≡ reachEach (literals (take (3 * l .«reach_count») (drop (l .«reach_at») bytes))) (j .facts) → record { pairs = j .pairs; facts = s } ≡ started (decode bytes)
+  pub start-laid : (j : Joined) (s : Facts) → j ≡ joins → s ≡ reachEach (said l bytes .reachability) (j .facts) → record { pairs = j .pairs; facts = s } ≡ started (said l bytes)
   unfolding started start
   start-laid j s e h =
-      let f : j ≡ startJoins (decode bytes) = e ∙ sym joins-laid in
-      ap₂ (λ (ps : List (ℕ × ℕ)) (t : Facts). record { pairs = ps; facts = t }) (ap (λ (i : Joined). i .pairs) f)
-      (h ∙ ap (λ (ls : List Literal). reachEach ls (j .facts)) (sym (laid .reach-are)) ∙ ap (λ (i : Joined). reachEach (decode bytes .reachability) (i .facts)) f)
+      let f : j ≡ startJoins (said l bytes) = e ∙ sym joins-laid in
+      ap₂ (λ (ps : List (ℕ × ℕ)) (t : Facts). record { pairs = ps; facts = t }) (ap (λ (i : Joined). i .pairs) f) (h ∙ ap (λ (i : Joined). reachEach (said l bytes .reachability) (i .facts)) f)
 
-  module _ (passes : accepts bytes ≡ true) where
-    pub entries-in : EntriesIn bytes (l .terms)
-    entries-in = record { argument = λ t h k. subst (λ (es : Entries). argumentOf es t ≤ 16) (laid .entries-are) (omega (arith, entry-below l bytes laid passes t h k, laid .terms-within)) }
+  module _ (acc : Accepted (said l bytes)) where
+    counted : l .terms ≡ termCount (said l bytes)
+    counted = sym (terms-said l bytes w)
+
+    -- the links that rows hold are settled behind no pair
+    pub links-laid : (single : Bool) (rep link link2 link3 : List ℕ) → single ≡ eqb (l .links) 1 → repOf rep ≡ (λ t. t) → square link ≡ linksOf (said l bytes) .graph 1 .link → square link2 ≡ linksOf (said l bytes) .graph 2 .link → square link3 ≡ linksOf (said l bytes) .graph 3 .link → andThen (joinedIn single rep link (replicate 17 0) link2 (replicate 17 0) link3 (replicate 17 0) (replicate 17 0) (replicate 17 0) 0) (settle (l .terms) (l .terms)) ≡ links
+    unfolding said
+    links-laid single rep link link2 link3 e r f g h =
+        none-before (replicate 17 0) (replicate 17 0) _ (settle (l .terms) (l .terms))
+        ∙ ap (settle (l .terms) (l .terms)) (linked-in-rows (said l bytes) acc single rep link link2 link3 e (w .one-or-three) r f g h)
+
+    -- the joins leave the links that there are
+    pub joins-links : joins .facts .links ≡ l .links
+    unfolding start said
+    joins-links =
+        ap (λ (j : Joined). j .facts .links) (sym joins-laid) ∙ sym (reachEach-links (said l bytes .reachability) (startJoins (said l bytes) .facts))
+        ∙ start-tied (said l bytes) acc .same-links
 
     -- there is room for all pairs
-    pub joins-fit : Fits (andThen (andThen links (joinNil (l .terms) (nilFrom bytes (l .terms) 1))) (joinEach (l .terms) equalities))
-    joins-fit = subst Fits joins-laid (omega (arith, start-pairs (decode bytes) (accepted bytes passes), laid .term-count, laid .terms-within))
+    pub joins-fit : Fits joins
+    joins-fit = subst Fits joins-laid (omega (arith, start-pairs (said l bytes) acc, counted, w .terms-within))
 
-    pub started-fits : Fits (started (decode bytes))
+    pub nil-fits : (settled : Joined) → settled ≡ links → Fits (withNil settled)
+    nil-fits settled e = subst (λ (j : Joined). Fits (withNil j)) (sym e) (fits-left _ _ joins-fit)
+
+    pub equalities-fit : (settled nilled : Joined) → settled ≡ links → nilled ≡ withNil settled → Fits (withEqualities nilled)
+    equalities-fit settled nilled e f = subst (λ (j : Joined). Fits (withEqualities j)) (sym (f ∙ ap (λ (j : Joined). withNil j) e)) joins-fit
+
+    pub started-fits : Fits (started (said l bytes))
     unfolding started
-    started-fits = omega (arith, start-pairs (decode bytes) (accepted bytes passes), laid .term-count, laid .terms-within)
+    started-fits = omega (arith, start-pairs (said l bytes) acc, counted, w .terms-within)
+
+    -- what is read in place is in its ranges
+    ranged : (m : Literal) → UpTo (l .terms) (m .left) × UpTo (l .terms) (m .right) → Terms m
+    ranged m r = record { left-within = omega (arith, r .0 .1, w .terms-within); right-within = omega (arith, r .1 .1, w .terms-within) }
+
+    pub argument-within : (t : ℕ) → 1 ≤ t → t ≤ l .terms → (a : ℕ) → argumentOf (said l bytes .entries) t ≡ a → a ≤ 16
+    argument-within t one most a e = omega (arith, e, below-of acc counted t one most, most, w .terms-within)
 
     pub equal-terms-in : TermsIn bytes (l .«equal_at») (l .«equal_count»)
-    equal-terms-in =
-        record {
-          terms = λ i h.
-              let r = equal-terms l bytes laid passes i h in
-              record { left-within = omega (arith, r .0 .1, laid .terms-within); right-within = omega (arith, r .1 .1, laid .terms-within) };
-        }
+    equal-terms-in = record { terms = λ i h. ranged _ (equal-terms-of acc counted _ (l .«equal_count») i h (equalities-said l bytes w)) }
 
-    pub reach-terms-in : TermsIn bytes (l .«reach_at») (l .«reach_count»)
-    reach-terms-in =
-        record {
-          terms = λ i h.
-              let r = reach-terms l bytes laid passes i h in
-              record { left-within = omega (arith, r .0 .1, laid .terms-within); right-within = omega (arith, r .1 .1, laid .terms-within) };
-        }
+    module _ (i : ℕ) (h : i < l .«reach_count») where
+      pub reach-terms : Terms (reachIn (l .links) bytes (l .«reach_at») i)
+      reach-terms = ranged _ (reach-terms-of acc counted _ (l .«reach_count») i h (reachability-said l bytes w))
+
+      reach-linked : UpTo (l .links) (reachIn (l .links) bytes (l .«reach_at») i .link)
+      unfolding said
+      reach-linked = reach-linked-of acc counted _ (l .«reach_count») i h (reachability-said l bytes w)
+
+      -- the link of a literal is one of the path
+      pub linked-in : (links : ℕ) → links ≡ l .links → (0 < reachIn (l .links) bytes (l .«reach_at») i .link) × (reachIn (l .links) bytes (l .«reach_at») i .link ≤ links)
+      linked-in links e = let r = reach-linked in (r .0, omega (arith, e, r .1))

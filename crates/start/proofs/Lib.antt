@@ -2,7 +2,6 @@ pub mod Bounded
 pub mod Room
 pub mod Each
 pub mod Entries
-pub mod Itself
 pub mod Taken
 pub mod Laid
 pub mod Nil

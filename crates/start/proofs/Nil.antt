@@ -1,40 +1,35 @@
 -- The terms that name nil as loops meet them, and nil joined behind what was joined before.
-use Prim.Native.Nat.{ℕ, zero, suc, _+_, _-_, _≤_, _<_}
+use Prim.Native.Nat.{ℕ, _+_, _-_, _≤_, _<_}
 use native.Mathlib.Omega.{arith}
-use mathlib.Core.Path.{_≡_, refl, sym, ap, _∙_, subst}
-use mathlib.Core.Bool.{Bool, true, false, cond}
+use mathlib.Core.Path.{_≡_, sym, ap, _∙_, subst}
 use mathlib.Core.List.{List, [], _∷_}
-use lib.ListN.{length, getD, take, drop}
-use lib.Dec.{eqb}
 use borrow.Author.Tests.{eq-eqb, ne-eqb}
-use Rattle.logic.specs.Search.{select, from}
-use Rattle.logic.specs.Query.{Literal, oneLink, namesNil}
-use Rattle.logic.specs.Facts.{Facts, Joined, unjoined, andThen, settle, joinEach, equalTo, addLinks, addNilLinks, joinNil}
-use Rattle.facts.specs.Pairs.{Fits}
+use Rattle.logic.specs.Search.{select}
+use Rattle.logic.specs.Query.{Entries}
+use Rattle.logic.specs.Facts.{Facts, Joined, andThen, settle, joinEach, equalTo, addLinks, addNilLinks, joinNil}
+use Rattle.facts.specs.Path.{repOf, replacedBy}
+use Rattle.query.specs.declared.Layout.{Layout}
+use Rattle.link_query.specs.Said.{said, Within, entryIn}
 use Rattle.facts.proofs.Loops.{from-end, from-next}
-use Rattle.facts.proofs.Joins.{andThen-unjoined, andThen-andThen, fits-left}
-use Rattle.start.specs.Taken.{joinOne, Bounded, Terms}
+use Rattle.facts.proofs.Joins.{andThen-unjoined, andThen-andThen}
+use Rattle.start.specs.Taken.{joinOne, Bounded}
 use Rattle.start.specs.Nil.{nilFrom, NextNil, same}
-use Rattle.start.proofs.Bounded.{settled, behind-bounded}
+use Rattle.start.proofs.Bounded.{settled, path-bounded}
 use Rattle.start.proofs.Each.{joins}
-use Rattle.start.proofs.Entries.{nil-in}
+use Rattle.start.proofs.Entries.{nil-read}
 
-module _ (bytes : List ℕ) (n : ℕ) where
-  pub nil-end : (t : ℕ) → n < t → nilFrom bytes n t ≡ []
+pub nil-end : (entries : Entries) (n t : ℕ) → n < t → nilFrom entries n t ≡ []
+unfolding nilFrom select
+nil-end entries n t h = rw (from-end (n + 1) t (omega arith))
+
+module _ (l : Layout) (bytes : List ℕ) (w : Within l bytes) (t : ℕ) (one : 1 ≤ t) (within : t ≤ l .terms) (byte : ℕ) (read : byte ≡ entryIn (l .links) bytes t) where
+  pub nil-here : byte ≡ 255 → nilFrom (said l bytes .entries) (l .terms) t ≡ t ∷ nilFrom (said l bytes .entries) (l .terms) (t + 1)
   unfolding nilFrom select
-  nil-end t h = rw (from-end (n + 1) t (omega arith))
+  nil-here e = rw (from-next (l .terms + 1) t (omega arith), nil-read l bytes w t one within byte read, eq-eqb byte 255 e)
 
-  module _ (fits : n < length bytes) (t : ℕ) (one : 1 ≤ t) (within : t ≤ n) (byte : ℕ) (read : byte ≡ getD bytes t 0) where
-    named : namesNil (oneLink (take n (drop 1 bytes))) t ≡ eqb byte 255
-    named = nil-in bytes n fits t one within ∙ ap (λ (x : ℕ). eqb x 255) (sym read)
-
-    pub nil-here : byte ≡ 255 → nilFrom bytes n t ≡ t ∷ nilFrom bytes n (t + 1)
-    unfolding nilFrom select
-    nil-here e = rw (from-next (n + 1) t (omega arith), named, eq-eqb byte 255 e)
-
-    pub nil-next : (byte ≡ 255 → ⊥) → nilFrom bytes n t ≡ nilFrom bytes n (t + 1)
-    unfolding nilFrom select
-    nil-next d = rw (from-next (n + 1) t (omega arith), named, ne-eqb byte 255 d)
+  pub nil-next : (byte ≡ 255 → ⊥) → nilFrom (said l bytes .entries) (l .terms) t ≡ nilFrom (said l bytes .entries) (l .terms) (t + 1)
+  unfolding nilFrom select
+  nil-next d = rw (from-next (l .terms + 1) t (omega arith), nil-read l bytes w t one within byte read, ne-eqb byte 255 d)
 
 -- the terms that are left are joined to the first
 abbrev pub others : ℕ → ℕ → List ℕ → Joined → Joined
@@ -50,14 +45,14 @@ module _ (n first : ℕ) (j : Joined) where
   others-next u us = joins n .next (same first u) (equalTo first us) j
 
 -- what is left of the others, where u is the next of them or there is none
-pub record OthersLeft (bytes : List ℕ) (n first : ℕ) (whole : Joined) (u : ℕ) (j : Joined) : Type 0 where
+pub record OthersLeft (entries : Entries) (n first : ℕ) (whole : Joined) (u : ℕ) (j : Joined) : Type 0 where
   pub start : ℕ
-  pub next : NextNil bytes n start u
-  pub left : whole ≡ others n first (nilFrom bytes n start) j
+  pub next : NextNil entries n start u
+  pub left : whole ≡ others n first (nilFrom entries n start) j
 
-module _ (bytes : List ℕ) (n first : ℕ) (whole : Joined) (u : ℕ) (j : Joined) (o : OthersLeft bytes n first whole u j) where
-  pub others-step : u ≤ n → whole ≡ others n first (nilFrom bytes n (u + 1)) (andThen j (joinOne n (same first u)))
-  others-step h = o .left ∙ ap (λ (us : List ℕ). others n first us j) (o .next .found h) ∙ others-next n first j u (nilFrom bytes n (u + 1))
+module _ (entries : Entries) (n first : ℕ) (whole : Joined) (u : ℕ) (j : Joined) (o : OthersLeft entries n first whole u j) where
+  pub others-step : u ≤ n → whole ≡ others n first (nilFrom entries n (u + 1)) (andThen j (joinOne n (same first u)))
+  others-step h = o .left ∙ ap (λ (us : List ℕ). others n first us j) (o .next .found h) ∙ others-next n first j u (nilFrom entries n (u + 1))
 
   pub others-done : n < u → whole ≡ j
   others-done h = o .left ∙ ap (λ (us : List ℕ). others n first us j) (o .next .nothing h) ∙ others-end n first j
@@ -67,15 +62,30 @@ pub nil-none : (n : ℕ) (j : Joined) → andThen j (joinNil n []) ≡ j
 unfolding joinNil
 nil-none n j = andThen-unjoined j
 
-pub nil-some : (n t : ℕ) (us : List ℕ) (j : Joined) → andThen j (joinNil n (t ∷ us)) ≡ andThen (others n t us j) (λ s. settle n n (addNilLinks t s))
+nil-some : (n t : ℕ) (us : List ℕ) (j : Joined) → andThen j (joinNil n (t ∷ us)) ≡ andThen (others n t us j) (λ s. settle n n (addNilLinks t s))
 unfolding joinNil
 nil-some n t us j = andThen-andThen j (joinEach n (equalTo t us)) (λ s. settle n n (addNilLinks t s))
 
 -- nil's link is that of what nil became
-pub linked-behind : (n t r : ℕ) (j : Joined) (s : Facts) → r ≡ j .facts .rep t → s ≡ addLinks r r (j .facts) → andThen (record { pairs = j .pairs; facts = s }) (settle n n) ≡ andThen j (λ s. settle n n (addNilLinks t s))
+linked-behind : (n t r : ℕ) (j : Joined) (s : Facts) → r ≡ j .facts .rep t → s ≡ addLinks r r (j .facts) → andThen (record { pairs = j .pairs; facts = s }) (settle n n) ≡ andThen j (λ s. settle n n (addNilLinks t s))
 unfolding andThen addNilLinks
 linked-behind n t r j s e h = rw (h, e)
 
-pub nil-bounded : (n t : ℕ) (j : Joined) → n ≤ 16 → Bounded (j .facts) → Bounded (andThen j (λ s. settle n n (addNilLinks t s)) .facts)
+nil-bounded : (n t : ℕ) (j : Joined) → n ≤ 16 → Bounded (j .facts) → Bounded (andThen j (λ s. settle n n (addNilLinks t s)) .facts)
 unfolding andThen addNilLinks addLinks
 nil-bounded n t j h b = settled n h n _ (record { within = b .within })
+
+-- all of it: the first nil term and the others, and then nil's link
+module _ (entries : Entries) (n first : ℕ) (found : NextNil entries n 1 first) (below : first ≤ n) (j : Joined) where
+  pub nil-opened : andThen j (joinNil n (nilFrom entries n 1)) ≡ andThen (others n first (nilFrom entries n (first + 1)) j) (λ s. settle n n (addNilLinks first s))
+  nil-opened =
+      ap (λ (us : List ℕ). andThen j (joinNil n us)) (found .found below) ∙ nil-some n first (nilFrom entries n (first + 1)) j
+
+  module _ (joined : Joined) (are : joined ≡ others n first (nilFrom entries n (first + 1)) j) (r : ℕ) (s : Facts) (e : r ≡ joined .facts .rep first) (h : s ≡ addLinks r r (joined .facts)) where
+    pub nil-whole : andThen (record { pairs = joined .pairs; facts = s }) (settle n n) ≡ andThen j (joinNil n (nilFrom entries n 1))
+    nil-whole =
+        linked-behind n first r joined s e h ∙ ap (λ (i : Joined). andThen i (λ s. settle n n (addNilLinks first s))) are ∙ sym nil-opened
+
+    pub nil-settled : (out : Joined) → out ≡ andThen (record { pairs = joined .pairs; facts = s }) (settle n n) → n ≤ 16 → (rep : List ℕ) → repOf rep ≡ joined .facts .rep → Bounded (replacedBy rep) → Bounded (out .facts)
+    nil-settled out d few rep f b =
+        subst (λ (i : Joined). Bounded (i .facts)) (sym (d ∙ linked-behind n first r joined s e h)) (nil-bounded n first joined few (path-bounded rep (joined .facts) f b))

@@ -1,66 +1,70 @@
 -- One literal taken, as the code reads it through the array of representatives.
 use Prim.Native.Nat.{ℕ, _≤_}
 use native.Mathlib.Omega.{arith}
-use mathlib.Core.Path.{_≡_, refl, sym, ap, ap₂, _∙_}
-use mathlib.Core.Bool.{true, false, cond}
+use mathlib.Core.Path.{_≡_, refl, sym, ap₂, _∙_}
+use mathlib.Core.Bool.{Bool, true, false}
 use mathlib.Core.List.{List}
-use lib.ListN.{length, getD, set}
-use lib.Bits.{bitOr}
 use lib.Dec.{eqb}
+use Rattle.logic.specs.Search.{_and_, _or_}
 use Rattle.logic.specs.Query.{Literal}
-use Rattle.logic.specs.Facts.{Joined, unjoined, andThen, join, addReach}
+use Rattle.logic.specs.Facts.{Facts, Joined, unjoined, andThen, join, addReach}
 use Rattle.theory.proofs.Basics.Compare.{cond-true, cond-false}
 use Rattle.facts.specs.declared.Facts as code
-use Rattle.facts.specs.Bits.{bit}
-use Rattle.facts.specs.Path.{repOf, pathOf, graphOf}
-use Rattle.facts.proofs.Path.{alike, addReach-at}
-use Rattle.facts.proofs.Square.{square-add}
+use Rattle.facts.specs.Square.{square}
+use Rattle.facts.specs.Path.{repOf, pathAs, pathOf, graphOf, replacedBy, HasLink}
+use Rattle.facts.proofs.Path.{alike-graph, reaching, changed, addReach-changed, set-first, set-second, set-third, three, last}
 use Rattle.facts.proofs.Joins.{andThen-at, andThen-unjoined}
 use Rattle.start.specs.Nil.{same}
 use Rattle.start.specs.Taken.{joinOne, reachOne, Bounded}
 
-row-set : (s : code.Facts) → length (s .reach) ≡ 17 → (a b w : ℕ) → a ≤ 16 → b ≤ 16 → ((i : ℕ) → bit w i ≡ eqb i b) → pathOf (record { rep = s .rep; link = s .link; reach = set (s .reach) a (bitOr (getD (s .reach) a 0) w) }) ≡ addReach 1 a b (pathOf s)
-unfolding pathOf graphOf
-row-set s full a b w h k only = alike refl refl (square-add (s .reach) full a b w h k only) ∙ sym (addReach-at _ _ _ 1 a b refl)
+-- a number that is read for a term is what the term became
+pub read-bounded : (rep : List ℕ) → Bounded (replacedBy rep) → (t a : ℕ) → t ≤ 16 → a ≡ repOf rep t → a ≤ 16
+unfolding replacedBy
+read-bounded rep b t a h e = omega (arith, e, b .within t h)
 
-module _ (s : code.Facts) where
-  -- a number that is read for a term is what the term became
-  pub rep-read : (t a : ℕ) → a ≡ repOf (s .rep) t → a ≡ pathOf s .rep t
-  unfolding pathOf
-  rep-read t a e = e
-
-  pub read-bounded : Bounded (pathOf s) → (t a : ℕ) → t ≤ 16 → a ≡ repOf (s .rep) t → a ≤ 16
-  read-bounded b t a h e = omega (arith, rep-read t a e, b .within t h)
+module _ (single : Bool) (rep link reach link2 reach2 link3 reach3 : List ℕ) (l : Literal) where
+  abbrev path : Facts
+  path = pathAs single rep link reach link2 reach2 link3 reach3
 
   -- the numbers a and b are read for the terms of a literal
-  module _ (l : Literal) (a b : ℕ) (e : a ≡ repOf (s .rep) (l .left)) (f : b ≡ repOf (s .rep) (l .right)) where
-    pub join-plain : (n : ℕ) (ps : List (ℕ × ℕ)) → l .plain ≡ true → andThen (record { pairs = ps; facts = pathOf s }) (join n a b) ≡ andThen (record { pairs = ps; facts = pathOf s }) (joinOne n l)
+  module _ (a b : ℕ) (e : a ≡ repOf rep (l .left)) (f : b ≡ repOf rep (l .right)) (p : l .plain ≡ true) where
+    pub join-plain : (n : ℕ) (ps : List (ℕ × ℕ)) → andThen (record { pairs = ps; facts = path }) (join n a b) ≡ andThen (record { pairs = ps; facts = path }) (joinOne n l)
     unfolding joinOne
-    join-plain n ps p =
-        andThen-at (record { pairs = ps; facts = pathOf s }) (join n a b) (joinOne n l)
-        (ap₂ (λ a b. join n a b (pathOf s)) (rep-read (l .left) a e) (rep-read (l .right) b f) ∙ sym (cond-true _ _ p))
+    join-plain n ps =
+        andThen-at (record { pairs = ps; facts = path }) (join n a b) (joinOne n l) (ap₂ (λ a b. join n a b path) e f ∙ sym (cond-true _ _ p))
 
-    reach-plain : l .link ≡ 1 → l .plain ≡ true → addReach 1 a b (pathOf s) ≡ reachOne l (pathOf s)
+    -- the fact is added to the rows of its link
+    abbrev Added : List ℕ → List ℕ → Type 0
+    Added rows new = square new ≡ (λ x y. square rows x y or (eqb x a and eqb y b))
+
+    abbrev held : code.Facts
+    held = record { rep = rep; single = single; link = link; reach = reach; link2 = link2; reach2 = reach2; link3 = link3; reach3 = reach3 }
+
+    add-is : changed (l .link) (reaching a b) path ≡ reachOne l path
     unfolding reachOne
-    reach-plain one p =
-        ap₂ (λ a b. addReach 1 a b (pathOf s)) (rep-read (l .left) a e) (rep-read (l .right) b f)
-        ∙ ap (λ k. addReach k (pathOf s .rep (l .left)) (pathOf s .rep (l .right)) (pathOf s)) (sym one)
-        ∙ sym (cond-true _ _ p)
+    add-is = sym (addReach-changed (l .link) path a b) ∙ ap₂ (λ a b. addReach (l .link) a b path) e f ∙ sym (cond-true _ _ p)
 
-    -- the bit of the fact is set in its row
-    pub reach-set : length (s .reach) ≡ 17 → a ≤ 16 → b ≤ 16 → l .link ≡ 1 → l .plain ≡ true → (w : ℕ) → ((i : ℕ) → bit w i ≡ eqb i b) → pathOf (record { rep = s .rep; link = s .link; reach = set (s .reach) a (bitOr (getD (s .reach) a 0) w) }) ≡ reachOne l (pathOf s)
-    reach-set full h k one p w only = row-set s full a b w h k only ∙ reach-plain one p
+    pub reach-first : (new : List ℕ) → l .link ≡ 1 → Added reach new → pathAs single rep link new link2 reach2 link3 reach3 ≡ reachOne l path
+    unfolding pathOf graphOf
+    reach-first new one d = set-first held (l .link) (reaching a b) _ one (alike-graph refl d) ∙ add-is
 
-  module _ (l : Literal) where
-    pub join-negated : (n : ℕ) (ps : List (ℕ × ℕ)) → l .plain ≡ false → record { pairs = ps; facts = pathOf s } ≡ andThen (record { pairs = ps; facts = pathOf s }) (joinOne n l)
-    unfolding joinOne
-    join-negated n ps p =
-        let j : Joined = record { pairs = ps; facts = pathOf s } in
-        sym (andThen-at j (joinOne n l) unjoined (cond-false _ _ p) ∙ andThen-unjoined j)
+    pub reach-second : (new : List ℕ) → HasLink path (l .link) → l .link ≡ 2 → Added reach2 new → pathAs single rep link reach link2 new link3 reach3 ≡ reachOne l path
+    unfolding pathOf graphOf
+    reach-second new h two d = set-second held (l .link) (reaching a b) _ two (three held (l .link) h (λ z. omega (arith, z, two))) (alike-graph refl d) ∙ add-is
 
-    pub reach-negated : l .plain ≡ false → pathOf s ≡ reachOne l (pathOf s)
-    unfolding reachOne
-    reach-negated p = sym (cond-false _ _ p)
+    pub reach-third : (new : List ℕ) → HasLink path (l .link) → (l .link ≡ 1 → ⊥) → (l .link ≡ 2 → ⊥) → Added reach3 new → pathAs single rep link reach link2 reach2 link3 new ≡ reachOne l path
+    unfolding pathOf graphOf
+    reach-third new h one two d = set-third held (l .link) (reaching a b) _ (last held (l .link) h one two) (three held (l .link) h one) (alike-graph refl d) ∙ add-is
+
+-- a negated literal is passed over
+module _ (l : Literal) (p : l .plain ≡ false) where
+  pub join-negated : (n : ℕ) (j : Joined) → j ≡ andThen j (joinOne n l)
+  unfolding joinOne
+  join-negated n j = sym (andThen-at j (joinOne n l) unjoined (cond-false _ _ p) ∙ andThen-unjoined j)
+
+  pub reach-negated : (s : Facts) → s ≡ reachOne l s
+  unfolding reachOne
+  reach-negated s = sym (cond-false _ _ p)
 
 -- a plain equality says that its terms are equal
 pub plain-is : (l : Literal) (x y : ℕ) → l .link ≡ 1 → l .plain ≡ true → x ≡ l .left → y ≡ l .right → l ≡ same x y

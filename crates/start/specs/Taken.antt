@@ -1,9 +1,8 @@
 -- One literal taken into a path, and the terms that the code's arrays have room for.
 use Prim.Native.Nat.{ℕ, _≤_, _<_}
 use mathlib.Core.Bool.{cond}
-use mathlib.Core.List.{List, []}
-use lib.ListN.{take, drop}
-use Rattle.logic.specs.Query.{Literal, Query, oneLink, argumentOf}
+use mathlib.Core.List.{List}
+use Rattle.logic.specs.Query.{Literal, Query}
 use Rattle.logic.specs.Facts.{Facts, Joined, unjoined, join, addReach, startJoins, start}
 use Rattle.query.specs.LaysOut.{literalIn}
 
@@ -13,10 +12,6 @@ joinOne n l s = cond (l .plain) (join n (s .rep (l .left)) (s .rep (l .right)) s
 
 unfoldable pub reachOne : Literal → Facts → Facts
 reachOne l s = cond (l .plain) (addReach (l .link) (s .rep (l .left)) (s .rep (l .right)) s) s
-
--- a query with these entries alone: what reads only section 1 asks no more
-abbrev pub onlyEntries : List ℕ → Query
-onlyEntries bytes = record { links = 1; entries = oneLink bytes; equalities = []; reachability = []; fields = [] }
 
 -- the start of a query, and the pairs joined to make it
 unfoldable pub started : Query → Joined
@@ -31,9 +26,6 @@ pub record Terms (l : Literal) : Type 0 where
   pub left-within : l .left ≤ 16
   pub right-within : l .right ≤ 16
 
--- those of `count` literals that stand at a place of the query's bytes, and the arguments of n terms
+-- those of `count` literals that stand at a place of the query's bytes
 pub record TermsIn (bytes : List ℕ) (at count : ℕ) : Type 0 where
   pub terms : (i : ℕ) → i < count → Terms (literalIn bytes at i)
-
-pub record EntriesIn (bytes : List ℕ) (n : ℕ) : Type 0 where
-  pub argument : (t : ℕ) → 1 ≤ t → t ≤ n → argumentOf (oneLink (take n (drop 1 bytes))) t ≤ 16

@@ -1,6 +1,5 @@
 // One look of the branch walk, and the lines that it writes.
 use clash::Clash;
-use facts::Facts;
 use facts::Link;
 use facts::Pairs;
 use facts::Term;
@@ -14,7 +13,7 @@ ghost use lib.ListN.{length};
 ghost use Rattle.logic.specs.Facts.{line, joinLines};
 ghost use Rattle.logic.specs.Rules.{ruleNumber, moveNumber};
 ghost use Rattle.logic.specs.Walk.{look, orderOf};
-ghost use Rattle.facts.specs.Path.{pathOf};
+ghost use Rattle.facts.specs.Path.{pathAs};
 ghost use Rattle.facts.specs.Pairs.{pairsOf};
 ghost use Rattle.link_query.specs.Said.{said, Within};
 ghost use Rattle.rules.specs.Answers.{kindOf};
@@ -96,24 +95,47 @@ pub fn number(k: Link, rule: Rule) -> usize
     16 * (k.0 - 1) + rule_number(rule)
 }
 
-// "It is looked for before any rule and ends the path."
-pub fn look(query: &[u8], layout: Layout, order: &[u8], s: Facts) -> Seen
+// "It is looked for before any rule and ends the path." The arrays of the path are lent: its record is not copied.
+pub fn look<'a>(
+    query: &[u8],
+    layout: Layout,
+    order: &[u8],
+    single: bool,
+    rep: &'a [u8; 17],
+    link: &'a [u32; 17],
+    reach: &'a [u32; 17],
+    link2: &'a [u32; 17],
+    reach2: &'a [u32; 17],
+    link3: &'a [u32; 17],
+    reach3: &'a [u32; 17],
+) -> Seen
     requires { ⌜ Within layout (now query) ⌝ }
-    ensures { λ r. ⌜ lookOf r ≡ look (said layout (now (query .entry))) (orderOf (now (order .entry))) (pathOf s) ⌝ }
+    ensures { λ r. ⌜ lookOf r ≡ look (said layout (now (query .entry))) (orderOf (now (order .entry))) (pathAs single (now (rep .entry)) (now (link .entry)) (now (reach .entry)) (now (link2 .entry)) (now (reach2 .entry)) (now (link3 .entry)) (now (reach3 .entry))) ⌝ }
 {
     let n = layout.terms;
     if let Clash::At(section, place, partner) = clash::find_clash(
         query,
         layout,
-        &s.rep,
-        true,
-        &s.reach,
-        &s.reach,
-        &s.reach,
+        rep,
+        single,
+        reach,
+        reach2,
+        reach3,
     ) {
         return Seen::Clashing(section, place, partner);
     }
-    let Choice::Apply(k, rule, x, y, z) = rules::choose(order, s, n) else {
+    let Choice::Apply(k, rule, x, y, z) = rules::choose(
+        order,
+        single,
+        rep,
+        link,
+        reach,
+        link2,
+        reach2,
+        link3,
+        reach3,
+        n,
+    ) else {
         return Seen::Saturated;
     };
     Seen::Applying(k, rule, x, y, z)

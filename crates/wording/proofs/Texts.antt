@@ -1,7 +1,8 @@
 -- The words as they are written, part by part. Assumes nothing.
-use Prim.Native.Nat.{ℕ, suc, _+_, _-_, _*_, _≤_, _<_}
+use Prim.Native.Nat.{ℕ, suc, _+_, _-_, _*_, _/_, _≤_, _<_}
 use native.Mathlib.Omega.{arith}
 use native.Mathlib.Numerals.{add-one}
+use native.Mathlib.Nat.{le-refl, mul-le-mul}
 use mathlib.Core.Path.{_≡_, refl, sym, ap, _∙_}
 use mathlib.Core.Bool.{true}
 use mathlib.Core.List.{List, [], _∷_, _++_, map}
@@ -13,7 +14,7 @@ use Rattle.logic.specs.Facts.{line}
 use Rattle.logic.specs.Derivation.{lineBytes}
 use Rattle.logic.specs.Shown.{sizeIn, isNode, wellFormed}
 use Rattle.theory.proofs.Basics.Search.{and-left, and-right}
-use Rattle.theory.proofs.Calls.OneLink.{wellFormed-one}
+use Rattle.theory.proofs.Basics.Compare.{eqb-true}
 use Rattle.text.specs.Text.{ascii, decimal, hexByte}
 use Rattle.wording.specs.Words.{behind, lineOf, refusedText, refusalText, reportSize, reportText, lineText}
 
@@ -31,24 +32,33 @@ pub line-words : (a b c d : ℕ) → decimal a ++ ((ascii " " ++ decimal b) ++ (
 unfolding lineText lineOf behind lineBytes
 line-words a b c d = refl
 
--- Reports. The counts of a well-formed one, as they are read.
-pub record Sized (bytes : List ℕ) (m n : ℕ) : Type 0 where
-  pub nodes : m ≤ 16
+-- Reports. The counts of a well-formed one with so many links, as they are read.
+pub record Sized (bytes : List ℕ) (links p n : ℕ) : Type 0 where
+  pub successors : p ≤ 16 * links
   pub terms : n ≤ 16
-  pub whole : m + n + m + 5 ≤ length bytes
-  pub counted : m + n + m + 5 ≡ reportSize bytes
+  pub nodes : p / links ≤ 16
+  pub whole : p + n + p / links + 5 ≤ length bytes
+  pub counted : p + n + p / links + 5 ≡ reportSize bytes
 
-pub report-sized : (bytes : List ℕ) (m n : ℕ) → wellFormed 1 bytes ≡ true → m ≡ getD bytes 0 0 → n ≡ getD bytes (m + 1) 0 → Sized bytes m n
-unfolding isNode sizeIn reportSize
-report-sized bytes m n one em en =
-    let h = sym (wellFormed-one bytes) ∙ one in
-    let sizes = and-left _ _ (and-left _ _ (and-left _ _ (and-left _ _ (and-left _ _ h)))) in
-    let counts = and-left _ _ sizes in
-    let e : n ≡ getD bytes (getD bytes 0 0 + 1) 0 = en ∙ ap (λ (k : ℕ). getD bytes (k + 1) 0) em in
-    let small : getD bytes 0 0 ≤ 16 = leb-true _ 16 (and-right _ _ (and-left _ _ counts)) in
-    let few : getD bytes (getD bytes 0 0 + 1) 0 ≤ 16 = leb-true _ 16 (and-right _ _ counts) in
-    let fits : getD bytes 0 0 + getD bytes (getD bytes 0 0 + 1) 0 + getD bytes 0 0 + 5 ≤ length bytes = leb-true _ _ (and-right _ _ sizes) in
-    record { nodes = omega arith; terms = omega arith; whole = omega arith; counted = omega arith }
+pub report-sized : (bytes : List ℕ) (links p n : ℕ) → wellFormed links bytes ≡ true → p ≡ getD bytes 0 0 → n ≡ getD bytes (p + 1) 0 → Sized bytes links p n
+unfolding wellFormed isNode sizeIn reportSize
+report-sized bytes links p n formed ep en = rw (ep, en ∙ ap (λ (k : ℕ). getD bytes (k + 1) 0) ep) (go formed)
+  where
+    go : wellFormed links bytes ≡ true → Sized bytes links (getD bytes 0 0) (getD bytes (getD bytes 0 0 + 1) 0)
+    go h =
+        let p : ℕ = getD bytes 0 0 in
+        let n : ℕ = getD bytes (p + 1) 0 in
+        let third = and-left _ _ (and-left _ _ (and-left _ _ (and-left _ _ h))) in
+        let sizes = and-left _ _ third in
+        let counts = and-left _ _ sizes in
+        let firsts = and-left _ _ counts in
+        let split : links * (p / links) ≡ p = eqb-true _ _ (and-left _ _ firsts) in
+        let few : p / links ≤ 16 = leb-true _ 16 (and-right _ _ (and-right _ _ firsts)) in
+        let terms : n ≤ 16 = leb-true _ 16 (and-right _ _ counts) in
+        let fits : p + n + p / links + 5 ≤ length bytes = leb-true _ _ (and-right _ _ sizes) in
+        let last : getD bytes (p + n + 2) 0 ≡ p / links = eqb-true _ _ (and-right _ _ third) in
+        let most : links * (p / links) ≤ links * 16 = mul-le-mul (le-refl links) few in
+        record { successors = omega (arith, split, most); terms = terms; nodes = few; whole = fits; counted = ap (λ (k : ℕ). p + n + k + 5) (sym last) }
 
 -- the bytes of a report from i on
 abbrev pub left : ℕ → List ℕ → ℕ → List ℕ

@@ -23,9 +23,12 @@ refusedText k place = ascii "refused " ++ (decimal k ++ (ascii " at " ++ decimal
 unfoldable pub refusalText : ℕ → ℕ → List ℕ
 refusalText k place = refusedText k place ++ ascii "\n"
 
--- "That is 2m+n+5 bytes"
+-- "That is 2m+n+5 bytes", and with three links 4m+n+5 (02, R-11): what the first three counts say, these counts, and the last section's two bytes
 unfoldable pub reportSize : List ℕ → ℕ
-reportSize bytes = sizeIn bytes + getD bytes (sizeIn bytes + 1) 0 + sizeIn bytes + 5
+reportSize bytes =
+    let p : ℕ = sizeIn bytes in
+    let n : ℕ = getD bytes (p + 1) 0 in
+    p + n + getD bytes (p + n + 2) 0 + 5
 
 -- "one line, the heap report's bytes (without the zeros past it) as two lower-case hex digits each, separated by blanks"
 unfoldable pub reportText : List ℕ → List ℕ

@@ -1,7 +1,7 @@
 // The words that programs print: a report's bytes, the lines of a derivation, refusals. Each is made in a lent buffer.
 ghost use mathlib.Core.Path.{_≡_};
 ghost use mathlib.Core.Bool.{true};
-ghost use Prim.Native.Nat.{ℕ, _+_, _≤_, _<_};
+ghost use Prim.Native.Nat.{ℕ, _+_, _*_, _≤_, _<_};
 ghost use mathlib.Core.List.{_++_};
 ghost use lib.ListN.{length};
 ghost use Rattle.logic.specs.Facts.{line};
@@ -16,22 +16,22 @@ pub fn wide(x: u8) -> usize
     x as usize
 }
 
-// "That is 2m+n+5 bytes; bytes past it are zero."
-fn report_size(report: &[u8]) -> usize
-    requires { ⌜ wellFormed 1 (now report) ≡ true ⌝ }
-    ensures { λ r. ⌜ (r ≡ reportSize (now (report .entry))) × (r ≤ length (now (report .entry))) × (5 ≤ r) × (r ≤ 53) ⌝ }
+// "That is 2m+n+5 bytes; bytes past it are zero." With so many links there are as many successors of each node.
+fn report_size(report: &[u8], links: usize) -> usize
+    requires { ⌜ (0 < links) × (links ≤ 3) × (wellFormed links (now report) ≡ true) ⌝ }
+    ensures { λ r. ⌜ (r ≡ reportSize (now (report .entry))) × (r ≤ length (now (report .entry))) × (5 ≤ r) × (r ≤ 16 * links + 37) ⌝ }
 {
-    let m = wide(report[0]);
-    let n = wide(report[m + 1]);
-    m + n + m + 5
+    let p = wide(report[0]);
+    let n = wide(report[p + 1]);
+    p + n + p / links + 5
 }
 
 // "the heap report's bytes .. as two lower-case hex digits each, separated by blanks"
-pub fn put_report(buffer: &mut [u8], at: usize, report: &[u8]) -> usize
-    requires { ⌜ (at ≤ 1000) × (wellFormed 1 (now report) ≡ true) ⌝ }
-    ensures { λ r. ⌜ Writes (now (buffer .entry)) at (reportText (now (report .entry))) (now (buffer .exit)) r × (r ≤ at + 159) ⌝ }
+pub fn put_report(buffer: &mut [u8], at: usize, report: &[u8], links: usize) -> usize
+    requires { ⌜ (at ≤ 1000) × (0 < links) × (links ≤ 3) × (wellFormed links (now report) ≡ true) ⌝ }
+    ensures { λ r. ⌜ Writes (now (buffer .entry)) at (reportText (now (report .entry))) (now (buffer .exit)) r × (r ≤ at + 48 * links + 111) ⌝ }
 {
-    let size = report_size(report);
+    let size = report_size(report, links);
     let mut to = text::put_hex_byte(buffer, at, report[0]);
     let mut i: usize = 1;
     while i < size {

@@ -25,7 +25,7 @@ put-answer-spec =
     -- slice-aggregate-put-report
     (λ c. search needs)
     -- put-report-requires
-    (λ c κs. (omega (arith, c .before .before .before .before .put-bytes .ensures .ends), heap-formed _ _ _ _ (c .before .before .before .before .before .before .before .before .before .before .between .ensures) (length-replicate {A = ℕ} 53 0) (c .before .before .before .before .before .before .before .enum-told .given .1)))
+    (λ c κs. (omega (arith, c .before .before .before .before .put-bytes .ensures .ends), omega arith, omega arith, heap-formed _ _ _ _ (c .before .before .before .before .before .before .before .before .before .before .between .ensures) (length-replicate {A = ℕ} 53 0) (c .before .before .before .before .before .before .before .enum-told .given .1)))
     -- enum-told-2
     (λ c. search needs)
     -- slice-aggregate-put-bytes-2

@@ -2,7 +2,7 @@
 use borrow.Author.Needs.{needs}
 use mathlib.Core.Path.{subst}
 use Rattle.branch.specs.Answers.{InRange}
-use Rattle.branch.proofs.Steps.{alone-fits, added-equal, added-reaches}
+use Rattle.branch.proofs.Steps.{added-equal, added-reaches}
 use Rattle.branch.proofs.added.Statement.{statement}
 use Rattle.branch.proofs.added.Tie as tie
 
@@ -12,19 +12,15 @@ added-spec =
     (tie.spec
     -- enum-known-fact
     (λ c. search needs)
-    -- no-pairs-requires
-    (λ c κs. search needs)
-    -- join-requires
-    (λ c κs.
-    let h = subst InRange (c .before .before .fact .given .1) (c .before .before .before .before .pre .2) in
-    (c .before .before .before .before .pre .0, h .0, h .1, alone-fits _ _ _ _ _ (c .before .before .before .before .pre .0) (c .no-pairs .ensures)))
+    -- equated-requires
+    (λ c κs. let h = subst InRange (c .before .fact .given .1) (c .before .before .before .pre .2) in (c .before .before .before .pre .0, h .0, h .1))
     -- enum-known-fact-2
     (λ c. search needs)
     -- add-reach-requires
     (λ c κs. let h = subst InRange (c .before .fact2 .given .1) (c .before .before .before .pre .2) in (c .before .before .before .pre .1, h .0, h .1))
-    -- no-pairs-requires-2
+    -- no-pairs-requires
     (λ c κs. search needs)
     -- returns
-    (λ c. added-equal _ _ _ _ _ _ _ _ (c .before .before .before .fact .given .1) (c .before .no-pairs .ensures) (c .join .ensures))
+    (λ c. added-equal _ _ _ _ _ _ _ (c .before .before .fact .given .1) (c .equated .ensures))
     -- returns-2
-    (λ c. added-reaches _ _ _ _ _ _ _ _ (c .before .before .before .fact2 .given .1) (c .no-pairs2 .ensures) (c .before .add-reach .ensures)))
+    (λ c. added-reaches _ _ _ _ _ _ _ _ (c .before .before .before .fact2 .given .1) (c .no-pairs .ensures) (c .before .add-reach .ensures)))

@@ -1,9 +1,11 @@
--- The path is the one that has the rows. Assumes nothing.
+-- The path is the one that has the rows, and its branch has one link too. Assumes nothing.
 use native.Mathlib.Omega.{arith}
 use borrow.Author.Needs.{needs}
+use mathlib.Core.Path.{_∙_}
+use Rattle.facts.specs.Pairs.{joinedOf}
 use Rattle.facts.proofs.Path.{links-few}
 use Rattle.rules.specs.Answers.{kindOf}
-use Rattle.checker.proofs.Rows.{branch-rows}
+use Rattle.checker.proofs.Rows.{branch-one, branch-rows}
 use Rattle.checker.proofs.branch_at.Statement.{statement}
 use Rattle.checker.proofs.branch_at.Tie as tie
 
@@ -15,5 +17,7 @@ branch-at-spec =
     (λ c κs. search needs)
     -- branch-requires
     (λ c κs. let p = c .before .pre in (p .0, (omega arith, links-few (c .held .result) .0), p .1, p .2, p .3))
+    -- rows-of-requires
+    (λ c κs. branch-one _ _ _ _ (c .before .held .ensures) _ _ (joinedOf (c .branch .result)) (c .branch .ensures))
     -- returns
-    (λ c. let a = c .before .before .args in branch-rows _ _ _ _ (c .before .held .ensures) (a .n) (kindOf (a .rule)) (a .x .0) (a .y .0) (a .z .0) (a .i) _ (c .branch .ensures)))
+    (λ c. let a = c .before .before .before .args in c .rows-of .ensures ∙ branch-rows _ _ _ _ (c .before .before .held .ensures) (a .n) (kindOf (a .rule)) (a .x .0) (a .y .0) (a .z .0) (a .i) _ (c .before .branch .ensures)))

@@ -4,9 +4,11 @@ use borrow.Author.Needs.{needs}
 use borrow.Author.Tests.{not-true, not-false}
 use mathlib.Core.Path.{sym, _∙_, subst}
 use Rattle.facts.specs.Pairs.{joinedOf, Fits}
+use Rattle.link_query.proofs.Said.{one-within}
 use Rattle.start.proofs.Laid.{started-fits}
+use Rattle.checker.specs.Reading.{singleOf}
 use Rattle.checker.proofs.Lines.{shaped, shaped-long}
-use Rattle.checker.proofs.Answered.{start-ahead, judged-wrong, judged-more, judged-all}
+use Rattle.checker.proofs.Answered.{accepted-in, started-in, start-one, start-ahead, judged-wrong, judged-more, judged-all}
 use Rattle.checker.proofs.judge.Statement.{statement}
 use Rattle.checker.proofs.judge.Tie as tie
 
@@ -17,16 +19,27 @@ judge-spec =
     -- count-of-requires
     (λ c κs. shaped-long _ (c .before .before .pre .2))
     -- start-requires
-    (λ c κs. (c .before .before .before .pre .0, c .before .before .before .pre .1))
+    (λ c κs. let p = c .before .before .before .pre in (one-within _ _ (p .0), accepted-in _ _ (p .0) (p .1)))
+    -- rows-of-requires
+    (λ c κs. let p = c .before .before .before .before .pre in start-one _ (p .1) (joinedOf (c .start .result)) (started-in _ _ (p .0) _ (c .start .ensures)))
     -- limit-requires
-    (λ c κs. c .before .before .before .before .pre .0 .terms-within)
+    (λ c κs. c .before .before .before .before .before .pre .0 .terms-within)
     -- check-goal-requires
-    (λ c κs. (c .before .before .before .before .before .before .before .before .before .before .pre .0, c .before .before .before .before .before .before .before .before .before .before .pre .1, (shaped _ (c .before .before .before .before .before .before .before .before .before .before .pre .2) _ (c .before .before .before .before .before .before .before .count-of .ensures .0)), start-ahead _ (joinedOf (c .before .before .before .before .before .before .start .result)) _ _ (c .before .before .before .before .before .before .before .before .before .before .pre .1) (c .before .before .before .before .before .before .start .ensures) (c .before .before .before .before .before .before .before .before .before .before .pre .0 .term-count) (c .before .before .before .before .before .limit .ensures), subst Fits (sym (c .before .before .before .before .before .before .start .ensures)) (started-fits (c .before .before .before .before .before .before .before .before .before .before .pre .0) (c .before .before .before .before .before .before .before .before .before .before .pre .1)), omega arith))
+    (λ c κs.
+    let p = c .before .before .before .before .before .before .before .before .before .before .before .pre in
+    let made = c .before .before .before .before .before .before .rows-of .ensures ∙ c .before .before .before .before .before .before .before .start .ensures in (
+      p .0,
+      p .1,
+      shaped _ (p .2) _ (c .before .before .before .before .before .before .before .before .count-of .ensures .0),
+      start-ahead _ (singleOf (c .before .before .before .before .before .before .rows-of .result)) _ _ (p .1) (started-in _ _ (p .0) _ made) (p .0 .term-count) (c .before .before .before .before .before .limit .ensures),
+      subst Fits (sym made) (started-fits (one-within _ _ (p .0)) (accepted-in _ _ (p .0) (p .1))),
+      omega arith,
+    ))
     -- returns
-    (λ c. judged-wrong _ _ _ (shaped _ (c .before .before .before .before .before .before .before .before .before .before .before .before .before .pre .2) _ (c .before .before .before .before .before .before .before .before .before .before .count-of .ensures .0)) (joinedOf (c .before .before .before .before .before .before .before .before .before .start .result)) (c .before .before .before .before .before .before .before .before .before .start .ensures) _ (c .before .before .check-goal .ensures) (not-true _ (c .if1 .taken)))
-    -- add-t16
-    (λ c. let l = c .if2 .taken in let u = c .before .before .before .before .before .before .before .before .before .before .before .count-of .ensures .1 in omega arith)
+    (λ c. let p = c .before .before .before .before .before .before .before .before .before .before .before .before .before .before .pre in judged-wrong _ _ _ (shaped _ (p .2) _ (c .before .before .before .before .before .before .before .before .before .before .before .count-of .ensures .0)) (singleOf (c .before .before .before .before .before .before .before .before .before .rows-of .result)) (started-in _ _ (p .0) _ (c .before .before .before .before .before .before .before .before .before .rows-of .ensures ∙ c .before .before .before .before .before .before .before .before .before .before .start .ensures)) _ (c .before .before .check-goal .ensures) (not-true _ (c .if1 .taken)))
+    -- add-t17
+    (λ c. let l = c .if2 .taken in let u = c .before .before .before .before .before .before .before .before .before .before .before .before .count-of .ensures .1 in omega arith)
     -- returns-2
-    (λ c. judged-more _ _ _ (shaped _ (c .before .before .before .before .before .before .before .before .before .before .before .before .before .before .pre .2) _ (c .before .before .before .before .before .before .before .before .before .before .before .count-of .ensures .0)) (joinedOf (c .before .before .before .before .before .before .before .before .before .before .start .result)) (c .before .before .before .before .before .before .before .before .before .before .start .ensures) _ (c .before .before .before .check-goal .ensures) (not-false _ (c .before .if1 .left)) (c .if2 .taken))
+    (λ c. let p = c .before .before .before .before .before .before .before .before .before .before .before .before .before .before .before .pre in judged-more _ _ _ (shaped _ (p .2) _ (c .before .before .before .before .before .before .before .before .before .before .before .before .count-of .ensures .0)) (singleOf (c .before .before .before .before .before .before .before .before .before .before .rows-of .result)) (started-in _ _ (p .0) _ (c .before .before .before .before .before .before .before .before .before .before .rows-of .ensures ∙ c .before .before .before .before .before .before .before .before .before .before .before .start .ensures)) _ (c .before .before .before .check-goal .ensures) (not-false _ (c .before .if1 .left)) (c .if2 .taken))
     -- returns-3
-    (λ c. judged-all _ _ _ (shaped _ (c .before .before .before .before .before .before .before .before .before .before .before .before .before .before .pre .2) _ (c .before .before .before .before .before .before .before .before .before .before .before .count-of .ensures .0)) (joinedOf (c .before .before .before .before .before .before .before .before .before .before .start .result)) (c .before .before .before .before .before .before .before .before .before .before .start .ensures) _ (c .before .before .before .check-goal .ensures) (not-false _ (c .before .if1 .left)) (c .if2 .left)))
+    (λ c. let p = c .before .before .before .before .before .before .before .before .before .before .before .before .before .before .before .pre in judged-all _ _ _ (shaped _ (p .2) _ (c .before .before .before .before .before .before .before .before .before .before .before .before .count-of .ensures .0)) (singleOf (c .before .before .before .before .before .before .before .before .before .before .rows-of .result)) (started-in _ _ (p .0) _ (c .before .before .before .before .before .before .before .before .before .before .rows-of .ensures ∙ c .before .before .before .before .before .before .before .before .before .before .before .start .ensures)) _ (c .before .before .before .check-goal .ensures) (not-false _ (c .before .if1 .left)) (c .if2 .left)))

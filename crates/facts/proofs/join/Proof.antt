@@ -1,8 +1,7 @@
 -- The lower of the two stays. Assumes nothing.
 use native.Mathlib.Omega.{arith}
-use borrow.Author.Needs.{needs}
 use mathlib.Core.Path.{sym, _∙_, subst}
-use Rattle.facts.specs.Pairs.{Fits}
+use Rattle.facts.specs.Pairs.{joinedIn, Fits}
 use Rattle.facts.proofs.Joins.{join-same, join-either}
 use Rattle.facts.proofs.join.Statement.{statement}
 use Rattle.facts.proofs.join.Tie as tie
@@ -12,12 +11,17 @@ join-spec =
     tie.close
     (tie.spec
     -- returns
-    (λ c. sym (join-same _ _ _ _ (c .if1 .taken)))
+    (λ c. (sym (join-same _ _ _ _ (c .if1 .taken)), c .before .before .before .pre .1))
     -- join-lower-requires
-    (λ c κs. search needs)
+    (λ c κs. let p = c .before .before .before .before .before .before .before .before .before .before .before .before .before .before .before .pre in ((p .0 .0, omega arith, omega arith, p .0 .3), p .1))
     -- returns-2
     (λ c. c .join-lower .ensures)
     -- join-lower-requires-2
-    (λ c κs. (c .before .before .before .before .before .before .pre .0, omega arith, omega arith, subst Fits (join-either _ _ _ _ (omega arith)) (c .before .before .before .before .before .before .pre .3)))
+    (λ c κs.
+    let a = c .before .before .before .before .before .before .before .before .before .before .before .before .before .before .before .args in
+    let p = c .before .before .before .before .before .before .before .before .before .before .before .before .before .before .before .pre in
+    ((p .0 .0, omega arith, omega arith, subst Fits (join-either _ (joinedIn (a .single) (a .rep .now) (a .link .now) (a .reach .now) (a .link2 .now) (a .reach2 .now) (a .link3 .now) (a .reach3 .now) (a .kept .now) (a .replaced .now) (a .count)) _ _ (omega arith)) (p .0 .3)), p .1))
     -- returns-3
-    (λ c. c .join-lower2 .ensures ∙ sym (join-either _ _ _ _ (omega arith))))
+    (λ c.
+    let a = c .before .before .before .before .before .before .before .before .before .before .before .before .before .before .before .before .args in
+    (c .join-lower2 .ensures .0 ∙ sym (join-either _ (joinedIn (a .single) (a .rep .now) (a .link .now) (a .reach .now) (a .link2 .now) (a .reach2 .now) (a .link3 .now) (a .reach3 .now) (a .kept .now) (a .replaced .now) (a .count)) _ _ (omega arith)), c .join-lower2 .ensures .1)))

@@ -1,40 +1,35 @@
--- The pair is put behind the others; where no term has two successors then, that is all. Assumes nothing.
+-- The pair is put behind the others, and then the rest is settled. Assumes nothing.
 use native.Mathlib.Omega.{arith}
-use borrow.Author.Needs.{needs}
-use mathlib.Core.Path.{_≡_, sym, ap, _∙_, subst}
-use Rattle.logic.specs.Facts.{andThen, settle, join}
-use Rattle.facts.specs.Answers.{twoOf}
-use Rattle.facts.specs.Pairs.{joinedAs, Fits}
-use Rattle.facts.proofs.Path.{doubled-links}
-use Rattle.facts.proofs.Joins.{fits-pair, join-lower, lower-made, settle-done}
+use mathlib.Core.Path.{sym, _∙_, subst}
+use Rattle.facts.specs.Pairs.{joinedIn, Fits}
+use Rattle.facts.proofs.Joins.{fits-pair, count-pairs, join-lower, lower-made}
 use Rattle.facts.proofs.join_lower.Statement.{statement}
 use Rattle.facts.proofs.join_lower.Tie as tie
-
--- what is left to settle behind the pair is the whole
-behind : (c : tie.After-doubled) →
-    let a = c .before .before .before .before .before .args in
-    andThen (joinedAs (a .before) (a .s)) (join (a .n) (a .lo .0) (a .hi .0)) ≡ andThen (joinedAs (c .before .before .before .before .and-pair .result) (c .before .before .before .replace .result)) (settle (a .n) (a .n))
-behind c =
-    let a = c .before .before .before .before .before in
-    lower-made _ (joinedAs (a .args .before) (a .args .s)) _ _ (a .pre .1) _ _ (c .before .before .before .before .and-pair .ensures) (c .before .before .before .replace .ensures)
 
 pub join-lower-spec : {M : Type 1} → statement M
 join-lower-spec =
     tie.close
     (tie.spec
     -- and-pair-requires
-    (λ c κs. (fits-pair (joinedAs (c .args .before) (c .args .s)) _ _ _ (subst Fits (join-lower _ _ _ _ (c .pre .1)) (c .pre .3)), omega arith, omega arith))
+    (λ c κs.
+    let a = c .before .before .args in
+    let p = c .before .before .pre in
+    let room = fits-pair (joinedIn (a .single) (a .rep .now) (a .link .now) (a .reach .now) (a .link2 .now) (a .reach2 .now) (a .link3 .now) (a .reach3 .now) (a .kept .now) (a .replaced .now) (a .count)) _ _ _ (subst Fits (join-lower _ (joinedIn (a .single) (a .rep .now) (a .link .now) (a .reach .now) (a .link2 .now) (a .reach2 .now) (a .link3 .now) (a .reach3 .now) (a .kept .now) (a .replaced .now) (a .count)) _ _ (p .0 .1)) (p .0 .3)) in
+    (omega (arith, room, count-pairs (a .kept .now) (a .replaced .now) (a .count)), omega arith, omega arith, p .1 .1, p .1 .2))
     -- replace-requires
-    (λ c κs. search needs)
-    -- doubled-requires
-    (λ c κs. search needs)
-    -- enum-told
-    (λ c. search needs)
-    -- enum-told-2
-    (λ c. search needs)
-    -- returns
-    (λ c. sym (behind (c .before .before) ∙ settle-done _ _ _ (sym (doubled-links _ _) ∙ sym (c .before .before .doubled .ensures) ∙ ap twoOf (c .enum-told2 .given .1))))
+    (λ c κs. let p = c .before .before .before .before .before .before .before .before .before .before .pre in (p .0 .1, p .0 .2, p .1 .0))
+    -- add-settle
+    (λ c.
+    let a = c .before .before .before .before .before .before .before .before .before .before .before .before .before .before .before .before .before .before .before .before .args in
+    let p = c .before .before .before .before .before .before .before .before .before .before .before .before .before .before .before .before .before .before .before .before .pre in
+    let room = fits-pair (joinedIn (a .single) (a .rep .now) (a .link .now) (a .reach .now) (a .link2 .now) (a .reach2 .now) (a .link3 .now) (a .reach3 .now) (a .kept .now) (a .replaced .now) (a .count)) _ _ _ (subst Fits (join-lower _ (joinedIn (a .single) (a .rep .now) (a .link .now) (a .reach .now) (a .link2 .now) (a .reach2 .now) (a .link3 .now) (a .reach3 .now) (a .kept .now) (a .replaced .now) (a .count)) _ _ (p .0 .1)) (p .0 .3)) in
+    omega (arith, room, count-pairs (a .kept .now) (a .replaced .now) (a .count)))
     -- settle-requires
-    (λ c κs. (c .before .before .before .before .before .before .before .pre .0, subst Fits (behind (c .before .before)) (c .before .before .before .before .before .before .before .pre .3)))
-    -- returns-2
-    (λ c. c .settle .ensures ∙ sym (behind (c .before .before .before))))
+    (λ c κs.
+    let a = c .before .before .before .before .before .before .before .before .before .before .before .before .before .before .before .before .before .before .before .before .args in
+    let p = c .before .before .before .before .before .before .before .before .before .before .before .before .before .before .before .before .before .before .before .before .pre in
+    ((p .0 .0, subst Fits (lower-made _ (joinedIn (a .single) (a .rep .now) (a .link .now) (a .reach .now) (a .link2 .now) (a .reach2 .now) (a .link3 .now) (a .reach3 .now) (a .kept .now) (a .replaced .now) (a .count)) _ _ (p .0 .1) _ _ (c .before .before .before .before .before .before .before .before .before .before .before .before .before .before .before .before .before .and-pair .ensures .0) (c .before .before .before .before .before .before .before .before .before .replace .ensures .0)) (p .0 .3)), (c .before .before .before .before .before .before .before .before .before .replace .ensures .1, c .before .before .before .before .before .before .before .before .before .before .before .before .before .before .before .before .before .and-pair .ensures .1, c .before .before .before .before .before .before .before .before .before .before .before .before .before .before .before .before .before .and-pair .ensures .2)))
+    -- returns
+    (λ c.
+    let a = c .before .before .before .before .before .before .before .before .before .before .before .before .before .before .before .before .before .before .before .before .before .args in
+    (c .settle .ensures .0 ∙ sym (lower-made _ (joinedIn (a .single) (a .rep .now) (a .link .now) (a .reach .now) (a .link2 .now) (a .reach2 .now) (a .link3 .now) (a .reach3 .now) (a .kept .now) (a .replaced .now) (a .count)) _ _ (c .before .before .before .before .before .before .before .before .before .before .before .before .before .before .before .before .before .before .before .before .before .pre .0 .1) _ _ (c .before .before .before .before .before .before .before .before .before .before .before .before .before .before .before .before .before .before .and-pair .ensures .0) (c .before .before .before .before .before .before .before .before .before .before .replace .ensures .0)), c .settle .ensures .1)))

@@ -1,13 +1,17 @@
--- The record holds one link. Assumes nothing.
-use mathlib.Core.Path.{refl}
+-- One link, or three. Assumes nothing.
+use mathlib.Core.Path.{sym, ap, _∙_}
+use mathlib.Core.Bool.{Bool, cond}
 use native.Mathlib.Omega.{arith}
-use Rattle.facts.specs.Path.{pathOf}
+use Prim.Native.Nat.{ℕ}
+use Rattle.facts.proofs.Path.{links-is}
 use Rattle.facts.proofs.links.Statement.{statement}
 use Rattle.facts.proofs.links.Tie as tie
 
-returns : tie.Need-returns
-unfolding pathOf
-returns c = (refl, omega arith, omega arith)
-
 pub links-spec : {M : Type 1} → statement M
-links-spec = tie.close (tie.spec returns)
+links-spec =
+    tie.close
+    (tie.spec
+    -- returns
+    (λ c. (sym (links-is (c .before .args .s) ∙ ap (λ (b : Bool). cond {A = ℕ} b 1 3) (c .if1 .taken)), omega arith, omega arith))
+    -- returns-2
+    (λ c. (sym (links-is (c .before .args .s) ∙ ap (λ (b : Bool). cond {A = ℕ} b 1 3) (c .if1 .left)), omega arith, omega arith)))

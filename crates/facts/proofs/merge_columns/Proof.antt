@@ -12,10 +12,10 @@ use Rattle.facts.proofs.merge_columns.Statement.{statement}
 use Rattle.facts.proofs.merge_columns.Tie as tie
 
 abbrev Inv-loop : tie.InvT-loop
-Inv-loop low high out₀ a₀ out a = (a ≤ 17) × (length out ≡ 17) × Filled (columns low high (square out₀)) (square out₀) a (square out)
+Inv-loop rows₀ low high a₀ rows a = (a ≤ 17) × (length rows ≡ 17) × Filled (columns low high (square rows₀)) (square rows₀) a (square rows)
 
 abbrev μ-loop : tie.MeasureT-loop
-μ-loop low high out₀ a₀ out a = 17 - a
+μ-loop rows₀ low high a₀ rows a = 17 - a
 
 whole : (c : tie.After-loop Inv-loop μ-loop) → c .before .loop .a ≡ 17
 whole c = omega arith
@@ -30,13 +30,13 @@ merge-columns-spec =
     (λ c. (omega arith, search needs, filled-none _ _))
     -- mul-renamed-row
     (λ c. omega arith)
-    -- array-read-renamed-row
+    -- element-copy-out-renamed-row
     (λ c. omega arith)
     -- renamed-row-requires
     (λ c κs. (omega arith, omega arith))
-    -- mul-out
+    -- mul-rows
     (λ c. omega arith)
-    -- array-write-out
+    -- element-write-rows
     (λ c. omega arith)
     -- add-a
     (λ c. omega arith)
@@ -44,10 +44,10 @@ merge-columns-spec =
     (λ c. omega arith)
     -- loop-again
     (λ c.
-    let l = c .before .before .loop in (
+    let l = c .before .before .before .loop in (
       omega arith,
       simp length-set (l .inv .1),
-      merge-more _ _ (omega arith) (omega arith) _ (l .a) (omega arith) (l .out) (l .inv .1) _ (c .renamed-row .ensures) (l .inv .2),
+      merge-more _ _ (omega arith) (omega arith) _ (l .a) (omega arith) (l .rows) (l .inv .1) _ (c .renamed-row .ensures) (l .inv .2),
     ))
     -- returns
-    (λ c. merge-all _ _ (omega arith) (omega arith) _ _ (rw (whole c) at (c .before .loop .inv .2)) (square-above _)))
+    (λ c. (merge-all _ _ (omega arith) (omega arith) _ _ (rw (whole c) at (c .before .loop .inv .2)) (square-above _), c .before .loop .inv .1)))

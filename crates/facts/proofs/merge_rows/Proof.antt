@@ -1,6 +1,7 @@
 -- Two rows are written. Assumes nothing.
 use borrow.Author.Needs.{needs}
 use native.Mathlib.Omega.{arith}
+use lib.ListN.{length-set}
 use Rattle.facts.proofs.Merge.{rows-merged}
 use Rattle.facts.proofs.merge_rows.Statement.{statement}
 use Rattle.facts.proofs.merge_rows.Tie as tie
@@ -9,21 +10,21 @@ pub merge-rows-spec : {M : Type 1} → statement M
 merge-rows-spec =
     tie.close
     (tie.spec
-    -- mul-out
+    -- mul-cells
     (λ c. search needs)
-    -- array-read-out
+    -- element-copy-out-cells
     (λ c. search needs)
-    -- mul-out-2
+    -- mul-cells-2
     (λ c. search needs)
-    -- array-read-out-2
+    -- element-copy-out-cells-2
     (λ c. search needs)
-    -- mul-out-3
+    -- mul-cells-3
     (λ c. search needs)
-    -- array-write-out
+    -- element-write-cells
     (λ c. search needs)
-    -- mul-out-4
+    -- mul-cells-4
     (λ c. search needs)
-    -- array-write-out-2
+    -- element-write-cells-2
     (λ c. search needs)
     -- returns
-    (λ c. rows-merged _ _ (omega arith) (omega arith) _ (search needs)))
+    (λ c. (rows-merged _ _ (omega arith) (omega arith) _ (c .before .before .pre .2), simp length-set (c .before .before .pre .2))))

@@ -15,4 +15,4 @@ replace-in-spec =
     -- merge-rows-requires
     (λ c κs. search needs)
     -- returns
-    (λ c. c .merge-rows .ensures ∙ ap (rows _ _) (c .before .merge-columns .ensures) ∙ replaced _ _ _))
+    (λ c. (c .merge-rows .ensures .0 ∙ ap (rows _ _) (c .before .before .merge-columns .ensures .0) ∙ replaced _ _ _, c .merge-rows .ensures .1)))

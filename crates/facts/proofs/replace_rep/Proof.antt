@@ -11,10 +11,10 @@ use Rattle.facts.proofs.replace_rep.Statement.{statement}
 use Rattle.facts.proofs.replace_rep.Tie as tie
 
 abbrev Inv-loop : tie.InvT-loop
-Inv-loop low high out₀ t₀ out t = (t ≤ 17) × (length out ≡ 17) × Filled (replaceRep low high (repOf out₀)) (repOf out₀) t (repOf out)
+Inv-loop rep₀ low high t₀ rep t = (t ≤ 17) × (length rep ≡ 17) × Filled (replaceRep low high (repOf rep₀)) (repOf rep₀) t (repOf rep)
 
 abbrev μ-loop : tie.MeasureT-loop
-μ-loop low high out₀ t₀ out t = 17 - t
+μ-loop rep₀ low high t₀ rep t = 17 - t
 
 whole : (c : tie.After-loop Inv-loop μ-loop) → c .before .loop .t ≡ 17
 whole c = omega arith
@@ -31,11 +31,11 @@ replace-rep-spec =
     (λ c. omega arith)
     -- loop-holds
     (λ c. (omega arith, search needs, filled-none _ _))
-    -- array-read-renamed
+    -- element-copy-out-renamed
     (λ c. omega arith)
     -- renamed-requires
     (λ c κs. search needs)
-    -- array-write-out
+    -- element-write-rep
     (λ c. omega arith)
     -- add-t
     (λ c. omega arith)
@@ -43,10 +43,10 @@ replace-rep-spec =
     (λ c. omega arith)
     -- loop-again
     (λ c.
-    let l = c .before .before .loop in (
+    let l = c .before .before .before .loop in (
       omega arith,
       simp length-set (l .inv .1),
-      renamed-more _ _ _ (l .t) (omega arith) (l .out) (l .inv .1) (c .renamed .result) (c .renamed .ensures) (l .inv .2),
+      renamed-more _ _ _ (l .t) (omega arith) (l .rep) (l .inv .1) (c .renamed .result) (c .renamed .ensures) (l .inv .2),
     ))
     -- returns
-    (λ c. renamed-all _ _ _ (omega arith) _ (rw (whole c) at (c .before .loop .inv .2))))
+    (λ c. (renamed-all _ _ _ (omega arith) _ (rw (whole c) at (c .before .loop .inv .2)), c .before .loop .inv .1)))

@@ -21,7 +21,7 @@ put-sat-spec =
     (λ c κs. let k = decimal-machine (c .before .before .before .before .before .before .before .before .before .before .before .before .args .n) (omega arith) in omega (arith, c .before .before .before .before .before .before .before .put-bytes .ensures .ends, c .before .before .before .put-decimal .ensures .ends))
     -- put-report-requires
     (λ c κs. let k = decimal-machine (c .before .before .before .before .before .before .before .before .before .before .before .before .before .before .before .before .args .n) (omega arith) in
-    (omega (arith, c .before .before .before .before .before .before .before .before .before .before .before .put-bytes .ensures .ends, c .before .before .before .before .before .before .before .put-decimal .ensures .ends, c .before .before .before .put-byte .ensures .ends), c .before .before .before .before .before .before .before .before .before .before .before .before .before .before .before .before .pre))
+    (omega (arith, c .before .before .before .before .before .before .before .before .before .before .before .put-bytes .ensures .ends, c .before .before .before .before .before .before .before .put-decimal .ensures .ends, c .before .before .before .put-byte .ensures .ends), omega arith, omega arith, c .before .before .before .before .before .before .before .before .before .before .before .before .before .before .before .before .pre))
     -- same-length
     (λ c. search needs)
     -- returns

@@ -52,6 +52,7 @@ abbrev list-μ-loop : list-lts.MeasureT-loop
 list-μ-loop query layout order left lines₀ first most n s count k rule x y z total written₀ i₀ lines written i = total - i
 
 pub +list-spec : {M : Type 1} → statement M
+unfolding pathOf
 +list-spec = close μ-list λ t. list-lts.spec (
   put-joins-reads.Asked,
   put-joins-reads.Learnt,
@@ -81,52 +82,52 @@ pub +list-spec : {M : Type 1} → statement M
     -- returns
     (λ c. lists-early _ (joinedOf (c .before .before .before .before .before .before .before .before .before .args .path)) _ _ _ _ _ _ (c .before .before .before .put-joins .ensures .0) (c .before .before .before .put-joins .ensures .1) (c .if1 .taken) (c .before .before .before .before .before .before .before .before .before .pre .1 .2) refl refl)
     -- look-requires
-    (λ c κs. c .before .before .before .before .before .before .before .before .before .pre .1 .0)
+    (λ c κs. c .before .before .before .before .before .before .before .before .before .before .before .before .before .before .before .before .before .pre .1 .0)
     -- enum-told
     (λ c. search needs)
     -- enum-known-section
     (λ c. search needs)
     -- put-line-requires
-    (λ c κs. let f = clash-fits _ _ (c .before .before .before .before .before .before .before .before .before .before .before .before .before .before .pre .1 .0) _ _ _ _ _ (look-is _ _ _ (c .before .before .before .before .look .ensures) (c .before .before .section .given .1)) in ((headed-bound _ _ _ (c .before .before .before .before .before .before .before .before .put-joins .ensures .0) (c .before .before .before .before .before .before .before .before .before .before .before .before .before .before .pre .1 .2)), lit< tt, f .0, f .1, f .2))
+    (λ c κs. let f = clash-fits _ _ (c .before .before .before .before .before .before .before .before .before .before .before .before .before .before .before .before .before .before .before .before .before .before .pre .1 .0) _ _ _ _ _ (look-is _ _ _ (c .before .before .before .before .look .ensures) (c .before .before .section .given .1)) in ((headed-bound _ _ _ (c .before .before .before .before .before .before .before .before .before .before .before .before .before .before .before .before .put-joins .ensures .0) (c .before .before .before .before .before .before .before .before .before .before .before .before .before .before .before .before .before .before .before .before .before .before .pre .1 .2)), lit< tt, f .0, f .1, f .2))
     -- counted-requires
     (λ c κs. search needs)
     -- enum-known-k
     (λ c. search needs)
     -- number-requires
-    (λ c κs. let l = move-linked _ _ _ _ _ _ _ _ (look-is _ _ _ (c .before .before .before .before .look .ensures) (c .before .before .k .given .1)) in (l .0, le-trans (l .1) (links-few (c .before .before .before .before .before .before .before .before .before .before .before .before .before .before .args .path .facts) .1)))
+    (λ c κs. let l = move-linked _ _ _ _ _ _ _ _ (look-is _ _ _ (c .before .before .before .before .look .ensures) (c .before .before .k .given .1)) in (l .0, le-trans (l .1) (links-few (c .before .before .before .before .before .before .before .before .before .before .before .before .before .before .before .before .before .before .before .before .before .before .args .path .facts) .1)))
     -- put-line-requires-2
-    (λ c κs. let f = move-fits _ _ (c .before .before .before .before .before .before .before .before .before .before .before .before .before .before .before .pre .1 .0) _ _ _ _ _ _ _ (look-is _ _ _ (c .before .before .before .before .before .look .ensures) (c .before .before .before .k .given .1)) in ((headed-bound _ _ _ (c .before .before .before .before .before .before .before .before .before .put-joins .ensures .0) (c .before .before .before .before .before .before .before .before .before .before .before .before .before .before .before .pre .1 .2)), c .number .ensures .1, lt-of-le-of-lt (f .0) (lit< tt), lt-of-le-of-lt (f .1) (lit< tt), lt-of-le-of-lt (f .2) (lit< tt)))
+    (λ c κs. let f = move-fits _ _ (c .before .before .before .before .before .before .before .before .before .before .before .before .before .before .before .before .before .before .before .before .before .before .before .pre .1 .0) _ _ _ _ _ _ _ (look-is _ _ _ (c .before .before .before .before .before .look .ensures) (c .before .before .before .k .given .1)) in ((headed-bound _ _ _ (c .before .before .before .before .before .before .before .before .before .before .before .before .before .before .before .before .before .put-joins .ensures .0) (c .before .before .before .before .before .before .before .before .before .before .before .before .before .before .before .before .before .before .before .before .before .before .before .pre .1 .2)), c .number .ensures .1, lt-of-le-of-lt (f .0) (lit< tt), lt-of-le-of-lt (f .1) (lit< tt), lt-of-le-of-lt (f .2) (lit< tt)))
     -- count-requires
     (λ c κs. search needs)
     -- counted-requires-2
     (λ c κs. search needs)
     -- loop-holds
-    (λ c. (going-first _ _ _ _ _ _ _ _ _ _ _, subst (λ (j : ℕ). j ≤ 16001) (sym (c .counted2 .ensures)) (counted-bound _ (headed-bound _ _ _ (c .before .before .before .before .before .before .before .before .before .before .before .before .before .before .put-joins .ensures .0) (c .before .before .before .before .before .before .before .before .before .before .before .before .before .before .before .before .before .before .before .before .pre .1 .2))), refl))
+    (λ c. (going-first _ _ _ _ _ _ _ _ _ _ _, subst (λ (j : ℕ). j ≤ 16001) (sym (c .counted2 .ensures)) (counted-bound _ (headed-bound _ _ _ (c .before .before .before .before .before .before .before .before .before .before .before .before .before .before .before .before .before .before .before .before .before .before .put-joins .ensures .0) (c .before .before .before .before .before .before .before .before .before .before .before .before .before .before .before .before .before .before .before .before .before .before .before .before .before .before .before .before .pre .1 .2))), refl))
     -- branch-requires
-    (λ c κs. let f = move-fits _ _ (c .before .before .before .before .before .before .before .before .before .before .before .before .before .before .before .before .before .before .before .before .before .before .pre .1 .0) _ _ _ _ _ _ _ (look-is _ _ _ (c .before .before .before .before .before .before .before .before .before .before .before .before .look .ensures) (c .before .before .before .before .before .before .before .before .before .before .k .given .1)) in (c .before .before .before .before .before .before .before .before .before .before .before .before .before .before .before .before .before .before .before .before .before .before .pre .1 .0 .terms-within, move-linked _ _ _ _ _ _ _ _ (look-is _ _ _ (c .before .before .before .before .before .before .before .before .before .before .before .before .look .ensures) (c .before .before .before .before .before .before .before .before .before .before .k .given .1)), f .0, f .1, f .2))
+    (λ c κs. let f = move-fits _ _ (c .before .before .before .before .before .before .before .before .before .before .before .before .before .before .before .before .before .before .before .before .before .before .before .before .before .before .before .before .before .before .pre .1 .0) _ _ _ _ _ _ _ (look-is _ _ _ (c .before .before .before .before .before .before .before .before .before .before .before .before .look .ensures) (c .before .before .before .before .before .before .before .before .before .before .k .given .1)) in (c .before .before .before .before .before .before .before .before .before .before .before .before .before .before .before .before .before .before .before .before .before .before .before .before .before .before .before .before .before .before .pre .1 .0 .terms-within, move-linked _ _ _ _ _ _ _ _ (look-is _ _ _ (c .before .before .before .before .before .before .before .before .before .before .before .before .look .ensures) (c .before .before .before .before .before .before .before .before .before .before .k .given .1)), f .0, f .1, f .2))
     -- sub-list
-    (λ c. look-some _ _ _ _ _ (c .before .before .before .before .before .before .before .before .before .before .before .before .before .before .before .before .before .before .before .before .before .before .before .pre .1 .3) (look-is _ _ _ (c .before .before .before .before .before .before .before .before .before .before .before .before .before .look .ensures) (c .before .before .before .before .before .before .before .before .before .before .before .k .given .1)))
+    (λ c. look-some _ _ _ _ _ (c .before .before .before .before .before .before .before .before .before .before .before .before .before .before .before .before .before .before .before .before .before .before .before .before .before .before .before .before .before .before .before .pre .1 .3) (look-is _ _ _ (c .before .before .before .before .before .before .before .before .before .before .before .before .before .look .ensures) (c .before .before .before .before .before .before .before .before .before .before .before .k .given .1)))
     -- list-requires
-    (λ c κs. let h = (look-is _ _ _ (c .before .before .before .before .before .before .before .before .before .before .before .before .before .before .look .ensures) (c .before .before .before .before .before .before .before .before .before .before .before .before .k .given .1)) in let p = c .before .before .before .before .before .before .before .before .before .before .before .before .before .before .before .before .before .before .before .before .before .before .before .before .pre in let some-left = look-some _ _ _ _ _ (p .1 .3) h in (less-left _ _ some-left (p .0), (p .1 .0, subst Fits (sym (c .before .branch .ensures)) (branch-fits _ _ _ (p .1 .0 .terms-within)), c .before .before .before .loop .inv .1, branch-fewer _ _ _ _ _ _ _ _ _ _ h some-left (sym (terms-said _ _ (p .1 .0))) (p .1 .3) (joinedOf (c .before .branch .result)) _ (subst (λ (j : ℕ). c .before .before .before .loop .i < j) (c .before .before .before .before .before .count .ensures) (c .before .before .loop-test .taken)) (c .before .branch .ensures))))
+    (λ c κs. let h = (look-is _ _ _ (c .before .before .before .before .before .before .before .before .before .before .before .before .before .before .look .ensures) (c .before .before .before .before .before .before .before .before .before .before .before .before .k .given .1)) in let p = c .before .before .before .before .before .before .before .before .before .before .before .before .before .before .before .before .before .before .before .before .before .before .before .before .before .before .before .before .before .before .before .before .pre in let some-left = look-some _ _ _ _ _ (p .1 .3) h in (less-left _ _ some-left (p .0), (p .1 .0, subst Fits (sym (c .before .branch .ensures)) (branch-fits _ _ _ (p .1 .0 .terms-within)), c .before .before .before .loop .inv .1, branch-fewer _ _ _ _ _ _ _ _ _ _ h some-left (sym (terms-said _ _ (p .1 .0))) (p .1 .3) (joinedOf (c .before .branch .result)) _ (subst (λ (j : ℕ). c .before .before .before .loop .i < j) (c .before .before .before .before .before .count .ensures) (c .before .before .loop-test .taken)) (c .before .branch .ensures))))
     -- same-length-2
-    (λ c. c .before .before .before .list .ensures .same-length ∙ c .before .before .before .before .before .before .before .loop .inv .2 ∙ ap length (c .before .before .before .before .before .before .before .before .before .before .before .before .put-line2 .ensures) ∙ putLine-length _ _ _ ∙ ap length (c .before .before .before .before .before .before .before .before .before .before .before .before .before .before .before .before .before .before .before .before .before .before .put-joins .ensures .1) ∙ putAll-length _ _ _)
+    (λ c. c .before .before .before .list .ensures .same-length ∙ c .before .before .before .before .before .before .before .loop .inv .2 ∙ ap length (c .before .before .before .before .before .before .before .before .before .before .before .before .put-line2 .ensures) ∙ putLine-length _ _ _ ∙ ap length (c .before .before .before .before .before .before .before .before .before .before .before .before .before .before .before .before .before .before .before .before .before .before .before .before .before .before .before .before .before .before .put-joins .ensures .1) ∙ putAll-length _ _ _)
     -- returns-2
-    (λ c. lists-after _ (joinedOf (c .before .before .before .before .before .before .before .before .before .before .before .before .before .before .before .before .before .before .before .before .before .before .before .before .before .before .before .before .args .path)) _ _ _ _ _ _ (c .before .before .before .before .before .before .before .before .before .before .before .before .before .before .before .before .before .before .before .before .before .before .put-joins .ensures .0) (c .before .before .before .before .before .before .before .before .before .before .before .before .before .before .before .before .before .before .before .before .before .before .put-joins .ensures .1) _ (going-stop _ _ _ _ _ _ _ _ _ _ (sym (terms-said _ _ (c .before .before .before .before .before .before .before .before .before .before .before .before .before .before .before .before .before .before .before .before .before .before .before .before .before .before .before .before .pre .1 .0))) _ _ _ _ _ _ _ (subst (λ (j : ℕ). c .before .before .before .before .before .before .before .loop .i < j) (c .before .before .before .before .before .before .before .before .before .count .ensures) (c .before .before .before .before .before .before .loop-test .taken)) _ (c .before .before .before .before .before .branch .ensures) _ (c .before .before .before .list .ensures) (look-is _ _ _ (c .before .before .before .before .before .before .before .before .before .before .before .before .before .before .before .before .before .before .look .ensures) (c .before .before .before .before .before .before .before .before .before .before .before .before .before .before .before .before .k .given .1)) (look-some _ _ _ _ _ (c .before .before .before .before .before .before .before .before .before .before .before .before .before .before .before .before .before .before .before .before .before .before .before .before .before .before .before .before .pre .1 .3) (look-is _ _ _ (c .before .before .before .before .before .before .before .before .before .before .before .before .before .before .before .before .before .before .look .ensures) (c .before .before .before .before .before .before .before .before .before .before .before .before .before .before .before .before .k .given .1))) _ _ (c .before .before .before .before .before .before .before .before .counted2 .ensures) (c .before .before .before .before .before .before .before .loop .inv .2 ∙ ap length (c .before .before .before .before .before .before .before .before .before .before .before .before .put-line2 .ensures) ∙ putLine-length _ _ _) (c .before .before .before .before .before .before .before .loop .inv .0) (c .if2 .taken)))
+    (λ c. lists-after _ (joinedOf (c .before .before .before .before .before .before .before .before .before .before .before .before .before .before .before .before .before .before .before .before .before .before .before .before .before .before .before .before .before .before .before .before .before .before .before .before .args .path)) _ _ _ _ _ _ (c .before .before .before .before .before .before .before .before .before .before .before .before .before .before .before .before .before .before .before .before .before .before .before .before .before .before .before .before .before .before .put-joins .ensures .0) (c .before .before .before .before .before .before .before .before .before .before .before .before .before .before .before .before .before .before .before .before .before .before .before .before .before .before .before .before .before .before .put-joins .ensures .1) _ (going-stop _ _ _ _ _ _ _ _ _ _ (sym (terms-said _ _ (c .before .before .before .before .before .before .before .before .before .before .before .before .before .before .before .before .before .before .before .before .before .before .before .before .before .before .before .before .before .before .before .before .before .before .before .before .pre .1 .0))) _ _ _ _ _ _ _ (subst (λ (j : ℕ). c .before .before .before .before .before .before .before .loop .i < j) (c .before .before .before .before .before .before .before .before .before .count .ensures) (c .before .before .before .before .before .before .loop-test .taken)) _ (c .before .before .before .before .before .branch .ensures) _ (c .before .before .before .list .ensures) (look-is _ _ _ (c .before .before .before .before .before .before .before .before .before .before .before .before .before .before .before .before .before .before .look .ensures) (c .before .before .before .before .before .before .before .before .before .before .before .before .before .before .before .before .k .given .1)) (look-some _ _ _ _ _ (c .before .before .before .before .before .before .before .before .before .before .before .before .before .before .before .before .before .before .before .before .before .before .before .before .before .before .before .before .before .before .before .before .before .before .before .before .pre .1 .3) (look-is _ _ _ (c .before .before .before .before .before .before .before .before .before .before .before .before .before .before .before .before .before .before .look .ensures) (c .before .before .before .before .before .before .before .before .before .before .before .before .before .before .before .before .k .given .1))) _ _ (c .before .before .before .before .before .before .before .before .counted2 .ensures) (c .before .before .before .before .before .before .before .loop .inv .2 ∙ ap length (c .before .before .before .before .before .before .before .before .before .before .before .before .put-line2 .ensures) ∙ putLine-length _ _ _) (c .before .before .before .before .before .before .before .loop .inv .0) (c .if2 .taken)))
     -- add-i
     (λ c. search needs)
     -- loop-less
     (λ c. search needs)
     -- loop-again
-    (λ c. (going-next _ _ _ _ _ _ _ _ _ _ (sym (terms-said _ _ (c .before .before .before .before .before .before .before .before .before .before .before .before .before .before .before .before .before .before .before .before .before .before .before .before .before .before .before .before .pre .1 .0))) _ _ _ _ _ _ _ (subst (λ (j : ℕ). c .before .before .before .before .before .before .before .loop .i < j) (c .before .before .before .before .before .before .before .before .before .count .ensures) (c .before .before .before .before .before .before .loop-test .taken)) _ (c .before .before .before .before .before .branch .ensures) _ (c .before .before .before .list .ensures) (c .before .before .before .before .before .before .before .loop .inv .0) (c .if2 .left), c .before .before .before .list .ensures .bounded, c .before .before .before .list .ensures .same-length ∙ c .before .before .before .before .before .before .before .loop .inv .2))
+    (λ c. (going-next _ _ _ _ _ _ _ _ _ _ (sym (terms-said _ _ (c .before .before .before .before .before .before .before .before .before .before .before .before .before .before .before .before .before .before .before .before .before .before .before .before .before .before .before .before .before .before .before .before .before .before .before .before .pre .1 .0))) _ _ _ _ _ _ _ (subst (λ (j : ℕ). c .before .before .before .before .before .before .before .loop .i < j) (c .before .before .before .before .before .before .before .before .before .count .ensures) (c .before .before .before .before .before .before .loop-test .taken)) _ (c .before .before .before .before .before .branch .ensures) _ (c .before .before .before .list .ensures) (c .before .before .before .before .before .before .before .loop .inv .0) (c .if2 .left), c .before .before .before .list .ensures .bounded, c .before .before .before .list .ensures .same-length ∙ c .before .before .before .before .before .before .before .loop .inv .2))
     -- same-length-3
-    (λ c. ap length (c .before .before .before .before .before .before .put-joins .ensures .1) ∙ putAll-length _ _ _)
+    (λ c. ap length (c .before .before .before .before .before .before .before .before .before .before .before .before .before .before .put-joins .ensures .1) ∙ putAll-length _ _ _)
     -- returns-3
-    (λ c. lists-after _ (joinedOf (c .before .before .before .before .before .before .before .before .before .before .before .before .args .path)) _ _ _ _ _ _ (c .before .before .before .before .before .before .put-joins .ensures .0) (c .before .before .before .before .before .before .put-joins .ensures .1) _ (lists-saturated _ _ _ (pathOf (c .before .before .before .before .before .before .before .before .before .before .before .before .args .path .facts)) _ _ _ _ _ (look-is _ _ _ (c .before .before .look .ensures) (c .enum-told .given .1)) refl (headed-bound _ _ _ (c .before .before .before .before .before .before .put-joins .ensures .0) (c .before .before .before .before .before .before .before .before .before .before .before .before .pre .1 .2))))
+    (λ c. lists-after _ (joinedOf (c .before .before .before .before .before .before .before .before .before .before .before .before .before .before .before .before .before .before .before .before .args .path)) _ _ _ _ _ _ (c .before .before .before .before .before .before .before .before .before .before .before .before .before .before .put-joins .ensures .0) (c .before .before .before .before .before .before .before .before .before .before .before .before .before .before .put-joins .ensures .1) _ (lists-saturated _ _ _ (pathOf (c .before .before .before .before .before .before .before .before .before .before .before .before .before .before .before .before .before .before .before .before .args .path .facts)) _ _ _ _ _ (look-is _ _ _ (c .before .before .look .ensures) (c .enum-told .given .1)) refl (headed-bound _ _ _ (c .before .before .before .before .before .before .before .before .before .before .before .before .before .before .put-joins .ensures .0) (c .before .before .before .before .before .before .before .before .before .before .before .before .before .before .before .before .before .before .before .before .pre .1 .2))))
     -- same-length-4
-    (λ c. ap length (c .before .before .before .put-line .ensures) ∙ putLine-length _ _ _ ∙ ap length (c .before .before .before .before .before .before .before .before .before .before .before .before .put-joins .ensures .1) ∙ putAll-length _ _ _)
+    (λ c. ap length (c .before .before .before .put-line .ensures) ∙ putLine-length _ _ _ ∙ ap length (c .before .before .before .before .before .before .before .before .before .before .before .before .before .before .before .before .before .before .before .before .put-joins .ensures .1) ∙ putAll-length _ _ _)
     -- returns-4
-    (λ c. lists-after _ (joinedOf (c .before .before .before .before .before .before .before .before .before .before .before .before .before .before .before .before .before .before .args .path)) _ _ _ _ _ _ (c .before .before .before .before .before .before .before .before .before .before .before .before .put-joins .ensures .0) (c .before .before .before .before .before .before .before .before .before .before .before .before .put-joins .ensures .1) _ (lists-clash _ _ _ (pathOf (c .before .before .before .before .before .before .before .before .before .before .before .before .before .before .before .before .before .before .args .path .facts)) _ _ _ _ _ _ (look-is _ _ _ (c .before .before .before .before .before .before .before .before .look .ensures) (c .before .before .before .before .before .before .section .given .1)) (headed-bound _ _ _ (c .before .before .before .before .before .before .before .before .before .before .before .before .put-joins .ensures .0) (c .before .before .before .before .before .before .before .before .before .before .before .before .before .before .before .before .before .before .pre .1 .2)) refl (c .counted .ensures) (c .before .before .before .put-line .ensures)))
+    (λ c. lists-after _ (joinedOf (c .before .before .before .before .before .before .before .before .before .before .before .before .before .before .before .before .before .before .before .before .before .before .before .before .before .before .args .path)) _ _ _ _ _ _ (c .before .before .before .before .before .before .before .before .before .before .before .before .before .before .before .before .before .before .before .before .put-joins .ensures .0) (c .before .before .before .before .before .before .before .before .before .before .before .before .before .before .before .before .before .before .before .before .put-joins .ensures .1) _ (lists-clash _ _ _ (pathOf (c .before .before .before .before .before .before .before .before .before .before .before .before .before .before .before .before .before .before .before .before .before .before .before .before .before .before .args .path .facts)) _ _ _ _ _ _ (look-is _ _ _ (c .before .before .before .before .before .before .before .before .look .ensures) (c .before .before .before .before .before .before .section .given .1)) (headed-bound _ _ _ (c .before .before .before .before .before .before .before .before .before .before .before .before .before .before .before .before .before .before .before .before .put-joins .ensures .0) (c .before .before .before .before .before .before .before .before .before .before .before .before .before .before .before .before .before .before .before .before .before .before .before .before .before .before .pre .1 .2)) refl (c .counted .ensures) (c .before .before .before .put-line .ensures)))
     -- same-length-5
-    (λ c. c .before .loop .inv .2 ∙ ap length (c .before .before .before .before .before .before .put-line2 .ensures) ∙ putLine-length _ _ _ ∙ ap length (c .before .before .before .before .before .before .before .before .before .before .before .before .before .before .before .before .put-joins .ensures .1) ∙ putAll-length _ _ _)
+    (λ c. c .before .loop .inv .2 ∙ ap length (c .before .before .before .before .before .before .put-line2 .ensures) ∙ putLine-length _ _ _ ∙ ap length (c .before .before .before .before .before .before .before .before .before .before .before .before .before .before .before .before .before .before .before .before .before .before .before .before .put-joins .ensures .1) ∙ putAll-length _ _ _)
     -- returns-5
-    (λ c. lists-after _ (joinedOf (c .before .before .before .before .before .before .before .before .before .before .before .before .before .before .before .before .before .before .before .before .before .before .args .path)) _ _ _ _ _ _ (c .before .before .before .before .before .before .before .before .before .before .before .before .before .before .before .before .put-joins .ensures .0) (c .before .before .before .before .before .before .before .before .before .before .before .before .before .before .before .before .put-joins .ensures .1) _ (going-last _ _ _ _ _ _ _ _ _ (look-is _ _ _ (c .before .before .before .before .before .before .before .before .before .before .before .before .look .ensures) (c .before .before .before .before .before .before .before .before .before .before .k .given .1)) (look-some _ _ _ _ _ (c .before .before .before .before .before .before .before .before .before .before .before .before .before .before .before .before .before .before .before .before .before .before .pre .1 .3) (look-is _ _ _ (c .before .before .before .before .before .before .before .before .before .before .before .before .look .ensures) (c .before .before .before .before .before .before .before .before .before .before .k .given .1))) _ _ _ _ _ _ (c .before .loop .inv .0) (subst (λ (j : ℕ). j ≤ c .before .loop .i) (c .before .before .before .count .ensures) (c .loop-test .left)) _ _ _ _ (c .before .before .before .before .before .before .before .number .ensures .0) (c .before .before .before .before .before .before .put-line2 .ensures) (c .before .before .counted2 .ensures) (c .before .loop .inv .2 ∙ ap length (c .before .before .before .before .before .before .put-line2 .ensures) ∙ putLine-length _ _ _) (c .before .loop .inv .1) refl refl))
+    (λ c. lists-after _ (joinedOf (c .before .before .before .before .before .before .before .before .before .before .before .before .before .before .before .before .before .before .before .before .before .before .before .before .before .before .before .before .before .before .args .path)) _ _ _ _ _ _ (c .before .before .before .before .before .before .before .before .before .before .before .before .before .before .before .before .before .before .before .before .before .before .before .before .put-joins .ensures .0) (c .before .before .before .before .before .before .before .before .before .before .before .before .before .before .before .before .before .before .before .before .before .before .before .before .put-joins .ensures .1) _ (going-last _ _ _ _ _ _ _ _ _ (look-is _ _ _ (c .before .before .before .before .before .before .before .before .before .before .before .before .look .ensures) (c .before .before .before .before .before .before .before .before .before .before .k .given .1)) (look-some _ _ _ _ _ (c .before .before .before .before .before .before .before .before .before .before .before .before .before .before .before .before .before .before .before .before .before .before .before .before .before .before .before .before .before .before .pre .1 .3) (look-is _ _ _ (c .before .before .before .before .before .before .before .before .before .before .before .before .look .ensures) (c .before .before .before .before .before .before .before .before .before .before .k .given .1))) _ _ _ _ _ _ (c .before .loop .inv .0) (subst (λ (j : ℕ). j ≤ c .before .loop .i) (c .before .before .before .count .ensures) (c .loop-test .left)) _ _ _ _ (c .before .before .before .before .before .before .before .number .ensures .0) (c .before .before .before .before .before .before .put-line2 .ensures) (c .before .before .counted2 .ensures) (c .before .loop .inv .2 ∙ ap length (c .before .before .before .before .before .before .put-line2 .ensures) ∙ putLine-length _ _ _) (c .before .loop .inv .1) refl refl))

@@ -3,6 +3,7 @@ use native.Mathlib.Omega.{arith}
 use borrow.Author.Needs.{needs}
 use mathlib.Core.Path.{sym}
 use lib.Seq.{length-take-le}
+use Rattle.logic.specs.Calls.{oneLinkForm}
 use Rattle.text.proofs.Writing.{writes-as}
 use Rattle.printing.proofs.Calls.{text-read}
 use Rattle.printing.proofs.put_text.Statement.{statement}
@@ -16,17 +17,17 @@ put-text-spec =
     (λ c κs. search needs)
     -- at-most-requires-2
     (λ c κs. search needs)
-    -- slice-aggregate-put-verdict
+    -- slice-aggregate-put-one
     (λ c. sym (length-take-le _ _ (omega arith)))
-    -- sub-put-verdict
+    -- sub-put-one
     (λ c. search needs)
-    -- part-put-verdict-start
+    -- part-put-one-start
     (λ c. search needs)
-    -- part-put-verdict-end
+    -- part-put-one-end
     (λ c. search needs)
-    -- put-verdict-requires
+    -- put-one-requires
     (λ c κs. search needs)
     -- same-length
     (λ c. search needs)
     -- returns
-    (λ c. (writes-as (text-read _ _ _ (c .before .before .before .before .before .before .before .at-most .ensures) (c .before .before .before .before .before .before .at-most2 .ensures)) (c .before .before .put-verdict .ensures .0), c .before .before .put-verdict .ensures .1)))
+    (λ c. (writes-as (text-read _ _ _ (c .before .before .before .before .before .before .before .at-most .ensures) (c .before .before .before .before .before .before .at-most2 .ensures) oneLinkForm) (c .before .before .put-one .ensures .0), c .before .before .put-one .ensures .1)))

@@ -2,7 +2,7 @@
 use borrow.Author.Needs.{needs}
 use mathlib.Core.Path.{sym, _∙_}
 use Rattle.prover.proofs.Outcomes.{verdict-satisfiable, verdict-refuted}
-use Rattle.prover.proofs.Answers.{reportable, report-room, said-report}
+use Rattle.prover.proofs.Answers.{reportable, report-room}
 use Rattle.prover.proofs.Endings.{refuted-lines}
 use Rattle.prover.proofs.decide.Statement.{statement}
 use Rattle.prover.proofs.decide.Tie as tie
@@ -25,4 +25,4 @@ decide-spec =
     -- same-length
     (λ c. search needs)
     -- returns-2
-    (λ c. verdict-satisfiable _ _ _ _ _ (c .before .before .before .before .before .before .before .settled .ensures .shown (sym (c .before .before .before .before .before .is-refuted .ensures) ∙ c .before .before .before .before .if1 .left)) (said-report _ _ (c .before .before .before .before .before .before .before .before .before .before .before .pre .0) _ _ _ (c .before .before .write-report .ensures))))
+    (λ c. verdict-satisfiable _ _ _ _ _ (c .before .before .before .before .before .before .before .settled .ensures .shown (sym (c .before .before .before .before .before .is-refuted .ensures) ∙ c .before .before .before .before .if1 .left)) (c .before .before .write-report .ensures)))

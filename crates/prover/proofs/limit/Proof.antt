@@ -1,4 +1,4 @@
--- At most 272. Assumes nothing.
+-- At most 784. Assumes nothing.
 use native.Mathlib.Omega.{arith}
 use native.Mathlib.Nat.{mul-le-mul}
 use borrow.Author.Needs.{needs}
@@ -10,8 +10,10 @@ limit-spec =
     tie.close
     (tie.spec
     -- mul-result
-    (λ c. omega (arith, mul-le-mul (c .pre) (c .pre)))
+    (λ c. omega (arith, mul-le-mul (c .pre .1) (c .pre .1)))
+    -- mul-result-2
+    (λ c. omega (arith, mul-le-mul (c .pre .0) (mul-le-mul (c .pre .1) (c .pre .1))))
     -- add-result
-    (λ c. omega (arith, mul-le-mul (c .pre) (c .pre)))
+    (λ c. omega (arith, c .pre .1, mul-le-mul (c .pre .0) (mul-le-mul (c .pre .1) (c .pre .1))))
     -- returns
     (λ c. search needs))

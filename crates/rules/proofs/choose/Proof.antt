@@ -1,8 +1,7 @@
--- A path of one link, or any. Assumes nothing.
+-- A path of a single link, or of three. Assumes nothing.
 use borrow.Author.Needs.{needs}
 use mathlib.Core.Path.{sym, _∙_}
-use Rattle.facts.proofs.Alive.{live-path}
-use Rattle.rules.proofs.Nested.{choose-any, choose-first}
+use Rattle.rules.proofs.Nested.{choose-single, choose-three}
 use Rattle.rules.proofs.choose.Statement.{statement}
 use Rattle.rules.proofs.choose.Tie as tie
 
@@ -12,17 +11,11 @@ choose-spec =
     (tie.spec
     -- live-requires
     (λ c κs. search needs)
-    -- links-requires
-    (λ c κs. search needs)
-    -- link-rows-requires
-    (λ c κs. search needs)
-    -- reach-rows-requires
-    (λ c κs. search needs)
-    -- choose-one-requires
+    -- choose-by-requires
     (λ c κs. search needs)
     -- returns
-    (λ c. c .choose-one .ensures ∙ sym (choose-first _ _ _ _ _ (c .before .before .before .before .before .before .before .before .before .before .before .args .order .now) (c .before .before .before .before .before .before .before .live .ensures ∙ live-path _ (c .before .before .before .before .before .before .before .before .before .before .before .args .t2)) (sym (c .before .before .before .before .before .before .links .ensures .0) ∙ c .before .before .before .before .before .if1 .taken) (c .before .before .before .before .link-rows .ensures) (c .before .before .before .reach-rows .ensures)))
+    (λ c. c .choose-by .ensures ∙ sym (choose-single _ _ _ _ _ _ _ _ _ (c .before .before .before .before .args .order .now) _ (c .before .before .live .ensures) (c .before .if1 .taken)))
     -- choose-any-requires
     (λ c κs. search needs)
     -- returns-2
-    (λ c. c .choose-any .ensures ∙ sym (choose-any _ _ _ (c .before .before .before .before .before .before .before .args .order .now) (c .before .before .before .live .ensures ∙ live-path _ (c .before .before .before .before .before .before .before .args .t2)))))
+    (λ c. c .choose-any .ensures ∙ sym (choose-three _ _ _ _ _ _ _ _ _ (c .before .before .before .before .args .order .now) _ (c .before .before .live .ensures) (c .before .if1 .left))))

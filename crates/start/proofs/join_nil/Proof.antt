@@ -1,61 +1,56 @@
 -- Nothing where no term names nil; else the others, and then the link of what the first became. Assumes nothing.
 use native.Mathlib.Omega.{arith}
 use borrow.Author.Needs.{needs}
-use Prim.Native.Nat.{ℕ, _+_, _≤_}
-use mathlib.Core.Path.{_≡_, sym, ap, _∙_, subst}
+use Prim.Native.Nat.{ℕ, _≤_}
+use mathlib.Core.Path.{refl, sym, ap, _∙_, subst}
 use mathlib.Core.List.{List}
-use Rattle.logic.specs.Facts.{Facts, Joined, andThen, settle, addNilLinks, joinNil}
-use Rattle.facts.specs.Path.{pathOf}
-use Rattle.facts.specs.Pairs.{joinedOf, Fits}
+use Rattle.logic.specs.Facts.{andThen, joinNil}
+use Rattle.facts.specs.Pairs.{joinedIn, Fits}
 use Rattle.facts.proofs.Joins.{fits-left}
-use Rattle.start.specs.Taken.{Bounded}
-use Rattle.start.specs.Nil.{nilFrom, NextNil}
-use Rattle.start.proofs.Taken.{read-bounded, rep-read}
-use Rattle.start.proofs.Nil.{others, nil-none, nil-some, linked-behind, nil-bounded}
+use Rattle.link_query.specs.Said.{said}
+use Rattle.start.proofs.Bounded.{rep-bounded}
+use Rattle.start.proofs.Taken.{read-bounded}
+use Rattle.start.proofs.Nil.{nil-none, nil-opened, nil-whole, nil-settled}
 use Rattle.start.proofs.join_nil.Statement.{statement}
 use Rattle.start.proofs.join_nil.Tie as tie
-
--- the first nil term and the others
-opened : (bytes : List ℕ) (n first : ℕ) (j : Joined) → NextNil bytes n 1 first → first ≤ n → andThen j (joinNil n (nilFrom bytes n 1)) ≡ andThen (others n first (nilFrom bytes n (first + 1)) j) (λ s. settle n n (addNilLinks first s))
-opened bytes n first j r h =
-    ap (λ (us : List ℕ). andThen j (joinNil n us)) (r .found h) ∙ nil-some n first (nilFrom bytes n (first + 1)) j
-
--- nil's link is settled behind the others
-settled-behind : (c : tie.After-add-link) → andThen (record { pairs = joinedOf (c .before .before .before .before .before .before .join-others .result) .pairs; facts = pathOf (c .add-link .result) }) (settle (c .before .before .before .before .before .before .before .before .before .before .args .n) (c .before .before .before .before .before .before .before .before .before .before .args .n)) ≡ andThen (joinedOf (c .before .before .before .before .before .before .join-others .result)) (λ s. settle (c .before .before .before .before .before .before .before .before .before .before .args .n) (c .before .before .before .before .before .before .before .before .before .before .args .n) (addNilLinks (c .before .before .before .before .before .before .before .before .next-nil .result) s))
-settled-behind c =
-    linked-behind _ _ _ (joinedOf (c .before .before .before .before .before .before .join-others .result)) _ (rep-read (c .before .before .before .before .before .before .join-others .result .facts) _ _ (c .before .before .read-rep .ensures)) (c .add-link .ensures)
-
-whole : (c : tie.After-add-link) → andThen (joinedOf (c .before .before .before .before .before .before .join-others .result)) (λ s. settle (c .before .before .before .before .before .before .before .before .before .before .args .n) (c .before .before .before .before .before .before .before .before .before .before .args .n) (addNilLinks (c .before .before .before .before .before .before .before .before .next-nil .result) s)) ≡ andThen (joinedOf (c .before .before .before .before .before .before .before .before .before .before .args .settled)) (joinNil (c .before .before .before .before .before .before .before .before .before .before .args .n) (nilFrom (c .before .before .before .before .before .before .before .before .before .before .args .query .now) (c .before .before .before .before .before .before .before .before .before .before .args .n) 1))
-whole c =
-    ap (λ (j : Joined). andThen j (λ s. settle (c .before .before .before .before .before .before .before .before .before .before .args .n) (c .before .before .before .before .before .before .before .before .before .before .args .n) (addNilLinks (c .before .before .before .before .before .before .before .before .next-nil .result) s))) (c .before .before .before .before .before .before .join-others .ensures .0)
-    ∙ sym (opened _ _ _ _ (c .before .before .before .before .before .before .before .before .next-nil .ensures) (omega arith))
 
 pub join-nil-spec : {M : Type 1} → statement M
 join-nil-spec =
     tie.close
     (tie.spec
     -- next-nil-requires
-    (λ c κs. search needs)
+    (λ c κs. (c .before .pre .0 .0, omega arith))
     -- returns
     (λ c.
-    let a = c .before .before .before in
-    (sym (ap (λ (us : List ℕ). andThen (joinedOf (a .args .settled)) (joinNil (a .args .n) us)) (c .before .next-nil .ensures .nothing (c .if1 .taken)) ∙ nil-none _ _), a .pre .0 .2))
+    let p = c .before .before .before .pre in
+    (sym (ap (λ (us : List ℕ). andThen (joinedIn (c .before .before .before .args .single) (c .before .before .before .args .rep .now) (c .before .before .before .args .link .now) (c .before .before .before .args .reach .now) (c .before .before .before .args .link2 .now) (c .before .before .before .args .reach2 .now) (c .before .before .before .args .link3 .now) (c .before .before .before .args .reach3 .now) (c .before .before .before .args .kept .now) (c .before .before .before .args .replaced .now) (c .before .before .before .args .count)) (joinNil (c .before .before .before .args .layout .terms) us)) (c .before .next-nil .ensures .nothing (c .if1 .taken)) ∙ nil-none _ _), (p .0 .1, p .1 .0, p .1 .1, p .1 .2)))
     -- join-others-requires
     (λ c κs.
-    let a = c .before .before .before in
-    let h = c .if1 .left in
-    ((a .pre .0 .0, a .pre .0 .1, omega arith, a .pre .0 .2), fits-left _ _ (subst Fits (opened _ _ _ _ (c .before .next-nil .ensures) (omega arith)) (a .pre .1))))
+    let p = c .before .before .before .before .before .before .before .before .before .before .before .before .pre in
+    let below : c .before .before .before .before .before .before .before .before .before .before .next-nil .result ≤ c .before .before .before .before .before .before .before .before .before .before .before .before .args .layout .terms = omega (arith, c .before .before .before .before .before .before .before .before .before .if1 .left) in
+    ((p .0 .0, below, p .0 .1, fits-left _ _ (subst Fits (nil-opened _ _ _ (c .before .before .before .before .before .before .before .before .before .before .next-nil .ensures) below (joinedIn (c .before .before .before .before .before .before .before .before .before .before .before .before .args .single) (c .before .before .before .before .before .before .before .before .before .before .before .before .args .rep .now) (c .before .before .before .before .before .before .before .before .before .before .before .before .args .link .now) (c .before .before .before .before .before .before .before .before .before .before .before .before .args .reach .now) (c .before .before .before .before .before .before .before .before .before .before .before .before .args .link2 .now) (c .before .before .before .before .before .before .before .before .before .before .before .before .args .reach2 .now) (c .before .before .before .before .before .before .before .before .before .before .before .before .args .link3 .now) (c .before .before .before .before .before .before .before .before .before .before .before .before .args .reach3 .now) (c .before .before .before .before .before .before .before .before .before .before .before .before .args .kept .now) (c .before .before .before .before .before .before .before .before .before .before .before .before .args .replaced .now) (c .before .before .before .before .before .before .before .before .before .before .before .before .args .count))) (p .0 .2))), p .1))
     -- read-rep-requires
     (λ c κs. search needs)
-    -- add-link-requires
+    -- add-links-requires
     (λ c κs.
-    let b = read-bounded (c .before .before .before .before .before .join-others .result .facts) (c .before .before .before .before .before .join-others .ensures .1) (c .before .before .before .before .before .before .before .next-nil .result) _ (omega arith) (c .before .read-rep .ensures) in
-    (b, b))
+    let below : c .before .before .before .before .before .before .before .before .before .before .before .before .before .before .before .before .next-nil .result ≤ 16 = omega (arith, c .before .before .before .before .before .before .before .before .before .before .before .before .before .before .before .if1 .left, c .before .before .before .before .before .before .before .before .before .before .before .before .before .before .before .before .before .before .pre .0 .0 .terms-within) in
+    let w = c .before .before .before .before .before .join-others .ensures .1 in
+    let b = read-bounded _ (w .0) (c .before .before .before .before .before .before .before .before .before .before .before .before .before .before .before .before .next-nil .result) _ below (c .before .before .before .read-rep .ensures) in
+    (b, b, w .1 .of-link, w .1 .of-link2, w .1 .of-link3))
     -- settle-requires
-    (λ c κs. (c .before .before .before .before .before .before .before .before .before .before .pre .0 .0, subst Fits (sym (settled-behind c ∙ whole c)) (c .before .before .before .before .before .before .before .before .before .before .pre .1)))
+    (λ c κs.
+    let p = c .before .before .before .before .before .before .before .before .before .before .before .before .before .before .before .before .before .before .before .before .before .before .before .before .before .before .before .before .pre .0 in
+    let below : c .before .before .before .before .before .before .before .before .before .before .before .before .before .before .before .before .before .before .before .before .before .before .before .before .before .before .next-nil .result ≤ c .before .before .before .before .before .before .before .before .before .before .before .before .before .before .before .before .before .before .before .before .before .before .before .before .before .before .before .before .args .layout .terms = omega (arith, c .before .before .before .before .before .before .before .before .before .before .before .before .before .before .before .before .before .before .before .before .before .before .before .before .before .if1 .left) in
+    let w = c .before .before .before .before .before .before .before .before .before .before .before .before .before .before .before .join-others .ensures .1 in
+    let v = c .before .before .before .before .before .before .before .before .before .add-links .ensures .1 in (
+      (p .0 .terms-within, subst Fits (sym (nil-whole (said (c .before .before .before .before .before .before .before .before .before .before .before .before .before .before .before .before .before .before .before .before .before .before .before .before .before .before .before .before .args .layout) (c .before .before .before .before .before .before .before .before .before .before .before .before .before .before .before .before .before .before .before .before .before .before .before .before .before .before .before .before .args .query .now) .entries) (c .before .before .before .before .before .before .before .before .before .before .before .before .before .before .before .before .before .before .before .before .before .before .before .before .before .before .before .before .args .layout .terms) (c .before .before .before .before .before .before .before .before .before .before .before .before .before .before .before .before .before .before .before .before .before .before .before .before .before .before .next-nil .result) (c .before .before .before .before .before .before .before .before .before .before .before .before .before .before .before .before .before .before .before .before .before .before .before .before .before .before .next-nil .ensures) below (joinedIn (c .before .before .before .before .before .before .before .before .before .before .before .before .before .before .before .before .before .before .before .before .before .before .before .before .before .before .before .before .args .single) (c .before .before .before .before .before .before .before .before .before .before .before .before .before .before .before .before .before .before .before .before .before .before .before .before .before .before .before .before .args .rep .now) (c .before .before .before .before .before .before .before .before .before .before .before .before .before .before .before .before .before .before .before .before .before .before .before .before .before .before .before .before .args .link .now) (c .before .before .before .before .before .before .before .before .before .before .before .before .before .before .before .before .before .before .before .before .before .before .before .before .before .before .before .before .args .reach .now) (c .before .before .before .before .before .before .before .before .before .before .before .before .before .before .before .before .before .before .before .before .before .before .before .before .before .before .before .before .args .link2 .now) (c .before .before .before .before .before .before .before .before .before .before .before .before .before .before .before .before .before .before .before .before .before .before .before .before .before .before .before .before .args .reach2 .now) (c .before .before .before .before .before .before .before .before .before .before .before .before .before .before .before .before .before .before .before .before .before .before .before .before .before .before .before .before .args .link3 .now) (c .before .before .before .before .before .before .before .before .before .before .before .before .before .before .before .before .before .before .before .before .before .before .before .before .before .before .before .before .args .reach3 .now) (c .before .before .before .before .before .before .before .before .before .before .before .before .before .before .before .before .before .before .before .before .before .before .before .before .before .before .before .before .args .kept .now) (c .before .before .before .before .before .before .before .before .before .before .before .before .before .before .before .before .before .before .before .before .before .before .before .before .before .before .before .before .args .replaced .now) (c .before .before .before .before .before .before .before .before .before .before .before .before .before .before .before .before .before .before .before .before .before .before .before .before .before .before .before .before .args .count)) _ (c .before .before .before .before .before .before .before .before .before .before .before .before .before .before .before .join-others .ensures .0) _ _ (c .before .before .before .before .before .before .before .before .before .before .before .before .before .read-rep .ensures) (c .before .before .before .before .before .before .before .before .before .add-links .ensures .0 _ _ _ _))) (p .2)),
+      (record { of-rep = w .1 .of-rep; of-link = v .0; of-reach = w .1 .of-reach; of-link2 = v .1; of-reach2 = w .1 .of-reach2; of-link3 = v .2; of-reach3 = w .1 .of-reach3 }, w .2, w .3),
+    ))
     -- returns-2
     (λ c.
-    let e = c .settle .ensures ∙ settled-behind (c .before) in (
-      e ∙ whole (c .before),
-      subst (λ (j : Joined). Bounded (j .facts)) (sym e) (nil-bounded _ _ (joinedOf (c .before .before .before .before .before .before .before .join-others .result)) (c .before .before .before .before .before .before .before .before .before .before .before .pre .0 .0) (c .before .before .before .before .before .before .before .join-others .ensures .1)),
+    let p = c .before .before .before .before .before .before .before .before .before .before .before .before .before .before .before .before .before .before .before .before .before .before .before .before .before .before .before .before .before .pre .0 in
+    let below : c .before .before .before .before .before .before .before .before .before .before .before .before .before .before .before .before .before .before .before .before .before .before .before .before .before .before .before .next-nil .result ≤ c .before .before .before .before .before .before .before .before .before .before .before .before .before .before .before .before .before .before .before .before .before .before .before .before .before .before .before .before .before .args .layout .terms = omega (arith, c .before .before .before .before .before .before .before .before .before .before .before .before .before .before .before .before .before .before .before .before .before .before .before .before .before .before .if1 .left) in
+    let w = c .settle .ensures .1 in (
+      c .settle .ensures .0 ∙ nil-whole (said (c .before .before .before .before .before .before .before .before .before .before .before .before .before .before .before .before .before .before .before .before .before .before .before .before .before .before .before .before .before .args .layout) (c .before .before .before .before .before .before .before .before .before .before .before .before .before .before .before .before .before .before .before .before .before .before .before .before .before .before .before .before .before .args .query .now) .entries) (c .before .before .before .before .before .before .before .before .before .before .before .before .before .before .before .before .before .before .before .before .before .before .before .before .before .before .before .before .before .args .layout .terms) (c .before .before .before .before .before .before .before .before .before .before .before .before .before .before .before .before .before .before .before .before .before .before .before .before .before .before .before .next-nil .result) (c .before .before .before .before .before .before .before .before .before .before .before .before .before .before .before .before .before .before .before .before .before .before .before .before .before .before .before .next-nil .ensures) below (joinedIn (c .before .before .before .before .before .before .before .before .before .before .before .before .before .before .before .before .before .before .before .before .before .before .before .before .before .before .before .before .before .args .single) (c .before .before .before .before .before .before .before .before .before .before .before .before .before .before .before .before .before .before .before .before .before .before .before .before .before .before .before .before .before .args .rep .now) (c .before .before .before .before .before .before .before .before .before .before .before .before .before .before .before .before .before .before .before .before .before .before .before .before .before .before .before .before .before .args .link .now) (c .before .before .before .before .before .before .before .before .before .before .before .before .before .before .before .before .before .before .before .before .before .before .before .before .before .before .before .before .before .args .reach .now) (c .before .before .before .before .before .before .before .before .before .before .before .before .before .before .before .before .before .before .before .before .before .before .before .before .before .before .before .before .before .args .link2 .now) (c .before .before .before .before .before .before .before .before .before .before .before .before .before .before .before .before .before .before .before .before .before .before .before .before .before .before .before .before .before .args .reach2 .now) (c .before .before .before .before .before .before .before .before .before .before .before .before .before .before .before .before .before .before .before .before .before .before .before .before .before .before .before .before .before .args .link3 .now) (c .before .before .before .before .before .before .before .before .before .before .before .before .before .before .before .before .before .before .before .before .before .before .before .before .before .before .before .before .before .args .reach3 .now) (c .before .before .before .before .before .before .before .before .before .before .before .before .before .before .before .before .before .before .before .before .before .before .before .before .before .before .before .before .before .args .kept .now) (c .before .before .before .before .before .before .before .before .before .before .before .before .before .before .before .before .before .before .before .before .before .before .before .before .before .before .before .before .before .args .replaced .now) (c .before .before .before .before .before .before .before .before .before .before .before .before .before .before .before .before .before .before .before .before .before .before .before .before .before .before .before .before .before .args .count)) _ (c .before .before .before .before .before .before .before .before .before .before .before .before .before .before .before .before .join-others .ensures .0) _ _ (c .before .before .before .before .before .before .before .before .before .before .before .before .before .before .read-rep .ensures) (c .before .before .before .before .before .before .before .before .before .before .add-links .ensures .0 _ _ _ _),
+      (rep-bounded _ _ refl (nil-settled (said (c .before .before .before .before .before .before .before .before .before .before .before .before .before .before .before .before .before .before .before .before .before .before .before .before .before .before .before .before .before .args .layout) (c .before .before .before .before .before .before .before .before .before .before .before .before .before .before .before .before .before .before .before .before .before .before .before .before .before .before .before .before .before .args .query .now) .entries) (c .before .before .before .before .before .before .before .before .before .before .before .before .before .before .before .before .before .before .before .before .before .before .before .before .before .before .before .before .before .args .layout .terms) (c .before .before .before .before .before .before .before .before .before .before .before .before .before .before .before .before .before .before .before .before .before .before .before .before .before .before .before .next-nil .result) (c .before .before .before .before .before .before .before .before .before .before .before .before .before .before .before .before .before .before .before .before .before .before .before .before .before .before .before .next-nil .ensures) below (joinedIn (c .before .before .before .before .before .before .before .before .before .before .before .before .before .before .before .before .before .before .before .before .before .before .before .before .before .before .before .before .before .args .single) (c .before .before .before .before .before .before .before .before .before .before .before .before .before .before .before .before .before .before .before .before .before .before .before .before .before .before .before .before .before .args .rep .now) (c .before .before .before .before .before .before .before .before .before .before .before .before .before .before .before .before .before .before .before .before .before .before .before .before .before .before .before .before .before .args .link .now) (c .before .before .before .before .before .before .before .before .before .before .before .before .before .before .before .before .before .before .before .before .before .before .before .before .before .before .before .before .before .args .reach .now) (c .before .before .before .before .before .before .before .before .before .before .before .before .before .before .before .before .before .before .before .before .before .before .before .before .before .before .before .before .before .args .link2 .now) (c .before .before .before .before .before .before .before .before .before .before .before .before .before .before .before .before .before .before .before .before .before .before .before .before .before .before .before .before .before .args .reach2 .now) (c .before .before .before .before .before .before .before .before .before .before .before .before .before .before .before .before .before .before .before .before .before .before .before .before .before .before .before .before .before .args .link3 .now) (c .before .before .before .before .before .before .before .before .before .before .before .before .before .before .before .before .before .before .before .before .before .before .before .before .before .before .before .before .before .args .reach3 .now) (c .before .before .before .before .before .before .before .before .before .before .before .before .before .before .before .before .before .before .before .before .before .before .before .before .before .before .before .before .before .args .kept .now) (c .before .before .before .before .before .before .before .before .before .before .before .before .before .before .before .before .before .before .before .before .before .before .before .before .before .before .before .before .before .args .replaced .now) (c .before .before .before .before .before .before .before .before .before .before .before .before .before .before .before .before .before .before .before .before .before .before .before .before .before .before .before .before .before .args .count)) _ (c .before .before .before .before .before .before .before .before .before .before .before .before .before .before .before .before .join-others .ensures .0) _ _ (c .before .before .before .before .before .before .before .before .before .before .before .before .before .before .read-rep .ensures) (c .before .before .before .before .before .before .before .before .before .before .add-links .ensures .0 _ _ _ _) _ (c .settle .ensures .0) (p .0 .terms-within) _ refl (c .before .before .before .before .before .before .before .before .before .before .before .before .before .before .before .before .join-others .ensures .1 .0)), w .0, w .1, w .2),
     )))

@@ -1,25 +1,25 @@
 -- What is left comes out as the whole. Assumes nothing.
 use native.Mathlib.Omega.{arith}
-use borrow.Author.Needs.{needs}
 use Prim.Native.Nat.{_+_, _-_}
-use mathlib.Core.Path.{refl, sym, ap, _∙_, subst}
-use Rattle.logic.specs.Facts.{Joined}
-use Rattle.facts.specs.Path.{pathOf}
-use Rattle.facts.specs.Pairs.{joinedOf, Fits}
+use mathlib.Core.Path.{_≡_, refl, sym, ap, _∙_, subst}
+use lib.ListN.{length}
+use Rattle.facts.specs.Path.{Whole, replacedBy}
+use Rattle.facts.specs.Pairs.{joinedIn, Fits}
 use Rattle.facts.proofs.Joins.{fits-left}
+use Rattle.link_query.specs.Said.{said}
 use Rattle.start.specs.Taken.{Bounded}
 use Rattle.start.specs.Nil.{nilFrom}
-use Rattle.start.proofs.Bounded.{behind-bounded}
 use Rattle.start.proofs.Nil.{others, OthersLeft, others-step, others-done}
 use Rattle.start.proofs.join_others.Statement.{statement}
 use Rattle.start.proofs.join_others.Tie as tie
 
 abbrev Inv-loop : tie.InvT-loop
-Inv-loop n query first t₀ u₀ t u =
-    Bounded (pathOf (t .facts)) × OthersLeft query n first (others n first (nilFrom query n (first + 1)) (joinedOf t₀)) u (joinedOf t)
+Inv-loop single rep₀ link₀ reach₀ link2₀ reach2₀ link3₀ reach3₀ kept₀ replaced₀ count query layout first total₀ u₀ rep link reach link2 reach2 link3 reach3 kept replaced total u =
+    (Bounded (replacedBy rep) × Whole rep link reach link2 reach2 link3 reach3 × (length kept ≡ 17) × (length replaced ≡ 17))
+    × OthersLeft (said layout query .entries) (layout .terms) first (others (layout .terms) first (nilFrom (said layout query .entries) (layout .terms) (first + 1)) (joinedIn single rep₀ link₀ reach₀ link2₀ reach2₀ link3₀ reach3₀ kept₀ replaced₀ count)) u (joinedIn single rep link reach link2 reach2 link3 reach3 kept replaced total)
 
 abbrev μ-loop : tie.MeasureT-loop
-μ-loop n query first t₀ u₀ t u = n + 1 - u
+μ-loop single rep₀ link₀ reach₀ link2₀ reach2₀ link3₀ reach3₀ kept₀ replaced₀ count query layout first total₀ u₀ rep link reach link2 reach2 link3 reach3 kept replaced total u = layout .terms + 1 - u
 
 pub join-others-spec : {M : Type 1} → statement M
 join-others-spec =
@@ -28,33 +28,35 @@ join-others-spec =
     Inv-loop
     μ-loop
     -- add-next-nil
-    (λ c. omega arith)
+    (λ c. let p = c .before .pre .0 in omega (arith, p .1, p .0 .terms-within))
     -- next-nil-requires
-    (λ c κs. omega arith)
+    (λ c κs. (c .before .pre .0 .0, omega arith))
     -- loop-holds
-    (λ c. (c .before .before .pre .0 .3, record { start = _; next = c .next-nil .ensures; left = refl }))
+    (λ c. let p = c .before .before .pre in ((p .0 .2, p .1 .0, p .1 .1, p .1 .2), record { start = _; next = c .next-nil .ensures; left = refl }))
     -- join-terms-requires
     (λ c κs.
-    let p = c .before .before .before .before .pre in
-    let l = c .before .loop in
-    ((p .0 .0, record { left-within = omega arith; right-within = omega arith }, l .inv .0), fits-left _ _ (subst Fits (others-step _ _ _ _ _ _ (l .inv .1) (c .loop-test .taken)) (p .1))))
+    let p = c .before .before .before .before .before .before .before .before .before .before .before .before .before .before .pre .0 in
+    let l = c .before .before .before .before .before .before .before .before .before .before .before .loop in
+    let few = p .0 .terms-within in (
+      (few, record { left-within = omega (arith, few, p .1); right-within = omega (arith, few, c .before .before .before .before .before .before .before .before .before .if1 .taken) }, l .inv .0 .0, fits-left _ _ (subst Fits (others-step _ _ _ _ _ _ (l .inv .1) (c .before .before .before .before .before .before .before .before .before .if1 .taken)) (p .3))),
+      (l .inv .0 .1, l .inv .0 .2, l .inv .0 .3),
+    ))
     -- add-next-nil-2
-    (λ c. omega arith)
+    (λ c. omega (arith, c .before .before .before .before .before .before .before .before .before .before .if1 .taken, c .before .before .before .before .before .before .before .before .before .before .before .before .before .before .before .pre .0 .0 .terms-within))
     -- next-nil-requires-2
-    (λ c κs. omega arith)
+    (λ c κs. (c .before .before .before .before .before .before .before .before .before .before .before .before .before .before .before .pre .0 .0, omega arith))
     -- loop-less
-    (λ c. omega (arith, c .next-nil2 .ensures .later))
+    (λ c. omega (arith, c .before .before .before .before .before .before .before .before .before .before .before .if1 .taken, c .next-nil2 .ensures .later))
     -- loop-again
     (λ c.
-    let a = c .before .before .before .before .before .before in
-    let l = c .before .before .before .loop in
-    let e = c .before .join-terms .ensures in (
-      subst (λ (j : Joined). Bounded (j .facts)) (sym e) (behind-bounded _ _ (joinedOf (l .t)) (a .pre .0 .0) (record { left-within = omega arith; right-within = omega arith }) (l .inv .0)),
+    let a = c .before .before .before .before .before .before .before .before .before .before .before .before .before .before .before .before .args in
+    let l = c .before .before .before .before .before .before .before .before .before .before .before .before .before .loop in (
+      c .before .join-terms .ensures .1,
       record {
         start = _;
         next = c .next-nil2 .ensures;
-        left = others-step _ _ _ _ _ _ (l .inv .1) (c .before .before .loop-test .taken) ∙ ap (others (a .args .n) (a .args .first) _) (sym e);
+        left = others-step _ _ _ _ _ _ (l .inv .1) (c .before .before .before .before .before .before .before .before .before .before .before .if1 .taken) ∙ ap (others (a .layout .terms) (a .first) _) (sym (c .before .join-terms .ensures .0));
       },
     ))
     -- returns
-    (λ c. (sym (others-done _ _ _ _ _ _ (c .before .loop .inv .1) (omega arith)), c .before .loop .inv .0)))
+    (λ c. let l = c .before .before .loop in (sym (others-done _ _ _ _ _ _ (l .inv .1) (omega (arith, c .if1 .left))), l .inv .0)))

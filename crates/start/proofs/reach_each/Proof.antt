@@ -1,46 +1,29 @@
--- What is left comes out as the whole. Assumes nothing.
+-- What is left comes out as the whole, whatever the links are. Assumes nothing.
 use native.Mathlib.Omega.{arith}
 use borrow.Author.Needs.{needs}
-use Prim.Native.Nat.{_+_, _-_, _*_, _≤_}
-use mathlib.Core.Path.{_≡_, refl, sym, ap, _∙_, subst}
+use Prim.Native.Nat.{ℕ, _+_, _-_}
+use mathlib.Core.Path.{_≡_, sym, ap, _∙_, subst}
+use mathlib.Core.Bool.{Bool, cond}
+use mathlib.Core.List.{List}
 use borrow.Author.Tests.{not-true, not-false}
-use lib.ListN.{length, length-set, take, drop}
-use Rattle.logic.specs.Query.{literals}
+use lib.ListN.{length}
 use Rattle.logic.specs.Facts.{reachEach}
-use Rattle.facts.specs.Path.{repOf, pathOf}
-use Rattle.query.specs.LaysOut.{literalIn}
-use Rattle.query.proofs.Literals.{literals-are}
-use Rattle.start.specs.Taken.{Bounded}
-use Rattle.start.proofs.Bounded.{reach-bounded}
-use Rattle.start.proofs.Taken.{read-bounded, reach-negated, reach-set}
+use Rattle.facts.specs.Path.{repOf, pathAs}
+use Rattle.link_query.specs.Said.{reachWidth, said, reachIn}
+use Rattle.link_query.proofs.Said.{literal-fits, reachability-said}
+use Rattle.start.proofs.Taken.{read-bounded, reach-negated, reach-first, reach-second, reach-third}
 use Rattle.start.proofs.Each.{reaches, Left, each-begin, each-next, each-end}
+use Rattle.start.proofs.Laid.{reach-terms, linked-in}
 use Rattle.start.proofs.reach_each.Statement.{statement}
 use Rattle.start.proofs.reach_each.Tie as tie
 
 abbrev Inv-loop : tie.InvT-loop
-Inv-loop query at count t₀ i₀ t i =
-    (length (t .reach) ≡ 17) × Bounded (pathOf t)
-    × Left reachEach (literals (take (3 * count) (drop at query))) count (literalIn query at) (pathOf t₀) i (pathOf t)
+Inv-loop rep reach₀ reach2₀ reach3₀ query layout i₀ reach reach2 reach3 i =
+    ((length reach ≡ 17) × (length reach2 ≡ 17) × (length reach3 ≡ 17))
+    × ((single : Bool) (link link2 link3 : List ℕ) → cond single 1 3 ≡ layout .links → Left reachEach (said layout query .reachability) (layout .«reach_count») (reachIn (layout .links) query (layout .«reach_at»)) (pathAs single rep link reach₀ link2 reach2₀ link3 reach3₀) i (pathAs single rep link reach link2 reach2 link3 reach3))
 
 abbrev μ-loop : tie.MeasureT-loop
-μ-loop query at count t₀ i₀ t i = count - i
-
--- what is read for the terms of a literal
-left-is : (c : tie.After-read-rep2 Inv-loop μ-loop) → c .before .before .before .before .read-rep .result .0 ≡ repOf (c .before .before .before .before .before .before .before .before .before .before .before .loop .t .rep) (literalIn (c .before .before .before .before .before .before .before .before .before .before .before .before .before .args .query .now) (c .before .before .before .before .before .before .before .before .before .before .before .before .before .args .at) (c .before .before .before .before .before .before .before .before .before .before .before .loop .i) .left)
-left-is c = c .before .before .before .before .read-rep .ensures ∙ ap (repOf _) (c .before .before .before .before .before .left .ensures)
-
-right-is : (c : tie.After-read-rep2 Inv-loop μ-loop) → c .read-rep2 .result .0 ≡ repOf (c .before .before .before .before .before .before .before .before .before .before .before .loop .t .rep) (literalIn (c .before .before .before .before .before .before .before .before .before .before .before .before .before .args .query .now) (c .before .before .before .before .before .before .before .before .before .before .before .before .before .args .at) (c .before .before .before .before .before .before .before .before .before .before .before .loop .i) .right)
-right-is c = c .read-rep2 .ensures ∙ ap (repOf _) (c .before .right .ensures)
-
-read-left : (c : tie.After-read-rep2 Inv-loop μ-loop) → c .before .before .before .before .read-rep .result .0 ≤ 16
-read-left c =
-    let l = c .before .before .before .before .before .before .before .before .before .before .before .loop in
-    read-bounded (l .t) (l .inv .1) _ _ (c .before .before .before .before .before .before .before .before .before .before .before .before .before .pre .1 .terms (l .i) (c .before .before .before .before .before .before .before .before .before .before .loop-test .taken) .left-within) (left-is c)
-
-read-right : (c : tie.After-read-rep2 Inv-loop μ-loop) → c .read-rep2 .result .0 ≤ 16
-read-right c =
-    let l = c .before .before .before .before .before .before .before .before .before .before .before .loop in
-    read-bounded (l .t) (l .inv .1) _ _ (c .before .before .before .before .before .before .before .before .before .before .before .before .before .pre .1 .terms (l .i) (c .before .before .before .before .before .before .before .before .before .before .loop-test .taken) .right-within) (right-is c)
+μ-loop rep reach₀ reach2₀ reach3₀ query layout i₀ reach reach2 reach3 i = layout .«reach_count» - i
 
 pub reach-each-spec : {M : Type 1} → statement M
 reach-each-spec =
@@ -49,48 +32,58 @@ reach-each-spec =
     Inv-loop
     μ-loop
     -- loop-holds
-    (λ c. (search needs, c .before .pre .2, each-begin reaches _ _ _ (literals-are _ _ _ (c .before .pre .0)) _))
-    -- sign-requires
-    (λ c κs. omega arith)
+    (λ c.
+    let p = c .before .pre in
+    ((p .3, p .4, p .5), λ single link link2 link3 h. each-begin reaches _ _ _ (reachability-said (c .before .args .layout) (c .before .args .query .now) (p .0)) _))
+    -- reach-sign-requires
+    (λ c κs. literal-fits (reachWidth (c .before .before .before .before .args .layout .links)) (c .before .before .before .before .args .layout .«reach_at») (c .before .before .loop .i) (c .before .before .before .before .args .layout .«reach_count») _ (c .if1 .taken) (c .before .before .before .before .pre .0 .reach-fit))
     -- add-i
-    (λ c. omega arith)
+    (λ c. omega (arith, c .before .before .if1 .taken, c .before .before .before .before .before .before .pre .0 .reach-within))
     -- loop-less
-    (λ c. omega arith)
+    (λ c. omega (arith, c .before .before .if1 .taken))
     -- loop-again
     (λ c.
-    let a = c .before .before .before .before .before in
-    let l = c .before .before .before .loop in
-    (l .inv .0, l .inv .1, subst (Left reachEach _ _ _ _ (l .i + 1)) (sym (reach-negated (l .t) (literalIn (a .args .query .now) (a .args .at) (l .i)) (sym (c .before .sign .ensures) ∙ not-true _ (c .if1 .taken)))) (each-next reaches _ _ _ (literals-are _ _ _ (a .pre .0)) _ (l .i) (pathOf (l .t)) (c .before .before .loop-test .taken) (l .inv .2))))
-    -- left-requires
-    (λ c κs. omega arith)
+    let l = c .before .before .before .before .loop in
+    (l .inv .0, λ single link link2 link3 h. subst (Left reachEach _ _ _ _ (l .i + 1)) (sym (reach-negated (reachIn (c .before .before .before .before .before .before .args .layout .links) (c .before .before .before .before .before .before .args .query .now) (c .before .before .before .before .before .before .args .layout .«reach_at») (c .before .before .before .before .loop .i)) (sym (c .before .reach-sign .ensures) ∙ not-true _ (c .if2 .taken)) (pathAs single (c .before .before .before .before .before .before .args .rep .now) link (l .reach) link2 (l .reach2) link3 (l .reach3)))) (each-next reaches _ _ _ (reachability-said (c .before .before .before .before .before .before .args .layout) (c .before .before .before .before .before .before .args .query .now) (c .before .before .before .before .before .before .pre .0)) _ (l .i) (pathAs single (c .before .before .before .before .before .before .args .rep .now) link (l .reach) link2 (l .reach2) link3 (l .reach3)) (c .before .before .if1 .taken) (l .inv .1 single link link2 link3 h))))
+    -- reach-left-requires
+    (λ c κs. literal-fits (reachWidth (c .before .before .before .before .before .before .args .layout .links)) (c .before .before .before .before .before .before .args .layout .«reach_at») (c .before .before .before .before .loop .i) (c .before .before .before .before .before .before .args .layout .«reach_count») _ (c .before .before .if1 .taken) (c .before .before .before .before .before .before .pre .0 .reach-fit))
     -- read-rep-requires
     (λ c κs. search needs)
-    -- right-requires
-    (λ c κs. omega arith)
+    -- reach-right-requires
+    (λ c κs. literal-fits (reachWidth (c .before .before .before .before .before .before .before .before .args .layout .links)) (c .before .before .before .before .before .before .before .before .args .layout .«reach_at») (c .before .before .before .before .before .before .loop .i) (c .before .before .before .before .before .before .before .before .args .layout .«reach_count») _ (c .before .before .before .before .if1 .taken) (c .before .before .before .before .before .before .before .before .pre .0 .reach-fit))
     -- read-rep-requires-2
     (λ c κs. search needs)
-    -- only-requires
-    (λ c κs. read-right c)
-    -- mul-t
-    (λ c. omega (arith, read-left (c .before)))
-    -- element-copy-out-t
-    (λ c. omega (arith, read-left (c .before)))
-    -- mul-t-2
-    (λ c. omega (arith, read-left (c .before .before)))
-    -- element-write-t
-    (λ c. omega (arith, read-left (c .before .before)))
+    -- reach-link-requires
+    (λ c κs. literal-fits (reachWidth (c .before .before .before .before .before .before .before .before .before .before .args .layout .links)) (c .before .before .before .before .before .before .before .before .before .before .args .layout .«reach_at») (c .before .before .before .before .before .before .before .before .loop .i) (c .before .before .before .before .before .before .before .before .before .before .args .layout .«reach_count») _ (c .before .before .before .before .before .before .if1 .taken) (c .before .before .before .before .before .before .before .before .before .before .pre .0 .reach-fit))
+    -- add-to-requires
+    (λ c κs. (read-bounded (c .before .before .before .before .before .before .before .before .before .before .before .before .before .args .rep .now) (c .before .before .before .before .before .before .before .before .before .before .before .before .before .pre .2) _ _ (reach-terms (c .before .before .before .before .before .before .before .before .before .before .before .before .before .pre .0) (c .before .before .before .before .before .before .before .before .before .before .before .before .before .pre .1) (c .before .before .before .before .before .before .before .before .before .before .before .loop .i) (c .before .before .before .before .before .before .before .before .before .if1 .taken) .left-within) (c .before .before .before .before .before .read-rep .ensures ∙ ap (repOf (c .before .before .before .before .before .before .before .before .before .before .before .before .before .args .rep .now)) (c .before .before .before .before .before .before .reach-left .ensures)), read-bounded (c .before .before .before .before .before .before .before .before .before .before .before .before .before .args .rep .now) (c .before .before .before .before .before .before .before .before .before .before .before .before .before .pre .2) _ _ (reach-terms (c .before .before .before .before .before .before .before .before .before .before .before .before .before .pre .0) (c .before .before .before .before .before .before .before .before .before .before .before .before .before .pre .1) (c .before .before .before .before .before .before .before .before .before .before .before .loop .i) (c .before .before .before .before .before .before .before .before .before .if1 .taken) .right-within) (c .before .before .before .read-rep2 .ensures ∙ ap (repOf (c .before .before .before .before .before .before .before .before .before .before .before .before .before .args .rep .now)) (c .before .before .before .before .reach-right .ensures)), c .before .before .before .before .before .before .before .before .before .before .before .loop .inv .0 .0))
     -- add-i-2
-    (λ c. omega arith)
+    (λ c. omega (arith, c .before .before .before .before .before .before .before .before .before .before .if1 .taken, c .before .before .before .before .before .before .before .before .before .before .before .before .before .before .pre .0 .reach-within))
     -- loop-less-2
-    (λ c. omega arith)
+    (λ c. omega (arith, c .before .before .before .before .before .before .before .before .before .before .if1 .taken))
     -- loop-again-2
     (λ c.
-    let a = c .before .before .before .before .before .before .before .before .before .before .before .before .before .before .before in
+    let l = c .before .before .before .before .before .before .before .before .before .before .before .before .loop in
+    ((c .add-to .ensures .1, l .inv .0 .1, l .inv .0 .2), λ single link link2 link3 h. subst (Left reachEach _ _ _ _ (l .i + 1)) (sym (reach-first single (c .before .before .before .before .before .before .before .before .before .before .before .before .before .before .args .rep .now) link (l .reach) link2 (l .reach2) link3 (l .reach3) (reachIn (c .before .before .before .before .before .before .before .before .before .before .before .before .before .before .args .layout .links) (c .before .before .before .before .before .before .before .before .before .before .before .before .before .before .args .query .now) (c .before .before .before .before .before .before .before .before .before .before .before .before .before .before .args .layout .«reach_at») (c .before .before .before .before .before .before .before .before .before .before .before .before .loop .i)) _ _ (c .before .before .before .before .before .before .read-rep .ensures ∙ ap (repOf (c .before .before .before .before .before .before .before .before .before .before .before .before .before .before .args .rep .now)) (c .before .before .before .before .before .before .before .reach-left .ensures)) (c .before .before .before .before .read-rep2 .ensures ∙ ap (repOf (c .before .before .before .before .before .before .before .before .before .before .before .before .before .before .args .rep .now)) (c .before .before .before .before .before .reach-right .ensures)) (sym (c .before .before .before .before .before .before .before .before .before .reach-sign .ensures) ∙ not-false _ (c .before .before .before .before .before .before .before .before .if2 .left)) _ (sym (c .before .before .before .reach-link .ensures) ∙ c .before .before .if3 .taken) (c .add-to .ensures .0))) (each-next reaches _ _ _ (reachability-said (c .before .before .before .before .before .before .before .before .before .before .before .before .before .before .args .layout) (c .before .before .before .before .before .before .before .before .before .before .before .before .before .before .args .query .now) (c .before .before .before .before .before .before .before .before .before .before .before .before .before .before .pre .0)) _ (l .i) (pathAs single (c .before .before .before .before .before .before .before .before .before .before .before .before .before .before .args .rep .now) link (l .reach) link2 (l .reach2) link3 (l .reach3)) (c .before .before .before .before .before .before .before .before .before .before .if1 .taken) (l .inv .1 single link link2 link3 h))))
+    -- add-to-requires-2
+    (λ c κs. (read-bounded (c .before .before .before .before .before .before .before .before .before .before .before .before .before .before .args .rep .now) (c .before .before .before .before .before .before .before .before .before .before .before .before .before .before .pre .2) _ _ (reach-terms (c .before .before .before .before .before .before .before .before .before .before .before .before .before .before .pre .0) (c .before .before .before .before .before .before .before .before .before .before .before .before .before .before .pre .1) (c .before .before .before .before .before .before .before .before .before .before .before .before .loop .i) (c .before .before .before .before .before .before .before .before .before .before .if1 .taken) .left-within) (c .before .before .before .before .before .before .read-rep .ensures ∙ ap (repOf (c .before .before .before .before .before .before .before .before .before .before .before .before .before .before .args .rep .now)) (c .before .before .before .before .before .before .before .reach-left .ensures)), read-bounded (c .before .before .before .before .before .before .before .before .before .before .before .before .before .before .args .rep .now) (c .before .before .before .before .before .before .before .before .before .before .before .before .before .before .pre .2) _ _ (reach-terms (c .before .before .before .before .before .before .before .before .before .before .before .before .before .before .pre .0) (c .before .before .before .before .before .before .before .before .before .before .before .before .before .before .pre .1) (c .before .before .before .before .before .before .before .before .before .before .before .before .loop .i) (c .before .before .before .before .before .before .before .before .before .before .if1 .taken) .right-within) (c .before .before .before .before .read-rep2 .ensures ∙ ap (repOf (c .before .before .before .before .before .before .before .before .before .before .before .before .before .before .args .rep .now)) (c .before .before .before .before .before .reach-right .ensures)), c .before .before .before .before .before .before .before .before .before .before .before .before .loop .inv .0 .1))
+    -- add-i-3
+    (λ c. omega (arith, c .before .before .before .before .before .before .before .before .before .before .before .if1 .taken, c .before .before .before .before .before .before .before .before .before .before .before .before .before .before .before .pre .0 .reach-within))
+    -- loop-less-3
+    (λ c. omega (arith, c .before .before .before .before .before .before .before .before .before .before .before .if1 .taken))
+    -- loop-again-3
+    (λ c.
     let l = c .before .before .before .before .before .before .before .before .before .before .before .before .before .loop in
-    let e = reach-set (l .t) (literalIn (a .args .query .now) (a .args .at) (l .i)) _ _ (left-is (c .before .before)) (right-is (c .before .before)) (l .inv .0) (read-left (c .before .before)) (read-right (c .before .before)) refl (sym (c .before .before .before .before .before .before .before .before .before .before .before .sign .ensures) ∙ not-false _ (c .before .before .before .before .before .before .before .before .before .before .if1 .left)) _ (c .before .only .ensures) in (
-      simp length-set (l .inv .0),
-      subst Bounded (sym e) (reach-bounded _ _ (l .inv .1)),
-      subst (Left reachEach _ _ _ _ (l .i + 1)) (sym e) (each-next reaches _ _ _ (literals-are _ _ _ (a .pre .0)) _ (l .i) (pathOf (l .t)) (c .before .before .before .before .before .before .before .before .before .before .before .before .loop-test .taken) (l .inv .2)),
-    ))
+    ((l .inv .0 .0, c .add-to2 .ensures .1, l .inv .0 .2), λ single link link2 link3 h. subst (Left reachEach _ _ _ _ (l .i + 1)) (sym (reach-second single (c .before .before .before .before .before .before .before .before .before .before .before .before .before .before .before .args .rep .now) link (l .reach) link2 (l .reach2) link3 (l .reach3) (reachIn (c .before .before .before .before .before .before .before .before .before .before .before .before .before .before .before .args .layout .links) (c .before .before .before .before .before .before .before .before .before .before .before .before .before .before .before .args .query .now) (c .before .before .before .before .before .before .before .before .before .before .before .before .before .before .before .args .layout .«reach_at») (c .before .before .before .before .before .before .before .before .before .before .before .before .before .loop .i)) _ _ (c .before .before .before .before .before .before .before .read-rep .ensures ∙ ap (repOf (c .before .before .before .before .before .before .before .before .before .before .before .before .before .before .before .args .rep .now)) (c .before .before .before .before .before .before .before .before .reach-left .ensures)) (c .before .before .before .before .before .read-rep2 .ensures ∙ ap (repOf (c .before .before .before .before .before .before .before .before .before .before .before .before .before .before .before .args .rep .now)) (c .before .before .before .before .before .before .reach-right .ensures)) (sym (c .before .before .before .before .before .before .before .before .before .before .reach-sign .ensures) ∙ not-false _ (c .before .before .before .before .before .before .before .before .before .if2 .left)) _ (linked-in (c .before .before .before .before .before .before .before .before .before .before .before .before .before .before .before .pre .0) (c .before .before .before .before .before .before .before .before .before .before .before .before .before .before .before .pre .1) (c .before .before .before .before .before .before .before .before .before .before .before .before .before .loop .i) (c .before .before .before .before .before .before .before .before .before .before .before .if1 .taken) (cond single 1 3) h) (sym (c .before .before .before .before .reach-link .ensures) ∙ c .before .before .if4 .taken) (c .add-to2 .ensures .0))) (each-next reaches _ _ _ (reachability-said (c .before .before .before .before .before .before .before .before .before .before .before .before .before .before .before .args .layout) (c .before .before .before .before .before .before .before .before .before .before .before .before .before .before .before .args .query .now) (c .before .before .before .before .before .before .before .before .before .before .before .before .before .before .before .pre .0)) _ (l .i) (pathAs single (c .before .before .before .before .before .before .before .before .before .before .before .before .before .before .before .args .rep .now) link (l .reach) link2 (l .reach2) link3 (l .reach3)) (c .before .before .before .before .before .before .before .before .before .before .before .if1 .taken) (l .inv .1 single link link2 link3 h))))
+    -- add-to-requires-3
+    (λ c κs. (read-bounded (c .before .before .before .before .before .before .before .before .before .before .before .before .before .before .args .rep .now) (c .before .before .before .before .before .before .before .before .before .before .before .before .before .before .pre .2) _ _ (reach-terms (c .before .before .before .before .before .before .before .before .before .before .before .before .before .before .pre .0) (c .before .before .before .before .before .before .before .before .before .before .before .before .before .before .pre .1) (c .before .before .before .before .before .before .before .before .before .before .before .before .loop .i) (c .before .before .before .before .before .before .before .before .before .before .if1 .taken) .left-within) (c .before .before .before .before .before .before .read-rep .ensures ∙ ap (repOf (c .before .before .before .before .before .before .before .before .before .before .before .before .before .before .args .rep .now)) (c .before .before .before .before .before .before .before .reach-left .ensures)), read-bounded (c .before .before .before .before .before .before .before .before .before .before .before .before .before .before .args .rep .now) (c .before .before .before .before .before .before .before .before .before .before .before .before .before .before .pre .2) _ _ (reach-terms (c .before .before .before .before .before .before .before .before .before .before .before .before .before .before .pre .0) (c .before .before .before .before .before .before .before .before .before .before .before .before .before .before .pre .1) (c .before .before .before .before .before .before .before .before .before .before .before .before .loop .i) (c .before .before .before .before .before .before .before .before .before .before .if1 .taken) .right-within) (c .before .before .before .before .read-rep2 .ensures ∙ ap (repOf (c .before .before .before .before .before .before .before .before .before .before .before .before .before .before .args .rep .now)) (c .before .before .before .before .before .reach-right .ensures)), c .before .before .before .before .before .before .before .before .before .before .before .before .loop .inv .0 .2))
+    -- add-i-4
+    (λ c. omega (arith, c .before .before .before .before .before .before .before .before .before .before .before .if1 .taken, c .before .before .before .before .before .before .before .before .before .before .before .before .before .before .before .pre .0 .reach-within))
+    -- loop-less-4
+    (λ c. omega (arith, c .before .before .before .before .before .before .before .before .before .before .before .if1 .taken))
+    -- loop-again-4
+    (λ c.
+    let l = c .before .before .before .before .before .before .before .before .before .before .before .before .before .loop in
+    ((l .inv .0 .0, l .inv .0 .1, c .add-to3 .ensures .1), λ single link link2 link3 h. subst (Left reachEach _ _ _ _ (l .i + 1)) (sym (reach-third single (c .before .before .before .before .before .before .before .before .before .before .before .before .before .before .before .args .rep .now) link (l .reach) link2 (l .reach2) link3 (l .reach3) (reachIn (c .before .before .before .before .before .before .before .before .before .before .before .before .before .before .before .args .layout .links) (c .before .before .before .before .before .before .before .before .before .before .before .before .before .before .before .args .query .now) (c .before .before .before .before .before .before .before .before .before .before .before .before .before .before .before .args .layout .«reach_at») (c .before .before .before .before .before .before .before .before .before .before .before .before .before .loop .i)) _ _ (c .before .before .before .before .before .before .before .read-rep .ensures ∙ ap (repOf (c .before .before .before .before .before .before .before .before .before .before .before .before .before .before .before .args .rep .now)) (c .before .before .before .before .before .before .before .before .reach-left .ensures)) (c .before .before .before .before .before .read-rep2 .ensures ∙ ap (repOf (c .before .before .before .before .before .before .before .before .before .before .before .before .before .before .before .args .rep .now)) (c .before .before .before .before .before .before .reach-right .ensures)) (sym (c .before .before .before .before .before .before .before .before .before .before .reach-sign .ensures) ∙ not-false _ (c .before .before .before .before .before .before .before .before .before .if2 .left)) _ (linked-in (c .before .before .before .before .before .before .before .before .before .before .before .before .before .before .before .pre .0) (c .before .before .before .before .before .before .before .before .before .before .before .before .before .before .before .pre .1) (c .before .before .before .before .before .before .before .before .before .before .before .before .before .loop .i) (c .before .before .before .before .before .before .before .before .before .before .before .if1 .taken) (cond single 1 3) h) (λ z. c .before .before .before .if3 .left (c .before .before .before .before .reach-link .ensures ∙ z)) (λ z. c .before .before .if4 .left (c .before .before .before .before .reach-link .ensures ∙ z)) (c .add-to3 .ensures .0))) (each-next reaches _ _ _ (reachability-said (c .before .before .before .before .before .before .before .before .before .before .before .before .before .before .before .args .layout) (c .before .before .before .before .before .before .before .before .before .before .before .before .before .before .before .args .query .now) (c .before .before .before .before .before .before .before .before .before .before .before .before .before .before .before .pre .0)) _ (l .i) (pathAs single (c .before .before .before .before .before .before .before .before .before .before .before .before .before .before .before .args .rep .now) link (l .reach) link2 (l .reach2) link3 (l .reach3)) (c .before .before .before .before .before .before .before .before .before .before .before .if1 .taken) (l .inv .1 single link link2 link3 h))))
     -- returns
-    (λ c. sym (each-end reaches _ _ _ (literals-are _ _ _ (c .before .before .before .pre .0)) _ _ _ (c .loop-test .left) (c .before .loop .inv .2))))
+    (λ c. λ single link link2 link3 h. sym (each-end reaches _ _ _ (reachability-said (c .before .before .before .before .args .layout) (c .before .before .before .before .args .query .now) (c .before .before .before .before .pre .0)) _ _ _ (c .if1 .left) (c .before .before .loop .inv .1 single link link2 link3 h))))

@@ -1,66 +1,59 @@
 -- The links, settled; then nil, then the equalities, and then the reachability facts. Assumes nothing.
 use native.Mathlib.Omega.{arith}
 use borrow.Author.Needs.{needs}
-use mathlib.Core.Path.{_≡_, sym, ap, _∙_, subst}
-use Rattle.logic.specs.Facts.{Joined, andThen, joinEach, joinNil}
-use Rattle.facts.specs.Pairs.{joinedOf, Fits}
+use mathlib.Core.Path.{refl, sym, ap, _∙_, subst}
+use Rattle.logic.specs.Facts.{Joined}
+use Rattle.facts.specs.Path.{pathOf}
+use Rattle.facts.specs.Pairs.{pairsOf, Fits}
 use Rattle.facts.proofs.Joins.{fits-left}
-use Rattle.start.specs.Taken.{Bounded}
-use Rattle.start.specs.Nil.{nilFrom}
-use Rattle.start.proofs.Bounded.{linked-bounded, settled}
-use Rattle.start.proofs.Laid.{equalities, links, settled-laid, start-laid, entries-in, joins-fit, equal-terms-in, reach-terms-in}
+use Rattle.start.proofs.Bounded.{linked-bounded, settled, rep-bounded}
+use Rattle.start.proofs.Laid.{links-laid, joins-made, start-laid, joins-links, joins-fit, nil-fits, equalities-fit, equal-terms-in}
 use Rattle.start.proofs.start.Statement.{statement}
 use Rattle.start.proofs.start.Tie as tie
 
-linked-requires : tie.Need-linked-requires
-linked-requires c κs = let p = c .before .before .pre in (p .0 .terms-within, omega (arith, p .0 .entries-fit), entries-in (p .0) (p .1))
-
-settle-links-requires : tie.Need-settle-links-requires
-settle-links-requires c κs =
-    let p = c .before .before .before .pre in (
-      p .0 .terms-within,
-      subst Fits (sym (settled-laid (p .0) _ _ _ _ (c .before .no-pairs .ensures) (c .linked .ensures))) (fits-left _ _ (fits-left _ _ (joins-fit (p .0) (p .1)))),
-    )
-
-join-nil-requires : tie.Need-join-nil-requires
-join-nil-requires c κs =
-    let p = c .before .before .before .before .pre in
-    let e = c .settle-links .ensures ∙ settled-laid (p .0) _ _ _ _ (c .before .before .no-pairs .ensures) (c .before .linked .ensures) in (
-      (
-        p .0 .terms-within,
-        omega (arith, p .0 .entries-fit),
-        subst (λ (j : Joined). Bounded (j .facts)) (sym e) (settled _ (p .0 .terms-within) _ _ (linked-bounded _)),
-      ),
-      subst (λ (j : Joined). Fits (andThen j (joinNil (c .before .before .before .before .args .layout .terms) (nilFrom (c .before .before .before .before .args .query .now) (c .before .before .before .before .args .layout .terms) 1)))) (sym e) (fits-left _ _ (joins-fit (p .0) (p .1))),
-    )
-
--- the links with nil's
-nilled : (c : tie.After-join-nil) → joinedOf (c .join-nil .result) ≡ andThen (links (c .before .before .before .before .before .pre .0)) (joinNil (c .before .before .before .before .before .args .layout .terms) (nilFrom (c .before .before .before .before .before .args .query .now) (c .before .before .before .before .before .args .layout .terms) 1))
-nilled c =
-    let p = c .before .before .before .before .before .pre in
-    let n = c .before .before .before .before .before .args .layout .terms in
-    c .join-nil .ensures .0
-    ∙ ap (λ (j : Joined). andThen j (joinNil n (nilFrom (c .before .before .before .before .before .args .query .now) n 1)))
-    (c .before .settle-links .ensures ∙ settled-laid (p .0) _ _ _ _ (c .before .before .before .no-pairs .ensures) (c .before .before .linked .ensures))
-
-join-each-requires : tie.Need-join-each-requires
-join-each-requires c κs =
-    let p = c .before .before .before .before .before .pre in (
-      (p .0 .terms-within, p .0 .equal-fit, equal-terms-in (p .0) (p .1), c .join-nil .ensures .1),
-      subst (λ (j : Joined). Fits (andThen j (joinEach (c .before .before .before .before .before .args .layout .terms) (equalities (p .0))))) (sym (nilled c)) (joins-fit (p .0) (p .1)),
-    )
-
-reach-each-requires : tie.Need-reach-each-requires
-reach-each-requires c κs =
-    let p = c .before .before .before .before .before .before .before .before .pre in (p .0 .reach-fit, reach-terms-in (p .0) (p .1), c .before .before .join-each .ensures .1)
-
+-- returns
 returns : tie.Need-returns
+unfolding pathOf pairsOf
 returns c =
-    let p = c .before .before .before .before .before .before .before .before .before .pre in
-    start-laid (p .0) (joinedOf (c .before .before .before .join-each .result)) _
-    (c .before .before .before .join-each .ensures .0 ∙ ap (λ (j : Joined). andThen j (joinEach (c .before .before .before .before .before .before .before .before .before .args .layout .terms) (equalities (p .0)))) (nilled (c .before .before .before .before)))
-    (c .reach-each .ensures)
+    let p = c .before .before .before .before .before .before .before .before .before .before .before .before .before .before .before .before .before .before .before .before .before .before .before .before .before .before .before .before .before .before .before .before .before .before .before .before .before .before .before .before .before .pre in
+    let e = joins-made (p .0) _ _ _ (c .before .before .before .before .before .before .before .before .before .before .before .before .before .before .before .before .before .before .before .before .before .before .before .before .before .settle .ensures .0 ∙ links-laid (c .before .before .before .before .before .before .before .before .before .before .before .before .before .before .before .before .before .before .before .before .before .before .before .before .before .before .before .before .before .before .before .before .before .before .before .before .before .before .before .before .before .pre .0) (c .before .before .before .before .before .before .before .before .before .before .before .before .before .before .before .before .before .before .before .before .before .before .before .before .before .before .before .before .before .before .before .before .before .before .before .before .before .before .before .before .before .pre .1) _ _ _ _ _ refl (c .before .before .before .before .before .before .before .before .before .before .before .before .before .before .before .before .before .before .before .before .before .before .before .before .before .before .before .before .before .before .before .before .before .before .before .before .before .before .unreplaced .ensures) (c .before .before .before .before .before .before .before .before .before .before .before .before .before .before .before .before .before .before .before .before .before .before .before .before .before .before .before .before .before .before .before .before .before .before .before .before .before .links-of .ensures) (c .before .before .before .before .before .before .before .before .before .before .before .before .before .before .before .before .before .before .before .before .before .before .before .before .before .before .before .before .before .before .before .before .before .before .before .before .others-of .ensures) (c .before .before .before .before .before .before .before .before .before .before .before .before .before .before .before .before .before .before .before .before .before .before .before .before .before .before .before .before .before .before .before .before .before .before .before .others-of2 .ensures)) (c .before .before .before .before .before .before .before .before .before .before .before .before .before .before .before .join-nil .ensures .0) (c .before .before .before .before .before .join-each .ensures .0) in
+    start-laid (p .0) _ _ e (c .reach-each .ensures _ _ _ _ (ap (λ (j : Joined). j .facts .links) e ∙ joins-links (p .0) (p .1)))
 
 pub start-spec : {M : Type 1} → statement M
 start-spec =
-    tie.close (tie.spec (λ c κs. search needs) linked-requires settle-links-requires join-nil-requires join-each-requires reach-each-requires returns)
+    tie.close
+    (tie.spec
+    -- unreplaced-requires
+    (λ c κs. search needs)
+    -- links-of-requires
+    (λ c κs. c .before .before .before .pre)
+    -- others-of-requires
+    (λ c κs. let p = c .before .before .before .before .pre in (p .0, p .1, omega arith))
+    -- others-of-requires-2
+    (λ c κs. let p = c .before .before .before .before .before .pre in (p .0, p .1, omega arith))
+    -- settle-requires
+    (λ c κs.
+    let p = c .before .before .before .before .before .before .before .before .before .before .before .before .before .before .before .pre in (
+      (
+        p .0 .terms-within,
+        subst Fits (sym (links-laid (p .0) (p .1) _ _ _ _ _ refl (c .before .before .before .before .before .before .before .before .before .before .before .before .unreplaced .ensures) (c .before .before .before .before .before .before .before .before .before .before .before .links-of .ensures) (c .before .before .before .before .before .before .before .before .before .before .others-of .ensures) (c .before .before .before .before .before .before .before .before .before .others-of2 .ensures))) (fits-left _ _ (fits-left _ _ (joins-fit (p .0) (p .1)))),
+      ),
+      (record { of-rep = search needs; of-link = search needs; of-reach = search needs; of-link2 = search needs; of-reach2 = search needs; of-link3 = search needs; of-reach3 = search needs }, search needs, search needs),
+    ))
+    -- join-nil-requires
+    (λ c κs.
+    let p = c .before .before .before .before .before .before .before .before .before .before .before .before .before .before .before .before .before .before .before .before .before .before .before .before .before .pre in
+    let e = (c .before .before .before .before .before .before .before .before .before .settle .ensures .0 ∙ links-laid (c .before .before .before .before .before .before .before .before .before .before .before .before .before .before .before .before .before .before .before .before .before .before .before .before .before .pre .0) (c .before .before .before .before .before .before .before .before .before .before .before .before .before .before .before .before .before .before .before .before .before .before .before .before .before .pre .1) _ _ _ _ _ refl (c .before .before .before .before .before .before .before .before .before .before .before .before .before .before .before .before .before .before .before .before .before .before .unreplaced .ensures) (c .before .before .before .before .before .before .before .before .before .before .before .before .before .before .before .before .before .before .before .before .before .links-of .ensures) (c .before .before .before .before .before .before .before .before .before .before .before .before .before .before .before .before .before .before .before .before .others-of .ensures) (c .before .before .before .before .before .before .before .before .before .before .before .before .before .before .before .before .before .before .before .others-of2 .ensures)) in (
+      (p .0, rep-bounded _ _ (ap (λ (j : Joined). j .facts .rep) e) (settled _ (p .0 .terms-within) _ _ (linked-bounded _)), nil-fits (p .0) (p .1) _ e),
+      c .before .before .before .before .before .before .before .before .before .settle .ensures .1,
+    ))
+    -- join-each-requires
+    (λ c κs.
+    let p = c .before .before .before .before .before .before .before .before .before .before .before .before .before .before .before .before .before .before .before .before .before .before .before .before .before .before .before .before .before .before .before .before .before .before .before .pre in
+    let w = c .before .before .before .before .before .before .before .before .before .join-nil .ensures .1 in (
+      (p .0 .terms-within, p .0 .equal-fit, equal-terms-in (p .0) (p .1), w .0, equalities-fit (p .0) (p .1) _ _ (c .before .before .before .before .before .before .before .before .before .before .before .before .before .before .before .before .before .before .before .settle .ensures .0 ∙ links-laid (c .before .before .before .before .before .before .before .before .before .before .before .before .before .before .before .before .before .before .before .before .before .before .before .before .before .before .before .before .before .before .before .before .before .before .before .pre .0) (c .before .before .before .before .before .before .before .before .before .before .before .before .before .before .before .before .before .before .before .before .before .before .before .before .before .before .before .before .before .before .before .before .before .before .before .pre .1) _ _ _ _ _ refl (c .before .before .before .before .before .before .before .before .before .before .before .before .before .before .before .before .before .before .before .before .before .before .before .before .before .before .before .before .before .before .before .before .unreplaced .ensures) (c .before .before .before .before .before .before .before .before .before .before .before .before .before .before .before .before .before .before .before .before .before .before .before .before .before .before .before .before .before .before .before .links-of .ensures) (c .before .before .before .before .before .before .before .before .before .before .before .before .before .before .before .before .before .before .before .before .before .before .before .before .before .before .before .before .before .before .others-of .ensures) (c .before .before .before .before .before .before .before .before .before .before .before .before .before .before .before .before .before .before .before .before .before .before .before .before .before .before .before .before .before .others-of2 .ensures)) (c .before .before .before .before .before .before .before .before .before .join-nil .ensures .0)),
+      (w .1, w .2, w .3),
+    ))
+    -- reach-each-requires
+    (λ c κs. let p = c .before .before .before .before .before .before .before .before .before .before .before .before .before .before .before .before .before .before .before .before .before .before .before .before .before .before .before .before .before .before .before .before .before .before .before .before .before .before .before .before .pre in let w = c .before .before .before .before .join-each .ensures .1 in (p .0, p .1, w .0, w .1 .of-reach, w .1 .of-reach2, w .1 .of-reach3))
+    returns)

@@ -11,10 +11,10 @@ use Rattle.wording.proofs.put_report.Statement.{statement}
 use Rattle.wording.proofs.put_report.Tie as tie
 
 abbrev Inv-loop : tie.InvT-loop
-Inv-loop buffer₀ at report size to₀ i₀ buffer to i = (1 ≤ i) × (i ≤ size) × Part buffer₀ to₀ (left size report 1) buffer to (left size report i)
+Inv-loop buffer₀ at report links size to₀ i₀ buffer to i = (1 ≤ i) × (i ≤ size) × Part buffer₀ to₀ (left size report 1) buffer to (left size report i)
 
 abbrev μ-loop : tie.MeasureT-loop
-μ-loop buffer₀ at report size to₀ i₀ buffer to i = size - i
+μ-loop buffer₀ at report links size to₀ i₀ buffer to i = size - i
 
 pub put-report-spec : {M : Type 1} → statement M
 put-report-spec =
@@ -23,7 +23,7 @@ put-report-spec =
     Inv-loop
     μ-loop
     -- report-size-requires
-    (λ c κs. c .before .before .pre .1)
+    (λ c κs. let p = c .before .before .pre in (p .1, p .2, p .3))
     -- shared-slice-read-put-hex-byte
     (λ c. omega arith)
     -- put-hex-byte-requires
