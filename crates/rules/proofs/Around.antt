@@ -13,7 +13,7 @@ use borrow.Author.Tests.{eq-eqb, ne-eqb, lt-ltb, le-ltb}
 use Rattle.logic.specs.Search.{_and_, _or_, from, keep, any, orElse, firstOf, find}
 use Rattle.logic.specs.Heap.{iterate}
 use Rattle.logic.specs.Facts.{Graph, terms}
-use Rattle.logic.specs.Rules.{Rule, CYCLE, Triple, triple, move, equal, next, returns, round, conditions, alternatives, held}
+use Rattle.logic.specs.Rules.{CYCLE, Triple, triple, move, equal, next, returns, round, conditions, alternatives, held}
 use Rattle.theory.proofs.Basics.Compare.{eq-cases, le-cases}
 use Rattle.theory.proofs.Basics.Search.{firstOf-empty, find-some, from-mem}
 use Rattle.theory.proofs.Basics.Iterate.{iterate-suc, iterate-add}

@@ -4,7 +4,7 @@ use native.Mathlib.Omega.{arith}
 use mathlib.Core.Path.{_≡_, refl, sym, ap, ap₂, _∙_, subst}
 use mathlib.Core.Logic.{⊎-elim}
 use mathlib.Core.Bool.{Bool, true, false, not, _&&_, _||_}
-use mathlib.Core.List.{List, [], _∷_, List·Memᴰ, List·Memᴰ·tail}
+use mathlib.Core.List.{List, _∷_, List·Memᴰ, List·Memᴰ·tail}
 use mathlib.Core.Option.{Option, none, some, Option·elim}
 use lib.ListN.{getD}
 use lib.Bits.{bitAnd, bitOr}
@@ -13,11 +13,11 @@ use borrow.Author.Tests.{lt-ltb, ltb-true, ne-eqb}
 use Rattle.logic.specs.Search.{_and_, _or_, from, firstOf, find, orElse, select}
 use Rattle.logic.specs.Heap.{iterate}
 use Rattle.logic.specs.Facts.{Graph}
-use Rattle.logic.specs.Rules.{Rule, REFLEX, TRANS1, TRANS2, FUNC, CYCLE, SCC, TOTAL, SHARE, Triple, next, ruleOf}
+use Rattle.logic.specs.Rules.{Rule, REFLEX, TRANS1, TRANS2, FUNC, SCC, TOTAL, SHARE, Triple, next, ruleOf}
 use Rattle.theory.proofs.Basics.Search.{none-some, and-left, and-right, and-false-cases, true-false, find-some, select-mem, select-intro}
 use Rattle.theory.proofs.Basics.Compare.{eq-cases}
 use Rattle.facts.specs.Bits.{bit}
-use Rattle.facts.specs.Square.{square, Turned}
+use Rattle.facts.specs.Square.{Turned}
 use Rattle.facts.specs.Path.{graphOf, linksIn}
 use Rattle.facts.proofs.Bits.{bit-and, bit-or, bit-none}
 use Rattle.facts.proofs.Words.{bit-single}

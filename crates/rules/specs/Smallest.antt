@@ -1,5 +1,5 @@
 -- The search for the smallest triple, one number after the other.
-use Prim.Native.Nat.{ℕ, suc, _+_, _-_}
+use Prim.Native.Nat.{ℕ, _+_, _-_}
 use mathlib.Core.Bool.{Bool, not}
 use mathlib.Core.Option.{Option, none, Option·elim}
 use Rattle.logic.specs.Search.{_and_, from, keep, any, orElse, firstOf}

@@ -24,7 +24,7 @@ use types.Tokens.{lft-new, lft-end}
 use sound.WpLaws.{FmC, fmOf, WpFn-mono}
 use denote.RattleType.{owns}
 use denote.Laws.{Is, shows}
-use denote.Plain.{uint-makes, uint-vals, uint-tells, uint-lawful}
+use denote.Plain.{uint-makes, uint-lawful}
 use denote.Builtin.{u8, usize}
 use denote.Ref.{RefT, NamedLft}
 use denote.Slice.{sliceVal, MutSlice, ShrSlice, Room, slice-vals, shr-slice-tells, shr-slice-copy, shr-slice-lawful}
@@ -48,9 +48,7 @@ use Rattle.dot_writer.proofs.Held.{writer-spent-two, writer-spent-two-g
 use Rattle.dot_writer.proofs.Again.{LentAgain, lends-again, comes-back}
 use Rattle.dot_writer.proofs.bytes_at as bytes-at
 use Rattle.dot_writer.proofs.bytes_at.Symbol as bytes-at-def
-use Rattle.dot_writer.proofs.bytes_at.Symbol.{name as #dot-writer·bytes-at}
 use Rattle.dot_writer.proofs.bytes_at.Met as bytes-at-thm
-use Rattle.dot_writer.proofs.put_bytes.Key.{name as #dot-writer·put-bytes}
 use Rattle.dot_writer.proofs.put_bytes as put-bytes
 use Rattle.dot_writer.proofs.put_bytes.Statement as stated
 use Rattle.dot_writer.proofs.put_bytes.Code as code

@@ -1,7 +1,7 @@
 -- CYCLE or another rule. Assumes nothing.
 use native.Mathlib.Omega.{arith}
 use borrow.Author.Needs.{needs}
-use mathlib.Core.Path.{refl, sym, ap, _∙_}
+use mathlib.Core.Path.{sym, ap, _∙_}
 use Rattle.logic.specs.Facts.{live}
 use Rattle.logic.specs.Rules.{Rule, triple, move}
 use Rattle.facts.specs.Path.{pathOf, graphs, graphOf, HasLink}

@@ -1,9 +1,7 @@
 -- The checks in their order, and then the derivation. Assumes nothing.
-use Prim.Native.Nat.{ℕ, _<_, _≤_}
-use native.Mathlib.Omega.{arith}
 use borrow.Author.Needs.{needs}
 use borrow.Author.Tests.{not-true, not-false}
-use mathlib.Core.Path.{refl, sym, ap, _∙_, subst}
+use mathlib.Core.Path.{sym, ap, _∙_, subst}
 use lib.ListN.{length}
 use Rattle.query.specs.declared.Checked.{Checked}
 use Rattle.link_query.specs.Answers.{CheckedBy}

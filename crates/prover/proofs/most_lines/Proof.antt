@@ -1,6 +1,5 @@
 -- A quarter of what is left behind the count. Assumes nothing.
 use native.Mathlib.Omega.{arith}
-use borrow.Author.Needs.{needs}
 use mathlib.Core.Path.{refl}
 use mathlib.Core.Logic.{inl, inr}
 use Rattle.prover.proofs.most_lines.Statement.{statement}

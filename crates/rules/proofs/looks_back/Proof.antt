@@ -1,7 +1,7 @@
 -- Assumes nothing.
 use borrow.Author.Needs.{needs}
 use mathlib.Core.Path.{sym, ap, _∙_}
-use mathlib.Core.Option.{none, some, Option·elim}
+use mathlib.Core.Option.{Option·elim}
 use Rattle.rules.specs.Answers.{numberedOf}
 use Rattle.rules.proofs.Rows.{looks-as}
 use Rattle.rules.proofs.looks_back.Statement.{statement}
