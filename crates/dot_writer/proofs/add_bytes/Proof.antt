@@ -5,6 +5,7 @@
 use mathlib.Core.Path.{_≡_, refl, sym, _∙_, ap, subst}
 use Prim.Native.Nat.{ℕ, _+_, _<_, _≤_, _^_}
 use mathlib.Core.List.{[], _∷_, List}
+use lib.Dec.{T as Holds}
 use lib.ListN.{length}
 use Rattle.text.specs.Text.{writeAt}
 use Rattle.text.proofs.Writing.{writeAt-length}
@@ -46,13 +47,17 @@ use Rattle.dot_writer.proofs.Writer as T
 use Rattle.dot_writer.proofs.Writer.Laws as T′
 use Rattle.dot_writer.proofs.new as new
 use Rattle.dot_writer.proofs.new.Symbol as new-def
+use Rattle.dot_writer.proofs.new.Symbol.{name as #dot-writer·new}
 use Rattle.dot_writer.proofs.new.Met as new-thm
 use Rattle.dot_writer.proofs.put_bytes as put-bytes
 use Rattle.dot_writer.proofs.put_bytes.Symbol as put-bytes-def
+use Rattle.dot_writer.proofs.put_bytes.Symbol.{name as #dot-writer·put-bytes}
 use Rattle.dot_writer.proofs.put_bytes.Met as put-bytes-thm
 use Rattle.dot_writer.proofs.filled as filled
 use Rattle.dot_writer.proofs.filled.Symbol as filled-def
+use Rattle.dot_writer.proofs.filled.Symbol.{name as #dot-writer·filled}
 use Rattle.dot_writer.proofs.filled.Met as filled-thm
+use Rattle.dot_writer.proofs.add_bytes.Key.{name as #dot-writer·add-bytes}
 use Rattle.dot_writer.proofs.add_bytes as add-bytes
 use Rattle.dot_writer.proofs.add_bytes.Statement as stated
 use Rattle.dot_writer.proofs.add_bytes.Code as code

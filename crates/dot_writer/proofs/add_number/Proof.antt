@@ -4,6 +4,7 @@
 use mathlib.Core.Path.{_≡_, refl, sym, _∙_, ap, subst}
 use Prim.Native.Nat.{ℕ, _+_, _<_, _≤_, _^_}
 use mathlib.Core.List.{[], _∷_, List}
+use lib.Dec.{T as Holds}
 use lib.ListN.{length}
 use Rattle.text.specs.Text.{writeAt, decimal}
 use Rattle.text.proofs.Writing.{writeAt-length}
@@ -45,13 +46,17 @@ use Rattle.dot_writer.proofs.Writer as T
 use Rattle.dot_writer.proofs.Writer.Laws as T′
 use Rattle.dot_writer.proofs.new as new
 use Rattle.dot_writer.proofs.new.Symbol as new-def
+use Rattle.dot_writer.proofs.new.Symbol.{name as #dot-writer·new}
 use Rattle.dot_writer.proofs.new.Met as new-thm
 use Rattle.dot_writer.proofs.put_number as put-number
 use Rattle.dot_writer.proofs.put_number.Symbol as put-number-def
+use Rattle.dot_writer.proofs.put_number.Symbol.{name as #dot-writer·put-number}
 use Rattle.dot_writer.proofs.put_number.Met as put-number-thm
 use Rattle.dot_writer.proofs.filled as filled
 use Rattle.dot_writer.proofs.filled.Symbol as filled-def
+use Rattle.dot_writer.proofs.filled.Symbol.{name as #dot-writer·filled}
 use Rattle.dot_writer.proofs.filled.Met as filled-thm
+use Rattle.dot_writer.proofs.add_number.Key.{name as #dot-writer·add-number}
 use Rattle.dot_writer.proofs.add_number as add-number
 use Rattle.dot_writer.proofs.add_number.Statement as stated
 use Rattle.dot_writer.proofs.add_number.Code as code

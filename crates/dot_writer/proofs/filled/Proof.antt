@@ -36,6 +36,7 @@ use Rattle.dot_writer.specs.declared.Writer.{Writer}
 use Rattle.dot_writer.proofs.Writer as T
 use Rattle.dot_writer.proofs.Writer.Laws as T′
 use Rattle.dot_writer.proofs.Held.{writer-stay, writer-goes}
+use Rattle.dot_writer.proofs.filled.Key.{name as #dot-writer·filled}
 use Rattle.dot_writer.proofs.filled as filled
 use Rattle.dot_writer.proofs.filled.Statement as stated
 use Rattle.dot_writer.proofs.filled.Code as code

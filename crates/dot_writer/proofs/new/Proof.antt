@@ -37,6 +37,7 @@ use denote.Exit.{yes, no}
 use Rattle.dot_writer.specs.declared.Writer.{Writer}
 use Rattle.dot_writer.proofs.Writer as T
 use Rattle.dot_writer.proofs.Writer.Laws as T′
+use Rattle.dot_writer.proofs.new.Key.{name as #dot-writer·new}
 use Rattle.dot_writer.proofs.new as new
 use Rattle.dot_writer.proofs.new.Statement as stated
 use Rattle.dot_writer.proofs.new.Code as code

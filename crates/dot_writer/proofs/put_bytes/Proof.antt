@@ -48,7 +48,9 @@ use Rattle.dot_writer.proofs.Held.{writer-spent-two, writer-spent-two-g
 use Rattle.dot_writer.proofs.Again.{LentAgain, lends-again, comes-back}
 use Rattle.dot_writer.proofs.bytes_at as bytes-at
 use Rattle.dot_writer.proofs.bytes_at.Symbol as bytes-at-def
+use Rattle.dot_writer.proofs.bytes_at.Symbol.{name as #dot-writer·bytes-at}
 use Rattle.dot_writer.proofs.bytes_at.Met as bytes-at-thm
+use Rattle.dot_writer.proofs.put_bytes.Key.{name as #dot-writer·put-bytes}
 use Rattle.dot_writer.proofs.put_bytes as put-bytes
 use Rattle.dot_writer.proofs.put_bytes.Statement as stated
 use Rattle.dot_writer.proofs.put_bytes.Code as code

@@ -49,7 +49,9 @@ use Rattle.dot_writer.proofs.Held.{writer-spent, writer-spent-goes}
 use Rattle.dot_writer.proofs.Again.{LentAgain, lends-again, comes-back}
 use Rattle.dot_writer.proofs.number_at as number-at
 use Rattle.dot_writer.proofs.number_at.Symbol as number-at-def
+use Rattle.dot_writer.proofs.number_at.Symbol.{name as #dot-writer·number-at}
 use Rattle.dot_writer.proofs.number_at.Met as number-at-thm
+use Rattle.dot_writer.proofs.put_number.Key.{name as #dot-writer·put-number}
 use Rattle.dot_writer.proofs.put_number as put-number
 use Rattle.dot_writer.proofs.put_number.Statement as stated
 use Rattle.dot_writer.proofs.put_number.Code as code

@@ -46,10 +46,13 @@ use Rattle.tally.proofs.Tally as T
 use Rattle.tally.proofs.Tally.Laws as T′
 use Rattle.tally.proofs.grown as grown
 use Rattle.tally.proofs.grown.Symbol as grown-def
+use Rattle.tally.proofs.grown.Symbol.{name as #tally·grown}
 use Rattle.tally.proofs.grown.Met as grown-thm
 use Rattle.tally.proofs.refusal as refusal
 use Rattle.tally.proofs.refusal.Symbol as refusal-def
+use Rattle.tally.proofs.refusal.Symbol.{name as #tally·refusal}
 use Rattle.tally.proofs.refusal.Met as refusal-thm
+use Rattle.tally.proofs.add.Key.{name as #tally·add}
 use Rattle.tally.proofs.add as add
 use Rattle.tally.proofs.add.Statement as stated
 use Rattle.tally.proofs.add.Code as code

@@ -50,7 +50,9 @@ use Rattle.tally.proofs.Step as S
 use Rattle.tally.proofs.Step.Laws as S′
 use Rattle.tally.proofs.add as add
 use Rattle.tally.proofs.add.Symbol as add-def
+use Rattle.tally.proofs.add.Symbol.{name as #tally·add}
 use Rattle.tally.proofs.add.Met as add-thm
+use Rattle.tally.proofs.lent.Key.{name as #tally·lent}
 use Rattle.tally.proofs.lent as lent
 use Rattle.tally.proofs.lent.Statement as stated
 use Rattle.tally.proofs.lent.Code as code
