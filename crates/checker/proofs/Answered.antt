@@ -22,7 +22,7 @@ use Rattle.query.specs.declared.Layout.{Layout}
 use Rattle.query.specs.declared.Checked.the-variants as checked
 use Rattle.link_query.specs.Said.{said}
 use Rattle.link_query.proofs.Said.{one-said}
-use Rattle.start.specs.Taken.{started}
+use Rattle.start.specs.Started.{started}
 use Rattle.checking.specs.Fitting.{Goal, goalOf, startGoal, step, shortOf, wrongFrom, wrongLine}
 use Rattle.checking.specs.CheckCall.{Checked, accepted, wrong, refused, misshapen, byWrong, queryRefusal, checkCall}
 use Rattle.checking.proofs.Claims.{check-refused, check-misshapen, check-judged}
