@@ -6,10 +6,10 @@ use borrow.Author.Tests.{not-true, not-false}
 use mathlib.Core.Path.{refl}
 use mathlib.Core.Bool.{false}
 use lib.ListN.{getD}
-use Rattle.report.specs.Nodes.{nodeOf, marked}
-use Rattle.report.proofs.Writing.{PutAt, put-at-none, put-at-skip, put-at-place, put-at-room, put-at-here, put-at-all}
-use Rattle.report.proofs.put_nodes.Statement.{statement}
-use Rattle.report.proofs.put_nodes.Tie as tie
+use Rattle.heap_nodes.specs.Nodes.{nodeOf, marked}
+use Rattle.heap_nodes.proofs.Writing.{PutAt, put-at-none, put-at-skip, put-at-place, put-at-room, put-at-here, put-at-all}
+use Rattle.heap_nodes.proofs.put_nodes.Statement.{statement}
+use Rattle.heap_nodes.proofs.put_nodes.Tie as tie
 
 abbrev Inv-loop : tie.InvT-loop
 Inv-loop buffer₀ at bytes marks n nodes end t₀ buffer t = PutAt (λ x. getD marks x false) (λ x. getD bytes x 0) n at t buffer₀ buffer

@@ -2,9 +2,9 @@
 use native.Mathlib.Omega.{arith}
 use borrow.Author.Needs.{needs}
 use mathlib.Core.Path.{refl}
-use Rattle.report.specs.Nodes.{nodeOf}
-use Rattle.report.proofs.node_byte.Statement.{statement}
-use Rattle.report.proofs.node_byte.Tie as tie
+use Rattle.heap_nodes.specs.Nodes.{nodeOf}
+use Rattle.heap_nodes.proofs.node_byte.Statement.{statement}
+use Rattle.heap_nodes.proofs.node_byte.Tie as tie
 
 pub node-byte-spec : {M : Type 1} → statement M
 unfolding nodeOf

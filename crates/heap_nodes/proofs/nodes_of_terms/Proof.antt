@@ -5,10 +5,10 @@ use borrow.Author.Needs.{needs}
 use mathlib.Core.Path.{_≡_, ap, _∙_}
 use lib.ListN.{length, getD, length-set}
 use Rattle.facts.specs.Path.{repOf}
-use Rattle.report.specs.Nodes.{nodeOf}
-use Rattle.report.proofs.Writing.{filled-more}
-use Rattle.report.proofs.nodes_of_terms.Statement.{statement}
-use Rattle.report.proofs.nodes_of_terms.Tie as tie
+use Rattle.heap_nodes.specs.Nodes.{nodeOf}
+use Rattle.heap_nodes.proofs.Writing.{filled-more}
+use Rattle.heap_nodes.proofs.nodes_of_terms.Statement.{statement}
+use Rattle.heap_nodes.proofs.nodes_of_terms.Tie as tie
 
 abbrev Inv-loop : tie.InvT-loop
 Inv-loop nodes rep n bytes₀ t₀ bytes t =

@@ -7,10 +7,10 @@ use mathlib.Core.Path.{_≡_}
 use mathlib.Core.Bool.{false}
 use lib.ListN.{length, getD}
 use Rattle.logic.specs.Search.{from, select}
-use Rattle.report.specs.Nodes.{marked}
-use Rattle.report.proofs.Nodes.{counted-skip, counted-here, counted-all}
-use Rattle.report.proofs.count_marks.Statement.{statement}
-use Rattle.report.proofs.count_marks.Tie as tie
+use Rattle.heap_nodes.specs.Nodes.{marked}
+use Rattle.heap_nodes.proofs.Nodes.{counted-skip, counted-here, counted-all}
+use Rattle.heap_nodes.proofs.count_marks.Statement.{statement}
+use Rattle.heap_nodes.proofs.count_marks.Tie as tie
 
 abbrev Inv-loop : tie.InvT-loop
 Inv-loop marks n count₀ end t₀ count t =

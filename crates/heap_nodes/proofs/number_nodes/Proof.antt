@@ -6,10 +6,10 @@ use borrow.Author.Tests.{not-true, not-false}
 use mathlib.Core.Path.{_≡_}
 use mathlib.Core.Bool.{false}
 use lib.ListN.{length, getD, length-set}
-use Rattle.report.specs.Nodes.{nodeOf, marked}
-use Rattle.report.proofs.Nodes.{Numbered, numbered-none, numbered-skip, numbered-here, numbered-all, node-repeat, node-set}
-use Rattle.report.proofs.number_nodes.Statement.{statement}
-use Rattle.report.proofs.number_nodes.Tie as tie
+use Rattle.heap_nodes.specs.Nodes.{nodeOf, marked}
+use Rattle.heap_nodes.proofs.Nodes.{Numbered, numbered-none, numbered-skip, numbered-here, numbered-all, node-repeat, node-set}
+use Rattle.heap_nodes.proofs.number_nodes.Statement.{statement}
+use Rattle.heap_nodes.proofs.number_nodes.Tie as tie
 
 abbrev Inv-loop : tie.InvT-loop
 Inv-loop marks n m nodes₀ k₀ end t₀ nodes k t =

@@ -5,10 +5,10 @@ use borrow.Author.Needs.{needs}
 use mathlib.Core.Path.{_≡_}
 use lib.ListN.{length, getD, length-set}
 use Rattle.completion.specs.Links.{linkOf}
-use Rattle.report.specs.Nodes.{nodeOf}
-use Rattle.report.proofs.Writing.{filled-more}
-use Rattle.report.proofs.nodes_linked.Statement.{statement}
-use Rattle.report.proofs.nodes_linked.Tie as tie
+use Rattle.heap_nodes.specs.Nodes.{nodeOf}
+use Rattle.heap_nodes.proofs.Writing.{filled-more}
+use Rattle.heap_nodes.proofs.nodes_linked.Statement.{statement}
+use Rattle.heap_nodes.proofs.nodes_linked.Tie as tie
 
 abbrev Inv-loop : tie.InvT-loop
 Inv-loop nodes n links bytes₀ t₀ bytes t =

@@ -7,10 +7,10 @@ use lib.ListN.{length-set}
 use lib.Dec.{eqb}
 use Rattle.facts.specs.Path.{repOf}
 use Rattle.facts.proofs.Rep.{rep-in}
-use Rattle.report.specs.Nodes.{nodesBy}
-use Rattle.report.proofs.Nodes.{Marked, marked-none, marked-more, marked-all}
-use Rattle.report.proofs.mark_nodes.Statement.{statement}
-use Rattle.report.proofs.mark_nodes.Tie as tie
+use Rattle.heap_nodes.specs.Nodes.{nodesBy}
+use Rattle.heap_nodes.proofs.Nodes.{Marked, marked-none, marked-more, marked-all}
+use Rattle.heap_nodes.proofs.mark_nodes.Statement.{statement}
+use Rattle.heap_nodes.proofs.mark_nodes.Tie as tie
 
 abbrev Inv-loop : tie.InvT-loop
 Inv-loop rep n marks₀ none₀ t₀ marks none t = Marked (λ x. eqb (repOf rep x) x) n t marks none

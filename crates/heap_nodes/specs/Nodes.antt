@@ -7,7 +7,7 @@ use lib.ListN.{getD}
 use lib.Dec.{eqb}
 use Rattle.logic.specs.Search.{from, select}
 use Rattle.logic.specs.Shown.{orZero, placeOf}
-use Rattle.report.specs.declared.Node.{Node}
+use Rattle.heap_nodes.specs.declared.Node.{Node}
 
 -- the node of a term
 unfoldable pub nodeOf : List Node → ℕ → ℕ
