@@ -3,12 +3,15 @@
  *     rt staticlib lemitsaka
  *     cc -Iinclude yours.c target/staticlib/liblemitsaka.a
  *
- * examples/c/verdict.c is a whole program. docs/manual has the bytes of a query, of a report and of a derivation, and a page for C.
+ * examples/c/verdict.c is a whole program, and examples/c/insert.c one for three links. docs/manual has the bytes of a query, of a
+ * report and of a derivation, and a page for C.
  *
  * Every slice is a pointer and a length in bytes:
  *
  *   order    the order in which the rules are tried: eight bytes, each of 1 to 8 once
- *   query    the statements, at most 561 bytes; the term byte 255 names null, one node whose link goes to itself
+ *   query    the statements, at most 561 bytes; the term byte 255 names null, one node whose link goes to itself.
+ *            lemitsaka_links_verdict and lemitsaka_links_derivation know three links: their queries have a layout of their own,
+ *            at most 637 bytes
  *   report, buffer, and all others that are not const    lent to the call, which writes every byte, whatever it answers
  *
  * Any bytes and any lengths will do: what is no order list, no query and so on is refused. What the library cannot see for
@@ -19,8 +22,8 @@
  *     the call.
  *
  * The calls keep nothing: no statics, no heap memory, no locks, no input or output. They may run in several threads at a
- * time. A call needs less than 450 kB of stack. It always returns, and no order list makes a verdict slow; queries of many
- * terms can still be made on purpose that take a second or more.
+ * time. A call needs less than 700 kB of stack, one for three links less than 1.9 MB. It always returns, and no order list makes
+ * a verdict slow; queries of many terms can still be made on purpose that take a second or more.
  *
  * The answer is one number. Below 65,536 it is the call's own answer; else the call was refused, and it is the refusal's
  * number times 65,536, plus its place, counted from 0 in the query. After a refusal all of the lent bytes are zero.
@@ -40,10 +43,13 @@ extern "C" {
 #define LEMITSAKA_SATISFIABLE 0
 #define LEMITSAKA_REFUTED 1
 
-/* The bytes of an order list; the most bytes of a query and of a heap report; and the bytes that hold every derivation. */
+/* The bytes of an order list; the most bytes of a query and of a heap report, and of both with three links; and the bytes that hold
+ * every derivation. */
 #define LEMITSAKA_ORDER_SIZE 8
 #define LEMITSAKA_QUERY_SIZE 561
 #define LEMITSAKA_REPORT_SIZE 53
+#define LEMITSAKA_LINKS_QUERY_SIZE 637
+#define LEMITSAKA_LINKS_REPORT_SIZE 85
 #define LEMITSAKA_DERIVATION_SIZE 64002
 
 /* The bytes that hold the text of every heap report. */
@@ -59,7 +65,7 @@ extern "C" {
  *    6  a sign is neither 0 nor 1
  *    7  a term number in sections 2 to 4 is 0 or above the term count
  *    8  a field number is not 1 to 8
- *    9  the report has fewer than 53 bytes
+ *    9  the report has fewer than 53 bytes, in lemitsaka_links_verdict fewer than 85
  *   11  a derivation was asked for and the query is satisfiable
  *   12  the derivation has more than 16,000 lines, or its buffer cannot hold it
  *   13  a report is not well formed
@@ -71,13 +77,14 @@ extern "C" {
  *   19  a formula has more than 64 conjunctions
  *   20  a derivation to check is not 2 plus 4 times its count long, or its count is above 16,000
  *   21  a query with between literals has more than five terms
+ *   22  a link byte may not stand where it does (place: that byte; it is met between 4 and 5)
  *   23  a pair list has the wrong length or count, or a term that its query lacks
  *   24  the joined query passes a limit, or the lent bytes are too few for it
  *   25  the line does not begin with 9, or names no literal of either query
  *   26  the count of section 5, the booleans, which are retired, is not 0 (place: that count; it is met where 3 would be)
  *   27  an old query has no room for the fresh variable or its booleans, or the lent bytes are too few for the query rewritten
  *
- * There is no 10, and no call of this header has 22 or 28. The place is 0 for 1 and from 9 on, but for 17, 18 and 26. */
+ * There is no 10, and no call of this header has 28. The place is 0 for 1 and from 9 on, but for 17, 18, 22 and 26. */
 static inline unsigned lemitsaka_refusal(uint64_t answer)
 {
     return (unsigned)(answer / 65536 % 65536);
@@ -207,6 +214,32 @@ uint64_t lemitsaka_hand_back(const uint8_t *first, size_t first_len,
 uint64_t lemitsaka_rewrite(const uint8_t *old_query, size_t old_query_len,
                            uint8_t *query, size_t query_len);
 
+/* Is there a heap with three links that meets every literal of the query?
+ *
+ * A query with three links: its sections are those of a query, but that a term entry is two bytes, link and term: 0 0 a variable, 0 255
+ * null, whose three links go to itself, or a link 1 to 3 and an earlier term; and a reachability literal is four: sign, link, from, to.
+ *
+ *   LEMITSAKA_SATISFIABLE   there is, and the report shows one; the bytes past it are zero
+ *   LEMITSAKA_REFUTED       there is none, of any size; the report is all zero
+ *   refused                 1 to 9, 22 and 26; 9 unless the report has LEMITSAKA_LINKS_REPORT_SIZE bytes or more
+ *
+ * A report: three times the count of nodes, and the successor of each by link 1, of each by link 2 and of each by link 3; then as
+ * lemitsaka_verdict has it. */
+uint64_t lemitsaka_links_verdict(const uint8_t *order, size_t order_len,
+                                 const uint8_t *query, size_t query_len,
+                                 uint8_t *report, size_t report_len);
+
+/* Why is there no heap with three links that meets every literal of the query?
+ *
+ *   LEMITSAKA_REFUTED       the derivation is in the buffer; the bytes past it are zero
+ *   refused                 1 to 8, 22, 26, 11 and 12; 11 where there is such a heap. Never LEMITSAKA_SATISFIABLE
+ *
+ * A derivation is as of lemitsaka_derivation, but that a rule's number is 16 higher for link 2 and 32 higher for link 3. Clashes and joins
+ * name no link. */
+uint64_t lemitsaka_links_derivation(const uint8_t *order, size_t order_len,
+                                    const uint8_t *query, size_t query_len,
+                                    uint8_t *buffer, size_t buffer_len);
+
 /* What does a query say where there are three links?
  *
  * The query written is the same with link 1, in the layout for three links: a term entry is two bytes, its link and its term byte, the
@@ -215,7 +248,6 @@ uint64_t lemitsaka_rewrite(const uint8_t *old_query, size_t old_query_len,
  * LEMITSAKA_LINKS_QUERY_SIZE bytes hold every one.
  *
  *   refused   2 to 8 and 26 of the query, then 27: the lent bytes are too few; at 0 */
-#define LEMITSAKA_LINKS_QUERY_SIZE 637
 uint64_t lemitsaka_links_rewrite(const uint8_t *query, size_t query_len,
                                  uint8_t *links_query, size_t links_query_len);
 

@@ -141,7 +141,7 @@ fn lengths(all: &mut Vec<Vec<u8>>) {
     free.reachability[59] = [0, 16, 16];
     all.push(under(&[2, 3, 4, 1, 5, 6, 7, 8], &free.bytes()));
     // Bytes after a short query, up to and past the 1,024 that are read.
-    for total in [14, 100, 1022, 1023, 1024, 1025, 1026, 2048, 65_535] {
+    for total in [14, 100, 1022, 1023, 1024, 1025, 1026, 2048, 65_534] {
         let mut input = plain(&[1, 0, 0, 0, 0, 0]);
         input.resize(total, 1);
         all.push(input);

@@ -225,8 +225,10 @@ pub fn random(count: usize, seed: u64) -> Result<bool, String> {
     for i in 0..count / 10 {
         let orders = [generate::order(&mut random), generate::order(&mut random)];
         let query = draw(&mut random, 16);
-        let accepted = links::check_query(&query).map_err(|refusal| format!("{}: {refusal:?}", hex(&query)))?;
-        if !orders.iter().all(|order| links::within(order, &accepted, BUDGET)) {
+        if !links::accepted(&orders[0], &query) {
+            return Err(format!("{}: refused", hex(&query)));
+        }
+        if orders.iter().any(|order| links::lines(order, &query, BUDGET).is_none()) {
             continue;
         }
         let Ok(expected) = links::verdict(&orders[0], &query, &mut [0; links::REPORT_BYTES]) else {

@@ -316,9 +316,18 @@ fn walk(order: &Order, query: &Query, lines: &mut Scribe) -> End {
     path(order, query, &facts, 3 * n * n + n, lines)
 }
 
-/// Whether the walk of an accepted query has at most `budget` lines.
-pub fn within(order: &Order, query: &Query, budget: u64) -> bool {
-    !matches!(walk(order, query, &mut Scribe::new(budget)), End::Stopped)
+/// Whether order and query pass their checks.
+pub fn accepted(order: &[u8], query: &[u8]) -> bool {
+    reference::check_order(order).is_ok() && check_query(query).is_ok()
+}
+
+/// How many lines the walk has; `None` if there are more than `budget`, or if order or query is refused.
+pub fn lines(order: &[u8], query: &[u8], budget: u64) -> Option<u64> {
+    let order = reference::check_order(order).ok()?;
+    let query = check_query(query).ok()?;
+    let mut scribe = Scribe::new(budget);
+    let end = walk(&order, &query, &mut scribe);
+    (!matches!(end, End::Stopped)).then_some(scribe.count)
 }
 
 // ------------------------------------------------------------------------------------------------

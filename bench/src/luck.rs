@@ -6,6 +6,7 @@ use crate::library;
 use crate::reference;
 use crate::timing;
 use crate::vectors;
+use crate::{linkheaps, links};
 use std::hint::black_box;
 use std::path::Path;
 use std::time::Instant;
@@ -107,11 +108,45 @@ pub fn run(directory: &Path) -> Result<bool, String> {
         println!("  found by climb: {:.1} ms, {}", 1e3 * time, if answer == 0 { "satisfiable" } else { "refuted" });
         met &= time <= FOUND_BAR;
     }
+    let same = with_links(&inputs)?;
     println!(
         "  at most {MEAN_BAR} and {WORST_BAR} times workload-sixteen, and {FOUND_BAR} s: {}",
         if met { "met" } else { "missed" }
     );
-    Ok(met && agree == inputs.len())
+    Ok(met && same && agree == inputs.len())
+}
+
+/// The same inputs and those that `climb` found, rewritten with link 1: the verdicts of the call for three links, and its time. True if no verdict
+/// differs.
+fn with_links(inputs: &[Vec<u8>]) -> Result<bool, String> {
+    let mut report = [0u8; links::REPORT_BYTES];
+    let mut timed = |input: &[u8], rounds: usize| {
+        let (order, query) = input.split_at(8);
+        let linked = linkheaps::linked(query, || 1);
+        let same = library::links_verdict(order, &linked, &mut report) == library::verdict(order, query, &mut report);
+        if !same {
+            println!("with link 1 another verdict: {}", vectors::hex(input));
+        }
+        (same, seconds(rounds, &mut || library::links_verdict(order, &linked, &mut report)))
+    };
+    let (mut all, mut sum, mut worst, mut at) = (true, 0.0, 0.0f64, 0);
+    for (i, input) in inputs.iter().enumerate() {
+        let (same, time) = timed(input, 9);
+        all &= same;
+        sum += time;
+        if time > worst {
+            (worst, at) = (time, i);
+        }
+    }
+    println!(
+        "  with link 1, by the call for three links: mean {:.2} us; worst {:.0} us (input {at})",
+        1e6 * sum / inputs.len() as f64,
+        1e6 * worst
+    );
+    let found: Vec<(bool, f64)> = worst_found().iter().map(|input| timed(input, 1)).collect();
+    let times: Vec<String> = found.iter().map(|&(_, time)| format!("{:.1}", 1e3 * time)).collect();
+    println!("  found by climb, with link 1: {} ms", times.join(", "));
+    Ok(all && found.iter().all(|&(same, _)| same))
 }
 
 /// The worst inputs that `climb` found, as it prints them.

@@ -11,6 +11,7 @@ mod enumerate;
 mod generate;
 #[cfg(feature = "library")]
 mod library;
+mod linkedges;
 mod linkheaps;
 mod links;
 mod long;
@@ -36,7 +37,7 @@ program EXECUTABLE DIR        compare an executable heapverdict with them
 check N SEED                  compare the reference with the enumerator of small heaps on N queries
 slow N SEED                   compare the reference with the slow walk, line by line, on N queries and the edges
 slow long                     the same on the long derivations
-data DIR                      write edges, random, long and rewritten .bin and .txt into DIR, and .txt of its base, R-1 and R-3
+data DIR                      write edges, random, long and rewritten .bin and .txt and link-edges .bin and .out into DIR, and .txt of its base, R-1 and R-3
 rewriting FILE                compare the rewriting of R-13 with its vectors
 rewriting DIR NAME ..         compare the verdicts stored for old queries with those of their rewritings
 search LOW HIGH KINDS N SEED  print N inputs whose derivation has LOW to HIGH lines, of KINDS kinds or more
@@ -44,9 +45,11 @@ time DIR                      time the workloads in DIR (with feature library: t
 luck DIR                      (feature library) workload-luck: every answer as stored, and the time of both calls
 climb DIR SECONDS SEED        (feature library) look for queries that are bad for the verdict call
 differential N SEED           (feature library) compare library and reference on N random inputs
+differential links N SEED     (feature library) compare the library's calls for three links with the reading of R-11
 heapverdict                   be the program heapverdict
 linksverdict                  be the program linksverdict, which takes three links (R-11)
 links DIR                     compare the reading of R-11 with its vectors, and base.bin's verdicts with those of its rewriting with link 1
+                              (with feature library: the library's calls for three links and its rewriting on all of these too)
 links random N SEED           compare it with every small heap on N random queries, and two orders on larger ones
 between FILE                  compare the plain search of R-10 with its vectors
 between                       time it on slow queries (with feature library: the library too)
@@ -102,6 +105,7 @@ fn run(words: &[&str]) -> Result<bool, String> {
             vectors::write(directory, "edges", &edges::inputs())?;
             vectors::write(directory, "random", &generate::inputs(400, 20))?;
             vectors::write(directory, "long", &long::inputs())?;
+            vectors::write_as(directory, "link-edges", "out", &linkedges::inputs(), links::linksverdict)?;
             Ok(true)
         }
         ["search", low, high, kinds, count, seed] => {
@@ -111,7 +115,8 @@ fn run(words: &[&str]) -> Result<bool, String> {
         ["time", directory] => time(Path::new(directory)),
         ["luck", directory] => luck(Path::new(directory)),
         ["climb", directory, seconds, seed] => climb(Path::new(directory), number(seconds)?, number(seed)?),
-        ["differential", count, seed] => differential(number(count)? as usize, number(seed)?),
+        ["differential", "links", count, seed] => differential(true, number(count)? as usize, number(seed)?),
+        ["differential", count, seed] => differential(false, number(count)? as usize, number(seed)?),
         ["shares", program, directory, count] => {
             shares(Path::new(program), Path::new(directory), number(count)? as usize)
         }
@@ -122,7 +127,7 @@ fn run(words: &[&str]) -> Result<bool, String> {
         ["between"] => Ok(between_time()),
         ["between", count, seed] => between_differ(number(count)? as usize, number(seed)?),
         ["links", "random", count, seed] => linkheaps::random(number(count)? as usize, number(seed)?),
-        ["links", directory] => linkheaps::compare(Path::new(directory)),
+        ["links", directory] => links_vectors(Path::new(directory)),
         ["heapverdict"] => {
             print!("{}", reference::heapverdict(&standard_input()?));
             Ok(true)
@@ -137,7 +142,8 @@ fn run(words: &[&str]) -> Result<bool, String> {
 
 #[cfg(feature = "library")]
 fn time(directory: &Path) -> Result<bool, String> {
-    timing::run(directory, &[("library", &library::verdict)])
+    let timed = timing::run(directory, &[("library", &library::verdict)])?;
+    Ok(timing::with_links(directory, &library::verdict, &library::links_verdict)? && timed)
 }
 
 #[cfg(not(feature = "library"))]
@@ -166,13 +172,25 @@ fn between_differ(_: usize, _: u64) -> Result<bool, String> {
 }
 
 #[cfg(feature = "library")]
-fn differential(count: usize, seed: u64) -> Result<bool, String> {
-    differential::run(count, seed)
+fn differential(links: bool, count: usize, seed: u64) -> Result<bool, String> {
+    Ok(if links { differential::three_links(count, seed) } else { differential::run(count, seed) })
 }
 
 #[cfg(not(feature = "library"))]
-fn differential(_: usize, _: u64) -> Result<bool, String> {
+fn differential(_: bool, _: usize, _: u64) -> Result<bool, String> {
     Err("built without the feature library".into())
+}
+
+#[cfg(feature = "library")]
+fn links_vectors(directory: &Path) -> Result<bool, String> {
+    let own = linkheaps::compare(directory)?;
+    let inputs = vectors::read_bin(&directory.join("requests/R-11.bin"))?;
+    Ok(differential::with_links(&inputs, &vectors::read_bin(&directory.join("base.bin"))?) && own)
+}
+
+#[cfg(not(feature = "library"))]
+fn links_vectors(directory: &Path) -> Result<bool, String> {
+    linkheaps::compare(directory)
 }
 
 #[cfg(feature = "library")]

@@ -2,7 +2,7 @@
 //! the enumerator.
 
 use crate::reference::{derivation, encode, heapverdict, verdict, End};
-use crate::{check, generate, linkheaps, links, long, vectors};
+use crate::{check, generate, linkedges, linkheaps, links, vectors};
 use std::path::Path;
 
 const ORDER: [u8; 8] = [1, 2, 3, 4, 5, 6, 7, 8];
@@ -72,15 +72,17 @@ fn stored_data() {
     assert_eq!(vectors::compare(&directory, &|input| Ok(heapverdict(input))), Ok(true));
 }
 
-/// What the gate's program `vectors` reads and must print is the stored data, one file after another.
+/// What the gate's program `vectors` reads and must print is the stored data, one file after another, and 65,535 behind a row.
 #[test]
 fn gate_data() {
     let root = Path::new(env!("CARGO_MANIFEST_DIR")).join("..");
-    for (ending, joined) in [("bin", "stdin"), ("txt", "stdout")] {
-        let parts = ["base", "edges", "random", "long", "R-1", "R-3", "R-13", "rewritten"]
-            .map(|name| std::fs::read(root.join(format!("tests/data/{name}.{ending}"))).unwrap());
-        assert!(parts.concat() == std::fs::read(root.join("crates/vectors").join(joined)).unwrap(), "{joined}");
-    }
+    let part = |name: &str| std::fs::read(root.join("tests/data").join(name)).unwrap();
+    let one_link = ["base", "edges", "random", "long", "R-1", "R-3", "R-13", "rewritten"];
+    let row = |names: &[&str], ending: &str| names.iter().map(|name| part(&format!("{name}.{ending}"))).collect::<Vec<_>>().concat();
+    let rows = |first: &str, others: &str| [row(&one_link, first), row(&["luck"], others), row(&["R-11", "link-edges"], others)];
+    let stored = |file: &str| std::fs::read(root.join("crates/vectors").join(file)).unwrap();
+    assert!(rows("bin", "bin").join(&[255u8; 2][..]) == stored("stdin"));
+    assert!(rows("txt", "out").concat() == stored("stdout"));
 }
 
 #[test]
@@ -153,14 +155,17 @@ fn three_links_small_heaps() {
     assert_eq!(linkheaps::random(1_000, 5), Ok(true));
 }
 
-/// The stored queries have the verdicts of their rewritings with link 1.
 #[test]
 fn three_links_vectors() {
     let directory = Path::new(env!("CARGO_MANIFEST_DIR")).join("../tests/data");
     let program = |input: &[u8]| Ok(links::linksverdict(input));
-    assert!(vectors::agree(&directory.join("R-11.bin"), &directory.join("R-11.out"), &program).unwrap());
+    for name in ["R-11", "link-edges"] {
+        let [bin, out] = ["bin", "out"].map(|ending| directory.join(format!("{name}.{ending}")));
+        assert!(vectors::agree(&bin, &out, &program).unwrap());
+    }
 }
 
+/// The stored queries have the verdicts of their rewritings with link 1.
 #[test]
 fn three_links_rewritten() {
     let directory = Path::new(env!("CARGO_MANIFEST_DIR")).join("../tests/data");
@@ -169,14 +174,12 @@ fn three_links_rewritten() {
     }
 }
 
-/// With link 1 the fourth of the long derivations has 16,000 lines, the third more than a derivation may have.
+/// As many lines as a derivation may have, and more.
 #[test]
 fn three_links_long() {
-    let inputs = long::inputs();
-    let lines = [2, 3].map(|i| {
-        let (order, query) = inputs[i].split_at(8);
-        links::linksverdict(&[order, &linkheaps::linked(query, || 1)].concat())
-    });
-    assert_eq!(lines[0], "unsat\nrefused 12 at 0\n");
-    assert_eq!(lines[1].lines().count(), 16_001);
+    let inputs = linkedges::long();
+    let lines = inputs.each_ref().map(|input| links::lines(&input[..8], &input[8..], u64::MAX));
+    assert_eq!(lines, [16_000, 16_001, 16_002, 65_598].map(Some));
+    assert_eq!(links::linksverdict(&inputs[0]).lines().count(), 16_001);
+    assert_eq!(links::linksverdict(&inputs[1]), "unsat\nrefused 12 at 0\n");
 }

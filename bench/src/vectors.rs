@@ -44,17 +44,28 @@ pub fn read_txt(path: &Path) -> Result<Vec<String>, String> {
 
 /// Writes NAME.bin, and NAME.txt with what the reference prints.
 pub fn write(directory: &Path, name: &str, inputs: &[Vec<u8>]) -> Result<(), String> {
+    write_as(directory, name, "txt", inputs, reference::heapverdict)
+}
+
+/// Writes NAME.bin, and what a program prints beside it.
+pub fn write_as(
+    directory: &Path,
+    name: &str,
+    ending: &str,
+    inputs: &[Vec<u8>],
+    program: fn(&[u8]) -> String,
+) -> Result<(), String> {
     let mut bin = Vec::new();
     let mut txt = String::new();
     for input in inputs {
         let length = u16::try_from(input.len()).map_err(|_| "input too long for its length".to_string())?;
         bin.extend(length.to_be_bytes());
         bin.extend(input);
-        txt.push_str(&reference::heapverdict(input));
+        txt.push_str(&program(input));
         txt.push_str("--\n");
     }
     std::fs::create_dir_all(directory).map_err(|e| e.to_string())?;
-    for (ending, bytes) in [("bin", &bin[..]), ("txt", txt.as_bytes())] {
+    for (ending, bytes) in [("bin", &bin[..]), (ending, txt.as_bytes())] {
         let path = directory.join(format!("{name}.{ending}"));
         std::fs::write(&path, bytes).map_err(|e| format!("{}: {e}", path.display()))?;
         println!("{}: {} inputs, {} bytes", path.display(), inputs.len(), bytes.len());

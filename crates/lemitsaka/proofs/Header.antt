@@ -1,5 +1,6 @@
--- What a C header says of the two calls, one theorem for each sentence. `order`, `query` and `before` are what a call is given, `r` is
--- the number that it answers and `bytes` what it leaves in the lent output: its contract is the hypothesis `codes`.
+-- What a C header says of the verdict call and the derivation call, with one link and with three: one theorem for each sentence. `f` is the form
+-- of queries that a call takes, whose places are small numbers; `order`, `query` and `before` are what it is given, `r` is the number that it
+-- answers and `bytes` what it leaves in the lent output: its contract is the hypothesis `codes`.
 use Prim.Native.Nat.{ℕ, _+_, _*_, _/_, _%_, _≤_, _<_}
 use native.Mathlib.Omega.{arith}
 use mathlib.Core.Path.{_≡_, refl, sym, ap, _∙_, subst}
@@ -7,21 +8,21 @@ use mathlib.Core.Logic.{⊎-elim}
 use mathlib.Core.List.{List, [], _∷_, _++_, List·Memᴰ, List·Memᴰ·cases-cons, List·Memᴰ·not-nil, List·Memᴰ·append-cases}
 use lib.ListN.{length, getD, replicate}
 use borrow.Author.Tests.{ne-eqb}
-use Rattle.logic.specs.Query.{decode}
 use Rattle.logic.specs.Facts.{Line}
 use Rattle.logic.specs.Walk.{ourWalk, refutation}
-use Rattle.logic.specs.Calls.{Input, Check, Outcome, verdictChecks, derivationChecks, verdictCall, derivationCall}
+use Rattle.logic.specs.Calls.{Input, Check, CallForm, Outcome, verdictChecksOf, derivationChecksOf, verdictCallOf, derivationCallOf}
 use Rattle.logic.specs.Calls as calls
 use Rattle.logic.specs.Demands.{numbers, Refusals}
 use Rattle.theory.proofs.Calls.CheckingOrder.{Early}
-use Rattle.theory.proofs.Calls.Refusals.{one-link-laws, verdict-early, derivation-early}
-use Rattle.theory.proofs.Calls.Demands.{demand1, checks-in-order}
+use Rattle.theory.proofs.Calls.CallLaws.{FormLaws}
+use Rattle.theory.proofs.Calls.Refusals.{verdict-early, derivation-early}
+use Rattle.theory.proofs.Calls.Demands.{demand1-of}
 use Rattle.theory.proofs.Calls.Room.{room-enough, report-short}
 use Rattle.prover.specs.Promise.{inputOf}
 use Rattle.lemitsaka.specs.VerdictPromise.{codeOf, answerIn, Codes}
 
 -- "The number gives back the answer." A refusal's number is small, and its place.
-refused-back : (k place : ℕ) → 1 ≤ k → k ≤ 26 → place ≤ 561 → answerIn (codeOf (calls.refused k place)) ≡ calls.refused k place
+refused-back : (k place : ℕ) → 1 ≤ k → k ≤ 26 → place < 65536 → answerIn (codeOf (calls.refused k place)) ≡ calls.refused k place
 unfolding answerIn
 refused-back k place l u h =
     let n : ℕ = k % 65536 * 65536 + place % 65536 in
@@ -33,7 +34,7 @@ refused-back k place l u h =
 abbrev numbersOf : List Check → List ℕ
 numbersOf cs = numbers cs ++ (11 ∷ 12 ∷ [])
 
-module _ (cs : List Check) (outcome : Input → Outcome) (law : Refusals cs 561 outcome) (early : (k : ℕ) → List·Memᴰ k (numbers cs) → Early k) where
+module _ (cs : List Check) (outcome : Input → Outcome) (longest : ℕ) (short : longest < 65536) (law : Refusals cs longest outcome) (early : (k : ℕ) → List·Memᴰ k (numbers cs) → Early k) where
   small : (k : ℕ) → List·Memᴰ k (numbersOf cs) → (1 ≤ k) × (k ≤ 26)
   small k m = ⊎-elim checked late (List·Memᴰ·append-cases (numbers cs) m)
     where
@@ -55,7 +56,7 @@ module _ (cs : List Check) (outcome : Input → Outcome) (law : Refusals cs 561 
       go calls.refuted e = refl
       go (calls.refused k place) e =
           let n = small k (law .refusal-numbered i k place e) in
-          refused-back k place (n .0) (n .1) (law .refusal-placed i k place e .1)
+          refused-back k place (n .0) (n .1) (omega (arith, short, law .refusal-placed i k place e .1))
 
   module _ (order query before bytes : List ℕ) (r : ℕ) (codes : Codes (outcome (inputOf order query before)) r bytes) where
     number-back : answerIn r ≡ outcome (inputOf order query before) .answer
@@ -70,7 +71,7 @@ module _ (cs : List Check) (outcome : Input → Outcome) (law : Refusals cs 561 
     numbered : (k place : ℕ) → answerIn r ≡ calls.refused k place → List·Memᴰ k (numbersOf cs)
     numbered k place e = law .refusal-numbered (inputOf order query before) k place (answered (calls.refused k place) e)
 
-    placed : (k place : ℕ) → answerIn r ≡ calls.refused k place → (place ≤ length query) × (place ≤ 561)
+    placed : (k place : ℕ) → answerIn r ≡ calls.refused k place → (place ≤ length query) × (place ≤ longest)
     placed k place e = law .refusal-placed (inputOf order query before) k place (answered (calls.refused k place) e)
 
     blank : (k place : ℕ) → answerIn r ≡ calls.refused k place → bytes ≡ replicate (length before) 0
@@ -83,61 +84,60 @@ every-byte-written outcome order query before before′ bytes bytes′ r r′ c 
     (c .answers ∙ ap (λ (o : Outcome). codeOf (o .answer)) e ∙ sym (c′ .answers), c .leaves ∙ ap (λ (o : Outcome). o .lent) e ∙ sym (c′ .leaves))
 
 -- The verdict call
-module _ (order query before bytes : List ℕ) (r : ℕ) (codes : Codes (verdictCall (inputOf order query before)) r bytes) where
+module _ (f : CallForm) (laws : FormLaws f) (short : f .longest < 65536) (order query before bytes : List ℕ) (r : ℕ) (codes : Codes (verdictCallOf f (inputOf order query before)) r bytes) where
   -- "The number gives back the answer."
-  pub verdict-number : answerIn r ≡ verdictCall (inputOf order query before) .answer
-  verdict-number = number-back verdictChecks verdictCall (demand1 .verdict-refusals) (verdict-early calls.oneLinkForm one-link-laws) order query before bytes r codes
+  pub verdict-number : answerIn r ≡ verdictCallOf f (inputOf order query before) .answer
+  verdict-number = number-back (verdictChecksOf f) (verdictCallOf f) (f .longest) short (demand1-of f laws .verdict-refusals) (verdict-early f laws) order query before bytes r codes
 
-  -- "refused 1 to 9 and 26"; a refusal's place is at most the query's length, and at most 561.
-  pub verdict-numbered : (k place : ℕ) → answerIn r ≡ calls.refused k place → List·Memᴰ k (1 ∷ 2 ∷ 3 ∷ 26 ∷ 4 ∷ 5 ∷ 6 ∷ 7 ∷ 8 ∷ 9 ∷ [])
-  verdict-numbered k place e = subst (List·Memᴰ k) (checks-in-order .verdict-checks) (demand1 .verdict-numbered (inputOf order query before) k place (sym verdict-number ∙ e))
+  -- The refusals are those of its checks: "1 to 9 and 26", with three links 22 too. A refusal's place is at most the query's length, and at most
+  -- 561, with three links 637.
+  pub verdict-numbered : (k place : ℕ) → answerIn r ≡ calls.refused k place → List·Memᴰ k (numbers (verdictChecksOf f))
+  verdict-numbered k place e = demand1-of f laws .verdict-numbered (inputOf order query before) k place (sym verdict-number ∙ e)
 
-  pub verdict-placed : (k place : ℕ) → answerIn r ≡ calls.refused k place → (place ≤ length query) × (place ≤ 561)
-  verdict-placed = placed verdictChecks verdictCall (demand1 .verdict-refusals) (verdict-early calls.oneLinkForm one-link-laws) order query before bytes r codes
+  pub verdict-placed : (k place : ℕ) → answerIn r ≡ calls.refused k place → (place ≤ length query) × (place ≤ f .longest)
+  verdict-placed = placed (verdictChecksOf f) (verdictCallOf f) (f .longest) short (demand1-of f laws .verdict-refusals) (verdict-early f laws) order query before bytes r codes
 
   -- "The report's length is kept"; "after a refusal, all of it is zero."
   pub verdict-kept : length bytes ≡ length before
-  verdict-kept = kept verdictChecks verdictCall (demand1 .verdict-refusals) (verdict-early calls.oneLinkForm one-link-laws) order query before bytes r codes
+  verdict-kept = kept (verdictChecksOf f) (verdictCallOf f) (f .longest) short (demand1-of f laws .verdict-refusals) (verdict-early f laws) order query before bytes r codes
 
   pub verdict-blank : (k place : ℕ) → answerIn r ≡ calls.refused k place → bytes ≡ replicate (length before) 0
-  verdict-blank = blank verdictChecks verdictCall (demand1 .verdict-refusals) (verdict-early calls.oneLinkForm one-link-laws) order query before bytes r codes
+  verdict-blank = blank (verdictChecksOf f) (verdictCallOf f) (f .longest) short (demand1-of f laws .verdict-refusals) (verdict-early f laws) order query before bytes r codes
 
-  -- "53 bytes are enough for every report": they are never refused, and every byte past them is zero.
-  pub verdict-room : 53 ≤ length before → (place : ℕ) → answerIn r ≡ calls.refused 9 place → ⊥
-  verdict-room l place e = room-enough calls.oneLinkForm one-link-laws (inputOf order query before) l place (sym verdict-number ∙ e)
+  -- "53 bytes are enough for every report", with three links 85: they are never refused, and every byte past them is zero.
+  pub verdict-room : f .room ≤ length before → (place : ℕ) → answerIn r ≡ calls.refused 9 place → ⊥
+  verdict-room l place e = room-enough f laws (inputOf order query before) l place (sym verdict-number ∙ e)
 
-  pub verdict-short : (n : ℕ) → 53 ≤ n → getD bytes n 0 ≡ 0
-  verdict-short n l = ap (λ (b : List ℕ). getD b n 0) (codes .leaves) ∙ report-short calls.oneLinkForm one-link-laws (inputOf order query before) n l
+  pub verdict-short : (n : ℕ) → f .room ≤ n → getD bytes n 0 ≡ 0
+  verdict-short n l = ap (λ (b : List ℕ). getD b n 0) (codes .leaves) ∙ report-short f laws (inputOf order query before) n l
 
 -- The derivation call
-module _ (order query before bytes : List ℕ) (r : ℕ) (codes : Codes (derivationCall (inputOf order query before)) r bytes) where
+module _ (f : CallForm) (laws : FormLaws f) (short : f .longest < 65536) (order query before bytes : List ℕ) (r : ℕ) (codes : Codes (derivationCallOf f (inputOf order query before)) r bytes) where
   -- "The number gives back the answer."
-  pub derivation-number : answerIn r ≡ derivationCall (inputOf order query before) .answer
-  derivation-number = number-back derivationChecks derivationCall (demand1 .derivation-refusals) (derivation-early calls.oneLinkForm one-link-laws) order query before bytes r codes
+  pub derivation-number : answerIn r ≡ derivationCallOf f (inputOf order query before) .answer
+  derivation-number = number-back (derivationChecksOf f) (derivationCallOf f) (f .longest) short (demand1-of f laws .derivation-refusals) (derivation-early f laws) order query before bytes r codes
 
-  -- "refused 1 to 8, 26, 11 and 12"; a refusal's place is at most the query's length, and at most 561.
-  pub derivation-numbered : (k place : ℕ) → answerIn r ≡ calls.refused k place → List·Memᴰ k (1 ∷ 2 ∷ 3 ∷ 26 ∷ 4 ∷ 5 ∷ 6 ∷ 7 ∷ 8 ∷ 11 ∷ 12 ∷ [])
-  derivation-numbered k place e =
-      subst (λ (ks : List ℕ). List·Memᴰ k (ks ++ (11 ∷ 12 ∷ []))) (checks-in-order .derivation-checks)
-      (numbered derivationChecks derivationCall (demand1 .derivation-refusals) (derivation-early calls.oneLinkForm one-link-laws) order query before bytes r codes k place e)
+  -- The refusals are those of its checks, "1 to 8, 26", with three links 22 too, and 11 and 12; the place as above.
+  pub derivation-numbered : (k place : ℕ) → answerIn r ≡ calls.refused k place → List·Memᴰ k (numbersOf (derivationChecksOf f))
+  derivation-numbered = numbered (derivationChecksOf f) (derivationCallOf f) (f .longest) short (demand1-of f laws .derivation-refusals) (derivation-early f laws) order query before bytes r codes
 
-  pub derivation-placed : (k place : ℕ) → answerIn r ≡ calls.refused k place → (place ≤ length query) × (place ≤ 561)
-  derivation-placed = placed derivationChecks derivationCall (demand1 .derivation-refusals) (derivation-early calls.oneLinkForm one-link-laws) order query before bytes r codes
+  pub derivation-placed : (k place : ℕ) → answerIn r ≡ calls.refused k place → (place ≤ length query) × (place ≤ f .longest)
+  derivation-placed = placed (derivationChecksOf f) (derivationCallOf f) (f .longest) short (demand1-of f laws .derivation-refusals) (derivation-early f laws) order query before bytes r codes
 
   -- "The buffer's length is kept"; "after a refusal, all of it is zero."
   pub derivation-kept : length bytes ≡ length before
-  derivation-kept = kept derivationChecks derivationCall (demand1 .derivation-refusals) (derivation-early calls.oneLinkForm one-link-laws) order query before bytes r codes
+  derivation-kept = kept (derivationChecksOf f) (derivationCallOf f) (f .longest) short (demand1-of f laws .derivation-refusals) (derivation-early f laws) order query before bytes r codes
 
   pub derivation-blank : (k place : ℕ) → answerIn r ≡ calls.refused k place → bytes ≡ replicate (length before) 0
-  derivation-blank = blank derivationChecks derivationCall (demand1 .derivation-refusals) (derivation-early calls.oneLinkForm one-link-laws) order query before bytes r codes
+  derivation-blank = blank (derivationChecksOf f) (derivationCallOf f) (f .longest) short (demand1-of f laws .derivation-refusals) (derivation-early f laws) order query before bytes r codes
 
   -- "The derivation call never answers 0."
   pub derivation-nonzero : r ≡ 0 → ⊥
   unfolding answerIn
-  derivation-nonzero e = demand1 .never-satisfiable (inputOf order query before) (sym derivation-number ∙ ap answerIn e)
+  derivation-nonzero e = demand1-of f laws .never-satisfiable (inputOf order query before) (sym derivation-number ∙ ap answerIn e)
 
   -- "64,002 bytes hold every derivation that is not refused for its line count": refusal 12 then means more than 16,000 lines.
-  pub derivation-room : 64002 ≤ length before → (place : ℕ) → answerIn r ≡ calls.refused 12 place → (ls : List Line) × (ourWalk order (decode query) ≡ refutation ls) × (16000 < length ls)
+  pub derivation-room : 64002 ≤ length before → (place : ℕ) → answerIn r ≡ calls.refused 12 place → (ls : List Line) × (ourWalk order (f .decode query) ≡ refutation ls) × (16000 < length ls)
   derivation-room l place e =
-      let (z, n, u, (ls, w, x)) = demand1 .excess-exactly (inputOf order query before) place .0 (sym derivation-number ∙ e) in
+      let (z, n, u, (ls, w, x)) = demand1-of f laws .excess-exactly (inputOf order query before) place .0 (sym derivation-number ∙ e) in
       (ls, w, ⊎-elim (λ h. h) (λ h. omega arith) x)
