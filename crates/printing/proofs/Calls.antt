@@ -13,7 +13,8 @@ use Rattle.logic.specs.Calls.{CallForm, Input, Outcome, verdictCallOf, derivati
 use Rattle.logic.specs.Demands.{Fits}
 use Rattle.theory.proofs.Basics.Compare.{le-cases}
 use Rattle.theory.proofs.Calls.CallLaws.{FormLaws}
-use Rattle.prover.specs.Promise.{meaning, formOf, Does}
+use Rattle.call_limits.specs.Forms.{formOf}
+use Rattle.prover.specs.Promise.{meaning, Does}
 use Rattle.prover.specs.declared.Answer.{Answer}
 use Rattle.prover.specs.declared.Answer.the-variants as answer
 use Rattle.theory.proofs.Calls.Demands.{demand2-of}

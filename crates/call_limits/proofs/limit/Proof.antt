@@ -2,8 +2,8 @@
 use native.Mathlib.Omega.{arith}
 use native.Mathlib.Nat.{mul-le-mul}
 use borrow.Author.Needs.{needs}
-use Rattle.prover.proofs.limit.Statement.{statement}
-use Rattle.prover.proofs.limit.Tie as tie
+use Rattle.call_limits.proofs.limit.Statement.{statement}
+use Rattle.call_limits.proofs.limit.Tie as tie
 
 pub limit-spec : {M : Type 1} → statement M
 limit-spec =
