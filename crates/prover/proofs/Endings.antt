@@ -13,7 +13,7 @@ use Rattle.logic.specs.Decision.{Reachable, HasHeap, NoHeap}
 use Rattle.theory.proofs.Query.Tied.{Accepted}
 use Rattle.theory.proofs.Calls.Decision.{start-heap}
 use Rattle.theory.proofs.Calls.Verdicts.{our-right}
-use Rattle.start.specs.Taken.{started}
+use Rattle.start.specs.Started.{started}
 use Rattle.decide.specs.Tells.{isRefuted, Walks}
 use Rattle.decide.specs.declared.Walked.{Walked}
 use Rattle.decide.specs.declared.Kind.{Kind}

@@ -7,7 +7,7 @@ use lib.ListN.{length}
 use Rattle.query.specs.declared.Checked.{Checked}
 use Rattle.link_query.specs.Answers.{CheckedBy}
 use Rattle.link_query.proofs.Accepted.{accepted-said}
-use Rattle.prover.specs.Promise.{formOf}
+use Rattle.call_limits.specs.Forms.{formOf}
 use Rattle.prover.proofs.Answers.{blank-again, blank-long, laws-of, room-of, verdict-order, verdict-query, verdict-room, verdict-walked}
 use Rattle.prover.proofs.Demands.{report-whole}
 use Rattle.prover.proofs.verdict_in.Statement.{statement}
