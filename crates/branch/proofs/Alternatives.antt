@@ -28,6 +28,17 @@ getD-other [] i d e h = absurd (omega arith)
 getD-other (x ∷ xs) zero d e h = refl
 getD-other (x ∷ xs) (suc i) d e h = getD-other xs i d e (omega arith)
 
+-- a cycle has no more terms than there are
+pub count-few : (r : Rule) (z : ℕ) → z ≤ 16 → countOf r z ≤ 16
+count-few REFLEX z h = omega arith
+count-few TRANS1 z h = omega arith
+count-few TRANS2 z h = omega arith
+count-few FUNC z h = omega arith
+count-few CYCLE z h = h
+count-few SCC z h = omega arith
+count-few TOTAL z h = omega arith
+count-few SHARE z h = omega arith
+
 module _ (k n : ℕ) (g : ℕ → Graph) where
   pub count-is : (r : Rule) (x y z : ℕ) → length (alternatives n g (move k r (triple x y z))) ≡ countOf r z
   unfolding alternatives

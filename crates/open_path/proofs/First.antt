@@ -63,7 +63,7 @@ module _ {q : Query} (order : List ℕ) (ok : Accepted q) (k : ℕ) (s : Facts) 
     in-row = omega (arith, row-length q n s l r x y z terms-are)
 
     at : getD (branches (termCount q) s m) i s ≡ j .facts
-    at = sym (row-at q n s l r x y z terms-are i j here e)
+    at = sym (row-at q n s l r x y z terms-are i (j .facts) here (ap (λ (v : Joined). v .facts) e))
 
     pub open-reach : Reachable q (j .facts)
     open-reach = subst (Reachable q) at (reach-branch q s m reach app i in-row)
