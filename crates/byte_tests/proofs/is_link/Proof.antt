@@ -2,8 +2,8 @@
 use borrow.Author.Needs.{needs}
 use Rattle.logic.specs.Search.{_and_}
 use Rattle.logic.specs.ThreeLinks.{isLink}
-use Rattle.entries.proofs.is_link.Statement.{statement}
-use Rattle.entries.proofs.is_link.Tie as tie
+use Rattle.byte_tests.proofs.is_link.Statement.{statement}
+use Rattle.byte_tests.proofs.is_link.Tie as tie
 
 pub is-link-spec : {M : Type 1} → statement M
 unfolding _and_ isLink

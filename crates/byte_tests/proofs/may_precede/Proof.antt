@@ -2,8 +2,8 @@
 use borrow.Author.Needs.{needs}
 use Rattle.logic.specs.Search.{_or_}
 use Rattle.logic.specs.ThreeLinks.{mayPrecede}
-use Rattle.entries.proofs.may_precede.Statement.{statement}
-use Rattle.entries.proofs.may_precede.Tie as tie
+use Rattle.byte_tests.proofs.may_precede.Statement.{statement}
+use Rattle.byte_tests.proofs.may_precede.Tie as tie
 
 pub may-precede-spec : {M : Type 1} → statement M
 unfolding _or_ mayPrecede
