@@ -1,14 +1,14 @@
 -- The alternatives one by one are the definition's.
-use Prim.Native.Nat.{ℕ, zero, suc, _+_, _≤_, _<_}
+use Prim.Native.Nat.{ℕ, zero, suc, _≤_, _<_}
 use native.Mathlib.Omega.{arith}
-use mathlib.Core.Path.{_≡_, refl, sym, ap, _∙_}
+use mathlib.Core.Path.{_≡_, refl, ap, _∙_}
 use mathlib.Core.Bool.{cond}
 use mathlib.Core.List.{List, [], _∷_, map}
 use lib.ListN.{length, getD, length-map, List·getD-map}
 use lib.Dec.{eqb}
 use Rattle.logic.specs.Heap.{iterate}
 use Rattle.logic.specs.Facts.{Graph}
-use Rattle.logic.specs.Rules.{Rule, REFLEX, TRANS1, TRANS2, FUNC, CYCLE, SCC, TOTAL, SHARE, Triple, triple, move, Fact, equal, reaches, next, round, alternatives}
+use Rattle.logic.specs.Rules.{Rule, REFLEX, TRANS1, TRANS2, FUNC, CYCLE, SCC, TOTAL, SHARE, triple, move, Fact, equal, next, round, alternatives}
 use Rattle.branch.specs.Alternatives.{countOf, alternativeAt}
 
 round-length : (n : ℕ) (g : Graph) (k c : ℕ) → length (round n g k c) ≡ k

@@ -4,8 +4,8 @@ use mathlib.Core.Path.{_≡_, refl, sym}
 use mathlib.Core.Bool.{Bool, true, false, not, true≢false, false≢true}
 use mathlib.Core.List.{List}
 use Rattle.logic.specs.Query.{Query, termCount, isOrder}
-use Rattle.logic.specs.Facts.{Facts, Line, clash}
-use Rattle.logic.specs.Walk.{clashing, saturated, look, orderOf, walk}
+use Rattle.logic.specs.Facts.{Facts, Line}
+use Rattle.logic.specs.Walk.{clashing, saturated, look, orderOf}
 use Rattle.logic.specs.Steps.{AtMost}
 use Rattle.logic.specs.Decision.{Reachable}
 use Rattle.theory.proofs.Query.Tied.{Accepted}

@@ -8,7 +8,6 @@ use lib.ListN.{length, getD}
 use Rattle.logic.specs.Query.{Query, termCount}
 use Rattle.logic.specs.Facts.{Facts, Line, clash}
 use Rattle.logic.specs.Rules.{Rule, rules, triple, Move, move, applies, branch, branches, choose}
-use Rattle.logic.specs.Walk.{saturated}
 use Rattle.logic.specs.Decision.{HasHeap, NoHeap, Closes, Struck}
 use Rattle.theory.proofs.Query.Tied.{Accepted}
 use Rattle.theory.proofs.Paths.Applies.{hasLink-range, applies-linked}
