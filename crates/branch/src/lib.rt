@@ -66,7 +66,7 @@ fn alternative(
             Fact::Reaches(y, t)
         }
         Rule::Cycle => {
-            let round = rules::follow(link, n, x, Term(17), i);
+            let round = link_steps::follow(link, n, x, Term(17), i);
             let u = round.term;
             Fact::Equal(y, u)
         }

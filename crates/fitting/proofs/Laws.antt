@@ -15,10 +15,10 @@ use Rattle.theory.proofs.Basics.Search.{and-left}
 use Rattle.facts.specs.Square.{square}
 use Rattle.facts.specs.Path.{graphOf, linksIn, HasLink}
 use Rattle.rules.specs.Tests.{pairTest, thirdTest, looped}
-use Rattle.rules.specs.Smallest.{allowed}
-use Rattle.rules.specs.Cycle.{stepsTo}
-use Rattle.rules.proofs.Nested.{halves, applies-allowed}
-use Rattle.rules.proofs.Around.{steps-le, returns-not, returns-at, round-is, steps-links}
+use Rattle.rules.specs.Allowed.{allowed}
+use Rattle.link_steps.specs.Cycle.{stepsTo}
+use Rattle.rules.proofs.Halves.{halves, applies-allowed}
+use Rattle.link_steps.proofs.Around.{steps-le, returns-not, returns-at, round-is, steps-links}
 
 -- Tests that are made one after the other
 

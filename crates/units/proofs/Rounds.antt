@@ -13,10 +13,9 @@ use Rattle.facts.specs.Bits.{bit}
 use Rattle.facts.specs.Path.{graphOf, linksIn}
 use Rattle.facts.proofs.Bits.{bit-none}
 use Rattle.facts.proofs.Square.{square-in}
-use Rattle.rules.specs.Cycle.{stepsTo}
-use Rattle.rules.specs.Smallest.{allowed}
-use Rattle.rules.proofs.Around.{returns-at, round-is, steps-links, back-links}
-use Rattle.rules.proofs.Rows.{passed-more}
+use Rattle.link_steps.specs.Cycle.{stepsTo}
+use Rattle.rules.specs.Allowed.{allowed}
+use Rattle.link_steps.proofs.Around.{returns-at, round-is, steps-links, back-links, passed-more}
 
 -- "x=x is always held", and no other equality
 any-equal : (g : ℕ → Graph) (y : ℕ) (xs : List ℕ) → any (held g) (map (equal y) xs) ≡ any (eqb y) xs
