@@ -22,7 +22,7 @@
  *     the call.
  *
  * The calls keep nothing: no statics, no heap memory, no locks, no input or output. They may run in several threads at a
- * time. A call needs less than 700 kB of stack, one for three links less than 1.9 MB. It always returns, and no order list makes
+ * time. A call needs less than 350 kB of stack, one for three links less than 900 kB. It always returns, and no order list makes
  * a verdict slow; queries of many terms can still be made on purpose that take a second or more.
  *
  * The answer is one number. Below 65,536 it is the call's own answer; else the call was refused, and it is the refusal's

@@ -5,11 +5,11 @@ use mathlib.Core.Path.{_≡_, refl, sym, ap, _∙_, subst}
 use mathlib.Core.Logic.{_⊎_, ⊎-elim, inl, inr}
 use mathlib.Core.Bool.{Bool, true, false}
 use Rattle.logic.specs.Heap.{iterate}
-use Rattle.theory.proofs.Basics.Search.{bool-cases, true-false}
+use Rattle.theory.proofs.Basics.Search.{true-false}
 use Rattle.theory.proofs.Basics.Compare.{le-cases}
 use Rattle.theory.proofs.Basics.Iterate.{iterate-suc, iterate-add}
 use Rattle.theory.proofs.Graph.Cycles.{Within, meets-cycle}
-use Rattle.between.proofs.Until.{Until, here, on, until-trans, until-steps}
+use Rattle.between.proofs.Until.{Until, here, on, until-trans}
 
 module _ (f : ℕ → ℕ) (chosen : ℕ → Bool) where
   -- w is the first chosen node from v on

@@ -6,13 +6,13 @@ use mathlib.Core.Logic.{_⊎_, ⊎-elim, inl, inr}
 use mathlib.Core.Bool.{Bool, true, false, cond}
 use mathlib.Core.List.{List, [], _∷_, _++_, List·Memᴰ, List·Memᴰ·head, List·Memᴰ·tail, List·Memᴰ·not-nil, Memᴰ·append-left, Memᴰ·append-right, append-assoc, append-nil}
 use lib.ListN.{length, getD, length-append, List·getD-append}
-use lib.Seq.{getD-append-add, getD-at}
+use lib.Seq.{getD-at}
 use lib.Dec.{eqb}
 use Rattle.logic.specs.Search.{from, any}
 use Rattle.logic.specs.Shown.{placeOf}
-use Rattle.theory.proofs.Basics.Search.{bool-cases, any-true, any-intro, any-false, from-mem, from-intro, true-false}
-use Rattle.theory.proofs.Basics.Compare.{eqb-true, eqb-intro, eqb-false, le-cases}
-use Rattle.theory.proofs.Completeness.Placed.{placeOf-mem, getD-mem}
+use Rattle.theory.proofs.Basics.Search.{bool-cases, any-true, any-false, from-mem, from-intro, true-false}
+use Rattle.theory.proofs.Basics.Compare.{eqb-true, eqb-intro, le-cases}
+use Rattle.theory.proofs.Completeness.Placed.{getD-mem}
 use Rattle.theory.proofs.Graph.Pigeonhole.{pigeonhole}
 
 -- a member's place in a list is not behind the list's first part that holds it

@@ -1,26 +1,25 @@
 -- The small-model theorem: a heap that meets a query has one of at most as many nodes as the query has terms (one, if it has none). Its
 -- nodes are those that the terms name, and its links, each by itself, are hops from one such node to the next.
-use Prim.Native.Nat.{ℕ, zero, suc, _-_, _≤_, _<_}
+use Prim.Native.Nat.{ℕ, zero, suc, _-_, _≤_}
 use native.Mathlib.Omega.{arith}
-use mathlib.Core.Path.{_≡_, refl, sym, ap, ap₂, _∙_, subst, subst₂}
-use mathlib.Core.Logic.{_↔_, _⊎_, ⊎-elim, inl, inr}
+use mathlib.Core.Path.{_≡_, refl, sym, ap, _∙_, subst, subst₂}
+use mathlib.Core.Logic.{_↔_, _⊎_, ⊎-elim}
 use mathlib.Core.Bool.{Bool, true, false, cond}
-use mathlib.Core.List.{List, [], _∷_, map, List·Memᴰ, List·Memᴰ·head, List·Memᴰ·eq-of-singleton}
-use lib.ListN.{length, getD, length-map}
+use mathlib.Core.List.{List, [], _∷_, List·Memᴰ, List·Memᴰ·eq-of-singleton}
+use lib.ListN.{length, getD}
 use lib.Dec.{eqb}
 use Rattle.logic.specs.Search.{any, from}
-use Rattle.logic.specs.Query.{Literal, Query, namesNil, argumentOf, linkOf, termCount}
-use Rattle.logic.specs.Heap.{Heap, Node, IsHeap, iterate, Reaches, Signed, Each, NilNode, Meets, value}
-use Rattle.logic.specs.Facts.{terms}
+use Rattle.logic.specs.Query.{Query, namesNil, argumentOf, linkOf, termCount}
+use Rattle.logic.specs.Heap.{Heap, Node, IsHeap, iterate, Reaches, Signed, NilNode, value}
 use Rattle.logic.specs.Shown.{placeOf}
-use Rattle.theory.proofs.Basics.Search.{any-true, any-intro, from-intro, from-mem, map-mem, map-intro}
+use Rattle.theory.proofs.Basics.Search.{any-true, any-intro}
 use Rattle.theory.proofs.Basics.Compare.{eqb-true, eqb-self, le-cases, cond-true}
 use Rattle.theory.proofs.Graph.Orbit.{reaches-keeps}
 use Rattle.theory.proofs.Graph.Cycles.{Within}
 use Rattle.theory.proofs.Query.Tied.{Accepted}
 use Rattle.theory.proofs.Query.Entries.{nil-range}
-use Rattle.theory.proofs.Soundness.Value.{Below, accepted-below, value-variable, value-link, value-node}
-use Rattle.theory.proofs.Completeness.Placed.{Stands, placeOf-mem, placeOf-range, placeOf-injective, getD-mem, length-from}
+use Rattle.theory.proofs.Soundness.Value.{accepted-below, value-variable, value-link, value-node}
+use Rattle.theory.proofs.Completeness.Placed.{placeOf-mem, placeOf-range, placeOf-injective, getD-mem, length-from}
 use Rattle.between.specs.Meaning.{BetweenLiteral, BetweenQuery, Between, MeetsBetween}
 use Rattle.between.proofs.Until.{Until, here, on, Nothing, reaches-until, between-until}
 use Rattle.between.proofs.Firsts.{firsts, firsts-has, firsts-all, firsts-short}

@@ -42,14 +42,6 @@ module _ (f : ℕ → Option ℕ) where
   unfolding answerAt Option·elim
   unmet k e = rw e
 
-  none-unmet : (k : ℕ) → answerAt f k ≡ none → f k ≡ none
-  unfolding answerAt Option·elim
-  none-unmet k h = go (f k) refl
-    where
-      go : (o : Option ℕ) → f k ≡ o → f k ≡ none
-      go none e = e
-      go (some place) e = absurd (none-some (sym h ∙ met k place e))
-
   pub first-told : (m i k place : ℕ) → firstOf (answerAt f) (from m i) ≡ some (refused k place) → First f i (i + m) k place
   unfolding firstOf from orElse
   first-told zero i k place h = absurd (none-some h)

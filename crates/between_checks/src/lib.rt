@@ -6,7 +6,7 @@ ghost use mathlib.Core.List.{[], _∷_};
 ghost use Prim.Native.Nat.{_+_, _*_, _≤_, _<_};
 ghost use lib.ListN.{length, drop};
 ghost use Rattle.logic.specs.Query.{signRole, termRole, roleFault, faulty, layoutOf};
-ghost use Rattle.entries.specs.Entries.{meets};
+ghost use Rattle.byte_tests.specs.Meets.{meets};
 ghost use Rattle.between_checks.specs.Answers.{faultOf, sixthFault, SixthBelow, SixthRead, Sixth, SixCheckedAs};
 
 // Where six sections stand: the first five, which end at `at`, and how many between literals follow the count that stands there.

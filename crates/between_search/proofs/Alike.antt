@@ -1,13 +1,12 @@
 -- The tests read the links of the nodes, and the nodes of the terms up to t: nothing else.
-use Prim.Native.Nat.{ℕ, zero, suc, _+_, _-_, _≤_, _<_}
+use Prim.Native.Nat.{ℕ, zero, suc, _+_, _-_, _≤_}
 use native.Mathlib.Omega.{arith}
-use mathlib.Core.Path.{_≡_, refl, sym, ap, ap₂, _∙_}
+use mathlib.Core.Path.{_≡_, refl, ap, ap₂, _∙_}
 use mathlib.Core.Logic.{⊎-elim}
-use mathlib.Core.Bool.{Bool, true, false, not, cond, _&&_, _||_}
-use mathlib.Core.List.{List, List·Memᴰ}
+use mathlib.Core.Bool.{Bool, not, cond, _&&_, _||_}
 use lib.Dec.{eqb, ltb, leb}
-use Rattle.logic.specs.Search.{_or_, from, any}
-use Rattle.logic.specs.Query.{Literal, namesNil, termCount}
+use Rattle.logic.specs.Search.{_or_, from}
+use Rattle.logic.specs.Query.{Literal, namesNil}
 use Rattle.theory.proofs.Basics.Search.{bool-cases, from-mem}
 use Rattle.between.specs.Meaning.{BetweenLiteral, BetweenQuery}
 use Rattle.between.proofs.SmallModel.{AcceptedBetween}

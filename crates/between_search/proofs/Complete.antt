@@ -1,29 +1,25 @@
 -- A heap that meets the query is one that the search meets: its links and the nodes of its terms grow by the search's rules.
 use Prim.Native.Nat.{ℕ, zero, suc, _+_, _-_, _≤_, _<_}
 use native.Mathlib.Omega.{arith}
-use mathlib.Core.Path.{_≡_, refl, sym, ap, ap₂, _∙_, subst}
-use mathlib.Core.Logic.{_↔_, _⊎_, ⊎-elim, inl, inr}
+use mathlib.Core.Path.{_≡_, refl, sym, ap, _∙_, subst}
+use mathlib.Core.Logic.{_⊎_, ⊎-elim}
 use mathlib.Core.Bool.{Bool, true, false, not, cond, _&&_}
 use mathlib.Core.List.{List, [], _∷_, _++_, map}
-use lib.ListN.{length, getD, length-append, length-map}
+use lib.ListN.{length, getD, length-append}
 use lib.Dec.{eqb, ltb}
 use borrow.Author.Tests.{le-ltb}
 use Rattle.logic.specs.Search.{from, any}
-use Rattle.logic.specs.Query.{Literal, Query, argumentOf, termCount}
-use Rattle.logic.specs.Facts.{terms}
+use Rattle.logic.specs.Query.{argumentOf, termCount}
 use Rattle.logic.specs.Heap.{Heap, Node, IsHeap, value}
-use Rattle.logic.specs.Shown.{placeOf}
-use Rattle.theory.proofs.Basics.Search.{bool-cases, not-intro, true-false}
-use Rattle.theory.proofs.Basics.Compare.{eqb-true, eqb-intro, eqb-false, le-cases, ltb-true}
+use Rattle.theory.proofs.Basics.Search.{not-intro, true-false}
+use Rattle.theory.proofs.Basics.Compare.{le-cases}
 use Rattle.theory.proofs.Soundness.Value.{accepted-below, value-node}
-use Rattle.theory.proofs.Completeness.Placed.{placeOf-injective, getD-from, length-from}
 use Rattle.between.specs.Meaning.{BetweenQuery, MeetsBetween}
-use Rattle.between.proofs.Firsts.{firsts, seenBefore, firsts-seen, firsts-new, firsts-has, firsts-short, firsts-place, firsts-length}
-use Rattle.between.proofs.SmallModel.{orOne}
+use Rattle.between.proofs.Firsts.{firsts, seenBefore, firsts-seen, firsts-new, firsts-short}
 use Rattle.between_search.specs.Tests.{isFresh, used, breaks}
 use Rattle.between_search.specs.Search.{entry, lowestNode, highestNode}
 use Rattle.between_search.proofs.Seek.{Grown}
-use Rattle.between_search.proofs.Growing.{Prefix, prefix-next, grow-by, grown-entry}
+use Rattle.between_search.proofs.Growing.{Prefix, prefix-next, grow-by}
 use Rattle.between_search.proofs.Due.{first-of, or-no, any-none}
 use Rattle.between_search.proofs.Alike.{used-alike, breaks-alike}
 use Rattle.between_search.proofs.Tested.{equal-met, reach-met, between-met, nil-holds, fields-hold}

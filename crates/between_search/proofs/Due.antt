@@ -1,15 +1,14 @@
 -- Tests that are written with the library's `&&`, and the literals that are due.
 use Prim.Native.Nat.{ℕ, _≤_}
 use native.Mathlib.Omega.{arith}
-use mathlib.Core.Path.{_≡_, refl, sym, ap, ap₂, _∙_}
+use mathlib.Core.Path.{_≡_, refl, sym, ap₂}
 use mathlib.Core.Logic.{_↔_, _⊎_, ⊎-elim, inl, inr}
-use mathlib.Core.Bool.{Bool, true, false, not, _&&_, _||_, false≢true}
+use mathlib.Core.Bool.{Bool, true, false, _&&_, _||_, false≢true}
 use mathlib.Core.List.{List, [], _∷_, List·Memᴰ, List·Memᴰ·head, List·Memᴰ·tail}
 use lib.Dec.{eqb, leb}
 use borrow.Author.Tests.{leb-true, le-leb}
 use Rattle.logic.specs.Search.{_or_, any}
 use Rattle.logic.specs.Heap.{Signed}
-use Rattle.theory.proofs.Basics.Search.{true-false, bool-cases}
 use Rattle.theory.proofs.Basics.Compare.{eqb-self, le-cases}
 use Rattle.between_search.specs.Tests.{agrees, duePair, dueTriple}
 

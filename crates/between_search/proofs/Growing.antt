@@ -1,14 +1,14 @@
 -- Lists that grow by a function's values, and what each number of a grown list met.
 use Prim.Native.Nat.{ℕ, zero, suc, _+_, _-_, _≤_, _<_}
 use native.Mathlib.Omega.{arith}
-use mathlib.Core.Path.{_≡_, refl, sym, ap, ap₂, _∙_, subst}
-use mathlib.Core.Logic.{_⊎_, ⊎-elim, inl, inr}
+use mathlib.Core.Path.{_≡_, refl, sym, ap, _∙_, subst}
+use mathlib.Core.Logic.{_⊎_, ⊎-elim}
 use mathlib.Core.Bool.{Bool, true}
 use mathlib.Core.List.{List, [], _∷_, _++_, map, append-assoc, append-nil}
 use lib.ListN.{length, getD, length-append, List·getD-append}
 use lib.Seq.{getD-at}
 use Rattle.logic.specs.Search.{from}
-use Rattle.theory.proofs.Basics.Compare.{le-cases, eq-cases}
+use Rattle.theory.proofs.Basics.Compare.{eq-cases}
 use Rattle.between_search.specs.Search.{entry}
 use Rattle.between_search.proofs.Seek.{Grown, whole, more}
 

@@ -2,21 +2,21 @@
 use Prim.Native.Nat.{ℕ, zero, suc, _+_, _-_, _≤_, _<_}
 use native.Mathlib.Omega.{arith}
 use mathlib.Core.Path.{_≡_, refl, sym, ap, ap₂, _∙_, subst, subst₂}
-use mathlib.Core.Logic.{_↔_, _⊎_, ⊎-elim, inl, inr}
-use mathlib.Core.Bool.{Bool, true, false, cond, _&&_}
+use mathlib.Core.Logic.{_↔_, _⊎_, ⊎-elim}
+use mathlib.Core.Bool.{true, false, _&&_}
 use mathlib.Core.List.{List, [], _∷_, _++_, map, List·Memᴰ, List·Memᴰ·head, List·Memᴰ·tail, List·Memᴰ·not-nil, Memᴰ·append-left, Memᴰ·append-right}
 use mathlib.Core.Option.{Option, none, some, Option·elim}
 use lib.ListN.{length, getD, replicate, length-map}
 use lib.Seq.{ext-getD}
 use lib.Dec.{eqb, ltb}
 use borrow.Author.Tests.{ltb-false}
-use Rattle.logic.specs.Search.{from, any, keep}
+use Rattle.logic.specs.Search.{from, any}
 use Rattle.logic.specs.Query.{sections, parts, firstByte, layoutOf, decode, termCount}
 use Rattle.logic.specs.Facts.{terms}
 use Rattle.logic.specs.Heap.{Heap, IsHeap, Meets, Satisfiable, value}
-use Rattle.logic.specs.Shown.{heapIn, nodeIn, wellFormed}
+use Rattle.logic.specs.Shown.{heapIn, wellFormed}
 use Rattle.logic.specs.Calls.{Input, Check, roomCheck, oneLinkForm, Answer, refused, satisfiable, refuted, Outcome, refusalOf, accepts, padded, blank, verdictCall}
-use Rattle.logic.specs.Demands.{NotRefused, NoneStands, FirstStands}
+use Rattle.logic.specs.Demands.{NotRefused, FirstStands}
 use Rattle.theory.proofs.Basics.Search.{keep-none}
 use Rattle.theory.proofs.Completeness.Placed.{length-from}
 use Rattle.theory.proofs.Query.AcceptedBytes.{Passes, form-passes, query-passes, laid-out, sections-excesses}

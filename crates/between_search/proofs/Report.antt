@@ -2,8 +2,7 @@
 use Prim.Native.Nat.{ℕ, zero, suc, _+_, _-_, _*_, _≤_, _<_}
 use native.Mathlib.Omega.{arith}
 use native.Mathlib.Nat.{zero-mul}
-use mathlib.Core.Path.{_≡_, refl, sym, ap, ap₂, _∙_, subst}
-use mathlib.Core.Logic.{⊎-elim}
+use mathlib.Core.Path.{_≡_, refl, ap, _∙_, subst}
 use mathlib.Core.Bool.{true, _&&_}
 use mathlib.Core.List.{List, [], _∷_, _++_, map, append-assoc}
 use lib.ListN.{length, getD, replicate, length-append, length-map, List·getD-append}
@@ -11,10 +10,10 @@ use lib.Seq.{getD-append-add}
 use lib.Dec.{eqb, ltb, leb}
 use borrow.Author.Tests.{ltb-true, leb-true}
 use Rattle.logic.specs.Search.{_and_, from, any}
-use Rattle.logic.specs.Query.{Literal, termCount}
+use Rattle.logic.specs.Query.{termCount}
 use Rattle.logic.specs.Facts.{terms}
 use Rattle.logic.specs.Heap.{IsHeap}
-use Rattle.logic.specs.Shown.{byteOf, bitOf, heapIn, nodeIn, wellFormed}
+use Rattle.logic.specs.Shown.{heapIn, nodeIn, wellFormed}
 use Rattle.logic.specs.Calls.{padded}
 use Rattle.theory.proofs.Basics.Search.{not-of, and-left, and-right}
 use Rattle.theory.proofs.Completeness.Placed.{length-from, getD-from}

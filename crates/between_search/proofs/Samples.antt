@@ -1,6 +1,5 @@
 -- The samples come out as the vectors say, by computation.
 use mathlib.Core.Path.{refl}
-use mathlib.Core.Bool.{_&&_, _||_}
 use mathlib.Core.Option.{Option·elim}
 use Rattle.logic.specs.Search.{_and_, _or_, from, keep, any, orElse, isSome, firstOf, flatMap}
 use Rattle.logic.specs.Query.{entryOf, namesNil, argumentOf, termCount, entryRole, signRole, termRole, numberRole, countRole, fourSections, booleanSection, fiveSections, sections, withPart, layout, rolesOf, firstByte, layoutBy, faultIn, layoutFault, roleFault, byteFault, literals, section, queryOf}

@@ -1,12 +1,11 @@
 -- The search through all links and nodes of one size: what it finds, that nothing comes before it, and that it misses nothing.
-use Prim.Native.Nat.{ℕ, zero, suc, _+_, _-_, _≤_, _<_}
+use Prim.Native.Nat.{ℕ, suc, _+_, _-_, _≤_}
 use native.Mathlib.Omega.{arith}
-use mathlib.Core.Path.{_≡_, refl, sym, ap, ap₂, _∙_, subst}
-use mathlib.Core.Logic.{_⊎_, ⊎-elim, inl, inr}
-use mathlib.Core.Bool.{Bool, true, false, not, cond, _&&_}
+use mathlib.Core.Path.{_≡_, refl, sym, _∙_, subst}
+use mathlib.Core.Logic.{_⊎_, ⊎-elim}
+use mathlib.Core.Bool.{Bool, true, false, not, cond}
 use mathlib.Core.List.{List, [], _∷_, _++_}
 use mathlib.Core.Option.{Option, none, some}
-use lib.ListN.{length}
 use lib.Dec.{ltb}
 use Rattle.logic.specs.Query.{argumentOf, termCount}
 use Rattle.logic.specs.Calls.{padded}
@@ -14,7 +13,7 @@ use Rattle.theory.proofs.Basics.Search.{none-some}
 use Rattle.theory.proofs.Basics.Compare.{le-cases, ltb-true}
 use Rattle.between.specs.Meaning.{BetweenQuery}
 use Rattle.between_search.specs.Tests.{used, breaks}
-use Rattle.between_search.specs.Search.{Found, seek, entry, lowestNode, highestNode, seekNodes, nodesFound, seekLinks, linksFound}
+use Rattle.between_search.specs.Search.{Found, entry, lowestNode, highestNode, seekNodes, nodesFound, seekLinks, linksFound}
 use Rattle.between_search.specs.Promise.{Before}
 use Rattle.between_search.proofs.Seek.{Grown, whole, more, before-append, seek-none, seek-first, First}
 use Rattle.between_search.proofs.Growing.{grown-size}

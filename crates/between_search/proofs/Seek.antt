@@ -7,7 +7,7 @@ use mathlib.Core.Bool.{Bool, true, false, cond, false≢true}
 use mathlib.Core.List.{List, [], _∷_, _++_, append-assoc, append-nil}
 use mathlib.Core.Option.{Option, none, some}
 use lib.ListN.{length}
-use Rattle.logic.specs.Search.{from, orElse, firstOf}
+use Rattle.logic.specs.Search.{from, firstOf}
 use Rattle.theory.proofs.Basics.Search.{none-some, orElse-cases, firstOf-none, from-intro}
 use Rattle.theory.proofs.Basics.Compare.{eq-cases, le-cases}
 use Rattle.between_search.specs.Search.{seek}
@@ -69,10 +69,6 @@ module _ (lowest highest : ℕ → List ℕ → ℕ) (fits : ℕ → List ℕ �
     -- what is looked for with v as the next number
     abbrev with-next : ℕ → ℕ → List ℕ → ℕ → Option A
     with-next k i xs v = cond (fits i (xs ++ (v ∷ []))) (sought k (suc i) (xs ++ (v ∷ []))) none
-
-    seek-next : (k i : ℕ) (xs : List ℕ) → sought (suc k) i xs ≡ firstOf (with-next k i xs) (from (highest i xs + 1 - lowest i xs) (lowest i xs))
-    unfolding seek
-    seek-next k i xs = refl
 
     fitting : {b : Bool} {o o′ : Option A} → b ≡ true → cond b o none ≡ o′ → o ≡ o′
     fitting {b = true} e h = h

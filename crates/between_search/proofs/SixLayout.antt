@@ -1,18 +1,16 @@
 -- Five sections and the sixth: what the walk from the front and the search for single bytes meet in them, from what they meet in the five.
-use Prim.Native.Nat.{ℕ, zero, suc, _+_, _-_, _*_, _≤_, _<_}
+use Prim.Native.Nat.{ℕ, suc, _+_, _-_, _*_, _≤_}
 use native.Mathlib.Omega.{arith}
-use mathlib.Core.Path.{_≡_, refl, sym, ap, ap₂, _∙_, subst}
-use mathlib.Core.Logic.{_⊎_, ⊎-elim, inl, inr}
+use mathlib.Core.Path.{_≡_, refl, sym, ap, _∙_}
 use mathlib.Core.Bool.{Bool, true, false, not, cond}
 use mathlib.Core.List.{List, [], _∷_, _++_, append-assoc, append-nil}
 use mathlib.Core.Option.{Option, none, some}
-use lib.ListN.{length, take, drop, length-append, length-drop, take-append-drop}
+use lib.ListN.{length, take, drop, length-append, take-append-drop}
 use lib.Seq.{length-take-le, take-at, drop-at}
 use lib.Dec.{eqb, leb}
 use borrow.Author.Tests.{leb-true, le-leb}
-use Rattle.logic.specs.Search.{_and_, from, flatMap, keep, orElse}
-use Rattle.logic.specs.Query.{Role, Section, countRole, fourSections, booleanSection, fiveSections, sections, Layout, faulty, parts, withPart, layout, rolesOf, roleFault}
-use Rattle.theory.proofs.Query.Bytes.{Regular}
+use Rattle.logic.specs.Search.{_and_, keep, orElse}
+use Rattle.logic.specs.Query.{Role, Section, fourSections, booleanSection, fiveSections, sections, Layout, faulty, parts, withPart, layout, roleFault}
 use Rattle.between_search.proofs.Layouts.{prepend, layout-append}
 
 -- what is met before the end of the five is met in the six

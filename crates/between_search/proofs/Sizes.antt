@@ -2,25 +2,25 @@
 -- the one found.
 use Prim.Native.Nat.{ℕ, zero, suc, _+_, _-_, _≤_, _<_}
 use native.Mathlib.Omega.{arith}
-use mathlib.Core.Path.{_≡_, refl, sym, ap, ap₂, _∙_, subst, subst₂}
+use mathlib.Core.Path.{_≡_, refl, sym, ap, _∙_, subst, subst₂}
 use mathlib.Core.Logic.{_⊎_, ⊎-elim, inl, inr}
-use mathlib.Core.Bool.{Bool, true, false, not, cond, false≢true}
+use mathlib.Core.Bool.{Bool, true, false, cond, false≢true}
 use mathlib.Core.List.{List, [], _∷_, _++_, map, List·Memᴰ, List·Memᴰ·not-nil}
 use mathlib.Core.Option.{Option, none, some}
 use lib.ListN.{length, length-map}
 use lib.Dec.{eqb}
 use Rattle.logic.specs.Search.{from, isSome}
-use Rattle.logic.specs.Query.{argumentOf, termCount}
+use Rattle.logic.specs.Query.{termCount}
 use Rattle.logic.specs.Facts.{terms}
-use Rattle.logic.specs.Heap.{Heap, Node, IsHeap, value}
+use Rattle.logic.specs.Heap.{Heap, IsHeap, value}
 use Rattle.logic.specs.Shown.{placeOf}
-use Rattle.theory.proofs.Basics.Search.{none-some, bool-cases, true-false, firstOf-none, from-intro}
-use Rattle.theory.proofs.Basics.Compare.{eqb-true, eqb-intro, eqb-false, eq-cases, le-cases}
+use Rattle.theory.proofs.Basics.Search.{none-some, firstOf-none, from-intro}
+use Rattle.theory.proofs.Basics.Compare.{eqb-intro, eqb-false, eq-cases, le-cases}
 use Rattle.theory.proofs.Soundness.Value.{value-node}
 use Rattle.theory.proofs.Completeness.Placed.{placeOf-injective, length-from}
 use Rattle.between.specs.Meaning.{BetweenQuery, MeetsBetween}
 use Rattle.between.proofs.Firsts.{firsts, firsts-has, firsts-short, firsts-within, firsts-place, firsts-length}
-use Rattle.between.proofs.SmallModel.{orOne, small, small-is, small-value, small-size, small-meets, small-named, named}
+use Rattle.between.proofs.SmallModel.{orOne, small, small-is, small-value, small-size, small-meets, small-named}
 use Rattle.between_search.specs.Tests.{used}
 use Rattle.between_search.specs.Search.{Found, linksFound, sizeFound, mostNodes, heapFound}
 use Rattle.between_search.specs.Promise.{Before, lower, same, rank}

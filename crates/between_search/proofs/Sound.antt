@@ -1,25 +1,24 @@
 -- What is found meets the query: a heap with these links, in which the terms name these nodes.
-use Prim.Native.Nat.{ℕ, zero, suc, _+_, _-_, _≤_, _<_}
+use Prim.Native.Nat.{ℕ, zero, suc, _+_, _-_, _≤_}
 use native.Mathlib.Omega.{arith}
-use mathlib.Core.Path.{_≡_, refl, sym, ap, ap₂, _∙_, subst}
-use mathlib.Core.Logic.{_↔_, _⊎_, ⊎-elim, inl, inr}
+use mathlib.Core.Path.{_≡_, refl, sym, ap, _∙_, subst}
+use mathlib.Core.Logic.{_⊎_, ⊎-elim}
 use mathlib.Core.Bool.{Bool, true, false, not, cond, _&&_}
 use mathlib.Core.List.{List, [], _∷_, _++_, List·Memᴰ}
-use lib.ListN.{length}
 use lib.Dec.{eqb, ltb}
 use Rattle.logic.specs.Search.{any}
-use Rattle.logic.specs.Query.{Literal, Query, namesNil, argumentOf, termCount}
-use Rattle.logic.specs.Heap.{Heap, Node, IsHeap, Signed, Meets, NilNode, value}
-use Rattle.theory.proofs.Basics.Search.{bool-cases, not-true, any-false}
+use Rattle.logic.specs.Query.{Literal, argumentOf, termCount}
+use Rattle.logic.specs.Heap.{Heap, IsHeap, Signed, value}
+use Rattle.theory.proofs.Basics.Search.{not-true, any-false}
 use Rattle.theory.proofs.Basics.Compare.{eqb-intro, eqb-false, le-cases, cond-true, cond-false, ltb-true}
 use Rattle.theory.proofs.Query.Entries.{nil-range}
 use Rattle.theory.proofs.Soundness.Value.{accepted-below, value-variable}
-use Rattle.between.specs.Meaning.{BetweenLiteral, BetweenQuery, MeetsBetween}
+use Rattle.between.specs.Meaning.{BetweenQuery, MeetsBetween}
 use Rattle.between_search.specs.Tests.{used, breaks, nilBreaks, fieldBreaks, pairBreaks, tripleBreaks}
 use Rattle.between_search.specs.Search.{entry, lowestNode, highestNode}
 use Rattle.between_search.proofs.Seek.{Grown}
-use Rattle.between_search.proofs.Growing.{Prefix, prefix-next, Met, grown-met}
-use Rattle.between_search.proofs.Due.{first-of, second-of, no-or}
+use Rattle.between_search.proofs.Growing.{prefix-next, Met, grown-met}
+use Rattle.between_search.proofs.Due.{second-of, no-or}
 use Rattle.between_search.proofs.OneLink.{AcceptedSix, reach-one, value-one}
 use Rattle.between_search.proofs.Alike.{breaks-alike}
 use Rattle.between_search.proofs.Tested.{equal-met, reach-met, between-met, nil-rule, fields-met}

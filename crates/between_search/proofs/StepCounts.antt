@@ -2,14 +2,13 @@
 use Prim.Native.Nat.{ℕ, zero, suc, _+_, _-_, _≤_, _<_}
 use native.Mathlib.Omega.{arith}
 use native.Mathlib.Decide.{ℕ-discrete}
-use mathlib.Core.Path.{_≡_, refl, sym, ap, ap₂, _∙_, subst}
-use mathlib.Core.Logic.{_↔_, _⊎_, ⊎-elim, inl, inr}
+use mathlib.Core.Path.{_≡_, refl, sym, ap, _∙_, subst}
+use mathlib.Core.Logic.{_↔_, _⊎_, ⊎-elim}
 use mathlib.Core.Bool.{Bool, true, false, cond, _&&_, false≢true}
 use lib.Dec.{eqb, leb}
-use borrow.Author.Tests.{leb-true, le-leb, lt-leb, leb-false}
+use borrow.Author.Tests.{leb-true, le-leb}
 use Rattle.logic.specs.Heap.{iterate, Reaches}
-use Rattle.theory.proofs.Basics.Compare.{eqb-true, eqb-intro, eqb-false, le-cases}
-use Rattle.theory.proofs.Basics.Search.{bool-cases}
+use Rattle.theory.proofs.Basics.Compare.{eqb-intro, eqb-false, le-cases}
 use Rattle.theory.proofs.Basics.Iterate.{iterate-add}
 use Rattle.theory.proofs.Graph.Pigeonhole.{pigeonhole}
 use Rattle.between.specs.Meaning.{MetAfter, Between}

@@ -1,22 +1,21 @@
 -- In a heap of at most five nodes, the tests say what the literals mean.
-use Prim.Native.Nat.{ℕ, zero, suc, _+_, _-_, _≤_, _<_}
+use Prim.Native.Nat.{ℕ, _-_, _≤_}
 use native.Mathlib.Omega.{arith}
 use mathlib.Core.Path.{_≡_, refl, sym, ap, ap₂, _∙_, subst}
 use mathlib.Core.Logic.{_↔_, _⊎_, ⊎-elim, inl, inr}
-use mathlib.Core.Bool.{Bool, true, false, not, cond, _&&_, _||_, false≢true}
+use mathlib.Core.Bool.{Bool, true, false, not, _&&_, _||_, false≢true}
 use mathlib.Core.List.{List, List·Memᴰ}
-use lib.Dec.{eqb, ltb, leb}
+use lib.Dec.{eqb, leb}
 use Rattle.logic.specs.Search.{_or_, from, any}
-use Rattle.logic.specs.Query.{Literal, Entries, Query, namesNil, termCount}
-use Rattle.logic.specs.Heap.{Heap, Node, IsHeap, Reaches, Signed, MeansEqual, MeansReach, MeansField, NilNode, Meets, value}
-use Rattle.theory.proofs.Basics.Search.{bool-cases, true-false, not-true, not-intro, any-true, any-intro, any-false, from-mem, from-intro}
+use Rattle.logic.specs.Query.{Literal, Entries, namesNil}
+use Rattle.logic.specs.Heap.{Heap, IsHeap, Signed, MeansEqual, MeansReach, NilNode, value}
+use Rattle.theory.proofs.Basics.Search.{bool-cases, true-false, any-true, any-intro, any-false, from-intro}
 use Rattle.theory.proofs.Basics.Compare.{eqb-true, eqb-intro, eqb-self, eq-cases, le-cases}
 use Rattle.theory.proofs.Soundness.Value.{value-node, signed-true, signed-false}
-use Rattle.between.specs.Meaning.{BetweenLiteral, BetweenQuery, Between, MeansBetween, MeetsBetween}
-use Rattle.between.proofs.SmallModel.{AcceptedBetween}
-use Rattle.between_search.specs.Tests.{steps, agrees, duePair, dueTriple, pairBreaks, tripleBreaks, nilBreaks, saysField, hasField, opposed, fieldBreaks, used, breaks}
+use Rattle.between.specs.Meaning.{BetweenLiteral, MeansBetween}
+use Rattle.between_search.specs.Tests.{steps, agrees, duePair, dueTriple, pairBreaks, tripleBreaks, nilBreaks, saysField, hasField, opposed, fieldBreaks}
 use Rattle.between_search.proofs.StepCounts.{Stays, stays, equal-steps, reach-steps, between-steps}
-use Rattle.between_search.proofs.Due.{both, first-of, second-of, and-false, either-left, either-right, one-of, not-both, no-or, or-no, any-none, signed-agrees, pair-due-somewhere, triple-due-somewhere}
+use Rattle.between_search.proofs.Due.{both, first-of, second-of, and-false, either-left, either-right, not-both, any-none, signed-agrees, pair-due-somewhere, triple-due-somewhere}
 
 -- not (not b)
 pub not-not : {b : Bool} → not b ≡ false → b ≡ true

@@ -4,7 +4,7 @@ use mathlib.Core.List.{List, [], _∷_, _++_}
 use lib.Dec.{eqb, ltb}
 use Rattle.logic.specs.Search.{keep}
 use Rattle.logic.specs.Query.{Section, Form, signRole, termRole, sections, Layout, faulty, parts, firstByte, layoutBy, section, queryOf}
-use Rattle.logic.specs.Calls.{Input, Check, formChecks, roomCheck}
+use Rattle.logic.specs.Calls.{Check, formChecks, roomCheck}
 use Rattle.between.specs.Meaning.{BetweenLiteral, BetweenQuery}
 
 -- "a sixth section of up to 60 such literals (sign, x, y, z)"

@@ -6,12 +6,12 @@ use mathlib.Core.Bool.{true}
 use mathlib.Core.List.{List, [], _∷_, _++_, map}
 use lib.ListN.{replicate}
 use Rattle.logic.specs.Search.{from}
-use Rattle.logic.specs.Query.{decode, termCount}
+use Rattle.logic.specs.Query.{termCount}
 use Rattle.logic.specs.Facts.{terms}
 use Rattle.logic.specs.Heap.{Heap, value}
 use Rattle.logic.specs.Shown.{heapIn, nodeIn, wellFormed}
-use Rattle.logic.specs.Calls.{Answer, Input, Outcome, verdictCall}
-use Rattle.logic.specs.Demands.{NotRefused, NoneStands, FirstStands}
+use Rattle.logic.specs.Calls.{Answer, Input, verdictCall}
+use Rattle.logic.specs.Demands.{NotRefused, FirstStands}
 use Rattle.between.specs.Meaning.{BetweenQuery, MeetsBetween, SatisfiableBetween}
 use Rattle.between_search.specs.Bytes.{decodeSix, betweenChecks}
 use Rattle.between_search.specs.Search.{mostNodes}

@@ -5,7 +5,7 @@ use mathlib.Core.List.{List, [], _∷_, _++_, map}
 use mathlib.Core.Option.{Option, none, some}
 use lib.ListN.{getD}
 use lib.Dec.{eqb, ltb}
-use Rattle.logic.specs.Search.{_and_, from, any, isSome, firstOf}
+use Rattle.logic.specs.Search.{from, any, isSome, firstOf}
 use Rattle.logic.specs.Query.{Literal, argumentOf, termCount}
 use Rattle.logic.specs.Shown.{byteOf}
 use Rattle.logic.specs.Facts.{terms}

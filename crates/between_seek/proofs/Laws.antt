@@ -8,7 +8,7 @@ use mathlib.Core.List.{List, [], _∷_, _++_}
 use mathlib.Core.Option.{Option, none, some}
 use lib.ListN.{length, getD, set, take, replicate, length-replicate, length-append, length-take}
 use lib.Seq.{take-suc-set, length-take-le}
-use lib.Dec.{eqb, ltb}
+use lib.Dec.{ltb}
 use borrow.Author.Tests.{eq-eqb, ne-eqb, lt-ltb, le-ltb, ltb-true}
 use Rattle.logic.specs.Search.{_or_, from, any, keep, isSome, firstOf}
 use Rattle.logic.specs.Query.{argumentOf, termCount}

@@ -1,5 +1,5 @@
 -- Laws of the tests, as the code's branches and loops meet them.
-use Prim.Native.Nat.{ℕ, zero, suc, _+_, _-_, _*_, _/_, _%_, _≤_, _<_}
+use Prim.Native.Nat.{ℕ, suc, _+_, _-_, _*_, _/_, _%_, _≤_, _<_}
 use native.Mathlib.Omega.{arith}
 use native.Mathlib.Numerals.{add-one}
 use native.Mathlib.Nat.{zero-add}
@@ -8,20 +8,20 @@ use mathlib.Core.Path.{_≡_, refl, sym, ap, ap₂, _∙_, subst}
 use mathlib.Core.Logic.{⊎-elim}
 use mathlib.Core.Bool.{Bool, true, false, not, cond, _&&_, _||_, false≢true}
 use mathlib.Core.List.{List}
-use lib.ListN.{length, getD, set, replicate, length-set}
+use lib.ListN.{length, getD, set}
 use lib.Seq.{getD-set-same, getD-set-other, set-out}
-use lib.Dec.{eqb, ltb, leb}
-use borrow.Author.Tests.{eq-eqb, ne-eqb, leb-true, eqb-true}
+use lib.Dec.{eqb, leb}
+use borrow.Author.Tests.{eq-eqb, ne-eqb, leb-true}
 use Rattle.logic.specs.Search.{from, any}
 use Rattle.theory.proofs.Basics.Compare.{le-cases}
-use Rattle.logic.specs.Query.{Literal, Entries, entryOf, namesNil, argumentOf, decode}
+use Rattle.logic.specs.Query.{Literal, Entries, namesNil, argumentOf, decode}
 use Rattle.query.specs.declared.Layout.{Layout}
 use Rattle.query.specs.LaysOut.{LaysOut, literalIn}
 use Rattle.query.proofs.Literals.{listed, literals-are, entry-is}
 use Rattle.between.specs.Meaning.{BetweenLiteral}
 use Rattle.between_search.specs.Tests.{stepCount, steps, agrees, duePair, dueTriple, pairBreaks, tripleBreaks, nilBreaks, saysField, hasField, opposed, fieldBreaks, isFresh, used}
 use Rattle.between_search.specs.Search.{entry}
-use Rattle.between_tests.specs.Tables.{Small, Stepped, Opposed, literalsIn, tripleIn}
+use Rattle.between_tests.specs.Tables.{Small, literalsIn}
 
 -- Step counts
 
@@ -67,9 +67,6 @@ module _ {A : Type 0} (g : ℕ → ℕ → A) (d : A) where
   -- the entries below i are made
   abbrev pub MadeTo : List A → ℕ → Type 0
   MadeTo table i = (j : ℕ) → j < i → getD table j d ≡ g (j / 6) (j % 6)
-
-  pub made-none : (table : List A) → MadeTo table 0
-  made-none table j h = absurd (omega arith)
 
   pub made-next : (table : List A) (i : ℕ) (a : A) → i < length table → a ≡ g (i / 6) (i % 6) → MadeTo table i → MadeTo (set table i a) (i + 1)
   made-next table i a l e m j h = elim (ℕ-discrete j i) [

@@ -1,10 +1,10 @@
 -- The between literals as a list of what is read in place.
 use Prim.Native.Nat.{ℕ, zero, suc, _+_, _*_, _≤_}
-use native.Mathlib.Nat.{add-zero, sub-zero, add-assoc}
+use native.Mathlib.Nat.{sub-zero, add-assoc}
 use native.Mathlib.Omega.{arith}
 use mathlib.Core.Path.{_≡_, refl, sym, ap, _∙_}
-use mathlib.Core.List.{List, [], _∷_, map}
-use lib.ListN.{length, getD, drop, length-drop, drop-of-length-le}
+use mathlib.Core.List.{List, _∷_, map}
+use lib.ListN.{length, getD, drop, drop-of-length-le}
 use Rattle.logic.specs.Search.{from}
 use Rattle.query.proofs.Literals.{listed}
 use Rattle.entries.proofs.Loops.{drop-next}

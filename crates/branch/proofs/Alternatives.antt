@@ -1,14 +1,14 @@
 -- The alternatives one by one are the definition's.
-use Prim.Native.Nat.{ℕ, zero, suc, _+_, _≤_, _<_}
+use Prim.Native.Nat.{ℕ, zero, suc, _≤_, _<_}
 use native.Mathlib.Omega.{arith}
-use mathlib.Core.Path.{_≡_, refl, sym, ap, _∙_}
+use mathlib.Core.Path.{_≡_, refl, ap, _∙_}
 use mathlib.Core.Bool.{cond}
 use mathlib.Core.List.{List, [], _∷_, map}
 use lib.ListN.{length, getD, length-map, List·getD-map}
 use lib.Dec.{eqb}
 use Rattle.logic.specs.Heap.{iterate}
 use Rattle.logic.specs.Facts.{Graph}
-use Rattle.logic.specs.Rules.{Rule, REFLEX, TRANS1, TRANS2, FUNC, CYCLE, SCC, TOTAL, SHARE, Triple, triple, move, Fact, equal, reaches, next, round, alternatives}
+use Rattle.logic.specs.Rules.{Rule, REFLEX, TRANS1, TRANS2, FUNC, CYCLE, SCC, TOTAL, SHARE, triple, move, Fact, equal, next, round, alternatives}
 use Rattle.branch.specs.Alternatives.{countOf, alternativeAt}
 
 round-length : (n : ℕ) (g : Graph) (k c : ℕ) → length (round n g k c) ≡ k
@@ -27,6 +27,17 @@ getD-other {ℓ} : {A : Type ℓ} (xs : List A) (i : ℕ) (d e : A) → i < leng
 getD-other [] i d e h = absurd (omega arith)
 getD-other (x ∷ xs) zero d e h = refl
 getD-other (x ∷ xs) (suc i) d e h = getD-other xs i d e (omega arith)
+
+-- a cycle has no more terms than there are
+pub count-few : (r : Rule) (z : ℕ) → z ≤ 16 → countOf r z ≤ 16
+count-few REFLEX z h = omega arith
+count-few TRANS1 z h = omega arith
+count-few TRANS2 z h = omega arith
+count-few FUNC z h = omega arith
+count-few CYCLE z h = h
+count-few SCC z h = omega arith
+count-few TOTAL z h = omega arith
+count-few SHARE z h = omega arith
 
 module _ (k n : ℕ) (g : ℕ → Graph) where
   pub count-is : (r : Rule) (x y z : ℕ) → length (alternatives n g (move k r (triple x y z))) ≡ countOf r z

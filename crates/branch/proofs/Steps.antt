@@ -9,8 +9,8 @@ use lib.Dec.{eqb}
 use borrow.Author.Tests.{eq-eqb, ne-eqb}
 use Rattle.rules.specs.declared.Rule as rules
 use Rattle.rules.specs.Answers.{kindOf}
-use Rattle.rules.specs.Cycle.{stepsTo}
-use Rattle.rules.proofs.Around.{steps-never, iterate-le}
+use Rattle.link_steps.specs.Cycle.{stepsTo}
+use Rattle.link_steps.proofs.Around.{steps-never, iterate-le}
 use Rattle.branch.specs.Alternatives.{alternativeAt}
 use Rattle.logic.specs.Heap.{iterate}
 use Rattle.logic.specs.Search.{find}

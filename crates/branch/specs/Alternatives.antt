@@ -4,7 +4,7 @@ use mathlib.Core.Bool.{cond}
 use lib.Dec.{eqb}
 use Rattle.logic.specs.Heap.{iterate}
 use Rattle.logic.specs.Facts.{Graph}
-use Rattle.logic.specs.Rules.{Rule, REFLEX, TRANS1, TRANS2, FUNC, CYCLE, SCC, TOTAL, SHARE, Triple, triple, Move, move, Fact, equal, reaches, next}
+use Rattle.logic.specs.Rules.{Rule, REFLEX, TRANS1, TRANS2, FUNC, CYCLE, SCC, TOTAL, SHARE, Fact, equal, reaches, next}
 
 -- how many there are, the third number of the triple being z
 abbrev pub countOf : Rule → ℕ → ℕ

@@ -1,22 +1,22 @@
 -- The bytes of a text's derivation, and the texts of answers. Assumes nothing.
-use Prim.Native.Nat.{ℕ, zero, suc, _+_, _-_, _*_, _/_, _%_, _≤_, _<_, min}
+use Prim.Native.Nat.{ℕ, _+_, _-_, _*_, _/_, _%_, _≤_, _<_, min}
 use native.Mathlib.Omega.{arith}
-use mathlib.Core.Path.{_≡_, refl, sym, ap, subst, _∙_}
+use mathlib.Core.Path.{_≡_, refl, sym, ap, _∙_}
 use mathlib.Core.Logic.{⊎-elim}
-use mathlib.Core.Bool.{Bool, true, false, not, cond, false≢true}
+use mathlib.Core.Bool.{Bool, true, false, cond}
 use mathlib.Core.List.{List, [], _∷_, _++_}
 use mathlib.Core.Option.{Option, none, some, Option·elim}
 use lib.ListN.{length, getD, take, drop, length-drop, drop-of-length-le}
-use lib.Seq.{take-all, take-nil, length-take-le}
+use lib.Seq.{take-all, take-nil}
 use lib.Dec.{eqb, ltb}
-use borrow.Author.Tests.{lt-ltb, le-ltb, ne-eqb, eq-eqb, eqb-true}
-use Rattle.logic.specs.Search.{_and_, keep}
-use Rattle.theory.proofs.Basics.Search.{and-left, and-right, none-some, keep-some}
+use borrow.Author.Tests.{lt-ltb, le-ltb, eqb-true}
+use Rattle.logic.specs.Search.{_and_}
+use Rattle.theory.proofs.Basics.Search.{and-right, none-some, keep-some}
 use Rattle.theory.proofs.Basics.Compare.{le-cases}
 use Rattle.text.specs.Text.{Writes, ascii, decimal, isDigit}
 use Rattle.text.proofs.Writing.{writes-then, writes-taken}
 use Rattle.wording.specs.Words.{refusedText}
-use Rattle.checking.specs.CheckCall.{Checked, countIn, checkCall}
+use Rattle.checking.specs.CheckCall.{countIn, checkCall}
 use Rattle.checker.specs.Promise.{meaning}
 use Rattle.checker.specs.declared.CheckAnswer.{CheckAnswer}
 use Rattle.checker.specs.declared.CheckAnswer.the-variants as answer

@@ -1,12 +1,12 @@
 -- What checkderivation prints, byte for byte, as a function of the bytes that it is given (02, R-8): the query's length in two bytes, high
 -- first, the query, and behind it what heapverdict printed, or a derivation's bytes.
-use Prim.Native.Nat.{ℕ, zero, suc, _+_, _-_, _*_, _/_, _%_}
+use Prim.Native.Nat.{ℕ, _+_, _-_, _*_, _/_, _%_}
 use mathlib.Core.Bool.{Bool, true, false, not, cond}
 use mathlib.Core.List.{List, [], _∷_, _++_}
 use mathlib.Core.Option.{Option, none, some, Option·elim}
 use lib.ListN.{length, take, drop}
 use lib.Dec.{eqb, ltb}
-use Rattle.logic.specs.Search.{_and_, _or_, keep}
+use Rattle.logic.specs.Search.{_and_, keep}
 use Rattle.text.specs.Text.{ascii, decimal, isDigit}
 use Rattle.wording.specs.Words.{refusedText}
 use Rattle.checking.specs.CheckCall.{Checked, accepted, wrong, refused, countIn, checkCall}

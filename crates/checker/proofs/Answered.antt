@@ -1,14 +1,12 @@
 -- What the call answers, by the start's goal.
 use Prim.Native.Nat.{ℕ, zero, suc, _+_, _*_, _≤_, _<_}
 use native.Mathlib.Omega.{arith}
-use native.Mathlib.Numerals.{add-one}
 use mathlib.Core.Path.{_≡_, refl, sym, ap, _∙_, subst}
 use mathlib.Core.Bool.{Bool, true, false, not, true≢false, false≢true}
 use mathlib.Core.List.{List, [], _∷_}
-use mathlib.Core.Option.{none, some}
-use lib.ListN.{length, drop}
+use mathlib.Core.Option.{none}
 use Rattle.logic.specs.Query.{Query, decode, termCount}
-use Rattle.logic.specs.Facts.{Facts, Joined}
+use Rattle.logic.specs.Facts.{Joined}
 use Rattle.logic.specs.Derivation.{linesIn}
 use Rattle.logic.specs.Calls.{accepts}
 use Rattle.logic.specs.Calls as calls
@@ -22,7 +20,7 @@ use Rattle.query.specs.declared.Layout.{Layout}
 use Rattle.query.specs.declared.Checked.the-variants as checked
 use Rattle.link_query.specs.Said.{said}
 use Rattle.link_query.proofs.Said.{one-said}
-use Rattle.start.specs.Taken.{started}
+use Rattle.start.specs.Started.{started}
 use Rattle.checking.specs.Fitting.{Goal, goalOf, startGoal, step, shortOf, wrongFrom, wrongLine}
 use Rattle.checking.specs.CheckCall.{Checked, accepted, wrong, refused, misshapen, byWrong, queryRefusal, checkCall}
 use Rattle.checking.proofs.Claims.{check-refused, check-misshapen, check-judged}

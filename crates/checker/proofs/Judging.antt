@@ -1,15 +1,15 @@
 -- One line more: what is left, and what is found wrong.
-use Prim.Native.Nat.{ℕ, zero, suc, _+_, _-_, _≤_, _<_}
+use Prim.Native.Nat.{ℕ, suc, _+_, _-_, _≤_, _<_}
 use native.Mathlib.Omega.{arith}
 use native.Mathlib.Numerals.{add-one}
 use mathlib.Core.Path.{_≡_, refl, sym, ap, _∙_, subst}
-use mathlib.Core.Bool.{Bool, true, false, not, cond, true≢false, false≢true}
-use mathlib.Core.List.{List, [], _∷_, _++_, map}
+use mathlib.Core.Bool.{Bool, true, false, cond, true≢false, false≢true}
+use mathlib.Core.List.{List, [], _∷_, _++_}
 use mathlib.Core.Option.{Option, none, some, Option·elim}
-use lib.ListN.{length, drop}
-use Rattle.logic.specs.Search.{keep, isSome}
+use lib.ListN.{drop}
+use Rattle.logic.specs.Search.{keep}
 use Rattle.logic.specs.Query.{Query, termCount}
-use Rattle.logic.specs.Facts.{Facts, Line, line, joinLines, isClash, clash}
+use Rattle.logic.specs.Facts.{Facts, Line, line, joinLines, isClash}
 use Rattle.logic.specs.Rules.{Move, applies}
 use Rattle.logic.specs.Walk.{isClashed}
 use Rattle.logic.specs.Derivation.{linesIn}
@@ -20,7 +20,7 @@ use Rattle.checking.specs.Fitting.{Goal, sameLine, moveIn, goalsOf, afterRule, 
 use Rattle.checking.proofs.Judged.{wrong-step, wrong-here}
 use Rattle.checker.specs.declared.Judged.{Judged}
 use Rattle.checker.specs.Reading.{Shaped, lineAt, isLine, Read, ending, ruling, unfit, readRule, readLine, readAt}
-use Rattle.checker.specs.Judging.{wrongAt, resumed, JudgesHead, JudgesGoal}
+use Rattle.checker.specs.Judging.{wrongAt, resumed, JudgesHead}
 use Rattle.checker.proofs.Lines.{drop-some, drop-none, line-within}
 
 module _ (q : Query) (bytes : List ℕ) (i : ℕ) where

@@ -4,12 +4,12 @@ use native.Mathlib.Omega.{arith}
 use mathlib.Core.Path.{_≡_, refl, sym, ap, _∙_}
 use mathlib.Core.Bool.{Bool, true, false, not, _&&_}
 use mathlib.Core.List.{List, [], _∷_}
-use mathlib.Core.Option.{Option, none, some}
+use mathlib.Core.Option.{none, some}
 use lib.ListN.{length, getD, drop}
 use lib.Seq.{getD-drop}
 use lib.Dec.{eqb, ltb, leb}
 use borrow.Author.Tests.{ne-eqb, lt-ltb, le-ltb, leb-true, leb-false, eqb-true, ltb-false}
-use Rattle.logic.specs.Search.{_and_, _or_, at}
+use Rattle.logic.specs.Search.{_or_, at}
 use Rattle.logic.specs.Facts.{Line, line}
 use Rattle.logic.specs.Derivation.{linesFrom, linesIn}
 use Rattle.fitting.proofs.Laws.{four}

@@ -1,7 +1,7 @@
 -- The numbers of a rule that applies are terms, or the steps of a cycle: at most as many as there are terms.
-use Prim.Native.Nat.{ℕ, zero, suc, _+_, _-_, _≤_, _<_}
+use Prim.Native.Nat.{ℕ, zero, suc, _-_, _≤_, _<_}
 use native.Mathlib.Omega.{arith}
-use mathlib.Core.Path.{_≡_, refl, sym, ap, _∙_, subst}
+use mathlib.Core.Path.{_≡_, refl, ap, _∙_, subst}
 use mathlib.Core.Logic.{⊎-elim}
 use mathlib.Core.Bool.{Bool, true, false, cond, false≢true}
 use mathlib.Core.List.{List, List·Memᴰ, List·Memᴰ·head, List·Memᴰ·tail}
@@ -12,10 +12,10 @@ use Rattle.logic.specs.Query.{Query, termCount}
 use Rattle.logic.specs.Facts.{Graph, Facts, live, start}
 use Rattle.logic.specs.Rules.{Rule, REFLEX, TRANS1, TRANS2, FUNC, CYCLE, SCC, TOTAL, SHARE, triple, Move, move, Fact, next, returns, round, conditions, alternatives, applies, add, branches}
 use Rattle.logic.specs.Walk.{limit}
-use Rattle.logic.specs.Steps.{Step, Steps, at-first, one-more}
+use Rattle.logic.specs.Steps.{Steps, at-first, one-more}
 use Rattle.theory.proofs.Basics.Search.{and-left, and-right, true-false, map-intro}
 use Rattle.theory.proofs.Basics.Compare.{eqb-true, eqb-intro, le-cases}
-use Rattle.theory.proofs.Graph.Cycles.{OnCycle, Within, cycle-short}
+use Rattle.theory.proofs.Graph.Cycles.{Within, cycle-short}
 use Rattle.theory.proofs.Query.Tied.{Accepted}
 use Rattle.theory.proofs.Paths.Ranged.{InRange, live-range}
 use Rattle.theory.proofs.Paths.Applies.{applies-met}

@@ -6,7 +6,6 @@ use mathlib.Core.Bool.{Bool, true, false, cond}
 use mathlib.Core.List.{List}
 use mathlib.Core.Option.{Option, none, some, Option·elim}
 use lib.ListN.{getD}
-use lib.Dec.{eqb}
 use borrow.Author.Tests.{ne-eqb}
 use Rattle.logic.specs.Search.{_and_, isSome, keep, orElse, firstOf, find}
 use Rattle.logic.specs.Query.{Query, termCount}
@@ -16,7 +15,7 @@ use Rattle.logic.specs.Walk.{isClashed}
 use Rattle.theory.proofs.Calls.OneLink.{moveOf-one}
 use Rattle.checking.specs.Fitting.{moveIn}
 use Rattle.checker.specs.Reading.{Shaped, lineAt, Read, ending, ruling, unfit, readRule, readLine, readAt}
-use Rattle.checker.proofs.Lines.{lineFrom, line-there, line-past}
+use Rattle.checker.proofs.Lines.{line-there, line-past}
 
 -- what the code finds in a query that is read by where its sections stand
 pub clash-in : (o : Option Line) (p q : Query) (s : Facts) → o ≡ clash p s → p ≡ q → o ≡ clash q s

@@ -26,7 +26,7 @@ use Rattle.theory.proofs.Calls.Refusals.{one-link-laws}
 use Rattle.theory.proofs.Calls.DerivationBytes.{derivation-length, lines-read}
 use Rattle.theory.proofs.Calls.Demands.{demand1, demand2}
 use Rattle.checking.specs.Fitting.{FirstWrong, wrongLine}
-use Rattle.checking.specs.CheckCall.{Checked, accepted, wrong, refused, countIn, misshapen, byWrong, refusedQuery, queryRefusal, checkCall}
+use Rattle.checking.specs.CheckCall.{accepted, wrong, refused, countIn, misshapen, byWrong, refusedQuery, queryRefusal, checkCall}
 use Rattle.checking.specs.Claims.{queryAlone, unpadded, Taken, Claims}
 use Rattle.checking.proofs.Judged.{zero-exactly, wrong-number, first-placed}
 

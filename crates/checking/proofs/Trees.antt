@@ -2,18 +2,17 @@
 use Prim.Native.Nat.{ℕ, _+_, _-_, _*_, _<_}
 use native.Mathlib.Omega.{arith}
 use mathlib.Core.Path.{_≡_, refl, sym, ap, ap₂, _∙_, subst}
-use mathlib.Core.Logic.{_⊎_, ⊎-elim, inl, inr}
-use mathlib.Core.Bool.{Bool, true, false, cond, false≢true}
+use mathlib.Core.Bool.{Bool, true, false, cond}
 use mathlib.Core.List.{List, [], _∷_, _++_, map, append-assoc, append-nil}
 use mathlib.Core.Option.{Option, none, some, Option·elim}
 use lib.Dec.{eqb}
 use Rattle.logic.specs.Search.{_and_, keep, isSome, firstOf}
 use Rattle.logic.specs.Query.{Query, termCount}
-use Rattle.logic.specs.Facts.{Facts, Joined, Line, line, joinLines, startJoins, start, isClash, clash, linkNumbers}
+use Rattle.logic.specs.Facts.{Facts, Line, line, joinLines, startJoins, start, isClash, clash, linkNumbers}
 use Rattle.logic.specs.Rules.{Rule, REFLEX, TRANS1, TRANS2, FUNC, CYCLE, SCC, TOTAL, SHARE, rules, ruleNumber, Triple, triple, Move, move, Fact, alternatives, hasLink, applies, branch, add, moveNumber, moveLine, moveOf}
 use Rattle.logic.specs.Walk.{isClashed}
 use Rattle.logic.specs.Derivation.{Derivation, Refutes, ends, follows, RefutesEach, none-left, one-more}
-use Rattle.theory.proofs.Basics.Search.{none-some, keep-some, keep-none, and-left, and-right, and-intro, bool-cases, true-false, isSome-false, firstOf-some}
+use Rattle.theory.proofs.Basics.Search.{none-some, keep-some, and-left, and-right, and-intro, isSome-false, firstOf-some}
 use Rattle.theory.proofs.Basics.Compare.{eqb-true, eqb-false, eqb-self}
 use Rattle.theory.proofs.Paths.Applies.{hasLink-range, applies-linked}
 use Rattle.theory.proofs.Walks.Order.{moveOf-number}

@@ -2,13 +2,13 @@
 use Prim.Native.Nat.{ℕ, zero, suc, _+_, _*_}
 use mathlib.Core.Bool.{Bool, not, cond}
 use mathlib.Core.List.{List, []}
-use mathlib.Core.Option.{Option, none, some, Option·elim}
+use mathlib.Core.Option.{Option, Option·elim}
 use lib.ListN.{length, getD}
 use lib.Dec.{eqb, ltb}
 use Rattle.logic.specs.Search.{_or_}
 use Rattle.logic.specs.Query.{decode}
 use Rattle.logic.specs.Derivation.{linesIn}
-use Rattle.logic.specs.Calls.{Input, Answer, queryChecks, refusalOf}
+use Rattle.logic.specs.Calls.{Answer, queryChecks, refusalOf}
 use Rattle.logic.specs.Calls as calls
 use Rattle.checking.specs.Fitting.{wrongLine}
 

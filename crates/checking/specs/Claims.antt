@@ -4,7 +4,6 @@ use mathlib.Core.Path.{_≡_}
 use mathlib.Core.Logic.{_↔_}
 use mathlib.Core.Bool.{true, false}
 use mathlib.Core.List.{List, [], _∷_, _++_, List·Memᴰ}
-use mathlib.Core.Option.{none, some}
 use lib.ListN.{length, take}
 use Rattle.logic.specs.Query.{decode}
 use Rattle.logic.specs.Heap.{Satisfiable}

@@ -1,8 +1,8 @@
 -- Which lines fit where they stand, and which is the first that does not (02, R-8). Nothing here is a walk of ours: what is still to be
 -- refuted is kept as a list, and a line either fits what stands first there or does not.
-use Prim.Native.Nat.{ℕ, zero, suc}
+use Prim.Native.Nat.{ℕ, suc}
 use mathlib.Core.Path.{_≡_}
-use mathlib.Core.Bool.{Bool, true, false, cond}
+use mathlib.Core.Bool.{Bool, cond}
 use mathlib.Core.List.{List, [], _∷_, _++_, map}
 use mathlib.Core.Option.{Option, none, some, Option·elim}
 use lib.ListN.{length}

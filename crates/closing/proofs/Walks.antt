@@ -2,26 +2,26 @@
 -- closed path holds, and only there do the rules behind them have their turn.
 use Prim.Native.Nat.{ℕ, zero, suc, _-_, _≤_}
 use native.Mathlib.Omega.{arith}
-use mathlib.Core.Path.{_≡_, refl, sym, ap, _∙_, subst, fun-ext}
+use mathlib.Core.Path.{_≡_, refl, sym, ap, _∙_, subst}
 use mathlib.Core.Logic.{_⊎_, ⊎-elim}
 use mathlib.Core.Bool.{Bool, true, false}
-use mathlib.Core.List.{List, [], _∷_, _++_, List·Memᴰ, List·Memᴰ·head, List·Memᴰ·tail}
+use mathlib.Core.List.{List, [], _∷_, _++_, List·Memᴰ, List·Memᴰ·head}
 use mathlib.Core.Option.{Option, none, some, Option·elim}
 use lib.Dec.{eqb}
 use Rattle.logic.specs.Search.{_and_, _or_, keep, orElse, any, firstOf}
 use Rattle.logic.specs.Query.{Query, termCount}
 use Rattle.logic.specs.Facts.{Facts, Line, linkNumbers, live, unjoined, addReach, clash}
 use Rattle.logic.specs.Rules.{Rule, REFLEX, TRANS1, TRANS2, FUNC, CYCLE, SCC, TOTAL, SHARE, Triple, triple, Move, move, Fact, reaches, conditions, alternatives, held, hasLink, applies, branch, add, branches, triples, choose}
-use Rattle.logic.specs.Walk.{look, clashing, applying, saturated, Ending, saturation, after, walk}
+use Rattle.logic.specs.Walk.{look, clashing, applying, saturated, saturation, after, walk}
 use Rattle.logic.specs.OurWalk.{Walks, goes-on, WalksEach, saturated-first}
 use Rattle.logic.specs.Steps.{Step, Steps, at-first, one-more, AtMost}
 use Rattle.logic.specs.Decision.{HasHeap, Follows, is-held, itself, by-link, onward, Closes}
-use Rattle.theory.proofs.Basics.Search.{bool-cases, true-false, not-of, and-left, and-right, and-intro, or-cases, or-left, none-some, keep-some, keep-none, any-false, any-true, firstOf-some, firstOf-none, firstOf-empty, firstOf-skip, from-mem, from-intro, map-intro}
-use Rattle.theory.proofs.Basics.Compare.{eqb-self, eqb-true}
+use Rattle.theory.proofs.Basics.Search.{bool-cases, true-false, not-of, and-left, and-right, and-intro, or-cases, or-left, none-some, keep-some, keep-none, any-false, firstOf-some, firstOf-none, firstOf-empty, firstOf-skip, from-mem, from-intro, map-intro}
+use Rattle.theory.proofs.Basics.Compare.{eqb-true}
 use Rattle.theory.proofs.Query.Tied.{Accepted}
 use Rattle.theory.proofs.Paths.Ranged.{InRange, Ranged, live-range}
 use Rattle.theory.proofs.Paths.Applies.{hasLink-range, hasLink-intro, applies-linked, applies-met, applies-new, applies-intro}
-use Rattle.theory.proofs.Walks.Order.{HoldsAll, triples-full, choose-some, choose-none}
+use Rattle.theory.proofs.Walks.Order.{HoldsAll, triples-full, choose-some}
 use Rattle.theory.proofs.Walks.OurWalk.{walks-unique, walk-walks}
 use Rattle.theory.proofs.Calls.Decision.{Known, clash-none, branch-known, heap-closed, walk-saturation, closed-known}
 use Rattle.closing.specs.Closed.{Closed, closing, Begins}

@@ -19,7 +19,7 @@ use Rattle.facts.specs.Square.{square}
 use Rattle.facts.specs.Path.{linksIn}
 use Rattle.facts.proofs.Square.{square-above}
 use Rattle.completion.specs.Links.{linkOf, InRange}
-use Rattle.facts.proofs.Selections.{terms-from, find-nothing}
+use Rattle.facts.proofs.Selections.{find-nothing}
 
 pub link-beyond : (links : List Term) (t : ℕ) → length links ≤ t → linkOf links t ≡ 0
 unfolding linkOf

@@ -1,11 +1,11 @@
 -- A heap of a path is one of every path whose facts it holds.
-use Prim.Native.Nat.{ℕ, _≤_}
+use Prim.Native.Nat.{ℕ}
 use native.Mathlib.Omega.{arith}
-use mathlib.Core.Path.{_≡_, refl, sym, ap, _∙_, subst₂}
+use mathlib.Core.Path.{sym, ap, _∙_, subst₂}
 use Rattle.logic.specs.Query.{Query, termCount}
-use Rattle.logic.specs.Heap.{Heap, Reaches, value}
+use Rattle.logic.specs.Heap.{Reaches, value}
 use Rattle.logic.specs.Facts.{Facts}
-use Rattle.logic.specs.Decision.{MeetsPath, HasHeap}
+use Rattle.logic.specs.Decision.{HasHeap}
 use Rattle.theory.proofs.Query.Tied.{Accepted}
 use Rattle.theory.proofs.Paths.Ranged.{Ranged, live-range}
 use Rattle.theory.proofs.Calls.Decision.{Known}

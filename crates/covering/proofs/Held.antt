@@ -1,19 +1,18 @@
 -- What rows hold, number by number.
 use Prim.Native.Nat.{ℕ, _+_, _≤_, _<_}
 use native.Mathlib.Omega.{arith}
-use mathlib.Core.Path.{_≡_, refl, sym, ap, _∙_, subst}
+use mathlib.Core.Path.{_≡_, sym, ap, _∙_, subst}
 use mathlib.Core.Logic.{_⊎_, ⊎-elim}
-use mathlib.Core.Bool.{Bool, true, false, cond, false≢true}
+use mathlib.Core.Bool.{Bool, true, false}
 use mathlib.Core.List.{List}
 use lib.ListN.{getD}
-use lib.Dec.{eqb}
 use Rattle.logic.specs.Facts.{Graph}
 use Rattle.theory.proofs.Basics.Search.{true-false}
 use Rattle.theory.proofs.Basics.Compare.{eq-cases, le-cases}
 use Rattle.facts.specs.Bits.{bit}
 use Rattle.facts.specs.Square.{rowOf, square}
 use Rattle.facts.proofs.Square.{row-in, row-none, square-row, square-in, square-above, square-beside}
-use Rattle.facts.specs.Path.{noFacts, repOf, graphOf, pathOf}
+use Rattle.facts.specs.Path.{noFacts, repOf, pathOf}
 use Rattle.facts.proofs.Path.{first, second, third, by-link, graph-first, graph-second, graph-third}
 use Rattle.facts.specs.declared.Facts as code
 use Rattle.covering.specs.Covers.{RowHeld, RowsHeld, GraphHeld, SameReps, Covers}

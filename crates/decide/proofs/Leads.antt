@@ -1,9 +1,9 @@
 -- What is known of a path and found there, where our walk of another path comes to it by REFLEX, TRANS1 and TRANS2 alone.
 use Prim.Native.Nat.{ℕ, _-_, _≤_}
 use native.Mathlib.Omega.{arith}
-use mathlib.Core.Path.{_≡_, refl, sym, ap, _∙_, subst}
+use mathlib.Core.Path.{_≡_, sym, ap, _∙_, subst}
 use mathlib.Core.Logic.{_⊎_, ⊎-elim}
-use mathlib.Core.Bool.{Bool, true, false, not, _&&_}
+use mathlib.Core.Bool.{Bool, true}
 use mathlib.Core.List.{List}
 use lib.ListN.{length, take, drop, length-drop}
 use lib.Seq.{take-length}
@@ -11,8 +11,8 @@ use lib.Dec.{eqb}
 use borrow.Author.Tests.{eqb-true}
 use Rattle.logic.specs.Search.{from, any, all}
 use Rattle.logic.specs.Query.{Query, termCount, isOrder}
-use Rattle.logic.specs.Facts.{Facts, live}
-use Rattle.logic.specs.Walk.{Look, look, orderOf}
+use Rattle.logic.specs.Facts.{Facts}
+use Rattle.logic.specs.Walk.{look, orderOf}
 use Rattle.logic.specs.Steps.{AtMost}
 use Rattle.logic.specs.Decision.{Closes}
 use Rattle.theory.proofs.Basics.Search.{bool-cases, and-left}
@@ -21,11 +21,9 @@ use Rattle.theory.proofs.Walks.Order.{order-full}
 use Rattle.theory.proofs.Calls.Decision.{Known, closed-known, closed-heap}
 use Rattle.closing.specs.Closed.{Closed, Begins, begins}
 use Rattle.closing.proofs.Order.{begins-with}
-use Rattle.closing.proofs.Rows.{rows-closed}
 use Rattle.closing.proofs.Walks.{closed-most, closed-walk, look-rest}
-use Rattle.facts.specs.Path.{replacedBy, pathAs, pathOf}
-use Rattle.decide.specs.Tells.{Ahead, LinkAhead, Walks}
-use Rattle.decide.specs.declared.Walked.{Walked}
+use Rattle.decide.specs.Tells.{Ahead, WalksTo}
+use Rattle.decide.specs.declared.Kind.{Kind}
 
 pub order-long : (order : List ℕ) → isOrder order ≡ true → 3 ≤ length order
 unfolding isOrder
@@ -36,20 +34,6 @@ pub look-behind : (q : Query) (order : List ℕ) (n : ℕ) (t : Facts) → n ≡
 look-behind q order n t e long b cl =
     look-rest q (orderOf order) (orderOf (drop 3 order)) (begins-with order long b) t (subst (λ (m : ℕ). Closed m t) e cl)
     ∙ ap (λ (ks : List ℕ). look q (orderOf ks) t) (sym (ap (λ (m : ℕ). take m (drop 3 order)) (sym (length-drop 3 order)) ∙ take-length (drop 3 order)))
-
--- the path that arrays hold, with the rows of each of its links closed where the order list begins with the three rules
-module _ (n : ℕ) (order : List ℕ) (begun single : Bool) (rep link reach link2 reach2 link3 reach3 later later2 later3 : List ℕ) (alive : ℕ → Bool) where
-  pub ahead-rows : begun ≡ begins order → alive ≡ live n (replacedBy rep) → n ≤ 16 → LinkAhead begun alive link reach later → LinkAhead (begun && not single) alive link2 reach2 later2 → LinkAhead (begun && not single) alive link3 reach3 later3 → Ahead n order (pathAs single rep link reach link2 reach2 link3 reach3) (pathAs single rep link later link2 later2 link3 later3)
-  ahead-rows is-begun e small first second third = (
-    λ b. rows-closed n single rep link reach link2 reach2 link3 reach3 later later2 later3 alive e (first .0 (is-begun ∙ b)) (λ f. (second .0 (both b f), third .0 (both b f))) small,
-    λ b i. pathAs single rep link (first .1 (is-begun ∙ b) i) link2 (second .1 (neither b) i) link3 (third .1 (neither b) i),
-  )
-    where
-      both : begins order ≡ true → single ≡ false → begun && not single ≡ true
-      both b f = rw (is-begun ∙ b, f) refl
-
-      neither : begins order ≡ false → begun && not single ≡ false
-      neither b = rw (is-begun ∙ b) refl
 
 module _ {q : Query} (order : List ℕ) (ok : Accepted q) (o : isOrder order ≡ true) (k : ℕ) (s t : Facts) (known : Known q s) (most : AtMost (termCount q) s k) (n : ℕ) (terms-are : n ≡ termCount q) (a : Ahead n order s t) where
   closes : begins order ≡ true → Closes (termCount q) s t
@@ -66,11 +50,11 @@ module _ {q : Query} (order : List ℕ) (ok : Accepted q) (o : isOrder order ≡
     most-closed : AtMost (termCount q) t k
     most-closed = closed-most q ok (orderOf order) (orderOf (drop 3 order)) first t closed k s known most (closes b)
 
-    walks-closed : (limited : Bool) (w : Walked) → Walks q order k t limited w → Walks q order k s limited w
-    walks-closed limited w told =
+    walks-closed : (limited : Bool) (w : Kind) (p : Facts) → WalksTo q order k t limited w p → WalksTo q order k s limited w p
+    walks-closed limited w p told =
         record {
           refuted = λ e h. told .refuted e (closed-heap q ok s t known (closes b) h);
-          ends = λ e. closed-walk q ok (orderOf order) (orderOf (drop 3 order)) first t closed k s known most (closes b) (order-full order o) (pathOf (w .facts)) (told .ends e);
+          ends = λ e. closed-walk q ok (orderOf order) (orderOf (drop 3 order)) first t closed k s known most (closes b) (order-full order o) p (told .ends e);
           gives-up = told .gives-up;
         }
 
@@ -80,5 +64,5 @@ module _ {q : Query} (order : List ℕ) (ok : Accepted q) (o : isOrder order ≡
   pub ahead-most : AtMost (termCount q) t k
   ahead-most = ⊎-elim most-closed (λ b. subst (λ (u : Facts). AtMost (termCount q) u k) (sym (a .1 b)) most) (bool-cases (begins order))
 
-  pub ahead-walks : (limited : Bool) (w : Walked) → Walks q order k t limited w → Walks q order k s limited w
-  ahead-walks limited w told = ⊎-elim (λ b. walks-closed b limited w told) (λ b. subst (λ (u : Facts). Walks q order k u limited w) (a .1 b) told) (bool-cases (begins order))
+  pub ahead-walks : (limited : Bool) (w : Kind) (p : Facts) → WalksTo q order k t limited w p → WalksTo q order k s limited w p
+  ahead-walks limited w p told = ⊎-elim (λ b. walks-closed b limited w p told) (λ b. subst (λ (u : Facts). WalksTo q order k u limited w p) (a .1 b) told) (bool-cases (begins order))

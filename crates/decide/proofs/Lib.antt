@@ -4,3 +4,4 @@ pub mod Tells
 pub mod Ended
 pub mod Turns
 pub mod Leads
+pub mod Fronts

@@ -1,33 +1,25 @@
 -- What each return of the strategies says. The laws are those of the decision of a path, stated once of any pick.
-use Prim.Native.Nat.{ℕ, zero, suc, _+_, _-_, _≤_, _<_}
+use Prim.Native.Nat.{ℕ, _+_, _-_, _≤_, _<_}
 use native.Mathlib.Omega.{arith}
 use mathlib.Core.Path.{_≡_, refl, sym, ap, _∙_, subst}
-use mathlib.Core.Bool.{Bool, true, false, not, _&&_, true≢false, false≢true}
-use mathlib.Core.List.{List, [], _∷_, List·Memᴰ, List·Memᴰ·head, List·Memᴰ·tail}
+use mathlib.Core.Bool.{Bool, true, false, _&&_, true≢false, false≢true}
 use mathlib.Core.Option.{none, some}
 use lib.ListN.{length, getD}
-use Rattle.logic.specs.Query.{Query, termCount, isOrder}
-use Rattle.logic.specs.Facts.{Facts, Line, Joined, clash}
-use Rattle.logic.specs.Rules.{Rule, rules, triple, Move, move, applies, alternatives, add, branch, branches, choose}
-use Rattle.logic.specs.Walk.{Look, clashing, applying, saturated, look, orderOf, walk, saturation}
-use Rattle.logic.specs.Steps.{AtMost}
-use Rattle.logic.specs.Decision.{HasHeap, NoHeap, Reachable, Closes, Struck}
-use Rattle.theory.proofs.Basics.Search.{map-mem}
+use Rattle.logic.specs.Query.{Query, termCount}
+use Rattle.logic.specs.Facts.{Facts, Line, clash}
+use Rattle.logic.specs.Rules.{Rule, rules, triple, Move, move, applies, branch, branches, choose}
+use Rattle.logic.specs.Decision.{HasHeap, NoHeap, Closes, Struck}
 use Rattle.theory.proofs.Query.Tied.{Accepted}
 use Rattle.theory.proofs.Paths.Applies.{hasLink-range, applies-linked}
-use Rattle.theory.proofs.Walks.Order.{HoldsAll, rules-full, order-full}
-use Rattle.theory.proofs.Walks.Derives.{seen-applying, seen-clashing, seen-saturated}
-use Rattle.theory.proofs.Walks.OurWalk.{look-some, look-fewer}
-use Rattle.theory.proofs.Calls.Decision.{Known, reachable-known, clash-none, saturated-heap, struck-next, struck-all, open-branch, branch-at, walk-first, walk-saturation, closed-known, closed-heap, heap-closed}
-use Rattle.walk.proofs.Walks.{walk-saturated}
+use Rattle.theory.proofs.Walks.Order.{rules-full}
+use Rattle.theory.proofs.Calls.Decision.{Known, clash-none, saturated-heap, struck-next, struck-all, open-branch, branch-at, closed-known, closed-heap, heap-closed}
 use Rattle.branch.specs.Alternatives.{countOf, alternativeAt}
-use Rattle.facts.specs.Path.{pathOf, HasLink}
-use Rattle.decide.specs.Tells.{isRefuted, isUnknown, Sees, Tells, Ends, Walks, Decides}
+use Rattle.facts.specs.Path.{HasLink}
+use Rattle.decide.specs.Tells.{isRefuted, isUnknown, Sees, Tells, Ends}
 use Rattle.decide.specs.declared.Kind.{Kind}
 use Rattle.decide.specs.declared.Kind.the-variants as kind
-use Rattle.decide.specs.declared.Walked.{Walked}
 use Rattle.decide.specs.declared.Seen.{Seen}
-use Rattle.decide.proofs.Branches.{row-length, row-at}
+use Rattle.decide.proofs.Branches.{same-branch, row-length, row-at}
 
 -- the cases of what is found out differ
 pub refuted-open : kind.Refuted ≡ kind.Open → ⊥
@@ -105,20 +97,21 @@ module _ {q : Query} (ok : Accepted q) (s t : Facts) (known : Known q s) (n : �
     abbrev m : Move
     m = move k r (triple x y z)
 
-    module _ (i : ℕ) (l : i < countOf r z) (j : Joined) (e : j ≡ branch n t (alternativeAt k n (t .graph k) r x y z i)) where
+    -- a branch of the closed path, whose arrays are p's
+    module _ (p : Facts) (same : p ≡ t) (i : ℕ) (l : i < countOf r z) (u : Facts) (e : u ≡ branch n p (alternativeAt k n (p .graph k) r x y z i) .facts) where
       in-row : i < length (branches (termCount q) t m)
       in-row = omega (arith, row-length q n t k r x y z terms-are)
 
-      at : getD (branches (termCount q) t m) i t ≡ j .facts
-      at = sym (row-at q n t k r x y z terms-are i j l e)
+      at : getD (branches (termCount q) t m) i t ≡ u
+      at = sym (row-at q n t k r x y z terms-are i u l (same-branch p t same n k r x y z i u e))
 
-      pub known-branch : Known q (j .facts)
+      pub known-branch : Known q u
       known-branch = subst (Known q) at (branch-at q ok t known-closed m app i in-row)
 
-      pub struck-more : Struck q t m i → (w : Kind) → Tells q (j .facts) w → isRefuted w ≡ true → Struck q t m (i + 1)
+      pub struck-more : Struck q t m i → (w : Kind) → Tells q u w → isRefuted w ≡ true → Struck q t m (i + 1)
       struck-more st w told f = struck-next q ok t m i st (subst (NoHeap q) (sym at) (told .refuted (refuted-is w f)))
 
-      pub tells-branch : (w : Kind) → Tells q (j .facts) w → isRefuted w ≡ false → Tells q s w
+      pub tells-branch : (w : Kind) → Tells q u w → isRefuted w ≡ false → Tells q s w
       tells-branch w told f =
           record {
             refuted = λ g. absurd (true≢false (sym (ap isRefuted g) ∙ f));

@@ -2,31 +2,27 @@
 use Prim.Native.Nat.{ℕ, zero, suc, _+_, _-_, _≤_, _<_}
 use native.Mathlib.Omega.{arith}
 use mathlib.Core.Path.{_≡_, refl, sym, ap, _∙_, subst}
-use mathlib.Core.Bool.{Bool, true, false, not, true≢false, false≢true}
+use mathlib.Core.Bool.{Bool, true, false, true≢false}
 use mathlib.Core.List.{List, [], _∷_, List·Memᴰ, List·Memᴰ·head, List·Memᴰ·tail}
-use mathlib.Core.Option.{none, some}
 use lib.ListN.{length, getD}
 use Rattle.logic.specs.Query.{Query, termCount, isOrder}
-use Rattle.logic.specs.Facts.{Facts, Line, Joined, clash}
-use Rattle.logic.specs.Rules.{Rule, rules, triple, Move, move, applies, alternatives, add, branch, branches, choose}
-use Rattle.logic.specs.Walk.{Look, clashing, applying, saturated, look, orderOf, walk, saturation}
+use Rattle.logic.specs.Facts.{Facts}
+use Rattle.logic.specs.Rules.{Rule, triple, Move, move, applies, alternatives, add, branch, branches}
+use Rattle.logic.specs.Walk.{applying, look, orderOf, walk, saturation}
 use Rattle.logic.specs.Steps.{AtMost}
-use Rattle.logic.specs.Decision.{HasHeap, NoHeap, Reachable, Closes, Struck}
+use Rattle.logic.specs.Decision.{NoHeap, Struck}
 use Rattle.theory.proofs.Basics.Search.{map-mem}
 use Rattle.theory.proofs.Query.Tied.{Accepted}
-use Rattle.theory.proofs.Walks.Order.{HoldsAll, rules-full, order-full}
-use Rattle.theory.proofs.Walks.Derives.{seen-applying, seen-clashing, seen-saturated}
+use Rattle.theory.proofs.Walks.Order.{order-full}
+use Rattle.theory.proofs.Walks.Derives.{seen-applying}
 use Rattle.theory.proofs.Walks.OurWalk.{look-some, look-fewer}
-use Rattle.theory.proofs.Calls.Decision.{Known, reachable-known, clash-none, saturated-heap, struck-next, struck-all, open-branch, branch-at, walk-first, walk-saturation, closed-known, closed-heap, heap-closed}
-use Rattle.walk.proofs.Walks.{walk-saturated}
+use Rattle.theory.proofs.Calls.Decision.{Known, struck-next, struck-all, branch-at, walk-first}
 use Rattle.branch.specs.Alternatives.{countOf, alternativeAt}
-use Rattle.facts.specs.Path.{pathOf}
-use Rattle.decide.specs.Tells.{isRefuted, isUnknown, Sees, Tells, Walks, Decides}
+use Rattle.decide.specs.Tells.{isRefuted, WalksTo}
 use Rattle.decide.specs.declared.Kind.{Kind}
 use Rattle.decide.specs.declared.Kind.the-variants as kind
-use Rattle.decide.specs.declared.Walked.{Walked}
 use Rattle.decide.proofs.Branches.{row-length, row-at}
-use Rattle.decide.proofs.Tells.{refuted-open, refuted-unknown, open-unknown, refuted-is}
+use Rattle.decide.proofs.Tells.{refuted-open, refuted-unknown, refuted-is}
 
 -- each branch of a rule that is seen has a step fewer
 getD-mem : {A : Type 0} (xs : List A) (i : ℕ) (d : A) → i < length xs → List·Memᴰ (getD xs i d) xs
@@ -50,34 +46,35 @@ module _ {q : Query} (order : List ℕ) (ok : Accepted q) (o : isOrder order ≡
   pub some-left : 1 ≤ k
   some-left = look-some q (orderOf order) k s m most h
 
-  module _ (i : ℕ) (here : i < countOf r z) (j : Joined) (e : j ≡ branch n s (alternativeAt l n (s .graph l) r x y z i)) where
+  module _ (i : ℕ) (here : i < countOf r z) (t : Facts) (e : t ≡ branch n s (alternativeAt l n (s .graph l) r x y z i) .facts) where
     in-row : i < length (branches (termCount q) s m)
     in-row = omega (arith, row-length q n s l r x y z terms-are)
 
-    at : getD (branches (termCount q) s m) i s ≡ j .facts
-    at = sym (row-at q n s l r x y z terms-are i j here e)
+    at : getD (branches (termCount q) s m) i s ≡ t
+    at = sym (row-at q n s l r x y z terms-are i t here e)
 
-    pub walked-known : Known q (j .facts)
+    pub walked-known : Known q t
     walked-known = subst (Known q) at (branch-at q ok s known m app i in-row)
 
-    pub walked-fewer : AtMost (termCount q) (j .facts) (k - 1)
-    walked-fewer = subst (λ (t : Facts). AtMost (termCount q) t (k - 1)) at (row-fewer q (orderOf order) k s m most h i in-row)
+    pub walked-fewer : AtMost (termCount q) t (k - 1)
+    walked-fewer = subst (λ (u : Facts). AtMost (termCount q) u (k - 1)) at (row-fewer q (orderOf order) k s m most h i in-row)
 
-    pub walked-struck : Struck q s m i → (limited : Bool) (w : Walked) → Walks q order (k - 1) (j .facts) limited w → isRefuted (w .kind) ≡ true → Struck q s m (i + 1)
-    walked-struck st limited w told f = struck-next q ok s m i st (subst (NoHeap q) (sym at) (told .refuted (refuted-is (w .kind) f)))
+    module _ (st : Struck q s m i) (limited : Bool) (w : Kind) (p : Facts) (told : WalksTo q order (k - 1) t limited w p) where
+      pub walked-struck : isRefuted w ≡ true → Struck q s m (i + 1)
+      walked-struck f = struck-next q ok s m i st (subst (NoHeap q) (sym at) (told .refuted (refuted-is w f)))
 
-    pub walked-branch : Struck q s m i → (limited : Bool) (w : Walked) → Walks q order (k - 1) (j .facts) limited w → isRefuted (w .kind) ≡ false → Walks q order k s limited w
-    walked-branch st limited w told f =
-        record {
-          refuted = λ g. absurd (true≢false (sym (ap isRefuted g) ∙ f));
-          ends = λ g. walk-first q ok (orderOf order) (order-full order o) k s known most m h i in-row st (pathOf (w .facts)) (subst (λ (t : Facts). walk q (orderOf order) (k - 1) t ≡ saturation (pathOf (w .facts))) (sym at) (told .ends g));
-          gives-up = told .gives-up;
-        }
+      pub walked-branch : isRefuted w ≡ false → WalksTo q order k s limited w p
+      walked-branch f =
+          record {
+            refuted = λ g. absurd (true≢false (sym (ap isRefuted g) ∙ f));
+            ends = λ g. walk-first q ok (orderOf order) (order-full order o) k s known most m h i in-row st p (subst (λ (u : Facts). walk q (orderOf order) (k - 1) u ≡ saturation p) (sym at) (told .ends g));
+            gives-up = told .gives-up;
+          }
 
-  pub walked-all : (i : ℕ) → Struck q s m i → countOf r z ≤ i → (limited : Bool) (w : Walked) → w .kind ≡ kind.Refuted → Walks q order k s limited w
-  walked-all i st past limited w e =
+  pub walked-all : (i : ℕ) → Struck q s m i → countOf r z ≤ i → (limited : Bool) (p : Facts) → WalksTo q order k s limited kind.Refuted p
+  walked-all i st past limited p =
       record {
         refuted = λ f. struck-all q ok s known m app i st (omega (arith, row-length q n s l r x y z terms-are));
-        ends = λ f. absurd (refuted-open (sym e ∙ f));
-        gives-up = λ f. absurd (refuted-unknown (sym e ∙ f));
+        ends = λ f. absurd (refuted-open f);
+        gives-up = λ f. absurd (refuted-unknown f);
       }

@@ -9,10 +9,9 @@ use Rattle.logic.specs.Facts.{Facts, Line, clash}
 use Rattle.logic.specs.Rules.{triple, move, applies, rules, choose}
 use Rattle.logic.specs.Walk.{orderOf, walk, saturation}
 use Rattle.logic.specs.Decision.{HasHeap, NoHeap, Closes}
-use Rattle.facts.specs.Path.{graphOf, pathOf}
+use Rattle.facts.specs.Path.{pathOf}
 use Rattle.rules.specs.Answers.{kindOf}
 use Rattle.closing.specs.Closed.{Closed, begins}
-use Rattle.closing.specs.Rows.{LinkClosed}
 use Rattle.decide.specs.declared.Kind.{Kind}
 use Rattle.decide.specs.declared.Kind.the-variants as kind
 use Rattle.decide.specs.declared.Walked.{Walked}
@@ -49,15 +48,14 @@ pub record Ends (q : Query) (s : Facts) (k : Kind) (w : Facts) : Type 0 where
 abbrev pub Ahead : ℕ → List ℕ → Facts → Facts → Type 0
 Ahead n order s t = (begins order ≡ true → Closes n s t × Closed n t) × (begins order ≡ false → t ≡ s)
 
--- the rows of one of its links: closed where that is wanted, and else as they were
-abbrev pub LinkAhead : Bool → (ℕ → Bool) → List ℕ → List ℕ → List ℕ → Type 0
-LinkAhead wanted alive link reach later = (wanted ≡ true → LinkClosed alive (graphOf link reach) (graphOf link later)) × (wanted ≡ false → later ≡ reach)
-
 -- the same of plain steps: where they find the path open, they end where our walk does; they give up only where they are limited
-pub record Walks (q : Query) (order : List ℕ) (k : ℕ) (s : Facts) (limited : Bool) (r : Walked) : Type 0 where
-  pub refuted : r .kind ≡ kind.Refuted → NoHeap q s
-  pub ends : r .kind ≡ kind.Open → walk q (orderOf order) k s ≡ saturation (pathOf (r .facts))
-  pub gives-up : r .kind ≡ kind.Unknown → limited ≡ true
+pub record WalksTo (q : Query) (order : List ℕ) (k : ℕ) (s : Facts) (limited : Bool) (r : Kind) (w : Facts) : Type 0 where
+  pub refuted : r ≡ kind.Refuted → NoHeap q s
+  pub ends : r ≡ kind.Open → walk q (orderOf order) k s ≡ saturation w
+  pub gives-up : r ≡ kind.Unknown → limited ≡ true
+
+abbrev pub Walks : Query → List ℕ → ℕ → Facts → Bool → Walked → Type 0
+Walks q order k s limited r = WalksTo q order k s limited (r .kind) (pathOf (r .facts))
 
 -- the decision: "yes" exactly if some finite heap meets the query and the facts of the path, "no" exactly if none of any size does
 pub record Decides (q : Query) (s : Facts) (r : Bool) : Type 0 where

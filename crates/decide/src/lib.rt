@@ -11,20 +11,19 @@ use rules::Third;
 ghost use mathlib.Core.Path.{_≡_};
 ghost use mathlib.Core.Bool.{true, not};
 ghost use mathlib.Core.Logic.{_⊎_};
-ghost use Prim.Native.Nat.{ℕ, _*_, _≤_};
+ghost use Prim.Native.Nat.{_*_, _≤_};
 ghost use lib.ListN.{length};
 ghost use Rattle.logic.specs.Walk.{look, orderOf};
 ghost use Rattle.logic.specs.Query.{termCount, isOrder};
 ghost use Rattle.logic.specs.Steps.{AtMost};
-ghost use Rattle.logic.specs.Decision.{Reachable};
+ghost use Rattle.logic.specs.Decision.{Reachable, Closes};
 ghost use Rattle.theory.proofs.Query.Tied.{Accepted};
 ghost use Rattle.theory.proofs.Calls.Decision.{Known};
-ghost use Rattle.facts.specs.Bits.{bit};
-ghost use Rattle.facts.specs.Path.{pathAs, pathOf};
+ghost use Rattle.facts.specs.Path.{pathAs, pathOf, Whole};
 ghost use Rattle.link_query.specs.Said.{said, Within};
 ghost use Rattle.closing.specs.Closed.{Closed, begins};
 ghost use Rattle.walk.specs.Looks.{lookOf};
-ghost use Rattle.decide.specs.Tells.{isRefuted, isUnknown, Sees, Ends, LinkAhead, Walks, Shows};
+ghost use Rattle.decide.specs.Tells.{isRefuted, isUnknown, Sees, Ends, Ahead, WalksTo, Walks, Shows};
 
 // What is found out of a path.
 pub enum Kind {
@@ -59,6 +58,12 @@ pub struct Walked {
     pub kind: Kind,
     pub budget: usize,
     pub facts: Facts,
+}
+
+// What is found out, and the budget left.
+pub struct Told {
+    pub kind: Kind,
+    pub budget: usize,
 }
 
 // What a strategy sees at a path.
@@ -98,13 +103,24 @@ fn spent(budget: usize) -> usize
     0
 }
 
-// The rows of a link closed under REFLEX, TRANS1 and TRANS2, where that is wanted.
-fn ahead(wanted: bool, alive: u32, link: &[u32; 17], reach: &mut [u32; 17])
-    requires { ⌜ length (now reach) ≡ 17 ⌝ }
-    ensures { λ _. ⌜ LinkAhead wanted (bit alive) (now (link .entry)) (now (reach .entry)) (now (reach .exit)) × (length (now (reach .exit)) ≡ 17) ⌝ }
+// The path closed under REFLEX, TRANS1 and TRANS2, in place, where the order list begins with these.
+fn close_ahead<'a>(
+    order: &[u8],
+    single: bool,
+    rep: &'a [u8; 17],
+    link: &'a [u32; 17],
+    reach: &'a mut [u32; 17],
+    link2: &'a [u32; 17],
+    reach2: &'a mut [u32; 17],
+    link3: &'a [u32; 17],
+    reach3: &'a mut [u32; 17],
+    n: usize,
+)
+    requires { ⌜ (n ≤ 16) × (3 ≤ length (now order)) × (length (now reach) ≡ 17) × (length (now reach2) ≡ 17) × (length (now reach3) ≡ 17) ⌝ }
+    ensures { λ _. ⌜ Ahead n (now (order .entry)) (pathAs single (now (rep .entry)) (now (link .entry)) (now (reach .entry)) (now (link2 .entry)) (now (reach2 .entry)) (now (link3 .entry)) (now (reach3 .entry))) (pathAs single (now (rep .entry)) (now (link .entry)) (now (reach .exit)) (now (link2 .entry)) (now (reach2 .exit)) (now (link3 .entry)) (now (reach3 .exit))) × (length (now (reach .exit)) ≡ 17) × (length (now (reach2 .exit)) ≡ 17) × (length (now (reach3 .exit)) ≡ 17) ⌝ }
 {
-    if wanted {
-        closing::close_link(alive, link, reach);
+    if closing::begins(order) {
+        closing::close_rows(single, rep, link, reach, link2, reach2, link3, reach3, n);
     }
 }
 
@@ -157,7 +173,139 @@ fn look_ahead<'a>(
 
 // Plain steps: our walk under the order list, without its lines. Where it is limited it gives up as its budget runs out; where it is not, it
 // always ends, since at most `left` rule steps are possible from the path. Where the order list begins with REFLEX, TRANS1 and TRANS2, the path
-// is closed under these first, in place: our walk comes there by steps of theirs alone.
+// is closed under these first: our walk comes there by steps of theirs alone. The arrays of the path are worked on in place, and each branch
+// has its own; where the path is open, they hold the path where the steps end.
+fn plain_in(
+    query: &[u8],
+    layout: Layout,
+    order: &[u8],
+    left: usize,
+    single: bool,
+    rep: &mut [u8; 17],
+    link: &mut [u32; 17],
+    reach: &mut [u32; 17],
+    link2: &mut [u32; 17],
+    reach2: &mut [u32; 17],
+    link3: &mut [u32; 17],
+    reach3: &mut [u32; 17],
+    limited: bool,
+    budget: usize,
+) -> Told
+    requires { ⌜ Within layout (now query) × Accepted (said layout (now query)) × (isOrder (now order) ≡ true) × Known (said layout (now query)) (pathAs single (now rep) (now link) (now reach) (now link2) (now reach2) (now link3) (now reach3)) × AtMost (termCount (said layout (now query))) (pathAs single (now rep) (now link) (now reach) (now link2) (now reach2) (now link3) (now reach3)) left × Whole (now rep) (now link) (now reach) (now link2) (now reach2) (now link3) (now reach3) ⌝ }
+    ensures { λ r. ⌜ WalksTo (said layout (now (query .entry))) (now (order .entry)) left (pathAs single (now (rep .entry)) (now (link .entry)) (now (reach .entry)) (now (link2 .entry)) (now (reach2 .entry)) (now (link3 .entry)) (now (reach3 .entry))) limited (r .kind) (pathAs single (now (rep .exit)) (now (link .exit)) (now (reach .exit)) (now (link2 .exit)) (now (reach2 .exit)) (now (link3 .exit)) (now (reach3 .exit))) × Whole (now (rep .exit)) (now (link .exit)) (now (reach .exit)) (now (link2 .exit)) (now (reach2 .exit)) (now (link3 .exit)) (now (reach3 .exit)) ⌝ }
+{
+    let n = layout.terms;
+    close_ahead(
+        order,
+        single,
+        rep,
+        link,
+        reach,
+        link2,
+        reach2,
+        link3,
+        reach3,
+        n,
+    );
+    match look_ahead(
+        query,
+        layout,
+        order,
+        single,
+        rep,
+        link,
+        reach,
+        link2,
+        reach2,
+        link3,
+        reach3,
+    ) {
+        walk::Seen::Saturated => {
+            return Told {
+                kind: Kind::Open,
+                budget: spent(budget),
+            };
+        }
+        walk::Seen::Clashing(_, _, _) => {
+            return Told {
+                kind: Kind::Refuted,
+                budget: spent(budget),
+            };
+        }
+        walk::Seen::Applying(k, rule, x, y, z) => {
+            let total = branch::count(rule, z);
+            let mut fuel = spent(budget);
+            let mut i: usize = 0;
+            while i < total {
+                if limited & (fuel == 0) {
+                    return Told {
+                        kind: Kind::Unknown,
+                        budget: 0,
+                    };
+                }
+                let mut own_rep = *rep;
+                let mut own_link = *link;
+                let mut own_reach = *reach;
+                let mut own_link2 = *link2;
+                let mut own_reach2 = *reach2;
+                let mut own_link3 = *link3;
+                let mut own_reach3 = *reach3;
+                branch::take(
+                    single,
+                    &mut own_rep,
+                    &mut own_link,
+                    &mut own_reach,
+                    &mut own_link2,
+                    &mut own_reach2,
+                    &mut own_link3,
+                    &mut own_reach3,
+                    n,
+                    k,
+                    rule,
+                    x,
+                    y,
+                    z,
+                    i,
+                );
+                let w = plain_in(
+                    query,
+                    layout,
+                    order,
+                    left - 1,
+                    single,
+                    &mut own_rep,
+                    &mut own_link,
+                    &mut own_reach,
+                    &mut own_link2,
+                    &mut own_reach2,
+                    &mut own_link3,
+                    &mut own_reach3,
+                    limited,
+                    fuel,
+                );
+                let kind = w.kind;
+                if !is_refuted(kind) {
+                    *rep = own_rep;
+                    *link = own_link;
+                    *reach = own_reach;
+                    *link2 = own_link2;
+                    *reach2 = own_reach2;
+                    *link3 = own_link3;
+                    *reach3 = own_reach3;
+                    return w;
+                }
+                fuel = w.budget;
+                i += 1;
+            }
+            return Told {
+                kind: Kind::Refuted,
+                budget: fuel,
+            };
+        }
+    }
+}
+
+// The same of a path that is not changed.
 pub fn plain(
     query: &[u8],
     layout: Layout,
@@ -170,151 +318,290 @@ pub fn plain(
     requires { ⌜ Within layout (now query) × Accepted (said layout (now query)) × (isOrder (now order) ≡ true) × Known (said layout (now query)) (pathOf s) × AtMost (termCount (said layout (now query))) (pathOf s) left ⌝ }
     ensures { λ r. ⌜ Walks (said layout (now (query .entry))) (now (order .entry)) left (pathOf s) limited r ⌝ }
 {
-    let n = layout.terms;
-    let begun = closing::begins(order);
-    let others = begun & !s.single;
-    let alive = facts::live(&s.rep, n);
-    let mut front = s;
-    ahead(begun, alive, &s.link, &mut front.reach);
-    ahead(others, alive, &s.link2, &mut front.reach2);
-    ahead(others, alive, &s.link3, &mut front.reach3);
-    match look_ahead(
+    let single = s.single;
+    let mut rep = s.rep;
+    let mut link = s.link;
+    let mut reach = s.reach;
+    let mut link2 = s.link2;
+    let mut reach2 = s.reach2;
+    let mut link3 = s.link3;
+    let mut reach3 = s.reach3;
+    let w = plain_in(
         query,
         layout,
         order,
-        front.single,
-        &front.rep,
-        &front.link,
-        &front.reach,
-        &front.link2,
-        &front.reach2,
-        &front.link3,
-        &front.reach3,
-    ) {
-        walk::Seen::Saturated => {
-            return Walked {
-                kind: Kind::Open,
-                facts: front,
-                budget: spent(budget),
-            };
-        }
-        walk::Seen::Clashing(_, _, _) => {
-            return Walked {
-                kind: Kind::Refuted,
-                facts: front,
-                budget: spent(budget),
-            };
-        }
-        walk::Seen::Applying(k, rule, x, y, z) => {
-            let total = branch::count(rule, z);
-            let mut fuel = spent(budget);
-            let mut i: usize = 0;
-            while i < total {
-                if limited & (fuel == 0) {
-                    return Walked {
-                        kind: Kind::Unknown,
-                        facts: front,
-                        budget: 0,
-                    };
-                }
-                let joined = branch::branch(front, n, k, rule, x, y, z, i);
-                let path = joined.facts;
-                let w = plain(query, layout, order, left - 1, path, limited, fuel);
-                let kind = w.kind;
-                if !is_refuted(kind) {
-                    return w;
-                }
-                fuel = w.budget;
-                i += 1;
-            }
-            return Walked {
-                kind: Kind::Refuted,
-                facts: front,
-                budget: fuel,
-            };
-        }
+        left,
+        single,
+        &mut rep,
+        &mut link,
+        &mut reach,
+        &mut link2,
+        &mut reach2,
+        &mut link3,
+        &mut reach3,
+        limited,
+        budget,
+    );
+    let kind = w.kind;
+    Walked {
+        kind,
+        budget: w.budget,
+        facts: Facts {
+            rep,
+            single,
+            link,
+            reach,
+            link2,
+            reach2,
+            link3,
+            reach3,
+        },
     }
 }
 
-// What strategy `how` sees at a path: its clash, the rule that it picks, or neither.
-fn sees(query: &[u8], layout: Layout, how: usize, s: Facts) -> Seen
-    requires { ⌜ Within layout (now query) ⌝ }
-    ensures { λ r. ⌜ Sees (said layout (now (query .entry))) (pathOf s) r ⌝ }
+// The path that these arrays hold, copied.
+fn held<'a>(
+    single: bool,
+    rep: &'a [u8; 17],
+    link: &'a [u32; 17],
+    reach: &'a [u32; 17],
+    link2: &'a [u32; 17],
+    reach2: &'a [u32; 17],
+    link3: &'a [u32; 17],
+    reach3: &'a [u32; 17],
+) -> Facts
+    ensures { λ r. ⌜ pathOf r ≡ pathAs single (now (rep .entry)) (now (link .entry)) (now (reach .entry)) (now (link2 .entry)) (now (reach2 .entry)) (now (link3 .entry)) (now (reach3 .entry)) ⌝ }
 {
+    let own_rep = *rep;
+    let own_link = *link;
+    let own_reach = *reach;
+    let own_link2 = *link2;
+    let own_reach2 = *reach2;
+    let own_link3 = *link3;
+    let own_reach3 = *reach3;
+    Facts {
+        rep: own_rep,
+        single,
+        link: own_link,
+        reach: own_reach,
+        link2: own_link2,
+        reach2: own_reach2,
+        link3: own_link3,
+        reach3: own_reach3,
+    }
+}
+
+// What strategy `how` sees at a path that is closed first, in place: its clash, the rule that it picks, or neither.
+fn sees<'a>(
+    query: &[u8],
+    layout: Layout,
+    how: usize,
+    single: bool,
+    rep: &'a [u8; 17],
+    link: &'a [u32; 17],
+    reach: &'a mut [u32; 17],
+    link2: &'a [u32; 17],
+    reach2: &'a mut [u32; 17],
+    link3: &'a [u32; 17],
+    reach3: &'a mut [u32; 17],
+) -> Seen
+    requires { ⌜ Within layout (now query) × (length (now reach) ≡ 17) × (length (now reach2) ≡ 17) × (length (now reach3) ≡ 17) ⌝ }
+    ensures { λ r. ⌜ Closes (layout .terms) (pathAs single (now (rep .entry)) (now (link .entry)) (now (reach .entry)) (now (link2 .entry)) (now (reach2 .entry)) (now (link3 .entry)) (now (reach3 .entry))) (pathAs single (now (rep .entry)) (now (link .entry)) (now (reach .exit)) (now (link2 .entry)) (now (reach2 .exit)) (now (link3 .entry)) (now (reach3 .exit))) × Sees (said layout (now (query .entry))) (pathAs single (now (rep .entry)) (now (link .entry)) (now (reach .exit)) (now (link2 .entry)) (now (reach2 .exit)) (now (link3 .entry)) (now (reach3 .exit))) r × (length (now (reach .exit)) ≡ 17) × (length (now (reach2 .exit)) ≡ 17) × (length (now (reach3 .exit)) ≡ 17) ⌝ }
+{
+    closing::close_rows(
+        single,
+        rep,
+        link,
+        reach,
+        link2,
+        reach2,
+        link3,
+        reach3,
+        layout.terms,
+    );
     if let Clash::At(_, _, _) = clash::find_clash(
         query,
         layout,
-        &s.rep,
-        s.single,
-        &s.reach,
-        &s.reach2,
-        &s.reach3,
+        rep,
+        single,
+        reach,
+        reach2,
+        reach3,
     ) {
         return Seen::Clashing;
     }
+    let s = held(single, rep, link, reach, link2, reach2, link3, reach3);
     let Choice::Apply(k, rule, x, y, z) = picking::pick(query, layout, how, s) else {
         return Seen::Saturated;
     };
     Seen::Applying(k, rule, x, y, z)
 }
 
-// A strategy: the path is closed, and then branches where the strategy picks.
-fn search(query: &[u8], layout: Layout, how: usize, left: usize, s: Facts, budget: usize) -> Tried
-    requires { ⌜ Within layout (now query) × Accepted (said layout (now query)) × Known (said layout (now query)) (pathOf s) ⌝ }
-    ensures { λ r. ⌜ Ends (said layout (now (query .entry))) (pathOf s) (r .kind) (pathOf (r .facts)) ⌝ }
+// A strategy: the path is closed, and then branches where the strategy picks. It works on the arrays of the path as plain steps do.
+fn search_in(
+    query: &[u8],
+    layout: Layout,
+    how: usize,
+    left: usize,
+    single: bool,
+    rep: &mut [u8; 17],
+    link: &mut [u32; 17],
+    reach: &mut [u32; 17],
+    link2: &mut [u32; 17],
+    reach2: &mut [u32; 17],
+    link3: &mut [u32; 17],
+    reach3: &mut [u32; 17],
+    budget: usize,
+) -> Told
+    requires { ⌜ Within layout (now query) × Accepted (said layout (now query)) × Known (said layout (now query)) (pathAs single (now rep) (now link) (now reach) (now link2) (now reach2) (now link3) (now reach3)) × Whole (now rep) (now link) (now reach) (now link2) (now reach2) (now link3) (now reach3) ⌝ }
+    ensures { λ r. ⌜ Ends (said layout (now (query .entry))) (pathAs single (now (rep .entry)) (now (link .entry)) (now (reach .entry)) (now (link2 .entry)) (now (reach2 .entry)) (now (link3 .entry)) (now (reach3 .entry))) (r .kind) (pathAs single (now (rep .exit)) (now (link .exit)) (now (reach .exit)) (now (link2 .exit)) (now (reach2 .exit)) (now (link3 .exit)) (now (reach3 .exit))) × Whole (now (rep .exit)) (now (link .exit)) (now (reach .exit)) (now (link2 .exit)) (now (reach2 .exit)) (now (link3 .exit)) (now (reach3 .exit)) ⌝ }
 {
     let n = layout.terms;
-    let t = closing::close(s, n);
-    match sees(query, layout, how, t) {
+    match sees(
+        query,
+        layout,
+        how,
+        single,
+        rep,
+        link,
+        reach,
+        link2,
+        reach2,
+        link3,
+        reach3,
+    ) {
         Seen::Saturated => {
-            return Tried {
+            return Told {
                 kind: Kind::Open,
                 budget: spent(budget),
-                facts: t,
             };
         }
         Seen::Clashing => {
-            return Tried {
+            return Told {
                 kind: Kind::Refuted,
                 budget: spent(budget),
-                facts: t,
             };
         }
         Seen::Applying(k, rule, x, y, z) => {
             if left == 0 {
-                return Tried {
+                return Told {
                     kind: Kind::Unknown,
                     budget: 0,
-                    facts: t,
                 };
             }
             let total = branch::count(rule, z);
             let mut fuel = spent(budget);
-            let mut i: usize = 0;
-            while i < total {
+            let mut at: usize = 0;
+            while at < total {
                 if fuel == 0 {
-                    return Tried {
+                    return Told {
                         kind: Kind::Unknown,
                         budget: 0,
-                        facts: t,
                     };
                 }
-                let joined = branch::branch(t, n, k, rule, x, y, z, i);
-                let path = joined.facts;
-                let w = search(query, layout, how, left - 1, path, fuel);
+                let mut own_rep = *rep;
+                let mut own_link = *link;
+                let mut own_reach = *reach;
+                let mut own_link2 = *link2;
+                let mut own_reach2 = *reach2;
+                let mut own_link3 = *link3;
+                let mut own_reach3 = *reach3;
+                branch::take(
+                    single,
+                    &mut own_rep,
+                    &mut own_link,
+                    &mut own_reach,
+                    &mut own_link2,
+                    &mut own_reach2,
+                    &mut own_link3,
+                    &mut own_reach3,
+                    n,
+                    k,
+                    rule,
+                    x,
+                    y,
+                    z,
+                    at,
+                );
+                let w = search_in(
+                    query,
+                    layout,
+                    how,
+                    left - 1,
+                    single,
+                    &mut own_rep,
+                    &mut own_link,
+                    &mut own_reach,
+                    &mut own_link2,
+                    &mut own_reach2,
+                    &mut own_link3,
+                    &mut own_reach3,
+                    fuel,
+                );
                 let kind = w.kind;
                 if !is_refuted(kind) {
+                    *rep = own_rep;
+                    *link = own_link;
+                    *reach = own_reach;
+                    *link2 = own_link2;
+                    *reach2 = own_reach2;
+                    *link3 = own_link3;
+                    *reach3 = own_reach3;
                     return w;
                 }
                 fuel = w.budget;
-                i += 1;
+                at += 1;
             }
-            return Tried {
+            return Told {
                 kind: Kind::Refuted,
                 budget: fuel,
-                facts: t,
             };
         }
+    }
+}
+
+// The same of a path that is not changed.
+fn search(query: &[u8], layout: Layout, how: usize, left: usize, s: Facts, budget: usize) -> Tried
+    requires { ⌜ Within layout (now query) × Accepted (said layout (now query)) × Known (said layout (now query)) (pathOf s) ⌝ }
+    ensures { λ r. ⌜ Ends (said layout (now (query .entry))) (pathOf s) (r .kind) (pathOf (r .facts)) ⌝ }
+{
+    let single = s.single;
+    let mut rep = s.rep;
+    let mut link = s.link;
+    let mut reach = s.reach;
+    let mut link2 = s.link2;
+    let mut reach2 = s.reach2;
+    let mut link3 = s.link3;
+    let mut reach3 = s.reach3;
+    let w = search_in(
+        query,
+        layout,
+        how,
+        left,
+        single,
+        &mut rep,
+        &mut link,
+        &mut reach,
+        &mut link2,
+        &mut reach2,
+        &mut link3,
+        &mut reach3,
+        budget,
+    );
+    let kind = w.kind;
+    Tried {
+        kind,
+        budget: w.budget,
+        facts: Facts {
+            rep,
+            single,
+            link,
+            reach,
+            link2,
+            reach2,
+            link3,
+            reach3,
+        },
     }
 }
 

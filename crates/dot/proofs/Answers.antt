@@ -10,7 +10,7 @@ use Rattle.logic.specs.Shown.{wellFormed}
 use Rattle.text.specs.Text.{Writes}
 use Rattle.text.proofs.Writing.{writes-blank, writes-length}
 use Rattle.drawing.specs.Text.{text}
-use Rattle.drawing.specs.Call.{Outcome, refusal, drawn, dotCall, written}
+use Rattle.drawing.specs.Call.{refusal, drawn, dotCall, written}
 use Rattle.dot.specs.declared.DotAnswer.the-variants as answer
 use Rattle.dot.specs.Promise.{Does}
 

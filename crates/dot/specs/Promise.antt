@@ -2,7 +2,7 @@
 use Prim.Native.Nat.{ℕ}
 use mathlib.Core.Path.{_≡_}
 use mathlib.Core.List.{List}
-use Rattle.drawing.specs.Call.{Outcome, dotCall}
+use Rattle.drawing.specs.Call.{Outcome}
 use Rattle.drawing.specs.Call as call
 use Rattle.dot.specs.declared.DotAnswer.{DotAnswer}
 use Rattle.dot.specs.declared.DotAnswer.the-variants as answer

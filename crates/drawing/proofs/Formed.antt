@@ -1,14 +1,14 @@
 -- What a well-formed report has (01, "The heap shown").
 use Prim.Native.Nat.{ℕ, _+_, _-_, _≤_, _<_}
 use native.Mathlib.Omega.{arith}
-use mathlib.Core.Path.{_≡_, refl, sym, ap, _∙_}
-use mathlib.Core.Bool.{Bool, true}
-use mathlib.Core.List.{List, [], _∷_, _++_}
+use mathlib.Core.Path.{_≡_, sym, ap, _∙_}
+use mathlib.Core.Bool.{true}
+use mathlib.Core.List.{List, _++_}
 use lib.ListN.{length, getD, take, drop, replicate, length-drop, length-replicate, getD-replicate, take-append-drop}
 use lib.Seq.{getD-drop, ext-getD}
 use lib.Dec.{eqb, ltb, leb}
 use borrow.Author.Tests.{ltb-true, leb-true, eqb-true}
-use Rattle.logic.specs.Search.{_and_, all, from}
+use Rattle.logic.specs.Search.{_and_}
 use Rattle.logic.specs.Shown.{sizeIn, nodeIn, isNode, wellFormed}
 use Rattle.theory.proofs.Basics.Search.{and-left, and-right, all-true, from-intro}
 use Rattle.theory.proofs.Calls.OneLink.{wellFormed-one}

@@ -1,11 +1,11 @@
 -- The longest text: 16 nodes, 16 terms of one node, and numbers of two and three digits.
 use Prim.Native.Nat.{ℕ, zero, suc, _+_, _-_, _≤_, _<_}
 use native.Mathlib.Omega.{arith}
-use mathlib.Core.Path.{_≡_, refl, sym, ap, _∙_}
-use mathlib.Core.Bool.{Bool, true, false}
+use mathlib.Core.Path.{_≡_, refl, sym, _∙_}
+use mathlib.Core.Bool.{true, false}
 use mathlib.Core.List.{List, [], _∷_, _++_}
 use lib.ListN.{length, getD, replicate, length-append}
-use lib.Dec.{eqb, ltb}
+use lib.Dec.{ltb}
 use borrow.Author.Tests.{ltb-true}
 use Rattle.logic.specs.Search.{_and_, from, all, select, flatMap}
 use Rattle.logic.specs.Shown.{sizeIn, nodeIn, isNode, wellFormed}
@@ -13,7 +13,7 @@ use Rattle.theory.proofs.Basics.Search.{and-left, and-right, from-mem}
 use Rattle.theory.proofs.Completeness.Placed.{length-from}
 use Rattle.text.specs.Text.{decimalWithin, decimal}
 use Rattle.text.proofs.Digits.{decimal-byte}
-use Rattle.drawing.specs.Text.{countIn, linkIn, datumIn, booleansIn, reportSize, opening, closing, commentOpen, newline, labelOpen, labelClose, arrow, lineEnd, slash, listed, termsAt, commentLine, nodeLine, arrowLine, text}
+use Rattle.drawing.specs.Text.{countIn, linkIn, datumIn, booleansIn, reportSize, closing, newline, labelOpen, labelClose, arrow, lineEnd, slash, listed, termsAt, commentLine, nodeLine, arrowLine, text}
 use Rattle.drawing.specs.Claims.{Report, longest}
 use Rattle.drawing.proofs.Numbers.{decimal-pair}
 use Rattle.drawing.proofs.Sums.{total, total-add, total-most, total-one, total-same, partition, length-flat}

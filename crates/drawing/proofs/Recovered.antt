@@ -3,20 +3,20 @@ use Prim.Native.Nat.{ℕ, zero, suc, _+_, _-_, _≤_, _<_}
 use native.Mathlib.Omega.{arith}
 use mathlib.Core.Path.{_≡_, refl, sym, ap, ap₂, _∙_, fun-ext}
 use mathlib.Core.Logic.{⊎-elim}
-use mathlib.Core.Bool.{Bool, true, false, cond}
+use mathlib.Core.Bool.{true}
 use mathlib.Core.List.{List, [], _∷_, _++_, map, List·Memᴰ}
 use lib.ListN.{length, getD, take, drop, replicate, length-map}
 use mathlib.Core.Option.{none}
 use lib.Seq.{drop-cons}
 use lib.Dec.{eqb}
-use borrow.Author.Tests.{eq-eqb, ne-eqb, eqb-true}
-use Rattle.logic.specs.Search.{from, any, select, flatMap}
+use borrow.Author.Tests.{eq-eqb, eqb-true}
+use Rattle.logic.specs.Search.{from, any, flatMap}
 use Rattle.logic.specs.Shown.{sizeIn, nodeIn, wellFormed}
 use Rattle.theory.proofs.Basics.Search.{bool-cases, not-of, true-false, any-true, any-intro, select-mem, select-intro, from-mem, from-intro}
 use Rattle.theory.proofs.Basics.Compare.{eq-cases}
 use Rattle.theory.proofs.Completeness.Placed.{length-from}
 use Rattle.drawing.specs.Text.{countIn, linkIn, datumIn, booleansIn, reportSize, commentLine, nodeLine, arrowLine, termsAt, text}
-use Rattle.drawing.specs.Reader.{Read, read, run, labelOf, reportOf, reportIn}
+use Rattle.drawing.specs.Reader.{read, labelOf, reportOf, reportIn}
 use Rattle.drawing.specs.Claims.{unpadded}
 use Rattle.drawing.proofs.Sums.{total, total-one, total-same, partition, length-flat, flat-map}
 use Rattle.drawing.proofs.Scanned.{text-read}

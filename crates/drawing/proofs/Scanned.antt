@@ -1,9 +1,9 @@
 -- The reader over the text of a report, part by part.
 use Prim.Native.Nat.{ℕ}
 use mathlib.Core.Path.{_≡_, refl, sym, ap, ap₂, _∙_}
-use mathlib.Core.Bool.{Bool, true, false}
+use mathlib.Core.Bool.{true, false}
 use mathlib.Core.List.{List, [], _∷_, _++_, map, append-assoc, append-nil}
-use mathlib.Core.Option.{Option, none, some}
+use mathlib.Core.Option.{none, some}
 use lib.Seq.{append-snoc}
 use Rattle.logic.specs.Search.{_and_, _or_, from, flatMap}
 use Rattle.logic.specs.Shown.{sizeIn}

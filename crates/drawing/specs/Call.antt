@@ -1,5 +1,5 @@
 -- What the call answers, and every byte of what is lent, on every input (02, R-2).
-use Prim.Native.Nat.{ℕ, _+_, _*_}
+use Prim.Native.Nat.{ℕ}
 use mathlib.Core.Bool.{cond}
 use mathlib.Core.List.{List}
 use lib.ListN.{length, replicate}

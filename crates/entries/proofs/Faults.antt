@@ -15,7 +15,8 @@ use Rattle.logic.specs.Query.{Role, entryRole, signRole, termRole, numberRole, 
 use Rattle.theory.proofs.Basics.Search.{all-append}
 use Rattle.entries.specs.declared.Kind.{Kind}
 use Rattle.entries.specs.declared.Kind.the-variants as kind
-use Rattle.entries.specs.Entries.{widthOf, rolesAt, concerned, meets, faultAt, sectionFault}
+use Rattle.byte_tests.specs.Meets.{meets}
+use Rattle.entries.specs.Entries.{widthOf, rolesAt, concerned, faultAt, sectionFault}
 use Rattle.entries.proofs.Loops.{drop-next}
 
 -- A section whose bytes are not held to refusal k

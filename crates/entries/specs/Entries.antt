@@ -1,12 +1,13 @@
 -- The bytes of an entry, by the kind of its section, and the lowest one that meets a refusal.
 use Prim.Native.Nat.{ℕ}
-use mathlib.Core.Bool.{Bool, not, _||_}
+use mathlib.Core.Bool.{Bool, _||_}
 use mathlib.Core.List.{List, [], _∷_}
 use mathlib.Core.Option.{Option, none, some}
 use lib.ListN.{getD, drop}
-use lib.Dec.{eqb, ltb, leb}
-use Rattle.logic.specs.Search.{_and_, from, keep, flatMap}
+use lib.Dec.{eqb}
+use Rattle.logic.specs.Search.{from, keep, flatMap}
 use Rattle.logic.specs.Query.{Role, entryRole, signRole, termRole, numberRole, countRole, roleFault}
+use Rattle.byte_tests.specs.Meets.{meets}
 use Rattle.entries.specs.declared.Kind.{Kind}
 use Rattle.entries.specs.declared.Kind.the-variants as kind
 use Rattle.entries.specs.declared.Found.{Found}
@@ -38,14 +39,6 @@ concerned kind.Fields k = (eqb 6 k || eqb 7 k) || eqb 8 k
 concerned kind.Booleans k = eqb 6 k || eqb 8 k
 concerned kind.LinkedTerms k = eqb 0 k || eqb 5 k
 concerned kind.LinkedPairs k = (eqb 0 k || eqb 6 k) || eqb 7 k
-
--- the role of a byte that counts from 1 to `most`, with its refusal
-unfoldable pub countedRole : ℕ → ℕ → Role
-countedRole k most = record { refusal = k; allows = λ b. ltb 0 b and leb b most }
-
--- the byte b meets refusal k
-unfoldable pub meets : Role → ℕ → ℕ → Bool
-meets role k b = eqb (role .refusal) k and not (role .allows b)
 
 -- the place, where its byte meets refusal k
 unfoldable pub faultAt : Role → ℕ → List ℕ → ℕ → Option ℕ

@@ -5,8 +5,8 @@ ghost use Prim.Native.Nat.{_+_, _*_, _≤_, _<_};
 ghost use lib.ListN.{length, getD, drop};
 ghost use Rattle.logic.specs.Search.{orElse};
 ghost use Rattle.logic.specs.Query.{entryRole, signRole, termRole, roleFault};
-ghost use Rattle.logic.specs.ThreeLinks.{isLink, mayPrecede};
-ghost use Rattle.entries.specs.Entries.{widthOf, rolesAt, countedRole, meets, faultAt, sectionFault, foundOf, concerned};
+ghost use Rattle.byte_tests.specs.Meets.{countedRole};
+ghost use Rattle.entries.specs.Entries.{widthOf, rolesAt, faultAt, sectionFault, foundOf, concerned};
 ghost use Rattle.entries.specs.Links.{linkedTerms, linkedPairs, linkedWidth, linkAt, linksFrom};
 
 // What the bytes of a section's entries are held to: equalities and reachability literals are pairs of terms. With three links (02, R-11) a
@@ -40,34 +40,13 @@ pub fn byte_at(query: &[u8], place: usize) -> usize
     query[place] as usize
 }
 
-// "A term byte is not below its own term's number." 255 names nil (02, R-3).
-fn entry_refused(k: usize, t: Term, byte: usize) -> bool
-    ensures { λ b. ⌜ b ≡ meets (entryRole (t .0)) k byte ⌝ }
-{
-    (5 == k) & !((byte < t.0) | (byte == 255))
-}
-
-// "A sign is neither 0 nor 1."
-fn sign_refused(k: usize, byte: usize) -> bool
-    ensures { λ b. ⌜ b ≡ meets signRole k byte ⌝ }
-{
-    (6 == k) & !(byte < 2)
-}
-
-// A number is not 1 to `most`; its refusal is `own`.
-fn number_refused(k: usize, own: usize, most: usize, byte: usize) -> bool
-    ensures { λ b. ⌜ b ≡ meets (countedRole own most) k byte ⌝ }
-{
-    (own == k) & !((0 < byte) & (byte <= most))
-}
-
 // The lowest byte of an entry that meets refusal k: of a term, of a boolean literal with its number at `left`, and of a literal with two
 // numbers from `left` on.
 fn term_fault(k: usize, t: Term, query: &[u8], at: usize) -> Found
     requires { ⌜ at + 1 ≤ length (now query) ⌝ }
     ensures { λ r. ⌜ foundOf r ≡ faultAt (entryRole (t .0)) k (now (query .entry)) at ⌝ }
 {
-    if entry_refused(k, t, byte_at(query, at)) {
+    if byte_tests::entry_refused(k, t.0, byte_at(query, at)) {
         return Found::At(at);
     }
     Found::Nothing
@@ -77,10 +56,10 @@ fn flag_fault(k: usize, own: usize, most: usize, query: &[u8], at: usize, left: 
     requires { ⌜ (at < left) × (left + 1 ≤ length (now query)) ⌝ }
     ensures { λ r. ⌜ foundOf r ≡ orElse (faultAt signRole k (now (query .entry)) at) (faultAt (countedRole own most) k (now (query .entry)) left) ⌝ }
 {
-    if sign_refused(k, byte_at(query, at)) {
+    if byte_tests::sign_refused(k, byte_at(query, at)) {
         return Found::At(at);
     }
-    if number_refused(k, own, most, byte_at(query, left)) {
+    if byte_tests::number_refused(k, own, most, byte_at(query, left)) {
         return Found::At(left);
     }
     Found::Nothing
@@ -103,7 +82,7 @@ fn literal_fault(
         Found::Nothing => {}
     }
     let right = left + 1;
-    if number_refused(k, 7, n, byte_at(query, right)) {
+    if byte_tests::number_refused(k, 7, n, byte_at(query, right)) {
         return Found::At(right);
     }
     Found::Nothing
@@ -174,30 +153,13 @@ pub fn section_fault(k: usize, kind: Kind, n: usize, query: &[u8], at: usize, co
     Found::Nothing
 }
 
-// "a reachability link not 1 to 3"
-fn is_link(byte: usize) -> bool
-    ensures { λ b. ⌜ b ≡ isLink byte ⌝ }
-{
-    (0 < byte) & (byte <= 3)
-}
-
-// "a term's link not 0 before 0 or 255, or not 1 to 3 before another byte"
-fn may_precede(link: usize, byte: usize) -> bool
-    ensures { λ b. ⌜ b ≡ mayPrecede link byte ⌝ }
-{
-    if (byte == 0) | (byte == 255) {
-        return link == 0;
-    }
-    is_link(link)
-}
-
 // The link byte of an entry, where it may not stand there: of a term, and of a reachability literal.
 fn term_link_fault(query: &[u8], at: usize) -> Found
     requires { ⌜ at + 2 ≤ length (now query) ⌝ }
     ensures { λ r. ⌜ foundOf r ≡ linkAt linkedTerms (now (query .entry)) at ⌝ }
 {
     let link = byte_at(query, at);
-    if may_precede(link, byte_at(query, at + 1)) {
+    if byte_tests::may_precede(link, byte_at(query, at + 1)) {
         return Found::Nothing;
     }
     Found::At(at)
@@ -208,7 +170,7 @@ fn pair_link_fault(query: &[u8], at: usize) -> Found
     ensures { λ r. ⌜ foundOf r ≡ linkAt linkedPairs (now (query .entry)) at ⌝ }
 {
     let place = at + 1;
-    if is_link(byte_at(query, place)) {
+    if byte_tests::is_link(byte_at(query, place)) {
         return Found::Nothing;
     }
     Found::At(place)

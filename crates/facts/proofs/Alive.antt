@@ -13,7 +13,7 @@ use Rattle.logic.specs.Search.{_and_, _or_}
 use Rattle.logic.specs.Facts.{live}
 use Rattle.facts.specs.Bits.{bit}
 use Rattle.facts.specs.declared.Facts as code
-use Rattle.facts.specs.Path.{repOf, pathOf, replacedBy}
+use Rattle.facts.specs.Path.{repOf, replacedBy}
 use Rattle.facts.proofs.Bits.{bit-none, bit-and}
 use Rattle.facts.proofs.Rep.{rep-in}
 use Rattle.facts.proofs.Fill.{Filled}
@@ -47,8 +47,3 @@ live-all n h rep cur among e m = fun-ext told
     told x =
         bit-and cur among x ∙ rw (m x, e x, add-one n)
         (both (ltb 0 x) (ltb x (suc n)) (ltb x 17) (eqb (repOf rep x) x) (bit 0 x) (bit-none x) (λ f. let g = ltb-false x 17 f in le-ltb x (suc n) (omega arith)))
-
--- those of a path, by its representatives alone
-pub live-path : (n : ℕ) (s : code.Facts) → live n (replacedBy (s .rep)) ≡ live n (pathOf s)
-unfolding live replacedBy pathOf
-live-path n s = refl

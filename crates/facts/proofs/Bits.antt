@@ -1,18 +1,15 @@
 -- The bits of a word, for any word: what each operation does to them. Callers use these laws and know nothing of digits.
-use Prim.Native.Nat.{ℕ, zero, suc, _+_, _-_, _*_, _/_, _%_, _^_, _≤_, _<_, min, max}
+use Prim.Native.Nat.{ℕ, zero, suc, _+_, _-_, _*_, _/_, _%_, _^_, _<_, min, max}
 use native.Mathlib.Nat.{div-div-eq-div-mul, mul-comm, pow-suc, mod-lt, zero-lt-suc, add-zero, zero-min, min-zero}
 use native.Mathlib.Omega.{arith}
-use mathlib.Core.Path.{_≡_, refl, sym, ap, ap₂, _∙_, fun-ext}
-use mathlib.Core.Logic.{⊎-elim}
+use mathlib.Core.Path.{_≡_, refl, sym, ap, ap₂, _∙_}
 use mathlib.Core.Bool.{Bool, true, false, not}
 use lib.Dec.{eqb, ltb, leb·suc-suc, eqb·suc-suc}
-use lib.Arith.{bin-ind}
-use lib.Pow.{pow-pos, pow-lt, shl-exact}
+use lib.Pow.{pow-pos}
 use lib.Bits.{bitAnd, bitOr, bitXor, differ, and-step, or-step, xor-step, and-self}
-use lib.Count.{trailingZeros, under, trailing-le}
-use borrow.Author.Tests.{lt-ltb, le-ltb, ne-eqb, eqb-false}
+use lib.Count.{trailingZeros}
+use borrow.Author.Tests.{lt-ltb, le-ltb, ne-eqb}
 use Rattle.logic.specs.Search.{_and_, _or_}
-use Rattle.theory.proofs.Basics.Search.{bool-cases}
 use Rattle.facts.specs.Bits.{bit}
 
 pub bit-is : (w b : ℕ) → bit w b ≡ eqb (w / 2 ^ b % 2) 1
@@ -113,22 +110,6 @@ bit-without a b i = bit-xor (bitOr a b) b i ∙ rw (bit-or a b i) (go (bit a i) 
 pub bit-none : (i : ℕ) → bit 0 i ≡ false
 bit-none zero = bit-zero 0
 bit-none (suc i) = bit-suc 0 i ∙ bit-none i
-
-pub no-bits : (w : ℕ) → ((i : ℕ) → bit w i ≡ false) → w ≡ 0
-no-bits w = bin-ind (λ (n : ℕ). ((i : ℕ) → bit n i ≡ false) → n ≡ 0) (λ h. refl) step w
-  where
-    step : (n : ℕ) → (((i : ℕ) → bit (n / 2) i ≡ false) → n / 2 ≡ 0) → ((i : ℕ) → bit n i ≡ false) → n ≡ 0
-    step n ih h =
-        let rest = ih (λ i. sym (bit-suc n i) ∙ h (suc i)) in
-        let low = eqb-false (n % 2) 1 (sym (bit-zero n) ∙ h 0) in
-        let less = mod-lt n (zero-lt-suc 1) in
-        let even : n % 2 ≡ 0 = lower (n % 2) low less in
-        omega arith
-      where
-        lower : (d : ℕ) → (d ≡ 1 → ⊥) → d < 2 → d ≡ 0
-        lower zero u v = refl
-        lower (suc zero) u v = absurd (u refl)
-        lower (suc (suc d)) u v = absurd (omega arith)
 
 -- 1 shifted by b has bit b alone
 pub bit-power : (b i : ℕ) → bit (2 ^ b) i ≡ eqb i b

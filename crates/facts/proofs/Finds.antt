@@ -12,7 +12,7 @@ use lib.Bits.{bitAnd}
 use lib.Dec.{eqb, ltb}
 use borrow.Author.Tests.{lt-ltb, ltb-true, eq-eqb, ne-eqb}
 use Rattle.logic.specs.Search.{_and_, from, keep, orElse, firstOf, find, select}
-use Rattle.theory.proofs.Basics.Search.{bool-cases, true-false, and-left, and-right, not-of, find-some, find-none, find-lowest, firstOf-empty, from-mem, from-intro}
+use Rattle.theory.proofs.Basics.Search.{true-false, and-right, not-of, find-some, find-none, find-lowest, firstOf-empty, from-mem, from-intro}
 use Rattle.theory.proofs.Basics.Compare.{le-cases}
 use Rattle.facts.specs.Bits.{bit}
 use Rattle.facts.proofs.Bits.{lowest-set, lowest-in, lowest-least, bit-none, bit-and, bit-rest}
@@ -143,6 +143,3 @@ first-masked f n w few inside others =
   where
     all : n + 1 - 0 + (31 - n) ≡ 32
     all = omega arith
-
-pub select-no-bit : select (bit 0) (from 32 0) ≡ []
-select-no-bit = select-empty (bit 0) 32 0 (λ i h. bit-none i)

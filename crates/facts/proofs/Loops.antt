@@ -1,13 +1,13 @@
 -- A search over the numbers from k below m, as a loop over k meets it: what is left of it equals the whole.
-use Prim.Native.Nat.{ℕ, zero, suc, _+_, _-_, _≤_, _<_}
+use Prim.Native.Nat.{ℕ, suc, _+_, _-_, _≤_, _<_}
 use native.Mathlib.Nat.{sub-eq-zero-of-le}
 use native.Mathlib.Numerals.{add-one}
 use native.Mathlib.Omega.{arith}
-use mathlib.Core.Path.{_≡_, refl, sym, ap, _∙_}
-use mathlib.Core.Bool.{Bool, true, false, cond}
-use mathlib.Core.List.{List, [], _∷_}
+use mathlib.Core.Path.{_≡_, sym, ap, _∙_}
+use mathlib.Core.Bool.{Bool, true, false}
+use mathlib.Core.List.{[], _∷_}
 use mathlib.Core.Option.{Option, none, some}
-use Rattle.logic.specs.Search.{from, keep, orElse, firstOf, find, select}
+use Rattle.logic.specs.Search.{from, keep, orElse, firstOf, find}
 
 pub from-end : (m k : ℕ) → m ≤ k → from (m - k) k ≡ []
 unfolding from

@@ -2,7 +2,7 @@
 use Prim.Native.Nat.{ℕ, _+_, _≤_, _<_}
 use native.Mathlib.Omega.{arith}
 use mathlib.Core.Path.{_≡_, refl, sym, ap, ap₂, _∙_, fun-ext}
-use mathlib.Core.Bool.{Bool, true, false}
+use mathlib.Core.Bool.{Bool, false}
 use mathlib.Core.List.{List}
 use lib.ListN.{length, getD, set, length-set}
 use lib.Bits.{bitOr}
@@ -12,7 +12,7 @@ use Rattle.logic.specs.Facts.{replaceIn}
 use Rattle.facts.specs.Bits.{bit}
 use Rattle.facts.specs.Square.{rowOf, square, renamedRow, columns, rows}
 use Rattle.facts.proofs.Fill.{Filled, filled-old, filled-more, filled-all}
-use Rattle.facts.proofs.Square.{row-in, row-beyond, row-none, row-or, square-row, square-above, set-same, set-other, renamed-hi, renamed-lo, renamed-else, renamed-is}
+use Rattle.facts.proofs.Square.{row-in, row-none, row-or, square-row, set-same, set-other, renamed-hi, renamed-lo, renamed-else, renamed-is}
 
 module _ (lo hi : ℕ) (below : lo < hi) (top : hi ≤ 16) where
   -- a word with the bits renamed is a row renamed

@@ -8,7 +8,6 @@ use mathlib.Core.List.{List, [], _∷_}
 use mathlib.Core.Option.{Option, none, some}
 use lib.Arith.{lt-of-le-ne}
 use lib.Dec.{eqb, ltb, leb}
-use borrow.Author.Tests.{ne-eqb}
 use Rattle.logic.specs.Search.{_and_, _or_, from, any, orElse, firstOf}
 use Rattle.logic.specs.Facts.{Graph, Facts, linkNumbers, terms, became, replaceIn, replace, addReach, addLinks, successors, firstTwo, doubled}
 use Rattle.theory.proofs.Basics.Search.{bool-cases, not-of, true-false}
@@ -166,21 +165,9 @@ module _ (r : ℕ → ℕ) (b : Bool) (f g h : Graph) where
 
 -- what a path becomes with other reachability of link k
 module _ (k : ℕ) (f : ℕ → ℕ → Bool) (s : Facts) where
-  pub with-rep : withReach k f s .rep ≡ s .rep
-  unfolding withReach
-  with-rep = refl
-
-  pub with-links : withReach k f s .links ≡ s .links
-  unfolding withReach
-  with-links = refl
-
   pub with-here : withReach k f s .graph k ≡ linking (s .graph k .link) f
   unfolding withReach
   with-here = rw (eqb-self k) refl
-
-  pub with-elsewhere : (i : ℕ) → (i ≡ k → ⊥) → withReach k f s .graph i ≡ s .graph i
-  unfolding withReach
-  with-elsewhere i d = rw (ne-eqb i k d) refl
 
 -- the facts of the record's links, and the path with others in place of those of one link
 abbrev pub first : code.Facts → Graph

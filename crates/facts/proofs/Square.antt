@@ -2,7 +2,7 @@
 use Prim.Native.Nat.{ℕ, zero, suc, _≤_, _<_}
 use native.Mathlib.Omega.{arith}
 use mathlib.Core.Path.{_≡_, refl, sym, ap, _∙_, fun-ext}
-use mathlib.Core.Bool.{Bool, true, false, cond}
+use mathlib.Core.Bool.{Bool, true, false}
 use mathlib.Core.List.{List}
 use lib.ListN.{length, getD, set, replicate}
 use lib.Seq.{getD-set-same, getD-set-other}
@@ -23,11 +23,6 @@ module _ (w : ℕ) where
   pub row-beyond : (b : ℕ) → 17 ≤ b → rowOf w b ≡ false
   unfolding rowOf _and_
   row-beyond b h = rw (le-ltb b 17 h)
-
--- two words with the same bits are one row
-pub row-same : (w v : ℕ) → ((i : ℕ) → bit w i ≡ bit v i) → (b : ℕ) → rowOf w b ≡ rowOf v b
-unfolding rowOf
-row-same w v e b = rw (e b)
 
 pub row-none : (b : ℕ) → rowOf 0 b ≡ false
 unfolding rowOf _and_

@@ -1,19 +1,19 @@
 -- The two lowest successors, found by two searches.
 use Prim.Native.Nat.{ℕ, zero, suc, _+_, _-_, _^_, _≤_, _<_}
 use native.Mathlib.Omega.{arith}
-use mathlib.Core.Path.{_≡_, refl, sym, ap, ap₂, _∙_}
+use mathlib.Core.Path.{_≡_, refl, sym, ap, _∙_}
 use mathlib.Core.Logic.{⊎-elim}
-use mathlib.Core.Bool.{Bool, true, false, not, cond}
+use mathlib.Core.Bool.{Bool, true, false, cond}
 use mathlib.Core.List.{List, [], _∷_}
-use mathlib.Core.Option.{Option, none, some, Option·elim}
+use mathlib.Core.Option.{Option, none, some}
 use lib.Arith.{lt-of-le-ne}
 use lib.ListN.{getD}
 use lib.Bits.{bitAnd}
-use lib.Dec.{ltb, eqb}
-use borrow.Author.Tests.{eq-eqb, ne-eqb, eqb-false, lt-ltb, ltb-true}
+use lib.Dec.{ltb}
+use borrow.Author.Tests.{lt-ltb, ltb-true}
 use Rattle.logic.specs.Search.{_and_, from, keep, orElse, firstOf, find, select}
 use Rattle.logic.specs.Facts.{Facts, linkNumbers, terms, firstTwo, successors, doubled}
-use Rattle.theory.proofs.Basics.Search.{bool-cases, true-false, not-true, and-left, and-right, none-some, find-some, find-lowest, from-mem, firstOf-some}
+use Rattle.theory.proofs.Basics.Search.{true-false, and-left, and-right, none-some, find-some, find-lowest, from-mem, firstOf-some}
 use Rattle.theory.proofs.Basics.Compare.{le-cases}
 use Rattle.facts.specs.Bits.{bit}
 use Rattle.facts.specs.Square.{square}

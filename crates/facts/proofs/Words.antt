@@ -4,7 +4,6 @@ use native.Mathlib.Nat.{mod-lt, zero-lt-suc, one-mul, mul-comm, pow-suc, le-refl
 use native.Mathlib.Numerals.{add-one}
 use native.Mathlib.Omega.{arith}
 use mathlib.Core.Path.{_≡_, refl, sym, ap, ap₂, _∙_, fun-ext}
-use mathlib.Core.Logic.{⊎-elim}
 use mathlib.Core.Bool.{Bool, true, false, not}
 use lib.Dec.{eqb, ltb}
 use lib.Pow.{pow-pos, shl-exact}

@@ -8,7 +8,7 @@ use lib.ListN.{length, getD}
 use lib.Dec.{ltb, eqb}
 use Rattle.facts.specs.Square.{square}
 use Rattle.facts.specs.declared.Facts as code
-use Rattle.logic.specs.Search.{_and_, _or_, firstOf}
+use Rattle.logic.specs.Search.{_or_, firstOf}
 use Rattle.logic.specs.Facts.{Graph, Facts, terms, firstTwo, successors}
 
 -- what a term was replaced by; a number above 16 is no term, and is not replaced

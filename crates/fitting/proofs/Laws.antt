@@ -1,24 +1,24 @@
 -- What the code's tests of a rule come to.
-use Prim.Native.Nat.{ℕ, zero, suc, _+_, _≤_, _<_}
+use Prim.Native.Nat.{ℕ, _+_, _≤_}
 use native.Mathlib.Omega.{arith}
 use mathlib.Core.Path.{_≡_, refl, sym, ap, _∙_}
 use mathlib.Core.Logic.{⊎-elim}
 use mathlib.Core.Bool.{Bool, true, false, not, _&&_, true≢false, false≢true}
-use mathlib.Core.List.{List, map}
+use mathlib.Core.List.{List}
 use lib.Dec.{eqb, ltb}
 use borrow.Author.Tests.{eq-eqb, ne-eqb, lt-ltb, le-ltb, ltb-true}
 use native.Mathlib.Nat.{eq-or-lt-of-le}
-use Rattle.logic.specs.Search.{_and_, any}
+use Rattle.logic.specs.Search.{_and_}
 use Rattle.logic.specs.Facts.{Facts, Graph, live}
-use Rattle.logic.specs.Rules.{Rule, REFLEX, TRANS1, TRANS2, FUNC, CYCLE, SCC, TOTAL, SHARE, Triple, triple, move, next, returns, conditions, alternatives, held, applies}
+use Rattle.logic.specs.Rules.{Rule, REFLEX, TRANS1, TRANS2, FUNC, CYCLE, SCC, TOTAL, SHARE, triple, move, next, returns, conditions, alternatives, applies}
 use Rattle.theory.proofs.Basics.Search.{and-left}
 use Rattle.facts.specs.Square.{square}
 use Rattle.facts.specs.Path.{graphOf, linksIn, HasLink}
 use Rattle.rules.specs.Tests.{pairTest, thirdTest, looped}
-use Rattle.rules.specs.Smallest.{allowed}
-use Rattle.rules.specs.Cycle.{stepsTo}
-use Rattle.rules.proofs.Nested.{halves, applies-allowed}
-use Rattle.rules.proofs.Around.{steps-le, returns-not, returns-at, round-is, steps-links}
+use Rattle.rules.specs.Allowed.{allowed}
+use Rattle.link_steps.specs.Cycle.{stepsTo}
+use Rattle.rules.proofs.Halves.{halves, applies-allowed}
+use Rattle.link_steps.proofs.Around.{steps-le, returns-not, returns-at, round-is, steps-links}
 
 -- Tests that are made one after the other
 

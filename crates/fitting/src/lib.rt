@@ -16,7 +16,7 @@ ghost use Rattle.facts.specs.Path.{graphOf, pathOf, repOf};
 ghost use Rattle.link_query.specs.Said.{said, Within};
 ghost use Rattle.rules.specs.Answers.{kindOf};
 ghost use Rattle.rules.specs.Tests.{pairTest, thirdTest, looped};
-ghost use Rattle.rules.specs.Smallest.{allowed};
+ghost use Rattle.rules.specs.Allowed.{allowed};
 ghost use Rattle.clash.specs.Sections.{literalsIn, oneTerm, reachHeld, sameField};
 
 // Term t is not replaced.
@@ -93,12 +93,12 @@ fn is_round(link: &[u32; 17], reach: &[u32; 17], n: usize, x: usize, y: usize, k
     if k == 0 {
         return false;
     }
-    let first = rules::next(link, n, Term(x));
-    let back = rules::follow(link, n, first, Term(x), k);
+    let first = link_steps::next(link, n, Term(x));
+    let back = link_steps::follow(link, n, first, Term(x), k);
     if back.steps != k - 1 {
         return false;
     }
-    let round = rules::follow(link, n, Term(x), Term(y), k);
+    let round = link_steps::follow(link, n, Term(x), Term(y), k);
     round.steps == k
 }
 

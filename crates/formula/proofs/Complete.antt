@@ -1,21 +1,19 @@
 -- The readers read every text of the grammar, so that a text has at most one formula.
-use Prim.Native.Nat.{ℕ, zero, suc, _+_, _-_, _*_, _≤_, _<_}
+use Prim.Native.Nat.{ℕ, zero, suc, _+_, _-_, _≤_, _<_}
 use native.Mathlib.Omega.{arith}
 use native.Mathlib.Nat.{le-of-lt, add-zero}
-use mathlib.Core.Path.{_≡_, refl, sym, ap, ap₂, _∙_, subst}
-use mathlib.Core.Logic.{_⊎_, ⊎-elim}
-use mathlib.Core.Bool.{Bool, true, false, not, cond}
+use mathlib.Core.Path.{_≡_, refl, sym, ap, _∙_, subst}
+use mathlib.Core.Bool.{Bool, true, false}
 use mathlib.Core.List.{List, [], _∷_, _++_, append-assoc, append-nil}
 use lib.ListN.{length, length-append}
-use lib.Dec.{eqb, ltb}
-use borrow.Author.Tests.{eqb-true, eqb-false, eq-eqb, ne-eqb}
+use borrow.Author.Tests.{eqb-true, eq-eqb, ne-eqb}
 use Rattle.logic.specs.Search.{_and_, all}
-use Rattle.theory.proofs.Basics.Search.{true-false, and-left, and-right}
+use Rattle.theory.proofs.Basics.Search.{and-left, and-right}
 use Rattle.text.specs.Text.{isDigit}
 use Rattle.formula.specs.Grammar.{Letter, E, R, D, B, letterByte, Formula, literal, both, either, isBlank, isPlace, shown, Level, disjunction, conjunction, item, Reads, one-and, one-item, name, parentheses, Within}
 use Rattle.formula.specs.Meaning.{AllPresent}
 use Rattle.formula.specs.Places.{digitsAt, pastDigits}
-use Rattle.formula.specs.Reader.{Mark, mark, letter, opening, pastBlanks, Reading, refused, done, andThen, joined, further, closed, named, itemBy, itemAt, read, calls, ended, readText}
+use Rattle.formula.specs.Reader.{pastBlanks, Reading, done, andThen, joined, further, closed, named, itemBy, itemAt, read, calls}
 use Rattle.formula.proofs.Marks.{mark-opening, mark-letter}
 use Rattle.formula.proofs.Reading.{Stops}
 

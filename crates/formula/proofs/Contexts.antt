@@ -1,19 +1,13 @@
 -- What the scan has passed begins a text of the grammar.
-use Prim.Native.Nat.{ℕ, zero, suc, _+_, _≤_, _<_}
-use native.Mathlib.Omega.{arith}
+use Prim.Native.Nat.{ℕ, zero, suc, _+_}
 use mathlib.Core.Path.{_≡_, refl, sym, ap, _∙_, subst}
-use mathlib.Core.Logic.{_⊎_, ⊎-elim}
-use mathlib.Core.Bool.{Bool, true, false, not, cond}
+use mathlib.Core.Bool.{true}
 use mathlib.Core.List.{List, [], _∷_, _++_, append-assoc, append-nil}
-use lib.ListN.{length, replicate}
-use lib.Dec.{eqb, ltb}
 use Rattle.logic.specs.Search.{_and_, all}
-use Rattle.theory.proofs.Basics.Search.{true-false, and-left, and-right, all-append, bool-cases}
+use Rattle.theory.proofs.Basics.Search.{all-append}
 use Rattle.text.specs.Text.{isDigit}
 use Rattle.formula.specs.Grammar.{Letter, E, letterByte, Formula, literal, both, either, isBlank, isPlace, shown, Level, disjunction, conjunction, item, Reads, one-and, one-item, name, parentheses, Text, Begins}
-use Rattle.formula.specs.Reader.{Mark, mark, blank, opening, closing, ampersand, bar, other, letter, digit}
-use Rattle.formula.proofs.Marks.{Marked, marked, is-blank, is-opening, is-closing, is-ampersand, is-bar, is-letter, is-digit, is-other}
-use Rattle.formula.proofs.Scan.{State, wants, named, counted, after, Result, clean, fault, Move, to, stop, closes, wantsBy, afterBy, move, endOf, follow, scan}
+use Rattle.formula.proofs.Scan.{State, wants, named, counted, after}
 
 -- Blanks before and behind, and texts joined
 

@@ -1,26 +1,25 @@
 -- Where the scan stops is the first fault of the text.
-use Prim.Native.Nat.{ℕ, zero, suc, _+_, _-_, _*_, _≤_, _<_}
+use Prim.Native.Nat.{ℕ, zero, suc, _+_, _-_, _≤_, _<_}
 use native.Mathlib.Omega.{arith}
-use mathlib.Core.Path.{_≡_, refl, sym, ap, ap₂, _∙_, subst}
+use mathlib.Core.Path.{_≡_, refl, sym, ap, _∙_, subst}
 use mathlib.Core.Logic.{_⊎_, ⊎-elim, inl, inr}
 use mathlib.Core.Bool.{Bool, true, false, not, cond}
 use mathlib.Core.List.{List, [], _∷_, _++_, append-assoc, append-nil}
-use lib.ListN.{length, getD, take, drop, length-append}
-use lib.Seq.{take-append-seam, drop-append-seam, getD-append-seam, take-append-le, take-length}
+use lib.ListN.{length}
 use lib.Dec.{eqb, ltb}
-use borrow.Author.Tests.{eqb-true, eqb-false, eq-eqb, ne-eqb, ltb-true, ltb-false, lt-ltb, le-ltb}
+use borrow.Author.Tests.{ltb-true, ltb-false, lt-ltb}
 use Rattle.logic.specs.Search.{_and_, all}
-use Rattle.theory.proofs.Basics.Search.{bool-cases, true-false, and-left, and-right, not-true, all-append}
+use Rattle.theory.proofs.Basics.Search.{true-false, and-left, and-right, not-true, all-append}
 use Rattle.text.specs.Text.{isDigit}
-use Rattle.formula.specs.Grammar.{Letter, letterByte, Formula, isPlace, shown, Level, disjunction, Reads, Text, Begins}
+use Rattle.formula.specs.Grammar.{Letter, letterByte, Formula, isPlace, shown, disjunction, Reads, Text}
 use Rattle.formula.specs.Meaning.{AllPresent}
-use Rattle.formula.specs.Places.{Outside, byte, ended, digitsAt, Absent, occurrences, TooDeep, Fault17, Fault18, NoneBefore, FirstFault, wrong, deep}
-use Rattle.formula.specs.Reader.{Mark, mark, blank, opening, closing, ampersand, bar, other, letter, digit, Reading, done, refused, andThen, read, calls, readText}
-use Rattle.formula.proofs.Marks.{Marked, marked, is-blank, is-opening, is-closing, is-ampersand, is-bar, is-letter, is-digit, is-other, mark-letter}
-use Rattle.formula.proofs.Scan.{State, wants, named, counted, after, Result, clean, fault, Move, to, stop, closes, wantsBy, afterBy, move, endOf, follow, scan, scan-to, scan-stop}
-use Rattle.formula.proofs.Reading.{Found, As, reads-as}
+use Rattle.formula.specs.Places.{digitsAt}
+use Rattle.formula.specs.Reader.{Mark, mark, blank, opening, closing, ampersand, bar, other, letter, digit, Reading, done, refused, read, calls}
+use Rattle.formula.proofs.Marks.{Marked, marked, is-blank, is-opening, is-closing, is-ampersand, is-bar, is-letter}
+use Rattle.formula.proofs.Scan.{State, wants, named, counted, after, Result, clean, fault, Move, to, stop, closes, wantsBy, afterBy, move, endOf, scan, scan-to, scan-stop}
+use Rattle.formula.proofs.Reading.{As, reads-as}
 use Rattle.formula.proofs.Complete.{always, all-always, short-within, whole-complete}
-use Rattle.formula.proofs.Contexts.{Passed, passed-begins, Wanting, Ended, Follows, nothing, an-and, an-or, a-close, a-blank, wanting-start, wanting-open, name-ended, textual, blank-before}
+use Rattle.formula.proofs.Contexts.{Passed, Wanting, Ended, an-and, an-or, a-close, a-blank, wanting-open, name-ended, textual, blank-before}
 
 -- A text of the grammar whose literals are there is scanned without a fault, if enough parentheses may be open
 
@@ -231,28 +230,6 @@ module _ (has : Letter → ℕ → Bool) (most : ℕ) where
   run-split {rest} (y ∷ x) b z (step q w) = let (u, v, r, m, e) = run-split x b z w in (u, v, step (ap (move has most _ y) (sym (append-assoc x (b ∷ z) rest)) ∙ q) r, m, e)
 
 -- What is passed begins a text of the grammar
-
-digit-no-mark : (b : ℕ) → isDigit b ≡ true → (m : Mark) → Marked b m → m ≡ digit
-digit-no-mark b h m w = by m w
-  where
-    none : {x : ℕ} → b ≡ x → isDigit x ≡ false → ⊥
-    none e n = true-false h (ap isDigit e ∙ n)
-
-    letters : (l : Letter) → isDigit (letterByte l) ≡ false
-    letters Letter.E = unfold letterByte isDigit _and_ in refl
-    letters Letter.R = unfold letterByte isDigit _and_ in refl
-    letters Letter.D = unfold letterByte isDigit _and_ in refl
-    letters Letter.B = unfold letterByte isDigit _and_ in refl
-
-    by : (m : Mark) → Marked b m → m ≡ digit
-    by blank (is-blank e) = absurd (none e (unfold isDigit _and_ in refl))
-    by opening (is-opening e) = absurd (none e (unfold isDigit _and_ in refl))
-    by closing (is-closing e) = absurd (none e (unfold isDigit _and_ in refl))
-    by ampersand (is-ampersand e) = absurd (none e (unfold isDigit _and_ in refl))
-    by bar (is-bar e) = absurd (none e (unfold isDigit _and_ in refl))
-    by (letter l) (is-letter l′ e) = absurd (none e (letters l))
-    by digit (is-digit e) = refl
-    by other (is-other e) = absurd (true-false h e)
 
 place-more : (ds : List ℕ) (b : ℕ) → isPlace ds ≡ true → isDigit b ≡ true → isPlace (ds ++ (b ∷ [])) ≡ true
 place-more [] b p h = absurd (true-false p (unfold isPlace in refl))

@@ -1,28 +1,26 @@
 -- The refusal of a text is its first fault, and a text that is read has none.
-use Prim.Native.Nat.{ℕ, zero, suc, _+_, _-_, _*_, _≤_, _<_}
+use Prim.Native.Nat.{ℕ, zero, suc, _+_, _-_, _≤_, _<_}
 use native.Mathlib.Omega.{arith}
 use mathlib.Core.Path.{_≡_, refl, sym, ap, ap₂, _∙_, subst}
 use mathlib.Core.Logic.{_⊎_, ⊎-elim, inl, inr}
 use mathlib.Core.Bool.{Bool, true, false, not, cond}
 use mathlib.Core.List.{List, [], _∷_, _++_, append-assoc, append-nil}
 use lib.ListN.{length, getD, take, drop, length-append, List·getD-append}
-use lib.Seq.{take-append-seam, drop-append-seam, getD-append-seam, take-append-le, drop-append-le, take-length, take-suc, split-at, length-take-le, take-all}
+use lib.Seq.{take-append-seam, drop-append-seam, getD-append-seam, take-append-le, drop-append-le, take-suc, split-at}
 use lib.Dec.{eqb, ltb}
-use borrow.Author.Tests.{eqb-true, eqb-false, eq-eqb, ne-eqb, ltb-true, ltb-false, lt-ltb}
+use borrow.Author.Tests.{eq-eqb, ne-eqb, ltb-true, ltb-false, lt-ltb}
 use Rattle.logic.specs.Search.{_and_}
-use Rattle.theory.proofs.Basics.Search.{bool-cases, true-false, and-left, and-right}
+use Rattle.theory.proofs.Basics.Search.{bool-cases, true-false, and-left}
 use Rattle.text.specs.Text.{isDigit}
-use Rattle.formula.specs.Grammar.{Letter, E, R, D, B, letterByte, Formula, isPlace, shown, disjunction, Reads, Text, Begins}
-use Rattle.formula.specs.Meaning.{AllPresent}
-use Rattle.formula.specs.Places.{Outside, byte, ended, digitsAt, Absent, occurrences, TooDeep, Fault17, Fault18, NoneBefore, FirstFault, wrong, deep}
-use Rattle.formula.specs.Reader.{Mark, mark, blank, opening, closing, ampersand, bar, other, letter, digit, Reading, done, refused, andThen, read, calls, readText}
+use Rattle.formula.specs.Grammar.{Letter, E, R, D, B, letterByte, isPlace, shown, Text, Begins}
+use Rattle.formula.specs.Places.{Outside, byte, ended, digitsAt, Absent, occurrences, TooDeep, NoneBefore, FirstFault, wrong, deep}
+use Rattle.formula.specs.Reader.{Mark, mark, blank, opening, closing, ampersand, bar, other, letter, digit}
 use Rattle.formula.specs.Reader as reader
-use Rattle.formula.proofs.Marks.{Marked, marked, is-blank, is-opening, is-closing, is-ampersand, is-bar, is-letter, is-digit, is-other, mark-opening, mark-letter}
-use Rattle.formula.proofs.Scan.{State, wants, named, counted, after, Result, clean, fault, Move, to, stop, closes, wantsBy, afterBy, move, endOf, scan, scan-to, scan-stop}
-use Rattle.formula.proofs.Reading.{Found, As, reads-as}
+use Rattle.formula.proofs.Marks.{Marked, marked, is-blank, is-opening, is-closing, is-ampersand, is-bar, is-letter, is-digit, mark-opening, mark-letter}
+use Rattle.formula.proofs.Scan.{State, wants, named, counted, after, fault, to, stop, closes, wantsBy, afterBy, move, endOf, scan, scan-stop}
 use Rattle.formula.proofs.Complete.{always}
-use Rattle.formula.proofs.Contexts.{Passed, passed-begins, wanting-start}
-use Rattle.formula.proofs.Faults.{text-clean, not-to, not-clean, to-same, end-same, Stopped, grammar, absent, too-deep, stops, Run, stay, step, Went, went, went-whole, run-scans, run-split, move-passed, run-passed}
+use Rattle.formula.proofs.Contexts.{passed-begins, wanting-start}
+use Rattle.formula.proofs.Faults.{text-clean, not-to, not-clean, to-same, end-same, Stopped, grammar, absent, too-deep, stops, Run, stay, step, Went, run-scans, run-split, move-passed, run-passed}
 
 -- How many parentheses are open
 

@@ -1,19 +1,13 @@
 -- What a byte is to a reader, and the bytes that blanks and digits are.
-use Prim.Native.Nat.{ℕ, zero, suc, _≤_, _<_}
-use native.Mathlib.Omega.{arith}
-use mathlib.Core.Path.{_≡_, refl, sym, ap, _∙_, subst}
-use mathlib.Core.Logic.{_⊎_, ⊎-elim, inl, inr}
-use mathlib.Core.Bool.{Bool, true, false, cond, true≢false}
-use mathlib.Core.List.{List, [], _∷_, _++_}
-use lib.ListN.{length}
-use lib.Dec.{eqb, leb}
-use borrow.Author.Tests.{eqb-true, eqb-false, eq-eqb, ne-eqb}
-use Rattle.logic.specs.Search.{_and_, all}
-use Rattle.theory.proofs.Basics.Search.{bool-cases, true-false, and-left, and-right}
+use Prim.Native.Nat.{ℕ}
+use mathlib.Core.Path.{_≡_, refl}
+use mathlib.Core.Bool.{Bool, true, false, cond}
+use lib.Dec.{eqb}
+use borrow.Author.Tests.{eqb-true}
+use Rattle.logic.specs.Search.{_and_}
 use Rattle.text.specs.Text.{isDigit}
-use Rattle.formula.specs.Grammar.{Letter, E, R, D, B, letterByte, isBlank, isPlace}
-use Rattle.formula.specs.Places.{digitsAt, pastDigits}
-use Rattle.formula.specs.Reader.{Mark, mark, blank, opening, closing, ampersand, bar, other, letter, digit, pastBlanks}
+use Rattle.formula.specs.Grammar.{Letter, E, R, D, B, letterByte}
+use Rattle.formula.specs.Reader.{Mark, mark, blank, opening, closing, ampersand, bar, other, letter, digit}
 
 pub mark-blank : {b : ℕ} → b ≡ 32 → mark b ≡ blank
 unfolding mark

@@ -1,22 +1,22 @@
 -- What the readers find is what the scan finds, and what they read is in the grammar.
-use Prim.Native.Nat.{ℕ, zero, suc, _+_, _-_, _*_, _≤_, _<_}
+use Prim.Native.Nat.{ℕ, zero, suc, _+_, _-_, _≤_, _<_}
 use native.Mathlib.Omega.{arith}
-use mathlib.Core.Path.{_≡_, refl, sym, ap, ap₂, _∙_, subst}
+use mathlib.Core.Path.{_≡_, refl, sym, ap, _∙_, subst}
 use mathlib.Core.Logic.{_⊎_, ⊎-elim}
 use mathlib.Core.Bool.{Bool, true, false, not, cond}
 use mathlib.Core.List.{List, [], _∷_, _++_, append-assoc}
-use lib.ListN.{length, length-append}
+use lib.ListN.{length}
 use lib.Dec.{eqb, ltb}
 use borrow.Author.Tests.{eqb-true, eqb-false, ltb-true, ltb-false, lt-ltb, le-ltb}
 use Rattle.logic.specs.Search.{_and_, all}
-use Rattle.theory.proofs.Basics.Search.{bool-cases, true-false, and-left, and-right}
+use Rattle.theory.proofs.Basics.Search.{bool-cases, true-false, and-left}
 use Rattle.text.specs.Text.{isDigit}
 use Rattle.formula.specs.Grammar.{Letter, letterByte, Formula, literal, both, either, isBlank, isPlace, shown, Level, disjunction, conjunction, item, Reads, one-and, one-item, name, parentheses, Within}
 use Rattle.formula.specs.Meaning.{AllPresent}
 use Rattle.formula.specs.Places.{digitsAt, pastDigits}
 use Rattle.formula.specs.Reader.{Mark, mark, blank, opening, closing, ampersand, bar, other, letter, digit, pastBlanks, Reading, refused, done, andThen, joined, further, closed, named, itemBy, itemAt, read, calls}
 use Rattle.formula.proofs.Marks.{mark-ampersand, mark-bar, mark-closing, Marked, marked, is-blank, is-opening, is-closing, is-ampersand, is-bar, is-letter, is-digit, is-other}
-use Rattle.formula.proofs.Scan.{State, wants, counted, after, Result, clean, fault, Move, to, stop, closes, wantsBy, afterBy, move, endOf, scan, scan-to, scan-stop, want-move, after-move, want-blanks, after-blanks, counted-digits}
+use Rattle.formula.proofs.Scan.{State, wants, counted, after, Result, fault, to, stop, closes, wantsBy, afterBy, move, endOf, scan, scan-to, scan-stop, want-move, after-move, want-blanks, after-blanks, counted-digits}
 use Rattle.formula.proofs.Scan as scans
 
 -- what does not follow a formula of each level
@@ -309,9 +309,6 @@ module _ (has : Letter → ℕ → Bool) (most : ℕ) where
 
   and-onward : (d : ℕ) (bs : List ℕ) → go-on (after d) (38 ∷ bs) ≡ go-on (wants d) bs
   and-onward d bs = scan-to has most (after d) (wants d) 38 bs (after-move has most d 38 bs (mark-ampersand refl) ∙ (unfold afterBy in refl))
-
-  there-pair : (join : Formula → Formula → Formula) → ((f g : Formula) → AllPresent has f × AllPresent has g → AllPresent has (join f g)) → (f g : Formula) → AllPresent has f → AllPresent has g → AllPresent has (join f g)
-  there-pair join h f g a b = h f g (a, b)
 
   pub reads-as : (k : ℕ) (level : Level) (d left : ℕ) → d + left ≡ most → (bs : List ℕ) → calls level (length bs) ≤ k → As level d bs (read has k level left bs)
   unfolding read calls AllPresent Within

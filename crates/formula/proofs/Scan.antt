@@ -1,18 +1,16 @@
 -- A text byte by byte: the first fault, by a machine that counts open parentheses. The readers find the same.
-use Prim.Native.Nat.{ℕ, zero, suc, _+_, _≤_, _<_}
-use mathlib.Core.Path.{_≡_, refl, sym, ap, _∙_}
-use mathlib.Core.Logic.{⊎-elim}
+use Prim.Native.Nat.{ℕ, zero, suc}
+use mathlib.Core.Path.{_≡_, refl, ap, _∙_}
 use mathlib.Core.Bool.{Bool, true, false, not, cond}
 use mathlib.Core.List.{List, [], _∷_}
 use lib.Dec.{eqb, ltb}
-use borrow.Author.Tests.{eqb-true, eqb-false, eq-eqb, ne-eqb}
+use borrow.Author.Tests.{eqb-true}
 use Rattle.logic.specs.Search.{_and_}
-use Rattle.theory.proofs.Basics.Search.{bool-cases}
 use Rattle.text.specs.Text.{isDigit}
-use Rattle.formula.specs.Grammar.{Letter, letterByte, isPlace, shown}
+use Rattle.formula.specs.Grammar.{Letter, isPlace, shown}
 use Rattle.formula.specs.Places.{digitsAt, pastDigits}
 use Rattle.formula.specs.Reader.{Mark, mark, blank, opening, closing, ampersand, bar, other, letter, digit, pastBlanks}
-use Rattle.formula.proofs.Marks.{mark-blank, Marked, marked, is-blank, is-opening, is-closing, is-ampersand, is-bar, is-letter, is-digit, is-other}
+use Rattle.formula.proofs.Marks.{mark-blank}
 
 -- an item is wanted; a letter was read; digits were read; an item has ended: each with the parentheses that are open
 pub data State : Type 0 where

@@ -4,14 +4,14 @@ use mathlib.Core.Path.{_≡_}
 use mathlib.Core.Logic.{_⊎_}
 use mathlib.Core.Bool.{Bool, true, cond}
 use mathlib.Core.List.{List, [], _∷_}
-use mathlib.Core.Option.{Option, some}
+use mathlib.Core.Option.{some}
 use lib.Dec.{eqb, leb}
 use lib.ListN.{length}
 use Rattle.logic.specs.Search.{_and_, any, at}
 use Rattle.logic.specs.Query.{Literal, Query}
 use Rattle.logic.specs.Heap.{Heap, Meets, MeansEqual, MeansReach, MeansField}
 use Rattle.formula.specs.Grammar.{Letter, E, R, D, B, letterByte, Formula, literal, both, either}
-use Rattle.formula.specs.Expansion.{Name, Conjunction}
+use Rattle.formula.specs.Expansion.{Conjunction}
 
 -- "names its literals": the section that a letter names, and what a literal of it means. B names none, since no query has booleans
 -- (02, R-13).

@@ -1,12 +1,11 @@
 -- Where a text is wrong (02, R-7): the faults of a text at each place, and the one that is answered.
-use Prim.Native.Nat.{ℕ, zero, suc, _+_, _≤_, _<_}
+use Prim.Native.Nat.{ℕ, suc, _+_, _≤_, _<_}
 use mathlib.Core.Path.{_≡_}
 use mathlib.Core.Logic.{_⊎_}
-use mathlib.Core.Bool.{Bool, true, false, not, cond}
-use mathlib.Core.List.{List, [], _∷_, _++_}
+use mathlib.Core.Bool.{Bool, true, false, cond}
+use mathlib.Core.List.{List, [], _∷_}
 use lib.ListN.{length, getD, take, drop}
 use lib.Dec.{eqb}
-use Rattle.logic.specs.Search.{_and_}
 use Rattle.text.specs.Text.{isDigit}
 use Rattle.formula.specs.Grammar.{Letter, letterByte, isPlace, shown, Text, Begins}
 

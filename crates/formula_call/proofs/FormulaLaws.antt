@@ -2,12 +2,12 @@
 use Prim.Native.Nat.{ℕ, zero, suc, _+_, _-_, _*_, _≤_, _<_}
 use native.Mathlib.Omega.{arith}
 use native.Mathlib.Numerals.{add-one}
-use mathlib.Core.Path.{_≡_, refl, sym, ap, ap₂, _∙_, subst, fun-ext}
+use mathlib.Core.Path.{_≡_, refl, sym, ap, _∙_, subst, fun-ext}
 use mathlib.Core.Logic.{⊎-elim}
 use mathlib.Core.Bool.{Bool, true, false, cond}
-use mathlib.Core.List.{List, [], _∷_, _++_}
+use mathlib.Core.List.{List, [], _∷_}
 use mathlib.Core.Option.{Option, none, some, Option·elim}
-use lib.ListN.{length, getD, take, drop, replicate, length-replicate, getD-replicate, drop-of-length-le, length-drop}
+use lib.ListN.{length, getD, take, drop, replicate, getD-replicate, drop-of-length-le, length-drop}
 use lib.Seq.{drop-cons}
 use lib.Dec.{ltb, leb}
 use borrow.Author.Tests.{lt-ltb, le-ltb, ltb-true, ltb-false, leb-true}
@@ -18,7 +18,6 @@ use Rattle.logic.specs.Calls as calls
 use Rattle.theory.proofs.Basics.Search.{bool-cases, true-false, and-right}
 use Rattle.theory.proofs.Calls.Refusals.{one-link-laws}
 use Rattle.theory.proofs.Calls.VerdictCall.{VerdictCase, by-refusal, by-lines, by-model, verdict-case}
-use Rattle.text.specs.Text.{Writes}
 use Rattle.text.proofs.Writing.{writes-taken}
 use Rattle.query.specs.LaysOut.{LaysOut, literalIn}
 use Rattle.query.specs.Answers.{CheckedAs}
@@ -27,20 +26,20 @@ use Rattle.query.specs.declared.Checked.the-variants as checked
 use Rattle.query.proofs.Literals.{listed-length, equalities-listed, reachability-listed, fields-listed}
 use Rattle.formula.specs.Grammar.{Letter, E, R, D, B, Formula, literal, both, either, disjunction}
 use Rattle.formula.specs.Expansion.{Conjunction, expand}
-use Rattle.formula.specs.Meaning.{names, literalsOf, present, AllPresent, restricted}
+use Rattle.formula.specs.Meaning.{names, present, AllPresent, restricted}
 use Rattle.formula.specs.Reader.{Reading, readText, read, andThen, ended, calls}
 use Rattle.formula.specs.Reader as reader
 use Rattle.encoding.specs.QueryBytes.{encode}
 use Rattle.formula.specs.Call.{queryOf, verdictOn, isSatisfiable, firstOf, decided, afterReading, textOutcome, asRefusal, formulaCall}
 use Rattle.formula.specs.Call as formula
-use Rattle.formula.proofs.Reading.{Found, As, reads-as}
-use Rattle.formula_reader.specs.Tree.{letterCode, capped, conjunctions, has, Tree}
+use Rattle.formula.proofs.Reading.{As, reads-as}
+use Rattle.formula_reader.specs.Tree.{letterCode, conjunctions, has, Tree}
 use Rattle.formula_reader.specs.Marked.{marked, Marks, fits, Picks}
 use Rattle.formula_reader.proofs.Laws.{cap-low, cap-high}
 use Rattle.formula_reader.proofs.Trees.{tree-count}
 use Rattle.formula_query.specs.Kept.{PutsQuery}
 use Rattle.prover.specs.Promise.{meaning, inputOf, Does}
-use Rattle.formula_call.specs.FormulaPromise.{formulaInput, formulaMeaning, DoesFormula, Formulas}
+use Rattle.formula_call.specs.FormulaPromise.{formulaInput, DoesFormula, Formulas}
 use Rattle.prover.specs.declared.Answer.{Answer}
 use Rattle.formula_call.specs.declared.FormulaAnswer.{FormulaAnswer}
 use Rattle.formula_call.specs.declared.FormulaAnswer.the-variants as answer

@@ -3,20 +3,19 @@ use Prim.Native.Nat.{ℕ, zero, suc, _+_, _-_, _*_, _/_, _%_, _≤_, _<_}
 use native.Mathlib.Omega.{arith}
 use native.Mathlib.Nat.{suc-mul, zero-mul, mul-one, mul-le-mul, le-refl, div-add-mod', mod-lt, div-lt-iff-lt-mul, le-trans}
 use mathlib.Core.Path.{_≡_, refl, sym, ap, ap₂, _∙_, subst}
-use mathlib.Core.Logic.{_⊎_, ⊎-elim}
 use mathlib.Core.Bool.{Bool, true, false}
 use mathlib.Core.List.{List, [], _∷_, _++_, map}
-use lib.ListN.{length, getD, set, length-append, length-map, List·getD-append}
+use lib.ListN.{length, getD, set, length-map, List·getD-append}
 use lib.Seq.{getD-append-add, getD-set-same, getD-set-other}
-use lib.Dec.{eqb, ltb}
-use borrow.Author.Tests.{ltb-true, ltb-false, eqb-true, eqb-false, eq-eqb, ne-eqb}
+use lib.Dec.{eqb}
+use borrow.Author.Tests.{ltb-true, eqb-true, eqb-false}
 use Rattle.logic.specs.Search.{_and_, _or_, any, flatMap}
 use Rattle.theory.proofs.Basics.Search.{true-false}
 use Rattle.formula.specs.Grammar.{Letter, E, R, D, B, letterByte, Formula, literal, both, either}
-use Rattle.formula.specs.Expansion.{Name, Conjunction, expand}
+use Rattle.formula.specs.Expansion.{Conjunction, expand}
 use Rattle.formula.specs.Meaning.{names, AllPresent}
 use Rattle.formula_reader.specs.Tree.{letterCode, conjunctions, Tree, leaf, conjoined, disjoined}
-use Rattle.formula_reader.specs.Marked.{marked, Marks, fits, Picks, Pickable, Picked}
+use Rattle.formula_reader.specs.Marked.{marked, Marks, fits, Picks, Picked}
 use Rattle.formula_reader.proofs.Laws.{cap-low}
 use Rattle.formula_reader.proofs.Trees.{tree-count, expand-both, expand-either, expand-some}
 
@@ -55,9 +54,6 @@ expand-either-is : (f g : Formula) → expand (either f g) ≡ expand f ++ expan
 expand-either-is f g = unfold expand in refl
 
 -- What a conjunction of two names
-
-names-nil : (l : Letter) (n : ℕ) → names [] l n ≡ false
-names-nil l n = unfold names any in refl
 
 or-assoc : (a b c : Bool) → (a or b) or c ≡ a or (b or c)
 unfolding _or_

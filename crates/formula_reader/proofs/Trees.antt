@@ -1,10 +1,10 @@
 -- Nodes that are written, and trees that stay.
-use Prim.Native.Nat.{ℕ, zero, suc, _+_, _-_, _*_, _≤_, _<_}
+use Prim.Native.Nat.{ℕ, _+_, _-_, _*_, _≤_, _<_}
 use native.Mathlib.Omega.{arith}
 use native.Mathlib.Nat.{mul-le-mul, zero-mul, suc-mul, add-comm}
-use mathlib.Core.Path.{_≡_, refl, sym, ap, ap₂, _∙_, subst}
+use mathlib.Core.Path.{_≡_, sym, ap, ap₂, _∙_, subst}
 use mathlib.Core.Logic.{⊎-elim}
-use mathlib.Core.Bool.{Bool, true, false}
+use mathlib.Core.Bool.{true}
 use mathlib.Core.List.{List, [], _∷_, _++_, map}
 use lib.ListN.{length, getD, set, length-append, length-map, length-set}
 use lib.Seq.{getD-set-same, getD-set-other}
@@ -12,9 +12,9 @@ use lib.Dec.{ltb}
 use borrow.Author.Tests.{ltb-true, ltb-false}
 use Rattle.logic.specs.Search.{flatMap}
 use Rattle.theory.proofs.Basics.Search.{bool-cases}
-use Rattle.formula.specs.Grammar.{Letter, Formula, literal, both, either}
+use Rattle.formula.specs.Grammar.{Formula, literal, both, either}
 use Rattle.formula.specs.Expansion.{Conjunction, expand}
-use Rattle.formula_reader.specs.Tree.{letterCode, capped, conjunctions, putNode, Node, Tree, leaf, conjoined, disjoined}
+use Rattle.formula_reader.specs.Tree.{capped, conjunctions, putNode, Node, Tree, leaf, conjoined, disjoined}
 use Rattle.formula_reader.proofs.Laws.{cap-low, cap-high}
 
 module _ (nodes : List ℕ) (i kind a b count : ℕ) where

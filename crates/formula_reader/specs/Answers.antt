@@ -1,5 +1,5 @@
 -- The code's answers in the words of the definitions.
-use Prim.Native.Nat.{ℕ, suc, _+_, _*_, _-_, _≤_, _<_}
+use Prim.Native.Nat.{ℕ, _+_, _*_, _-_, _≤_, _<_}
 use mathlib.Core.Path.{_≡_}
 use mathlib.Core.Bool.{Bool, true, false, cond}
 use mathlib.Core.List.{List}
@@ -7,7 +7,7 @@ use lib.ListN.{length, getD, drop}
 use lib.Dec.{eqb, ltb}
 use Rattle.logic.specs.Search.{_and_}
 use Rattle.formula.specs.Grammar.{Letter, Formula, Level}
-use Rattle.formula.specs.Reader.{Mark, mark, blank, opening, closing, ampersand, bar, other, letter, digit, Reading, refused, done, named, closed, read, calls}
+use Rattle.formula.specs.Reader.{Mark, blank, opening, closing, ampersand, bar, other, letter, digit, Reading, refused, done, named, closed, read, calls}
 use Rattle.formula_reader.specs.Tree.{letterCode, Tree, has}
 use Rattle.formula_reader.specs.declared.Found.{Found}
 use Rattle.formula_reader.specs.declared.Found.the-variants as found

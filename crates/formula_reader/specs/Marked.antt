@@ -6,7 +6,7 @@ use mathlib.Core.List.{List, []}
 use lib.ListN.{length, getD}
 use lib.Dec.{ltb}
 use Rattle.logic.specs.Search.{_or_}
-use Rattle.formula.specs.Grammar.{Letter, Formula, literal, both, either}
+use Rattle.formula.specs.Grammar.{Letter, Formula}
 use Rattle.formula.specs.Expansion.{Conjunction, expand}
 use Rattle.formula.specs.Meaning.{names, AllPresent}
 use Rattle.formula_reader.specs.Tree.{letterCode, Tree}

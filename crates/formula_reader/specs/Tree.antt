@@ -1,5 +1,5 @@
 -- Formulas as nodes in an array: four numbers a node, its kind, two more by its kind, and how many conjunctions it has.
-use Prim.Native.Nat.{ℕ, suc, _+_, _*_, _≤_, _<_}
+use Prim.Native.Nat.{ℕ, _+_, _*_, _<_}
 use mathlib.Core.Path.{_≡_}
 use mathlib.Core.Bool.{Bool, cond}
 use mathlib.Core.List.{List}

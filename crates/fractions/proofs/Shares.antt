@@ -1,15 +1,13 @@
 -- Greatest common divisors, lowest terms, and the sum of shares. Assumes nothing.
 use Prim.Native.Nat.{ℕ, zero, suc, _+_, _-_, _*_, _/_, _%_, _≤_, _<_, _∣_}
 use native.Mathlib.Omega.{arith}
-use native.Mathlib.Nat.{dvd-refl, dvd-zero, dvd-mod-iff, dvd-mul-left, mul-dvd-mul-left, dvd-of-mul-dvd-mul-left, pos-of-dvd-of-pos, eq-one-of-dvd-one, mul-div-cancel', eq-of-mul-eq-mul-right, add-mul, mul-assoc, mul-comm, mul-left-comm, mul-one, mul-suc, zero-mul, mul-zero, mod-lt}
+use native.Mathlib.Nat.{dvd-refl, dvd-zero, dvd-mod-iff, dvd-mul-left, mul-dvd-mul-left, dvd-of-mul-dvd-mul-left, pos-of-dvd-of-pos, eq-one-of-dvd-one, mul-div-cancel', eq-of-mul-eq-mul-right, add-mul, mul-assoc, mul-comm, mul-left-comm, mul-one, mul-suc, zero-mul, mod-lt}
 use mathlib.Core.Path.{_≡_, refl, sym, ap, subst, _∙_}
 use mathlib.Core.Logic.{⊎-elim}
-use mathlib.Core.Bool.{Bool, true, false, cond}
 use mathlib.Core.List.{List, [], _∷_, _++_, map}
 use native.Mathlib.Numerals.{add-one}
 use lib.ListN.{length, getD, drop, drop-of-length-le}
 use lib.Seq.{drop-cons}
-use lib.Dec.{eqb}
 use Rattle.logic.specs.Search.{flatMap}
 use Rattle.text.specs.Text.{ascii, decimal, decimalWithin}
 use borrow.Author.Tests.{eq-eqb, ne-eqb}

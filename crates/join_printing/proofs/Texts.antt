@@ -7,12 +7,12 @@ use mathlib.Core.Logic.{⊎-elim}
 use mathlib.Core.Bool.{Bool, true, false, cond}
 use mathlib.Core.List.{List, [], _∷_, _++_, map}
 use mathlib.Core.Option.{Option, none, some, Option·elim}
-use lib.ListN.{length, getD, take, drop, length-append, length-drop, drop-of-length-le}
+use lib.ListN.{length, getD, take, drop, length-drop, drop-of-length-le}
 use lib.Seq.{take-all, drop-cons}
-use lib.Dec.{eqb, ltb}
+use lib.Dec.{eqb}
 use borrow.Author.Tests.{lt-ltb, le-ltb}
 use Rattle.theory.proofs.Basics.Compare.{le-cases}
-use Rattle.text.specs.Text.{Writes, ascii, decimal, hexByte}
+use Rattle.text.specs.Text.{ascii, decimal, hexByte}
 use Rattle.text.proofs.Writing.{writes-taken}
 use Rattle.wording.specs.Words.{behind, lineOf, refusedText}
 use Rattle.checking.specs.CheckCall.{countIn}

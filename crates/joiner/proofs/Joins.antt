@@ -1,15 +1,14 @@
 -- What the joining call does, case by case. Assumes nothing.
-use Prim.Native.Nat.{ℕ, _+_, _≤_, _<_}
+use Prim.Native.Nat.{ℕ, _≤_, _<_}
 use native.Mathlib.Omega.{arith}
 use mathlib.Core.Path.{_≡_, refl, sym, ap, _∙_, subst}
-use mathlib.Core.Bool.{Bool, true, false, cond}
+use mathlib.Core.Bool.{true, false}
 use mathlib.Core.List.{List}
 use mathlib.Core.Option.{Option·elim}
 use lib.ListN.{length, replicate, length-replicate}
-use lib.Dec.{leb}
 use borrow.Author.Tests.{le-leb, lt-leb}
 use Rattle.logic.specs.Search.{_and_}
-use Rattle.logic.specs.Query.{Query, termCount, decode}
+use Rattle.logic.specs.Query.{termCount, decode}
 use Rattle.text.specs.Text.{Writes}
 use Rattle.text.proofs.Writing.{writes-blank, writes-length}
 use Rattle.query.specs.Answers.{CheckedAs}
@@ -18,7 +17,7 @@ use Rattle.query.specs.declared.Checked.the-variants as checked
 use Rattle.joining.specs.Pairs.{pairsOf, isPairList}
 use Rattle.encoding.specs.QueryBytes.{encode, withinLimits}
 use Rattle.joining.specs.Joined.{joined}
-use Rattle.joining.specs.Call.{Outcome, written, blank, fitted, joinOf, joinCall}
+use Rattle.joining.specs.Call.{written, blank, fitted, joinOf, joinCall}
 use Rattle.joining.specs.Call as call
 use Rattle.joiner.specs.Promise.{Does, Passing}
 use Rattle.joiner.specs.declared.JoinAnswer.{JoinAnswer}

@@ -1,5 +1,5 @@
 -- The query that is written for two queries and a pair list (02, R-12).
-use Prim.Native.Nat.{ℕ, _+_, _-_}
+use Prim.Native.Nat.{ℕ, _+_}
 use mathlib.Core.Bool.{true, cond}
 use mathlib.Core.List.{List, _++_, map}
 use lib.Dec.{eqb}

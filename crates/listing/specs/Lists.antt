@@ -4,10 +4,16 @@ use mathlib.Core.Path.{_≡_}
 use mathlib.Core.Bool.{true, false}
 use mathlib.Core.List.{List}
 use lib.ListN.{length}
-use Rattle.logic.specs.Facts.{Line}
+use Rattle.logic.specs.Facts.{Facts, Joined, Line}
 use Rattle.logic.specs.Walk.{Ending, refutation}
+use Rattle.facts.specs.Pairs.{pairsOf}
+use Rattle.facts.specs.declared.Pairs.{Pairs}
 use Rattle.walk.specs.Lines.{countAll, putAll}
 use Rattle.listing.specs.declared.Listed.{Listed}
+
+-- a path, and the pairs joined to make it
+abbrev pub joinedWith : Pairs → Facts → Joined
+joinedWith pairs s = record { pairs = pairsOf pairs; facts = s }
 
 -- Where the walk is refuted: all of its lines are counted and written behind the c that stand already; or it was stopped, and there are
 -- more than `most`. The buffer keeps its length in any case.

@@ -1,15 +1,17 @@
 // The lines of a walk that is refuted, broken off as soon as there are more than anyone has use for.
 use facts::Joined;
+use facts::Pairs;
 use query::Layout;
 use walk::Seen;
 ghost use Prim.Native.Nat.{_≤_};
+ghost use lib.ListN.{length};
 ghost use Rattle.logic.specs.Query.{termCount};
 ghost use Rattle.logic.specs.Steps.{AtMost};
 ghost use Rattle.logic.specs.Walk.{walkBranch, walk, orderOf};
-ghost use Rattle.facts.specs.Path.{pathOf};
-ghost use Rattle.facts.specs.Pairs.{joinedOf, Fits};
+ghost use Rattle.facts.specs.Path.{pathAs, pathOf, Whole};
+ghost use Rattle.facts.specs.Pairs.{pairsOf, joinedOf, Fits};
 ghost use Rattle.link_query.specs.Said.{said, Within};
-ghost use Rattle.listing.specs.Lists.{Lists};
+ghost use Rattle.listing.specs.Lists.{joinedWith, Lists};
 
 // Whether the lines are broken off, and their count by then.
 pub struct Listed {
@@ -17,24 +19,32 @@ pub struct Listed {
     pub count: usize,
 }
 
-// Our walk of a path that is refuted, with its lines: one look, and then each branch in order. Where more than `most` lines stand it stops:
-// lines only grow, so that the whole walk has more than that. Of a path that is not refuted nothing is said.
-pub fn list(
+// Our walk of a path that is refuted, with its lines: those of the pairs joined to make it, one look, and then each branch in order. Where more
+// than `most` lines stand it stops: lines only grow, so that the whole walk has more than that. Of a path that is not refuted nothing is said.
+// The arrays of the path are lent, and each branch is made in place in arrays of its own.
+fn list_in<'a>(
     query: &[u8],
     layout: Layout,
     order: &[u8],
     left: usize,
-    path: Joined,
+    pairs: Pairs,
+    single: bool,
+    rep: &'a [u8; 17],
+    link: &'a [u32; 17],
+    reach: &'a [u32; 17],
+    link2: &'a [u32; 17],
+    reach2: &'a [u32; 17],
+    link3: &'a [u32; 17],
+    reach3: &'a [u32; 17],
     lines: &mut [u8],
     first: usize,
     most: usize,
 ) -> Listed
-    requires { ⌜ Within layout (now query) × Fits (joinedOf path) × (first ≤ 16001) × AtMost (termCount (said layout (now query))) (pathOf (path .facts)) left ⌝ }
-    ensures { λ r. ⌜ Lists r (walkBranch (walk (said layout (now (query .entry))) (orderOf (now (order .entry))) left) (joinedOf path)) (now (lines .entry)) first most (now (lines .exit)) ⌝ }
+    requires { ⌜ Within layout (now query) × (length (pairsOf pairs) ≤ 17) × (first ≤ 16001) × AtMost (termCount (said layout (now query))) (pathAs single (now rep) (now link) (now reach) (now link2) (now reach2) (now link3) (now reach3)) left × Whole (now rep) (now link) (now reach) (now link2) (now reach2) (now link3) (now reach3) ⌝ }
+    ensures { λ r. ⌜ Lists r (walkBranch (walk (said layout (now (query .entry))) (orderOf (now (order .entry))) left) (joinedWith pairs (pathAs single (now (rep .entry)) (now (link .entry)) (now (reach .entry)) (now (link2 .entry)) (now (reach2 .entry)) (now (link3 .entry)) (now (reach3 .entry))))) (now (lines .entry)) first most (now (lines .exit)) ⌝ }
 {
     let n = layout.terms;
-    let s = path.facts;
-    let count = walk::put_joins(lines, first, path.pairs);
+    let count = walk::put_joins(lines, first, pairs);
     if most < count {
         return Listed {
             stopped: true,
@@ -45,14 +55,14 @@ pub fn list(
         query,
         layout,
         order,
-        s.single,
-        &s.rep,
-        &s.link,
-        &s.reach,
-        &s.link2,
-        &s.reach2,
-        &s.link3,
-        &s.reach3,
+        single,
+        rep,
+        link,
+        reach,
+        link2,
+        reach2,
+        link3,
+        reach3,
     ) {
         Seen::Saturated => Listed {
             stopped: true,
@@ -71,8 +81,57 @@ pub fn list(
             let mut written = walk::counted(count);
             let mut i: usize = 0;
             while i < total {
-                let branch = branch::branch(s, n, k, rule, x, y, z, i);
-                let w = list(query, layout, order, left - 1, branch, lines, written, most);
+                let mut own_rep = *rep;
+                let mut own_link = *link;
+                let mut own_reach = *reach;
+                let mut own_link2 = *link2;
+                let mut own_reach2 = *reach2;
+                let mut own_link3 = *link3;
+                let mut own_reach3 = *reach3;
+                let mut kept = [0u8; 17];
+                let mut replaced = [0u8; 17];
+                let made = branch::make(
+                    single,
+                    &mut own_rep,
+                    &mut own_link,
+                    &mut own_reach,
+                    &mut own_link2,
+                    &mut own_reach2,
+                    &mut own_link3,
+                    &mut own_reach3,
+                    &mut kept,
+                    &mut replaced,
+                    n,
+                    k,
+                    rule,
+                    x,
+                    y,
+                    z,
+                    i,
+                );
+                let joins = Pairs {
+                    kept,
+                    replaced,
+                    count: made,
+                };
+                let w = list_in(
+                    query,
+                    layout,
+                    order,
+                    left - 1,
+                    joins,
+                    single,
+                    &own_rep,
+                    &own_link,
+                    &own_reach,
+                    &own_link2,
+                    &own_reach2,
+                    &own_link3,
+                    &own_reach3,
+                    lines,
+                    written,
+                    most,
+                );
                 if w.stopped {
                     return w;
                 }
@@ -85,4 +144,39 @@ pub fn list(
             }
         }
     }
+}
+
+// The same of a path by value.
+pub fn list(
+    query: &[u8],
+    layout: Layout,
+    order: &[u8],
+    left: usize,
+    path: Joined,
+    lines: &mut [u8],
+    first: usize,
+    most: usize,
+) -> Listed
+    requires { ⌜ Within layout (now query) × Fits (joinedOf path) × (first ≤ 16001) × AtMost (termCount (said layout (now query))) (pathOf (path .facts)) left ⌝ }
+    ensures { λ r. ⌜ Lists r (walkBranch (walk (said layout (now (query .entry))) (orderOf (now (order .entry))) left) (joinedOf path)) (now (lines .entry)) first most (now (lines .exit)) ⌝ }
+{
+    let s = path.facts;
+    list_in(
+        query,
+        layout,
+        order,
+        left,
+        path.pairs,
+        s.single,
+        &s.rep,
+        &s.link,
+        &s.reach,
+        &s.link2,
+        &s.reach2,
+        &s.link3,
+        &s.reach3,
+        lines,
+        first,
+        most,
+    )
 }

@@ -10,7 +10,7 @@ use Rattle.logic.specs.Derivation.{lineBytes, derivationBytes}
 use Rattle.logic.specs.Shown.{reached, inBasin, heads, onPath, basinLink, treeLink, newLink, linkEach, shownLink, orZero, nodes, placeOf, byteOf, fieldByte, successorsShown, report}
 use Rattle.logic.specs.Calls.{orderCheck, layoutCheck, byteCheck, formChecks, roomUnder, queryChecks, verdictChecksOf, derivationChecksOf, refusalOf, padded, blank, call, verdictOf, verdictCallOf, derivationOf, derivationCallOf}
 use Rattle.logic.specs.Examples.{inOrder}
-use Rattle.logic.specs.ThreeLinks.{linkSections, isLink, mayPrecede, entryLinkFault, reachLinkFault, linkFault, linkCheck, linkChecks, firsts, seconds, linkedLiterals, linkedQuery, decodeLinks, threeLinkForm}
+use Rattle.logic.specs.ThreeLinks.{linkSections, isLink, mayPrecede, entryLinkFault, reachLinkFault, linkFault, linkCheck, linkChecks, firsts, seconds, linkedLiterals, linkedQuery, decodeLinks}
 use Rattle.logic.specs.LinkExamples.{LinkExamplesHold, linksSat, linksUnsat, linksRefused, linkExamples, linksComputed}
 
 pub link-examples-hold : LinkExamplesHold

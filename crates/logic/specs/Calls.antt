@@ -1,13 +1,12 @@
 -- What the two calls answer, and every byte of what is lent, on every input (01, "Refusals, in checking order").
-use Prim.Native.Nat.{ℕ, zero, suc, _+_, _*_, _-_}
-use mathlib.Core.Bool.{Bool, true, false, not, cond}
+use Prim.Native.Nat.{ℕ, _+_, _*_, _-_}
+use mathlib.Core.Bool.{Bool, not, cond}
 use mathlib.Core.List.{List, [], _∷_, _++_}
 use mathlib.Core.Option.{Option, none, some, Option·elim}
 use lib.ListN.{length, replicate}
 use lib.Dec.{ltb}
 use Rattle.logic.specs.Search.{_or_, keep, isSome, firstOf}
 use Rattle.logic.specs.Query.{Query, Form, sections, isOrder, layoutFault, byteFault, decode}
-use Rattle.logic.specs.Facts.{Line}
 use Rattle.logic.specs.Walk.{Ending, refutation, saturation, ourWalk}
 use Rattle.logic.specs.Derivation.{derivationBytes}
 use Rattle.logic.specs.Shown.{report}
@@ -131,9 +130,6 @@ derivationCall = derivationCallOf oneLinkForm
 
 abbrev pub verdictChecks : List Check
 verdictChecks = verdictChecksOf oneLinkForm
-
-abbrev pub derivationChecks : List Check
-derivationChecks = derivationChecksOf oneLinkForm
 
 abbrev pub accepts : List ℕ → Bool
 accepts = acceptsBy oneLinkForm

@@ -1,8 +1,7 @@
 -- The starred examples of 01, as one table and one statement.
-use Prim.Native.Nat.{ℕ, _+_, _*_}
+use Prim.Native.Nat.{ℕ, _+_}
 use mathlib.Core.Path.{_≡_}
 use mathlib.Core.List.{List, [], _∷_, _++_, map}
-use lib.ListN.{length}
 use Rattle.logic.specs.Calls.{Outcome, satisfiable, refuted, refused, padded, blank, verdictCall, derivationCall}
 
 -- An order list and a query, what the verdict call leaves in 53 bytes, and what the derivation call leaves in 64.

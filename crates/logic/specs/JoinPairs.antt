@@ -6,7 +6,7 @@ use mathlib.Core.List.{List, [], _∷_, List·Memᴰ}
 use lib.ListN.{length}
 use lib.Dec.{eqb}
 use Rattle.logic.specs.Search.{_and_, select}
-use Rattle.logic.specs.Query.{Query, termCount}
+use Rattle.logic.specs.Query.{termCount}
 use Rattle.logic.specs.Facts.{Facts, Joined, live, linksOf, startJoins, start}
 use Rattle.logic.specs.Rules.{Move, Fact, alternatives, applies, branch}
 use Rattle.logic.specs.Calls.{CallForm, acceptsBy}

@@ -2,9 +2,9 @@
 use Prim.Native.Nat.{ℕ, _≤_}
 use mathlib.Core.Path.{_≡_}
 use mathlib.Core.Logic.{_↔_}
-use mathlib.Core.Bool.{Bool, true}
+use mathlib.Core.Bool.{true}
 use mathlib.Core.List.{List, [], _∷_, List·Memᴰ}
-use Rattle.logic.specs.Query.{Literal, Query, termCount}
+use Rattle.logic.specs.Query.{Query, termCount}
 use Rattle.logic.specs.Facts.{Facts, join, addReach}
 use Rattle.logic.specs.Walk.{Pick, handRow}
 use Rattle.logic.specs.Calls.{CallForm, acceptsBy, verdictCallOf}

@@ -1,8 +1,8 @@
 -- The eight rules (01, "The eight rules"; 000, Fig. 3).
 use Prim.Native.Nat.{ℕ, zero, suc, _+_, _-_, _*_}
-use mathlib.Core.Bool.{Bool, true, false, not, cond}
+use mathlib.Core.Bool.{Bool, false, not, cond}
 use mathlib.Core.List.{List, [], _∷_, map}
-use mathlib.Core.Option.{Option, none, some, Option·getD}
+use mathlib.Core.Option.{Option, Option·getD}
 use lib.Dec.{eqb, ltb, leb}
 use Rattle.logic.specs.Search.{_and_, from, keep, any, firstOf, find, flatMap}
 use Rattle.logic.specs.Facts.{Graph, Facts, Joined, Line, line, linkNumbers, terms, live, unjoined, join, addReach}

@@ -1,8 +1,8 @@
 -- Tests and searches over finite lists. Every definition of this crate is written with these. What a `let` binds is computed only
 -- where it is read, so that a search stops at what it finds.
 use Prim.Native.Nat.{ℕ, zero, suc}
-use mathlib.Core.Bool.{Bool, true, false, not, cond}
-use mathlib.Core.List.{List, [], _∷_, _++_, map}
+use mathlib.Core.Bool.{Bool, true, false, cond}
+use mathlib.Core.List.{List, [], _∷_, _++_}
 use mathlib.Core.Option.{Option, none, some}
 
 infixl 35 _and_

@@ -1,12 +1,12 @@
 -- The heap shown, and the report's bytes (01, "The heap shown"; 000, Def. 4).
 use Prim.Native.Nat.{ℕ, zero, suc, _+_, _-_, _*_, _/_, _%_}
-use mathlib.Core.Bool.{Bool, true, false, not, cond}
+use mathlib.Core.Bool.{Bool, not, cond}
 use mathlib.Core.List.{List, [], _∷_, _++_, map}
-use mathlib.Core.Option.{Option, none, some, Option·getD}
-use lib.ListN.{length, getD, replicate}
+use mathlib.Core.Option.{Option, Option·getD}
+use lib.ListN.{length, getD}
 use lib.Dec.{eqb, ltb, leb}
 use Rattle.logic.specs.Search.{_and_, _or_, from, any, all, select, find, flatMap}
-use Rattle.logic.specs.Query.{Literal, Query, termCount}
+use Rattle.logic.specs.Query.{Query, termCount}
 use Rattle.logic.specs.Heap.{Heap}
 use Rattle.logic.specs.Facts.{Graph, Facts, linkNumbers, terms, liveTerms}
 use Rattle.logic.specs.Rules.{next}

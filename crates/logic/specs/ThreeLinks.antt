@@ -1,16 +1,15 @@
 -- Queries with three links (02, R-11): "Calls of their own take queries with links 1 to 3".
-use Prim.Native.Nat.{ℕ, zero, suc, _+_}
+use Prim.Native.Nat.{ℕ, _+_}
 use mathlib.Core.Path.{_≡_}
-use mathlib.Core.Bool.{Bool, true, not, cond}
+use mathlib.Core.Bool.{Bool, not, cond}
 use mathlib.Core.List.{List, [], _∷_, _++_, map}
-use mathlib.Core.Option.{Option, none, some}
-use lib.ListN.{length, replicate}
+use mathlib.Core.Option.{Option, none}
+use lib.ListN.{length}
 use lib.Dec.{eqb, ltb, leb}
-use Rattle.logic.specs.Search.{_and_, _or_, keep, orElse, flatMap}
-use Rattle.logic.specs.Query.{Literal, Query, Section, Form, Layout, faulty, parts, entryRole, signRole, termRole, numberRole, countRole, booleanSection, layoutBy, literals, section, literal}
-use Rattle.logic.specs.Heap.{Satisfiable}
-use Rattle.logic.specs.Calls.{Input, Check, CallForm, layoutCheck, byteCheck, accepts, acceptsBy, verdictCall, verdictChecksOf, derivationChecksOf, Outcome, Answer, padded, blank, refused, verdictCallOf, derivationCallOf}
-use Rattle.logic.specs.Demands.{numbers, NotRefused}
+use Rattle.logic.specs.Search.{_and_, _or_, keep, orElse}
+use Rattle.logic.specs.Query.{Literal, Query, Form, Layout, faulty, parts, entryRole, signRole, termRole, numberRole, countRole, booleanSection, layoutBy, literals, section}
+use Rattle.logic.specs.Calls.{Check, CallForm, layoutCheck, byteCheck, verdictChecksOf, derivationChecksOf}
+use Rattle.logic.specs.Demands.{numbers}
 
 -- "a term entry is link and term .., a reachability literal is sign, link, from, to". What a link byte is held to, 22, hangs on the byte behind
 -- it: as a single byte it is held to nothing.

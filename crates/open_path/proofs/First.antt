@@ -1,15 +1,15 @@
 -- The first branch with a heap, and the walk that goes into it.
 use Prim.Native.Nat.{ℕ, zero, suc, _+_, _-_, _≤_, _<_}
 use native.Mathlib.Omega.{arith}
-use mathlib.Core.Path.{_≡_, refl, sym, ap, _∙_, subst}
-use mathlib.Core.Bool.{Bool, true, false}
+use mathlib.Core.Path.{_≡_, refl, sym, ap, subst}
+use mathlib.Core.Bool.{true, false}
 use mathlib.Core.List.{List, [], _∷_, List·Memᴰ, List·Memᴰ·head, List·Memᴰ·tail, List·Memᴰ·not-nil}
 use lib.ListN.{length, getD}
 use Rattle.logic.specs.Query.{Query, termCount, isOrder}
 use Rattle.logic.specs.Facts.{Facts, Line, Joined}
 use Rattle.logic.specs.Rules.{Rule, triple, Move, move, applies, branch, branches}
-use Rattle.logic.specs.Walk.{Look, clashing, applying, saturated, look, orderOf, walk, saturation}
-use Rattle.logic.specs.Steps.{Steps, Step, one-more, AtMost}
+use Rattle.logic.specs.Walk.{clashing, applying, look, orderOf, walk, saturation}
+use Rattle.logic.specs.Steps.{one-more, AtMost}
 use Rattle.logic.specs.Decision.{HasHeap, NoHeap, Reachable, Struck}
 use Rattle.theory.proofs.Query.Tied.{Accepted}
 use Rattle.theory.proofs.Walks.Order.{order-full}
@@ -20,8 +20,7 @@ use Rattle.covering.specs.Covers.{Covers}
 use Rattle.covering.proofs.Covered.{covered-heap}
 use Rattle.decide.specs.Tells.{Decides}
 use Rattle.decide.proofs.Branches.{row-length, row-at}
-use Rattle.decide.proofs.Turns.{some-left, row-fewer}
-use Rattle.walk.proofs.Walks.{walk-saturated}
+use Rattle.decide.proofs.Turns.{row-fewer}
 use Rattle.open_path.specs.First.{FirstOpen}
 
 getD-mem : {A : Type 0} (xs : List A) (i : ℕ) (d : A) → i < length xs → List·Memᴰ (getD xs i d) xs
@@ -63,7 +62,7 @@ module _ {q : Query} (order : List ℕ) (ok : Accepted q) (k : ℕ) (s : Facts) 
     in-row = omega (arith, row-length q n s l r x y z terms-are)
 
     at : getD (branches (termCount q) s m) i s ≡ j .facts
-    at = sym (row-at q n s l r x y z terms-are i j here e)
+    at = sym (row-at q n s l r x y z terms-are i (j .facts) here (ap (λ (v : Joined). v .facts) e))
 
     pub open-reach : Reachable q (j .facts)
     open-reach = subst (Reachable q) at (reach-branch q s m reach app i in-row)

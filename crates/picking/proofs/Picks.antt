@@ -1,16 +1,16 @@
 -- What a choice by an order list is.
-use Prim.Native.Nat.{ℕ, zero, suc, _≤_}
+use Prim.Native.Nat.{ℕ, suc, _≤_}
 use native.Mathlib.Omega.{arith}
-use mathlib.Core.Path.{_≡_, refl, sym, ap, _∙_, subst}
-use mathlib.Core.Bool.{true, not, cond}
+use mathlib.Core.Path.{_≡_, refl, sym, subst}
+use mathlib.Core.Bool.{true}
 use mathlib.Core.List.{List, [], _∷_, map, List·Memᴰ}
-use mathlib.Core.Option.{Option, none, some}
+use mathlib.Core.Option.{some}
 use Rattle.logic.specs.Search.{_and_, _or_, all, any, from, keep, firstOf, flatMap}
 use Rattle.logic.specs.Query.{isOrder}
 use Rattle.logic.specs.Facts.{Facts, linkNumbers}
-use Rattle.logic.specs.Rules.{Rule, rules, Triple, triple, Move, move, applies, triples, choose}
+use Rattle.logic.specs.Rules.{Rule, rules, Triple, triple, move, applies, triples, choose}
 use Rattle.logic.specs.Walk.{orderOf}
-use Rattle.theory.proofs.Basics.Search.{keep-some, firstOf-some, from-mem, flatMap-mem, map-mem, none-some}
+use Rattle.theory.proofs.Basics.Search.{keep-some, firstOf-some, from-mem, flatMap-mem, map-mem}
 use Rattle.theory.proofs.Walks.Order.{order-full, choose-some, choose-nothing}
 use Rattle.rules.specs.Answers.{choiceOf}
 use Rattle.rules.specs.declared.Choice.{Choice}

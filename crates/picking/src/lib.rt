@@ -14,7 +14,7 @@ fn plain(s: Facts, n: usize) -> Choice
     ensures { λ r. ⌜ Picks n (pathOf s) r ⌝ }
 {
     let order = [1u8, 2, 3, 8, 4, 5, 6, 7];
-    rules::choose(
+    rule_choice::choose(
         &order,
         s.single,
         &s.rep,
@@ -34,7 +34,7 @@ fn total_first(s: Facts, n: usize) -> Choice
     ensures { λ r. ⌜ Picks n (pathOf s) r ⌝ }
 {
     let order = [1u8, 2, 3, 8, 7, 6, 5, 4];
-    rules::choose(
+    rule_choice::choose(
         &order,
         s.single,
         &s.rep,

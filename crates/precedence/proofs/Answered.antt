@@ -12,7 +12,7 @@ use Rattle.logic.specs.Calls.{padded}
 use Rattle.precedence.specs.Sheet.{Pair, pairs, laidOut, rulesOnly}
 use Rattle.precedence.specs.Finding.{grow, shownRing}
 use Rattle.precedence.specs.Calls.{answered, orderCall, refusal}
-use Rattle.precedence.specs.Answers.{meaning, grownOf, Does}
+use Rattle.precedence.specs.Answers.{grownOf, Does}
 use Rattle.precedence.specs.declared.Grown.{Grown}
 use Rattle.precedence.specs.declared.OrderAnswer.{OrderAnswer}
 use Rattle.precedence.specs.declared.OrderAnswer.the-variants as answer

@@ -1,16 +1,16 @@
 -- Lists of numbers: members, each once, and how many different numbers a list can hold.
-use Prim.Native.Nat.{ℕ, zero, suc, _+_, _≤_, _<_}
+use Prim.Native.Nat.{ℕ, suc, _+_, _≤_}
 use native.Mathlib.Omega.{arith}
-use mathlib.Core.Path.{_≡_, refl, sym, ap, _∙_, subst}
+use mathlib.Core.Path.{_≡_, refl, sym, ap, subst}
 use mathlib.Core.Logic.{_⊎_, ⊎-elim, inl, inr}
-use mathlib.Core.Bool.{Bool, true, false, not, cond, true≢false, false≢true}
-use mathlib.Core.List.{List, [], _∷_, _++_, List·Memᴰ, List·Memᴰ·head, List·Memᴰ·tail, List·Memᴰ·not-nil, List·Memᴰ·cases-cons, List·Memᴰ·append-cases, Memᴰ·append-left, Memᴰ·append-right}
+use mathlib.Core.Bool.{Bool, true, false, not}
+use mathlib.Core.List.{List, [], _∷_, _++_, List·Memᴰ, List·Memᴰ·head, List·Memᴰ·tail, List·Memᴰ·cases-cons, List·Memᴰ·append-cases, Memᴰ·append-left, Memᴰ·append-right}
 use lib.ListN.{length, length-append}
 use lib.Dec.{eqb, ltb, leb}
 use Rattle.logic.specs.Search.{_and_, from, any, all}
 use Rattle.logic.specs.Query.{isOrder}
-use Rattle.theory.proofs.Basics.Search.{bool-cases, true-false, not-true, not-intro, not-of, and-left, and-right, and-intro, and-false-cases, any-true, any-intro, all-true, from-mem, from-intro}
-use Rattle.theory.proofs.Basics.Compare.{eqb-true, eqb-self, eqb-intro, eqb-false, ltb-true, ltb-intro, eq-cases}
+use Rattle.theory.proofs.Basics.Search.{bool-cases, true-false, not-true, not-intro, and-left, and-right, and-intro, any-true, any-intro, all-true, from-mem, from-intro}
+use Rattle.theory.proofs.Basics.Compare.{eqb-true, eqb-self, ltb-true, ltb-intro, eq-cases}
 use Rattle.precedence.specs.Kept.{eachOnce}
 use Rattle.precedence.specs.Sheet.{isRule}
 use borrow.Author.Tests.{leb-true, le-leb}

@@ -5,27 +5,24 @@ use native.Mathlib.Nat.{eq-or-lt-of-le}
 use mathlib.Core.Path.{_≡_, refl, sym, ap, _∙_, subst}
 use mathlib.Core.Logic.{_⊎_, ⊎-elim, inl, inr}
 use mathlib.Core.Bool.{Bool, true, false, not, true≢false, false≢true}
-use mathlib.Core.List.{List, [], _∷_, _++_, append-assoc, append-nil, List·Memᴰ, List·Memᴰ·head, List·Memᴰ·tail, List·Memᴰ·not-nil, List·Memᴰ·cases-cons, List·Memᴰ·append-cases, Memᴰ·append-left, Memᴰ·append-right}
+use mathlib.Core.List.{List, [], _∷_, _++_, append-assoc, append-nil, List·Memᴰ, List·Memᴰ·head, List·Memᴰ·tail, List·Memᴰ·not-nil, List·Memᴰ·cases-cons, List·Memᴰ·append-cases, Memᴰ·append-right}
 use mathlib.Core.Option.{Option, none, some, Option·elim}
 use lib.ListN.{length, length-append}
 use lib.Dec.{eqb, ltb}
 use borrow.Author.Tests.{not-false}
-use Rattle.logic.specs.Search.{_and_, _or_, from, any, all, find}
+use Rattle.logic.specs.Search.{_and_, _or_, any, all, find}
 use Rattle.logic.specs.Query.{isOrder}
-use Rattle.theory.proofs.Basics.Search.{bool-cases, true-false, none-some, not-true, not-intro, not-of, and-left, and-right, and-intro, and-false-cases, or-cases, or-left, or-right, all-true, all-intro, all-false, find-some, find-none, find-lowest}
-use Rattle.theory.proofs.Basics.Compare.{eqb-true, eqb-self, eqb-intro, eqb-false, eq-cases, le-cases, ltb-intro}
+use Rattle.theory.proofs.Basics.Search.{bool-cases, true-false, none-some, not-true, not-intro, not-of, and-left, and-right, and-intro, or-cases, or-left, or-right, all-true, all-intro, all-false, find-some, find-none, find-lowest}
+use Rattle.theory.proofs.Basics.Compare.{eqb-true, eqb-intro, eq-cases, le-cases, ltb-intro}
 use Rattle.theory.proofs.Graph.Pigeonhole.{pigeonhole}
 use Rattle.precedence.specs.Sheet.{Pair, isRule, paired}
 use Rattle.precedence.specs.Kept.{placeOf, keeps, smaller, eachOnce, SmallestOrder}
 use Rattle.precedence.specs.Finding.{free, ready, nextRule, grow, leads}
-use Rattle.precedence.proofs.Lists.{has, has-mem, mem-has, once-head, once-tail, once-intro, fewer, full-once, full-among, rules, is-rule, rule-mem, mem-rule, rules-once, rules-eight, order-eight, order-once, order-rules}
+use Rattle.precedence.proofs.Lists.{has, has-mem, mem-has, once-head, once-tail, once-intro, fewer, full-among, rules, is-rule, rule-mem, mem-rule, rules-once, rules-eight, order-once, order-rules}
 use Rattle.precedence.proofs.Places.{place-has, has-place, place-left, place-right, place-start, kept, smaller-prefix, smaller-nil, smaller-from-nil, smaller-greater}
 use Rattle.precedence.proofs.Rings.{Numbered, pair-paired, leads-cons, leads-none}
 
 -- one number more
-
-has-left : (r : ℕ) (u v : List ℕ) → has u r ≡ true → has (u ++ v) r ≡ true
-has-left r u v h = mem-has r (Memᴰ·append-left v (has-mem r u h))
 
 has-more : (r s : ℕ) (u : List ℕ) → has (u ++ (s ∷ [])) r ≡ true → (has u r ≡ true) ⊎ (r ≡ s)
 has-more r s u h =

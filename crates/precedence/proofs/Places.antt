@@ -1,16 +1,16 @@
 -- Where a number stands in a list, and lists compared number by number.
-use Prim.Native.Nat.{ℕ, zero, suc, _+_, _≤_, _<_}
+use Prim.Native.Nat.{ℕ, suc, _+_, _<_}
 use native.Mathlib.Omega.{arith}
-use mathlib.Core.Path.{_≡_, refl, sym, ap, _∙_, subst}
-use mathlib.Core.Logic.{_⊎_, ⊎-elim, inl, inr}
-use mathlib.Core.Bool.{Bool, true, false, cond, true≢false, false≢true}
+use mathlib.Core.Path.{_≡_, refl, sym, ap, _∙_}
+use mathlib.Core.Logic.{_⊎_, ⊎-elim}
+use mathlib.Core.Bool.{true, false, false≢true}
 use mathlib.Core.List.{List, [], _∷_, _++_}
 use lib.ListN.{length}
-use lib.Dec.{eqb, ltb}
+use lib.Dec.{ltb}
 use borrow.Author.Tests.{ne-eqb, eq-eqb, le-ltb, lt-ltb}
-use Rattle.logic.specs.Search.{_and_, _or_, any, all}
-use Rattle.theory.proofs.Basics.Search.{bool-cases, true-false, and-left, and-right, or-cases, all-true}
-use Rattle.theory.proofs.Basics.Compare.{eqb-true, eqb-self, eq-cases, le-cases, ltb-true}
+use Rattle.logic.specs.Search.{_and_, _or_, any}
+use Rattle.theory.proofs.Basics.Search.{true-false, all-true}
+use Rattle.theory.proofs.Basics.Compare.{eqb-self, eq-cases, le-cases, ltb-true}
 use Rattle.precedence.specs.Sheet.{Pair}
 use Rattle.precedence.specs.Kept.{placeOf, keeps, smaller}
 use Rattle.precedence.proofs.Lists.{has}

@@ -12,7 +12,7 @@ use lib.Dec.{leb}
 use borrow.Author.Tests.{leb-true, leb-false}
 use Rattle.logic.specs.Search.{keep}
 use Rattle.logic.specs.Query.{isOrder}
-use Rattle.logic.specs.Calls.{Input, orderCheck, padded}
+use Rattle.logic.specs.Calls.{orderCheck, padded}
 use Rattle.theory.proofs.Basics.Search.{true-false}
 use Rattle.precedence.specs.Sheet.{Pair, pairs, laidOut, rulesOnly}
 use Rattle.precedence.specs.Kept.{isRing, SmallestOrder, ShortestRing}

@@ -3,20 +3,19 @@ use Prim.Native.Nat.{ℕ, zero, suc, _+_, _-_, _≤_, _<_}
 use native.Mathlib.Omega.{arith}
 use native.Mathlib.Nat.{eq-or-lt-of-le}
 use mathlib.Core.Path.{_≡_, refl, sym, ap, _∙_, subst}
-use mathlib.Core.Logic.{_⊎_, ⊎-elim, inl, inr}
-use mathlib.Core.Bool.{Bool, true, false, not, cond, true≢false, false≢true}
-use mathlib.Core.List.{List, [], _∷_, _++_, List·Memᴰ, List·Memᴰ·head, List·Memᴰ·tail, List·Memᴰ·not-nil, List·Memᴰ·cases-cons}
+use mathlib.Core.Logic.{_⊎_, ⊎-elim}
+use mathlib.Core.Bool.{true, false, false≢true}
+use mathlib.Core.List.{List, [], _∷_, _++_, List·Memᴰ}
 use mathlib.Core.Option.{Option, none, some, Option·elim}
 use lib.ListN.{length, length-append}
-use lib.Dec.{eqb, ltb, leb}
-use Rattle.logic.specs.Search.{_and_, _or_, from, keep, any, all, orElse, firstOf, find}
-use Rattle.logic.specs.Query.{isOrder}
-use Rattle.theory.proofs.Basics.Search.{bool-cases, true-false, none-some, not-of, and-left, and-right, and-intro, any-true, any-intro, all-intro, all-true, orElse-cases, orElse-none, firstOf-none, find-some, find-none, find-lowest}
-use Rattle.theory.proofs.Basics.Compare.{eqb-true, eqb-self, eqb-intro, eq-cases, le-cases, ltb-intro}
+use lib.Dec.{eqb, ltb}
+use Rattle.logic.specs.Search.{_and_, _or_, from, any, firstOf, find}
+use Rattle.theory.proofs.Basics.Search.{true-false, none-some, not-of, and-left, and-right, and-intro, any-true, any-intro, all-intro, orElse-cases, firstOf-none, find-some, find-none, find-lowest}
+use Rattle.theory.proofs.Basics.Compare.{eqb-true, eqb-self, eqb-intro, le-cases, ltb-intro}
 use Rattle.precedence.specs.Sheet.{Pair, isRule, paired}
 use Rattle.precedence.specs.Kept.{placeOf, keeps, smaller, NoOrder, linked, eachOnce, isRing, fromLowest, ShortestRing}
 use Rattle.precedence.specs.Finding.{leads, onward, nextOn, follow, ringStart, ringOf, shownRing}
-use Rattle.precedence.proofs.Lists.{has, has-mem, mem-has, Split, split, once-head, once-intro, rules, rule-is, is-rule, rule-mem}
+use Rattle.precedence.proofs.Lists.{has-mem, mem-has, Split, split, once-head, once-intro, rules, rule-is, is-rule, rule-mem}
 use Rattle.precedence.proofs.Places.{kept, smaller-from-nil, smaller-greater, smaller-equal}
 
 -- the first answer along ascending numbers is that of the lowest that has one
@@ -63,10 +62,6 @@ linked-before ps l k a (x ∷ xs) z h = go (paired-pair ps a x (and-left (paired
     go (p, m, e, f) rest =
         let first : placeOf l a < placeOf l x = subst (λ (b : ℕ). placeOf l b < placeOf l x) e (subst (λ (b : ℕ). placeOf l (p .earlier) < placeOf l b) f (kept ps l p k m)) in
         omega arith
-
-pub ring-linked : (ps : List Pair) (x : ℕ) (xs : List ℕ) → isRing ps (x ∷ xs) ≡ true → linked ps x xs x ≡ true
-unfolding isRing
-ring-linked ps x xs h = and-left (linked ps x xs x) (eachOnce (x ∷ xs)) h
 
 pub ring-no-order : (ps : List Pair) (ring : List ℕ) → isRing ps ring ≡ true → NoOrder ps
 unfolding isRing

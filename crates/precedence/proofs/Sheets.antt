@@ -3,13 +3,13 @@ use Prim.Native.Nat.{ℕ, zero, suc, _+_, _*_, _<_}
 use native.Mathlib.Omega.{arith}
 use mathlib.Core.Path.{_≡_, refl, sym, subst}
 use mathlib.Core.Bool.{true, false}
-use mathlib.Core.List.{List, [], _∷_, map, List·Memᴰ, List·Memᴰ·head, List·Memᴰ·tail}
+use mathlib.Core.List.{List, [], _∷_, List·Memᴰ, List·Memᴰ·head, List·Memᴰ·tail}
 use lib.ListN.{length, getD, drop, length-drop}
 use lib.Seq.{getD-drop}
 use lib.Dec.{eqb, leb}
-use borrow.Author.Tests.{eqb-true, ne-eqb}
-use Rattle.logic.specs.Search.{_and_, from, all}
-use Rattle.theory.proofs.Basics.Search.{not-of, true-false, and-left, and-right, all-true, from-mem, map-mem}
+use borrow.Author.Tests.{eqb-true}
+use Rattle.logic.specs.Search.{_and_, from}
+use Rattle.theory.proofs.Basics.Search.{not-of, and-right, all-true, from-mem, map-mem}
 use Rattle.precedence.specs.Sheet.{Pair, countOf, pairAt, pairs, laidOut, isRule, rulesOnly}
 use Rattle.precedence.proofs.Lists.{is-rule}
 use Rattle.precedence.proofs.Rings.{Numbered}

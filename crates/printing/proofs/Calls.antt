@@ -1,10 +1,10 @@
 -- The text of what the two calls answer and leave, and of the bytes that are read. Assumes nothing.
 use Prim.Native.Nat.{ℕ, _+_, _-_, _≤_, _<_, min}
 use native.Mathlib.Omega.{arith}
-use mathlib.Core.Path.{_≡_, refl, sym, ap, _∙_, subst}
+use mathlib.Core.Path.{_≡_, sym, ap, _∙_, subst}
 use mathlib.Core.Logic.{⊎-elim}
 use mathlib.Core.Bool.{Bool, true, false}
-use mathlib.Core.List.{List, [], _∷_, _++_}
+use mathlib.Core.List.{List, [], _++_}
 use lib.ListN.{length, take, drop, drop-of-length-le}
 use lib.Seq.{take-all, take-nil, take-take, take-add, drop-at, length-take-le}
 use Rattle.logic.specs.Search.{flatMap}
@@ -13,7 +13,8 @@ use Rattle.logic.specs.Calls.{CallForm, Input, Outcome, verdictCallOf, derivati
 use Rattle.logic.specs.Demands.{Fits}
 use Rattle.theory.proofs.Basics.Compare.{le-cases}
 use Rattle.theory.proofs.Calls.CallLaws.{FormLaws}
-use Rattle.prover.specs.Promise.{meaning, formOf, Does}
+use Rattle.call_limits.specs.Forms.{formOf}
+use Rattle.prover.specs.Promise.{meaning, Does}
 use Rattle.prover.specs.declared.Answer.{Answer}
 use Rattle.prover.specs.declared.Answer.the-variants as answer
 use Rattle.theory.proofs.Calls.Demands.{demand2-of}

@@ -1,20 +1,15 @@
 -- The texts as they are written, part by part. Assumes nothing.
 use Prim.Native.Nat.{ℕ, zero, suc, _+_, _-_, _*_, _≤_, _<_}
 use native.Mathlib.Omega.{arith}
-use native.Mathlib.Numerals.{add-one}
 use native.Mathlib.Nat.{add-zero, sub-zero}
 use mathlib.Core.Path.{_≡_, refl, sym, ap, _∙_}
-use mathlib.Core.Bool.{Bool, true}
-use mathlib.Core.List.{List, [], _∷_, _++_, map, append-assoc}
-use lib.ListN.{length, getD, take, drop, length-append, length-map, length-drop, drop-of-length-le}
-use lib.Seq.{length-take-le, drop-cons, drop-drop, getD-drop, getD-take}
-use borrow.Author.Tests.{leb-true}
-use Rattle.logic.specs.Search.{_and_, flatMap}
+use mathlib.Core.List.{List, [], _++_}
+use lib.ListN.{length, getD, drop}
+use lib.Seq.{drop-drop, getD-drop}
+use Rattle.logic.specs.Search.{flatMap}
 use Rattle.logic.specs.Facts.{Line, line}
-use Rattle.logic.specs.Derivation.{lineBytes, linesFrom, linesIn}
-use Rattle.logic.specs.Shown.{sizeIn, isNode, wellFormed}
+use Rattle.logic.specs.Derivation.{linesFrom, linesIn}
 use Rattle.logic.specs.Calls.{refused}
-use Rattle.theory.proofs.Basics.Search.{and-left, and-right}
 use Rattle.prover.specs.Promise.{meaning}
 use Rattle.prover.specs.declared.Answer.{Answer}
 use Rattle.prover.specs.declared.Answer.the-variants as answer

@@ -5,7 +5,7 @@ use mathlib.Core.List.{List, [], _++_}
 use lib.ListN.{take, drop}
 use Rattle.logic.specs.Search.{flatMap}
 use Rattle.logic.specs.Derivation.{linesIn}
-use Rattle.logic.specs.Calls.{CallForm, oneLinkForm, Input, Outcome, Answer, refused, satisfiable, refuted, verdictCallOf, derivationCallOf}
+use Rattle.logic.specs.Calls.{CallForm, oneLinkForm, Outcome, Answer, refused, satisfiable, refuted, verdictCallOf, derivationCallOf}
 use Rattle.logic.specs.ThreeLinks.{threeLinkForm}
 use Rattle.text.specs.Text.{ascii}
 use Rattle.wording.specs.Words.{refusedText, reportText, lineText}

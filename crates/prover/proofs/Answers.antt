@@ -23,7 +23,8 @@ use Rattle.link_query.specs.Said.{said, Within}
 use Rattle.link_query.specs.Answers.{Taken, CheckedBy}
 use Rattle.link_query.proofs.Said.{terms-said}
 use Rattle.report.specs.Bytes.{Reportable}
-use Rattle.prover.specs.Promise.{meaning, formOf, inputOf, Does}
+use Rattle.call_limits.specs.Forms.{formOf}
+use Rattle.prover.specs.Promise.{inputOf, Does}
 use Rattle.prover.specs.declared.Answer.{Answer}
 use Rattle.prover.specs.declared.Answer.the-variants as answer
 use Rattle.prover.proofs.Checks.{order-refused, query-refused, room-refused, verdict-clear, derivation-refused, derivation-clear, call-refused, call-walked}

@@ -15,7 +15,7 @@ use Rattle.logic.specs.Derivation.{Derivation, derivationBytes, linesIn}
 use Rattle.logic.specs.Shown.{wellFormed}
 use Rattle.logic.specs.Calls.{Input, Check, CallForm, Outcome, verdictChecksOf, derivationChecksOf, padded, verdictCallOf, derivationCallOf}
 use Rattle.logic.specs.Calls as calls
-use Rattle.logic.specs.Demands.{NotRefused, NoneStands, FirstStands, numbers, Refusals, Fits, Exceeds, Shows, Right, answerOf}
+use Rattle.logic.specs.Demands.{NotRefused, NoneStands, FirstStands, numbers, Refusals, Fits, Exceeds, Shows, answerOf}
 use Rattle.theory.proofs.Calls.CallLaws.{FormLaws}
 use Rattle.theory.proofs.Calls.Demands.{demand1-of, demand2-of, demand3-of, call-passed}
 use Rattle.prover.specs.Promise.{meaning, inputOf, Does}

@@ -5,16 +5,15 @@ use mathlib.Core.Path.{_≡_, refl, sym, ap, _∙_, subst}
 use mathlib.Core.Bool.{true, false, true≢false, false≢true}
 use mathlib.Core.List.{List}
 use Rattle.logic.specs.Query.{Query, termCount, isOrder}
-use Rattle.logic.specs.Heap.{Meets, Satisfiable}
-use Rattle.logic.specs.Facts.{Facts, Joined, Line, joinLines, start}
+use Rattle.logic.specs.Heap.{Satisfiable}
+use Rattle.logic.specs.Facts.{Joined, Line, joinLines}
 use Rattle.logic.specs.Walk.{Ending, refutation, saturation, after, walkBranch, walk, orderOf, Verdict, ourWalk, ourVerdict}
-use Rattle.logic.specs.Steps.{Steps, at-first, AtMost}
+use Rattle.logic.specs.Steps.{at-first}
 use Rattle.logic.specs.Decision.{Reachable, HasHeap, NoHeap}
 use Rattle.theory.proofs.Query.Tied.{Accepted}
 use Rattle.theory.proofs.Calls.Decision.{start-heap}
 use Rattle.theory.proofs.Calls.Verdicts.{our-right}
-use Rattle.facts.specs.Path.{pathOf}
-use Rattle.start.specs.Taken.{started}
+use Rattle.start.specs.Started.{started}
 use Rattle.decide.specs.Tells.{isRefuted, Walks}
 use Rattle.decide.specs.declared.Walked.{Walked}
 use Rattle.decide.specs.declared.Kind.{Kind}

@@ -4,7 +4,6 @@ use native.Mathlib.Omega.{arith}
 use native.Mathlib.Nat.{zero-add}
 use mathlib.Core.Path.{_≡_, refl, sym, ap, _∙_}
 use mathlib.Core.Logic.{_⊎_, ⊎-elim}
-use mathlib.Core.Bool.{true}
 use mathlib.Core.List.{List}
 use lib.ListN.{length, set, replicate}
 use borrow.Author.Tests.{lt-ltb, le-ltb}
@@ -16,8 +15,7 @@ use Rattle.logic.specs.Shown.{report}
 use Rattle.logic.specs.Steps.{AtMost}
 use Rattle.logic.specs.Calls.{Outcome, blank, padded, verdictOf, derivationOf}
 use Rattle.logic.specs.Calls as calls
-use Rattle.facts.specs.Path.{pathOf}
-use Rattle.start.specs.Taken.{started}
+use Rattle.start.specs.Started.{started}
 use Rattle.walk.specs.Lines.{countAll, putAll}
 use Rattle.walk.proofs.Lines.{countAll-small, countAll-large}
 use Rattle.walk.proofs.Padded.{derivation-written}

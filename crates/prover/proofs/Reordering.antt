@@ -1,7 +1,7 @@
 -- Reordering the equalities of a query (02, R-9), of what two calls of the library answer and leave. `does` and `does′` are the contracts of
 -- two verdict calls with one order list and as many lent bytes, for queries of one form.
 use Prim.Native.Nat.{ℕ}
-use mathlib.Core.Path.{_≡_, sym, ap, _∙_, subst}
+use mathlib.Core.Path.{_≡_, sym, ap, _∙_}
 use mathlib.Core.Bool.{true}
 use mathlib.Core.List.{List}
 use lib.ListN.{length}

@@ -1,12 +1,11 @@
 -- What the calls promise, on every input: the answer, and every byte of what is lent.
 use Prim.Native.Nat.{ℕ}
 use mathlib.Core.Path.{_≡_}
-use mathlib.Core.Bool.{Bool, true, false}
+use mathlib.Core.Bool.{true, false}
 use mathlib.Core.List.{List}
 use lib.ListN.{length}
 use Rattle.logic.specs.Walk.{Ending, saturation, Verdict, ourVerdict}
-use Rattle.logic.specs.Calls.{Input, Outcome, CallForm, oneLinkForm}
-use Rattle.logic.specs.ThreeLinks.{threeLinkForm}
+use Rattle.logic.specs.Calls.{Input, Outcome}
 use Rattle.logic.specs.Calls as calls
 use Rattle.facts.specs.Path.{pathOf}
 use Rattle.decide.specs.Tells.{isRefuted}
@@ -19,11 +18,6 @@ abbrev pub meaning : Answer → calls.Answer
 meaning answer.Satisfiable = calls.satisfiable
 meaning answer.Refuted = calls.refuted
 meaning (answer.Refused k place) = calls.refused k place
-
--- the form of queries that a call takes: with three links (02, R-11), or that of 01
-abbrev pub formOf : Bool → CallForm
-formOf true = threeLinkForm
-formOf false = oneLinkForm
 
 -- the input of a call: the order list, the query, and the lent bytes as they were
 abbrev pub inputOf : List ℕ → List ℕ → List ℕ → Input

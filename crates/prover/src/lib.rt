@@ -4,9 +4,8 @@ use decide::Walked;
 use query::Checked;
 use query::Layout;
 ghost use mathlib.Core.Path.{_≡_};
-ghost use mathlib.Core.Logic.{_⊎_};
 ghost use mathlib.Core.Bool.{true};
-ghost use Prim.Native.Nat.{ℕ, _+_, _*_, _≤_, _<_};
+ghost use Prim.Native.Nat.{_+_, _*_, _≤_};
 ghost use lib.ListN.{length, replicate};
 ghost use Rattle.logic.specs.Query.{isOrder};
 ghost use Rattle.logic.specs.Walk.{Verdict, ourWalk, ourVerdict};
@@ -15,7 +14,8 @@ ghost use Rattle.logic.specs.ThreeLinks.{threeLinkForm};
 ghost use Rattle.theory.proofs.Query.Tied.{Accepted};
 ghost use Rattle.link_query.specs.Said.{said, Within};
 ghost use Rattle.link_query.specs.Answers.{CheckedBy};
-ghost use Rattle.prover.specs.Promise.{meaning, formOf, inputOf, Does, Settles};
+ghost use Rattle.call_limits.specs.Forms.{formOf};
+ghost use Rattle.prover.specs.Promise.{meaning, inputOf, Does, Settles};
 
 // What a call answers: a verdict, or a refusal's number and place.
 pub enum Answer {
@@ -24,21 +24,13 @@ pub enum Answer {
     Refused(usize, usize),
 }
 
-// "n times n plus n rule steps", and with three links "3 n n + n" (02, R-11)
-fn limit(links: usize, n: usize) -> usize
-    requires { ⌜ (links ≤ 3) × (n ≤ 16) ⌝ }
-    ensures { λ r. ⌜ r ≡ links * (n * n) + n ⌝ }
-{
-    links * (n * n) + n
-}
-
 // How our walk of a query that passes its checks ends. Its lines are not written, and most branches are decided by other means than
 // walking them: the verdict is the same.
 fn settled(order: &[u8], query: &[u8], layout: Layout) -> Walked
     requires { ⌜ Within layout (now query) × Accepted (said layout (now query)) × (isOrder (now order) ≡ true) ⌝ }
     ensures { λ r. ⌜ Settles (ourWalk (now (order .entry)) (said layout (now (query .entry)))) r ⌝ }
 {
-    let steps = limit(layout.links, layout.terms);
+    let steps = call_limits::limit(layout.links, layout.terms);
     let first = start::start(query, layout);
     let s = first.facts;
     open_path::settle(query, layout, order, steps, s)
@@ -69,16 +61,6 @@ fn checked(three: bool, query: &[u8]) -> Checked
     query::check(query)
 }
 
-// The bytes that a report needs: "9 reads 85" with three links.
-fn room(three: bool) -> usize
-    ensures { λ r. ⌜ r ≡ formOf three .room ⌝ }
-{
-    if three {
-        return 85;
-    }
-    53
-}
-
 // The verdict call of either form.
 pub fn verdict_in(three: bool, order: &[u8], query: &[u8], report: &mut [u8]) -> Answer
     ensures { λ r. ⌜ Does (verdictCallOf (formOf three) (inputOf (now (order .entry)) (now (query .entry)) (now (report .entry)))) r (now (report .exit)) ⌝ }
@@ -90,23 +72,12 @@ pub fn verdict_in(three: bool, order: &[u8], query: &[u8], report: &mut [u8]) ->
     match checked(three, query) {
         Checked::Refused(k, place) => Answer::Refused(k, place),
         Checked::Accepted(layout) => {
-            if report.len() < room(three) {
+            if report.len() < call_limits::room(three) {
                 return Answer::Refused(9, 0);
             }
             decide(order, query, layout, report)
         }
     }
-}
-
-// The most lines that a derivation in a buffer of this length may have.
-fn most_lines(length: usize) -> usize
-    requires { ⌜ 2 ≤ length ⌝ }
-    ensures { λ r. ⌜ (r ≤ 16000) × (2 + 4 * r ≤ length) × ((r ≡ 16000) ⊎ (length < 2 + 4 * (r + 1))) ⌝ }
-{
-    if 64002 <= length {
-        return 16000;
-    }
-    (length - 2) / 4
 }
 
 // The derivation of a query that is refuted, in a blank buffer. The walk writes its lines until there are too many of them.
@@ -117,8 +88,8 @@ fn write_lines(order: &[u8], query: &[u8], layout: Layout, buffer: &mut [u8]) ->
     if buffer.len() < 2 {
         return Answer::Refused(12, 0);
     }
-    let steps = limit(layout.links, layout.terms);
-    let most = most_lines(buffer.len());
+    let steps = call_limits::limit(layout.links, layout.terms);
+    let most = call_limits::most_lines(buffer.len());
     let first = start::start(query, layout);
     let listed = listing::list(query, layout, order, steps, first, buffer, 0, most);
     let count = listed.count;

@@ -1,5 +1,3 @@
-pub mod Nodes
-pub mod Writing
 pub mod Held
 pub mod Successors
 pub mod Report

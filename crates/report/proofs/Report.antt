@@ -20,11 +20,11 @@ use Rattle.query.proofs.Literals.{listed}
 use Rattle.query.proofs.Ranges.{field-number-term-of}
 use Rattle.link_query.specs.Said.{said}
 use Rattle.link_query.proofs.Said.{terms-said, fields-said}
-use Rattle.report.specs.declared.Node.{Node}
-use Rattle.report.specs.Nodes.{nodeOf, marked, nodesBy, Numbers}
+use Rattle.heap_nodes.specs.declared.Node.{Node}
+use Rattle.heap_nodes.specs.Nodes.{nodeOf, marked, nodesBy, Numbers}
 use Rattle.lent.specs.Appending.{Appends}
 use Rattle.report.specs.Bytes.{fieldHeld, literalsAt, FieldsIn, Reportable, successorsAmong, allSuccessors, sections}
-use Rattle.report.proofs.Nodes.{nodes-by, every-selected, every-length, marked-below, numbers-below}
+use Rattle.heap_nodes.proofs.Nodes.{nodes-by, every-selected, every-length, marked-below, numbers-below}
 use Rattle.report.proofs.Successors.{map-alike, successors-length, rows-length}
 use Rattle.lent.proofs.Writing.{appends-then, appends-zeros}
 

@@ -9,15 +9,15 @@ use lib.ListN.{length, getD, length-append, length-map}
 use Rattle.logic.specs.Search.{from, flatMap}
 use Rattle.logic.specs.Facts.{Facts, linkNumbers}
 use Rattle.logic.specs.Calls.{padded}
-use Rattle.logic.specs.Shown.{placeOf, shownLink}
+use Rattle.logic.specs.Shown.{shownLink}
 use Rattle.facts.proofs.Loops.{from-end, from-next}
 use Rattle.lent.specs.Appending.{Appends}
 use Rattle.lent.proofs.Writing.{appends-none, appends-then}
 use Rattle.completion.proofs.Completing.{shown-below}
-use Rattle.report.specs.declared.Node.{Node}
-use Rattle.report.specs.Nodes.{nodeOf, marked, Numbers}
+use Rattle.heap_nodes.specs.declared.Node.{Node}
+use Rattle.heap_nodes.specs.Nodes.{nodeOf, marked, Numbers}
 use Rattle.report.specs.Bytes.{successorsAmong}
-use Rattle.report.proofs.Nodes.{marked-below}
+use Rattle.heap_nodes.proofs.Nodes.{marked-below}
 
 pub map-alike : (f g : ℕ → ℕ) (xs : List ℕ) → ((x : ℕ) → List·Memᴰ x xs → f x ≡ g x) → map f xs ≡ map g xs
 map-alike f g [] h = refl

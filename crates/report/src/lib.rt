@@ -1,142 +1,21 @@
-// The heap shown: its nodes, and the report's bytes.
+// The heap report's bytes.
 ghost use mathlib.Core.Path.{_≡_};
-ghost use Prim.Native.Nat.{ℕ, _+_, _-_, _*_, _≤_, _<_};
+ghost use Prim.Native.Nat.{ℕ, _+_, _*_, _≤_};
 ghost use mathlib.Core.List.{_∷_, map};
 ghost use lib.ListN.{length, getD};
 ghost use Rattle.facts.specs.Square.{square};
 ghost use Rattle.facts.specs.Path.{pathOf, repOf, HasLink};
-ghost use Rattle.logic.specs.Search.{from};
 ghost use Rattle.logic.specs.Facts.{terms};
-ghost use Rattle.logic.specs.Rules.{next};
 ghost use Rattle.logic.specs.Calls.{padded};
 ghost use Rattle.logic.specs.Shown.{byteOf, shownLink, report};
-ghost use Rattle.report.specs.Nodes.{nodeOf, marked, nodesBy, Numbers};
+ghost use Rattle.heap_nodes.specs.Nodes.{nodeOf, marked, Numbers};
 ghost use Rattle.lent.specs.Appending.{Appends};
 ghost use Rattle.report.specs.Bytes.{fieldHeld, literalsAt, FieldsIn, Reportable, allSuccessors, sections};
 ghost use Rattle.link_query.specs.Said.{said};
-ghost use Rattle.completion.specs.Links.{linkOf};
 use facts::Facts;
 use facts::Link;
-use facts::Term;
+use heap_nodes::Node;
 use query::Layout;
-
-// A node of the heap by its number.
-pub struct Node(pub usize);
-
-// The terms that are nodes: those not replaced. With no terms, the one node is that of 0, which is no term.
-fn mark_nodes(rep: &[u8; 17], n: usize) -> [bool; 17]
-    requires { ⌜ n ≤ 16 ⌝ }
-    ensures { λ r. ⌜ marked r n ≡ nodesBy (repOf (now (rep .entry))) n ⌝ }
-{
-    let mut marks = [false; 17];
-    let mut none = true;
-    let mut t: usize = 1;
-    while t <= n {
-        let to = facts::wide(rep[t]);
-        let stands = to == t;
-        marks[t] = stands;
-        none = none & !stands;
-        t += 1;
-    }
-    marks[0] = none;
-    marks
-}
-
-// How many numbers to n are marked.
-fn count_marks(marks: &[bool; 17], n: usize) -> usize
-    requires { ⌜ n ≤ 16 ⌝ }
-    ensures { λ r. ⌜ r ≡ length (marked (now (marks .entry)) n) ⌝ }
-{
-    let mut count: usize = 0;
-    let end = n + 1;
-    for t in 0..end {
-        if !marks[t] {
-            continue;
-        }
-        count += 1;
-    }
-    count
-}
-
-// The term-to-node list, for m terms that are nodes.
-fn number_nodes(marks: &[bool; 17], n: usize, m: usize) -> [Node; 17]
-    requires { ⌜ (n ≤ 16) × (m ≡ length (marked (now marks) n)) ⌝ }
-    ensures { λ r. ⌜ Numbers r (marked (now (marks .entry)) n) ⌝ }
-{
-    let mut nodes = [Node(m); 17];
-    let mut k: usize = 0;
-    let end = n + 1;
-    for t in 0..end {
-        if !marks[t] {
-            continue;
-        }
-        k += 1;
-        nodes[t] = Node(k);
-    }
-    nodes
-}
-
-// The node of a term, as a byte.
-fn node_byte(nodes: [Node; 17], t: usize) -> u8
-    requires { ⌜ (t ≤ 16) × ((u : ℕ) → u ≤ 16 → nodeOf nodes u ≤ 16) ⌝ }
-    ensures { λ r. ⌜ r ≡ nodeOf nodes t ⌝ }
-{
-    let number = nodes[t];
-    number.0 as u8
-}
-
-// The node of the term that each number to n links to.
-fn nodes_linked(nodes: [Node; 17], links: [Term; 17], n: usize) -> [u8; 17]
-    requires { ⌜ (n ≤ 16) × ((t : ℕ) → t ≤ n → linkOf links t ≤ 16) × ((t : ℕ) → t ≤ 16 → nodeOf nodes t ≤ 16) ⌝ }
-    ensures { λ r. ⌜ ((t : ℕ) → t ≤ n → getD r t 0 ≡ nodeOf nodes (linkOf links t)) ⌝ }
-{
-    let mut bytes = [0u8; 17];
-    let mut t: usize = 0;
-    while t <= n {
-        let to = links[t];
-        bytes[t] = node_byte(nodes, to.0);
-        t += 1;
-    }
-    bytes
-}
-
-// The node of each term.
-fn nodes_of_terms(nodes: [Node; 17], rep: &[u8; 17], n: usize) -> [u8; 17]
-    requires { ⌜ (n ≤ 16) × ((t : ℕ) → 1 ≤ t → t ≤ n → repOf (now rep) t ≤ 16) × ((t : ℕ) → t ≤ 16 → nodeOf nodes t ≤ 16) ⌝ }
-    ensures { λ r. ⌜ ((t : ℕ) → 1 ≤ t → t ≤ n → getD r t 0 ≡ nodeOf nodes (repOf (now (rep .entry)) t)) ⌝ }
-{
-    let mut bytes = [0u8; 17];
-    let mut t: usize = 1;
-    while t <= n {
-        let to = facts::read_rep(rep, Term(t));
-        bytes[t] = node_byte(nodes, to.0);
-        t += 1;
-    }
-    bytes
-}
-
-// The byte of each term that is a node, at its node's place.
-fn put_nodes(
-    buffer: &mut [u8],
-    at: usize,
-    bytes: &[u8; 17],
-    marks: &[bool; 17],
-    nodes: [Node; 17],
-    n: usize,
-)
-    requires { ⌜ (n ≤ 16) × (at + length (marked (now marks) n) ≤ length (now buffer)) × Numbers nodes (marked (now marks) n) ⌝ }
-    ensures { λ r. ⌜ Appends (now (buffer .entry)) (now (buffer .exit)) at (map (λ t. getD (now (bytes .entry)) t 0) (marked (now (marks .entry)) n)) ⌝ }
-{
-    let end = n + 1;
-    for t in 0..end {
-        if !marks[t] {
-            continue;
-        }
-        let node = nodes[t];
-        let to = at + node.0 - 1;
-        buffer[to] = bytes[t];
-    }
-}
 
 // The byte of each term, ascending.
 fn put_terms(buffer: &mut [u8], at: usize, bytes: &[u8; 17], n: usize) -> usize
@@ -199,7 +78,7 @@ fn successor_bytes(s: Facts, n: usize, nodes: [Node; 17], k: Link) -> [u8; 17]
     ensures { λ r. ⌜ ((t : ℕ) → t ≤ n → getD r t 0 ≡ nodeOf nodes (shownLink n (pathOf s) (k .0) t)) ⌝ }
 {
     let links = completion::shown_links(s, n, k);
-    nodes_linked(nodes, links, n)
+    heap_nodes::nodes_linked(nodes, links, n)
 }
 
 // "field j in bit j-1, set exactly by a plain literal", at the numbers to n.
@@ -229,7 +108,7 @@ fn put_successors(
     let mut k: usize = 1;
     while k <= links {
         let bytes = successor_bytes(s, n, nodes, Link(k));
-        put_nodes(buffer, to, &bytes, marks, nodes, n);
+        heap_nodes::put_nodes(buffer, to, &bytes, marks, nodes, n);
         to += m;
         k += 1;
     }
@@ -269,7 +148,7 @@ fn put_node_section(
     ensures { λ r. ⌜ (r ≡ at + 1 + m) × Appends (now (buffer .entry)) (now (buffer .exit)) at (m ∷ map (λ t. getD (now (bytes .entry)) t 0) (marked (now (marks .entry)) n)) ⌝ }
 {
     let next = lent::put(buffer, at, m as u8);
-    put_nodes(buffer, next, bytes, marks, nodes, n);
+    heap_nodes::put_nodes(buffer, next, bytes, marks, nodes, n);
     next + m
 }
 
@@ -310,10 +189,10 @@ pub fn write_report(buffer: &mut [u8], query: &[u8], l: Layout, s: Facts)
     ensures { λ r. ⌜ now (buffer .exit) ≡ padded (length (now (buffer .entry))) (report (said l (now (query .entry))) (pathOf s)) ⌝ }
 {
     let n = l.terms;
-    let marks = mark_nodes(&s.rep, n);
-    let m = count_marks(&marks, n);
-    let nodes = number_nodes(&marks, n, m);
-    let places = nodes_of_terms(nodes, &s.rep, n);
+    let marks = heap_nodes::mark_nodes(&s.rep, n);
+    let m = heap_nodes::count_marks(&marks, n);
+    let nodes = heap_nodes::number_nodes(&marks, n, m);
+    let places = heap_nodes::nodes_of_terms(nodes, &s.rep, n);
     let fields = data_bytes(query, l.field_at, l.field_count, &s.rep, n);
     write_sections(buffer, s, &marks, nodes, m, n, &places, &fields);
 }

@@ -1,5 +1,5 @@
 -- What old query bytes say that pass checks 2 to 8 as they stood. Assumes nothing.
-use Prim.Native.Nat.{ℕ, zero, suc, _*_, _≤_}
+use Prim.Native.Nat.{ℕ, zero, suc, _*_}
 use native.Mathlib.Omega.{arith}
 use mathlib.Core.Path.{_≡_, refl, sym, ap, subst}
 use mathlib.Core.Logic.{⊎-elim}
@@ -130,7 +130,3 @@ module _ (bytes : List ℕ) (h : acceptsOld bytes ≡ true) where
   boolean-number l m =
       let p = boolean-part in
       number-allows (l .left) (flags-allowed signRole numberRole (p .count) 1 (section old-parts 4) (p .sized) (p .allowed) l (subst (List·Memᴰ l) booleans-are m))
-
-  pub boolean-count : length (decodeOld bytes .booleans) ≤ 60
-  unfolding booleanSection
-  boolean-count = let p = boolean-part in omega (arith, p .within, flags-count (p .count) (section old-parts 4) (p .sized), ap length booleans-are)

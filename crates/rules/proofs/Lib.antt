@@ -1,3 +1,2 @@
-pub mod Nested
-pub mod Around
+pub mod Halves
 pub mod Rows

@@ -6,9 +6,7 @@ use Rattle.rules.specs.declared.Numbered.{Numbered}
 use Rattle.rules.specs.declared.Numbered.the-variants as numbered
 use Rattle.rules.specs.declared.Choice.{Choice}
 use Rattle.rules.specs.declared.Choice.the-variants as choice
-use Rattle.rules.specs.declared.Place.{Place}
-use Rattle.rules.specs.declared.Place.the-variants as place
-use Rattle.logic.specs.Rules.{Rule, REFLEX, TRANS1, TRANS2, FUNC, CYCLE, SCC, TOTAL, SHARE, Triple, triple, Move, move}
+use Rattle.logic.specs.Rules.{Rule, REFLEX, TRANS1, TRANS2, FUNC, CYCLE, SCC, TOTAL, SHARE, triple, Move, move}
 
 abbrev pub kindOf : code.Rule → Rule
 kindOf rule.Reflex = REFLEX
@@ -19,10 +17,6 @@ kindOf rule.Cycle = CYCLE
 kindOf rule.Scc = SCC
 kindOf rule.Total = TOTAL
 kindOf rule.Share = SHARE
-
-abbrev pub placeOf : Place → Option Triple
-placeOf (place.At x y z) = some (triple (x .0) (y .0) (z .0))
-placeOf place.Nothing = none
 
 abbrev pub numberedOf : Numbered → Option Rule
 numberedOf (numbered.Is r) = some (kindOf r)

@@ -1,4 +1,3 @@
 pub mod Answers
 pub mod Tests
-pub mod Smallest
-pub mod Cycle
+pub mod Allowed

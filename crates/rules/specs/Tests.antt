@@ -1,5 +1,5 @@
 -- Each rule's test in two halves: what it asks of the first two numbers, and what it asks of the third.
-use Prim.Native.Nat.{ℕ, zero}
+use Prim.Native.Nat.{ℕ}
 use mathlib.Core.Bool.{Bool, true, false, not}
 use mathlib.Core.Option.{Option·elim}
 use lib.Dec.{eqb}

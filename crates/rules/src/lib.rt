@@ -1,23 +1,15 @@
-// The eight rules: where one applies, at the smallest triple.
-use facts::Found;
+// The eight rules, and the rows of the numbers that each asks for.
 use facts::Link;
 use facts::Term;
 ghost use mathlib.Core.Path.{_≡_};
-ghost use mathlib.Core.Bool.{Bool, true, false};
-ghost use mathlib.Core.List.{List};
-ghost use lib.Dec.{ltb};
-ghost use Prim.Native.Nat.{ℕ, _+_, _-_, _≤_, _<_};
-ghost use Rattle.facts.specs.Path.{graphOf, linksIn, pathAs};
-ghost use Rattle.rules.specs.Answers.{kindOf, placeOf, numberedOf, choiceOf};
+ghost use mathlib.Core.Bool.{true};
+ghost use Prim.Native.Nat.{ℕ, _≤_};
+ghost use Rattle.facts.specs.Path.{graphOf};
+ghost use Rattle.rules.specs.Answers.{kindOf, numberedOf};
 ghost use Rattle.facts.specs.Bits.{bit};
 ghost use Rattle.facts.specs.Square.{Turned};
-ghost use Rattle.rules.specs.Tests.{pairTest, thirdTest, looped, twoWay, looksBack};
-ghost use Rattle.rules.specs.Smallest.{inThird, inSecond, inFirst, triedAt, triedBy};
-ghost use Rattle.rules.specs.Cycle.{stepsTo};
-ghost use Rattle.logic.specs.Search.{firstOf};
-ghost use Rattle.logic.specs.Heap.{iterate};
-ghost use Rattle.logic.specs.Rules.{CYCLE, TRANS2, next, ruleOf, choose};
-ghost use Rattle.logic.specs.Walk.{orderOf};
+ghost use Rattle.rules.specs.Tests.{pairTest, thirdTest, looped, twoWay};
+ghost use Rattle.logic.specs.Rules.{ruleOf};
 
 pub enum Rule {
     Reflex,
@@ -33,12 +25,6 @@ pub enum Rule {
 // The third number of a triple: a term's, or 0 where the rule has no third term, or the count of steps for CYCLE.
 pub struct Third(pub usize);
 
-// The triple at which a rule applies. Its second number is 0 for REFLEX, and Term(0) is no term.
-pub enum Place {
-    At(Term, Term, Third),
-    Nothing,
-}
-
 // A rule that was looked for by its number.
 pub enum Numbered {
     Is(Rule),
@@ -51,13 +37,6 @@ pub enum Choice {
     Nothing,
 }
 
-// Where the links led, after how many steps, and the row of the terms from which a step was made.
-pub struct Followed {
-    pub term: Term,
-    pub steps: usize,
-    pub passed: u32,
-}
-
 // The third number of a triple that is a term's.
 pub fn third_term(z: Third) -> Term
     ensures { λ r. ⌜ r .0 ≡ z .0 ⌝ }
@@ -66,7 +45,7 @@ pub fn third_term(z: Third) -> Term
 }
 
 // The row of the second numbers that a rule asks for beside x. `back` is `reach` turned round, for the rules that read it.
-fn pair_row(
+pub fn pair_row(
     rule: Rule,
     alive: u32,
     link: &[u32; 17],
@@ -94,7 +73,7 @@ fn pair_row(
 }
 
 // The row of the third numbers that a rule asks for, once its first two are as it asks.
-fn third_row(
+pub fn third_row(
     rule: Rule,
     link: &[u32; 17],
     reach: &[u32; 17],
@@ -121,143 +100,6 @@ fn third_row(
     }
 }
 
-// The smallest triple that begins with x and y, where these are as a rule other than CYCLE asks.
-fn in_third(
-    rule: Rule,
-    link: &[u32; 17],
-    reach: &[u32; 17],
-    back: &[u32; 17],
-    n: usize,
-    x: Term,
-    y: Term,
-) -> Place
-    requires { ⌜ (n ≤ 16) × (x .0 ≤ 16) × (y .0 ≤ 16) × (looped (kindOf rule) ≡ true) × (twoWay (kindOf rule) ≡ true → Turned (now back) (now reach)) ⌝ }
-    ensures { λ r. ⌜ ((alive : ℕ → Bool) → pairTest alive (graphOf (now (link .entry)) (now (reach .entry))) (x .0) (y .0) (kindOf rule) ≡ true → placeOf r ≡ inThird n alive (graphOf (now (link .entry)) (now (reach .entry))) (kindOf rule) (x .0) (y .0)) ⌝ }
-{
-    let row = third_row(rule, link, reach, back, x, y);
-    let Found::At(z) = facts::first(row & facts::up_to(n)) else {
-        return Place::Nothing;
-    };
-    Place::At(x, y, Third(z.0))
-}
-
-// The smallest triple that begins with x, of a rule other than CYCLE.
-fn scan(
-    rule: Rule,
-    alive: u32,
-    link: &[u32; 17],
-    reach: &[u32; 17],
-    back: &[u32; 17],
-    n: usize,
-    x: Term,
-) -> Place
-    requires { ⌜ (n ≤ 16) × (x .0 ≤ 16) × (looped (kindOf rule) ≡ true) × (twoWay (kindOf rule) ≡ true → Turned (now back) (now reach)) ⌝ }
-    ensures { λ r. ⌜ placeOf r ≡ inSecond n (bit alive) (graphOf (now (link .entry)) (now (reach .entry))) (kindOf rule) (x .0) ⌝ }
-{
-    let row = pair_row(rule, alive, link, reach, back, x);
-    let mut left = row & facts::up_to(n);
-    loop {
-        let Found::At(y) = facts::first(left) else {
-            return Place::Nothing;
-        };
-        if let Place::At(a, b, c) = in_third(rule, link, reach, back, n, x, y) {
-            return Place::At(a, b, c);
-        }
-        left = facts::rest(left);
-    }
-}
-
-// The same of TRANS2, which is tried most: y is reached from x, and z from y and not from x.
-fn scan_onward(reach: &[u32; 17], n: usize, x: Term) -> Place
-    requires { ⌜ (n ≤ 16) × (x .0 ≤ 16) ⌝ }
-    ensures { λ r. ⌜ ((alive : ℕ → Bool) (link : List ℕ) → placeOf r ≡ inSecond n alive (graphOf link (now (reach .entry))) TRANS2 (x .0)) ⌝ }
-{
-    let at = x.0;
-    let far = reach[at];
-    let among = facts::up_to(n);
-    let mut left = far & among;
-    loop {
-        let Found::At(y) = facts::first(left) else {
-            return Place::Nothing;
-        };
-        let second = y.0;
-        let row = facts::without(reach[second], far);
-        if let Found::At(z) = facts::first(row & among) {
-            return Place::At(x, y, Third(z.0));
-        }
-        left = facts::rest(left);
-    }
-}
-
-// The successor of c, or 0 where it has none.
-pub fn next(link: &[u32; 17], n: usize, c: Term) -> Term
-    requires { ⌜ (n ≤ 16) × (c .0 ≤ 16) ⌝ }
-    ensures { λ r. ⌜ r .0 ≡ next n (linksIn (now (link .entry))) (c .0) ⌝ }
-{
-    match facts::successor(link, n, c) {
-        Found::At(t) => t,
-        Found::Nothing => Term(0),
-    }
-}
-
-// The steps round a cycle: the links from c are followed until they lead to `until`, or `left` of them are made.
-pub fn follow(link: &[u32; 17], n: usize, c: Term, until: Term, left: usize) -> Followed
-    requires { ⌜ (n ≤ 16) × (c .0 ≤ 16) ⌝ }
-    ensures { λ r. ⌜ (r .steps ≡ stepsTo n (linksIn (now (link .entry))) (until .0) left (c .0)) × (r .term .0 ≡ iterate (next n (linksIn (now (link .entry)))) (r .steps) (c .0)) × ((y : ℕ) → bit (r .passed) y ≡ ltb (stepsTo n (linksIn (now (link .entry))) y (r .steps) (c .0)) (r .steps)) ⌝ }
-{
-    let mut term = c;
-    let mut steps: usize = 0;
-    let mut passed: u32 = 0;
-    while steps < left {
-        if term.0 == until.0 {
-            return Followed {
-                term,
-                steps,
-                passed,
-            };
-        }
-        let d = next(link, n, term);
-        passed = passed | facts::only(term.0);
-        if d.0 == term.0 {
-            return Followed {
-                term,
-                steps: left,
-                passed,
-            };
-        }
-        term = d;
-        steps += 1;
-    }
-    Followed {
-        term,
-        steps,
-        passed,
-    }
-}
-
-// The smallest triple of CYCLE that begins with x: the links lead back to x after k steps, and y is none of the k terms from x on.
-fn cycle(link: &[u32; 17], reach: &[u32; 17], n: usize, x: Term) -> Place
-    requires { ⌜ (n ≤ 16) × (x .0 ≤ 16) ⌝ }
-    ensures { λ r. ⌜ ((alive : ℕ → Bool) → placeOf r ≡ inSecond n alive (graphOf (now (link .entry)) (now (reach .entry))) CYCLE (x .0)) ⌝ }
-{
-    let at = x.0;
-    let far = reach[at] & facts::up_to(n);
-    if far == 0 {
-        return Place::Nothing;
-    }
-    let first = next(link, n, x);
-    let back = follow(link, n, first, x, n);
-    let k = back.steps + 1;
-    if n < k {
-        return Place::Nothing;
-    }
-    let round = back.passed | facts::only(at);
-    let Found::At(y) = facts::first(facts::without(far, round)) else {
-        return Place::Nothing;
-    };
-    Place::At(x, y, Third(k))
-}
-
 // The rule is not CYCLE.
 pub fn looped(rule: Rule) -> bool
     ensures { λ r. ⌜ r ≡ looped (kindOf rule) ⌝ }
@@ -272,50 +114,6 @@ pub fn looped(rule: Rule) -> bool
         Rule::Total => true,
         Rule::Share => true,
     }
-}
-
-// The smallest triple that begins with x.
-fn in_second(
-    rule: Rule,
-    alive: u32,
-    link: &[u32; 17],
-    reach: &[u32; 17],
-    back: &[u32; 17],
-    n: usize,
-    x: Term,
-) -> Place
-    requires { ⌜ (n ≤ 16) × (x .0 ≤ 16) × (twoWay (kindOf rule) ≡ true → Turned (now back) (now reach)) ⌝ }
-    ensures { λ r. ⌜ placeOf r ≡ inSecond n (bit alive) (graphOf (now (link .entry)) (now (reach .entry))) (kindOf rule) (x .0) ⌝ }
-{
-    if let Rule::Trans2 = rule {
-        return scan_onward(reach, n, x);
-    }
-    if looped(rule) {
-        return scan(rule, alive, link, reach, back, n, x);
-    }
-    cycle(link, reach, n, x)
-}
-
-// The smallest triple at which a rule applies.
-pub fn smallest(
-    rule: Rule,
-    alive: u32,
-    link: &[u32; 17],
-    reach: &[u32; 17],
-    back: &[u32; 17],
-    n: usize,
-) -> Place
-    requires { ⌜ (n ≤ 16) × (twoWay (kindOf rule) ≡ true → Turned (now back) (now reach)) ⌝ }
-    ensures { λ r. ⌜ placeOf r ≡ inFirst n (bit alive) (graphOf (now (link .entry)) (now (reach .entry))) (kindOf rule) ⌝ }
-{
-    let mut x: usize = 0;
-    while x <= n {
-        if let Place::At(a, b, c) = in_second(rule, alive, link, reach, back, n, Term(x)) {
-            return Place::At(a, b, c);
-        }
-        x += 1;
-    }
-    Place::Nothing
 }
 
 // The rule that has this number.
@@ -333,181 +131,4 @@ pub fn rule_numbered(k: u8) -> Numbered
         8 => Numbered::Is(Rule::Share),
         _ => Numbered::Nothing,
     }
-}
-
-// The rule that has this number, by link i whose facts are lent, at the smallest triple.
-fn tried(
-    i: Link,
-    k: u8,
-    alive: u32,
-    link: &[u32; 17],
-    reach: &[u32; 17],
-    back: &[u32; 17],
-    n: usize,
-) -> Choice
-    requires { ⌜ (n ≤ 16) × (looksBack k ≡ true → Turned (now back) (now reach)) ⌝ }
-    ensures { λ r. ⌜ choiceOf r ≡ triedAt (i .0) n (bit alive) (graphOf (now (link .entry)) (now (reach .entry))) k ⌝ }
-{
-    let Numbered::Is(rule) = rule_numbered(k) else {
-        return Choice::Nothing;
-    };
-    let Place::At(x, y, z) = smallest(rule, alive, link, reach, back, n) else {
-        return Choice::Nothing;
-    };
-    Choice::Apply(i, rule, x, y, z)
-}
-
-// The rule asks what is reached from where, and from where what is: it reads reachability turned round.
-fn two_way(rule: Rule) -> bool
-    ensures { λ r. ⌜ r ≡ twoWay (kindOf rule) ⌝ }
-{
-    match rule {
-        Rule::Reflex => false,
-        Rule::Trans1 => false,
-        Rule::Trans2 => false,
-        Rule::Func => false,
-        Rule::Cycle => false,
-        Rule::Scc => true,
-        Rule::Total => true,
-        Rule::Share => true,
-    }
-}
-
-// The same of the rule that has this number.
-fn looks_back(k: u8) -> bool
-    ensures { λ r. ⌜ r ≡ looksBack k ⌝ }
-{
-    match rule_numbered(k) {
-        Numbered::Is(rule) => two_way(rule),
-        Numbered::Nothing => false,
-    }
-}
-
-// Reachability turned round, once it is wanted.
-fn turned_once(reach: &[u32; 17], wanted: bool, before: [u32; 17]) -> [u32; 17]
-    ensures { λ r. ⌜ ((wanted ≡ true) → Turned r (now (reach .entry))) × ((wanted ≡ false) → r ≡ before) ⌝ }
-{
-    if wanted {
-        return facts::turned(reach);
-    }
-    before
-}
-
-// The first applicable rule of the order list by link k, whose facts are lent.
-fn choose_by(
-    k: Link,
-    order: &[u8],
-    alive: u32,
-    link: &[u32; 17],
-    reach: &[u32; 17],
-    n: usize,
-) -> Choice
-    requires { ⌜ n ≤ 16 ⌝ }
-    ensures { λ r. ⌜ choiceOf r ≡ firstOf (triedAt (k .0) n (bit alive) (graphOf (now (link .entry)) (now (reach .entry)))) (now (order .entry)) ⌝ }
-{
-    let mut back = [0u32; 17];
-    let mut turned = false;
-    let mut i: usize = 0;
-    while i < order.len() {
-        let wanted = looks_back(order[i]);
-        back = turned_once(reach, wanted & !turned, back);
-        turned = turned | wanted;
-        if let Choice::Apply(l, rule, x, y, z) = tried(k, order[i], alive, link, reach, &back, n) {
-            return Choice::Apply(l, rule, x, y, z);
-        }
-        i += 1;
-    }
-    Choice::Nothing
-}
-
-// The rule that has this number, by link i, with reachability turned round where the rule reads it so.
-fn tried_at(i: Link, k: u8, alive: u32, link: &[u32; 17], reach: &[u32; 17], n: usize) -> Choice
-    requires { ⌜ n ≤ 16 ⌝ }
-    ensures { λ r. ⌜ choiceOf r ≡ triedAt (i .0) n (bit alive) (graphOf (now (link .entry)) (now (reach .entry))) k ⌝ }
-{
-    let unturned = [0u32; 17];
-    let back = turned_once(reach, looks_back(k), unturned);
-    tried(i, k, alive, link, reach, &back, n)
-}
-
-// "within a rule link 1 is tried first" (02, R-11)
-fn tried_by<'a>(
-    k: u8,
-    alive: u32,
-    link: &'a [u32; 17],
-    reach: &'a [u32; 17],
-    link2: &'a [u32; 17],
-    reach2: &'a [u32; 17],
-    link3: &'a [u32; 17],
-    reach3: &'a [u32; 17],
-    n: usize,
-) -> Choice
-    requires { ⌜ n ≤ 16 ⌝ }
-    ensures { λ r. ⌜ choiceOf r ≡ triedBy n (bit alive) (graphOf (now (link .entry)) (now (reach .entry))) (graphOf (now (link2 .entry)) (now (reach2 .entry))) (graphOf (now (link3 .entry)) (now (reach3 .entry))) k ⌝ }
-{
-    if let Choice::Apply(l, rule, x, y, z) = tried_at(Link(1), k, alive, link, reach, n) {
-        return Choice::Apply(l, rule, x, y, z);
-    }
-    if let Choice::Apply(l, rule, x, y, z) = tried_at(Link(2), k, alive, link2, reach2, n) {
-        return Choice::Apply(l, rule, x, y, z);
-    }
-    tried_at(Link(3), k, alive, link3, reach3, n)
-}
-
-// The first applicable rule of the order list, by any of three links.
-fn choose_any<'a>(
-    order: &[u8],
-    alive: u32,
-    link: &'a [u32; 17],
-    reach: &'a [u32; 17],
-    link2: &'a [u32; 17],
-    reach2: &'a [u32; 17],
-    link3: &'a [u32; 17],
-    reach3: &'a [u32; 17],
-    n: usize,
-) -> Choice
-    requires { ⌜ n ≤ 16 ⌝ }
-    ensures { λ r. ⌜ choiceOf r ≡ firstOf (triedBy n (bit alive) (graphOf (now (link .entry)) (now (reach .entry))) (graphOf (now (link2 .entry)) (now (reach2 .entry))) (graphOf (now (link3 .entry)) (now (reach3 .entry)))) (now (order .entry)) ⌝ }
-{
-    let mut i: usize = 0;
-    while i < order.len() {
-        if let Choice::Apply(l, rule, x, y, z) = tried_by(
-            order[i],
-            alive,
-            link,
-            reach,
-            link2,
-            reach2,
-            link3,
-            reach3,
-            n,
-        ) {
-            return Choice::Apply(l, rule, x, y, z);
-        }
-        i += 1;
-    }
-    Choice::Nothing
-}
-
-// "the first applicable rule of the order list, at the smallest triple". The arrays of the path are lent: its record is not copied.
-pub fn choose<'a>(
-    order: &[u8],
-    single: bool,
-    rep: &'a [u8; 17],
-    link: &'a [u32; 17],
-    reach: &'a [u32; 17],
-    link2: &'a [u32; 17],
-    reach2: &'a [u32; 17],
-    link3: &'a [u32; 17],
-    reach3: &'a [u32; 17],
-    n: usize,
-) -> Choice
-    requires { ⌜ n ≤ 16 ⌝ }
-    ensures { λ r. ⌜ choiceOf r ≡ choose n (orderOf (now (order .entry))) (pathAs single (now (rep .entry)) (now (link .entry)) (now (reach .entry)) (now (link2 .entry)) (now (reach2 .entry)) (now (link3 .entry)) (now (reach3 .entry))) ⌝ }
-{
-    let alive = facts::live(rep, n);
-    if single {
-        return choose_by(Link(1), order, alive, link, reach, n);
-    }
-    choose_any(order, alive, link, reach, link2, reach2, link3, reach3, n)
 }

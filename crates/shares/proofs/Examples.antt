@@ -2,7 +2,7 @@
 -- order list. Assumes nothing.
 use mathlib.Core.Path.{_≡_, refl}
 use mathlib.Core.Option.{Option·elim}
-use mathlib.Core.List.{List, [], _∷_, _++_}
+use mathlib.Core.List.{[], _∷_, _++_}
 use Rattle.logic.specs.Search.{_and_, _or_, from, keep, any, all, select, at, orElse, firstOf, flatMap, find}
 use Rattle.logic.specs.Query.{isOrder}
 use Rattle.logic.specs.Calls.{orderCheck, layoutCheck, byteCheck, queryChecks, refusalOf, blank, call, derivationCallOf, derivationChecksOf, roomUnder, verdictCallOf, verdictChecksOf}

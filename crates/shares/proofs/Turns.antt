@@ -10,7 +10,7 @@ use borrow.Author.Tests.{lt-ltb, le-ltb, ltb-false}
 use Rattle.logic.specs.Search.{_or_}
 use Rattle.logic.specs.Facts.{Line}
 use Rattle.logic.specs.Derivation.{linesFrom, linesIn}
-use Rattle.logic.specs.Calls.{Input, Outcome, verdictCall, derivationCall}
+use Rattle.logic.specs.Calls.{Outcome, verdictCall, derivationCall}
 use Rattle.logic.specs.Calls as calls
 use Rattle.theory.proofs.Calls.Demands.{demand1}
 use Rattle.prover.specs.Promise.{meaning, inputOf, Does}

@@ -6,7 +6,7 @@ use mathlib.Core.List.{List, [], _∷_, _++_}
 use lib.ListN.{length, getD, take, drop}
 use lib.Dec.{ltb}
 use Rattle.logic.specs.Search.{_or_}
-use Rattle.logic.specs.Facts.{Line, line}
+use Rattle.logic.specs.Facts.{Line}
 use Rattle.logic.specs.Derivation.{linesIn}
 use Rattle.logic.specs.Calls.{Answer, Outcome, refused, satisfiable, refuted, verdictCall, derivationCall}
 use Rattle.text.specs.Text.{ascii, decimal, hexByte}

@@ -1,27 +1,27 @@
 -- The start of a query, from its sections as the bytes say them.
-use Prim.Native.Nat.{ℕ, _+_, _-_, _*_, _≤_, _<_}
+use Prim.Native.Nat.{ℕ, _+_, _-_, _*_}
 use native.Mathlib.Omega.{arith}
 use mathlib.Core.Path.{_≡_, refl, sym, ap, ap₂, _∙_, subst}
 use mathlib.Core.Bool.{Bool, true, false, cond}
 use mathlib.Core.List.{List, [], _∷_}
 use lib.ListN.{take, drop, replicate}
 use lib.Dec.{eqb}
-use Rattle.logic.specs.Query.{Literal, literals, termCount, argumentOf}
+use Rattle.logic.specs.Query.{Literal, literals}
 use Rattle.logic.specs.Facts.{Facts, Joined, linksOf, andThen, settle, terms, nilTerms, joinNil, joinEach, addReach, reachEach, startJoins, start}
 use Rattle.theory.proofs.Query.Tied.{Accepted}
 use Rattle.theory.proofs.Paths.Start.{start-tied}
 use Rattle.query.specs.declared.Layout.{Layout}
-use Rattle.query.proofs.Ranges.{UpTo, below-of, equal-terms-of, reach-terms-of, reach-linked-of}
-use Rattle.link_query.specs.Said.{said, Within, reachIn}
-use Rattle.link_query.proofs.Said.{terms-said, equalities-said, reachability-said}
+use Rattle.link_query.specs.Said.{said, Within}
+use Rattle.link_query.proofs.Said.{terms-said}
 use Rattle.facts.specs.Square.{square}
 use Rattle.facts.specs.Path.{repOf}
 use Rattle.facts.specs.Pairs.{joinedIn, Fits}
 use Rattle.facts.proofs.Joins.{none-before, fits-left}
-use Rattle.start.proofs.Entries.{linked-in-rows}
+use Rattle.term_links.proofs.Entries.{linked-in-rows}
 use Rattle.start.proofs.Room.{start-pairs}
-use Rattle.start.specs.Nil.{nilFrom}
-use Rattle.start.specs.Taken.{started, Terms, TermsIn}
+use Rattle.plain_literals.proofs.Read.{counted}
+use Rattle.nil_terms.specs.Nil.{nilFrom}
+use Rattle.start.specs.Started.{started}
 
 -- adding reachability leaves the links that there are
 reachEach-links : (ls : List Literal) (s : Facts) → reachEach ls s .links ≡ s .links
@@ -71,9 +71,6 @@ module _ {l : Layout} {bytes : List ℕ} (w : Within l bytes) where
       ap₂ (λ (ps : List (ℕ × ℕ)) (t : Facts). record { pairs = ps; facts = t }) (ap (λ (i : Joined). i .pairs) f) (h ∙ ap (λ (i : Joined). reachEach (said l bytes .reachability) (i .facts)) f)
 
   module _ (acc : Accepted (said l bytes)) where
-    counted : l .terms ≡ termCount (said l bytes)
-    counted = sym (terms-said l bytes w)
-
     -- the links that rows hold are settled behind no pair
     pub links-laid : (single : Bool) (rep link link2 link3 : List ℕ) → single ≡ eqb (l .links) 1 → repOf rep ≡ (λ t. t) → square link ≡ linksOf (said l bytes) .graph 1 .link → square link2 ≡ linksOf (said l bytes) .graph 2 .link → square link3 ≡ linksOf (said l bytes) .graph 3 .link → andThen (joinedIn single rep link (replicate 17 0) link2 (replicate 17 0) link3 (replicate 17 0) (replicate 17 0) (replicate 17 0) 0) (settle (l .terms) (l .terms)) ≡ links
     unfolding said
@@ -90,7 +87,7 @@ module _ {l : Layout} {bytes : List ℕ} (w : Within l bytes) where
 
     -- there is room for all pairs
     pub joins-fit : Fits joins
-    joins-fit = subst Fits joins-laid (omega (arith, start-pairs (said l bytes) acc, counted, w .terms-within))
+    joins-fit = subst Fits joins-laid (omega (arith, start-pairs (said l bytes) acc, counted w, w .terms-within))
 
     pub nil-fits : (settled : Joined) → settled ≡ links → Fits (withNil settled)
     nil-fits settled e = subst (λ (j : Joined). Fits (withNil j)) (sym e) (fits-left _ _ joins-fit)
@@ -100,26 +97,4 @@ module _ {l : Layout} {bytes : List ℕ} (w : Within l bytes) where
 
     pub started-fits : Fits (started (said l bytes))
     unfolding started
-    started-fits = omega (arith, start-pairs (said l bytes) acc, counted, w .terms-within)
-
-    -- what is read in place is in its ranges
-    ranged : (m : Literal) → UpTo (l .terms) (m .left) × UpTo (l .terms) (m .right) → Terms m
-    ranged m r = record { left-within = omega (arith, r .0 .1, w .terms-within); right-within = omega (arith, r .1 .1, w .terms-within) }
-
-    pub argument-within : (t : ℕ) → 1 ≤ t → t ≤ l .terms → (a : ℕ) → argumentOf (said l bytes .entries) t ≡ a → a ≤ 16
-    argument-within t one most a e = omega (arith, e, below-of acc counted t one most, most, w .terms-within)
-
-    pub equal-terms-in : TermsIn bytes (l .«equal_at») (l .«equal_count»)
-    equal-terms-in = record { terms = λ i h. ranged _ (equal-terms-of acc counted _ (l .«equal_count») i h (equalities-said l bytes w)) }
-
-    module _ (i : ℕ) (h : i < l .«reach_count») where
-      pub reach-terms : Terms (reachIn (l .links) bytes (l .«reach_at») i)
-      reach-terms = ranged _ (reach-terms-of acc counted _ (l .«reach_count») i h (reachability-said l bytes w))
-
-      reach-linked : UpTo (l .links) (reachIn (l .links) bytes (l .«reach_at») i .link)
-      unfolding said
-      reach-linked = reach-linked-of acc counted _ (l .«reach_count») i h (reachability-said l bytes w)
-
-      -- the link of a literal is one of the path
-      pub linked-in : (links : ℕ) → links ≡ l .links → (0 < reachIn (l .links) bytes (l .«reach_at») i .link) × (reachIn (l .links) bytes (l .«reach_at») i .link ≤ links)
-      linked-in links e = let r = reach-linked in (r .0, omega (arith, e, r .1))
+    started-fits = omega (arith, start-pairs (said l bytes) acc, counted w, w .terms-within)

@@ -1,2 +1,1 @@
-pub mod Taken
-pub mod Nil
+pub mod Started

@@ -25,11 +25,11 @@ use Rattle.facts.specs.declared.Found.the-variants as found
 use Rattle.facts.proofs.Bits.{bit-and, bit-or, bit-none}
 use Rattle.facts.proofs.Square.{square-in}
 use Rattle.rules.specs.Tests.{pairTest, thirdTest, looped}
-use Rattle.rules.specs.Smallest.{allowed}
+use Rattle.rules.specs.Allowed.{allowed}
 use Rattle.rules.specs.declared.Rule as code
 use Rattle.rules.specs.declared.Third.{Third}
 use Rattle.rules.specs.declared.Choice.{Choice}
-use Rattle.rules.proofs.Nested.{halves, allowed-any, applies-allowed, rows-are}
+use Rattle.rules.proofs.Halves.{halves, allowed-any, applies-allowed, rows-are}
 use Rattle.units.specs.declared.Proposal.{Proposal}
 use Rattle.units.specs.declared.Proposal.the-variants as proposal
 use Rattle.units.specs.Proposes.{Applies, Proposes, RowsOf, ProposesIn, FoundIn}

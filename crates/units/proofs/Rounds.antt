@@ -1,7 +1,7 @@
 -- The round of a term, as it is followed.
-use Prim.Native.Nat.{ℕ, suc, _+_, _≤_}
+use Prim.Native.Nat.{ℕ, _+_, _≤_}
 use mathlib.Core.Path.{_≡_, refl, sym, ap, ap₂, _∙_}
-use mathlib.Core.Bool.{Bool, true, false, not}
+use mathlib.Core.Bool.{Bool, true, not}
 use mathlib.Core.List.{List, [], _∷_, map}
 use lib.ListN.{getD}
 use lib.Bits.{bitOr}
@@ -13,10 +13,9 @@ use Rattle.facts.specs.Bits.{bit}
 use Rattle.facts.specs.Path.{graphOf, linksIn}
 use Rattle.facts.proofs.Bits.{bit-none}
 use Rattle.facts.proofs.Square.{square-in}
-use Rattle.rules.specs.Cycle.{stepsTo}
-use Rattle.rules.specs.Smallest.{allowed}
-use Rattle.rules.proofs.Around.{returns-at, round-is, steps-links, back-links}
-use Rattle.rules.proofs.Rows.{passed-more}
+use Rattle.link_steps.specs.Cycle.{stepsTo}
+use Rattle.rules.specs.Allowed.{allowed}
+use Rattle.link_steps.proofs.Around.{returns-at, round-is, steps-links, back-links, passed-more}
 
 -- "x=x is always held", and no other equality
 any-equal : (g : ℕ → Graph) (y : ℕ) (xs : List ℕ) → any (held g) (map (equal y) xs) ≡ any (eqb y) xs

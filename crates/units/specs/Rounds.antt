@@ -7,7 +7,7 @@ use Rattle.logic.specs.Search.{any}
 use Rattle.logic.specs.Facts.{Graph}
 use Rattle.logic.specs.Rules.{CYCLE, triple, move, round}
 use Rattle.facts.specs.Bits.{bit}
-use Rattle.rules.specs.Smallest.{allowed}
+use Rattle.rules.specs.Allowed.{allowed}
 use Rattle.units.specs.declared.Round.{Round}
 
 -- so many steps lead round, through these terms; with those off the round CYCLE applies

@@ -87,8 +87,8 @@ pub fn around(link: &[u32; 17], reach: &[u32; 17], n: usize, x: usize) -> Round
     requires { ⌜ (n ≤ 16) × (x ≤ 16) ⌝ }
     ensures { λ r. ⌜ Rounds n (graphOf (now (link .entry)) (now (reach .entry))) x r ⌝ }
 {
-    let first = rules::next(link, n, Term(x));
-    let back = rules::follow(link, n, first, Term(x), n);
+    let first = link_steps::next(link, n, Term(x));
+    let back = link_steps::follow(link, n, first, Term(x), n);
     let k = back.steps + 1;
     if n < k {
         return Round {

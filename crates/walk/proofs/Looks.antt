@@ -1,18 +1,17 @@
 -- What is seen at a path, and that its numbers fit a byte.
-use Prim.Native.Nat.{ℕ, zero, suc, _+_, _≤_, _<_}
+use Prim.Native.Nat.{ℕ, suc, _≤_}
 use native.Mathlib.Omega.{arith}
-use mathlib.Core.Path.{_≡_, refl, sym, ap, _∙_, subst}
-use mathlib.Core.Logic.{_⊎_, ⊎-elim, inl, inr}
-use mathlib.Core.Bool.{Bool, true}
-use mathlib.Core.List.{List, [], _∷_, _++_, map, List·Memᴰ, List·Memᴰ·append-cases}
+use mathlib.Core.Path.{_≡_, sym, ap, _∙_, subst}
+use mathlib.Core.Logic.{_⊎_, ⊎-elim}
+use mathlib.Core.List.{List, map, List·Memᴰ, List·Memᴰ·append-cases}
 use mathlib.Core.Option.{Option, none, some, Option·elim}
 use lib.ListN.{length}
-use Rattle.logic.specs.Search.{from, keep, firstOf, find, flatMap}
+use Rattle.logic.specs.Search.{from, keep, firstOf, flatMap}
 use Rattle.logic.specs.Query.{Literal, Query, termCount}
 use Rattle.logic.specs.Facts.{Facts, linkNumbers, Line, line, isClash, clashLines, clash}
 use Rattle.logic.specs.Rules.{Rule, Triple, triple, Move, move, applies, triples, choose}
-use Rattle.logic.specs.Walk.{Look, clashing, applying, saturated, look}
-use Rattle.theory.proofs.Basics.Search.{keep-some, firstOf-some, find-some, from-mem, flatMap-mem, map-mem, none-some}
+use Rattle.logic.specs.Walk.{clashing, applying, saturated, look}
+use Rattle.theory.proofs.Basics.Search.{keep-some, firstOf-some, find-some, from-mem, flatMap-mem, map-mem}
 
 module _ (q : Query) (order : List Rule) (s : Facts) where
   pub look-clashing : (l : Line) → clash q s ≡ some l → look q order s ≡ clashing l

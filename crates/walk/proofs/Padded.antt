@@ -1,10 +1,10 @@
 -- Lines that fit, written into a blank buffer, are the derivation's bytes.
-use Prim.Native.Nat.{ℕ, zero, suc, _+_, _*_, _-_, _/_, _%_, _≤_, _<_}
+use Prim.Native.Nat.{ℕ, suc, _+_, _*_, _-_, _/_, _%_, _≤_}
 use native.Mathlib.Omega.{arith}
 use native.Mathlib.Nat.{suc-add, zero-add}
 use mathlib.Core.Path.{_≡_, refl, sym, ap, _∙_, subst}
-use mathlib.Core.List.{List, [], _∷_, _++_, append-nil, append-assoc}
-use lib.ListN.{length, set, replicate, length-append, length-replicate}
+use mathlib.Core.List.{List, [], _∷_, _++_, append-assoc}
+use lib.ListN.{length, set, replicate, length-append}
 use Rattle.logic.specs.Search.{flatMap}
 use Rattle.logic.specs.Facts.{Line, line}
 use Rattle.logic.specs.Derivation.{lineBytes, derivationBytes}

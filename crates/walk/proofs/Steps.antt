@@ -1,13 +1,13 @@
 -- What a look says, and the branches of a rule that it sees.
-use Prim.Native.Nat.{ℕ, zero, suc, _+_, _-_, _≤_, _<_}
+use Prim.Native.Nat.{ℕ, zero, suc, _-_, _≤_, _<_}
 use native.Mathlib.Omega.{arith}
 use mathlib.Core.Path.{_≡_, refl, sym, ap, _∙_, subst}
 use mathlib.Core.List.{List, [], _∷_, List·Memᴰ, List·Memᴰ·head, List·Memᴰ·tail}
 use lib.ListN.{length, getD}
 use Rattle.logic.specs.Query.{Query, termCount}
-use Rattle.logic.specs.Facts.{Facts, Joined, Line, line, joinLines}
+use Rattle.logic.specs.Facts.{Facts, Joined, Line, line}
 use Rattle.logic.specs.Rules.{Rule, triple, Move, move, Fact, equal, moveNumber, moveLine, alternatives, branch, add}
-use Rattle.logic.specs.Walk.{Look, clashing, applying, saturated, look, Ending, refutation, saturation, after, walkBranch, walk}
+use Rattle.logic.specs.Walk.{Look, clashing, applying, look, walkBranch, walk}
 use Rattle.logic.specs.Steps.{AtMost}
 use Rattle.theory.proofs.Walks.OurWalk.{look-fewer}
 use Rattle.theory.proofs.Walks.Derives.{seen-applying}
@@ -15,7 +15,7 @@ use Rattle.theory.proofs.Paths.Applies.{hasLink-range, applies-linked}
 use Rattle.facts.specs.Path.{HasLink}
 use Rattle.query.specs.LaysOut.{literalIn}
 use Rattle.query.specs.declared.Layout.{Layout}
-use Rattle.query.proofs.Literals.{listed, listed-length}
+use Rattle.query.proofs.Literals.{listed-length}
 use Rattle.link_query.specs.Said.{said, Within, reachIn}
 use Rattle.link_query.proofs.Said.{terms-said, equalities-said, reachability-said, fields-said}
 use Rattle.branch.specs.Alternatives.{countOf, alternativeAt}

@@ -1,7 +1,7 @@
 -- The branches of a rule, walked one after the other: what stands after some of them, and how the walk ends.
 use Prim.Native.Nat.{ℕ, _≤_}
 use mathlib.Core.Path.{_≡_, refl, sym, ap, _∙_}
-use mathlib.Core.List.{List, [], _∷_, _++_, append-nil}
+use mathlib.Core.List.{List, [], _∷_, append-nil}
 use lib.ListN.{length, drop}
 use Rattle.logic.specs.Facts.{Facts, Line}
 use Rattle.logic.specs.Rules.{Fact}

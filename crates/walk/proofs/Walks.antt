@@ -1,8 +1,8 @@
 -- Laws of the branch walk: one look, and then each branch in order.
-use Prim.Native.Nat.{ℕ, zero, suc, _+_, _*_, _-_, _≤_, _<_}
+use Prim.Native.Nat.{ℕ, zero, suc, _+_, _-_, _≤_, _<_}
 use native.Mathlib.Omega.{arith}
 use native.Mathlib.Numerals.{add-one}
-use mathlib.Core.Path.{_≡_, refl, sym, ap, _∙_, subst}
+use mathlib.Core.Path.{_≡_, refl, sym, ap, _∙_}
 use mathlib.Core.List.{List, [], _∷_, _++_, append-assoc}
 use mathlib.Core.Option.{Option·elim}
 use lib.ListN.{length, getD, drop, drop-of-length-le}
@@ -11,7 +11,7 @@ use Rattle.logic.specs.Query.{Query, termCount}
 use Rattle.logic.specs.Facts.{Facts, Line}
 use Rattle.logic.specs.Rules.{Rule, Move, Fact, alternatives, branch, moveLine}
 use Rattle.theory.proofs.Walks.Derives.{seen-clashing, seen-saturated}
-use Rattle.logic.specs.Walk.{Look, clashing, applying, saturated, look, Ending, refutation, saturation, after, thenEnding, walkBranch, walkEach, endAt, walk}
+use Rattle.logic.specs.Walk.{clashing, applying, saturated, look, Ending, refutation, saturation, after, thenEnding, walkBranch, walkEach, endAt, walk}
 
 module _ (q : Query) (order : List Rule) where
   pub walk-clashing : (k : ℕ) (s : Facts) (l : Line) → look q order s ≡ clashing l → walk q order k s ≡ refutation (l ∷ [])

@@ -124,7 +124,7 @@ pub fn look<'a>(
     ) {
         return Seen::Clashing(section, place, partner);
     }
-    let Choice::Apply(k, rule, x, y, z) = rules::choose(
+    let Choice::Apply(k, rule, x, y, z) = rule_choice::choose(
         order,
         single,
         rep,

@@ -2,7 +2,7 @@
 use borrow.Author.Needs.{needs}
 use Rattle.logic.specs.Search.{_and_}
 use Rattle.logic.specs.Query.{termRole}
-use Rattle.entries.specs.Entries.{meets}
+use Rattle.byte_tests.specs.Meets.{meets}
 use Rattle.between_checks.proofs.term_refused.Statement.{statement}
 use Rattle.between_checks.proofs.term_refused.Tie as tie
 

@@ -1,16 +1,12 @@
 -- Each test in its order. Assumes nothing.
-use Prim.Native.Nat.{ℕ, _+_, _-_, _*_, _≤_, _<_}
+use Prim.Native.Nat.{ℕ, _+_, _-_, _≤_, _<_}
 use native.Mathlib.Omega.{arith}
-use borrow.Author.Needs.{needs}
-use borrow.Author.Tests.{not-true, not-false}
-use mathlib.Core.Path.{_≡_, refl, sym, ap, ap₂, _∙_, subst}
-use mathlib.Core.Bool.{Bool, true, false, not, _&&_}
+use mathlib.Core.Path.{sym, _∙_, subst}
 use Rattle.between_search.specs.Search.{entry}
 use Rattle.between_seek.proofs.breaks.Statement.{statement}
 use Rattle.between_seek.proofs.breaks.Tie as tie
 use Rattle.logic.specs.Search.{any}
-use Rattle.between_search.specs.Tests.{used, nilBreaks, fieldBreaks, pairBreaks, tripleBreaks}
-use Rattle.between_tests.specs.Tables.{literalsIn}
+use Rattle.between_search.specs.Tests.{used, fieldBreaks, pairBreaks}
 use Rattle.between_seek.specs.Answers.{queryIn}
 use Rattle.between_seek.proofs.Laws.{breaks-unnamed, breaks-nil, breaks-field, breaks-equal, breaks-reach, breaks-between}
 use Rattle.between_seek.proofs.Sections.{equal-section, reach-section, field-section}

@@ -1,11 +1,8 @@
 -- What is left of the sizes answers for all. Assumes nothing.
-use Prim.Native.Nat.{ℕ, _+_, _-_, _*_, _≤_, _<_}
+use Prim.Native.Nat.{_-_}
 use native.Mathlib.Omega.{arith}
 use borrow.Author.Needs.{needs}
-use borrow.Author.Tests.{not-true, not-false}
-use mathlib.Core.Path.{_≡_, refl, sym, ap, ap₂, _∙_, subst}
-use mathlib.Core.Bool.{Bool, true, false, not, _&&_}
-use Rattle.between_search.specs.Search.{entry}
+use mathlib.Core.Path.{_≡_, refl, sym, ap, _∙_}
 use Rattle.between_seek.proofs.heap_found.Statement.{statement}
 use Rattle.between_seek.proofs.heap_found.Tie as tie
 use Rattle.logic.specs.Search.{from, firstOf}

@@ -1,11 +1,7 @@
 -- Where there is none numbered as first named, there is none. Assumes nothing.
-use Prim.Native.Nat.{ℕ, _+_, _-_, _*_, _≤_, _<_}
-use native.Mathlib.Omega.{arith}
-use borrow.Author.Needs.{needs}
+use Prim.Native.Nat.{_-_}
 use borrow.Author.Tests.{not-true, not-false}
-use mathlib.Core.Path.{_≡_, refl, sym, ap, ap₂, _∙_, subst}
-use mathlib.Core.Bool.{Bool, true, false, not, _&&_}
-use Rattle.between_search.specs.Search.{entry}
+use mathlib.Core.Path.{sym, _∙_}
 use Rattle.between_seek.proofs.size_found.Statement.{statement}
 use Rattle.between_seek.proofs.size_found.Tie as tie
 use Rattle.between_seek.proofs.Laws.{size-none, size-some, kept, not-kept}

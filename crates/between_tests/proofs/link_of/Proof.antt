@@ -1,11 +1,6 @@
 -- A byte of the list. Assumes nothing.
-use Prim.Native.Nat.{ℕ, _+_, _-_, _*_, _/_, _%_, _≤_, _<_}
-use native.Mathlib.Omega.{arith}
+use Prim.Native.Nat.{_-_}
 use borrow.Author.Needs.{needs}
-use borrow.Author.Tests.{not-true, not-false, eq-eqb, ne-eqb}
-use mathlib.Core.Path.{_≡_, refl, sym, ap, ap₂, _∙_}
-use mathlib.Core.Bool.{Bool, true, false, not, cond, _&&_, _||_}
-use lib.Dec.{eqb}
 use Rattle.between_tests.proofs.link_of.Statement.{statement}
 use Rattle.between_tests.proofs.link_of.Tie as tie
 use Rattle.between_search.specs.Search.{entry}

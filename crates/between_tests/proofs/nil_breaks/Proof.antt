@@ -1,11 +1,8 @@
 -- Nil's link first, and then the other nil terms. Assumes nothing.
-use Prim.Native.Nat.{ℕ, _+_, _-_, _*_, _/_, _%_, _≤_, _<_}
+use Prim.Native.Nat.{_-_}
 use native.Mathlib.Omega.{arith}
-use borrow.Author.Needs.{needs}
-use borrow.Author.Tests.{not-true, not-false, eq-eqb, ne-eqb}
-use mathlib.Core.Path.{_≡_, refl, sym, ap, ap₂, _∙_}
-use mathlib.Core.Bool.{Bool, true, false, not, cond, _&&_, _||_}
-use lib.Dec.{eqb}
+use borrow.Author.Tests.{not-true, not-false}
+use mathlib.Core.Path.{sym, _∙_}
 use Rattle.between_tests.proofs.nil_breaks.Statement.{statement}
 use Rattle.between_tests.proofs.nil_breaks.Tie as tie
 use Rattle.between_tests.proofs.Laws.{no-nil, nil-moves, nil-stays}

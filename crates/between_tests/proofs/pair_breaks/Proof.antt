@@ -1,14 +1,12 @@
 -- A literal that is due has its terms chosen. Assumes nothing.
-use Prim.Native.Nat.{ℕ, _+_, _-_, _*_, _≤_, _<_}
+use Prim.Native.Nat.{ℕ, _-_}
 use native.Mathlib.Omega.{arith}
 use borrow.Author.Needs.{needs}
-use borrow.Author.Tests.{not-true, not-false, eq-eqb, ne-eqb}
-use mathlib.Core.Path.{_≡_, refl, sym, ap, ap₂, _∙_}
-use mathlib.Core.Bool.{Bool, true, false, not, _&&_, _||_}
-use lib.Dec.{eqb}
+use borrow.Author.Tests.{not-true, not-false}
+use mathlib.Core.Path.{sym, ap, ap₂, _∙_}
+use mathlib.Core.Bool.{Bool, not}
 use Rattle.between_tests.proofs.pair_breaks.Statement.{statement}
 use Rattle.between_tests.proofs.pair_breaks.Tie as tie
-use lib.ListN.{getD}
 use lib.Dec.{leb}
 use Rattle.between_search.specs.Search.{entry}
 use Rattle.between_search.specs.Tests.{steps, agrees, duePair}

@@ -1,16 +1,11 @@
 -- What is counted and what is left make the whole. Assumes nothing.
-use Prim.Native.Nat.{ℕ, _+_, _-_, _*_, _≤_, _<_}
+use Prim.Native.Nat.{_+_, _-_, _≤_}
 use native.Mathlib.Omega.{arith}
-use borrow.Author.Needs.{needs}
-use borrow.Author.Tests.{not-true, not-false, eq-eqb, ne-eqb}
-use mathlib.Core.Path.{_≡_, refl, sym, ap, ap₂, _∙_}
-use mathlib.Core.Bool.{Bool, true, false, not, _&&_, _||_}
-use lib.Dec.{eqb}
+use mathlib.Core.Path.{_≡_, sym, _∙_}
 use Rattle.between_tests.proofs.step_count.Statement.{statement}
 use Rattle.between_tests.proofs.step_count.Tie as tie
 use Rattle.between_search.specs.Tests.{stepCount, steps}
 use Rattle.between_search.specs.Search.{entry}
-use Rattle.between_tests.specs.Tables.{Small}
 use Rattle.between_tests.proofs.Laws.{steps-begin, steps-here, steps-next, steps-end}
 
 abbrev Inv-loop : tie.InvT-loop

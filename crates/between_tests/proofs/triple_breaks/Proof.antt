@@ -1,16 +1,15 @@
 -- A literal that is due has its terms chosen. Assumes nothing.
-use Prim.Native.Nat.{ℕ, _+_, _-_, _*_, _≤_, _<_}
+use Prim.Native.Nat.{ℕ, _-_}
 use native.Mathlib.Omega.{arith}
 use borrow.Author.Needs.{needs}
-use borrow.Author.Tests.{not-true, not-false, eq-eqb, ne-eqb}
-use mathlib.Core.Path.{_≡_, refl, sym, ap, ap₂, _∙_}
-use mathlib.Core.Bool.{Bool, true, false, not, _&&_, _||_}
+use borrow.Author.Tests.{not-true, not-false}
+use mathlib.Core.Path.{sym, ap, ap₂, _∙_}
+use mathlib.Core.Bool.{not, _&&_}
 use lib.Dec.{eqb}
 use Rattle.between_tests.proofs.triple_breaks.Statement.{statement}
 use Rattle.between_tests.proofs.triple_breaks.Tie as tie
-use lib.ListN.{getD}
 use lib.Dec.{leb}
-use Rattle.between_search.specs.Tests.{steps, agrees, dueTriple}
+use Rattle.between_search.specs.Tests.{steps, agrees}
 use Rattle.between_search.specs.Search.{entry}
 use Rattle.between_tests.proofs.Laws.{triple-from, triple-middle, triple-to, triple-not-due, triple-due}
 

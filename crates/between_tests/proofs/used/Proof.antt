@@ -1,14 +1,12 @@
 -- The count of the terms before. Assumes nothing.
-use Prim.Native.Nat.{ℕ, _+_, _-_, _*_, _/_, _%_, _≤_, _<_}
+use Prim.Native.Nat.{_-_, _≤_}
 use native.Mathlib.Omega.{arith}
 use borrow.Author.Needs.{needs}
-use borrow.Author.Tests.{not-true, not-false, eq-eqb, ne-eqb}
-use mathlib.Core.Path.{_≡_, refl, sym, ap, ap₂, _∙_}
-use mathlib.Core.Bool.{Bool, true, false, not, cond, _&&_, _||_}
-use lib.Dec.{eqb}
+use mathlib.Core.Path.{_≡_, ap, _∙_}
+use mathlib.Core.Bool.{Bool, cond}
 use Rattle.between_tests.proofs.used.Statement.{statement}
 use Rattle.between_tests.proofs.used.Tie as tie
-use Rattle.between_search.specs.Tests.{used, isFresh}
+use Rattle.between_search.specs.Tests.{used}
 use Rattle.between_search.specs.Search.{entry}
 use Rattle.between_tests.proofs.Laws.{used-none, used-more}
 

@@ -1,5 +1,4 @@
 -- Assumes nothing.
-use borrow.Author.Needs.{needs}
 use Rattle.check_printing.proofs.Reading.{not-left, not-taken, ends-not, ends-blank, ends-line}
 use Rattle.check_printing.proofs.ends_number.Statement.{statement}
 use Rattle.check_printing.proofs.ends_number.Tie as tie

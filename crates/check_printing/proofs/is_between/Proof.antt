@@ -1,5 +1,4 @@
 -- Assumes nothing.
-use borrow.Author.Needs.{needs}
 use Rattle.check_printing.proofs.Reading.{between-not, between-place}
 use Rattle.check_printing.proofs.is_between.Statement.{statement}
 use Rattle.check_printing.proofs.is_between.Tie as tie

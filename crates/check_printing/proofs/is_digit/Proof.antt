@@ -1,5 +1,4 @@
 -- Assumes nothing.
-use borrow.Author.Needs.{needs}
 use Rattle.check_printing.proofs.Reading.{digit-low, digit-test}
 use Rattle.check_printing.proofs.is_digit.Statement.{statement}
 use Rattle.check_printing.proofs.is_digit.Tie as tie

@@ -1,5 +1,4 @@
 -- Assumes nothing.
-use borrow.Author.Needs.{needs}
 use native.Mathlib.Omega.{arith}
 use Rattle.check_printing.proofs.Reading.{newline-is, newline-not}
 use Rattle.check_printing.proofs.newline.Statement.{statement}

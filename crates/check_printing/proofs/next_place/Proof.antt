@@ -1,5 +1,4 @@
 -- Assumes nothing.
-use borrow.Author.Needs.{needs}
 use native.Mathlib.Omega.{arith}
 use Rattle.check_printing.proofs.Reading.{place-on, place-back}
 use Rattle.check_printing.proofs.next_place.Statement.{statement}

@@ -2,7 +2,7 @@
 use borrow.Author.Needs.{needs}
 use Prim.Native.Nat.{_≤_, _-_}
 use native.Mathlib.Omega.{arith}
-use mathlib.Core.Path.{_≡_, refl, sym, _∙_}
+use mathlib.Core.Path.{refl, sym, _∙_}
 use lib.ListN.{length}
 use Rattle.text.proofs.Writing.{writes-length}
 use Rattle.check_printing.proofs.Reading.{not-left, not-taken, digit-range, digit-is, end-is, value-as, place-as, Scanned, scanned-none, scanned-digit, scanned-end, puts-big, puts-other, puts-open, puts-all}

@@ -1,6 +1,5 @@
 -- The query and what stands behind it among the bytes that are read. Assumes nothing.
 use borrow.Author.Needs.{needs}
-use native.Mathlib.Omega.{arith}
 use Rattle.text.proofs.Writing.{writes-as}
 use Rattle.check_printing.proofs.Answers.{input-read, size-is}
 use Rattle.check_printing.proofs.put_text.Statement.{statement}

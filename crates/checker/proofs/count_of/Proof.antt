@@ -1,7 +1,6 @@
 -- Two bytes. Assumes nothing.
 use Prim.Native.Nat.{ℕ, _+_, _*_}
 use native.Mathlib.Omega.{arith}
-use borrow.Author.Needs.{needs}
 use mathlib.Core.Path.{ap₂}
 use Rattle.checking.specs.CheckCall.{countIn}
 use Rattle.checker.proofs.count_of.Statement.{statement}

@@ -1,6 +1,5 @@
 -- The four bytes, where they stand. Assumes nothing.
 use native.Mathlib.Omega.{arith}
-use borrow.Author.Needs.{needs}
 use Rattle.checker.proofs.Lines.{join-past, join-there}
 use Rattle.checker.proofs.is_join.Statement.{statement}
 use Rattle.checker.proofs.is_join.Tie as tie

@@ -1,6 +1,5 @@
 -- Assumes nothing.
 use native.Mathlib.Omega.{arith}
-use borrow.Author.Needs.{needs}
 use Rattle.checker.proofs.Lines.{shape-short, shape-is}
 use Rattle.checker.proofs.is_shaped.Statement.{statement}
 use Rattle.checker.proofs.is_shaped.Tie as tie

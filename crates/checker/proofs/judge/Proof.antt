@@ -1,6 +1,5 @@
 -- The goal of the start, and then nothing. Assumes nothing.
 use native.Mathlib.Omega.{arith}
-use borrow.Author.Needs.{needs}
 use borrow.Author.Tests.{not-true, not-false}
 use mathlib.Core.Path.{sym, _∙_, subst}
 use Rattle.facts.specs.Pairs.{joinedOf, Fits}

@@ -1,7 +1,6 @@
 -- The rows of link k, where there are any. Assumes nothing.
 use borrow.Author.Needs.{needs}
 use borrow.Author.Tests.{eq-eqb, ne-eqb}
-use mathlib.Core.Path.{_∙_}
 use Rattle.clash.specs.Sections.{rowsOf}
 use Rattle.clash.proofs.reaches_by.Statement.{statement}
 use Rattle.clash.proofs.reaches_by.Tie as tie

@@ -2,8 +2,8 @@
 use Prim.Native.Nat.{ℕ, _-_, _≤_, _<_}
 use native.Mathlib.Omega.{arith}
 use borrow.Author.Needs.{needs}
-use mathlib.Core.Path.{_≡_, refl, sym, _∙_}
-use lib.ListN.{length, length-set, getD}
+use mathlib.Core.Path.{_≡_, refl}
+use lib.ListN.{length, length-set}
 use Rattle.logic.specs.Search.{_and_, _or_}
 use Rattle.facts.specs.Square.{square}
 use Rattle.closing.proofs.Rows.{through-more, through-left, through-all, through-none}

@@ -1,9 +1,8 @@
 -- What is left to search equals the whole. Assumes nothing.
 use Prim.Native.Nat.{_+_, _-_}
 use native.Mathlib.Omega.{arith}
-use mathlib.Core.Path.{_≡_, refl, sym, ap₂, _∙_}
-use mathlib.Core.Bool.{not}
-use Rattle.logic.specs.Search.{_and_, from, find}
+use mathlib.Core.Path.{_≡_, refl, sym, _∙_}
+use Rattle.logic.specs.Search.{from, find}
 use Rattle.facts.proofs.Loops.{find-end, find-here, find-next}
 use Rattle.completion.specs.Links.{linkOf, reachIn, beginsWithout}
 use Rattle.completion.proofs.other_path.Statement.{statement}

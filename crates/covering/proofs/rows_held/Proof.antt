@@ -1,10 +1,9 @@
 -- Row by row. Assumes nothing.
-use borrow.Author.Needs.{needs}
 use Prim.Native.Nat.{ℕ, _-_, _≤_}
 use native.Mathlib.Omega.{arith}
-use mathlib.Core.Path.{_≡_, sym, refl, _∙_}
+use mathlib.Core.Path.{_≡_, refl}
 use mathlib.Core.Bool.{true, false≢true}
-use borrow.Author.Tests.{not-true, not-false}
+use borrow.Author.Tests.{not-false}
 use Rattle.facts.specs.Square.{square}
 use Rattle.facts.specs.Path.{repOf}
 use Rattle.covering.proofs.Held.{Below, below-none, below-more, below-all, rows-held}

@@ -1,6 +1,5 @@
 -- What the strategies find out, or else plain steps without a limit. Assumes nothing.
 use borrow.Author.Needs.{needs}
-use mathlib.Core.Path.{refl}
 use Rattle.theory.proofs.Calls.Decision.{reachable-known}
 use Rattle.decide.proofs.Ended.{decides-open, decides-refuted, decides-walked}
 use Rattle.decide.proofs.has_heap.Statement.{statement}
@@ -27,4 +26,4 @@ has-heap-spec =
     -- returns-2
     (λ c. decides-refuted _ _ _ (c .before .before .before .in-turn .ensures) (c .enum-told2 .given .1) _)
     -- returns-3
-    (λ c. decides-walked _ (c .before .before .before .before .before .before .before .before .pre .1) (c .before .before .before .before .before .before .before .before .args .order .now) (c .before .before .before .before .before .before .before .before .pre .2) _ (c .before .before .before .before .before .before .before .before .pre .3) (c .before .before .before .before .before .before .before .before .pre .4) _ (c .before .plain .ensures) _ (c .is-refuted .ensures)))
+    (λ c. decides-walked _ (c .before .before .before .before .before .before .before .before .pre .1) (c .before .before .before .before .before .before .before .before .args .order .now) (c .before .before .before .before .before .before .before .before .pre .2) _ (c .before .before .before .before .before .before .before .before .pre .3) (c .before .before .before .before .before .before .before .before .pre .4) _ _ (c .before .plain .ensures) _ (c .is-refuted .ensures)))

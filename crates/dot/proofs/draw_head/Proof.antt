@@ -2,7 +2,7 @@
 use Prim.Native.Nat.{ℕ}
 use borrow.Author.Needs.{needs}
 use mathlib.Core.Path.{ap}
-use mathlib.Core.List.{List, _++_}
+use mathlib.Core.List.{_++_}
 use Rattle.text.specs.Text.{decimal}
 use Rattle.text.proofs.Writing.{writes-as}
 use Rattle.drawing.specs.Text.{opening, commentOpen, newline, commentLine}

@@ -24,7 +24,7 @@ use types.Tokens.{lft-new, lft-end}
 use sound.WpLaws.{FmC, fmOf, WpFn-mono}
 use denote.RattleType.{owns}
 use denote.Laws.{Is, shows}
-use denote.Plain.{uint-makes, uint-vals, uint-tells, uint-lawful}
+use denote.Plain.{uint-makes, uint-lawful}
 use denote.Builtin.{u8, usize}
 use denote.Ref.{RefT, NamedLft}
 use denote.Slice.{sliceVal, MutSlice, ShrSlice, Room, slice-vals, shr-slice-tells, shr-slice-copy, shr-slice-lawful}

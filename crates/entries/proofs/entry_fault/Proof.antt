@@ -3,7 +3,7 @@ use native.Mathlib.Omega.{arith}
 use borrow.Author.Needs.{needs}
 use mathlib.Core.Path.{sym, _∙_}
 use Rattle.logic.specs.Query.{termRole, numberRole}
-use Rattle.entries.specs.Entries.{countedRole}
+use Rattle.byte_tests.specs.Meets.{countedRole}
 use Rattle.entries.proofs.Faults.{term-roles, flag-roles, literal-roles, linked-term-roles, linked-pair-roles}
 use Rattle.entries.proofs.entry_fault.Statement.{statement}
 use Rattle.entries.proofs.entry_fault.Tie as tie

@@ -3,7 +3,8 @@ use native.Mathlib.Omega.{arith}
 use borrow.Author.Needs.{needs}
 use mathlib.Core.Path.{sym, ap, _∙_}
 use Rattle.logic.specs.Query.{termRole}
-use Rattle.entries.specs.Entries.{countedRole, foundOf}
+use Rattle.byte_tests.specs.Meets.{countedRole}
+use Rattle.entries.specs.Entries.{foundOf}
 use Rattle.entries.proofs.Faults.{tested, orElse-some, orElse-next, fault-at, no-fault-at}
 use Rattle.entries.proofs.literal_fault.Statement.{statement}
 use Rattle.entries.proofs.literal_fault.Tie as tie

@@ -1,7 +1,6 @@
 -- After z rows, those are told. Assumes nothing.
 use Prim.Native.Nat.{_-_, _≤_}
 use native.Mathlib.Omega.{arith}
-use borrow.Author.Needs.{needs}
 use mathlib.Core.Path.{_≡_}
 use Rattle.facts.specs.Bits.{bit}
 use Rattle.facts.specs.Square.{square}

@@ -1,5 +1,4 @@
 -- Each return under its test. Assumes nothing.
-use mathlib.Core.Path.{refl}
 use borrow.Author.Tests.{eq-eqb, ne-eqb}
 use Rattle.facts.proofs.renamed.Statement.{statement}
 use Rattle.facts.proofs.renamed.Tie as tie

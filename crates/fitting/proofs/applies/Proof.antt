@@ -1,15 +1,15 @@
 -- CYCLE or another rule. Assumes nothing.
 use native.Mathlib.Omega.{arith}
 use borrow.Author.Needs.{needs}
-use mathlib.Core.Path.{refl, sym, ap, _∙_}
+use mathlib.Core.Path.{sym, ap, _∙_}
 use Rattle.logic.specs.Facts.{live}
 use Rattle.logic.specs.Rules.{Rule, triple, move}
 use Rattle.facts.specs.Path.{pathOf, graphs, graphOf, HasLink}
 use Rattle.facts.specs.declared.Facts as code
 use Rattle.facts.proofs.Path.{links-few}
-use Rattle.rules.proofs.Nested.{applies-allowed}
+use Rattle.rules.proofs.Halves.{applies-allowed}
 use Rattle.rules.specs.Answers.{kindOf}
-use Rattle.rules.specs.Smallest.{allowed}
+use Rattle.rules.specs.Allowed.{allowed}
 use Rattle.fitting.proofs.Laws.{not-looped, applies-halves}
 use Rattle.fitting.proofs.applies.Statement.{statement}
 use Rattle.fitting.proofs.applies.Tie as tie

@@ -1,6 +1,5 @@
 -- Its place is looked at first. Assumes nothing.
 use native.Mathlib.Omega.{arith}
-use borrow.Author.Needs.{needs}
 use mathlib.Core.Path.{sym, _∙_}
 use Rattle.query.proofs.Literals.{literals-are}
 use Rattle.fitting.proofs.Clashes.{negated-none, negated-past, negated-here}

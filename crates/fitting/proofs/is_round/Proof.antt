@@ -4,7 +4,7 @@ use borrow.Author.Needs.{needs}
 use borrow.Author.Tests.{not-true, not-false}
 use mathlib.Core.Path.{sym, _∙_}
 use Rattle.facts.specs.Path.{linksIn}
-use Rattle.rules.proofs.Around.{next-le}
+use Rattle.link_steps.proofs.Around.{next-le}
 use Rattle.fitting.proofs.Laws.{square-within, round-unreached, round-none, round-other, round-found}
 use Rattle.fitting.proofs.is_round.Statement.{statement}
 use Rattle.fitting.proofs.is_round.Tie as tie

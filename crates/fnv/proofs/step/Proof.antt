@@ -1,7 +1,5 @@
 -- Assumes nothing.
-use Prim.Native.Nat.{ℕ}
 use borrow.Author.Needs.{needs}
-use mathlib.Core.Path.{ap, _∙_}
 use Rattle.fnv.proofs.Marks.{step-marks}
 use Rattle.fnv.proofs.step.Statement.{statement}
 use Rattle.fnv.proofs.step.Tie as tie

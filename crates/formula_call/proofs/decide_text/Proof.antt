@@ -1,11 +1,11 @@
 -- The text is read, its conjunctions are counted, and then decided. Assumes nothing.
-use Prim.Native.Nat.{ℕ, _+_, _-_, _*_, _≤_, _<_}
+use Prim.Native.Nat.{ℕ, _-_, _≤_}
 use native.Mathlib.Omega.{arith}
 use borrow.Author.Needs.{needs}
-use mathlib.Core.Path.{_≡_, refl, sym, ap, _∙_, subst}
+use mathlib.Core.Path.{_≡_, subst}
 use mathlib.Core.Bool.{Bool}
-use mathlib.Core.List.{List, [], _∷_}
-use lib.ListN.{length, drop, replicate, length-replicate}
+use mathlib.Core.List.{[], _∷_}
+use lib.ListN.{drop, replicate, length-replicate}
 use Rattle.logic.specs.Query.{decode}
 use Rattle.formula.specs.Grammar.{Letter}
 use Rattle.formula.specs.Meaning.{present}

@@ -2,12 +2,10 @@
 use Prim.Native.Nat.{ℕ, _≤_, _<_}
 use borrow.Author.Needs.{needs}
 use borrow.Author.Tests.{not-true, not-false}
-use mathlib.Core.Path.{_≡_, refl, sym, ap, _∙_, subst}
+use mathlib.Core.Path.{sym, _∙_, subst}
 use lib.ListN.{length}
 use Rattle.query.specs.Answers.{CheckedAs}
 use Rattle.query.specs.declared.Checked.{Checked}
-use Rattle.formula_call.specs.FormulaPromise.{formulaInput, DoesFormula}
-use Rattle.formula.specs.Call.{Input, textOutcome}
 use Rattle.prover.proofs.Answers.{blank-again, blank-long}
 use Rattle.formula_call.proofs.FormulaLaws.{formula-order, formula-query, formula-room, formula-text, text-room}
 use Rattle.formula_call.proofs.formula.Statement.{statement}

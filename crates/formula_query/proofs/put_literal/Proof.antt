@@ -1,7 +1,7 @@
 -- Three bytes. Assumes nothing.
 use native.Mathlib.Omega.{arith}
 use borrow.Author.Needs.{needs}
-use mathlib.Core.Path.{_≡_, refl, sym, _∙_}
+use mathlib.Core.Path.{_∙_}
 use Rattle.text.proofs.Writing.{writes-as, writes-then, writes-length}
 use Rattle.formula_query.proofs.Laws.{literal-bytes}
 use Rattle.formula_query.proofs.put_literal.Statement.{statement}

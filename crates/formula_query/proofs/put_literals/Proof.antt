@@ -1,10 +1,7 @@
 -- What is written so far, with what is left, is the whole. Assumes nothing.
-use Prim.Native.Nat.{ℕ, _+_, _-_, _*_, _≤_}
+use Prim.Native.Nat.{_+_, _-_, _*_, _≤_}
 use native.Mathlib.Omega.{arith}
-use borrow.Author.Needs.{needs}
-use mathlib.Core.Path.{_≡_, refl, sym, ap, _∙_}
-use mathlib.Core.List.{List, [], _∷_, _++_}
-use lib.ListN.{length}
+use mathlib.Core.Path.{refl, _∙_}
 use Rattle.query.specs.LaysOut.{literalIn}
 use Rattle.query.proofs.Literals.{literals-are}
 use Rattle.formula_query.specs.Kept.{mark}

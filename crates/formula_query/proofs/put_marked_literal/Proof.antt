@@ -1,8 +1,7 @@
 -- A literal that is not marked is passed over. Assumes nothing.
 use native.Mathlib.Omega.{arith}
-use borrow.Author.Needs.{needs}
 use borrow.Author.Tests.{not-true, not-false}
-use mathlib.Core.Path.{refl, sym, _∙_}
+use mathlib.Core.Path.{sym, _∙_}
 use Rattle.text.proofs.Writing.{writes-none, writes-as, writes-length}
 use Rattle.formula_query.proofs.Laws.{put-none, put-some}
 use Rattle.formula_query.proofs.put_marked_literal.Statement.{statement}

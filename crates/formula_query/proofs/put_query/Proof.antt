@@ -1,9 +1,8 @@
 -- Terms, and the literals that are marked of each section.  Assumes nothing.
-use Prim.Native.Nat.{ℕ, _+_, _-_, _*_, _≤_}
+use Prim.Native.Nat.{_-_}
 use native.Mathlib.Omega.{arith}
-use borrow.Author.Needs.{needs}
-use mathlib.Core.Path.{_≡_, refl, sym, ap, _∙_}
-use lib.ListN.{length, take, drop, length-take, length-drop}
+use mathlib.Core.Path.{_∙_}
+use lib.ListN.{drop}
 use Rattle.text.proofs.Writing.{writes-as, writes-then, writes-length}
 use Rattle.formula_query.proofs.Laws.{whole-bytes, terms-bound}
 use Rattle.formula_query.proofs.put_query.Statement.{statement}

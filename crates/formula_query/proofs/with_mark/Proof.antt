@@ -1,7 +1,7 @@
 -- By cases. Assumes nothing.
 use native.Mathlib.Omega.{arith}
-use mathlib.Core.Path.{_≡_, refl, sym, ap}
-use Prim.Native.Nat.{ℕ, _+_}
+use mathlib.Core.Path.{sym, ap}
+use Prim.Native.Nat.{_+_}
 use mathlib.Core.Bool.{Bool, cond}
 use Rattle.formula_query.proofs.with_mark.Statement.{statement}
 use Rattle.formula_query.proofs.with_mark.Tie as tie

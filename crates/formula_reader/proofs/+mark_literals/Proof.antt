@@ -1,8 +1,8 @@
 -- By the kind of a node: its own mark, or those of its sides. Assumes nothing.
 use Prim.Native.Nat.{ℕ, _<_}
 use native.Mathlib.Omega.{arith}
-use mathlib.Core.Path.{_≡_, _∙_}
-use lib.ListN.{length, length-set}
+use mathlib.Core.Path.{_∙_}
+use lib.ListN.{length-set}
 use borrow.Author.Needs.{needs}
 use Rattle.formula_reader.proofs.Picking.{at-both, at-either, leaf-inside, leaf-marks, divides, left-at, right-at, both-at, first-at, second-at, first-picked, second-picked}
 use borrow.Fn.Kinds.{In}

@@ -1,13 +1,13 @@
 -- Readers for or, and, item: what is left of the text falls, and from an or to an and to an item. Assumes nothing.
 use Prim.Native.Nat.{ℕ, _+_, _-_, _*_, _<_}
 use native.Mathlib.Omega.{arith}
-use mathlib.Core.Path.{_≡_, refl, sym, ap, _∙_, subst}
-use lib.ListN.{length, getD, drop}
+use mathlib.Core.Path.{sym, _∙_, subst}
+use lib.ListN.{length, getD}
 use borrow.Author.Needs.{needs}
 use borrow.Author.Tests.{not-true, not-false}
 use Rattle.formula.specs.Grammar.{both, either, disjunction, conjunction, item}
 use Rattle.formula.specs.Reader.{mark}
-use Rattle.formula_reader.specs.Answers.{Ranged, ReadAs, ClosedAs, StartsAs}
+use Rattle.formula_reader.specs.Answers.{Ranged, ReadAs, StartsAs}
 use Rattle.formula_reader.specs.declared.Found.{Found}
 use Rattle.formula_reader.specs.declared.Start.{Start}
 use Rattle.formula_reader.proofs.Readers.{stands-inside, first-refused, alone, second-refused, both-read, or-step, or-fewer, or-later, or-some, and-step, and-fewer, and-later, and-some, last-fits, grown-joined, either-joined, both-joined, item-end, item-nothing, item-name, item-deep, inner-refused, inner-closed, grown-closed, inside, positive, code-small, ranged-from}

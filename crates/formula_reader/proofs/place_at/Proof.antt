@@ -3,7 +3,6 @@ use Prim.Native.Nat.{ℕ, _+_, _-_, _≤_}
 use native.Mathlib.Omega.{arith}
 use mathlib.Core.Path.{_≡_, refl, sym, ap, _∙_}
 use lib.ListN.{length, drop}
-use lib.Dec.{lit≤}
 use Rattle.formula.specs.Grammar.{shown}
 use Rattle.formula.specs.Places.{digitsAt}
 use Rattle.formula_reader.specs.Answers.{saturated}

@@ -1,10 +1,8 @@
 -- Counts are at most 65. Assumes nothing.
 use native.Mathlib.Omega.{arith}
 use borrow.Author.Needs.{needs}
-use mathlib.Core.Path.{_≡_, ap, ap₂, _∙_}
-use Prim.Native.Nat.{ℕ, _+_, _*_, _≤_}
-use native.Mathlib.Nat.{mul-le-mul, lt-of-le-of-lt}
-use lib.Dec.{lit<}
+use mathlib.Core.Path.{ap, ap₂, _∙_}
+use Prim.Native.Nat.{ℕ, _+_}
 use Rattle.formula_reader.specs.Tree.{putNode, capped}
 use Rattle.formula_reader.proofs.put_either.Statement.{statement}
 use Rattle.formula_reader.proofs.put_either.Tie as tie

@@ -1,9 +1,8 @@
 -- The parts over their greatest common divisor. Assumes nothing.
-use Prim.Native.Nat.{_/_, _≤_}
+use Prim.Native.Nat.{_/_}
 use native.Mathlib.Omega.{arith}
 use native.Mathlib.Nat.{div-le-self}
 use borrow.Author.Needs.{needs}
-use mathlib.Core.Path.{_≡_}
 use Rattle.text.proofs.Writing.{writes-as, writes-then}
 use Rattle.text.proofs.Digits.{decimal-machine}
 use Rattle.fractions.proofs.Shares.{divisor-positive, share-words, none-words}

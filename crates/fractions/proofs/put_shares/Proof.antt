@@ -1,11 +1,11 @@
 -- The shares from k on are left. Assumes nothing.
-use Prim.Native.Nat.{_+_, _-_, _*_, _≤_}
+use Prim.Native.Nat.{_-_, _*_, _≤_}
 use native.Mathlib.Omega.{arith}
 use borrow.Author.Needs.{needs}
-use mathlib.Core.Path.{_≡_, refl, ap, _∙_}
-use lib.ListN.{length, getD}
+use mathlib.Core.Path.{_≡_}
+use lib.ListN.{length}
 use Rattle.text.proofs.Writing.{Part, part-from, part-more, part-all, part-length, writes-as}
-use Rattle.fractions.specs.Fractions.{totalOf, fractionText, share, sharesText}
+use Rattle.fractions.specs.Fractions.{totalOf, sharesText}
 use Rattle.fractions.proofs.Shares.{sharesLeft, shares-whole, shares-next, shares-end, part-at-most, share-as}
 use Rattle.fractions.proofs.put_shares.Statement.{statement}
 use Rattle.fractions.proofs.put_shares.Tie as tie

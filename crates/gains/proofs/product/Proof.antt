@@ -1,7 +1,6 @@
 -- Neither factor is above 100,000. Assumes nothing.
 use native.Mathlib.Omega.{arith}
 use native.Mathlib.Nat.{mul-le-mul}
-use borrow.Author.Needs.{needs}
 use Rattle.gains.proofs.product.Statement.{statement}
 use Rattle.gains.proofs.product.Tie as tie
 

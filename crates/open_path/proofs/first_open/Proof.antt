@@ -2,7 +2,7 @@
 use borrow.Author.Needs.{needs}
 use Prim.Native.Nat.{ℕ, _+_, _-_, _≤_, _<_}
 use native.Mathlib.Omega.{arith}
-use mathlib.Core.Path.{_≡_, refl, sym, subst}
+use mathlib.Core.Path.{refl, sym, subst}
 use Rattle.logic.specs.Rules.{triple, move}
 use Rattle.logic.specs.Decision.{Struck}
 use Rattle.link_query.specs.Said.{said}

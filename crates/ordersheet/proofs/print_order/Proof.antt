@@ -1,5 +1,5 @@
 -- Assumes nothing.
-use Prim.Native.Nat.{_≤_, _-_, _+_}
+use Prim.Native.Nat.{_≤_, _-_}
 use borrow.Author.Needs.{needs}
 use Rattle.ordersheet.proofs.print_order.Statement.{statement}
 use Rattle.ordersheet.proofs.print_order.Tie as tie

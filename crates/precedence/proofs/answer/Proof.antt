@@ -1,7 +1,5 @@
 -- The order list where all rules were placed, else the ring. Assumes nothing.
-use native.Mathlib.Omega.{arith}
 use borrow.Author.Needs.{needs}
-use mathlib.Core.Path.{_≡_, refl, sym, ap, _∙_}
 use Rattle.precedence.proofs.Answered.{grown-some, grown-none, order-size, does-order, does-ring}
 use Rattle.precedence.proofs.answer.Statement.{statement}
 use Rattle.precedence.proofs.answer.Tie as tie

@@ -1,6 +1,5 @@
 -- A byte fits. Assumes nothing.
 use native.Mathlib.Omega.{arith}
-use borrow.Author.Needs.{needs}
 use mathlib.Core.Path.{refl, sym}
 use Rattle.precedence.proofs.Sheets.{laid-length}
 use Rattle.precedence.proofs.count.Statement.{statement}

@@ -1,8 +1,6 @@
 -- The numbers written and those left to follow make the ring. Assumes nothing.
-use Prim.Native.Nat.{_-_, _≤_}
+use Prim.Native.Nat.{_-_}
 use native.Mathlib.Omega.{arith}
-use borrow.Author.Needs.{needs}
-use mathlib.Core.Path.{_≡_, refl, sym, ap, _∙_}
 use Rattle.precedence.specs.Sheet.{pairs}
 use Rattle.precedence.proofs.Turns.{Followed, followed-start, followed-turn, followed-end}
 use Rattle.precedence.proofs.follow_ring.Statement.{statement}

@@ -1,6 +1,5 @@
 -- The mark of a. Assumes nothing.
 use native.Mathlib.Omega.{arith}
-use borrow.Author.Needs.{needs}
 use Rattle.precedence.proofs.is_led.Statement.{statement}
 use Rattle.precedence.proofs.is_led.Tie as tie
 

@@ -1,5 +1,4 @@
 -- A pair to r, and the way from there. Assumes nothing.
-use borrow.Author.Needs.{needs}
 use borrow.Author.Tests.{not-true, not-false}
 use mathlib.Core.Path.{sym, _∙_}
 use Rattle.precedence.proofs.Turns.{onward-not, onward-is}

@@ -1,13 +1,13 @@
 -- What is left of the pairs answers for all. Assumes nothing.
-use Prim.Native.Nat.{_-_, _≤_}
+use Prim.Native.Nat.{_-_}
 use native.Mathlib.Omega.{arith}
 use borrow.Author.Needs.{needs}
-use mathlib.Core.Path.{_≡_, refl, sym, ap, ap₂, _∙_}
+use mathlib.Core.Path.{_≡_, sym, ap₂, _∙_}
 use mathlib.Core.Bool.{_&&_}
 use lib.Dec.{eqb}
 use Rattle.logic.specs.Search.{from, any}
 use Rattle.facts.proofs.Selections.{any-end, any-here, any-next}
-use Rattle.precedence.specs.Sheet.{countOf, pairs, paired}
+use Rattle.precedence.specs.Sheet.{pairs, paired}
 use Rattle.precedence.proofs.Turns.{joins, paired-pairs}
 use Rattle.precedence.proofs.is_paired.Statement.{statement}
 use Rattle.precedence.proofs.is_paired.Tie as tie

@@ -1,5 +1,4 @@
 -- Not placed, and not held back. Assumes nothing.
-use borrow.Author.Needs.{needs}
 use mathlib.Core.Path.{sym, _∙_}
 use Rattle.precedence.proofs.Turns.{ready-placed, ready-free}
 use Rattle.precedence.proofs.is_ready.Statement.{statement}

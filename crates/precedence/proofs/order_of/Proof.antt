@@ -1,9 +1,8 @@
 -- The checks in their order, and then the answer in a blank buffer. Assumes nothing.
 use Prim.Native.Nat.{ℕ, _≤_, _<_}
-use native.Mathlib.Omega.{arith}
 use borrow.Author.Needs.{needs}
 use borrow.Author.Tests.{not-true, not-false}
-use mathlib.Core.Path.{_≡_, refl, sym, ap, subst, _∙_}
+use mathlib.Core.Path.{sym, subst, _∙_}
 use lib.ListN.{length}
 use Rattle.precedence.specs.Sheet.{pairs}
 use Rattle.precedence.specs.Calls.{answered}

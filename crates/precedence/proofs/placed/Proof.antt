@@ -1,9 +1,9 @@
 -- What is left of the first n numbers answers for them. Assumes nothing.
-use Prim.Native.Nat.{_-_, _≤_}
+use Prim.Native.Nat.{_-_}
 use native.Mathlib.Omega.{arith}
 use borrow.Author.Needs.{needs}
 use mathlib.Core.Path.{_≡_, refl, sym, _∙_}
-use lib.ListN.{length, take, drop}
+use lib.ListN.{take, drop}
 use lib.Dec.{eqb}
 use Rattle.logic.specs.Search.{any}
 use Rattle.precedence.proofs.Turns.{placed-end, placed-here, placed-next}

@@ -1,10 +1,7 @@
 -- After j steps back the marks are what j pairs lead from. Assumes nothing.
 use Prim.Native.Nat.{_-_, _≤_}
 use native.Mathlib.Omega.{arith}
-use borrow.Author.Needs.{needs}
-use mathlib.Core.Path.{_≡_, refl, sym, ap, _∙_}
-use Rattle.precedence.specs.Sheet.{pairs}
-use Rattle.precedence.specs.Finding.{leads}
+use mathlib.Core.Path.{_≡_}
 use Rattle.precedence.proofs.Turns.{Row, row-start, row-turn}
 use Rattle.precedence.proofs.row_to.Statement.{statement}
 use Rattle.precedence.proofs.row_to.Tie as tie

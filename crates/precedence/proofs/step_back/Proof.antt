@@ -1,8 +1,7 @@
 -- The marks so far and the pairs left make the whole. Assumes nothing.
-use Prim.Native.Nat.{_-_, _≤_}
+use Prim.Native.Nat.{_-_}
 use native.Mathlib.Omega.{arith}
-use borrow.Author.Needs.{needs}
-use mathlib.Core.Path.{_≡_, refl, sym, ap, _∙_}
+use mathlib.Core.Path.{_≡_, refl}
 use lib.ListN.{length, length-set}
 use Rattle.precedence.specs.Sheet.{countOf}
 use Rattle.precedence.proofs.Sheets.{pair-small}

@@ -4,7 +4,7 @@ use mathlib.Core.Path.{sym, subst}
 use mathlib.Core.Bool.{Bool}
 use Rattle.link_query.specs.Answers.{CheckedBy}
 use Rattle.link_query.proofs.Accepted.{one-checked}
-use Rattle.prover.specs.Promise.{formOf}
+use Rattle.call_limits.specs.Forms.{formOf}
 use Rattle.prover.proofs.checked.Statement.{statement}
 use Rattle.prover.proofs.checked.Tie as tie
 

@@ -1,6 +1,4 @@
 -- What is settled of the start is how our walk ends. Assumes nothing.
-use native.Mathlib.Omega.{arith}
-use borrow.Author.Needs.{needs}
 use mathlib.Core.Path.{sym}
 use Rattle.facts.specs.Pairs.{joinedOf}
 use Rattle.link_query.proofs.Said.{terms-said}

@@ -4,9 +4,9 @@ use native.Mathlib.Omega.{arith}
 use borrow.Author.Needs.{needs}
 use mathlib.Core.Path.{sym, _∙_}
 use Rattle.facts.specs.Path.{pathOf}
-use Rattle.report.specs.Nodes.{marked}
+use Rattle.heap_nodes.specs.Nodes.{marked}
 use Rattle.report.specs.Bytes.{successorsAmong}
-use Rattle.report.proofs.Nodes.{numbers-below}
+use Rattle.heap_nodes.proofs.Nodes.{numbers-below}
 use Rattle.report.proofs.Successors.{PutRows, rows-none, rows-room, rows-here, rows-all, successors-are, successors-length}
 use Rattle.report.proofs.put_successors.Statement.{statement}
 use Rattle.report.proofs.put_successors.Tie as tie

@@ -5,8 +5,8 @@ use borrow.Author.Tests.{lt-ltb}
 use mathlib.Core.Path.{refl}
 use lib.ListN.{getD}
 use lib.Dec.{ltb}
-use Rattle.report.proofs.Nodes.{every-selected, every-length}
-use Rattle.report.proofs.Writing.{Put, put-none, put-room, put-skip, put-here, put-all}
+use Rattle.heap_nodes.proofs.Nodes.{every-selected, every-length}
+use Rattle.heap_nodes.proofs.Writing.{Put, put-none, put-room, put-skip, put-here, put-all}
 use Rattle.report.proofs.put_terms.Statement.{statement}
 use Rattle.report.proofs.put_terms.Tie as tie
 

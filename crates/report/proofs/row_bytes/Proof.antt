@@ -6,7 +6,7 @@ use mathlib.Core.Path.{_≡_}
 use lib.ListN.{length, getD, length-set}
 use Rattle.logic.specs.Shown.{byteOf}
 use Rattle.facts.specs.Square.{square}
-use Rattle.report.proofs.Writing.{filled-more}
+use Rattle.heap_nodes.proofs.Writing.{filled-more}
 use Rattle.report.proofs.row_bytes.Statement.{statement}
 use Rattle.report.proofs.row_bytes.Tie as tie
 

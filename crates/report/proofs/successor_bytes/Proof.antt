@@ -4,7 +4,7 @@ use borrow.Author.Needs.{needs}
 use Prim.Native.Nat.{ℕ}
 use mathlib.Core.Path.{ap, _∙_}
 use Rattle.facts.specs.Path.{pathOf}
-use Rattle.report.specs.Nodes.{nodeOf}
+use Rattle.heap_nodes.specs.Nodes.{nodeOf}
 use Rattle.completion.proofs.Completing.{shown-below}
 use Rattle.report.proofs.successor_bytes.Statement.{statement}
 use Rattle.report.proofs.successor_bytes.Tie as tie

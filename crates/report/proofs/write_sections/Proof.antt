@@ -4,7 +4,7 @@ use borrow.Author.Needs.{needs}
 use mathlib.Core.Path.{ap, sym, _∙_}
 use lib.ListN.{getD}
 use Rattle.facts.specs.Path.{pathOf}
-use Rattle.report.specs.Nodes.{marked}
+use Rattle.heap_nodes.specs.Nodes.{marked}
 use Rattle.report.specs.Bytes.{allSuccessors}
 use Rattle.report.proofs.Report.{sections-written, successors-counted}
 use Rattle.report.proofs.write_sections.Statement.{statement}

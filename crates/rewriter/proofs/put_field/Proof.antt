@@ -1,6 +1,6 @@
 -- One byte behind the other. Assumes nothing.
 use borrow.Author.Needs.{needs}
-use Rattle.text.proofs.Writing.{writes-then, writes-length}
+use Rattle.text.proofs.Writing.{writes-then}
 use Rattle.rewriter.proofs.put_field.Statement.{statement}
 use Rattle.rewriter.proofs.put_field.Tie as tie
 

@@ -1,7 +1,6 @@
 -- The booleans from k on are left. Assumes nothing.
 use Prim.Native.Nat.{_+_, _-_, _*_, _≤_}
 use native.Mathlib.Omega.{arith}
-use borrow.Author.Needs.{needs}
 use mathlib.Core.Path.{_≡_}
 use Rattle.text.proofs.Writing.{Part, part-from, part-more, part-all, part-length}
 use Rattle.rewriter.specs.Bytes.{fieldBytes}

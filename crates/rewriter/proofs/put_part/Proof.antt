@@ -1,5 +1,4 @@
 -- The part of the query, as one text. Assumes nothing.
-use native.Mathlib.Omega.{arith}
 use borrow.Author.Needs.{needs}
 use Rattle.rewriter.specs.Bytes.{cut}
 use Rattle.rewriter.proofs.put_part.Statement.{statement}

@@ -1,7 +1,6 @@
 -- One section behind the other. Assumes nothing.
-use Prim.Native.Nat.{_+_, _-_, _*_, _≤_}
+use Prim.Native.Nat.{_+_, _-_}
 use native.Mathlib.Omega.{arith}
-use borrow.Author.Needs.{needs}
 use Rattle.text.proofs.Writing.{writes-then, writes-length}
 use Rattle.rewriter.specs.Bytes.{rewrittenBytes}
 use Rattle.rewriter.proofs.Loops.{cut-long, terms-long}

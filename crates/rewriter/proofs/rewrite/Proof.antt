@@ -1,5 +1,4 @@
 -- The checks in their order, and then the rewriting. Assumes nothing.
-use native.Mathlib.Omega.{arith}
 use borrow.Author.Needs.{needs}
 use mathlib.Core.Path.{subst}
 use lib.ListN.{length}

@@ -1,7 +1,5 @@
 -- A copy, or no room, or the rewritten query. Assumes nothing.
-use Prim.Native.Nat.{_+_, _*_, _≤_, _<_}
 use native.Mathlib.Omega.{arith}
-use borrow.Author.Needs.{needs}
 use lib.ListN.{length}
 use Rattle.text.proofs.Writing.{writes-length}
 use Rattle.rewriter.proofs.Written.{bytes-long, bytes-low}

@@ -1,5 +1,5 @@
 -- Each number is its rule's. Assumes nothing.
-use mathlib.Core.Path.{_≡_, refl, sym}
+use mathlib.Core.Path.{sym}
 use borrow.Author.Tests.{ne-eqb}
 use Rattle.logic.specs.Search.{keep, orElse, firstOf, find}
 use Rattle.logic.specs.Rules.{ruleNumber, rules, ruleOf}

@@ -1,6 +1,5 @@
 -- Assumes nothing.
 use Prim.Native.Nat.{_-_, _≤_}
-use native.Mathlib.Omega.{arith}
 use borrow.Author.Needs.{needs}
 use Rattle.share_limits.proofs.print_step.Statement.{statement}
 use Rattle.share_limits.proofs.print_step.Tie as tie

@@ -1,6 +1,6 @@
 -- The bytes from `to + i` on are as they were. Assumes nothing.
 use borrow.Author.Needs.{needs}
-use Prim.Native.Nat.{_+_, _-_, _≤_}
+use Prim.Native.Nat.{_-_, _≤_}
 use native.Mathlib.Omega.{arith}
 use Rattle.share_stream.proofs.Moves.{Moved, moved-none, moved-next, moved-all}
 use Rattle.share_stream.proofs.move_back.Statement.{statement}

@@ -1,6 +1,5 @@
 -- Assumes nothing.
 use Prim.Native.Nat.{ℕ}
-use native.Mathlib.Omega.{arith}
 use borrow.Author.Needs.{needs}
 use lib.ListN.{replicate, length-replicate}
 use Rattle.shares.proofs.Turns.{sat-lines, derived-lines, finishes-as}

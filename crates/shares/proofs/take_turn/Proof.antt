@@ -1,5 +1,4 @@
 -- Assumes nothing.
-use native.Mathlib.Omega.{arith}
 use borrow.Author.Needs.{needs}
 use Rattle.shares.proofs.Turns.{takes-none, takes-bad, takes-query}
 use Rattle.shares.proofs.take_turn.Statement.{statement}

@@ -6,8 +6,9 @@ use Rattle.logic.specs.Facts.{Joined}
 use Rattle.facts.specs.Path.{pathOf}
 use Rattle.facts.specs.Pairs.{pairsOf, Fits}
 use Rattle.facts.proofs.Joins.{fits-left}
-use Rattle.start.proofs.Bounded.{linked-bounded, settled, rep-bounded}
-use Rattle.start.proofs.Laid.{links-laid, joins-made, start-laid, joins-links, joins-fit, nil-fits, equalities-fit, equal-terms-in}
+use Rattle.plain_literals.proofs.Bounded.{linked-bounded, settled, rep-bounded}
+use Rattle.plain_literals.proofs.Read.{equal-terms-in}
+use Rattle.start.proofs.Laid.{links-laid, joins-made, start-laid, joins-links, joins-fit, nil-fits, equalities-fit}
 use Rattle.start.proofs.start.Statement.{statement}
 use Rattle.start.proofs.start.Tie as tie
 

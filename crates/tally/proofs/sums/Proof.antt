@@ -1,10 +1,9 @@
 -- The sums before k are made. Assumes nothing.
-use Prim.Native.Nat.{ℕ, _+_, _-_, _≤_, _<_}
+use Prim.Native.Nat.{_-_, _≤_}
 use native.Mathlib.Omega.{arith}
 use borrow.Author.Needs.{needs}
-use mathlib.Core.Path.{_≡_, refl, sym, _∙_}
-use lib.ListN.{length, getD, length-set}
-use Rattle.tally.specs.Counting.{plus, fits}
+use mathlib.Core.Path.{_≡_, refl}
+use lib.ListN.{length, length-set}
 use Rattle.tally.proofs.Counts.{sum-fits, Summed, summed-none, summed-more, summed-all}
 use Rattle.tally.proofs.sums.Statement.{statement}
 use Rattle.tally.proofs.sums.Tie as tie

@@ -1,7 +1,6 @@
 -- The high digit, and then the low one. Assumes nothing.
-use native.Mathlib.Omega.{arith}
 use borrow.Author.Needs.{needs}
-use Rattle.text.proofs.Writing.{writes-then, writes-as, writes-length}
+use Rattle.text.proofs.Writing.{writes-then, writes-as}
 use Rattle.text.proofs.Digits.{hex-pair}
 use Rattle.text.proofs.put_hex_byte.Statement.{statement}
 use Rattle.text.proofs.put_hex_byte.Tie as tie

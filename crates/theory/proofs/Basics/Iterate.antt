@@ -1,7 +1,7 @@
 -- A function applied again and again, and what it reaches.
 use Prim.Native.Nat.{ℕ, zero, suc, _+_}
 use native.Mathlib.Nat.{zero-add, suc-add}
-use mathlib.Core.Path.{_≡_, refl, sym, ap, _∙_, subst}
+use mathlib.Core.Path.{_≡_, refl, ap, _∙_}
 use Rattle.logic.specs.Heap.{iterate, Reaches}
 
 module _ (f : ℕ → ℕ) where

@@ -1,6 +1,5 @@
 -- The checks of a call in their order: a refusal is the first that stands, and there is one first.
 use Prim.Native.Nat.{ℕ, _≤_, _<_}
-use native.Mathlib.Omega.{arith}
 use mathlib.Core.Path.{_≡_, refl, sym, ap, _∙_, subst}
 use mathlib.Core.Logic.{_⊎_, ⊎-elim, inl, inr}
 use mathlib.Core.Bool.{Bool, true}
@@ -11,7 +10,7 @@ use borrow.Author.Tests.{leb-true}
 use Rattle.logic.specs.Search.{_and_, _or_, all, orElse, firstOf}
 use Rattle.logic.specs.Calls.{Input, Check, layoutCheck, byteCheck, formChecks, queryChecks, Answer, refused, refusalOf}
 use Rattle.logic.specs.Demands.{NoneStands, FirstStands, numbers}
-use Rattle.theory.proofs.Basics.Search.{none-some, and-left, and-right, or-cases, all-true, map-intro, orElse-none}
+use Rattle.theory.proofs.Basics.Search.{none-some, and-left, and-right, or-cases, all-true, map-intro}
 use Rattle.theory.proofs.Basics.Compare.{ltb-true}
 
 -- the answer that a check gives

@@ -3,31 +3,31 @@
 -- path, under any order list, is a refutation exactly if no finite heap meets the query and the facts of the path.
 use Prim.Native.Nat.{ℕ, zero, suc, _+_, _-_, _≤_, _<_}
 use native.Mathlib.Omega.{arith}
-use mathlib.Core.Path.{_≡_, refl, sym, ap, ap₂, _∙_, subst, subst₂, fun-ext}
+use mathlib.Core.Path.{_≡_, refl, sym, ap, _∙_, subst, subst₂, fun-ext}
 use mathlib.Core.Logic.{_↔_, _⊎_, ⊎-elim, inl, inr}
-use mathlib.Core.Bool.{Bool, true, false, not, cond}
+use mathlib.Core.Bool.{Bool, true, false, cond}
 use mathlib.Core.List.{List, [], _∷_, _++_, map, List·Memᴰ, List·Memᴰ·head, List·Memᴰ·tail, List·Memᴰ·not-nil, List·Memᴰ·cases-cons}
-use mathlib.Core.Option.{Option, none, some}
+use mathlib.Core.Option.{none, some}
 use lib.ListN.{length, getD, length-map}
 use lib.Dec.{eqb}
 use Rattle.logic.specs.Search.{_and_, select, firstOf}
-use Rattle.logic.specs.Query.{Query, isOrder, termCount}
+use Rattle.logic.specs.Query.{Query, termCount}
 use Rattle.logic.specs.Heap.{Heap, Reaches, Meets, value}
-use Rattle.logic.specs.Facts.{Facts, Line, joinLines, live, liveTerms, linksOf, startJoins, start, linkNumbers, terms, firstTwo, doubled, successors, isClash, clashLines, clash}
-use Rattle.logic.specs.Rules.{Rule, Move, Fact, alternatives, applies, branch, add, branches, choose, moveLine}
-use Rattle.logic.specs.Walk.{Look, applying, look, Ending, refutation, saturation, after, thenEnding, walkBranch, walkEach, endAt, walk, Verdict, ourVerdict, orderOf}
+use Rattle.logic.specs.Facts.{Facts, Line, live, linksOf, startJoins, start, linkNumbers, terms, firstTwo, doubled, successors, isClash, clashLines, clash}
+use Rattle.logic.specs.Rules.{Rule, Move, Fact, alternatives, applies, branch, add, branches, choose}
+use Rattle.logic.specs.Walk.{applying, look, Ending, refutation, saturation, after, thenEnding, walkBranch, walkEach, endAt, walk, Verdict, ourVerdict, orderOf}
 use Rattle.logic.specs.Steps.{Steps, at-first, one-more, AtMost}
 use Rattle.logic.specs.Shown.{shownLink, report, heapIn}
 use Rattle.logic.specs.Calls.{CallForm, oneLinkForm}
 use Rattle.logic.specs.JoinPairs.{followPairs, timesReplaced}
 use Rattle.logic.specs.Decision.{MeetsPath, HasHeap, NoHeap, Reachable, Follows, is-held, itself, by-link, onward, Closes, Struck, PathsDecided}
-use Rattle.theory.proofs.Basics.Search.{true-false, not-of, find-some, map-mem, map-intro}
-use Rattle.theory.proofs.Basics.Compare.{eqb-self, eq-cases, le-cases, cond-false}
+use Rattle.theory.proofs.Basics.Search.{true-false, not-of, find-some, map-mem}
+use Rattle.theory.proofs.Basics.Compare.{eqb-self, eq-cases, le-cases}
 use Rattle.theory.proofs.Basics.Iterate.{reaches-refl, reaches-trans, reaches-next}
-use Rattle.theory.proofs.Query.Tied.{Accepted, Tied}
+use Rattle.theory.proofs.Query.Tied.{Accepted}
 use Rattle.theory.proofs.Paths.Extends.{Extends}
 use Rattle.theory.proofs.Paths.Ranged.{InRange, Ranged, live-range, live-rep}
-use Rattle.theory.proofs.Paths.Kept.{Sane, Kept, add-kept}
+use Rattle.theory.proofs.Paths.Kept.{Sane, add-kept}
 use Rattle.theory.proofs.Paths.Applies.{applies-linked, applies-met}
 use Rattle.theory.proofs.Paths.Start.{tied-kept}
 use Rattle.theory.proofs.Paths.Invariant.{Invariant, start-invariant, branch-invariant, alternatives-live}
@@ -35,8 +35,7 @@ use Rattle.theory.proofs.Joins.Pairs.{accounts-branch, accounts-start, 
 use Rattle.theory.proofs.Walks.Order.{HoldsAll, order-full}
 use Rattle.theory.proofs.Walks.Derives.{walks-refutes, walks-saturation, seen-applying}
 use Rattle.theory.proofs.Walks.OurWalk.{look-some, look-fewer, walk-walks}
-use Rattle.theory.proofs.Soundness.Value.{signed-true}
-use Rattle.theory.proofs.Soundness.Truth.{Between, between, same-refl, Holds, Reached}
+use Rattle.theory.proofs.Soundness.Truth.{between, same-refl}
 use Rattle.theory.proofs.Soundness.Refuted.{HoldsIn, branch-holds, refutes-sound}
 use Rattle.theory.proofs.Soundness.FactsSound.{start-holds}
 use Rattle.theory.proofs.Soundness.ClashSound.{clash-sound}
@@ -248,13 +247,6 @@ module _ (q : Query) (ok : Accepted q) where
         go (refutation ls) e = (ls, e)
         go (saturation t) e = absurd (free (walk-saturation k s known most t e))
 
-    pub heap-saturated : (k : ℕ) (s : Facts) → Known q s → AtMost n s k → HasHeap q s → (t : Facts) × (walk q order k s ≡ saturation t)
-    heap-saturated k s known most has = go (walk q order k s) refl
-      where
-        go : (e : Ending) → walk q order k s ≡ e → (t : Facts) × (walk q order k s ≡ saturation t)
-        go (refutation ls) e = absurd (walk-refutation k s known most ls e has)
-        go (saturation t) e = (t, e)
-
   -- The branches one after the other
 
   getD-mem : {A : Type 0} (xs : List A) (i : ℕ) (d : A) → i < length xs → List·Memᴰ (getD xs i d) xs
@@ -266,9 +258,6 @@ module _ (q : Query) (ok : Accepted q) where
   mem-getD [] d x m = absurd (List·Memᴰ·not-nil m)
   mem-getD (y ∷ ys) d x m =
       ⊎-elim (λ e. (0, omega arith, sym e)) (λ k. let (i, l, e) = mem-getD ys d x k in (suc i, omega arith, e)) (List·Memᴰ·cases-cons m)
-
-  pub struck-first : (s : Facts) (m : Move) (i : ℕ) → i ≡ 0 → Struck q s m i
-  struck-first s m i e j l = absurd (omega arith)
 
   pub struck-next : (s : Facts) (m : Move) (i : ℕ) → Struck q s m i → NoHeap q (getD (branches n s m) i s) → Struck q s m (i + 1)
   struck-next s m i st free j l = ⊎-elim (λ lt. st j lt) (λ le. let e : i ≡ j = omega arith in subst (λ (x : ℕ). NoHeap q (getD (branches n s m) x s)) e free) (lt-or j i)

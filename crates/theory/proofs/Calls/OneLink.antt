@@ -1,8 +1,8 @@
 -- What the general definitions come to where there is one link: the form of 01.
-use Prim.Native.Nat.{ℕ, suc, _+_, _-_, _*_, _/_}
+use Prim.Native.Nat.{ℕ, _+_, _-_, _*_, _/_}
 use native.Mathlib.Omega.{arith}
 use native.Mathlib.Nat.{div-one}
-use mathlib.Core.Path.{_≡_, refl, ap, ap₂, _∙_, fun-ext}
+use mathlib.Core.Path.{_≡_, refl, ap, _∙_, fun-ext}
 use mathlib.Core.Bool.{Bool, true, false, not}
 use mathlib.Core.List.{List, [], _∷_, map}
 use mathlib.Core.Option.{Option, none, some, Option·elim}
@@ -121,7 +121,3 @@ module _ (n : ℕ) (alive : ℕ → Bool) (g : ℕ → Graph) (i : ℕ) where
   held-local SCC (triple x y z) = refl
   held-local TOTAL (triple x y z) = refl
   held-local SHARE (triple x y z) = refl
-
-pub applies-local : (n : ℕ) (s : Facts) → s .links ≡ 1 → (r : Rule) (t : Triple) → applies n s (move 1 r t) ≡ (conditions n (live n s) (λ j. s .graph 1) (move 1 r t) and not (any (held (λ j. s .graph 1)) (alternatives n (λ j. s .graph 1) (move 1 r t))))
-applies-local n s one r t =
-    applies-one n s one r t ∙ ap₂ (λ (b c : Bool). b and not c) (conditions-local n (live n s) (s .graph) 1 r t) (held-local n (live n s) (s .graph) 1 r t)

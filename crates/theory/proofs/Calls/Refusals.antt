@@ -13,7 +13,7 @@ use Rattle.logic.specs.Query.{sections, isOrder}
 use Rattle.logic.specs.Walk.{Ending}
 use Rattle.logic.specs.Calls.{Input, Check, orderCheck, layoutCheck, byteCheck, formChecks, roomUnder, queryChecks, CallForm, oneLinkForm, verdictChecksOf, derivationChecksOf, Answer, refused, refusalOf, Outcome, blank, call}
 use Rattle.logic.specs.Demands.{NoneStands, FirstStands, numbers, walkOf, Refusals}
-use Rattle.theory.proofs.Basics.Search.{none-some, all-true, keep-some, map-mem, map-intro}
+use Rattle.theory.proofs.Basics.Search.{all-true, keep-some, map-mem, map-intro}
 use Rattle.theory.proofs.Basics.Compare.{le-cases}
 use Rattle.theory.proofs.Query.AcceptedBytes.{form-elim, accepted, decode-links}
 use Rattle.theory.proofs.Query.Bytes.{layoutNumbers, LayoutNumber}
@@ -186,10 +186,6 @@ module _ (form : CallForm) (cs : List Check) (result : Input → Ending → Outc
 
   by : (i : Input) (k place : ℕ) → outcome i .answer ≡ refused k place → RefusedBy i (outcome i) k place
   by i k place h = refused-by i (outcome i) k place h (call-case i)
-
-  -- no check stands where the refusal is none of a check
-  pub late-refusal : (i : Input) (k place : ℕ) → (List·Memᴰ k (numbers cs) → ⊥) → outcome i .answer ≡ refused k place → NoneStands cs i × Late (i .room) k place (outcome i .lent)
-  late-refusal i k place l h = ⊎-elim (λ f. absurd (l (first-numbered cs i k place (f .0)))) (λ n. n) (by i k place h)
 
   late-numbered : (i : Input) (k place : ℕ) (lent : List ℕ) → Late (i .room) k place lent → List·Memᴰ k (11 ∷ 12 ∷ [])
   late-numbered i k place lent l =

@@ -1,14 +1,13 @@
 -- Reordering the equalities of a query changes neither the verdict nor a byte of the report (02, R-9).
 use Prim.Native.Nat.{ℕ, zero, suc, _≤_}
 use mathlib.Core.Path.{_≡_, refl, sym, ap, _∙_, subst}
-use mathlib.Core.Logic.{_↔_, _⊎_, ⊎-elim, inl, inr}
+use mathlib.Core.Logic.{_⊎_, ⊎-elim}
 use mathlib.Core.Bool.{Bool, true, false, not, cond}
 use mathlib.Core.List.{List, [], _∷_, map, List·Memᴰ, List·Memᴰ·head, List·Memᴰ·tail}
 use mathlib.Core.Option.{Option, none, some, Option·elim}
-use lib.Dec.{eqb}
 use Rattle.logic.specs.Search.{_and_, select, orElse, firstOf}
 use Rattle.logic.specs.Query.{Literal, Query, termCount}
-use Rattle.logic.specs.Facts.{Facts, Line, line, negatedAt, plainAt, isClash, clashLines, clash, unjoined, andThen, settle, join, linksOf, joinEach, reachEach, nilTerms, joinNil, startJoins, start}
+use Rattle.logic.specs.Facts.{Facts, Line, line, negatedAt, plainAt, isClash, clashLines, clash, unjoined, andThen, settle, linksOf, joinEach, reachEach, nilTerms, joinNil, startJoins, start}
 use Rattle.logic.specs.Rules.{Rule, Move, Fact, alternatives, branch, choose, moveLine}
 use Rattle.logic.specs.Walk.{Look, clashing, applying, saturated, look, Ending, refutation, saturation, after, thenEnding, walkBranch, walkEach, endAt, walk, orderOf, limit, ourWalk}
 use Rattle.logic.specs.Shown.{fieldByte, report}

@@ -1,20 +1,19 @@
 -- So many bytes as check 9 asks for are enough for every report: they are never refused, and every byte past them is zero.
 use Prim.Native.Nat.{ℕ, zero, suc, _+_, _-_, _≤_, _<_}
 use native.Mathlib.Omega.{arith}
-use mathlib.Core.Path.{_≡_, refl, sym, ap, _∙_, subst}
+use mathlib.Core.Path.{_≡_, refl, sym, ap, _∙_}
 use mathlib.Core.Logic.{⊎-elim}
-use mathlib.Core.Bool.{true, not, false≢true}
 use mathlib.Core.List.{List, _++_, List·Memᴰ, List·Memᴰ·head, List·Memᴰ·tail, List·Memᴰ·not-nil, List·Memᴰ·cases-cons, List·Memᴰ·append-cases, Memᴰ·append-right}
 use mathlib.Core.Option.{some}
 use lib.ListN.{length, getD, replicate}
 use lib.Seq.{getD-append-add}
-use lib.Dec.{eqb, ltb}
-use Rattle.logic.specs.Search.{_and_, all}
+use lib.Dec.{ltb}
+use Rattle.logic.specs.Search.{_and_}
 use Rattle.logic.specs.Query.{Query}
 use Rattle.logic.specs.Shown.{report}
 use Rattle.logic.specs.Calls.{Input, Check, orderCheck, roomUnder, CallForm, verdictChecksOf, Outcome, refused, padded, verdictCallOf}
 use Rattle.logic.specs.Demands.{numbers}
-use Rattle.theory.proofs.Basics.Search.{keep-some, all-true, map-intro}
+use Rattle.theory.proofs.Basics.Search.{keep-some, map-intro}
 use Rattle.theory.proofs.Basics.Compare.{ltb-true}
 use Rattle.theory.proofs.Calls.CheckingOrder.{first-own}
 use Rattle.theory.proofs.Calls.CallLaws.{FormLaws, verdict-passed}

@@ -2,14 +2,14 @@
 use Prim.Native.Nat.{ℕ, _≤_}
 use native.Mathlib.Omega.{arith}
 use mathlib.Core.Path.{_≡_, refl, sym, ap, _∙_, subst}
-use mathlib.Core.Logic.{_⊎_, ⊎-elim, inl, inr}
+use mathlib.Core.Logic.{_⊎_, ⊎-elim}
 use mathlib.Core.Bool.{true, not, false≢true}
 use mathlib.Core.List.{List, [], _∷_, _++_, map, List·Memᴰ, List·Memᴰ·head, List·Memᴰ·tail, List·Memᴰ·not-nil, List·Memᴰ·cases-cons, List·Memᴰ·append-cases, Memᴰ·append-left, Memᴰ·append-right}
-use mathlib.Core.Option.{none, some}
-use lib.Dec.{eqb, ltb, leb}
+use mathlib.Core.Option.{some}
+use lib.Dec.{eqb}
 use Rattle.logic.specs.Search.{_and_, _or_, from, all}
 use Rattle.logic.specs.Query.{Layout, faulty, parts, layoutBy, layoutFault, byteFault}
-use Rattle.logic.specs.Calls.{Input, Check, CallForm, orderCheck, layoutCheck, byteCheck, roomUnder, verdictChecksOf, derivationChecksOf, refused, refusalOf, acceptsBy}
+use Rattle.logic.specs.Calls.{Input, Check, orderCheck, layoutCheck, byteCheck, roomUnder, verdictChecksOf, derivationChecksOf, acceptsBy}
 use Rattle.logic.specs.Demands.{NoneStands, numbers, Demand1, Demand2, Demand3}
 use Rattle.logic.specs.PathLimit.{PathLimit}
 use Rattle.logic.specs.Decision.{PathsDecided}

@@ -1,19 +1,18 @@
 -- A path of the invariant at which no rule applies is saturated: each rule whose conditions are held has a held alternative.
-use Prim.Native.Nat.{ℕ, zero, _≤_}
+use Prim.Native.Nat.{ℕ, _≤_}
 use native.Mathlib.Omega.{arith}
-use mathlib.Core.Path.{_≡_, refl, sym, ap, _∙_, subst}
+use mathlib.Core.Path.{_≡_, refl, sym, subst}
 use mathlib.Core.Logic.{_⊎_, ⊎-elim, inl, inr}
-use mathlib.Core.Bool.{Bool, true, false, not}
-use mathlib.Core.List.{List, [], _∷_, map, List·Memᴰ, List·Memᴰ·not-nil, List·Memᴰ·cases-cons}
-use mathlib.Core.Option.{Option, none, some}
-use lib.Dec.{eqb}
+use mathlib.Core.Bool.{true}
+use mathlib.Core.List.{List, [], _∷_, List·Memᴰ, List·Memᴰ·not-nil, List·Memᴰ·cases-cons}
+use mathlib.Core.Option.{none}
 use Rattle.logic.specs.Search.{_and_, any}
 use Rattle.logic.specs.Facts.{Graph, Facts, live, liveTerms}
-use Rattle.logic.specs.Rules.{Rule, REFLEX, TRANS1, TRANS2, FUNC, CYCLE, SCC, TOTAL, SHARE, Triple, triple, Move, move, Fact, equal, reaches, returns, round, conditions, alternatives, held, applies, choose}
-use Rattle.theory.proofs.Basics.Search.{bool-cases, true-false, not-of, not-true, and-intro, and-left, and-right, not-intro, any-true, map-mem}
-use Rattle.theory.proofs.Basics.Compare.{eqb-true, eqb-self}
+use Rattle.logic.specs.Rules.{Rule, REFLEX, TRANS1, TRANS2, FUNC, CYCLE, SCC, TOTAL, SHARE, triple, move, Fact, equal, round, conditions, alternatives, held, choose}
+use Rattle.theory.proofs.Basics.Search.{bool-cases, true-false, and-intro, any-true, map-mem}
+use Rattle.theory.proofs.Basics.Compare.{eqb-true}
 use Rattle.theory.proofs.Paths.Doubled.{doubled-none}
-use Rattle.theory.proofs.Paths.Ranged.{InRange, Ranged, live-range, live-rep, live-mem, mem-live}
+use Rattle.theory.proofs.Paths.Ranged.{InRange, Ranged, live-range, live-mem, mem-live}
 use Rattle.theory.proofs.Paths.Kept.{Sane}
 use Rattle.theory.proofs.Paths.Applies.{hasLink-intro, applies-intro}
 use Rattle.theory.proofs.Walks.Order.{HoldsAll, choose-none, triples-full}

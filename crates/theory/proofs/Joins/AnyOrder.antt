@@ -1,13 +1,13 @@
 -- Joins in any order leave the same facts, and a reachability fact may be added before or after them (02, R-9).
-use Prim.Native.Nat.{ℕ, zero, suc, _≤_, _<_}
+use Prim.Native.Nat.{ℕ}
 use mathlib.Core.Path.{_≡_, refl, sym, ap, _∙_, subst}
-use mathlib.Core.Logic.{_↔_, _⊎_, ⊎-elim, inl, inr}
-use mathlib.Core.Bool.{Bool, true, false}
+use mathlib.Core.Logic.{_⊎_, ⊎-elim}
+use mathlib.Core.Bool.{true}
 use mathlib.Core.List.{List, [], _∷_, List·Memᴰ, List·Memᴰ·head, List·Memᴰ·tail, List·Memᴰ·not-nil, List·Memᴰ·cases-cons}
-use Rattle.logic.specs.Facts.{Graph, Facts, live, join}
+use Rattle.logic.specs.Facts.{Facts, live}
 use Rattle.logic.specs.Reordering.{joinTerms, joinAll, SameElements}
-use Rattle.theory.proofs.Paths.Extends.{Extends, rep-same}
-use Rattle.theory.proofs.Paths.Ranged.{InRange, Ranged}
+use Rattle.theory.proofs.Paths.Extends.{rep-same}
+use Rattle.theory.proofs.Paths.Ranged.{InRange}
 use Rattle.theory.proofs.Paths.Kept.{Sane, Kept, kept-refl, kept-trans, join-kept}
 use Rattle.theory.proofs.Joins.Quotient.{Quotient, class-rep, quotient-unique}
 use Rattle.theory.proofs.Joins.Congruence.{Congruence, Within, within-refl, join-within, kernel}

@@ -1,19 +1,17 @@
 -- What a row of joins puts together: the least congruence that holds its pairs. So the order of the row does not matter.
-use Prim.Native.Nat.{ℕ, zero, suc, _≤_, _<_, min, max}
+use Prim.Native.Nat.{ℕ, _<_}
 use native.Mathlib.Omega.{arith}
 use mathlib.Core.Path.{_≡_, refl, sym, ap, _∙_, subst}
-use mathlib.Core.Logic.{_⊎_, ⊎-elim, inl, inr}
-use mathlib.Core.Bool.{Bool, true, false}
-use mathlib.Core.List.{List, [], _∷_, List·Memᴰ, List·Memᴰ·head, List·Memᴰ·tail, List·Memᴰ·not-nil, List·Memᴰ·cases-cons}
-use mathlib.Core.Option.{none, some}
-use Rattle.logic.specs.Facts.{Graph, Facts, live, replace, doubled, settle, join}
+use mathlib.Core.Logic.{_⊎_, ⊎-elim}
+use mathlib.Core.Bool.{true}
+use Rattle.logic.specs.Facts.{Facts, live, replace, settle, join}
 use Rattle.theory.proofs.Basics.Compare.{eqb-intro, eq-cases}
 use Rattle.theory.proofs.Paths.Joined.{join-facts}
 use Rattle.theory.proofs.Paths.Replace.{sub, sub-hit, sub-miss}
 use Rattle.theory.proofs.Paths.Doubled.{doubled-some, doubled-none}
 use Rattle.theory.proofs.Paths.Ranged.{InRange, Ranged, live-range, ranged-replace}
 use Rattle.theory.proofs.Paths.Settle.{settle-keeps, doubled-live}
-use Rattle.theory.proofs.Paths.Kept.{Sane, Kept, join-kept, low-high}
+use Rattle.theory.proofs.Paths.Kept.{Sane, low-high}
 use Rattle.theory.proofs.Joins.Quotient.{Quotient, quotient-refl, quotient-trans, quotient-replace}
 
 -- terms that are put together have their successors put together

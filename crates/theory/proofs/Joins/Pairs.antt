@@ -1,8 +1,8 @@
 -- The pairs that joining hands back account for what it made of a path (02, R-1): one pair does, and so do joins one after the other.
-use Prim.Native.Nat.{ℕ, zero, suc, _+_, _≤_, _<_, min, max}
+use Prim.Native.Nat.{ℕ, zero, suc, _+_, _<_}
 use native.Mathlib.Omega.{arith}
 use mathlib.Core.Path.{_≡_, refl, sym, ap, ap₂, _∙_, subst}
-use mathlib.Core.Logic.{_⊎_, ⊎-elim, inl, inr}
+use mathlib.Core.Logic.{_⊎_, ⊎-elim}
 use mathlib.Core.Bool.{Bool, true, false, not, cond, false≢true}
 use mathlib.Core.List.{List, [], _∷_, _++_, List·Memᴰ, List·Memᴰ·head, List·Memᴰ·tail, List·Memᴰ·not-nil, List·Memᴰ·append-cases, List·Memᴰ·eq-of-singleton}
 use mathlib.Core.Option.{Option, none, some, Option·elim}
@@ -13,7 +13,7 @@ use Rattle.logic.specs.Query.{Literal, Query, termCount, literal}
 use Rattle.logic.specs.Facts.{Facts, Joined, live, replace, doubled, unjoined, joinPair, andThen, settle, join, joinEach, addReach, linksOf, reachEach, nilTerms, addLinks, equalTo, addNilLinks, joinNil, startJoins, start}
 use Rattle.logic.specs.Rules.{Fact, equal, reaches, branch}
 use Rattle.logic.specs.JoinPairs.{followPairs, timesReplaced, Accounts}
-use Rattle.theory.proofs.Basics.Search.{not-of, true-false, map-mem}
+use Rattle.theory.proofs.Basics.Search.{not-of, map-mem}
 use Rattle.theory.proofs.Basics.Compare.{eqb-intro, eqb-false, eq-cases}
 use Rattle.theory.proofs.Query.Tied.{Accepted}
 use Rattle.theory.proofs.Query.Entries.{nilTerms-names}

@@ -1,15 +1,15 @@
 -- A path is a quotient of another: its facts are just the other's, read through a map of terms that takes each live term to the lowest
 -- of its class. Joining makes quotients; where two quotients of one path put the same terms together, they are the same facts.
-use Prim.Native.Nat.{ℕ, zero, suc, _≤_, _<_}
+use Prim.Native.Nat.{ℕ, _≤_, _<_}
 use native.Mathlib.Omega.{arith}
 use mathlib.Core.Path.{_≡_, refl, sym, ap, _∙_, subst, fun-ext}
-use mathlib.Core.Logic.{_⊎_, ⊎-elim, inl, inr}
+use mathlib.Core.Logic.{_⊎_, ⊎-elim}
 use mathlib.Core.Bool.{Bool, true, false}
-use Rattle.logic.specs.Facts.{Graph, Facts, live, replace}
+use Rattle.logic.specs.Facts.{Facts, live, replace}
 use Rattle.theory.proofs.Basics.Search.{bool-cases, true-false, not-of}
 use Rattle.theory.proofs.Basics.Compare.{eq-cases}
 use Rattle.theory.proofs.Paths.Replace.{sub, sub-hit, sub-miss, replaceIn-true, replaceIn-intro}
-use Rattle.theory.proofs.Paths.Ranged.{Ranged, live-rep, replace-live-sub, replace-not-live}
+use Rattle.theory.proofs.Paths.Ranged.{live-rep, replace-live-sub, replace-not-live}
 
 -- the facts R of a relation, read through g
 abbrev pub Mapped : (ℕ → ℕ) → (ℕ → ℕ → Bool) → ℕ → ℕ → Type 0

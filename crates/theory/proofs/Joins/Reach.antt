@@ -1,17 +1,17 @@
 -- A reachability fact may be added before or after joins alike (02, R-9).
-use Prim.Native.Nat.{ℕ, zero, suc, _<_, min, max}
+use Prim.Native.Nat.{ℕ, zero, suc}
 use native.Mathlib.Omega.{arith}
 use mathlib.Core.Path.{_≡_, refl, sym, ap, _∙_, subst}
 use mathlib.Core.Logic.{_⊎_, ⊎-elim, inl, inr}
-use mathlib.Core.Bool.{Bool, true, false, cond}
+use mathlib.Core.Bool.{Bool, true}
 use mathlib.Core.List.{List, [], _∷_}
 use mathlib.Core.Option.{Option, none, some, Option·elim}
 use lib.Dec.{eqb}
 use Rattle.logic.specs.Search.{_and_, _or_}
-use Rattle.logic.specs.Facts.{Graph, Facts, replaceIn, replace, doubled, successors, unjoined, settle, join, addReach}
+use Rattle.logic.specs.Facts.{Facts, replaceIn, replace, doubled, successors, unjoined, settle, join, addReach}
 use Rattle.logic.specs.Reordering.{joinTerms, reachTerms, joinAll}
 use Rattle.theory.proofs.Basics.Search.{and-left, and-right, and-intro, or-cases, or-left, or-right}
-use Rattle.theory.proofs.Basics.Compare.{eqb-true, eqb-intro, eqb-self, eq-cases}
+use Rattle.theory.proofs.Basics.Compare.{eqb-true, eqb-intro, eq-cases}
 use Rattle.theory.proofs.Paths.Joined.{settle-step, join-facts}
 use Rattle.theory.proofs.Paths.Replace.{sub, replaceIn-true, replaceIn-intro}
 use Rattle.theory.proofs.Paths.Doubled.{doubled-some}

@@ -1,11 +1,10 @@
 -- What it says that a rule applies, and what gives it.
-use Prim.Native.Nat.{ℕ, _≤_}
+use Prim.Native.Nat.{ℕ}
 use mathlib.Core.Path.{_≡_}
 use mathlib.Core.Bool.{Bool, true, false, not}
-use lib.Dec.{ltb, leb}
 use Rattle.logic.specs.Search.{_and_, any}
 use Rattle.logic.specs.Facts.{Facts, live}
-use Rattle.logic.specs.Rules.{Rule, Triple, Move, move, Fact, conditions, alternatives, held, hasLink, applies}
+use Rattle.logic.specs.Rules.{Rule, Triple, Move, move, conditions, alternatives, held, hasLink, applies}
 use Rattle.theory.proofs.Basics.Search.{and-left, and-right, and-intro, not-true, not-intro}
 use Rattle.theory.proofs.Basics.Compare.{ltb-intro, leb-intro}
 use Rattle.theory.proofs.Paths.Ranged.{InRange, link-range}

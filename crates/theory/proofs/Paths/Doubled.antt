@@ -2,12 +2,12 @@
 use Prim.Native.Nat.{ℕ, zero, suc, _≤_, _<_}
 use native.Mathlib.Omega.{arith}
 use mathlib.Core.Path.{_≡_, refl, sym, ap, _∙_, subst}
-use mathlib.Core.Logic.{_⊎_, ⊎-elim, inl, inr}
-use mathlib.Core.Bool.{Bool, true, false, cond}
+use mathlib.Core.Logic.{_⊎_, ⊎-elim}
+use mathlib.Core.Bool.{Bool, true}
 use mathlib.Core.List.{List, [], _∷_, List·Memᴰ, List·Memᴰ·head, List·Memᴰ·tail, List·Memᴰ·not-nil, List·Memᴰ·cases-cons}
 use mathlib.Core.Option.{Option, none, some}
 use Rattle.logic.specs.Search.{from, select, firstOf}
-use Rattle.logic.specs.Facts.{Graph, Facts, linkNumbers, terms, successors, firstTwo, doubled}
+use Rattle.logic.specs.Facts.{Facts, linkNumbers, terms, successors, firstTwo, doubled}
 use Rattle.theory.proofs.Basics.Search.{bool-cases, none-some, firstOf-some, firstOf-none, select-mem, select-intro, from-mem, from-intro}
 use Rattle.theory.proofs.Basics.Compare.{cond-true, cond-false}
 

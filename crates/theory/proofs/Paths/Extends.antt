@@ -1,17 +1,12 @@
 -- One path of facts extends another: it holds all of its facts, read through a renaming of terms. Every step of a path is such an
 -- extension, so whatever is stated through it is kept.
-use Prim.Native.Nat.{ℕ, zero, suc, min, max}
-use mathlib.Core.Path.{_≡_, refl, sym, ap, _∙_, subst}
-use mathlib.Core.Logic.{_⊎_, ⊎-elim, inl, inr}
-use mathlib.Core.Bool.{Bool, true, false, cond}
-use mathlib.Core.List.{List, [], _∷_}
-use mathlib.Core.Option.{Option, none, some, Option·elim}
+use Prim.Native.Nat.{ℕ}
+use mathlib.Core.Path.{_≡_, refl, sym, ap, _∙_}
+use mathlib.Core.Bool.{true}
 use lib.Dec.{eqb, ltb, leb}
 use Rattle.logic.specs.Search.{_and_, _or_}
-use Rattle.logic.specs.Facts.{Graph, Facts, replace, doubled, settle, join, addReach, addLinks}
-use Rattle.logic.specs.Rules.{Fact, equal, reaches, add}
+use Rattle.logic.specs.Facts.{Facts, replace, addReach, addLinks}
 use Rattle.theory.proofs.Basics.Search.{or-left}
-use Rattle.theory.proofs.Basics.Compare.{eq-cases}
 use Rattle.theory.proofs.Paths.Replace.{sub, replaceIn-intro}
 
 pub record Extends (s s′ : Facts) : Type 0 where

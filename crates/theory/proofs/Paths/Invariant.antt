@@ -1,17 +1,17 @@
 -- The invariant of every path: facts in range, single links, and the query held. The start has it, and each branch of a rule keeps it.
-use Prim.Native.Nat.{ℕ, _≤_}
-use mathlib.Core.Path.{_≡_, refl, sym, ap, _∙_, subst}
-use mathlib.Core.Logic.{_⊎_, ⊎-elim, inl, inr}
-use mathlib.Core.Bool.{Bool, true, false, not}
-use mathlib.Core.List.{List, [], _∷_, map, List·Memᴰ, List·Memᴰ·not-nil, List·Memᴰ·cases-cons}
+use Prim.Native.Nat.{ℕ}
+use mathlib.Core.Path.{_≡_, sym, subst}
+use mathlib.Core.Logic.{_⊎_, ⊎-elim}
+use mathlib.Core.Bool.{Bool, true}
+use mathlib.Core.List.{List, [], _∷_, List·Memᴰ, List·Memᴰ·not-nil, List·Memᴰ·cases-cons}
 use lib.Dec.{eqb}
-use Rattle.logic.specs.Search.{_and_, any}
+use Rattle.logic.specs.Search.{_and_}
 use Rattle.logic.specs.Query.{Query, termCount}
-use Rattle.logic.specs.Facts.{Graph, Facts, live, start}
-use Rattle.logic.specs.Rules.{Rule, REFLEX, TRANS1, TRANS2, FUNC, CYCLE, SCC, TOTAL, SHARE, Triple, triple, Move, move, Fact, equal, reaches, returns, round, conditions, alternatives, hasLink, applies, add, branches}
+use Rattle.logic.specs.Facts.{Facts, live, start}
+use Rattle.logic.specs.Rules.{Rule, REFLEX, TRANS1, TRANS2, FUNC, CYCLE, SCC, TOTAL, SHARE, Triple, triple, Move, move, Fact, equal, returns, round, conditions, alternatives, hasLink, applies, add, branches}
 use Rattle.theory.proofs.Basics.Search.{and-left, and-right, map-mem}
 use Rattle.theory.proofs.Paths.Ranged.{InRange, Ranged, live-range}
-use Rattle.theory.proofs.Paths.Kept.{Sane, Kept, LiveFact, add-kept}
+use Rattle.theory.proofs.Paths.Kept.{Sane, LiveFact, add-kept}
 use Rattle.theory.proofs.Paths.Applies.{hasLink-range, applies-linked, applies-met}
 use Rattle.theory.proofs.Paths.Round.{round-all}
 use Rattle.theory.proofs.Query.Tied.{Accepted, Tied}

@@ -1,14 +1,12 @@
 -- What one step of a path keeps: facts stay in range, links stay single, and the old facts are there, read through a renaming.
-use Prim.Native.Nat.{ℕ, zero, suc, _≤_, _<_, min, max}
+use Prim.Native.Nat.{ℕ, min, max}
 use native.Mathlib.Omega.{arith}
-use mathlib.Core.Path.{_≡_, refl, sym, ap, ap₂, _∙_, subst}
+use mathlib.Core.Path.{_≡_, refl, sym, ap, _∙_}
 use mathlib.Core.Logic.{_⊎_, ⊎-elim, inl, inr}
-use mathlib.Core.Bool.{Bool, true, false, cond}
-use mathlib.Core.Option.{Option, none, some}
-use lib.Dec.{eqb}
-use Rattle.logic.specs.Facts.{Graph, Facts, live, replace, doubled, successors, unjoined, settle, join, addReach}
+use mathlib.Core.Bool.{true}
+use mathlib.Core.Option.{none}
+use Rattle.logic.specs.Facts.{Facts, live, replace, doubled, successors, unjoined, settle, join, addReach}
 use Rattle.logic.specs.Rules.{Fact, equal, reaches, branch, add}
-use Rattle.theory.proofs.Basics.Search.{bool-cases}
 use Rattle.theory.proofs.Basics.Compare.{eqb-intro, eqb-false, eq-cases, le-cases}
 use Rattle.theory.proofs.Paths.Replace.{sub, sub-hit, sub-miss}
 use Rattle.theory.proofs.Paths.Extends.{Extends, extends-refl, extends-trans, extends-replace, extends-addReach, rep-same}

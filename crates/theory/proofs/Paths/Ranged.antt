@@ -1,16 +1,15 @@
 -- Facts speak of terms that are not replaced, and every term stands for such a one. This is kept by every step of a path.
-use Prim.Native.Nat.{ℕ, zero, suc, _≤_, _<_, min, max}
+use Prim.Native.Nat.{ℕ, suc, _≤_, _<_}
 use native.Mathlib.Omega.{arith}
-use mathlib.Core.Path.{_≡_, refl, sym, ap, _∙_, subst}
-use mathlib.Core.Logic.{_⊎_, ⊎-elim, inl, inr}
-use mathlib.Core.Bool.{Bool, true, false, cond}
-use mathlib.Core.List.{List, [], _∷_, List·Memᴰ}
-use lib.ListN.{length}
+use mathlib.Core.Path.{_≡_, sym, ap, _∙_, subst}
+use mathlib.Core.Logic.{_⊎_, ⊎-elim}
+use mathlib.Core.Bool.{Bool, true}
+use mathlib.Core.List.{List, List·Memᴰ}
 use lib.Dec.{eqb, ltb, leb}
-use Rattle.logic.specs.Search.{_and_, _or_, from, select}
-use Rattle.logic.specs.Facts.{Graph, Facts, terms, live, liveTerms, replaceIn, replace, addReach, addLinks}
-use Rattle.theory.proofs.Basics.Search.{bool-cases, true-false, not-of, and-left, and-right, and-intro, or-cases, select-mem, select-intro, from-mem, from-intro}
-use Rattle.theory.proofs.Basics.Compare.{eqb-true, eqb-intro, eqb-self, eq-cases, ltb-true, ltb-intro, leb-true, cond-true, cond-false}
+use Rattle.logic.specs.Search.{_and_, _or_}
+use Rattle.logic.specs.Facts.{Facts, terms, live, liveTerms, replaceIn, replace, addReach, addLinks}
+use Rattle.theory.proofs.Basics.Search.{and-left, and-right, and-intro, or-cases, select-mem, select-intro, from-intro}
+use Rattle.theory.proofs.Basics.Compare.{eqb-true, eqb-intro, eq-cases, ltb-true, ltb-intro, leb-true}
 use Rattle.theory.proofs.Paths.Replace.{sub, sub-hit, sub-miss, replaceIn-true}
 
 abbrev pub InRange : ℕ → ℕ → Type 0

@@ -11,7 +11,7 @@ use Rattle.logic.specs.Search.{find}
 use Rattle.logic.specs.Facts.{Graph, terms}
 use Rattle.logic.specs.Rules.{next, returns, round}
 use Rattle.theory.proofs.Basics.Search.{find-some}
-use Rattle.theory.proofs.Basics.Compare.{eqb-true, le-cases}
+use Rattle.theory.proofs.Basics.Compare.{eqb-true}
 
 -- a successor that is a term is linked
 pub next-link : (n : ℕ) (g : Graph) (c : ℕ) → 1 ≤ next n g c → g .link c (next n g c) ≡ true

@@ -1,18 +1,16 @@
 -- The start holds the query, and every extension of it does.
-use Prim.Native.Nat.{ℕ, zero, suc, _≤_, _<_}
+use Prim.Native.Nat.{ℕ, _≤_}
 use native.Mathlib.Omega.{arith}
-use native.Mathlib.Decide.{decLe}
 use mathlib.Core.Path.{_≡_, refl, sym, ap, _∙_, subst}
-use mathlib.Core.Logic.{_⊎_, ⊎-elim, inl, inr}
+use mathlib.Core.Logic.{_⊎_, ⊎-elim}
 use mathlib.Core.Bool.{Bool, true, false, cond, false≢true}
 use mathlib.Core.List.{List, [], _∷_, List·Memᴰ, List·Memᴰ·head, List·Memᴰ·tail, List·Memᴰ·not-nil, List·Memᴰ·cases-cons}
-use lib.ListN.{length, getD, List·getD-eq-default}
-use lib.Dec.{eqb, ltb, leb}
+use lib.Dec.{eqb, ltb}
 use Rattle.logic.specs.Search.{_and_}
 use Rattle.logic.specs.Query.{Literal, Query, argumentOf, linkOf, termCount, literal}
-use Rattle.logic.specs.Facts.{Graph, Facts, live, settle, join, addReach, linksOf, unjoined, andThen, joinEach, reachEach, nilTerms, addLinks, equalTo, addNilLinks, joinNil, startJoins, start}
-use Rattle.theory.proofs.Basics.Search.{bool-cases, true-false, and-left, and-right, and-intro, or-right, map-mem, map-intro}
-use Rattle.theory.proofs.Basics.Compare.{eqb-true, eqb-intro, ltb-true, ltb-intro, leb-intro, eqb-self, cond-true, cond-false}
+use Rattle.logic.specs.Facts.{Facts, settle, join, addReach, linksOf, unjoined, andThen, joinEach, reachEach, nilTerms, addLinks, equalTo, addNilLinks, joinNil, startJoins, start}
+use Rattle.theory.proofs.Basics.Search.{and-left, and-right, and-intro, or-right, map-mem, map-intro}
+use Rattle.theory.proofs.Basics.Compare.{eqb-true, ltb-true, ltb-intro, leb-intro, eqb-self}
 use Rattle.theory.proofs.Paths.Extends.{Extends, extends-trans, extends-addLinks, rep-same, link-rep, reach-rep}
 use Rattle.theory.proofs.Paths.Joined.{joinEach-step}
 use Rattle.theory.proofs.Paths.Ranged.{InRange, Ranged, live-intro, ranged-addLinks}

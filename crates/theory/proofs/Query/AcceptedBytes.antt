@@ -12,7 +12,7 @@ use lib.Dec.{eqb, ltb, leb}
 use borrow.Author.Tests.{ltb-true, leb-true, eq-eqb}
 use Rattle.logic.specs.Search.{_and_, _or_, from, at}
 use Rattle.logic.specs.Query.{Literal, oneLink, entryOf, namesNil, argumentOf, linkOf, termCount, Role, Section, Form, entryRole, signRole, termRole, numberRole, fourSections, booleanSection, fiveSections, sections, Layout, faulty, parts, rolesOf, firstByte, layoutBy, layoutOf, faultIn, layoutFault, byteFault, literals, section, queryOf, decode}
-use Rattle.logic.specs.Calls.{Input, Check, layoutCheck, byteCheck, formChecks, queryChecks, refused, refusalOf, accepts, acceptsBy, oneLinkForm}
+use Rattle.logic.specs.Calls.{Input, Check, layoutCheck, byteCheck, formChecks, queryChecks, refused, refusalOf, accepts, acceptsBy}
 use Rattle.theory.proofs.Basics.Search.{true-false, and-left, and-right, or-cases, not-true, none-some, keep-none, isSome-false, firstOf-none, from-mem, from-intro, map-mem, map-intro, at-left}
 use Rattle.theory.proofs.Query.Tied.{InTerms, ToEight, Accepted}
 use Rattle.theory.proofs.Query.Bytes.{Allows, faultless-allowed, Regular, Part, part-at, first-sized, layoutNumbers, LayoutNumber, Excesses, three-number, retired-number, Numbered, layout-numbered, entry-allowed, literals-link, literals-allowed}

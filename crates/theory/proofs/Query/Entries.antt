@@ -1,13 +1,12 @@
 -- The entries of a query's terms: who has an argument, and who names nil.
 use Prim.Native.Nat.{ℕ, zero, suc, _≤_, _<_}
 use native.Mathlib.Omega.{arith}
-use mathlib.Core.Path.{_≡_, refl, sym, ap, subst}
+use mathlib.Core.Path.{_≡_, refl}
 use mathlib.Core.Logic.{⊎-elim}
-use mathlib.Core.Bool.{true, cond, false≢true}
+use mathlib.Core.Bool.{true}
 use mathlib.Core.List.{List, List·Memᴰ}
 use lib.ListN.{length, List·getD-eq-default}
-use lib.Dec.{eqb}
-use Rattle.logic.specs.Search.{select, from}
+use Rattle.logic.specs.Search.{from}
 use Rattle.logic.specs.Query.{Query, entryOf, namesNil, argumentOf, termCount, Entries}
 use Rattle.logic.specs.Facts.{terms, nilTerms}
 use Rattle.theory.proofs.Basics.Search.{select-mem, select-intro, from-mem, from-intro}

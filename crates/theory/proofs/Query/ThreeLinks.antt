@@ -3,17 +3,17 @@ use Prim.Native.Nat.{ℕ, zero, suc, _+_, _-_, _*_, _≤_, _<_}
 use native.Mathlib.Omega.{arith}
 use native.Mathlib.Nat.{add-zero, add-suc, suc-add}
 use mathlib.Core.Path.{_≡_, refl, sym, ap, _∙_, subst}
-use mathlib.Core.Logic.{_⊎_, ⊎-elim, inl, inr}
+use mathlib.Core.Logic.{_⊎_, ⊎-elim}
 use mathlib.Core.Bool.{Bool, true, false, not, cond}
-use mathlib.Core.List.{List, [], _∷_, _++_, map, List·Memᴰ, List·Memᴰ·not-nil, List·Memᴰ·cases-cons, List·Memᴰ·append-cases, Memᴰ·append-left, Memᴰ·append-right, List·Memᴰ·head, List·Memᴰ·tail}
-use mathlib.Core.Option.{Option, none, some}
+use mathlib.Core.List.{List, [], _∷_, List·Memᴰ, List·Memᴰ·not-nil, List·Memᴰ·cases-cons}
+use mathlib.Core.Option.{none, some}
 use lib.ListN.{length, getD}
 use lib.Dec.{eqb, ltb, leb}
 use Rattle.logic.specs.Search.{_and_, _or_, from, at, keep, orElse, flatMap}
 use Rattle.logic.specs.Query.{Literal, Entries, entryOf, namesNil, argumentOf, linkOf, termCount, Role, Section, entryRole, signRole, termRole, numberRole, countRole, booleanSection, Layout, faulty, parts, rolesOf, firstByte, layoutBy, layoutFault, byteFault, literals, section}
 use Rattle.logic.specs.ThreeLinks.{linkSections, isLink, mayPrecede, entryLinkFault, reachLinkFault, linkFault, firsts, seconds, linkedLiterals, linkedQuery, decodeLinks}
-use Rattle.theory.proofs.Basics.Search.{bool-cases, true-false, not-true, and-left, and-right, none-some, orElse-none, orElse-cases, keep-none, keep-some, not-of}
-use Rattle.theory.proofs.Basics.Compare.{ltb-true, leb-true, eqb-true, eqb-self, eq-cases, cond-true, cond-false}
+use Rattle.theory.proofs.Basics.Search.{bool-cases, true-false, and-left, and-right, none-some, orElse-none, orElse-cases, keep-none, keep-some}
+use Rattle.theory.proofs.Basics.Compare.{ltb-true, leb-true, eq-cases}
 use Rattle.theory.proofs.Query.Tied.{InTerms, Accepted}
 use Rattle.theory.proofs.Query.Bytes.{Allows, Allowed, Regular, Part, part-at, first-sized, faultless-allowed, LayoutNumber, Excesses, three-number, retired-number, literals-allowed, total, laid-length}
 use Rattle.theory.proofs.Query.AcceptedBytes.{laid-out, entry-allows, term-allows, number-allows}

@@ -7,14 +7,14 @@ use mathlib.Core.Path.{_≡_, refl, sym, ap, _∙_, subst, subst₂}
 use mathlib.Core.Logic.{⊎-elim}
 use mathlib.Core.Bool.{Bool, true, false, cond, false≢true}
 use mathlib.Core.List.{List, [], _∷_, List·Memᴰ, List·Memᴰ·head, List·Memᴰ·tail}
-use mathlib.Core.Option.{Option, none, some, Option·elim, Option·some-injective}
+use mathlib.Core.Option.{Option, none, some, Option·elim}
 use lib.Dec.{eqb, ltb, leb}
 use Rattle.logic.specs.Search.{_and_, _or_}
 use Rattle.logic.specs.Query.{Literal, Query, argumentOf, linkOf, termCount, literal}
 use Rattle.logic.specs.Heap.{Heap, Reaches, Meets, value}
-use Rattle.logic.specs.Facts.{Graph, Facts, linkNumbers, terms, replaceIn, replace, successors, firstTwo, doubled, unjoined, andThen, settle, join, addReach, linksOf, joinEach, reachEach, nilTerms, addLinks, equalTo, addNilLinks, joinNil, startJoins, start}
+use Rattle.logic.specs.Facts.{Facts, replaceIn, replace, doubled, unjoined, andThen, settle, join, addReach, linksOf, joinEach, reachEach, nilTerms, addLinks, equalTo, addNilLinks, joinNil, startJoins, start}
 use Rattle.logic.specs.Rules.{Fact, equal, reaches, branch, add}
-use Rattle.theory.proofs.Basics.Search.{none-some, and-left, and-right, or-cases, firstOf-some, select-mem, map-mem}
+use Rattle.theory.proofs.Basics.Search.{and-left, and-right, or-cases, map-mem}
 use Rattle.theory.proofs.Basics.Compare.{eqb-true, ltb-true, eq-cases, le-cases}
 use Rattle.theory.proofs.Query.Tied.{Accepted}
 use Rattle.theory.proofs.Query.Entries.{argument-range, nilTerms-names}
@@ -22,7 +22,7 @@ use Rattle.theory.proofs.Paths.Replace.{sub, sub-hit, sub-miss, replace
 use Rattle.theory.proofs.Paths.Doubled.{doubled-some}
 use Rattle.theory.proofs.Paths.Joined.{settle-step, join-facts, joinEach-step}
 use Rattle.theory.proofs.Soundness.Value.{accepted-below, value-link, signed-true}
-use Rattle.theory.proofs.Soundness.Truth.{Between, between, Same, Linked, Reached, TrueGraph, True, Holds, same-refl, between-same, rep-between}
+use Rattle.theory.proofs.Soundness.Truth.{Between, between, Same, Linked, Reached, True, Holds, same-refl, between-same, rep-between}
 
 -- A term replaced by one of the same value
 module _ (val : ℕ → ℕ) (lo hi : ℕ) (same : Same val lo hi) where

@@ -4,7 +4,6 @@ use native.Mathlib.Omega.{arith}
 use mathlib.Core.Path.{_≡_, refl, sym, ap, _∙_}
 use mathlib.Core.Logic.{⊎-elim}
 use mathlib.Core.Bool.{Bool, true, false, cond, true≢false, false≢true}
-use mathlib.Core.List.{List}
 use lib.Dec.{eqb}
 use Rattle.logic.specs.Query.{Query, argumentOf, linkOf, termCount, Entries}
 use Rattle.logic.specs.Heap.{Heap, Node, IsHeap, valueWithin, value, Signed}

@@ -6,12 +6,12 @@ use mathlib.Core.Bool.{Bool, true, false, not}
 use mathlib.Core.List.{List, _++_, map, List·Memᴰ, List·Memᴰ·head, Memᴰ·append-left, Memᴰ·append-right}
 use lib.ListN.{length, length-append, length-map}
 use lib.Dec.{eqb, ltb}
-use Rattle.logic.specs.Search.{_and_, any, from, select, flatMap}
+use Rattle.logic.specs.Search.{_and_, from, select, flatMap}
 use Rattle.logic.specs.Facts.{Graph, Facts, linkNumbers, terms, live, unjoined, join, addReach}
 use Rattle.logic.specs.Rules.{REFLEX, TRANS1, TRANS2, FUNC, CYCLE, SCC, TOTAL, SHARE, triple, Move, move, Fact, equal, reaches, returns, conditions, alternatives, held, applies, branch, add, branches}
 use Rattle.logic.specs.Steps.{Step, Steps, at-first, one-more, AtMost}
-use Rattle.theory.proofs.Basics.Search.{true-false, not-true, not-intro, not-of, and-left, and-right, and-intro, or-right, any-false, from-intro, flatMap-intro, map-mem, map-intro}
-use Rattle.theory.proofs.Basics.Compare.{eqb-intro, eqb-self}
+use Rattle.theory.proofs.Basics.Search.{true-false, not-true, not-intro, not-of, and-left, any-false, from-intro, flatMap-intro, map-mem, map-intro}
+use Rattle.theory.proofs.Basics.Compare.{eqb-intro}
 use Rattle.theory.proofs.Basics.Count.{length-from, length-flatMap, select-length, select-lt}
 use Rattle.theory.proofs.Paths.Extends.{Extends, reach-rep, extends-addReach}
 use Rattle.theory.proofs.Paths.Ranged.{InRange, live-range, live-rep}

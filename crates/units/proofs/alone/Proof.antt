@@ -1,6 +1,5 @@
 -- The row of b, where it is a number of rows. Assumes nothing.
 use borrow.Author.Needs.{needs}
-use native.Mathlib.Omega.{arith}
 use Rattle.units.proofs.Places.{alone-in, alone-above}
 use Rattle.units.proofs.alone.Statement.{statement}
 use Rattle.units.proofs.alone.Tie as tie

@@ -3,7 +3,7 @@ use borrow.Author.Needs.{needs}
 use native.Mathlib.Omega.{arith}
 use mathlib.Core.Path.{refl}
 use Rattle.facts.specs.Path.{linksIn}
-use Rattle.rules.proofs.Around.{next-le, steps-bound}
+use Rattle.link_steps.proofs.Around.{next-le, steps-bound}
 use Rattle.units.proofs.Rounds.{on-none, off-none, on-bits, off-bits}
 use Rattle.units.proofs.around.Statement.{statement}
 use Rattle.units.proofs.around.Tie as tie

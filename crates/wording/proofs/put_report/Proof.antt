@@ -1,7 +1,6 @@
 -- The bytes from i on are left. Assumes nothing.
 use Prim.Native.Nat.{_≤_, _-_}
 use native.Mathlib.Omega.{arith}
-use borrow.Author.Needs.{needs}
 use mathlib.Core.Path.{refl, sym, _∙_}
 use lib.ListN.{getD}
 use Rattle.text.proofs.Writing.{Part, writes-then, writes-as, part-from, part-more, part-last, part-place, part-length, writes-length}

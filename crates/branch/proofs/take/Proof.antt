@@ -1,0 +1,39 @@
+-- The same as with the pairs. Assumes nothing.
+use borrow.Author.Needs.{needs}
+use mathlib.Core.Path.{subst}
+use Rattle.facts.specs.Path.{pathAs}
+use Rattle.branch.specs.Answers.{InRange}
+use Rattle.branch.proofs.Rows.{taken-equal, taken-reaches}
+use Rattle.branch.proofs.take.Statement.{statement}
+use Rattle.branch.proofs.take.Tie as tie
+
+pub take-spec : {M : Type 1} → statement M
+take-spec =
+    tie.close
+    (tie.spec
+    -- alternative-of-requires
+    (λ c κs. let p = c .before .before .before .pre in (p .0, p .2, p .3, p .4))
+    -- enum-known-a
+    (λ c. search needs)
+    -- equate-requires
+    (λ c κs. let p = c .before .before .before .before .before .before .before .before .before .before .before .before .before .before .pre in let h = subst InRange (c .before .before .before .before .before .before .before .before .a .given .1) (c .before .before .before .before .before .before .before .before .before .before .alternative-of .ensures .1) in (p .0, h .0, h .1, p .5))
+    -- enum-known-a-2
+    (λ c. search needs)
+    -- reach-by-requires
+    (λ c κs.
+    let w = c .before .before .before .before .before .before .before .before .before .before .pre .5 in
+    let h = subst InRange (c .before .before .before .before .a2 .given .1) (c .before .before .before .before .before .before .alternative-of .ensures .1) in
+    (h .0, h .1, w .of-reach, w .of-reach2, w .of-reach3))
+    -- returns
+    (λ c.
+    let a = c .before .before .before .before .before .before .before .before .before .before .before .before .before .before .before .args in
+    (taken-equal (a .k .0) (a .n) (pathAs (a .single) (a .rep .now) (a .link .now) (a .reach .now) (a .link2 .now) (a .reach2 .now) (a .link3 .now) (a .reach3 .now)) _ _ (c .before .before .before .before .before .before .before .before .before .before .before .alternative-of .ensures .0 (a .single) (a .rep .now) (a .reach .now) (a .reach2 .now) (a .reach3 .now) (c .before .before .before .before .before .before .before .before .before .before .before .before .before .before .before .pre .1)) _ _ _ (c .before .before .before .before .before .before .before .before .before .a .given .1) (c .equate .ensures .0), c .equate .ensures .1))
+    -- returns-2
+    (λ c.
+    let p = c .before .before .before .before .before .before .before .before .before .before .before .pre in
+    let w = p .5 in
+    let a = c .before .before .before .before .before .before .before .before .before .before .before .args in
+    let r = c .reach-by .ensures in (
+      taken-reaches (a .k .0) (a .n) (pathAs (a .single) (a .rep .now) (a .link .now) (a .reach .now) (a .link2 .now) (a .reach2 .now) (a .link3 .now) (a .reach3 .now)) _ _ (c .before .before .before .before .before .before .before .alternative-of .ensures .0 (a .single) (a .rep .now) (a .reach .now) (a .reach2 .now) (a .reach3 .now) (p .1)) _ _ _ (c .before .before .before .before .before .a2 .given .1) (r .0 (a .single) (a .rep .now) (a .link .now) (a .link2 .now) (a .link3 .now) (p .1)),
+      record { of-rep = w .of-rep; of-link = w .of-link; of-reach = r .1; of-link2 = w .of-link2; of-reach2 = r .2; of-link3 = w .of-link3; of-reach3 = r .3 },
+    )))

@@ -1,0 +1,57 @@
+-- What is left to follow, with the steps made, is the whole; the terms passed are those of the steps made. Assumes nothing.
+use Prim.Native.Nat.{ℕ, _+_, _-_, _≤_}
+use native.Mathlib.Omega.{arith}
+use mathlib.Core.Path.{_≡_, refl, sym, _∙_}
+use lib.Dec.{ltb}
+use Rattle.logic.specs.Heap.{iterate}
+use Rattle.logic.specs.Rules.{next}
+use Rattle.facts.specs.Bits.{bit}
+use Rattle.facts.specs.Path.{linksIn}
+use Rattle.facts.proofs.Bits.{bit-none}
+use Rattle.link_steps.specs.Cycle.{stepsTo}
+use Rattle.link_steps.proofs.Around.{next-le, follow-start, follow-there, follow-end, follow-stuck, follow-turn, iterate-none, iterate-turn, iterate-stuck, passed-none, passed-then, passed-ever}
+use Rattle.link_steps.proofs.follow.Statement.{statement}
+use Rattle.link_steps.proofs.follow.Tie as tie
+
+abbrev Inv-loop : tie.InvT-loop
+Inv-loop link n until left term₀ steps₀ passed₀ term steps passed =
+    (term .0 ≤ 16) × (steps ≤ left) × (term .0 ≡ iterate (next n (linksIn link)) steps (term₀ .0)) × (stepsTo n (linksIn link) (until .0) left (term₀ .0) ≡ steps + stepsTo n (linksIn link) (until .0) (left - steps) (term .0)) × ((y : ℕ) → bit passed y ≡ ltb (stepsTo n (linksIn link) y steps (term₀ .0)) steps)
+
+abbrev μ-loop : tie.MeasureT-loop
+μ-loop link n until left term₀ steps₀ passed₀ term steps passed = left - steps
+
+pub follow-spec : {M : Type 1} → statement M
+follow-spec =
+    tie.close
+    (tie.spec
+    Inv-loop
+    μ-loop
+    -- loop-holds
+    (λ c. (c .pre .1, omega arith, sym (iterate-none _ _ 0 _ refl), follow-start _ _ _ _ _, λ y. bit-none y ∙ passed-none _ _ y _))
+    -- returns
+    (λ c.
+    let i = c .before .before .before .before .loop .inv in
+    (follow-there _ _ _ _ _ _ _ (i .3) (c .if1 .taken), i .2, i .4))
+    -- next-requires
+    (λ c κs. omega arith)
+    -- only-requires
+    (λ c κs. omega arith)
+    -- returns-2
+    (λ c.
+    let i = c .before .before .before .before .before .before .before .before .before .loop .inv in
+    let stuck = sym (c .before .before .before .before .next .ensures) ∙ c .if2 .taken in
+    (follow-stuck _ _ _ _ _ _ _ (i .3) (omega arith) (c .before .before .before .before .before .if1 .left) stuck, iterate-stuck _ _ _ _ _ _ (omega arith) (i .2) stuck, passed-ever _ _ _ _ _ _ _ (i .2) (i .4) (c .before .before .before .only .ensures) _ (omega arith) stuck))
+    -- add-steps
+    (λ c. omega arith)
+    -- loop-less
+    (λ c. omega arith)
+    -- loop-again
+    (λ c.
+    let i = c .before .before .before .before .before .before .before .before .before .loop .inv in
+    let e = c .before .before .before .before .next .ensures in
+    let l = next-le (c .before .before .before .before .before .before .before .before .before .before .args .n) (linksIn (c .before .before .before .before .before .before .before .before .before .before .args .link .now)) (c .before .before .before .before .before .before .before .before .before .loop .term .0) in
+    (omega arith, omega arith, iterate-turn _ _ _ _ _ _ (i .2) e, follow-turn _ _ _ _ _ _ _ _ (i .3) (omega arith) (c .before .before .before .before .before .if1 .left) e, passed-then _ _ _ _ _ _ _ (i .2) (i .4) (c .before .before .before .only .ensures)))
+    -- returns-3
+    (λ c.
+    let i = c .before .loop .inv in
+    (follow-end _ _ _ _ _ _ _ (i .3) (omega arith), i .2, i .4)))

@@ -1,0 +1,4 @@
+pub mod Bounded
+pub mod Each
+pub mod Taken
+pub mod Read

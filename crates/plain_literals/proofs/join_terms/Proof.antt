@@ -1,0 +1,48 @@
+-- Both terms are read through rep. Assumes nothing.
+use borrow.Author.Needs.{needs}
+use mathlib.Core.Path.{refl, sym, ap, _∙_, subst}
+use Rattle.logic.specs.Facts.{Joined, andThen}
+use Rattle.facts.specs.Path.{pathAs}
+use Rattle.facts.specs.Pairs.{joinedIn, Fits}
+use Rattle.plain_literals.specs.Taken.{joinOne, same}
+use Rattle.plain_literals.proofs.Bounded.{behind-bounded, rep-bounded, path-bounded}
+use Rattle.plain_literals.proofs.Taken.{read-bounded, join-plain}
+use Rattle.plain_literals.proofs.join_terms.Statement.{statement}
+use Rattle.plain_literals.proofs.join_terms.Tie as tie
+
+pub join-terms-spec : {M : Type 1} → statement M
+join-terms-spec =
+    tie.close
+    (tie.spec
+    -- read-rep-requires
+    (λ c κs. search needs)
+    -- read-rep-requires-2
+    (λ c κs. search needs)
+    -- join-requires
+    (λ c κs.
+    let a = c .before .before .before .before .before .before .before .before .before .before .before .before .before .args in
+    let p = c .before .before .before .before .before .before .before .before .before .before .before .before .before .pre .0 in
+    let e = c .before .before .before .before .before .before .before .before .before .before .before .read-rep .ensures in
+    let f = c .before .before .before .before .before .before .before .before .before .read-rep2 .ensures in (
+      (
+        p .0,
+        read-bounded (a .rep .now) (p .2) (a .left .0) _ (p .1 .left-within) e,
+        read-bounded (a .rep .now) (p .2) (a .right .0) _ (p .1 .right-within) f,
+        subst Fits (sym (join-plain (a .single) (a .rep .now) (a .link .now) (a .reach .now) (a .link2 .now) (a .reach2 .now) (a .link3 .now) (a .reach3 .now) (same (a .left .0) (a .right .0)) _ _ e f refl (a .n) _)) (p .3),
+      ),
+      c .before .before .before .before .before .before .before .before .before .before .before .before .before .pre .1,
+    ))
+    -- returns
+    (λ c.
+    let a = c .before .before .before .before .before .before .before .before .before .before .before .before .before .before .args in
+    let p = c .before .before .before .before .before .before .before .before .before .before .before .before .before .before .pre .0 in
+    let l = same (a .left .0) (a .right .0) in
+    let whole = c .join .ensures .0 ∙ join-plain (a .single) (a .rep .now) (a .link .now) (a .reach .now) (a .link2 .now) (a .reach2 .now) (a .link3 .now) (a .reach3 .now) l _ _ (c .before .before .before .before .before .before .before .before .before .before .before .before .read-rep .ensures) (c .before .before .before .before .before .before .before .before .before .before .read-rep2 .ensures) refl (a .n) _ in (
+      whole,
+      (
+        rep-bounded _ (andThen (joinedIn (a .single) (a .rep .now) (a .link .now) (a .reach .now) (a .link2 .now) (a .reach2 .now) (a .link3 .now) (a .reach3 .now) (a .kept .now) (a .replaced .now) (a .count)) (joinOne (a .n) l) .facts) (ap (λ (j : Joined). j .facts .rep) whole) (behind-bounded (a .n) l (joinedIn (a .single) (a .rep .now) (a .link .now) (a .reach .now) (a .link2 .now) (a .reach2 .now) (a .link3 .now) (a .reach3 .now) (a .kept .now) (a .replaced .now) (a .count)) (p .0) (p .1) (path-bounded (a .rep .now) (pathAs (a .single) (a .rep .now) (a .link .now) (a .reach .now) (a .link2 .now) (a .reach2 .now) (a .link3 .now) (a .reach3 .now)) refl (p .2))),
+        c .join .ensures .1 .0,
+        c .join .ensures .1 .1,
+        c .join .ensures .1 .2,
+      ),
+    )))

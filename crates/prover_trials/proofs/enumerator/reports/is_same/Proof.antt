@@ -1,0 +1,34 @@
+-- Safe, and ends: the measure is the count of bytes left. Assumes nothing.
+use Prim.Native.Nat.{_-_, _≤_}
+use borrow.Author.Needs.{needs}
+use Rattle.prover_trials.proofs.enumerator.reports.is_same.Statement.{statement}
+use Rattle.prover_trials.proofs.enumerator.reports.is_same.Tie as tie
+
+abbrev Inv-loop : tie.InvT-loop
+Inv-loop a b at₀ at = at ≤ 64
+
+abbrev μ-loop : tie.MeasureT-loop
+μ-loop a b at₀ at = 64 - at
+
+pub is-same-spec : {M : Type 1} → statement M
+is-same-spec =
+    tie.close
+    (tie.spec
+    Inv-loop
+    μ-loop
+    -- loop-holds
+    (λ c. search needs)
+    -- byte-requires
+    (λ c κs. search needs)
+    -- byte-requires-2
+    (λ c κs. search needs)
+    -- returns
+    (λ c. search needs)
+    -- add-at
+    (λ c. search needs)
+    -- loop-less
+    (λ c. search needs)
+    -- loop-again
+    (λ c. search needs)
+    -- returns-2
+    (λ c. search needs))

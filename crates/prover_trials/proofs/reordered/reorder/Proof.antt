@@ -1,0 +1,36 @@
+-- Safe, and ends: the measure is the count of equalities left. Assumes nothing.
+use lib.ListN.{length}
+use Prim.Native.Nat.{_-_, _≤_}
+use borrow.Author.Needs.{needs}
+use mathlib.Core.Path.{_≡_}
+use Rattle.prover_trials.proofs.reordered.reorder.Statement.{statement}
+use Rattle.prover_trials.proofs.reordered.reorder.Tie as tie
+
+abbrev Inv-loop : tie.InvT-loop
+Inv-loop from to₀ at count by backwards i₀ to i = (i ≤ count) × (length to ≡ length to₀)
+
+abbrev μ-loop : tie.MeasureT-loop
+μ-loop from to₀ at count by backwards i₀ to i = count - i
+
+pub reorder-spec : {M : Type 1} → statement M
+reorder-spec =
+    tie.close
+    (tie.spec
+    Inv-loop
+    μ-loop
+    -- loop-holds
+    (λ c. search needs)
+    -- moved-requires
+    (λ c κs. search needs)
+    -- move-entry-requires
+    (λ c κs. search needs)
+    -- add-i
+    (λ c. search needs)
+    -- loop-less
+    (λ c. search needs)
+    -- loop-again
+    (λ c. search needs)
+    -- same-length
+    (λ c. search needs)
+    -- returns
+    (λ c. search needs))

@@ -1,0 +1,3 @@
+pub mod Nested
+pub mod Searches
+pub mod Rounds

@@ -1,0 +1,21 @@
+-- A path of a single link, or of three. Assumes nothing.
+use borrow.Author.Needs.{needs}
+use mathlib.Core.Path.{sym, _∙_}
+use Rattle.rule_choice.proofs.Nested.{choose-single, choose-three}
+use Rattle.rule_choice.proofs.choose.Statement.{statement}
+use Rattle.rule_choice.proofs.choose.Tie as tie
+
+pub choose-spec : {M : Type 1} → statement M
+choose-spec =
+    tie.close
+    (tie.spec
+    -- live-requires
+    (λ c κs. search needs)
+    -- choose-by-requires
+    (λ c κs. search needs)
+    -- returns
+    (λ c. c .choose-by .ensures ∙ sym (choose-single _ _ _ _ _ _ _ _ _ (c .before .before .before .before .args .order .now) _ (c .before .before .live .ensures) (c .before .if1 .taken)))
+    -- choose-any-requires
+    (λ c κs. search needs)
+    -- returns-2
+    (λ c. c .choose-any .ensures ∙ sym (choose-three _ _ _ _ _ _ _ _ _ (c .before .before .before .before .args .order .now) _ (c .before .before .live .ensures) (c .before .if1 .left))))

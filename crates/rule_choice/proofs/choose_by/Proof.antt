@@ -1,0 +1,59 @@
+-- What is left of the order list finds what the whole does. Assumes nothing.
+use Prim.Native.Nat.{_-_, _≤_}
+use native.Mathlib.Omega.{arith}
+use borrow.Author.Needs.{needs}
+use mathlib.Core.Path.{_≡_, refl, sym, ap, _∙_}
+use mathlib.Core.Bool.{true, false≢true}
+use lib.ListN.{length, drop}
+use Rattle.logic.specs.Search.{firstOf}
+use Rattle.facts.specs.Bits.{bit}
+use Rattle.facts.specs.Square.{Turned}
+use Rattle.facts.specs.Path.{graphOf}
+use Rattle.rules.specs.Answers.{choiceOf}
+use Rattle.rule_choice.specs.Smallest.{triedAt}
+use Rattle.rule_choice.proofs.Nested.{rest-end, rest-here, rest-next}
+use Rattle.rule_choice.proofs.Searches.{turned-kept, turned-now}
+use Rattle.rule_choice.proofs.choose_by.Statement.{statement}
+use Rattle.rule_choice.proofs.choose_by.Tie as tie
+
+abbrev Inv-loop : tie.InvT-loop
+Inv-loop k order alive link reach n back₀ turned₀ i₀ back turned i =
+    (i ≤ length order)
+    × (firstOf (triedAt (k .0) n (bit alive) (graphOf link reach)) order ≡ firstOf (triedAt (k .0) n (bit alive) (graphOf link reach)) (drop i order))
+    × (turned ≡ true → Turned back reach)
+
+abbrev μ-loop : tie.MeasureT-loop
+μ-loop k order alive link reach n back₀ turned₀ i₀ back turned i = length order - i
+
+pub choose-by-spec : {M : Type 1} → statement M
+choose-by-spec =
+    tie.close
+    (tie.spec
+    Inv-loop
+    μ-loop
+    -- loop-holds
+    (λ c. (omega arith, refl, λ e. absurd (false≢true e)))
+    -- shared-slice-read-looks-back
+    (λ c. omega arith)
+    -- looks-back-requires
+    (λ c κs. search needs)
+    -- turned-once-requires
+    (λ c κs. search needs)
+    -- shared-slice-read-tried
+    (λ c. omega arith)
+    -- tried-requires
+    (λ c κs. (c .before .before .before .before .before .before .before .before .pre, λ e. turned-now _ _ _ _ _ (c .before .before .before .before .before .before .loop .inv .2) (c .before .before .turned-once .ensures .0) (c .before .before .turned-once .ensures .1) (c .before .before .before .looks-back .ensures ∙ e)))
+    -- enum-known-l
+    (λ c. search needs)
+    -- returns
+    (λ c. sym (c .before .before .before .before .before .before .before .before .before .before .loop .inv .1 ∙ rest-here _ (c .before .before .before .before .before .before .before .before .before .before .before .before .args .order .now) (c .before .before .before .before .before .before .before .before .before .before .loop .i) _ (omega arith) (sym (c .before .before .before .tried .ensures) ∙ ap choiceOf (c .before .l .given .1))))
+    -- enum-told
+    (λ c. search needs)
+    -- add-i
+    (λ c. omega arith)
+    -- loop-less
+    (λ c. omega arith)
+    -- loop-again
+    (λ c. (omega arith, c .before .before .before .before .before .before .before .before .before .loop .inv .1 ∙ rest-next _ (c .before .before .before .before .before .before .before .before .before .before .before .args .order .now) (c .before .before .before .before .before .before .before .before .before .loop .i) (omega arith) (sym (c .before .before .tried .ensures) ∙ ap choiceOf (c .enum-told .given .1)), turned-kept _ _ _ _ _ (c .before .before .before .before .before .before .before .before .before .loop .inv .2) (c .before .before .before .before .before .turned-once .ensures .0) (c .before .before .before .before .before .turned-once .ensures .1)))
+    -- returns-2
+    (λ c. sym (c .before .loop .inv .1 ∙ rest-end _ (c .before .before .before .args .order .now) (c .before .loop .i) (omega arith))))

@@ -1,0 +1,49 @@
+-- What is left to search equals the whole. Assumes nothing.
+use Prim.Native.Nat.{_+_, _-_}
+use native.Mathlib.Omega.{arith}
+use borrow.Author.Needs.{needs}
+use mathlib.Core.Path.{_≡_, refl, sym, ap, _∙_}
+use Rattle.logic.specs.Search.{from, firstOf}
+use Rattle.facts.specs.Path.{graphOf}
+use Rattle.facts.proofs.Loops.{first-end, first-here, first-next}
+use Rattle.rules.specs.Answers.{kindOf}
+use Rattle.rule_choice.specs.Answers.{placeOf}
+use Rattle.facts.specs.Bits.{bit}
+use Rattle.rule_choice.specs.Smallest.{inSecond, inFirst}
+use Rattle.rule_choice.proofs.smallest.Statement.{statement}
+use Rattle.rule_choice.proofs.smallest.Tie as tie
+
+abbrev Inv-loop : tie.InvT-loop
+Inv-loop rule alive link reach back n x₀ x = inFirst n (bit alive) (graphOf link reach) (kindOf rule) ≡ firstOf (inSecond n (bit alive) (graphOf link reach) (kindOf rule)) (from (n + 1 - x) x)
+
+abbrev μ-loop : tie.MeasureT-loop
+μ-loop rule alive link reach back n x₀ x = n + 1 - x
+
+loop-holds : tie.Need-loop-holds Inv-loop μ-loop
+unfolding inFirst
+-- loop-holds
+loop-holds c = refl
+
+pub smallest-spec : {M : Type 1} → statement M
+smallest-spec =
+    tie.close
+    (tie.spec
+    Inv-loop
+    μ-loop
+    loop-holds
+    -- in-second-requires
+    (λ c κs. let s = c .before .before in (s .pre .0, omega arith, s .pre .1))
+    -- enum-known-a
+    (λ c. search needs)
+    -- returns
+    (λ c. sym (c .before .before .before .before .before .loop .inv ∙ first-here _ _ _ _ (omega arith) (sym (c .before .before .before .in-second .ensures) ∙ ap placeOf (c .before .a .given .1))))
+    -- enum-told
+    (λ c. search needs)
+    -- add-x
+    (λ c. omega arith)
+    -- loop-less
+    (λ c. omega arith)
+    -- loop-again
+    (λ c. c .before .before .before .before .loop .inv ∙ first-next _ _ _ (omega arith) (sym (c .before .before .in-second .ensures) ∙ ap placeOf (c .enum-told .given .1)))
+    -- returns-2
+    (λ c. sym (c .before .loop .inv ∙ first-end _ _ _ (omega arith))))
