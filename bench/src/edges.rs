@@ -4,11 +4,11 @@ use crate::generate::{Draft, Random};
 
 const ORDER: [u8; 8] = [1, 2, 3, 4, 5, 6, 7, 8];
 
-fn under(order: &[u8], query: &[u8]) -> Vec<u8> {
+pub fn under(order: &[u8], query: &[u8]) -> Vec<u8> {
     [order, query].concat()
 }
 
-fn plain(query: &[u8]) -> Vec<u8> {
+pub fn plain(query: &[u8]) -> Vec<u8> {
     under(&ORDER, query)
 }
 
@@ -208,6 +208,17 @@ fn single_faults(all: &mut Vec<Vec<u8>>) {
     all.push(plain(&[0, 0, 0, 1, 1, 1, 1, 0]));
 }
 
+/// A query with the fault at `i` and one of those before it, each in turn: a fault is a place and the byte put there.
+pub fn two_faults(query: &[u8], faults: &[(usize, u8)], i: usize) -> Vec<Vec<u8>> {
+    let with = |&(second, other): &(usize, u8)| {
+        let mut bad = query.to_vec();
+        bad[faults[i].0] = faults[i].1;
+        bad[second] = other;
+        plain(&bad)
+    };
+    faults[..i].iter().map(with).collect()
+}
+
 /// Two faults at once: the lower refusal is met first, wherever it stands; of one kind, the lower place.
 fn double_faults(all: &mut Vec<Vec<u8>>) {
     // One fault each of 5, 6, 7, 8 (places early and late), see `middle`.
@@ -226,12 +237,7 @@ fn double_faults(all: &mut Vec<Vec<u8>>) {
         (23, 9),
     ];
     for (i, &(first, one)) in faults.iter().enumerate() {
-        for &(second, other) in &faults[..i] {
-            let mut bad = middle();
-            bad[first] = one;
-            bad[second] = other;
-            all.push(plain(&bad));
-        }
+        all.extend(two_faults(&middle(), &faults, i));
         // With a fault of length: too short, a count too high, bytes that follow; and a bad order list.
         let mut bad = middle();
         bad[first] = one;

@@ -1,18 +1,11 @@
 //! Inputs at the edges of queries with three links (02, R-11): CYCLE by each link with all of its alternatives, every refusal at several
 //! places and two faults at once, the fewest and the most bytes, nil, long paths and long derivations.
 
+use crate::edges::{plain, two_faults, under};
 use crate::generate::{self, Draft, Random};
 use crate::{linkheaps, links, long};
 
 const ORDER: [u8; 8] = [1, 2, 3, 4, 5, 6, 7, 8];
-
-fn under(order: &[u8], query: &[u8]) -> Vec<u8> {
-    [order, query].concat()
-}
-
-fn plain(query: &[u8]) -> Vec<u8> {
-    under(&ORDER, query)
-}
 
 /// A query with links 1, 2, 3, 1 and so on, from `first`, in the order of its link bytes.
 fn mixed(draft: &Draft, first: u8) -> Vec<u8> {
@@ -178,12 +171,7 @@ fn double_faults(all: &mut Vec<Vec<u8>>) {
         (28, 9),
     ];
     for (i, &(first, one)) in faults.iter().enumerate() {
-        for &(second, other) in &faults[..i] {
-            let mut bad = middle();
-            bad[first] = one;
-            bad[second] = other;
-            all.push(plain(&bad));
-        }
+        all.extend(two_faults(&middle(), &faults, i));
         // With a fault of length: too short, a count too high, bytes that follow, booleans; and a bad order list.
         let mut bad = middle();
         bad[first] = one;
