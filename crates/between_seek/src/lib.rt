@@ -1,5 +1,5 @@
 // The search for the first small heap that satisfies a query with between literals.
-use facts::Term;
+use rows::Term;
 use query::Layout;
 ghost use mathlib.Core.Path.{_≡_};
 ghost use mathlib.Core.Bool.{not};

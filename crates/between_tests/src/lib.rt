@@ -1,5 +1,5 @@
 // The tests of one choice of a term's node: over the query's bytes in place, and tables that are made once for a list of links or a query.
-use facts::Term;
+use rows::Term;
 use heap_nodes::Node;
 use query::Layout;
 ghost use mathlib.Core.Path.{_≡_};

@@ -3,7 +3,7 @@
 use clash::Clash;
 use facts::Facts;
 use facts::Link;
-use facts::Term;
+use rows::Term;
 use query::Layout;
 use rules::Choice;
 use rules::Rule;

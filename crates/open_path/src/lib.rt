@@ -4,7 +4,7 @@ use decide::Kind;
 use decide::Walked;
 use facts::Facts;
 use facts::Link;
-use facts::Term;
+use rows::Term;
 use query::Layout;
 use rules::Rule;
 use rules::Third;
