@@ -1,7 +1,7 @@
 // The branches of a rule: its alternatives, left to right, each joined or added.
 use facts::Facts;
-use joins::Joined;
 use facts::Link;
+use joins::Joined;
 use joins::Pairs;
 use rows::Term;
 use rules::Rule;

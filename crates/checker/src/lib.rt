@@ -1,12 +1,12 @@
 // Derivations from elsewhere: their lines are read in place, one after the other, each where it stands.
 use clash::Clash;
 use facts::Facts;
-use joins::Joined;
 use facts::Link;
+use joins::Joined;
 use joins::Pairs;
-use rows::Term;
 use query::Checked;
 use query::Layout;
+use rows::Term;
 use rules::Numbered;
 use rules::Rule;
 use rules::Third;

@@ -1,7 +1,7 @@
 // The clash of a path, over the query's bytes in place.
 use facts::Facts;
-use rows::Term;
 use query::Layout;
+use rows::Term;
 ghost use mathlib.Core.Path.{_≡_};
 ghost use mathlib.Core.Bool.{not};
 ghost use Prim.Native.Nat.{ℕ, _+_, _*_, _≤_, _<_};

@@ -9,8 +9,8 @@ ghost use Rattle.logic.specs.Rules.{next};
 ghost use Rattle.logic.specs.Shown.{reached, inBasin, onPath, basinLink, treeLink, newLink, linkEach, shownLink};
 ghost use Rattle.completion.specs.Links.{linkOf, InRange, reachIn, begins, beginsWithout, coversAll};
 use facts::Facts;
-use rows::Found;
 use facts::Link;
+use rows::Found;
 use rows::Term;
 
 // The successor of t, or 0 where it has none.

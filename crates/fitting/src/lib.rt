@@ -1,7 +1,7 @@
 // One line at one path, whatever numbers it holds: whether a rule applies at a triple, and whether a clash is a true one.
 use facts::Facts;
-use rows::Term;
 use query::Layout;
+use rows::Term;
 use rules::Rule;
 ghost use mathlib.Core.Path.{_≡_};
 ghost use mathlib.Core.Bool.{Bool, true};

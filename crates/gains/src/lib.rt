@@ -1,8 +1,8 @@
 // The place of a branching rule whose alternatives would add most facts, as far as counting tells. That the rule applies there is proved; that
 // no other place would add more is not, since no verdict rests on it.
 use facts::Facts;
-use rows::Found;
 use facts::Link;
+use rows::Found;
 use rows::Term;
 use rules::Choice;
 use rules::Rule;

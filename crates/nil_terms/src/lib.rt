@@ -1,6 +1,6 @@
 // Nil taken into a path: the terms that name it are joined to the lowest, and each of its links goes to itself.
-use rows::Term;
 use query::Layout;
+use rows::Term;
 ghost use mathlib.Core.Path.{_≡_};
 ghost use mathlib.Core.List.{List};
 ghost use Prim.Native.Nat.{ℕ, _+_, _≤_};

@@ -1,6 +1,6 @@
 // The plain literals of a query taken into a path: its equalities are joined, its reachability facts are added.
-use rows::Term;
 use query::Layout;
+use rows::Term;
 ghost use mathlib.Core.Path.{_≡_};
 ghost use mathlib.Core.Bool.{Bool, cond};
 ghost use mathlib.Core.List.{List};

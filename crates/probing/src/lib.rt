@@ -2,10 +2,10 @@
 // That the rule applies there is proved; that the alternative clashes is not, since no verdict rests on it.
 use clash::Clash;
 use facts::Facts;
-use rows::Found;
 use facts::Link;
-use rows::Term;
 use query::Layout;
+use rows::Found;
+use rows::Term;
 use rules::Choice;
 use rules::Rule;
 use rules::Third;

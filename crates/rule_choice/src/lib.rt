@@ -1,6 +1,6 @@
 // The choice of a rule: the first that applies, at the smallest triple.
-use rows::Found;
 use facts::Link;
+use rows::Found;
 use rows::Term;
 use rules::Choice;
 use rules::Numbered;

@@ -1,6 +1,6 @@
 // The links that section 1 of a query says.
-use rows::Term;
 use query::Layout;
+use rows::Term;
 ghost use mathlib.Core.Path.{_≡_};
 ghost use Prim.Native.Nat.{_<_};
 ghost use Rattle.logic.specs.Facts.{linksOf};

@@ -1,10 +1,10 @@
 // Places of the branching rules where at most one alternative is left, once those that would clash at once are struck. That the rule applies
 // at a place is proved; that so few alternatives are left is not, since no verdict rests on it. The rows that such searches read are here too.
 use facts::Facts;
-use rows::Found;
 use facts::Link;
-use rows::Term;
 use query::Layout;
+use rows::Found;
+use rows::Term;
 use rules::Choice;
 use rules::Rule;
 use rules::Third;

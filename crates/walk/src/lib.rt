@@ -2,8 +2,8 @@
 use clash::Clash;
 use facts::Link;
 use joins::Pairs;
-use rows::Term;
 use query::Layout;
+use rows::Term;
 use rules::Choice;
 use rules::Rule;
 use rules::Third;
