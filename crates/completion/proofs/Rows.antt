@@ -13,7 +13,7 @@ use lib.Dec.{eqb, ltb}
 use borrow.Author.Tests.{lt-ltb, ltb-true, eq-eqb, ne-eqb}
 use Rattle.logic.specs.Search.{_and_, _or_, from, any, find}
 use Rattle.logic.specs.Shown.{reached, onPath, basinLink}
-use Rattle.theory.proofs.Basics.Search.{bool-cases, true-false, not-of, and-left, and-right, any-true, any-intro, find-some, from-mem, from-intro}
+use Rattle.theory.proofs.Basics.Search.{true-false, not-of, and-left, and-right, any-true, any-intro, find-some, from-mem, from-intro}
 use Rattle.theory.proofs.Basics.Compare.{eq-cases}
 use Rattle.rows.specs.Bits.{bit}
 use Rattle.rows.specs.Square.{square}

@@ -1,5 +1,4 @@
 -- What v reaches, less where links lead. Assumes nothing.
-use native.Mathlib.Omega.{arith}
 use borrow.Author.Needs.{needs}
 use Rattle.completion.specs.Links.{linkOf}
 use Rattle.completion.proofs.Rows.{heads-row}

@@ -64,9 +64,9 @@ link-each-spec =
     (λ c.
     let l = c .before .before .before .before .before .before .before .before .loop in
     let given =
-        link-new _ _ _ (l .out) (l .v)
-        (remains _ (l .out) (l .v) _ _ (omega arith) (c .before .before .before .before .before .wide .ensures .0) (c .before .before .before .before .wide2 .ensures .0) ∙ not-false _ (c .before .before .before .if1 .left))
-        (c .before .new-link .ensures) in (
+    link-new _ _ _ (l .out) (l .v)
+    (remains _ (l .out) (l .v) _ _ (omega arith) (c .before .before .before .before .before .wide .ensures .0) (c .before .before .before .before .wide2 .ensures .0) ∙ not-false _ (c .before .before .before .if1 .left))
+    (c .before .new-link .ensures) in (
       simp length-set (l .inv .0),
       turn-range _ _ _ (l .out) (l .inv .0) (l .v) (omega arith) (omega arith) _ given (l .inv .1),
       l .inv .2 ∙ link-turn _ _ _ (l .out) (l .inv .0) (l .v) (omega arith) (omega arith) _ given,
