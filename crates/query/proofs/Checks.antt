@@ -74,6 +74,11 @@ module _ (form : Form) (bytes : List ℕ) where
   unfolding byteAnswer Option·elim
   answer-none k e = rw e
 
+  pub no-answer : ((k : ℕ) → byteFault form k bytes ≡ none) → (ks : List ℕ) → firstOf byteAnswer ks ≡ none
+  unfolding firstOf orElse
+  no-answer h [] = refl
+  no-answer h (k ∷ ks) = rw (answer-none k (h k)) (no-answer h ks)
+
   pub byte-checks : (ps : List (List ℕ)) → layoutBy form bytes ≡ parts ps → (i : Input) → i .query ≡ bytes → refusalOf (formChecks form) i ≡ firstOf byteAnswer (from (9 - 5) 5)
   unfolding refusalOf formChecks layoutCheck byteCheck layoutFault faultIn firstOf orElse Option·elim byteAnswer from
   byte-checks ps e i q = rw (q, e)

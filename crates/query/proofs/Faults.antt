@@ -3,6 +3,7 @@ use Prim.Native.Nat.{ℕ, zero, suc, _+_, _*_}
 use native.Mathlib.Nat.{suc-mul, zero-mul}
 use native.Mathlib.Omega.{arith}
 use mathlib.Core.Path.{_≡_, refl, sym, ap, _∙_}
+use mathlib.Core.Bool.{Bool, _&&_}
 use mathlib.Core.List.{List, [], _∷_, _++_}
 use mathlib.Core.Option.{Option}
 use lib.ListN.{length, drop, length-append}
@@ -11,12 +12,15 @@ use Rattle.logic.specs.Search.{from, orElse, flatMap}
 use Rattle.logic.specs.Query.{Role, Section, countRole, rolesOf, firstByte, roleFault, byteFault}
 use Rattle.entries.specs.declared.Kind.{Kind}
 use Rattle.entries.specs.declared.Kind.the-variants as kind
-use Rattle.entries.specs.Entries.{widthOf, rolesAt, sectionFault}
+use Rattle.entries.specs.Entries.{widthOf, rolesAt, sectionFault, Passes}
 use Rattle.entries.proofs.Loops.{drop-next}
 use Rattle.entries.proofs.Faults.{orElse-last, free-first, append-at, roles-regular}
+use Rattle.entries.proofs.Passes.{both-none, both}
+use Rattle.query.specs.declared.Layout.{Layout}
 use Rattle.query.specs.declared.FullLayout.{FullLayout}
 use Rattle.query.specs.Forms.{entryKind, reachKind, sectionOf, formBy}
 use Rattle.query.specs.Sections.{Stands, Sections}
+use Rattle.query.specs.Answers.{PassesIn}
 
 section-length : (kind : Kind) (n count i : ℕ) → length (flatMap (rolesAt kind n) (from count i)) ≡ count * widthOf kind
 unfolding flatMap from
@@ -77,3 +81,20 @@ module _ (k : ℕ) (full : FullLayout) (bytes : List ℕ) where
 
       links : ℕ
       links = full .layout .links
+
+-- where the tests of the five sections pass, no byte meets a refusal
+module _ (full : FullLayout) (bytes : List ℕ) (s : Sections full bytes) where
+  abbrev l : Layout
+  l = full .layout
+
+  abbrev SectionPasses : Bool → Kind → ℕ → ℕ → Type 0
+  SectionPasses b kind at count = Passes b (λ k. sectionFault k kind (l .terms) at count bytes)
+
+  pub sections-pass : (a b c d e : Bool) → SectionPasses a (entryKind (l .links)) 1 (l .terms) → SectionPasses b kind.Pairs (l .«equal_at») (l .«equal_count») → SectionPasses c (reachKind (l .links)) (l .«reach_at») (l .«reach_count») → SectionPasses d kind.Fields (l .«field_at») (l .«field_count») → SectionPasses e kind.Booleans (full .«boolean_at») (full .«boolean_count») → PassesIn ((((a && b) && c) && d) && e) (l .links) bytes
+  sections-pass a b c d e pa pb pc pd pe most excess h k =
+      let (h₄, he) = both _ e h in
+      let (h₃, hd) = both _ d h₄ in
+      let (h₂, hc) = both _ c h₃ in
+      let (ha, hb) = both a b h₂ in
+      byte-faults k full bytes s most excess
+      ∙ both-none (pa ha k) (both-none (pb hb k) (both-none (pc hc k) (both-none (pd hd k) (pe he k))))

@@ -1,12 +1,13 @@
 -- The code's answers in the words of the definitions.
 use Prim.Native.Nat.{ℕ, _≤_}
 use mathlib.Core.Path.{_≡_}
+use mathlib.Core.Bool.{Bool}
 use mathlib.Core.List.{List, [], _∷_, List·Memᴰ}
 use mathlib.Core.Option.{none, some}
 use Rattle.logic.specs.Query.{Form, fiveSections, faulty, layoutBy, byteFault}
 use Rattle.logic.specs.Calls.{Input, formChecks, queryChecks, refused, refusalOf}
 use Rattle.entries.specs.declared.Found.{Found}
-use Rattle.entries.specs.Entries.{foundOf}
+use Rattle.entries.specs.Entries.{foundOf, Passes}
 use Rattle.query.specs.Forms.{formBy}
 use Rattle.query.specs.Sections.{Sections}
 use Rattle.query.specs.LaysOut.{LaysOut, FullLaysOut}
@@ -19,6 +20,10 @@ use Rattle.query.specs.declared.FullChecked.the-variants as full
 -- the lowest byte that meets refusal k of 5 to 8, however many booleans pass
 abbrev pub FoundIn : Found → ℕ → ℕ → List ℕ → Type 0
 FoundIn r k links bytes = (most excess : ℕ) → foundOf r ≡ byteFault (formBy links most excess) k bytes
+
+-- where the test passes, no byte meets one of them
+abbrev pub PassesIn : Bool → ℕ → List ℕ → Type 0
+PassesIn r links bytes = (most excess : ℕ) → Passes r (λ k. byteFault (formBy links most excess) k bytes)
 
 -- the refusal of the walk from the front, or the sections
 abbrev pub LaidOut : FullChecked → List ℕ → ℕ → ℕ → ℕ → Type 0

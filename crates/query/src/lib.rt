@@ -9,7 +9,7 @@ ghost use Rattle.logic.specs.Query.{isOrder};
 ghost use Rattle.query.specs.Forms.{entryKind, reachKind};
 ghost use Rattle.query.specs.Sections.{ReadAs, Sections};
 ghost use Rattle.query.specs.LaysOut.{literalIn};
-ghost use Rattle.query.specs.Answers.{FoundIn, LaidOut, BytesChecked, FullCheckedAs, CheckedAs};
+ghost use Rattle.query.specs.Answers.{FoundIn, PassesIn, LaidOut, BytesChecked, FullCheckedAs, CheckedAs};
 
 // Where the sections of a query stand: the first byte of each behind its count, and the count. The terms stand at 1. With one link the query
 // has the form of 01, and with three that of 02, R-11.
@@ -216,11 +216,35 @@ fn byte_fault(k: usize, query: &[u8], full: FullLayout) -> entries::Found
     )
 }
 
-// Refusals 5 to 8, of a query that is laid out.
+// No byte meets a refusal 5 to 8.
+fn bytes_pass(query: &[u8], full: FullLayout) -> bool
+    requires { ⌜ Sections full (now query) ⌝ }
+    ensures { λ r. ⌜ PassesIn r (full .layout .links) (now (query .entry)) ⌝ }
+{
+    let l = full.layout;
+    let n = l.terms;
+    let terms = entries::section_passes(entry_kind(l.links), n, query, 1, n);
+    let equal = entries::section_passes(entries::Kind::Pairs, n, query, l.equal_at, l.equal_count);
+    let reach = entries::section_passes(reach_kind(l.links), n, query, l.reach_at, l.reach_count);
+    let field = entries::section_passes(entries::Kind::Fields, n, query, l.field_at, l.field_count);
+    let boolean = entries::section_passes(
+        entries::Kind::Booleans,
+        n,
+        query,
+        full.boolean_at,
+        full.boolean_count,
+    );
+    terms & equal & reach & field & boolean
+}
+
+// Refusals 5 to 8, of a query that is laid out. Most queries pass, which one look at each byte tells: only the others are searched.
 pub fn check_bytes(query: &[u8], full: FullLayout) -> FullChecked
     requires { ⌜ Sections full (now query) ⌝ }
     ensures { λ r. ⌜ BytesChecked r full (now (query .entry)) ⌝ }
 {
+    if bytes_pass(query, full) {
+        return FullChecked::Accepted(full);
+    }
     let mut k: usize = 5;
     while k < 9 {
         match byte_fault(k, query, full) {

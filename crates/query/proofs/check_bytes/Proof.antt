@@ -8,7 +8,7 @@ use Rattle.logic.specs.Calls.{Input, formChecks, refusalOf}
 use Rattle.entries.specs.Entries.{foundOf}
 use Rattle.rows.proofs.Loops.{first-end, first-here, first-next}
 use Rattle.query.specs.Forms.{formBy}
-use Rattle.query.proofs.Checks.{byteAnswer, answer-some, answer-none, byte-checks, laid-out}
+use Rattle.query.proofs.Checks.{byteAnswer, answer-some, answer-none, no-answer, byte-checks, laid-out}
 use Rattle.query.proofs.check_bytes.Statement.{statement}
 use Rattle.query.proofs.check_bytes.Tie as tie
 
@@ -25,13 +25,17 @@ check-bytes-spec =
     (tie.spec
     Inv-loop
     μ-loop
+    -- bytes-pass-requires
+    (λ c κs. c .before .pre)
+    -- returns
+    (λ c most excess few. (λ i q. byte-checks _ _ _ (laid-out _ _ (c .before .before .before .pre) most excess few) i q ∙ no-answer _ _ (c .before .bytes-pass .ensures most excess (c .if1 .taken)) _, refl))
     -- loop-holds
-    (λ c most excess few. byte-checks _ _ _ (laid-out _ _ (c .before .pre) most excess few))
+    (λ c most excess few. byte-checks _ _ _ (laid-out _ _ (c .before .before .before .pre) most excess few))
     -- byte-fault-requires
-    (λ c κs. c .before .before .before .pre)
+    (λ c κs. c .before .before .before .before .before .pre)
     -- enum-known-place
     (λ c. search needs)
-    -- returns
+    -- returns-2
     (λ c most excess few i q. c .before .before .before .before .before .loop .inv most excess few i q ∙ first-here _ _ _ _ (c .before .before .before .before .loop-test .taken) (answer-some _ _ _ _ (sym (c .before .before .before .byte-fault .ensures most excess) ∙ ap foundOf (c .before .place .given .1))))
     -- enum-told
     (λ c. search needs)
@@ -41,5 +45,5 @@ check-bytes-spec =
     (λ c. omega arith)
     -- loop-again
     (λ c most excess few i q. c .before .before .before .before .loop .inv most excess few i q ∙ first-next _ _ _ (c .before .before .before .loop-test .taken) (answer-none _ _ _ (sym (c .before .before .byte-fault .ensures most excess) ∙ ap foundOf (c .enum-told .given .1))))
-    -- returns-2
+    -- returns-3
     (λ c most excess few. (λ i q. c .before .loop .inv most excess few i q ∙ first-end _ _ _ (c .loop-test .left), refl)))
