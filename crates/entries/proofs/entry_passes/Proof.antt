@@ -2,7 +2,7 @@
 use native.Mathlib.Omega.{arith}
 use borrow.Author.Needs.{needs}
 use mathlib.Core.Path.{_∙_}
-use Rattle.logic.specs.Query.{termRole, numberRole, entryRole}
+use Rattle.logic.specs.Query.{termRole, numberRole}
 use Rattle.byte_tests.specs.Meets.{countedRole}
 use Rattle.entries.proofs.Faults.{term-roles, flag-roles, literal-roles, linked-term-roles, linked-pair-roles}
 use Rattle.entries.proofs.Passes.{byte-passes, flag-passes, literal-passes}
