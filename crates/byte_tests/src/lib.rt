@@ -1,4 +1,4 @@
-// The tests of single bytes of a query: what the byte of a term, a sign, a number and a link are held to.
+// The tests of single bytes of a query: what the byte of a term, a sign, a number and a link are held to, and whether one meets refusal k.
 ghost use mathlib.Core.Path.{_≡_};
 ghost use Rattle.logic.specs.Query.{entryRole, signRole};
 ghost use Rattle.logic.specs.ThreeLinks.{isLink, mayPrecede};
@@ -32,7 +32,7 @@ pub fn sign_refused(k: usize, byte: usize) -> bool
     (6 == k) & !allowed
 }
 
-// A number is not 1 to `most`; its refusal is `own`.
+// A number is 1 to `most`, or meets its refusal, `own`.
 pub fn number_allowed(most: usize, byte: usize) -> bool
     ensures { λ b. ⌜ b ≡ counted most byte ⌝ }
 {
