@@ -11,7 +11,7 @@ use Rattle.logic.specs.Calls.{Input, Answer, refused, layoutCheck, byteCheck, f
 use Rattle.theory.proofs.Basics.Search.{none-some}
 use Rattle.theory.proofs.Query.AcceptedBytes.{sections-excesses}
 use Rattle.theory.proofs.Calls.Refusals.{refused-one}
-use Rattle.query.proofs.Checks.{layout-refused}
+use Rattle.query_checks.proofs.Checks.{layout-refused}
 
 some-one : {A : Type 0} {a b : A} → some a ≡ some b → a ≡ b
 some-one e = cc

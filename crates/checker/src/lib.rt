@@ -4,8 +4,8 @@ use facts::Facts;
 use facts::Link;
 use joins::Joined;
 use joins::Pairs;
-use query::Checked;
 use query::Layout;
+use query_checks::Checked;
 use rows::Term;
 use rules::Numbered;
 use rules::Rule;
@@ -343,7 +343,7 @@ fn judge(query: &[u8], layout: Layout, derivation: &[u8]) -> CheckAnswer
 pub fn check(query: &[u8], derivation: &[u8]) -> CheckAnswer
     ensures { λ r. ⌜ meaning r ≡ checkCall (now (query .entry)) (now (derivation .entry)) ⌝ }
 {
-    match query::check(query) {
+    match query_checks::check(query) {
         Checked::Refused(k, place) => CheckAnswer::Refused(k, place),
         Checked::Accepted(layout) => {
             if !is_shaped(derivation) {

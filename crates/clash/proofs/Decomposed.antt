@@ -8,7 +8,8 @@ use lib.ListN.{length}
 use Rattle.logic.specs.Search.{_and_, _or_, from, keep, orElse, firstOf, find, flatMap}
 use Rattle.logic.specs.Query.{Literal, Query}
 use Rattle.logic.specs.Facts.{Facts, Line, line, negatedAt, plainAt, isClash, clashLines, clash}
-use Rattle.clash.specs.Sections.{oneTerm, reachHeld, sameField, alone, paired, pathClash}
+use Rattle.literal_tests.specs.Tests.{oneTerm, reachHeld, sameField}
+use Rattle.clash.specs.Sections.{alone, paired, pathClash}
 
 -- Searches of lists that are made of lists
 

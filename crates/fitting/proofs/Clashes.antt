@@ -16,7 +16,8 @@ use Rattle.facts.specs.declared.Facts as code
 use Rattle.query.specs.declared.Layout.{Layout}
 use Rattle.query.proofs.Literals.{listed, listed-length}
 use Rattle.link_query.specs.Said.{said}
-use Rattle.clash.specs.Sections.{literalsIn, oneTerm, reachHeld, sameField}
+use Rattle.literal_tests.specs.Tests.{oneTerm, reachHeld, sameField}
+use Rattle.clash.specs.Sections.{literalsIn}
 use Rattle.clash.proofs.Sections.{negated-at, plain-at}
 
 -- Literals at places from 1: there is none at 0, nor past the end

@@ -17,7 +17,8 @@ ghost use Rattle.link_query.specs.Said.{said, Within};
 ghost use Rattle.rules.specs.Answers.{kindOf};
 ghost use Rattle.rules.specs.Tests.{pairTest, thirdTest, looped};
 ghost use Rattle.rules.specs.Allowed.{allowed};
-ghost use Rattle.clash.specs.Sections.{literalsIn, oneTerm, reachHeld, sameField};
+ghost use Rattle.literal_tests.specs.Tests.{oneTerm, reachHeld, sameField};
+ghost use Rattle.clash.specs.Sections.{literalsIn};
 
 // Term t is not replaced.
 fn is_live(s: Facts, n: usize, t: usize) -> bool
@@ -127,7 +128,7 @@ fn is_equality_clash(query: &[u8], at: usize, count: usize, rep: &[u8; 17], i: u
     if count < i {
         return false;
     }
-    clash::is_unequal_to_itself(query, at, i - 1, rep)
+    literal_tests::is_unequal_to_itself(query, at, i - 1, rep)
 }
 
 // Reachability literal i, from 1, is negated, and its fact is held.
@@ -142,7 +143,7 @@ fn is_reach_clash(query: &[u8], layout: Layout, s: Facts, i: usize) -> bool
     if count < i {
         return false;
     }
-    clash::is_held_negated(query, layout.links, layout.reach_at, i - 1, s)
+    literal_tests::is_held_negated(query, layout.links, layout.reach_at, i - 1, s)
 }
 
 // Data literal i, from 1, is negated, and literal j is a plain one of the same field and term.
@@ -167,7 +168,7 @@ fn is_field_clash(query: &[u8], at: usize, count: usize, rep: &[u8; 17], i: usiz
     }
     let field = query::field(query, at, i - 1);
     let term = facts::read_rep(rep, query::right(query, at, i - 1));
-    clash::is_field_partner(query, at, j - 1, rep, field, term)
+    literal_tests::is_field_partner(query, at, j - 1, rep, field, term)
 }
 
 // The clash line 9, section, i, j is a true one at the path.

@@ -20,9 +20,9 @@ use Rattle.theory.proofs.Calls.Refusals.{one-link-laws}
 use Rattle.theory.proofs.Calls.VerdictCall.{VerdictCase, by-refusal, by-lines, by-model, verdict-case}
 use Rattle.text.proofs.Writing.{writes-taken}
 use Rattle.query.specs.LaysOut.{LaysOut, literalIn}
-use Rattle.query.specs.Answers.{CheckedAs}
+use Rattle.query_checks.specs.Answers.{CheckedAs}
 use Rattle.query.specs.declared.Layout.{Layout}
-use Rattle.query.specs.declared.Checked.the-variants as checked
+use Rattle.query_checks.specs.declared.Checked.the-variants as checked
 use Rattle.query.proofs.Literals.{listed-length, equalities-listed, reachability-listed, fields-listed}
 use Rattle.formula.specs.Grammar.{Letter, E, R, D, B, Formula, literal, both, either, disjunction}
 use Rattle.formula.specs.Expansion.{Conjunction, expand}

@@ -1,8 +1,8 @@
 // Formulas with or (02, R-7): the first satisfiable conjunction and its heap.
 use formula_reader::Found;
 use prover::Answer;
-use query::Checked;
 use query::Layout;
+use query_checks::Checked;
 ghost use mathlib.Core.Path.{_≡_};
 ghost use mathlib.Core.Bool.{true};
 ghost use Prim.Native.Nat.{ℕ, _≤_};
@@ -112,10 +112,10 @@ pub fn formula(order: &[u8], query: &[u8], text: &[u8], report: &mut [u8]) -> Fo
     ensures { λ r. ⌜ DoesFormula (formulaCall (formulaInput (now (order .entry)) (now (query .entry)) (now (text .entry)) (now (report .entry)))) r (now (report .exit)) ⌝ }
 {
     lent::clear(report);
-    if !query::is_order(order) {
+    if !order_list::is_order(order) {
         return FormulaAnswer::Refused(1, 0);
     }
-    match query::check(query) {
+    match query_checks::check(query) {
         Checked::Refused(k, place) => FormulaAnswer::Refused(k, place),
         Checked::Accepted(layout) => {
             if report.len() < 53 {

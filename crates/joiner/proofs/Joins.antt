@@ -11,9 +11,9 @@ use Rattle.logic.specs.Search.{_and_}
 use Rattle.logic.specs.Query.{termCount, decode}
 use Rattle.text.specs.Text.{Writes}
 use Rattle.text.proofs.Writing.{writes-blank, writes-length}
-use Rattle.query.specs.Answers.{CheckedAs}
+use Rattle.query_checks.specs.Answers.{CheckedAs}
 use Rattle.query.specs.declared.Layout.{Layout}
-use Rattle.query.specs.declared.Checked.the-variants as checked
+use Rattle.query_checks.specs.declared.Checked.the-variants as checked
 use Rattle.joining.specs.Pairs.{pairsOf, isPairList}
 use Rattle.encoding.specs.QueryBytes.{encode, withinLimits}
 use Rattle.joining.specs.Joined.{joined}

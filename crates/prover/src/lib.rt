@@ -1,8 +1,8 @@
 // Lemitsaka's calls: a verdict with its heap, and a derivation, of queries in the form of 01 or with three links (02, R-11). None asks
 // anything of its caller.
 use decide::Walked;
-use query::Checked;
 use query::Layout;
+use query_checks::Checked;
 ghost use mathlib.Core.Path.{_≡_};
 ghost use mathlib.Core.Bool.{true};
 ghost use Prim.Native.Nat.{_+_, _*_, _≤_};
@@ -58,7 +58,7 @@ fn checked(three: bool, query: &[u8]) -> Checked
     if three {
         return link_query::check_links(query);
     }
-    query::check(query)
+    query_checks::check(query)
 }
 
 // The verdict call of either form.
@@ -66,7 +66,7 @@ pub fn verdict_in(three: bool, order: &[u8], query: &[u8], report: &mut [u8]) ->
     ensures { λ r. ⌜ Does (verdictCallOf (formOf three) (inputOf (now (order .entry)) (now (query .entry)) (now (report .entry)))) r (now (report .exit)) ⌝ }
 {
     lent::clear(report);
-    if !query::is_order(order) {
+    if !order_list::is_order(order) {
         return Answer::Refused(1, 0);
     }
     match checked(three, query) {
@@ -124,7 +124,7 @@ pub fn derivation_in(three: bool, order: &[u8], query: &[u8], buffer: &mut [u8])
     ensures { λ r. ⌜ Does (derivationCallOf (formOf three) (inputOf (now (order .entry)) (now (query .entry)) (now (buffer .entry)))) r (now (buffer .exit)) ⌝ }
 {
     lent::clear(buffer);
-    if !query::is_order(order) {
+    if !order_list::is_order(order) {
         return Answer::Refused(1, 0);
     }
     match checked(three, query) {

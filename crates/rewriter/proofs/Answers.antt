@@ -14,7 +14,7 @@ use Rattle.encoding.specs.WritingCall.{Outcome, written, given, refusal, blank,
 use Rattle.encoding.proofs.WritingCall.{none-accepts, call-refused, call-full, call-writes}
 use Rattle.text.specs.Text.{Writes}
 use Rattle.text.proofs.Writing.{writes-as, writes-blank}
-use Rattle.query.specs.Answers.{FullCheckedAs}
+use Rattle.query_checks.specs.Answers.{FullCheckedAs}
 use Rattle.query.specs.declared.FullLayout.{FullLayout}
 use Rattle.query.specs.declared.FullChecked.the-variants as checked
 use Rattle.rewriting.specs.OldQuery.{oldSections, decodeOld}

@@ -2,7 +2,7 @@
 use borrow.Author.Needs.{needs}
 use mathlib.Core.Path.{subst}
 use lib.ListN.{length}
-use Rattle.query.specs.Answers.{FullCheckedAs}
+use Rattle.query_checks.specs.Answers.{FullCheckedAs}
 use Rattle.query.specs.declared.FullChecked.{FullChecked}
 use Rattle.rewriting.specs.Call.{rewriteCall}
 use Rattle.rewriter.proofs.Answers as law
