@@ -6,10 +6,11 @@ use mathlib.Core.List.{List}
 use Rattle.logic.specs.Query.{Query}
 use Rattle.logic.specs.Facts.{Facts}
 use Rattle.logic.specs.Walk.{orderOf, walk, saturation}
-use Rattle.decide.specs.Tells.{isUnknown, WalksTo, Decides}
-use Rattle.decide.specs.declared.Kind.{Kind}
-use Rattle.decide.specs.declared.Kind.the-variants as kind
-use Rattle.decide.proofs.Tells.{refuted-open, refuted-unknown, open-unknown}
+use Rattle.plain_steps.specs.Walks.{isUnknown, WalksTo}
+use Rattle.plain_steps.specs.declared.Kind.{Kind}
+use Rattle.plain_steps.specs.declared.Kind.the-variants as kind
+use Rattle.plain_steps.proofs.Cases.{refuted-open, refuted-unknown, open-unknown}
+use Rattle.decide.specs.Tells.{Decides}
 
 module _ (q : Query) (order : List ℕ) (k : ℕ) (s : Facts) where
   pub settled-plain : (w : Kind) (p : Facts) → WalksTo q order k s true w p → isUnknown w ≡ false → WalksTo q order k s false w p

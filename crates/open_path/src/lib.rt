@@ -1,9 +1,9 @@
 // The first open path under the customer's order, without turning back: at each rule its branches are decided from left to right, and
 // the walk goes into the first that is not refuted.
-use decide::Kind;
-use decide::Walked;
 use facts::Facts;
 use facts::Link;
+use plain_steps::Kind;
+use plain_steps::Walked;
 use query::Layout;
 use rows::Term;
 use rules::Rule;
@@ -20,7 +20,7 @@ ghost use Rattle.facts.specs.Path.{pathOf};
 ghost use Rattle.rules.specs.Answers.{kindOf};
 ghost use Rattle.theory.proofs.Query.Tied.{Accepted};
 ghost use Rattle.link_query.specs.Said.{said, Within};
-ghost use Rattle.decide.specs.Tells.{Walks};
+ghost use Rattle.plain_steps.specs.Walks.{Walks};
 ghost use Rattle.open_path.specs.First.{FirstOpen};
 
 // A branch, the strategy that was done with it or with the one before, and a path with a heap.
@@ -151,9 +151,9 @@ pub fn settle(query: &[u8], layout: Layout, order: &[u8], left: usize, s: Facts)
     requires { ⌜ Within layout (now query) × Accepted (said layout (now query)) × (isOrder (now order) ≡ true) × Reachable (said layout (now query)) (pathOf s) × AtMost (termCount (said layout (now query))) (pathOf s) left ⌝ }
     ensures { λ r. ⌜ Walks (said layout (now (query .entry))) (now (order .entry)) left (pathOf s) false r ⌝ }
 {
-    let w = decide::plain(query, layout, order, left, s, true, 40);
+    let w = plain_steps::plain(query, layout, order, left, s, true, 40);
     let kind = w.kind;
-    if !decide::is_unknown(kind) {
+    if !plain_steps::is_unknown(kind) {
         return w;
     }
     let d = decide::has_heap(query, layout, order, left, s, 0);

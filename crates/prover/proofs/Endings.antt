@@ -14,11 +14,11 @@ use Rattle.theory.proofs.Query.Tied.{Accepted}
 use Rattle.theory.proofs.Calls.Decision.{start-heap}
 use Rattle.theory.proofs.Calls.Verdicts.{our-right}
 use Rattle.start.specs.Started.{started}
-use Rattle.decide.specs.Tells.{isRefuted, Walks}
-use Rattle.decide.specs.declared.Walked.{Walked}
-use Rattle.decide.specs.declared.Kind.{Kind}
-use Rattle.decide.specs.declared.Kind.the-variants as kind
-use Rattle.decide.proofs.Tells.{refuted-is}
+use Rattle.plain_steps.specs.Walks.{isRefuted, Walks}
+use Rattle.plain_steps.specs.declared.Walked.{Walked}
+use Rattle.plain_steps.specs.declared.Kind.{Kind}
+use Rattle.plain_steps.specs.declared.Kind.the-variants as kind
+use Rattle.plain_steps.proofs.Cases.{refuted-is}
 use Rattle.prover.specs.Promise.{Settles}
 use Rattle.prover.proofs.Outcomes.{our-walk}
 

@@ -8,8 +8,8 @@ use Rattle.logic.specs.Walk.{Ending, saturation, Verdict, ourVerdict}
 use Rattle.logic.specs.Calls.{Input, Outcome}
 use Rattle.logic.specs.Calls as calls
 use Rattle.facts.specs.Path.{pathOf}
-use Rattle.decide.specs.Tells.{isRefuted}
-use Rattle.decide.specs.declared.Walked.{Walked}
+use Rattle.plain_steps.specs.Walks.{isRefuted}
+use Rattle.plain_steps.specs.declared.Walked.{Walked}
 use Rattle.prover.specs.declared.Answer.{Answer}
 use Rattle.prover.specs.declared.Answer.the-variants as answer
 

@@ -1,6 +1,6 @@
 // Lemitsaka's calls: a verdict with its heap, and a derivation, of queries in the form of 01 or with three links (02, R-11). None asks
 // anything of its caller.
-use decide::Walked;
+use plain_steps::Walked;
 use query::Checked;
 use query::Layout;
 ghost use mathlib.Core.Path.{_≡_};
@@ -44,7 +44,7 @@ fn decide(order: &[u8], query: &[u8], layout: Layout, report: &mut [u8]) -> Answ
     let w = settled(order, query, layout);
     let kind = w.kind;
     let path = w.facts;
-    if decide::is_refuted(kind) {
+    if plain_steps::is_refuted(kind) {
         return Answer::Refuted;
     }
     report::write_report(report, query, layout, path);
@@ -113,7 +113,7 @@ fn derive(order: &[u8], query: &[u8], layout: Layout, buffer: &mut [u8]) -> Answ
 {
     let w = settled(order, query, layout);
     let kind = w.kind;
-    if decide::is_refuted(kind) {
+    if plain_steps::is_refuted(kind) {
         return write_lines(order, query, layout, buffer);
     }
     Answer::Refused(11, 0)

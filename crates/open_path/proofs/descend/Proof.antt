@@ -9,7 +9,7 @@ use Rattle.facts.specs.Path.{pathOf}
 use Rattle.theory.proofs.Calls.Decision.{reachable-known}
 use Rattle.walk.proofs.Walks.{walk-saturated}
 use Rattle.walk.proofs.Steps.{look-is}
-use Rattle.decide.proofs.Turns.{some-left}
+use Rattle.plain_steps.proofs.Turns.{some-left}
 use Rattle.open_path.proofs.First.{Comes, never-clashes, comes-on}
 use Rattle.open_path.proofs.descend.Statement.{statement}
 use Rattle.open_path.proofs.descend.Tie as tie
