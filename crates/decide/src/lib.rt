@@ -53,7 +53,7 @@ pub enum Seen {
 }
 
 // The path that these arrays hold, copied.
-fn held<'a>(
+pub fn held<'a>(
     single: bool,
     rep: &'a [u8; 17],
     link: &'a [u32; 17],

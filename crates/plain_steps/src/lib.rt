@@ -139,7 +139,7 @@ fn look_ahead<'a>(
 // always ends, since at most `left` rule steps are possible from the path. Where the order list begins with REFLEX, TRANS1 and TRANS2, the path
 // is closed under these first: our walk comes there by steps of theirs alone. The arrays of the path are worked on in place, and each branch
 // has its own; where the path is open, they hold the path where the steps end.
-fn plain_in(
+pub fn plain_in(
     query: &[u8],
     layout: Layout,
     order: &[u8],

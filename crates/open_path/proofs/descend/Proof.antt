@@ -36,7 +36,9 @@ descend-spec =
     -- enum-told
     (λ c. search needs)
     -- returns
-    (λ c. c .before .before .before .before .before .before .before .before .before .before .before .loop .inv .0 .ends _ (walk-saturated _ _ (c .before .before .before .before .before .before .before .before .before .before .before .loop .steps) _ (look-is _ _ _ (c .before .before .look .ensures) (c .enum-told .given .1))))
+    (λ c.
+    let i = c .before .before .before .before .before .before .before .before .before .before .before .loop .inv .0 in
+    (i .ends _ (walk-saturated _ _ (c .before .before .before .before .before .before .before .before .before .before .before .loop .steps) _ (look-is _ _ _ (c .before .before .look .ensures) (c .enum-told .given .1))), i .reach))
     -- enum-told-2
     (λ c. search needs)
     -- returns-2
