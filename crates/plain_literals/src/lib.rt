@@ -132,6 +132,7 @@ pub fn reach_each(
 )
     requires { ⌜ Within layout (now query) × Accepted (said layout (now query)) × Bounded (replacedBy (now rep)) × (length (now reach) ≡ 17) × (length (now reach2) ≡ 17) × (length (now reach3) ≡ 17) ⌝ }
     ensures { λ _. ⌜ ((single : Bool) (link link2 link3 : List ℕ) → cond single 1 3 ≡ layout .links → pathAs single (now (rep .entry)) link (now (reach .exit)) link2 (now (reach2 .exit)) link3 (now (reach3 .exit)) ≡ reachEach (said layout (now (query .entry)) .reachability) (pathAs single (now (rep .entry)) link (now (reach .entry)) link2 (now (reach2 .entry)) link3 (now (reach3 .entry)))) ⌝ }
+    ensures { λ _. ⌜ (length (now (reach .exit)) ≡ 17) × (length (now (reach2 .exit)) ≡ 17) × (length (now (reach3 .exit)) ≡ 17) ⌝ }
 {
     let mut i: usize = 0;
     while i < layout.reach_count {

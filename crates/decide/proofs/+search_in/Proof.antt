@@ -13,16 +13,17 @@ use Rattle.rules.specs.Answers.{kindOf}
 use Rattle.branch.proofs.Alternatives.{count-few}
 use Rattle.link_query.specs.Said.{said}
 use Rattle.link_query.proofs.Said.{terms-said}
-use Rattle.decide.proofs.Tells.{fewer-left, seen-as, struck-none, ends-nothing, ends-refuted, ends-as, tells-clash, ends-saturated, known-branch, struck-more, tells-branch, tells-struck, applied-linked}
-use Rattle.decide.proofs.Branches.{same-linked}
+use Rattle.plain_steps.proofs.Branches.{same-linked}
+use Rattle.plain_steps.proofs.Turns.{struck-none}
+use Rattle.decide.proofs.Tells.{fewer-left, seen-as, ends-nothing, ends-refuted, ends-as, tells-clash, ends-saturated, known-branch, struck-more, tells-branch, tells-struck, applied-linked}
 use Rattle.decide.proofs.search_in.Reads as search-in
 use Rattle.decide.proofs.search_in.Kinds as search-in-kinds
 use Rattle.decide.proofs.+search_in.Lts-search_in as search-in-lts
 use Rattle.branch.proofs.count.Reads as count-reads
 use Rattle.branch.proofs.take.Reads as take-reads
-use Rattle.decide.proofs.is_refuted.Reads as is-refuted-reads
+use Rattle.plain_steps.proofs.is_refuted.Reads as is-refuted-reads
 use Rattle.decide.proofs.sees.Reads as sees-reads
-use Rattle.decide.proofs.spent.Reads as spent-reads
+use Rattle.plain_steps.proofs.spent.Reads as spent-reads
 use Rattle.decide.proofs.+search_in.{statement}
 use Rattle.decide.proofs.+search_in.Tie.{close}
 

@@ -9,7 +9,7 @@ use Rattle.facts.specs.Path.{pathOf}
 use Rattle.theory.proofs.Calls.Decision.{reachable-known}
 use Rattle.walk.proofs.Walks.{walk-saturated}
 use Rattle.walk.proofs.Steps.{look-is}
-use Rattle.decide.proofs.Turns.{some-left}
+use Rattle.plain_steps.proofs.Turns.{some-left}
 use Rattle.open_path.proofs.First.{Comes, never-clashes, comes-on}
 use Rattle.open_path.proofs.descend.Statement.{statement}
 use Rattle.open_path.proofs.descend.Tie as tie
@@ -36,7 +36,9 @@ descend-spec =
     -- enum-told
     (λ c. search needs)
     -- returns
-    (λ c. c .before .before .before .before .before .before .before .before .before .before .before .loop .inv .0 .ends _ (walk-saturated _ _ (c .before .before .before .before .before .before .before .before .before .before .before .loop .steps) _ (look-is _ _ _ (c .before .before .look .ensures) (c .enum-told .given .1))))
+    (λ c.
+    let i = c .before .before .before .before .before .before .before .before .before .before .before .loop .inv .0 in
+    (i .ends _ (walk-saturated _ _ (c .before .before .before .before .before .before .before .before .before .before .before .loop .steps) _ (look-is _ _ _ (c .before .before .look .ensures) (c .enum-told .given .1))), i .reach))
     -- enum-told-2
     (λ c. search needs)
     -- returns-2

@@ -18,11 +18,11 @@ use Rattle.theory.proofs.Walks.Derives.{seen-applying}
 use Rattle.theory.proofs.Walks.OurWalk.{look-some, look-fewer}
 use Rattle.theory.proofs.Calls.Decision.{Known, struck-next, struck-all, branch-at, walk-first}
 use Rattle.branch.specs.Alternatives.{countOf, alternativeAt}
-use Rattle.decide.specs.Tells.{isRefuted, WalksTo}
-use Rattle.decide.specs.declared.Kind.{Kind}
-use Rattle.decide.specs.declared.Kind.the-variants as kind
-use Rattle.decide.proofs.Branches.{row-length, row-at}
-use Rattle.decide.proofs.Tells.{refuted-open, refuted-unknown, refuted-is}
+use Rattle.plain_steps.specs.Walks.{isRefuted, WalksTo}
+use Rattle.plain_steps.specs.declared.Kind.{Kind}
+use Rattle.plain_steps.specs.declared.Kind.the-variants as kind
+use Rattle.plain_steps.proofs.Branches.{row-length, row-at}
+use Rattle.plain_steps.proofs.Cases.{refuted-open, refuted-unknown, refuted-is}
 
 -- each branch of a rule that is seen has a step fewer
 getD-mem : {A : Type 0} (xs : List A) (i : ℕ) (d : A) → i < length xs → List·Memᴰ (getD xs i d) xs
@@ -35,6 +35,10 @@ unfolding branches
 row-fewer q order k s m most h i l =
     let (c, ci, e) = map-mem (add (termCount q) s) (getD (branches (termCount q) s m) i s) (alternatives (termCount q) (s .graph) m) (getD-mem (branches (termCount q) s m) i s l) in
     subst (λ (t : Facts). AtMost (termCount q) t (k - 1)) (sym e) (look-fewer q order k s m most h c ci)
+
+-- no branch yet
+pub struck-none : (q : Query) (s : Facts) (m : Move) (i : ℕ) → i ≡ 0 → Struck q s m i
+struck-none q s m i e j l = absurd (omega arith)
 
 module _ {q : Query} (order : List ℕ) (ok : Accepted q) (o : isOrder order ≡ true) (k : ℕ) (s : Facts) (known : Known q s) (most : AtMost (termCount q) s k) (n : ℕ) (terms-are : n ≡ termCount q) (l : ℕ) (r : Rule) (x y z : ℕ) (h : look q (orderOf order) s ≡ applying (move l r (triple x y z))) where
   abbrev m : Move

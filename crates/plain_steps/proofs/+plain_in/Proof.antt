@@ -14,22 +14,22 @@ use Rattle.branch.proofs.Alternatives.{count-few}
 use Rattle.walk.proofs.Steps.{look-is, move-fits, move-linked, less-left}
 use Rattle.link_query.specs.Said.{said}
 use Rattle.link_query.proofs.Said.{terms-said}
-use Rattle.decide.proofs.Tells.{struck-none, both-left}
-use Rattle.decide.proofs.Branches.{same-linked}
-use Rattle.decide.proofs.Ended.{walks-nothing}
-use Rattle.decide.proofs.Leads.{order-long}
-use Rattle.decide.proofs.Fronts.{front-clash, front-saturated, front-left, front-known, front-fewer, front-struck, front-branch, front-all}
-use Rattle.decide.proofs.plain_in.Reads as plain-in
-use Rattle.decide.proofs.plain_in.Kinds as plain-in-kinds
-use Rattle.decide.proofs.+plain_in.Lts-plain_in as plain-in-lts
+use Rattle.plain_steps.proofs.Branches.{same-linked}
+use Rattle.plain_steps.proofs.Ended.{both-left, walks-nothing}
+use Rattle.plain_steps.proofs.Turns.{struck-none}
+use Rattle.plain_steps.proofs.Leads.{order-long}
+use Rattle.plain_steps.proofs.Fronts.{front-clash, front-saturated, front-left, front-known, front-fewer, front-struck, front-branch, front-all}
+use Rattle.plain_steps.proofs.plain_in.Reads as plain-in
+use Rattle.plain_steps.proofs.plain_in.Kinds as plain-in-kinds
+use Rattle.plain_steps.proofs.+plain_in.Lts-plain_in as plain-in-lts
 use Rattle.branch.proofs.count.Reads as count-reads
 use Rattle.branch.proofs.take.Reads as take-reads
-use Rattle.decide.proofs.close_ahead.Reads as close-ahead-reads
-use Rattle.decide.proofs.is_refuted.Reads as is-refuted-reads
-use Rattle.decide.proofs.look_ahead.Reads as look-ahead-reads
-use Rattle.decide.proofs.spent.Reads as spent-reads
-use Rattle.decide.proofs.+plain_in.{statement}
-use Rattle.decide.proofs.+plain_in.Tie.{close}
+use Rattle.plain_steps.proofs.close_ahead.Reads as close-ahead-reads
+use Rattle.plain_steps.proofs.is_refuted.Reads as is-refuted-reads
+use Rattle.plain_steps.proofs.look_ahead.Reads as look-ahead-reads
+use Rattle.plain_steps.proofs.spent.Reads as spent-reads
+use Rattle.plain_steps.proofs.+plain_in.{statement}
+use Rattle.plain_steps.proofs.+plain_in.Tie.{close}
 
 abbrev μ-plain-in : Measures 9 plain-in-kinds.ps ℕ
 μ-plain-in κs a = a .1 .1 .1 .0

@@ -1,41 +1,21 @@
--- What plain steps find at a path that is seen through, and what the decision says.
+-- What the decision says.
 use Prim.Native.Nat.{ℕ}
-use mathlib.Core.Path.{_≡_, refl, sym}
+use mathlib.Core.Path.{_≡_, refl}
 use mathlib.Core.Bool.{Bool, true, false, not, true≢false, false≢true}
 use mathlib.Core.List.{List}
 use Rattle.logic.specs.Query.{Query, termCount, isOrder}
-use Rattle.logic.specs.Facts.{Facts, Line}
-use Rattle.logic.specs.Walk.{clashing, saturated, look, orderOf}
+use Rattle.logic.specs.Facts.{Facts}
+use Rattle.logic.specs.Walk.{orderOf}
 use Rattle.logic.specs.Steps.{AtMost}
 use Rattle.logic.specs.Decision.{Reachable}
 use Rattle.theory.proofs.Query.Tied.{Accepted}
 use Rattle.theory.proofs.Walks.Order.{order-full}
-use Rattle.theory.proofs.Walks.Derives.{seen-clashing}
-use Rattle.theory.proofs.Calls.Decision.{Known, reachable-known, clash-none, walk-saturation}
-use Rattle.walk.proofs.Walks.{walk-saturated}
-use Rattle.decide.specs.Tells.{isRefuted, Ends, WalksTo, Decides, Shows}
-use Rattle.decide.specs.declared.Kind.{Kind}
-use Rattle.decide.specs.declared.Kind.the-variants as kind
-use Rattle.decide.proofs.Tells.{refuted-open, refuted-unknown, open-unknown}
+use Rattle.theory.proofs.Calls.Decision.{Known, reachable-known, walk-saturation}
+use Rattle.plain_steps.specs.Walks.{isRefuted, WalksTo}
+use Rattle.plain_steps.specs.declared.Kind.{Kind}
+use Rattle.plain_steps.specs.declared.Kind.the-variants as kind
+use Rattle.decide.specs.Tells.{Ends, Decides, Shows}
 
--- of plain steps
-module _ {q : Query} (order : List ℕ) (ok : Accepted q) (k : ℕ) (s : Facts) (known : Known q s) (limited : Bool) where
-  pub walks-nothing : (w : Facts) → limited ≡ true → WalksTo q order k s limited kind.Unknown w
-  walks-nothing w l = record { refuted = λ e. absurd (refuted-unknown (sym e)); ends = λ e. absurd (open-unknown (sym e)); gives-up = λ e. l }
-
-  pub walks-clash : (w : Facts) (l : Line) → look q (orderOf order) s ≡ clashing l → WalksTo q order k s limited kind.Refuted w
-  walks-clash w l h =
-      record {
-        refuted = λ e. clash-none q ok s known l (seen-clashing q (orderOf order) s h);
-        ends = λ e. absurd (refuted-open e);
-        gives-up = λ e. absurd (refuted-unknown e);
-      }
-
-  pub walks-saturated : look q (orderOf order) s ≡ saturated → WalksTo q order k s limited kind.Open s
-  walks-saturated h =
-      record { refuted = λ e. absurd (refuted-open (sym e)); ends = λ e. walk-saturated q (orderOf order) k s h; gives-up = λ e. absurd (open-unknown e) }
-
--- the decision
 module _ {q : Query} (s : Facts) where
   pub decides-open : (k : Kind) (w : Facts) → Ends q s k w → k ≡ kind.Open → Shows q s true w
   decides-open k w told e =

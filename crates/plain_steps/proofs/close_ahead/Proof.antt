@@ -1,8 +1,8 @@
 -- The closed rows, or the rows as they were. Assumes nothing.
 use mathlib.Core.Path.{refl, _∙_}
 use Rattle.theory.proofs.Basics.Search.{true-false}
-use Rattle.decide.proofs.close_ahead.Statement.{statement}
-use Rattle.decide.proofs.close_ahead.Tie as tie
+use Rattle.plain_steps.proofs.close_ahead.Statement.{statement}
+use Rattle.plain_steps.proofs.close_ahead.Tie as tie
 
 pub close-ahead-spec : {M : Type 1} → statement M
 close-ahead-spec =

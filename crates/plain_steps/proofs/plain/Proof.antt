@@ -3,12 +3,12 @@ use borrow.Author.Needs.{needs}
 use contract.Lifetimes.{Lfts}
 use borrow.Fn.Kinds.{Dens, GoodsP}
 use Rattle.facts.specs.Path.{pathOf, Whole}
-use Rattle.decide.proofs.plain.Kinds as kinds
-use Rattle.decide.proofs.plain.Reads as reads
-use Rattle.decide.proofs.plain.Lts as lts
-use Rattle.decide.proofs.plain_in.Reads as plain-in-reads
-use Rattle.decide.proofs.plain.Statement.{statement}
-use Rattle.decide.proofs.plain.Tie as tie
+use Rattle.plain_steps.proofs.plain.Kinds as kinds
+use Rattle.plain_steps.proofs.plain.Reads as reads
+use Rattle.plain_steps.proofs.plain.Lts as lts
+use Rattle.plain_steps.proofs.plain_in.Reads as plain-in-reads
+use Rattle.plain_steps.proofs.plain.Statement.{statement}
+use Rattle.plain_steps.proofs.plain.Tie as tie
 
 -- the arrays of the record have their size
 whole : (κs : Lfts 2) (a : Dens κs kinds.ps) → GoodsP κs kinds.ps a → Whole (a .1 .1 .1 .1 .0 .rep) (a .1 .1 .1 .1 .0 .link) (a .1 .1 .1 .1 .0 .reach) (a .1 .1 .1 .1 .0 .link2) (a .1 .1 .1 .1 .0 .reach2) (a .1 .1 .1 .1 .0 .link3) (a .1 .1 .1 .1 .0 .reach3)

@@ -3,9 +3,9 @@ use borrow.Author.Needs.{needs}
 use native.Mathlib.Omega.{arith}
 use mathlib.Core.Path.{sym, _∙_}
 use Rattle.link_query.proofs.Said.{terms-said}
-use Rattle.decide.proofs.Leads.{look-behind}
-use Rattle.decide.proofs.look_ahead.Statement.{statement}
-use Rattle.decide.proofs.look_ahead.Tie as tie
+use Rattle.plain_steps.proofs.Leads.{look-behind}
+use Rattle.plain_steps.proofs.look_ahead.Statement.{statement}
+use Rattle.plain_steps.proofs.look_ahead.Tie as tie
 
 pub look-ahead-spec : {M : Type 1} → statement M
 look-ahead-spec =

@@ -12,13 +12,13 @@ use Rattle.logic.specs.Decision.{Struck}
 use Rattle.theory.proofs.Query.Tied.{Accepted}
 use Rattle.theory.proofs.Calls.Decision.{Known}
 use Rattle.branch.specs.Alternatives.{countOf, alternativeAt}
-use Rattle.decide.specs.Tells.{isRefuted, Ahead, WalksTo}
-use Rattle.decide.specs.declared.Kind.{Kind}
-use Rattle.decide.specs.declared.Kind.the-variants as kind
-use Rattle.decide.proofs.Branches.{same-branch}
-use Rattle.decide.proofs.Ended.{walks-clash, walks-saturated}
-use Rattle.decide.proofs.Leads.{ahead-known, ahead-most, ahead-walks}
-use Rattle.decide.proofs.Turns.{some-left, walked-known, walked-fewer, walked-struck, walked-branch, walked-all}
+use Rattle.plain_steps.specs.Walks.{isRefuted, Ahead, WalksTo}
+use Rattle.plain_steps.specs.declared.Kind.{Kind}
+use Rattle.plain_steps.specs.declared.Kind.the-variants as kind
+use Rattle.plain_steps.proofs.Branches.{same-branch}
+use Rattle.plain_steps.proofs.Ended.{walks-clash, walks-saturated}
+use Rattle.plain_steps.proofs.Leads.{ahead-known, ahead-most, ahead-walks}
+use Rattle.plain_steps.proofs.Turns.{some-left, walked-known, walked-fewer, walked-struck, walked-branch, walked-all}
 
 module _ {q : Query} (order : List ℕ) (ok : Accepted q) (o : isOrder order ≡ true) (k : ℕ) (s t : Facts) (known : Known q s) (most : AtMost (termCount q) s k) (n : ℕ) (terms-are : n ≡ termCount q) (a : Ahead n order s t) where
   later-known : Known q t
