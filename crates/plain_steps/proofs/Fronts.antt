@@ -45,11 +45,10 @@ module _ {q : Query} (order : List ℕ) (ok : Accepted q) (o : isOrder order ≡
       is-branch : u ≡ branch n t (alternativeAt l n (t .graph l) r x y z i) .facts
       is-branch = same-branch p t same n l r x y z i u e
 
-      pub front-known : Known q u
-      front-known = walked-known order ok o k t later-known later-most n terms-are l r x y z h i here u is-branch
-
-      pub front-fewer : AtMost (termCount q) u (k - 1)
-      front-fewer = walked-fewer order ok o k t later-known later-most n terms-are l r x y z h i here u is-branch
+      -- what the steps of the branch ask
+      pub front-next : (1 ≤ k) × Known q u × AtMost (termCount q) u (k - 1)
+      front-next =
+          (front-left, walked-known order ok o k t later-known later-most n terms-are l r x y z h i here u is-branch, walked-fewer order ok o k t later-known later-most n terms-are l r x y z h i here u is-branch)
 
       module _ (st : Struck q t m i) (limited : Bool) (w : Kind) (v : Facts) (told : WalksTo q order (k - 1) u limited w v) where
         pub front-struck : isRefuted w ≡ true → Struck q t m (i + 1)

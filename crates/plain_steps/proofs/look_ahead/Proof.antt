@@ -2,8 +2,11 @@
 use borrow.Author.Needs.{needs}
 use native.Mathlib.Omega.{arith}
 use mathlib.Core.Path.{sym, _∙_}
+use Rattle.facts.specs.Path.{pathAs}
+use Rattle.walk.specs.Looks.{lookOf}
+use Rattle.link_query.specs.Said.{said}
 use Rattle.link_query.proofs.Said.{terms-said}
-use Rattle.plain_steps.proofs.Leads.{look-behind}
+use Rattle.plain_steps.proofs.Leads.{look-ended}
 use Rattle.plain_steps.proofs.look_ahead.Statement.{statement}
 use Rattle.plain_steps.proofs.look_ahead.Tie as tie
 
@@ -22,7 +25,12 @@ look-ahead-spec =
     -- look-requires
     (λ c κs. search needs)
     -- returns
-    (λ c. let start = c .before .before .before .before .before .before in let b = sym (c .before .before .before .begins .ensures) ∙ c .before .before .if1 .taken in c .look .ensures ∙ sym (look-behind _ _ _ _ (sym (terms-said _ _ (start .pre .0))) (start .pre .1) b (start .pre .2 b)))
+    (λ c.
+    let start = c .before .before .before .before .before .before in
+    let a = start .args in
+    let b = sym (c .before .before .before .begins .ensures) ∙ c .before .before .if1 .taken in
+    let t = pathAs (a .single) (a .rep .now) (a .link .now) (a .reach .now) (a .link2 .now) (a .reach2 .now) (a .link3 .now) (a .reach3 .now) in
+    look-ended (lookOf (c .look .result)) (said (a .layout) (a .query .now)) (a .order .now) (a .layout .terms) t (sym (terms-said (a .layout) (a .query .now) (start .pre .0))) (start .pre .1) b (start .pre .2 b) (c .look .ensures))
     -- look-requires-2
     (λ c κs. search needs)
     -- returns-2
