@@ -12,7 +12,7 @@ use Rattle.logic.specs.Facts.{terms}
 use Rattle.logic.specs.Shown.{byteOf}
 use Rattle.theory.proofs.Basics.Search.{from-mem}
 use Rattle.theory.proofs.Completeness.Placed.{length-from}
-use Rattle.facts.specs.Square.{square}
+use Rattle.rows.specs.Square.{square}
 use Rattle.query.specs.declared.Layout.{Layout}
 use Rattle.query.proofs.Literals.{listed, fields-listed}
 use Rattle.query.proofs.Ranges.{field-number-term}

@@ -6,7 +6,7 @@ ghost use mathlib.Core.List.{List, map};
 ghost use Prim.Native.Nat.{ℕ, _+_, _*_, _≤_};
 ghost use lib.ListN.{length, getD};
 ghost use Rattle.logic.specs.Facts.{terms};
-ghost use Rattle.facts.specs.Square.{square};
+ghost use Rattle.rows.specs.Square.{square};
 ghost use Rattle.logic.specs.Calls.{padded, blank, refused};
 ghost use Rattle.report.specs.Bytes.{fieldHeld, literalsAt, FieldsIn, sections};
 ghost use Rattle.between_search.specs.Search.{entry, reportOf};
@@ -35,7 +35,7 @@ fn mark_fields(query: &[u8], at: usize, count: usize, nodes: &[u8; 17]) -> [u32;
         let term = query::right(query, at, i);
         let t = term.0;
         let v = nodes[t] as usize;
-        marks[v] = marks[v] | facts::only(field);
+        marks[v] = marks[v] | rows::only(field);
     }
     marks
 }

@@ -1,6 +1,6 @@
 // The search for the first small heap that satisfies a query with between literals.
-use facts::Term;
 use query::Layout;
+use rows::Term;
 ghost use mathlib.Core.Path.{_≡_};
 ghost use mathlib.Core.Bool.{not};
 ghost use Prim.Native.Nat.{_+_, _-_, _≤_, _<_};

@@ -1,7 +1,7 @@
 // The tests of one choice of a term's node: over the query's bytes in place, and tables that are made once for a list of links or a query.
-use facts::Term;
 use heap_nodes::Node;
 use query::Layout;
+use rows::Term;
 ghost use mathlib.Core.Path.{_≡_};
 ghost use mathlib.Core.Bool.{Bool, true, false, not, cond, _&&_, _||_};
 ghost use mathlib.Core.List.{List};

@@ -7,10 +7,10 @@ use Rattle.logic.specs.Search.{from}
 use Rattle.logic.specs.Facts.{Graph, Facts, Joined, andThen, join, addReach}
 use Rattle.logic.specs.Rules.{Rule, Fact, branch}
 use Rattle.facts.specs.declared.Facts as code
-use Rattle.facts.specs.declared.Term.{Term}
+use Rattle.rows.specs.declared.Term.{Term}
 use Rattle.facts.specs.Path.{pathOf, graphOf, linksIn}
-use Rattle.facts.specs.Pairs.{pairsIn}
-use Rattle.facts.proofs.Joins.{none-before}
+use Rattle.joins.specs.Pairs.{pairsIn}
+use Rattle.joins.proofs.Joins.{none-before}
 use Rattle.facts.proofs.Path.{alike-graph, reaching, addReach-changed, three, last, graph-first, graph-second, graph-third, set-first, set-second, set-third}
 use Rattle.branch.specs.Alternatives.{alternativeAt}
 use Rattle.branch.specs.Answers.{factOf}

@@ -17,13 +17,13 @@ use Rattle.logic.specs.Search.{find}
 use Rattle.logic.specs.Facts.{Graph, Facts, Joined, terms, unjoined, andThen, join, addReach}
 use Rattle.logic.specs.Rules.{Rule, REFLEX, TRANS1, TRANS2, FUNC, CYCLE, SCC, TOTAL, SHARE, Fact, equal, reaches, next, branch}
 use Rattle.facts.specs.Path.{linksIn}
-use Rattle.facts.specs.Square.{square}
-use Rattle.facts.specs.Pairs.{pairsIn, Fits}
-use Rattle.facts.proofs.Joins.{none-before, join-pairs}
+use Rattle.rows.specs.Square.{square}
+use Rattle.joins.specs.Pairs.{pairsIn, Fits}
+use Rattle.joins.proofs.Joins.{none-before, join-pairs}
 use Rattle.branch.specs.Answers.{factOf}
 use Rattle.branch.specs.declared.Fact as code
 use Rattle.branch.specs.declared.Fact.the-variants as fact
-use Rattle.facts.specs.declared.Term.{Term}
+use Rattle.rows.specs.declared.Term.{Term}
 
 -- no pair stands before a single join
 pub alone-fits : (kept replaced : List ℕ) (n a b : ℕ) (s : Facts) → n ≤ 16 → Fits (andThen (record { pairs = pairsIn kept replaced 0; facts = s }) (join n a b))

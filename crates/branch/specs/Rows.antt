@@ -7,7 +7,7 @@ use lib.Dec.{eqb}
 use Rattle.logic.specs.Search.{_and_, _or_}
 use Rattle.logic.specs.Facts.{addReach}
 use Rattle.logic.specs.Rules.{Rule, Fact}
-use Rattle.facts.specs.Square.{square}
+use Rattle.rows.specs.Square.{square}
 use Rattle.facts.specs.Path.{pathAs, HasLink}
 use Rattle.branch.specs.Alternatives.{alternativeAt}
 

@@ -1,9 +1,9 @@
 // The branches of a rule: its alternatives, left to right, each joined or added.
 use facts::Facts;
-use facts::Joined;
 use facts::Link;
-use facts::Pairs;
-use facts::Term;
+use joins::Joined;
+use joins::Pairs;
+use rows::Term;
 use rules::Rule;
 use rules::Third;
 ghost use mathlib.Core.Path.{_≡_};
@@ -12,7 +12,7 @@ ghost use lib.ListN.{length};
 ghost use Rattle.logic.specs.Facts.{join};
 ghost use Rattle.logic.specs.Rules.{branch};
 ghost use Rattle.facts.specs.Path.{pathAs, pathOf, Whole, linksIn, HasLink};
-ghost use Rattle.facts.specs.Pairs.{joinedIn, joinedOf};
+ghost use Rattle.joins.specs.Pairs.{joinedIn, joinedOf};
 ghost use Rattle.rules.specs.Answers.{kindOf};
 ghost use Rattle.branch.specs.Answers.{factOf, InRange};
 ghost use Rattle.branch.specs.Alternatives.{countOf, alternativeAt};
@@ -101,7 +101,7 @@ fn equated(s: Facts, n: usize, a: Term, b: Term) -> Joined
     let mut reach3 = s.reach3;
     let mut kept = [0u8; 17];
     let mut replaced = [0u8; 17];
-    let count = facts::join(
+    let count = joins::join(
         single,
         &mut rep,
         &mut link,
@@ -146,7 +146,7 @@ fn added(s: Facts, n: usize, k: Link, fact: Fact) -> Joined
         Fact::Reaches(a, b) => {
             let reached = facts::add_reach(s, k, a, b);
             Joined {
-                pairs: facts::no_pairs(),
+                pairs: joins::no_pairs(),
                 facts: reached,
             }
         }
@@ -203,7 +203,7 @@ fn set(rows: &mut [u32; 17], a: Term, b: Term)
     ensures { λ _. ⌜ Sets (a .0) (b .0) (now (rows .entry)) (now (rows .exit)) × (length (now (rows .exit)) ≡ 17) ⌝ }
 {
     let at = a.0;
-    let added = facts::only(b.0);
+    let added = rows::only(b.0);
     rows[at] = rows[at] | added;
 }
 
@@ -249,7 +249,7 @@ fn equate(
 {
     let mut kept = [0u8; 17];
     let mut replaced = [0u8; 17];
-    facts::join(
+    joins::join(
         single,
         rep,
         link,
@@ -332,7 +332,7 @@ pub fn make(
     ensures { λ _. ⌜ Whole (now (rep .exit)) (now (link .exit)) (now (reach .exit)) (now (link2 .exit)) (now (reach2 .exit)) (now (link3 .exit)) (now (reach3 .exit)) ⌝ }
 {
     match alternative_of(link, link2, link3, n, k, rule, x, y, z, i) {
-        Fact::Equal(a, b) => facts::join(
+        Fact::Equal(a, b) => joins::join(
             single,
             rep,
             link,

@@ -13,8 +13,8 @@ use Rattle.logic.specs.Facts.{Facts, Line, line, joinLines, isClash}
 use Rattle.logic.specs.Rules.{Move, applies}
 use Rattle.logic.specs.Walk.{isClashed}
 use Rattle.logic.specs.Derivation.{linesIn}
-use Rattle.facts.specs.Pairs.{pairAt, pairsOf}
-use Rattle.facts.specs.declared.Pairs.{Pairs}
+use Rattle.joins.specs.Pairs.{pairAt, pairsOf}
+use Rattle.joins.specs.declared.Pairs.{Pairs}
 use Rattle.walk.proofs.Lines.{pairsFrom, pairs-whole, pairs-end, pairs-next}
 use Rattle.checking.specs.Fitting.{Goal, sameLine, moveIn, goalsOf, afterRule, atPath, atGoal, step, shortOf, wrongFrom}
 use Rattle.checking.proofs.Judged.{wrong-step, wrong-here}

@@ -11,9 +11,9 @@ use Rattle.logic.specs.Facts.{Facts, Joined, Line, unjoined, joinPair, andThen,
 use Rattle.logic.specs.Rules.{Rule, Fact, equal, reaches, branch}
 use Rattle.theory.proofs.Paths.Settle.{settle-keeps}
 use Rattle.facts.specs.Path.{graphs, pathOf}
-use Rattle.facts.specs.Pairs.{pairsOf, joinedOf}
+use Rattle.joins.specs.Pairs.{pairsOf, joinedOf}
 use Rattle.facts.specs.declared.Facts as facts
-use Rattle.facts.specs.declared.Joined as joined
+use Rattle.joins.specs.declared.Joined as joined
 use Rattle.branch.specs.Alternatives.{alternativeAt}
 use Rattle.checker.specs.Reading.{pathIn, singleOf, Read, readAt}
 

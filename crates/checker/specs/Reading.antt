@@ -13,7 +13,7 @@ use Rattle.logic.specs.Rules.{triple, Move, move, applies}
 use Rattle.logic.specs.Walk.{isClashed}
 use Rattle.logic.specs.Derivation.{linesIn}
 use Rattle.facts.specs.Path.{repOf, graphOf, noFacts}
-use Rattle.facts.specs.Pairs.{pairsOf}
+use Rattle.joins.specs.Pairs.{pairsOf}
 use Rattle.rules.specs.Answers.{kindOf}
 use Rattle.checking.specs.Fitting.{sameLine, moveIn}
 use Rattle.checking.specs.CheckCall.{countIn, misshapen}

@@ -1,12 +1,12 @@
 // Derivations from elsewhere: their lines are read in place, one after the other, each where it stands.
 use clash::Clash;
 use facts::Facts;
-use facts::Joined;
 use facts::Link;
-use facts::Pairs;
-use facts::Term;
+use joins::Joined;
+use joins::Pairs;
 use query::Checked;
 use query::Layout;
+use rows::Term;
 use rules::Numbered;
 use rules::Rule;
 use rules::Third;
@@ -19,7 +19,7 @@ ghost use Rattle.logic.specs.Facts.{line};
 ghost use Rattle.logic.specs.Rules.{branch};
 ghost use Rattle.logic.specs.Calls.{accepts};
 ghost use Rattle.facts.specs.Path.{pathOf};
-ghost use Rattle.facts.specs.Pairs.{pairsOf, joinedOf};
+ghost use Rattle.joins.specs.Pairs.{pairsOf, joinedOf};
 ghost use Rattle.query.specs.LaysOut.{LaysOut};
 ghost use Rattle.rules.specs.Answers.{kindOf};
 ghost use Rattle.branch.specs.Alternatives.{alternativeAt};

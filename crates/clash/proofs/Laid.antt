@@ -7,7 +7,7 @@ use mathlib.Core.Option.{Option, none, some}
 use Rattle.logic.specs.Search.{orElse}
 use Rattle.logic.specs.Facts.{Facts, Line, clash}
 use lib.Dec.{eqb}
-use Rattle.facts.specs.Square.{square}
+use Rattle.rows.specs.Square.{square}
 use Rattle.facts.specs.Path.{repOf, graphOf, noFacts, graphs, pathAs, pathOf}
 use Rattle.facts.specs.declared.Facts as code
 use Rattle.query.specs.declared.Layout.{Layout}

@@ -10,7 +10,7 @@ use Rattle.logic.specs.Search.{_and_, from, at, holdsOf, keep, orElse, firstOf,
 use Rattle.logic.specs.Query.{Literal}
 use Rattle.logic.specs.Facts.{Line, line, negatedAt, plainAt}
 use Rattle.theory.proofs.Basics.Search.{none-some, firstOf-empty}
-use Rattle.facts.proofs.Loops.{first-end, first-here, first-next, find-end, find-here, find-next}
+use Rattle.rows.proofs.Loops.{first-end, first-here, first-next, find-end, find-here, find-next}
 use Rattle.query.proofs.Literals.{listed, listed-length, listed-at}
 use Rattle.clash.specs.Sections.{alone, partner, paired}
 

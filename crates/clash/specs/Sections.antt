@@ -7,7 +7,7 @@ use lib.ListN.{length, take, drop}
 use lib.Dec.{eqb}
 use Rattle.logic.specs.Search.{_and_, from, keep, orElse, firstOf, find}
 use Rattle.logic.specs.Query.{Literal, Query, literals}
-use Rattle.facts.specs.Square.{square}
+use Rattle.rows.specs.Square.{square}
 use Rattle.logic.specs.Facts.{Facts, Line, line, negatedAt, plainAt}
 
 -- `count` literals that stand at a place of the query's bytes, of three bytes each

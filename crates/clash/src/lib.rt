@@ -1,14 +1,14 @@
 // The clash of a path, over the query's bytes in place.
 use facts::Facts;
-use facts::Term;
 use query::Layout;
+use rows::Term;
 ghost use mathlib.Core.Path.{_≡_};
 ghost use mathlib.Core.Bool.{not};
 ghost use Prim.Native.Nat.{ℕ, _+_, _*_, _≤_, _<_};
 ghost use lib.ListN.{length};
 ghost use lib.Dec.{eqb};
 ghost use Rattle.logic.specs.Search.{_and_};
-ghost use Rattle.facts.specs.Square.{square};
+ghost use Rattle.rows.specs.Square.{square};
 ghost use Rattle.facts.specs.Path.{repOf, pathOf};
 ghost use Rattle.query.specs.LaysOut.{literalIn};
 ghost use Rattle.link_query.specs.Said.{reachWidth, reachIn, said, Within};
@@ -65,7 +65,7 @@ fn reaches(rows: &[u32; 17], a: Term, b: Term) -> bool
     if 16 < b.0 {
         return false;
     }
-    facts::holds(rows, a, b)
+    rows::holds(rows, a, b)
 }
 
 // "a reaches b" by link k is held in the rows of a single link, or of three.

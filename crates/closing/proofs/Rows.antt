@@ -15,11 +15,11 @@ use Rattle.logic.specs.Decision.{Follows, is-held, itself, by-link, onward, Clo
 use Rattle.theory.proofs.Basics.Search.{true-false, and-left, and-right, and-intro, or-cases, or-left, or-right}
 use Rattle.theory.proofs.Basics.Compare.{eq-cases, eqb-true, eqb-self, le-cases}
 use Rattle.theory.proofs.Paths.Ranged.{live-range}
-use Rattle.facts.specs.Bits.{bit}
-use Rattle.facts.specs.Square.{rowOf, square}
+use Rattle.rows.specs.Bits.{bit}
+use Rattle.rows.specs.Square.{rowOf, square}
 use Rattle.facts.specs.Path.{graphOf, noFacts, graphs, pathAs, replacedBy, HasLink}
-use Rattle.facts.proofs.Bits.{bit-and, bit-or, bit-none}
-use Rattle.facts.proofs.Square.{row-or, row-in, row-beyond, row-none, square-row, square-in, square-above, square-beside, set-same, set-other}
+use Rattle.rows.proofs.Bits.{bit-and, bit-or, bit-none}
+use Rattle.rows.proofs.Square.{row-or, row-in, row-beyond, row-none, square-row, square-in, square-above, square-beside, set-same, set-other}
 use Rattle.closing.specs.Closed.{Closed}
 use Rattle.closing.specs.Rows.{Within, Above, Seeded, Passed, OnwardBelow, Onward, LinkClosed}
 

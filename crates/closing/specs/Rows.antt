@@ -6,7 +6,7 @@ use mathlib.Core.List.{List}
 use Rattle.logic.specs.Search.{_and_, _or_}
 use Rattle.logic.specs.Facts.{Graph}
 use Rattle.logic.specs.Decision.{Follows}
-use Rattle.facts.specs.Square.{square}
+use Rattle.rows.specs.Square.{square}
 
 -- each fact of the rows follows; each of these facts is in the rows
 abbrev pub Within : (ℕ → Bool) → (ℕ → ℕ → Bool) → (ℕ → ℕ → Bool) → List ℕ → Type 0

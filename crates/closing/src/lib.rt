@@ -6,8 +6,8 @@ ghost use Prim.Native.Nat.{ℕ, _≤_};
 ghost use lib.ListN.{length};
 ghost use Rattle.logic.specs.Search.{_and_};
 ghost use Rattle.logic.specs.Decision.{Closes};
-ghost use Rattle.facts.specs.Bits.{bit};
-ghost use Rattle.facts.specs.Square.{square};
+ghost use Rattle.rows.specs.Bits.{bit};
+ghost use Rattle.rows.specs.Square.{square};
 ghost use Rattle.facts.specs.Path.{graphOf, pathAs, pathOf};
 ghost use Rattle.closing.specs.Rows.{Within, Above, Seeded, Passed, Onward, LinkClosed};
 ghost use Rattle.closing.specs.Closed.{Closed, threeOf, begins};
@@ -19,7 +19,7 @@ fn seed(alive: u32, link: &[u32; 17], reach: &mut [u32; 17])
 {
     let mut a: usize = 0;
     while a < 17 {
-        let own = facts::only(a) & alive;
+        let own = rows::only(a) & alive;
         reach[a] = reach[a] | (link[a] | own);
         a += 1;
     }
@@ -30,7 +30,7 @@ fn passed_on(row: u32, y: usize, far: u32) -> u32
     requires { ⌜ y ≤ 16 ⌝ }
     ensures { λ r. ⌜ ((i : ℕ) → bit r i ≡ bit row y and bit far i) ⌝ }
 {
-    if facts::has(row, y) {
+    if rows::has(row, y) {
         return far;
     }
     0

@@ -12,10 +12,10 @@ use Rattle.logic.specs.Search.{_and_, _or_, from, any, select, firstOf, find}
 use Rattle.logic.specs.Facts.{Graph, terms, firstTwo}
 use Rattle.theory.proofs.Basics.Search.{none-some}
 use Rattle.logic.specs.Shown.{reached, inBasin, heads, onPath, basinLink, treeLink}
-use Rattle.facts.specs.Square.{square}
-use Rattle.facts.proofs.Successors.{two-one, two-both}
+use Rattle.rows.specs.Square.{square}
+use Rattle.rows.proofs.Successors.{two-one, two-both}
 use Rattle.completion.specs.Links.{reachIn, begins, beginsWithout, coversAll}
-use Rattle.facts.proofs.Selections.{terms-from, all-selected, any-selected, find-selected, select-selected, and-both, first, find-first}
+use Rattle.rows.proofs.Selections.{terms-from, all-selected, any-selected, find-selected, select-selected, and-both, first, find-first}
 
 -- v reaches u, and not back
 abbrev pub leaves : List ℕ → ℕ → ℕ → Bool

@@ -14,11 +14,11 @@ use Rattle.logic.specs.Facts.{Graph, Facts, terms, live, liveTerms}
 use Rattle.logic.specs.Rules.{next}
 use Rattle.logic.specs.Shown.{reached, inBasin, heads, basinLink, treeLink, newLink, linkEach, shownLink, onPath}
 use Rattle.theory.proofs.Basics.Search.{bool-cases, select-mem, find-some, from-mem}
-use Rattle.facts.specs.declared.Term.{Term}
-use Rattle.facts.specs.Square.{square}
+use Rattle.rows.specs.declared.Term.{Term}
+use Rattle.rows.specs.Square.{square}
 use Rattle.facts.specs.Path.{repOf, linksIn}
 use Rattle.completion.specs.Links.{linkOf, InRange, reachIn, linkAt}
-use Rattle.facts.proofs.Selections.{terms-from, select-end, select-here, select-skip, select-alike, and-both}
+use Rattle.rows.proofs.Selections.{terms-from, select-end, select-here, select-skip, select-alike, and-both}
 use Rattle.facts.proofs.Path.{linking}
 use Rattle.facts.proofs.Rep.{rep-in}
 use Rattle.completion.proofs.Links.{link-set, next-below}

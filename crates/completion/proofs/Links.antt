@@ -14,12 +14,12 @@ use Rattle.logic.specs.Search.{from, find}
 use Rattle.logic.specs.Facts.{Graph, terms}
 use Rattle.logic.specs.Rules.{next}
 use Rattle.theory.proofs.Basics.Search.{bool-cases, find-some, from-mem}
-use Rattle.facts.specs.declared.Term.{Term}
-use Rattle.facts.specs.Square.{square}
+use Rattle.rows.specs.declared.Term.{Term}
+use Rattle.rows.specs.Square.{square}
 use Rattle.facts.specs.Path.{linksIn}
-use Rattle.facts.proofs.Square.{square-above}
+use Rattle.rows.proofs.Square.{square-above}
 use Rattle.completion.specs.Links.{linkOf, InRange}
-use Rattle.facts.proofs.Selections.{find-nothing}
+use Rattle.rows.proofs.Selections.{find-nothing}
 
 pub link-beyond : (links : List Term) (t : ℕ) → length links ≤ t → linkOf links t ≡ 0
 unfolding linkOf

@@ -4,8 +4,8 @@ use mathlib.Core.Bool.{Bool, false, not, cond}
 use mathlib.Core.List.{List}
 use lib.ListN.{getD}
 use lib.Dec.{eqb}
-use Rattle.facts.specs.Square.{square}
-use Rattle.facts.specs.declared.Term.{Term}
+use Rattle.rows.specs.Square.{square}
+use Rattle.rows.specs.declared.Term.{Term}
 use Rattle.logic.specs.Search.{_and_, _or_, any, all}
 use Rattle.logic.specs.Facts.{Graph}
 use Rattle.logic.specs.Shown.{reached, onPath, newLink}

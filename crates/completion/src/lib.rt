@@ -3,22 +3,22 @@ ghost use mathlib.Core.Path.{_≡_};
 ghost use Prim.Native.Nat.{_+_, _-_, _≤_, _<_};
 ghost use lib.Dec.{eqb};
 ghost use Rattle.facts.specs.Path.{pathOf, repOf, linksIn, HasLink};
-ghost use Rattle.facts.specs.Answers.{foundOf};
+ghost use Rattle.rows.specs.Answers.{foundOf};
 ghost use Rattle.logic.specs.Search.{from, find, select};
 ghost use Rattle.logic.specs.Rules.{next};
 ghost use Rattle.logic.specs.Shown.{reached, inBasin, onPath, basinLink, treeLink, newLink, linkEach, shownLink};
 ghost use Rattle.completion.specs.Links.{linkOf, InRange, reachIn, begins, beginsWithout, coversAll};
 use facts::Facts;
-use facts::Found;
 use facts::Link;
-use facts::Term;
+use rows::Found;
+use rows::Term;
 
 // The successor of t, or 0 where it has none.
 fn known_link(link: &[u32; 17], n: usize, t: Term) -> Term
     requires { ⌜ (n ≤ 16) × (t .0 ≤ 16) ⌝ }
     ensures { λ r. ⌜ r .0 ≡ next n (linksIn (now (link .entry))) (t .0) ⌝ }
 {
-    let Found::At(u) = facts::successor(link, n, t) else {
+    let Found::At(u) = rows::successor(link, n, t) else {
         return Term(0);
     };
     u
@@ -45,8 +45,8 @@ fn in_basin(reach: &[u32; 17], n: usize, v: Term) -> bool
 {
     let mut u: usize = 1;
     while u <= n {
-        let reached = facts::holds(reach, v, Term(u));
-        let back = facts::holds(reach, Term(u), v);
+        let reached = rows::holds(reach, v, Term(u));
+        let back = rows::holds(reach, Term(u), v);
         if reached & !back {
             return false;
         }
@@ -60,12 +60,12 @@ fn begins_path(links: [Term; 17], reach: &[u32; 17], n: usize, v: Term, b: Term)
     requires { ⌜ (n ≤ 16) × (v .0 ≤ 16) × (b .0 ≤ 16) ⌝ }
     ensures { λ r. ⌜ r ≡ begins n (reachIn (now (reach .entry))) (linkOf links) (v .0) (b .0) ⌝ }
 {
-    if !facts::holds(reach, v, b) {
+    if !rows::holds(reach, v, b) {
         return false;
     }
     let mut u: usize = 1;
     while u <= n {
-        let inside = facts::holds(reach, v, Term(u));
+        let inside = rows::holds(reach, v, Term(u));
         let to = links[u];
         if inside & (to.0 == b.0) {
             return false;
@@ -82,7 +82,7 @@ fn first_path(links: [Term; 17], reach: &[u32; 17], n: usize, v: Term, k: usize)
 {
     let mut b = k;
     while b <= n {
-        if !facts::holds(reach, v, Term(b)) {
+        if !rows::holds(reach, v, Term(b)) {
             b += 1;
             continue;
         }
@@ -162,8 +162,8 @@ fn covers_all(reach: &[u32; 17], n: usize, v: Term, u: Term) -> bool
 {
     let mut w: usize = 1;
     while w <= n {
-        let reached = facts::holds(reach, v, Term(w));
-        let covered = facts::holds(reach, u, Term(w));
+        let reached = rows::holds(reach, v, Term(w));
+        let covered = rows::holds(reach, u, Term(w));
         if reached & !((w == v.0) | covered) {
             return false;
         }
@@ -179,7 +179,7 @@ fn tree_link(reach: &[u32; 17], n: usize, v: Term) -> Term
 {
     let mut u: usize = 1;
     while u <= n {
-        let reached = facts::holds(reach, v, Term(u));
+        let reached = rows::holds(reach, v, Term(u));
         let covers = covers_all(reach, n, v, Term(u));
         if reached & ((u != v.0) & covers) {
             return Term(u);
@@ -208,7 +208,7 @@ fn link_each<'a>(links: [Term; 17], rep: &'a [u8; 17], reach: &'a [u32; 17], n: 
     let mut out = links;
     let mut v: usize = 1;
     while v <= n {
-        let stands = facts::wide(rep[v]);
+        let stands = rows::wide(rep[v]);
         let known = out[v];
         if !((stands == v) & (known.0 == 0)) {
             v += 1;

@@ -9,9 +9,9 @@ use lib.ListN.{getD}
 use Rattle.logic.specs.Facts.{Graph}
 use Rattle.theory.proofs.Basics.Search.{true-false}
 use Rattle.theory.proofs.Basics.Compare.{eq-cases, le-cases}
-use Rattle.facts.specs.Bits.{bit}
-use Rattle.facts.specs.Square.{rowOf, square}
-use Rattle.facts.proofs.Square.{row-in, row-none, square-row, square-in, square-above, square-beside}
+use Rattle.rows.specs.Bits.{bit}
+use Rattle.rows.specs.Square.{rowOf, square}
+use Rattle.rows.proofs.Square.{row-in, row-none, square-row, square-in, square-above, square-beside}
 use Rattle.facts.specs.Path.{noFacts, repOf, pathOf}
 use Rattle.facts.proofs.Path.{first, second, third, by-link, graph-first, graph-second, graph-third}
 use Rattle.facts.specs.declared.Facts as code

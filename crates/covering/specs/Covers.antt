@@ -3,8 +3,8 @@ use Prim.Native.Nat.{ℕ, _≤_}
 use mathlib.Core.Path.{_≡_}
 use mathlib.Core.Bool.{Bool, true}
 use Rattle.logic.specs.Facts.{Graph, Facts}
-use Rattle.facts.specs.Bits.{bit}
-use Rattle.facts.specs.Square.{rowOf}
+use Rattle.rows.specs.Bits.{bit}
+use Rattle.rows.specs.Square.{rowOf}
 
 -- where a row has a number, another has what stands for it
 abbrev pub RowHeld : ℕ → (ℕ → ℕ) → ℕ → Type 0

@@ -1,11 +1,11 @@
 // A path whose facts another path holds, in the terms that stand for them there: whatever heap meets the other meets it too.
 use facts::Facts;
-use facts::Term;
+use rows::Term;
 ghost use mathlib.Core.Path.{_≡_};
 ghost use mathlib.Core.Bool.{true};
 ghost use Prim.Native.Nat.{ℕ, _≤_};
-ghost use Rattle.facts.specs.Bits.{bit};
-ghost use Rattle.facts.specs.Square.{rowOf, square};
+ghost use Rattle.rows.specs.Bits.{bit};
+ghost use Rattle.rows.specs.Square.{rowOf, square};
 ghost use Rattle.facts.specs.Path.{pathOf, repOf, graphOf};
 ghost use Rattle.covering.specs.Covers.{RowHeld, RowsHeld, GraphHeld, SameReps, Covers};
 
@@ -14,14 +14,14 @@ fn held_at(row: u32, b: usize, reps: &[u8; 17], far: u32) -> bool
     requires { ⌜ b ≤ 16 ⌝ }
     ensures { λ r. ⌜ (r ≡ true → bit row b ≡ true → rowOf far (repOf (now (reps .entry)) b) ≡ true) ⌝ }
 {
-    if !facts::has(row, b) {
+    if !rows::has(row, b) {
         return true;
     }
     let to = facts::read_rep(reps, Term(b));
     if 16 < to.0 {
         return false;
     }
-    facts::has(far, to.0)
+    rows::has(far, to.0)
 }
 
 // The same of every b.

@@ -7,7 +7,7 @@ use Rattle.rules.specs.declared.Choice.{Choice}
 use Rattle.rules.specs.declared.Choice.the-variants as choice
 use Rattle.rules.specs.declared.Rule.{Rule}
 use Rattle.rules.specs.declared.Third.{Third}
-use Rattle.facts.specs.declared.Term.{Term}
+use Rattle.rows.specs.declared.Term.{Term}
 use Rattle.facts.specs.declared.Link.{Link}
 use Rattle.clash.specs.Answers.{lineOf}
 use Rattle.clash.specs.declared.Clash.{Clash}

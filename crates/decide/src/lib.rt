@@ -3,8 +3,8 @@
 use clash::Clash;
 use facts::Facts;
 use facts::Link;
-use facts::Term;
 use query::Layout;
+use rows::Term;
 use rules::Choice;
 use rules::Rule;
 use rules::Third;

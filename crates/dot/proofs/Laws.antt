@@ -14,7 +14,7 @@ use Rattle.theory.proofs.Basics.Search.{bool-cases, true-false, not-of, and-int
 use Rattle.theory.proofs.Calls.OneLink.{wellFormed-one}
 use Rattle.text.specs.Text.{decimal}
 use Rattle.text.proofs.Writing.{Part, part-more, part-place, writes-none}
-use Rattle.facts.proofs.Loops.{from-end, from-next}
+use Rattle.rows.proofs.Loops.{from-end, from-next}
 use Rattle.drawing.specs.Text.{countIn, blank, listed}
 
 -- Lines

@@ -9,7 +9,7 @@ use mathlib.Core.List.{List, _∷_}
 use lib.ListN.{length, getD, drop, drop-of-length-le}
 use lib.Seq.{drop-cons}
 use Rattle.logic.specs.Search.{_and_, _or_, from, any, all}
-use Rattle.facts.proofs.Loops.{from-end, from-next}
+use Rattle.rows.proofs.Loops.{from-end, from-next}
 
 -- the bytes from i on begin with byte i
 pub drop-next : (xs : List ℕ) (i : ℕ) → i < length xs → drop i xs ≡ getD xs i 0 ∷ drop (i + 1) xs

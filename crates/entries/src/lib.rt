@@ -1,5 +1,5 @@
 // One entry of a query's sections: what its bytes are held to, and the lowest byte that meets a refusal 5 to 8.
-use facts::Term;
+use rows::Term;
 ghost use mathlib.Core.Path.{_≡_};
 ghost use Prim.Native.Nat.{_+_, _*_, _≤_, _<_};
 ghost use lib.ListN.{length, getD, drop};

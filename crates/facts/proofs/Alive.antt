@@ -11,13 +11,13 @@ use lib.Bits.{bitAnd}
 use borrow.Author.Tests.{le-ltb, ltb-false}
 use Rattle.logic.specs.Search.{_and_, _or_}
 use Rattle.logic.specs.Facts.{live}
-use Rattle.facts.specs.Bits.{bit}
+use Rattle.rows.specs.Bits.{bit}
 use Rattle.facts.specs.declared.Facts as code
 use Rattle.facts.specs.Path.{repOf, replacedBy}
-use Rattle.facts.proofs.Bits.{bit-none, bit-and}
+use Rattle.rows.proofs.Bits.{bit-none, bit-and}
 use Rattle.facts.proofs.Rep.{rep-in}
-use Rattle.facts.proofs.Fill.{Filled}
-use Rattle.facts.proofs.Turning.{filled-bit}
+use Rattle.rows.proofs.Fill.{Filled}
+use Rattle.rows.proofs.Turning.{filled-bit}
 
 -- a number that stands for itself
 unfoldable pub itself : List ℕ → ℕ → Bool

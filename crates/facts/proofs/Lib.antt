@@ -1,15 +1,4 @@
-pub mod Bits
-pub mod Loops
-pub mod Selections
-pub mod Finds
-pub mod Square
-pub mod Words
-pub mod Fill
-pub mod Merge
-pub mod Turning
 pub mod Rep
 pub mod Itself
 pub mod Path
-pub mod Successors
-pub mod Joins
 pub mod Alive

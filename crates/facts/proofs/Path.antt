@@ -5,17 +5,15 @@ use mathlib.Core.Path.{_≡_, refl, sym, ap, ap₂, fun-ext, _∙_}
 use mathlib.Core.Logic.{_⊎_, ⊎-elim, inl, inr}
 use mathlib.Core.Bool.{Bool, true, false, cond}
 use mathlib.Core.List.{List, [], _∷_}
-use mathlib.Core.Option.{Option, none, some}
 use lib.Arith.{lt-of-le-ne}
 use lib.Dec.{eqb, ltb, leb}
-use Rattle.logic.specs.Search.{_and_, _or_, from, any, orElse, firstOf}
-use Rattle.logic.specs.Facts.{Graph, Facts, linkNumbers, terms, became, replaceIn, replace, addReach, addLinks, successors, firstTwo, doubled}
-use Rattle.theory.proofs.Basics.Search.{bool-cases, not-of, true-false}
-use Rattle.theory.proofs.Basics.Compare.{cond-true, cond-false, eq-cases, eqb-self}
+use Rattle.logic.specs.Search.{_and_, _or_, any}
+use Rattle.logic.specs.Facts.{Graph, Facts, became, replaceIn, replace, addReach, addLinks}
+use Rattle.theory.proofs.Basics.Search.{not-of, true-false}
+use Rattle.theory.proofs.Basics.Compare.{eq-cases, eqb-self}
 use Rattle.theory.proofs.Paths.Ranged.{link-range}
-use Rattle.theory.proofs.Calls.OneLink.{firstOf-one, doubled-one}
 use Rattle.facts.specs.declared.Facts as code
-use Rattle.facts.specs.Path.{noFacts, graphs, pathAs, pathOf, repOf, graphOf, linksIn, twoIn, doubledIn, replaceRep, HasLink, withReach}
+use Rattle.facts.specs.Path.{noFacts, graphs, pathOf, repOf, graphOf, replaceRep, HasLink, withReach}
 
 -- the graph and the path that these functions make
 abbrev pub linking : (ℕ → ℕ → Bool) → (ℕ → ℕ → Bool) → Graph
@@ -265,37 +263,3 @@ module _ (s : code.Facts) where
   pub link-within : (i a b : ℕ) → pathOf s .graph i .link a b ≡ true → HasLink (pathOf s) i
   unfolding noFacts
   link-within i a b e = ⊎-elim (λ h. h) (λ none. absurd (true-false e (ap (λ (g : Graph). g .link a b) none))) (within i)
-
--- what is doubled is read off the links alone
-module _ (n : ℕ) (single : Bool) (rep link reach link2 reach2 link3 reach3 : List ℕ) where
-  abbrev path : Facts
-  path = pathAs single rep link reach link2 reach2 link3 reach3
-
-  doubled-single : single ≡ true → doubled n path ≡ firstOf (λ t. firstTwo (successors n (linksIn link) t)) (terms n)
-  unfolding successors linksIn graphOf graphs
-  doubled-single e = doubled-one n path (ap (λ (b : Bool). cond b 1 3) e)
-
-  doubled-three : single ≡ false → doubled n path ≡ firstOf (twoIn n link link2 link3) (terms n)
-  unfolding doubled linkNumbers from firstOf twoIn successors linksIn graphOf graphs
-  doubled-three e = rw e refl
-
-  pub doubled-links : doubledIn n single link link2 link3 ≡ doubled n path
-  unfolding doubledIn
-  doubled-links = ⊎-elim (λ e. cond-true _ _ e ∙ sym (doubled-single e)) (λ e. cond-false _ _ e ∙ sym (doubled-three e)) (bool-cases single)
-
--- the first of three links that has two successors
-module _ (n : ℕ) (f g h : List ℕ) (t : ℕ) where
-  abbrev two : List ℕ → Option (ℕ × ℕ)
-  two l = firstTwo (successors n (linksIn l) t)
-
-  pub two-first : (ab : ℕ × ℕ) → two f ≡ some ab → twoIn n f g h t ≡ some ab
-  unfolding twoIn firstOf orElse
-  two-first ab e = rw e refl
-
-  pub two-second : (ab : ℕ × ℕ) → two f ≡ none → two g ≡ some ab → twoIn n f g h t ≡ some ab
-  unfolding twoIn firstOf orElse
-  two-second ab e d = rw (e, d) refl
-
-  pub two-third : two f ≡ none → two g ≡ none → twoIn n f g h t ≡ two h
-  unfolding twoIn firstOf orElse
-  two-third e d = rw (e, d) (firstOf-one two h)

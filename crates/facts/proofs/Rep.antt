@@ -9,7 +9,7 @@ use lib.Seq.{getD-set-same, getD-set-other}
 use lib.Dec.{eqb}
 use borrow.Author.Tests.{lt-ltb, le-ltb, ne-eqb}
 use Rattle.facts.specs.Path.{repOf, replaceRep}
-use Rattle.facts.proofs.Fill.{Filled, filled-old, filled-more, filled-all}
+use Rattle.rows.proofs.Fill.{Filled, filled-old, filled-more, filled-all}
 
 pub rep-in : (rep : List ℕ) (t : ℕ) → t ≤ 16 → repOf rep t ≡ getD rep t 0
 unfolding repOf

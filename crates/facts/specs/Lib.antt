@@ -1,5 +1,1 @@
-pub mod Bits
-pub mod Square
 pub mod Path
-pub mod Answers
-pub mod Pairs

@@ -2,14 +2,12 @@
 use Prim.Native.Nat.{ℕ, _≤_, _<_}
 use mathlib.Core.Path.{_≡_}
 use mathlib.Core.Bool.{Bool, false, cond}
-use mathlib.Core.List.{List, [], _∷_}
-use mathlib.Core.Option.{Option}
+use mathlib.Core.List.{List}
 use lib.ListN.{length, getD}
 use lib.Dec.{ltb, eqb}
-use Rattle.facts.specs.Square.{square}
+use Rattle.rows.specs.Square.{square}
 use Rattle.facts.specs.declared.Facts as code
-use Rattle.logic.specs.Search.{_or_, firstOf}
-use Rattle.logic.specs.Facts.{Graph, Facts, terms, firstTwo, successors}
+use Rattle.logic.specs.Facts.{Graph, Facts}
 
 -- what a term was replaced by; a number above 16 is no term, and is not replaced
 unfoldable pub repOf : List ℕ → ℕ → ℕ
@@ -51,15 +49,6 @@ pub record Whole (rep link reach link2 reach2 link3 reach3 : List ℕ) : Type 0 
 -- a graph with these links alone: what reads only links asks no more
 unfoldable pub linksIn : List ℕ → Graph
 linksIn link = record { link = square link; reach = λ a b. false }
-
--- the two lowest successors of a term, by the first of three links that has two: "by lowest term, then link" (02, R-11)
-unfoldable pub twoIn : ℕ → List ℕ → List ℕ → List ℕ → ℕ → Option (ℕ × ℕ)
-twoIn n first second third t = firstOf (λ link. firstTwo (successors n (linksIn link) t)) (first ∷ second ∷ third ∷ [])
-
--- what is doubled, by the links of a single link or of three
-unfoldable pub doubledIn : ℕ → Bool → List ℕ → List ℕ → List ℕ → Option (ℕ × ℕ)
-doubledIn n single first second third =
-    cond single (firstOf (λ t. firstTwo (successors n (linksIn first) t)) (terms n)) (firstOf (twoIn n first second third) (terms n))
 
 -- a path with these representatives and no facts: what reads only these asks no more
 unfoldable pub replacedBy : List ℕ → Facts

@@ -12,7 +12,7 @@ use Rattle.logic.specs.Search.{_and_}
 use Rattle.logic.specs.Facts.{Facts, Graph, live}
 use Rattle.logic.specs.Rules.{Rule, REFLEX, TRANS1, TRANS2, FUNC, CYCLE, SCC, TOTAL, SHARE, triple, move, next, returns, conditions, alternatives, applies}
 use Rattle.theory.proofs.Basics.Search.{and-left}
-use Rattle.facts.specs.Square.{square}
+use Rattle.rows.specs.Square.{square}
 use Rattle.facts.specs.Path.{graphOf, linksIn, HasLink}
 use Rattle.rules.specs.Tests.{pairTest, thirdTest, looped}
 use Rattle.rules.specs.Allowed.{allowed}

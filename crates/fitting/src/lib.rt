@@ -1,7 +1,7 @@
 // One line at one path, whatever numbers it holds: whether a rule applies at a triple, and whether a clash is a true one.
 use facts::Facts;
-use facts::Term;
 use query::Layout;
+use rows::Term;
 use rules::Rule;
 ghost use mathlib.Core.Path.{_≡_};
 ghost use mathlib.Core.Bool.{Bool, true};
@@ -11,7 +11,7 @@ ghost use lib.Dec.{eqb};
 ghost use Rattle.logic.specs.Search.{_and_};
 ghost use Rattle.logic.specs.Facts.{live, line, negatedAt, plainAt, isClash};
 ghost use Rattle.logic.specs.Rules.{CYCLE, triple, move, applies};
-ghost use Rattle.facts.specs.Square.{square};
+ghost use Rattle.rows.specs.Square.{square};
 ghost use Rattle.facts.specs.Path.{graphOf, pathOf, repOf};
 ghost use Rattle.link_query.specs.Said.{said, Within};
 ghost use Rattle.rules.specs.Answers.{kindOf};
@@ -30,7 +30,7 @@ fn is_live(s: Facts, n: usize, t: usize) -> bool
     if n < t {
         return false;
     }
-    let to = facts::wide(s.rep[t]);
+    let to = rows::wide(s.rep[t]);
     to == t
 }
 
@@ -47,37 +47,37 @@ fn is_allowed(
     ensures { λ r. ⌜ ((lives : ℕ → Bool) → alive ≡ lives x → looped (kindOf rule) ≡ true → r ≡ (pairTest lives (graphOf (now (link .entry)) (now (reach .entry))) x y (kindOf rule) and thirdTest (graphOf (now (link .entry)) (now (reach .entry))) x y z (kindOf rule))) ⌝ }
 {
     match rule {
-        Rule::Reflex => alive & !facts::is_held(reach, x, x) & (y == 0) & (z == 0),
-        Rule::Trans1 => facts::is_held(link, x, y) & !facts::is_held(reach, x, y) & (z == 0),
-        Rule::Trans2 => facts::is_held(reach, x, y)
-            & facts::is_held(reach, y, z)
-            & !facts::is_held(reach, x, z),
+        Rule::Reflex => alive & !rows::is_held(reach, x, x) & (y == 0) & (z == 0),
+        Rule::Trans1 => rows::is_held(link, x, y) & !rows::is_held(reach, x, y) & (z == 0),
+        Rule::Trans2 => rows::is_held(reach, x, y)
+            & rows::is_held(reach, y, z)
+            & !rows::is_held(reach, x, z),
         Rule::Func => {
-            facts::is_held(link, x, y)
-                & facts::is_held(reach, x, z)
+            rows::is_held(link, x, y)
+                & rows::is_held(reach, x, z)
                 & (x != z)
-                & !facts::is_held(reach, y, z)
+                & !rows::is_held(reach, y, z)
         }
         Rule::Cycle => false,
         Rule::Scc => {
-            facts::is_held(reach, x, y)
-                & facts::is_held(reach, y, x)
+            rows::is_held(reach, x, y)
+                & rows::is_held(reach, y, x)
                 & (x != y)
-                & facts::is_held(reach, x, z)
-                & !facts::is_held(reach, z, x)
+                & rows::is_held(reach, x, z)
+                & !rows::is_held(reach, z, x)
         }
         Rule::Total => {
-            facts::is_held(reach, x, y)
-                & facts::is_held(reach, x, z)
-                & !facts::is_held(reach, y, z)
-                & !facts::is_held(reach, z, y)
+            rows::is_held(reach, x, y)
+                & rows::is_held(reach, x, z)
+                & !rows::is_held(reach, y, z)
+                & !rows::is_held(reach, z, y)
         }
         Rule::Share => {
-            facts::is_held(reach, x, y)
-                & facts::is_held(reach, y, x)
+            rows::is_held(reach, x, y)
+                & rows::is_held(reach, y, x)
                 & (x != y)
-                & facts::is_held(link, x, z)
-                & facts::is_held(link, y, z)
+                & rows::is_held(link, x, z)
+                & rows::is_held(link, y, z)
         }
     }
 }
@@ -87,7 +87,7 @@ fn is_round(link: &[u32; 17], reach: &[u32; 17], n: usize, x: usize, y: usize, k
     requires { ⌜ n ≤ 16 ⌝ }
     ensures { λ r. ⌜ ((lives : ℕ → Bool) → r ≡ allowed n lives (graphOf (now (link .entry)) (now (reach .entry))) (move 1 CYCLE (triple x y k))) ⌝ }
 {
-    if !facts::is_held(reach, x, y) {
+    if !rows::is_held(reach, x, y) {
         return false;
     }
     if k == 0 {

@@ -1,16 +1,16 @@
 // The place of a branching rule whose alternatives would add most facts, as far as counting tells. That the rule applies there is proved; that
 // no other place would add more is not, since no verdict rests on it.
 use facts::Facts;
-use facts::Found;
 use facts::Link;
-use facts::Term;
+use rows::Found;
+use rows::Term;
 use rules::Choice;
 use rules::Rule;
 use rules::Third;
 ghost use mathlib.Core.Path.{_≡_};
 ghost use mathlib.Core.List.{List};
 ghost use Prim.Native.Nat.{ℕ, _≤_};
-ghost use Rattle.facts.specs.Square.{Turned};
+ghost use Rattle.rows.specs.Square.{Turned};
 ghost use Rattle.facts.specs.Path.{pathOf};
 ghost use Rattle.units.specs.Proposes.{Proposes};
 ghost use Rattle.gains.specs.Keeps.{better, Keeps};
@@ -23,7 +23,7 @@ struct Best {
 
 // How many numbers up to 16 a row has.
 fn ones(row: u32) -> usize {
-    u32::count_ones(row & facts::up_to(16)) as usize
+    u32::count_ones(row & rows::up_to(16)) as usize
 }
 
 // A product, as long as it is no more than ten digits long.
@@ -75,7 +75,7 @@ fn func(k: Link, link: &[u32; 17], reach: &[u32; 17], back: &[u32; 17], before: 
             let at = y.0;
             let far = units::missed(reach, x, at);
             for z in 0..17 {
-                if facts::has(far, z) {
+                if rows::has(far, z) {
                     let score = product(joined(reach, back, x, z), added(reach, back, at, z));
                     let place = Choice::Apply(k, Rule::Func, Term(x), y, Third(z));
                     let next = better(best, score, place);
@@ -115,7 +115,7 @@ fn scc(k: Link, reach: &[u32; 17], back: &[u32; 17], before: Best) -> Best
         if let Found::At(z) = units::lowest(units::ahead(reach, back, x)) {
             let out = z.0;
             for y in 0..17 {
-                if facts::has(both, y) {
+                if rows::has(both, y) {
                     let score = product(joined(reach, back, x, y), added(reach, back, out, x));
                     let place = Choice::Apply(k, Rule::Scc, Term(x), Term(y), Third(out));
                     let next = better(best, score, place);
@@ -136,7 +136,7 @@ fn total_at(k: Link, reach: &[u32; 17], back: &[u32; 17], y: usize, before: Best
     let from = back[y];
     let near = reach[y] | from;
     for z in 0..17 {
-        if !facts::has(near, z) {
+        if !rows::has(near, z) {
             if let Found::At(x) = units::lowest(from & back[z]) {
                 let score = product(added(reach, back, y, z), added(reach, back, z, y));
                 let place = Choice::Apply(k, Rule::Total, x, Term(y), Third(z));
@@ -165,7 +165,7 @@ fn most_at(k: Link, link: &[u32; 17], reach: &[u32; 17], n: usize, before: Best)
     requires { ⌜ n ≤ 16 ⌝ }
     ensures { λ r. ⌜ Keeps n k (now (link .entry)) (now (reach .entry)) before r ⌝ }
 {
-    let back = facts::turned(reach);
+    let back = rows::turned(reach);
     let a = func(k, link, reach, &back, before);
     let b = cycle(k, link, reach, n, a);
     let c = scc(k, reach, &back, b);

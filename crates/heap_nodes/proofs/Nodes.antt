@@ -14,10 +14,10 @@ use Rattle.logic.specs.Facts.{Facts, terms}
 use Rattle.logic.specs.Shown.{orZero, nodes, placeOf}
 use Rattle.theory.proofs.Basics.Search.{bool-cases, select-mem, from-mem}
 use Rattle.theory.proofs.Completeness.Placed.{length-from}
-use Rattle.facts.proofs.Loops.{from-next}
+use Rattle.rows.proofs.Loops.{from-next}
 use Rattle.heap_nodes.specs.declared.Node.{Node}
 use Rattle.heap_nodes.specs.Nodes.{nodeOf, marked, nodesBy, Numbers}
-use Rattle.facts.proofs.Selections.{terms-from, any-end, any-turn, select-end, select-here, select-skip, select-alike}
+use Rattle.rows.proofs.Selections.{terms-from, any-end, any-turn, select-end, select-here, select-skip, select-alike}
 use Rattle.completion.proofs.Links.{number-set}
 use Rattle.completion.proofs.Completing.{live-selected}
 

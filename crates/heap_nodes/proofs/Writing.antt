@@ -14,7 +14,7 @@ use Rattle.logic.specs.Shown.{placeOf}
 use Rattle.theory.proofs.Basics.Search.{bool-cases}
 use Rattle.lent.specs.Appending.{Appends}
 use Rattle.lent.proofs.Writing.{appends-none, appends-byte, appends-then}
-use Rattle.facts.proofs.Selections.{select-end, select-here, select-skip}
+use Rattle.rows.proofs.Selections.{select-end, select-here, select-skip}
 use Rattle.completion.proofs.Links.{number-set}
 
 -- the bytes of what is marked, of the numbers below t

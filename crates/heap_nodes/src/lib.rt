@@ -7,7 +7,7 @@ ghost use Rattle.facts.specs.Path.{repOf};
 ghost use Rattle.heap_nodes.specs.Nodes.{nodeOf, marked, nodesBy, Numbers};
 ghost use Rattle.lent.specs.Appending.{Appends};
 ghost use Rattle.completion.specs.Links.{linkOf};
-use facts::Term;
+use rows::Term;
 
 // A node of the heap by its number.
 pub struct Node(pub usize);
@@ -21,7 +21,7 @@ pub fn mark_nodes(rep: &[u8; 17], n: usize) -> [bool; 17]
     let mut none = true;
     let mut t: usize = 1;
     while t <= n {
-        let to = facts::wide(rep[t]);
+        let to = rows::wide(rep[t]);
         let stands = to == t;
         marks[t] = stands;
         none = none & !stands;

@@ -1,8 +1,8 @@
 // Queries with three links (02, R-11): refusals 2, 3, 26, 4, 22 and 5 to 8, and the bytes of a query of either form read in place.
-use facts::Term;
 use query::Checked;
 use query::FullChecked;
 use query::FullLayout;
+use rows::Term;
 ghost use mathlib.Core.Path.{_≡_};
 ghost use Prim.Native.Nat.{_+_, _*_, _≤_, _<_};
 ghost use lib.ListN.{length, getD};

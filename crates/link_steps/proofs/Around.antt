@@ -18,9 +18,9 @@ use Rattle.logic.specs.Rules.{equal, next, returns, round, held}
 use Rattle.theory.proofs.Basics.Compare.{eq-cases, le-cases}
 use Rattle.theory.proofs.Basics.Search.{find-some, from-mem}
 use Rattle.theory.proofs.Basics.Iterate.{iterate-suc, iterate-add}
-use Rattle.facts.specs.Bits.{bit}
+use Rattle.rows.specs.Bits.{bit}
 use Rattle.facts.specs.Path.{graphOf, linksIn}
-use Rattle.facts.proofs.Bits.{bit-or}
+use Rattle.rows.proofs.Bits.{bit-or}
 use Rattle.link_steps.specs.Cycle.{stepsTo}
 
 -- the successor of a term, as a search finds it

@@ -1,11 +1,11 @@
 // Steps along the links: the successor of a term, and the steps round a cycle.
-use facts::Found;
-use facts::Term;
+use rows::Found;
+use rows::Term;
 ghost use mathlib.Core.Path.{_≡_};
 ghost use lib.Dec.{ltb};
 ghost use Prim.Native.Nat.{ℕ, _≤_};
 ghost use Rattle.facts.specs.Path.{linksIn};
-ghost use Rattle.facts.specs.Bits.{bit};
+ghost use Rattle.rows.specs.Bits.{bit};
 ghost use Rattle.link_steps.specs.Cycle.{stepsTo};
 ghost use Rattle.logic.specs.Heap.{iterate};
 ghost use Rattle.logic.specs.Rules.{next};
@@ -22,7 +22,7 @@ pub fn next(link: &[u32; 17], n: usize, c: Term) -> Term
     requires { ⌜ (n ≤ 16) × (c .0 ≤ 16) ⌝ }
     ensures { λ r. ⌜ r .0 ≡ next n (linksIn (now (link .entry))) (c .0) ⌝ }
 {
-    match facts::successor(link, n, c) {
+    match rows::successor(link, n, c) {
         Found::At(t) => t,
         Found::Nothing => Term(0),
     }
@@ -45,7 +45,7 @@ pub fn follow(link: &[u32; 17], n: usize, c: Term, until: Term, left: usize) -> 
             };
         }
         let d = next(link, n, term);
-        passed = passed | facts::only(term.0);
+        passed = passed | rows::only(term.0);
         if d.0 == term.0 {
             return Followed {
                 term,

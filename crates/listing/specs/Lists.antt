@@ -6,8 +6,8 @@ use mathlib.Core.List.{List}
 use lib.ListN.{length}
 use Rattle.logic.specs.Facts.{Facts, Joined, Line}
 use Rattle.logic.specs.Walk.{Ending, refutation}
-use Rattle.facts.specs.Pairs.{pairsOf}
-use Rattle.facts.specs.declared.Pairs.{Pairs}
+use Rattle.joins.specs.Pairs.{pairsOf}
+use Rattle.joins.specs.declared.Pairs.{Pairs}
 use Rattle.walk.specs.Lines.{countAll, putAll}
 use Rattle.listing.specs.declared.Listed.{Listed}
 

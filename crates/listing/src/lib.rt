@@ -1,6 +1,6 @@
 // The lines of a walk that is refuted, broken off as soon as there are more than anyone has use for.
-use facts::Joined;
-use facts::Pairs;
+use joins::Joined;
+use joins::Pairs;
 use query::Layout;
 use walk::Seen;
 ghost use Prim.Native.Nat.{_≤_};
@@ -9,7 +9,7 @@ ghost use Rattle.logic.specs.Query.{termCount};
 ghost use Rattle.logic.specs.Steps.{AtMost};
 ghost use Rattle.logic.specs.Walk.{walkBranch, walk, orderOf};
 ghost use Rattle.facts.specs.Path.{pathAs, pathOf, Whole};
-ghost use Rattle.facts.specs.Pairs.{pairsOf, joinedOf, Fits};
+ghost use Rattle.joins.specs.Pairs.{pairsOf, joinedOf, Fits};
 ghost use Rattle.link_query.specs.Said.{said, Within};
 ghost use Rattle.listing.specs.Lists.{joinedWith, Lists};
 

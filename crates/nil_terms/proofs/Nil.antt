@@ -10,8 +10,8 @@ use Rattle.logic.specs.Facts.{Facts, Joined, andThen, settle, joinEach, equalTo
 use Rattle.facts.specs.Path.{repOf, replacedBy}
 use Rattle.query.specs.declared.Layout.{Layout}
 use Rattle.link_query.specs.Said.{said, Within, entryIn}
-use Rattle.facts.proofs.Loops.{from-end, from-next}
-use Rattle.facts.proofs.Joins.{andThen-unjoined, andThen-andThen}
+use Rattle.rows.proofs.Loops.{from-end, from-next}
+use Rattle.joins.proofs.Joins.{andThen-unjoined, andThen-andThen}
 use Rattle.plain_literals.specs.Taken.{joinOne, same, Bounded}
 use Rattle.nil_terms.specs.Nil.{nilFrom, NextNil}
 use Rattle.plain_literals.proofs.Bounded.{settled, path-bounded}

@@ -1,13 +1,13 @@
 // Nil taken into a path: the terms that name it are joined to the lowest, and each of its links goes to itself.
-use facts::Term;
 use query::Layout;
+use rows::Term;
 ghost use mathlib.Core.Path.{_≡_};
 ghost use mathlib.Core.List.{List};
 ghost use Prim.Native.Nat.{ℕ, _+_, _≤_};
 ghost use lib.ListN.{length};
 ghost use Rattle.logic.specs.Facts.{andThen, joinEach, addLinks, equalTo, joinNil};
 ghost use Rattle.facts.specs.Path.{pathAs, Whole, replacedBy};
-ghost use Rattle.facts.specs.Pairs.{joinedIn, Fits};
+ghost use Rattle.joins.specs.Pairs.{joinedIn, Fits};
 ghost use Rattle.link_query.specs.Said.{said, Within};
 ghost use Rattle.plain_literals.specs.Taken.{Bounded};
 ghost use Rattle.nil_terms.specs.Nil.{nilFrom, NextNil};
@@ -138,7 +138,7 @@ pub fn join_nil(
     );
     let nil = facts::read_rep(rep, Term(first));
     add_links(single, link, link2, link3, nil, nil);
-    facts::settle(
+    joins::settle(
         single,
         rep,
         link,

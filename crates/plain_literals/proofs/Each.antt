@@ -5,7 +5,7 @@ use mathlib.Core.List.{List, [], _∷_}
 use Rattle.logic.specs.Query.{Literal}
 use Rattle.logic.specs.Facts.{Joined, andThen, joinEach, reachEach}
 use Rattle.query.proofs.Literals.{listed, listed-next, listed-end}
-use Rattle.facts.proofs.Joins.{andThen-unjoined, andThen-andThen}
+use Rattle.joins.proofs.Joins.{andThen-unjoined, andThen-andThen}
 use Rattle.plain_literals.specs.Taken.{joinOne, reachOne}
 
 -- `each` takes the literals of a list in order, and `one` a single one, into what is of type S

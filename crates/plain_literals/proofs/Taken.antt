@@ -10,10 +10,10 @@ use Rattle.logic.specs.Query.{Literal}
 use Rattle.logic.specs.Facts.{Facts, Joined, unjoined, andThen, join, addReach}
 use Rattle.theory.proofs.Basics.Compare.{cond-true, cond-false}
 use Rattle.facts.specs.declared.Facts as code
-use Rattle.facts.specs.Square.{square}
+use Rattle.rows.specs.Square.{square}
 use Rattle.facts.specs.Path.{repOf, pathAs, pathOf, graphOf, replacedBy, HasLink}
 use Rattle.facts.proofs.Path.{alike-graph, reaching, changed, addReach-changed, set-first, set-second, set-third, three, last}
-use Rattle.facts.proofs.Joins.{andThen-at, andThen-unjoined}
+use Rattle.joins.proofs.Joins.{andThen-at, andThen-unjoined}
 use Rattle.plain_literals.specs.Taken.{joinOne, reachOne, same, Bounded}
 
 -- a number that is read for a term is what the term became

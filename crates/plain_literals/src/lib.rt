@@ -1,6 +1,6 @@
 // The plain literals of a query taken into a path: its equalities are joined, its reachability facts are added.
-use facts::Term;
 use query::Layout;
+use rows::Term;
 ghost use mathlib.Core.Path.{_≡_};
 ghost use mathlib.Core.Bool.{Bool, cond};
 ghost use mathlib.Core.List.{List};
@@ -11,9 +11,9 @@ ghost use Rattle.logic.specs.Search.{_and_, _or_};
 ghost use Rattle.logic.specs.Query.{literals};
 ghost use Rattle.logic.specs.Facts.{andThen, joinEach, reachEach};
 ghost use Rattle.theory.proofs.Query.Tied.{Accepted};
-ghost use Rattle.facts.specs.Square.{square};
+ghost use Rattle.rows.specs.Square.{square};
 ghost use Rattle.facts.specs.Path.{pathAs, Whole, replacedBy};
-ghost use Rattle.facts.specs.Pairs.{joinedIn, Fits};
+ghost use Rattle.joins.specs.Pairs.{joinedIn, Fits};
 ghost use Rattle.link_query.specs.Said.{said, Within};
 ghost use Rattle.plain_literals.specs.Taken.{joinOne, same, Bounded, Terms, TermsIn};
 
@@ -23,7 +23,7 @@ pub fn add_to(rows: &mut [u32; 17], a: Term, b: Term)
     ensures { λ _. ⌜ (square (now (rows .exit)) ≡ (λ x y. square (now (rows .entry)) x y or (eqb x (a .0) and eqb y (b .0)))) × (length (now (rows .exit)) ≡ 17) ⌝ }
 {
     let at = a.0;
-    rows[at] = rows[at] | facts::only(b.0);
+    rows[at] = rows[at] | rows::only(b.0);
 }
 
 // Two terms are joined, as what they became, after the pairs that were joined before.
@@ -50,7 +50,7 @@ pub fn join_terms(
 {
     let a = facts::read_rep(rep, left);
     let b = facts::read_rep(rep, right);
-    facts::join(
+    joins::join(
         single,
         rep,
         link,

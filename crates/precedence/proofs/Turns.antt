@@ -17,7 +17,7 @@ use Rattle.logic.specs.Calls.{padded}
 use Rattle.theory.proofs.Basics.Search.{from-mem, find-some}
 use Rattle.theory.proofs.Basics.Compare.{eq-cases}
 use Rattle.entries.proofs.Loops.{drop-next, any-end, any-here, any-next}
-use Rattle.facts.proofs.Selections.{and-both, any-turn, any-end as any-none}
+use Rattle.rows.proofs.Selections.{and-both, any-turn, any-end as any-none}
 use Rattle.precedence.specs.Sheet.{Pair, countOf, pairAt, pairs, laidOut, rulesOnly, paired}
 use Rattle.precedence.specs.Finding.{free, ready, nextRule, grow, leads, onward, nextOn, follow, ringStart, ringOf, shownRing}
 use Rattle.precedence.proofs.Lists.{is-rule}

@@ -2,17 +2,17 @@
 // That the rule applies there is proved; that the alternative clashes is not, since no verdict rests on it.
 use clash::Clash;
 use facts::Facts;
-use facts::Found;
 use facts::Link;
-use facts::Term;
 use query::Layout;
+use rows::Found;
+use rows::Term;
 use rules::Choice;
 use rules::Rule;
 use rules::Third;
 use units::Proposal;
 ghost use mathlib.Core.List.{List};
 ghost use Prim.Native.Nat.{ℕ, _≤_};
-ghost use Rattle.facts.specs.Square.{Turned};
+ghost use Rattle.rows.specs.Square.{Turned};
 ghost use Rattle.facts.specs.Path.{pathOf, HasLink};
 ghost use Rattle.link_query.specs.Said.{Within};
 ghost use Rattle.units.specs.Proposes.{Proposes, ProposesIn, FoundIn};
@@ -140,7 +140,7 @@ fn func_at(query: &[u8], layout: Layout, s: Facts, k: Link, far: u32, x: Term, y
     ensures { λ r. ⌜ FoundIn far r ⌝ }
 {
     for z in 0..17 {
-        if facts::has(far, z) {
+        if rows::has(far, z) {
             if fails(query, layout, s, k, Rule::Func, x, y, Third(z)) {
                 return Found::At(Term(z));
             }
@@ -177,7 +177,7 @@ fn scc_at(query: &[u8], layout: Layout, s: Facts, k: Link, both: u32, x: Term, z
     ensures { λ r. ⌜ FoundIn both r ⌝ }
 {
     for y in 0..17 {
-        if facts::has(both, y) {
+        if rows::has(both, y) {
             if fails(query, layout, s, k, Rule::Scc, x, Term(y), Third(z.0)) {
                 return Found::At(Term(y));
             }
@@ -225,7 +225,7 @@ fn total_at(
     let near = reach[y] | from;
     for z in 0..17 {
         if y < z {
-            if !facts::has(near, z) {
+            if !rows::has(near, z) {
                 if let Found::At(x) = units::lowest(from & back[z]) {
                     if fails(query, layout, s, k, Rule::Total, x, Term(y), Third(z)) {
                         return Proposal::At(Rule::Total, x, Term(y), Third(z));
@@ -268,7 +268,7 @@ fn failing_at(
     requires { ⌜ Within layout (now query) × HasLink (pathOf s) (k .0) ⌝ }
     ensures { λ r. ⌜ ProposesIn (layout .terms) (now (link .entry)) (now (reach .entry)) r ⌝ }
 {
-    let back = facts::turned(reach);
+    let back = rows::turned(reach);
     if let Proposal::At(rule, x, y, z) = func(query, layout, s, k, link, reach) {
         return Proposal::At(rule, x, y, z);
     }

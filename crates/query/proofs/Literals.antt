@@ -15,7 +15,7 @@ use Rattle.theory.proofs.Basics.Search.{from-intro, map-intro}
 use Rattle.query.specs.declared.Layout.{Layout}
 use Rattle.query.specs.LaysOut.{LaysOutAs, literalIn}
 use Rattle.entries.proofs.Loops.{drop-three}
-use Rattle.facts.proofs.Loops.{from-end, from-next}
+use Rattle.rows.proofs.Loops.{from-end, from-next}
 
 -- Lists that are read by their places
 

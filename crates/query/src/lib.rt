@@ -1,5 +1,5 @@
 // The order list and the query's bytes: where the sections of a query stand, refusals 1 to 8 and 26, and reading a literal in place.
-use facts::Term;
+use rows::Term;
 ghost use mathlib.Core.Path.{_≡_};
 ghost use Prim.Native.Nat.{_+_, _*_, _≤_, _<_};
 ghost use lib.ListN.{length};

@@ -16,10 +16,10 @@ use Rattle.logic.specs.Search.{_and_, _or_, any}
 use Rattle.logic.specs.Query.{Literal}
 use Rattle.logic.specs.Shown.{byteOf}
 use Rattle.theory.proofs.Basics.Search.{bool-cases}
-use Rattle.facts.specs.Bits.{bit}
-use Rattle.facts.specs.Square.{square}
-use Rattle.facts.proofs.Bits.{bit-is, bit-none}
-use Rattle.facts.proofs.Square.{square-in, square-add}
+use Rattle.rows.specs.Bits.{bit}
+use Rattle.rows.specs.Square.{square}
+use Rattle.rows.proofs.Bits.{bit-is, bit-none}
+use Rattle.rows.proofs.Square.{square-in, square-add}
 use Rattle.query.proofs.Literals.{listed, listed-end, listed-next}
 use Rattle.report.specs.Bytes.{fieldHeld}
 

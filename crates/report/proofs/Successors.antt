@@ -10,7 +10,7 @@ use Rattle.logic.specs.Search.{from, flatMap}
 use Rattle.logic.specs.Facts.{Facts, linkNumbers}
 use Rattle.logic.specs.Calls.{padded}
 use Rattle.logic.specs.Shown.{shownLink}
-use Rattle.facts.proofs.Loops.{from-end, from-next}
+use Rattle.rows.proofs.Loops.{from-end, from-next}
 use Rattle.lent.specs.Appending.{Appends}
 use Rattle.lent.proofs.Writing.{appends-none, appends-then}
 use Rattle.completion.proofs.Completing.{shown-below}

@@ -3,7 +3,7 @@ ghost use mathlib.Core.Path.{_≡_};
 ghost use Prim.Native.Nat.{ℕ, _+_, _*_, _≤_};
 ghost use mathlib.Core.List.{_∷_, map};
 ghost use lib.ListN.{length, getD};
-ghost use Rattle.facts.specs.Square.{square};
+ghost use Rattle.rows.specs.Square.{square};
 ghost use Rattle.facts.specs.Path.{pathOf, repOf, HasLink};
 ghost use Rattle.logic.specs.Facts.{terms};
 ghost use Rattle.logic.specs.Calls.{padded};
@@ -45,7 +45,7 @@ fn mark_fields(query: &[u8], at: usize, count: usize, rep: &[u8; 17]) -> [u32; 1
         let field = query::field(query, at, i);
         let stands = facts::read_rep(rep, query::right(query, at, i));
         let v = stands.0;
-        marks[v] = marks[v] | facts::only(field);
+        marks[v] = marks[v] | rows::only(field);
     }
     marks
 }

@@ -15,11 +15,11 @@ use Rattle.logic.specs.Search.{_and_, from, keep, any, orElse, firstOf, find}
 use Rattle.logic.specs.Facts.{Graph}
 use Rattle.logic.specs.Rules.{CYCLE, Triple, triple, move, next, returns, conditions, alternatives, held}
 use Rattle.theory.proofs.Basics.Search.{firstOf-empty, from-mem, and-left, and-right}
-use Rattle.facts.specs.Bits.{bit}
+use Rattle.rows.specs.Bits.{bit}
 use Rattle.facts.specs.Path.{graphOf, linksIn}
-use Rattle.facts.proofs.Bits.{bit-and, bit-none}
-use Rattle.facts.proofs.Square.{square-in}
-use Rattle.facts.proofs.Finds.{find-in}
+use Rattle.rows.proofs.Bits.{bit-and, bit-none}
+use Rattle.rows.proofs.Square.{square-in}
+use Rattle.rows.proofs.Finds.{find-in}
 use Rattle.link_steps.specs.Cycle.{stepsTo}
 use Rattle.link_steps.proofs.Around.{returns-not, returns-at, round-is, steps-links, passed-more}
 use Rattle.rules.specs.Allowed.{allowed}

@@ -14,12 +14,12 @@ use Rattle.logic.specs.Search.{from, firstOf, find, orElse, select}
 use Rattle.logic.specs.Facts.{Graph}
 use Rattle.logic.specs.Rules.{Rule, TRANS2, Triple, ruleOf}
 use Rattle.theory.proofs.Basics.Search.{none-some, and-left, and-right, and-false-cases, true-false, find-some, select-mem, select-intro}
-use Rattle.facts.specs.Bits.{bit}
-use Rattle.facts.specs.Square.{Turned}
+use Rattle.rows.specs.Bits.{bit}
+use Rattle.rows.specs.Square.{Turned}
 use Rattle.facts.specs.Path.{graphOf}
-use Rattle.facts.proofs.Bits.{bit-and}
-use Rattle.facts.proofs.Finds.{find-no-bit, first-masked, select-rest}
-use Rattle.facts.proofs.Successors.{select-none}
+use Rattle.rows.proofs.Bits.{bit-and}
+use Rattle.rows.proofs.Finds.{find-no-bit, first-masked, select-rest}
+use Rattle.rows.proofs.Successors.{select-none}
 use Rattle.rules.specs.Tests.{pairTest, looped, twoWay, looksBack}
 use Rattle.rules.proofs.Rows.{far-bit}
 use Rattle.rule_choice.specs.Smallest.{inThird, inSecond}

@@ -1,7 +1,7 @@
 // The choice of a rule: the first that applies, at the smallest triple.
-use facts::Found;
 use facts::Link;
-use facts::Term;
+use rows::Found;
+use rows::Term;
 use rules::Choice;
 use rules::Numbered;
 use rules::Rule;
@@ -12,8 +12,8 @@ ghost use mathlib.Core.List.{List};
 ghost use Prim.Native.Nat.{ℕ, _≤_};
 ghost use Rattle.facts.specs.Path.{graphOf, pathAs};
 ghost use Rattle.rules.specs.Answers.{kindOf, choiceOf};
-ghost use Rattle.facts.specs.Bits.{bit};
-ghost use Rattle.facts.specs.Square.{Turned};
+ghost use Rattle.rows.specs.Bits.{bit};
+ghost use Rattle.rows.specs.Square.{Turned};
 ghost use Rattle.rules.specs.Tests.{pairTest, looped, twoWay, looksBack};
 ghost use Rattle.rule_choice.specs.Answers.{placeOf};
 ghost use Rattle.rule_choice.specs.Smallest.{inThird, inSecond, inFirst, triedAt, triedBy};
@@ -41,7 +41,7 @@ fn in_third(
     ensures { λ r. ⌜ ((alive : ℕ → Bool) → pairTest alive (graphOf (now (link .entry)) (now (reach .entry))) (x .0) (y .0) (kindOf rule) ≡ true → placeOf r ≡ inThird n alive (graphOf (now (link .entry)) (now (reach .entry))) (kindOf rule) (x .0) (y .0)) ⌝ }
 {
     let row = rules::third_row(rule, link, reach, back, x, y);
-    let Found::At(z) = facts::first(row & facts::up_to(n)) else {
+    let Found::At(z) = rows::first(row & rows::up_to(n)) else {
         return Place::Nothing;
     };
     Place::At(x, y, Third(z.0))
@@ -61,15 +61,15 @@ fn scan(
     ensures { λ r. ⌜ placeOf r ≡ inSecond n (bit alive) (graphOf (now (link .entry)) (now (reach .entry))) (kindOf rule) (x .0) ⌝ }
 {
     let row = rules::pair_row(rule, alive, link, reach, back, x);
-    let mut left = row & facts::up_to(n);
+    let mut left = row & rows::up_to(n);
     loop {
-        let Found::At(y) = facts::first(left) else {
+        let Found::At(y) = rows::first(left) else {
             return Place::Nothing;
         };
         if let Place::At(a, b, c) = in_third(rule, link, reach, back, n, x, y) {
             return Place::At(a, b, c);
         }
-        left = facts::rest(left);
+        left = rows::rest(left);
     }
 }
 
@@ -80,18 +80,18 @@ fn scan_onward(reach: &[u32; 17], n: usize, x: Term) -> Place
 {
     let at = x.0;
     let far = reach[at];
-    let among = facts::up_to(n);
+    let among = rows::up_to(n);
     let mut left = far & among;
     loop {
-        let Found::At(y) = facts::first(left) else {
+        let Found::At(y) = rows::first(left) else {
             return Place::Nothing;
         };
         let second = y.0;
-        let row = facts::without(reach[second], far);
-        if let Found::At(z) = facts::first(row & among) {
+        let row = rows::without(reach[second], far);
+        if let Found::At(z) = rows::first(row & among) {
             return Place::At(x, y, Third(z.0));
         }
-        left = facts::rest(left);
+        left = rows::rest(left);
     }
 }
 
@@ -101,7 +101,7 @@ fn cycle(link: &[u32; 17], reach: &[u32; 17], n: usize, x: Term) -> Place
     ensures { λ r. ⌜ ((alive : ℕ → Bool) → placeOf r ≡ inSecond n alive (graphOf (now (link .entry)) (now (reach .entry))) CYCLE (x .0)) ⌝ }
 {
     let at = x.0;
-    let far = reach[at] & facts::up_to(n);
+    let far = reach[at] & rows::up_to(n);
     if far == 0 {
         return Place::Nothing;
     }
@@ -111,8 +111,8 @@ fn cycle(link: &[u32; 17], reach: &[u32; 17], n: usize, x: Term) -> Place
     if n < k {
         return Place::Nothing;
     }
-    let round = back.passed | facts::only(at);
-    let Found::At(y) = facts::first(facts::without(far, round)) else {
+    let round = back.passed | rows::only(at);
+    let Found::At(y) = rows::first(rows::without(far, round)) else {
         return Place::Nothing;
     };
     Place::At(x, y, Third(k))
@@ -215,7 +215,7 @@ fn turned_once(reach: &[u32; 17], wanted: bool, before: [u32; 17]) -> [u32; 17]
     ensures { λ r. ⌜ ((wanted ≡ true) → Turned r (now (reach .entry))) × ((wanted ≡ false) → r ≡ before) ⌝ }
 {
     if wanted {
-        return facts::turned(reach);
+        return rows::turned(reach);
     }
     before
 }

@@ -11,7 +11,7 @@ use Rattle.theory.proofs.Paths.Ranged.{InRange}
 use Rattle.theory.proofs.Paths.Applies.{hasLink-intro}
 use Rattle.theory.proofs.Calls.OneLink.{conditions-local, held-local}
 use Rattle.facts.specs.Path.{graphOf}
-use Rattle.facts.specs.Square.{square}
+use Rattle.rows.specs.Square.{square}
 use Rattle.rules.specs.Tests.{pairTest, thirdTest, looped}
 use Rattle.rules.specs.Allowed.{allowed}
 

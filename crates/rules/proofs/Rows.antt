@@ -11,12 +11,12 @@ use borrow.Author.Tests.{ne-eqb}
 use Rattle.logic.specs.Search.{_and_}
 use Rattle.logic.specs.Rules.{REFLEX, TRANS1, TRANS2, FUNC, SCC, TOTAL, SHARE}
 use Rattle.theory.proofs.Basics.Compare.{eq-cases}
-use Rattle.facts.specs.Bits.{bit}
-use Rattle.facts.specs.Square.{Turned}
+use Rattle.rows.specs.Bits.{bit}
+use Rattle.rows.specs.Square.{Turned}
 use Rattle.facts.specs.Path.{graphOf}
-use Rattle.facts.proofs.Bits.{bit-and}
-use Rattle.facts.proofs.Words.{bit-single}
-use Rattle.facts.proofs.Square.{square-in}
+use Rattle.rows.proofs.Bits.{bit-and}
+use Rattle.rows.proofs.Words.{bit-single}
+use Rattle.rows.proofs.Square.{square-in}
 use Rattle.rules.specs.Tests.{pairTest, thirdTest}
 
 eqb-turned : (a b : ℕ) → eqb a b ≡ eqb b a

@@ -1,13 +1,13 @@
 // The eight rules, and the rows of the numbers that each asks for.
 use facts::Link;
-use facts::Term;
+use rows::Term;
 ghost use mathlib.Core.Path.{_≡_};
 ghost use mathlib.Core.Bool.{true};
 ghost use Prim.Native.Nat.{ℕ, _≤_};
 ghost use Rattle.facts.specs.Path.{graphOf};
 ghost use Rattle.rules.specs.Answers.{kindOf, numberedOf};
-ghost use Rattle.facts.specs.Bits.{bit};
-ghost use Rattle.facts.specs.Square.{Turned};
+ghost use Rattle.rows.specs.Bits.{bit};
+ghost use Rattle.rows.specs.Square.{Turned};
 ghost use Rattle.rules.specs.Tests.{pairTest, thirdTest, looped, twoWay};
 ghost use Rattle.logic.specs.Rules.{ruleOf};
 
@@ -61,14 +61,14 @@ pub fn pair_row(
     let far = reach[at];
     let both = far & back[at];
     match rule {
-        Rule::Reflex => (facts::without(alive, far) >> at) & 1,
-        Rule::Trans1 => facts::without(near, far),
+        Rule::Reflex => (rows::without(alive, far) >> at) & 1,
+        Rule::Trans1 => rows::without(near, far),
         Rule::Trans2 => far,
         Rule::Func => near,
         Rule::Cycle => far,
-        Rule::Scc => facts::without(both, facts::only(at)),
+        Rule::Scc => rows::without(both, rows::only(at)),
         Rule::Total => far,
-        Rule::Share => facts::without(both, facts::only(at)),
+        Rule::Share => rows::without(both, rows::only(at)),
     }
 }
 
@@ -91,11 +91,11 @@ pub fn third_row(
     match rule {
         Rule::Reflex => 1,
         Rule::Trans1 => 1,
-        Rule::Trans2 => facts::without(farther, far),
-        Rule::Func => facts::without(facts::without(far, facts::only(first)), farther),
+        Rule::Trans2 => rows::without(farther, far),
+        Rule::Func => rows::without(rows::without(far, rows::only(first)), farther),
         Rule::Cycle => 0,
-        Rule::Scc => facts::without(far, back[first]),
-        Rule::Total => facts::without(facts::without(far, farther), back[second]),
+        Rule::Scc => rows::without(far, back[first]),
+        Rule::Total => rows::without(rows::without(far, farther), back[second]),
         Rule::Share => link[first] & link[second],
     }
 }

@@ -13,10 +13,10 @@ use Rattle.theory.proofs.Paths.Start.{start-tied}
 use Rattle.query.specs.declared.Layout.{Layout}
 use Rattle.link_query.specs.Said.{said, Within}
 use Rattle.link_query.proofs.Said.{terms-said}
-use Rattle.facts.specs.Square.{square}
+use Rattle.rows.specs.Square.{square}
 use Rattle.facts.specs.Path.{repOf}
-use Rattle.facts.specs.Pairs.{joinedIn, Fits}
-use Rattle.facts.proofs.Joins.{none-before, fits-left}
+use Rattle.joins.specs.Pairs.{joinedIn, Fits}
+use Rattle.joins.proofs.Joins.{none-before, fits-left}
 use Rattle.term_links.proofs.Entries.{linked-in-rows}
 use Rattle.start.proofs.Room.{start-pairs}
 use Rattle.plain_literals.proofs.Read.{counted}

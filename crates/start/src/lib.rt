@@ -1,11 +1,11 @@
 // The start of a query: the path that holds its links, nil's, its plain equalities and its plain reachability facts.
 use facts::Facts;
-use facts::Joined;
-use facts::Pairs;
+use joins::Joined;
+use joins::Pairs;
 use query::Layout;
 ghost use mathlib.Core.Path.{_≡_};
 ghost use Rattle.theory.proofs.Query.Tied.{Accepted};
-ghost use Rattle.facts.specs.Pairs.{joinedOf};
+ghost use Rattle.joins.specs.Pairs.{joinedOf};
 ghost use Rattle.link_query.specs.Said.{said, Within};
 ghost use Rattle.start.specs.Started.{started};
 
@@ -25,7 +25,7 @@ pub fn start(query: &[u8], layout: Layout) -> Joined
     let mut reach3 = [0u32; 17];
     let mut kept = [0u8; 17];
     let mut replaced = [0u8; 17];
-    let settled = facts::settle(
+    let settled = joins::settle(
         single,
         &mut rep,
         &mut link,

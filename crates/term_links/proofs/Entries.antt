@@ -22,12 +22,12 @@ use Rattle.query.specs.declared.Layout.{Layout}
 use Rattle.query.proofs.Ranges.{below-of}
 use Rattle.link_query.specs.Said.{entryWidth, said, Within, entryIn}
 use Rattle.link_query.proofs.Said.{terms-said, entry-said}
-use Rattle.facts.specs.Bits.{bit}
-use Rattle.facts.specs.Square.{square}
+use Rattle.rows.specs.Bits.{bit}
+use Rattle.rows.specs.Square.{square}
 use Rattle.facts.specs.Path.{repOf, graphOf, noFacts, graphs, pathAs}
 use Rattle.facts.proofs.Path.{linking, made, alike, alike-graph}
-use Rattle.facts.proofs.Square.{square-with, nothing-held}
-use Rattle.facts.proofs.Fill.{ltb-next}
+use Rattle.rows.proofs.Square.{square-with, nothing-held}
+use Rattle.rows.proofs.Fill.{ltb-next}
 use Rattle.term_links.specs.Argument.{argumentBy}
 
 -- b is f of a by link k

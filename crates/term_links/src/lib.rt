@@ -1,11 +1,11 @@
 // The links that section 1 of a query says.
-use facts::Term;
 use query::Layout;
+use rows::Term;
 ghost use mathlib.Core.Path.{_≡_};
 ghost use Prim.Native.Nat.{_<_};
 ghost use Rattle.logic.specs.Facts.{linksOf};
 ghost use Rattle.theory.proofs.Query.Tied.{Accepted};
-ghost use Rattle.facts.specs.Square.{square};
+ghost use Rattle.rows.specs.Square.{square};
 ghost use Rattle.link_query.specs.Said.{said, Within};
 ghost use Rattle.term_links.specs.Argument.{argumentBy};
 
@@ -33,7 +33,7 @@ pub fn links_of(query: &[u8], layout: Layout, k: usize) -> [u32; 17]
             continue;
         }
         let a = argument(link_query::entry(query, layout.links, Term(b)));
-        link[a] = facts::with(link[a], b, 0 < a);
+        link[a] = rows::with(link[a], b, 0 < a);
         b += 1;
     }
     link

@@ -14,16 +14,16 @@ use Rattle.logic.specs.Rules.{Rule, FUNC, CYCLE, SCC, TOTAL, SHARE, Triple, tri
 use Rattle.theory.proofs.Basics.Search.{and-left, and-right, and-intro, not-intro, find-some, from-mem}
 use Rattle.theory.proofs.Paths.Ranged.{InRange}
 use Rattle.theory.proofs.Paths.Applies.{hasLink-range, applies-linked}
-use Rattle.facts.specs.Bits.{bit}
-use Rattle.facts.specs.Square.{square, Turned}
-use Rattle.facts.specs.Answers.{foundOf}
+use Rattle.rows.specs.Bits.{bit}
+use Rattle.rows.specs.Square.{square, Turned}
+use Rattle.rows.specs.Answers.{foundOf}
 use Rattle.facts.specs.Path.{graphOf, HasLink}
 use Rattle.facts.specs.declared.Link.{Link}
-use Rattle.facts.specs.declared.Term.{Term}
-use Rattle.facts.specs.declared.Found.{Found}
-use Rattle.facts.specs.declared.Found.the-variants as found
-use Rattle.facts.proofs.Bits.{bit-and, bit-or, bit-none}
-use Rattle.facts.proofs.Square.{square-in}
+use Rattle.rows.specs.declared.Term.{Term}
+use Rattle.rows.specs.declared.Found.{Found}
+use Rattle.rows.specs.declared.Found.the-variants as found
+use Rattle.rows.proofs.Bits.{bit-and, bit-or, bit-none}
+use Rattle.rows.proofs.Square.{square-in}
 use Rattle.rules.specs.Tests.{pairTest, thirdTest, looped}
 use Rattle.rules.specs.Allowed.{allowed}
 use Rattle.rules.specs.declared.Rule as code

@@ -9,10 +9,10 @@ use lib.Dec.{eqb, ltb}
 use Rattle.logic.specs.Search.{_and_, _or_, any}
 use Rattle.logic.specs.Facts.{Graph}
 use Rattle.logic.specs.Rules.{CYCLE, triple, move, equal, held, next, returns, round, conditions, alternatives}
-use Rattle.facts.specs.Bits.{bit}
+use Rattle.rows.specs.Bits.{bit}
 use Rattle.facts.specs.Path.{graphOf, linksIn}
-use Rattle.facts.proofs.Bits.{bit-none}
-use Rattle.facts.proofs.Square.{square-in}
+use Rattle.rows.proofs.Bits.{bit-none}
+use Rattle.rows.proofs.Square.{square-in}
 use Rattle.link_steps.specs.Cycle.{stepsTo}
 use Rattle.rules.specs.Allowed.{allowed}
 use Rattle.link_steps.proofs.Around.{returns-at, round-is, steps-links, back-links, passed-more}

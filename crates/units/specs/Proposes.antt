@@ -5,12 +5,12 @@ use mathlib.Core.Bool.{true}
 use mathlib.Core.List.{List}
 use Rattle.logic.specs.Facts.{Facts}
 use Rattle.logic.specs.Rules.{triple, move, applies}
-use Rattle.facts.specs.Bits.{bit}
+use Rattle.rows.specs.Bits.{bit}
 use Rattle.facts.specs.Path.{graphOf, HasLink}
 use Rattle.facts.specs.declared.Link.{Link}
-use Rattle.facts.specs.declared.Term.{Term}
-use Rattle.facts.specs.declared.Found.{Found}
-use Rattle.facts.specs.declared.Found.the-variants as found
+use Rattle.rows.specs.declared.Term.{Term}
+use Rattle.rows.specs.declared.Found.{Found}
+use Rattle.rows.specs.declared.Found.the-variants as found
 use Rattle.rules.specs.Answers.{kindOf}
 use Rattle.rules.specs.declared.Rule.{Rule}
 use Rattle.rules.specs.declared.Third.{Third}

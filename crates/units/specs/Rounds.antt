@@ -6,7 +6,7 @@ use lib.Dec.{eqb}
 use Rattle.logic.specs.Search.{any}
 use Rattle.logic.specs.Facts.{Graph}
 use Rattle.logic.specs.Rules.{CYCLE, triple, move, round}
-use Rattle.facts.specs.Bits.{bit}
+use Rattle.rows.specs.Bits.{bit}
 use Rattle.rules.specs.Allowed.{allowed}
 use Rattle.units.specs.declared.Round.{Round}
 

@@ -1,10 +1,10 @@
 // Places of the branching rules where at most one alternative is left, once those that would clash at once are struck. That the rule applies
 // at a place is proved; that so few alternatives are left is not, since no verdict rests on it. The rows that such searches read are here too.
 use facts::Facts;
-use facts::Found;
 use facts::Link;
-use facts::Term;
 use query::Layout;
+use rows::Found;
+use rows::Term;
 use rules::Choice;
 use rules::Rule;
 use rules::Third;
@@ -15,9 +15,9 @@ ghost use Prim.Native.Nat.{ℕ, _+_, _*_, _≤_};
 ghost use lib.Dec.{eqb, ltb};
 ghost use lib.ListN.{length};
 ghost use Rattle.logic.specs.Search.{_and_, from, find};
-ghost use Rattle.facts.specs.Bits.{bit};
-ghost use Rattle.facts.specs.Square.{square, Turned};
-ghost use Rattle.facts.specs.Answers.{foundOf};
+ghost use Rattle.rows.specs.Bits.{bit};
+ghost use Rattle.rows.specs.Square.{square, Turned};
+ghost use Rattle.rows.specs.Answers.{foundOf};
 ghost use Rattle.facts.specs.Path.{graphOf, pathOf};
 ghost use Rattle.link_query.specs.Said.{Within};
 ghost use Rattle.units.specs.Rounds.{Rounds};
@@ -47,7 +47,7 @@ struct Barred {
 pub fn lowest(row: u32) -> Found
     ensures { λ r. ⌜ foundOf r ≡ find (bit row) (from 17 0) ⌝ }
 {
-    facts::first(row & facts::up_to(16))
+    rows::first(row & rows::up_to(16))
 }
 
 // The row of the other terms that x reaches and that reach it. `back` is `reach` turned round.
@@ -55,7 +55,7 @@ pub fn both_ways(reach: &[u32; 17], back: &[u32; 17], x: usize) -> u32
     requires { ⌜ (x ≤ 16) × Turned (now back) (now reach) ⌝ }
     ensures { λ r. ⌜ ((y : ℕ) → y ≤ 16 → bit r y ≡ (square (now (reach .entry)) x y and square (now (reach .entry)) y x and not (eqb x y))) ⌝ }
 {
-    facts::without(reach[x] & back[x], facts::only(x))
+    rows::without(reach[x] & back[x], rows::only(x))
 }
 
 // The row of the terms that x reaches and that do not reach it.
@@ -63,7 +63,7 @@ pub fn ahead(reach: &[u32; 17], back: &[u32; 17], x: usize) -> u32
     requires { ⌜ (x ≤ 16) × Turned (now back) (now reach) ⌝ }
     ensures { λ r. ⌜ ((z : ℕ) → z ≤ 16 → bit r z ≡ (square (now (reach .entry)) x z and not (square (now (reach .entry)) z x))) ⌝ }
 {
-    facts::without(reach[x], back[x])
+    rows::without(reach[x], back[x])
 }
 
 // The row of the other terms that x reaches and y does not.
@@ -71,7 +71,7 @@ pub fn missed(reach: &[u32; 17], x: usize, y: usize) -> u32
     requires { ⌜ (x ≤ 16) × (y ≤ 16) ⌝ }
     ensures { λ r. ⌜ ((z : ℕ) → z ≤ 16 → bit r z ≡ (square (now (reach .entry)) x z and not (eqb x z) and not (square (now (reach .entry)) y z))) ⌝ }
 {
-    facts::without(facts::without(reach[x], facts::only(x)), reach[y])
+    rows::without(rows::without(reach[x], rows::only(x)), reach[y])
 }
 
 // The row of the terms that x reaches, where neither y reaches them nor they y.
@@ -79,7 +79,7 @@ fn unordered(reach: &[u32; 17], back: &[u32; 17], x: usize, y: usize) -> u32
     requires { ⌜ (x ≤ 16) × (y ≤ 16) × Turned (now back) (now reach) ⌝ }
     ensures { λ r. ⌜ ((z : ℕ) → z ≤ 16 → bit r z ≡ (square (now (reach .entry)) x z and not (square (now (reach .entry)) y z) and not (square (now (reach .entry)) z y))) ⌝ }
 {
-    facts::without(facts::without(reach[x], reach[y]), back[y])
+    rows::without(rows::without(reach[x], reach[y]), back[y])
 }
 
 // The round of x.
@@ -97,11 +97,11 @@ pub fn around(link: &[u32; 17], reach: &[u32; 17], n: usize, x: usize) -> Round
             off: 0,
         };
     }
-    let on = back.passed | facts::only(x);
+    let on = back.passed | rows::only(x);
     Round {
         steps: k,
         on,
-        off: facts::without(reach[x], on),
+        off: rows::without(reach[x], on),
     }
 }
 
@@ -110,7 +110,7 @@ fn alone(b: usize) -> u32
     ensures { λ r. ⌜ ((i : ℕ) → bit r i ≡ (ltb b 17 and eqb i b)) ⌝ }
 {
     if b < 17 {
-        return facts::only(b);
+        return rows::only(b);
     }
     0
 }
@@ -177,7 +177,7 @@ fn having(some: u32, rows: &[u32; 17]) -> u32 {
     let mut out: u32 = 0;
     for b in 0..17 {
         if rows[b] & some != 0 {
-            out = out | facts::only(b);
+            out = out | rows::only(b);
         }
     }
     out
@@ -198,7 +198,7 @@ fn opposed(rows: [u32; 17], some: &[u32; 17], other: &[u32; 17]) -> [u32; 17] {
 // More in each row of some, in place.
 fn spread(rows: &mut [u32; 17], some: u32, more: u32) {
     for a in 0..17 {
-        if facts::has(some, a) {
+        if rows::has(some, a) {
             rows[a] = rows[a] | more;
         }
     }
@@ -239,7 +239,7 @@ fn share(link: &[u32; 17], reach: &[u32; 17], back: &[u32; 17]) -> Proposal
         if near != 0 {
             let both = both_ways(reach, back, x);
             for y in 0..17 {
-                if facts::has(both, y) {
+                if rows::has(both, y) {
                     if let Found::At(z) = lowest(near & link[y]) {
                         return Proposal::At(Rule::Share, Term(x), Term(y), Third(z.0));
                     }
@@ -271,8 +271,8 @@ fn cycle_at(off: u32, on: u32, no_equal: &[u32; 17]) -> Found
     ensures { λ r. ⌜ FoundIn off r ⌝ }
 {
     for y in 0..17 {
-        if facts::has(off, y) {
-            let left = facts::without(on, no_equal[y]);
+        if rows::has(off, y) {
+            let left = rows::without(on, no_equal[y]);
             if left == 0 {
                 return Found::At(Term(y));
             }
@@ -334,7 +334,7 @@ fn struck(
 ) -> [u32; 17] {
     let mut out = [0u32; 17];
     for y in 0..17 {
-        out[y] = facts::without(no_reach[y] | no_back[y], reach[y] | back[y]);
+        out[y] = rows::without(no_reach[y] | no_back[y], reach[y] | back[y]);
     }
     out
 }
@@ -360,7 +360,7 @@ fn total_at(
         if let Found::At(z) = lowest(unordered(reach, back, x, at) & struck[at]) {
             return Proposal::At(Rule::Total, Term(x), y, Third(z.0));
         }
-        left = facts::without(left, facts::only(at));
+        left = rows::without(left, rows::only(at));
         turn += 1;
     }
     Proposal::Nothing
@@ -371,7 +371,7 @@ fn total(reach: &[u32; 17], back: &[u32; 17], no_reach: &[u32; 17], no_back: &[u
     ensures { λ r. ⌜ ((n : ℕ) (link : List ℕ) → ProposesIn n link (now (reach .entry)) r) ⌝ }
 {
     let open = struck(reach, back, no_reach, no_back);
-    let some = having(facts::up_to(16), &open);
+    let some = having(rows::up_to(16), &open);
     for x in 0..17 {
         if let Proposal::At(rule, a, b, c) = total_at(reach, back, &open, some, x) {
             return Proposal::At(rule, a, b, c);
@@ -392,7 +392,7 @@ fn place(
     requires { ⌜ n ≤ 16 ⌝ }
     ensures { λ r. ⌜ ProposesIn n (now (link .entry)) (now (reach .entry)) r ⌝ }
 {
-    let back = facts::turned(reach);
+    let back = rows::turned(reach);
     if let Proposal::At(rule, x, y, z) = share(link, reach, &back) {
         return Proposal::At(rule, x, y, z);
     }

@@ -8,9 +8,9 @@ use lib.ListN.{length, getD, set, length-set}
 use borrow.Author.Tests.{lt-ltb, le-ltb, le-leb, lt-leb}
 use Rattle.logic.specs.Search.{from}
 use Rattle.logic.specs.Facts.{Line, line, joinLines}
-use Rattle.facts.specs.Pairs.{pairAt, pairsOf}
-use Rattle.facts.specs.declared.Pairs.{Pairs}
-use Rattle.facts.proofs.Loops.{from-end, from-next}
+use Rattle.joins.specs.Pairs.{pairAt, pairsOf}
+use Rattle.joins.specs.declared.Pairs.{Pairs}
+use Rattle.rows.proofs.Loops.{from-end, from-next}
 use Rattle.theory.proofs.Basics.Compare.{le-cases}
 use Rattle.walk.specs.Lines.{counted, countAll, putLine, putAll}
 

@@ -1,9 +1,9 @@
 // One look of the branch walk, and the lines that it writes.
 use clash::Clash;
 use facts::Link;
-use facts::Pairs;
-use facts::Term;
+use joins::Pairs;
 use query::Layout;
+use rows::Term;
 use rules::Choice;
 use rules::Rule;
 use rules::Third;
@@ -14,7 +14,7 @@ ghost use Rattle.logic.specs.Facts.{line, joinLines};
 ghost use Rattle.logic.specs.Rules.{ruleNumber, moveNumber};
 ghost use Rattle.logic.specs.Walk.{look, orderOf};
 ghost use Rattle.facts.specs.Path.{pathAs};
-ghost use Rattle.facts.specs.Pairs.{pairsOf};
+ghost use Rattle.joins.specs.Pairs.{pairsOf};
 ghost use Rattle.link_query.specs.Said.{said, Within};
 ghost use Rattle.rules.specs.Answers.{kindOf};
 ghost use Rattle.walk.specs.Lines.{counted, countAll, putLine, putAll};
@@ -55,8 +55,8 @@ pub fn put_joins(lines: &mut [u8], first: usize, pairs: Pairs) -> usize
     let mut count = first;
     let mut i: usize = 0;
     while i < total {
-        let kept = facts::wide(pairs.kept[i]);
-        let replaced = facts::wide(pairs.replaced[i]);
+        let kept = rows::wide(pairs.kept[i]);
+        let replaced = rows::wide(pairs.replaced[i]);
         put_line(lines, count, 10, kept, replaced, 0);
         count = counted(count);
         i += 1;

@@ -6,7 +6,7 @@ use mathlib.Core.Path.{_≡_, refl, sym, ap, _∙_}
 use Rattle.between_seek.proofs.heap_found.Statement.{statement}
 use Rattle.between_seek.proofs.heap_found.Tie as tie
 use Rattle.logic.specs.Search.{from, firstOf}
-use Rattle.facts.proofs.Loops.{first-end, first-here, first-next}
+use Rattle.rows.proofs.Loops.{first-end, first-here, first-next}
 use Rattle.between_search.specs.Search.{sizeFound, mostNodes}
 use Rattle.between_seek.specs.Answers.{queryIn}
 use Rattle.between_seek.proofs.Laws.{heap-sizes, most-few, kept, not-kept}

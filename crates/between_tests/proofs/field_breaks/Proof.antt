@@ -9,7 +9,7 @@ use Rattle.between_tests.proofs.field_breaks.Tie as tie
 use mathlib.Core.List.{List}
 use Rattle.logic.specs.Search.{from, any}
 use Rattle.logic.specs.Query.{Literal}
-use Rattle.facts.proofs.Selections.{any-end, any-here, any-next}
+use Rattle.rows.proofs.Selections.{any-end, any-here, any-next}
 use Rattle.between_search.specs.Tests.{opposed}
 use Rattle.between_search.specs.Search.{entry}
 use Rattle.between_tests.specs.Tables.{Opposed}

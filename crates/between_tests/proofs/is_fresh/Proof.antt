@@ -8,7 +8,7 @@ use lib.Dec.{eqb}
 use Rattle.between_tests.proofs.is_fresh.Statement.{statement}
 use Rattle.between_tests.proofs.is_fresh.Tie as tie
 use Rattle.logic.specs.Search.{from, any}
-use Rattle.facts.proofs.Selections.{any-end, any-here, any-next}
+use Rattle.rows.proofs.Selections.{any-end, any-here, any-next}
 use Rattle.between_search.specs.Search.{entry}
 use Rattle.between_tests.proofs.Laws.{fresh-is}
 

@@ -6,7 +6,7 @@ use mathlib.Core.Bool.{Bool, true, false, _&&_}
 use Rattle.between_tests.proofs.is_opposed.Statement.{statement}
 use Rattle.between_tests.proofs.is_opposed.Tie as tie
 use Rattle.logic.specs.Search.{from, any}
-use Rattle.facts.proofs.Selections.{any-end, any-here, any-next}
+use Rattle.rows.proofs.Selections.{any-end, any-here, any-next}
 use Rattle.between_search.specs.Tests.{hasField, opposed}
 use Rattle.between_tests.specs.Tables.{literalsIn}
 use Rattle.between_tests.proofs.Laws.{opposed-begin}

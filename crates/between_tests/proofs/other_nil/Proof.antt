@@ -8,7 +8,7 @@ use Rattle.between_tests.proofs.other_nil.Statement.{statement}
 use Rattle.between_tests.proofs.other_nil.Tie as tie
 use Rattle.logic.specs.Search.{from, any}
 use Rattle.logic.specs.Query.{decode, namesNil}
-use Rattle.facts.proofs.Selections.{any-end, any-here, any-next}
+use Rattle.rows.proofs.Selections.{any-end, any-here, any-next}
 use Rattle.between_search.specs.Search.{entry}
 use Rattle.between_tests.proofs.Laws.{any-from}
 

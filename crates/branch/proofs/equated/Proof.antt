@@ -4,8 +4,8 @@ use mathlib.Core.Path.{_∙_}
 use lib.ListN.{replicate}
 use Rattle.logic.specs.Facts.{join}
 use Rattle.facts.specs.Path.{pathOf}
-use Rattle.facts.specs.Pairs.{pairsOf}
-use Rattle.facts.proofs.Joins.{none-before}
+use Rattle.joins.specs.Pairs.{pairsOf}
+use Rattle.joins.proofs.Joins.{none-before}
 use Rattle.branch.proofs.Steps.{alone-fits}
 use Rattle.branch.proofs.equated.Statement.{statement}
 use Rattle.branch.proofs.equated.Tie as tie

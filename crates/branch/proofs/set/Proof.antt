@@ -1,7 +1,7 @@
 -- One bit of a row is set. Assumes nothing.
 use borrow.Author.Needs.{needs}
 use lib.ListN.{length-set}
-use Rattle.facts.proofs.Square.{square-add}
+use Rattle.rows.proofs.Square.{square-add}
 use Rattle.branch.proofs.set.Statement.{statement}
 use Rattle.branch.proofs.set.Tie as tie
 

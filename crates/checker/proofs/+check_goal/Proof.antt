@@ -10,7 +10,7 @@ use borrow.Fn.PlainCycle.{Measures, is, falls, and}
 use Rattle.logic.specs.Query.{decode}
 use Rattle.logic.specs.Rules.{triple, move}
 use Rattle.theory.proofs.Query.AcceptedBytes.{accepted}
-use Rattle.facts.specs.Pairs.{Fits}
+use Rattle.joins.specs.Pairs.{Fits}
 use Rattle.rules.specs.Answers.{kindOf}
 use Rattle.branch.proofs.Steps.{branch-fits}
 use Rattle.checking.specs.Fitting.{goalOf}

@@ -2,7 +2,7 @@
 use native.Mathlib.Omega.{arith}
 use borrow.Author.Needs.{needs}
 use mathlib.Core.Path.{_∙_}
-use Rattle.facts.specs.Pairs.{joinedOf}
+use Rattle.joins.specs.Pairs.{joinedOf}
 use Rattle.facts.proofs.Path.{links-few}
 use Rattle.rules.specs.Answers.{kindOf}
 use Rattle.checker.proofs.Rows.{branch-one, branch-rows}

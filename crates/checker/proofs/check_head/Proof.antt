@@ -3,7 +3,7 @@ use Prim.Native.Nat.{_-_}
 use native.Mathlib.Omega.{arith}
 use borrow.Author.Tests.{not-true, not-false}
 use mathlib.Core.Path.{refl, sym, _∙_}
-use Rattle.facts.proofs.Joins.{pairs-count}
+use Rattle.joins.proofs.Joins.{pairs-count}
 use Rattle.checker.proofs.Judging.{HeadLeft, head-begin, head-next, head-wrong, head-end}
 use Rattle.checker.proofs.check_head.Statement.{statement}
 use Rattle.checker.proofs.check_head.Tie as tie

@@ -2,7 +2,7 @@
 use native.Mathlib.Omega.{arith}
 use borrow.Author.Tests.{not-true, not-false}
 use mathlib.Core.Path.{sym, _∙_, subst}
-use Rattle.facts.specs.Pairs.{joinedOf, Fits}
+use Rattle.joins.specs.Pairs.{joinedOf, Fits}
 use Rattle.link_query.proofs.Said.{one-within}
 use Rattle.start.proofs.Laid.{started-fits}
 use Rattle.checker.specs.Reading.{singleOf}

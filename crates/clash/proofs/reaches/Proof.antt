@@ -2,7 +2,7 @@
 use native.Mathlib.Omega.{arith}
 use borrow.Author.Needs.{needs}
 use mathlib.Core.Path.{sym}
-use Rattle.facts.proofs.Square.{square-above, square-beside}
+use Rattle.rows.proofs.Square.{square-above, square-beside}
 use Rattle.clash.proofs.reaches.Statement.{statement}
 use Rattle.clash.proofs.reaches.Tie as tie
 

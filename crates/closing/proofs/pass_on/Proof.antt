@@ -5,7 +5,7 @@ use borrow.Author.Needs.{needs}
 use mathlib.Core.Path.{_≡_}
 use mathlib.Core.Bool.{Bool}
 use lib.ListN.{length}
-use Rattle.facts.specs.Square.{square}
+use Rattle.rows.specs.Square.{square}
 use Rattle.closing.specs.Rows.{Within, Above, OnwardBelow}
 use Rattle.closing.proofs.Rows.{passed-within, passed-kept, passed-onward, onward-none, onward-all}
 use Rattle.closing.proofs.pass_on.Statement.{statement}

@@ -4,8 +4,8 @@ use native.Mathlib.Omega.{arith}
 use borrow.Author.Needs.{needs}
 use mathlib.Core.Path.{_≡_}
 use lib.ListN.{length, length-set}
-use Rattle.facts.specs.Bits.{bit}
-use Rattle.facts.specs.Square.{square}
+use Rattle.rows.specs.Bits.{bit}
+use Rattle.rows.specs.Square.{square}
 use Rattle.closing.specs.Rows.{Within, Above}
 use Rattle.closing.proofs.Rows.{within-first, within-more, above-more, seed-follows, SeededBelow, seeded-none, seeded-more, seeded-all}
 use Rattle.closing.proofs.seed.Statement.{statement}

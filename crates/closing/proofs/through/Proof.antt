@@ -5,7 +5,7 @@ use borrow.Author.Needs.{needs}
 use mathlib.Core.Path.{_≡_, refl}
 use lib.ListN.{length, length-set}
 use Rattle.logic.specs.Search.{_and_, _or_}
-use Rattle.facts.specs.Square.{square}
+use Rattle.rows.specs.Square.{square}
 use Rattle.closing.proofs.Rows.{through-more, through-left, through-all, through-none}
 use Rattle.closing.proofs.through.Statement.{statement}
 use Rattle.closing.proofs.through.Tie as tie

@@ -4,8 +4,8 @@ use native.Mathlib.Omega.{arith}
 use borrow.Author.Needs.{needs}
 use mathlib.Core.Path.{sym, ap, _∙_}
 use mathlib.Core.Option.{Option, Option·getD}
-use Rattle.facts.specs.Answers.{foundOf}
-use Rattle.facts.proofs.Successors.{found-in}
+use Rattle.rows.specs.Answers.{foundOf}
+use Rattle.rows.proofs.Successors.{found-in}
 use Rattle.completion.proofs.Choice.{basin-none, basin-one, basin-several}
 use Rattle.completion.proofs.basin_link.Statement.{statement}
 use Rattle.completion.proofs.basin_link.Tie as tie

@@ -8,7 +8,7 @@ use mathlib.Core.Bool.{not, _&&_}
 use lib.Dec.{eqb}
 use Rattle.logic.specs.Search.{from, any}
 use Rattle.completion.specs.Links.{linkOf}
-use Rattle.facts.proofs.Selections.{any-end, any-here, any-next}
+use Rattle.rows.proofs.Selections.{any-end, any-here, any-next}
 use Rattle.completion.proofs.Choice.{leadsTo, begins-outside, begins-search}
 use Rattle.completion.proofs.begins_path.Statement.{statement}
 use Rattle.completion.proofs.begins_path.Tie as tie

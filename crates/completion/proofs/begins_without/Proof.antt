@@ -3,7 +3,7 @@ use native.Mathlib.Omega.{arith}
 use borrow.Author.Tests.{not-true, not-false}
 use mathlib.Core.Path.{sym, ap, _∙_}
 use mathlib.Core.Bool.{not}
-use Rattle.facts.proofs.Selections.{and-failed, and-rest}
+use Rattle.rows.proofs.Selections.{and-failed, and-rest}
 use Rattle.completion.proofs.begins_without.Statement.{statement}
 use Rattle.completion.proofs.begins_without.Tie as tie
 

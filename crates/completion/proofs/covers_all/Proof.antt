@@ -5,7 +5,7 @@ use mathlib.Core.Path.{_≡_, refl, sym, ap, ap₂, _∙_}
 use mathlib.Core.Bool.{not, _&&_, _||_}
 use lib.Dec.{eqb}
 use Rattle.logic.specs.Search.{from, any}
-use Rattle.facts.proofs.Selections.{any-end, any-here, any-next}
+use Rattle.rows.proofs.Selections.{any-end, any-here, any-next}
 use Rattle.completion.proofs.Choice.{misses, covers-search}
 use Rattle.completion.proofs.covers_all.Statement.{statement}
 use Rattle.completion.proofs.covers_all.Tie as tie

@@ -4,7 +4,7 @@ use native.Mathlib.Omega.{arith}
 use borrow.Author.Tests.{not-true}
 use mathlib.Core.Path.{_≡_, refl, sym, _∙_}
 use Rattle.logic.specs.Search.{from, find}
-use Rattle.facts.proofs.Loops.{find-end, find-here, find-next}
+use Rattle.rows.proofs.Loops.{find-end, find-here, find-next}
 use Rattle.completion.specs.Links.{linkOf, reachIn, begins}
 use Rattle.completion.proofs.Choice.{begins-outside}
 use Rattle.completion.proofs.first_path.Statement.{statement}

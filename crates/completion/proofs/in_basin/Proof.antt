@@ -4,7 +4,7 @@ use native.Mathlib.Omega.{arith}
 use mathlib.Core.Path.{_≡_, refl, sym, ap, ap₂, _∙_}
 use mathlib.Core.Bool.{not, _&&_}
 use Rattle.logic.specs.Search.{from, any}
-use Rattle.facts.proofs.Selections.{any-end, any-here, any-next}
+use Rattle.rows.proofs.Selections.{any-end, any-here, any-next}
 use Rattle.completion.proofs.Choice.{leaves, basin-search}
 use Rattle.completion.proofs.in_basin.Statement.{statement}
 use Rattle.completion.proofs.in_basin.Tie as tie

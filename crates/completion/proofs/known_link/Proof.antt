@@ -1,7 +1,7 @@
 -- The search for the lowest successor. Assumes nothing.
 use borrow.Author.Needs.{needs}
 use mathlib.Core.Path.{sym, ap, _∙_}
-use Rattle.facts.specs.Answers.{foundOf}
+use Rattle.rows.specs.Answers.{foundOf}
 use Rattle.completion.proofs.Links.{next-found}
 use Rattle.completion.proofs.known_link.Statement.{statement}
 use Rattle.completion.proofs.known_link.Tie as tie

@@ -3,7 +3,7 @@ use Prim.Native.Nat.{_+_, _-_}
 use native.Mathlib.Omega.{arith}
 use mathlib.Core.Path.{_≡_, refl, sym, _∙_}
 use Rattle.logic.specs.Search.{from, find}
-use Rattle.facts.proofs.Loops.{find-end, find-here, find-next}
+use Rattle.rows.proofs.Loops.{find-end, find-here, find-next}
 use Rattle.completion.specs.Links.{linkOf, reachIn, beginsWithout}
 use Rattle.completion.proofs.other_path.Statement.{statement}
 use Rattle.completion.proofs.other_path.Tie as tie

@@ -6,7 +6,7 @@ use mathlib.Core.Bool.{not, _&&_}
 use mathlib.Core.Option.{Option, Option·getD}
 use lib.Dec.{eqb}
 use Rattle.logic.specs.Search.{from, find}
-use Rattle.facts.proofs.Loops.{find-end, find-here, find-next}
+use Rattle.rows.proofs.Loops.{find-end, find-here, find-next}
 use Rattle.completion.proofs.Choice.{above, tree-search}
 use Rattle.completion.proofs.tree_link.Statement.{statement}
 use Rattle.completion.proofs.tree_link.Tie as tie

@@ -4,8 +4,8 @@ use native.Mathlib.Omega.{arith}
 use mathlib.Core.Path.{_≡_, refl}
 use mathlib.Core.Bool.{true, false≢true}
 use borrow.Author.Tests.{not-false}
-use Rattle.facts.specs.Bits.{bit}
-use Rattle.facts.specs.Square.{rowOf}
+use Rattle.rows.specs.Bits.{bit}
+use Rattle.rows.specs.Square.{rowOf}
 use Rattle.facts.specs.Path.{repOf}
 use Rattle.covering.proofs.Held.{Below, below-none, below-more, below-all}
 use Rattle.covering.proofs.row_held.Statement.{statement}

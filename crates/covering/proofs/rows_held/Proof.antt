@@ -4,7 +4,7 @@ use native.Mathlib.Omega.{arith}
 use mathlib.Core.Path.{_≡_, refl}
 use mathlib.Core.Bool.{true, false≢true}
 use borrow.Author.Tests.{not-false}
-use Rattle.facts.specs.Square.{square}
+use Rattle.rows.specs.Square.{square}
 use Rattle.facts.specs.Path.{repOf}
 use Rattle.covering.proofs.Held.{Below, below-none, below-more, below-all, rows-held}
 use Rattle.covering.proofs.rows_held.Statement.{statement}

@@ -3,7 +3,7 @@ use borrow.Author.Needs.{needs}
 use native.Mathlib.Omega.{arith}
 use mathlib.Core.Path.{refl, sym, _∙_}
 use Rattle.facts.specs.Path.{pathOf, graphOf}
-use Rattle.facts.proofs.Square.{square-add}
+use Rattle.rows.proofs.Square.{square-add}
 use Rattle.facts.proofs.Path.{alike-graph, reaching, addReach-changed, three, last, set-first, set-second, set-third}
 use Rattle.facts.proofs.add_reach.Statement.{statement}
 use Rattle.facts.proofs.add_reach.Tie as tie

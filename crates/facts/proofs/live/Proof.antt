@@ -4,8 +4,8 @@ use native.Mathlib.Omega.{arith}
 use borrow.Author.Needs.{needs}
 use mathlib.Core.Path.{_≡_, ap}
 use lib.Dec.{eqb}
-use Rattle.facts.specs.Bits.{bit}
-use Rattle.facts.proofs.Fill.{Filled, filled-none}
+use Rattle.rows.specs.Bits.{bit}
+use Rattle.rows.proofs.Fill.{Filled, filled-none}
 use Rattle.facts.proofs.Alive.{itself, itself-more, live-all}
 use Rattle.facts.proofs.live.Statement.{statement}
 use Rattle.facts.proofs.live.Tie as tie

@@ -6,7 +6,7 @@ use mathlib.Core.Path.{_≡_}
 use lib.ListN.{length, length-set}
 use Rattle.facts.specs.Path.{repOf, replaceRep}
 use Rattle.facts.proofs.Rep.{renamed-more, renamed-all}
-use Rattle.facts.proofs.Fill.{Filled, filled-none}
+use Rattle.rows.proofs.Fill.{Filled, filled-none}
 use Rattle.facts.proofs.replace_rep.Statement.{statement}
 use Rattle.facts.proofs.replace_rep.Tie as tie
 

@@ -1,6 +1,6 @@
 -- The rows of link k are set. Assumes nothing.
 use mathlib.Core.Path.{refl, sym, _∙_}
-use Rattle.facts.specs.Square.{square}
+use Rattle.rows.specs.Square.{square}
 use Rattle.facts.specs.Path.{pathOf, graphOf}
 use Rattle.facts.proofs.Path.{reachedBy, withReach-changed, three, last, set-first, set-second, set-third}
 use Rattle.facts.proofs.with_reach.Statement.{statement}

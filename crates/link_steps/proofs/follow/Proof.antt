@@ -5,9 +5,9 @@ use mathlib.Core.Path.{_≡_, refl, sym, _∙_}
 use lib.Dec.{ltb}
 use Rattle.logic.specs.Heap.{iterate}
 use Rattle.logic.specs.Rules.{next}
-use Rattle.facts.specs.Bits.{bit}
+use Rattle.rows.specs.Bits.{bit}
 use Rattle.facts.specs.Path.{linksIn}
-use Rattle.facts.proofs.Bits.{bit-none}
+use Rattle.rows.proofs.Bits.{bit-none}
 use Rattle.link_steps.specs.Cycle.{stepsTo}
 use Rattle.link_steps.proofs.Around.{next-le, follow-start, follow-there, follow-end, follow-stuck, follow-turn, iterate-none, iterate-turn, iterate-stuck, passed-none, passed-then, passed-ever}
 use Rattle.link_steps.proofs.follow.Statement.{statement}

@@ -2,7 +2,7 @@
 use borrow.Author.Needs.{needs}
 use mathlib.Core.Path.{sym, ap, _∙_}
 use Rattle.facts.specs.Path.{linksIn}
-use Rattle.facts.specs.Answers.{foundOf}
+use Rattle.rows.specs.Answers.{foundOf}
 use Rattle.link_steps.proofs.Around.{next-some, next-none}
 use Rattle.link_steps.proofs.next.Statement.{statement}
 use Rattle.link_steps.proofs.next.Tie as tie

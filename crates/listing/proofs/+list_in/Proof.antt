@@ -11,7 +11,7 @@ use borrow.Fn.PlainCycle.{Measures, is, falls, and}
 use Rattle.logic.specs.Walk.{orderOf}
 use Rattle.theory.proofs.Walks.OurWalk.{look-some}
 use Rattle.facts.specs.Path.{pathAs}
-use Rattle.facts.specs.Pairs.{pairsOf, Fits}
+use Rattle.joins.specs.Pairs.{pairsOf, Fits}
 use Rattle.link_query.specs.Said.{said}
 use Rattle.link_query.proofs.Said.{terms-said}
 use Rattle.branch.proofs.Steps.{branch-fits}

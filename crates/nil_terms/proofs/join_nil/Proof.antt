@@ -5,8 +5,8 @@ use Prim.Native.Nat.{ℕ, _≤_}
 use mathlib.Core.Path.{refl, sym, ap, _∙_, subst}
 use mathlib.Core.List.{List}
 use Rattle.logic.specs.Facts.{andThen, joinNil}
-use Rattle.facts.specs.Pairs.{joinedIn, Fits}
-use Rattle.facts.proofs.Joins.{fits-left}
+use Rattle.joins.specs.Pairs.{joinedIn, Fits}
+use Rattle.joins.proofs.Joins.{fits-left}
 use Rattle.link_query.specs.Said.{said}
 use Rattle.plain_literals.proofs.Bounded.{rep-bounded}
 use Rattle.plain_literals.proofs.Taken.{read-bounded}

@@ -4,8 +4,8 @@ use Prim.Native.Nat.{_+_, _-_}
 use mathlib.Core.Path.{_≡_, refl, sym, ap, _∙_, subst}
 use lib.ListN.{length}
 use Rattle.facts.specs.Path.{Whole, replacedBy}
-use Rattle.facts.specs.Pairs.{joinedIn, Fits}
-use Rattle.facts.proofs.Joins.{fits-left}
+use Rattle.joins.specs.Pairs.{joinedIn, Fits}
+use Rattle.joins.proofs.Joins.{fits-left}
 use Rattle.link_query.specs.Said.{said}
 use Rattle.plain_literals.specs.Taken.{Bounded}
 use Rattle.nil_terms.specs.Nil.{nilFrom}

@@ -1,7 +1,7 @@
 -- One bit is set. Assumes nothing.
 use borrow.Author.Needs.{needs}
 use lib.ListN.{length-set}
-use Rattle.facts.proofs.Square.{square-add}
+use Rattle.rows.proofs.Square.{square-add}
 use Rattle.plain_literals.proofs.add_to.Statement.{statement}
 use Rattle.plain_literals.proofs.add_to.Tie as tie
 

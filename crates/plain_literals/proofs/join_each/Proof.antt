@@ -7,8 +7,8 @@ use lib.ListN.{length, take, drop}
 use Rattle.logic.specs.Query.{Literal, literals}
 use Rattle.logic.specs.Facts.{andThen}
 use Rattle.facts.specs.Path.{Whole, replacedBy}
-use Rattle.facts.specs.Pairs.{joinedIn, Fits}
-use Rattle.facts.proofs.Joins.{fits-left}
+use Rattle.joins.specs.Pairs.{joinedIn, Fits}
+use Rattle.joins.proofs.Joins.{fits-left}
 use Rattle.query.specs.LaysOut.{literalIn}
 use Rattle.query.proofs.Literals.{literals-are}
 use Rattle.plain_literals.specs.Taken.{joinOne, Bounded, Terms}

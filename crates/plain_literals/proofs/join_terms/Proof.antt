@@ -3,7 +3,7 @@ use borrow.Author.Needs.{needs}
 use mathlib.Core.Path.{refl, sym, ap, _∙_, subst}
 use Rattle.logic.specs.Facts.{Joined, andThen}
 use Rattle.facts.specs.Path.{pathAs}
-use Rattle.facts.specs.Pairs.{joinedIn, Fits}
+use Rattle.joins.specs.Pairs.{joinedIn, Fits}
 use Rattle.plain_literals.specs.Taken.{joinOne, same}
 use Rattle.plain_literals.proofs.Bounded.{behind-bounded, rep-bounded, path-bounded}
 use Rattle.plain_literals.proofs.Taken.{read-bounded, join-plain}

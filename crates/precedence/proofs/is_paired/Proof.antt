@@ -6,7 +6,7 @@ use mathlib.Core.Path.{_≡_, sym, ap₂, _∙_}
 use mathlib.Core.Bool.{_&&_}
 use lib.Dec.{eqb}
 use Rattle.logic.specs.Search.{from, any}
-use Rattle.facts.proofs.Selections.{any-end, any-here, any-next}
+use Rattle.rows.proofs.Selections.{any-end, any-here, any-next}
 use Rattle.precedence.specs.Sheet.{pairs, paired}
 use Rattle.precedence.proofs.Turns.{joins, paired-pairs}
 use Rattle.precedence.proofs.is_paired.Statement.{statement}

@@ -5,7 +5,7 @@ use borrow.Author.Needs.{needs}
 use mathlib.Core.Path.{_≡_, refl, sym, ap, _∙_}
 use Rattle.logic.specs.Search.{from, firstOf}
 use Rattle.logic.specs.Calls.{padded}
-use Rattle.facts.proofs.Loops.{first-end, first-here, first-next}
+use Rattle.rows.proofs.Loops.{first-end, first-here, first-next}
 use Rattle.precedence.specs.Sheet.{pairs}
 use Rattle.precedence.specs.Finding.{ringOf}
 use Rattle.precedence.specs.Answers.{foundOf}

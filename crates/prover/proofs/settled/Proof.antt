@@ -1,6 +1,6 @@
 -- What is settled of the start is how our walk ends. Assumes nothing.
 use mathlib.Core.Path.{sym}
-use Rattle.facts.specs.Pairs.{joinedOf}
+use Rattle.joins.specs.Pairs.{joinedOf}
 use Rattle.link_query.proofs.Said.{terms-said}
 use Rattle.prover.proofs.Outcomes.{start-steps}
 use Rattle.prover.proofs.Answers.{said-links, few-links}

@@ -5,7 +5,7 @@ use borrow.Author.Needs.{needs}
 use mathlib.Core.Path.{refl, sym, ap, _∙_, subst}
 use mathlib.Core.List.{List}
 use lib.ListN.{set}
-use Rattle.facts.specs.Pairs.{joinedOf, Fits}
+use Rattle.joins.specs.Pairs.{joinedOf, Fits}
 use Rattle.start.proofs.Laid.{started-fits}
 use Rattle.walk.specs.Lines.{putAll}
 use Rattle.link_query.proofs.Said.{terms-said}

@@ -6,7 +6,7 @@ use mathlib.Core.Path.{_≡_, refl, sym, ap, _∙_}
 use Rattle.logic.specs.Search.{from, firstOf}
 use Rattle.logic.specs.Calls.{Input, formChecks, refusalOf}
 use Rattle.entries.specs.Entries.{foundOf}
-use Rattle.facts.proofs.Loops.{first-end, first-here, first-next}
+use Rattle.rows.proofs.Loops.{first-end, first-here, first-next}
 use Rattle.query.specs.Forms.{formBy}
 use Rattle.query.proofs.Checks.{byteAnswer, answer-some, answer-none, byte-checks, laid-out}
 use Rattle.query.proofs.check_bytes.Statement.{statement}

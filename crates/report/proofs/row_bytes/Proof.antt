@@ -5,7 +5,7 @@ use borrow.Author.Needs.{needs}
 use mathlib.Core.Path.{_≡_}
 use lib.ListN.{length, getD, length-set}
 use Rattle.logic.specs.Shown.{byteOf}
-use Rattle.facts.specs.Square.{square}
+use Rattle.rows.specs.Square.{square}
 use Rattle.heap_nodes.proofs.Writing.{filled-more}
 use Rattle.report.proofs.row_bytes.Statement.{statement}
 use Rattle.report.proofs.row_bytes.Tie as tie

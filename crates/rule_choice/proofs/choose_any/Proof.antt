@@ -5,7 +5,7 @@ use borrow.Author.Needs.{needs}
 use mathlib.Core.Path.{_≡_, refl, sym, ap, _∙_}
 use lib.ListN.{length, drop}
 use Rattle.logic.specs.Search.{firstOf}
-use Rattle.facts.specs.Bits.{bit}
+use Rattle.rows.specs.Bits.{bit}
 use Rattle.facts.specs.Path.{graphOf}
 use Rattle.rules.specs.Answers.{choiceOf}
 use Rattle.rule_choice.specs.Smallest.{triedBy}

@@ -6,8 +6,8 @@ use mathlib.Core.Path.{_≡_, refl, sym, ap, _∙_}
 use mathlib.Core.Bool.{true, false≢true}
 use lib.ListN.{length, drop}
 use Rattle.logic.specs.Search.{firstOf}
-use Rattle.facts.specs.Bits.{bit}
-use Rattle.facts.specs.Square.{Turned}
+use Rattle.rows.specs.Bits.{bit}
+use Rattle.rows.specs.Square.{Turned}
 use Rattle.facts.specs.Path.{graphOf}
 use Rattle.rules.specs.Answers.{choiceOf}
 use Rattle.rule_choice.specs.Smallest.{triedAt}

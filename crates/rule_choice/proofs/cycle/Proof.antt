@@ -3,7 +3,7 @@ use borrow.Author.Needs.{needs}
 use native.Mathlib.Omega.{arith}
 use mathlib.Core.Path.{refl, sym, ap, _∙_}
 use Rattle.facts.specs.Path.{graphOf, linksIn}
-use Rattle.facts.specs.Answers.{foundOf}
+use Rattle.rows.specs.Answers.{foundOf}
 use Rattle.link_steps.proofs.Around.{next-le, steps-bound, back-links}
 use Rattle.rule_choice.proofs.Rounds.{second-unreached, second-open, second-none, second-some, reach-none, round-find}
 use Rattle.rule_choice.proofs.cycle.Statement.{statement}

@@ -2,7 +2,7 @@
 use borrow.Author.Needs.{needs}
 use mathlib.Core.Path.{sym, ap, _∙_}
 use Rattle.logic.specs.Rules.{Rule}
-use Rattle.facts.specs.Bits.{bit}
+use Rattle.rows.specs.Bits.{bit}
 use Rattle.facts.specs.Path.{graphOf}
 use Rattle.rules.specs.Answers.{kindOf}
 use Rattle.rule_choice.specs.Smallest.{inSecond}

@@ -1,8 +1,8 @@
 -- What the row has, or nothing. Assumes nothing.
 use borrow.Author.Needs.{needs}
 use mathlib.Core.Path.{sym, ap, _∙_}
-use Rattle.facts.specs.Answers.{foundOf}
-use Rattle.facts.proofs.Finds.{find-masked}
+use Rattle.rows.specs.Answers.{foundOf}
+use Rattle.rows.proofs.Finds.{find-masked}
 use Rattle.rule_choice.proofs.Nested.{third-nowhere, third-at}
 use Rattle.rule_choice.proofs.in_third.Statement.{statement}
 use Rattle.rule_choice.proofs.in_third.Tie as tie

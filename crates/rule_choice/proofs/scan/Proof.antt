@@ -5,9 +5,9 @@ use native.Mathlib.Omega.{arith}
 use mathlib.Core.Path.{_≡_, sym, ap, _∙_}
 use mathlib.Core.Bool.{true}
 use lib.Bits.{and-le-l}
-use Rattle.facts.specs.Bits.{bit}
+use Rattle.rows.specs.Bits.{bit}
 use Rattle.facts.specs.Path.{graphOf}
-use Rattle.facts.specs.Answers.{foundOf}
+use Rattle.rows.specs.Answers.{foundOf}
 use Rattle.rules.specs.Answers.{kindOf}
 use Rattle.rule_choice.specs.Answers.{placeOf}
 use Rattle.rules.specs.Tests.{looped}

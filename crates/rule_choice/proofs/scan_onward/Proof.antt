@@ -9,8 +9,8 @@ use lib.ListN.{getD}
 use lib.Bits.{and-le-r}
 use Rattle.logic.specs.Rules.{TRANS2}
 use Rattle.facts.specs.Path.{graphOf}
-use Rattle.facts.specs.Answers.{foundOf}
-use Rattle.facts.proofs.Finds.{find-masked}
+use Rattle.rows.specs.Answers.{foundOf}
+use Rattle.rows.proofs.Finds.{find-masked}
 use Rattle.rule_choice.proofs.Nested.{third-nowhere, third-at}
 use Rattle.rules.proofs.Rows.{third-trans2}
 use Rattle.rule_choice.proofs.Searches.{Left, left-all, left-none, left-pair, left-here, left-next, row-positive, onward-looped, pair-onward}

@@ -5,10 +5,10 @@ use borrow.Author.Needs.{needs}
 use mathlib.Core.Path.{_≡_, refl, sym, ap, _∙_}
 use Rattle.logic.specs.Search.{from, firstOf}
 use Rattle.facts.specs.Path.{graphOf}
-use Rattle.facts.proofs.Loops.{first-end, first-here, first-next}
+use Rattle.rows.proofs.Loops.{first-end, first-here, first-next}
 use Rattle.rules.specs.Answers.{kindOf}
 use Rattle.rule_choice.specs.Answers.{placeOf}
-use Rattle.facts.specs.Bits.{bit}
+use Rattle.rows.specs.Bits.{bit}
 use Rattle.rule_choice.specs.Smallest.{inSecond, inFirst}
 use Rattle.rule_choice.proofs.smallest.Statement.{statement}
 use Rattle.rule_choice.proofs.smallest.Tie as tie

@@ -1,6 +1,6 @@
 -- Each arm is the row of its rule's own test. Assumes nothing.
 use borrow.Author.Needs.{needs}
-use Rattle.facts.proofs.Bits.{bit-none, bit-power}
+use Rattle.rows.proofs.Bits.{bit-none, bit-power}
 use mathlib.Core.Path.{ap}
 use Rattle.rules.specs.Answers.{kindOf}
 use Rattle.rules.specs.Tests.{thirdTest, twoWay}

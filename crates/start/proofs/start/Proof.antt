@@ -4,8 +4,8 @@ use borrow.Author.Needs.{needs}
 use mathlib.Core.Path.{refl, sym, ap, _∙_, subst}
 use Rattle.logic.specs.Facts.{Joined}
 use Rattle.facts.specs.Path.{pathOf}
-use Rattle.facts.specs.Pairs.{pairsOf, Fits}
-use Rattle.facts.proofs.Joins.{fits-left}
+use Rattle.joins.specs.Pairs.{pairsOf, Fits}
+use Rattle.joins.proofs.Joins.{fits-left}
 use Rattle.plain_literals.proofs.Bounded.{linked-bounded, settled, rep-bounded}
 use Rattle.plain_literals.proofs.Read.{equal-terms-in}
 use Rattle.start.proofs.Laid.{links-laid, joins-made, start-laid, joins-links, joins-fit, nil-fits, equalities-fit}

@@ -4,8 +4,8 @@ use borrow.Author.Needs.{needs}
 use Prim.Native.Nat.{_+_, _-_, _≤_}
 use mathlib.Core.Path.{_≡_, sym, _∙_}
 use lib.ListN.{length, length-set}
-use Rattle.facts.specs.Square.{square}
-use Rattle.facts.proofs.Square.{nothing-held}
+use Rattle.rows.specs.Square.{square}
+use Rattle.rows.proofs.Square.{nothing-held}
 use Rattle.link_query.specs.Said.{said}
 use Rattle.link_query.proofs.Said.{link-said}
 use Rattle.term_links.proofs.Entries.{entry-fits, LinksTo, links-none, links-more, links-passed, links-held, argument-read, argument-within}

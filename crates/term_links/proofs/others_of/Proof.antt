@@ -1,6 +1,6 @@
 -- A query of one link has no links by another. Assumes nothing.
 use Rattle.link_query.specs.Said.{said}
-use Rattle.facts.proofs.Square.{nothing-held}
+use Rattle.rows.proofs.Square.{nothing-held}
 use Rattle.term_links.proofs.Entries.{nothing-linked}
 use Rattle.term_links.proofs.others_of.Statement.{statement}
 use Rattle.term_links.proofs.others_of.Tie as tie

@@ -2,8 +2,8 @@
 use borrow.Author.Needs.{needs}
 use native.Mathlib.Omega.{arith}
 use mathlib.Core.Path.{refl, _∙_}
-use Rattle.facts.specs.Bits.{bit}
-use Rattle.facts.proofs.Finds.{find-masked}
+use Rattle.rows.specs.Bits.{bit}
+use Rattle.rows.proofs.Finds.{find-masked}
 use Rattle.units.proofs.lowest.Statement.{statement}
 use Rattle.units.proofs.lowest.Tie as tie
 

@@ -4,7 +4,7 @@ use native.Mathlib.Omega.{arith}
 use borrow.Author.Needs.{needs}
 use mathlib.Core.Path.{_≡_, refl, sym, ap, _∙_, subst}
 use lib.ListN.{length}
-use Rattle.facts.proofs.Joins.{pairs-count}
+use Rattle.joins.proofs.Joins.{pairs-count}
 use Rattle.walk.proofs.Lines.{counted-bound, putLine-length, PairsLeft, left-begin, left-next, left-end}
 use Rattle.walk.proofs.put_joins.Statement.{statement}
 use Rattle.walk.proofs.put_joins.Tie as tie

@@ -1,0 +1,289 @@
+// Joins of a path, in place: two terms, then doubled successors, with the pairs that were joined.
+use facts::Facts;
+use rows::Found;
+use rows::Term;
+ghost use mathlib.Core.Path.{_≡_};
+ghost use Prim.Native.Nat.{_+_, _≤_, _<_};
+ghost use mathlib.Core.List.{[], _∷_, _++_};
+ghost use lib.ListN.{length};
+ghost use Rattle.logic.specs.Search.{firstOf};
+ghost use Rattle.logic.specs.Facts.{terms, firstTwo, successors, andThen, settle, join};
+ghost use Rattle.facts.specs.Path.{Whole, linksIn};
+ghost use Rattle.joins.specs.Answers.{twoOf};
+ghost use Rattle.joins.specs.Doubled.{twoIn, doubledIn};
+ghost use Rattle.joins.specs.Pairs.{pairsIn, pairsOf, joinedIn, Fits};
+
+// The pairs that were joined, in order, `count` of them: the term that was kept, and the one that it replaced. One join of at most
+// 16 terms makes no more than 17.
+pub struct Pairs {
+    pub kept: [u8; 17],
+    pub replaced: [u8; 17],
+    pub count: usize,
+}
+
+// What joining hands back.
+pub struct Joined {
+    pub pairs: Pairs,
+    pub facts: Facts,
+}
+
+// Two terms that were looked for.
+pub enum Two {
+    Of(Term, Term),
+    Nothing,
+}
+
+// The two lowest successors of t, where it has two.
+pub fn first_two(link: &[u32; 17], n: usize, t: Term) -> Two
+    requires { ⌜ (n ≤ 16) × (t .0 ≤ 16) ⌝ }
+    ensures { λ r. ⌜ twoOf r ≡ firstTwo (successors n (linksIn (now (link .entry))) (t .0)) ⌝ }
+{
+    let row = rows::successor_row(link, n, t);
+    let Found::At(a) = rows::first(row) else {
+        return Two::Nothing;
+    };
+    let Found::At(b) = rows::first(row & (row - 1)) else {
+        return Two::Nothing;
+    };
+    Two::Of(a, b)
+}
+
+// "the two lowest successors of the lowest such term", of one link
+fn doubled_in(link: &[u32; 17], n: usize) -> Two
+    requires { ⌜ n ≤ 16 ⌝ }
+    ensures { λ r. ⌜ twoOf r ≡ firstOf (λ t. firstTwo (successors n (linksIn (now (link .entry))) t)) (terms n) ⌝ }
+{
+    let mut t: usize = 1;
+    while t <= n {
+        if let Two::Of(a, b) = first_two(link, n, Term(t)) {
+            return Two::Of(a, b);
+        }
+        t += 1;
+    }
+    Two::Nothing
+}
+
+// The two lowest successors of t by the lowest of three links that has two.
+fn first_two_of<'a>(
+    first: &'a [u32; 17],
+    second: &'a [u32; 17],
+    third: &'a [u32; 17],
+    n: usize,
+    t: Term,
+) -> Two
+    requires { ⌜ (n ≤ 16) × (t .0 ≤ 16) ⌝ }
+    ensures { λ r. ⌜ twoOf r ≡ twoIn n (now (first .entry)) (now (second .entry)) (now (third .entry)) (t .0) ⌝ }
+{
+    if let Two::Of(a, b) = first_two(first, n, t) {
+        return Two::Of(a, b);
+    }
+    if let Two::Of(a, b) = first_two(second, n, t) {
+        return Two::Of(a, b);
+    }
+    first_two(third, n, t)
+}
+
+// "by lowest term, then link" (02, R-11)
+fn doubled_of<'a>(
+    first: &'a [u32; 17],
+    second: &'a [u32; 17],
+    third: &'a [u32; 17],
+    n: usize,
+) -> Two
+    requires { ⌜ n ≤ 16 ⌝ }
+    ensures { λ r. ⌜ twoOf r ≡ firstOf (twoIn n (now (first .entry)) (now (second .entry)) (now (third .entry))) (terms n) ⌝ }
+{
+    let mut t: usize = 1;
+    while t <= n {
+        if let Two::Of(a, b) = first_two_of(first, second, third, n, Term(t)) {
+            return Two::Of(a, b);
+        }
+        t += 1;
+    }
+    Two::Nothing
+}
+
+// The same of a single link or of three. The rows are lent, so that a join copies no path for it.
+fn doubled_rows<'a>(
+    single: bool,
+    first: &'a [u32; 17],
+    second: &'a [u32; 17],
+    third: &'a [u32; 17],
+    n: usize,
+) -> Two
+    requires { ⌜ n ≤ 16 ⌝ }
+    ensures { λ r. ⌜ twoOf r ≡ doubledIn n single (now (first .entry)) (now (second .entry)) (now (third .entry)) ⌝ }
+{
+    if single {
+        return doubled_in(first, n);
+    }
+    doubled_of(first, second, third, n)
+}
+
+// No pair.
+pub fn no_pairs() -> Pairs
+    ensures { λ r. ⌜ pairsOf r ≡ [] ⌝ }
+{
+    let kept = [0u8; 17];
+    let replaced = [0u8; 17];
+    Pairs {
+        kept,
+        replaced,
+        count: 0,
+    }
+}
+
+// One pair more, behind the others.
+fn and_pair(kept: &mut [u8; 17], replaced: &mut [u8; 17], count: usize, lo: Term, hi: Term)
+    requires { ⌜ (count < 17) × (lo .0 ≤ 16) × (hi .0 ≤ 16) × (length (now kept) ≡ 17) × (length (now replaced) ≡ 17) ⌝ }
+    ensures { λ _. ⌜ (pairsIn (now (kept .exit)) (now (replaced .exit)) (count + 1) ≡ pairsIn (now (kept .entry)) (now (replaced .entry)) count ++ ((lo .0, hi .0) ∷ [])) × (length (now (kept .exit)) ≡ 17) × (length (now (replaced .exit)) ≡ 17) ⌝ }
+{
+    kept[count] = lo.0 as u8;
+    replaced[count] = hi.0 as u8;
+}
+
+// "While a term has two successors, the two lowest successors of the lowest such term are joined", after what was joined before
+pub fn settle(
+    single: bool,
+    rep: &mut [u8; 17],
+    link: &mut [u32; 17],
+    reach: &mut [u32; 17],
+    link2: &mut [u32; 17],
+    reach2: &mut [u32; 17],
+    link3: &mut [u32; 17],
+    reach3: &mut [u32; 17],
+    kept: &mut [u8; 17],
+    replaced: &mut [u8; 17],
+    count: usize,
+    n: usize,
+) -> usize
+    requires { ⌜ (n ≤ 16) × Fits (andThen (joinedIn single (now rep) (now link) (now reach) (now link2) (now reach2) (now link3) (now reach3) (now kept) (now replaced) count) (settle n n)) ⌝ }
+    requires { ⌜ Whole (now rep) (now link) (now reach) (now link2) (now reach2) (now link3) (now reach3) × (length (now kept) ≡ 17) × (length (now replaced) ≡ 17) ⌝ }
+    ensures { λ r. ⌜ joinedIn single (now (rep .exit)) (now (link .exit)) (now (reach .exit)) (now (link2 .exit)) (now (reach2 .exit)) (now (link3 .exit)) (now (reach3 .exit)) (now (kept .exit)) (now (replaced .exit)) r ≡ andThen (joinedIn single (now (rep .entry)) (now (link .entry)) (now (reach .entry)) (now (link2 .entry)) (now (reach2 .entry)) (now (link3 .entry)) (now (reach3 .entry)) (now (kept .entry)) (now (replaced .entry)) count) (settle n n) ⌝ }
+    ensures { λ _. ⌜ Whole (now (rep .exit)) (now (link .exit)) (now (reach .exit)) (now (link2 .exit)) (now (reach2 .exit)) (now (link3 .exit)) (now (reach3 .exit)) × (length (now (kept .exit)) ≡ 17) × (length (now (replaced .exit)) ≡ 17) ⌝ }
+{
+    let mut total = count;
+    let mut left = n;
+    while 0 < left {
+        let Two::Of(a, b) = doubled_rows(single, link, link2, link3, n) else {
+            return total;
+        };
+        and_pair(kept, replaced, total, a, b);
+        total += 1;
+        facts::replace(single, rep, link, reach, link2, reach2, link3, reach3, a, b);
+        left -= 1;
+    }
+    total
+}
+
+// Joining a lower and a higher number, after the pairs that were joined before.
+fn join_lower(
+    single: bool,
+    rep: &mut [u8; 17],
+    link: &mut [u32; 17],
+    reach: &mut [u32; 17],
+    link2: &mut [u32; 17],
+    reach2: &mut [u32; 17],
+    link3: &mut [u32; 17],
+    reach3: &mut [u32; 17],
+    kept: &mut [u8; 17],
+    replaced: &mut [u8; 17],
+    count: usize,
+    n: usize,
+    lo: Term,
+    hi: Term,
+) -> usize
+    requires { ⌜ (n ≤ 16) × (lo .0 < hi .0) × (hi .0 ≤ 16) × Fits (andThen (joinedIn single (now rep) (now link) (now reach) (now link2) (now reach2) (now link3) (now reach3) (now kept) (now replaced) count) (join n (lo .0) (hi .0))) ⌝ }
+    requires { ⌜ Whole (now rep) (now link) (now reach) (now link2) (now reach2) (now link3) (now reach3) × (length (now kept) ≡ 17) × (length (now replaced) ≡ 17) ⌝ }
+    ensures { λ r. ⌜ joinedIn single (now (rep .exit)) (now (link .exit)) (now (reach .exit)) (now (link2 .exit)) (now (reach2 .exit)) (now (link3 .exit)) (now (reach3 .exit)) (now (kept .exit)) (now (replaced .exit)) r ≡ andThen (joinedIn single (now (rep .entry)) (now (link .entry)) (now (reach .entry)) (now (link2 .entry)) (now (reach2 .entry)) (now (link3 .entry)) (now (reach3 .entry)) (now (kept .entry)) (now (replaced .entry)) count) (join n (lo .0) (hi .0)) ⌝ }
+    ensures { λ _. ⌜ Whole (now (rep .exit)) (now (link .exit)) (now (reach .exit)) (now (link2 .exit)) (now (reach2 .exit)) (now (link3 .exit)) (now (reach3 .exit)) × (length (now (kept .exit)) ≡ 17) × (length (now (replaced .exit)) ≡ 17) ⌝ }
+{
+    and_pair(kept, replaced, count, lo, hi);
+    facts::replace(
+        single,
+        rep,
+        link,
+        reach,
+        link2,
+        reach2,
+        link3,
+        reach3,
+        lo,
+        hi,
+    );
+    settle(
+        single,
+        rep,
+        link,
+        reach,
+        link2,
+        reach2,
+        link3,
+        reach3,
+        kept,
+        replaced,
+        count + 1,
+        n,
+    )
+}
+
+// "Joining a and b", after the pairs that were joined before. A term joined with itself is no pair.
+pub fn join(
+    single: bool,
+    rep: &mut [u8; 17],
+    link: &mut [u32; 17],
+    reach: &mut [u32; 17],
+    link2: &mut [u32; 17],
+    reach2: &mut [u32; 17],
+    link3: &mut [u32; 17],
+    reach3: &mut [u32; 17],
+    kept: &mut [u8; 17],
+    replaced: &mut [u8; 17],
+    count: usize,
+    n: usize,
+    a: Term,
+    b: Term,
+) -> usize
+    requires { ⌜ (n ≤ 16) × (a .0 ≤ 16) × (b .0 ≤ 16) × Fits (andThen (joinedIn single (now rep) (now link) (now reach) (now link2) (now reach2) (now link3) (now reach3) (now kept) (now replaced) count) (join n (a .0) (b .0))) ⌝ }
+    requires { ⌜ Whole (now rep) (now link) (now reach) (now link2) (now reach2) (now link3) (now reach3) × (length (now kept) ≡ 17) × (length (now replaced) ≡ 17) ⌝ }
+    ensures { λ r. ⌜ joinedIn single (now (rep .exit)) (now (link .exit)) (now (reach .exit)) (now (link2 .exit)) (now (reach2 .exit)) (now (link3 .exit)) (now (reach3 .exit)) (now (kept .exit)) (now (replaced .exit)) r ≡ andThen (joinedIn single (now (rep .entry)) (now (link .entry)) (now (reach .entry)) (now (link2 .entry)) (now (reach2 .entry)) (now (link3 .entry)) (now (reach3 .entry)) (now (kept .entry)) (now (replaced .entry)) count) (join n (a .0) (b .0)) ⌝ }
+    ensures { λ _. ⌜ Whole (now (rep .exit)) (now (link .exit)) (now (reach .exit)) (now (link2 .exit)) (now (reach2 .exit)) (now (link3 .exit)) (now (reach3 .exit)) × (length (now (kept .exit)) ≡ 17) × (length (now (replaced .exit)) ≡ 17) ⌝ }
+{
+    if a.0 == b.0 {
+        return count;
+    }
+    if a.0 < b.0 {
+        return join_lower(
+            single,
+            rep,
+            link,
+            reach,
+            link2,
+            reach2,
+            link3,
+            reach3,
+            kept,
+            replaced,
+            count,
+            n,
+            a,
+            b,
+        );
+    }
+    join_lower(
+        single,
+        rep,
+        link,
+        reach,
+        link2,
+        reach2,
+        link3,
+        reach3,
+        kept,
+        replaced,
+        count,
+        n,
+        b,
+        a,
+    )
+}

@@ -1,0 +1,10 @@
+pub mod Bits
+pub mod Loops
+pub mod Selections
+pub mod Finds
+pub mod Square
+pub mod Words
+pub mod Fill
+pub mod Merge
+pub mod Turning
+pub mod Successors
