@@ -9,9 +9,9 @@
  * Every slice is a pointer and a length in bytes:
  *
  *   order    the order in which the rules are tried: eight bytes, each of 1 to 8 once
- *   query    the statements, at most 561 bytes; the term byte 255 names null, one node whose link goes to itself.
- *            lemitsaka_links_verdict and lemitsaka_links_derivation know three links: their queries have a layout of their own,
- *            at most 637 bytes
+ *   query    the statements, at most 561 bytes; the term byte 255 names null, one node whose link goes to itself. Queries of
+ *            lemitsaka_between have a section more, at most 791 bytes, and those of lemitsaka_links_verdict and
+ *            lemitsaka_links_derivation a layout of their own for three links, at most 637 bytes
  *   report, buffer, and all others that are not const    lent to the call, which writes every byte, whatever it answers
  *
  * Any bytes and any lengths will do: what is no order list, no query and so on is refused. What the library cannot see for
@@ -60,11 +60,11 @@ extern "C" {
  *    1  the order list is not eight bytes with each of 1 to 8 once
  *    2  the query ends before a count or inside a section (place: its length)
  *    3  a count is above its section's limit (place: that count)
- *    4  bytes follow section 5 (place: the first of them)
+ *    4  bytes follow the last section (place: the first of them)
  *    5  a term byte is not below its own term's number, and not 255 (place: that byte, here and in 6 to 8)
  *    6  a sign is neither 0 nor 1
- *    7  a term number in sections 2 to 4 is 0 or above the term count
- *    8  a field number is not 1 to 8
+ *    7  a term number in sections 2 to 4, in lemitsaka_between also 6, is 0 or above the term count
+ *    8  a field number, in lemitsaka_rewrite also a boolean's, is not 1 to 8
  *    9  the report has fewer than 53 bytes, in lemitsaka_links_verdict fewer than 85
  *   11  a derivation was asked for and the query is satisfiable
  *   12  the derivation has more than 16,000 lines, or its buffer cannot hold it
@@ -173,7 +173,7 @@ uint64_t lemitsaka_check(const uint8_t *query, size_t query_len,
  *
  *   LEMITSAKA_SATISFIABLE   there is one; the bytes past the report are zero
  *   LEMITSAKA_REFUTED       there is none, of any size; the report is all zero
- *   refused                 2 to 9 and 26 over six sections (4: bytes follow section 6; 7: sections 2 to 4 and 6), then 21 */
+ *   refused                 2 to 9 and 26 over six sections, then 21 */
 uint64_t lemitsaka_between(const uint8_t *query, size_t query_len,
                            uint8_t *report, size_t report_len);
 
