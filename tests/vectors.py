@@ -34,8 +34,8 @@ def with_room(name):
     return [(counted(parts_of(words[:-1])) + two_bytes(int(words[-1])), answer) for words, answer in lines(name)]
 
 
-def sheets():
-    return [(counted(parts_of(words)), answer) for words, answer in lines('order.txt')]
+def roomless(name):
+    return [(counted(parts_of(words)), answer) for words, answer in lines(name)]
 
 
 def joins():
@@ -51,9 +51,10 @@ def joins():
 
 
 PROGRAMS = {
-    'order_vectors': sheets(),
     'dot_vectors': with_room('R-2.txt'),
+    'order_vectors': roomless('R-6.txt'),
     'formula_vectors': with_room('R-7.txt'),
+    'check_vectors': roomless('R-8.txt'),
     'between_vectors': with_room('R-10.txt'),
     'join_vectors': joins(),
     'rewrite_vectors': with_room('R-13-rewriting.txt'),
