@@ -3,8 +3,8 @@
 
     python3 tests/vectors.py
 
-A line there has parts in hex (`-` is none), in most files a room in decimal behind them, ` = ` and the answer. A case goes in as its parts, each
-after its length in two bytes, high byte first, and then the room in two bytes; the answers are what the program must print.
+A line there has parts in hex (`-` is none), in most files a room in decimal behind them, ` = ` and the answer. A case goes in as its
+parts, each after its length in two bytes, high byte first, and then the room in two bytes; the answers are what the program must print.
 """
 import pathlib
 
@@ -39,7 +39,8 @@ def roomless(name):
 
 
 def joins():
-    """A byte 0 and a case of joining; or a byte 1, a hand-back and a room of 0. Behind `part`, query, offset and length stand that query's bytes there."""
+    """A byte 0 and a case of joining; or a byte 1, a hand-back and a room of 0. Behind `part`, query, offset and length the answer has that
+    query's bytes there."""
     cases = [(b'\0' + case, answer) for case, answer in with_room('R-12.txt')]
     for words, answer in lines('R-12-hand-back.txt'):
         parts = parts_of(words)
