@@ -9,9 +9,9 @@
  * Every slice is a pointer and a length in bytes:
  *
  *   order    the order in which the rules are tried: eight bytes, each of 1 to 8 once
- *   query    the statements, at most 561 bytes; the term byte 255 names null, one node whose link goes to itself.
- *            lemitsaka_links_verdict and lemitsaka_links_derivation know three links: their queries have a layout of their own,
- *            at most 637 bytes
+ *   query    the statements, at most 561 bytes; the term byte 255 names null, one node whose link goes to itself. Queries of
+ *            lemitsaka_between have a section more, at most 791 bytes, and those of lemitsaka_links_verdict and
+ *            lemitsaka_links_derivation a layout of their own for three links, at most 637 bytes
  *   report, buffer, and all others that are not const    lent to the call, which writes every byte, whatever it answers
  *
  * Any bytes and any lengths will do: what is no order list, no query and so on is refused. What the library cannot see for
@@ -60,11 +60,11 @@ extern "C" {
  *    1  the order list is not eight bytes with each of 1 to 8 once
  *    2  the query ends before a count or inside a section (place: its length)
  *    3  a count is above its section's limit (place: that count)
- *    4  bytes follow section 5 (place: the first of them)
+ *    4  bytes follow the last section (place: the first of them)
  *    5  a term byte is not below its own term's number, and not 255 (place: that byte, here and in 6 to 8)
  *    6  a sign is neither 0 nor 1
- *    7  a term number in sections 2 to 4 is 0 or above the term count
- *    8  a field number is not 1 to 8
+ *    7  a term number in sections 2 to 4, in lemitsaka_between also 6, is 0 or above the term count
+ *    8  a field number, in lemitsaka_rewrite also a boolean's, is not 1 to 8
  *    9  the report has fewer than 53 bytes, in lemitsaka_links_verdict fewer than 85
  *   11  a derivation was asked for and the query is satisfiable
  *   12  the derivation has more than 16,000 lines, or its buffer cannot hold it
@@ -161,7 +161,7 @@ uint64_t lemitsaka_formula(const uint8_t *order, size_t order_len,
  *
  *   0          accepted
  *   1 to 16001 the number of the first wrong line; one more than the count of lines if they run out
- *   refused    2 to 8 and 26 of the query, then 20; at 0 */
+ *   refused    2 to 8 and 26 of the query, then 20, at 0 */
 uint64_t lemitsaka_check(const uint8_t *query, size_t query_len,
                          const uint8_t *derivation, size_t derivation_len);
 
@@ -173,7 +173,7 @@ uint64_t lemitsaka_check(const uint8_t *query, size_t query_len,
  *
  *   LEMITSAKA_SATISFIABLE   there is one; the bytes past the report are zero
  *   LEMITSAKA_REFUTED       there is none, of any size; the report is all zero
- *   refused                 2 to 9 and 26 over six sections (4: bytes follow section 6; 7: sections 2 to 4 and 6), then 21 */
+ *   refused                 2 to 9 and 26 over six sections, then 21 */
 uint64_t lemitsaka_between(const uint8_t *query, size_t query_len,
                            uint8_t *report, size_t report_len);
 
@@ -193,9 +193,8 @@ uint64_t lemitsaka_join(const uint8_t *first, size_t first_len,
 /* Whose literal does a clash line of the joined query name?
  *
  * The answer is 65,536 times the offset of the literal's own bytes in the first query, plus their length; for the second query
- * LEMITSAKA_SECOND is added. From LEMITSAKA_NO_PART on the call was refused: LEMITSAKA_NO_PART is added to what
- * lemitsaka_refusal and lemitsaka_place take apart: 2 to 8 and 26 of the first query, of the second (which of the two is not
- * told), then 25. */
+ * LEMITSAKA_SECOND is added. From LEMITSAKA_NO_PART on the call was refused, and lemitsaka_refusal and lemitsaka_place take the
+ * answer apart as it is: 2 to 8 and 26 of the first query, the same of the second (the number does not say of which), then 25. */
 #define LEMITSAKA_NO_PART 1099511627776u
 uint64_t lemitsaka_hand_back(const uint8_t *first, size_t first_len,
                              const uint8_t *second, size_t second_len,
@@ -203,21 +202,21 @@ uint64_t lemitsaka_hand_back(const uint8_t *first, size_t first_len,
 
 /* What does a query say that still has booleans?
  *
- * An old query, at most LEMITSAKA_OLD_QUERY_SIZE bytes: section 5 holds up to 60 booleans, a sign and a number 1 to 8 each. If there are any, the
- * query written has one fresh variable, behind its terms, and boolean j is that variable's data field j, behind the data literals; else
- * it is copied. Every call takes it, and it is satisfiable exactly if some heap with booleans meets the old query. The answer is the
+ * An old query, at most LEMITSAKA_OLD_QUERY_SIZE bytes: section 5 holds up to 60 booleans, a sign and a number 1 to 8 each. If
+ * there are any, the query written has one fresh variable, behind its terms, and boolean j is that variable's data field j, behind
+ * the data literals; else it is copied. It is satisfiable exactly if some heap with booleans meets the old query. The answer is the
  * length of the query written, with zeros past it; LEMITSAKA_QUERY_SIZE bytes hold every one.
  *
- *   refused   2 to 8 of the old query, 3 where it has more than 60 booleans and never 26; then 27: it has booleans and 16 terms, or with
- *             its data literals more than 60, or the lent bytes are too few; at 0 */
+ *   refused   2 to 8 of the old query, 3 where it has more than 60 booleans and never 26; then 27, at 0: it has booleans and 16
+ *             terms, more than 60 booleans and data literals together, or the lent bytes are too few */
 #define LEMITSAKA_OLD_QUERY_SIZE 681
 uint64_t lemitsaka_rewrite(const uint8_t *old_query, size_t old_query_len,
                            uint8_t *query, size_t query_len);
 
 /* Is there a heap with three links that meets every literal of the query?
  *
- * A query with three links: its sections are those of a query, but that a term entry is two bytes, link and term: 0 0 a variable, 0 255
- * null, whose three links go to itself, or a link 1 to 3 and an earlier term; and a reachability literal is four: sign, link, from, to.
+ * A query with three links has the sections of a query, but a term entry is two bytes, link and term: 0 0 a variable, 0 255 null,
+ * whose three links go to itself, or a link 1 to 3 and an earlier term; and a reachability literal is four: sign, link, from, to.
  *
  *   LEMITSAKA_SATISFIABLE   there is, and the report shows one; the bytes past it are zero
  *   LEMITSAKA_REFUTED       there is none, of any size; the report is all zero
@@ -234,17 +233,17 @@ uint64_t lemitsaka_links_verdict(const uint8_t *order, size_t order_len,
  *   LEMITSAKA_REFUTED       the derivation is in the buffer; the bytes past it are zero
  *   refused                 1 to 8, 22, 26, 11 and 12; 11 where there is such a heap. Never LEMITSAKA_SATISFIABLE
  *
- * A derivation is as of lemitsaka_derivation, but that a rule's number is 16 higher for link 2 and 32 higher for link 3. Clashes and joins
- * name no link. */
+ * A derivation is that of lemitsaka_derivation, but a rule's number is 16 higher for link 2 and 32 higher for link 3. Clashes and
+ * joins name no link. */
 uint64_t lemitsaka_links_derivation(const uint8_t *order, size_t order_len,
                                     const uint8_t *query, size_t query_len,
                                     uint8_t *buffer, size_t buffer_len);
 
 /* What does a query say where there are three links?
  *
- * The query written is the same with link 1, in the layout for three links: a term entry is two bytes, its link and its term byte, the
- * link 0 before 0 and 255, else 1; a reachability literal is four, sign, 1, from and to. The same heaps meet both queries, so that
- * both have the same verdict under every order list. The answer is the length of the query written, with zeros past it;
+ * The query written is the same with link 1, in the layout for three links: a term entry is two bytes, its link and its term byte,
+ * the link 0 before 0 and 255, else 1; a reachability literal is four, sign, 1, from and to. The same heaps meet both queries, so
+ * that both have the same verdict under every order list. The answer is the length of the query written, with zeros past it;
  * LEMITSAKA_LINKS_QUERY_SIZE bytes hold every one.
  *
  *   refused   2 to 8 and 26 of the query, then 27: the lent bytes are too few; at 0 */

@@ -1,15 +1,17 @@
 #!/usr/bin/env python3
-"""Runs every example of README.md and docs/manual against the built programs; checks the links of all documents, and the claims that pages name.
+"""Runs every example of README.md and docs/manual against the built programs, and checks the links of all documents and the claims that
+pages name.
 
     python3 tests/manual.py [PAGE ...]
 
-An example is a line `$ COMMAND` in a ```console block, with lines `> MORE` behind it where it goes on; the lines up to the next `$` are what it
-must print, standard error included, and it must end with status 0. `rt check NAME && ` before a command is left out: the programs
-must be built before (`rt check`). A block that opens with ```c and a file's name is that file. The examples of a page run one after the
-other in a folder of their own, where target, include and examples lead to those of the repository. An example that links the static
-library is passed over, and counted so, where `rt staticlib lemitsaka` has not been run.
+An example is a line `$ COMMAND` in a ```console block, with lines `> MORE` behind it where it goes on; the lines up to the next `$` are
+what it must print, standard error included, and it must end with status 0. `rt check NAME && ` before a command is left out: the
+programs must be built before (`rt check`). A block that opens with ```c and a file's name is that file. The examples of a page run one
+after the other in a folder of their own, where target, include and examples lead to those of the repository. An example that links the
+static library is passed over, and counted so, where `rt staticlib lemitsaka` has not been run.
 
-A claim is a table's row whose second cell is a file of crates/ in backticks: each name in backticks in its first cell must stand there.
+A claim is a table's row whose second cell is a file of crates/ in backticks: each name in backticks in its first cell must stand in that
+file.
 
 Exit status 0: all agree. 1: something differs, and is printed; or a page has no example.
 """
@@ -114,7 +116,8 @@ def check_claims(page, text, count):
 
 def main():
     manual = ['README.md'] + sorted(str(p.relative_to(ROOT)) for p in (ROOT / 'docs/manual').glob('*.md'))
-    others = sorted(str(p.relative_to(ROOT)) for p in [*(ROOT / 'docs').glob('*.md'), *(ROOT / 'docs/changes').glob('*.md'), ROOT / 'bench/README.md'])
+    others = [*(ROOT / 'docs').glob('*.md'), *(ROOT / 'docs/changes').glob('*.md'), ROOT / 'bench/README.md']
+    others = sorted(str(p.relative_to(ROOT)) for p in others)
     asked = [str(pathlib.Path(p).resolve().relative_to(ROOT)) for p in sys.argv[1:]]
     count = {'examples': 0, 'passed over': 0, 'links': 0, 'claims': 0, 'differ': 0}
     if not shutil.which('xxd'):
