@@ -83,7 +83,7 @@ fn first_open(
     }
 }
 
-// The path where our walk of a path with a heap ends, given some path with a heap. A walk can reach it.
+// The path where our walk of a path with a heap ends, given some path with a heap. That a walk can reach it tells how many links it has.
 pub fn descend(
     query: &[u8],
     layout: Layout,
@@ -165,6 +165,7 @@ pub fn settle(
     requires { ⌜ Within layout (now query) × Accepted (said layout (now query)) × (isOrder (now order) ≡ true) × Reachable (said layout (now query)) (pathAs single (now rep) (now link) (now reach) (now link2) (now reach2) (now link3) (now reach3)) × AtMost (termCount (said layout (now query))) (pathAs single (now rep) (now link) (now reach) (now link2) (now reach2) (now link3) (now reach3)) left × Whole (now rep) (now link) (now reach) (now link2) (now reach2) (now link3) (now reach3) ⌝ }
     ensures { λ r. ⌜ WalksTo (said layout (now (query .entry))) (now (order .entry)) left (pathAs single (now (rep .entry)) (now (link .entry)) (now (reach .entry)) (now (link2 .entry)) (now (reach2 .entry)) (now (link3 .entry)) (now (reach3 .entry))) false r (pathAs single (now (rep .exit)) (now (link .exit)) (now (reach .exit)) (now (link2 .exit)) (now (reach2 .exit)) (now (link3 .exit)) (now (reach3 .exit))) ⌝ }
 {
+    // Plain steps that run out leave another path in the arrays; it is this one that is decided.
     let s = decide::held(single, rep, link, reach, link2, reach2, link3, reach3);
     let w = plain_steps::plain_in(
         query,
