@@ -271,7 +271,7 @@ signed-same false e p = λ x. p (e .1 x)
 same-test : {b c : Bool} → c ≡ b → (b ≡ true) ↔ (c ≡ true)
 same-test e = (λ p. e ∙ p, λ p. sym e ∙ p)
 
--- "a heap that meets the query has one on the nodes that the terms name"
+-- a heap that meets the query has one on the nodes that the terms name
 pub small-meets : (q : BetweenQuery) (ok : AcceptedBetween q) (h : Heap) (m : MeetsBetween h q) → MeetsBetween (small (q .base) (ok .base) h (m .meets .is-heap)) q
 small-meets q ok h m =
     let b : Query = q .base in

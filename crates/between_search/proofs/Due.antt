@@ -36,10 +36,6 @@ pub either-right : (a : Bool) {b : Bool} → b ≡ true → a || b ≡ true
 either-right true e = refl
 either-right false e = e
 
-pub one-of : (a b : Bool) → a || b ≡ true → (a ≡ true) ⊎ (b ≡ true)
-one-of true b h = inl refl
-one-of false b h = inr h
-
 pub not-both : {a b : Bool} → a && b ≡ false → a ≡ true → b ≡ false
 not-both {a = true} h e = h
 not-both {a = false} h e = absurd (false≢true e)

@@ -18,10 +18,6 @@ Alternative k link link2 link3 n r x y z i fact =
     HasLink (pathAs single rep link reach link2 reach2 link3 reach3) k →
     fact ≡ alternativeAt k n (pathAs single rep link reach link2 reach2 link3 reach3 .graph k) r x y z i
 
--- the relation has a and b too
-abbrev pub Sets : ℕ → ℕ → List ℕ → List ℕ → Type 0
-Sets a b rows later = square later ≡ (λ x y. square rows x y or (eqb x a and eqb y b))
-
 -- any path with these rows has "a reaches b" by link k too
 abbrev pub Reached : ℕ → ℕ → ℕ → List ℕ → List ℕ → List ℕ → List ℕ → List ℕ → List ℕ → Type 0
 Reached k a b reach reach2 reach3 later later2 later3 =

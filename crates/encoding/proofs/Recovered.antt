@@ -99,7 +99,3 @@ unfolding decode layoutOf layoutBy
 recovered bytes h =
     let p = accepted-parts bytes h in
     ap (λ (l : Layout). encode (queryOf l)) (p .laid) ∙ written (firstByte bytes) bytes (p .found) (laid (sections (firstByte bytes)) 0 bytes (p .found) (p .laid)) (p .part)
-
--- accepted queries that say the same are the same bytes
-pub one-encoding : (a b : List ℕ) → accepts a ≡ true → accepts b ≡ true → decode a ≡ decode b → a ≡ b
-one-encoding a b x y e = sym (recovered a x) ∙ ap encode e ∙ recovered b y

@@ -40,10 +40,6 @@ report-length q s acc =
     let rows = mul-le-mul-left (q .links) (m .1) in
     omega (arith, report-size q s, m, rows, acc .term-count)
 
--- with one link, 53
-pub report-fits : (q : Query) (s : Facts) → Accepted q → q .links ≡ 1 → length (report q s) ≤ 53
-report-fits q s acc one = let l = report-length q s acc in let e = ap (λ (k : ℕ). k * 16) one in omega (arith, l, e)
-
 -- a literal's meaning, from that of each sign
 signed : (b : Bool) (P : Type 0) → (b ≡ true → P) → (b ≡ false → P → ⊥) → Signed b P
 signed true P plain negated = plain refl

@@ -41,11 +41,6 @@ module _ (entries : Entries) where
   unfolding namesNil
   nil-range t h = entryOf-range t (λ e. omega (arith, e, eqb-true (entryOf entries t) 255 h))
 
-  -- nil has no argument
-  pub nil-argument : (t : ℕ) → namesNil entries t ≡ true → argumentOf entries t ≡ 0
-  unfolding argumentOf
-  nil-argument t h = cond-true 0 (entryOf entries t) h
-
 -- The terms that name nil
 
 pub nilTerms-mem : (q : Query) (t : ℕ) → namesNil (q .entries) t ≡ true → List·Memᴰ t (nilTerms q)
