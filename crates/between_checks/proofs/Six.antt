@@ -1,5 +1,5 @@
 -- Six sections from what is known of the first five: the walk from the front, the single bytes, and what the query says.
-use Prim.Native.Nat.{ℕ, zero, suc, _+_, _-_, _*_, _≤_, _<_}
+use Prim.Native.Nat.{ℕ, zero, suc, _+_, _*_, _≤_, _<_}
 use native.Mathlib.Omega.{arith}
 use native.Mathlib.Nat.{mul-one, zero-mul, suc-mul, zero-add}
 use native.Mathlib.Numerals.{add-one}

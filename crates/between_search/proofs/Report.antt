@@ -9,7 +9,7 @@ use lib.ListN.{length, getD, replicate, length-append, length-map, List·getD-ap
 use lib.Seq.{getD-append-add}
 use lib.Dec.{eqb, ltb, leb}
 use borrow.Author.Tests.{ltb-true, leb-true}
-use Rattle.logic.specs.Search.{_and_, from, any}
+use Rattle.logic.specs.Search.{from, any}
 use Rattle.logic.specs.Query.{termCount}
 use Rattle.logic.specs.Facts.{terms}
 use Rattle.logic.specs.Heap.{IsHeap}

@@ -3,11 +3,8 @@ use Prim.Native.Nat.{ℕ}
 use mathlib.Core.Path.{_≡_}
 use mathlib.Core.Bool.{Bool}
 use mathlib.Core.List.{List}
-use lib.Dec.{eqb}
-use Rattle.logic.specs.Search.{_and_, _or_}
 use Rattle.logic.specs.Facts.{addReach}
 use Rattle.logic.specs.Rules.{Rule, Fact}
-use Rattle.rows.specs.Square.{square}
 use Rattle.facts.specs.Path.{pathAs, HasLink}
 use Rattle.branch.specs.Alternatives.{alternativeAt}
 

@@ -2,7 +2,7 @@
 use Prim.Native.Nat.{ℕ, _≤_, _<_}
 use native.Mathlib.Omega.{arith}
 use mathlib.Core.Path.{_≡_, refl, sym, ap, ap₂, fun-ext, _∙_}
-use mathlib.Core.Logic.{_⊎_, ⊎-elim, inl, inr}
+use mathlib.Core.Logic.{⊎-elim}
 use mathlib.Core.Bool.{Bool, true, false, cond}
 use mathlib.Core.List.{List, [], _∷_}
 use lib.Arith.{lt-of-le-ne}
@@ -10,7 +10,7 @@ use lib.Dec.{eqb, ltb, leb}
 use Rattle.logic.specs.Search.{_and_, _or_, any}
 use Rattle.logic.specs.Facts.{Graph, Facts, became, replaceIn, replace, addReach, addLinks}
 use Rattle.theory.proofs.Basics.Search.{not-of, true-false}
-use Rattle.theory.proofs.Basics.Compare.{eq-cases, eqb-self}
+use Rattle.theory.proofs.Basics.Compare.{eq-cases}
 use Rattle.theory.proofs.Paths.Ranged.{link-range}
 use Rattle.facts.specs.declared.Facts as code
 use Rattle.facts.specs.Path.{noFacts, graphs, pathOf, repOf, graphOf, replaceRep, HasLink}

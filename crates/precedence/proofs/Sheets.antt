@@ -8,7 +8,7 @@ use lib.ListN.{length, getD, drop, length-drop}
 use lib.Seq.{getD-drop}
 use lib.Dec.{eqb, leb}
 use borrow.Author.Tests.{eqb-true}
-use Rattle.logic.specs.Search.{_and_, from}
+use Rattle.logic.specs.Search.{from}
 use Rattle.theory.proofs.Basics.Search.{not-of, and-right, all-true, from-mem, map-mem}
 use Rattle.precedence.specs.Sheet.{Pair, countOf, pairAt, pairs, laidOut, isRule, rulesOnly}
 use Rattle.precedence.proofs.Lists.{is-rule}

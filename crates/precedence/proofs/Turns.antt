@@ -7,7 +7,7 @@ use mathlib.Core.Path.{_≡_, refl, sym, ap, ap₂, _∙_, fun-ext}
 use mathlib.Core.Logic.{⊎-elim}
 use mathlib.Core.Bool.{Bool, true, false, not, _&&_, _||_}
 use mathlib.Core.List.{List, [], _∷_, _++_, map, append-assoc, append-nil, List·Memᴰ, List·Memᴰ·head, List·Memᴰ·tail}
-use mathlib.Core.Option.{Option, none, some, Option·elim}
+use mathlib.Core.Option.{none, some, Option·elim}
 use lib.ListN.{length, getD, set, take, drop, replicate, drop-of-length-le, length-set, length-replicate, take-append-drop, replicate-append-replicate, getD-replicate}
 use lib.Seq.{length-take-le, take-all, take-suc, drop-cons, drop-drop, getD-take, getD-set-same, getD-set-other, take-suc-set, drop-set-lt, set-at}
 use lib.Dec.{eqb}

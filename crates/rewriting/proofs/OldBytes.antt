@@ -9,7 +9,7 @@ use mathlib.Core.Option.{none, some}
 use lib.ListN.{length}
 use lib.Dec.{ltb, leb}
 use borrow.Author.Tests.{ltb-true, leb-true}
-use Rattle.logic.specs.Search.{_and_, from, at, flatMap}
+use Rattle.logic.specs.Search.{from, at, flatMap}
 use Rattle.logic.specs.Query.{Literal, Role, Section, signRole, numberRole, fourSections, booleanSection, fiveSections, Layout, parts, firstByte, layoutBy, section, queryOf, termCount, literals}
 use Rattle.logic.specs.Calls.{Check, formChecks}
 use Rattle.theory.proofs.Basics.Search.{and-left, and-right, not-true, isSome-false}

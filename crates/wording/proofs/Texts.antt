@@ -9,7 +9,6 @@ use mathlib.Core.List.{List, [], _∷_, _++_, map}
 use lib.ListN.{length, getD, take, drop, length-drop, drop-of-length-le}
 use lib.Seq.{length-take-le, drop-cons, getD-take}
 use borrow.Author.Tests.{leb-true}
-use Rattle.logic.specs.Search.{_and_}
 use Rattle.logic.specs.Facts.{line}
 use Rattle.logic.specs.Derivation.{lineBytes}
 use Rattle.logic.specs.Shown.{sizeIn, isNode, wellFormed}

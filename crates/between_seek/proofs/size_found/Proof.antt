@@ -1,5 +1,4 @@
 -- Where there is none numbered as first named, there is none. Assumes nothing.
-use Prim.Native.Nat.{_-_}
 use borrow.Author.Tests.{not-true, not-false}
 use mathlib.Core.Path.{sym, _∙_}
 use Rattle.between_seek.proofs.size_found.Statement.{statement}

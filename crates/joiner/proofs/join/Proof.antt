@@ -1,12 +1,10 @@
 -- The checks in their order, and then the joining. Assumes nothing.
-use Prim.Native.Nat.{_-_}
 use borrow.Author.Needs.{needs}
 use mathlib.Core.Path.{subst}
 use lib.ListN.{length}
 use Rattle.query.specs.Answers.{CheckedAs}
 use Rattle.query.specs.declared.Checked.{Checked}
 use Rattle.joiner.proofs.Answers as law
-use Rattle.joiner.proofs.Query as made
 use Rattle.joiner.proofs.Joins as call
 use Rattle.joiner.proofs.join.Statement.{statement}
 use Rattle.joiner.proofs.join.Tie as tie

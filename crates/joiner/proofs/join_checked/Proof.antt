@@ -1,11 +1,9 @@
 -- The pair list, the limits, and then the query. Assumes nothing.
-use Prim.Native.Nat.{_-_}
 use native.Mathlib.Omega.{arith}
 use borrow.Author.Needs.{needs}
 use borrow.Author.Tests.{not-true, not-false}
 use mathlib.Core.Path.{sym, _∙_}
 use Rattle.text.proofs.Writing.{writes-length}
-use Rattle.joiner.proofs.Answers as law
 use Rattle.joiner.proofs.Query as made
 use Rattle.joiner.proofs.Joins as call
 use Rattle.joiner.proofs.join_checked.Statement.{statement}

@@ -3,17 +3,17 @@ use Prim.Native.Nat.{ℕ, _+_, _-_, _*_, _/_}
 use native.Mathlib.Omega.{arith}
 use native.Mathlib.Nat.{div-one}
 use mathlib.Core.Path.{_≡_, refl, ap, _∙_, fun-ext}
-use mathlib.Core.Bool.{Bool, true, false, not}
+use mathlib.Core.Bool.{Bool, true, false}
 use mathlib.Core.List.{List, [], _∷_, map}
 use mathlib.Core.Option.{Option, none, some, Option·elim}
 use lib.ListN.{length, getD}
 use lib.Dec.{eqb, leb}
 use Rattle.logic.specs.Search.{_and_, _or_, from, all, any, keep, orElse, firstOf, find}
 use Rattle.logic.specs.Query.{Query, termCount}
-use Rattle.logic.specs.Facts.{Graph, Facts, linkNumbers, terms, live, successors, firstTwo, doubled}
-use Rattle.logic.specs.Rules.{Rule, REFLEX, TRANS1, TRANS2, FUNC, CYCLE, SCC, TOTAL, SHARE, ruleNumber, rules, ruleOf, Triple, triple, move, equal, round, conditions, alternatives, held, hasLink, applies, moveNumber, moveOf}
+use Rattle.logic.specs.Facts.{Graph, Facts, linkNumbers, terms, successors, firstTwo, doubled}
+use Rattle.logic.specs.Rules.{Rule, REFLEX, TRANS1, TRANS2, FUNC, CYCLE, SCC, TOTAL, SHARE, ruleNumber, rules, ruleOf, Triple, triple, move, equal, round, conditions, alternatives, held, moveNumber, moveOf}
 use Rattle.logic.specs.Walk.{limit}
-use Rattle.logic.specs.Shown.{isNode, sizeIn, heapIn, wellFormed}
+use Rattle.logic.specs.Shown.{isNode, sizeIn, wellFormed}
 use Rattle.theory.proofs.Basics.Compare.{eqb-self}
 
 -- Searches
