@@ -8,7 +8,12 @@ use lib.ListN.{length}
 use Rattle.logic.specs.Search.{_and_, _or_, from, keep, orElse, firstOf, find, flatMap}
 use Rattle.logic.specs.Query.{Literal, Query}
 use Rattle.logic.specs.Facts.{Facts, Line, line, negatedAt, plainAt, isClash, clashLines, clash}
-use Rattle.clash.specs.Sections.{oneTerm, reachHeld, sameField, alone, paired, pathClash}
+use Rattle.clash.specs.Sections.{oneTerm, reachHeld, sameField, alone, paired}
+
+-- the clash of a path
+unfoldable pub pathClash : Query → Facts → Option Line
+pathClash q s =
+    orElse (alone 2 (q .equalities) (oneTerm (s .rep))) (orElse (alone 3 (q .reachability) (reachHeld s)) (paired 4 (q .fields) (sameField (s .rep))))
 
 -- Searches of lists that are made of lists
 

@@ -15,8 +15,8 @@ use Rattle.link_query.specs.Said.{said}
 use Rattle.logic.specs.Query.{Query}
 use Rattle.clash.specs.declared.Clash.{Clash}
 use Rattle.clash.specs.Answers.{lineOf, ClashOf}
-use Rattle.clash.specs.Sections.{literalsIn, oneTerm, rowsOf, rowsHeld, sameField, alone, paired, pathClash}
-use Rattle.clash.proofs.Decomposed.{clash-split}
+use Rattle.clash.specs.Sections.{literalsIn, oneTerm, rowsOf, rowsHeld, sameField, alone, paired}
+use Rattle.clash.proofs.Decomposed.{pathClash, clash-split}
 
 -- the rows that hold the reachability of the path that arrays hold: what is found with these lent is the clash of that path
 module _ (single : Bool) (rep link reach link2 reach2 link3 reach3 : List ℕ) where

@@ -21,7 +21,11 @@ use Rattle.facts.specs.Path.{graphOf, noFacts, graphs, pathAs, replacedBy, HasL
 use Rattle.rows.proofs.Bits.{bit-and, bit-or, bit-none}
 use Rattle.rows.proofs.Square.{row-or, row-in, row-beyond, row-none, square-row, square-in, square-above, square-beside, set-same, set-other}
 use Rattle.closing.specs.Closed.{Closed}
-use Rattle.closing.specs.Rows.{Within, Above, Seeded, Passed, OnwardBelow, Onward, LinkClosed}
+use Rattle.closing.specs.Rows.{Within, Above, Seeded, Passed, Onward, LinkClosed}
+
+-- what TRANS2 concludes through the numbers below k is in the rows
+abbrev pub OnwardBelow : List ℕ → ℕ → Type 0
+OnwardBelow rows k = (a b c : ℕ) → b < k → square rows a b ≡ true → square rows b c ≡ true → square rows a c ≡ true
 
 module _ (rows : List ℕ) (full : length rows ≡ 17) (a w : ℕ) (h : a ≤ 16) where
   abbrev rows′ : List ℕ
