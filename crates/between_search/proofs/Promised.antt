@@ -17,7 +17,7 @@ use Rattle.logic.specs.Heap.{Heap, IsHeap, Meets, Satisfiable, value}
 use Rattle.logic.specs.Shown.{heapIn, wellFormed}
 use Rattle.logic.specs.Calls.{Input, Check, roomCheck, oneLinkForm, Answer, refused, satisfiable, refuted, Outcome, refusalOf, accepts, padded, blank, verdictCall}
 use Rattle.logic.specs.Demands.{NotRefused, FirstStands}
-use Rattle.theory.proofs.Basics.Search.{keep-none}
+use Rattle.theory.proofs.Basics.Search.{keep-none, any-alike}
 use Rattle.theory.proofs.Completeness.Placed.{length-from}
 use Rattle.theory.proofs.Query.AcceptedBytes.{Passes, form-passes, query-passes, laid-out, sections-excesses}
 use Rattle.theory.proofs.Calls.CheckingOrder.{first-unique, first-stands, refusal-first}
@@ -31,7 +31,6 @@ use Rattle.between_search.specs.Search.{Found, entry, heapFound, reportO
 use Rattle.between_search.specs.Calls.{given, searched, betweenCall}
 use Rattle.between_search.specs.Promise.{Before, rank, ShowsFirst, BetweenPromised}
 use Rattle.between_search.proofs.Growing.{grown-size, grown-entry}
-use Rattle.between_search.proofs.Due.{any-alike}
 use Rattle.between_search.proofs.Complete.{list-entry}
 use Rattle.between_search.proofs.Sound.{links-in, nodes-in, value-is, found-meets}
 use Rattle.between_search.proofs.Sizes.{FoundFirst, none-right, some-right, first-right, most-cases}

@@ -12,7 +12,7 @@ use borrow.Author.Tests.{ltb-true, leb-true, eqb-true, eqb-false}
 use Rattle.logic.specs.Search.{from, at, flatMap}
 use Rattle.logic.specs.Query.{termCount, Role, Section, signRole, termRole, numberRole, fourSections, booleanSection, fiveSections, sections, Layout, faulty, parts, withPart, layout, firstByte, layoutBy, layoutOf, literals, section, queryOf, decode}
 use Rattle.logic.specs.Calls.{accepts}
-use Rattle.theory.proofs.Query.Bytes.{Allows, Allowed, Part, cond-elim}
+use Rattle.theory.proofs.Query.Bytes.{Allows, Allowed, Part, cond-elim, faulty-parts}
 use Rattle.encoding.specs.QueryBytes.{signByte, literalBytes, sectionBytes, encode}
 use Rattle.encoding.proofs.Decoded.{accepted-parts}
 
@@ -45,9 +45,6 @@ literals-written left right (suc c) i (s ∷ a ∷ b ∷ rest) e h =
 pub data Laid : List Section → List ℕ → List (List ℕ) → Type 0 where
   none-left : Laid [] [] []
   one-more : {s : Section} {ss : List Section} {rest : List ℕ} {ps : List (List ℕ)} (c : ℕ) (p : List ℕ) → length p ≡ c * s .width → Laid ss rest ps → Laid (s ∷ ss) (c ∷ (p ++ rest)) (p ∷ ps)
-
-faulty-parts : {k place : ℕ} {ps : List (List ℕ)} → faulty k place ≡ parts ps → ⊥
-faulty-parts e = let z : _≡_ {A = ℕ} 0 1 = cc in omega arith
 
 pub laid : (ss : List Section) (place : ℕ) (bytes : List ℕ) (ps : List (List ℕ)) → layout ss place bytes ≡ parts ps → Laid ss bytes ps
 unfolding layout withPart

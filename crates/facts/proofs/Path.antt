@@ -9,7 +9,7 @@ use lib.Arith.{lt-of-le-ne}
 use lib.Dec.{eqb, ltb, leb}
 use Rattle.logic.specs.Search.{_and_, _or_, any}
 use Rattle.logic.specs.Facts.{Graph, Facts, became, replaceIn, replace, addReach, addLinks}
-use Rattle.theory.proofs.Basics.Search.{not-of, true-false}
+use Rattle.theory.proofs.Basics.Search.{not-of, true-false, or-false}
 use Rattle.theory.proofs.Basics.Compare.{eq-cases}
 use Rattle.theory.proofs.Paths.Ranged.{link-range}
 use Rattle.facts.specs.declared.Facts as code
@@ -92,16 +92,11 @@ linkedTo a b g = linking (λ x y. g .link x y or (eqb x a and eqb y b)) (g .reac
 abbrev pub replacedIn : ℕ → ℕ → Graph → Graph
 replacedIn lo hi g = linking (replaceIn lo hi (g .link)) (replaceIn lo hi (g .reach))
 
-or-none : (t : Bool) → t or false ≡ t
-unfolding _or_
-or-none true = refl
-or-none false = refl
-
 -- nothing is added where the test fails
 added : (rows : ℕ → ℕ → Bool) (t : Bool) (a b : ℕ) → (λ x y. rows x y or (t and eqb x a and eqb y b)) ≡ cond t (λ x y. rows x y or (eqb x a and eqb y b)) rows
 unfolding _and_
 added rows true a b = refl
-added rows false a b = fun-ext (λ x. fun-ext (λ y. or-none (rows x y)))
+added rows false a b = fun-ext (λ x. fun-ext (λ y. or-false (rows x y)))
 
 module _ (k : ℕ) (s : Facts) where
   pub addReach-changed : (a b : ℕ) → addReach k a b s ≡ changed k (reaching a b) s

@@ -88,7 +88,7 @@ digits-shorter (b ∷ bs) = go (isDigit b) (digits-shorter bs)
     go true ih = omega arith
     go false ih = omega arith
 
-all-digits : (bs : List ℕ) → all isDigit (digitsAt bs) ≡ true
+pub all-digits : (bs : List ℕ) → all isDigit (digitsAt bs) ≡ true
 unfolding digitsAt
 all-digits [] = unfold all in refl
 all-digits (b ∷ bs) = go (isDigit b) refl (all-digits bs)

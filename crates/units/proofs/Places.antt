@@ -8,10 +8,10 @@ use lib.ListN.{getD}
 use lib.Bits.{bitAnd, bitOr}
 use lib.Dec.{eqb, ltb}
 use borrow.Author.Tests.{lt-ltb, le-ltb}
-use Rattle.logic.specs.Search.{_and_, _or_, from, find}
+use Rattle.logic.specs.Search.{_and_, from, find}
 use Rattle.logic.specs.Facts.{Graph, Facts, live}
 use Rattle.logic.specs.Rules.{Rule, FUNC, CYCLE, SCC, TOTAL, SHARE, Triple, triple, move, applies}
-use Rattle.theory.proofs.Basics.Search.{and-left, and-right, and-intro, not-intro, find-some, from-mem}
+use Rattle.theory.proofs.Basics.Search.{and-left, and-right, and-intro, not-intro, find-some, from-mem, neither}
 use Rattle.theory.proofs.Paths.Ranged.{InRange}
 use Rattle.theory.proofs.Paths.Applies.{hasLink-range, applies-linked}
 use Rattle.rows.specs.Bits.{bit}
@@ -93,17 +93,6 @@ module _ (s : Facts) (k : Link) (link reach : List ℕ) (h : HasLink s (k .0)) (
   pub proposed-by : (n : ℕ) (p : Proposal) (r : code.Rule) (x y : Term) (z : Third) → p ≡ proposal.At r x y z → ProposesIn n link reach p → Applies n s k r x y z
   proposed-by n p r x y z e q = handed-in n link reach p (proposal.At r x y z) e q s k rows-of
 
-or-left-false : (a b : Bool) → a or b ≡ false → a ≡ false
-unfolding _or_
-or-left-false true b e = e
-or-left-false false b e = refl
-
-or-right-false : (a b : Bool) → a or b ≡ false → b ≡ false
-unfolding _or_
-or-right-false true true e = e
-or-right-false true false e = refl
-or-right-false false b e = e
-
 module _ (n : ℕ) (link reach : List ℕ) (s : Facts) (j : Link) (rows : RowsOf s j link reach) where
   -- the rule applies by the link at numbers that are in range
   abbrev At : Rule → ℕ → ℕ → ℕ → Type 0
@@ -144,7 +133,7 @@ module _ (n : ℕ) (link reach : List ℕ) (s : Facts) (j : Link) (rows : RowsOf
         let b = sym (bit-and (getD back y 0) (getD back z 0) x) ∙ p in
         let r = sym (bit-or (getD reach y 0) (getD back y 0) z) ∙ no′ in (
           tested TOTAL refl x y z (turned y k x h ∙ and-left (bit (getD back y 0) x) (bit (getD back z 0) x) b)
-              (and-intro (and-intro (turned z l x h ∙ and-right (bit (getD back y 0) x) (bit (getD back z 0) x) b) (not-intro (square-in reach y z k l ∙ or-left-false (bit (getD reach y 0) z) (bit (getD back y 0) z) r))) (not-intro (turned y k z l ∙ or-right-false (bit (getD reach y 0) z) (bit (getD back y 0) z) r))),
+              (and-intro (and-intro (turned z l x h ∙ and-right (bit (getD back y 0) x) (bit (getD back z 0) x) b) (not-intro (square-in reach y z k l ∙ neither (bit (getD reach y 0) z) (bit (getD back y 0) z) r .0))) (not-intro (turned y k z l ∙ neither (bit (getD reach y 0) z) (bit (getD back y 0) z) r .1))),
           h,
           k,
           l,

@@ -68,7 +68,7 @@ abbrev pub Regular : List Section → Type 0
 Regular [] = Unit {0}
 Regular (s ∷ ss) = ((i : ℕ) → length (s .roles i) ≡ s .width) × Regular ss
 
-flatMap-length : (f : ℕ → List Role) (w : ℕ) → ((i : ℕ) → length (f i) ≡ w) → (c i : ℕ) → length (flatMap f (from c i)) ≡ c * w
+pub flatMap-length : (f : ℕ → List Role) (w : ℕ) → ((i : ℕ) → length (f i) ≡ w) → (c i : ℕ) → length (flatMap f (from c i)) ≡ c * w
 unfolding flatMap from
 flatMap-length f w h zero i = sym (zero-mul w)
 flatMap-length f w h (suc c) i = rw (length-append, suc-mul) (omega (arith, h i, flatMap-length f w h c (suc i)))
@@ -78,10 +78,10 @@ pub cond-elim : {A : Type 0} (P : A → Type 0) (b : Bool) {x y : A} → (b ≡ 
 cond-elim P true t f = t refl
 cond-elim P false t f = f refl
 
-faulty-parts : {k place : ℕ} {ps : List (List ℕ)} → faulty k place ≡ parts ps → ⊥
+pub faulty-parts : {k place : ℕ} {ps : List (List ℕ)} → faulty k place ≡ parts ps → ⊥
 faulty-parts e = let z : _≡_ {A = ℕ} 0 1 = cc in omega arith
 
-withPart-parts : (p : List ℕ) (l : Layout) (ps : List (List ℕ)) → withPart p l ≡ parts ps → (qs : List (List ℕ)) × (l ≡ parts qs) × (ps ≡ p ∷ qs)
+pub withPart-parts : (p : List ℕ) (l : Layout) (ps : List (List ℕ)) → withPart p l ≡ parts ps → (qs : List (List ℕ)) × (l ≡ parts qs) × (ps ≡ p ∷ qs)
 unfolding withPart
 withPart-parts p (faulty k place) ps h = absurd (faulty-parts h)
 withPart-parts p (parts qs) ps h = (qs, refl, cc)
