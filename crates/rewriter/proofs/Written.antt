@@ -9,7 +9,7 @@ use lib.Seq.{take-at, drop-at, length-take-le}
 use Rattle.logic.specs.Search.{from, flatMap}
 use Rattle.logic.specs.Query.{Literal, Query, termCount, Role, signRole, numberRole, booleanSection, parts, literals, section}
 use Rattle.theory.proofs.Basics.Count.{length-flatMap}
-use Rattle.theory.proofs.Query.Bytes.{Allowed}
+use Rattle.theory.proofs.Query.Bytes.{Allowed, literals-count}
 use Rattle.theory.proofs.Basics.Search.{flatMap-append}
 use Rattle.encoding.specs.QueryBytes.{literalBytes, sectionBytes, encode}
 use Rattle.encoding.proofs.Recovered.{sign-allowed}
@@ -19,7 +19,7 @@ use Rattle.query.specs.declared.FullLayout.{FullLayout}
 use Rattle.rewriting.specs.OldQuery.{oldSections, flags, decodeOld}
 use Rattle.rewriting.specs.Rewritten.{asField, withFresh, rewritten, rewrite}
 use Rattle.rewriting.specs.Call.{rewriteOf}
-use Rattle.rewriting.proofs.OldBytes.{old-parts, layout-is, booleans-are, boolean-part, literals-count, flags-count}
+use Rattle.rewriting.proofs.OldBytes.{old-parts, layout-is, booleans-are, boolean-part, flags-count}
 use Rattle.rewriting.proofs.Encoded.{encode-length}
 use Rattle.rewriting.proofs.Copied.{oldBytes, old-written}
 use Rattle.rewriter.specs.Bytes.{cut, fieldBytes, termBytes, dataBytes, rewrittenBytes}

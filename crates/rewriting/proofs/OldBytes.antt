@@ -8,11 +8,11 @@ use mathlib.Core.List.{List, [], _∷_, List·Memᴰ, List·Memᴰ·cases-cons, 
 use mathlib.Core.Option.{none, some}
 use lib.ListN.{length}
 use Rattle.logic.specs.Search.{from, at, flatMap}
-use Rattle.logic.specs.Query.{Literal, Role, Section, signRole, numberRole, fourSections, booleanSection, fiveSections, Layout, parts, firstByte, layoutBy, section, queryOf, termCount, literals}
+use Rattle.logic.specs.Query.{Literal, Role, Section, signRole, numberRole, fourSections, booleanSection, fiveSections, Layout, parts, firstByte, layoutBy, section, queryOf, termCount}
 use Rattle.logic.specs.Calls.{Check, formChecks}
 use Rattle.theory.proofs.Basics.Search.{not-true, isSome-false}
 use Rattle.theory.proofs.Query.Tied.{Accepted, ToEight}
-use Rattle.theory.proofs.Query.Bytes.{Allows, Allowed, Part, three-number}
+use Rattle.theory.proofs.Query.Bytes.{Allows, Allowed, Part, three-number, literals-count}
 use Rattle.theory.proofs.Query.AcceptedBytes.{Passes, form-passes, LaidOut, booleans, five-laid, five-accepted, number-allows}
 use Rattle.theory.proofs.Calls.CallLaws.{refusalOf-none}
 use Rattle.encoding.specs.WritingCall.{given, acceptsIn}
@@ -20,16 +20,7 @@ use Rattle.encoding.proofs.Encoded.{Limits, AboutOne, OneLinked}
 use Rattle.encoding.proofs.Decoded.{layout-linked}
 use Rattle.rewriting.specs.OldQuery.{oldSections, acceptsOld, flags, booleanPart, decodeOld}
 
--- the literals of sections of three bytes an entry, and of two
-pub literals-count : (c : ℕ) (bytes : List ℕ) → length bytes ≡ c * 3 → length (literals bytes) ≡ c
-unfolding literals
-literals-count zero [] e = refl
-literals-count (suc c) [] e = absurd (omega arith)
-literals-count c (s ∷ []) e = absurd (omega arith)
-literals-count c (s ∷ a ∷ []) e = absurd (omega arith)
-literals-count zero (s ∷ a ∷ b ∷ rest) e = absurd (omega arith)
-literals-count (suc c) (s ∷ a ∷ b ∷ rest) e = ap suc (literals-count c rest (omega arith))
-
+-- the literals of a section of two bytes an entry
 pub flags-count : (c : ℕ) (bytes : List ℕ) → length bytes ≡ c * 2 → length (flags bytes) ≡ c
 unfolding flags
 flags-count zero [] e = refl

@@ -63,7 +63,7 @@ report-sized bytes links p n formed ep en = rw (ep, en ∙ ap (λ (k : ℕ). get
 abbrev pub left : ℕ → List ℕ → ℕ → List ℕ
 left size bytes i = behind (map hexByte (drop i (take size bytes)))
 
-behind-length : (xs : List ℕ) → length (behind (map hexByte xs)) ≡ 3 * length xs + 1
+pub behind-length : (xs : List ℕ) → length (behind (map hexByte xs)) ≡ 3 * length xs + 1
 unfolding behind hexByte
 behind-length [] = refl
 behind-length (x ∷ xs) = let ih = behind-length xs in omega arith

@@ -73,6 +73,16 @@ unfolding flatMap from
 flatMap-length f w h zero i = sym (zero-mul w)
 flatMap-length f w h (suc c) i = rw (length-append, suc-mul) (omega (arith, h i, flatMap-length f w h c (suc i)))
 
+-- the literals of a section of three bytes an entry
+pub literals-count : (c : ℕ) (bytes : List ℕ) → length bytes ≡ c * 3 → length (literals bytes) ≡ c
+unfolding literals
+literals-count zero [] e = refl
+literals-count (suc c) [] e = absurd (omega arith)
+literals-count c (s ∷ []) e = absurd (omega arith)
+literals-count c (s ∷ a ∷ []) e = absurd (omega arith)
+literals-count zero (s ∷ a ∷ b ∷ rest) e = absurd (omega arith)
+literals-count (suc c) (s ∷ a ∷ b ∷ rest) e = ap suc (literals-count c rest (omega arith))
+
 -- what a choice leads to, by its test
 pub cond-elim : {A : Type 0} (P : A → Type 0) (b : Bool) {x y : A} → (b ≡ true → P x) → (b ≡ false → P y) → P (cond b x y)
 cond-elim P true t f = t refl
