@@ -9,7 +9,6 @@ use Rattle.logic.specs.Query.{Query, decode, termCount}
 use Rattle.logic.specs.Facts.{Joined}
 use Rattle.logic.specs.Derivation.{linesIn}
 use Rattle.logic.specs.Calls.{accepts}
-use Rattle.logic.specs.Calls as calls
 use Rattle.theory.proofs.Query.Tied.{Accepted}
 use Rattle.theory.proofs.Query.AcceptedBytes as acceptance
 use Rattle.theory.proofs.Paths.Start.{start-tied}

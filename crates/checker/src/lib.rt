@@ -301,14 +301,6 @@ fn is_shaped(derivation: &[u8]) -> bool
     (length == 2 + 4 * count) & (count <= 16000)
 }
 
-// "n times n plus n rule steps"
-fn limit(n: usize) -> usize
-    requires { ⌜ n ≤ 16 ⌝ }
-    ensures { λ r. ⌜ r ≡ n * n + n ⌝ }
-{
-    n * n + n
-}
-
 // The lines of a query that passes its checks, from its start.
 fn judge(query: &[u8], layout: Layout, derivation: &[u8]) -> CheckAnswer
     requires { ⌜ LaysOut layout (now query) × (accepts (now query) ≡ true) × (shapely (now derivation) ≡ true) ⌝ }
@@ -322,7 +314,7 @@ fn judge(query: &[u8], layout: Layout, derivation: &[u8]) -> CheckAnswer
         layout,
         derivation,
         count,
-        limit(n),
+        call_limits::limit(1, n),
         goal.pairs,
         &goal.rep,
         &goal.link,

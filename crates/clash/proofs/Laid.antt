@@ -15,8 +15,8 @@ use Rattle.literal_tests.specs.Tests.{oneTerm, rowsOf, rowsHeld, sameField}
 use Rattle.literal_tests.proofs.Rows.{rows-reach, reachOf}
 use Rattle.clash.specs.declared.Clash.{Clash}
 use Rattle.clash.specs.Answers.{lineOf, ClashOf}
-use Rattle.clash.specs.Sections.{literalsIn, alone, paired, pathClash}
-use Rattle.clash.proofs.Decomposed.{clash-split}
+use Rattle.clash.specs.Sections.{literalsIn, alone, paired}
+use Rattle.clash.proofs.Decomposed.{pathClash, clash-split}
 
 -- what is found with the rows lent that hold the reachability of a path is the clash of that path
 pub rows-clash : (single : Bool) (rep link reach link2 reach2 link3 reach3 : List ℕ) (r : Clash) (q : Query) → ClashOf r q (repOf rep) (rowsOf single reach reach2 reach3) → lineOf r ≡ clash q (pathAs single rep link reach link2 reach2 link3 reach3)

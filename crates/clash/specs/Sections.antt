@@ -4,8 +4,8 @@ use mathlib.Core.Bool.{Bool}
 use mathlib.Core.List.{List}
 use mathlib.Core.Option.{Option}
 use lib.ListN.{length, take, drop}
-use Rattle.logic.specs.Search.{from, keep, orElse, firstOf, find}
-use Rattle.logic.specs.Query.{Literal, Query, literals}
+use Rattle.logic.specs.Search.{from, keep, firstOf, find}
+use Rattle.logic.specs.Query.{Literal, literals}
 use Rattle.logic.specs.Facts.{Facts, Line, line, negatedAt, plainAt}
 use Rattle.literal_tests.specs.Tests.{oneTerm, reachHeld, sameField}
 
@@ -25,8 +25,3 @@ partner ls p i = find (λ j. negatedAt ls i (λ l. plainAt ls j (p l))) (from (l
 unfoldable pub paired : ℕ → List Literal → (Literal → Literal → Bool) → Option Line
 paired k ls p =
     firstOf (λ i. firstOf (λ j. keep (negatedAt ls i (λ l. plainAt ls j (p l))) (line 9 k i j)) (from (length ls) 1)) (from (length ls) 1)
-
--- the clash of a path
-unfoldable pub pathClash : Query → Facts → Option Line
-pathClash q s =
-    orElse (alone 2 (q .equalities) (oneTerm (s .rep))) (orElse (alone 3 (q .reachability) (reachHeld s)) (paired 4 (q .fields) (sameField (s .rep))))

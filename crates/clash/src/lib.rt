@@ -105,7 +105,7 @@ fn field_clash(query: &[u8], at: usize, count: usize, rep: &[u8; 17]) -> Clash
     Clash::Nothing
 }
 
-// "Lowest section, then lowest place, is reported"; "a clash line names no link" (02, R-11): the clash of every path with these representatives
+// "Lowest section, then lowest place, is reported"; a clash line names no link (02, R-11): the clash of every path with these representatives
 // and this reachability. They are lent: a path by value would be copied at each step.
 pub fn find_clash<'a>(
     query: &[u8],

@@ -7,15 +7,13 @@ ghost use mathlib.Core.Path.{_≡_};
 ghost use mathlib.Core.Bool.{Bool, true};
 ghost use Prim.Native.Nat.{ℕ, _+_, _*_, _≤_, _<_};
 ghost use lib.ListN.{length};
-ghost use lib.Dec.{eqb};
 ghost use Rattle.logic.specs.Search.{_and_};
 ghost use Rattle.logic.specs.Facts.{live, line, negatedAt, plainAt, isClash};
 ghost use Rattle.logic.specs.Rules.{CYCLE, triple, move, applies};
-ghost use Rattle.rows.specs.Square.{square};
 ghost use Rattle.facts.specs.Path.{graphOf, pathOf, repOf};
 ghost use Rattle.link_query.specs.Said.{said, Within};
 ghost use Rattle.rules.specs.Answers.{kindOf};
-ghost use Rattle.rules.specs.Tests.{pairTest, thirdTest, looped};
+ghost use Rattle.rules.specs.Tests.{pairTest, thirdTest, isNotCycle};
 ghost use Rattle.rules.specs.Allowed.{allowed};
 ghost use Rattle.literal_tests.specs.Tests.{oneTerm, reachHeld, sameField};
 ghost use Rattle.clash.specs.Sections.{literalsIn};
@@ -45,7 +43,7 @@ fn is_allowed(
     y: usize,
     z: usize,
 ) -> bool
-    ensures { λ r. ⌜ ((lives : ℕ → Bool) → alive ≡ lives x → looped (kindOf rule) ≡ true → r ≡ (pairTest lives (graphOf (now (link .entry)) (now (reach .entry))) x y (kindOf rule) and thirdTest (graphOf (now (link .entry)) (now (reach .entry))) x y z (kindOf rule))) ⌝ }
+    ensures { λ r. ⌜ ((lives : ℕ → Bool) → alive ≡ lives x → isNotCycle (kindOf rule) ≡ true → r ≡ (pairTest lives (graphOf (now (link .entry)) (now (reach .entry))) x y (kindOf rule) and thirdTest (graphOf (now (link .entry)) (now (reach .entry))) x y z (kindOf rule))) ⌝ }
 {
     match rule {
         Rule::Reflex => alive & !rows::is_held(reach, x, x) & (y == 0) & (z == 0),
@@ -110,7 +108,7 @@ pub fn applies(s: Facts, n: usize, rule: Rule, x: usize, y: usize, z: usize) -> 
 {
     let link = s.link;
     let reach = s.reach;
-    if rules::looped(rule) {
+    if rules::is_not_cycle(rule) {
         let alive = is_live(s, n, x);
         return is_allowed(rule, alive, &link, &reach, x, y, z);
     }

@@ -5,13 +5,12 @@ use query::Layout;
 use query_checks::Checked;
 ghost use mathlib.Core.Path.{_≡_};
 ghost use mathlib.Core.Bool.{true};
-ghost use Prim.Native.Nat.{ℕ, _≤_};
 ghost use lib.ListN.{length, replicate};
 ghost use Rattle.formula.specs.Call.{isSatisfiable, textOutcome, formulaCall};
 ghost use Rattle.formula_reader.specs.Marked.{Pickable};
 ghost use Rattle.query.specs.LaysOut.{LaysOut};
 ghost use Rattle.prover.specs.Promise.{meaning};
-ghost use Rattle.formula_call.specs.FormulaPromise.{formulaInput, formulaMeaning, DoesFormula, DecidesOne, FormulaAt, DecidesFirst};
+ghost use Rattle.formula_call.specs.FormulaPromise.{formulaInput, DoesFormula, DecidesOne, FormulaAt, DecidesFirst};
 
 // What the formula call answers: the number of the first satisfiable conjunction, "refuted", or a refusal's number and place.
 pub enum FormulaAnswer {

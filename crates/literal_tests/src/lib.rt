@@ -27,19 +27,6 @@ pub fn is_unequal_to_itself(query: &[u8], at: usize, i: usize, rep: &[u8; 17]) -
     a.0 == b.0
 }
 
-// "a reaches b" is held in these rows.
-fn reaches(rows: &[u32; 17], a: Term, b: Term) -> bool
-    ensures { λ r. ⌜ r ≡ square (now (rows .entry)) (a .0) (b .0) ⌝ }
-{
-    if 16 < a.0 {
-        return false;
-    }
-    if 16 < b.0 {
-        return false;
-    }
-    rows::holds(rows, a, b)
-}
-
 // "a reaches b" by link k is held in the rows of a single link, or of three.
 fn reaches_by<'a>(
     single: bool,
@@ -53,16 +40,16 @@ fn reaches_by<'a>(
     ensures { λ r. ⌜ r ≡ rowsOf single (now (first .entry)) (now (second .entry)) (now (third .entry)) k (a .0) (b .0) ⌝ }
 {
     if k == 1 {
-        return reaches(first, a, b);
+        return rows::is_held(first, a.0, b.0);
     }
     if single {
         return false;
     }
     if k == 2 {
-        return reaches(second, a, b);
+        return rows::is_held(second, a.0, b.0);
     }
     if k == 3 {
-        return reaches(third, a, b);
+        return rows::is_held(third, a.0, b.0);
     }
     false
 }

@@ -1,5 +1,4 @@
 -- The checks in their order. Assumes nothing.
-use Prim.Native.Nat.{_-_}
 use borrow.Author.Needs.{needs}
 use mathlib.Core.Path.{subst}
 use Rattle.query_checks.specs.Answers.{CheckedAs}

@@ -4,8 +4,9 @@ use mathlib.Core.Path.{subst}
 use lib.ListN.{length}
 use Rattle.query_checks.specs.Answers.{CheckedAs}
 use Rattle.query_checks.specs.declared.Checked.{Checked}
-use Rattle.rewriter.proofs.Answers.{blank-again, blank-long, moved}
+use Rattle.rewriter.proofs.Answers.{moved}
 use Rattle.link_rewriting.specs.Call.{linksRewriteCall}
+use Rattle.lent.proofs.Writing.{blank-again, blank-long}
 use Rattle.link_rewriter.proofs.Answers as law
 use Rattle.link_rewriter.proofs.rewrite.Statement.{statement}
 use Rattle.link_rewriter.proofs.rewrite.Tie as tie

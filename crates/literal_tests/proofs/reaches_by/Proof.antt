@@ -10,19 +10,19 @@ unfolding rowsOf
 reaches-by-spec =
     tie.close
     (tie.spec
-    -- reaches-requires
+    -- is-held-requires
     (λ c κs. search needs)
     -- returns
-    (λ c. rw (eq-eqb _ _ (c .before .if1 .taken)) (c .reaches .ensures))
+    (λ c. rw (eq-eqb _ _ (c .before .if1 .taken)) (c .is-held .ensures))
     -- returns-2
     (λ c. rw (ne-eqb _ _ (c .before .if1 .left), c .if2 .taken))
-    -- reaches-requires-2
+    -- is-held-requires-2
     (λ c κs. search needs)
     -- returns-3
-    (λ c. rw (ne-eqb _ _ (c .before .before .before .if1 .left), c .before .before .if2 .left, eq-eqb _ _ (c .before .if3 .taken)) (c .reaches2 .ensures))
-    -- reaches-requires-3
+    (λ c. rw (ne-eqb _ _ (c .before .before .before .if1 .left), c .before .before .if2 .left, eq-eqb _ _ (c .before .if3 .taken)) (c .is-held2 .ensures))
+    -- is-held-requires-3
     (λ c κs. search needs)
     -- returns-4
-    (λ c. rw (ne-eqb _ _ (c .before .before .before .before .if1 .left), c .before .before .before .if2 .left, ne-eqb _ _ (c .before .before .if3 .left), eq-eqb _ _ (c .before .if4 .taken)) (c .reaches3 .ensures))
+    (λ c. rw (ne-eqb _ _ (c .before .before .before .before .if1 .left), c .before .before .before .if2 .left, ne-eqb _ _ (c .before .before .if3 .left), eq-eqb _ _ (c .before .if4 .taken)) (c .is-held3 .ensures))
     -- returns-5
     (λ c. rw (ne-eqb _ _ (c .before .before .before .if1 .left), c .before .before .if2 .left, ne-eqb _ _ (c .before .if3 .left), ne-eqb _ _ (c .if4 .left))))

@@ -2,8 +2,8 @@
 use Prim.Native.Nat.{_-_, _≤_}
 use native.Mathlib.Omega.{arith}
 use borrow.Author.Needs.{needs}
-use Rattle.probing.proofs.fails.Statement.{statement}
-use Rattle.probing.proofs.fails.Tie as tie
+use Rattle.probing.proofs.some_soon_clashes.Statement.{statement}
+use Rattle.probing.proofs.some_soon_clashes.Tie as tie
 
 abbrev Inv-loop : tie.InvT-loop
 Inv-loop query layout s k rule x y z n total i₀ i = i ≤ total
@@ -11,8 +11,8 @@ Inv-loop query layout s k rule x y z n total i₀ i = i ≤ total
 abbrev μ-loop : tie.MeasureT-loop
 μ-loop query layout s k rule x y z n total i₀ i = total - i
 
-pub fails-spec : {M : Type 1} → statement M
-fails-spec =
+pub some-soon-clashes-spec : {M : Type 1} → statement M
+some-soon-clashes-spec =
     tie.close
     (tie.spec
     Inv-loop
@@ -23,7 +23,7 @@ fails-spec =
     (λ c. omega arith)
     -- taken-requires
     (λ c κs. search needs)
-    -- sinks-requires
+    -- soon-clashes-requires
     (λ c κs. search needs)
     -- returns
     (λ c. search needs)

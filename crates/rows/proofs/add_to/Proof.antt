@@ -1,9 +1,9 @@
 -- One bit is set. Assumes nothing.
 use borrow.Author.Needs.{needs}
 use lib.ListN.{length-set}
 use Rattle.rows.proofs.Square.{square-add}
-use Rattle.plain_literals.proofs.add_to.Statement.{statement}
-use Rattle.plain_literals.proofs.add_to.Tie as tie
+use Rattle.rows.proofs.add_to.Statement.{statement}
+use Rattle.rows.proofs.add_to.Tie as tie
 
 pub add-to-spec : {M : Type 1} → statement M
 add-to-spec =

@@ -4,8 +4,8 @@ use native.Mathlib.Omega.{arith}
 use borrow.Author.Needs.{needs}
 use Rattle.facts.specs.Path.{pathOf}
 use Rattle.units.proofs.Places.{applies-by, handed-on}
-use Rattle.probing.proofs.sinks.Statement.{statement}
-use Rattle.probing.proofs.sinks.Tie as tie
+use Rattle.probing.proofs.soon_clashes.Statement.{statement}
+use Rattle.probing.proofs.soon_clashes.Tie as tie
 
 abbrev Inv-loop : tie.InvT-loop
 Inv-loop query layout t₀ turn₀ t turn = turn ≤ 30
@@ -13,8 +13,8 @@ Inv-loop query layout t₀ turn₀ t turn = turn ≤ 30
 abbrev μ-loop : tie.MeasureT-loop
 μ-loop query layout t₀ turn₀ t turn = 30 - turn
 
-pub sinks-spec : {M : Type 1} → statement M
-sinks-spec =
+pub soon-clashes-spec : {M : Type 1} → statement M
+soon-clashes-spec =
     tie.close
     (tie.spec
     Inv-loop
