@@ -6,8 +6,7 @@ use mathlib.Core.Option.{Option}
 use lib.ListN.{length, take, drop}
 use Rattle.logic.specs.Search.{from, keep, firstOf, find}
 use Rattle.logic.specs.Query.{Literal, literals}
-use Rattle.logic.specs.Facts.{Facts, Line, line, negatedAt, plainAt}
-use Rattle.literal_tests.specs.Tests.{oneTerm, reachHeld, sameField}
+use Rattle.logic.specs.Facts.{Line, line, negatedAt, plainAt}
 
 -- `count` literals that stand at a place of the query's bytes, of three bytes each
 abbrev pub literalsIn : List ℕ → ℕ → ℕ → List Literal

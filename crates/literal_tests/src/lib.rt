@@ -8,7 +8,6 @@ ghost use Prim.Native.Nat.{_+_, _*_, _≤_};
 ghost use lib.ListN.{length};
 ghost use lib.Dec.{eqb};
 ghost use Rattle.logic.specs.Search.{_and_};
-ghost use Rattle.rows.specs.Square.{square};
 ghost use Rattle.facts.specs.Path.{repOf, pathOf};
 ghost use Rattle.query.specs.LaysOut.{literalIn};
 ghost use Rattle.link_query.specs.Said.{reachWidth, reachIn};

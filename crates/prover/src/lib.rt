@@ -18,7 +18,7 @@ ghost use Rattle.facts.specs.Path.{pathAs};
 ghost use Rattle.link_query.specs.Said.{said, Within};
 ghost use Rattle.link_query.specs.Answers.{CheckedBy};
 ghost use Rattle.call_limits.specs.Forms.{formOf};
-ghost use Rattle.prover.specs.Promise.{meaning, inputOf, Does, Settles};
+ghost use Rattle.prover.specs.Promise.{inputOf, Does, Settles};
 
 // What a call answers: a verdict, or a refusal's number and place.
 pub enum Answer {
