@@ -14,7 +14,7 @@ decide-spec =
     tie.close
     (tie.spec
     -- settled-requires
-    (λ c κs. search needs)
+    (λ c κs. let p = c .before .before .before .before .before .before .before .before .before .before .pre in (p .0, p .1, p .2))
     -- is-refuted-requires
     (λ c κs. search needs)
     -- returns

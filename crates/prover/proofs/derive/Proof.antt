@@ -10,7 +10,7 @@ derive-spec =
     tie.close
     (tie.spec
     -- settled-requires
-    (λ c κs. search needs)
+    (λ c κs. let p = c .before .before .before .before .before .before .before .before .before .before .pre in (p .0, p .1, p .2))
     -- is-refuted-requires
     (λ c κs. search needs)
     -- write-lines-requires
@@ -18,6 +18,6 @@ derive-spec =
     -- same-length
     (λ c. search needs)
     -- returns
-    (λ c. search needs)
+    (λ c. c .before .before .write-lines .ensures)
     -- returns-2
     (λ c. derivation-satisfiable _ _ _ _ (c .before .before .settled .ensures .shown (sym (c .before .is-refuted .ensures) ∙ c .if1 .left)) (c .before .before .before .before .before .before .before .before .before .before .before .before .before .pre .3)))
