@@ -1,5 +1,5 @@
 -- Following links from one chosen node to the next: each such hop skips what is not chosen, and reaches what the links reach.
-use Prim.Native.Nat.{ℕ, zero, suc, _+_, _-_, _≤_, _<_}
+use Prim.Native.Nat.{ℕ, zero, suc, _+_, _≤_, _<_}
 use native.Mathlib.Omega.{arith}
 use mathlib.Core.Path.{_≡_, refl, sym, ap, _∙_, subst}
 use mathlib.Core.Logic.{_⊎_, ⊎-elim, inl, inr}
@@ -91,7 +91,7 @@ module _ (f : ℕ → ℕ) (chosen : ℕ → Bool) where
         let (j, b, q) = fold-back v i d e k in
         true-false (subst (λ (x : ℕ). chosen x ≡ true) (sym q) c) (none j (omega arith))
 
-    -- The hop: "links lead to the next such node; .. from a node after which no named one comes, back to itself".
+    -- The hop: links lead to the next such node and, from a node after which no named one comes, back to itself.
     pub hop : ℕ → ℕ
     hop v = ⊎-elim (λ r. r .0) (λ none. v) (search-first (n + n) (f v))
 

@@ -12,8 +12,8 @@ use Rattle.logic.specs.Search.{from, any}
 use Rattle.logic.specs.Shown.{placeOf}
 use Rattle.theory.proofs.Basics.Search.{bool-cases, any-true, any-false, from-mem, from-intro, true-false}
 use Rattle.theory.proofs.Basics.Compare.{eqb-true, eqb-intro, le-cases}
-use Rattle.theory.proofs.Completeness.Placed.{getD-mem}
 use Rattle.theory.proofs.Graph.Pigeonhole.{pigeonhole}
+use Rattle.theory.proofs.Basics.Count.{getD-mem}
 
 -- a member's place in a list is not behind the list's first part that holds it
 place-front : (xs ys : List ℕ) (x : ℕ) → List·Memᴰ x xs → placeOf x (xs ++ ys) ≤ length xs
@@ -120,7 +120,7 @@ module _ (f : ℕ → ℕ) where
           (λ k.
           let last : j ≡ length (firsts t) = omega (arith, h, size, k) in
           let same : getD (firsts t) i 0 ≡ f (suc t) = sym front ∙ e′ ∙ ap (λ (x : ℕ). getD (firsts t ++ (f (suc t) ∷ [])) x 0) last ∙ getD-at (firsts t) (f (suc t)) [] 0 (length (firsts t)) refl in
-          firsts-all (λ x. x ≡ f (suc t) → ⊥) t (λ u a b p. true-false (eqb-intro p) (any-false (λ w. eqb (f w) (f (suc t))) u s (from-intro t 1 u a (omega arith)))) (getD (firsts t) i 0) (getD-mem (firsts t) i (omega (arith, l, last))) same)
+          firsts-all (λ x. x ≡ f (suc t) → ⊥) t (λ u a b p. true-false (eqb-intro p) (any-false (λ w. eqb (f w) (f (suc t))) u s (from-intro t 1 u a (omega arith)))) (getD (firsts t) i 0) (getD-mem (firsts t) i 0 (omega (arith, l, last))) same)
           (le-cases (suc j) (length (firsts t)))
 
   -- values among 1 to m are at most m
@@ -128,7 +128,7 @@ module _ (f : ℕ → ℕ) where
   firsts-within m t h = ⊎-elim (λ l. l) (λ l. absurd (two l)) (le-cases (length (firsts t)) m)
     where
       range : (i : ℕ) → i < length (firsts t) → (1 ≤ getD (firsts t) i 0) × (getD (firsts t) i 0 ≤ m)
-      range i l = firsts-all (λ x. (1 ≤ x) × (x ≤ m)) t h (getD (firsts t) i 0) (getD-mem (firsts t) i l)
+      range i l = firsts-all (λ x. (1 ≤ x) × (x ≤ m)) t h (getD (firsts t) i 0) (getD-mem (firsts t) i 0 l)
 
       two : m < length (firsts t) → ⊥
       two l =

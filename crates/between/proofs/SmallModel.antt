@@ -3,14 +3,14 @@
 use Prim.Native.Nat.{ℕ, zero, suc, _-_, _≤_}
 use native.Mathlib.Omega.{arith}
 use mathlib.Core.Path.{_≡_, refl, sym, ap, _∙_, subst, subst₂}
-use mathlib.Core.Logic.{_↔_, _⊎_, ⊎-elim}
+use mathlib.Core.Logic.{_↔_, ⊎-elim}
 use mathlib.Core.Bool.{Bool, true, false, cond}
 use mathlib.Core.List.{List, [], _∷_, List·Memᴰ, List·Memᴰ·eq-of-singleton}
 use lib.ListN.{length, getD}
 use lib.Dec.{eqb}
 use Rattle.logic.specs.Search.{any, from}
 use Rattle.logic.specs.Query.{Query, namesNil, argumentOf, linkOf, termCount}
-use Rattle.logic.specs.Heap.{Heap, Node, IsHeap, iterate, Reaches, Signed, NilNode, value}
+use Rattle.logic.specs.Heap.{Heap, Node, IsHeap, iterate, Reaches, NilNode, value}
 use Rattle.logic.specs.Shown.{placeOf}
 use Rattle.theory.proofs.Basics.Search.{any-true, any-intro}
 use Rattle.theory.proofs.Basics.Compare.{eqb-true, eqb-self, le-cases, cond-true}
@@ -18,8 +18,9 @@ use Rattle.theory.proofs.Graph.Orbit.{reaches-keeps}
 use Rattle.theory.proofs.Graph.Cycles.{Within}
 use Rattle.theory.proofs.Query.Tied.{Accepted}
 use Rattle.theory.proofs.Query.Entries.{nil-range}
-use Rattle.theory.proofs.Soundness.Value.{accepted-below, value-variable, value-link, value-node}
-use Rattle.theory.proofs.Completeness.Placed.{placeOf-mem, placeOf-range, placeOf-injective, getD-mem, length-from}
+use Rattle.theory.proofs.Soundness.Value.{accepted-below, value-variable, value-link, value-node, signed-same}
+use Rattle.theory.proofs.Completeness.Placed.{placeOf-mem, placeOf-range, placeOf-injective, length-from}
+use Rattle.theory.proofs.Basics.Count.{getD-mem}
 use Rattle.between.specs.Meaning.{BetweenLiteral, BetweenQuery, Between, MeetsBetween}
 use Rattle.between.proofs.Until.{Until, here, on, Nothing, reaches-until, between-until}
 use Rattle.between.proofs.Firsts.{firsts, firsts-has, firsts-all, firsts-short}
@@ -156,7 +157,7 @@ module _ (q : Query) (ok : Accepted q) (h : Heap) (is : IsHeap h) where
   small-is =
       record {
         nonempty = some-named;
-        link-node = λ k i n. placeOf-range (hops k (at i)) (hops-named k (at i) (getD-mem named (i - 1) (omega arith)));
+        link-node = λ k i n. placeOf-range (hops k (at i)) (hops-named k (at i) (getD-mem named (i - 1) 0 (omega arith)));
         variable-node = λ t. go t (chosen (val t)) refl;
       }
     where
@@ -263,15 +264,10 @@ module _ (q : Query) (ok : Accepted q) (h : Heap) (is : IsHeap h) where
   unfolding small named
   small-size = refl
 
--- a literal that means the same is met alike
-signed-same : {P Q : Type 0} (b : Bool) → P ↔ Q → Signed b P → Signed b Q
-signed-same true e p = e .0 p
-signed-same false e p = λ x. p (e .1 x)
-
 same-test : {b c : Bool} → c ≡ b → (b ≡ true) ↔ (c ≡ true)
 same-test e = (λ p. e ∙ p, λ p. sym e ∙ p)
 
--- "a heap that meets the query has one on the nodes that the terms name"
+-- a heap that meets the query has one on the nodes that the terms name
 pub small-meets : (q : BetweenQuery) (ok : AcceptedBetween q) (h : Heap) (m : MeetsBetween h q) → MeetsBetween (small (q .base) (ok .base) h (m .meets .is-heap)) q
 small-meets q ok h m =
     let b : Query = q .base in

@@ -1,9 +1,9 @@
 -- Reaching a node before any that is to be avoided. Reachability and between are both said with it.
-use Prim.Native.Nat.{ℕ, zero, suc, _-_, _≤_, _<_}
+use Prim.Native.Nat.{ℕ, zero, suc, _≤_, _<_}
 use native.Mathlib.Omega.{arith}
 use native.Mathlib.Decide.{ℕ-discrete}
 use mathlib.Core.Path.{_≡_, refl, subst}
-use mathlib.Core.Logic.{_↔_, _⊎_, ⊎-elim}
+use mathlib.Core.Logic.{_↔_, ⊎-elim}
 use Rattle.logic.specs.Heap.{iterate, Reaches}
 use Rattle.theory.proofs.Basics.Compare.{le-cases}
 use Rattle.between.specs.Meaning.{MetAfter, Between}

@@ -12,6 +12,7 @@ use Rattle.logic.specs.Search.{keep, orElse, firstOf}
 use Rattle.logic.specs.Query.{firstByte, termCount}
 use Rattle.logic.specs.Calls.{Input, roomCheck, Answer, refused, refusalOf, padded, blank, roomUnder}
 use Rattle.theory.proofs.Calls.CallLaws.{refusalOf-append}
+use Rattle.theory.proofs.Basics.Search.{keep-true, keep-false}
 use Rattle.query.specs.declared.Layout.{Layout}
 use Rattle.query.proofs.Ranges.{entry-below}
 use Rattle.between.specs.Meaning.{BetweenQuery}
@@ -77,14 +78,6 @@ blank-does room k place bytes e = record { answers = refl; leaves = e }
 
 -- What the search is given, and what it says
 
-kept : {A : Type 0} (b : Bool) (a : A) → b ≡ true → keep b a ≡ some a
-unfolding keep
-kept b a e = rw e
-
-dropped : {A : Type 0} (b : Bool) (a : A) → b ≡ false → keep b a ≡ none
-unfolding keep
-dropped b a e = rw e
-
 module _ (base : List ℕ) (l : Layout) (between : List ℕ) (count : ℕ) (asked : Asked base l between count) where
   pub ready-given : (apart : List Bool) → Opposed apart (literalsIn base (l .«field_at») (l .«field_count»)) → Given base l between count apart
   ready-given apart opposed =
@@ -100,7 +93,7 @@ module _ (base : List ℕ) (l : Layout) (between : List ℕ) (count : ℕ) (aske
     pub none-does : r .found ≡ false → (room : ℕ) (bytes : List ℕ) → bytes ≡ replicate room 0 → Does (searched (queryIn base between) room) answer.Nothing bytes
     unfolding searched blank Option·elim
     none-does e room bytes z =
-        let o : heapFound (queryIn base between) ≡ none = sym found ∙ dropped (r .found) _ e in
+        let o : heapFound (queryIn base between) ≡ none = sym found ∙ keep-false _ e in
         rw o (record { answers = refl; leaves = z })
 
     module _ (some-heap : r .found ≡ true) where
@@ -108,7 +101,7 @@ module _ (base : List ℕ) (l : Layout) (between : List ℕ) (count : ℕ) (aske
       c = record { links = r .links; nodes = r .nodes }
 
       heap-is : heapFound (queryIn base between) ≡ some c
-      heap-is = sym found ∙ kept (r .found) c some-heap
+      heap-is = sym found ∙ keep-true c some-heap
 
       pub heap-does : (room : ℕ) (bytes : List ℕ) → bytes ≡ padded room (reportOf (queryIn base between) c) → Does (searched (queryIn base between) room) answer.Heap bytes
       unfolding searched Option·elim

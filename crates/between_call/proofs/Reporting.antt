@@ -10,7 +10,7 @@ use Rattle.logic.specs.Search.{_and_}
 use Rattle.logic.specs.Query.{Literal, decode}
 use Rattle.logic.specs.Facts.{terms}
 use Rattle.logic.specs.Shown.{byteOf}
-use Rattle.theory.proofs.Basics.Search.{from-mem}
+use Rattle.theory.proofs.Basics.Search.{from-mem, any-alike}
 use Rattle.theory.proofs.Completeness.Placed.{length-from}
 use Rattle.rows.specs.Square.{square}
 use Rattle.query.specs.declared.Layout.{Layout}
@@ -20,7 +20,6 @@ use Rattle.report.specs.Bytes.{fieldHeld, literalsAt, FieldsIn, sections}
 use Rattle.report.proofs.Held.{byte-alike}
 use Rattle.report.proofs.Successors.{map-alike}
 use Rattle.between_search.specs.Search.{entry, dataByte, reportOf}
-use Rattle.between_search.proofs.Due.{any-alike}
 use Rattle.between_seek.specs.Answers.{queryIn}
 use Rattle.between_call.specs.Promise.{Reportable}
 

@@ -14,10 +14,10 @@ use Rattle.logic.specs.Calls.{Input, refused, refusalOf}
 use Rattle.theory.proofs.Query.Bytes.{layoutNumbers, LayoutNumber, Numbered, layout-numbered}
 use Rattle.theory.proofs.Query.AcceptedBytes.{sections-excesses}
 use Rattle.query.specs.declared.Layout as code
-use Rattle.query.specs.declared.Checked.the-variants as five-checked
-use Rattle.query.specs.Answers.{CheckedAs}
-use Rattle.query.proofs.Checks.{layout-refused}
-use Rattle.query.proofs.Ranges.{checked-accepts}
+use Rattle.query_checks.specs.declared.Checked.the-variants as five-checked
+use Rattle.query_checks.specs.Answers.{CheckedAs}
+use Rattle.query_checks.proofs.Checks.{layout-refused}
+use Rattle.query_checks.proofs.Checks.{checked-accepts}
 use Rattle.entries.proofs.Faults.{orElse-some, orElse-next, append-here, append-next, entriesLeft}
 use Rattle.between_search.specs.Bytes.{betweenSection, sixSections, sixLayout, sixChecks}
 use Rattle.between_search.proofs.Accepted.{six-excesses}

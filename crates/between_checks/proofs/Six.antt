@@ -1,7 +1,7 @@
 -- Six sections from what is known of the first five: the walk from the front, the single bytes, and what the query says.
-use Prim.Native.Nat.{ℕ, zero, suc, _+_, _-_, _*_, _≤_, _<_}
+use Prim.Native.Nat.{ℕ, zero, suc, _+_, _*_, _≤_, _<_}
 use native.Mathlib.Omega.{arith}
-use native.Mathlib.Nat.{mul-one, zero-mul, suc-mul, zero-add}
+use native.Mathlib.Nat.{mul-one, zero-add}
 use native.Mathlib.Numerals.{add-one}
 use mathlib.Core.Path.{_≡_, refl, sym, ap, ap₂, _∙_}
 use mathlib.Core.Bool.{Bool, true, false, not}
@@ -13,12 +13,12 @@ use lib.Dec.{eqb, leb}
 use borrow.Author.Tests.{leb-true}
 use Rattle.logic.specs.Search.{_and_, from, flatMap, keep, orElse}
 use Rattle.logic.specs.Query.{Role, Section, countRole, signRole, termRole, fourSections, booleanSection, fiveSections, sections, faulty, parts, withPart, layout, rolesOf, firstByte, layoutBy, layoutOf, roleFault, byteFault, section, queryOf, decode, termCount}
-use Rattle.theory.proofs.Query.Bytes.{Regular, first-sized}
+use Rattle.theory.proofs.Query.Bytes.{Regular, first-sized, faulty-parts, withPart-parts, flatMap-length}
 use Rattle.query.proofs.Reading.{above, short, passed}
 use Rattle.entries.proofs.Loops.{drop-next}
 use Rattle.query.specs.Sections.{Stands}
 use Rattle.between_search.specs.Bytes.{betweenSection, sixSections, sixLayout, triples, betweensOf, decodeSix}
-use Rattle.between_search.proofs.Layouts.{prepend, faulty-parts, withPart-parts, cond-parts, parts-length, prepend-parts, layout-append}
+use Rattle.between_search.proofs.Layouts.{prepend, cond-parts, parts-length, prepend-parts, layout-append}
 use Rattle.between_search.proofs.SixLayout.{five-not-four, followed, early-fault, ends-early, role-append}
 use Rattle.between_checks.specs.Answers.{tripleRoles, sixthFault, Sixth}
 
@@ -99,11 +99,6 @@ and-never : (a : Bool) → a and not true ≡ false
 unfolding _and_
 and-never true = refl
 and-never false = refl
-
-flatMap-length : (f : ℕ → List Role) (w : ℕ) → ((i : ℕ) → length (f i) ≡ w) → (c i : ℕ) → length (flatMap f (from c i)) ≡ c * w
-unfolding flatMap from
-flatMap-length f w h zero i = sym (zero-mul w)
-flatMap-length f w h (suc c) i = rw (length-append, suc-mul) (omega (arith, h i, flatMap-length f w h c (suc i)))
 
 -- as many roles as bytes, and those of what follows behind them
 roles-append : (ss ts : List Section) (place : ℕ) (front back : List ℕ) (ps : List (List ℕ)) → Regular ss → layout ss place front ≡ parts ps → (rolesOf (ss ++ ts) (front ++ back) ≡ rolesOf ss front ++ rolesOf ts back) × (length (rolesOf ss front) ≡ length front)

@@ -1,5 +1,5 @@
 -- What the checks of five sections say of the walk from the front and of the single bytes; and refusals 5 to 8, number by number.
-use Prim.Native.Nat.{ℕ, zero, suc, _+_, _-_, _≤_, _<_}
+use Prim.Native.Nat.{ℕ, zero, suc, _+_, _≤_, _<_}
 use native.Mathlib.Omega.{arith}
 use mathlib.Core.Path.{_≡_, refl, sym, ap, ap₂, _∙_, subst}
 use mathlib.Core.Logic.{_⊎_, ⊎-elim, inl, inr}
@@ -11,7 +11,7 @@ use Rattle.logic.specs.Calls.{Input, Answer, refused, layoutCheck, byteCheck, f
 use Rattle.theory.proofs.Basics.Search.{none-some}
 use Rattle.theory.proofs.Query.AcceptedBytes.{sections-excesses}
 use Rattle.theory.proofs.Calls.Refusals.{refused-one}
-use Rattle.query.proofs.Checks.{layout-refused}
+use Rattle.query_checks.proofs.Checks.{layout-refused}
 
 some-one : {A : Type 0} {a b : A} → some a ≡ some b → a ≡ b
 some-one e = cc

@@ -1,6 +1,6 @@
 // Refusals 2 to 8 and 26 over six sections: the five of a query, and one of between literals.
-use query::Checked;
 use query::Layout;
+use query_checks::Checked;
 ghost use mathlib.Core.Path.{_≡_};
 ghost use mathlib.Core.List.{[], _∷_};
 ghost use Prim.Native.Nat.{_+_, _*_, _≤_, _<_};
@@ -145,7 +145,7 @@ fn check_bytes(query: &[u8], at: usize, count: usize) -> SixChecked
     ensures { λ r. ⌜ SixCheckedAs r (now (query .entry)) ⌝ }
 {
     let n = entries::byte_at(query, 0);
-    match query::check(&query[..at]) {
+    match query_checks::check(&query[..at]) {
         Checked::Refused(k, place) => match sixth_below(n, query, at + 1, count, k) {
             Met::Refused(j, p) => SixChecked::Refused(j, p),
             Met::Nothing => SixChecked::Refused(k, place),
@@ -172,7 +172,7 @@ fn check_sixth(query: &[u8], at: usize) -> SixChecked
 pub fn check(query: &[u8]) -> SixChecked
     ensures { λ r. ⌜ SixCheckedAs r (now (query .entry)) ⌝ }
 {
-    match query::check(query) {
+    match query_checks::check(query) {
         Checked::Accepted(_) => SixChecked::Refused(2, query.len()),
         Checked::Refused(k, place) => {
             if k < 4 {

@@ -3,17 +3,13 @@ use Prim.Native.Nat.{ℕ, zero, suc, _*_, _≤_}
 use native.Mathlib.Omega.{arith}
 use mathlib.Core.Path.{_≡_, refl, sym, ap, _∙_, subst}
 use mathlib.Core.Logic.{⊎-elim}
-use mathlib.Core.Bool.{true}
 use mathlib.Core.List.{List, [], _∷_, List·Memᴰ, List·Memᴰ·not-nil, List·Memᴰ·cases-cons}
 use lib.ListN.{length}
-use lib.Dec.{ltb, leb}
-use borrow.Author.Tests.{ltb-true, leb-true}
-use Rattle.logic.specs.Search.{_and_, from, at, flatMap}
+use Rattle.logic.specs.Search.{from, at, flatMap}
 use Rattle.logic.specs.Query.{termCount, Role, Form, signRole, termRole, fourSections, booleanSection, fiveSections, sections, Layout, parts, firstByte, section, queryOf}
-use Rattle.theory.proofs.Basics.Search.{and-left, and-right}
 use Rattle.theory.proofs.Query.Tied.{InTerms}
 use Rattle.theory.proofs.Query.Bytes.{Allows, Allowed, Excesses, three-number, retired-number}
-use Rattle.theory.proofs.Query.AcceptedBytes.{Passes, Orderly, LaidOut, four-excesses, form-laid, laid-accepted}
+use Rattle.theory.proofs.Query.AcceptedBytes.{Passes, Orderly, LaidOut, four-excesses, form-laid, laid-accepted, term-allows}
 use Rattle.between.specs.Meaning.{BetweenLiteral}
 use Rattle.between_search.specs.Bytes.{betweenSection, sixSections, sixLayout, triples, betweensOf, decodeSix}
 use Rattle.between_search.proofs.OneLink.{AcceptedSix}
@@ -29,12 +25,6 @@ triples-allowed sign x y z (suc c) i (s ∷ a ∷ b ∷ []) e h l m = absurd (Li
 triples-allowed sign x y z (suc c) i (s ∷ a ∷ b ∷ d ∷ rest) e h l m =
     ⊎-elim (λ q. (rw q (h .1 .0), rw q (h .1 .1 .0), rw q (h .1 .1 .1 .0))) (triples-allowed sign x y z c (suc i) rest (omega arith) (h .1 .1 .1 .1) l)
     (List·Memᴰ·cases-cons m)
-
-term-allows : (n b : ℕ) → Allows (termRole n) b → (1 ≤ b) × (b ≤ n)
-unfolding termRole
-term-allows n b h =
-    let e : ltb 0 b and leb b n ≡ true = h (omega arith) in
-    (ltb-true 0 b (and-left (ltb 0 b) (leb b n) e), leb-true b n (and-right (ltb 0 b) (leb b n) e))
 
 -- the sections behind the first four
 abbrev behind : Form

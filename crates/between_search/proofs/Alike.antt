@@ -7,12 +7,12 @@ use mathlib.Core.Bool.{Bool, not, cond, _&&_, _||_}
 use lib.Dec.{eqb, ltb, leb}
 use Rattle.logic.specs.Search.{_or_, from}
 use Rattle.logic.specs.Query.{Literal, namesNil}
-use Rattle.theory.proofs.Basics.Search.{bool-cases, from-mem}
+use Rattle.theory.proofs.Basics.Search.{bool-cases, from-mem, any-alike}
 use Rattle.between.specs.Meaning.{BetweenLiteral, BetweenQuery}
 use Rattle.between.proofs.SmallModel.{AcceptedBetween}
 use Rattle.between_search.specs.Tests.{steps, agrees, duePair, dueTriple, pairBreaks, tripleBreaks, nilBreaks, opposed, fieldBreaks, isFresh, used, breaks}
 use Rattle.between_search.proofs.StepCounts.{steps-alike}
-use Rattle.between_search.proofs.Due.{any-alike, due-left, due-right, due-from, due-middle, due-to}
+use Rattle.between_search.proofs.Due.{due-left, due-right, due-from, due-middle, due-to}
 
 -- how many nodes are named
 pub used-alike : (node node′ : ℕ → ℕ) (t : ℕ) → ((u : ℕ) → 1 ≤ u → u ≤ t → node u ≡ node′ u) → used node t ≡ used node′ t

@@ -1,8 +1,8 @@
 -- Tests that are written with the library's `&&`, and the literals that are due.
 use Prim.Native.Nat.{ℕ, _≤_}
 use native.Mathlib.Omega.{arith}
-use mathlib.Core.Path.{_≡_, refl, sym, ap₂}
-use mathlib.Core.Logic.{_↔_, _⊎_, ⊎-elim, inl, inr}
+use mathlib.Core.Path.{_≡_, refl, sym}
+use mathlib.Core.Logic.{_↔_, ⊎-elim}
 use mathlib.Core.Bool.{Bool, true, false, _&&_, _||_, false≢true}
 use mathlib.Core.List.{List, [], _∷_, List·Memᴰ, List·Memᴰ·head, List·Memᴰ·tail}
 use lib.Dec.{eqb, leb}
@@ -36,28 +36,14 @@ pub either-right : (a : Bool) {b : Bool} → b ≡ true → a || b ≡ true
 either-right true e = refl
 either-right false e = e
 
-pub one-of : (a b : Bool) → a || b ≡ true → (a ≡ true) ⊎ (b ≡ true)
-one-of true b h = inl refl
-one-of false b h = inr h
-
 pub not-both : {a b : Bool} → a && b ≡ false → a ≡ true → b ≡ false
 not-both {a = true} h e = h
 not-both {a = false} h e = absurd (false≢true e)
-
-pub no-or : (a b : Bool) → a or b ≡ false → (a ≡ false) × (b ≡ false)
-unfolding _or_
-no-or true b h = absurd (false≢true (sym h))
-no-or false b h = (refl, h)
 
 pub or-no : {a b : Bool} → a ≡ false → b ≡ false → a or b ≡ false
 unfolding _or_
 or-no {a = true} e h = absurd (false≢true (sym e))
 or-no {a = false} e h = h
-
-pub any-alike : {A : Type 0} (p q : A → Bool) (xs : List A) → ((x : A) → List·Memᴰ x xs → p x ≡ q x) → any p xs ≡ any q xs
-unfolding any
-any-alike p q [] h = refl
-any-alike p q (x ∷ xs) h = ap₂ (λ (a b : Bool). a or b) (h x (List·Memᴰ·head refl)) (any-alike p q xs (λ y m. h y (List·Memᴰ·tail m)))
 
 pub any-none : {A : Type 0} (p : A → Bool) (xs : List A) → ((x : A) → List·Memᴰ x xs → p x ≡ false) → any p xs ≡ false
 unfolding any

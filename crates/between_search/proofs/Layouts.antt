@@ -9,20 +9,13 @@ use lib.Seq.{take-append-le, drop-append-le}
 use lib.Dec.{leb}
 use borrow.Author.Tests.{leb-true, le-leb}
 use Rattle.logic.specs.Query.{Section, fourSections, fiveSections, sections, Layout, faulty, parts, withPart, layout, firstByte, layoutBy, layoutOf, section, queryOf, decode}
+use Rattle.theory.proofs.Query.Bytes.{faulty-parts, withPart-parts}
 use Rattle.between_search.specs.Bytes.{betweenSection, sixSections, sixLayout, triples, betweensOf, decodeSix}
 
 -- parts in front of what a layout has
 unfoldable pub prepend : List (List ℕ) → Layout → Layout
 prepend [] l = l
 prepend (p ∷ ps) l = withPart p (prepend ps l)
-
-pub faulty-parts : {k place : ℕ} {ps : List (List ℕ)} → faulty k place ≡ parts ps → ⊥
-faulty-parts e = let z : _≡_ {A = ℕ} 0 1 = cc in omega arith
-
-pub withPart-parts : (p : List ℕ) (l : Layout) (ps : List (List ℕ)) → withPart p l ≡ parts ps → (qs : List (List ℕ)) × (l ≡ parts qs) × (ps ≡ p ∷ qs)
-unfolding withPart
-withPart-parts p (faulty k place) ps h = absurd (faulty-parts h)
-withPart-parts p (parts qs) ps h = (qs, refl, cc)
 
 pub cond-parts : (b : Bool) (l : Layout) (k place : ℕ) (ps : List (List ℕ)) → cond b l (faulty k place) ≡ parts ps → (b ≡ true) × (l ≡ parts ps)
 cond-parts true l k place ps h = (refl, h)

@@ -1,8 +1,8 @@
 -- The call keeps its promise (02, R-10).
-use Prim.Native.Nat.{ℕ, zero, suc, _+_, _-_, _≤_, _<_}
+use Prim.Native.Nat.{ℕ, zero, suc, _-_, _≤_, _<_}
 use native.Mathlib.Omega.{arith}
 use mathlib.Core.Path.{_≡_, refl, sym, ap, ap₂, _∙_, subst, subst₂}
-use mathlib.Core.Logic.{_↔_, _⊎_, ⊎-elim}
+use mathlib.Core.Logic.{_↔_, ⊎-elim}
 use mathlib.Core.Bool.{true, false, _&&_}
 use mathlib.Core.List.{List, [], _∷_, _++_, map, List·Memᴰ, List·Memᴰ·head, List·Memᴰ·tail, List·Memᴰ·not-nil, Memᴰ·append-left, Memᴰ·append-right}
 use mathlib.Core.Option.{Option, none, some, Option·elim}
@@ -17,7 +17,7 @@ use Rattle.logic.specs.Heap.{Heap, IsHeap, Meets, Satisfiable, value}
 use Rattle.logic.specs.Shown.{heapIn, wellFormed}
 use Rattle.logic.specs.Calls.{Input, Check, roomCheck, oneLinkForm, Answer, refused, satisfiable, refuted, Outcome, refusalOf, accepts, padded, blank, verdictCall}
 use Rattle.logic.specs.Demands.{NotRefused, FirstStands}
-use Rattle.theory.proofs.Basics.Search.{keep-none}
+use Rattle.theory.proofs.Basics.Search.{keep-none, any-alike}
 use Rattle.theory.proofs.Completeness.Placed.{length-from}
 use Rattle.theory.proofs.Query.AcceptedBytes.{Passes, form-passes, query-passes, laid-out, sections-excesses}
 use Rattle.theory.proofs.Calls.CheckingOrder.{first-unique, first-stands, refusal-first}
@@ -31,7 +31,6 @@ use Rattle.between_search.specs.Search.{Found, entry, heapFound, reportO
 use Rattle.between_search.specs.Calls.{given, searched, betweenCall}
 use Rattle.between_search.specs.Promise.{Before, rank, ShowsFirst, BetweenPromised}
 use Rattle.between_search.proofs.Growing.{grown-size, grown-entry}
-use Rattle.between_search.proofs.Due.{any-alike}
 use Rattle.between_search.proofs.Complete.{list-entry}
 use Rattle.between_search.proofs.Sound.{links-in, nodes-in, value-is, found-meets}
 use Rattle.between_search.proofs.Sizes.{FoundFirst, none-right, some-right, first-right, most-cases}

@@ -4,12 +4,11 @@ use native.Mathlib.Omega.{arith}
 use native.Mathlib.Nat.{zero-mul}
 use mathlib.Core.Path.{_≡_, refl, ap, _∙_, subst}
 use mathlib.Core.Bool.{true, _&&_}
-use mathlib.Core.List.{List, [], _∷_, _++_, map, append-assoc}
+use mathlib.Core.List.{List, [], _∷_, _++_, map}
 use lib.ListN.{length, getD, replicate, length-append, length-map, List·getD-append}
-use lib.Seq.{getD-append-add}
 use lib.Dec.{eqb, ltb, leb}
 use borrow.Author.Tests.{ltb-true, leb-true}
-use Rattle.logic.specs.Search.{_and_, from, any}
+use Rattle.logic.specs.Search.{from, any}
 use Rattle.logic.specs.Query.{termCount}
 use Rattle.logic.specs.Facts.{terms}
 use Rattle.logic.specs.Heap.{IsHeap}
@@ -18,7 +17,7 @@ use Rattle.logic.specs.Calls.{padded}
 use Rattle.theory.proofs.Basics.Search.{not-of, and-left, and-right}
 use Rattle.theory.proofs.Completeness.Placed.{length-from, getD-from}
 use Rattle.theory.proofs.Completeness.Byte.{byte-bit}
-use Rattle.theory.proofs.Completeness.ReportBytes.{Laid}
+use Rattle.theory.proofs.Completeness.ReportBytes.{Laid, getD-past, regroup}
 use Rattle.theory.proofs.Completeness.ReportHeap.{heap-size, heap-link, heap-loop, heap-field, heap-listed, node-listed, is-heap, is-formed}
 use Rattle.between.specs.Meaning.{BetweenQuery}
 use Rattle.between_search.specs.Search.{Found, entry, dataByte, reportOf}
@@ -40,9 +39,6 @@ listed-each f k i h = go (from k 1) i (omega (arith, length-from k 1)) ∙ ap f 
     go (x ∷ xs) zero h = refl
     go (x ∷ xs) (suc i) h = go xs i (omega arith)
 
-past : (xs ys : List ℕ) (i k : ℕ) → k ≡ length xs + i → getD (xs ++ ys) k 0 ≡ getD ys i 0
-past xs ys i k e = ap (λ (j : ℕ). getD (xs ++ ys) j 0) e ∙ getD-append-add xs ys i 0
-
 module _ (m n flags : ℕ) (link node datum : ℕ → ℕ) (rest : List ℕ) where
   abbrev behind-data : List ℕ
   behind-data = 1 ∷ flags ∷ rest
@@ -57,13 +53,13 @@ module _ (m n flags : ℕ) (link node datum : ℕ → ℕ) (rest : List ℕ) whe
   bytes = (m ∷ map link (terms m)) ++ behind-links
 
   past-links : (i k : ℕ) → k ≡ m + 1 + i → getD bytes k 0 ≡ getD behind-links i 0
-  past-links i k e = past (m ∷ map link (terms m)) behind-links i k (omega (arith, listed-size link m))
+  past-links i k e = getD-past (m ∷ map link (terms m)) behind-links i k (omega (arith, listed-size link m))
 
   past-nodes : (i k : ℕ) → k ≡ m + n + 2 + i → getD bytes k 0 ≡ getD behind-nodes i 0
-  past-nodes i k e = past-links (n + 1 + i) k (omega arith) ∙ past (n ∷ map node (terms n)) behind-nodes i (n + 1 + i) (omega (arith, listed-size node n))
+  past-nodes i k e = past-links (n + 1 + i) k (omega arith) ∙ getD-past (n ∷ map node (terms n)) behind-nodes i (n + 1 + i) (omega (arith, listed-size node n))
 
   past-data : (i k : ℕ) → k ≡ m + n + m + 3 + i → getD bytes k 0 ≡ getD behind-data i 0
-  past-data i k e = past-nodes (m + 1 + i) k (omega arith) ∙ past (m ∷ map datum (terms m)) behind-data i (m + 1 + i) (omega (arith, listed-size datum m))
+  past-data i k e = past-nodes (m + 1 + i) k (omega arith) ∙ getD-past (m ∷ map datum (terms m)) behind-data i (m + 1 + i) (omega (arith, listed-size datum m))
 
   -- the successors of the one link
   row : (k i : ℕ) → k < 1 → i < m → getD bytes (suc (k * m + i)) 0 ≡ link (suc i)
@@ -86,9 +82,6 @@ module _ (m n flags : ℕ) (link node datum : ℕ → ℕ) (rest : List ℕ) whe
         flags-at = past-data 1 (1 * m + n + m + 4) (omega arith);
         past-at = λ i. past-data (suc (suc i)) (1 * m + n + m + 5 + i) (omega arith);
       }
-
-regroup : (ls ns ds es rest : List ℕ) → (ls ++ (ns ++ (ds ++ es))) ++ rest ≡ ls ++ (ns ++ (ds ++ (es ++ rest)))
-regroup ls ns ds es rest = simp append-assoc
 
 module _ (q : BetweenQuery) (c : Found) (room m : ℕ) (size : entry (c .links) 0 ≡ m) where
   abbrev n : ℕ

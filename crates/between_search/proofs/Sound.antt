@@ -2,14 +2,14 @@
 use Prim.Native.Nat.{ℕ, zero, suc, _+_, _-_, _≤_}
 use native.Mathlib.Omega.{arith}
 use mathlib.Core.Path.{_≡_, refl, sym, ap, _∙_, subst}
-use mathlib.Core.Logic.{_⊎_, ⊎-elim}
+use mathlib.Core.Logic.{⊎-elim}
 use mathlib.Core.Bool.{Bool, true, false, not, cond, _&&_}
 use mathlib.Core.List.{List, [], _∷_, _++_, List·Memᴰ}
 use lib.Dec.{eqb, ltb}
 use Rattle.logic.specs.Search.{any}
 use Rattle.logic.specs.Query.{Literal, argumentOf, termCount}
 use Rattle.logic.specs.Heap.{Heap, IsHeap, Signed, value}
-use Rattle.theory.proofs.Basics.Search.{not-true, any-false}
+use Rattle.theory.proofs.Basics.Search.{not-true, any-false, neither}
 use Rattle.theory.proofs.Basics.Compare.{eqb-intro, eqb-false, le-cases, cond-true, cond-false, ltb-true}
 use Rattle.theory.proofs.Query.Entries.{nil-range}
 use Rattle.theory.proofs.Soundness.Value.{accepted-below, value-variable}
@@ -18,7 +18,7 @@ use Rattle.between_search.specs.Tests.{used, breaks, nilBreaks, fieldBre
 use Rattle.between_search.specs.Search.{entry, lowestNode, highestNode}
 use Rattle.between_search.proofs.Seek.{Grown}
 use Rattle.between_search.proofs.Growing.{prefix-next, Met, grown-met}
-use Rattle.between_search.proofs.Due.{second-of, no-or}
+use Rattle.between_search.proofs.Due.{second-of}
 use Rattle.between_search.proofs.OneLink.{AcceptedSix, reach-one, value-one}
 use Rattle.between_search.proofs.Alike.{breaks-alike}
 use Rattle.between_search.proofs.Tested.{equal-met, reach-met, between-met, nil-rule, fields-met}
@@ -138,11 +138,11 @@ module _ (q : BetweenQuery) (ok : AcceptedSix q) (sorted : Bool) (m : ℕ) (ls n
       apart : (t : ℕ) → 1 ≤ t → t ≤ n → Apart t
       unfolding breaks
       apart t a b =
-          let x = no-or _ _ (passed t a b) in
-          let y = no-or _ _ (x .1) in
-          let z = no-or _ _ (y .1) in
-          let w = no-or _ _ (z .1) in
-          let u = no-or _ _ (w .1) in
+          let x = neither _ _ (passed t a b) in
+          let y = neither _ _ (x .1) in
+          let z = neither _ _ (y .1) in
+          let w = neither _ _ (z .1) in
+          let u = neither _ _ (w .1) in
           record { nil = y .0; field = z .0; equal = w .0; reach = u .0; between = u .1 }
 
       abbrev small : h .size ≤ 5
@@ -166,6 +166,6 @@ module _ (q : BetweenQuery) (ok : AcceptedSix q) (sorted : Bool) (m : ℕ) (ls n
           field-met l k =
               let r = ok .accepted .base .field-term l k in
               let e = value-is (l .right) (r .0) (r .1) in
-              let breaking : (t : ℕ) → 1 ≤ t → t ≤ n → fieldBreaks (q .base .fields) (entry ns) t ≡ false = λ t a b. no-or _ _ (no-or _ _ (no-or _ _ (passes t a b) .1) .1) .0 in
+              let breaking : (t : ℕ) → 1 ≤ t → t ≤ n → fieldBreaks (q .base .fields) (entry ns) t ≡ false = λ t a b. neither _ _ (neither _ _ (neither _ _ (passes t a b) .1) .1) .0 in
               subst (λ (b : Bool). Signed (l .plain) (b ≡ true)) (sym (ap (h .field (l .left)) e ∙ fields (l .left) (entry ns (l .right)) (ok .accepted .base .field-number l k) (nodes-in (l .right) (r .0) (r .1))))
               (fields-met (q .base .fields) (ok .accepted .base .field-number) (entry ns) n (λ b i. ok .accepted .base .field-term b i) breaking l k)

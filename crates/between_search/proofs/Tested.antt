@@ -1,12 +1,12 @@
 -- In a heap of at most five nodes, the tests say what the literals mean.
-use Prim.Native.Nat.{ℕ, _-_, _≤_}
+use Prim.Native.Nat.{ℕ, _≤_}
 use native.Mathlib.Omega.{arith}
 use mathlib.Core.Path.{_≡_, refl, sym, ap, ap₂, _∙_, subst}
 use mathlib.Core.Logic.{_↔_, _⊎_, ⊎-elim, inl, inr}
 use mathlib.Core.Bool.{Bool, true, false, not, _&&_, _||_, false≢true}
 use mathlib.Core.List.{List, List·Memᴰ}
 use lib.Dec.{eqb, leb}
-use Rattle.logic.specs.Search.{_or_, from, any}
+use Rattle.logic.specs.Search.{from, any}
 use Rattle.logic.specs.Query.{Literal, Entries, namesNil}
 use Rattle.logic.specs.Heap.{Heap, IsHeap, Signed, MeansEqual, MeansReach, NilNode, value}
 use Rattle.theory.proofs.Basics.Search.{bool-cases, true-false, any-true, any-intro, any-false, from-intro}

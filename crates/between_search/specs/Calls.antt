@@ -1,7 +1,7 @@
 -- What the call answers, and every byte of what is lent, on every input (02, R-10).
 use Prim.Native.Nat.{ℕ}
 use mathlib.Core.List.{List, []}
-use mathlib.Core.Option.{Option, Option·elim}
+use mathlib.Core.Option.{Option·elim}
 use Rattle.logic.specs.Calls.{Input, Outcome, satisfiable, refuted, refusalOf, padded, blank}
 use Rattle.between.specs.Meaning.{BetweenQuery}
 use Rattle.between_search.specs.Bytes.{decodeSix, betweenChecks}

@@ -35,7 +35,7 @@ pub record Found : Type 0 where
 unfoldable pub entry : List ℕ → ℕ → ℕ
 entry xs i = getD xs i 0
 
--- the nodes that term t can name: any, but for f of a chosen term, "which is not chosen again". Where heaps are looked for that differ in more
+-- the nodes that term t can name: any, but for f of a chosen term, which is not chosen again. Where heaps are looked for that differ in more
 -- than the nodes' numbers (`sorted`), a node that is not named yet has the next number.
 unfoldable pub lowestNode : BetweenQuery → (ℕ → ℕ) → ℕ → (ℕ → ℕ) → ℕ
 lowestNode q link t node =

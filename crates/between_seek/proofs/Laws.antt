@@ -10,7 +10,7 @@ use lib.ListN.{length, getD, set, take, replicate, length-replicate, length-appe
 use lib.Seq.{take-suc-set, length-take-le}
 use lib.Dec.{ltb}
 use borrow.Author.Tests.{eq-eqb, ne-eqb, lt-ltb, le-ltb, ltb-true}
-use Rattle.logic.specs.Search.{_or_, from, any, keep, isSome, firstOf}
+use Rattle.logic.specs.Search.{_or_, from, any, isSome, firstOf}
 use Rattle.logic.specs.Query.{argumentOf, termCount}
 use Rattle.logic.specs.Calls.{padded}
 use Rattle.lent.proofs.Writing.{appends-byte}
@@ -156,15 +156,6 @@ module _ (q : BetweenQuery) where
     where
       one-less : (j : ℕ) → j ≡ j + 1 - 1
       one-less j = omega arith
-
--- what is kept
-pub kept : {A : Type 0} {b : Bool} (a : A) → b ≡ true → keep b a ≡ some a
-unfolding keep
-kept a e = rw e
-
-pub not-kept : {A : Type 0} {b : Bool} (a : A) → b ≡ false → keep b a ≡ none
-unfolding keep
-not-kept a e = rw e
 
 pub fewer : (b : Bool) (k m : ℕ) → b && ltb k m ≡ true → m ≤ 5 → k ≤ 5
 fewer true k m h l = let a = ltb-true k m h in omega (arith, a)

@@ -6,7 +6,7 @@ use native.Mathlib.Nat.{zero-add}
 use native.Mathlib.Decide.{ℕ-discrete}
 use mathlib.Core.Path.{_≡_, refl, sym, ap, ap₂, _∙_, subst}
 use mathlib.Core.Logic.{⊎-elim}
-use mathlib.Core.Bool.{Bool, true, false, not, cond, _&&_, _||_, false≢true}
+use mathlib.Core.Bool.{Bool, true, false, not, cond, _&&_, _||_}
 use mathlib.Core.List.{List}
 use lib.ListN.{length, getD, set}
 use lib.Seq.{getD-set-same, getD-set-other, set-out}
@@ -21,6 +21,7 @@ use Rattle.query.proofs.Literals.{listed, literals-are, entry-is}
 use Rattle.between.specs.Meaning.{BetweenLiteral}
 use Rattle.between_search.specs.Tests.{stepCount, steps, agrees, duePair, dueTriple, pairBreaks, tripleBreaks, nilBreaks, saysField, hasField, opposed, fieldBreaks, isFresh, used}
 use Rattle.between_search.specs.Search.{entry}
+use Rattle.between_search.proofs.Due.{first-of, second-of}
 use Rattle.between_tests.specs.Tables.{Small, literalsIn}
 
 -- Step counts
@@ -79,35 +80,27 @@ module _ {A : Type 0} (g : ℕ → ℕ → A) (d : A) where
 
 -- Literals that are due
 
-pub and-left : (a b : Bool) → a && b ≡ true → a ≡ true
-and-left true b h = refl
-and-left false b h = h
-
-pub and-right : (a b : Bool) → a && b ≡ true → b ≡ true
-and-right true b h = h
-and-right false b h = absurd (false≢true h)
-
 module _ (a b t : ℕ) (h : duePair a b t ≡ true) where
   pub pair-left : a ≤ t
   unfolding duePair
-  pair-left = leb-true a t (and-left (leb a t) (leb b t) (and-left (leb a t && leb b t) _ h))
+  pair-left = leb-true a t (first-of (leb a t) (leb b t) (first-of (leb a t && leb b t) _ h))
 
   pub pair-right : b ≤ t
   unfolding duePair
-  pair-right = leb-true b t (and-right (leb a t) (leb b t) (and-left (leb a t && leb b t) _ h))
+  pair-right = leb-true b t (second-of (leb a t) (leb b t) (first-of (leb a t && leb b t) _ h))
 
 module _ (x y z t : ℕ) (h : dueTriple x y z t ≡ true) where
   pub triple-from : x ≤ t
   unfolding dueTriple
-  triple-from = leb-true x t (and-left (leb x t) (leb y t) (and-left (leb x t && leb y t) _ (and-left ((leb x t && leb y t) && leb z t) _ h)))
+  triple-from = leb-true x t (first-of (leb x t) (leb y t) (first-of (leb x t && leb y t) _ (first-of ((leb x t && leb y t) && leb z t) _ h)))
 
   pub triple-middle : y ≤ t
   unfolding dueTriple
-  triple-middle = leb-true y t (and-right (leb x t) (leb y t) (and-left (leb x t && leb y t) _ (and-left ((leb x t && leb y t) && leb z t) _ h)))
+  triple-middle = leb-true y t (second-of (leb x t) (leb y t) (first-of (leb x t && leb y t) _ (first-of ((leb x t && leb y t) && leb z t) _ h)))
 
   pub triple-to : z ≤ t
   unfolding dueTriple
-  triple-to = leb-true z t (and-right (leb x t && leb y t) _ (and-left ((leb x t && leb y t) && leb z t) _ h))
+  triple-to = leb-true z t (second-of (leb x t && leb y t) _ (first-of ((leb x t && leb y t) && leb z t) _ h))
 
 module _ (link node : ℕ → ℕ) (most t : ℕ) (l : Literal) where
   pub pair-not-due : duePair (l .left) (l .right) t ≡ false → false ≡ pairBreaks link node most t l

@@ -3,18 +3,20 @@ use Prim.Native.Nat.{ℕ}
 use mathlib.Core.Path.{_≡_, refl, sym, ap, _∙_}
 use mathlib.Core.Bool.{Bool}
 use mathlib.Core.List.{List, []}
-use Rattle.logic.specs.Search.{from}
+use lib.Dec.{eqb}
+use Rattle.logic.specs.Search.{_and_, _or_, from}
 use Rattle.logic.specs.Facts.{Graph, Facts, Joined, andThen, join, addReach}
 use Rattle.logic.specs.Rules.{Rule, Fact, branch}
 use Rattle.facts.specs.declared.Facts as code
 use Rattle.rows.specs.declared.Term.{Term}
+use Rattle.rows.specs.Square.{square}
 use Rattle.facts.specs.Path.{pathOf, graphOf, linksIn}
 use Rattle.joins.specs.Pairs.{pairsIn}
 use Rattle.joins.proofs.Joins.{none-before}
 use Rattle.facts.proofs.Path.{alike-graph, reaching, addReach-changed, three, last, graph-first, graph-second, graph-third, set-first, set-second, set-third}
 use Rattle.branch.specs.Alternatives.{alternativeAt}
 use Rattle.branch.specs.Answers.{factOf}
-use Rattle.branch.specs.Rows.{Alternative, Sets, Reached}
+use Rattle.branch.specs.Rows.{Alternative, Reached}
 use Rattle.branch.specs.declared.Fact as found
 use Rattle.branch.specs.declared.Fact.the-variants as fact
 use Rattle.branch.proofs.Steps.{added-equal, added-reaches, alternative-links}
@@ -42,6 +44,10 @@ module _ (k : ℕ) (link link2 link3 : List ℕ) (n : ℕ) (r : Rule) (x y z i :
   by-third d e h single rep reach reach2 reach3 has =
       let s : code.Facts = held single rep link reach link2 reach2 link3 reach3 in
       h ∙ alternative-links k n link3 _ (ap (λ (g : Graph). g .link) (graph-third s k (last s k has d e) (three s k has d))) r x y z i
+
+-- the relation has a and b too
+abbrev Sets : ℕ → ℕ → List ℕ → List ℕ → Type 0
+Sets a b rows later = square later ≡ (λ x y. square rows x y or (eqb x a and eqb y b))
 
 -- a fact added to the rows of link k
 module _ (k a b : ℕ) (reach reach2 reach3 later : List ℕ) where

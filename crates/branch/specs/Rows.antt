@@ -3,11 +3,8 @@ use Prim.Native.Nat.{ℕ}
 use mathlib.Core.Path.{_≡_}
 use mathlib.Core.Bool.{Bool}
 use mathlib.Core.List.{List}
-use lib.Dec.{eqb}
-use Rattle.logic.specs.Search.{_and_, _or_}
 use Rattle.logic.specs.Facts.{addReach}
 use Rattle.logic.specs.Rules.{Rule, Fact}
-use Rattle.rows.specs.Square.{square}
 use Rattle.facts.specs.Path.{pathAs, HasLink}
 use Rattle.branch.specs.Alternatives.{alternativeAt}
 
@@ -17,10 +14,6 @@ Alternative k link link2 link3 n r x y z i fact =
     (single : Bool) (rep reach reach2 reach3 : List ℕ) →
     HasLink (pathAs single rep link reach link2 reach2 link3 reach3) k →
     fact ≡ alternativeAt k n (pathAs single rep link reach link2 reach2 link3 reach3 .graph k) r x y z i
-
--- the relation has a and b too
-abbrev pub Sets : ℕ → ℕ → List ℕ → List ℕ → Type 0
-Sets a b rows later = square later ≡ (λ x y. square rows x y or (eqb x a and eqb y b))
 
 -- any path with these rows has "a reaches b" by link k too
 abbrev pub Reached : ℕ → ℕ → ℕ → List ℕ → List ℕ → List ℕ → List ℕ → List ℕ → List ℕ → Type 0

@@ -16,7 +16,7 @@ ghost use Rattle.joins.specs.Pairs.{joinedIn, joinedOf};
 ghost use Rattle.rules.specs.Answers.{kindOf};
 ghost use Rattle.branch.specs.Answers.{factOf, InRange};
 ghost use Rattle.branch.specs.Alternatives.{countOf, alternativeAt};
-ghost use Rattle.branch.specs.Rows.{Alternative, Sets, Reached};
+ghost use Rattle.branch.specs.Rows.{Alternative, Reached};
 
 // What a rule concludes, of its link.
 pub enum Fact {
@@ -197,16 +197,6 @@ fn alternative_of<'a>(
     alternative(link3, n, k, rule, x, y, z, i)
 }
 
-// The fact about a and b is added to a relation.
-fn set(rows: &mut [u32; 17], a: Term, b: Term)
-    requires { ⌜ (a .0 ≤ 16) × (b .0 ≤ 16) × (length (now rows) ≡ 17) ⌝ }
-    ensures { λ _. ⌜ Sets (a .0) (b .0) (now (rows .entry)) (now (rows .exit)) × (length (now (rows .exit)) ≡ 17) ⌝ }
-{
-    let at = a.0;
-    let added = rows::only(b.0);
-    rows[at] = rows[at] | added;
-}
-
 // "a reaches b" by link k is added to a path, of which these rows change alone.
 fn reach_by(
     reach: &mut [u32; 17],
@@ -220,14 +210,14 @@ fn reach_by(
     ensures { λ _. ⌜ Reached (k .0) (a .0) (b .0) (now (reach .entry)) (now (reach2 .entry)) (now (reach3 .entry)) (now (reach .exit)) (now (reach2 .exit)) (now (reach3 .exit)) × (length (now (reach .exit)) ≡ 17) × (length (now (reach2 .exit)) ≡ 17) × (length (now (reach3 .exit)) ≡ 17) ⌝ }
 {
     if k.0 == 1 {
-        set(reach, a, b);
+        rows::add_to(reach, a, b);
         return;
     }
     if k.0 == 2 {
-        set(reach2, a, b);
+        rows::add_to(reach2, a, b);
         return;
     }
-    set(reach3, a, b);
+    rows::add_to(reach3, a, b);
 }
 
 // Two terms of a path are joined.

@@ -1,28 +1,49 @@
-// The tests of single bytes of a query: what the byte of a term, a sign, a number and a link are held to.
+// The tests of single bytes of a query: what the byte of a term, a sign, a number and a link are held to, and whether one meets refusal k.
 ghost use mathlib.Core.Path.{_≡_};
 ghost use Rattle.logic.specs.Query.{entryRole, signRole};
 ghost use Rattle.logic.specs.ThreeLinks.{isLink, mayPrecede};
-ghost use Rattle.byte_tests.specs.Meets.{countedRole, meets};
+ghost use Rattle.byte_tests.specs.Meets.{counted, countedRole, meets};
 
 // "A term byte is not below its own term's number." 255 names nil (02, R-3).
+pub fn entry_allowed(term: usize, byte: usize) -> bool
+    ensures { λ b. ⌜ b ≡ entryRole term .allows byte ⌝ }
+{
+    (byte < term) | (byte == 255)
+}
+
 pub fn entry_refused(k: usize, term: usize, byte: usize) -> bool
     ensures { λ b. ⌜ b ≡ meets (entryRole term) k byte ⌝ }
 {
-    (5 == k) & !((byte < term) | (byte == 255))
+    let allowed = entry_allowed(term, byte);
+    (5 == k) & !allowed
 }
 
 // "A sign is neither 0 nor 1."
+pub fn sign_allowed(byte: usize) -> bool
+    ensures { λ b. ⌜ b ≡ signRole .allows byte ⌝ }
+{
+    byte < 2
+}
+
 pub fn sign_refused(k: usize, byte: usize) -> bool
     ensures { λ b. ⌜ b ≡ meets signRole k byte ⌝ }
 {
-    (6 == k) & !(byte < 2)
+    let allowed = sign_allowed(byte);
+    (6 == k) & !allowed
 }
 
-// A number is not 1 to `most`; its refusal is `own`.
+// A number is 1 to `most`, or meets its refusal, `own`.
+pub fn number_allowed(most: usize, byte: usize) -> bool
+    ensures { λ b. ⌜ b ≡ counted most byte ⌝ }
+{
+    (0 < byte) & (byte <= most)
+}
+
 pub fn number_refused(k: usize, own: usize, most: usize, byte: usize) -> bool
     ensures { λ b. ⌜ b ≡ meets (countedRole own most) k byte ⌝ }
 {
-    (own == k) & !((0 < byte) & (byte <= most))
+    let allowed = number_allowed(most, byte);
+    (own == k) & !allowed
 }
 
 // "a reachability link not 1 to 3"

@@ -4,7 +4,7 @@ ghost use mathlib.Core.Logic.{_⊎_};
 ghost use Prim.Native.Nat.{_+_, _*_, _≤_, _<_};
 ghost use Rattle.call_limits.specs.Forms.{formOf};
 
-// "n times n plus n rule steps", and with three links "3 n n + n" (02, R-11)
+// "n times n plus n rule steps", and with three links "3 times n times n, plus n" (02, R-11)
 pub fn limit(links: usize, n: usize) -> usize
     requires { ⌜ (links ≤ 3) × (n ≤ 16) ⌝ }
     ensures { λ r. ⌜ r ≡ links * (n * n) + n ⌝ }

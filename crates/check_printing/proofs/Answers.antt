@@ -10,7 +10,6 @@ use lib.ListN.{length, getD, take, drop, length-drop, drop-of-length-le}
 use lib.Seq.{take-all, take-nil}
 use lib.Dec.{eqb, ltb}
 use borrow.Author.Tests.{lt-ltb, le-ltb, eqb-true}
-use Rattle.logic.specs.Search.{_and_}
 use Rattle.theory.proofs.Basics.Search.{and-right, none-some, keep-some}
 use Rattle.theory.proofs.Basics.Compare.{le-cases}
 use Rattle.text.specs.Text.{Writes, ascii, decimal, isDigit}

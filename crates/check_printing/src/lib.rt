@@ -2,7 +2,7 @@
 use checker::CheckAnswer;
 ghost use mathlib.Core.Path.{_≡_};
 ghost use mathlib.Core.Bool.{false};
-ghost use Prim.Native.Nat.{ℕ, _+_, _≤_, _<_, min};
+ghost use Prim.Native.Nat.{_+_, _≤_, _<_, min};
 ghost use lib.ListN.{length, take};
 ghost use Rattle.text.specs.Text.{Writes, isDigit};
 ghost use Rattle.checking.specs.CheckCall.{checkCall};

@@ -9,15 +9,14 @@ use Rattle.logic.specs.Query.{Query, decode, termCount}
 use Rattle.logic.specs.Facts.{Joined}
 use Rattle.logic.specs.Derivation.{linesIn}
 use Rattle.logic.specs.Calls.{accepts}
-use Rattle.logic.specs.Calls as calls
 use Rattle.theory.proofs.Query.Tied.{Accepted}
 use Rattle.theory.proofs.Query.AcceptedBytes as acceptance
 use Rattle.theory.proofs.Paths.Start.{start-tied}
 use Rattle.theory.proofs.Calls.OneLink.{limit-one}
 use Rattle.query.specs.LaysOut.{LaysOut}
-use Rattle.query.specs.Answers.{CheckedAs}
+use Rattle.query_checks.specs.Answers.{CheckedAs}
 use Rattle.query.specs.declared.Layout.{Layout}
-use Rattle.query.specs.declared.Checked.the-variants as checked
+use Rattle.query_checks.specs.declared.Checked.the-variants as checked
 use Rattle.link_query.specs.Said.{said}
 use Rattle.link_query.proofs.Said.{one-said}
 use Rattle.start.specs.Started.{started}

@@ -4,13 +4,14 @@ use native.Mathlib.Omega.{arith}
 use native.Mathlib.Numerals.{add-one}
 use mathlib.Core.Path.{_≡_, refl, sym, ap, _∙_, subst}
 use mathlib.Core.Bool.{true, false, true≢false}
-use mathlib.Core.List.{List, [], _∷_, _++_, map, List·Memᴰ, List·Memᴰ·head, List·Memᴰ·tail}
+use mathlib.Core.List.{List, [], _∷_, _++_, map}
 use mathlib.Core.Option.{Option, none, some}
 use lib.ListN.{length, getD, drop, length-map}
 use Rattle.logic.specs.Query.{Query, termCount}
 use Rattle.logic.specs.Facts.{Facts, Joined, Line, joinLines}
 use Rattle.logic.specs.Rules.{Rule, triple, Move, move, Fact, equal, alternatives, applies, branch, add}
 use Rattle.theory.proofs.Query.Tied.{Accepted}
+use Rattle.theory.proofs.Basics.Count.{getD-mem}
 use Rattle.branch.specs.Alternatives.{countOf, alternativeAt}
 use Rattle.branch.proofs.Alternatives.{count-is, alternative-is}
 use Rattle.checking.specs.Fitting.{Goal, goalOf, goalsOf}
@@ -32,11 +33,6 @@ drop-all [] zero h = refl
 drop-all [] (suc i) h = refl
 drop-all (x ∷ xs) zero h = absurd (omega arith)
 drop-all (x ∷ xs) (suc i) h = drop-all xs i (omega arith)
-
-getD-member : {A : Type 0} (xs : List A) (i : ℕ) (d : A) → i < length xs → List·Memᴰ (getD xs i d) xs
-getD-member [] i d h = absurd (omega arith)
-getD-member (x ∷ xs) zero d h = List·Memᴰ·head refl
-getD-member (x ∷ xs) (suc i) d h = List·Memᴰ·tail (getD-member xs i d (omega arith))
 
 resumed-true : (q : Query) (bytes : List ℕ) (gs : List Goal) (r : Judged) (k : ℕ) → r .fits ≡ true → r .at ≡ k → wrongAt q bytes gs k ≡ resumed q bytes gs r
 unfolding resumed
@@ -165,7 +161,7 @@ module _ (q : Query) (bytes : List ℕ) (count : ℕ) (s : Facts) (at : ℕ) (ru
   unfolding add
   branch-ahead ok left ahead app i j l e =
       subst (λ (k : Joined). Ahead q (k .facts) (left - 1)) (same-branch i j l e)
-      (ahead-next q ok s left ahead m app (getD (alternatives (termCount q) (s .graph) m) i other) (getD-member (alternatives (termCount q) (s .graph) m) i other (omega (arith, many))))
+      (ahead-next q ok s left ahead m app (getD (alternatives (termCount q) (s .graph) m) i other) (getD-mem (alternatives (termCount q) (s .graph) m) i other (omega (arith, many))))
 
 -- what is read, once the code's answer is known
 pub reading-is : {A B : Type 0} (f : A → B) (v v′ : A) (l : B) → f v ≡ l → v ≡ v′ → l ≡ f v′

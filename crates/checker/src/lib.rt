@@ -4,8 +4,8 @@ use facts::Facts;
 use facts::Link;
 use joins::Joined;
 use joins::Pairs;
-use query::Checked;
 use query::Layout;
+use query_checks::Checked;
 use rows::Term;
 use rules::Numbered;
 use rules::Rule;
@@ -301,14 +301,6 @@ fn is_shaped(derivation: &[u8]) -> bool
     (length == 2 + 4 * count) & (count <= 16000)
 }
 
-// "n times n plus n rule steps"
-fn limit(n: usize) -> usize
-    requires { ⌜ n ≤ 16 ⌝ }
-    ensures { λ r. ⌜ r ≡ n * n + n ⌝ }
-{
-    n * n + n
-}
-
 // The lines of a query that passes its checks, from its start.
 fn judge(query: &[u8], layout: Layout, derivation: &[u8]) -> CheckAnswer
     requires { ⌜ LaysOut layout (now query) × (accepts (now query) ≡ true) × (shapely (now derivation) ≡ true) ⌝ }
@@ -322,7 +314,7 @@ fn judge(query: &[u8], layout: Layout, derivation: &[u8]) -> CheckAnswer
         layout,
         derivation,
         count,
-        limit(n),
+        call_limits::limit(1, n),
         goal.pairs,
         &goal.rep,
         &goal.link,
@@ -343,7 +335,7 @@ fn judge(query: &[u8], layout: Layout, derivation: &[u8]) -> CheckAnswer
 pub fn check(query: &[u8], derivation: &[u8]) -> CheckAnswer
     ensures { λ r. ⌜ meaning r ≡ checkCall (now (query .entry)) (now (derivation .entry)) ⌝ }
 {
-    match query::check(query) {
+    match query_checks::check(query) {
         Checked::Refused(k, place) => CheckAnswer::Refused(k, place),
         Checked::Accepted(layout) => {
             if !is_shaped(derivation) {

@@ -2,23 +2,18 @@
 use Prim.Native.Nat.{ℕ, _+_, _*_, _≤_}
 use native.Mathlib.Omega.{arith}
 use borrow.Author.Tests.{ltb-false}
-use mathlib.Core.Path.{_≡_, sym}
-use mathlib.Core.Bool.{Bool, true, false, not, false≢true}
+use mathlib.Core.Path.{_≡_}
+use mathlib.Core.Bool.{false, not}
 use mathlib.Core.List.{List}
 use lib.ListN.{length}
 use lib.Dec.{eqb, ltb}
-use Rattle.logic.specs.Search.{_or_}
+use Rattle.theory.proofs.Basics.Search.{neither}
 use Rattle.checking.specs.CheckCall.{wrong, countIn, misshapen, checkCall}
 use Rattle.checking.proofs.Claims.{claims}
 
-or-right : (a b : Bool) → a or b ≡ false → b ≡ false
-unfolding _or_
-or-right false b e = e
-or-right true b e = absurd (false≢true (sym e))
-
 shaped-few : (bytes : List ℕ) → misshapen bytes ≡ false → countIn bytes ≤ 16000
 unfolding misshapen
-shaped-few bytes h = ltb-false 16000 (countIn bytes) (or-right (not (eqb (length bytes) (2 + 4 * countIn bytes))) (ltb 16000 (countIn bytes)) h)
+shaped-few bytes h = ltb-false 16000 (countIn bytes) (neither (not (eqb (length bytes) (2 + 4 * countIn bytes))) (ltb 16000 (countIn bytes)) h .1)
 
 pub wrong-limit : (query derivation : List ℕ) (k : ℕ) → checkCall query derivation ≡ wrong k → k ≤ 16001
 wrong-limit query derivation k h =

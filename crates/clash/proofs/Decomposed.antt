@@ -1,14 +1,21 @@
 -- The search for a clash goes by sections.
 use Prim.Native.Nat.{ℕ}
 use mathlib.Core.Path.{_≡_, refl, sym, ap, ap₂, _∙_, fun-ext}
-use mathlib.Core.Bool.{Bool, true, false}
+use mathlib.Core.Bool.{Bool}
 use mathlib.Core.List.{List, [], _∷_, _++_, map}
 use mathlib.Core.Option.{Option, none, some}
 use lib.ListN.{length}
 use Rattle.logic.specs.Search.{_and_, _or_, from, keep, orElse, firstOf, find, flatMap}
 use Rattle.logic.specs.Query.{Literal, Query}
 use Rattle.logic.specs.Facts.{Facts, Line, line, negatedAt, plainAt, isClash, clashLines, clash}
-use Rattle.clash.specs.Sections.{oneTerm, reachHeld, sameField, alone, paired, pathClash}
+use Rattle.theory.proofs.Basics.Search.{or-false}
+use Rattle.literal_tests.specs.Tests.{oneTerm, reachHeld, sameField}
+use Rattle.clash.specs.Sections.{alone, paired}
+
+-- the clash of a path
+unfoldable pub pathClash : Query → Facts → Option Line
+pathClash q s =
+    orElse (alone 2 (q .equalities) (oneTerm (s .rep))) (orElse (alone 3 (q .reachability) (reachHeld s)) (paired 4 (q .fields) (sameField (s .rep))))
 
 -- Searches of lists that are made of lists
 
@@ -33,11 +40,6 @@ module _ {A : Type 0} (p : A → Bool) where
   unfolding find firstOf flatMap
   find-flatMap f [] = refl
   find-flatMap f (x ∷ xs) = find-append (f x) (flatMap f xs) ∙ ap (orElse (find p (f x))) (find-flatMap f xs)
-
-or-false : (b : Bool) → b or false ≡ b
-unfolding _or_
-or-false true = refl
-or-false false = refl
 
 module _ (q : Query) (s : Facts) where
   -- what makes a line of each section a clash

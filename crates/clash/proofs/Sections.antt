@@ -9,7 +9,7 @@ use lib.ListN.{length}
 use Rattle.logic.specs.Search.{_and_, from, at, holdsOf, keep, orElse, firstOf, find}
 use Rattle.logic.specs.Query.{Literal}
 use Rattle.logic.specs.Facts.{Line, line, negatedAt, plainAt}
-use Rattle.theory.proofs.Basics.Search.{none-some, firstOf-empty}
+use Rattle.theory.proofs.Basics.Search.{none-some, firstOf-empty, keep-true, keep-false}
 use Rattle.rows.proofs.Loops.{first-end, first-here, first-next, find-end, find-here, find-next}
 use Rattle.query.proofs.Literals.{listed, listed-length, listed-at}
 use Rattle.clash.specs.Sections.{alone, partner, paired}
@@ -36,14 +36,6 @@ module _ {A B : Type 0} (p : A → Bool) (f : A → B) where
   unfolding find firstOf
   first-some [] a e = absurd (none-some e)
   first-some (x ∷ xs) a e = turn-some f (p x) x a _ _ (first-some xs a) e
-
-keep-true : {A : Type 0} {t : Bool} (a : A) → t ≡ true → keep t a ≡ some a
-unfolding keep
-keep-true a e = rw e
-
-keep-false : {A : Type 0} {t : Bool} (a : A) → t ≡ false → keep t a ≡ none
-unfolding keep
-keep-false a e = rw e
 
 -- what each search asks of a place, and what is left of it from a place on
 module _ (ls : List Literal) (count : ℕ) where

@@ -12,7 +12,7 @@ use lib.Dec.{eqb}
 use Rattle.logic.specs.Search.{_and_, _or_}
 use Rattle.logic.specs.Facts.{Graph, Facts, live}
 use Rattle.logic.specs.Decision.{Follows, is-held, itself, by-link, onward, Closes}
-use Rattle.theory.proofs.Basics.Search.{true-false, and-left, and-right, and-intro, or-cases, or-left, or-right}
+use Rattle.theory.proofs.Basics.Search.{true-false, and-left, and-right, and-intro, or-cases, or-left, or-right, and-false}
 use Rattle.theory.proofs.Basics.Compare.{eq-cases, eqb-true, eqb-self, le-cases}
 use Rattle.theory.proofs.Paths.Ranged.{live-range}
 use Rattle.rows.specs.Bits.{bit}
@@ -21,7 +21,11 @@ use Rattle.facts.specs.Path.{graphOf, noFacts, graphs, pathAs, replacedBy, HasL
 use Rattle.rows.proofs.Bits.{bit-and, bit-or, bit-none}
 use Rattle.rows.proofs.Square.{row-or, row-in, row-beyond, row-none, square-row, square-in, square-above, square-beside, set-same, set-other}
 use Rattle.closing.specs.Closed.{Closed}
-use Rattle.closing.specs.Rows.{Within, Above, Seeded, Passed, OnwardBelow, Onward, LinkClosed}
+use Rattle.closing.specs.Rows.{Within, Above, Seeded, Passed, Onward, LinkClosed}
+
+-- what TRANS2 concludes through the numbers below k is in the rows
+abbrev pub OnwardBelow : List ℕ → ℕ → Type 0
+OnwardBelow rows k = (a b c : ℕ) → b < k → square rows a b ≡ true → square rows b c ≡ true → square rows a c ≡ true
 
 module _ (rows : List ℕ) (full : length rows ≡ 17) (a w : ℕ) (h : a ≤ 16) where
   abbrev rows′ : List ℕ
@@ -60,11 +64,6 @@ module _ (rows : List ℕ) (full : length rows ≡ 17) (a w : ℕ) (h : a ≤ 16
 
 pub within-first : (alive : ℕ → Bool) (link : ℕ → ℕ → Bool) (rows : List ℕ) → Within alive link (square rows) rows
 within-first alive link rows a b e = is-held e
-
-and-none : (t : Bool) → t and false ≡ false
-unfolding _and_
-and-none true = refl
-and-none false = refl
 
 -- a bit of row a is a fact, where it speaks of a number up to 16
 bit-square : (rows : List ℕ) (a y : ℕ) → a ≤ 16 → y ≤ 16 → bit (getD rows a 0) y ≡ true → square rows a y ≡ true
@@ -130,7 +129,7 @@ through-row rows out y a w full la ly same e b =
     inside l = row-in w b l ∙ e b ∙ ap₂ (λ (x z : Bool). x and z) (sym (square-in out a y la ly) ∙ same y) (sym (square-in rows y b ly l))
 
     outside : 16 < b → rowOf w b ≡ square rows a y and square rows y b
-    outside l = row-beyond w b l ∙ sym (ap (λ (z : Bool). square rows a y and z) (square-beside rows y b l) ∙ and-none (square rows a y))
+    outside l = row-beyond w b l ∙ sym (ap (λ (z : Bool). square rows a y and z) (square-beside rows y b l) ∙ and-false (square rows a y))
 
 -- after the rows below a
 pub through-more : (rows out : List ℕ) (y a w : ℕ) → length out ≡ 17 → a ≤ 16 → y ≤ 16 → ((x b : ℕ) → x < a → square out x b ≡ square rows x b or (square rows x y and square rows y b)) → ((x b : ℕ) → a ≤ x → square out x b ≡ square rows x b) → ((i : ℕ) → bit w i ≡ bit (getD out a 0) y and bit (getD rows y 0) i) → (x b : ℕ) → x < a + 1 → square (set out a (bitOr (getD out a 0) w)) x b ≡ square rows x b or (square rows x y and square rows y b)
@@ -155,7 +154,7 @@ through-all rows out y done a b =
 -- where y reaches nothing
 pub through-none : (rows : List ℕ) (y : ℕ) → y ≤ 16 → getD rows y 0 ≡ 0 → Passed rows rows y
 unfolding _or_
-through-none rows y h e a b = sym (ap (λ (z : Bool). square rows a b or (square rows a y and z)) empty ∙ ap (λ (z : Bool). square rows a b or z) (and-none (square rows a y)) ∙ or-none (square rows a b))
+through-none rows y h e a b = sym (ap (λ (z : Bool). square rows a b or (square rows a y and z)) empty ∙ ap (λ (z : Bool). square rows a b or z) (and-false (square rows a y)) ∙ or-none (square rows a b))
   where
     empty : square rows y b ≡ false
     empty = ap (λ (r : ℕ → Bool). r b) (square-row rows y h) ∙ ap (λ (w : ℕ). rowOf w b) e ∙ row-none b

@@ -1,9 +1,9 @@
 -- A walk whose order list begins with REFLEX, TRANS1 and TRANS2 comes to the closed path, by whatever steps: each adds one fact that the
 -- closed path holds, and only there do the rules behind them have their turn.
-use Prim.Native.Nat.{ℕ, zero, suc, _-_, _≤_}
+use Prim.Native.Nat.{ℕ, zero, suc, _≤_}
 use native.Mathlib.Omega.{arith}
 use mathlib.Core.Path.{_≡_, refl, sym, ap, _∙_, subst}
-use mathlib.Core.Logic.{_⊎_, ⊎-elim}
+use mathlib.Core.Logic.{⊎-elim}
 use mathlib.Core.Bool.{Bool, true, false}
 use mathlib.Core.List.{List, [], _∷_, _++_, List·Memᴰ, List·Memᴰ·head}
 use mathlib.Core.Option.{Option, none, some, Option·elim}
@@ -14,7 +14,7 @@ use Rattle.logic.specs.Facts.{Facts, Line, linkNumbers, live, unjoined, addReac
 use Rattle.logic.specs.Rules.{Rule, REFLEX, TRANS1, TRANS2, FUNC, CYCLE, SCC, TOTAL, SHARE, Triple, triple, Move, move, Fact, reaches, conditions, alternatives, held, hasLink, applies, branch, add, branches, triples, choose}
 use Rattle.logic.specs.Walk.{look, clashing, applying, saturated, saturation, after, walk}
 use Rattle.logic.specs.OurWalk.{Walks, goes-on, WalksEach, saturated-first}
-use Rattle.logic.specs.Steps.{Step, Steps, at-first, one-more, AtMost}
+use Rattle.logic.specs.Steps.{Step, at-first, one-more, AtMost}
 use Rattle.logic.specs.Decision.{HasHeap, Follows, is-held, itself, by-link, onward, Closes}
 use Rattle.theory.proofs.Basics.Search.{bool-cases, true-false, not-of, and-left, and-right, and-intro, or-cases, or-left, none-some, keep-some, keep-none, any-false, firstOf-some, firstOf-none, firstOf-empty, firstOf-skip, from-mem, from-intro, map-intro}
 use Rattle.theory.proofs.Basics.Compare.{eqb-true}
@@ -22,7 +22,7 @@ use Rattle.theory.proofs.Query.Tied.{Accepted}
 use Rattle.theory.proofs.Paths.Ranged.{InRange, Ranged, live-range}
 use Rattle.theory.proofs.Paths.Applies.{hasLink-range, hasLink-intro, applies-linked, applies-met, applies-new, applies-intro}
 use Rattle.theory.proofs.Walks.Order.{HoldsAll, triples-full, choose-some}
-use Rattle.theory.proofs.Walks.OurWalk.{walks-unique, walk-walks}
+use Rattle.theory.proofs.Walks.OurWalk.{walks-unique, walk-walks, steps-first}
 use Rattle.theory.proofs.Calls.Decision.{Known, clash-none, branch-known, heap-closed, walk-saturation, closed-known}
 use Rattle.closing.specs.Closed.{Closed, closing, Begins}
 
@@ -160,12 +160,6 @@ pub look-rest : (q : Query) (order rest : List Rule) → Begins order rest → (
 unfolding look
 look-rest q order rest b t closed =
     ap (λ (o : Option Move). Option·elim (clash q t) (Option·elim o saturated applying) clashing) (choose-rest (termCount q) t order rest b (λ i in-range r k u m. closed-idle (termCount q) t closed i r k u))
-
--- Steps in front of others
-
-steps-first : {n k : ℕ} {s s′ s″ : Facts} → Step n s s′ → Steps n s′ k s″ → Steps n s (suc k) s″
-steps-first step at-first = one-more at-first step
-steps-first step (one-more steps last) = one-more (steps-first step steps) last
 
 -- The closed path
 

@@ -1,5 +1,5 @@
 -- Rows of reachability facts between those of a path and those that follow from it.
-use Prim.Native.Nat.{ℕ, _≤_, _<_}
+use Prim.Native.Nat.{ℕ, _≤_}
 use mathlib.Core.Path.{_≡_}
 use mathlib.Core.Bool.{Bool, true}
 use mathlib.Core.List.{List}
@@ -23,10 +23,7 @@ Seeded alive link rows = ((a b : ℕ) → link a b ≡ true → square rows a b 
 abbrev pub Passed : List ℕ → List ℕ → ℕ → Type 0
 Passed later rows y = (a b : ℕ) → square later a b ≡ square rows a b or (square rows a y and square rows y b)
 
--- what TRANS2 concludes is in the rows: through the numbers below k, and through any
-abbrev pub OnwardBelow : List ℕ → ℕ → Type 0
-OnwardBelow rows k = (a b c : ℕ) → b < k → square rows a b ≡ true → square rows b c ≡ true → square rows a c ≡ true
-
+-- what TRANS2 concludes is in the rows
 abbrev pub Onward : List ℕ → Type 0
 Onward rows = (a b c : ℕ) → square rows a b ≡ true → square rows b c ≡ true → square rows a c ≡ true
 

@@ -1,7 +1,7 @@
 // A path closed under the rules that neither branch nor join: REFLEX, TRANS1 and TRANS2, all at once.
 use facts::Facts;
 ghost use mathlib.Core.Path.{_≡_};
-ghost use mathlib.Core.Bool.{Bool, true};
+ghost use mathlib.Core.Bool.{Bool};
 ghost use Prim.Native.Nat.{ℕ, _≤_};
 ghost use lib.ListN.{length};
 ghost use Rattle.logic.specs.Search.{_and_};

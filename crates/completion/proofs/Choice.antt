@@ -14,7 +14,7 @@ use Rattle.theory.proofs.Basics.Search.{none-some}
 use Rattle.logic.specs.Shown.{reached, inBasin, heads, onPath, basinLink, treeLink}
 use Rattle.rows.specs.Square.{square}
 use Rattle.rows.proofs.Successors.{two-one, two-both}
-use Rattle.completion.specs.Links.{reachIn, begins, beginsWithout, coversAll}
+use Rattle.completion.specs.Links.{reachIn, leadsTo, begins, beginsWithout, coversAll}
 use Rattle.rows.proofs.Selections.{terms-from, all-selected, any-selected, find-selected, select-selected, and-both, first, find-first}
 
 -- v reaches u, and not back
@@ -24,10 +24,6 @@ leaves reach v u = square reach v u && not (square reach u v)
 pub basin-search : (n : ℕ) (reach : List ℕ) (v : ℕ) → inBasin n (reachIn reach) v ≡ not (any (leaves reach v) (from (n + 1 - 1) 1))
 unfolding inBasin reached reachIn
 basin-search n reach v = rw (terms-from n) (all-selected (square reach v) (λ u. square reach u v) (from (n + 1 - 1) 1))
-
--- a link from inside v's basin leads to b
-abbrev pub leadsTo : List ℕ → (ℕ → ℕ) → ℕ → ℕ → ℕ → Bool
-leadsTo reach p v b u = square reach v u && eqb (p u) b
 
 pub begins-outside : (n : ℕ) (reach : List ℕ) (p : ℕ → ℕ) (v b : ℕ) → square reach v b ≡ false → begins n (reachIn reach) p v b ≡ false
 unfolding begins reachIn _and_

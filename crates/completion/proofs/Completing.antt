@@ -14,7 +14,6 @@ use Rattle.logic.specs.Facts.{Graph, Facts, terms, live, liveTerms}
 use Rattle.logic.specs.Rules.{next}
 use Rattle.logic.specs.Shown.{reached, inBasin, heads, basinLink, treeLink, newLink, linkEach, shownLink, onPath}
 use Rattle.theory.proofs.Basics.Search.{bool-cases, select-mem, find-some, from-mem}
-use Rattle.rows.specs.declared.Term.{Term}
 use Rattle.rows.specs.Square.{square}
 use Rattle.facts.specs.Path.{repOf, linksIn}
 use Rattle.completion.specs.Links.{linkOf, InRange, reachIn, linkAt}
@@ -79,16 +78,16 @@ module _ (n : ℕ) (g : Graph) (p : ℕ → ℕ) (v : ℕ) where
       ⊎-elim (λ e. let b = new-below in rw (at-new rep e) (omega arith)) (λ e. rw (at-kept rep e) k) (bool-cases (eqb (rep v) v && eqb (p v) 0))
 
 -- a term that is not replaced and has no link, as the code tests it
-pub remains : (rep : List ℕ) (links : List Term) (v stands : ℕ) → v ≤ 16 → stands ≡ getD rep v 0 → (eqb (repOf rep v) v && eqb (linkOf links v) 0) ≡ (eqb stands v && eqb (getD links v (record { 0 = 0 }) .0) 0)
+pub remains : (rep links : List ℕ) (v stands known : ℕ) → v ≤ 16 → stands ≡ getD rep v 0 → known ≡ getD links v 0 → (eqb (repOf rep v) v && eqb (linkOf links v) 0) ≡ (eqb stands v && eqb known 0)
 unfolding linkOf
-remains rep links v stands h e = ap (λ (r : ℕ). eqb r v && eqb (linkOf links v) 0) (rep-in rep v h ∙ sym e)
+remains rep links v stands known h e f = ap₂ (λ (r l : ℕ). eqb r v && eqb l 0) (rep-in rep v h ∙ sym e) (sym f)
 
 -- the link that such a term gets
-pub link-new : (n : ℕ) (g : Graph) (rep : ℕ → ℕ) (links : List Term) (v : ℕ) {r : Term} → (eqb (rep v) v && eqb (linkOf links v) 0) ≡ true → r .0 ≡ newLink n g (linkOf links) v → r .0 ≡ linkAt n g rep (linkOf links) v
+pub link-new : (n : ℕ) (g : Graph) (rep : ℕ → ℕ) (links : List ℕ) (v : ℕ) {r : ℕ} → (eqb (rep v) v && eqb (linkOf links v) 0) ≡ true → r ≡ newLink n g (linkOf links) v → r ≡ linkAt n g rep (linkOf links) v
 link-new n g rep links v e f = f ∙ sym (at-new n g (linkOf links) v rep e)
 
 -- a turn of the loop over the terms
-module _ (n : ℕ) (g : Graph) (rep : ℕ → ℕ) (links : List Term) (full : length links ≡ 17) (v : ℕ) (within : v ≤ n) (room : n ≤ 16) (r : Term) (given : r .0 ≡ linkAt n g rep (linkOf links) v) where
+module _ (n : ℕ) (g : Graph) (rep : ℕ → ℕ) (links : List ℕ) (full : length links ≡ 17) (v : ℕ) (within : v ≤ n) (room : n ≤ 16) (r : ℕ) (given : r ≡ linkAt n g rep (linkOf links) v) where
   written : (t : ℕ) → linkOf (set links v r) t ≡ cond (eqb t v) (linkAt n g rep (linkOf links) v) (linkOf links t)
   written t = link-set links v (omega arith) r t ∙ ap (λ (x : ℕ). cond (eqb t v) x (linkOf links t)) given
 
@@ -119,12 +118,11 @@ module _ (n : ℕ) (g : Graph) (rep : ℕ → ℕ) (links : List Term) (full : l
   turn-range h t = rw (written t) (⊎-elim (λ i. rw i (at-below n g (linkOf links) v rep room (h v))) (λ i. rw i (h t)) (bool-cases (eqb t v)))
 
 -- a turn that writes nothing
-pub link-kept : (n : ℕ) (g : Graph) (rep : ℕ → ℕ) (links : List Term) → length links ≡ 17 → (v : ℕ) → v ≤ n → n ≤ 16 → (eqb (rep v) v && eqb (linkOf links v) 0) ≡ false → linkEach n g (linkOf links) (select (λ t. eqb (rep t) t) (from (n + 1 - v) v)) ≡ linkEach n g (linkOf links) (select (λ t. eqb (rep t) t) (from (n + 1 - (v + 1)) (v + 1)))
+pub link-kept : (n : ℕ) (g : Graph) (rep : ℕ → ℕ) (links : List ℕ) → length links ≡ 17 → (v : ℕ) → v ≤ n → n ≤ 16 → (eqb (rep v) v && eqb (linkOf links v) 0) ≡ false → linkEach n g (linkOf links) (select (λ t. eqb (rep t) t) (from (n + 1 - v) v)) ≡ linkEach n g (linkOf links) (select (λ t. eqb (rep t) t) (from (n + 1 - (v + 1)) (v + 1)))
 link-kept n g rep links full v within room e =
     let k = at-kept n g (linkOf links) v rep e in
-    let r : Term = record { 0 = linkOf links v } in
-    link-turn n g rep links full v within room r (sym k)
-    ∙ ap (λ (p : ℕ → ℕ). linkEach n g p (select (λ t. eqb (rep t) t) (from (n + 1 - (v + 1)) (v + 1)))) (sym (fun-ext (λ t. same n g rep links full v within room r (sym k) t k)))
+    link-turn n g rep links full v within room (linkOf links v) (sym k)
+    ∙ ap (λ (p : ℕ → ℕ). linkEach n g p (select (λ t. eqb (rep t) t) (from (n + 1 - (v + 1)) (v + 1)))) (sym (fun-ext (λ t. same n g rep links full v within room (linkOf links v) (sym k) t k)))
 
 pub link-end : (n : ℕ) (g : Graph) (q : ℕ → Bool) (p : ℕ → ℕ) (v : ℕ) → n < v → linkEach n g p (select q (from (n + 1 - v) v)) ≡ p
 unfolding linkEach
@@ -155,7 +153,7 @@ module _ (n : ℕ) (s : Facts) (k : ℕ) (rep link reach : List ℕ) (stands : r
       ap (λ (f : ℕ → ℕ → Bool). linkEach n (linking (λ a b. false) f) p vs) reach-is
       ∙ same-reach n (λ a b. false) (s .graph k .link) (s .graph k .reach) p vs
 
-  pub shown : (known links : List Term) → linkOf known ≡ next n (linksIn link) → linkOf links ≡ linkEach n (reachIn reach) (linkOf known) (select (λ t. eqb (repOf rep t) t) (from (n + 1 - 1) 1)) → linkOf links ≡ shownLink n s k
+  pub shown : (known links : List ℕ) → linkOf known ≡ next n (linksIn link) → linkOf links ≡ linkEach n (reachIn reach) (linkOf known) (select (λ t. eqb (repOf rep t) t) (from (n + 1 - 1) 1)) → linkOf links ≡ shownLink n s k
   unfolding shownLink
   shown known links e f =
       f

@@ -1,3 +1,4 @@
 pub mod Links
 pub mod Choice
+pub mod Rows
 pub mod Completing

@@ -1,26 +1,29 @@
 -- The links of the heap shown as the code holds them, and the tests by which a remaining term's link is chosen.
 use Prim.Native.Nat.{ℕ, _≤_}
-use mathlib.Core.Bool.{Bool, false, not, cond}
+use mathlib.Core.Bool.{Bool, false, not, cond, _&&_}
 use mathlib.Core.List.{List}
 use lib.ListN.{getD}
 use lib.Dec.{eqb}
 use Rattle.rows.specs.Square.{square}
-use Rattle.rows.specs.declared.Term.{Term}
 use Rattle.logic.specs.Search.{_and_, _or_, any, all}
 use Rattle.logic.specs.Facts.{Graph}
 use Rattle.logic.specs.Shown.{reached, onPath, newLink}
 
 -- the link of a term, 0 where it has none
-unfoldable pub linkOf : List Term → ℕ → ℕ
-linkOf links t = getD links t (record { 0 = 0 }) .0
+unfoldable pub linkOf : List ℕ → ℕ → ℕ
+linkOf links t = getD links t 0
 
 -- every link is a term, or none
-abbrev pub InRange : List Term → Type 0
+abbrev pub InRange : List ℕ → Type 0
 InRange links = (t : ℕ) → linkOf links t ≤ 16
 
 -- a graph with these reachability facts alone: what reads only these asks no more
 unfoldable pub reachIn : List ℕ → Graph
 reachIn reach = record { link = λ a b. false; reach = square reach }
+
+-- a link from inside v's basin leads to b
+abbrev pub leadsTo : List ℕ → (ℕ → ℕ) → ℕ → ℕ → ℕ → Bool
+leadsTo reach p v b u = square reach v u && eqb (p u) b
 
 -- b begins a path in v's basin
 unfoldable pub begins : ℕ → Graph → (ℕ → ℕ) → ℕ → ℕ → Bool

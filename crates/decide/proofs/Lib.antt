@@ -1,7 +1,3 @@
-pub mod Branches
 pub mod Seeing
 pub mod Tells
-pub mod Ended
-pub mod Turns
-pub mod Leads
-pub mod Fronts
+pub mod Decision

@@ -1,8 +1,8 @@
 -- What each return of the strategies says. The laws are those of the decision of a path, stated once of any pick.
 use Prim.Native.Nat.{ℕ, _+_, _-_, _≤_, _<_}
 use native.Mathlib.Omega.{arith}
-use mathlib.Core.Path.{_≡_, refl, sym, ap, _∙_, subst}
-use mathlib.Core.Bool.{Bool, true, false, _&&_, true≢false, false≢true}
+use mathlib.Core.Path.{_≡_, sym, ap, _∙_, subst}
+use mathlib.Core.Bool.{true, false, true≢false}
 use mathlib.Core.Option.{none, some}
 use lib.ListN.{length, getD}
 use Rattle.logic.specs.Query.{Query, termCount}
@@ -15,37 +15,17 @@ use Rattle.theory.proofs.Walks.Order.{rules-full}
 use Rattle.theory.proofs.Calls.Decision.{Known, clash-none, saturated-heap, struck-next, struck-all, open-branch, branch-at, closed-known, closed-heap, heap-closed}
 use Rattle.branch.specs.Alternatives.{countOf, alternativeAt}
 use Rattle.facts.specs.Path.{HasLink}
-use Rattle.decide.specs.Tells.{isRefuted, isUnknown, Sees, Tells, Ends}
-use Rattle.decide.specs.declared.Kind.{Kind}
-use Rattle.decide.specs.declared.Kind.the-variants as kind
+use Rattle.plain_steps.specs.Walks.{isRefuted}
+use Rattle.plain_steps.specs.declared.Kind.{Kind}
+use Rattle.plain_steps.specs.declared.Kind.the-variants as kind
+use Rattle.plain_steps.proofs.Branches.{same-branch, row-length, row-at}
+use Rattle.plain_steps.proofs.Cases.{refuted-open, refuted-unknown, open-unknown, refuted-is}
+use Rattle.decide.specs.Tells.{Sees, Tells, Ends}
 use Rattle.decide.specs.declared.Seen.{Seen}
-use Rattle.decide.proofs.Branches.{same-branch, row-length, row-at}
-
--- the cases of what is found out differ
-pub refuted-open : kind.Refuted ≡ kind.Open → ⊥
-refuted-open e = true≢false (ap isRefuted e)
-
-pub refuted-unknown : kind.Refuted ≡ kind.Unknown → ⊥
-refuted-unknown e = true≢false (ap isRefuted e)
-
-pub open-unknown : kind.Open ≡ kind.Unknown → ⊥
-open-unknown e = false≢true (ap isUnknown e)
-
-pub refuted-is : (k : Kind) → isRefuted k ≡ true → k ≡ kind.Refuted
-refuted-is kind.Refuted e = refl
-refuted-is kind.Open e = absurd (false≢true e)
-refuted-is kind.Unknown e = absurd (false≢true e)
 
 -- what is seen, once the code's answer is known
 pub seen-as : (q : Query) (s : Facts) (v v′ : Seen) → Sees q s v → v ≡ v′ → Sees q s v′
 seen-as q s v v′ h e = subst (Sees q s) e h
-
-pub struck-none : (q : Query) (s : Facts) (m : Move) (i : ℕ) → i ≡ 0 → Struck q s m i
-struck-none q s m i e j l = absurd (omega arith)
-
-pub both-left : (a b : Bool) → a && b ≡ true → a ≡ true
-both-left true b e = refl
-both-left false b e = absurd (false≢true e)
 
 pub fewer-left : (k t : ℕ) → (k ≡ 0 → ⊥) → k ≡ t → k - 1 < t
 fewer-left k t ne e = omega arith

@@ -1,32 +1,17 @@
 -- What a strategy may say of a path, and what the decision of a path says.
-use Prim.Native.Nat.{ℕ, _≤_}
+use Prim.Native.Nat.{_≤_}
 use mathlib.Core.Path.{_≡_}
 use mathlib.Core.Bool.{Bool, true, false}
-use mathlib.Core.List.{List}
 use mathlib.Core.Option.{none, some}
 use Rattle.logic.specs.Query.{Query, termCount}
 use Rattle.logic.specs.Facts.{Facts, Line, clash}
 use Rattle.logic.specs.Rules.{triple, move, applies, rules, choose}
-use Rattle.logic.specs.Walk.{orderOf, walk, saturation}
-use Rattle.logic.specs.Decision.{HasHeap, NoHeap, Closes}
-use Rattle.facts.specs.Path.{pathOf}
+use Rattle.logic.specs.Decision.{HasHeap, NoHeap}
 use Rattle.rules.specs.Answers.{kindOf}
-use Rattle.closing.specs.Closed.{Closed, begins}
-use Rattle.decide.specs.declared.Kind.{Kind}
-use Rattle.decide.specs.declared.Kind.the-variants as kind
-use Rattle.decide.specs.declared.Walked.{Walked}
+use Rattle.plain_steps.specs.declared.Kind.{Kind}
+use Rattle.plain_steps.specs.declared.Kind.the-variants as kind
 use Rattle.decide.specs.declared.Seen.{Seen}
 use Rattle.decide.specs.declared.Seen.the-variants as seen
-
-abbrev pub isRefuted : Kind → Bool
-isRefuted kind.Refuted = true
-isRefuted kind.Open = false
-isRefuted kind.Unknown = false
-
-abbrev pub isUnknown : Kind → Bool
-isUnknown kind.Refuted = false
-isUnknown kind.Open = false
-isUnknown kind.Unknown = true
 
 -- what is seen at a path: a clash; a rule that applies, whichever; or that there is neither
 abbrev pub Sees : Query → Facts → Seen → Type 0
@@ -43,19 +28,6 @@ pub record Tells (q : Query) (s : Facts) (k : Kind) : Type 0 where
 pub record Ends (q : Query) (s : Facts) (k : Kind) (w : Facts) : Type 0 where
   pub tells : Tells q s k
   pub shows : k ≡ kind.Open → HasHeap q w
-
--- the path that plain steps look at: closed under REFLEX, TRANS1 and TRANS2 where the order list begins with these
-abbrev pub Ahead : ℕ → List ℕ → Facts → Facts → Type 0
-Ahead n order s t = (begins order ≡ true → Closes n s t × Closed n t) × (begins order ≡ false → t ≡ s)
-
--- the same of plain steps: where they find the path open, they end where our walk does; they give up only where they are limited
-pub record WalksTo (q : Query) (order : List ℕ) (k : ℕ) (s : Facts) (limited : Bool) (r : Kind) (w : Facts) : Type 0 where
-  pub refuted : r ≡ kind.Refuted → NoHeap q s
-  pub ends : r ≡ kind.Open → walk q (orderOf order) k s ≡ saturation w
-  pub gives-up : r ≡ kind.Unknown → limited ≡ true
-
-abbrev pub Walks : Query → List ℕ → ℕ → Facts → Bool → Walked → Type 0
-Walks q order k s limited r = WalksTo q order k s limited (r .kind) (pathOf (r .facts))
 
 -- the decision: "yes" exactly if some finite heap meets the query and the facts of the path, "no" exactly if none of any size does
 pub record Decides (q : Query) (s : Facts) (r : Bool) : Type 0 where

@@ -1,7 +1,7 @@
 -- Lines, terms and tests as a loop meets them: what is left, one at a time.
 use Prim.Native.Nat.{ℕ, _+_, _-_, _≤_, _<_}
 use native.Mathlib.Omega.{arith}
-use mathlib.Core.Path.{_≡_, refl, sym, ap, _∙_}
+use mathlib.Core.Path.{_≡_, sym, ap, _∙_}
 use mathlib.Core.Logic.{⊎-elim}
 use mathlib.Core.Bool.{Bool, true, false, _||_, _&&_}
 use mathlib.Core.List.{List, [], _++_, append-assoc}
@@ -16,6 +16,7 @@ use Rattle.text.specs.Text.{decimal}
 use Rattle.text.proofs.Writing.{Part, part-more, part-place, writes-none}
 use Rattle.rows.proofs.Loops.{from-end, from-next}
 use Rattle.drawing.specs.Text.{countIn, blank, listed}
+use Rattle.rows.proofs.Selections.{and-both}
 
 -- Lines
 
@@ -116,11 +117,6 @@ pub part-room : {a b whole left : List ℕ} {at to limit : ℕ} (bytes rest : Li
 part-room bytes rest p e h = omega (arith, part-place p, ap length e, length-append bytes rest)
 
 -- "well formed", as the code tests it
-and-both : (a b : Bool) → a && b ≡ a and b
-unfolding _and_
-and-both true b = refl
-and-both false b = refl
-
 module _ (bytes : List ℕ) (m n third fourth : ℕ) (linked named blanks : Bool) where
   pub formed-test :
       m ≡ sizeIn bytes → n ≡ countIn bytes → third ≡ getD bytes (m + n + 2) 0 → fourth ≡ getD bytes (m + n + m + 3) 0

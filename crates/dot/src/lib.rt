@@ -1,14 +1,14 @@
 // The text of a heap report for Graphviz. The call asks nothing of its caller.
 ghost use mathlib.Core.Path.{_≡_};
-ghost use mathlib.Core.Bool.{Bool, true};
-ghost use mathlib.Core.List.{[], _∷_, _++_};
-ghost use Prim.Native.Nat.{ℕ, _+_, _-_, _≤_, _<_};
+ghost use mathlib.Core.Bool.{true};
+ghost use mathlib.Core.List.{_++_};
+ghost use Prim.Native.Nat.{_+_, _-_, _≤_, _<_};
 ghost use lib.ListN.{length, getD};
 ghost use lib.Dec.{eqb};
 ghost use Rattle.logic.specs.Search.{from, all, flatMap};
 ghost use Rattle.logic.specs.Shown.{sizeIn, nodeIn, isNode, wellFormed};
 ghost use Rattle.text.specs.Text.{Writes, decimal};
-ghost use Rattle.drawing.specs.Text.{booleansIn, datumIn, linkIn, countIn, opening, closing, commentLine, listed, blank, termsAt, nodeLine, arrowLine};
+ghost use Rattle.drawing.specs.Text.{booleansIn, datumIn, countIn, opening, commentLine, listed, blank, termsAt, nodeLine, arrowLine};
 ghost use Rattle.drawing.specs.Text as drawing;
 ghost use Rattle.drawing.specs.Call.{dotCall};
 ghost use Rattle.dot.specs.Promise.{Does};

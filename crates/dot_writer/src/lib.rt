@@ -3,7 +3,7 @@
 // which does the work; `add` and `add_bytes` above them have plain parameters, and serve every other caller.
 ghost use mathlib.Core.Path.{_≡_};
 ghost use mathlib.Core.List.{_++_};
-ghost use Prim.Native.Nat.{ℕ, _+_, _≤_};
+ghost use Prim.Native.Nat.{_+_, _≤_};
 ghost use lib.ListN.{length};
 ghost use Rattle.text.specs.Text.{Writes, decimal};
 ghost use Rattle.dot_writer.specs.Written.{written};

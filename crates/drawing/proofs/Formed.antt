@@ -8,7 +8,6 @@ use lib.ListN.{length, getD, take, drop, replicate, length-drop, length-replicat
 use lib.Seq.{getD-drop, ext-getD}
 use lib.Dec.{eqb, ltb, leb}
 use borrow.Author.Tests.{ltb-true, leb-true, eqb-true}
-use Rattle.logic.specs.Search.{_and_}
 use Rattle.logic.specs.Shown.{sizeIn, nodeIn, isNode, wellFormed}
 use Rattle.theory.proofs.Basics.Search.{and-left, and-right, all-true, from-intro}
 use Rattle.theory.proofs.Calls.OneLink.{wellFormed-one}

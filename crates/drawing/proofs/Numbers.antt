@@ -8,7 +8,6 @@ use mathlib.Core.List.{List, [], _∷_, _++_}
 use mathlib.Core.Option.{none, some}
 use lib.ListN.{length, length-append}
 use borrow.Author.Tests.{le-leb}
-use Rattle.logic.specs.Search.{_and_}
 use Rattle.theory.proofs.Basics.Search.{and-intro}
 use Rattle.theory.proofs.Basics.Compare.{le-cases}
 use Rattle.text.specs.Text.{decimal, isDigit}

@@ -9,7 +9,7 @@ use Rattle.logic.specs.Shown.{sizeIn, nodeIn}
 use Rattle.text.specs.Text.{ascii, decimal}
 
 -- What stands where in a report (01, "The heap shown"): the term count, the link and the data byte of a node, the byte of booleans, and
--- the report's length without "the bytes past it", 2m+n+5.
+-- the report's length without the bytes past it, 2m+n+5.
 unfoldable pub countIn : List ℕ → ℕ
 countIn bytes = getD bytes (sizeIn bytes + 1) 0
 

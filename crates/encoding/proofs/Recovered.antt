@@ -12,7 +12,7 @@ use borrow.Author.Tests.{ltb-true, leb-true, eqb-true, eqb-false}
 use Rattle.logic.specs.Search.{from, at, flatMap}
 use Rattle.logic.specs.Query.{termCount, Role, Section, signRole, termRole, numberRole, fourSections, booleanSection, fiveSections, sections, Layout, faulty, parts, withPart, layout, firstByte, layoutBy, layoutOf, literals, section, queryOf, decode}
 use Rattle.logic.specs.Calls.{accepts}
-use Rattle.theory.proofs.Query.Bytes.{Allows, Allowed, Part, cond-elim}
+use Rattle.theory.proofs.Query.Bytes.{Allows, Allowed, Part, cond-elim, faulty-parts}
 use Rattle.encoding.specs.QueryBytes.{signByte, literalBytes, sectionBytes, encode}
 use Rattle.encoding.proofs.Decoded.{accepted-parts}
 
@@ -45,9 +45,6 @@ literals-written left right (suc c) i (s ∷ a ∷ b ∷ rest) e h =
 pub data Laid : List Section → List ℕ → List (List ℕ) → Type 0 where
   none-left : Laid [] [] []
   one-more : {s : Section} {ss : List Section} {rest : List ℕ} {ps : List (List ℕ)} (c : ℕ) (p : List ℕ) → length p ≡ c * s .width → Laid ss rest ps → Laid (s ∷ ss) (c ∷ (p ++ rest)) (p ∷ ps)
-
-faulty-parts : {k place : ℕ} {ps : List (List ℕ)} → faulty k place ≡ parts ps → ⊥
-faulty-parts e = let z : _≡_ {A = ℕ} 0 1 = cc in omega arith
 
 pub laid : (ss : List Section) (place : ℕ) (bytes : List ℕ) (ps : List (List ℕ)) → layout ss place bytes ≡ parts ps → Laid ss bytes ps
 unfolding layout withPart
@@ -99,7 +96,3 @@ unfolding decode layoutOf layoutBy
 recovered bytes h =
     let p = accepted-parts bytes h in
     ap (λ (l : Layout). encode (queryOf l)) (p .laid) ∙ written (firstByte bytes) bytes (p .found) (laid (sections (firstByte bytes)) 0 bytes (p .found) (p .laid)) (p .part)
-
--- accepted queries that say the same are the same bytes
-pub one-encoding : (a b : List ℕ) → accepts a ≡ true → accepts b ≡ true → decode a ≡ decode b → a ≡ b
-one-encoding a b x y e = sym (recovered a x) ∙ ap encode e ∙ recovered b y

@@ -98,7 +98,7 @@ module _ (r : Role) (k : ℕ) (bytes : List ℕ) (at : ℕ) where
   unfolding faultAt keep
   no-fault-at e = rw e
 
-and-never : (a : Bool) → a and false ≡ false
+pub and-never : (a : Bool) → a and false ≡ false
 unfolding _and_
 and-never true = refl
 and-never false = refl

@@ -1,3 +1,4 @@
 pub mod Loops
 pub mod Faults
+pub mod Passes
 pub mod Links

@@ -1,13 +1,14 @@
 -- The bytes of an entry, by the kind of its section, and the lowest one that meets a refusal.
-use Prim.Native.Nat.{ℕ}
-use mathlib.Core.Bool.{Bool, _||_}
+use Prim.Native.Nat.{ℕ, _+_}
+use mathlib.Core.Path.{_≡_}
+use mathlib.Core.Bool.{Bool, true, _&&_, _||_}
 use mathlib.Core.List.{List, [], _∷_}
 use mathlib.Core.Option.{Option, none, some}
 use lib.ListN.{getD, drop}
 use lib.Dec.{eqb}
 use Rattle.logic.specs.Search.{from, keep, flatMap}
 use Rattle.logic.specs.Query.{Role, entryRole, signRole, termRole, numberRole, countRole, roleFault}
-use Rattle.byte_tests.specs.Meets.{meets}
+use Rattle.byte_tests.specs.Meets.{counted, meets}
 use Rattle.entries.specs.declared.Kind.{Kind}
 use Rattle.entries.specs.declared.Kind.the-variants as kind
 use Rattle.entries.specs.declared.Found.{Found}
@@ -52,3 +53,14 @@ sectionFault k kind n at count bytes = roleFault k at (flatMap (rolesAt kind n) 
 abbrev pub foundOf : Found → Option ℕ
 foundOf (found.At place) = some place
 foundOf found.Nothing = none
+
+-- the bytes of a boolean literal, and of a literal with two numbers from `left` on, are allowed
+abbrev pub flagAllowed : ℕ → List ℕ → ℕ → ℕ → Bool
+flagAllowed most bytes at left = signRole .allows (getD bytes at 0) && counted most (getD bytes left 0)
+
+abbrev pub literalAllowed : ℕ → ℕ → List ℕ → ℕ → ℕ → Bool
+literalAllowed most n bytes at left = flagAllowed most bytes at left && counted n (getD bytes (left + 1) 0)
+
+-- where the test passes, no byte meets a refusal, whichever
+abbrev pub Passes : Bool → (ℕ → Option ℕ) → Type 0
+Passes r fault = r ≡ true → (k : ℕ) → fault k ≡ none

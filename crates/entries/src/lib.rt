@@ -6,7 +6,7 @@ ghost use lib.ListN.{length, getD, drop};
 ghost use Rattle.logic.specs.Search.{orElse};
 ghost use Rattle.logic.specs.Query.{entryRole, signRole, termRole, roleFault};
 ghost use Rattle.byte_tests.specs.Meets.{countedRole};
-ghost use Rattle.entries.specs.Entries.{widthOf, rolesAt, faultAt, sectionFault, foundOf, concerned};
+ghost use Rattle.entries.specs.Entries.{widthOf, rolesAt, faultAt, sectionFault, foundOf, concerned, flagAllowed, literalAllowed, Passes};
 ghost use Rattle.entries.specs.Links.{linkedTerms, linkedPairs, linkedWidth, linkAt, linksFrom};
 
 // What the bytes of a section's entries are held to: equalities and reachability literals are pairs of terms. With three links (02, R-11) a
@@ -151,6 +151,58 @@ pub fn section_fault(k: usize, kind: Kind, n: usize, query: &[u8], at: usize, co
         i += 1;
     }
     Found::Nothing
+}
+
+// Every byte of an entry is allowed: of a boolean literal, of a literal with two numbers, and of any entry, by the kind of its section.
+fn flag_passes(most: usize, query: &[u8], at: usize, left: usize) -> bool
+    requires { ⌜ (at < left) × (left + 1 ≤ length (now query)) ⌝ }
+    ensures { λ r. ⌜ r ≡ flagAllowed most (now (query .entry)) at left ⌝ }
+{
+    let sign = byte_tests::sign_allowed(byte_at(query, at));
+    let number = byte_tests::number_allowed(most, byte_at(query, left));
+    sign & number
+}
+
+fn literal_passes(most: usize, n: usize, query: &[u8], at: usize, left: usize) -> bool
+    requires { ⌜ (at < left) × (left + 2 ≤ length (now query)) ⌝ }
+    ensures { λ r. ⌜ r ≡ literalAllowed most n (now (query .entry)) at left ⌝ }
+{
+    let flag = flag_passes(most, query, at, left);
+    let right = byte_tests::number_allowed(n, byte_at(query, left + 1));
+    flag & right
+}
+
+fn entry_passes(kind: Kind, n: usize, i: usize, query: &[u8], at: usize) -> bool
+    requires { ⌜ at + widthOf kind ≤ length (now query) ⌝ }
+    ensures { λ r. ⌜ Passes r (λ k. roleFault k at (rolesAt kind n i) (drop at (now (query .entry)))) ⌝ }
+{
+    match kind {
+        Kind::Terms => byte_tests::entry_allowed(i, byte_at(query, at)),
+        Kind::Pairs => literal_passes(n, n, query, at, at + 1),
+        Kind::Fields => literal_passes(8, n, query, at, at + 1),
+        Kind::Booleans => flag_passes(8, query, at, at + 1),
+        Kind::LinkedTerms => byte_tests::entry_allowed(i, byte_at(query, at + 1)),
+        Kind::LinkedPairs => literal_passes(n, n, query, at, at + 2),
+    }
+}
+
+// No byte meets a refusal 5 to 8, among `count` entries at `at`. Most queries pass, and this looks at each byte once, where the places of
+// four refusals are searched one after the other.
+pub fn section_passes(kind: Kind, n: usize, query: &[u8], at: usize, count: usize) -> bool
+    requires { ⌜ at + count * widthOf kind ≤ length (now query) ⌝ }
+    ensures { λ r. ⌜ Passes r (λ k. sectionFault k kind n at count (now (query .entry))) ⌝ }
+{
+    let step = width(kind);
+    let mut place = at;
+    let mut i: usize = 0;
+    while i < count {
+        if !entry_passes(kind, n, i + 1, query, place) {
+            return false;
+        }
+        place += step;
+        i += 1;
+    }
+    true
 }
 
 // The link byte of an entry, where it may not stand there: of a term, and of a reachability literal.

@@ -12,7 +12,6 @@ use borrow.Author.Tests.{le-ltb, ltb-false}
 use Rattle.logic.specs.Search.{_and_, _or_}
 use Rattle.logic.specs.Facts.{live}
 use Rattle.rows.specs.Bits.{bit}
-use Rattle.facts.specs.declared.Facts as code
 use Rattle.facts.specs.Path.{repOf, replacedBy}
 use Rattle.rows.proofs.Bits.{bit-none, bit-and}
 use Rattle.facts.proofs.Rep.{rep-in}

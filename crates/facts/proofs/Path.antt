@@ -2,18 +2,18 @@
 use Prim.Native.Nat.{ℕ, _≤_, _<_}
 use native.Mathlib.Omega.{arith}
 use mathlib.Core.Path.{_≡_, refl, sym, ap, ap₂, fun-ext, _∙_}
-use mathlib.Core.Logic.{_⊎_, ⊎-elim, inl, inr}
+use mathlib.Core.Logic.{⊎-elim}
 use mathlib.Core.Bool.{Bool, true, false, cond}
 use mathlib.Core.List.{List, [], _∷_}
 use lib.Arith.{lt-of-le-ne}
 use lib.Dec.{eqb, ltb, leb}
 use Rattle.logic.specs.Search.{_and_, _or_, any}
 use Rattle.logic.specs.Facts.{Graph, Facts, became, replaceIn, replace, addReach, addLinks}
-use Rattle.theory.proofs.Basics.Search.{not-of, true-false}
-use Rattle.theory.proofs.Basics.Compare.{eq-cases, eqb-self}
+use Rattle.theory.proofs.Basics.Search.{not-of, true-false, or-false}
+use Rattle.theory.proofs.Basics.Compare.{eq-cases}
 use Rattle.theory.proofs.Paths.Ranged.{link-range}
 use Rattle.facts.specs.declared.Facts as code
-use Rattle.facts.specs.Path.{noFacts, graphs, pathOf, repOf, graphOf, replaceRep, HasLink, withReach}
+use Rattle.facts.specs.Path.{noFacts, graphs, pathOf, repOf, graphOf, replaceRep, HasLink}
 
 -- the graph and the path that these functions make
 abbrev pub linking : (ℕ → ℕ → Bool) → (ℕ → ℕ → Bool) → Graph
@@ -82,29 +82,21 @@ module _ (r : ℕ → ℕ) (b : Bool) (f g h : Graph) (op : Graph → Graph) whe
       go false false false true = refl
       go false false false false = e
 
--- what adding a fact and setting rows change
+-- what adding a fact changes
 abbrev pub reaching : ℕ → ℕ → Graph → Graph
 reaching a b g = linking (g .link) (λ x y. g .reach x y or (eqb x a and eqb y b))
 
 abbrev pub linkedTo : ℕ → ℕ → Graph → Graph
 linkedTo a b g = linking (λ x y. g .link x y or (eqb x a and eqb y b)) (g .reach)
 
-abbrev pub reachedBy : (ℕ → ℕ → Bool) → Graph → Graph
-reachedBy f g = linking (g .link) f
-
 abbrev pub replacedIn : ℕ → ℕ → Graph → Graph
 replacedIn lo hi g = linking (replaceIn lo hi (g .link)) (replaceIn lo hi (g .reach))
-
-or-none : (t : Bool) → t or false ≡ t
-unfolding _or_
-or-none true = refl
-or-none false = refl
 
 -- nothing is added where the test fails
 added : (rows : ℕ → ℕ → Bool) (t : Bool) (a b : ℕ) → (λ x y. rows x y or (t and eqb x a and eqb y b)) ≡ cond t (λ x y. rows x y or (eqb x a and eqb y b)) rows
 unfolding _and_
 added rows true a b = refl
-added rows false a b = fun-ext (λ x. fun-ext (λ y. or-none (rows x y)))
+added rows false a b = fun-ext (λ x. fun-ext (λ y. or-false (rows x y)))
 
 module _ (k : ℕ) (s : Facts) where
   pub addReach-changed : (a b : ℕ) → addReach k a b s ≡ changed k (reaching a b) s
@@ -112,14 +104,6 @@ module _ (k : ℕ) (s : Facts) where
   addReach-changed a b = same-graphs (s .rep) (s .links) _ _ (λ j. ap (linking (s .graph j .link)) (added (s .graph j .reach) (eqb j k) a b) ∙ go (eqb j k) (s .graph j))
     where
       go : (t : Bool) (g : Graph) → linking (g .link) (cond t (λ x y. g .reach x y or (eqb x a and eqb y b)) (g .reach)) ≡ cond t (reaching a b g) g
-      go true g = refl
-      go false g = refl
-
-  pub withReach-changed : (f : ℕ → ℕ → Bool) → withReach k f s ≡ changed k (reachedBy f) s
-  unfolding withReach
-  withReach-changed f = same-graphs (s .rep) (s .links) _ _ (λ j. go (eqb j k) (s .graph j))
-    where
-      go : (t : Bool) (g : Graph) → linking (g .link) (cond t f (g .reach)) ≡ cond t (reachedBy f g) g
       go true g = refl
       go false g = refl
 
@@ -160,12 +144,6 @@ module _ (r : ℕ → ℕ) (b : Bool) (f g h : Graph) where
 
       nothing : replacedIn lo hi noFacts ≡ noFacts
       nothing = ap₂ linking nowhere nowhere
-
--- what a path becomes with other reachability of link k
-module _ (k : ℕ) (f : ℕ → ℕ → Bool) (s : Facts) where
-  pub with-here : withReach k f s .graph k ≡ linking (s .graph k .link) f
-  unfolding withReach
-  with-here = rw (eqb-self k) refl
 
 -- the facts of the record's links, and the path with others in place of those of one link
 abbrev pub first : code.Facts → Graph
@@ -241,25 +219,3 @@ module _ (s : code.Facts) where
       go d true e = no-link k (rw (d .1, e) refl)
       go d false e =
           ⊎-elim (λ i. at-second k i e) (λ d′. ⊎-elim (λ i. at-third k i e) (λ d″. no-link k (rw (d .1, e, d′ .1, d″ .1) refl)) (eq-cases k 3)) (eq-cases k 2)
-
-  -- facts are of the path's links alone
-  within : (k : ℕ) → HasLink (pathOf s) k ⊎ (pathOf s .graph k ≡ noFacts)
-  within =
-      by-link (λ k. HasLink (pathOf s) k ⊎ (pathOf s .graph k ≡ noFacts)) (λ k e. inr e) (λ k e. inl (omega (arith, e), omega (arith, e, links-few .0)))
-      (λ k e d. inl (omega (arith, e), omega (arith, e, all d)))
-      (λ k e d. inl (omega (arith, e), omega (arith, e, all d)))
-    where
-      all : s .single ≡ false → pathOf s .links ≡ 3
-      all d = links-is ∙ ap (λ (b : Bool). cond {A = ℕ} b 1 3) d
-
-  pub no-reach : (k : ℕ) → (HasLink (pathOf s) k → ⊥) → (a b : ℕ) → false ≡ pathOf s .graph k .reach a b
-  unfolding noFacts
-  no-reach k d a b = ⊎-elim (λ h. absurd (d h)) (λ none. sym (ap (λ (g : Graph). g .reach a b) none)) (within k)
-
-  pub reach-within : (i a b : ℕ) → pathOf s .graph i .reach a b ≡ true → HasLink (pathOf s) i
-  unfolding noFacts
-  reach-within i a b e = ⊎-elim (λ h. h) (λ none. absurd (true-false e (ap (λ (g : Graph). g .reach a b) none))) (within i)
-
-  pub link-within : (i a b : ℕ) → pathOf s .graph i .link a b ≡ true → HasLink (pathOf s) i
-  unfolding noFacts
-  link-within i a b e = ⊎-elim (λ h. h) (λ none. absurd (true-false e (ap (λ (g : Graph). g .link a b) none))) (within i)

@@ -61,12 +61,3 @@ replaceRep lo hi rep t = cond (eqb (rep t) hi) lo (rep t)
 -- a link of the path, by its number
 abbrev pub HasLink : Facts → ℕ → Type 0
 HasLink s k = (0 < k) × (k ≤ s .links)
-
--- the path with this reachability of link k in place of its own
-unfoldable pub withReach : ℕ → (ℕ → ℕ → Bool) → Facts → Facts
-withReach k reach s =
-    record {
-      rep = s .rep;
-      links = s .links;
-      graph = λ j. record { link = s .graph j .link; reach = cond (eqb j k) reach (s .graph j .reach) };
-    }

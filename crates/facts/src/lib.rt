@@ -9,7 +9,7 @@ ghost use lib.ListN.{length};
 ghost use Rattle.logic.specs.Facts.{addReach, replace, live};
 ghost use Rattle.rows.specs.Bits.{bit};
 ghost use Rattle.rows.specs.Square.{square};
-ghost use Rattle.facts.specs.Path.{pathAs, pathOf, Whole, repOf, replaceRep, replacedBy, HasLink, withReach};
+ghost use Rattle.facts.specs.Path.{pathAs, pathOf, Whole, repOf, replaceRep, replacedBy, HasLink};
 
 // A link by its number, from 1.
 pub struct Link(pub usize);
@@ -101,43 +101,6 @@ pub fn reach_rows(s: Facts, k: Link) -> [u32; 17]
         return s.reach2;
     }
     s.reach3
-}
-
-// a reaches b by link k; what is no link or no term has no facts.
-pub fn reaches(s: Facts, k: Link, a: Term, b: Term) -> bool
-    ensures { λ r. ⌜ r ≡ pathOf s .graph (k .0) .reach (a .0) (b .0) ⌝ }
-{
-    if k.0 == 1 {
-        return rows::is_held(&s.reach, a.0, b.0);
-    }
-    if s.single {
-        return false;
-    }
-    if k.0 == 2 {
-        return rows::is_held(&s.reach2, a.0, b.0);
-    }
-    if k.0 == 3 {
-        return rows::is_held(&s.reach3, a.0, b.0);
-    }
-    false
-}
-
-// Other rows of "a reaches b" for one link.
-pub fn with_reach(s: Facts, k: Link, rows: [u32; 17]) -> Facts
-    requires { ⌜ HasLink (pathOf s) (k .0) ⌝ }
-    ensures { λ r. ⌜ pathOf r ≡ withReach (k .0) (square rows) (pathOf s) ⌝ }
-{
-    let mut t = s;
-    if k.0 == 1 {
-        t.reach = rows;
-        return t;
-    }
-    if k.0 == 2 {
-        t.reach2 = rows;
-        return t;
-    }
-    t.reach3 = rows;
-    t
 }
 
 // The reachability fact is added.

@@ -11,12 +11,14 @@ use borrow.Author.Tests.{ne-eqb}
 use Rattle.logic.specs.Search.{_and_, _or_, at, holdsOf}
 use Rattle.logic.specs.Query.{Query, Literal}
 use Rattle.logic.specs.Facts.{Facts, line, negatedAt, plainAt, isClash}
+use Rattle.theory.proofs.Basics.Search.{and-false}
 use Rattle.facts.specs.Path.{pathOf, repOf}
 use Rattle.facts.specs.declared.Facts as code
 use Rattle.query.specs.declared.Layout.{Layout}
 use Rattle.query.proofs.Literals.{listed, listed-length}
 use Rattle.link_query.specs.Said.{said}
-use Rattle.clash.specs.Sections.{literalsIn, oneTerm, reachHeld, sameField}
+use Rattle.literal_tests.specs.Tests.{oneTerm, reachHeld, sameField}
+use Rattle.clash.specs.Sections.{literalsIn}
 use Rattle.clash.proofs.Sections.{negated-at, plain-at}
 
 -- Literals at places from 1: there is none at 0, nor past the end
@@ -27,11 +29,6 @@ at-past ls zero h = refl
 at-past [] (suc i) h = refl
 at-past (l ∷ ls) (suc zero) h = absurd (omega arith)
 at-past (l ∷ ls) (suc (suc i)) h = at-past ls (suc i) (omega arith)
-
-and-false : (b : Bool) → (b and false) ≡ false
-unfolding _and_
-and-false true = refl
-and-false false = refl
 
 module _ (f : ℕ → Literal) (count : ℕ) (ls : List Literal) (are : ls ≡ listed f count 0) where
   many : length ls ≡ count

@@ -3,7 +3,7 @@ use Prim.Native.Nat.{ℕ, _+_, _≤_}
 use native.Mathlib.Omega.{arith}
 use mathlib.Core.Path.{_≡_, refl, sym, ap, _∙_}
 use mathlib.Core.Logic.{⊎-elim}
-use mathlib.Core.Bool.{Bool, true, false, not, _&&_, true≢false, false≢true}
+use mathlib.Core.Bool.{Bool, true, false, not, _&&_, false≢true}
 use mathlib.Core.List.{List}
 use lib.Dec.{eqb, ltb}
 use borrow.Author.Tests.{eq-eqb, ne-eqb, lt-ltb, le-ltb, ltb-true}
@@ -14,7 +14,7 @@ use Rattle.logic.specs.Rules.{Rule, REFLEX, TRANS1, TRANS2, FUNC, CYCLE, SCC, T
 use Rattle.theory.proofs.Basics.Search.{and-left}
 use Rattle.rows.specs.Square.{square}
 use Rattle.facts.specs.Path.{graphOf, linksIn, HasLink}
-use Rattle.rules.specs.Tests.{pairTest, thirdTest, looped}
+use Rattle.rules.specs.Tests.{pairTest, thirdTest, isNotCycle}
 use Rattle.rules.specs.Allowed.{allowed}
 use Rattle.link_steps.specs.Cycle.{stepsTo}
 use Rattle.rules.proofs.Halves.{halves, applies-allowed}
@@ -87,24 +87,13 @@ module _ (lives : ℕ → Bool) (g : Graph) (x y z : ℕ) (k : Rule) where
   unfolding pairTest thirdTest
   share-passes xy yx xz yz e a b c d = rw (e, a, b, c, d) (five (g .reach x y) (g .reach y x) (not (eqb x y)) (g .link x z) (g .link y z))
 
--- CYCLE is the one rule that is not looped
-pub not-looped : (r : Rule) → looped r ≡ false → r ≡ CYCLE
-unfolding looped
-not-looped REFLEX h = absurd (true≢false h)
-not-looped TRANS1 h = absurd (true≢false h)
-not-looped TRANS2 h = absurd (true≢false h)
-not-looped FUNC h = absurd (true≢false h)
-not-looped CYCLE h = refl
-not-looped SCC h = absurd (true≢false h)
-not-looped TOTAL h = absurd (true≢false h)
-not-looped SHARE h = absurd (true≢false h)
-
-pub cycle-looped : (r : Rule) → r ≡ CYCLE → looped r ≡ true → ⊥
-unfolding looped
-cycle-looped r e h = false≢true (sym (ap looped e) ∙ h)
+-- CYCLE is excluded
+pub cycle-excluded : (r : Rule) → r ≡ CYCLE → isNotCycle r ≡ true → ⊥
+unfolding isNotCycle
+cycle-excluded r e h = false≢true (sym (ap isNotCycle e) ∙ h)
 
 -- a rule of link 1, by its two tests
-pub applies-halves : (n : ℕ) (s : Facts) → HasLink s 1 → (r : Rule) (x y z : ℕ) → looped r ≡ true → applies n s (move 1 r (triple x y z)) ≡ (pairTest (live n s) (s .graph 1) x y r and thirdTest (s .graph 1) x y z r)
+pub applies-halves : (n : ℕ) (s : Facts) → HasLink s 1 → (r : Rule) (x y z : ℕ) → isNotCycle r ≡ true → applies n s (move 1 r (triple x y z)) ≡ (pairTest (live n s) (s .graph 1) x y r and thirdTest (s .graph 1) x y z r)
 applies-halves n s has r x y z h = applies-allowed n s 1 has r (triple x y z) ∙ halves n (live n s) (s .graph 1) x y z r h
 
 -- CYCLE

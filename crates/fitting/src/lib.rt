@@ -7,17 +7,16 @@ ghost use mathlib.Core.Path.{_≡_};
 ghost use mathlib.Core.Bool.{Bool, true};
 ghost use Prim.Native.Nat.{ℕ, _+_, _*_, _≤_, _<_};
 ghost use lib.ListN.{length};
-ghost use lib.Dec.{eqb};
 ghost use Rattle.logic.specs.Search.{_and_};
 ghost use Rattle.logic.specs.Facts.{live, line, negatedAt, plainAt, isClash};
 ghost use Rattle.logic.specs.Rules.{CYCLE, triple, move, applies};
-ghost use Rattle.rows.specs.Square.{square};
 ghost use Rattle.facts.specs.Path.{graphOf, pathOf, repOf};
 ghost use Rattle.link_query.specs.Said.{said, Within};
 ghost use Rattle.rules.specs.Answers.{kindOf};
-ghost use Rattle.rules.specs.Tests.{pairTest, thirdTest, looped};
+ghost use Rattle.rules.specs.Tests.{pairTest, thirdTest, isNotCycle};
 ghost use Rattle.rules.specs.Allowed.{allowed};
-ghost use Rattle.clash.specs.Sections.{literalsIn, oneTerm, reachHeld, sameField};
+ghost use Rattle.literal_tests.specs.Tests.{oneTerm, reachHeld, sameField};
+ghost use Rattle.clash.specs.Sections.{literalsIn};
 
 // Term t is not replaced.
 fn is_live(s: Facts, n: usize, t: usize) -> bool
@@ -44,7 +43,7 @@ fn is_allowed(
     y: usize,
     z: usize,
 ) -> bool
-    ensures { λ r. ⌜ ((lives : ℕ → Bool) → alive ≡ lives x → looped (kindOf rule) ≡ true → r ≡ (pairTest lives (graphOf (now (link .entry)) (now (reach .entry))) x y (kindOf rule) and thirdTest (graphOf (now (link .entry)) (now (reach .entry))) x y z (kindOf rule))) ⌝ }
+    ensures { λ r. ⌜ ((lives : ℕ → Bool) → alive ≡ lives x → isNotCycle (kindOf rule) ≡ true → r ≡ (pairTest lives (graphOf (now (link .entry)) (now (reach .entry))) x y (kindOf rule) and thirdTest (graphOf (now (link .entry)) (now (reach .entry))) x y z (kindOf rule))) ⌝ }
 {
     match rule {
         Rule::Reflex => alive & !rows::is_held(reach, x, x) & (y == 0) & (z == 0),
@@ -109,7 +108,7 @@ pub fn applies(s: Facts, n: usize, rule: Rule, x: usize, y: usize, z: usize) -> 
 {
     let link = s.link;
     let reach = s.reach;
-    if rules::looped(rule) {
+    if rules::is_not_cycle(rule) {
         let alive = is_live(s, n, x);
         return is_allowed(rule, alive, &link, &reach, x, y, z);
     }
@@ -127,7 +126,7 @@ fn is_equality_clash(query: &[u8], at: usize, count: usize, rep: &[u8; 17], i: u
     if count < i {
         return false;
     }
-    clash::is_unequal_to_itself(query, at, i - 1, rep)
+    literal_tests::is_unequal_to_itself(query, at, i - 1, rep)
 }
 
 // Reachability literal i, from 1, is negated, and its fact is held.
@@ -142,7 +141,7 @@ fn is_reach_clash(query: &[u8], layout: Layout, s: Facts, i: usize) -> bool
     if count < i {
         return false;
     }
-    clash::is_held_negated(query, layout.links, layout.reach_at, i - 1, s)
+    literal_tests::is_held_negated(query, layout.links, layout.reach_at, i - 1, s)
 }
 
 // Data literal i, from 1, is negated, and literal j is a plain one of the same field and term.
@@ -167,7 +166,7 @@ fn is_field_clash(query: &[u8], at: usize, count: usize, rep: &[u8; 17], i: usiz
     }
     let field = query::field(query, at, i - 1);
     let term = facts::read_rep(rep, query::right(query, at, i - 1));
-    clash::is_field_partner(query, at, j - 1, rep, field, term)
+    literal_tests::is_field_partner(query, at, j - 1, rep, field, term)
 }
 
 // The clash line 9, section, i, j is a true one at the path.

@@ -145,6 +145,27 @@ no-ampersand : (w : List ℕ) → Stops conjunction w → (b : ℕ) (bs : List �
 no-ampersand [] q b bs e x = absurd (let z : _≡_ {A = ℕ} 0 1 = cc in omega arith)
 no-ampersand (c ∷ cs) q b bs e x = q .1 (heads e ∙ x)
 
+-- what calls are left, from one level to the next
+pub some-or : (n k : ℕ) → calls disjunction n ≤ k → 1 ≤ k
+unfolding calls
+some-or n k h = omega arith
+
+pub some-and : (n k : ℕ) → calls conjunction n ≤ k → 1 ≤ k
+unfolding calls
+some-and n k h = omega arith
+
+some-item : (n k : ℕ) → calls item n ≤ k → 1 ≤ k
+unfolding calls
+some-item n k h = omega arith
+
+pub or-fewer : (n k : ℕ) → calls disjunction n ≤ suc k → calls conjunction n ≤ k
+unfolding calls
+or-fewer n k h = omega arith
+
+pub and-fewer : (n k : ℕ) → calls conjunction n ≤ suc k → calls item n ≤ k
+unfolding calls
+and-fewer n k h = omega arith
+
 module _ (has : Letter → ℕ → Bool) where
   further-stops : (separator : ℕ) (join : Formula → Formula → Formula) (more : List ℕ → Reading) (f : Formula) (r : List ℕ) → ((b : ℕ) (bs : List ℕ) → r ≡ b ∷ bs → b ≡ separator → ⊥) → further separator join more f r ≡ done f r
   further-stops separator join more f [] n = unfold further in refl
@@ -180,26 +201,6 @@ module _ (has : Letter → ℕ → Bool) where
   split : (k : ℕ) → 1 ≤ k → (j : ℕ) × (k ≡ suc j)
   split zero h = absurd (omega arith)
   split (suc j) h = (j, refl)
-
-  some-or : (n k : ℕ) → calls disjunction n ≤ k → 1 ≤ k
-  unfolding calls
-  some-or n k h = omega arith
-
-  some-and : (n k : ℕ) → calls conjunction n ≤ k → 1 ≤ k
-  unfolding calls
-  some-and n k h = omega arith
-
-  some-item : (n k : ℕ) → calls item n ≤ k → 1 ≤ k
-  unfolding calls
-  some-item n k h = omega arith
-
-  or-fewer : (n k : ℕ) → calls disjunction n ≤ suc k → calls conjunction n ≤ k
-  unfolding calls
-  or-fewer n k h = omega arith
-
-  and-fewer : (n k : ℕ) → calls conjunction n ≤ suc k → calls item n ≤ k
-  unfolding calls
-  and-fewer n k h = omega arith
 
   pub complete : (level : Level) {t : List ℕ} {f : Formula} (x : Reads level t f) → AllPresent has f → (r : List ℕ) → Stops level r → NoDigit r → (left : ℕ) → Within left x → (k : ℕ) → calls level (length t + length r) ≤ k → read has k level left (t ++ r) ≡ done f r
   complete disjunction {t} {f} (one-and x) a r s n left l k₀ c =

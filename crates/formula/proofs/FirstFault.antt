@@ -2,7 +2,7 @@
 use Prim.Native.Nat.{ℕ, zero, suc, _+_, _-_, _≤_, _<_}
 use native.Mathlib.Omega.{arith}
 use mathlib.Core.Path.{_≡_, refl, sym, ap, ap₂, _∙_, subst}
-use mathlib.Core.Logic.{_⊎_, ⊎-elim, inl, inr}
+use mathlib.Core.Logic.{⊎-elim, inl, inr}
 use mathlib.Core.Bool.{Bool, true, false, not, cond}
 use mathlib.Core.List.{List, [], _∷_, _++_, append-assoc, append-nil}
 use lib.ListN.{length, getD, take, drop, length-append, List·getD-append}
@@ -15,7 +15,6 @@ use Rattle.text.specs.Text.{isDigit}
 use Rattle.formula.specs.Grammar.{Letter, E, R, D, B, letterByte, isPlace, shown, Text, Begins}
 use Rattle.formula.specs.Places.{Outside, byte, ended, digitsAt, Absent, occurrences, TooDeep, NoneBefore, FirstFault, wrong, deep}
 use Rattle.formula.specs.Reader.{Mark, mark, blank, opening, closing, ampersand, bar, other, letter, digit}
-use Rattle.formula.specs.Reader as reader
 use Rattle.formula.proofs.Marks.{Marked, marked, is-blank, is-opening, is-closing, is-ampersand, is-bar, is-letter, is-digit, mark-opening, mark-letter}
 use Rattle.formula.proofs.Scan.{State, wants, named, counted, after, fault, to, stop, closes, wantsBy, afterBy, move, endOf, scan, scan-stop}
 use Rattle.formula.proofs.Complete.{always}

@@ -4,7 +4,6 @@ use mathlib.Core.Path.{_≡_, refl}
 use mathlib.Core.Bool.{Bool, true, false, cond}
 use lib.Dec.{eqb}
 use borrow.Author.Tests.{eqb-true}
-use Rattle.logic.specs.Search.{_and_}
 use Rattle.text.specs.Text.{isDigit}
 use Rattle.formula.specs.Grammar.{Letter, E, R, D, B, letterByte}
 use Rattle.formula.specs.Reader.{Mark, mark, blank, opening, closing, ampersand, bar, other, letter, digit}

@@ -2,7 +2,7 @@
 use Prim.Native.Nat.{ℕ, zero, suc, _+_, _-_, _≤_, _<_}
 use native.Mathlib.Omega.{arith}
 use mathlib.Core.Path.{_≡_, refl, sym, ap, _∙_, subst}
-use mathlib.Core.Logic.{_⊎_, ⊎-elim}
+use mathlib.Core.Logic.{⊎-elim}
 use mathlib.Core.Bool.{Bool, true, false, not, cond}
 use mathlib.Core.List.{List, [], _∷_, _++_, append-assoc}
 use lib.ListN.{length}
@@ -88,7 +88,7 @@ digits-shorter (b ∷ bs) = go (isDigit b) (digits-shorter bs)
     go true ih = omega arith
     go false ih = omega arith
 
-all-digits : (bs : List ℕ) → all isDigit (digitsAt bs) ≡ true
+pub all-digits : (bs : List ℕ) → all isDigit (digitsAt bs) ≡ true
 unfolding digitsAt
 all-digits [] = unfold all in refl
 all-digits (b ∷ bs) = go (isDigit b) refl (all-digits bs)

@@ -20,7 +20,6 @@ use Rattle.formula.specs.Grammar.{Formula}
 use Rattle.formula.specs.Expansion.{Conjunction, expand}
 use Rattle.formula.specs.Places.{FirstFault}
 use Rattle.formula.specs.Reader.{Reading, readText}
-use Rattle.formula.specs.Reader as reader
 use Rattle.formula.specs.Call.{Input, Answer, refused, refuted, conjunction, Outcome, blank, isSatisfiable, verdictOn, firstOf, decided, afterReading, textOutcome, asRefusal, formulaCall}
 use Rattle.formula.specs.ReadingClaims.{Accepted, checked, presentIn, Passed, Taken, RefusalClaims}
 use Rattle.formula.proofs.ReadingClaims.{reading-claims}

@@ -6,7 +6,7 @@ use mathlib.Core.Path.{_≡_, refl, sym, ap, _∙_, subst, fun-ext}
 use mathlib.Core.Logic.{⊎-elim}
 use mathlib.Core.Bool.{Bool, true, false, cond}
 use mathlib.Core.List.{List, [], _∷_}
-use mathlib.Core.Option.{Option, none, some, Option·elim}
+use mathlib.Core.Option.{none, some, Option·elim}
 use lib.ListN.{length, getD, take, drop, replicate, getD-replicate, drop-of-length-le, length-drop}
 use lib.Seq.{drop-cons}
 use lib.Dec.{ltb, leb}
@@ -20,9 +20,9 @@ use Rattle.theory.proofs.Calls.Refusals.{one-link-laws}
 use Rattle.theory.proofs.Calls.VerdictCall.{VerdictCase, by-refusal, by-lines, by-model, verdict-case}
 use Rattle.text.proofs.Writing.{writes-taken}
 use Rattle.query.specs.LaysOut.{LaysOut, literalIn}
-use Rattle.query.specs.Answers.{CheckedAs}
+use Rattle.query_checks.specs.Answers.{CheckedAs}
 use Rattle.query.specs.declared.Layout.{Layout}
-use Rattle.query.specs.declared.Checked.the-variants as checked
+use Rattle.query_checks.specs.declared.Checked.the-variants as checked
 use Rattle.query.proofs.Literals.{listed-length, equalities-listed, reachability-listed, fields-listed}
 use Rattle.formula.specs.Grammar.{Letter, E, R, D, B, Formula, literal, both, either, disjunction}
 use Rattle.formula.specs.Expansion.{Conjunction, expand}

@@ -1,17 +1,16 @@
 // Formulas with or (02, R-7): the first satisfiable conjunction and its heap.
 use formula_reader::Found;
 use prover::Answer;
-use query::Checked;
 use query::Layout;
+use query_checks::Checked;
 ghost use mathlib.Core.Path.{_≡_};
 ghost use mathlib.Core.Bool.{true};
-ghost use Prim.Native.Nat.{ℕ, _≤_};
 ghost use lib.ListN.{length, replicate};
 ghost use Rattle.formula.specs.Call.{isSatisfiable, textOutcome, formulaCall};
 ghost use Rattle.formula_reader.specs.Marked.{Pickable};
 ghost use Rattle.query.specs.LaysOut.{LaysOut};
 ghost use Rattle.prover.specs.Promise.{meaning};
-ghost use Rattle.formula_call.specs.FormulaPromise.{formulaInput, formulaMeaning, DoesFormula, DecidesOne, FormulaAt, DecidesFirst};
+ghost use Rattle.formula_call.specs.FormulaPromise.{formulaInput, DoesFormula, DecidesOne, FormulaAt, DecidesFirst};
 
 // What the formula call answers: the number of the first satisfiable conjunction, "refuted", or a refusal's number and place.
 pub enum FormulaAnswer {
@@ -112,10 +111,10 @@ pub fn formula(order: &[u8], query: &[u8], text: &[u8], report: &mut [u8]) -> Fo
     ensures { λ r. ⌜ DoesFormula (formulaCall (formulaInput (now (order .entry)) (now (query .entry)) (now (text .entry)) (now (report .entry)))) r (now (report .exit)) ⌝ }
 {
     lent::clear(report);
-    if !query::is_order(order) {
+    if !order_list::is_order(order) {
         return FormulaAnswer::Refused(1, 0);
     }
-    match query::check(query) {
+    match query_checks::check(query) {
         Checked::Refused(k, place) => FormulaAnswer::Refused(k, place),
         Checked::Accepted(layout) => {
             if report.len() < 53 {

@@ -1,7 +1,7 @@
 // What formulaverdict prints, made in a lent buffer. The program reads, asks for the text and writes it.
 use formula_call::FormulaAnswer;
 ghost use mathlib.Core.Path.{_≡_};
-ghost use Prim.Native.Nat.{ℕ, _+_, _*_, _≤_, _<_, min};
+ghost use Prim.Native.Nat.{_+_, _*_, _≤_, _<_, min};
 ghost use lib.ListN.{length, getD};
 ghost use mathlib.Core.Bool.{true};
 ghost use Rattle.logic.specs.Shown.{wellFormed};

@@ -10,12 +10,13 @@ use lib.ListN.{length, getD, drop, drop-of-length-le}
 use lib.Seq.{drop-cons}
 use lib.Dec.{eqb, ltb, leb}
 use borrow.Author.Tests.{eq-eqb, ne-eqb, lt-ltb, le-ltb, le-leb, lt-leb, ltb-true, ltb-false, leb-true, leb-false}
-use Rattle.logic.specs.Search.{_and_, all}
+use Rattle.logic.specs.Search.{_and_}
 use Rattle.theory.proofs.Basics.Search.{bool-cases, true-false}
 use Rattle.text.specs.Text.{isDigit}
 use Rattle.formula.specs.Grammar.{Letter, E, R, D, B, isPlace, shown}
 use Rattle.formula.specs.Places.{digitsAt, pastDigits}
-use Rattle.formula.specs.Reader.{mark, blank, opening, letter, closing, ampersand, bar, other, digit, pastBlanks}
+use Rattle.formula.specs.Reader.{mark, blank, letter, closing, ampersand, bar, other, digit, pastBlanks}
+use Rattle.formula.proofs.Reading.{all-digits}
 use Rattle.formula_reader.specs.Tree.{letterCode, capped}
 use Rattle.formula_reader.specs.Answers.{stands, beginsNone, saturated}
 
@@ -40,15 +41,6 @@ digit-high b h = rw (le-leb 48 b (omega arith), lt-leb b 57 h)
 pub digit-in : (b : ℕ) → 48 ≤ b → b ≤ 57 → isDigit b ≡ true
 unfolding isDigit _and_
 digit-in b h k = rw (le-leb 48 b h, le-leb b 57 k)
-
-all-digits : (bs : List ℕ) → all isDigit (digitsAt bs) ≡ true
-unfolding digitsAt all
-all-digits [] = refl
-all-digits (b ∷ bs) = go (isDigit b) refl (all-digits bs)
-  where
-    go : (d : Bool) → isDigit b ≡ d → all isDigit (digitsAt bs) ≡ true → all isDigit (cond d (b ∷ digitsAt bs) []) ≡ true
-    go true e ih = unfold all _and_ in rw (e, ih)
-    go false e ih = refl
 
 module _ (text : List ℕ) (i : ℕ) (h : i < length text) where
   pub next-byte : drop i text ≡ getD text i 0 ∷ drop (i + 1) text
@@ -173,10 +165,6 @@ begins-none b o e r d n = rw (ne-eqb b 40 o, ne-eqb b 69 e, ne-eqb b 82 r, ne-eq
     go false false false true a₅ = unfold beginsNone in refl
     go false false false false true = unfold beginsNone in refl
     go false false false false false = unfold beginsNone in refl
-
-pub mark-opening : {b : ℕ} → b ≡ 40 → mark b ≡ opening
-unfolding mark
-mark-opening e = rw e refl
 
 module _ {b : ℕ} where
   pub mark-E : b ≡ 69 → (l : Letter) × (mark b ≡ letter l) × (0 ≡ letterCode l)

@@ -10,7 +10,7 @@ use lib.Seq.{getD-append-add, getD-set-same, getD-set-other}
 use lib.Dec.{eqb}
 use borrow.Author.Tests.{ltb-true, eqb-true, eqb-false}
 use Rattle.logic.specs.Search.{_and_, _or_, any, flatMap}
-use Rattle.theory.proofs.Basics.Search.{true-false}
+use Rattle.theory.proofs.Basics.Search.{true-false, or-false}
 use Rattle.formula.specs.Grammar.{Letter, E, R, D, B, letterByte, Formula, literal, both, either}
 use Rattle.formula.specs.Expansion.{Conjunction, expand}
 use Rattle.formula.specs.Meaning.{names, AllPresent}
@@ -114,11 +114,6 @@ code-bound E = omega arith
 code-bound R = omega arith
 code-bound D = omega arith
 code-bound B = omega arith
-
-or-false : (b : Bool) → b or false ≡ b
-unfolding _or_
-or-false true = refl
-or-false false = refl
 
 or-true : (b : Bool) → b or true ≡ true
 unfolding _or_

@@ -173,14 +173,6 @@ module _ (counts : List ℕ) (left : ℕ) where
   unfolding read
   and-step k bs = refl
 
-pub or-fewer : (n k : ℕ) → calls disjunction n ≤ suc k → calls conjunction n ≤ k
-unfolding calls
-or-fewer n k h = omega arith
-
-pub and-fewer : (n k : ℕ) → calls conjunction n ≤ suc k → calls item n ≤ k
-unfolding calls
-and-fewer n k h = omega arith
-
 pub or-later : (m n k : ℕ) → m < n → calls conjunction n ≤ k → calls disjunction m ≤ k
 unfolding calls
 or-later m n k h l = omega arith
@@ -188,14 +180,6 @@ or-later m n k h l = omega arith
 pub and-later : (m n k : ℕ) → m < n → calls item n ≤ k → calls conjunction m ≤ k
 unfolding calls
 and-later m n k h l = omega arith
-
-pub or-some : (n k : ℕ) → calls disjunction n ≤ k → 1 ≤ k
-unfolding calls
-or-some n k h = omega arith
-
-pub and-some : (n k : ℕ) → calls conjunction n ≤ k → 1 ≤ k
-unfolding calls
-and-some n k h = omega arith
 
 -- An item
 

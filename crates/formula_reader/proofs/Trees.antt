@@ -1,5 +1,5 @@
 -- Nodes that are written, and trees that stay.
-use Prim.Native.Nat.{ℕ, _+_, _-_, _*_, _≤_, _<_}
+use Prim.Native.Nat.{ℕ, _+_, _*_, _≤_, _<_}
 use native.Mathlib.Omega.{arith}
 use native.Mathlib.Nat.{mul-le-mul, zero-mul, suc-mul, add-comm}
 use mathlib.Core.Path.{_≡_, sym, ap, ap₂, _∙_, subst}

@@ -1,8 +1,7 @@
 // Reading a formula's text: readers for or, and, item that call each other and leave the formula as nodes in an array.
 ghost use mathlib.Core.Path.{_≡_};
-ghost use mathlib.Core.Bool.{Bool, true};
-ghost use mathlib.Core.List.{List, []};
-ghost use Prim.Native.Nat.{ℕ, suc, _+_, _*_, _-_, _≤_, _<_};
+ghost use mathlib.Core.Bool.{true};
+ghost use Prim.Native.Nat.{_+_, _*_, _-_, _≤_, _<_};
 ghost use lib.ListN.{length, getD, drop};
 ghost use Rattle.formula.specs.Grammar.{isPlace, shown, disjunction, conjunction, item};
 ghost use Rattle.formula.specs.Places.{digitsAt, pastDigits};

@@ -1,5 +1,5 @@
 -- Greatest common divisors, lowest terms, and the sum of shares. Assumes nothing.
-use Prim.Native.Nat.{ℕ, zero, suc, _+_, _-_, _*_, _/_, _%_, _≤_, _<_, _∣_}
+use Prim.Native.Nat.{ℕ, zero, suc, _+_, _*_, _/_, _%_, _≤_, _<_, _∣_}
 use native.Mathlib.Omega.{arith}
 use native.Mathlib.Nat.{dvd-refl, dvd-zero, dvd-mod-iff, dvd-mul-left, mul-dvd-mul-left, dvd-of-mul-dvd-mul-left, pos-of-dvd-of-pos, eq-one-of-dvd-one, mul-div-cancel', eq-of-mul-eq-mul-right, add-mul, mul-assoc, mul-comm, mul-left-comm, mul-one, mul-suc, zero-mul, mod-lt}
 use mathlib.Core.Path.{_≡_, refl, sym, ap, subst, _∙_}

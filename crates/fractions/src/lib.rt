@@ -1,6 +1,6 @@
 // Shares of a total as fractions in lowest terms (02, R-14).
 ghost use mathlib.Core.Path.{_≡_};
-ghost use Prim.Native.Nat.{ℕ, _+_, _≤_, _<_};
+ghost use Prim.Native.Nat.{_+_, _≤_, _<_};
 ghost use lib.ListN.{length};
 ghost use Rattle.text.specs.Text.{Writes};
 ghost use Rattle.fractions.specs.Fractions.{gcd, share, totalOf, fractionText, sharesText};

@@ -15,8 +15,7 @@ use Rattle.logic.specs.Shown.{orZero, nodes, placeOf}
 use Rattle.theory.proofs.Basics.Search.{bool-cases, select-mem, from-mem}
 use Rattle.theory.proofs.Completeness.Placed.{length-from}
 use Rattle.rows.proofs.Loops.{from-next}
-use Rattle.heap_nodes.specs.declared.Node.{Node}
-use Rattle.heap_nodes.specs.Nodes.{nodeOf, marked, nodesBy, Numbers}
+use Rattle.heap_nodes.specs.Nodes.{nodeOf, marked, nodesBy}
 use Rattle.rows.proofs.Selections.{terms-from, any-end, any-turn, select-end, select-here, select-skip, select-alike}
 use Rattle.completion.proofs.Links.{number-set}
 use Rattle.completion.proofs.Completing.{live-selected}
@@ -157,13 +156,13 @@ module _ (q : ℕ → Bool) (n t count : ℕ) (whole : ℕ) (left : count + leng
   counted-all h = let s = ap length (select-end q (n + 1) t (omega arith)) in omega arith
 
 -- a list that holds m everywhere
-pub node-repeat : (m x : ℕ) → x ≤ 16 → nodeOf (replicate 17 (record { 0 = m })) x ≡ m
+pub node-repeat : (m x : ℕ) → x ≤ 16 → nodeOf (replicate 17 m) x ≡ m
 unfolding nodeOf
-node-repeat m x h = ap (λ (v : Node). v .0) (getD-replicate 17 x (record { 0 = m }) (record { 0 = 0 }) (omega arith))
+node-repeat m x h = getD-replicate 17 x m 0 (omega arith)
 
-pub node-set : (list : List Node) (t : ℕ) → t < length list → (v : Node) (x : ℕ) → nodeOf (set list t v) x ≡ cond (eqb x t) (v .0) (nodeOf list x)
+pub node-set : (list : List ℕ) (t : ℕ) → t < length list → (v x : ℕ) → nodeOf (set list t v) x ≡ cond (eqb x t) v (nodeOf list x)
 unfolding nodeOf
-node-set list t h v x = number-set (λ u. u .0) (record { 0 = 0 }) list t h v x
+node-set list t h v x = number-set list t h v x
 
 -- Every term
 
@@ -186,15 +185,3 @@ every-length n = ap length (every-selected n) ∙ length-from n 1
 pub marked-below : (marks : List Bool) (n x : ℕ) → List·Memᴰ x (marked marks n) → x ≤ n
 unfolding marked
 marked-below marks n x m = let r = from-mem (n + 1 - 0) 0 x (select-mem (λ t. getD marks t false) x (from (n + 1 - 0) 0) m .0) in omega arith
-
-place-below : (x : ℕ) (ts : List ℕ) → placeOf x ts ≤ length ts
-unfolding placeOf
-place-below x [] = omega arith
-place-below x (t ∷ ts) = go (eqb t x) (place-below x ts)
-  where
-    go : (b : Bool) → placeOf x ts ≤ length ts → cond b 1 (suc (placeOf x ts)) ≤ suc (length ts)
-    go true h = omega arith
-    go false h = omega arith
-
-pub numbers-below : (list : List Node) (ts : List ℕ) → Numbers list ts → length ts ≤ 16 → (t : ℕ) → t ≤ 16 → nodeOf list t ≤ 16
-numbers-below list ts e h t l = let p = place-below t ts in omega (arith, e t l)

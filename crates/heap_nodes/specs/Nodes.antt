@@ -7,11 +7,10 @@ use lib.ListN.{getD}
 use lib.Dec.{eqb}
 use Rattle.logic.specs.Search.{from, select}
 use Rattle.logic.specs.Shown.{orZero, placeOf}
-use Rattle.heap_nodes.specs.declared.Node.{Node}
 
 -- the node of a term
-unfoldable pub nodeOf : List Node → ℕ → ℕ
-nodeOf nodes t = getD nodes t (record { 0 = 0 }) .0
+unfoldable pub nodeOf : List ℕ → ℕ → ℕ
+nodeOf nodes t = getD nodes t 0
 
 -- the numbers to n that are marked, ascending
 unfoldable pub marked : List Bool → ℕ → List ℕ
@@ -22,5 +21,5 @@ unfoldable pub nodesBy : (ℕ → ℕ) → ℕ → List ℕ
 nodesBy rep n = orZero (select (λ t. eqb (rep t) t) (from (n + 1 - 1) 1))
 
 -- the term-to-node list: each term's place among the terms that are nodes
-abbrev pub Numbers : List Node → List ℕ → Type 0
+abbrev pub Numbers : List ℕ → List ℕ → Type 0
 Numbers nodes ts = (t : ℕ) → t ≤ 16 → nodeOf nodes t ≡ placeOf t ts

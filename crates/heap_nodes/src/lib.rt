@@ -1,6 +1,6 @@
 // The nodes of the heap shown: the terms that stand, numbered, and a byte of each in a buffer.
 ghost use mathlib.Core.Path.{_≡_};
-ghost use Prim.Native.Nat.{ℕ, _+_, _≤_};
+ghost use Prim.Native.Nat.{ℕ, _+_, _≤_, _<_};
 ghost use mathlib.Core.List.{map};
 ghost use lib.ListN.{length, getD};
 ghost use Rattle.facts.specs.Path.{repOf};
@@ -47,12 +47,13 @@ pub fn count_marks(marks: &[bool; 17], n: usize) -> usize
     count
 }
 
-// The term-to-node list, for m terms that are nodes.
-pub fn number_nodes(marks: &[bool; 17], n: usize, m: usize) -> [Node; 17]
-    requires { ⌜ (n ≤ 16) × (m ≡ length (marked (now marks) n)) ⌝ }
+// The term-to-node list, for m terms that are nodes: the node of each term, as a byte.
+pub fn number_nodes(marks: &[bool; 17], n: usize, m: usize) -> [u8; 17]
+    requires { ⌜ (n ≤ 16) × (m ≤ 16) × (m ≡ length (marked (now marks) n)) ⌝ }
     ensures { λ r. ⌜ Numbers r (marked (now (marks .entry)) n) ⌝ }
 {
-    let mut nodes = [Node(m); 17];
+    let last = m as u8;
+    let mut nodes = [last; 17];
     let mut k: usize = 0;
     let end = n + 1;
     for t in 0..end {
@@ -60,45 +61,46 @@ pub fn number_nodes(marks: &[bool; 17], n: usize, m: usize) -> [Node; 17]
             continue;
         }
         k += 1;
-        nodes[t] = Node(k);
+        nodes[t] = k as u8;
     }
     nodes
 }
 
-// The node of a term, as a byte.
-pub fn node_byte(nodes: [Node; 17], t: usize) -> u8
-    requires { ⌜ (t ≤ 16) × ((u : ℕ) → u ≤ 16 → nodeOf nodes u ≤ 16) ⌝ }
-    ensures { λ r. ⌜ r ≡ nodeOf nodes t ⌝ }
+// The node of a term, by the term-to-node list: a term's number becomes a node's in no other way.
+pub fn node_of(nodes: &[u8; 17], t: Term) -> Node
+    requires { ⌜ t .0 ≤ 16 ⌝ }
+    ensures { λ r. ⌜ (r .0 ≡ nodeOf (now (nodes .entry)) (t .0)) × (r .0 < 256) ⌝ }
 {
-    let number = nodes[t];
-    number.0 as u8
+    let at = t.0;
+    Node(rows::wide(nodes[at]))
 }
 
 // The node of the term that each number to n links to.
-pub fn nodes_linked(nodes: [Node; 17], links: [Term; 17], n: usize) -> [u8; 17]
-    requires { ⌜ (n ≤ 16) × ((t : ℕ) → t ≤ n → linkOf links t ≤ 16) × ((t : ℕ) → t ≤ 16 → nodeOf nodes t ≤ 16) ⌝ }
-    ensures { λ r. ⌜ ((t : ℕ) → t ≤ n → getD r t 0 ≡ nodeOf nodes (linkOf links t)) ⌝ }
+pub fn nodes_linked(nodes: &[u8; 17], links: &[u8; 17], n: usize) -> [u8; 17]
+    requires { ⌜ (n ≤ 16) × ((t : ℕ) → t ≤ n → linkOf (now links) t ≤ 16) ⌝ }
+    ensures { λ r. ⌜ ((t : ℕ) → t ≤ n → getD r t 0 ≡ nodeOf (now (nodes .entry)) (linkOf (now (links .entry)) t)) ⌝ }
 {
     let mut bytes = [0u8; 17];
     let mut t: usize = 0;
     while t <= n {
-        let to = links[t];
-        bytes[t] = node_byte(nodes, to.0);
+        let to = rows::wide(links[t]);
+        let node = node_of(nodes, Term(to));
+        bytes[t] = node.0 as u8;
         t += 1;
     }
     bytes
 }
 
 // The node of each term.
-pub fn nodes_of_terms(nodes: [Node; 17], rep: &[u8; 17], n: usize) -> [u8; 17]
-    requires { ⌜ (n ≤ 16) × ((t : ℕ) → 1 ≤ t → t ≤ n → repOf (now rep) t ≤ 16) × ((t : ℕ) → t ≤ 16 → nodeOf nodes t ≤ 16) ⌝ }
-    ensures { λ r. ⌜ ((t : ℕ) → 1 ≤ t → t ≤ n → getD r t 0 ≡ nodeOf nodes (repOf (now (rep .entry)) t)) ⌝ }
+pub fn nodes_of_terms(nodes: &[u8; 17], rep: &[u8; 17], n: usize) -> [u8; 17]
+    requires { ⌜ (n ≤ 16) × ((t : ℕ) → 1 ≤ t → t ≤ n → repOf (now rep) t ≤ 16) ⌝ }
+    ensures { λ r. ⌜ ((t : ℕ) → 1 ≤ t → t ≤ n → getD r t 0 ≡ nodeOf (now (nodes .entry)) (repOf (now (rep .entry)) t)) ⌝ }
 {
     let mut bytes = [0u8; 17];
     let mut t: usize = 1;
     while t <= n {
-        let to = facts::read_rep(rep, Term(t));
-        bytes[t] = node_byte(nodes, to.0);
+        let node = node_of(nodes, facts::read_rep(rep, Term(t)));
+        bytes[t] = node.0 as u8;
         t += 1;
     }
     bytes
@@ -110,10 +112,10 @@ pub fn put_nodes(
     at: usize,
     bytes: &[u8; 17],
     marks: &[bool; 17],
-    nodes: [Node; 17],
+    nodes: &[u8; 17],
     n: usize,
 )
-    requires { ⌜ (n ≤ 16) × (at + length (marked (now marks) n) ≤ length (now buffer)) × Numbers nodes (marked (now marks) n) ⌝ }
+    requires { ⌜ (n ≤ 16) × (at + length (marked (now marks) n) ≤ length (now buffer)) × Numbers (now nodes) (marked (now marks) n) ⌝ }
     ensures { λ r. ⌜ Appends (now (buffer .entry)) (now (buffer .exit)) at (map (λ t. getD (now (bytes .entry)) t 0) (marked (now (marks .entry)) n)) ⌝ }
 {
     let end = n + 1;
@@ -121,7 +123,7 @@ pub fn put_nodes(
         if !marks[t] {
             continue;
         }
-        let node = nodes[t];
+        let node = node_of(nodes, Term(t));
         let to = at + node.0 - 1;
         buffer[to] = bytes[t];
     }

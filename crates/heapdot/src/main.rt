@@ -4,7 +4,7 @@
 use dot::DotAnswer;
 use libc::STDERR_FILENO;
 use libc::STDOUT_FILENO;
-ghost use Prim.Native.Nat.{ℕ, _≤_};
+ghost use Prim.Native.Nat.{_≤_};
 
 // The value of a hex digit, or 16.
 fn hex_value(b: u8) -> u8

@@ -26,16 +26,12 @@ use Rattle.joiner.specs.declared.JoinAnswer.{JoinAnswer}
 use Rattle.joiner.specs.declared.JoinAnswer.the-variants as answer
 use Rattle.joiner.specs.declared.HandBack.{HandBack}
 use Rattle.joiner.specs.declared.HandBack.the-variants as back
+use Rattle.wording.proofs.Texts.{behind-length}
 use Rattle.join_printing.specs.JoinText.{queryIn, behindQuery, hexLine, answerText, joinedText, partText, handedText, lineIn, toldText, joinqueriesText}
 
 -- bytes in hex, from i on
 abbrev pub left : List ℕ → ℕ → List ℕ
 left bytes i = behind (map hexByte (drop i bytes))
-
-behind-length : (xs : List ℕ) → length (behind (map hexByte xs)) ≡ 3 * length xs + 1
-unfolding behind hexByte
-behind-length [] = refl
-behind-length (x ∷ xs) = let ih = behind-length xs in omega arith
 
 module _ (bytes : List ℕ) (i : ℕ) where
   pub left-next : i < length bytes → left bytes i ≡ (ascii " " ++ hexByte (getD bytes i 0)) ++ left bytes (i + 1)

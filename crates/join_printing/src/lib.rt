@@ -3,7 +3,7 @@ use joiner::HandBack;
 use joiner::JoinAnswer;
 ghost use mathlib.Core.Path.{_≡_};
 ghost use mathlib.Core.List.{_++_, map};
-ghost use Prim.Native.Nat.{ℕ, _+_, _≤_};
+ghost use Prim.Native.Nat.{_+_, _≤_};
 ghost use lib.ListN.{length, drop, take};
 ghost use Rattle.text.specs.Text.{Writes, ascii, decimal, hexByte};
 ghost use Rattle.wording.specs.Words.{behind, refusedText};

@@ -12,11 +12,11 @@ use Rattle.logic.specs.Search.{_and_, all}
 use Rattle.logic.specs.Query.{Query, firstByte, decode}
 use Rattle.logic.specs.Calls.{refused, accepts}
 use Rattle.query.specs.LaysOut.{LaysOut, literalIn}
-use Rattle.query.specs.Answers.{CheckedAs}
+use Rattle.query_checks.specs.Answers.{CheckedAs}
 use Rattle.query.specs.declared.Layout.{Layout}
-use Rattle.query.specs.declared.Checked.the-variants as checked
+use Rattle.query_checks.specs.declared.Checked.the-variants as checked
 use Rattle.query.proofs.Literals.{listed-length, equalities-listed, reachability-listed, fields-listed}
-use Rattle.query.proofs.Ranges.{checked-accepts}
+use Rattle.query_checks.proofs.Checks.{checked-accepts}
 use Rattle.joining.specs.Pairs.{pairsOf, hasTerms, isPairList}
 use Rattle.joining.specs.Call.{queryRefusal}
 use Rattle.joining.specs.HandBack.{Handed, literalsIn, startIn, placeIn, isAmong, handBackOf, handBackCall, partOf}

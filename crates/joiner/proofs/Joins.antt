@@ -5,15 +5,15 @@ use mathlib.Core.Path.{_≡_, refl, sym, ap, _∙_, subst}
 use mathlib.Core.Bool.{true, false}
 use mathlib.Core.List.{List}
 use mathlib.Core.Option.{Option·elim}
-use lib.ListN.{length, replicate, length-replicate}
+use lib.ListN.{length, replicate}
 use borrow.Author.Tests.{le-leb, lt-leb}
 use Rattle.logic.specs.Search.{_and_}
 use Rattle.logic.specs.Query.{termCount, decode}
 use Rattle.text.specs.Text.{Writes}
 use Rattle.text.proofs.Writing.{writes-blank, writes-length}
-use Rattle.query.specs.Answers.{CheckedAs}
+use Rattle.query_checks.specs.Answers.{CheckedAs}
 use Rattle.query.specs.declared.Layout.{Layout}
-use Rattle.query.specs.declared.Checked.the-variants as checked
+use Rattle.query_checks.specs.declared.Checked.the-variants as checked
 use Rattle.joining.specs.Pairs.{pairsOf, isPairList}
 use Rattle.encoding.specs.QueryBytes.{encode, withinLimits}
 use Rattle.joining.specs.Joined.{joined}
@@ -23,13 +23,6 @@ use Rattle.joiner.specs.Promise.{Does, Passing}
 use Rattle.joiner.specs.declared.JoinAnswer.{JoinAnswer}
 use Rattle.joiner.specs.declared.JoinAnswer.the-variants as answer
 use Rattle.joiner.proofs.Answers.{refused-query, passed-query}
-
--- a buffer that was cleared
-pub blank-again : (bytes : List ℕ) (n : ℕ) → bytes ≡ replicate n 0 → bytes ≡ replicate (length bytes) 0
-blank-again bytes n e = e ∙ ap (λ (k : ℕ). replicate k 0) (sym (ap length e ∙ length-replicate n 0))
-
-pub blank-long : (bytes : List ℕ) (n : ℕ) → bytes ≡ replicate n 0 → length bytes ≡ n
-blank-long bytes n e = ap length e ∙ length-replicate n 0
 
 -- Two queries that pass
 

@@ -18,6 +18,7 @@ use Rattle.entries.proofs.Loops.{drop-next}
 use Rattle.joining.specs.Pairs.{Pair, pairs, pairsOf, hasTerms}
 use Rattle.encoding.specs.QueryBytes.{signByte, literalBytes}
 use Rattle.joining.specs.Joined.{raisedEntry, raised, pairLiteral}
+use Rattle.rows.proofs.Selections.{and-both}
 use Rattle.joiner.specs.Bytes.{Small, SmallEntries, SmallPairs, pairOf}
 
 -- What is left of a list that is read by its places, as bytes
@@ -160,16 +161,11 @@ module _ {A : Type 0} (p : A → Bool) (f : ℕ → A) (count : ℕ) where
   unfolding all _and_
   test-next k h e = rw (listed-next f count k h, e)
 
-and-same : (a b : Bool) → a && b ≡ a and b
-unfolding _and_
-and-same true b = refl
-and-same false b = refl
-
 pub has-terms-is : (n m a b : ℕ) → ltb 0 a && leb a n && (ltb 0 b && leb b m) ≡ hasTerms n m (pairOf a b)
 unfolding hasTerms
 has-terms-is n m a b =
-    and-same (ltb 0 a && leb a n) (ltb 0 b && leb b m) ∙ ap (λ (x : Bool). x and (ltb 0 b && leb b m)) (and-same (ltb 0 a) (leb a n))
-    ∙ ap (λ (x : Bool). ltb 0 a and leb a n and x) (and-same (ltb 0 b) (leb b m))
+    and-both (ltb 0 a && leb a n) (ltb 0 b && leb b m) ∙ ap (λ (x : Bool). x and (ltb 0 b && leb b m)) (and-both (ltb 0 a) (leb a n))
+    ∙ ap (λ (x : Bool). ltb 0 a and leb a n and x) (and-both (ltb 0 b) (leb b m))
 
 pub sign-plain : {plain : Bool} → plain ≡ true → 1 ∷ [] ≡ signByte plain ∷ []
 unfolding signByte

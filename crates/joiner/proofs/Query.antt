@@ -4,14 +4,14 @@ use native.Mathlib.Omega.{arith}
 use native.Mathlib.Nat.{zero-add}
 use mathlib.Core.Path.{_≡_, refl, sym, ap, _∙_, subst}
 use mathlib.Core.Logic.{⊎-elim}
-use mathlib.Core.Bool.{Bool, true, false, _&&_, cond}
+use mathlib.Core.Bool.{Bool, true, false, cond}
 use mathlib.Core.List.{List, [], _∷_, _++_, map, append-assoc, List·Memᴰ, List·Memᴰ·cases-cons, List·Memᴰ·not-nil}
 use lib.ListN.{length, getD, take, drop, length-append, length-map}
 use lib.Dec.{eqb, leb}
 use borrow.Author.Tests.{leb-true, eqb-true}
 use Rattle.logic.specs.Search.{_and_, _or_, flatMap}
 use Rattle.logic.specs.Query.{Literal, Entries, Query, termCount, entryOf, namesNil, argumentOf, firstByte, literals, decode}
-use Rattle.theory.proofs.Basics.Search.{and-left, and-right, all-true}
+use Rattle.theory.proofs.Basics.Search.{and-left, and-right, all-true, flatMap-append}
 use Rattle.theory.proofs.Basics.Compare.{eq-cases}
 use Rattle.theory.proofs.Basics.Count.{length-flatMap}
 use Rattle.theory.proofs.Query.Tied.{Accepted, InTerms}
@@ -24,6 +24,7 @@ use Rattle.joining.specs.Joined.{raisedEntry, raised, pairLiteral, joined}
 use Rattle.encoding.proofs.Encoded.{Limits, within-limits}
 use Rattle.encoding.proofs.Decoded.{accepted-encodable}
 use Rattle.joining.proofs.Accepted.{Paired, pair-terms, count-joined}
+use Rattle.rows.proofs.Selections.{and-both}
 use Rattle.joiner.specs.Bytes.{Small, SmallEntries, SmallPairs, keepsLimits, Bounded}
 use Rattle.joiner.specs.Promise.{Passing}
 use Rattle.joiner.proofs.Laws.{pairIn, pairs-are, entries-long, literals-long}
@@ -48,11 +49,6 @@ unfolding raised
 literal-none l =
     ap (λ (i : ℕ). record { plain = l .plain; link = l .link; left = i; right = 0 + l .right }) (zero-add (l .left))
     ∙ ap (λ (i : ℕ). record { plain = l .plain; link = l .link; left = l .left; right = i }) (zero-add (l .right))
-
-flatMap-append : {A B : Type 0} (g : A → List B) (xs ys : List A) → flatMap g (xs ++ ys) ≡ flatMap g xs ++ flatMap g ys
-unfolding flatMap
-flatMap-append g [] ys = refl
-flatMap-append {B} g (x ∷ xs) ys = ap (λ (zs : List B). g x ++ zs) (flatMap-append g xs ys) ∙ sym (append-assoc (g x) (flatMap g xs) (flatMap g ys))
 
 section-is : (c : ℕ) (xs ys ws : List Literal) → c ≡ length ws → ws ≡ xs ++ ys → c ∷ (flatMap literalBytes xs ++ flatMap literalBytes ys) ≡ sectionBytes ws
 unfolding sectionBytes
@@ -153,17 +149,12 @@ module _ (first second pairs : List ℕ) (f s : Layout) (pf : Passing f first) (
   field-sum =
       length-append (decode first .fields) _ ∙ omega (arith, field-counted f first (pf .laid), field-counted s second (ps .laid), length-map (decode second .fields) (raised 0 (termCount (decode first))))
 
-  and-same : (x y : Bool) → x && y ≡ x and y
-  unfolding _and_
-  and-same true y = refl
-  and-same false y = refl
-
   -- "a limit passed", as the code tests it
   pub limits-same : (count : ℕ) → count ≡ getD pairs 0 0 → keepsLimits f s count ≡ withinLimits whole
   unfolding keepsLimits withinLimits
   limits-same count e =
       rw (terms-sum, equal-sum, reach-sum, field-sum, e)
-      (and-same _ _ ∙ ap (λ (x : Bool). x and leb (f .«field_count» + s .«field_count») 60) (and-same _ _ ∙ ap (λ (x : Bool). x and leb (f .«reach_count» + s .«reach_count») 60) (and-same _ _)))
+      (and-both _ _ ∙ ap (λ (x : Bool). x and leb (f .«field_count» + s .«field_count») 60) (and-both _ _ ∙ ap (λ (x : Bool). x and leb (f .«reach_count» + s .«reach_count») 60) (and-both _ _)))
 
   pub first-bounded : Bounded f
   first-bounded =

@@ -1,17 +1,17 @@
 // Two queries joined into one, and the hand-back of the literal that a clash line names. No call asks anything of its caller.
-use query::Checked;
 use query::Layout;
+use query_checks::Checked;
 ghost use mathlib.Core.Path.{_≡_};
 ghost use mathlib.Core.Bool.{true};
 ghost use mathlib.Core.List.{[], _∷_, _++_, map};
 ghost use Prim.Native.Nat.{_+_, _*_, _≤_, _<_};
 ghost use lib.ListN.{length, replicate, getD, take, drop};
 ghost use Rattle.logic.specs.Search.{all, flatMap};
-ghost use Rattle.logic.specs.Query.{termCount, literals, decode};
+ghost use Rattle.logic.specs.Query.{literals, decode};
 ghost use Rattle.query.specs.LaysOut.{LaysOut};
 ghost use Rattle.text.specs.Text.{Writes};
 ghost use Rattle.joining.specs.Pairs.{pairsOf, hasTerms, isPairList};
-ghost use Rattle.encoding.specs.QueryBytes.{signByte, literalBytes, sectionBytes, encode, withinLimits};
+ghost use Rattle.encoding.specs.QueryBytes.{signByte, literalBytes, encode, withinLimits};
 ghost use Rattle.joining.specs.Joined.{raisedEntry, raised, pairLiteral, joined};
 ghost use Rattle.joining.specs.Call.{joinOf, joinCall};
 ghost use Rattle.joining.specs.HandBack.{literalsIn, startIn, placeIn, handBackOf, handBackCall, partOf};
@@ -308,9 +308,9 @@ pub fn join(first: &[u8], second: &[u8], pairs: &[u8], out: &mut [u8]) -> JoinAn
     ensures { λ r. ⌜ Does (joinCall (now (first .entry)) (now (second .entry)) (now (pairs .entry)) (length (now (out .entry)))) r (now (out .exit)) ⌝ }
 {
     lent::clear(out);
-    match query::check(first) {
+    match query_checks::check(first) {
         Checked::Refused(k, place) => JoinAnswer::FirstRefused(k, place),
-        Checked::Accepted(f) => match query::check(second) {
+        Checked::Accepted(f) => match query_checks::check(second) {
             Checked::Refused(k, place) => JoinAnswer::SecondRefused(k, place),
             Checked::Accepted(s) => join_checked(first, f, second, s, pairs, out),
         },
@@ -399,9 +399,9 @@ fn find_literal(first: &[u8], f: Layout, second: &[u8], s: Layout, line: &[u8]) 
 pub fn find_named(first: &[u8], second: &[u8], line: &[u8]) -> HandBack
     ensures { λ r. ⌜ (handed r ≡ handBackCall (now (first .entry)) (now (second .entry)) (now (line .entry))) × Inside (length (now (first .entry))) (length (now (second .entry))) r ⌝ }
 {
-    match query::check(first) {
+    match query_checks::check(first) {
         Checked::Refused(k, place) => HandBack::FirstRefused(k, place),
-        Checked::Accepted(f) => match query::check(second) {
+        Checked::Accepted(f) => match query_checks::check(second) {
             Checked::Refused(k, place) => HandBack::SecondRefused(k, place),
             Checked::Accepted(s) => find_literal(first, f, second, s, line),
         },

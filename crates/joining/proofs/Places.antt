@@ -15,17 +15,9 @@ use Rattle.logic.specs.Search.{at}
 use Rattle.logic.specs.Query.{Literal, Query, literal, termCount, Section, fourSections, fiveSections, sections, Layout, faulty, parts, withPart, layout, layoutBy, layoutOf, literals, section, queryOf, decode}
 use Rattle.logic.specs.Calls.{accepts}
 use Rattle.theory.proofs.Basics.Compare.{eq-cases}
-use Rattle.theory.proofs.Query.Bytes.{cond-elim}
+use Rattle.theory.proofs.Query.Bytes.{cond-elim, faulty-parts, withPart-parts, literals-count}
 use Rattle.encoding.proofs.Decoded.{accepted-parts}
 use Rattle.joining.specs.HandBack.{literalsIn, startIn, placeIn}
-
-faulty-parts : {k place : ℕ} {ps : List (List ℕ)} → faulty k place ≡ parts ps → ⊥
-faulty-parts e = let z : _≡_ {A = ℕ} 0 1 = cc in omega arith
-
-withPart-parts : (p : List ℕ) (l : Layout) (ps : List (List ℕ)) → withPart p l ≡ parts ps → (qs : List (List ℕ)) × (l ≡ parts qs) × (ps ≡ p ∷ qs)
-unfolding withPart
-withPart-parts p (faulty k place) ps h = absurd (faulty-parts h)
-withPart-parts p (parts qs) ps h = (qs, refl, cc)
 
 -- the first of the sections of bytes that are laid out, behind its count
 record Front (s : Section) (ss : List Section) (bytes : List ℕ) (ps : List (List ℕ)) : Type 0 where
@@ -68,16 +60,6 @@ front s ss place (c ∷ more) ps h =
           sized = length-take-le size more (leb-true size (length more) fits);
           behind = others .1;
         }
-
--- how many literals there are
-literals-count : (c : ℕ) (part : List ℕ) → length part ≡ c * 3 → length (literals part) ≡ c
-unfolding literals
-literals-count zero [] e = refl
-literals-count zero (s ∷ part) e = absurd (omega arith)
-literals-count (suc c) [] e = absurd (omega arith)
-literals-count (suc c) (s ∷ []) e = absurd (omega arith)
-literals-count (suc c) (s ∷ a ∷ []) e = absurd (omega arith)
-literals-count (suc c) (s ∷ a ∷ b ∷ part) e = ap suc (literals-count c part (omega arith))
 
 -- The parts of an accepted query's bytes, each behind its count, and what follows them: section 5.
 record Laid (bytes : List ℕ) (q : Query) : Type 0 where

@@ -21,7 +21,7 @@ use Rattle.theory.proofs.Calls.Room.{room-enough, report-short}
 use Rattle.prover.specs.Promise.{inputOf}
 use Rattle.lemitsaka.specs.VerdictPromise.{codeOf, answerIn, Codes}
 
--- "The number gives back the answer." A refusal's number is small, and its place.
+-- The number gives back the answer. A refusal's number is small, and its place.
 refused-back : (k place : ℕ) → 1 ≤ k → k ≤ 26 → place < 65536 → answerIn (codeOf (calls.refused k place)) ≡ calls.refused k place
 unfolding answerIn
 refused-back k place l u h =
@@ -77,7 +77,7 @@ module _ (cs : List Check) (outcome : Input → Outcome) (longest : ℕ) (short 
     blank : (k place : ℕ) → answerIn r ≡ calls.refused k place → bytes ≡ replicate (length before) 0
     blank k place e = codes .leaves ∙ law .refusal-blank (inputOf order query before) k place (answered (calls.refused k place) e)
 
--- "Every byte of the buffer is written": what it held before makes no difference, only its length.
+-- A call "writes every byte, whatever it answers": what the lent bytes held before makes no difference, only their length.
 pub every-byte-written : (outcome : Input → Outcome) (order query before before′ bytes bytes′ : List ℕ) (r r′ : ℕ) → Codes (outcome (inputOf order query before)) r bytes → Codes (outcome (inputOf order query before′)) r′ bytes′ → length before ≡ length before′ → (r ≡ r′) × (bytes ≡ bytes′)
 every-byte-written outcome order query before before′ bytes bytes′ r r′ c c′ l =
     let e : outcome (inputOf order query before) ≡ outcome (inputOf order query before′) = ap (λ (n : ℕ). outcome (record { order = order; query = query; room = n })) l in
@@ -85,7 +85,7 @@ every-byte-written outcome order query before before′ bytes bytes′ r r′ c 
 
 -- The verdict call
 module _ (f : CallForm) (laws : FormLaws f) (short : f .longest < 65536) (order query before bytes : List ℕ) (r : ℕ) (codes : Codes (verdictCallOf f (inputOf order query before)) r bytes) where
-  -- "The number gives back the answer."
+  -- the number gives back the answer
   pub verdict-number : answerIn r ≡ verdictCallOf f (inputOf order query before) .answer
   verdict-number = number-back (verdictChecksOf f) (verdictCallOf f) (f .longest) short (demand1-of f laws .verdict-refusals) (verdict-early f laws) order query before bytes r codes
 
@@ -97,14 +97,14 @@ module _ (f : CallForm) (laws : FormLaws f) (short : f .longest < 65536) (order 
   pub verdict-placed : (k place : ℕ) → answerIn r ≡ calls.refused k place → (place ≤ length query) × (place ≤ f .longest)
   verdict-placed = placed (verdictChecksOf f) (verdictCallOf f) (f .longest) short (demand1-of f laws .verdict-refusals) (verdict-early f laws) order query before bytes r codes
 
-  -- "The report's length is kept"; "after a refusal, all of it is zero."
+  -- The report's length is kept; "After a refusal all of the lent bytes are zero."
   pub verdict-kept : length bytes ≡ length before
   verdict-kept = kept (verdictChecksOf f) (verdictCallOf f) (f .longest) short (demand1-of f laws .verdict-refusals) (verdict-early f laws) order query before bytes r codes
 
   pub verdict-blank : (k place : ℕ) → answerIn r ≡ calls.refused k place → bytes ≡ replicate (length before) 0
   verdict-blank = blank (verdictChecksOf f) (verdictCallOf f) (f .longest) short (demand1-of f laws .verdict-refusals) (verdict-early f laws) order query before bytes r codes
 
-  -- "53 bytes are enough for every report", with three links 85: they are never refused, and every byte past them is zero.
+  -- "9 unless the report has LEMITSAKA_REPORT_SIZE bytes or more": 53, with three links 85, are never refused, and every byte past them is zero.
   pub verdict-room : f .room ≤ length before → (place : ℕ) → answerIn r ≡ calls.refused 9 place → ⊥
   verdict-room l place e = room-enough f laws (inputOf order query before) l place (sym verdict-number ∙ e)
 
@@ -113,7 +113,7 @@ module _ (f : CallForm) (laws : FormLaws f) (short : f .longest < 65536) (order 
 
 -- The derivation call
 module _ (f : CallForm) (laws : FormLaws f) (short : f .longest < 65536) (order query before bytes : List ℕ) (r : ℕ) (codes : Codes (derivationCallOf f (inputOf order query before)) r bytes) where
-  -- "The number gives back the answer."
+  -- the number gives back the answer
   pub derivation-number : answerIn r ≡ derivationCallOf f (inputOf order query before) .answer
   derivation-number = number-back (derivationChecksOf f) (derivationCallOf f) (f .longest) short (demand1-of f laws .derivation-refusals) (derivation-early f laws) order query before bytes r codes
 
@@ -124,19 +124,19 @@ module _ (f : CallForm) (laws : FormLaws f) (short : f .longest < 65536) (order 
   pub derivation-placed : (k place : ℕ) → answerIn r ≡ calls.refused k place → (place ≤ length query) × (place ≤ f .longest)
   derivation-placed = placed (derivationChecksOf f) (derivationCallOf f) (f .longest) short (demand1-of f laws .derivation-refusals) (derivation-early f laws) order query before bytes r codes
 
-  -- "The buffer's length is kept"; "after a refusal, all of it is zero."
+  -- The buffer's length is kept; "After a refusal all of the lent bytes are zero."
   pub derivation-kept : length bytes ≡ length before
   derivation-kept = kept (derivationChecksOf f) (derivationCallOf f) (f .longest) short (demand1-of f laws .derivation-refusals) (derivation-early f laws) order query before bytes r codes
 
   pub derivation-blank : (k place : ℕ) → answerIn r ≡ calls.refused k place → bytes ≡ replicate (length before) 0
   derivation-blank = blank (derivationChecksOf f) (derivationCallOf f) (f .longest) short (demand1-of f laws .derivation-refusals) (derivation-early f laws) order query before bytes r codes
 
-  -- "The derivation call never answers 0."
+  -- "Never LEMITSAKA_SATISFIABLE", which is 0
   pub derivation-nonzero : r ≡ 0 → ⊥
   unfolding answerIn
   derivation-nonzero e = demand1-of f laws .never-satisfiable (inputOf order query before) (sym derivation-number ∙ ap answerIn e)
 
-  -- "64,002 bytes hold every derivation that is not refused for its line count": refusal 12 then means more than 16,000 lines.
+  -- 64,002 are "the bytes that hold every derivation": refusal 12 then means more than 16,000 lines.
   pub derivation-room : 64002 ≤ length before → (place : ℕ) → answerIn r ≡ calls.refused 12 place → (ls : List Line) × (ourWalk order (f .decode query) ≡ refutation ls) × (16000 < length ls)
   derivation-room l place e =
       let (z, n, u, (ls, w, x)) = demand1-of f laws .excess-exactly (inputOf order query before) place .0 (sym derivation-number ∙ e) in

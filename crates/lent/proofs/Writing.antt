@@ -26,6 +26,14 @@ module _ (xs : List ℕ) (i : ℕ) where
       let e : i ≡ length xs = omega arith in
       ap (λ (ys : List ℕ). replicate i 0 ++ ys) (drop-of-length-le xs h) ∙ append-nil (replicate i 0) ∙ ap (λ (j : ℕ). replicate j 0) e
 
+-- What was cleared, by its own length
+
+pub blank-long : (bytes : List ℕ) (n : ℕ) → bytes ≡ replicate n 0 → length bytes ≡ n
+blank-long bytes n e = ap length e ∙ length-replicate n 0
+
+pub blank-again : (bytes : List ℕ) (n : ℕ) → bytes ≡ replicate n 0 → bytes ≡ replicate (length bytes) 0
+blank-again bytes n e = e ∙ ap (λ (k : ℕ). replicate k 0) (sym (blank-long bytes n e))
+
 -- Appending
 
 padded-set : (room : ℕ) (front : List ℕ) (v : ℕ) → length front < room → set (padded room front) (length front) v ≡ padded room (front ++ (v ∷ []))

@@ -9,10 +9,10 @@ use Rattle.logic.specs.Calls.{CallForm, oneLinkForm, acceptsBy}
 use Rattle.theory.proofs.Query.Tied.{Accepted}
 use Rattle.theory.proofs.Calls.CallLaws.{FormLaws}
 use Rattle.query.specs.declared.Layout.{Layout}
-use Rattle.query.specs.declared.Checked.{Checked}
-use Rattle.query.specs.declared.Checked.the-variants as checked
+use Rattle.query_checks.specs.declared.Checked.{Checked}
+use Rattle.query_checks.specs.declared.Checked.the-variants as checked
 use Rattle.query.specs.LaysOut.{literalIn}
-use Rattle.query.specs.Answers.{CheckedAs}
+use Rattle.query_checks.specs.Answers.{CheckedAs}
 use Rattle.query.proofs.Ranges.{UpTo, below-of, entry-linked-of, equal-terms-of, reach-terms-of, reach-linked-of, field-number-term-of}
 use Rattle.link_query.specs.Said.{said, reachIn}
 use Rattle.link_query.specs.Answers.{Taken, CheckedBy}

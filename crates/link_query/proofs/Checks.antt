@@ -21,8 +21,8 @@ use Rattle.query.specs.Forms.{entryKind, reachKind, formBy}
 use Rattle.query.specs.declared.FullChecked.{FullChecked}
 use Rattle.query.specs.declared.FullChecked.the-variants as answer
 use Rattle.query.specs.Sections.{Stands, Sections}
-use Rattle.query.specs.Answers.{ByteAnswer}
-use Rattle.query.proofs.Checks.{layout-refused, laid-out, part-is}
+use Rattle.query_checks.specs.Answers.{ByteAnswer}
+use Rattle.query_checks.proofs.Checks.{layout-refused, laid-out, part-is}
 use Rattle.link_query.specs.Said.{entryWidth, reachWidth, entriesBy, reachBy, said, Within}
 use Rattle.link_query.specs.Answers.{LinksChecked, firstRefusal, Taken, CheckedBy}
 

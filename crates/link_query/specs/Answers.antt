@@ -9,8 +9,8 @@ use Rattle.logic.specs.Calls.{Input, CallForm, refused, refusalOf}
 use Rattle.query.specs.declared.Layout.{Layout}
 use Rattle.query.specs.declared.FullChecked.{FullChecked}
 use Rattle.query.specs.declared.FullChecked.the-variants as full
-use Rattle.query.specs.declared.Checked.{Checked}
-use Rattle.query.specs.declared.Checked.the-variants as checked
+use Rattle.query_checks.specs.declared.Checked.{Checked}
+use Rattle.query_checks.specs.declared.Checked.the-variants as checked
 use Rattle.link_query.specs.Said.{said, Within}
 
 -- refusal 22 with its place, or none

@@ -1,7 +1,7 @@
 // Queries with three links (02, R-11): refusals 2, 3, 26, 4, 22 and 5 to 8, and the bytes of a query of either form read in place.
-use query::Checked;
 use query::FullChecked;
 use query::FullLayout;
+use query_checks::Checked;
 use rows::Term;
 ghost use mathlib.Core.Path.{_≡_};
 ghost use Prim.Native.Nat.{_+_, _*_, _≤_, _<_};
@@ -53,7 +53,7 @@ pub fn check_links(query: &[u8]) -> Checked
         FullChecked::Accepted(full) => full,
     };
     let links = check_link_bytes(query, full);
-    let bytes = query::check_bytes(query, full);
+    let bytes = query_checks::check_bytes(query, full);
     first_refusal(links, bytes)
 }
 

@@ -13,10 +13,10 @@ use Rattle.encoding.specs.WritingCall.{given, acceptsIn}
 use Rattle.encoding.proofs.WritingCall.{call-refused, call-full, call-writes, none-accepts}
 use Rattle.text.specs.Text.{Writes}
 use Rattle.text.proofs.Writing.{writes-as}
-use Rattle.query.specs.Answers.{CheckedAs}
+use Rattle.query_checks.specs.Answers.{CheckedAs}
 use Rattle.query.specs.LaysOut.{LaysOut}
 use Rattle.query.specs.declared.Layout.{Layout}
-use Rattle.query.specs.declared.Checked.the-variants as checked
+use Rattle.query_checks.specs.declared.Checked.the-variants as checked
 use Rattle.rewriter.specs.Promise.{Does}
 use Rattle.rewriter.specs.declared.Rewritten.the-variants as answer
 use Rattle.rewriter.proofs.Answers.{does-blank, does-write}

@@ -1,6 +1,6 @@
 // Queries in the old layout, rewritten with link 1 for the calls that know three links (02, R-11). The call asks nothing of its caller.
-use query::Checked;
 use query::Layout;
+use query_checks::Checked;
 use rewriter::Rewritten;
 ghost use mathlib.Core.Path.{_≡_};
 ghost use mathlib.Core.Bool.{true};
@@ -111,7 +111,7 @@ pub fn rewrite(query: &[u8], out: &mut [u8]) -> Rewritten
     ensures { λ r. ⌜ Does (linksRewriteCall (now (query .entry)) (length (now (out .entry)))) r (now (out .exit)) ⌝ }
 {
     lent::clear(out);
-    match query::check(query) {
+    match query_checks::check(query) {
         Checked::Refused(k, place) => Rewritten::Refused(k, place),
         Checked::Accepted(l) => rewrite_checked(query, l, out),
     }

@@ -12,6 +12,8 @@ use Rattle.logic.specs.Rules.{Rule, triple, Move, move, Fact, equal, moveNumber
 use Rattle.logic.specs.Walk.{clashing, applying, saturated, look, Ending, refutation, saturation, after, walkBranch, walkEach, walk}
 use Rattle.branch.specs.Alternatives.{countOf, alternativeAt}
 use Rattle.branch.proofs.Alternatives.{count-is}
+use Rattle.branch.proofs.Steps.{branch-fits}
+use Rattle.joins.specs.Pairs.{Fits}
 use Rattle.walk.specs.Lines.{counted, countAll, putLine, putAll}
 use Rattle.walk.proofs.Lines.{putLine-length, putAll-length, countAll-bound, countAll-grows, countAll-append, putAll-append}
 use Rattle.walk.proofs.Walks.{walk-clashing, walk-saturated, walk-applying, after-after, each-refuted, each-saturated}
@@ -24,6 +26,17 @@ use Rattle.listing.specs.declared.Listed.{Listed}
 pub links-few : (single : Bool) → cond single 1 3 ≤ 3
 links-few true = omega arith
 links-few false = omega arith
+
+-- lines that are written keep the length of the buffer
+pub put-line-length : (xs ys : List ℕ) (c : ℕ) (l : Line) → xs ≡ putLine ys c l → length xs ≡ length ys
+put-line-length xs ys c l e = ap length e ∙ putLine-length ys c l
+
+pub put-all-length : (xs ys : List ℕ) (c : ℕ) (ls : List Line) → xs ≡ putAll ys c ls → length xs ≡ length ys
+put-all-length xs ys c ls e = ap length e ∙ putAll-length ys c ls
+
+-- the array has room for the pairs of a branch
+pub made-fits : (n : ℕ) (s : Facts) (f : Fact) (j : Joined) → j ≡ branch n s f → n ≤ 16 → Fits j
+made-fits n s f j e l = subst Fits (sym e) (branch-fits n s f l)
 
 -- endings differ, and a refutation has one list of lines
 open-refuted : (s : Facts) (ls : List Line) → saturation s ≡ refutation ls → ⊥

@@ -1,4 +1,5 @@
--- What it is to decide a path: whether some finite heap meets the query and the facts of the path. How it is found out is free.
+-- What it is to decide a path: whether some finite heap meets the query and the facts of the path. How it is found out is free: `Follows`,
+-- `Closes` and `Struck` are in no paper, and serve the contracts of the strategies.
 use Prim.Native.Nat.{ℕ, _≤_, _<_}
 use mathlib.Core.Path.{_≡_}
 use mathlib.Core.Logic.{_↔_}

@@ -1,5 +1,5 @@
 -- The starred examples of 01, as one table and one statement.
-use Prim.Native.Nat.{ℕ, _+_}
+use Prim.Native.Nat.{ℕ}
 use mathlib.Core.Path.{_≡_}
 use mathlib.Core.List.{List, [], _∷_, _++_, map}
 use Rattle.logic.specs.Calls.{Outcome, satisfiable, refuted, refused, padded, blank, verdictCall, derivationCall}

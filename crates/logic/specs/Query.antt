@@ -122,7 +122,7 @@ withPart p (faulty k place) = faulty k place
 withPart p (parts ps) = parts (p ∷ ps)
 
 -- "2. The query ends before a count or inside a section (place: its length). 3. A count is above its section's limit (place: that
--- count). 4. Bytes follow section 5 (place: the first of them)." The bytes from a place on, laid out by the sections that are left.
+-- count ..). 4. Bytes follow section 5 (place: the first of them)." The bytes from a place on, laid out by the sections that are left.
 unfoldable pub layout : List Section → ℕ → List ℕ → Layout
 layout [] place [] = parts []
 layout [] place (b ∷ bytes) = faulty 4 place

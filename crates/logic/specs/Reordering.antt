@@ -33,7 +33,7 @@ pub record Reordered (q q′ : Query) : Type 0 where
   pub reachability : q .reachability ≡ q′ .reachability
   pub fields : q .fields ≡ q′ .fields
 
--- facts "that a walk can hold": a path of a hand's row
+-- facts that a walk can hold: a path of a hand's row
 abbrev pub Held : Query → Facts → Type 0
 Held q s = (picks : List Pick) × List·Memᴰ s (handRow q picks)
 

@@ -86,12 +86,12 @@ fn add_links(
     ensures { λ _. ⌜ ((rep reach reach2 reach3 : List ℕ) → pathAs single rep (now (link .exit)) reach (now (link2 .exit)) reach2 (now (link3 .exit)) reach3 ≡ addLinks (a .0) (b .0) (pathAs single rep (now (link .entry)) reach (now (link2 .entry)) reach2 (now (link3 .entry)) reach3)) ⌝ }
     ensures { λ _. ⌜ (length (now (link .exit)) ≡ 17) × (length (now (link2 .exit)) ≡ 17) × (length (now (link3 .exit)) ≡ 17) ⌝ }
 {
-    plain_literals::add_to(link, a, b);
+    rows::add_to(link, a, b);
     if single {
         return;
     }
-    plain_literals::add_to(link2, a, b);
-    plain_literals::add_to(link3, a, b);
+    rows::add_to(link2, a, b);
+    rows::add_to(link3, a, b);
 }
 
 // "then adds nil's link and joins its doubled successors"; nil's links "are added before their joins" (02, R-11)

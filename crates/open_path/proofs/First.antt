@@ -18,9 +18,9 @@ use Rattle.theory.proofs.Calls.Decision.{Known, reachable-known, clash-none, he
 use Rattle.branch.specs.Alternatives.{countOf, alternativeAt}
 use Rattle.covering.specs.Covers.{Covers}
 use Rattle.covering.proofs.Covered.{covered-heap}
+use Rattle.plain_steps.proofs.Branches.{row-length, row-at}
+use Rattle.plain_steps.proofs.Turns.{row-fewer}
 use Rattle.decide.specs.Tells.{Decides}
-use Rattle.decide.proofs.Branches.{row-length, row-at}
-use Rattle.decide.proofs.Turns.{row-fewer}
 use Rattle.open_path.specs.First.{FirstOpen}
 
 getD-mem : {A : Type 0} (xs : List A) (i : ℕ) (d : A) → i < length xs → List·Memᴰ (getD xs i d) xs

@@ -1,26 +1,25 @@
 // The first open path under the customer's order, without turning back: at each rule its branches are decided from left to right, and
 // the walk goes into the first that is not refuted.
-use decide::Kind;
-use decide::Walked;
 use facts::Facts;
 use facts::Link;
+use plain_steps::Kind;
 use query::Layout;
 use rows::Term;
 use rules::Rule;
 use rules::Third;
 ghost use mathlib.Core.Path.{_≡_};
 ghost use mathlib.Core.Bool.{true, false};
-ghost use Prim.Native.Nat.{ℕ, _-_, _≤_, _<_};
+ghost use Prim.Native.Nat.{_-_};
 ghost use Rattle.logic.specs.Query.{termCount, isOrder};
-ghost use Rattle.logic.specs.Rules.{triple, move, applies};
+ghost use Rattle.logic.specs.Rules.{triple, move};
 ghost use Rattle.logic.specs.Walk.{look, applying, orderOf, walk, saturation};
 ghost use Rattle.logic.specs.Steps.{AtMost};
 ghost use Rattle.logic.specs.Decision.{Reachable, HasHeap};
-ghost use Rattle.facts.specs.Path.{pathOf};
+ghost use Rattle.facts.specs.Path.{pathAs, pathOf, Whole};
 ghost use Rattle.rules.specs.Answers.{kindOf};
 ghost use Rattle.theory.proofs.Query.Tied.{Accepted};
 ghost use Rattle.link_query.specs.Said.{said, Within};
-ghost use Rattle.decide.specs.Tells.{Walks};
+ghost use Rattle.plain_steps.specs.Walks.{WalksTo};
 ghost use Rattle.open_path.specs.First.{FirstOpen};
 
 // A branch, the strategy that was done with it or with the one before, and a path with a heap.
@@ -84,7 +83,7 @@ fn first_open(
     }
 }
 
-// The path where our walk of a path with a heap ends, given some path with a heap.
+// The path where our walk of a path with a heap ends, given some path with a heap. That a walk can reach it tells how many links it has.
 pub fn descend(
     query: &[u8],
     layout: Layout,
@@ -96,6 +95,7 @@ pub fn descend(
 ) -> Facts
     requires { ⌜ Within layout (now query) × Accepted (said layout (now query)) × (isOrder (now order) ≡ true) × Reachable (said layout (now query)) (pathOf s) × AtMost (termCount (said layout (now query))) (pathOf s) left × HasHeap (said layout (now query)) (pathOf s) × HasHeap (said layout (now query)) (pathOf witness) ⌝ }
     ensures { λ r. ⌜ walk (said layout (now (query .entry))) (orderOf (now (order .entry))) left (pathOf s) ≡ saturation (pathOf r) ⌝ }
+    ensures { λ r. ⌜ Reachable (said layout (now (query .entry))) (pathOf r) ⌝ }
 {
     let mut path = s;
     let mut other = witness;
@@ -146,29 +146,66 @@ pub fn descend(
 }
 
 // How our walk of a path ends: a few plain steps first, which is all that most queries need; where these run out, the path is decided, and
-// where it has a heap the walk goes down to its end.
-pub fn settle(query: &[u8], layout: Layout, order: &[u8], left: usize, s: Facts) -> Walked
-    requires { ⌜ Within layout (now query) × Accepted (said layout (now query)) × (isOrder (now order) ≡ true) × Reachable (said layout (now query)) (pathOf s) × AtMost (termCount (said layout (now query))) (pathOf s) left ⌝ }
-    ensures { λ r. ⌜ Walks (said layout (now (query .entry))) (now (order .entry)) left (pathOf s) false r ⌝ }
+// where it has a heap the walk goes down to its end. The arrays of the path are worked on in place; where it is open, they hold the path where
+// the walk ends.
+pub fn settle(
+    query: &[u8],
+    layout: Layout,
+    order: &[u8],
+    left: usize,
+    single: bool,
+    rep: &mut [u8; 17],
+    link: &mut [u32; 17],
+    reach: &mut [u32; 17],
+    link2: &mut [u32; 17],
+    reach2: &mut [u32; 17],
+    link3: &mut [u32; 17],
+    reach3: &mut [u32; 17],
+) -> Kind
+    requires { ⌜ Within layout (now query) × Accepted (said layout (now query)) × (isOrder (now order) ≡ true) × Reachable (said layout (now query)) (pathAs single (now rep) (now link) (now reach) (now link2) (now reach2) (now link3) (now reach3)) × AtMost (termCount (said layout (now query))) (pathAs single (now rep) (now link) (now reach) (now link2) (now reach2) (now link3) (now reach3)) left × Whole (now rep) (now link) (now reach) (now link2) (now reach2) (now link3) (now reach3) ⌝ }
+    ensures { λ r. ⌜ WalksTo (said layout (now (query .entry))) (now (order .entry)) left (pathAs single (now (rep .entry)) (now (link .entry)) (now (reach .entry)) (now (link2 .entry)) (now (reach2 .entry)) (now (link3 .entry)) (now (reach3 .entry))) false r (pathAs single (now (rep .exit)) (now (link .exit)) (now (reach .exit)) (now (link2 .exit)) (now (reach2 .exit)) (now (link3 .exit)) (now (reach3 .exit))) ⌝ }
 {
-    let w = decide::plain(query, layout, order, left, s, true, 40);
+    // Plain steps that run out leave another path in the arrays; it is this one that is decided.
+    let s = decide::held(single, rep, link, reach, link2, reach2, link3, reach3);
+    let w = plain_steps::plain_in(
+        query,
+        layout,
+        order,
+        left,
+        single,
+        rep,
+        link,
+        reach,
+        link2,
+        reach2,
+        link3,
+        reach3,
+        true,
+        40,
+    );
     let kind = w.kind;
-    if !decide::is_unknown(kind) {
-        return w;
+    if !plain_steps::is_unknown(kind) {
+        return kind;
     }
     let d = decide::has_heap(query, layout, order, left, s, 0);
     if !d.has {
-        return Walked {
-            kind: Kind::Refuted,
-            facts: s,
-            budget: 0,
-        };
+        return Kind::Refuted;
     }
     let witness = d.facts;
     let path = descend(query, layout, order, left, s, d.how, witness);
-    Walked {
-        kind: Kind::Open,
-        facts: path,
-        budget: 0,
-    }
+    let end_rep = path.rep;
+    let end_link = path.link;
+    let end_reach = path.reach;
+    let end_link2 = path.link2;
+    let end_reach2 = path.reach2;
+    let end_link3 = path.link3;
+    let end_reach3 = path.reach3;
+    *rep = end_rep;
+    *link = end_link;
+    *reach = end_reach;
+    *link2 = end_link2;
+    *reach2 = end_reach2;
+    *link3 = end_link3;
+    *reach3 = end_reach3;
+    Kind::Open
 }

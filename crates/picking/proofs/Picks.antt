@@ -1,37 +1,22 @@
 -- What a choice by an order list is.
-use Prim.Native.Nat.{ℕ, suc, _≤_}
+use Prim.Native.Nat.{ℕ, _≤_}
 use native.Mathlib.Omega.{arith}
 use mathlib.Core.Path.{_≡_, refl, sym, subst}
 use mathlib.Core.Bool.{true}
-use mathlib.Core.List.{List, [], _∷_, map, List·Memᴰ}
+use mathlib.Core.List.{List, [], _∷_, List·Memᴰ}
 use mathlib.Core.Option.{some}
-use Rattle.logic.specs.Search.{_and_, _or_, all, any, from, keep, firstOf, flatMap}
+use Rattle.logic.specs.Search.{_and_, _or_, all, any, from, keep, firstOf}
 use Rattle.logic.specs.Query.{isOrder}
 use Rattle.logic.specs.Facts.{Facts, linkNumbers}
 use Rattle.logic.specs.Rules.{Rule, rules, Triple, triple, move, applies, triples, choose}
 use Rattle.logic.specs.Walk.{orderOf}
-use Rattle.theory.proofs.Basics.Search.{keep-some, firstOf-some, from-mem, flatMap-mem, map-mem}
+use Rattle.theory.proofs.Basics.Search.{keep-some, firstOf-some}
 use Rattle.theory.proofs.Walks.Order.{order-full, choose-some, choose-nothing}
+use Rattle.theory.proofs.Paths.Applies.{triple-range}
 use Rattle.rules.specs.Answers.{choiceOf}
 use Rattle.rules.specs.declared.Choice.{Choice}
 use Rattle.rules.specs.declared.Choice.the-variants as choice
 use Rattle.picking.specs.Picks.{Picks}
-
--- a triple that is searched is of numbers up to n
-triple-range : (n x y z : ℕ) → List·Memᴰ (triple x y z) (triples n) → (x ≤ n) × (y ≤ n) × (z ≤ n)
-unfolding triples
-triple-range n x y z m =
-    let a = flatMap-mem (λ x. flatMap (λ y. map (triple x y) (from (suc n) 0)) (from (suc n) 0)) (triple x y z) (from (suc n) 0) m in
-    let b = flatMap-mem (λ y. map (triple (a .0) y) (from (suc n) 0)) (triple x y z) (from (suc n) 0) (a .2) in
-    let c = map-mem (triple (a .0) (b .0)) (triple x y z) (from (suc n) 0) (b .2) in
-    let ra = from-mem (suc n) 0 (a .0) (a .1) in
-    let rb = from-mem (suc n) 0 (b .0) (b .1) in
-    let rc = from-mem (suc n) 0 (c .0) (c .1) in
-    let e = c .2 in
-    let ex : x ≡ a .0 = cc in
-    let ey : y ≡ b .0 = cc in
-    let ez : z ≡ c .0 = cc in
-    (omega arith, omega arith, omega arith)
 
 pub choose-range : (n : ℕ) (order : List Rule) (s : Facts) (i : ℕ) (r : Rule) (x y z : ℕ) → choose n order s ≡ some (move i r (triple x y z)) → (x ≤ n) × (y ≤ n) × (z ≤ n)
 unfolding choose

@@ -1,12 +1,13 @@
 -- The literals of a section taken one after the other, as a loop meets them: what is left comes out as the whole.
 use Prim.Native.Nat.{ℕ, _+_, _≤_, _<_}
 use mathlib.Core.Path.{_≡_, refl, ap, _∙_}
+use mathlib.Core.Bool.{cond}
 use mathlib.Core.List.{List, [], _∷_}
 use Rattle.logic.specs.Query.{Literal}
-use Rattle.logic.specs.Facts.{Joined, andThen, joinEach, reachEach}
+use Rattle.logic.specs.Facts.{Facts, Joined, addReach, andThen, joinEach, reachEach}
 use Rattle.query.proofs.Literals.{listed, listed-next, listed-end}
 use Rattle.joins.proofs.Joins.{andThen-unjoined, andThen-andThen}
-use Rattle.plain_literals.specs.Taken.{joinOne, reachOne}
+use Rattle.plain_literals.specs.Taken.{joinOne}
 
 -- `each` takes the literals of a list in order, and `one` a single one, into what is of type S
 pub record InOrder {S : Type 0} (each : List Literal → S → S) (one : Literal → S → S) : Type 0 where
@@ -23,6 +24,10 @@ oneBehind n l j = andThen j (joinOne n l)
 pub joins : (n : ℕ) → InOrder (joinBehind n) (oneBehind n)
 unfolding joinEach joinOne
 joins n = record { done = andThen-unjoined; next = λ l ls j. andThen-andThen j (joinOne n l) (joinEach n ls) }
+
+-- a plain reachability fact is added, read through `rep`
+unfoldable pub reachOne : Literal → Facts → Facts
+reachOne l s = cond (l .plain) (addReach (l .link) (s .rep (l .left)) (s .rep (l .right)) s) s
 
 pub reaches : InOrder reachEach reachOne
 unfolding reachEach reachOne

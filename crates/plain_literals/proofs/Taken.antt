@@ -14,7 +14,8 @@ use Rattle.rows.specs.Square.{square}
 use Rattle.facts.specs.Path.{repOf, pathAs, pathOf, graphOf, replacedBy, HasLink}
 use Rattle.facts.proofs.Path.{alike-graph, reaching, changed, addReach-changed, set-first, set-second, set-third, three, last}
 use Rattle.joins.proofs.Joins.{andThen-at, andThen-unjoined}
-use Rattle.plain_literals.specs.Taken.{joinOne, reachOne, same, Bounded}
+use Rattle.plain_literals.specs.Taken.{joinOne, same, Bounded}
+use Rattle.plain_literals.proofs.Each.{reachOne}
 
 -- a number that is read for a term is what the term became
 pub read-bounded : (rep : List ℕ) → Bounded (replacedBy rep) → (t a : ℕ) → t ≤ 16 → a ≡ repOf rep t → a ≤ 16

@@ -3,15 +3,12 @@ use Prim.Native.Nat.{ℕ, _≤_, _<_}
 use mathlib.Core.Bool.{true, cond}
 use mathlib.Core.List.{List}
 use Rattle.logic.specs.Query.{Literal, literal}
-use Rattle.logic.specs.Facts.{Facts, Joined, unjoined, join, addReach}
+use Rattle.logic.specs.Facts.{Facts, Joined, unjoined, join}
 use Rattle.query.specs.LaysOut.{literalIn}
 
--- a plain equality is joined, and a plain reachability fact is added; both are read through `rep`
+-- a plain equality is joined, read through `rep`
 unfoldable pub joinOne : ℕ → Literal → Facts → Joined
 joinOne n l s = cond (l .plain) (join n (s .rep (l .left)) (s .rep (l .right)) s) (unjoined s)
-
-unfoldable pub reachOne : Literal → Facts → Facts
-reachOne l s = cond (l .plain) (addReach (l .link) (s .rep (l .left)) (s .rep (l .right)) s) s
 
 -- that two terms are equal
 abbrev pub same : ℕ → ℕ → Literal

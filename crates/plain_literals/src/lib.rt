@@ -6,25 +6,13 @@ ghost use mathlib.Core.Bool.{Bool, cond};
 ghost use mathlib.Core.List.{List};
 ghost use Prim.Native.Nat.{ℕ, _+_, _*_, _≤_};
 ghost use lib.ListN.{length, take, drop};
-ghost use lib.Dec.{eqb};
-ghost use Rattle.logic.specs.Search.{_and_, _or_};
 ghost use Rattle.logic.specs.Query.{literals};
 ghost use Rattle.logic.specs.Facts.{andThen, joinEach, reachEach};
 ghost use Rattle.theory.proofs.Query.Tied.{Accepted};
-ghost use Rattle.rows.specs.Square.{square};
 ghost use Rattle.facts.specs.Path.{pathAs, Whole, replacedBy};
 ghost use Rattle.joins.specs.Pairs.{joinedIn, Fits};
 ghost use Rattle.link_query.specs.Said.{said, Within};
 ghost use Rattle.plain_literals.specs.Taken.{joinOne, same, Bounded, Terms, TermsIn};
-
-// The fact about a and b is added.
-pub fn add_to(rows: &mut [u32; 17], a: Term, b: Term)
-    requires { ⌜ (a .0 ≤ 16) × (b .0 ≤ 16) × (length (now rows) ≡ 17) ⌝ }
-    ensures { λ _. ⌜ (square (now (rows .exit)) ≡ (λ x y. square (now (rows .entry)) x y or (eqb x (a .0) and eqb y (b .0)))) × (length (now (rows .exit)) ≡ 17) ⌝ }
-{
-    let at = a.0;
-    rows[at] = rows[at] | rows::only(b.0);
-}
 
 // Two terms are joined, as what they became, after the pairs that were joined before.
 pub fn join_terms(
@@ -132,6 +120,7 @@ pub fn reach_each(
 )
     requires { ⌜ Within layout (now query) × Accepted (said layout (now query)) × Bounded (replacedBy (now rep)) × (length (now reach) ≡ 17) × (length (now reach2) ≡ 17) × (length (now reach3) ≡ 17) ⌝ }
     ensures { λ _. ⌜ ((single : Bool) (link link2 link3 : List ℕ) → cond single 1 3 ≡ layout .links → pathAs single (now (rep .entry)) link (now (reach .exit)) link2 (now (reach2 .exit)) link3 (now (reach3 .exit)) ≡ reachEach (said layout (now (query .entry)) .reachability) (pathAs single (now (rep .entry)) link (now (reach .entry)) link2 (now (reach2 .entry)) link3 (now (reach3 .entry)))) ⌝ }
+    ensures { λ _. ⌜ (length (now (reach .exit)) ≡ 17) × (length (now (reach2 .exit)) ≡ 17) × (length (now (reach3 .exit)) ≡ 17) ⌝ }
 {
     let mut i: usize = 0;
     while i < layout.reach_count {
@@ -150,16 +139,16 @@ pub fn reach_each(
         );
         let by = link_query::reach_link(query, layout.links, layout.reach_at, i);
         if by == 1 {
-            add_to(reach, a, b);
+            rows::add_to(reach, a, b);
             i += 1;
             continue;
         }
         if by == 2 {
-            add_to(reach2, a, b);
+            rows::add_to(reach2, a, b);
             i += 1;
             continue;
         }
-        add_to(reach3, a, b);
+        rows::add_to(reach3, a, b);
         i += 1;
     }
 }

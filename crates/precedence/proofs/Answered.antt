@@ -50,13 +50,6 @@ unfolding answered Option·elim
 does-ring ps room list bytes e size is h b =
     rw e (record { answers = refl; leaves = b ∙ ap (λ (l : List ℕ). l ++ replicate (room - 8) 0) is ∙ padded-more room (shownRing ps) (sym (ap length is) ∙ size) h })
 
--- a buffer that is blank, by its own length
-pub blank-long : (xs : List ℕ) (n : ℕ) → xs ≡ replicate n 0 → length xs ≡ n
-blank-long xs n e = ap length e ∙ length-replicate {A = ℕ} n 0
-
-pub blank-again : (xs : List ℕ) (n : ℕ) → xs ≡ replicate n 0 → xs ≡ replicate (length xs) 0
-blank-again xs n e = e ∙ ap (λ (k : ℕ). replicate k 0) (sym (blank-long xs n e))
-
 module _ (sheet : List ℕ) (room : ℕ) where
   pub refused-15 : (bytes : List ℕ) → laidOut sheet ≡ false → bytes ≡ replicate room 0 → Does (orderCall sheet room) (answer.Refused 15 0) bytes
   unfolding orderCall refusal

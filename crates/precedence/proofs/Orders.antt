@@ -4,15 +4,15 @@ use native.Mathlib.Omega.{arith}
 use native.Mathlib.Nat.{eq-or-lt-of-le}
 use mathlib.Core.Path.{_≡_, refl, sym, ap, _∙_, subst}
 use mathlib.Core.Logic.{_⊎_, ⊎-elim, inl, inr}
-use mathlib.Core.Bool.{Bool, true, false, not, true≢false, false≢true}
+use mathlib.Core.Bool.{true, false, not, false≢true}
 use mathlib.Core.List.{List, [], _∷_, _++_, append-assoc, append-nil, List·Memᴰ, List·Memᴰ·head, List·Memᴰ·tail, List·Memᴰ·not-nil, List·Memᴰ·cases-cons, List·Memᴰ·append-cases, Memᴰ·append-right}
 use mathlib.Core.Option.{Option, none, some, Option·elim}
 use lib.ListN.{length, length-append}
 use lib.Dec.{eqb, ltb}
 use borrow.Author.Tests.{not-false}
-use Rattle.logic.specs.Search.{_and_, _or_, any, all, find}
+use Rattle.logic.specs.Search.{_and_, any, all, find}
 use Rattle.logic.specs.Query.{isOrder}
-use Rattle.theory.proofs.Basics.Search.{bool-cases, true-false, none-some, not-true, not-intro, not-of, and-left, and-right, and-intro, or-cases, or-left, or-right, all-true, all-intro, all-false, find-some, find-none, find-lowest}
+use Rattle.theory.proofs.Basics.Search.{bool-cases, true-false, none-some, not-true, not-intro, not-of, and-left, and-right, and-intro, or-cases, or-left, or-right, all-true, all-intro, all-false, find-some, find-none, find-lowest, neither}
 use Rattle.theory.proofs.Basics.Compare.{eqb-true, eqb-intro, eq-cases, le-cases, ltb-intro}
 use Rattle.theory.proofs.Graph.Pigeonhole.{pigeonhole}
 use Rattle.precedence.specs.Sheet.{Pair, isRule, paired}
@@ -42,11 +42,6 @@ unfolding any
 once-before y [] v o = refl
 once-before y (x ∷ u) v o =
     not-of (λ t. ⊎-elim (λ e. true-false (mem-has x (subst (λ (z : ℕ). List·Memᴰ z (u ++ y ∷ v)) e (Memᴰ·append-right u (List·Memᴰ·head refl)))) (once-head x (u ++ y ∷ v) o)) (λ m. true-false (mem-has y m) (once-before y u v (once-tail x (u ++ y ∷ v) o))) (List·Memᴰ·cases-cons (has-mem y (x ∷ u) t)))
-
-or-false : (a b : Bool) → a or b ≡ false → (a ≡ false) × (b ≡ false)
-unfolding _or_
-or-false true b h = absurd (true≢false h)
-or-false false b h = (refl, h)
 
 module _ (ps : List Pair) (rules-of : Numbered ps) where
   -- what may stand next
@@ -227,7 +222,7 @@ module _ (ps : List Pair) (rules-of : Numbered ps) where
 
         go : (p : Pair) × List·Memᴰ p ps × (free placed x p ≡ false) → Earlier x
         go (p, m, f) =
-            let t = or-false (not (eqb (p .later) x)) (has placed (p .earlier)) f in
+            let t = neither (not (eqb (p .later) x)) (has placed (p .earlier)) f in
             let e : p .later ≡ x = eqb-true (p .later) x (not-false (eqb (p .later) x) (t .0)) in
             (p .earlier, rules-of .earlier-rule p m, t .1, subst (λ (c : ℕ). paired ps (p .earlier) c ≡ true) e (pair-paired ps p m))
 

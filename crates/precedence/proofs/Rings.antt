@@ -3,13 +3,13 @@ use Prim.Native.Nat.{ℕ, zero, suc, _+_, _-_, _≤_, _<_}
 use native.Mathlib.Omega.{arith}
 use native.Mathlib.Nat.{eq-or-lt-of-le}
 use mathlib.Core.Path.{_≡_, refl, sym, ap, _∙_, subst}
-use mathlib.Core.Logic.{_⊎_, ⊎-elim}
+use mathlib.Core.Logic.{⊎-elim}
 use mathlib.Core.Bool.{true, false, false≢true}
 use mathlib.Core.List.{List, [], _∷_, _++_, List·Memᴰ}
 use mathlib.Core.Option.{Option, none, some, Option·elim}
 use lib.ListN.{length, length-append}
 use lib.Dec.{eqb, ltb}
-use Rattle.logic.specs.Search.{_and_, _or_, from, any, firstOf, find}
+use Rattle.logic.specs.Search.{_and_, from, any, firstOf, find}
 use Rattle.theory.proofs.Basics.Search.{true-false, none-some, not-of, and-left, and-right, and-intro, any-true, any-intro, all-intro, orElse-cases, firstOf-none, find-some, find-none, find-lowest}
 use Rattle.theory.proofs.Basics.Compare.{eqb-true, eqb-self, eqb-intro, le-cases, ltb-intro}
 use Rattle.precedence.specs.Sheet.{Pair, isRule, paired}

@@ -1,23 +1,19 @@
 -- The pairs of a sheet that passes its checks.
-use Prim.Native.Nat.{ℕ, zero, suc, _+_, _*_, _<_}
+use Prim.Native.Nat.{ℕ, suc, _+_, _*_, _<_}
 use native.Mathlib.Omega.{arith}
-use mathlib.Core.Path.{_≡_, refl, sym, subst}
+use mathlib.Core.Path.{_≡_, sym, subst}
 use mathlib.Core.Bool.{true, false}
-use mathlib.Core.List.{List, [], _∷_, List·Memᴰ, List·Memᴰ·head, List·Memᴰ·tail}
+use mathlib.Core.List.{List, List·Memᴰ}
 use lib.ListN.{length, getD, drop, length-drop}
 use lib.Seq.{getD-drop}
 use lib.Dec.{eqb, leb}
 use borrow.Author.Tests.{eqb-true}
-use Rattle.logic.specs.Search.{_and_, from}
+use Rattle.logic.specs.Search.{from}
 use Rattle.theory.proofs.Basics.Search.{not-of, and-right, all-true, from-mem, map-mem}
+use Rattle.theory.proofs.Basics.Count.{getD-mem}
 use Rattle.precedence.specs.Sheet.{Pair, countOf, pairAt, pairs, laidOut, isRule, rulesOnly}
 use Rattle.precedence.proofs.Lists.{is-rule}
 use Rattle.precedence.proofs.Rings.{Numbered}
-
-getD-mem : (xs : List ℕ) (i : ℕ) → i < length xs → List·Memᴰ (getD xs i 0) xs
-getD-mem [] i h = absurd (omega arith)
-getD-mem (x ∷ xs) zero h = List·Memᴰ·head refl
-getD-mem (x ∷ xs) (suc i) h = List·Memᴰ·tail (getD-mem xs i (omega arith))
 
 pub laid-length : (sheet : List ℕ) → laidOut sheet ≡ true → length sheet ≡ 2 * countOf sheet + 1
 unfolding laidOut
@@ -27,7 +23,7 @@ pub number-rule : (sheet : List ℕ) → rulesOnly sheet ≡ true → (k : ℕ) 
 unfolding rulesOnly
 number-rule sheet n k h =
     subst (λ (b : ℕ). isRule b ≡ true) (getD-drop 1 sheet k 0)
-    (all-true isRule (getD (drop 1 sheet) k 0) n (getD-mem (drop 1 sheet) k (omega (arith, length-drop 1 sheet))))
+    (all-true isRule (getD (drop 1 sheet) k 0) n (getD-mem (drop 1 sheet) k 0 (omega (arith, length-drop 1 sheet))))
 
 pub sheet-numbered : (sheet : List ℕ) → laidOut sheet ≡ true → rulesOnly sheet ≡ true → Numbered (pairs sheet)
 unfolding pairs

@@ -6,15 +6,15 @@ use native.Mathlib.Omega.{arith}
 use mathlib.Core.Path.{_≡_, refl, sym, ap, ap₂, _∙_, fun-ext}
 use mathlib.Core.Logic.{⊎-elim}
 use mathlib.Core.Bool.{Bool, true, false, not, _&&_, _||_}
-use mathlib.Core.List.{List, [], _∷_, _++_, map, append-assoc, append-nil, List·Memᴰ, List·Memᴰ·head, List·Memᴰ·tail}
-use mathlib.Core.Option.{Option, none, some, Option·elim}
+use mathlib.Core.List.{List, [], _∷_, _++_, map, append-assoc, append-nil, List·Memᴰ}
+use mathlib.Core.Option.{none, some, Option·elim}
 use lib.ListN.{length, getD, set, take, drop, replicate, drop-of-length-le, length-set, length-replicate, take-append-drop, replicate-append-replicate, getD-replicate}
 use lib.Seq.{length-take-le, take-all, take-suc, drop-cons, drop-drop, getD-take, getD-set-same, getD-set-other, take-suc-set, drop-set-lt, set-at}
 use lib.Dec.{eqb}
 use borrow.Author.Tests.{eq-eqb, ne-eqb}
 use Rattle.logic.specs.Search.{_and_, _or_, from, any, all, find, firstOf}
 use Rattle.logic.specs.Calls.{padded}
-use Rattle.theory.proofs.Basics.Search.{from-mem, find-some}
+use Rattle.theory.proofs.Basics.Search.{from-mem, find-some, or-false, any-alike}
 use Rattle.theory.proofs.Basics.Compare.{eq-cases}
 use Rattle.entries.proofs.Loops.{drop-next, any-end, any-here, any-next}
 use Rattle.rows.proofs.Selections.{and-both, any-turn, any-end as any-none}
@@ -141,11 +141,6 @@ unfolding _or_
 or-assoc true b c = refl
 or-assoc false b c = refl
 
-or-none : (a : Bool) → a or false ≡ a
-unfolding _or_
-or-none true = refl
-or-none false = refl
-
 or-both : (a b : Bool) → a || b ≡ a or b
 unfolding _or_
 or-both true b = refl
@@ -156,7 +151,7 @@ unfolding _and_
 mark-set out e a v h =
     ⊎-elim
     (λ q. ap (λ (b : ℕ). getD (set out e (getD out e false || v)) b false) (sym q) ∙ getD-set-same out e (getD out e false || v) false h ∙ or-both (getD out e false) v ∙ ap₂ (λ (b : ℕ) (t : Bool). getD out b false or (t and v)) q (sym (eq-eqb e a q)))
-    (λ d. getD-set-other out e a (getD out e false || v) false (λ q. d .0 (sym q)) ∙ rw (d .1) (sym (or-none (getD out a false))))
+    (λ d. getD-set-other out e a (getD out e false || v) false (λ q. d .0 (sym q)) ∙ rw (d .1) (sym (or-false (getD out a false))))
     (eq-cases e a)
 
 pub marks-turn : (sheet : List ℕ) (row : List Bool) (end i : ℕ) (out : List Bool) (e l : ℕ) → i < end → length out ≡ 9 → e < 9 → e ≡ pairAt sheet i .earlier → l ≡ pairAt sheet i .later → Marks sheet row end i out → Marks sheet row end (i + 1) (set out e (getD out e false || getD row l false))
@@ -169,7 +164,7 @@ marks-turn sheet row end i out e l h size small from-pair to-pair m a k =
 
 pub marks-end : (sheet : List ℕ) (row : List Bool) (end i : ℕ) (out : List Bool) → end ≤ i → Marks sheet row end i out → (a : ℕ) → a < 9 → getD out a false ≡ any (λ p. eqb (p .earlier) a and getD row (p .later) false) (pairs sheet)
 marks-end sheet row end i out h m a k =
-    sym (m a k ∙ ap (λ (b : Bool). getD out a false or b) (any-none (λ j. eqb (pairAt sheet j .earlier) a and getD row (pairAt sheet j .later) false) end i h) ∙ or-none (getD out a false))
+    sym (m a k ∙ ap (λ (b : Bool). getD out a false or b) (any-none (λ j. eqb (pairAt sheet j .earlier) a and getD row (pairAt sheet j .later) false) end i h) ∙ or-false (getD out a false))
 
 -- the numbers from which k pairs lead to z
 abbrev pub Row : List ℕ → ℕ → ℕ → List Bool → Type 0
@@ -182,11 +177,6 @@ row-start sheet z h a k =
     (λ q. ap (λ (b : ℕ). getD (set (replicate 9 false) z true) b false) (sym q) ∙ getD-set-same (replicate 9 false) z true false (omega (arith, length-replicate 9 false)) ∙ sym (eq-eqb a z (sym q)))
     (λ d. getD-set-other (replicate 9 false) z a true false (λ q. d .0 (sym q)) ∙ getD-replicate 9 a false false k ∙ sym (ne-eqb a z (λ q. d .0 (sym q))))
     (eq-cases z a)
-
-any-alike : {A : Type 0} (f g : A → Bool) (xs : List A) → ((x : A) → List·Memᴰ x xs → f x ≡ g x) → any f xs ≡ any g xs
-unfolding any
-any-alike f g [] h = refl
-any-alike f g (x ∷ xs) h = ap₂ (λ (a b : Bool). a or b) (h x (List·Memᴰ·head refl)) (any-alike f g xs (λ y m. h y (List·Memᴰ·tail m)))
 
 pub row-turn : (sheet : List ℕ) (z k : ℕ) (row next : List Bool) → laidOut sheet ≡ true → rulesOnly sheet ≡ true → Row sheet z k row → ((a : ℕ) → a < 9 → getD next a false ≡ any (λ p. eqb (p .earlier) a and getD row (p .later) false) (pairs sheet)) → Row sheet z (k + 1) next
 unfolding leads

@@ -2,7 +2,7 @@
 use Prim.Native.Nat.{ℕ}
 use mathlib.Core.Bool.{cond}
 use mathlib.Core.List.{List, []}
-use mathlib.Core.Option.{Option, Option·elim}
+use mathlib.Core.Option.{Option·elim}
 use lib.ListN.{replicate}
 use lib.Dec.{leb}
 use Rattle.logic.specs.Calls.{padded}

@@ -1,11 +1,11 @@
 // Order lists from a precedence sheet: the smallest order list that keeps every pair, or the shortest ring of pairs.
 ghost use mathlib.Core.Path.{_≡_};
-ghost use mathlib.Core.Bool.{true, false, not};
+ghost use mathlib.Core.Bool.{true, false};
 ghost use mathlib.Core.List.{[], _∷_, _++_};
 ghost use Prim.Native.Nat.{ℕ, _+_, _-_, _*_, _≤_, _<_};
 ghost use lib.ListN.{length, getD, take, replicate};
 ghost use lib.Dec.{eqb};
-ghost use Rattle.logic.specs.Search.{_and_, _or_, any, all};
+ghost use Rattle.logic.specs.Search.{_and_, any, all};
 ghost use Rattle.logic.specs.Calls.{padded};
 ghost use Rattle.precedence.specs.Sheet.{pairAt, pairs, laidOut, isRule, rulesOnly, paired};
 ghost use Rattle.precedence.specs.Finding.{free, ready, nextRule, grow, leads, onward, nextOn, follow, ringStart, shownRing};

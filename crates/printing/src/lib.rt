@@ -1,7 +1,7 @@
 // What heapverdict and linksverdict print, made in a lent buffer. The program reads, asks for the text and writes it.
 use prover::Answer;
 ghost use mathlib.Core.Path.{_≡_};
-ghost use Prim.Native.Nat.{ℕ, _+_, _≤_, _<_, min};
+ghost use Prim.Native.Nat.{_+_, _≤_, _<_, min};
 ghost use lib.ListN.{length, replicate};
 ghost use Rattle.logic.specs.Search.{flatMap};
 ghost use Rattle.logic.specs.Derivation.{linesIn};

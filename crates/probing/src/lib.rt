@@ -84,7 +84,7 @@ fn still_left(
 }
 
 // A closed path soon clashes.
-fn sinks(query: &[u8], layout: Layout, s: Facts) -> bool
+fn soon_clashes(query: &[u8], layout: Layout, s: Facts) -> bool
     requires { ⌜ Within layout (now query) ⌝ }
 {
     let mut t = s;
@@ -111,7 +111,7 @@ fn sinks(query: &[u8], layout: Layout, s: Facts) -> bool
 }
 
 // Some alternative of a place soon clashes.
-fn fails(
+fn some_soon_clashes(
     query: &[u8],
     layout: Layout,
     s: Facts,
@@ -127,7 +127,7 @@ fn fails(
     let total = branch::count(rule, z);
     for i in 0..total {
         let path = taken(s, n, k, rule, x, y, z, i);
-        if sinks(query, layout, path) {
+        if soon_clashes(query, layout, path) {
             return true;
         }
     }
@@ -141,7 +141,7 @@ fn func_at(query: &[u8], layout: Layout, s: Facts, k: Link, far: u32, x: Term, y
 {
     for z in 0..17 {
         if rows::has(far, z) {
-            if fails(query, layout, s, k, Rule::Func, x, y, Third(z)) {
+            if some_soon_clashes(query, layout, s, k, Rule::Func, x, y, Third(z)) {
                 return Found::At(Term(z));
             }
         }
@@ -178,7 +178,7 @@ fn scc_at(query: &[u8], layout: Layout, s: Facts, k: Link, both: u32, x: Term, z
 {
     for y in 0..17 {
         if rows::has(both, y) {
-            if fails(query, layout, s, k, Rule::Scc, x, Term(y), Third(z.0)) {
+            if some_soon_clashes(query, layout, s, k, Rule::Scc, x, Term(y), Third(z.0)) {
                 return Found::At(Term(y));
             }
         }
@@ -227,7 +227,7 @@ fn total_at(
         if y < z {
             if !rows::has(near, z) {
                 if let Found::At(x) = units::lowest(from & back[z]) {
-                    if fails(query, layout, s, k, Rule::Total, x, Term(y), Third(z)) {
+                    if some_soon_clashes(query, layout, s, k, Rule::Total, x, Term(y), Third(z)) {
                         return Proposal::At(Rule::Total, x, Term(y), Third(z));
                     }
                 }

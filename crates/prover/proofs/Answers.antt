@@ -18,7 +18,7 @@ use Rattle.theory.proofs.Paths.Ranged.{live-range}
 use Rattle.facts.specs.Path.{repOf, pathOf}
 use Rattle.facts.specs.declared.Facts as code
 use Rattle.query.specs.declared.Layout.{Layout}
-use Rattle.query.specs.declared.Checked.the-variants as checked
+use Rattle.query_checks.specs.declared.Checked.the-variants as checked
 use Rattle.link_query.specs.Said.{said, Within}
 use Rattle.link_query.specs.Answers.{Taken, CheckedBy}
 use Rattle.link_query.proofs.Said.{terms-said}

@@ -14,7 +14,6 @@ use Rattle.logic.specs.Walk.{Ending, refutation, saturation, walkBranch, walk, 
 use Rattle.logic.specs.Shown.{report}
 use Rattle.logic.specs.Steps.{AtMost}
 use Rattle.logic.specs.Calls.{Outcome, blank, padded, verdictOf, derivationOf}
-use Rattle.logic.specs.Calls as calls
 use Rattle.start.specs.Started.{started}
 use Rattle.walk.specs.Lines.{countAll, putAll}
 use Rattle.walk.proofs.Lines.{countAll-small, countAll-large}

@@ -4,12 +4,12 @@ use mathlib.Core.Path.{_≡_}
 use mathlib.Core.Bool.{true, false}
 use mathlib.Core.List.{List}
 use lib.ListN.{length}
+use Rattle.logic.specs.Facts.{Facts}
 use Rattle.logic.specs.Walk.{Ending, saturation, Verdict, ourVerdict}
 use Rattle.logic.specs.Calls.{Input, Outcome}
 use Rattle.logic.specs.Calls as calls
-use Rattle.facts.specs.Path.{pathOf}
-use Rattle.decide.specs.Tells.{isRefuted}
-use Rattle.decide.specs.declared.Walked.{Walked}
+use Rattle.plain_steps.specs.Walks.{isRefuted}
+use Rattle.plain_steps.specs.declared.Kind.{Kind}
 use Rattle.prover.specs.declared.Answer.{Answer}
 use Rattle.prover.specs.declared.Answer.the-variants as answer
 
@@ -29,6 +29,6 @@ pub record Does (outcome : Outcome) (r : Answer) (bytes : List ℕ) : Type 0 whe
   pub leaves : bytes ≡ outcome .lent
 
 -- how a walk ends: refuted, or with this path saturated
-pub record Settles (e : Ending) (r : Walked) : Type 0 where
-  pub refuted : isRefuted (r .kind) ≡ true → ourVerdict e ≡ Verdict.refuted
-  pub shown : isRefuted (r .kind) ≡ false → e ≡ saturation (pathOf (r .facts))
+pub record Settles (e : Ending) (k : Kind) (s : Facts) : Type 0 where
+  pub refuted : isRefuted k ≡ true → ourVerdict e ≡ Verdict.refuted
+  pub shown : isRefuted k ≡ false → e ≡ saturation s

@@ -1,21 +1,24 @@
 // Lemitsaka's calls: a verdict with its heap, and a derivation, of queries in the form of 01 or with three links (02, R-11). None asks
 // anything of its caller.
-use decide::Walked;
-use query::Checked;
+use facts::Facts;
+use plain_steps::Kind;
 use query::Layout;
+use query_checks::Checked;
 ghost use mathlib.Core.Path.{_≡_};
 ghost use mathlib.Core.Bool.{true};
 ghost use Prim.Native.Nat.{_+_, _*_, _≤_};
 ghost use lib.ListN.{length, replicate};
+ghost use lib.Dec.{eqb};
 ghost use Rattle.logic.specs.Query.{isOrder};
 ghost use Rattle.logic.specs.Walk.{Verdict, ourWalk, ourVerdict};
 ghost use Rattle.logic.specs.Calls.{verdictOf, verdictCall, verdictCallOf, derivationOf, derivationCall, derivationCallOf};
 ghost use Rattle.logic.specs.ThreeLinks.{threeLinkForm};
 ghost use Rattle.theory.proofs.Query.Tied.{Accepted};
+ghost use Rattle.facts.specs.Path.{pathAs};
 ghost use Rattle.link_query.specs.Said.{said, Within};
 ghost use Rattle.link_query.specs.Answers.{CheckedBy};
 ghost use Rattle.call_limits.specs.Forms.{formOf};
-ghost use Rattle.prover.specs.Promise.{meaning, inputOf, Does, Settles};
+ghost use Rattle.prover.specs.Promise.{inputOf, Does, Settles};
 
 // What a call answers: a verdict, or a refusal's number and place.
 pub enum Answer {
@@ -25,15 +28,53 @@ pub enum Answer {
 }
 
 // How our walk of a query that passes its checks ends. Its lines are not written, and most branches are decided by other means than
-// walking them: the verdict is the same.
-fn settled(order: &[u8], query: &[u8], layout: Layout) -> Walked
+// walking them: the verdict is the same. The path where it ends is left in lent arrays, whatever they held.
+fn settled(
+    order: &[u8],
+    query: &[u8],
+    layout: Layout,
+    rep: &mut [u8; 17],
+    link: &mut [u32; 17],
+    reach: &mut [u32; 17],
+    link2: &mut [u32; 17],
+    reach2: &mut [u32; 17],
+    link3: &mut [u32; 17],
+    reach3: &mut [u32; 17],
+) -> Kind
     requires { ⌜ Within layout (now query) × Accepted (said layout (now query)) × (isOrder (now order) ≡ true) ⌝ }
-    ensures { λ r. ⌜ Settles (ourWalk (now (order .entry)) (said layout (now (query .entry)))) r ⌝ }
+    ensures { λ r. ⌜ Settles (ourWalk (now (order .entry)) (said layout (now (query .entry)))) r (pathAs (eqb (layout .links) 1) (now (rep .exit)) (now (link .exit)) (now (reach .exit)) (now (link2 .exit)) (now (reach2 .exit)) (now (link3 .exit)) (now (reach3 .exit))) ⌝ }
 {
     let steps = call_limits::limit(layout.links, layout.terms);
-    let first = start::start(query, layout);
-    let s = first.facts;
-    open_path::settle(query, layout, order, steps, s)
+    let single = layout.links == 1;
+    let mut kept = [0u8; 17];
+    let mut replaced = [0u8; 17];
+    start::start_in(
+        query,
+        layout,
+        rep,
+        link,
+        reach,
+        link2,
+        reach2,
+        link3,
+        reach3,
+        &mut kept,
+        &mut replaced,
+    );
+    open_path::settle(
+        query,
+        layout,
+        order,
+        steps,
+        single,
+        rep,
+        link,
+        reach,
+        link2,
+        reach2,
+        link3,
+        reach3,
+    )
 }
 
 // The verdict of a query that passes its checks, and the heap shown in a blank report.
@@ -41,12 +82,39 @@ fn decide(order: &[u8], query: &[u8], layout: Layout, report: &mut [u8]) -> Answ
     requires { ⌜ Within layout (now query) × Accepted (said layout (now query)) × (isOrder (now order) ≡ true) × (37 + 16 * (layout .links) ≤ length (now report)) × (now report ≡ replicate (length (now report)) 0) ⌝ }
     ensures { λ r. ⌜ Does (verdictOf (said layout (now (query .entry))) (length (now (report .entry))) (ourWalk (now (order .entry)) (said layout (now (query .entry))))) r (now (report .exit)) ⌝ }
 {
-    let w = settled(order, query, layout);
-    let kind = w.kind;
-    let path = w.facts;
-    if decide::is_refuted(kind) {
+    let mut rep = [0u8; 17];
+    let mut link = [0u32; 17];
+    let mut reach = [0u32; 17];
+    let mut link2 = [0u32; 17];
+    let mut reach2 = [0u32; 17];
+    let mut link3 = [0u32; 17];
+    let mut reach3 = [0u32; 17];
+    let kind = settled(
+        order,
+        query,
+        layout,
+        &mut rep,
+        &mut link,
+        &mut reach,
+        &mut link2,
+        &mut reach2,
+        &mut link3,
+        &mut reach3,
+    );
+    if plain_steps::is_refuted(kind) {
         return Answer::Refuted;
     }
+    let single = layout.links == 1;
+    let path = Facts {
+        rep,
+        single,
+        link,
+        reach,
+        link2,
+        reach2,
+        link3,
+        reach3,
+    };
     report::write_report(report, query, layout, path);
     Answer::Satisfiable
 }
@@ -58,7 +126,7 @@ fn checked(three: bool, query: &[u8]) -> Checked
     if three {
         return link_query::check_links(query);
     }
-    query::check(query)
+    query_checks::check(query)
 }
 
 // The verdict call of either form.
@@ -66,7 +134,7 @@ pub fn verdict_in(three: bool, order: &[u8], query: &[u8], report: &mut [u8]) ->
     ensures { λ r. ⌜ Does (verdictCallOf (formOf three) (inputOf (now (order .entry)) (now (query .entry)) (now (report .entry)))) r (now (report .exit)) ⌝ }
 {
     lent::clear(report);
-    if !query::is_order(order) {
+    if !order_list::is_order(order) {
         return Answer::Refused(1, 0);
     }
     match checked(three, query) {
@@ -111,9 +179,26 @@ fn derive(order: &[u8], query: &[u8], layout: Layout, buffer: &mut [u8]) -> Answ
     requires { ⌜ Within layout (now query) × Accepted (said layout (now query)) × (isOrder (now order) ≡ true) × (now buffer ≡ replicate (length (now buffer)) 0) ⌝ }
     ensures { λ r. ⌜ Does (derivationOf (length (now (buffer .entry))) (ourWalk (now (order .entry)) (said layout (now (query .entry))))) r (now (buffer .exit)) ⌝ }
 {
-    let w = settled(order, query, layout);
-    let kind = w.kind;
-    if decide::is_refuted(kind) {
+    let mut rep = [0u8; 17];
+    let mut link = [0u32; 17];
+    let mut reach = [0u32; 17];
+    let mut link2 = [0u32; 17];
+    let mut reach2 = [0u32; 17];
+    let mut link3 = [0u32; 17];
+    let mut reach3 = [0u32; 17];
+    let kind = settled(
+        order,
+        query,
+        layout,
+        &mut rep,
+        &mut link,
+        &mut reach,
+        &mut link2,
+        &mut reach2,
+        &mut link3,
+        &mut reach3,
+    );
+    if plain_steps::is_refuted(kind) {
         return write_lines(order, query, layout, buffer);
     }
     Answer::Refused(11, 0)
@@ -124,7 +209,7 @@ pub fn derivation_in(three: bool, order: &[u8], query: &[u8], buffer: &mut [u8])
     ensures { λ r. ⌜ Does (derivationCallOf (formOf three) (inputOf (now (order .entry)) (now (query .entry)) (now (buffer .entry)))) r (now (buffer .exit)) ⌝ }
 {
     lent::clear(buffer);
-    if !query::is_order(order) {
+    if !order_list::is_order(order) {
         return Answer::Refused(1, 0);
     }
     match checked(three, query) {

@@ -1,6 +1,7 @@
 // Asks each accepted query of a row that has two or more equalities again with these in other orders, and compares what the verdict call
 // answers and every byte of its report. Standard input: inputs of heapverdict, each after its length in two bytes.
 use libc::STDOUT_FILENO;
+use prover::Answer;
 ghost use Prim.Native.Nat.{_≤_, _<_};
 
 // How many queries were asked again, and how many of them had one report throughout.
@@ -97,6 +98,15 @@ fn is_same(a: &[u8], b: &[u8]) -> bool {
     true
 }
 
+// The verdict as a number, 2 where the query is refused.
+fn verdict(order: &[u8], query: &[u8], report: &mut [u8]) -> usize {
+    match prover::verdict(order, query, report) {
+        Answer::Satisfiable => 0,
+        Answer::Refuted => 1,
+        Answer::Refused(_, _) => 2,
+    }
+}
+
 // Whether the answer and the report are the same for the equalities in another order.
 fn agrees(order: &[u8], query: &[u8], at: usize, count: usize, by: usize, backwards: bool) -> bool
     requires { ⌜ (at < 2000) × (count < 256) × (by < 256) ⌝ }
@@ -110,8 +120,8 @@ fn agrees(order: &[u8], query: &[u8], at: usize, count: usize, by: usize, backwa
     }
     copy(query, &mut room);
     reorder(query, &mut room, at, count, by, backwards);
-    let answer = lemitsaka::verdict_export::lemitsaka_verdict(order, query, &mut report);
-    let other = lemitsaka::verdict_export::lemitsaka_verdict(order, &room[..n], &mut again);
+    let answer = verdict(order, query, &mut report);
+    let other = verdict(order, &room[..n], &mut again);
     (answer == other) & is_same(&report, &again)
 }
 
@@ -127,8 +137,8 @@ fn ask(order: &[u8], query: &[u8], t: Tally) -> Tally {
     let at = byte(query, 0) + 1;
     let count = byte(query, at);
     let mut report = [0u8; 53];
-    let answer = lemitsaka::verdict_export::lemitsaka_verdict(order, query, &mut report);
-    if (count < 2) | (65535 < answer) {
+    let answer = verdict(order, query, &mut report);
+    if (count < 2) | (1 < answer) {
         return t;
     }
     let on = agrees(order, query, at + 1, count, 1, false);

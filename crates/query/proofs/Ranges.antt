@@ -1,22 +1,15 @@
 -- What acceptance says of the bytes that are read in place: arguments are below their terms, and numbers are in their ranges.
 use Prim.Native.Nat.{ℕ, _≤_, _<_}
-use mathlib.Core.Path.{_≡_, refl, sym, subst}
+use mathlib.Core.Path.{_≡_, sym, subst}
 use mathlib.Core.Bool.{true}
-use mathlib.Core.List.{List, [], List·Memᴰ}
-use Rattle.logic.specs.Search.{isSome}
+use mathlib.Core.List.{List, List·Memᴰ}
 use Rattle.logic.specs.Query.{Literal, Query, argumentOf, linkOf, termCount, decode}
-use Rattle.logic.specs.Calls.{accepts, acceptsBy}
+use Rattle.logic.specs.Calls.{accepts}
 use Rattle.theory.proofs.Query.Tied.{InTerms, Accepted}
 use Rattle.theory.proofs.Query.AcceptedBytes.{accepted}
 use Rattle.query.specs.declared.Layout.{Layout}
-use Rattle.query.specs.declared.Checked.the-variants as checked
 use Rattle.query.specs.LaysOut.{LaysOut, literalIn}
-use Rattle.query.specs.Answers.{CheckedAs}
 use Rattle.query.proofs.Literals.{listed, listed-mem, equalities-listed, reachability-listed, fields-listed}
-
-pub checked-accepts : (l : Layout) (bytes : List ℕ) → CheckedAs (checked.Accepted l) bytes → accepts bytes ≡ true
-unfolding acceptsBy isSome
-checked-accepts l bytes h = rw (h .0 (record { order = []; query = bytes; room = 0 }) refl)
 
 abbrev pub UpTo : ℕ → ℕ → Type 0
 UpTo most b = (1 ≤ b) × (b ≤ most)

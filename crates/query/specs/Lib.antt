@@ -1,4 +1,3 @@
 pub mod Forms
 pub mod Sections
 pub mod LaysOut
-pub mod Answers

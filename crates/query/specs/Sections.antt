@@ -3,12 +3,14 @@ use Prim.Native.Nat.{ℕ, _+_, _*_, _≤_, _<_}
 use mathlib.Core.Path.{_≡_}
 use mathlib.Core.List.{List, _∷_}
 use lib.ListN.{length, getD, drop}
-use Rattle.logic.specs.Query.{Section, layout, faulty}
+use Rattle.logic.specs.Query.{Section, layout, faulty, layoutBy}
 use Rattle.entries.specs.Entries.{widthOf}
-use Rattle.query.specs.Forms.{entryKind, reachKind}
+use Rattle.query.specs.Forms.{entryKind, reachKind, formBy}
 use Rattle.query.specs.declared.Read.{Read}
 use Rattle.query.specs.declared.Read.the-variants as read
 use Rattle.query.specs.declared.FullLayout.{FullLayout}
+use Rattle.query.specs.declared.FullChecked.{FullChecked}
+use Rattle.query.specs.declared.FullChecked.the-variants as full
 
 -- The section with its count at `at` and the next section at `next`.
 pub record Stands (bytes : List ℕ) (limit width at count next : ℕ) : Type 0 where
@@ -39,3 +41,8 @@ pub record Sections (l : FullLayout) (bytes : List ℕ) : Type 0 where
   pub reach-at : l .layout .«reach_at» ≡ third + 1
   pub field-at : l .layout .«field_at» ≡ fourth + 1
   pub boolean-at : l .«boolean_at» ≡ fifth + 1
+
+-- the refusal of the walk from the front, or the sections
+abbrev pub LaidOut : FullChecked → List ℕ → ℕ → ℕ → ℕ → Type 0
+LaidOut (full.Refused k place) bytes links most excess = layoutBy (formBy links most excess) bytes ≡ faulty k place
+LaidOut (full.Accepted l) bytes links most excess = Sections l bytes × (l .«boolean_count» ≤ most) × (l .layout .links ≡ links)

@@ -1,15 +1,11 @@
-// The order list and the query's bytes: where the sections of a query stand, refusals 1 to 8 and 26, and reading a literal in place.
+// Where the sections of a query stand, refusals 2 to 4 and 26, and reading a literal in place.
 use rows::Term;
 ghost use mathlib.Core.Path.{_≡_};
-ghost use Prim.Native.Nat.{_+_, _*_, _≤_, _<_};
+ghost use Prim.Native.Nat.{_+_, _*_, _≤_};
 ghost use lib.ListN.{length};
-ghost use lib.Dec.{eqb};
-ghost use Rattle.logic.specs.Search.{any};
-ghost use Rattle.logic.specs.Query.{isOrder};
 ghost use Rattle.query.specs.Forms.{entryKind, reachKind};
-ghost use Rattle.query.specs.Sections.{ReadAs, Sections};
+ghost use Rattle.query.specs.Sections.{ReadAs, LaidOut};
 ghost use Rattle.query.specs.LaysOut.{literalIn};
-ghost use Rattle.query.specs.Answers.{FoundIn, LaidOut, BytesChecked, FullCheckedAs, CheckedAs};
 
 // Where the sections of a query stand: the first byte of each behind its count, and the count. The terms stand at 1. With one link the query
 // has the form of 01, and with three that of 02, R-11.
@@ -32,11 +28,6 @@ pub struct FullLayout {
 }
 
 // A query that is refused, with the refusal's number and place, or one that is accepted.
-pub enum Checked {
-    Refused(usize, usize),
-    Accepted(Layout),
-}
-
 pub enum FullChecked {
     Refused(usize, usize),
     Accepted(FullLayout),
@@ -52,39 +43,6 @@ struct Part {
 enum Read {
     Refused(usize, usize),
     Section(Part),
-}
-
-// The order list names the rule r.
-fn names(order: &[u8], r: u8) -> bool
-    ensures { λ b. ⌜ b ≡ any (eqb r) (now (order .entry)) ⌝ }
-{
-    let mut i: usize = 0;
-    while i < order.len() {
-        let x = order[i];
-        if r == x {
-            return true;
-        }
-        i += 1;
-    }
-    false
-}
-
-// "The order list is eight bytes holding 1 to 8 once each."
-pub fn is_order(order: &[u8]) -> bool
-    ensures { λ b. ⌜ b ≡ isOrder (now (order .entry)) ⌝ }
-{
-    let n = order.len();
-    if n != 8 {
-        return false;
-    }
-    let mut r: u8 = 1;
-    while r < 9 {
-        if !names(order, r) {
-            return false;
-        }
-        r += 1;
-    }
-    true
 }
 
 // The section whose count stands at `at`: refused 2 where the query ends before it does, and `excess` where the count is above the limit.
@@ -112,7 +70,7 @@ fn read_section(query: &[u8], at: usize, limit: usize, excess: usize, width: usi
 }
 
 // The kinds of the entries of sections 1 and 3.
-fn entry_kind(links: usize) -> entries::Kind
+pub fn entry_kind(links: usize) -> entries::Kind
     ensures { λ r. ⌜ r ≡ entryKind links ⌝ }
 {
     if links == 1 {
@@ -121,7 +79,7 @@ fn entry_kind(links: usize) -> entries::Kind
     entries::Kind::LinkedTerms
 }
 
-fn reach_kind(links: usize) -> entries::Kind
+pub fn reach_kind(links: usize) -> entries::Kind
     ensures { λ r. ⌜ r ≡ reachKind links ⌝ }
 {
     if links == 1 {
@@ -174,86 +132,6 @@ pub fn lay_out(query: &[u8], links: usize, most: usize, excess: usize) -> FullCh
         boolean_at: field.next + 1,
         boolean_count: boolean.count,
     })
-}
-
-// "For 5 to 8 the whole query is searched for one fault before the next, and the place is the lowest such byte."
-fn byte_fault(k: usize, query: &[u8], full: FullLayout) -> entries::Found
-    requires { ⌜ Sections full (now query) ⌝ }
-    ensures { λ r. ⌜ FoundIn r k (full .layout .links) (now (query .entry)) ⌝ }
-{
-    let l = full.layout;
-    let n = l.terms;
-    match entries::section_fault(k, entry_kind(l.links), n, query, 1, n) {
-        entries::Found::At(p) => return entries::Found::At(p),
-        entries::Found::Nothing => {}
-    }
-    match entries::section_fault(k, entries::Kind::Pairs, n, query, l.equal_at, l.equal_count) {
-        entries::Found::At(p) => return entries::Found::At(p),
-        entries::Found::Nothing => {}
-    }
-    match entries::section_fault(k, reach_kind(l.links), n, query, l.reach_at, l.reach_count) {
-        entries::Found::At(p) => return entries::Found::At(p),
-        entries::Found::Nothing => {}
-    }
-    match entries::section_fault(
-        k,
-        entries::Kind::Fields,
-        n,
-        query,
-        l.field_at,
-        l.field_count,
-    ) {
-        entries::Found::At(p) => return entries::Found::At(p),
-        entries::Found::Nothing => {}
-    }
-    entries::section_fault(
-        k,
-        entries::Kind::Booleans,
-        n,
-        query,
-        full.boolean_at,
-        full.boolean_count,
-    )
-}
-
-// Refusals 5 to 8, of a query that is laid out.
-pub fn check_bytes(query: &[u8], full: FullLayout) -> FullChecked
-    requires { ⌜ Sections full (now query) ⌝ }
-    ensures { λ r. ⌜ BytesChecked r full (now (query .entry)) ⌝ }
-{
-    let mut k: usize = 5;
-    while k < 9 {
-        match byte_fault(k, query, full) {
-            entries::Found::At(place) => return FullChecked::Refused(k, place),
-            entries::Found::Nothing => {}
-        }
-        k += 1;
-    }
-    FullChecked::Accepted(full)
-}
-
-// "Refusals, in checking order", of a query in the form where `most` booleans pass and more are refused `excess`: 2 to 8, and `excess`
-// before 4.
-pub fn check_with(query: &[u8], most: usize, excess: usize) -> FullChecked
-    ensures { λ r. ⌜ FullCheckedAs r (now (query .entry)) most excess ⌝ }
-{
-    match lay_out(query, 1, most, excess) {
-        FullChecked::Refused(k, place) => FullChecked::Refused(k, place),
-        FullChecked::Accepted(full) => check_bytes(query, full),
-    }
-}
-
-// The same of a query as it is now: "Its count must now be 0", and 26 "instead of 3" (02, R-13).
-pub fn check(query: &[u8]) -> Checked
-    ensures { λ r. ⌜ CheckedAs r (now (query .entry)) ⌝ }
-{
-    match check_with(query, 0, 26) {
-        FullChecked::Refused(k, place) => Checked::Refused(k, place),
-        FullChecked::Accepted(full) => {
-            let l = full.layout;
-            Checked::Accepted(l)
-        }
-    }
 }
 
 // Literal i of the equalities, the reachability literals or the data literals, which stand at `at`: whether it is plain.

@@ -20,11 +20,10 @@ use Rattle.query.proofs.Literals.{listed}
 use Rattle.query.proofs.Ranges.{field-number-term-of}
 use Rattle.link_query.specs.Said.{said}
 use Rattle.link_query.proofs.Said.{terms-said, fields-said}
-use Rattle.heap_nodes.specs.declared.Node.{Node}
 use Rattle.heap_nodes.specs.Nodes.{nodeOf, marked, nodesBy, Numbers}
 use Rattle.lent.specs.Appending.{Appends}
 use Rattle.report.specs.Bytes.{fieldHeld, literalsAt, FieldsIn, Reportable, successorsAmong, allSuccessors, sections}
-use Rattle.heap_nodes.proofs.Nodes.{nodes-by, every-selected, every-length, marked-below, numbers-below}
+use Rattle.heap_nodes.proofs.Nodes.{nodes-by, every-selected, every-length, marked-below}
 use Rattle.report.proofs.Successors.{map-alike, successors-length, rows-length}
 use Rattle.lent.proofs.Writing.{appends-then, appends-zeros}
 
@@ -77,11 +76,8 @@ module _ (l : Layout) (query : List ℕ) (s : code.Facts) (ready : Reportable l 
     pub few-nodes : length (marked marks (l .terms)) ≤ 16
     few-nodes = omega (arith, ap length are-nodes, nodes-length (l .terms) (pathOf s) (ready .laid .terms-within) .1)
 
-    pub node-within : (list : List Node) → Numbers list (marked marks (l .terms)) → (t : ℕ) → t ≤ 16 → nodeOf list t ≤ 16
-    node-within list e = numbers-below list (marked marks (l .terms)) e few-nodes
-
     -- the sections are the report's
-    module _ (list : List Node) (numbers : Numbers list (marked marks (l .terms))) (places fields : List ℕ) (placed : (t : ℕ) → 1 ≤ t → t ≤ l .terms → getD places t 0 ≡ nodeOf list (repOf (s .rep) t)) (held : (v : ℕ) → v ≤ l .terms → getD fields v 0 ≡ byteOf (fieldHeld (repOf (s .rep)) (literalsAt query (l .«field_at») (l .«field_count»)) v) 1 8) where
+    module _ (list : List ℕ) (numbers : Numbers list (marked marks (l .terms))) (places fields : List ℕ) (placed : (t : ℕ) → 1 ≤ t → t ≤ l .terms → getD places t 0 ≡ nodeOf list (repOf (s .rep) t)) (held : (v : ℕ) → v ≤ l .terms → getD fields v 0 ≡ byteOf (fieldHeld (repOf (s .rep)) (literalsAt query (l .«field_at») (l .«field_count»)) v) 1 8) where
       node : (t : ℕ) → List·Memᴰ t (terms (l .terms)) → getD places t 0 ≡ placeOf (pathOf s .rep t) (marked marks (l .terms))
       unfolding terms pathOf
       node t m =

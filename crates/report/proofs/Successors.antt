@@ -14,7 +14,6 @@ use Rattle.rows.proofs.Loops.{from-end, from-next}
 use Rattle.lent.specs.Appending.{Appends}
 use Rattle.lent.proofs.Writing.{appends-none, appends-then}
 use Rattle.completion.proofs.Completing.{shown-below}
-use Rattle.heap_nodes.specs.declared.Node.{Node}
 use Rattle.heap_nodes.specs.Nodes.{nodeOf, marked, Numbers}
 use Rattle.report.specs.Bytes.{successorsAmong}
 use Rattle.heap_nodes.proofs.Nodes.{marked-below}
@@ -24,7 +23,7 @@ map-alike f g [] h = refl
 map-alike f g (x ∷ xs) h = ap₂ (λ (y : ℕ) (ys : List ℕ). y ∷ ys) (h x (List·Memᴰ·head refl)) (map-alike f g xs (λ y m. h y (List·Memᴰ·tail m)))
 
 -- the bytes of one link are the successors along it
-pub successors-are : (n : ℕ) (s : Facts) (marks : List Bool) (list : List Node) (i : ℕ) (bytes : List ℕ) → n ≤ 16 → Numbers list (marked marks n) → ((t : ℕ) → t ≤ n → getD bytes t 0 ≡ nodeOf list (shownLink n s i t)) → map (λ t. getD bytes t 0) (marked marks n) ≡ successorsAmong n s (marked marks n) i
+pub successors-are : (n : ℕ) (s : Facts) (marks : List Bool) (list : List ℕ) (i : ℕ) (bytes : List ℕ) → n ≤ 16 → Numbers list (marked marks n) → ((t : ℕ) → t ≤ n → getD bytes t 0 ≡ nodeOf list (shownLink n s i t)) → map (λ t. getD bytes t 0) (marked marks n) ≡ successorsAmong n s (marked marks n) i
 unfolding successorsAmong
 successors-are n s marks list i bytes h numbers linked =
     map-alike _ _ (marked marks n) (λ v m. linked v (marked-below marks n v m) ∙ numbers (shownLink n s i v) (omega (arith, shown-below n s i v)))

@@ -14,7 +14,6 @@ ghost use Rattle.report.specs.Bytes.{fieldHeld, literalsAt, FieldsIn, Re
 ghost use Rattle.link_query.specs.Said.{said};
 use facts::Facts;
 use facts::Link;
-use heap_nodes::Node;
 use query::Layout;
 
 // The byte of each term, ascending.
@@ -32,7 +31,7 @@ fn put_terms(buffer: &mut [u8], at: usize, bytes: &[u8; 17], n: usize) -> usize
     to
 }
 
-// The fields that plain data literals set: field j at the node of term v is at v * 17 + j.
+// The fields that plain data literals set: field j at the node of term v is bit j of row v.
 fn mark_fields(query: &[u8], at: usize, count: usize, rep: &[u8; 17]) -> [u32; 17]
     requires { ⌜ (at + 3 * count ≤ length (now query)) × FieldsIn (now query) at count (repOf (now rep)) ⌝ }
     ensures { λ r. ⌜ ((v j : ℕ) → v ≤ 16 → j ≤ 16 → square r v j ≡ fieldHeld (repOf (now (rep .entry))) (literalsAt (now (query .entry)) at count) v j) ⌝ }
@@ -73,12 +72,12 @@ pub fn row_bytes(marks: &[u32; 17], n: usize) -> [u8; 17]
 }
 
 // The successors along link k, at the numbers to n.
-fn successor_bytes(s: Facts, n: usize, nodes: [Node; 17], k: Link) -> [u8; 17]
-    requires { ⌜ (n ≤ 16) × ((t : ℕ) → t ≤ 16 → nodeOf nodes t ≤ 16) × HasLink (pathOf s) (k .0) ⌝ }
-    ensures { λ r. ⌜ ((t : ℕ) → t ≤ n → getD r t 0 ≡ nodeOf nodes (shownLink n (pathOf s) (k .0) t)) ⌝ }
+fn successor_bytes(s: Facts, n: usize, nodes: &[u8; 17], k: Link) -> [u8; 17]
+    requires { ⌜ (n ≤ 16) × HasLink (pathOf s) (k .0) ⌝ }
+    ensures { λ r. ⌜ ((t : ℕ) → t ≤ n → getD r t 0 ≡ nodeOf (now (nodes .entry)) (shownLink n (pathOf s) (k .0) t)) ⌝ }
 {
     let links = completion::shown_links(s, n, k);
-    heap_nodes::nodes_linked(nodes, links, n)
+    heap_nodes::nodes_linked(nodes, &links, n)
 }
 
 // "field j in bit j-1, set exactly by a plain literal", at the numbers to n.
@@ -97,10 +96,10 @@ fn put_successors(
     s: Facts,
     m: usize,
     marks: &[bool; 17],
-    nodes: [Node; 17],
+    nodes: &[u8; 17],
     n: usize,
 ) -> usize
-    requires { ⌜ (n ≤ 16) × (m ≤ 16) × (m ≡ length (marked (now marks) n)) × (at + pathOf s .links * m ≤ length (now buffer)) × Numbers nodes (marked (now marks) n) ⌝ }
+    requires { ⌜ (n ≤ 16) × (m ≤ 16) × (m ≡ length (marked (now marks) n)) × (at + pathOf s .links * m ≤ length (now buffer)) × Numbers (now nodes) (marked (now marks) n) ⌝ }
     ensures { λ r. ⌜ (r ≡ at + pathOf s .links * m) × Appends (now (buffer .entry)) (now (buffer .exit)) at (allSuccessors n (pathOf s) (marked (now (marks .entry)) n)) ⌝ }
 {
     let links = facts::links(s);
@@ -122,10 +121,10 @@ fn put_successor_section(
     s: Facts,
     m: usize,
     marks: &[bool; 17],
-    nodes: [Node; 17],
+    nodes: &[u8; 17],
     n: usize,
 ) -> usize
-    requires { ⌜ (n ≤ 16) × (m ≤ 16) × (m ≡ length (marked (now marks) n)) × (at + 1 + pathOf s .links * m ≤ length (now buffer)) × Numbers nodes (marked (now marks) n) ⌝ }
+    requires { ⌜ (n ≤ 16) × (m ≤ 16) × (m ≡ length (marked (now marks) n)) × (at + 1 + pathOf s .links * m ≤ length (now buffer)) × Numbers (now nodes) (marked (now marks) n) ⌝ }
     ensures { λ r. ⌜ (r ≡ at + 1 + pathOf s .links * m) × Appends (now (buffer .entry)) (now (buffer .exit)) at (pathOf s .links * m ∷ allSuccessors n (pathOf s) (marked (now (marks .entry)) n)) ⌝ }
 {
     let links = facts::links(s);
@@ -141,10 +140,10 @@ fn put_node_section(
     m: usize,
     bytes: &[u8; 17],
     marks: &[bool; 17],
-    nodes: [Node; 17],
+    nodes: &[u8; 17],
     n: usize,
 ) -> usize
-    requires { ⌜ (n ≤ 16) × (m ≤ 16) × (m ≡ length (marked (now marks) n)) × (at + 1 + m ≤ length (now buffer)) × Numbers nodes (marked (now marks) n) ⌝ }
+    requires { ⌜ (n ≤ 16) × (m ≤ 16) × (m ≡ length (marked (now marks) n)) × (at + 1 + m ≤ length (now buffer)) × Numbers (now nodes) (marked (now marks) n) ⌝ }
     ensures { λ r. ⌜ (r ≡ at + 1 + m) × Appends (now (buffer .entry)) (now (buffer .exit)) at (m ∷ map (λ t. getD (now (bytes .entry)) t 0) (marked (now (marks .entry)) n)) ⌝ }
 {
     let next = lent::put(buffer, at, m as u8);
@@ -166,13 +165,13 @@ fn write_sections(
     buffer: &mut [u8],
     s: Facts,
     marks: &[bool; 17],
-    nodes: [Node; 17],
+    nodes: &[u8; 17],
     m: usize,
     n: usize,
     places: &[u8; 17],
     fields: &[u8; 17],
 )
-    requires { ⌜ (n ≤ 16) × (m ≤ 16) × (m ≡ length (marked (now marks) n)) × (5 + n + m + pathOf s .links * m ≤ length (now buffer)) × Numbers nodes (marked (now marks) n) ⌝ }
+    requires { ⌜ (n ≤ 16) × (m ≤ 16) × (m ≡ length (marked (now marks) n)) × (5 + n + m + pathOf s .links * m ≤ length (now buffer)) × Numbers (now nodes) (marked (now marks) n) ⌝ }
     ensures { λ r. ⌜ now (buffer .exit) ≡ padded (length (now (buffer .entry))) (sections n (marked (now (marks .entry)) n) (allSuccessors n (pathOf s) (marked (now (marks .entry)) n)) (λ t. getD (now (places .entry)) t 0) (λ t. getD (now (fields .entry)) t 0)) ⌝ }
 {
     lent::clear(buffer);
@@ -192,7 +191,7 @@ pub fn write_report(buffer: &mut [u8], query: &[u8], l: Layout, s: Facts)
     let marks = heap_nodes::mark_nodes(&s.rep, n);
     let m = heap_nodes::count_marks(&marks, n);
     let nodes = heap_nodes::number_nodes(&marks, n, m);
-    let places = heap_nodes::nodes_of_terms(nodes, &s.rep, n);
+    let places = heap_nodes::nodes_of_terms(&nodes, &s.rep, n);
     let fields = data_bytes(query, l.field_at, l.field_count, &s.rep, n);
-    write_sections(buffer, s, &marks, nodes, m, n, &places, &fields);
+    write_sections(buffer, s, &marks, &nodes, m, n, &places, &fields);
 }

@@ -5,7 +5,7 @@ use mathlib.Core.Path.{_≡_, refl, sym, ap, _∙_, subst}
 use mathlib.Core.Logic.{inl, inr}
 use mathlib.Core.Bool.{true, false}
 use mathlib.Core.List.{List, [], _∷_}
-use lib.ListN.{length, replicate, length-replicate}
+use lib.ListN.{length, replicate}
 use Rattle.logic.specs.Query.{Literal, Query, termCount}
 use Rattle.logic.specs.Calls as calls
 use Rattle.theory.proofs.Query.Bytes.{layoutNumbers, three-number}
@@ -14,7 +14,7 @@ use Rattle.encoding.specs.WritingCall.{Outcome, written, given, refusal, blank,
 use Rattle.encoding.proofs.WritingCall.{none-accepts, call-refused, call-full, call-writes}
 use Rattle.text.specs.Text.{Writes}
 use Rattle.text.proofs.Writing.{writes-as, writes-blank}
-use Rattle.query.specs.Answers.{FullCheckedAs}
+use Rattle.query_checks.specs.Answers.{FullCheckedAs}
 use Rattle.query.specs.declared.FullLayout.{FullLayout}
 use Rattle.query.specs.declared.FullChecked.the-variants as checked
 use Rattle.rewriting.specs.OldQuery.{oldSections, decodeOld}
@@ -29,13 +29,6 @@ use Rattle.rewriter.specs.Promise.{Does, Passing}
 use Rattle.rewriter.specs.declared.Rewritten.{Rewritten}
 use Rattle.rewriter.specs.declared.Rewritten.the-variants as answer
 use Rattle.rewriter.proofs.Written.{fourth-at, boolean-counted, terms-more, fields-more, written-is, written-long}
-
--- a buffer that was cleared
-pub blank-again : (bytes : List ℕ) (n : ℕ) → bytes ≡ replicate n 0 → bytes ≡ replicate (length bytes) 0
-blank-again bytes n e = e ∙ ap (λ (k : ℕ). replicate k 0) (sym (ap length e ∙ length-replicate n 0))
-
-pub blank-long : (bytes : List ℕ) (n : ℕ) → bytes ≡ replicate n 0 → length bytes ≡ n
-blank-long bytes n e = ap length e ∙ length-replicate n 0
 
 -- a refusal leaves what was cleared, and a query is written into it
 pub does-blank : (room : ℕ) {o : Outcome} {k place : ℕ} {out : List ℕ} → o ≡ blank room (calls.refused k place) → out ≡ replicate room 0 → Does o (answer.Refused k place) out

@@ -9,7 +9,8 @@ use lib.Seq.{take-at, drop-at, length-take-le}
 use Rattle.logic.specs.Search.{from, flatMap}
 use Rattle.logic.specs.Query.{Literal, Query, termCount, Role, signRole, numberRole, booleanSection, parts, literals, section}
 use Rattle.theory.proofs.Basics.Count.{length-flatMap}
-use Rattle.theory.proofs.Query.Bytes.{Allowed}
+use Rattle.theory.proofs.Query.Bytes.{Allowed, literals-count}
+use Rattle.theory.proofs.Basics.Search.{flatMap-append}
 use Rattle.encoding.specs.QueryBytes.{literalBytes, sectionBytes, encode}
 use Rattle.encoding.proofs.Recovered.{sign-allowed}
 use Rattle.query.specs.LaysOut.{LaysOutAs}
@@ -18,7 +19,7 @@ use Rattle.query.specs.declared.FullLayout.{FullLayout}
 use Rattle.rewriting.specs.OldQuery.{oldSections, flags, decodeOld}
 use Rattle.rewriting.specs.Rewritten.{asField, withFresh, rewritten, rewrite}
 use Rattle.rewriting.specs.Call.{rewriteOf}
-use Rattle.rewriting.proofs.OldBytes.{old-parts, layout-is, booleans-are, boolean-part, literals-count, flags-count}
+use Rattle.rewriting.proofs.OldBytes.{old-parts, layout-is, booleans-are, boolean-part, flags-count}
 use Rattle.rewriting.proofs.Encoded.{encode-length}
 use Rattle.rewriting.proofs.Copied.{oldBytes, old-written}
 use Rattle.rewriter.specs.Bytes.{cut, fieldBytes, termBytes, dataBytes, rewrittenBytes}
@@ -40,11 +41,6 @@ fields-are t left (suc c) i [] e h = absurd (omega arith)
 fields-are t left (suc c) i (s ∷ []) e h = absurd (omega arith)
 fields-are t left (suc c) i (s ∷ a ∷ rest) e h =
     ap₂ (λ (x : ℕ) (ys : List ℕ). x ∷ a ∷ t ∷ ys) (sign-allowed s (h .0)) (fields-are t left c (suc i) rest (omega arith) (h .1 .1))
-
-flatMap-append : {A B : Type 0} (g : A → List B) (xs ys : List A) → flatMap g (xs ++ ys) ≡ flatMap g xs ++ flatMap g ys
-unfolding flatMap
-flatMap-append g [] ys = refl
-flatMap-append {B} g (x ∷ xs) ys = ap (λ (zs : List B). g x ++ zs) (flatMap-append g xs ys) ∙ sym (append-assoc (g x) (flatMap g xs) (flatMap g ys))
 
 literal-bytes : (ls : List Literal) → length (flatMap literalBytes ls) ≡ 3 * length ls
 unfolding literalBytes

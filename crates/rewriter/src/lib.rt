@@ -141,7 +141,7 @@ pub fn rewrite(query: &[u8], out: &mut [u8]) -> Rewritten
     ensures { λ r. ⌜ Does (rewriteCall (now (query .entry)) (length (now (out .entry)))) r (now (out .exit)) ⌝ }
 {
     lent::clear(out);
-    match query::check_with(query, 60, 3) {
+    match query_checks::check_with(query, 60, 3) {
         FullChecked::Refused(k, place) => Rewritten::Refused(k, place),
         FullChecked::Accepted(full) => rewrite_checked(query, full, out),
     }

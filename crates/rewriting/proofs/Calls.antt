@@ -9,7 +9,7 @@ use mathlib.Core.Option.{none}
 use lib.ListN.{length, take, drop}
 use lib.Dec.{leb}
 use borrow.Author.Tests.{leb-false}
-use Rattle.logic.specs.Search.{_and_, keep}
+use Rattle.logic.specs.Search.{keep}
 use Rattle.logic.specs.Query.{Section, fourSections, booleanSection, fiveSections, Layout, faulty, parts, withPart, layout, firstByte, layoutBy, faultIn, layoutFault}
 use Rattle.logic.specs.Calls.{Check, layoutCheck, byteCheck, formChecks}
 use Rattle.theory.proofs.Basics.Search.{none-some, and-false-cases, bool-cases}

@@ -7,7 +7,6 @@ use mathlib.Core.Bool.{true}
 use mathlib.Core.List.{List, [], _∷_, _++_, map, List·Memᴰ, List·Memᴰ·append-cases}
 use lib.ListN.{length, length-append}
 use borrow.Author.Tests.{leb-true, le-leb}
-use Rattle.logic.specs.Search.{_and_}
 use Rattle.logic.specs.Query.{Literal, Query, termCount, argumentOf, linkOf}
 use Rattle.theory.proofs.Basics.Search.{and-left, and-right, and-intro, map-mem}
 use Rattle.theory.proofs.Basics.Compare.{le-cases}

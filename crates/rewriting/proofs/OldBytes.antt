@@ -7,31 +7,20 @@ use mathlib.Core.Bool.{true}
 use mathlib.Core.List.{List, [], _∷_, List·Memᴰ, List·Memᴰ·cases-cons, List·Memᴰ·not-nil}
 use mathlib.Core.Option.{none, some}
 use lib.ListN.{length}
-use lib.Dec.{ltb, leb}
-use borrow.Author.Tests.{ltb-true, leb-true}
-use Rattle.logic.specs.Search.{_and_, from, at, flatMap}
-use Rattle.logic.specs.Query.{Literal, Role, Section, signRole, numberRole, fourSections, booleanSection, fiveSections, Layout, parts, firstByte, layoutBy, section, queryOf, termCount, literals}
+use Rattle.logic.specs.Search.{from, at, flatMap}
+use Rattle.logic.specs.Query.{Literal, Role, Section, signRole, numberRole, fourSections, booleanSection, fiveSections, Layout, parts, firstByte, layoutBy, section, queryOf, termCount}
 use Rattle.logic.specs.Calls.{Check, formChecks}
-use Rattle.theory.proofs.Basics.Search.{and-left, and-right, not-true, isSome-false}
+use Rattle.theory.proofs.Basics.Search.{not-true, isSome-false}
 use Rattle.theory.proofs.Query.Tied.{Accepted, ToEight}
-use Rattle.theory.proofs.Query.Bytes.{Allows, Allowed, Part, three-number}
-use Rattle.theory.proofs.Query.AcceptedBytes.{Passes, form-passes, LaidOut, booleans, five-laid, five-accepted}
+use Rattle.theory.proofs.Query.Bytes.{Allows, Allowed, Part, three-number, literals-count}
+use Rattle.theory.proofs.Query.AcceptedBytes.{Passes, form-passes, LaidOut, booleans, five-laid, five-accepted, number-allows}
 use Rattle.theory.proofs.Calls.CallLaws.{refusalOf-none}
 use Rattle.encoding.specs.WritingCall.{given, acceptsIn}
 use Rattle.encoding.proofs.Encoded.{Limits, AboutOne, OneLinked}
 use Rattle.encoding.proofs.Decoded.{layout-linked}
 use Rattle.rewriting.specs.OldQuery.{oldSections, acceptsOld, flags, booleanPart, decodeOld}
 
--- the literals of sections of three bytes an entry, and of two
-pub literals-count : (c : ℕ) (bytes : List ℕ) → length bytes ≡ c * 3 → length (literals bytes) ≡ c
-unfolding literals
-literals-count zero [] e = refl
-literals-count (suc c) [] e = absurd (omega arith)
-literals-count c (s ∷ []) e = absurd (omega arith)
-literals-count c (s ∷ a ∷ []) e = absurd (omega arith)
-literals-count zero (s ∷ a ∷ b ∷ rest) e = absurd (omega arith)
-literals-count (suc c) (s ∷ a ∷ b ∷ rest) e = ap suc (literals-count c rest (omega arith))
-
+-- the literals of a section of two bytes an entry
 pub flags-count : (c : ℕ) (bytes : List ℕ) → length bytes ≡ c * 2 → length (flags bytes) ≡ c
 unfolding flags
 flags-count zero [] e = refl
@@ -63,12 +52,6 @@ base-linked bytes = layout-linked (layoutBy oldSections bytes)
 pub booleans-linked : (bytes : List ℕ) → AboutOne (decodeOld bytes .booleans)
 unfolding decodeOld
 booleans-linked bytes = flags-link (booleanPart (layoutBy oldSections bytes))
-
-number-allows : (b : ℕ) → Allows numberRole b → ToEight b
-unfolding numberRole
-number-allows b h =
-    let e = h (omega arith, omega arith) in
-    (ltb-true 0 b (and-left (ltb 0 b) (leb b 8) e), leb-true b 8 (and-right (ltb 0 b) (leb b 8) e))
 
 module _ (bytes : List ℕ) (h : acceptsOld bytes ≡ true) where
   pub old-clear : (c : Check) → List·Memᴰ c (formChecks oldSections) → c .place (given bytes 0) ≡ none

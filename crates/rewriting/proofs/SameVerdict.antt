@@ -13,7 +13,7 @@ use Rattle.logic.specs.Heap.{Heap, Node, IsHeap, value, iterate, Reaches, Signe
 use Rattle.theory.proofs.Basics.Compare.{eqb-self, eqb-false, le-cases}
 use Rattle.theory.proofs.Query.Tied.{Accepted, InTerms}
 use Rattle.theory.proofs.Query.Entries.{nil-range}
-use Rattle.theory.proofs.Soundness.Value.{Below, accepted-below, value-variable, value-link, value-node}
+use Rattle.theory.proofs.Soundness.Value.{Below, accepted-below, value-variable, value-link, value-node, signed-same}
 use Rattle.rewriting.specs.OldQuery.{OldQuery}
 use Rattle.rewriting.specs.OldHeap.{OldHeap, MeansBoolean, SatisfiableOld}
 use Rattle.rewriting.specs.Rewritten.{rewritten, rewrite}
@@ -28,10 +28,6 @@ grown h t =
       field = λ j v. cond (leb v (h .heap .size)) (h .heap .field j v) (h .boolean j);
       variable = λ u. cond (eqb u t) (suc (h .heap .size)) (h .heap .variable u);
     }
-
-signed-same : {P Q : Type 0} (b : Bool) → P ↔ Q → Signed b P → Signed b Q
-signed-same true e p = e .0 p
-signed-same false e p = λ x. p (e .1 x)
 
 module _ (h : OldHeap) (t : ℕ) where
   -- on the old nodes all stays

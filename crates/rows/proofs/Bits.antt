@@ -10,6 +10,7 @@ use lib.Bits.{bitAnd, bitOr, bitXor, differ, and-step, or-step, xor-step, and-se
 use lib.Count.{trailingZeros}
 use borrow.Author.Tests.{lt-ltb, le-ltb, ne-eqb}
 use Rattle.logic.specs.Search.{_and_, _or_}
+use Rattle.theory.proofs.Basics.Search.{and-false, and-true}
 use Rattle.rows.specs.Bits.{bit}
 
 pub bit-is : (w b : ℕ) → bit w b ≡ eqb (w / 2 ^ b % 2) 1
@@ -206,16 +207,6 @@ double-high v i = bit-suc (v * 2) i ∙ ap (λ (x : ℕ). bit x i) half
   where
     half : v * 2 / 2 ≡ v
     half = omega arith
-
-and-false : (t : Bool) → t and false ≡ false
-unfolding _and_
-and-false true = refl
-and-false false = refl
-
-and-true : (t : Bool) → t and true ≡ t
-unfolding _and_
-and-true true = refl
-and-true false = refl
 
 -- that is the word without its lowest bit
 pub bit-rest : (k w : ℕ) → 0 < w → w < 2 ^ k → (i : ℕ) → bit (bitAnd w (w - 1)) i ≡ bit w i and not (eqb i (trailingZeros k w))

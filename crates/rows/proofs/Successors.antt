@@ -12,7 +12,7 @@ use lib.Bits.{bitAnd}
 use lib.Dec.{ltb}
 use borrow.Author.Tests.{lt-ltb, ltb-true}
 use Rattle.logic.specs.Search.{_and_, from, keep, orElse, firstOf, find, select}
-use Rattle.logic.specs.Facts.{terms, firstTwo, successors}
+use Rattle.logic.specs.Facts.{terms, firstTwo}
 use Rattle.theory.proofs.Basics.Search.{true-false, and-left, and-right, none-some, find-some, find-lowest, from-mem}
 use Rattle.theory.proofs.Basics.Compare.{le-cases}
 use Rattle.rows.specs.Bits.{bit}

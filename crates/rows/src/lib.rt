@@ -118,6 +118,15 @@ pub fn is_held(rows: &[u32; 17], a: usize, b: usize) -> bool
     holds(rows, Term(a), Term(b))
 }
 
+// The fact about a and b is added.
+pub fn add_to(rows: &mut [u32; 17], a: Term, b: Term)
+    requires { ⌜ (a .0 ≤ 16) × (b .0 ≤ 16) × (length (now rows) ≡ 17) ⌝ }
+    ensures { λ _. ⌜ (square (now (rows .exit)) ≡ (λ x y. square (now (rows .entry)) x y or (eqb x (a .0) and eqb y (b .0)))) × (length (now (rows .exit)) ≡ 17) ⌝ }
+{
+    let at = a.0;
+    rows[at] = rows[at] | only(b.0);
+}
+
 // Column y of a relation, as a row.
 fn column(rows: &[u32; 17], y: usize) -> u32
     requires { ⌜ y ≤ 16 ⌝ }

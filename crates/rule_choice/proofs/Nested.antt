@@ -3,34 +3,23 @@ use Prim.Native.Nat.{ℕ, suc, _+_, _-_, _≤_, _<_}
 use native.Mathlib.Omega.{arith}
 use native.Mathlib.Numerals.{add-one}
 use mathlib.Core.Path.{_≡_, refl, sym, ap, ap₂, _∙_, fun-ext}
-use mathlib.Core.Bool.{Bool, true, false, true≢false}
+use mathlib.Core.Bool.{Bool, true, false}
 use mathlib.Core.List.{List, [], _∷_, _++_, map, List·Memᴰ, List·Memᴰ·head, List·Memᴰ·tail}
 use mathlib.Core.Option.{Option, none, some, Option·elim}
 use lib.ListN.{length, getD, drop, drop-of-length-le}
 use lib.Seq.{drop-cons}
 use Rattle.logic.specs.Search.{_and_, from, keep, orElse, firstOf, find, flatMap}
 use Rattle.logic.specs.Facts.{Graph, Facts, linkNumbers, live}
-use Rattle.logic.specs.Rules.{Rule, REFLEX, TRANS1, TRANS2, FUNC, CYCLE, SCC, TOTAL, SHARE, Triple, triple, Move, move, applies, triples, ruleOf, choose}
+use Rattle.logic.specs.Rules.{Rule, Triple, triple, Move, move, applies, triples, ruleOf, choose}
 use Rattle.logic.specs.Walk.{orderOf}
 use Rattle.theory.proofs.Basics.Search.{firstOf-empty, from-mem}
 use Rattle.theory.proofs.Paths.Ranged.{InRange}
 use Rattle.theory.proofs.Calls.OneLink.{firstOf-one}
 use Rattle.facts.specs.Path.{graphOf, graphs, pathAs, replacedBy}
-use Rattle.rules.specs.Tests.{pairTest, thirdTest, looped}
+use Rattle.rules.specs.Tests.{pairTest, thirdTest, isNotCycle}
 use Rattle.rules.specs.Allowed.{allowed}
 use Rattle.rules.proofs.Halves.{halves, allowed-any, applies-allowed}
 use Rattle.rule_choice.specs.Smallest.{inThird, inSecond, inFirst, moveAt, triedAt, triedBy}
-
-pub not-looped : (r : Rule) → looped r ≡ false → r ≡ CYCLE
-unfolding looped
-not-looped REFLEX h = absurd (true≢false h)
-not-looped TRANS1 h = absurd (true≢false h)
-not-looped TRANS2 h = absurd (true≢false h)
-not-looped FUNC h = absurd (true≢false h)
-not-looped CYCLE h = refl
-not-looped SCC h = absurd (true≢false h)
-not-looped TOTAL h = absurd (true≢false h)
-not-looped SHARE h = absurd (true≢false h)
 
 -- Rows of triples
 
@@ -79,7 +68,7 @@ module _ {A B : Type 0} (p : A → Bool) (h : A → B) where
       go false e = e
 
 -- the search for the third number: nothing where the first two numbers fail, else what passes the second half
-module _ (n : ℕ) (alive : ℕ → Bool) (g : Graph) (r : Rule) (l : looped r ≡ true) (x y : ℕ) where
+module _ (n : ℕ) (alive : ℕ → Bool) (g : Graph) (r : Rule) (l : isNotCycle r ≡ true) (x y : ℕ) where
   pub third-none : pairTest alive g x y r ≡ false → inThird n alive g r x y ≡ none
   unfolding inThird keep _and_
   third-none e = firstOf-empty _ _ (λ z m. rw (halves n alive g x y z r l, e))

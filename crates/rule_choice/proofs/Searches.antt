@@ -20,12 +20,12 @@ use Rattle.facts.specs.Path.{graphOf}
 use Rattle.rows.proofs.Bits.{bit-and}
 use Rattle.rows.proofs.Finds.{find-no-bit, first-masked, select-rest}
 use Rattle.rows.proofs.Successors.{select-none}
-use Rattle.rules.specs.Tests.{pairTest, looped, twoWay, looksBack}
+use Rattle.rules.specs.Tests.{pairTest, isNotCycle, twoWay, looksBack}
 use Rattle.rules.proofs.Rows.{far-bit}
 use Rattle.rule_choice.specs.Smallest.{inThird, inSecond}
 use Rattle.rule_choice.proofs.Nested.{third-none}
 
-module _ (n : ℕ) (few : n ≤ 16) (alive : ℕ → Bool) (g : Graph) (r : Rule) (l : looped r ≡ true) (x : ℕ) where
+module _ (n : ℕ) (few : n ≤ 16) (alive : ℕ → Bool) (g : Graph) (r : Rule) (l : isNotCycle r ≡ true) (x : ℕ) where
   -- what is left: its numbers pass the first half, and the search of them is the whole
   abbrev pub Left : ℕ → Type 0
   Left w = ((y : ℕ) → List·Memᴰ y (select (bit w) (from 32 0)) → (y ≤ n) × (pairTest alive g x y r ≡ true)) × (inSecond n alive g r x ≡ firstOf (inThird n alive g r x) (select (bit w) (from 32 0)))
@@ -87,9 +87,9 @@ pub turned-now : (reach before back : List ℕ) (t w : Bool) → (t ≡ true →
 turned-now reach before back t w old new same e = turned-kept reach before back t w old new same (or-right t w e)
 
 -- TRANS2, which has its own search
-pub onward-looped : looped TRANS2 ≡ true
-unfolding looped
-onward-looped = refl
+pub onward-not-cycle : isNotCycle TRANS2 ≡ true
+unfolding isNotCycle
+onward-not-cycle = refl
 
 pub pair-onward : (link reach : List ℕ) (alive : ℕ → Bool) (x : ℕ) → x ≤ 16 → (y : ℕ) → y ≤ 16 → bit (getD reach x 0) y ≡ pairTest alive (graphOf link reach) x y TRANS2
 unfolding pairTest

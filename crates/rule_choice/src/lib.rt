@@ -14,7 +14,7 @@ ghost use Rattle.facts.specs.Path.{graphOf, pathAs};
 ghost use Rattle.rules.specs.Answers.{kindOf, choiceOf};
 ghost use Rattle.rows.specs.Bits.{bit};
 ghost use Rattle.rows.specs.Square.{Turned};
-ghost use Rattle.rules.specs.Tests.{pairTest, looped, twoWay, looksBack};
+ghost use Rattle.rules.specs.Tests.{pairTest, isNotCycle, twoWay, looksBack};
 ghost use Rattle.rule_choice.specs.Answers.{placeOf};
 ghost use Rattle.rule_choice.specs.Smallest.{inThird, inSecond, inFirst, triedAt, triedBy};
 ghost use Rattle.logic.specs.Search.{firstOf};
@@ -37,7 +37,7 @@ fn in_third(
     x: Term,
     y: Term,
 ) -> Place
-    requires { ⌜ (n ≤ 16) × (x .0 ≤ 16) × (y .0 ≤ 16) × (looped (kindOf rule) ≡ true) × (twoWay (kindOf rule) ≡ true → Turned (now back) (now reach)) ⌝ }
+    requires { ⌜ (n ≤ 16) × (x .0 ≤ 16) × (y .0 ≤ 16) × (isNotCycle (kindOf rule) ≡ true) × (twoWay (kindOf rule) ≡ true → Turned (now back) (now reach)) ⌝ }
     ensures { λ r. ⌜ ((alive : ℕ → Bool) → pairTest alive (graphOf (now (link .entry)) (now (reach .entry))) (x .0) (y .0) (kindOf rule) ≡ true → placeOf r ≡ inThird n alive (graphOf (now (link .entry)) (now (reach .entry))) (kindOf rule) (x .0) (y .0)) ⌝ }
 {
     let row = rules::third_row(rule, link, reach, back, x, y);
@@ -57,7 +57,7 @@ fn scan(
     n: usize,
     x: Term,
 ) -> Place
-    requires { ⌜ (n ≤ 16) × (x .0 ≤ 16) × (looped (kindOf rule) ≡ true) × (twoWay (kindOf rule) ≡ true → Turned (now back) (now reach)) ⌝ }
+    requires { ⌜ (n ≤ 16) × (x .0 ≤ 16) × (isNotCycle (kindOf rule) ≡ true) × (twoWay (kindOf rule) ≡ true → Turned (now back) (now reach)) ⌝ }
     ensures { λ r. ⌜ placeOf r ≡ inSecond n (bit alive) (graphOf (now (link .entry)) (now (reach .entry))) (kindOf rule) (x .0) ⌝ }
 {
     let row = rules::pair_row(rule, alive, link, reach, back, x);
@@ -134,7 +134,7 @@ fn in_second(
     if let Rule::Trans2 = rule {
         return scan_onward(reach, n, x);
     }
-    if rules::looped(rule) {
+    if rules::is_not_cycle(rule) {
         return scan(rule, alive, link, reach, back, n, x);
     }
     cycle(link, reach, n, x)

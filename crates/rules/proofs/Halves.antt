@@ -1,7 +1,7 @@
 -- The test of a rule: its halves, and the parts of a path that it reads.
 use Prim.Native.Nat.{ℕ}
 use mathlib.Core.Path.{_≡_, refl, ap₂}
-use mathlib.Core.Bool.{Bool, true, false, not, false≢true}
+use mathlib.Core.Bool.{Bool, true, false, not, true≢false, false≢true}
 use mathlib.Core.List.{List}
 use lib.Dec.{eqb}
 use Rattle.logic.specs.Search.{_and_, _or_, any}
@@ -12,13 +12,25 @@ use Rattle.theory.proofs.Paths.Applies.{hasLink-intro}
 use Rattle.theory.proofs.Calls.OneLink.{conditions-local, held-local}
 use Rattle.facts.specs.Path.{graphOf}
 use Rattle.rows.specs.Square.{square}
-use Rattle.rules.specs.Tests.{pairTest, thirdTest, looped}
+use Rattle.rules.specs.Tests.{pairTest, thirdTest, isNotCycle}
 use Rattle.rules.specs.Allowed.{allowed}
+
+-- a rule that is not one of the others is CYCLE
+pub is-cycle : (r : Rule) → isNotCycle r ≡ false → r ≡ CYCLE
+unfolding isNotCycle
+is-cycle REFLEX h = absurd (true≢false h)
+is-cycle TRANS1 h = absurd (true≢false h)
+is-cycle TRANS2 h = absurd (true≢false h)
+is-cycle FUNC h = absurd (true≢false h)
+is-cycle CYCLE h = refl
+is-cycle SCC h = absurd (true≢false h)
+is-cycle TOTAL h = absurd (true≢false h)
+is-cycle SHARE h = absurd (true≢false h)
 
 -- a rule's test is in two halves
 module _ (n : ℕ) (alive : ℕ → Bool) (g : Graph) (x y z : ℕ) where
-  pub halves : (r : Rule) → looped r ≡ true → allowed n alive g (move 1 r (triple x y z)) ≡ (pairTest alive g x y r and thirdTest g x y z r)
-  unfolding allowed conditions alternatives held any pairTest thirdTest looped _and_ _or_
+  pub halves : (r : Rule) → isNotCycle r ≡ true → allowed n alive g (move 1 r (triple x y z)) ≡ (pairTest alive g x y r and thirdTest g x y z r)
+  unfolding allowed conditions alternatives held any pairTest thirdTest isNotCycle _and_ _or_
   halves REFLEX h = table (alive x) (eqb y 0) (eqb z 0) (g .reach x x)
     where
       table : (a b c d : Bool) → (a and b and c) and not (d or false) ≡ (a and not d and b and c)

@@ -7,16 +7,16 @@ use Rattle.logic.specs.Search.{_and_}
 use Rattle.logic.specs.Facts.{Graph}
 use Rattle.logic.specs.Rules.{Rule, REFLEX, TRANS1, TRANS2, FUNC, CYCLE, SCC, TOTAL, SHARE, ruleOf}
 
--- the third number of every rule but CYCLE is looked for among all numbers
-unfoldable pub looped : Rule → Bool
-looped REFLEX = true
-looped TRANS1 = true
-looped TRANS2 = true
-looped FUNC = true
-looped CYCLE = false
-looped SCC = true
-looped TOTAL = true
-looped SHARE = true
+-- any rule but CYCLE: its third number is looked for among all numbers
+unfoldable pub isNotCycle : Rule → Bool
+isNotCycle REFLEX = true
+isNotCycle TRANS1 = true
+isNotCycle TRANS2 = true
+isNotCycle FUNC = true
+isNotCycle CYCLE = false
+isNotCycle SCC = true
+isNotCycle TOTAL = true
+isNotCycle SHARE = true
 
 -- a rule whose test reads what reaches a term, beside what a term reaches
 unfoldable pub twoWay : Rule → Bool

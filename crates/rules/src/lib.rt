@@ -8,7 +8,7 @@ ghost use Rattle.facts.specs.Path.{graphOf};
 ghost use Rattle.rules.specs.Answers.{kindOf, numberedOf};
 ghost use Rattle.rows.specs.Bits.{bit};
 ghost use Rattle.rows.specs.Square.{Turned};
-ghost use Rattle.rules.specs.Tests.{pairTest, thirdTest, looped, twoWay};
+ghost use Rattle.rules.specs.Tests.{pairTest, thirdTest, isNotCycle, twoWay};
 ghost use Rattle.logic.specs.Rules.{ruleOf};
 
 pub enum Rule {
@@ -101,8 +101,8 @@ pub fn third_row(
 }
 
 // The rule is not CYCLE.
-pub fn looped(rule: Rule) -> bool
-    ensures { λ r. ⌜ r ≡ looped (kindOf rule) ⌝ }
+pub fn is_not_cycle(rule: Rule) -> bool
+    ensures { λ r. ⌜ r ≡ isNotCycle (kindOf rule) ⌝ }
 {
     match rule {
         Rule::Reflex => true,

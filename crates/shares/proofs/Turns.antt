@@ -2,7 +2,7 @@
 use Prim.Native.Nat.{ℕ, _+_, _*_, _/_, _%_, _≤_, _<_}
 use native.Mathlib.Omega.{arith}
 use mathlib.Core.Path.{_≡_, refl, sym, ap, subst, _∙_}
-use mathlib.Core.Bool.{Bool, true, false, cond, false≢true}
+use mathlib.Core.Bool.{Bool, true, false, cond}
 use mathlib.Core.List.{List, [], _∷_, _++_}
 use lib.ListN.{length, getD, replicate}
 use lib.Dec.{ltb}
@@ -13,6 +13,7 @@ use Rattle.logic.specs.Derivation.{linesFrom, linesIn}
 use Rattle.logic.specs.Calls.{Outcome, verdictCall, derivationCall}
 use Rattle.logic.specs.Calls as calls
 use Rattle.theory.proofs.Calls.Demands.{demand1}
+use Rattle.theory.proofs.Basics.Search.{neither}
 use Rattle.prover.specs.Promise.{meaning, inputOf, Does}
 use Rattle.prover.specs.declared.Answer.{Answer}
 use Rattle.prover.specs.declared.Answer.the-variants as answer
@@ -129,16 +130,11 @@ module _ (order counts query : List ℕ) where
   takes-query {before} {after} {left} {r} {b} {goes} head h e f p =
       subst (λ (t : Turn). Takes t before after r left goes) (sym (turn-query head h (sym e ∙ f))) (record { wrote = p .wrote; short = p .short; leaves = p .leaves; going = p .going })
 
-or-false : (a c : Bool) → a or c ≡ false → c ≡ false
-unfolding _or_
-or-false false c e = e
-or-false true c e = absurd (false≢true (sym e))
-
 -- "a length above 681" is bad
 few : (head : List ℕ) (b : Bool) → isBad head ≡ b → cond b 0 (lengthIn head) ≤ 681
 unfolding isBad
 few head true e = omega arith
-few head false e = let l = ltb-false 681 (lengthIn head) (or-false (ltb (length head) 2) _ e) in omega arith
+few head false e = let l = ltb-false 681 (lengthIn head) (neither (ltb (length head) 2) _ e .1) in omega arith
 
 pub wanted-few : (head : List ℕ) → wanted head ≤ 681
 unfolding wanted

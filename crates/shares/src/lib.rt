@@ -4,15 +4,12 @@ use prover::Answer;
 use tally::Tally;
 ghost use mathlib.Core.Path.{_≡_};
 ghost use mathlib.Core.Bool.{true};
-ghost use mathlib.Core.List.{_++_};
-ghost use Prim.Native.Nat.{ℕ, _+_, _/_, _%_, _≤_};
+ghost use Prim.Native.Nat.{_+_, _/_, _%_, _≤_};
 ghost use lib.ListN.{length};
 ghost use Rattle.logic.specs.Derivation.{linesIn};
-ghost use Rattle.logic.specs.Calls.{verdictCall};
 ghost use Rattle.prover.specs.Promise.{meaning};
-ghost use Rattle.text.specs.Text.{Writes, ascii, decimal};
-ghost use Rattle.tally.specs.Counting.{tallied};
-ghost use Rattle.shares.specs.Output.{hexWord, answerOf, writtenLines, queryLine, isBad, wanted, turnOf};
+ghost use Rattle.text.specs.Text.{Writes};
+ghost use Rattle.shares.specs.Output.{hexWord, answerOf, writtenLines, isBad, wanted, turnOf};
 ghost use Rattle.shares.specs.Taking.{Finishes, Prints, Takes};
 
 // A turn as it is taken: the tally after it, the length of what is to be printed, and whether a query may follow.

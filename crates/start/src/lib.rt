@@ -4,58 +4,110 @@ use joins::Joined;
 use joins::Pairs;
 use query::Layout;
 ghost use mathlib.Core.Path.{_≡_};
+ghost use lib.Dec.{eqb};
 ghost use Rattle.theory.proofs.Query.Tied.{Accepted};
-ghost use Rattle.joins.specs.Pairs.{joinedOf};
+ghost use Rattle.facts.specs.Path.{Whole};
+ghost use Rattle.joins.specs.Pairs.{joinedIn, joinedOf};
 ghost use Rattle.link_query.specs.Said.{said, Within};
 ghost use Rattle.start.specs.Started.{started};
 
-// The start of an accepted query, and the pairs joined to make it.
-pub fn start(query: &[u8], layout: Layout) -> Joined
+// The start of an accepted query, written into lent arrays whatever they held, and the number of pairs joined to make it.
+pub fn start_in(
+    query: &[u8],
+    layout: Layout,
+    rep: &mut [u8; 17],
+    link: &mut [u32; 17],
+    reach: &mut [u32; 17],
+    link2: &mut [u32; 17],
+    reach2: &mut [u32; 17],
+    link3: &mut [u32; 17],
+    reach3: &mut [u32; 17],
+    kept: &mut [u8; 17],
+    replaced: &mut [u8; 17],
+) -> usize
     requires { ⌜ Within layout (now query) × Accepted (said layout (now query)) ⌝ }
-    ensures { λ r. ⌜ joinedOf r ≡ started (said layout (now (query .entry))) ⌝ }
+    ensures { λ r. ⌜ joinedIn (eqb (layout .links) 1) (now (rep .exit)) (now (link .exit)) (now (reach .exit)) (now (link2 .exit)) (now (reach2 .exit)) (now (link3 .exit)) (now (reach3 .exit)) (now (kept .exit)) (now (replaced .exit)) r ≡ started (said layout (now (query .entry))) ⌝ }
+    ensures { λ _. ⌜ Whole (now (rep .exit)) (now (link .exit)) (now (reach .exit)) (now (link2 .exit)) (now (reach2 .exit)) (now (link3 .exit)) (now (reach3 .exit)) ⌝ }
 {
     let n = layout.terms;
     let single = layout.links == 1;
-    let mut rep = facts::unreplaced();
-    let mut link = term_links::links_of(query, layout, 1);
-    let mut link2 = term_links::others_of(query, layout, 2);
-    let mut link3 = term_links::others_of(query, layout, 3);
-    let mut reach = [0u32; 17];
-    let mut reach2 = [0u32; 17];
-    let mut reach3 = [0u32; 17];
-    let mut kept = [0u8; 17];
-    let mut replaced = [0u8; 17];
+    *rep = facts::unreplaced();
+    *link = term_links::links_of(query, layout, 1);
+    *link2 = term_links::others_of(query, layout, 2);
+    *link3 = term_links::others_of(query, layout, 3);
+    *reach = [0u32; 17];
+    *reach2 = [0u32; 17];
+    *reach3 = [0u32; 17];
+    *kept = [0u8; 17];
+    *replaced = [0u8; 17];
     let settled = joins::settle(
         single,
-        &mut rep,
-        &mut link,
-        &mut reach,
-        &mut link2,
-        &mut reach2,
-        &mut link3,
-        &mut reach3,
-        &mut kept,
-        &mut replaced,
+        rep,
+        link,
+        reach,
+        link2,
+        reach2,
+        link3,
+        reach3,
+        kept,
+        replaced,
         0,
         n,
     );
     let nilled = nil_terms::join_nil(
         single,
-        &mut rep,
-        &mut link,
-        &mut reach,
-        &mut link2,
-        &mut reach2,
-        &mut link3,
-        &mut reach3,
-        &mut kept,
-        &mut replaced,
+        rep,
+        link,
+        reach,
+        link2,
+        reach2,
+        link3,
+        reach3,
+        kept,
+        replaced,
         settled,
         query,
         layout,
     );
     let joined = plain_literals::join_each(
         single,
+        rep,
+        link,
+        reach,
+        link2,
+        reach2,
+        link3,
+        reach3,
+        kept,
+        replaced,
+        nilled,
+        n,
+        query,
+        layout.equal_at,
+        layout.equal_count,
+    );
+    plain_literals::reach_each(rep, reach, reach2, reach3, query, layout);
+    joined
+}
+
+// The same by value.
+pub fn start(query: &[u8], layout: Layout) -> Joined
+    requires { ⌜ Within layout (now query) × Accepted (said layout (now query)) ⌝ }
+    ensures { λ r. ⌜ joinedOf r ≡ started (said layout (now (query .entry))) ⌝ }
+{
+    let single = layout.links == 1;
+    let mut rep = [0u8; 17];
+    let mut link = [0u32; 17];
+    let mut reach = [0u32; 17];
+    let mut link2 = [0u32; 17];
+    let mut reach2 = [0u32; 17];
+    let mut link3 = [0u32; 17];
+    let mut reach3 = [0u32; 17];
+    let mut kept = [0u8; 17];
+    let mut replaced = [0u8; 17];
+    let count = start_in(
+        query,
+        layout,
         &mut rep,
         &mut link,
         &mut reach,
@@ -65,18 +117,12 @@ pub fn start(query: &[u8], layout: Layout) -> Joined
         &mut reach3,
         &mut kept,
         &mut replaced,
-        nilled,
-        n,
-        query,
-        layout.equal_at,
-        layout.equal_count,
     );
-    plain_literals::reach_each(&rep, &mut reach, &mut reach2, &mut reach3, query, layout);
     Joined {
         pairs: Pairs {
             kept,
             replaced,
-            count: joined,
+            count,
         },
         facts: Facts {
             rep,

@@ -13,7 +13,7 @@ use borrow.Author.Tests.{lt-ltb, le-ltb, ltb-false, eqb-true, eqb-false, eq-eqb,
 use Rattle.logic.specs.Search.{_and_, _or_}
 use Rattle.logic.specs.Query.{Query, Entries, entryOf, linkOf, namesNil, argumentOf, termCount}
 use Rattle.logic.specs.Facts.{Graph, linksOf}
-use Rattle.theory.proofs.Basics.Search.{bool-cases, not-of}
+use Rattle.theory.proofs.Basics.Search.{bool-cases, not-of, and-false, and-true}
 use Rattle.theory.proofs.Basics.Compare.{eq-cases, le-cases}
 use Rattle.theory.proofs.Query.Entries.{argument-range}
 use Rattle.theory.proofs.Query.Tied.{InLinks, Accepted}
@@ -33,16 +33,6 @@ use Rattle.term_links.specs.Argument.{argumentBy}
 -- b is f of a by link k
 abbrev linkIn : Entries → ℕ → ℕ → ℕ → Bool
 linkIn entries k a b = ltb 0 a and eqb (argumentOf entries b) a and eqb (linkOf entries b) k
-
-and-false : (t : Bool) → t and false ≡ false
-unfolding _and_
-and-false true = refl
-and-false false = refl
-
-and-true : (t : Bool) → t and true ≡ t
-unfolding _and_
-and-true true = refl
-and-true false = refl
 
 none-and : (s t : Bool) → s and false and t ≡ false
 unfolding _and_

@@ -8,10 +8,10 @@ use lib.ListN.{getD}
 use lib.Bits.{bitAnd, bitOr}
 use lib.Dec.{eqb, ltb}
 use borrow.Author.Tests.{lt-ltb, le-ltb}
-use Rattle.logic.specs.Search.{_and_, _or_, from, find}
+use Rattle.logic.specs.Search.{_and_, from, find}
 use Rattle.logic.specs.Facts.{Graph, Facts, live}
 use Rattle.logic.specs.Rules.{Rule, FUNC, CYCLE, SCC, TOTAL, SHARE, Triple, triple, move, applies}
-use Rattle.theory.proofs.Basics.Search.{and-left, and-right, and-intro, not-intro, find-some, from-mem}
+use Rattle.theory.proofs.Basics.Search.{and-left, and-right, and-intro, not-intro, find-some, from-mem, neither}
 use Rattle.theory.proofs.Paths.Ranged.{InRange}
 use Rattle.theory.proofs.Paths.Applies.{hasLink-range, applies-linked}
 use Rattle.rows.specs.Bits.{bit}
@@ -24,7 +24,7 @@ use Rattle.rows.specs.declared.Found.{Found}
 use Rattle.rows.specs.declared.Found.the-variants as found
 use Rattle.rows.proofs.Bits.{bit-and, bit-or, bit-none}
 use Rattle.rows.proofs.Square.{square-in}
-use Rattle.rules.specs.Tests.{pairTest, thirdTest, looped}
+use Rattle.rules.specs.Tests.{pairTest, thirdTest, isNotCycle}
 use Rattle.rules.specs.Allowed.{allowed}
 use Rattle.rules.specs.declared.Rule as code
 use Rattle.rules.specs.declared.Third.{Third}
@@ -93,17 +93,6 @@ module _ (s : Facts) (k : Link) (link reach : List ℕ) (h : HasLink s (k .0)) (
   pub proposed-by : (n : ℕ) (p : Proposal) (r : code.Rule) (x y : Term) (z : Third) → p ≡ proposal.At r x y z → ProposesIn n link reach p → Applies n s k r x y z
   proposed-by n p r x y z e q = handed-in n link reach p (proposal.At r x y z) e q s k rows-of
 
-or-left-false : (a b : Bool) → a or b ≡ false → a ≡ false
-unfolding _or_
-or-left-false true b e = e
-or-left-false false b e = refl
-
-or-right-false : (a b : Bool) → a or b ≡ false → b ≡ false
-unfolding _or_
-or-right-false true true e = e
-or-right-false true false e = refl
-or-right-false false b e = e
-
 module _ (n : ℕ) (link reach : List ℕ) (s : Facts) (j : Link) (rows : RowsOf s j link reach) where
   -- the rule applies by the link at numbers that are in range
   abbrev At : Rule → ℕ → ℕ → ℕ → Type 0
@@ -115,36 +104,36 @@ module _ (n : ℕ) (link reach : List ℕ) (s : Facts) (j : Link) (rows : RowsOf
       ∙ ap (λ (g : Graph). allowed n (live n s) g (move (j .0) r t)) (rows .1)
       ∙ allowed-any (j .0) n (live n s) (graphOf link reach) r t
 
-  tested : (r : Rule) → looped r ≡ true → (x y z : ℕ) → pairTest (live n s) (graphOf link reach) x y r ≡ true → thirdTest (graphOf link reach) x y z r ≡ true → applies n s (move (j .0) r (triple x y z)) ≡ true
+  tested : (r : Rule) → isNotCycle r ≡ true → (x y z : ℕ) → pairTest (live n s) (graphOf link reach) x y r ≡ true → thirdTest (graphOf link reach) x y z r ≡ true → applies n s (move (j .0) r (triple x y z)) ≡ true
   tested r l x y z p t = allowed-rows r (triple x y z) ∙ halves n (live n s) (graphOf link reach) x y z r l ∙ and-intro p t
 
   module _ (x y z : ℕ) where
     pub func-placed : (far : ℕ) → x ≤ 16 → In (getD link x 0) y → ((i : ℕ) → i ≤ 16 → bit far i ≡ (square reach x i and not (eqb x i) and not (square reach y i))) → In far z → At FUNC x y z
-    unfolding pairTest thirdTest looped graphOf
+    unfolding pairTest thirdTest isNotCycle graphOf
     func-placed far h (k, p) f (l, t) = (tested FUNC refl x y z (square-in link x y h k ∙ p) (sym (f z l) ∙ t), h, k, l)
 
     pub scc-placed : (both out : ℕ) → x ≤ 16 → ((i : ℕ) → i ≤ 16 → bit both i ≡ (square reach x i and square reach i x and not (eqb x i))) → In both y → ((i : ℕ) → i ≤ 16 → bit out i ≡ (square reach x i and not (square reach i x))) → In out z → At SCC x y z
-    unfolding pairTest thirdTest looped graphOf
+    unfolding pairTest thirdTest isNotCycle graphOf
     scc-placed both out h f (k, p) g (l, t) = (tested SCC refl x y z (sym (f y k) ∙ p) (sym (g z l) ∙ t), h, k, l)
 
     pub share-placed : (both : ℕ) → x ≤ 16 → ((i : ℕ) → i ≤ 16 → bit both i ≡ (square reach x i and square reach i x and not (eqb x i))) → In both y → In (bitAnd (getD link x 0) (getD link y 0)) z → At SHARE x y z
-    unfolding pairTest thirdTest looped graphOf
+    unfolding pairTest thirdTest isNotCycle graphOf
     share-placed both h f (k, p) (l, t) =
         let b = sym (bit-and (getD link x 0) (getD link y 0) z) ∙ t in
         (tested SHARE refl x y z (sym (f y k) ∙ p) (and-intro (square-in link x z h l ∙ and-left (bit (getD link x 0) z) (bit (getD link y 0) z) b) (square-in link y z k l ∙ and-right (bit (getD link x 0) z) (bit (getD link y 0) z) b)), h, k, l)
 
     pub total-placed : (far : ℕ) → x ≤ 16 → In (getD reach x 0) y → ((i : ℕ) → i ≤ 16 → bit far i ≡ (square reach x i and not (square reach y i) and not (square reach i y))) → In far z → At TOTAL x y z
-    unfolding pairTest thirdTest looped graphOf
+    unfolding pairTest thirdTest isNotCycle graphOf
     total-placed far h (k, p) f (l, t) = (tested TOTAL refl x y z (square-in reach x y h k ∙ p) (sym (f z l) ∙ t), h, k, l)
 
     -- the same from y and z, where x is found last
     pub total-found : (back : List ℕ) → Turned back reach → y ≤ 16 → z ≤ 16 → bit (bitOr (getD reach y 0) (getD back y 0)) z ≡ false → In (bitAnd (getD back y 0) (getD back z 0)) x → At TOTAL x y z
-    unfolding pairTest thirdTest looped graphOf
+    unfolding pairTest thirdTest isNotCycle graphOf
     total-found back t k l no′ (h, p) =
         let b = sym (bit-and (getD back y 0) (getD back z 0) x) ∙ p in
         let r = sym (bit-or (getD reach y 0) (getD back y 0) z) ∙ no′ in (
           tested TOTAL refl x y z (turned y k x h ∙ and-left (bit (getD back y 0) x) (bit (getD back z 0) x) b)
-              (and-intro (and-intro (turned z l x h ∙ and-right (bit (getD back y 0) x) (bit (getD back z 0) x) b) (not-intro (square-in reach y z k l ∙ or-left-false (bit (getD reach y 0) z) (bit (getD back y 0) z) r))) (not-intro (turned y k z l ∙ or-right-false (bit (getD reach y 0) z) (bit (getD back y 0) z) r))),
+              (and-intro (and-intro (turned z l x h ∙ and-right (bit (getD back y 0) x) (bit (getD back z 0) x) b) (not-intro (square-in reach y z k l ∙ neither (bit (getD reach y 0) z) (bit (getD back y 0) z) r .0))) (not-intro (turned y k z l ∙ neither (bit (getD reach y 0) z) (bit (getD back y 0) z) r .1))),
           h,
           k,
           l,

@@ -1,8 +1,8 @@
 -- What is seen at a path, and that its numbers fit a byte.
-use Prim.Native.Nat.{ℕ, suc, _≤_}
+use Prim.Native.Nat.{ℕ, _≤_}
 use native.Mathlib.Omega.{arith}
 use mathlib.Core.Path.{_≡_, sym, ap, _∙_, subst}
-use mathlib.Core.Logic.{_⊎_, ⊎-elim}
+use mathlib.Core.Logic.{⊎-elim}
 use mathlib.Core.List.{List, map, List·Memᴰ, List·Memᴰ·append-cases}
 use mathlib.Core.Option.{Option, none, some, Option·elim}
 use lib.ListN.{length}
@@ -12,6 +12,7 @@ use Rattle.logic.specs.Facts.{Facts, linkNumbers, Line, line, isClash, clashLin
 use Rattle.logic.specs.Rules.{Rule, Triple, triple, Move, move, applies, triples, choose}
 use Rattle.logic.specs.Walk.{clashing, applying, saturated, look}
 use Rattle.theory.proofs.Basics.Search.{keep-some, firstOf-some, find-some, from-mem, flatMap-mem, map-mem}
+use Rattle.theory.proofs.Paths.Applies.{triple-range}
 
 module _ (q : Query) (order : List Rule) (s : Facts) where
   pub look-clashing : (l : Line) → clash q s ≡ some l → look q order s ≡ clashing l
@@ -46,22 +47,6 @@ module _ (q : Query) (order : List Rule) (s : Facts) where
   applying-back : (m : Move) → look q order s ≡ applying m → choose (termCount q) order s ≡ some m
   unfolding look
   applying-back m h = move-cases (clash q s) (choose (termCount q) order s) m h
-
--- a triple that is searched is of numbers up to n
-triple-range : (n x y z : ℕ) → List·Memᴰ (triple x y z) (triples n) → (x ≤ n) × (y ≤ n) × (z ≤ n)
-unfolding triples
-triple-range n x y z m =
-    let a = flatMap-mem (λ x. flatMap (λ y. map (triple x y) (from (suc n) 0)) (from (suc n) 0)) (triple x y z) (from (suc n) 0) m in
-    let b = flatMap-mem (λ y. map (triple (a .0) y) (from (suc n) 0)) (triple x y z) (from (suc n) 0) (a .2) in
-    let c = map-mem (triple (a .0) (b .0)) (triple x y z) (from (suc n) 0) (b .2) in
-    let ra = from-mem (suc n) 0 (a .0) (a .1) in
-    let rb = from-mem (suc n) 0 (b .0) (b .1) in
-    let rc = from-mem (suc n) 0 (c .0) (c .1) in
-    let e = c .2 in
-    let ex : x ≡ a .0 = cc in
-    let ey : y ≡ b .0 = cc in
-    let ez : z ≡ c .0 = cc in
-    (omega arith, omega arith, omega arith)
 
 pub move-range : (q : Query) (order : List Rule) (s : Facts) (i : ℕ) (r : Rule) (x y z : ℕ) → look q order s ≡ applying (move i r (triple x y z)) → (x ≤ termCount q) × (y ≤ termCount q) × (z ≤ termCount q)
 unfolding choose

@@ -9,6 +9,7 @@ use Rattle.logic.specs.Search.{flatMap}
 use Rattle.logic.specs.Facts.{Line, line}
 use Rattle.logic.specs.Derivation.{lineBytes, derivationBytes}
 use Rattle.logic.specs.Calls.{padded}
+use Rattle.theory.proofs.Calls.DerivationBytes.{lines-length}
 use Rattle.walk.specs.Lines.{counted, putLine, putAll}
 use Rattle.walk.proofs.Lines.{counted-more, putLine-put}
 
@@ -45,11 +46,6 @@ putAll-blank p c k (x ∷ ls) h l =
     ∙ putAll-blank (p ++ lineBytes x) (c + 1) k ls (line-length p c x h) (omega arith)
     ∙ append-assoc p (lineBytes x) (flatMap lineBytes ls ++ replicate k 0)
     ∙ ap (λ (b : List ℕ). p ++ b) (sym (append-assoc (lineBytes x) (flatMap lineBytes ls) (replicate k 0)))
-
-pub lines-length : (ls : List Line) → length (flatMap lineBytes ls) ≡ 4 * length ls
-unfolding flatMap lineBytes
-lines-length [] = refl
-lines-length (line w x y z ∷ ls) = let ih = lines-length ls in omega arith
 
 -- a whole derivation: the lines, and the two bytes of the count in front
 pub derivation-written : (room : ℕ) (ls : List Line) → length ls ≤ 16000 → 2 + 4 * length ls ≤ room → set (set (putAll (replicate room 0) 0 ls) 0 (length ls / 256)) 1 (length ls % 256) ≡ padded room (derivationBytes ls)

@@ -1,8 +1,8 @@
 -- What a look says, and the branches of a rule that it sees.
-use Prim.Native.Nat.{ℕ, zero, suc, _-_, _≤_, _<_}
+use Prim.Native.Nat.{ℕ, _-_, _≤_, _<_}
 use native.Mathlib.Omega.{arith}
-use mathlib.Core.Path.{_≡_, refl, sym, ap, _∙_, subst}
-use mathlib.Core.List.{List, [], _∷_, List·Memᴰ, List·Memᴰ·head, List·Memᴰ·tail}
+use mathlib.Core.Path.{_≡_, sym, ap, _∙_, subst}
+use mathlib.Core.List.{List}
 use lib.ListN.{length, getD}
 use Rattle.logic.specs.Query.{Query, termCount}
 use Rattle.logic.specs.Facts.{Facts, Joined, Line, line}
@@ -12,6 +12,7 @@ use Rattle.logic.specs.Steps.{AtMost}
 use Rattle.theory.proofs.Walks.OurWalk.{look-fewer}
 use Rattle.theory.proofs.Walks.Derives.{seen-applying}
 use Rattle.theory.proofs.Paths.Applies.{hasLink-range, applies-linked}
+use Rattle.theory.proofs.Basics.Count.{getD-mem}
 use Rattle.facts.specs.Path.{HasLink}
 use Rattle.query.specs.LaysOut.{literalIn}
 use Rattle.query.specs.declared.Layout.{Layout}
@@ -25,11 +26,6 @@ use Rattle.walk.specs.Looks.{lookOf}
 use Rattle.walk.specs.declared.Seen.{Seen}
 use Rattle.walk.proofs.Lines.{countAll-bound}
 use Rattle.walk.proofs.Looks.{move-range, clash-range}
-
-getD-member : (bs : List Fact) (i : ℕ) (d : Fact) → i < length bs → List·Memᴰ (getD bs i d) bs
-getD-member [] i d h = absurd (omega arith)
-getD-member (b ∷ bs) zero d h = List·Memᴰ·head refl
-getD-member (b ∷ bs) (suc i) d h = List·Memᴰ·tail (getD-member bs i d (omega arith))
 
 -- what is seen, once the code's answer is known
 pub look-is : (v v′ : Seen) (l : Look) → lookOf v ≡ l → v ≡ v′ → l ≡ lookOf v′
@@ -87,7 +83,7 @@ module _ (q : Query) (order : List Rule) (k n : ℕ) (s : Facts) (l : ℕ) (rule
   unfolding add
   branch-fewer most j i in-row j-is =
       let in-cs : i < length cs = omega (arith, count-is l (termCount q) (s .graph) rule x y z) in
-      let f = look-fewer q order k s m most seen (getD cs i other) (getD-member cs i other in-cs) in
+      let f = look-fewer q order k s m most seen (getD cs i other) (getD-mem cs i other in-cs) in
       subst (λ (b : Joined). AtMost (termCount q) (b .facts) (k - 1))
       (ap (branch (termCount q) s) (alternative-is l (termCount q) (s .graph) rule x y z i other in-row) ∙ ap (λ (m : ℕ). branch m s (alternativeAt l m (s .graph l) rule x y z i)) (sym terms-are) ∙ sym j-is)
       f

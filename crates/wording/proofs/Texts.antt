@@ -9,7 +9,6 @@ use mathlib.Core.List.{List, [], _∷_, _++_, map}
 use lib.ListN.{length, getD, take, drop, length-drop, drop-of-length-le}
 use lib.Seq.{length-take-le, drop-cons, getD-take}
 use borrow.Author.Tests.{leb-true}
-use Rattle.logic.specs.Search.{_and_}
 use Rattle.logic.specs.Facts.{line}
 use Rattle.logic.specs.Derivation.{lineBytes}
 use Rattle.logic.specs.Shown.{sizeIn, isNode, wellFormed}
@@ -64,7 +63,7 @@ report-sized bytes links p n formed ep en = rw (ep, en ∙ ap (λ (k : ℕ). get
 abbrev pub left : ℕ → List ℕ → ℕ → List ℕ
 left size bytes i = behind (map hexByte (drop i (take size bytes)))
 
-behind-length : (xs : List ℕ) → length (behind (map hexByte xs)) ≡ 3 * length xs + 1
+pub behind-length : (xs : List ℕ) → length (behind (map hexByte xs)) ≡ 3 * length xs + 1
 unfolding behind hexByte
 behind-length [] = refl
 behind-length (x ∷ xs) = let ih = behind-length xs in omega arith

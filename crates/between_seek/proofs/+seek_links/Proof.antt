@@ -6,11 +6,12 @@ use lib.ListN.{take}
 use borrow.Fn.Kinds.{In}
 use borrow.Fn.PlainCycle.{Measures, is, falls, and}
 use Rattle.logic.specs.Search.{from, firstOf}
+use Rattle.theory.proofs.Basics.Search.{keep-true, keep-false}
 use Rattle.rows.proofs.Loops.{first-end, first-here, first-next}
 use Rattle.between_search.specs.Search.{seekLinks}
 use Rattle.between_tests.proofs.Laws.{small-set}
 use Rattle.between_seek.specs.Answers.{queryIn, Chosen}
-use Rattle.between_seek.proofs.Laws.{linkTried, links-step, link-tried, links-all, chosen-next, chosen-size, kept, not-kept}
+use Rattle.between_seek.proofs.Laws.{linkTried, links-step, link-tried, links-all, chosen-next, chosen-size}
 use Rattle.between_seek.proofs.seek_links.Reads as seek-links
 use Rattle.between_seek.proofs.seek_links.Kinds as seek-links-kinds
 use Rattle.between_seek.proofs.+seek_links.Lts-seek_links as seek-links-lts
@@ -67,12 +68,12 @@ pub +seek-links-spec : {M : Type 1} → statement M
       (p .0, small-set (c .before .before .before .before .before .args .links) (c .before .before .before .before .before .args .j) (c .before .loop .v) (omega (arith, p .2, c .loop-test .taken)) (p .1), p .2, omega arith, omega (arith, p .4, c .before .before .if1 .left), chosen-next (c .before .before .before .before .before .args .links) (c .before .before .before .before .before .args .j) (c .before .loop .v) (chosen-size (c .before .before .before .before .before .args .links) (c .before .before .before .before .before .args .j) (p .5) (omega (arith, room))) room (p .5)),
     ))
     -- seek-links-returns-2
-    (λ c. let p = c .before .before .before .before .before .before .before .pre .1 in kept _ (c .if2 .taken) ∙ sym (c .before .before .before .loop .inv ∙ first-here _ _ _ _ (c .before .before .loop-test .taken) (link-tried _ _ _ _ _ (p .5) _ _ (omega (arith, p .4, p .2)) ∙ sym (c .before .seek-links .ensures) ∙ kept _ (c .if2 .taken))))
+    (λ c. let p = c .before .before .before .before .before .before .before .pre .1 in keep-true _ (c .if2 .taken) ∙ sym (c .before .before .before .loop .inv ∙ first-here _ _ _ _ (c .before .before .loop-test .taken) (link-tried _ _ _ _ _ (p .5) _ _ (omega (arith, p .4, p .2)) ∙ sym (c .before .seek-links .ensures) ∙ keep-true _ (c .if2 .taken))))
     -- seek-links-add-v
     (λ c. omega (arith, c .before .before .before .before .before .before .before .pre .1 .2, c .before .before .loop-test .taken))
     -- seek-links-loop-less
     (λ c. omega (arith, c .before .before .loop-test .taken))
     -- seek-links-loop-again
-    (λ c. let p = c .before .before .before .before .before .before .before .pre .1 in c .before .before .before .loop .inv ∙ first-next _ _ _ (c .before .before .loop-test .taken) (link-tried _ _ _ _ _ (p .5) _ _ (omega (arith, p .4, p .2)) ∙ sym (c .before .seek-links .ensures) ∙ not-kept _ (c .if2 .left)))
+    (λ c. let p = c .before .before .before .before .before .before .before .pre .1 in c .before .before .before .loop .inv ∙ first-next _ _ _ (c .before .before .loop-test .taken) (link-tried _ _ _ _ _ (p .5) _ _ (omega (arith, p .4, p .2)) ∙ sym (c .before .seek-links .ensures) ∙ keep-false _ (c .if2 .left)))
     -- seek-links-returns-3
-    (λ c. not-kept _ refl ∙ sym (c .before .loop .inv ∙ first-end _ _ _ (c .loop-test .left)))
+    (λ c. keep-false _ refl ∙ sym (c .before .loop .inv ∙ first-end _ _ _ (c .loop-test .left)))

@@ -6,11 +6,12 @@ use lib.ListN.{take}
 use borrow.Fn.Kinds.{In}
 use borrow.Fn.PlainCycle.{Measures, is, falls, and}
 use Rattle.logic.specs.Search.{from, firstOf}
+use Rattle.theory.proofs.Basics.Search.{keep-true, keep-false}
 use Rattle.rows.proofs.Loops.{first-end, first-here, first-next}
 use Rattle.between_search.specs.Search.{seekNodes}
 use Rattle.between_tests.proofs.Laws.{small-set}
 use Rattle.between_seek.specs.Answers.{queryIn}
-use Rattle.between_seek.proofs.Laws.{nodeTried, nodes-step, step-breaks, step-fits, nodes-all, chosen-next, chosen-size, kept, not-kept}
+use Rattle.between_seek.proofs.Laws.{nodeTried, nodes-step, step-breaks, step-fits, nodes-all, chosen-next, chosen-size}
 use Rattle.between_seek.proofs.seek_nodes.Reads as seek-nodes
 use Rattle.between_seek.proofs.seek_nodes.Kinds as seek-nodes-kinds
 use Rattle.between_seek.proofs.+seek_nodes.Lts-seek_nodes as seek-nodes-lts
@@ -52,7 +53,7 @@ pub +seek-nodes-spec : {M : Type 1} → statement M
     seek-nodes-Inv-loop
     seek-nodes-μ-loop
     -- seek-nodes-returns
-    (λ c. kept _ refl ∙ nodes-all _ _ _ _ _ _ (c .before .before .before .pre .1 .7) (c .before .before .before .pre .1 .8) _ (c .if1 .taken))
+    (λ c. keep-true _ refl ∙ nodes-all _ _ _ _ _ _ (c .before .before .before .pre .1 .7) (c .before .before .before .pre .1 .8) _ (c .if1 .taken))
     -- seek-nodes-lowest-requires
     (λ c κs. let p = c .before .before .before .before .before .pre .1 in (p .0, p .1, p .4, p .5, omega (arith, p .6, c .before .before .if1 .left)))
     -- seek-nodes-highest-requires
@@ -83,12 +84,12 @@ pub +seek-nodes-spec : {M : Type 1} → statement M
       (p .0, p .1, p .2, p .3, small-set (c .before .before .before .before .before .before .before .before .before .before .before .before .before .before .before .args .t11) (c .before .before .before .before .before .before .before .before .before .before .before .before .before .before .before .args .t) (c .before .before .before .before .before .loop .v) (omega (arith, c .before .before .before .before .before .loop .inv .0, c .before .before .before .before .loop-test .taken)) (p .4), omega arith, omega (arith, p .6, c .before .before .before .before .before .before .before .before .before .before .before .before .if1 .left), p .7, chosen-next (c .before .before .before .before .before .before .before .before .before .before .before .before .before .before .before .args .t11) (c .before .before .before .before .before .before .before .before .before .before .before .before .before .before .before .args .t) (c .before .before .before .before .before .loop .v) (chosen-size (c .before .before .before .before .before .before .before .before .before .before .before .before .before .before .before .args .t11) (c .before .before .before .before .before .before .before .before .before .before .before .before .before .before .before .args .t) (p .8) (omega (arith, room))) room (p .8)),
     ))
     -- seek-nodes-returns-2
-    (λ c. let p = c .before .before .before .before .before .before .before .before .before .before .before .before .before .before .before .before .before .pre .1 in kept _ (c .if3 .taken) ∙ sym (c .before .before .before .before .before .before .before .loop .inv .1 ∙ first-here _ _ _ _ (c .before .before .before .before .before .before .loop-test .taken) (step-fits _ _ _ _ _ _ (p .7) (p .8) _ _ _ (omega (arith, p .6, p .0 .few)) (p .0 .laid .term-count) (c .before .before .before .breaks .ensures) _ (c .before .before .if2 .left) ∙ sym (c .before .seek-nodes .ensures) ∙ kept _ (c .if3 .taken))))
+    (λ c. let p = c .before .before .before .before .before .before .before .before .before .before .before .before .before .before .before .before .before .pre .1 in keep-true _ (c .if3 .taken) ∙ sym (c .before .before .before .before .before .before .before .loop .inv .1 ∙ first-here _ _ _ _ (c .before .before .before .before .before .before .loop-test .taken) (step-fits _ _ _ _ _ _ (p .7) (p .8) _ _ _ (omega (arith, p .6, p .0 .few)) (p .0 .laid .term-count) (c .before .before .before .breaks .ensures) _ (c .before .before .if2 .left) ∙ sym (c .before .seek-nodes .ensures) ∙ keep-true _ (c .if3 .taken))))
     -- seek-nodes-add-v-2
     (λ c. omega (arith, c .before .before .before .before .before .before .before .loop .inv .0, c .before .before .before .before .before .before .loop-test .taken))
     -- seek-nodes-loop-less-2
     (λ c. omega (arith, c .before .before .before .before .before .before .loop-test .taken))
     -- seek-nodes-loop-again-2
-    (λ c. let p = c .before .before .before .before .before .before .before .before .before .before .before .before .before .before .before .before .before .pre .1 in (c .before .before .before .before .before .before .before .loop .inv .0, c .before .before .before .before .before .before .before .loop .inv .1 ∙ first-next _ _ _ (c .before .before .before .before .before .before .loop-test .taken) (step-fits _ _ _ _ _ _ (p .7) (p .8) _ _ _ (omega (arith, p .6, p .0 .few)) (p .0 .laid .term-count) (c .before .before .before .breaks .ensures) _ (c .before .before .if2 .left) ∙ sym (c .before .seek-nodes .ensures) ∙ not-kept _ (c .if3 .left))))
+    (λ c. let p = c .before .before .before .before .before .before .before .before .before .before .before .before .before .before .before .before .before .pre .1 in (c .before .before .before .before .before .before .before .loop .inv .0, c .before .before .before .before .before .before .before .loop .inv .1 ∙ first-next _ _ _ (c .before .before .before .before .before .before .loop-test .taken) (step-fits _ _ _ _ _ _ (p .7) (p .8) _ _ _ (omega (arith, p .6, p .0 .few)) (p .0 .laid .term-count) (c .before .before .before .breaks .ensures) _ (c .before .before .if2 .left) ∙ sym (c .before .seek-nodes .ensures) ∙ keep-false _ (c .if3 .left))))
     -- seek-nodes-returns-3
-    (λ c. not-kept _ refl ∙ sym (c .before .loop .inv .1 ∙ first-end _ _ _ (c .loop-test .left)))
+    (λ c. keep-false _ refl ∙ sym (c .before .loop .inv .1 ∙ first-end _ _ _ (c .loop-test .left)))

@@ -6,10 +6,11 @@ use mathlib.Core.Path.{_≡_, refl, sym, ap, _∙_}
 use Rattle.between_seek.proofs.heap_found.Statement.{statement}
 use Rattle.between_seek.proofs.heap_found.Tie as tie
 use Rattle.logic.specs.Search.{from, firstOf}
+use Rattle.theory.proofs.Basics.Search.{keep-true, keep-false}
 use Rattle.rows.proofs.Loops.{first-end, first-here, first-next}
 use Rattle.between_search.specs.Search.{sizeFound, mostNodes}
 use Rattle.between_seek.specs.Answers.{queryIn}
-use Rattle.between_seek.proofs.Laws.{heap-sizes, most-few, kept, not-kept}
+use Rattle.between_seek.proofs.Laws.{heap-sizes, most-few}
 
 abbrev Inv-loop : tie.InvT-loop
 Inv-loop base l between count apart end m₀ m =
@@ -33,12 +34,12 @@ heap-found-spec =
     -- size-found-requires
     (λ c κs. (c .before .before .before .before .before .pre, let k = most-few _ (c .before .before .before .before .before .pre .few) in omega (arith, k, c .before .before .most-nodes .ensures, c .loop-test .taken)))
     -- returns
-    (λ c. kept _ (c .if1 .taken) ∙ sym (heap-sizes _ _ (c .before .before .before .before .most-nodes .ensures ∙ ap mostNodes (c .before .before .before .before .before .before .before .pre .laid .term-count)) ∙ c .before .before .before .loop .inv ∙ first-here _ _ _ _ (c .before .before .loop-test .taken) (sym (c .before .size-found .ensures) ∙ kept _ (c .if1 .taken))))
+    (λ c. keep-true _ (c .if1 .taken) ∙ sym (heap-sizes _ _ (c .before .before .before .before .most-nodes .ensures ∙ ap mostNodes (c .before .before .before .before .before .before .before .pre .laid .term-count)) ∙ c .before .before .before .loop .inv ∙ first-here _ _ _ _ (c .before .before .loop-test .taken) (sym (c .before .size-found .ensures) ∙ keep-true _ (c .if1 .taken))))
     -- add-m
     (λ c. let k = most-few _ (c .before .before .before .before .before .before .before .pre .few) in omega (arith, k, c .before .before .before .before .most-nodes .ensures, c .before .before .loop-test .taken))
     -- loop-less
     (λ c. omega arith)
     -- loop-again
-    (λ c. c .before .before .before .loop .inv ∙ first-next _ _ _ (c .before .before .loop-test .taken) (sym (c .before .size-found .ensures) ∙ not-kept _ (c .if1 .left)))
+    (λ c. c .before .before .before .loop .inv ∙ first-next _ _ _ (c .before .before .loop-test .taken) (sym (c .before .size-found .ensures) ∙ keep-false _ (c .if1 .left)))
     -- returns-2
-    (λ c. not-kept _ refl ∙ sym (heap-sizes _ _ (c .before .before .most-nodes .ensures ∙ ap mostNodes (c .before .before .before .before .before .pre .laid .term-count)) ∙ c .before .loop .inv ∙ first-end _ _ _ (c .loop-test .left))))
+    (λ c. keep-false _ refl ∙ sym (heap-sizes _ _ (c .before .before .most-nodes .ensures ∙ ap mostNodes (c .before .before .before .before .before .pre .laid .term-count)) ∙ c .before .loop .inv ∙ first-end _ _ _ (c .loop-test .left))))

@@ -1,5 +1,4 @@
 -- The first list is the count alone. Assumes nothing.
-use Prim.Native.Nat.{_-_}
 use native.Mathlib.Omega.{arith}
 use mathlib.Core.Path.{sym, _∙_}
 use Rattle.between_seek.proofs.links_found.Statement.{statement}

@@ -1,5 +1,4 @@
 -- A variable names any node. Assumes nothing.
-use Prim.Native.Nat.{_-_}
 use native.Mathlib.Omega.{arith}
 use mathlib.Core.Path.{sym, _∙_}
 use Rattle.between_seek.proofs.lowest.Statement.{statement}

@@ -1,5 +1,4 @@
 -- One node where there is no term. Assumes nothing.
-use Prim.Native.Nat.{_-_}
 use Rattle.between_seek.proofs.most_nodes.Statement.{statement}
 use Rattle.between_seek.proofs.most_nodes.Tie as tie
 use Rattle.between_seek.proofs.Laws.{most-one, most-all}

@@ -1,5 +1,5 @@
 -- The first list is the count alone. Assumes nothing.
-use Prim.Native.Nat.{ℕ, _+_, _-_}
+use Prim.Native.Nat.{ℕ, _+_}
 use native.Mathlib.Omega.{arith}
 use mathlib.Core.Path.{sym, ap, _∙_}
 use Rattle.between_seek.proofs.nodes_found.Statement.{statement}

@@ -1,10 +1,10 @@
 -- Where there is none numbered as first named, there is none. Assumes nothing.
-use Prim.Native.Nat.{_-_}
 use borrow.Author.Tests.{not-true, not-false}
 use mathlib.Core.Path.{sym, _∙_}
+use Rattle.theory.proofs.Basics.Search.{keep-true, keep-false}
 use Rattle.between_seek.proofs.size_found.Statement.{statement}
 use Rattle.between_seek.proofs.size_found.Tie as tie
-use Rattle.between_seek.proofs.Laws.{size-none, size-some, kept, not-kept}
+use Rattle.between_seek.proofs.Laws.{size-none, size-some}
 
 pub size-found-spec : {M : Type 1} → statement M
 size-found-spec =
@@ -13,8 +13,8 @@ size-found-spec =
     -- links-found-requires
     (λ c κs. c .before .before .pre)
     -- returns
-    (λ c. not-kept _ (not-true _ (c .if1 .taken)) ∙ size-none _ _ (sym (c .before .before .links-found .ensures) ∙ not-kept _ (not-true _ (c .if1 .taken))))
+    (λ c. keep-false _ (not-true _ (c .if1 .taken)) ∙ size-none _ _ (sym (c .before .before .links-found .ensures) ∙ keep-false _ (not-true _ (c .if1 .taken))))
     -- links-found-requires-2
     (λ c κs. c .before .before .before .before .before .pre)
     -- returns-2
-    (λ c. c .links-found2 .ensures ∙ size-some _ _ _ (sym (c .before .before .before .links-found .ensures) ∙ kept _ (not-false _ (c .before .if1 .left)))))
+    (λ c. c .links-found2 .ensures ∙ size-some _ _ _ (sym (c .before .before .before .links-found .ensures) ∙ keep-true _ (not-false _ (c .before .if1 .left)))))

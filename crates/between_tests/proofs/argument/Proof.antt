@@ -1,5 +1,4 @@
 -- Nil has no argument. Assumes nothing.
-use Prim.Native.Nat.{_-_}
 use native.Mathlib.Omega.{arith}
 use mathlib.Core.Path.{sym, _∙_}
 use Rattle.between_tests.proofs.argument.Statement.{statement}

@@ -1,5 +1,4 @@
 -- By computation. Assumes nothing.
-use Prim.Native.Nat.{_-_}
 use mathlib.Core.Path.{refl}
 use Rattle.between_tests.proofs.due_triple.Statement.{statement}
 use Rattle.between_tests.proofs.due_triple.Tie as tie

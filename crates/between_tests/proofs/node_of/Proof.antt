@@ -1,5 +1,4 @@
 -- A byte of the list. Assumes nothing.
-use Prim.Native.Nat.{_-_}
 use borrow.Author.Needs.{needs}
 use Rattle.between_tests.proofs.node_of.Statement.{statement}
 use Rattle.between_tests.proofs.node_of.Tie as tie

@@ -10,5 +10,7 @@ unfolding _and_ countedRole meets
 number-refused-spec =
     tie.close
     (tie.spec
+    -- number-allowed-requires
+    (λ c κs. search needs)
     -- returns
-    (λ c. search needs))
+    (λ c. rw (c .number-allowed .ensures)))

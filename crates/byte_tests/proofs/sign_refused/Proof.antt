@@ -11,5 +11,7 @@ unfolding _and_ signRole meets
 sign-refused-spec =
     tie.close
     (tie.spec
+    -- sign-allowed-requires
+    (λ c κs. search needs)
     -- returns
-    (λ c. search needs))
+    (λ c. rw (c .sign-allowed .ensures)))

@@ -2,9 +2,9 @@
 use borrow.Author.Needs.{needs}
 use borrow.Author.Tests.{not-true, not-false}
 use mathlib.Core.Path.{sym, _∙_, subst}
-use Rattle.query.specs.Answers.{CheckedAs}
-use Rattle.query.specs.declared.Checked.{Checked}
-use Rattle.query.proofs.Ranges.{checked-accepts}
+use Rattle.query_checks.specs.Answers.{CheckedAs}
+use Rattle.query_checks.specs.declared.Checked.{Checked}
+use Rattle.query_checks.proofs.Checks.{checked-accepts}
 use Rattle.checker.proofs.Answered.{call-refused, call-misshapen, call-judged}
 use Rattle.checker.proofs.check.Statement.{statement}
 use Rattle.checker.proofs.check.Tie as tie

@@ -22,7 +22,7 @@ judge-spec =
     -- rows-of-requires
     (λ c κs. let p = c .before .before .before .before .pre in start-one _ (p .1) (joinedOf (c .start .result)) (started-in _ _ (p .0) _ (c .start .ensures)))
     -- limit-requires
-    (λ c κs. c .before .before .before .before .before .pre .0 .terms-within)
+    (λ c κs. (omega arith, c .before .before .before .before .before .pre .0 .terms-within))
     -- check-goal-requires
     (λ c κs.
     let p = c .before .before .before .before .before .before .before .before .before .before .before .pre in
@@ -30,7 +30,7 @@ judge-spec =
       p .0,
       p .1,
       shaped _ (p .2) _ (c .before .before .before .before .before .before .before .before .count-of .ensures .0),
-      start-ahead _ (singleOf (c .before .before .before .before .before .before .rows-of .result)) _ _ (p .1) (started-in _ _ (p .0) _ made) (p .0 .term-count) (c .before .before .before .before .before .limit .ensures),
+      start-ahead _ (singleOf (c .before .before .before .before .before .before .rows-of .result)) _ _ (p .1) (started-in _ _ (p .0) _ made) (p .0 .term-count) (omega (arith, c .before .before .before .before .before .limit .ensures)),
       subst Fits (sym made) (started-fits (one-within _ _ (p .0)) (accepted-in _ _ (p .0) (p .1))),
       omega arith,
     ))

@@ -4,7 +4,8 @@ use Prim.Native.Nat.{_-_}
 use mathlib.Core.Path.{sym, _∙_}
 use Rattle.facts.specs.Path.{repOf}
 use Rattle.query.proofs.Literals.{literals-are}
-use Rattle.clash.specs.Sections.{literalsIn, oneTerm}
+use Rattle.literal_tests.specs.Tests.{oneTerm}
+use Rattle.clash.specs.Sections.{literalsIn}
 use Rattle.clash.proofs.Sections.{AloneLeft, alone-begin, alone-here, alone-next, alone-end}
 use Rattle.clash.proofs.equality_clash.Statement.{statement}
 use Rattle.clash.proofs.equality_clash.Tie as tie

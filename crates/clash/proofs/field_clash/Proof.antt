@@ -5,7 +5,8 @@ use Prim.Native.Nat.{_-_}
 use mathlib.Core.Path.{sym, ap, _∙_}
 use Rattle.facts.specs.Path.{repOf}
 use Rattle.query.proofs.Literals.{literals-are}
-use Rattle.clash.specs.Sections.{literalsIn, sameField}
+use Rattle.literal_tests.specs.Tests.{sameField}
+use Rattle.clash.specs.Sections.{literalsIn}
 use Rattle.clash.specs.Answers.{placeOf}
 use Rattle.clash.proofs.Sections.{PairedLeft, paired-begin, paired-here, paired-next, paired-end}
 use Rattle.clash.proofs.field_clash.Statement.{statement}

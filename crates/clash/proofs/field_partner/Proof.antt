@@ -5,7 +5,8 @@ use Prim.Native.Nat.{_+_, _-_}
 use mathlib.Core.Path.{sym, ap, _∙_}
 use Rattle.facts.specs.Path.{repOf}
 use Rattle.query.proofs.Literals.{literals-are}
-use Rattle.clash.specs.Sections.{literalsIn, sameField}
+use Rattle.literal_tests.specs.Tests.{sameField}
+use Rattle.clash.specs.Sections.{literalsIn}
 use Rattle.clash.proofs.Sections.{PartnerLeft, partner-begin, partner-plain, partner-here, partner-next, partner-end}
 use Rattle.clash.proofs.field_partner.Statement.{statement}
 use Rattle.clash.proofs.field_partner.Tie as tie

@@ -5,7 +5,7 @@ use mathlib.Core.Path.{sym, _∙_}
 use Rattle.facts.specs.Path.{repOf}
 use Rattle.link_query.specs.Said.{said}
 use Rattle.link_query.proofs.Said.{literal-fits, reachability-said}
-use Rattle.clash.specs.Sections.{rowsOf, rowsHeld}
+use Rattle.literal_tests.specs.Tests.{rowsOf, rowsHeld}
 use Rattle.clash.proofs.Sections.{AloneLeft, alone-begin, alone-here, alone-next, alone-end}
 use Rattle.clash.proofs.reach_clash.Statement.{statement}
 use Rattle.clash.proofs.reach_clash.Tie as tie

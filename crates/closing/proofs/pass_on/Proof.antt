@@ -6,8 +6,8 @@ use mathlib.Core.Path.{_≡_}
 use mathlib.Core.Bool.{Bool}
 use lib.ListN.{length}
 use Rattle.rows.specs.Square.{square}
-use Rattle.closing.specs.Rows.{Within, Above, OnwardBelow}
-use Rattle.closing.proofs.Rows.{passed-within, passed-kept, passed-onward, onward-none, onward-all}
+use Rattle.closing.specs.Rows.{Within, Above}
+use Rattle.closing.proofs.Rows.{OnwardBelow, passed-within, passed-kept, passed-onward, onward-none, onward-all}
 use Rattle.closing.proofs.pass_on.Statement.{statement}
 use Rattle.closing.proofs.pass_on.Tie as tie
 

@@ -1,5 +1,5 @@
 -- Each return under the test. Assumes nothing.
-use native.Mathlib.Omega.{arith}
+use borrow.Author.Needs.{needs}
 use borrow.Author.Tests.{not-true, not-false}
 use mathlib.Core.Path.{sym, ap, _∙_}
 use mathlib.Core.Bool.{not}
@@ -11,11 +11,11 @@ pub begins-without-spec : {M : Type 1} → statement M
 begins-without-spec =
     tie.close
     (tie.spec
-    -- begins-path-requires
-    (λ c κs. omega arith)
+    -- has-requires
+    (λ c κs. search needs)
     -- returns
-    (λ c. and-failed _ (sym (c .before .begins-path .ensures) ∙ not-true _ (c .if1 .taken)))
+    (λ c. and-failed _ (sym (c .before .has .ensures) ∙ not-true _ (c .if1 .taken)))
     -- on-path-requires
-    (λ c κs. (omega arith, c .before .before .pre .3))
+    (λ c κs. search needs)
     -- returns-2
-    (λ c. ap not (c .on-path .ensures) ∙ and-rest _ (sym (c .before .before .begins-path .ensures) ∙ not-false _ (c .before .if1 .left))))
+    (λ c. ap not (c .on-path .ensures) ∙ and-rest _ (sym (c .before .before .has .ensures) ∙ not-false _ (c .before .if1 .left))))

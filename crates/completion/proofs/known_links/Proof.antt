@@ -7,7 +7,7 @@ use lib.ListN.{length, length-set}
 use Rattle.logic.specs.Rules.{next}
 use Rattle.facts.specs.Path.{linksIn}
 use Rattle.completion.specs.Links.{linkOf}
-use Rattle.completion.proofs.Links.{LinkedBelow, linked-more, next-all}
+use Rattle.completion.proofs.Links.{LinkedBelow, linked-more, next-all, next-below}
 use Rattle.completion.proofs.known_links.Statement.{statement}
 use Rattle.completion.proofs.known_links.Tie as tie
 
@@ -30,9 +30,11 @@ known-links-spec =
     (λ c. (omega arith, search needs, λ x h. absurd (omega arith)))
     -- known-link-requires
     (λ c κs. omega arith)
-    -- mul-links
-    (λ c. omega arith)
-    -- array-set-from-links
+    -- cast-links
+    (λ c.
+    let start = c .before .before .before .before in
+    omega (arith, next-below (start .args .n) (linksIn (start .args .link .now)) (c .before .before .before .loop .t), c .before .known-link .ensures))
+    -- array-write-links
     (λ c. omega arith)
     -- add-t
     (λ c. omega arith)
@@ -40,10 +42,10 @@ known-links-spec =
     (λ c. omega arith)
     -- loop-again
     (λ c.
-    let l = c .before .before .loop in (
+    let l = c .before .before .before .loop in (
       omega arith,
       simp length-set (l .inv .1),
-      linked-more _ (l .links) (l .t) (omega arith) (c .known-link .result) (c .known-link .ensures) (l .inv .2),
+      linked-more _ (l .links) (l .t) (omega arith) _ (c .before .known-link .ensures) (l .inv .2),
     ))
     -- returns
     (λ c. next-all _ _ _ (c .before .loop .inv .1) (rw (whole c) at (c .before .loop .inv .2))))

@@ -10,7 +10,7 @@ use Rattle.logic.specs.Search.{from, select}
 use Rattle.logic.specs.Shown.{linkEach}
 use Rattle.facts.specs.Path.{repOf}
 use Rattle.completion.specs.Links.{linkOf, InRange, reachIn}
-use Rattle.completion.proofs.Completing.{remains, link-new, link-turn, link-kept, turn-range, link-end}
+use Rattle.completion.proofs.Completing.{remains, link-new, link-turn, link-kept, turn-range, link-end, new-below}
 use Rattle.completion.proofs.link_each.Statement.{statement}
 use Rattle.completion.proofs.link_each.Tie as tie
 
@@ -35,23 +35,26 @@ link-each-spec =
     (λ c. omega arith)
     -- wide-requires
     (λ c κs. search needs)
-    -- mul-known
+    -- array-read-wide
     (λ c. omega arith)
-    -- array-copy-out-known
-    (λ c. omega arith)
+    -- wide-requires-2
+    (λ c κs. search needs)
     -- add-v
     (λ c. omega arith)
     -- loop-less
     (λ c. omega arith)
     -- loop-again
     (λ c.
-    let l = c .before .before .before .before .before .before .loop in
-    (l .inv .0, l .inv .1, l .inv .2 ∙ link-kept _ _ _ (l .out) (l .inv .0) (l .v) (omega arith) (omega arith) (remains _ (l .out) (l .v) _ (omega arith) (c .before .before .before .wide .ensures .0) ∙ not-true _ (c .if1 .taken))))
+    let l = c .before .before .before .before .before .loop in
+    (l .inv .0, l .inv .1, l .inv .2 ∙ link-kept _ _ _ (l .out) (l .inv .0) (l .v) (omega arith) (omega arith) (remains _ (l .out) (l .v) _ _ (omega arith) (c .before .before .wide .ensures .0) (c .before .wide2 .ensures .0) ∙ not-true _ (c .if1 .taken))))
     -- new-link-requires
     (λ c κs. (omega arith, omega arith, c .before .before .before .before .before .before .loop .inv .1))
-    -- mul-out
-    (λ c. omega arith)
-    -- array-set-from-out
+    -- cast-out
+    (λ c.
+    let a = c .before .before .before .before .before .before .before .before .before .args in
+    let l = c .before .before .before .before .before .before .before .before .loop in
+    omega (arith, c .before .new-link .ensures, new-below (a .n) (reachIn (a .reach .now)) (linkOf (l .out)) (l .v)))
+    -- array-write-out
     (λ c. omega arith)
     -- add-v-2
     (λ c. omega arith)
@@ -59,11 +62,14 @@ link-each-spec =
     (λ c. omega arith)
     -- loop-again-2
     (λ c.
-    let l = c .before .before .before .before .before .before .before .loop in
-    let given = link-new _ _ _ (l .out) (l .v) (remains _ (l .out) (l .v) _ (omega arith) (c .before .before .before .before .wide .ensures .0) ∙ not-false _ (c .before .if1 .left)) (c .new-link .ensures) in (
+    let l = c .before .before .before .before .before .before .before .before .loop in
+    let given =
+    link-new _ _ _ (l .out) (l .v)
+    (remains _ (l .out) (l .v) _ _ (omega arith) (c .before .before .before .before .before .wide .ensures .0) (c .before .before .before .before .wide2 .ensures .0) ∙ not-false _ (c .before .before .before .if1 .left))
+    (c .before .new-link .ensures) in (
       simp length-set (l .inv .0),
-      turn-range _ _ _ (l .out) (l .inv .0) (l .v) (omega arith) (omega arith) (c .new-link .result) given (l .inv .1),
-      l .inv .2 ∙ link-turn _ _ _ (l .out) (l .inv .0) (l .v) (omega arith) (omega arith) (c .new-link .result) given,
+      turn-range _ _ _ (l .out) (l .inv .0) (l .v) (omega arith) (omega arith) _ given (l .inv .1),
+      l .inv .2 ∙ link-turn _ _ _ (l .out) (l .inv .0) (l .v) (omega arith) (omega arith) _ given,
     ))
     -- returns
     (λ c. sym (c .before .loop .inv .2 ∙ link-end _ _ _ _ _ (omega arith))))

@@ -1,7 +1,8 @@
 -- What is left of the path equals the whole. Assumes nothing.
-use Prim.Native.Nat.{_≤_}
+use Prim.Native.Nat.{_-_, _≤_}
+use borrow.Author.Needs.{needs}
 use native.Mathlib.Omega.{arith}
-use mathlib.Core.Path.{_≡_, refl, sym, _∙_}
+use mathlib.Core.Path.{_≡_, refl, sym, ap, _∙_}
 use Rattle.logic.specs.Shown.{onPath}
 use Rattle.completion.specs.Links.{linkOf}
 use Rattle.completion.proofs.Choice.{path-here, path-next, path-end}
@@ -9,14 +10,17 @@ use Rattle.completion.proofs.on_path.Statement.{statement}
 use Rattle.completion.proofs.on_path.Tie as tie
 
 abbrev Inv-loop : tie.InvT-loop
-Inv-loop n v links at₀ left₀ at left = (at ≤ 16) × (onPath (linkOf links) (v .0) n at₀ ≡ onPath (linkOf links) (v .0) left at)
+Inv-loop links n v at₀ left₀ at left = (at ≤ 16) × (onPath (linkOf links) (v .0) n at₀ ≡ onPath (linkOf links) (v .0) left at)
 
 abbrev μ-loop : tie.MeasureT-loop
-μ-loop n v links at₀ left₀ at left = left
+μ-loop links n v at₀ left₀ at left = left
 
 loop-again : tie.Need-loop-again Inv-loop μ-loop
 unfolding linkOf
-loop-again c = (c .before .before .before .before .before .pre .1 (c .before .before .before .before .loop .at), c .before .before .before .before .loop .inv .1 ∙ path-next _ _ _ _ (omega arith) (c .before .if1 .left))
+loop-again c =
+    let l = c .before .before .before .before .before .loop in
+    let to = c .wide .ensures .0 in
+    (omega (arith, to, c .before .before .before .before .before .before .pre .1 (l .at)), l .inv .1 ∙ path-next _ _ _ _ (omega arith) (c .before .before .if1 .left) ∙ ap (onPath (linkOf (c .before .before .before .before .before .before .args .links .now)) (c .before .before .before .before .before .before .args .v .0) (l .left - 1)) (sym to))
 
 pub on-path-spec : {M : Type 1} → statement M
 on-path-spec =
@@ -28,10 +32,10 @@ on-path-spec =
     (λ c. (omega arith, refl))
     -- returns
     (λ c. sym (c .before .before .before .loop .inv .1 ∙ path-here _ _ _ _ (c .if1 .taken)))
-    -- mul-to
+    -- element-copy-out-wide
     (λ c. omega arith)
-    -- array-copy-out-to
-    (λ c. omega arith)
+    -- wide-requires
+    (λ c κs. search needs)
     -- sub-left
     (λ c. omega arith)
     -- loop-less

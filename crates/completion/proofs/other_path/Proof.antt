@@ -2,19 +2,22 @@
 use Prim.Native.Nat.{_+_, _-_}
 use native.Mathlib.Omega.{arith}
 use mathlib.Core.Path.{_≡_, refl, sym, _∙_}
-use Rattle.logic.specs.Search.{from, find}
+use mathlib.Core.Bool.{not}
+use Rattle.logic.specs.Search.{_and_, from, find}
+use Rattle.logic.specs.Shown.{onPath}
+use Rattle.rows.specs.Bits.{bit}
 use Rattle.rows.proofs.Loops.{find-end, find-here, find-next}
-use Rattle.completion.specs.Links.{linkOf, reachIn, beginsWithout}
+use Rattle.completion.specs.Links.{linkOf}
 use Rattle.completion.proofs.other_path.Statement.{statement}
 use Rattle.completion.proofs.other_path.Tie as tie
 
 abbrev Inv-loop : tie.InvT-loop
-Inv-loop links reach n v b₀ b =
-    find (beginsWithout n (reachIn reach) (linkOf links) (v .0)) (from (n + 1 - 1) 1)
-    ≡ find (beginsWithout n (reachIn reach) (linkOf links) (v .0)) (from (n + 1 - b) b)
+Inv-loop links heads n v b₀ b =
+    find (λ x. bit heads x and not (onPath (linkOf links) (v .0) n x)) (from (n + 1 - 1) 1)
+    ≡ find (λ x. bit heads x and not (onPath (linkOf links) (v .0) n x)) (from (n + 1 - b) b)
 
 abbrev μ-loop : tie.MeasureT-loop
-μ-loop links reach n v b₀ b = n + 1 - b
+μ-loop links heads n v b₀ b = n + 1 - b
 
 pub other-path-spec : {M : Type 1} → statement M
 other-path-spec =
@@ -25,7 +28,7 @@ other-path-spec =
     -- loop-holds
     (λ c. refl)
     -- begins-without-requires
-    (λ c κs. (omega arith, omega arith, omega arith, c .before .before .pre .2))
+    (λ c κs. (omega arith, c .before .before .pre .1))
     -- returns
     (λ c. sym (c .before .before .before .loop .inv ∙ find-here _ _ _ (omega arith) (sym (c .before .begins-without .ensures) ∙ c .if1 .taken)))
     -- add-b

@@ -6,6 +6,7 @@ use mathlib.Core.Path.{_≡_, refl, sym, _∙_, subst}
 use borrow.Fn.Kinds.{In}
 use borrow.Fn.PlainCycle.{Measures, is, falls, and}
 use borrow.Author.Tests.{not-true, not-false}
+use Rattle.logic.specs.Query.{termCount}
 use Rattle.logic.specs.Rules.{triple, move}
 use Rattle.logic.specs.Decision.{Struck}
 use Rattle.facts.specs.Path.{pathAs, Whole}
@@ -13,16 +14,18 @@ use Rattle.rules.specs.Answers.{kindOf}
 use Rattle.branch.proofs.Alternatives.{count-few}
 use Rattle.link_query.specs.Said.{said}
 use Rattle.link_query.proofs.Said.{terms-said}
-use Rattle.decide.proofs.Tells.{fewer-left, seen-as, struck-none, ends-nothing, ends-refuted, ends-as, tells-clash, ends-saturated, known-branch, struck-more, tells-branch, tells-struck, applied-linked}
-use Rattle.decide.proofs.Branches.{same-linked}
+use Rattle.plain_steps.proofs.Branches.{same-linked}
+use Rattle.plain_steps.proofs.Turns.{struck-none}
+use Rattle.decide.specs.declared.Seen.the-variants as seen
+use Rattle.decide.proofs.Tells.{fewer-left, seen-as, ends-nothing, ends-refuted, ends-as, tells-clash, ends-saturated, known-branch, struck-more, tells-branch, tells-struck, applied-linked}
 use Rattle.decide.proofs.search_in.Reads as search-in
 use Rattle.decide.proofs.search_in.Kinds as search-in-kinds
 use Rattle.decide.proofs.+search_in.Lts-search_in as search-in-lts
 use Rattle.branch.proofs.count.Reads as count-reads
 use Rattle.branch.proofs.take.Reads as take-reads
-use Rattle.decide.proofs.is_refuted.Reads as is-refuted-reads
+use Rattle.plain_steps.proofs.is_refuted.Reads as is-refuted-reads
 use Rattle.decide.proofs.sees.Reads as sees-reads
-use Rattle.decide.proofs.spent.Reads as spent-reads
+use Rattle.plain_steps.proofs.spent.Reads as spent-reads
 use Rattle.decide.proofs.+search_in.{statement}
 use Rattle.decide.proofs.+search_in.Tie.{close}
 
@@ -70,22 +73,39 @@ pub +search-in-spec : {M : Type 1} → statement M
     (λ c κs. search needs)
     -- returns
     (λ c.
+    let a = c .before .before .before .before .before .before .before .before .before .before .before .before .args in
     let p = c .before .before .before .before .before .before .before .before .before .before .before .before .pre .1 in
-    let a = seen-as _ _ _ _ (c .before .before .before .sees .ensures .1) (c .before .enum-told .given .1) in
-    (ends-saturated (p .1) _ _ (p .2) _ (sym (terms-said _ _ (p .0))) (c .before .before .before .sees .ensures .0) (a .0) (a .1), record { of-rep = p .3 .of-rep; of-link = p .3 .of-link; of-reach = c .before .before .before .sees .ensures .2; of-link2 = p .3 .of-link2; of-reach2 = c .before .before .before .sees .ensures .3; of-link3 = p .3 .of-link3; of-reach3 = c .before .before .before .sees .ensures .4 }))
+    let q = said (a .layout) (a .query .now) in
+    let s = pathAs (a .single) (a .rep .now) (a .link .now) (a .reach .now) (a .link2 .now) (a .reach2 .now) (a .link3 .now) (a .reach3 .now) in
+    let r = c .before .before .before .sees .last in
+    let t = pathAs (a .single) (a .rep .now) (a .link .now) (r .1 .1 .1 .1 .1 .1 .0) (a .link2 .now) (r .1 .1 .1 .1 .1 .1 .1 .1 .0) (a .link3 .now) (r .1 .1 .1 .1 .1 .1 .1 .1 .1 .1 .0) in
+    let v = seen-as q t (c .before .before .before .sees .result) seen.Saturated (c .before .before .before .sees .ensures .1) (c .before .enum-told .given .1) in
+    (ends-saturated {q = q} (p .1) s t (p .2) (a .layout .terms) (sym (terms-said (a .layout) (a .query .now) (p .0))) (c .before .before .before .sees .ensures .0) (v .0) (v .1), record { of-rep = p .3 .of-rep; of-link = p .3 .of-link; of-reach = c .before .before .before .sees .ensures .2; of-link2 = p .3 .of-link2; of-reach2 = c .before .before .before .sees .ensures .3; of-link3 = p .3 .of-link3; of-reach3 = c .before .before .before .sees .ensures .4 }))
     -- enum-told-2
     (λ c. search needs)
     -- spent-requires-2
     (λ c κs. search needs)
     -- returns-2
     (λ c.
+    let a = c .before .before .before .before .before .before .before .before .before .before .before .before .args in
     let p = c .before .before .before .before .before .before .before .before .before .before .before .before .pre .1 in
-    let a = seen-as _ _ _ _ (c .before .before .before .sees .ensures .1) (c .before .enum-told2 .given .1) in
-    (ends-refuted _ _ _ (tells-clash (p .1) _ _ (p .2) _ (sym (terms-said _ _ (p .0))) (c .before .before .before .sees .ensures .0) (a .0) (a .1)), record { of-rep = p .3 .of-rep; of-link = p .3 .of-link; of-reach = c .before .before .before .sees .ensures .2; of-link2 = p .3 .of-link2; of-reach2 = c .before .before .before .sees .ensures .3; of-link3 = p .3 .of-link3; of-reach3 = c .before .before .before .sees .ensures .4 }))
+    let q = said (a .layout) (a .query .now) in
+    let s = pathAs (a .single) (a .rep .now) (a .link .now) (a .reach .now) (a .link2 .now) (a .reach2 .now) (a .link3 .now) (a .reach3 .now) in
+    let r = c .before .before .before .sees .last in
+    let t = pathAs (a .single) (a .rep .now) (a .link .now) (r .1 .1 .1 .1 .1 .1 .0) (a .link2 .now) (r .1 .1 .1 .1 .1 .1 .1 .1 .0) (a .link3 .now) (r .1 .1 .1 .1 .1 .1 .1 .1 .1 .1 .0) in
+    let v = seen-as q t (c .before .before .before .sees .result) seen.Clashing (c .before .before .before .sees .ensures .1) (c .before .enum-told2 .given .1) in
+    (ends-refuted q s t (tells-clash {q = q} (p .1) s t (p .2) (a .layout .terms) (sym (terms-said (a .layout) (a .query .now) (p .0))) (c .before .before .before .sees .ensures .0) (v .0) (v .1)), record { of-rep = p .3 .of-rep; of-link = p .3 .of-link; of-reach = c .before .before .before .sees .ensures .2; of-link2 = p .3 .of-link2; of-reach2 = c .before .before .before .sees .ensures .3; of-link3 = p .3 .of-link3; of-reach3 = c .before .before .before .sees .ensures .4 }))
     -- enum-known-k
     (λ c. search needs)
     -- returns-3
-    (λ c. let p = c .before .before .before .before .before .before .before .before .before .before .before .before .before .pre .1 in (ends-nothing _ _ _, record { of-rep = p .3 .of-rep; of-link = p .3 .of-link; of-reach = c .before .before .before .before .sees .ensures .2; of-link2 = p .3 .of-link2; of-reach2 = c .before .before .before .before .sees .ensures .3; of-link3 = p .3 .of-link3; of-reach3 = c .before .before .before .before .sees .ensures .4 }))
+    (λ c.
+    let a = c .before .before .before .before .before .before .before .before .before .before .before .before .before .args in
+    let p = c .before .before .before .before .before .before .before .before .before .before .before .before .before .pre .1 in
+    let q = said (a .layout) (a .query .now) in
+    let s = pathAs (a .single) (a .rep .now) (a .link .now) (a .reach .now) (a .link2 .now) (a .reach2 .now) (a .link3 .now) (a .reach3 .now) in
+    let r = c .before .before .before .before .sees .last in
+    let t = pathAs (a .single) (a .rep .now) (a .link .now) (r .1 .1 .1 .1 .1 .1 .0) (a .link2 .now) (r .1 .1 .1 .1 .1 .1 .1 .1 .0) (a .link3 .now) (r .1 .1 .1 .1 .1 .1 .1 .1 .1 .1 .0) in
+    (ends-nothing q s t, record { of-rep = p .3 .of-rep; of-link = p .3 .of-link; of-reach = c .before .before .before .before .sees .ensures .2; of-link2 = p .3 .of-link2; of-reach2 = c .before .before .before .before .sees .ensures .3; of-link3 = p .3 .of-link3; of-reach3 = c .before .before .before .before .sees .ensures .4 }))
     -- count-requires
     (λ c κs. search needs)
     -- spent-requires-3
@@ -93,38 +113,98 @@ pub +search-in-spec : {M : Type 1} → statement M
     -- loop-holds
     (λ c. let p = c .before .before .before .before .before .before .before .before .before .before .before .before .before .before .before .pre .1 in (omega arith, struck-none _ _ _ _ refl, refl, record { of-rep = p .3 .of-rep; of-link = p .3 .of-link; of-reach = c .before .before .before .before .before .before .sees .ensures .2; of-link2 = p .3 .of-link2; of-reach2 = c .before .before .before .before .before .before .sees .ensures .3; of-link3 = p .3 .of-link3; of-reach3 = c .before .before .before .before .before .before .sees .ensures .4 }))
     -- returns-4
-    (λ c. (ends-nothing _ _ _, c .before .before .loop .inv .3))
+    (λ c.
+    let a = c .before .before .before .before .before .before .before .before .before .before .before .before .before .before .before .before .before .before .args in
+    let s = pathAs (a .single) (a .rep .now) (a .link .now) (a .reach .now) (a .link2 .now) (a .reach2 .now) (a .link3 .now) (a .reach3 .now) in
+    let o = c .before .before .loop in
+    (ends-nothing (said (a .layout) (a .query .now)) s (pathAs (a .single) (o .rep) (o .link) (o .reach) (o .link2) (o .reach2) (o .link3) (o .reach3)), o .inv .3))
     -- take-requires
     (λ c κs.
+    let a = c .before .before .before .before .before .before .before .before .before .before .before .before .before .before .before .before .before .before .before .before .before .before .before .before .before .before .before .before .before .before .before .before .args in
     let p = c .before .before .before .before .before .before .before .before .before .before .before .before .before .before .before .before .before .before .before .before .before .before .before .before .before .before .before .before .before .before .before .before .pre .1 in
-    let a = seen-as _ _ _ _ (c .before .before .before .before .before .before .before .before .before .before .before .before .before .before .before .before .before .before .before .before .before .before .before .sees .ensures .1) (c .before .before .before .before .before .before .before .before .before .before .before .before .before .before .before .before .before .before .before .before .before .k .given .1) in
-    (p .0 .terms-within, same-linked _ _ (c .before .before .before .before .before .before .before .before .before .before .before .before .before .before .before .before .loop .inv .2) _ (applied-linked _ _ _ _ _ _ _ (a .0)), a .1, a .2, a .3, c .before .before .before .before .before .before .before .before .before .before .before .before .before .before .before .before .loop .inv .3))
+    let q = said (a .layout) (a .query .now) in
+    let s = pathAs (a .single) (a .rep .now) (a .link .now) (a .reach .now) (a .link2 .now) (a .reach2 .now) (a .link3 .now) (a .reach3 .now) in
+    let r = c .before .before .before .before .before .before .before .before .before .before .before .before .before .before .before .before .before .before .before .before .before .before .before .sees .last in
+    let t = pathAs (a .single) (a .rep .now) (a .link .now) (r .1 .1 .1 .1 .1 .1 .0) (a .link2 .now) (r .1 .1 .1 .1 .1 .1 .1 .1 .0) (a .link3 .now) (r .1 .1 .1 .1 .1 .1 .1 .1 .1 .1 .0) in
+    let m = c .before .before .before .before .before .before .before .before .before .before .before .before .before .before .before .before .before .before .before .before .before .k .given .0 in
+    let v = seen-as q t (c .before .before .before .before .before .before .before .before .before .before .before .before .before .before .before .before .before .before .before .before .before .before .before .sees .result) (seen.Applying (m .0) (m .1 .0) (m .1 .1 .0) (m .1 .1 .1 .0) (m .1 .1 .1 .1 .0)) (c .before .before .before .before .before .before .before .before .before .before .before .before .before .before .before .before .before .before .before .before .before .before .before .sees .ensures .1) (c .before .before .before .before .before .before .before .before .before .before .before .before .before .before .before .before .before .before .before .before .before .k .given .1) in
+    let o = c .before .before .before .before .before .before .before .before .before .before .before .before .before .before .before .before .loop in
+    (p .0 .terms-within, same-linked (pathAs (a .single) (o .rep) (o .link) (o .reach) (o .link2) (o .reach2) (o .link3) (o .reach3)) t (o .inv .2) (m .0 .0) (applied-linked (termCount q) t (m .0 .0) (kindOf (m .1 .0)) (m .1 .1 .0 .0) (m .1 .1 .1 .0 .0) (m .1 .1 .1 .1 .0 .0) (v .0)), v .1, v .2, v .3, o .inv .3))
     -- sub-search-in
     (λ c. let b = c .before .before .before .before .before .before .before .before .before .before .before .before .before .before .before .before .before .before .before .before .if1 .left in omega arith)
     -- search-in-requires
     (λ c κs.
+    let a = c .before .before .before .before .before .before .before .before .before .before .before .before .before .before .before .before .before .before .before .before .before .before .before .before .before .before .before .before .before .before .before .before .before .before .before .before .before .before .before .before .args in
     let p = c .before .before .before .before .before .before .before .before .before .before .before .before .before .before .before .before .before .before .before .before .before .before .before .before .before .before .before .before .before .before .before .before .before .before .before .before .before .before .before .before .pre .1 in
-    let a = seen-as _ _ _ _ (c .before .before .before .before .before .before .before .before .before .before .before .before .before .before .before .before .before .before .before .before .before .before .before .before .before .before .before .before .before .before .before .sees .ensures .1) (c .before .before .before .before .before .before .before .before .before .before .before .before .before .before .before .before .before .before .before .before .before .before .before .before .before .before .before .before .before .k .given .1) in
-    (fewer-left _ _ (c .before .before .before .before .before .before .before .before .before .before .before .before .before .before .before .before .before .before .before .before .before .before .before .before .before .before .before .if1 .left) (c .before .before .before .before .before .before .before .before .before .before .before .before .before .before .before .before .before .before .before .before .before .before .before .before .before .before .before .before .before .before .before .before .before .before .before .before .before .before .before .before .pre .0), (p .0, p .1, known-branch (p .1) _ _ (p .2) _ (sym (terms-said _ _ (p .0))) (c .before .before .before .before .before .before .before .before .before .before .before .before .before .before .before .before .before .before .before .before .before .before .before .before .before .before .before .before .before .before .before .sees .ensures .0) _ _ _ _ _ (a .0) _ (c .before .before .before .before .before .before .before .before .before .before .before .before .before .before .before .before .before .before .before .before .before .before .before .before .loop .inv .2) _ (subst (λ (j : ℕ). c .before .before .before .before .before .before .before .before .before .before .before .before .before .before .before .before .before .before .before .before .before .before .before .before .loop .at < j) (c .before .before .before .before .before .before .before .before .before .before .before .before .before .before .before .before .before .before .before .before .before .before .before .before .before .before .count .ensures) (c .before .before .before .before .before .before .before .before .before .before .before .before .before .before .before .before .before .before .before .before .before .before .before .loop-test .taken)) _ (c .before .before .before .before .before .before .before .take .ensures .0), c .before .before .before .before .before .before .before .take .ensures .1)))
+    let q = said (a .layout) (a .query .now) in
+    let s = pathAs (a .single) (a .rep .now) (a .link .now) (a .reach .now) (a .link2 .now) (a .reach2 .now) (a .link3 .now) (a .reach3 .now) in
+    let r = c .before .before .before .before .before .before .before .before .before .before .before .before .before .before .before .before .before .before .before .before .before .before .before .before .before .before .before .before .before .before .before .sees .last in
+    let t = pathAs (a .single) (a .rep .now) (a .link .now) (r .1 .1 .1 .1 .1 .1 .0) (a .link2 .now) (r .1 .1 .1 .1 .1 .1 .1 .1 .0) (a .link3 .now) (r .1 .1 .1 .1 .1 .1 .1 .1 .1 .1 .0) in
+    let m = c .before .before .before .before .before .before .before .before .before .before .before .before .before .before .before .before .before .before .before .before .before .before .before .before .before .before .before .before .before .k .given .0 in
+    let v = seen-as q t (c .before .before .before .before .before .before .before .before .before .before .before .before .before .before .before .before .before .before .before .before .before .before .before .before .before .before .before .before .before .before .before .sees .result) (seen.Applying (m .0) (m .1 .0) (m .1 .1 .0) (m .1 .1 .1 .0) (m .1 .1 .1 .1 .0)) (c .before .before .before .before .before .before .before .before .before .before .before .before .before .before .before .before .before .before .before .before .before .before .before .before .before .before .before .before .before .before .before .sees .ensures .1) (c .before .before .before .before .before .before .before .before .before .before .before .before .before .before .before .before .before .before .before .before .before .before .before .before .before .before .before .before .before .k .given .1) in
+    let o = c .before .before .before .before .before .before .before .before .before .before .before .before .before .before .before .before .before .before .before .before .before .before .before .before .loop in
+    let here = subst (λ (j : ℕ). o .at < j) (c .before .before .before .before .before .before .before .before .before .before .before .before .before .before .before .before .before .before .before .before .before .before .before .before .before .before .count .ensures) (c .before .before .before .before .before .before .before .before .before .before .before .before .before .before .before .before .before .before .before .before .before .before .before .loop-test .taken) in
+    let e = c .before .before .before .before .before .before .before .take .last in
+    let u = pathAs (a .single) (e .1 .0) (e .1 .1 .0) (e .1 .1 .1 .0) (e .1 .1 .1 .1 .0) (e .1 .1 .1 .1 .1 .0) (e .1 .1 .1 .1 .1 .1 .0) (e .1 .1 .1 .1 .1 .1 .1 .0) in
+    (fewer-left (a .left) _ (c .before .before .before .before .before .before .before .before .before .before .before .before .before .before .before .before .before .before .before .before .before .before .before .before .before .before .before .if1 .left) (c .before .before .before .before .before .before .before .before .before .before .before .before .before .before .before .before .before .before .before .before .before .before .before .before .before .before .before .before .before .before .before .before .before .before .before .before .before .before .before .before .pre .0), (p .0, p .1, known-branch {q = q} (p .1) s t (p .2) (a .layout .terms) (sym (terms-said (a .layout) (a .query .now) (p .0))) (c .before .before .before .before .before .before .before .before .before .before .before .before .before .before .before .before .before .before .before .before .before .before .before .before .before .before .before .before .before .before .before .sees .ensures .0) (m .0 .0) (kindOf (m .1 .0)) (m .1 .1 .0 .0) (m .1 .1 .1 .0 .0) (m .1 .1 .1 .1 .0 .0) (v .0) (pathAs (a .single) (o .rep) (o .link) (o .reach) (o .link2) (o .reach2) (o .link3) (o .reach3)) (o .inv .2) (o .at) here u (c .before .before .before .before .before .before .before .take .ensures .0), c .before .before .before .before .before .before .before .take .ensures .1)))
     -- is-refuted-requires
     (λ c κs. search needs)
     -- returns-5
     (λ c.
+    let a = c .before .before .before .before .before .before .before .before .before .before .before .before .before .before .before .before .before .before .before .before .before .before .before .before .before .before .before .before .before .before .before .before .before .before .before .before .before .before .before .before .before .before .before .args in
     let p = c .before .before .before .before .before .before .before .before .before .before .before .before .before .before .before .before .before .before .before .before .before .before .before .before .before .before .before .before .before .before .before .before .before .before .before .before .before .before .before .before .before .before .before .pre .1 in
-    let a = seen-as _ _ _ _ (c .before .before .before .before .before .before .before .before .before .before .before .before .before .before .before .before .before .before .before .before .before .before .before .before .before .before .before .before .before .before .before .before .before .before .sees .ensures .1) (c .before .before .before .before .before .before .before .before .before .before .before .before .before .before .before .before .before .before .before .before .before .before .before .before .before .before .before .before .before .before .before .before .k .given .1) in
-    (ends-as _ _ _ _ _ (c .before .before .search-in .ensures .0) (tells-branch (p .1) _ _ (p .2) _ (sym (terms-said _ _ (p .0))) (c .before .before .before .before .before .before .before .before .before .before .before .before .before .before .before .before .before .before .before .before .before .before .before .before .before .before .before .before .before .before .before .before .before .before .sees .ensures .0) _ _ _ _ _ (a .0) _ (c .before .before .before .before .before .before .before .before .before .before .before .before .before .before .before .before .before .before .before .before .before .before .before .before .before .before .before .loop .inv .2) _ (subst (λ (j : ℕ). c .before .before .before .before .before .before .before .before .before .before .before .before .before .before .before .before .before .before .before .before .before .before .before .before .before .before .before .loop .at < j) (c .before .before .before .before .before .before .before .before .before .before .before .before .before .before .before .before .before .before .before .before .before .before .before .before .before .before .before .before .before .count .ensures) (c .before .before .before .before .before .before .before .before .before .before .before .before .before .before .before .before .before .before .before .before .before .before .before .before .before .before .loop-test .taken)) _ (c .before .before .before .before .before .before .before .before .before .before .take .ensures .0) _ (c .before .before .search-in .ensures .0 .tells) (sym (c .before .is-refuted .ensures) ∙ not-true _ (c .if3 .taken))), c .before .before .search-in .ensures .1))
+    let q = said (a .layout) (a .query .now) in
+    let s = pathAs (a .single) (a .rep .now) (a .link .now) (a .reach .now) (a .link2 .now) (a .reach2 .now) (a .link3 .now) (a .reach3 .now) in
+    let r = c .before .before .before .before .before .before .before .before .before .before .before .before .before .before .before .before .before .before .before .before .before .before .before .before .before .before .before .before .before .before .before .before .before .before .sees .last in
+    let t = pathAs (a .single) (a .rep .now) (a .link .now) (r .1 .1 .1 .1 .1 .1 .0) (a .link2 .now) (r .1 .1 .1 .1 .1 .1 .1 .1 .0) (a .link3 .now) (r .1 .1 .1 .1 .1 .1 .1 .1 .1 .1 .0) in
+    let m = c .before .before .before .before .before .before .before .before .before .before .before .before .before .before .before .before .before .before .before .before .before .before .before .before .before .before .before .before .before .before .before .before .k .given .0 in
+    let v = seen-as q t (c .before .before .before .before .before .before .before .before .before .before .before .before .before .before .before .before .before .before .before .before .before .before .before .before .before .before .before .before .before .before .before .before .before .before .sees .result) (seen.Applying (m .0) (m .1 .0) (m .1 .1 .0) (m .1 .1 .1 .0) (m .1 .1 .1 .1 .0)) (c .before .before .before .before .before .before .before .before .before .before .before .before .before .before .before .before .before .before .before .before .before .before .before .before .before .before .before .before .before .before .before .before .before .before .sees .ensures .1) (c .before .before .before .before .before .before .before .before .before .before .before .before .before .before .before .before .before .before .before .before .before .before .before .before .before .before .before .before .before .before .before .before .k .given .1) in
+    let o = c .before .before .before .before .before .before .before .before .before .before .before .before .before .before .before .before .before .before .before .before .before .before .before .before .before .before .before .loop in
+    let here = subst (λ (j : ℕ). o .at < j) (c .before .before .before .before .before .before .before .before .before .before .before .before .before .before .before .before .before .before .before .before .before .before .before .before .before .before .before .before .before .count .ensures) (c .before .before .before .before .before .before .before .before .before .before .before .before .before .before .before .before .before .before .before .before .before .before .before .before .before .before .loop-test .taken) in
+    let e = c .before .before .before .before .before .before .before .before .before .before .take .last in
+    let u = pathAs (a .single) (e .1 .0) (e .1 .1 .0) (e .1 .1 .1 .0) (e .1 .1 .1 .1 .0) (e .1 .1 .1 .1 .1 .0) (e .1 .1 .1 .1 .1 .1 .0) (e .1 .1 .1 .1 .1 .1 .1 .0) in
+    let f = c .before .before .search-in .last in
+    let w = pathAs (a .single) (f .1 .1 .1 .1 .1 .0) (f .1 .1 .1 .1 .1 .1 .0) (f .1 .1 .1 .1 .1 .1 .1 .0) (f .1 .1 .1 .1 .1 .1 .1 .1 .0) (f .1 .1 .1 .1 .1 .1 .1 .1 .1 .0) (f .1 .1 .1 .1 .1 .1 .1 .1 .1 .1 .0) (f .1 .1 .1 .1 .1 .1 .1 .1 .1 .1 .1 .0) in
+    (ends-as q s w u (c .before .before .search-in .result .kind) (c .before .before .search-in .ensures .0) (tells-branch {q = q} (p .1) s t (p .2) (a .layout .terms) (sym (terms-said (a .layout) (a .query .now) (p .0))) (c .before .before .before .before .before .before .before .before .before .before .before .before .before .before .before .before .before .before .before .before .before .before .before .before .before .before .before .before .before .before .before .before .before .before .sees .ensures .0) (m .0 .0) (kindOf (m .1 .0)) (m .1 .1 .0 .0) (m .1 .1 .1 .0 .0) (m .1 .1 .1 .1 .0 .0) (v .0) (pathAs (a .single) (o .rep) (o .link) (o .reach) (o .link2) (o .reach2) (o .link3) (o .reach3)) (o .inv .2) (o .at) here u (c .before .before .before .before .before .before .before .before .before .before .take .ensures .0) (c .before .before .search-in .result .kind) (c .before .before .search-in .ensures .0 .tells) (sym (c .before .is-refuted .ensures) ∙ not-true _ (c .if3 .taken))), c .before .before .search-in .ensures .1))
     -- add-at
-    (λ c. let b = c .before .before .before .before .before .before .before .before .before .before .before .before .before .before .before .before .before .before .before .before .before .before .before .before .before .before .loop-test .taken in let a = seen-as _ _ _ _ (c .before .before .before .before .before .before .before .before .before .before .before .before .before .before .before .before .before .before .before .before .before .before .before .before .before .before .before .before .before .before .before .before .before .before .sees .ensures .1) (c .before .before .before .before .before .before .before .before .before .before .before .before .before .before .before .before .before .before .before .before .before .before .before .before .before .before .before .before .before .before .before .before .k .given .1) in omega (arith, b, c .before .before .before .before .before .before .before .before .before .before .before .before .before .before .before .before .before .before .before .before .before .before .before .before .before .before .before .before .before .count .ensures, count-few (kindOf (c .before .before .before .before .before .before .before .before .before .before .before .before .before .before .before .before .before .before .before .before .before .before .before .before .before .before .before .before .before .before .before .before .k .given .0 .1 .0)) (c .before .before .before .before .before .before .before .before .before .before .before .before .before .before .before .before .before .before .before .before .before .before .before .before .before .before .before .before .before .before .before .before .k .given .0 .1 .1 .1 .1 .0 .0) (a .3)))
+    (λ c.
+    let a = c .before .before .before .before .before .before .before .before .before .before .before .before .before .before .before .before .before .before .before .before .before .before .before .before .before .before .before .before .before .before .before .before .before .before .before .before .before .before .before .before .before .before .before .args in
+    let p = c .before .before .before .before .before .before .before .before .before .before .before .before .before .before .before .before .before .before .before .before .before .before .before .before .before .before .before .before .before .before .before .before .before .before .before .before .before .before .before .before .before .before .before .pre .1 in
+    let q = said (a .layout) (a .query .now) in
+    let s = pathAs (a .single) (a .rep .now) (a .link .now) (a .reach .now) (a .link2 .now) (a .reach2 .now) (a .link3 .now) (a .reach3 .now) in
+    let r = c .before .before .before .before .before .before .before .before .before .before .before .before .before .before .before .before .before .before .before .before .before .before .before .before .before .before .before .before .before .before .before .before .before .before .sees .last in
+    let t = pathAs (a .single) (a .rep .now) (a .link .now) (r .1 .1 .1 .1 .1 .1 .0) (a .link2 .now) (r .1 .1 .1 .1 .1 .1 .1 .1 .0) (a .link3 .now) (r .1 .1 .1 .1 .1 .1 .1 .1 .1 .1 .0) in
+    let m = c .before .before .before .before .before .before .before .before .before .before .before .before .before .before .before .before .before .before .before .before .before .before .before .before .before .before .before .before .before .before .before .before .k .given .0 in
+    let v = seen-as q t (c .before .before .before .before .before .before .before .before .before .before .before .before .before .before .before .before .before .before .before .before .before .before .before .before .before .before .before .before .before .before .before .before .before .before .sees .result) (seen.Applying (m .0) (m .1 .0) (m .1 .1 .0) (m .1 .1 .1 .0) (m .1 .1 .1 .1 .0)) (c .before .before .before .before .before .before .before .before .before .before .before .before .before .before .before .before .before .before .before .before .before .before .before .before .before .before .before .before .before .before .before .before .before .before .sees .ensures .1) (c .before .before .before .before .before .before .before .before .before .before .before .before .before .before .before .before .before .before .before .before .before .before .before .before .before .before .before .before .before .before .before .before .k .given .1) in
+    let b = c .before .before .before .before .before .before .before .before .before .before .before .before .before .before .before .before .before .before .before .before .before .before .before .before .before .before .loop-test .taken in
+    omega (arith, b, c .before .before .before .before .before .before .before .before .before .before .before .before .before .before .before .before .before .before .before .before .before .before .before .before .before .before .before .before .before .count .ensures, count-few (kindOf (m .1 .0)) (m .1 .1 .1 .1 .0 .0) (v .3)))
     -- loop-less
     (λ c. let b = c .before .before .before .before .before .before .before .before .before .before .before .before .before .before .before .before .before .before .before .before .before .before .before .before .before .before .loop-test .taken in omega arith)
     -- loop-again
     (λ c.
+    let a = c .before .before .before .before .before .before .before .before .before .before .before .before .before .before .before .before .before .before .before .before .before .before .before .before .before .before .before .before .before .before .before .before .before .before .before .before .before .before .before .before .before .before .before .args in
     let p = c .before .before .before .before .before .before .before .before .before .before .before .before .before .before .before .before .before .before .before .before .before .before .before .before .before .before .before .before .before .before .before .before .before .before .before .before .before .before .before .before .before .before .before .pre .1 in
-    let a = seen-as _ _ _ _ (c .before .before .before .before .before .before .before .before .before .before .before .before .before .before .before .before .before .before .before .before .before .before .before .before .before .before .before .before .before .before .before .before .before .before .sees .ensures .1) (c .before .before .before .before .before .before .before .before .before .before .before .before .before .before .before .before .before .before .before .before .before .before .before .before .before .before .before .before .before .before .before .before .k .given .1) in
+    let q = said (a .layout) (a .query .now) in
+    let s = pathAs (a .single) (a .rep .now) (a .link .now) (a .reach .now) (a .link2 .now) (a .reach2 .now) (a .link3 .now) (a .reach3 .now) in
+    let r = c .before .before .before .before .before .before .before .before .before .before .before .before .before .before .before .before .before .before .before .before .before .before .before .before .before .before .before .before .before .before .before .before .before .before .sees .last in
+    let t = pathAs (a .single) (a .rep .now) (a .link .now) (r .1 .1 .1 .1 .1 .1 .0) (a .link2 .now) (r .1 .1 .1 .1 .1 .1 .1 .1 .0) (a .link3 .now) (r .1 .1 .1 .1 .1 .1 .1 .1 .1 .1 .0) in
+    let m = c .before .before .before .before .before .before .before .before .before .before .before .before .before .before .before .before .before .before .before .before .before .before .before .before .before .before .before .before .before .before .before .before .k .given .0 in
+    let v = seen-as q t (c .before .before .before .before .before .before .before .before .before .before .before .before .before .before .before .before .before .before .before .before .before .before .before .before .before .before .before .before .before .before .before .before .before .before .sees .result) (seen.Applying (m .0) (m .1 .0) (m .1 .1 .0) (m .1 .1 .1 .0) (m .1 .1 .1 .1 .0)) (c .before .before .before .before .before .before .before .before .before .before .before .before .before .before .before .before .before .before .before .before .before .before .before .before .before .before .before .before .before .before .before .before .before .before .sees .ensures .1) (c .before .before .before .before .before .before .before .before .before .before .before .before .before .before .before .before .before .before .before .before .before .before .before .before .before .before .before .before .before .before .before .before .k .given .1) in
+    let o = c .before .before .before .before .before .before .before .before .before .before .before .before .before .before .before .before .before .before .before .before .before .before .before .before .before .before .before .loop in
+    let here = subst (λ (j : ℕ). o .at < j) (c .before .before .before .before .before .before .before .before .before .before .before .before .before .before .before .before .before .before .before .before .before .before .before .before .before .before .before .before .before .count .ensures) (c .before .before .before .before .before .before .before .before .before .before .before .before .before .before .before .before .before .before .before .before .before .before .before .before .before .before .loop-test .taken) in
+    let e = c .before .before .before .before .before .before .before .before .before .before .take .last in
+    let u = pathAs (a .single) (e .1 .0) (e .1 .1 .0) (e .1 .1 .1 .0) (e .1 .1 .1 .1 .0) (e .1 .1 .1 .1 .1 .0) (e .1 .1 .1 .1 .1 .1 .0) (e .1 .1 .1 .1 .1 .1 .1 .0) in
     let b = c .before .before .before .before .before .before .before .before .before .before .before .before .before .before .before .before .before .before .before .before .before .before .before .before .before .before .loop-test .taken in
-    (omega arith, struck-more (p .1) _ _ (p .2) _ (sym (terms-said _ _ (p .0))) (c .before .before .before .before .before .before .before .before .before .before .before .before .before .before .before .before .before .before .before .before .before .before .before .before .before .before .before .before .before .before .before .before .before .before .sees .ensures .0) _ _ _ _ _ (a .0) _ (c .before .before .before .before .before .before .before .before .before .before .before .before .before .before .before .before .before .before .before .before .before .before .before .before .before .before .before .loop .inv .2) _ (subst (λ (j : ℕ). c .before .before .before .before .before .before .before .before .before .before .before .before .before .before .before .before .before .before .before .before .before .before .before .before .before .before .before .loop .at < j) (c .before .before .before .before .before .before .before .before .before .before .before .before .before .before .before .before .before .before .before .before .before .before .before .before .before .before .before .before .before .count .ensures) (c .before .before .before .before .before .before .before .before .before .before .before .before .before .before .before .before .before .before .before .before .before .before .before .before .before .before .loop-test .taken)) _ (c .before .before .before .before .before .before .before .before .before .before .take .ensures .0) (c .before .before .before .before .before .before .before .before .before .before .before .before .before .before .before .before .before .before .before .before .before .before .before .before .before .before .before .loop .inv .1) _ (c .before .before .search-in .ensures .0 .tells) (sym (c .before .is-refuted .ensures) ∙ not-false _ (c .if3 .left)), c .before .before .before .before .before .before .before .before .before .before .before .before .before .before .before .before .before .before .before .before .before .before .before .before .before .before .before .loop .inv .2, c .before .before .before .before .before .before .before .before .before .before .before .before .before .before .before .before .before .before .before .before .before .before .before .before .before .before .before .loop .inv .3))
+    (omega arith, struck-more {q = q} (p .1) s t (p .2) (a .layout .terms) (sym (terms-said (a .layout) (a .query .now) (p .0))) (c .before .before .before .before .before .before .before .before .before .before .before .before .before .before .before .before .before .before .before .before .before .before .before .before .before .before .before .before .before .before .before .before .before .before .sees .ensures .0) (m .0 .0) (kindOf (m .1 .0)) (m .1 .1 .0 .0) (m .1 .1 .1 .0 .0) (m .1 .1 .1 .1 .0 .0) (v .0) (pathAs (a .single) (o .rep) (o .link) (o .reach) (o .link2) (o .reach2) (o .link3) (o .reach3)) (o .inv .2) (o .at) here u (c .before .before .before .before .before .before .before .before .before .before .take .ensures .0) (o .inv .1) (c .before .before .search-in .result .kind) (c .before .before .search-in .ensures .0 .tells) (sym (c .before .is-refuted .ensures) ∙ not-false _ (c .if3 .left)), o .inv .2, o .inv .3))
     -- returns-6
     (λ c.
+    let a = c .before .before .before .before .before .before .before .before .before .before .before .before .before .before .before .before .before .args in
     let p = c .before .before .before .before .before .before .before .before .before .before .before .before .before .before .before .before .before .pre .1 in
-    let a = seen-as _ _ _ _ (c .before .before .before .before .before .before .before .before .sees .ensures .1) (c .before .before .before .before .before .before .k .given .1) in
-    (ends-refuted _ _ _ (tells-struck (p .1) _ _ (p .2) _ (sym (terms-said _ _ (p .0))) (c .before .before .before .before .before .before .before .before .sees .ensures .0) _ _ _ _ _ (a .0) _ (c .before .loop .inv .1) (subst (λ (j : ℕ). j ≤ c .before .loop .at) (c .before .before .before .count .ensures) (c .loop-test .left))), c .before .loop .inv .3))
+    let q = said (a .layout) (a .query .now) in
+    let s = pathAs (a .single) (a .rep .now) (a .link .now) (a .reach .now) (a .link2 .now) (a .reach2 .now) (a .link3 .now) (a .reach3 .now) in
+    let r = c .before .before .before .before .before .before .before .before .sees .last in
+    let t = pathAs (a .single) (a .rep .now) (a .link .now) (r .1 .1 .1 .1 .1 .1 .0) (a .link2 .now) (r .1 .1 .1 .1 .1 .1 .1 .1 .0) (a .link3 .now) (r .1 .1 .1 .1 .1 .1 .1 .1 .1 .1 .0) in
+    let m = c .before .before .before .before .before .before .k .given .0 in
+    let v = seen-as q t (c .before .before .before .before .before .before .before .before .sees .result) (seen.Applying (m .0) (m .1 .0) (m .1 .1 .0) (m .1 .1 .1 .0) (m .1 .1 .1 .1 .0)) (c .before .before .before .before .before .before .before .before .sees .ensures .1) (c .before .before .before .before .before .before .k .given .1) in
+    let o = c .before .loop in
+    (ends-refuted q s (pathAs (a .single) (o .rep) (o .link) (o .reach) (o .link2) (o .reach2) (o .link3) (o .reach3)) (tells-struck {q = q} (p .1) s t (p .2) (a .layout .terms) (sym (terms-said (a .layout) (a .query .now) (p .0))) (c .before .before .before .before .before .before .before .before .sees .ensures .0) (m .0 .0) (kindOf (m .1 .0)) (m .1 .1 .0 .0) (m .1 .1 .1 .0 .0) (m .1 .1 .1 .1 .0 .0) (v .0) (o .at) (o .inv .1) (subst (λ (j : ℕ). j ≤ o .at) (c .before .before .before .count .ensures) (c .loop-test .left))), o .inv .3))

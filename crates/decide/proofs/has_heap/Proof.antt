@@ -1,7 +1,7 @@
 -- What the strategies find out, or else plain steps without a limit. Assumes nothing.
 use borrow.Author.Needs.{needs}
 use Rattle.theory.proofs.Calls.Decision.{reachable-known}
-use Rattle.decide.proofs.Ended.{decides-open, decides-refuted, decides-walked}
+use Rattle.decide.proofs.Decision.{decides-open, decides-refuted, decides-walked}
 use Rattle.decide.proofs.has_heap.Statement.{statement}
 use Rattle.decide.proofs.has_heap.Tie as tie
 

@@ -3,7 +3,7 @@ use borrow.Author.Needs.{needs}
 use mathlib.Core.Path.{ap}
 use Rattle.facts.specs.Path.{graphOf}
 use Rattle.rules.specs.Answers.{kindOf}
-use Rattle.fitting.proofs.Laws.{reflex-passes, trans1-passes, trans2-passes, func-passes, scc-passes, total-passes, share-passes, cycle-looped}
+use Rattle.fitting.proofs.Laws.{reflex-passes, trans1-passes, trans2-passes, func-passes, scc-passes, total-passes, share-passes, cycle-excluded}
 use Rattle.fitting.proofs.is_allowed.Statement.{statement}
 use Rattle.fitting.proofs.is_allowed.Tie as tie
 
@@ -79,7 +79,7 @@ is-allowed-spec =
     -- returns-4
     (λ c lives e l. func-passes lives (graphOf (c .before .before .before .before .before .args .link .now) (c .before .before .before .before .before .args .reach .now)) _ _ _ _ _ _ _ (ap kindOf (c .before .before .before .enum-told4 .given .1)) (c .before .before .is-held7 .ensures) (c .before .is-held8 .ensures) (c .is-held9 .ensures))
     -- returns-5
-    (λ c lives e l. absurd (cycle-looped _ (ap kindOf (c .enum-told5 .given .1)) l))
+    (λ c lives e l. absurd (cycle-excluded _ (ap kindOf (c .enum-told5 .given .1)) l))
     -- returns-6
     (λ c lives e l. scc-passes lives (graphOf (c .before .before .before .before .before .before .args .link .now) (c .before .before .before .before .before .before .args .reach .now)) _ _ _ _ _ _ _ _ (ap kindOf (c .before .before .before .before .enum-told6 .given .1)) (c .before .before .before .is-held10 .ensures) (c .before .before .is-held11 .ensures) (c .before .is-held12 .ensures) (c .is-held13 .ensures))
     -- returns-7

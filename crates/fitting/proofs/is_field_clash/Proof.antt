@@ -8,7 +8,7 @@ use Rattle.logic.specs.Search.{_and_}
 use Rattle.query.specs.LaysOut.{literalIn}
 use Rattle.query.proofs.Literals.{literals-are}
 use Rattle.facts.specs.Path.{repOf}
-use Rattle.clash.specs.Sections.{sameField}
+use Rattle.literal_tests.specs.Tests.{sameField}
 use Rattle.fitting.proofs.Clashes.{negated-none, negated-past, pair-plain, pair-none, pair-past, pair-here}
 use Rattle.fitting.proofs.is_field_clash.Statement.{statement}
 use Rattle.fitting.proofs.is_field_clash.Tie as tie

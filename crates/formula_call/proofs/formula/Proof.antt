@@ -4,8 +4,8 @@ use borrow.Author.Needs.{needs}
 use borrow.Author.Tests.{not-true, not-false}
 use mathlib.Core.Path.{sym, _∙_, subst}
 use lib.ListN.{length}
-use Rattle.query.specs.Answers.{CheckedAs}
-use Rattle.query.specs.declared.Checked.{Checked}
+use Rattle.query_checks.specs.Answers.{CheckedAs}
+use Rattle.query_checks.specs.declared.Checked.{Checked}
 use Rattle.prover.proofs.Answers.{blank-again, blank-long}
 use Rattle.formula_call.proofs.FormulaLaws.{formula-order, formula-query, formula-room, formula-text, text-room}
 use Rattle.formula_call.proofs.formula.Statement.{statement}

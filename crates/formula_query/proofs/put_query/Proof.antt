@@ -1,5 +1,4 @@
 -- Terms, and the literals that are marked of each section.  Assumes nothing.
-use Prim.Native.Nat.{_-_}
 use native.Mathlib.Omega.{arith}
 use mathlib.Core.Path.{_∙_}
 use lib.ListN.{drop}

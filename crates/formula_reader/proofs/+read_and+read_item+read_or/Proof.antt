@@ -10,9 +10,10 @@ use Rattle.formula.specs.Reader.{mark}
 use Rattle.formula_reader.specs.Answers.{Ranged, ReadAs, StartsAs}
 use Rattle.formula_reader.specs.declared.Found.{Found}
 use Rattle.formula_reader.specs.declared.Start.{Start}
-use Rattle.formula_reader.proofs.Readers.{stands-inside, first-refused, alone, second-refused, both-read, or-step, or-fewer, or-later, or-some, and-step, and-fewer, and-later, and-some, last-fits, grown-joined, either-joined, both-joined, item-end, item-nothing, item-name, item-deep, inner-refused, inner-closed, grown-closed, inside, positive, code-small, ranged-from}
+use Rattle.formula_reader.proofs.Readers.{stands-inside, first-refused, alone, second-refused, both-read, or-step, or-later, and-step, and-later, last-fits, grown-joined, either-joined, both-joined, item-end, item-nothing, item-name, item-deep, inner-refused, inner-closed, grown-closed, inside, positive, code-small, ranged-from}
 use borrow.Fn.Kinds.{In}
 use borrow.Fn.PlainCycle.{Measures, is, falls, and}
+use Rattle.formula.proofs.Complete.{or-fewer, and-fewer, some-or, some-and}
 use Rattle.formula_reader.proofs.read_and.Reads as read-and
 use Rattle.formula_reader.proofs.read_and.Kinds as read-and-kinds
 use Rattle.formula_reader.proofs.+read_and+read_item+read_or.Lts-read_and as read-and-lts
@@ -85,7 +86,7 @@ pub +read-and+read-item+read-or-spec : {M : Type 1} → statement M
     -- read-and-stands-requires
     (λ c κs. search needs)
     -- read-and-returns
-    (λ c. (subst (λ (r : Found). Ranged r (c .before .before .before .before .before .before .before .before .args .text .now) (c .before .before .before .before .before .before .before .before .args .at) (c .before .before .before .before .before .before .before .before .args .used) (c .before .before .before .before .before .before .before .before .args .nodes .now) (c .before .before .before .before .before .read-item .last .1 .1 .1 .1 .0)) (c .before .before .before .next .given .1) (c .before .before .before .before .before .read-item .ensures .0), alone (c .before .before .before .before .before .before .before .before .args .counts .now) (c .before .before .before .before .before .before .before .before .args .left) 38 both item conjunction (and-step (c .before .before .before .before .before .before .before .before .args .counts .now) (c .before .before .before .before .before .before .before .before .args .left)) and-fewer and-later and-some (c .before .before .before .before .before .before .before .before .args .text .now) (c .before .before .before .before .before .before .before .before .args .at) (c .before .before .before .next .given .0 .0) (c .before .before .before .next .given .0 .1 .0) (c .before .before .before .before .before .read-item .last .1 .1 .1 .1 .0) (subst (λ (r : Found). ReadAs r item (c .before .before .before .before .before .before .before .before .args .text .now) (c .before .before .before .before .before .before .before .before .args .at) (c .before .before .before .before .before .before .before .before .args .left) (c .before .before .before .before .before .before .before .before .args .counts .now) (c .before .before .before .before .before .read-item .last .1 .1 .1 .1 .0)) (c .before .before .before .next .given .1) (c .before .before .before .before .before .read-item .ensures .1)) (sym (c .before .stands .ensures) ∙ not-true _ (c .if1 .taken))))
+    (λ c. (subst (λ (r : Found). Ranged r (c .before .before .before .before .before .before .before .before .args .text .now) (c .before .before .before .before .before .before .before .before .args .at) (c .before .before .before .before .before .before .before .before .args .used) (c .before .before .before .before .before .before .before .before .args .nodes .now) (c .before .before .before .before .before .read-item .last .1 .1 .1 .1 .0)) (c .before .before .before .next .given .1) (c .before .before .before .before .before .read-item .ensures .0), alone (c .before .before .before .before .before .before .before .before .args .counts .now) (c .before .before .before .before .before .before .before .before .args .left) 38 both item conjunction (and-step (c .before .before .before .before .before .before .before .before .args .counts .now) (c .before .before .before .before .before .before .before .before .args .left)) and-fewer and-later some-and (c .before .before .before .before .before .before .before .before .args .text .now) (c .before .before .before .before .before .before .before .before .args .at) (c .before .before .before .next .given .0 .0) (c .before .before .before .next .given .0 .1 .0) (c .before .before .before .before .before .read-item .last .1 .1 .1 .1 .0) (subst (λ (r : Found). ReadAs r item (c .before .before .before .before .before .before .before .before .args .text .now) (c .before .before .before .before .before .before .before .before .args .at) (c .before .before .before .before .before .before .before .before .args .left) (c .before .before .before .before .before .before .before .before .args .counts .now) (c .before .before .before .before .before .read-item .last .1 .1 .1 .1 .0)) (c .before .before .before .next .given .1) (c .before .before .before .before .before .read-item .ensures .1)) (sym (c .before .stands .ensures) ∙ not-true _ (c .if1 .taken))))
     -- read-and-add-read-and
     (λ c. let i = stands-inside (c .before .before .before .before .before .before .before .before .args .text .now) (c .before .before .before .next .given .0 .0) 38 (sym (c .before .stands .ensures) ∙ not-false _ (c .if1 .left)) in omega arith)
     -- read-and-read-and-requires
@@ -114,14 +115,14 @@ pub +read-and+read-item+read-or-spec : {M : Type 1} → statement M
     let l = last-fits (c .before .before .before .before .before .before .before .before .before .before .before .before .before .before .before .args .text .now) (c .before .before .before .before .before .before .before .before .before .before .before .before .before .before .before .args .at) (c .before .before .before .before .before .before .before .before .before .before .before .before .before .before .before .args .used) (c .before .before .before .before .before .before .before .before .before .before .next .given .0 .0) (c .before .before .before .before .before .before .before .before .before .before .next .given .0 .1 .0) (c .before .before .before .end .given .0 .0) (c .before .before .before .end .given .0 .1 .0) (c .before .before .before .before .before .before .before .before .before .before .before .before .before .before .before .args .nodes .now) (c .before .before .before .before .before .before .before .before .before .before .before .before .read-item .last .1 .1 .1 .1 .0) (c .before .before .before .before .before .read-and .last .1 .1 .1 .1 .0) (c .before .before .before .before .before .read-and .last .1 .1 .1 .1 .0) g h (c .before .before .before .before .before .before .before .before .before .before .before .before .before .before .before .pre .1 .2) (c .before .before .before .before .before .before .before .before .before .before .before .before .before .before .before .pre .1 .1) (c .before .before .before .before .before .before .before .before .before .before .before .before .before .before .before .pre .1 .4) in
     omega arith)
     -- read-and-returns-2
-    (λ c. (subst (λ (r : Found). Ranged r (c .before .before .before .before .before .before .args .text .now) (c .before .before .before .before .before .before .args .at) (c .before .before .before .before .before .before .args .used) (c .before .before .before .before .before .before .args .nodes .now) (c .before .before .before .read-item .last .1 .1 .1 .1 .0)) (c .before .k .given .1) (c .before .before .before .read-item .ensures .0), first-refused (c .before .before .before .before .before .before .args .counts .now) (c .before .before .before .before .before .before .args .left) 38 both item conjunction (and-step (c .before .before .before .before .before .before .args .counts .now) (c .before .before .before .before .before .before .args .left)) and-fewer and-later and-some (c .before .before .before .before .before .before .args .text .now) (c .before .before .before .before .before .before .args .at) (c .before .k .given .0 .0) (c .before .k .given .0 .1 .0) (c .before .before .before .read-item .last .1 .1 .1 .1 .0) (subst (λ (r : Found). ReadAs r item (c .before .before .before .before .before .before .args .text .now) (c .before .before .before .before .before .before .args .at) (c .before .before .before .before .before .before .args .left) (c .before .before .before .before .before .before .args .counts .now) (c .before .before .before .read-item .last .1 .1 .1 .1 .0)) (c .before .k .given .1) (c .before .before .before .read-item .ensures .1))))
+    (λ c. (subst (λ (r : Found). Ranged r (c .before .before .before .before .before .before .args .text .now) (c .before .before .before .before .before .before .args .at) (c .before .before .before .before .before .before .args .used) (c .before .before .before .before .before .before .args .nodes .now) (c .before .before .before .read-item .last .1 .1 .1 .1 .0)) (c .before .k .given .1) (c .before .before .before .read-item .ensures .0), first-refused (c .before .before .before .before .before .before .args .counts .now) (c .before .before .before .before .before .before .args .left) 38 both item conjunction (and-step (c .before .before .before .before .before .before .args .counts .now) (c .before .before .before .before .before .before .args .left)) and-fewer and-later some-and (c .before .before .before .before .before .before .args .text .now) (c .before .before .before .before .before .before .args .at) (c .before .k .given .0 .0) (c .before .k .given .0 .1 .0) (c .before .before .before .read-item .last .1 .1 .1 .1 .0) (subst (λ (r : Found). ReadAs r item (c .before .before .before .before .before .before .args .text .now) (c .before .before .before .before .before .before .args .at) (c .before .before .before .before .before .before .args .left) (c .before .before .before .before .before .before .args .counts .now) (c .before .before .before .read-item .last .1 .1 .1 .1 .0)) (c .before .k .given .1) (c .before .before .before .read-item .ensures .1))))
     -- read-and-returns-3
-    (λ c. (subst (λ (r : Found). Ranged r (c .before .before .before .before .before .before .before .before .before .before .before .before .before .args .text .now) ((c .before .before .before .before .before .before .before .before .next .given .0 .0) + 1) (c .before .before .before .before .before .before .before .before .next .given .0 .1 .0) (c .before .before .before .before .before .before .before .before .before .before .read-item .last .1 .1 .1 .1 .0) (c .before .before .before .read-and .last .1 .1 .1 .1 .0)) (c .before .k2 .given .1) (c .before .before .before .read-and .ensures .0), second-refused (c .before .before .before .before .before .before .before .before .before .before .before .before .before .args .counts .now) (c .before .before .before .before .before .before .before .before .before .before .before .before .before .args .left) 38 both item conjunction (and-step (c .before .before .before .before .before .before .before .before .before .before .before .before .before .args .counts .now) (c .before .before .before .before .before .before .before .before .before .before .before .before .before .args .left)) and-fewer and-later and-some (c .before .before .before .before .before .before .before .before .before .before .before .before .before .args .text .now) (c .before .before .before .before .before .before .before .before .before .before .before .before .before .args .at) (c .before .before .before .before .before .before .before .before .next .given .0 .0) (c .before .before .before .before .before .before .before .before .next .given .0 .1 .0) (c .before .before .before .before .before .before .before .before .before .before .read-item .last .1 .1 .1 .1 .0) (subst (λ (r : Found). ReadAs r item (c .before .before .before .before .before .before .before .before .before .before .before .before .before .args .text .now) (c .before .before .before .before .before .before .before .before .before .before .before .before .before .args .at) (c .before .before .before .before .before .before .before .before .before .before .before .before .before .args .left) (c .before .before .before .before .before .before .before .before .before .before .before .before .before .args .counts .now) (c .before .before .before .before .before .before .before .before .before .before .read-item .last .1 .1 .1 .1 .0)) (c .before .before .before .before .before .before .before .before .next .given .1) (c .before .before .before .before .before .before .before .before .before .before .read-item .ensures .1)) (sym (c .before .before .before .before .before .before .stands .ensures) ∙ not-false _ (c .before .before .before .before .before .if1 .left)) ((subst (λ (r : Found). Ranged r (c .before .before .before .before .before .before .before .before .before .before .before .before .before .args .text .now) (c .before .before .before .before .before .before .before .before .before .before .before .before .before .args .at) (c .before .before .before .before .before .before .before .before .before .before .before .before .before .args .used) (c .before .before .before .before .before .before .before .before .before .before .before .before .before .args .nodes .now) (c .before .before .before .before .before .before .before .before .before .before .read-item .last .1 .1 .1 .1 .0)) (c .before .before .before .before .before .before .before .before .next .given .1) (c .before .before .before .before .before .before .before .before .before .before .read-item .ensures .0)) .advanced) (c .before .k2 .given .0 .0) (c .before .k2 .given .0 .1 .0) (c .before .before .before .read-and .last .1 .1 .1 .1 .0) (subst (λ (r : Found). ReadAs r conjunction (c .before .before .before .before .before .before .before .before .before .before .before .before .before .args .text .now) ((c .before .before .before .before .before .before .before .before .next .given .0 .0) + 1) (c .before .before .before .before .before .before .before .before .before .before .before .before .before .args .left) (c .before .before .before .before .before .before .before .before .before .before .before .before .before .args .counts .now) (c .before .before .before .read-and .last .1 .1 .1 .1 .0)) (c .before .k2 .given .1) (c .before .before .before .read-and .ensures .1))))
+    (λ c. (subst (λ (r : Found). Ranged r (c .before .before .before .before .before .before .before .before .before .before .before .before .before .args .text .now) ((c .before .before .before .before .before .before .before .before .next .given .0 .0) + 1) (c .before .before .before .before .before .before .before .before .next .given .0 .1 .0) (c .before .before .before .before .before .before .before .before .before .before .read-item .last .1 .1 .1 .1 .0) (c .before .before .before .read-and .last .1 .1 .1 .1 .0)) (c .before .k2 .given .1) (c .before .before .before .read-and .ensures .0), second-refused (c .before .before .before .before .before .before .before .before .before .before .before .before .before .args .counts .now) (c .before .before .before .before .before .before .before .before .before .before .before .before .before .args .left) 38 both item conjunction (and-step (c .before .before .before .before .before .before .before .before .before .before .before .before .before .args .counts .now) (c .before .before .before .before .before .before .before .before .before .before .before .before .before .args .left)) and-fewer and-later some-and (c .before .before .before .before .before .before .before .before .before .before .before .before .before .args .text .now) (c .before .before .before .before .before .before .before .before .before .before .before .before .before .args .at) (c .before .before .before .before .before .before .before .before .next .given .0 .0) (c .before .before .before .before .before .before .before .before .next .given .0 .1 .0) (c .before .before .before .before .before .before .before .before .before .before .read-item .last .1 .1 .1 .1 .0) (subst (λ (r : Found). ReadAs r item (c .before .before .before .before .before .before .before .before .before .before .before .before .before .args .text .now) (c .before .before .before .before .before .before .before .before .before .before .before .before .before .args .at) (c .before .before .before .before .before .before .before .before .before .before .before .before .before .args .left) (c .before .before .before .before .before .before .before .before .before .before .before .before .before .args .counts .now) (c .before .before .before .before .before .before .before .before .before .before .read-item .last .1 .1 .1 .1 .0)) (c .before .before .before .before .before .before .before .before .next .given .1) (c .before .before .before .before .before .before .before .before .before .before .read-item .ensures .1)) (sym (c .before .before .before .before .before .before .stands .ensures) ∙ not-false _ (c .before .before .before .before .before .if1 .left)) ((subst (λ (r : Found). Ranged r (c .before .before .before .before .before .before .before .before .before .before .before .before .before .args .text .now) (c .before .before .before .before .before .before .before .before .before .before .before .before .before .args .at) (c .before .before .before .before .before .before .before .before .before .before .before .before .before .args .used) (c .before .before .before .before .before .before .before .before .before .before .before .before .before .args .nodes .now) (c .before .before .before .before .before .before .before .before .before .before .read-item .last .1 .1 .1 .1 .0)) (c .before .before .before .before .before .before .before .before .next .given .1) (c .before .before .before .before .before .before .before .before .before .before .read-item .ensures .0)) .advanced) (c .before .k2 .given .0 .0) (c .before .k2 .given .0 .1 .0) (c .before .before .before .read-and .last .1 .1 .1 .1 .0) (subst (λ (r : Found). ReadAs r conjunction (c .before .before .before .before .before .before .before .before .before .before .before .before .before .args .text .now) ((c .before .before .before .before .before .before .before .before .next .given .0 .0) + 1) (c .before .before .before .before .before .before .before .before .before .before .before .before .before .args .left) (c .before .before .before .before .before .before .before .before .before .before .before .before .before .args .counts .now) (c .before .before .before .read-and .last .1 .1 .1 .1 .0)) (c .before .k2 .given .1) (c .before .before .before .read-and .ensures .1))))
     -- read-and-returns-4
     (λ c.
     let g = subst (λ (r : Found). Ranged r (c .before .before .before .before .before .before .before .before .before .before .before .before .before .before .before .args .text .now) (c .before .before .before .before .before .before .before .before .before .before .before .before .before .before .before .args .at) (c .before .before .before .before .before .before .before .before .before .before .before .before .before .before .before .args .used) (c .before .before .before .before .before .before .before .before .before .before .before .before .before .before .before .args .nodes .now) (c .before .before .before .before .before .before .before .before .before .before .before .before .read-item .last .1 .1 .1 .1 .0)) (c .before .before .before .before .before .before .before .before .before .before .next .given .1) (c .before .before .before .before .before .before .before .before .before .before .before .before .read-item .ensures .0) in
     let h = subst (λ (r : Found). Ranged r (c .before .before .before .before .before .before .before .before .before .before .before .before .before .before .before .args .text .now) ((c .before .before .before .before .before .before .before .before .before .before .next .given .0 .0) + 1) (c .before .before .before .before .before .before .before .before .before .before .next .given .0 .1 .0) (c .before .before .before .before .before .before .before .before .before .before .before .before .read-item .last .1 .1 .1 .1 .0) (c .before .before .before .before .before .read-and .last .1 .1 .1 .1 .0)) (c .before .before .before .end .given .1) (c .before .before .before .before .before .read-and .ensures .0) in
-    (grown-joined (c .before .before .before .before .before .before .before .before .before .before .before .before .before .before .before .args .text .now) (c .before .before .before .before .before .before .before .before .before .before .before .before .before .before .before .args .at) (c .before .before .before .before .before .before .before .before .before .before .before .before .before .before .before .args .used) (c .before .before .before .before .before .before .before .before .before .before .next .given .0 .0) (c .before .before .before .before .before .before .before .before .before .before .next .given .0 .1 .0) (c .before .before .before .end .given .0 .0) (c .before .before .before .end .given .0 .1 .0) (c .before .before .before .before .before .before .before .before .before .before .before .before .before .before .before .args .nodes .now) (c .before .before .before .before .before .before .before .before .before .before .before .before .read-item .last .1 .1 .1 .1 .0) (c .before .before .before .before .before .read-and .last .1 .1 .1 .1 .0) (c .put-both .last .0) g h (c .before .before .before .before .before .before .before .before .before .before .before .before .before .before .before .pre .1 .2) (c .before .before .before .before .before .before .before .before .before .before .before .before .before .before .before .pre .1 .1) (c .before .before .before .before .before .before .before .before .before .before .before .before .before .before .before .pre .1 .4) _ _ _ _ (c .put-both .ensures), both-read (c .before .before .before .before .before .before .before .before .before .before .before .before .before .before .before .args .counts .now) (c .before .before .before .before .before .before .before .before .before .before .before .before .before .before .before .args .left) 38 both item conjunction (and-step (c .before .before .before .before .before .before .before .before .before .before .before .before .before .before .before .args .counts .now) (c .before .before .before .before .before .before .before .before .before .before .before .before .before .before .before .args .left)) and-fewer and-later and-some (c .before .before .before .before .before .before .before .before .before .before .before .before .before .before .before .args .text .now) (c .before .before .before .before .before .before .before .before .before .before .before .before .before .before .before .args .at) (c .before .before .before .before .before .before .before .before .before .before .next .given .0 .0) (c .before .before .before .before .before .before .before .before .before .before .next .given .0 .1 .0) (c .before .before .before .before .before .before .before .before .before .before .before .before .read-item .last .1 .1 .1 .1 .0) (subst (λ (r : Found). ReadAs r item (c .before .before .before .before .before .before .before .before .before .before .before .before .before .before .before .args .text .now) (c .before .before .before .before .before .before .before .before .before .before .before .before .before .before .before .args .at) (c .before .before .before .before .before .before .before .before .before .before .before .before .before .before .before .args .left) (c .before .before .before .before .before .before .before .before .before .before .before .before .before .before .before .args .counts .now) (c .before .before .before .before .before .before .before .before .before .before .before .before .read-item .last .1 .1 .1 .1 .0)) (c .before .before .before .before .before .before .before .before .before .before .next .given .1) (c .before .before .before .before .before .before .before .before .before .before .before .before .read-item .ensures .1)) (sym (c .before .before .before .before .before .before .before .before .stands .ensures) ∙ not-false _ (c .before .before .before .before .before .before .before .if1 .left)) (g .advanced) (c .before .before .before .end .given .0 .0) (c .before .before .before .end .given .0 .1 .0) (c .before .before .before .before .before .read-and .last .1 .1 .1 .1 .0) (c .put-both .last .0) (subst (λ (r : Found). ReadAs r conjunction (c .before .before .before .before .before .before .before .before .before .before .before .before .before .before .before .args .text .now) ((c .before .before .before .before .before .before .before .before .before .before .next .given .0 .0) + 1) (c .before .before .before .before .before .before .before .before .before .before .before .before .before .before .before .args .left) (c .before .before .before .before .before .before .before .before .before .before .before .before .before .before .before .args .counts .now) (c .before .before .before .before .before .read-and .last .1 .1 .1 .1 .0)) (c .before .before .before .end .given .1) (c .before .before .before .before .before .read-and .ensures .1)) (both-joined (c .before .before .before .before .before .before .before .before .before .before .before .before .before .before .before .args .text .now) (c .before .before .before .before .before .before .before .before .before .before .before .before .before .before .before .args .at) (c .before .before .before .before .before .before .before .before .before .before .before .before .before .before .before .args .used) (c .before .before .before .before .before .before .before .before .before .before .next .given .0 .0) (c .before .before .before .before .before .before .before .before .before .before .next .given .0 .1 .0) (c .before .before .before .end .given .0 .0) (c .before .before .before .end .given .0 .1 .0) (c .before .before .before .before .before .before .before .before .before .before .before .before .before .before .before .args .nodes .now) (c .before .before .before .before .before .before .before .before .before .before .before .before .read-item .last .1 .1 .1 .1 .0) (c .before .before .before .before .before .read-and .last .1 .1 .1 .1 .0) (c .put-both .last .0) g h (c .before .before .before .before .before .before .before .before .before .before .before .before .before .before .before .pre .1 .2) (c .before .before .before .before .before .before .before .before .before .before .before .before .before .before .before .pre .1 .1) (c .before .before .before .before .before .before .before .before .before .before .before .before .before .before .before .pre .1 .4) (c .put-both .ensures))))
+    (grown-joined (c .before .before .before .before .before .before .before .before .before .before .before .before .before .before .before .args .text .now) (c .before .before .before .before .before .before .before .before .before .before .before .before .before .before .before .args .at) (c .before .before .before .before .before .before .before .before .before .before .before .before .before .before .before .args .used) (c .before .before .before .before .before .before .before .before .before .before .next .given .0 .0) (c .before .before .before .before .before .before .before .before .before .before .next .given .0 .1 .0) (c .before .before .before .end .given .0 .0) (c .before .before .before .end .given .0 .1 .0) (c .before .before .before .before .before .before .before .before .before .before .before .before .before .before .before .args .nodes .now) (c .before .before .before .before .before .before .before .before .before .before .before .before .read-item .last .1 .1 .1 .1 .0) (c .before .before .before .before .before .read-and .last .1 .1 .1 .1 .0) (c .put-both .last .0) g h (c .before .before .before .before .before .before .before .before .before .before .before .before .before .before .before .pre .1 .2) (c .before .before .before .before .before .before .before .before .before .before .before .before .before .before .before .pre .1 .1) (c .before .before .before .before .before .before .before .before .before .before .before .before .before .before .before .pre .1 .4) _ _ _ _ (c .put-both .ensures), both-read (c .before .before .before .before .before .before .before .before .before .before .before .before .before .before .before .args .counts .now) (c .before .before .before .before .before .before .before .before .before .before .before .before .before .before .before .args .left) 38 both item conjunction (and-step (c .before .before .before .before .before .before .before .before .before .before .before .before .before .before .before .args .counts .now) (c .before .before .before .before .before .before .before .before .before .before .before .before .before .before .before .args .left)) and-fewer and-later some-and (c .before .before .before .before .before .before .before .before .before .before .before .before .before .before .before .args .text .now) (c .before .before .before .before .before .before .before .before .before .before .before .before .before .before .before .args .at) (c .before .before .before .before .before .before .before .before .before .before .next .given .0 .0) (c .before .before .before .before .before .before .before .before .before .before .next .given .0 .1 .0) (c .before .before .before .before .before .before .before .before .before .before .before .before .read-item .last .1 .1 .1 .1 .0) (subst (λ (r : Found). ReadAs r item (c .before .before .before .before .before .before .before .before .before .before .before .before .before .before .before .args .text .now) (c .before .before .before .before .before .before .before .before .before .before .before .before .before .before .before .args .at) (c .before .before .before .before .before .before .before .before .before .before .before .before .before .before .before .args .left) (c .before .before .before .before .before .before .before .before .before .before .before .before .before .before .before .args .counts .now) (c .before .before .before .before .before .before .before .before .before .before .before .before .read-item .last .1 .1 .1 .1 .0)) (c .before .before .before .before .before .before .before .before .before .before .next .given .1) (c .before .before .before .before .before .before .before .before .before .before .before .before .read-item .ensures .1)) (sym (c .before .before .before .before .before .before .before .before .stands .ensures) ∙ not-false _ (c .before .before .before .before .before .before .before .if1 .left)) (g .advanced) (c .before .before .before .end .given .0 .0) (c .before .before .before .end .given .0 .1 .0) (c .before .before .before .before .before .read-and .last .1 .1 .1 .1 .0) (c .put-both .last .0) (subst (λ (r : Found). ReadAs r conjunction (c .before .before .before .before .before .before .before .before .before .before .before .before .before .before .before .args .text .now) ((c .before .before .before .before .before .before .before .before .before .before .next .given .0 .0) + 1) (c .before .before .before .before .before .before .before .before .before .before .before .before .before .before .before .args .left) (c .before .before .before .before .before .before .before .before .before .before .before .before .before .before .before .args .counts .now) (c .before .before .before .before .before .read-and .last .1 .1 .1 .1 .0)) (c .before .before .before .end .given .1) (c .before .before .before .before .before .read-and .ensures .1)) (both-joined (c .before .before .before .before .before .before .before .before .before .before .before .before .before .before .before .args .text .now) (c .before .before .before .before .before .before .before .before .before .before .before .before .before .before .before .args .at) (c .before .before .before .before .before .before .before .before .before .before .before .before .before .before .before .args .used) (c .before .before .before .before .before .before .before .before .before .before .next .given .0 .0) (c .before .before .before .before .before .before .before .before .before .before .next .given .0 .1 .0) (c .before .before .before .end .given .0 .0) (c .before .before .before .end .given .0 .1 .0) (c .before .before .before .before .before .before .before .before .before .before .before .before .before .before .before .args .nodes .now) (c .before .before .before .before .before .before .before .before .before .before .before .before .read-item .last .1 .1 .1 .1 .0) (c .before .before .before .before .before .read-and .last .1 .1 .1 .1 .0) (c .put-both .last .0) g h (c .before .before .before .before .before .before .before .before .before .before .before .before .before .before .before .pre .1 .2) (c .before .before .before .before .before .before .before .before .before .before .before .before .before .before .before .pre .1 .1) (c .before .before .before .before .before .before .before .before .before .before .before .before .before .before .before .pre .1 .4) (c .put-both .ensures))))
     )
     (λ t. read-item-lts.spec (
       past-blanks-reads.Asked,
@@ -199,7 +200,7 @@ pub +read-and+read-item+read-or-spec : {M : Type 1} → statement M
     -- read-or-stands-requires
     (λ c κs. search needs)
     -- read-or-returns
-    (λ c. (subst (λ (r : Found). Ranged r (c .before .before .before .before .before .before .before .before .args .text .now) (c .before .before .before .before .before .before .before .before .args .at) (c .before .before .before .before .before .before .before .before .args .used) (c .before .before .before .before .before .before .before .before .args .nodes .now) (c .before .before .before .before .before .read-and .last .1 .1 .1 .1 .0)) (c .before .before .before .next .given .1) (c .before .before .before .before .before .read-and .ensures .0), alone (c .before .before .before .before .before .before .before .before .args .counts .now) (c .before .before .before .before .before .before .before .before .args .left) 124 either conjunction disjunction (or-step (c .before .before .before .before .before .before .before .before .args .counts .now) (c .before .before .before .before .before .before .before .before .args .left)) or-fewer or-later or-some (c .before .before .before .before .before .before .before .before .args .text .now) (c .before .before .before .before .before .before .before .before .args .at) (c .before .before .before .next .given .0 .0) (c .before .before .before .next .given .0 .1 .0) (c .before .before .before .before .before .read-and .last .1 .1 .1 .1 .0) (subst (λ (r : Found). ReadAs r conjunction (c .before .before .before .before .before .before .before .before .args .text .now) (c .before .before .before .before .before .before .before .before .args .at) (c .before .before .before .before .before .before .before .before .args .left) (c .before .before .before .before .before .before .before .before .args .counts .now) (c .before .before .before .before .before .read-and .last .1 .1 .1 .1 .0)) (c .before .before .before .next .given .1) (c .before .before .before .before .before .read-and .ensures .1)) (sym (c .before .stands .ensures) ∙ not-true _ (c .if1 .taken))))
+    (λ c. (subst (λ (r : Found). Ranged r (c .before .before .before .before .before .before .before .before .args .text .now) (c .before .before .before .before .before .before .before .before .args .at) (c .before .before .before .before .before .before .before .before .args .used) (c .before .before .before .before .before .before .before .before .args .nodes .now) (c .before .before .before .before .before .read-and .last .1 .1 .1 .1 .0)) (c .before .before .before .next .given .1) (c .before .before .before .before .before .read-and .ensures .0), alone (c .before .before .before .before .before .before .before .before .args .counts .now) (c .before .before .before .before .before .before .before .before .args .left) 124 either conjunction disjunction (or-step (c .before .before .before .before .before .before .before .before .args .counts .now) (c .before .before .before .before .before .before .before .before .args .left)) or-fewer or-later some-or (c .before .before .before .before .before .before .before .before .args .text .now) (c .before .before .before .before .before .before .before .before .args .at) (c .before .before .before .next .given .0 .0) (c .before .before .before .next .given .0 .1 .0) (c .before .before .before .before .before .read-and .last .1 .1 .1 .1 .0) (subst (λ (r : Found). ReadAs r conjunction (c .before .before .before .before .before .before .before .before .args .text .now) (c .before .before .before .before .before .before .before .before .args .at) (c .before .before .before .before .before .before .before .before .args .left) (c .before .before .before .before .before .before .before .before .args .counts .now) (c .before .before .before .before .before .read-and .last .1 .1 .1 .1 .0)) (c .before .before .before .next .given .1) (c .before .before .before .before .before .read-and .ensures .1)) (sym (c .before .stands .ensures) ∙ not-true _ (c .if1 .taken))))
     -- read-or-add-read-or
     (λ c. let i = stands-inside (c .before .before .before .before .before .before .before .before .args .text .now) (c .before .before .before .next .given .0 .0) 124 (sym (c .before .stands .ensures) ∙ not-false _ (c .if1 .left)) in omega arith)
     -- read-or-read-or-requires
@@ -228,12 +229,12 @@ pub +read-and+read-item+read-or-spec : {M : Type 1} → statement M
     let l = last-fits (c .before .before .before .before .before .before .before .before .before .before .before .before .before .before .before .args .text .now) (c .before .before .before .before .before .before .before .before .before .before .before .before .before .before .before .args .at) (c .before .before .before .before .before .before .before .before .before .before .before .before .before .before .before .args .used) (c .before .before .before .before .before .before .before .before .before .before .next .given .0 .0) (c .before .before .before .before .before .before .before .before .before .before .next .given .0 .1 .0) (c .before .before .before .end .given .0 .0) (c .before .before .before .end .given .0 .1 .0) (c .before .before .before .before .before .before .before .before .before .before .before .before .before .before .before .args .nodes .now) (c .before .before .before .before .before .before .before .before .before .before .before .before .read-and .last .1 .1 .1 .1 .0) (c .before .before .before .before .before .read-or .last .1 .1 .1 .1 .0) (c .before .before .before .before .before .read-or .last .1 .1 .1 .1 .0) g h (c .before .before .before .before .before .before .before .before .before .before .before .before .before .before .before .pre .1 .2) (c .before .before .before .before .before .before .before .before .before .before .before .before .before .before .before .pre .1 .1) (c .before .before .before .before .before .before .before .before .before .before .before .before .before .before .before .pre .1 .4) in
     omega arith)
     -- read-or-returns-2
-    (λ c. (subst (λ (r : Found). Ranged r (c .before .before .before .before .before .before .args .text .now) (c .before .before .before .before .before .before .args .at) (c .before .before .before .before .before .before .args .used) (c .before .before .before .before .before .before .args .nodes .now) (c .before .before .before .read-and .last .1 .1 .1 .1 .0)) (c .before .k .given .1) (c .before .before .before .read-and .ensures .0), first-refused (c .before .before .before .before .before .before .args .counts .now) (c .before .before .before .before .before .before .args .left) 124 either conjunction disjunction (or-step (c .before .before .before .before .before .before .args .counts .now) (c .before .before .before .before .before .before .args .left)) or-fewer or-later or-some (c .before .before .before .before .before .before .args .text .now) (c .before .before .before .before .before .before .args .at) (c .before .k .given .0 .0) (c .before .k .given .0 .1 .0) (c .before .before .before .read-and .last .1 .1 .1 .1 .0) (subst (λ (r : Found). ReadAs r conjunction (c .before .before .before .before .before .before .args .text .now) (c .before .before .before .before .before .before .args .at) (c .before .before .before .before .before .before .args .left) (c .before .before .before .before .before .before .args .counts .now) (c .before .before .before .read-and .last .1 .1 .1 .1 .0)) (c .before .k .given .1) (c .before .before .before .read-and .ensures .1))))
+    (λ c. (subst (λ (r : Found). Ranged r (c .before .before .before .before .before .before .args .text .now) (c .before .before .before .before .before .before .args .at) (c .before .before .before .before .before .before .args .used) (c .before .before .before .before .before .before .args .nodes .now) (c .before .before .before .read-and .last .1 .1 .1 .1 .0)) (c .before .k .given .1) (c .before .before .before .read-and .ensures .0), first-refused (c .before .before .before .before .before .before .args .counts .now) (c .before .before .before .before .before .before .args .left) 124 either conjunction disjunction (or-step (c .before .before .before .before .before .before .args .counts .now) (c .before .before .before .before .before .before .args .left)) or-fewer or-later some-or (c .before .before .before .before .before .before .args .text .now) (c .before .before .before .before .before .before .args .at) (c .before .k .given .0 .0) (c .before .k .given .0 .1 .0) (c .before .before .before .read-and .last .1 .1 .1 .1 .0) (subst (λ (r : Found). ReadAs r conjunction (c .before .before .before .before .before .before .args .text .now) (c .before .before .before .before .before .before .args .at) (c .before .before .before .before .before .before .args .left) (c .before .before .before .before .before .before .args .counts .now) (c .before .before .before .read-and .last .1 .1 .1 .1 .0)) (c .before .k .given .1) (c .before .before .before .read-and .ensures .1))))
     -- read-or-returns-3
-    (λ c. (subst (λ (r : Found). Ranged r (c .before .before .before .before .before .before .before .before .before .before .before .before .before .args .text .now) ((c .before .before .before .before .before .before .before .before .next .given .0 .0) + 1) (c .before .before .before .before .before .before .before .before .next .given .0 .1 .0) (c .before .before .before .before .before .before .before .before .before .before .read-and .last .1 .1 .1 .1 .0) (c .before .before .before .read-or .last .1 .1 .1 .1 .0)) (c .before .k2 .given .1) (c .before .before .before .read-or .ensures .0), second-refused (c .before .before .before .before .before .before .before .before .before .before .before .before .before .args .counts .now) (c .before .before .before .before .before .before .before .before .before .before .before .before .before .args .left) 124 either conjunction disjunction (or-step (c .before .before .before .before .before .before .before .before .before .before .before .before .before .args .counts .now) (c .before .before .before .before .before .before .before .before .before .before .before .before .before .args .left)) or-fewer or-later or-some (c .before .before .before .before .before .before .before .before .before .before .before .before .before .args .text .now) (c .before .before .before .before .before .before .before .before .before .before .before .before .before .args .at) (c .before .before .before .before .before .before .before .before .next .given .0 .0) (c .before .before .before .before .before .before .before .before .next .given .0 .1 .0) (c .before .before .before .before .before .before .before .before .before .before .read-and .last .1 .1 .1 .1 .0) (subst (λ (r : Found). ReadAs r conjunction (c .before .before .before .before .before .before .before .before .before .before .before .before .before .args .text .now) (c .before .before .before .before .before .before .before .before .before .before .before .before .before .args .at) (c .before .before .before .before .before .before .before .before .before .before .before .before .before .args .left) (c .before .before .before .before .before .before .before .before .before .before .before .before .before .args .counts .now) (c .before .before .before .before .before .before .before .before .before .before .read-and .last .1 .1 .1 .1 .0)) (c .before .before .before .before .before .before .before .before .next .given .1) (c .before .before .before .before .before .before .before .before .before .before .read-and .ensures .1)) (sym (c .before .before .before .before .before .before .stands .ensures) ∙ not-false _ (c .before .before .before .before .before .if1 .left)) ((subst (λ (r : Found). Ranged r (c .before .before .before .before .before .before .before .before .before .before .before .before .before .args .text .now) (c .before .before .before .before .before .before .before .before .before .before .before .before .before .args .at) (c .before .before .before .before .before .before .before .before .before .before .before .before .before .args .used) (c .before .before .before .before .before .before .before .before .before .before .before .before .before .args .nodes .now) (c .before .before .before .before .before .before .before .before .before .before .read-and .last .1 .1 .1 .1 .0)) (c .before .before .before .before .before .before .before .before .next .given .1) (c .before .before .before .before .before .before .before .before .before .before .read-and .ensures .0)) .advanced) (c .before .k2 .given .0 .0) (c .before .k2 .given .0 .1 .0) (c .before .before .before .read-or .last .1 .1 .1 .1 .0) (subst (λ (r : Found). ReadAs r disjunction (c .before .before .before .before .before .before .before .before .before .before .before .before .before .args .text .now) ((c .before .before .before .before .before .before .before .before .next .given .0 .0) + 1) (c .before .before .before .before .before .before .before .before .before .before .before .before .before .args .left) (c .before .before .before .before .before .before .before .before .before .before .before .before .before .args .counts .now) (c .before .before .before .read-or .last .1 .1 .1 .1 .0)) (c .before .k2 .given .1) (c .before .before .before .read-or .ensures .1))))
+    (λ c. (subst (λ (r : Found). Ranged r (c .before .before .before .before .before .before .before .before .before .before .before .before .before .args .text .now) ((c .before .before .before .before .before .before .before .before .next .given .0 .0) + 1) (c .before .before .before .before .before .before .before .before .next .given .0 .1 .0) (c .before .before .before .before .before .before .before .before .before .before .read-and .last .1 .1 .1 .1 .0) (c .before .before .before .read-or .last .1 .1 .1 .1 .0)) (c .before .k2 .given .1) (c .before .before .before .read-or .ensures .0), second-refused (c .before .before .before .before .before .before .before .before .before .before .before .before .before .args .counts .now) (c .before .before .before .before .before .before .before .before .before .before .before .before .before .args .left) 124 either conjunction disjunction (or-step (c .before .before .before .before .before .before .before .before .before .before .before .before .before .args .counts .now) (c .before .before .before .before .before .before .before .before .before .before .before .before .before .args .left)) or-fewer or-later some-or (c .before .before .before .before .before .before .before .before .before .before .before .before .before .args .text .now) (c .before .before .before .before .before .before .before .before .before .before .before .before .before .args .at) (c .before .before .before .before .before .before .before .before .next .given .0 .0) (c .before .before .before .before .before .before .before .before .next .given .0 .1 .0) (c .before .before .before .before .before .before .before .before .before .before .read-and .last .1 .1 .1 .1 .0) (subst (λ (r : Found). ReadAs r conjunction (c .before .before .before .before .before .before .before .before .before .before .before .before .before .args .text .now) (c .before .before .before .before .before .before .before .before .before .before .before .before .before .args .at) (c .before .before .before .before .before .before .before .before .before .before .before .before .before .args .left) (c .before .before .before .before .before .before .before .before .before .before .before .before .before .args .counts .now) (c .before .before .before .before .before .before .before .before .before .before .read-and .last .1 .1 .1 .1 .0)) (c .before .before .before .before .before .before .before .before .next .given .1) (c .before .before .before .before .before .before .before .before .before .before .read-and .ensures .1)) (sym (c .before .before .before .before .before .before .stands .ensures) ∙ not-false _ (c .before .before .before .before .before .if1 .left)) ((subst (λ (r : Found). Ranged r (c .before .before .before .before .before .before .before .before .before .before .before .before .before .args .text .now) (c .before .before .before .before .before .before .before .before .before .before .before .before .before .args .at) (c .before .before .before .before .before .before .before .before .before .before .before .before .before .args .used) (c .before .before .before .before .before .before .before .before .before .before .before .before .before .args .nodes .now) (c .before .before .before .before .before .before .before .before .before .before .read-and .last .1 .1 .1 .1 .0)) (c .before .before .before .before .before .before .before .before .next .given .1) (c .before .before .before .before .before .before .before .before .before .before .read-and .ensures .0)) .advanced) (c .before .k2 .given .0 .0) (c .before .k2 .given .0 .1 .0) (c .before .before .before .read-or .last .1 .1 .1 .1 .0) (subst (λ (r : Found). ReadAs r disjunction (c .before .before .before .before .before .before .before .before .before .before .before .before .before .args .text .now) ((c .before .before .before .before .before .before .before .before .next .given .0 .0) + 1) (c .before .before .before .before .before .before .before .before .before .before .before .before .before .args .left) (c .before .before .before .before .before .before .before .before .before .before .before .before .before .args .counts .now) (c .before .before .before .read-or .last .1 .1 .1 .1 .0)) (c .before .k2 .given .1) (c .before .before .before .read-or .ensures .1))))
     -- read-or-returns-4
     (λ c.
     let g = subst (λ (r : Found). Ranged r (c .before .before .before .before .before .before .before .before .before .before .before .before .before .before .before .args .text .now) (c .before .before .before .before .before .before .before .before .before .before .before .before .before .before .before .args .at) (c .before .before .before .before .before .before .before .before .before .before .before .before .before .before .before .args .used) (c .before .before .before .before .before .before .before .before .before .before .before .before .before .before .before .args .nodes .now) (c .before .before .before .before .before .before .before .before .before .before .before .before .read-and .last .1 .1 .1 .1 .0)) (c .before .before .before .before .before .before .before .before .before .before .next .given .1) (c .before .before .before .before .before .before .before .before .before .before .before .before .read-and .ensures .0) in
     let h = subst (λ (r : Found). Ranged r (c .before .before .before .before .before .before .before .before .before .before .before .before .before .before .before .args .text .now) ((c .before .before .before .before .before .before .before .before .before .before .next .given .0 .0) + 1) (c .before .before .before .before .before .before .before .before .before .before .next .given .0 .1 .0) (c .before .before .before .before .before .before .before .before .before .before .before .before .read-and .last .1 .1 .1 .1 .0) (c .before .before .before .before .before .read-or .last .1 .1 .1 .1 .0)) (c .before .before .before .end .given .1) (c .before .before .before .before .before .read-or .ensures .0) in
-    (grown-joined (c .before .before .before .before .before .before .before .before .before .before .before .before .before .before .before .args .text .now) (c .before .before .before .before .before .before .before .before .before .before .before .before .before .before .before .args .at) (c .before .before .before .before .before .before .before .before .before .before .before .before .before .before .before .args .used) (c .before .before .before .before .before .before .before .before .before .before .next .given .0 .0) (c .before .before .before .before .before .before .before .before .before .before .next .given .0 .1 .0) (c .before .before .before .end .given .0 .0) (c .before .before .before .end .given .0 .1 .0) (c .before .before .before .before .before .before .before .before .before .before .before .before .before .before .before .args .nodes .now) (c .before .before .before .before .before .before .before .before .before .before .before .before .read-and .last .1 .1 .1 .1 .0) (c .before .before .before .before .before .read-or .last .1 .1 .1 .1 .0) (c .put-either .last .0) g h (c .before .before .before .before .before .before .before .before .before .before .before .before .before .before .before .pre .1 .2) (c .before .before .before .before .before .before .before .before .before .before .before .before .before .before .before .pre .1 .1) (c .before .before .before .before .before .before .before .before .before .before .before .before .before .before .before .pre .1 .4) _ _ _ _ (c .put-either .ensures), both-read (c .before .before .before .before .before .before .before .before .before .before .before .before .before .before .before .args .counts .now) (c .before .before .before .before .before .before .before .before .before .before .before .before .before .before .before .args .left) 124 either conjunction disjunction (or-step (c .before .before .before .before .before .before .before .before .before .before .before .before .before .before .before .args .counts .now) (c .before .before .before .before .before .before .before .before .before .before .before .before .before .before .before .args .left)) or-fewer or-later or-some (c .before .before .before .before .before .before .before .before .before .before .before .before .before .before .before .args .text .now) (c .before .before .before .before .before .before .before .before .before .before .before .before .before .before .before .args .at) (c .before .before .before .before .before .before .before .before .before .before .next .given .0 .0) (c .before .before .before .before .before .before .before .before .before .before .next .given .0 .1 .0) (c .before .before .before .before .before .before .before .before .before .before .before .before .read-and .last .1 .1 .1 .1 .0) (subst (λ (r : Found). ReadAs r conjunction (c .before .before .before .before .before .before .before .before .before .before .before .before .before .before .before .args .text .now) (c .before .before .before .before .before .before .before .before .before .before .before .before .before .before .before .args .at) (c .before .before .before .before .before .before .before .before .before .before .before .before .before .before .before .args .left) (c .before .before .before .before .before .before .before .before .before .before .before .before .before .before .before .args .counts .now) (c .before .before .before .before .before .before .before .before .before .before .before .before .read-and .last .1 .1 .1 .1 .0)) (c .before .before .before .before .before .before .before .before .before .before .next .given .1) (c .before .before .before .before .before .before .before .before .before .before .before .before .read-and .ensures .1)) (sym (c .before .before .before .before .before .before .before .before .stands .ensures) ∙ not-false _ (c .before .before .before .before .before .before .before .if1 .left)) (g .advanced) (c .before .before .before .end .given .0 .0) (c .before .before .before .end .given .0 .1 .0) (c .before .before .before .before .before .read-or .last .1 .1 .1 .1 .0) (c .put-either .last .0) (subst (λ (r : Found). ReadAs r disjunction (c .before .before .before .before .before .before .before .before .before .before .before .before .before .before .before .args .text .now) ((c .before .before .before .before .before .before .before .before .before .before .next .given .0 .0) + 1) (c .before .before .before .before .before .before .before .before .before .before .before .before .before .before .before .args .left) (c .before .before .before .before .before .before .before .before .before .before .before .before .before .before .before .args .counts .now) (c .before .before .before .before .before .read-or .last .1 .1 .1 .1 .0)) (c .before .before .before .end .given .1) (c .before .before .before .before .before .read-or .ensures .1)) (either-joined (c .before .before .before .before .before .before .before .before .before .before .before .before .before .before .before .args .text .now) (c .before .before .before .before .before .before .before .before .before .before .before .before .before .before .before .args .at) (c .before .before .before .before .before .before .before .before .before .before .before .before .before .before .before .args .used) (c .before .before .before .before .before .before .before .before .before .before .next .given .0 .0) (c .before .before .before .before .before .before .before .before .before .before .next .given .0 .1 .0) (c .before .before .before .end .given .0 .0) (c .before .before .before .end .given .0 .1 .0) (c .before .before .before .before .before .before .before .before .before .before .before .before .before .before .before .args .nodes .now) (c .before .before .before .before .before .before .before .before .before .before .before .before .read-and .last .1 .1 .1 .1 .0) (c .before .before .before .before .before .read-or .last .1 .1 .1 .1 .0) (c .put-either .last .0) g h (c .before .before .before .before .before .before .before .before .before .before .before .before .before .before .before .pre .1 .2) (c .before .before .before .before .before .before .before .before .before .before .before .before .before .before .before .pre .1 .1) (c .before .before .before .before .before .before .before .before .before .before .before .before .before .before .before .pre .1 .4) (c .put-either .ensures))))
+    (grown-joined (c .before .before .before .before .before .before .before .before .before .before .before .before .before .before .before .args .text .now) (c .before .before .before .before .before .before .before .before .before .before .before .before .before .before .before .args .at) (c .before .before .before .before .before .before .before .before .before .before .before .before .before .before .before .args .used) (c .before .before .before .before .before .before .before .before .before .before .next .given .0 .0) (c .before .before .before .before .before .before .before .before .before .before .next .given .0 .1 .0) (c .before .before .before .end .given .0 .0) (c .before .before .before .end .given .0 .1 .0) (c .before .before .before .before .before .before .before .before .before .before .before .before .before .before .before .args .nodes .now) (c .before .before .before .before .before .before .before .before .before .before .before .before .read-and .last .1 .1 .1 .1 .0) (c .before .before .before .before .before .read-or .last .1 .1 .1 .1 .0) (c .put-either .last .0) g h (c .before .before .before .before .before .before .before .before .before .before .before .before .before .before .before .pre .1 .2) (c .before .before .before .before .before .before .before .before .before .before .before .before .before .before .before .pre .1 .1) (c .before .before .before .before .before .before .before .before .before .before .before .before .before .before .before .pre .1 .4) _ _ _ _ (c .put-either .ensures), both-read (c .before .before .before .before .before .before .before .before .before .before .before .before .before .before .before .args .counts .now) (c .before .before .before .before .before .before .before .before .before .before .before .before .before .before .before .args .left) 124 either conjunction disjunction (or-step (c .before .before .before .before .before .before .before .before .before .before .before .before .before .before .before .args .counts .now) (c .before .before .before .before .before .before .before .before .before .before .before .before .before .before .before .args .left)) or-fewer or-later some-or (c .before .before .before .before .before .before .before .before .before .before .before .before .before .before .before .args .text .now) (c .before .before .before .before .before .before .before .before .before .before .before .before .before .before .before .args .at) (c .before .before .before .before .before .before .before .before .before .before .next .given .0 .0) (c .before .before .before .before .before .before .before .before .before .before .next .given .0 .1 .0) (c .before .before .before .before .before .before .before .before .before .before .before .before .read-and .last .1 .1 .1 .1 .0) (subst (λ (r : Found). ReadAs r conjunction (c .before .before .before .before .before .before .before .before .before .before .before .before .before .before .before .args .text .now) (c .before .before .before .before .before .before .before .before .before .before .before .before .before .before .before .args .at) (c .before .before .before .before .before .before .before .before .before .before .before .before .before .before .before .args .left) (c .before .before .before .before .before .before .before .before .before .before .before .before .before .before .before .args .counts .now) (c .before .before .before .before .before .before .before .before .before .before .before .before .read-and .last .1 .1 .1 .1 .0)) (c .before .before .before .before .before .before .before .before .before .before .next .given .1) (c .before .before .before .before .before .before .before .before .before .before .before .before .read-and .ensures .1)) (sym (c .before .before .before .before .before .before .before .before .stands .ensures) ∙ not-false _ (c .before .before .before .before .before .before .before .if1 .left)) (g .advanced) (c .before .before .before .end .given .0 .0) (c .before .before .before .end .given .0 .1 .0) (c .before .before .before .before .before .read-or .last .1 .1 .1 .1 .0) (c .put-either .last .0) (subst (λ (r : Found). ReadAs r disjunction (c .before .before .before .before .before .before .before .before .before .before .before .before .before .before .before .args .text .now) ((c .before .before .before .before .before .before .before .before .before .before .next .given .0 .0) + 1) (c .before .before .before .before .before .before .before .before .before .before .before .before .before .before .before .args .left) (c .before .before .before .before .before .before .before .before .before .before .before .before .before .before .before .args .counts .now) (c .before .before .before .before .before .read-or .last .1 .1 .1 .1 .0)) (c .before .before .before .end .given .1) (c .before .before .before .before .before .read-or .ensures .1)) (either-joined (c .before .before .before .before .before .before .before .before .before .before .before .before .before .before .before .args .text .now) (c .before .before .before .before .before .before .before .before .before .before .before .before .before .before .before .args .at) (c .before .before .before .before .before .before .before .before .before .before .before .before .before .before .before .args .used) (c .before .before .before .before .before .before .before .before .before .before .next .given .0 .0) (c .before .before .before .before .before .before .before .before .before .before .next .given .0 .1 .0) (c .before .before .before .end .given .0 .0) (c .before .before .before .end .given .0 .1 .0) (c .before .before .before .before .before .before .before .before .before .before .before .before .before .before .before .args .nodes .now) (c .before .before .before .before .before .before .before .before .before .before .before .before .read-and .last .1 .1 .1 .1 .0) (c .before .before .before .before .before .read-or .last .1 .1 .1 .1 .0) (c .put-either .last .0) g h (c .before .before .before .before .before .before .before .before .before .before .before .before .before .before .before .pre .1 .2) (c .before .before .before .before .before .before .before .before .before .before .before .before .before .before .before .pre .1 .1) (c .before .before .before .before .before .before .before .before .before .before .before .before .before .before .before .pre .1 .4) (c .put-either .ensures))))
     )

@@ -1,7 +1,8 @@
 -- Each byte that begins an item is named. Assumes nothing.
-use Rattle.formula_reader.proofs.Laws.{begins-none, mark-opening, mark-E, mark-R, mark-D, mark-B}
+use Rattle.formula_reader.proofs.Laws.{begins-none, mark-E, mark-R, mark-D, mark-B}
 use Rattle.formula_reader.proofs.start_of.Statement.{statement}
 use Rattle.formula_reader.proofs.start_of.Tie as tie
+use Rattle.formula.proofs.Marks.{mark-opening}
 
 pub start-of-spec : {M : Type 1} → statement M
 start-of-spec =

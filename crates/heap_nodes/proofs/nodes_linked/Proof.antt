@@ -2,7 +2,7 @@
 use Prim.Native.Nat.{ℕ, _+_, _-_, _≤_, _<_}
 use native.Mathlib.Omega.{arith}
 use borrow.Author.Needs.{needs}
-use mathlib.Core.Path.{_≡_}
+use mathlib.Core.Path.{_≡_, ap, _∙_}
 use lib.ListN.{length, getD, length-set}
 use Rattle.completion.specs.Links.{linkOf}
 use Rattle.heap_nodes.specs.Nodes.{nodeOf}
@@ -11,11 +11,11 @@ use Rattle.heap_nodes.proofs.nodes_linked.Statement.{statement}
 use Rattle.heap_nodes.proofs.nodes_linked.Tie as tie
 
 abbrev Inv-loop : tie.InvT-loop
-Inv-loop nodes n links bytes₀ t₀ bytes t =
+Inv-loop nodes links n bytes₀ t₀ bytes t =
     (length bytes ≡ 17) × ((x : ℕ) → 0 ≤ x → x < t → getD bytes x 0 ≡ nodeOf nodes (linkOf links x))
 
 abbrev μ-loop : tie.MeasureT-loop
-μ-loop nodes n links bytes₀ t₀ bytes t = n + 1 - t
+μ-loop nodes links n bytes₀ t₀ bytes t = n + 1 - t
 
 pub nodes-linked-spec : {M : Type 1} → statement M
 unfolding linkOf
@@ -26,12 +26,14 @@ nodes-linked-spec =
     μ-loop
     -- loop-holds
     (λ c. (search needs, λ x l r. absurd (omega arith)))
-    -- mul-to
+    -- element-copy-out-wide
     (λ c. omega arith)
-    -- array-copy-out-to
-    (λ c. omega arith)
-    -- node-byte-requires
-    (λ c κs. (c .before .before .before .pre .1 (c .before .before .loop .t) (omega arith), c .before .before .before .pre .2))
+    -- wide-requires
+    (λ c κs. search needs)
+    -- node-of-requires
+    (λ c κs. omega (arith, c .wide .ensures .0, c .before .before .before .before .pre .1 (c .before .before .before .loop .t) (omega arith)))
+    -- cast-bytes
+    (λ c. omega (arith, c .before .node-of .ensures .1))
     -- array-write-bytes
     (λ c. omega arith)
     -- add-t
@@ -40,7 +42,8 @@ nodes-linked-spec =
     (λ c. omega arith)
     -- loop-again
     (λ c.
-    let l = c .before .before .before .loop in
-    (simp length-set (l .inv .0), filled-more (λ x. nodeOf (c .before .before .before .before .args .nodes) (linkOf (c .before .before .before .before .args .t2) x)) 0 (l .bytes) (l .t) (omega arith) _ (c .node-byte .ensures) (l .inv .1)))
+    let l = c .before .before .before .before .before .loop in
+    let a = c .before .before .before .before .before .before .args in
+    (simp length-set (l .inv .0), filled-more (λ x. nodeOf (a .nodes .now) (linkOf (a .links .now) x)) 0 (l .bytes) (l .t) (omega arith) _ (c .before .node-of .ensures .0 ∙ ap (nodeOf (a .nodes .now)) (c .before .before .wide .ensures .0)) (l .inv .1)))
     -- returns
     (λ c. λ t h. c .before .loop .inv .1 t (omega arith) (omega arith)))

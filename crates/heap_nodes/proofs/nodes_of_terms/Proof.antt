@@ -27,8 +27,10 @@ nodes-of-terms-spec =
     (λ c. (omega arith, search needs, λ x l r. absurd (omega arith)))
     -- read-rep-requires
     (λ c κs. search needs)
-    -- node-byte-requires
-    (λ c κs. (omega (arith, c .read-rep .ensures, c .before .before .before .pre .1 (c .before .before .loop .t) (c .before .before .loop .inv .0) (omega arith)), c .before .before .before .pre .2))
+    -- node-of-requires
+    (λ c κs. omega (arith, c .read-rep .ensures, c .before .before .before .pre .1 (c .before .before .loop .t) (c .before .before .loop .inv .0) (omega arith)))
+    -- cast-bytes
+    (λ c. omega (arith, c .before .node-of .ensures .1))
     -- array-write-bytes
     (λ c. omega arith)
     -- add-t
@@ -37,10 +39,11 @@ nodes-of-terms-spec =
     (λ c. omega arith)
     -- loop-again
     (λ c.
-    let l = c .before .before .before .loop in (
+    let l = c .before .before .before .before .loop in
+    let a = c .before .before .before .before .before .args in (
       omega arith,
       simp length-set (l .inv .1),
-      filled-more (λ x. nodeOf _ (repOf _ x)) 1 (l .bytes) (l .t) (omega arith) _ (c .node-byte .ensures ∙ ap (nodeOf _) (c .before .read-rep .ensures)) (l .inv .2),
+      filled-more (λ x. nodeOf (a .nodes .now) (repOf (a .rep .now) x)) 1 (l .bytes) (l .t) (omega arith) _ (c .before .node-of .ensures .0 ∙ ap (nodeOf (a .nodes .now)) (c .before .before .read-rep .ensures)) (l .inv .2),
     ))
     -- returns
     (λ c. λ t l h. c .before .loop .inv .2 t l (omega arith)))

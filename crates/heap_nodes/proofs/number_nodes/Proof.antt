@@ -12,15 +12,15 @@ use Rattle.heap_nodes.proofs.number_nodes.Statement.{statement}
 use Rattle.heap_nodes.proofs.number_nodes.Tie as tie
 
 abbrev Inv-loop : tie.InvT-loop
-Inv-loop marks n m nodes₀ k₀ end t₀ nodes k t =
+Inv-loop marks n m last nodes₀ k₀ end t₀ nodes k t =
     (k ≤ t) × (length nodes ≡ 17) × Numbered (λ x. getD marks x false) n m t k (nodeOf nodes)
 
 abbrev μ-loop : tie.MeasureT-loop
-μ-loop marks n m nodes₀ k₀ end t₀ nodes k t = n + 1 - t
+μ-loop marks n m last nodes₀ k₀ end t₀ nodes k t = n + 1 - t
 
 loop-holds : tie.Need-loop-holds Inv-loop μ-loop
 unfolding marked
-loop-holds c = (omega arith, search needs, numbered-none _ _ _ _ (c .pre .1) (λ x h. node-repeat _ x h))
+loop-holds c = (omega arith, search needs, numbered-none _ _ _ _ (c .pre .2) (λ x h. node-repeat _ x h))
 
 returns : tie.Need-returns Inv-loop μ-loop
 unfolding marked
@@ -32,6 +32,8 @@ number-nodes-spec =
     (tie.spec
     Inv-loop
     μ-loop
+    -- cast-last
+    (λ c. omega arith)
     -- add-end
     (λ c. search needs)
     loop-holds
@@ -45,9 +47,9 @@ number-nodes-spec =
     (λ c. (omega arith, c .before .before .before .loop .inv .1, numbered-skip _ _ _ _ _ _ (c .before .before .before .loop .inv .2) (omega arith) (omega arith) (not-true _ (c .if1 .taken))))
     -- add-k
     (λ c. omega arith)
-    -- mul-nodes
+    -- cast-nodes
     (λ c. omega arith)
-    -- array-set-from-nodes
+    -- array-write-nodes
     (λ c. omega arith)
     -- add-t-2
     (λ c. omega arith)

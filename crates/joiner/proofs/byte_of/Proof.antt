@@ -1,9 +1,7 @@
 -- A byte fits. Assumes nothing.
-use Prim.Native.Nat.{_-_}
 use native.Mathlib.Omega.{arith}
 use borrow.Author.Needs.{needs}
 use mathlib.Core.Path.{refl, sym}
-use mathlib.Core.List.{List}
 use lib.ListN.{List·getD-eq-default}
 use Rattle.joiner.proofs.byte_of.Statement.{statement}
 use Rattle.joiner.proofs.byte_of.Tie as tie

@@ -1,5 +1,4 @@
 -- By the section. Assumes nothing.
-use Prim.Native.Nat.{_-_}
 use Rattle.joiner.proofs.Answers as law
 use Rattle.joiner.proofs.count_in.Statement.{statement}
 use Rattle.joiner.proofs.count_in.Tie as tie

@@ -1,9 +1,8 @@
 -- The checks in their order. Assumes nothing.
-use Prim.Native.Nat.{_-_}
 use borrow.Author.Needs.{needs}
 use mathlib.Core.Path.{subst}
-use Rattle.query.specs.Answers.{CheckedAs}
-use Rattle.query.specs.declared.Checked.{Checked}
+use Rattle.query_checks.specs.Answers.{CheckedAs}
+use Rattle.query_checks.specs.declared.Checked.{Checked}
 use Rattle.joiner.proofs.Answers as law
 use Rattle.joiner.proofs.find_named.Statement.{statement}
 use Rattle.joiner.proofs.find_named.Tie as tie

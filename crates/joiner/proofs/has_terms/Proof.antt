@@ -1,5 +1,4 @@
 -- One test behind the other. Assumes nothing.
-use Prim.Native.Nat.{_-_}
 use Rattle.joiner.proofs.Laws.{has-terms-is}
 use Rattle.joiner.proofs.has_terms.Statement.{statement}
 use Rattle.joiner.proofs.has_terms.Tie as tie

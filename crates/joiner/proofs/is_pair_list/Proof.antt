@@ -1,5 +1,4 @@
 -- Each test that fails, and the last one. Assumes nothing.
-use Prim.Native.Nat.{_-_}
 use native.Mathlib.Omega.{arith}
 use Rattle.joiner.proofs.Answers as law
 use Rattle.joiner.proofs.is_pair_list.Statement.{statement}

@@ -1,12 +1,11 @@
 -- The checks in their order, and then the joining. Assumes nothing.
-use Prim.Native.Nat.{_-_}
 use borrow.Author.Needs.{needs}
 use mathlib.Core.Path.{subst}
 use lib.ListN.{length}
-use Rattle.query.specs.Answers.{CheckedAs}
-use Rattle.query.specs.declared.Checked.{Checked}
+use Rattle.query_checks.specs.Answers.{CheckedAs}
+use Rattle.query_checks.specs.declared.Checked.{Checked}
+use Rattle.lent.proofs.Writing.{blank-again, blank-long}
 use Rattle.joiner.proofs.Answers as law
-use Rattle.joiner.proofs.Query as made
 use Rattle.joiner.proofs.Joins as call
 use Rattle.joiner.proofs.join.Statement.{statement}
 use Rattle.joiner.proofs.join.Tie as tie
@@ -30,16 +29,16 @@ join-spec =
     -- enum-known-s
     (λ c. search needs)
     -- join-checked-requires
-    (λ c κs. (law.passing _ _ (subst (λ (x : Checked). CheckedAs x (c .before .before .before .before .before .before .before .before .before .before .before .before .before .before .before .before .before .args .first .now)) (c .before .before .before .before .before .before .f .given .1) (c .before .before .before .before .before .before .before .before .check .ensures)), law.passing _ _ (subst (λ (x : Checked). CheckedAs x (c .before .before .before .before .before .before .before .before .before .before .before .before .before .before .before .before .before .args .second .now)) (c .before .before .s .given .1) (c .before .before .before .before .check2 .ensures)), call.blank-again _ (length (c .before .before .before .before .before .before .before .before .before .before .before .before .before .before .before .before .before .args .out .now)) (c .before .before .before .before .before .before .before .before .before .before .before .clear .ensures)))
+    (λ c κs. (law.passing _ _ (subst (λ (x : Checked). CheckedAs x (c .before .before .before .before .before .before .before .before .before .before .before .before .before .before .before .before .before .args .first .now)) (c .before .before .before .before .before .before .f .given .1) (c .before .before .before .before .before .before .before .before .check .ensures)), law.passing _ _ (subst (λ (x : Checked). CheckedAs x (c .before .before .before .before .before .before .before .before .before .before .before .before .before .before .before .before .before .args .second .now)) (c .before .before .s .given .1) (c .before .before .before .before .check2 .ensures)), blank-again _ (length (c .before .before .before .before .before .before .before .before .before .before .before .before .before .before .before .before .before .args .out .now)) (c .before .before .before .before .before .before .before .before .before .before .before .clear .ensures)))
     -- same-length
-    (λ c. call.blank-long _ (length (c .before .before .before .before .before .before .before .before .before .before .before .before .args .out .now)) (c .before .before .before .before .before .before .clear .ensures))
+    (λ c. blank-long _ (length (c .before .before .before .before .before .before .before .before .before .before .before .before .args .out .now)) (c .before .before .before .before .before .before .clear .ensures))
     -- returns
     (λ c. call.refused-first (c .before .before .before .before .before .before .before .before .before .before .before .before .args .first .now) (c .before .before .before .before .before .before .before .before .before .before .before .before .args .second .now) (c .before .before .before .before .before .before .before .before .before .before .before .before .args .pairs .now) (length (c .before .before .before .before .before .before .before .before .before .before .before .before .args .out .now)) _ (subst (λ (x : Checked). CheckedAs x (c .before .before .before .before .before .before .before .before .before .before .before .before .args .first .now)) (c .before .k .given .1) (c .before .before .before .check .ensures)) (c .before .before .before .before .before .before .clear .ensures))
     -- same-length-2
-    (λ c. call.blank-long _ (length (c .before .before .before .before .before .before .before .before .before .before .before .before .before .before .before .before .args .out .now)) (c .before .before .before .before .before .before .before .before .before .before .clear .ensures))
+    (λ c. blank-long _ (length (c .before .before .before .before .before .before .before .before .before .before .before .before .before .before .before .before .args .out .now)) (c .before .before .before .before .before .before .before .before .before .before .clear .ensures))
     -- returns-2
     (λ c. call.refused-second (c .before .before .before .before .before .before .before .before .before .before .before .before .before .before .before .before .args .first .now) (c .before .before .before .before .before .before .before .before .before .before .before .before .before .before .before .before .args .second .now) (c .before .before .before .before .before .before .before .before .before .before .before .before .before .before .before .before .args .pairs .now) (length (c .before .before .before .before .before .before .before .before .before .before .before .before .before .before .before .before .args .out .now)) _ (subst (λ (x : Checked). CheckedAs x (c .before .before .before .before .before .before .before .before .before .before .before .before .before .before .before .before .args .first .now)) (c .before .before .before .before .before .f .given .1) (c .before .before .before .before .before .before .before .check .ensures)) (subst (λ (x : Checked). CheckedAs x (c .before .before .before .before .before .before .before .before .before .before .before .before .before .before .before .before .args .second .now)) (c .before .k2 .given .1) (c .before .before .before .check2 .ensures)) (c .before .before .before .before .before .before .before .before .before .before .clear .ensures))
     -- same-length-3
     (λ c. search needs)
     -- returns-3
-    (λ c. call.joined-does (c .before .before .before .before .before .before .before .before .before .before .before .before .before .before .before .before .before .before .before .before .args .first .now) (c .before .before .before .before .before .before .before .before .before .before .before .before .before .before .before .before .before .before .before .before .args .second .now) (c .before .before .before .before .before .before .before .before .before .before .before .before .before .before .before .before .before .before .before .before .args .pairs .now) (length (c .before .before .before .before .before .before .before .before .before .before .before .before .before .before .before .before .before .before .before .before .args .out .now)) _ (subst (λ (x : Checked). CheckedAs x (c .before .before .before .before .before .before .before .before .before .before .before .before .before .before .before .before .before .before .before .before .args .first .now)) (c .before .before .before .before .before .before .before .before .before .f .given .1) (c .before .before .before .before .before .before .before .before .before .before .before .check .ensures)) (subst (λ (x : Checked). CheckedAs x (c .before .before .before .before .before .before .before .before .before .before .before .before .before .before .before .before .before .before .before .before .args .second .now)) (c .before .before .before .before .before .s .given .1) (c .before .before .before .before .before .before .before .check2 .ensures)) (call.blank-long _ (length (c .before .before .before .before .before .before .before .before .before .before .before .before .before .before .before .before .before .before .before .before .args .out .now)) (c .before .before .before .before .before .before .before .before .before .before .before .before .before .before .clear .ensures)) (c .before .before .join-checked .ensures)))
+    (λ c. call.joined-does (c .before .before .before .before .before .before .before .before .before .before .before .before .before .before .before .before .before .before .before .before .args .first .now) (c .before .before .before .before .before .before .before .before .before .before .before .before .before .before .before .before .before .before .before .before .args .second .now) (c .before .before .before .before .before .before .before .before .before .before .before .before .before .before .before .before .before .before .before .before .args .pairs .now) (length (c .before .before .before .before .before .before .before .before .before .before .before .before .before .before .before .before .before .before .before .before .args .out .now)) _ (subst (λ (x : Checked). CheckedAs x (c .before .before .before .before .before .before .before .before .before .before .before .before .before .before .before .before .before .before .before .before .args .first .now)) (c .before .before .before .before .before .before .before .before .before .f .given .1) (c .before .before .before .before .before .before .before .before .before .before .before .check .ensures)) (subst (λ (x : Checked). CheckedAs x (c .before .before .before .before .before .before .before .before .before .before .before .before .before .before .before .before .before .before .before .before .args .second .now)) (c .before .before .before .before .before .s .given .1) (c .before .before .before .before .before .before .before .check2 .ensures)) (blank-long _ (length (c .before .before .before .before .before .before .before .before .before .before .before .before .before .before .before .before .before .before .before .before .args .out .now)) (c .before .before .before .before .before .before .before .before .before .before .before .before .before .before .clear .ensures)) (c .before .before .join-checked .ensures)))

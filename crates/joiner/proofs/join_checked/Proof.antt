@@ -1,11 +1,10 @@
 -- The pair list, the limits, and then the query. Assumes nothing.
-use Prim.Native.Nat.{_-_}
 use native.Mathlib.Omega.{arith}
 use borrow.Author.Needs.{needs}
 use borrow.Author.Tests.{not-true, not-false}
 use mathlib.Core.Path.{sym, _∙_}
 use Rattle.text.proofs.Writing.{writes-length}
-use Rattle.joiner.proofs.Answers as law
+use Rattle.lent.proofs.Writing.{blank-long}
 use Rattle.joiner.proofs.Query as made
 use Rattle.joiner.proofs.Joins as call
 use Rattle.joiner.proofs.join_checked.Statement.{statement}
@@ -30,7 +29,7 @@ join-checked-spec =
     -- clear-requires
     (λ c κs. search needs)
     -- same-length
-    (λ c. call.blank-long _ _ (c .before .before .clear .ensures) ∙ writes-length (c .before .before .before .before .before .before .before .put-query .ensures))
+    (λ c. blank-long _ _ (c .before .before .clear .ensures) ∙ writes-length (c .before .before .before .before .before .before .before .put-query .ensures))
     -- returns-3
     (λ c. call.too-short (c .before .before .before .before .before .before .before .before .before .before .before .before .before .before .before .before .before .before .args .first .now) (c .before .before .before .before .before .before .before .before .before .before .before .before .before .before .before .before .before .before .args .second .now) (c .before .before .before .before .before .before .before .before .before .before .before .before .before .before .before .before .before .before .args .pairs .now) (c .before .before .before .before .before .before .before .before .before .before .before .before .before .before .before .before .before .before .args .f) (c .before .before .before .before .before .before .before .before .before .before .before .before .before .before .before .before .before .before .args .s) (c .before .before .before .before .before .before .before .before .before .before .before .before .before .before .before .before .before .before .pre .0) (c .before .before .before .before .before .before .before .before .before .before .before .before .before .before .before .before .before .before .pre .1) (sym (c .before .before .before .before .before .before .before .before .before .before .before .before .before .is-pair-list .ensures) ∙ not-false _ (c .before .before .before .before .before .before .before .before .before .before .before .before .if1 .left)) (sym (made.limits-same (c .before .before .before .before .before .before .before .before .before .before .before .before .before .before .before .before .before .before .args .first .now) (c .before .before .before .before .before .before .before .before .before .before .before .before .before .before .before .before .before .before .args .second .now) (c .before .before .before .before .before .before .before .before .before .before .before .before .before .before .before .before .before .before .args .pairs .now) (c .before .before .before .before .before .before .before .before .before .before .before .before .before .before .before .before .before .before .args .f) (c .before .before .before .before .before .before .before .before .before .before .before .before .before .before .before .before .before .before .args .s) (c .before .before .before .before .before .before .before .before .before .before .before .before .before .before .before .before .before .before .pre .0) (c .before .before .before .before .before .before .before .before .before .before .before .before .before .before .before .before .before .before .pre .1) (sym (c .before .before .before .before .before .before .before .before .before .before .before .before .before .is-pair-list .ensures) ∙ not-false _ (c .before .before .before .before .before .before .before .before .before .before .before .before .if1 .left)) _ (c .before .before .before .before .before .before .before .before .before .before .before .byte-at .ensures)) ∙ (sym (c .before .before .before .before .before .before .before .before .before .before .keeps-limits .ensures) ∙ not-false _ (c .before .before .before .before .before .before .before .before .before .if2 .left))) _ _ _ (c .before .before .before .before .before .before .before .before .before .before .before .before .before .before .before .before .before .before .pre .2) (c .before .before .before .before .before .before .before .put-query .ensures) _ (c .before .before .before .before .if3 .taken) (c .before .before .clear .ensures))
     -- same-length-2

@@ -1,9 +1,7 @@
 -- The limits, one behind the other. Assumes nothing.
-use Prim.Native.Nat.{_-_}
 use native.Mathlib.Omega.{arith}
 use mathlib.Core.Path.{refl}
 use Rattle.joiner.specs.Bytes.{keepsLimits}
-use Rattle.joiner.proofs.Answers as law
 use Rattle.joiner.proofs.keeps_limits.Statement.{statement}
 use Rattle.joiner.proofs.keeps_limits.Tie as tie
 

@@ -1,5 +1,4 @@
 -- Behind the literals before it. Assumes nothing.
-use Prim.Native.Nat.{_-_}
 use native.Mathlib.Omega.{arith}
 use Rattle.joiner.proofs.Answers as law
 use Rattle.joiner.proofs.place_in.Statement.{statement}

@@ -1,5 +1,4 @@
 -- The sign, and then the numbers. Assumes nothing.
-use Prim.Native.Nat.{_-_}
 use native.Mathlib.Omega.{arith}
 use Rattle.text.proofs.Writing.{writes-then, writes-length}
 use Rattle.joiner.proofs.put_literal.Statement.{statement}

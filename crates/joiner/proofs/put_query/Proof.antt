@@ -1,9 +1,8 @@
 -- One section behind the other. Assumes nothing.
-use Prim.Native.Nat.{ℕ, _+_, _-_, _*_}
+use Prim.Native.Nat.{ℕ, _+_, _*_}
 use native.Mathlib.Omega.{arith}
 use mathlib.Core.Path.{sym, ap, _∙_}
 use Rattle.text.proofs.Writing.{writes-as, writes-then, writes-length}
-use Rattle.joiner.proofs.Answers as law
 use Rattle.joiner.proofs.Query as made
 use Rattle.joiner.proofs.put_query.Statement.{statement}
 use Rattle.joiner.proofs.put_query.Tie as tie

@@ -1,9 +1,7 @@
 -- The count, and one part behind the other. Assumes nothing.
-use Prim.Native.Nat.{_-_}
 use native.Mathlib.Omega.{arith}
 use Rattle.text.proofs.Writing.{writes-then, writes-length}
 use Rattle.joiner.proofs.Laws.{literals-long}
-use Rattle.joiner.proofs.Answers as law
 use Rattle.joiner.proofs.put_section.Statement.{statement}
 use Rattle.joiner.proofs.put_section.Tie as tie
 

@@ -1,5 +1,4 @@
 -- One byte. Assumes nothing.
-use Prim.Native.Nat.{_-_}
 use native.Mathlib.Omega.{arith}
 use Rattle.text.proofs.Writing.{writes-as, writes-length}
 use Rattle.joiner.proofs.Laws.{sign-plain, sign-negated}

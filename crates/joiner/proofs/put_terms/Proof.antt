@@ -1,10 +1,8 @@
 -- The count, and one part behind the other. Assumes nothing.
-use Prim.Native.Nat.{_-_}
 use native.Mathlib.Omega.{arith}
 use Rattle.text.proofs.Writing.{writes-then, writes-length}
 use Rattle.joining.specs.Joined.{raisedEntry}
 use Rattle.joiner.proofs.Laws.{entries-long}
-use Rattle.joiner.proofs.Answers as law
 use Rattle.joiner.proofs.put_terms.Statement.{statement}
 use Rattle.joiner.proofs.put_terms.Tie as tie
 

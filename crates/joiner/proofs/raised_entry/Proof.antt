@@ -1,5 +1,4 @@
 -- 0 and 255 are kept. Assumes nothing.
-use Prim.Native.Nat.{_-_}
 use native.Mathlib.Omega.{arith}
 use Rattle.joiner.proofs.Laws.{raised-kept, raised-nil, raised-more}
 use Rattle.joiner.proofs.raised_entry.Statement.{statement}

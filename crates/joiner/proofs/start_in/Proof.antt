@@ -1,5 +1,4 @@
 -- By the section. Assumes nothing.
-use Prim.Native.Nat.{_-_}
 use native.Mathlib.Omega.{arith}
 use Rattle.joiner.proofs.Answers as law
 use Rattle.joiner.proofs.start_in.Statement.{statement}

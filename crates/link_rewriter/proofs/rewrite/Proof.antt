@@ -2,10 +2,11 @@
 use borrow.Author.Needs.{needs}
 use mathlib.Core.Path.{subst}
 use lib.ListN.{length}
-use Rattle.query.specs.Answers.{CheckedAs}
-use Rattle.query.specs.declared.Checked.{Checked}
-use Rattle.rewriter.proofs.Answers.{blank-again, blank-long, moved}
+use Rattle.query_checks.specs.Answers.{CheckedAs}
+use Rattle.query_checks.specs.declared.Checked.{Checked}
+use Rattle.rewriter.proofs.Answers.{moved}
 use Rattle.link_rewriting.specs.Call.{linksRewriteCall}
+use Rattle.lent.proofs.Writing.{blank-again, blank-long}
 use Rattle.link_rewriter.proofs.Answers as law
 use Rattle.link_rewriter.proofs.rewrite.Statement.{statement}
 use Rattle.link_rewriter.proofs.rewrite.Tie as tie

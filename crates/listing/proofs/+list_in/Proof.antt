@@ -1,26 +1,28 @@
 -- The branch walk with its lines: one look, and then each branch in order, with a step less left to it. Assumes nothing.
 use Prim.Native.Nat.{ℕ, _≤_, _<_, _-_}
 use native.Mathlib.Omega.{arith}
-use mathlib.Core.Path.{_≡_, refl, sym, ap, _∙_, subst}
+use mathlib.Core.Path.{_≡_, refl, sym, _∙_, subst}
 use native.Mathlib.Nat.{lt-of-le-of-lt, le-trans}
 use lib.ListN.{length}
 use lib.Dec.{lit<}
 use borrow.Author.Needs.{needs}
 use borrow.Fn.Kinds.{In}
 use borrow.Fn.PlainCycle.{Measures, is, falls, and}
-use Rattle.logic.specs.Walk.{orderOf}
+use Rattle.logic.specs.Rules.{triple, move}
+use Rattle.logic.specs.Walk.{look, walk, orderOf}
 use Rattle.theory.proofs.Walks.OurWalk.{look-some}
 use Rattle.facts.specs.Path.{pathAs}
-use Rattle.joins.specs.Pairs.{pairsOf, Fits}
+use Rattle.joins.specs.Pairs.{pairsOf, joinedIn}
 use Rattle.link_query.specs.Said.{said}
 use Rattle.link_query.proofs.Said.{terms-said}
-use Rattle.branch.proofs.Steps.{branch-fits}
+use Rattle.branch.specs.Alternatives.{alternativeAt}
 use Rattle.branch.proofs.Alternatives.{count-few}
 use Rattle.rules.specs.Answers.{kindOf}
-use Rattle.walk.proofs.Lines.{counted-bound, putLine-length, putAll-length}
+use Rattle.walk.specs.declared.Seen.the-variants as seen
+use Rattle.walk.proofs.Lines.{counted-bound}
 use Rattle.walk.proofs.Steps.{look-is, clash-fits, move-fits, move-linked, branch-fewer, headed-bound, less-left}
 use Rattle.listing.specs.Lists.{joinedWith}
-use Rattle.listing.proofs.Listing.{links-few, Going, going-first, going-next, going-stop, going-last, lists-clash, lists-saturated, lists-after, lists-early}
+use Rattle.listing.proofs.Listing.{links-few, put-line-length, put-all-length, made-fits, Going, going-first, going-next, going-stop, going-last, lists-clash, lists-saturated, lists-after, lists-early}
 use Rattle.listing.proofs.list_in.Reads as list-in
 use Rattle.listing.proofs.list_in.Kinds as list-in-kinds
 use Rattle.listing.proofs.+list_in.Lts-list_in as list-in-lts
@@ -77,14 +79,17 @@ unfolding pairsOf
     list-in-Inv-loop
     list-in-μ-loop
     -- put-joins-requires
-    (λ c κs. let p = c .before .before .before .before .pre in (p .1 .1, p .1 .2))
+    (λ c κs. let p = c .before .before .before .before .pre .1 in (p .1, p .2))
     -- same-length
-    (λ c. ap length (c .before .before .before .put-joins .ensures .1) ∙ putAll-length _ _ _)
+    (λ c. put-all-length _ _ _ _ (c .before .before .before .put-joins .ensures .1))
     -- returns
     (λ c.
     let a = c .before .before .before .before .before .before .before .before .args in
-    let p = c .before .before .before .before .before .before .before .before .pre in
-    lists-early _ (joinedWith (a .pairs) (pathAs (a .single) (a .rep .now) (a .link .now) (a .reach .now) (a .link2 .now) (a .reach2 .now) (a .link3 .now) (a .reach3 .now))) _ _ _ _ _ _ (c .before .before .before .put-joins .ensures .0) (c .before .before .before .put-joins .ensures .1) (c .if1 .taken) (p .1 .2) refl refl)
+    let p = c .before .before .before .before .before .before .before .before .pre .1 in
+    let q = said (a .layout) (a .query .now) in
+    let g = orderOf (a .order .now) in
+    let s = pathAs (a .single) (a .rep .now) (a .link .now) (a .reach .now) (a .link2 .now) (a .reach2 .now) (a .link3 .now) (a .reach3 .now) in
+    lists-early (walk q g (a .left)) (joinedWith (a .pairs) s) _ (a .lines .now) (c .before .before .before .put-joins .last .0) (a .first) (c .before .before .before .put-joins .result) (a .most) (c .before .before .before .put-joins .ensures .0) (c .before .before .before .put-joins .ensures .1) (c .if1 .taken) (p .2) refl refl)
     -- look-requires
     (λ c κs. c .before .before .before .before .before .before .before .before .pre .1 .0)
     -- enum-told
@@ -92,65 +97,169 @@ unfolding pairsOf
     -- enum-known-section
     (λ c. search needs)
     -- put-line-requires
-    (λ c κs. let p = c .before .before .before .before .before .before .before .before .before .before .before .before .before .pre in let f = clash-fits _ _ (p .1 .0) _ _ _ _ _ (look-is _ _ _ (c .before .before .before .before .look .ensures) (c .before .before .section .given .1)) in ((headed-bound _ _ _ (c .before .before .before .before .before .before .before .before .put-joins .ensures .0) (p .1 .2)), lit< tt, f .0, f .1, f .2))
+    (λ c κs.
+    let a = c .before .before .before .before .before .before .before .before .before .before .before .before .before .args in
+    let p = c .before .before .before .before .before .before .before .before .before .before .before .before .before .pre .1 in
+    let q = said (a .layout) (a .query .now) in
+    let g = orderOf (a .order .now) in
+    let s = pathAs (a .single) (a .rep .now) (a .link .now) (a .reach .now) (a .link2 .now) (a .reach2 .now) (a .link3 .now) (a .reach3 .now) in
+    let m = c .before .before .section .given .0 in
+    let h = look-is (c .before .before .before .before .look .result) (seen.Clashing (m .0) (m .1 .0) (m .1 .1 .0)) (look q g s) (c .before .before .before .before .look .ensures) (c .before .before .section .given .1) in
+    let f = clash-fits (a .query .now) (a .layout) (p .0) g s (m .0) (m .1 .0) (m .1 .1 .0) h in
+    (headed-bound (a .first) (c .before .before .before .before .before .before .before .before .put-joins .result) _ (c .before .before .before .before .before .before .before .before .put-joins .ensures .0) (p .2), lit< tt, f .0, f .1, f .2))
     -- counted-requires
     (λ c κs. search needs)
     -- enum-known-k
     (λ c. search needs)
     -- number-requires
-    (λ c κs. let l = move-linked _ _ _ _ _ _ _ _ (look-is _ _ _ (c .before .before .before .before .look .ensures) (c .before .before .k .given .1)) in (l .0, le-trans (l .1) (links-few (c .before .before .before .before .before .before .before .before .before .before .before .before .before .args .single))))
+    (λ c κs.
+    let a = c .before .before .before .before .before .before .before .before .before .before .before .before .before .args in
+    let p = c .before .before .before .before .before .before .before .before .before .before .before .before .before .pre .1 in
+    let q = said (a .layout) (a .query .now) in
+    let g = orderOf (a .order .now) in
+    let s = pathAs (a .single) (a .rep .now) (a .link .now) (a .reach .now) (a .link2 .now) (a .reach2 .now) (a .link3 .now) (a .reach3 .now) in
+    let m = c .before .before .k .given .0 in
+    let h = look-is (c .before .before .before .before .look .result) (seen.Applying (m .0) (m .1 .0) (m .1 .1 .0) (m .1 .1 .1 .0) (m .1 .1 .1 .1 .0)) (look q g s) (c .before .before .before .before .look .ensures) (c .before .before .k .given .1) in
+    let l = move-linked q g s (m .0 .0) (kindOf (m .1 .0)) (m .1 .1 .0 .0) (m .1 .1 .1 .0 .0) (m .1 .1 .1 .1 .0 .0) h in
+    (l .0, le-trans (l .1) (links-few (a .single))))
     -- put-line-requires-2
-    (λ c κs. let p = c .before .before .before .before .before .before .before .before .before .before .before .before .before .before .pre in let f = move-fits _ _ (p .1 .0) _ _ _ _ _ _ _ (look-is _ _ _ (c .before .before .before .before .before .look .ensures) (c .before .before .before .k .given .1)) in ((headed-bound _ _ _ (c .before .before .before .before .before .before .before .before .before .put-joins .ensures .0) (p .1 .2)), c .number .ensures .1, lt-of-le-of-lt (f .0) (lit< tt), lt-of-le-of-lt (f .1) (lit< tt), lt-of-le-of-lt (f .2) (lit< tt)))
+    (λ c κs.
+    let a = c .before .before .before .before .before .before .before .before .before .before .before .before .before .before .args in
+    let p = c .before .before .before .before .before .before .before .before .before .before .before .before .before .before .pre .1 in
+    let q = said (a .layout) (a .query .now) in
+    let g = orderOf (a .order .now) in
+    let s = pathAs (a .single) (a .rep .now) (a .link .now) (a .reach .now) (a .link2 .now) (a .reach2 .now) (a .link3 .now) (a .reach3 .now) in
+    let m = c .before .before .before .k .given .0 in
+    let h = look-is (c .before .before .before .before .before .look .result) (seen.Applying (m .0) (m .1 .0) (m .1 .1 .0) (m .1 .1 .1 .0) (m .1 .1 .1 .1 .0)) (look q g s) (c .before .before .before .before .before .look .ensures) (c .before .before .before .k .given .1) in
+    let f = move-fits (a .query .now) (a .layout) (p .0) g s (m .0 .0) (kindOf (m .1 .0)) (m .1 .1 .0 .0) (m .1 .1 .1 .0 .0) (m .1 .1 .1 .1 .0 .0) h in
+    (headed-bound (a .first) (c .before .before .before .before .before .before .before .before .before .put-joins .result) _ (c .before .before .before .before .before .before .before .before .before .put-joins .ensures .0) (p .2), c .number .ensures .1, lt-of-le-of-lt (f .0) (lit< tt), lt-of-le-of-lt (f .1) (lit< tt), lt-of-le-of-lt (f .2) (lit< tt)))
     -- count-requires
     (λ c κs. search needs)
     -- counted-requires-2
     (λ c κs. search needs)
     -- loop-holds
-    (λ c. let p = c .before .before .before .before .before .before .before .before .before .before .before .before .before .before .before .before .before .before .before .pre in (going-first _ _ _ _ _ _ _ _ _ _ _, subst (λ (j : ℕ). j ≤ 16001) (sym (c .counted2 .ensures)) (counted-bound _ (headed-bound _ _ _ (c .before .before .before .before .before .before .before .before .before .before .before .before .before .before .put-joins .ensures .0) (p .1 .2))), refl))
+    (λ c.
+    let a = c .before .before .before .before .before .before .before .before .before .before .before .before .before .before .before .before .before .before .before .args in
+    let p = c .before .before .before .before .before .before .before .before .before .before .before .before .before .before .before .before .before .before .before .pre .1 in
+    let q = said (a .layout) (a .query .now) in
+    let g = orderOf (a .order .now) in
+    let s = pathAs (a .single) (a .rep .now) (a .link .now) (a .reach .now) (a .link2 .now) (a .reach2 .now) (a .link3 .now) (a .reach3 .now) in
+    let m = c .before .before .before .before .before .before .before .before .k .given .0 in
+    (going-first q g (a .left) s (m .0 .0) (kindOf (m .1 .0)) (m .1 .1 .0 .0) (m .1 .1 .1 .0 .0) (m .1 .1 .1 .1 .0 .0) (c .before .before .before .before .put-line2 .last .0) (c .counted2 .result), subst (λ (j : ℕ). j ≤ 16001) (sym (c .counted2 .ensures)) (counted-bound (c .before .before .before .before .before .before .before .before .before .before .before .before .before .before .put-joins .result) (headed-bound (a .first) (c .before .before .before .before .before .before .before .before .before .before .before .before .before .before .put-joins .result) _ (c .before .before .before .before .before .before .before .before .before .before .before .before .before .before .put-joins .ensures .0) (p .2))), refl))
     -- make-requires
     (λ c κs.
+    let a = c .before .before .before .before .before .before .before .before .before .before .before .before .before .before .before .before .before .before .before .before .before .before .before .before .before .before .before .before .before .before .before .before .before .before .before .before .before .args in
     let p = c .before .before .before .before .before .before .before .before .before .before .before .before .before .before .before .before .before .before .before .before .before .before .before .before .before .before .before .before .before .before .before .before .before .before .before .before .before .pre .1 in
-    let f = move-fits _ _ (p .0) _ _ _ _ _ _ _ (look-is _ _ _ (c .before .before .before .before .before .before .before .before .before .before .before .before .before .before .before .before .before .before .before .before .before .before .before .before .before .before .before .before .look .ensures) (c .before .before .before .before .before .before .before .before .before .before .before .before .before .before .before .before .before .before .before .before .before .before .before .before .before .before .k .given .1)) in
-    ((p .0 .terms-within, move-linked _ _ _ _ _ _ _ _ (look-is _ _ _ (c .before .before .before .before .before .before .before .before .before .before .before .before .before .before .before .before .before .before .before .before .before .before .before .before .before .before .before .before .look .ensures) (c .before .before .before .before .before .before .before .before .before .before .before .before .before .before .before .before .before .before .before .before .before .before .before .before .before .before .k .given .1)), f .0, f .1, f .2), (p .4, search needs, search needs)))
+    let q = said (a .layout) (a .query .now) in
+    let g = orderOf (a .order .now) in
+    let s = pathAs (a .single) (a .rep .now) (a .link .now) (a .reach .now) (a .link2 .now) (a .reach2 .now) (a .link3 .now) (a .reach3 .now) in
+    let m = c .before .before .before .before .before .before .before .before .before .before .before .before .before .before .before .before .before .before .before .before .before .before .before .before .before .before .k .given .0 in
+    let h = look-is (c .before .before .before .before .before .before .before .before .before .before .before .before .before .before .before .before .before .before .before .before .before .before .before .before .before .before .before .before .look .result) (seen.Applying (m .0) (m .1 .0) (m .1 .1 .0) (m .1 .1 .1 .0) (m .1 .1 .1 .1 .0)) (look q g s) (c .before .before .before .before .before .before .before .before .before .before .before .before .before .before .before .before .before .before .before .before .before .before .before .before .before .before .before .before .look .ensures) (c .before .before .before .before .before .before .before .before .before .before .before .before .before .before .before .before .before .before .before .before .before .before .before .before .before .before .k .given .1) in
+    let f = move-fits (a .query .now) (a .layout) (p .0) g s (m .0 .0) (kindOf (m .1 .0)) (m .1 .1 .0 .0) (m .1 .1 .1 .0 .0) (m .1 .1 .1 .1 .0 .0) h in
+    ((p .0 .terms-within, move-linked q g s (m .0 .0) (kindOf (m .1 .0)) (m .1 .1 .0 .0) (m .1 .1 .1 .0 .0) (m .1 .1 .1 .1 .0 .0) h, f .0, f .1, f .2), (p .4, search needs, search needs)))
     -- sub-list-in
-    (λ c. look-some _ _ _ _ _ (c .before .before .before .before .before .before .before .before .before .before .before .before .before .before .before .before .before .before .before .before .before .before .before .before .before .before .before .before .before .before .before .before .before .before .before .before .before .before .pre .1 .3) (look-is _ _ _ (c .before .before .before .before .before .before .before .before .before .before .before .before .before .before .before .before .before .before .before .before .before .before .before .before .before .before .before .before .before .look .ensures) (c .before .before .before .before .before .before .before .before .before .before .before .before .before .before .before .before .before .before .before .before .before .before .before .before .before .before .before .k .given .1)))
+    (λ c.
+    let a = c .before .before .before .before .before .before .before .before .before .before .before .before .before .before .before .before .before .before .before .before .before .before .before .before .before .before .before .before .before .before .before .before .before .before .before .before .before .before .args in
+    let p = c .before .before .before .before .before .before .before .before .before .before .before .before .before .before .before .before .before .before .before .before .before .before .before .before .before .before .before .before .before .before .before .before .before .before .before .before .before .before .pre .1 in
+    let q = said (a .layout) (a .query .now) in
+    let g = orderOf (a .order .now) in
+    let s = pathAs (a .single) (a .rep .now) (a .link .now) (a .reach .now) (a .link2 .now) (a .reach2 .now) (a .link3 .now) (a .reach3 .now) in
+    let m = c .before .before .before .before .before .before .before .before .before .before .before .before .before .before .before .before .before .before .before .before .before .before .before .before .before .before .before .k .given .0 in
+    let h = look-is (c .before .before .before .before .before .before .before .before .before .before .before .before .before .before .before .before .before .before .before .before .before .before .before .before .before .before .before .before .before .look .result) (seen.Applying (m .0) (m .1 .0) (m .1 .1 .0) (m .1 .1 .1 .0) (m .1 .1 .1 .1 .0)) (look q g s) (c .before .before .before .before .before .before .before .before .before .before .before .before .before .before .before .before .before .before .before .before .before .before .before .before .before .before .before .before .before .look .ensures) (c .before .before .before .before .before .before .before .before .before .before .before .before .before .before .before .before .before .before .before .before .before .before .before .before .before .before .before .k .given .1) in
+    look-some q g (a .left) s (move (m .0 .0) (kindOf (m .1 .0)) (triple (m .1 .1 .0 .0) (m .1 .1 .1 .0 .0) (m .1 .1 .1 .1 .0 .0))) (p .3) h)
     -- list-in-requires
     (λ c κs.
-    let p = c .before .before .before .before .before .before .before .before .before .before .before .before .before .before .before .before .before .before .before .before .before .before .before .before .before .before .before .before .before .before .before .before .before .before .before .before .before .before .before .before .before .before .before .before .before .before .pre in
-    let h = (look-is _ _ _ (c .before .before .before .before .before .before .before .before .before .before .before .before .before .before .before .before .before .before .before .before .before .before .before .before .before .before .before .before .before .before .before .before .before .before .before .before .before .look .ensures) (c .before .before .before .before .before .before .before .before .before .before .before .before .before .before .before .before .before .before .before .before .before .before .before .before .before .before .before .before .before .before .before .before .before .before .before .k .given .1)) in
-    let some-left = look-some _ _ _ _ _ (p .1 .3) h in
-    (less-left _ _ some-left (p .0), (p .1 .0, subst Fits (sym (c .before .before .before .before .before .before .before .before .make .ensures .0)) (branch-fits _ _ _ (p .1 .0 .terms-within)), c .before .before .before .before .before .before .before .before .before .before .before .before .before .before .before .before .before .before .before .before .before .before .before .before .before .before .loop .inv .1, branch-fewer _ _ _ _ _ _ _ _ _ _ h some-left (sym (terms-said _ _ (p .1 .0))) (p .1 .3) _ _ (subst (λ (j : ℕ). c .before .before .before .before .before .before .before .before .before .before .before .before .before .before .before .before .before .before .before .before .before .before .before .before .before .before .loop .i < j) (c .before .before .before .before .before .before .before .before .before .before .before .before .before .before .before .before .before .before .before .before .before .before .before .before .before .before .before .before .count .ensures) (c .before .before .before .before .before .before .before .before .before .before .before .before .before .before .before .before .before .before .before .before .before .before .before .before .before .loop-test .taken)) (c .before .before .before .before .before .before .before .before .make .ensures .0), c .before .before .before .before .before .before .before .before .make .ensures .1)))
+    let a = c .before .before .before .before .before .before .before .before .before .before .before .before .before .before .before .before .before .before .before .before .before .before .before .before .before .before .before .before .before .before .before .before .before .before .before .before .before .before .before .before .before .before .before .before .before .before .args in
+    let p = c .before .before .before .before .before .before .before .before .before .before .before .before .before .before .before .before .before .before .before .before .before .before .before .before .before .before .before .before .before .before .before .before .before .before .before .before .before .before .before .before .before .before .before .before .before .before .pre .1 in
+    let q = said (a .layout) (a .query .now) in
+    let g = orderOf (a .order .now) in
+    let s = pathAs (a .single) (a .rep .now) (a .link .now) (a .reach .now) (a .link2 .now) (a .reach2 .now) (a .link3 .now) (a .reach3 .now) in
+    let m = c .before .before .before .before .before .before .before .before .before .before .before .before .before .before .before .before .before .before .before .before .before .before .before .before .before .before .before .before .before .before .before .before .before .before .before .k .given .0 in
+    let h = look-is (c .before .before .before .before .before .before .before .before .before .before .before .before .before .before .before .before .before .before .before .before .before .before .before .before .before .before .before .before .before .before .before .before .before .before .before .before .before .look .result) (seen.Applying (m .0) (m .1 .0) (m .1 .1 .0) (m .1 .1 .1 .0) (m .1 .1 .1 .1 .0)) (look q g s) (c .before .before .before .before .before .before .before .before .before .before .before .before .before .before .before .before .before .before .before .before .before .before .before .before .before .before .before .before .before .before .before .before .before .before .before .before .before .look .ensures) (c .before .before .before .before .before .before .before .before .before .before .before .before .before .before .before .before .before .before .before .before .before .before .before .before .before .before .before .before .before .before .before .before .before .before .before .k .given .1) in
+    let some-left = look-some q g (a .left) s (move (m .0 .0) (kindOf (m .1 .0)) (triple (m .1 .1 .0 .0) (m .1 .1 .1 .0 .0) (m .1 .1 .1 .1 .0 .0))) (p .3) h in
+    let o = c .before .before .before .before .before .before .before .before .before .before .before .before .before .before .before .before .before .before .before .before .before .before .before .before .before .before .loop in
+    let here = subst (λ (j : ℕ). o .i < j) (c .before .before .before .before .before .before .before .before .before .before .before .before .before .before .before .before .before .before .before .before .before .before .before .before .before .before .before .before .count .ensures) (c .before .before .before .before .before .before .before .before .before .before .before .before .before .before .before .before .before .before .before .before .before .before .before .before .before .loop-test .taken) in
+    let e = c .before .before .before .before .before .before .before .before .make .last in
+    let j = joinedIn (a .single) (e .1 .0) (e .1 .1 .0) (e .1 .1 .1 .0) (e .1 .1 .1 .1 .0) (e .1 .1 .1 .1 .1 .0) (e .1 .1 .1 .1 .1 .1 .0) (e .1 .1 .1 .1 .1 .1 .1 .0) (e .1 .1 .1 .1 .1 .1 .1 .1 .0) (e .1 .1 .1 .1 .1 .1 .1 .1 .1 .0) (c .before .before .before .before .before .before .before .before .make .result) in
+    (less-left (a .left) _ some-left (c .before .before .before .before .before .before .before .before .before .before .before .before .before .before .before .before .before .before .before .before .before .before .before .before .before .before .before .before .before .before .before .before .before .before .before .before .before .before .before .before .before .before .before .before .before .before .pre .0), (p .0, made-fits (a .layout .terms) s (alternativeAt (m .0 .0) (a .layout .terms) (s .graph (m .0 .0)) (kindOf (m .1 .0)) (m .1 .1 .0 .0) (m .1 .1 .1 .0 .0) (m .1 .1 .1 .1 .0 .0) (o .i)) j (c .before .before .before .before .before .before .before .before .make .ensures .0) (p .0 .terms-within), o .inv .1, branch-fewer q g (a .left) (a .layout .terms) s (m .0 .0) (kindOf (m .1 .0)) (m .1 .1 .0 .0) (m .1 .1 .1 .0 .0) (m .1 .1 .1 .1 .0 .0) h some-left (sym (terms-said (a .layout) (a .query .now) (p .0))) (p .3) j (o .i) here (c .before .before .before .before .before .before .before .before .make .ensures .0), c .before .before .before .before .before .before .before .before .make .ensures .1)))
     -- same-length-2
-    (λ c. c .before .before .before .list-in .ensures .same-length ∙ c .before .before .before .before .before .before .before .before .before .before .before .before .before .before .before .before .before .before .before .before .before .before .before .before .before .before .before .before .before .before .loop .inv .2 ∙ ap length (c .before .before .before .before .before .before .before .before .before .before .before .before .before .before .before .before .before .before .before .before .before .before .before .before .before .before .before .before .before .before .before .before .before .before .before .put-line2 .ensures) ∙ putLine-length _ _ _ ∙ ap length (c .before .before .before .before .before .before .before .before .before .before .before .before .before .before .before .before .before .before .before .before .before .before .before .before .before .before .before .before .before .before .before .before .before .before .before .before .before .before .before .before .before .before .before .before .before .put-joins .ensures .1) ∙ putAll-length _ _ _)
+    (λ c. c .before .before .before .list-in .ensures .same-length ∙ c .before .before .before .before .before .before .before .before .before .before .before .before .before .before .before .before .before .before .before .before .before .before .before .before .before .before .before .before .before .before .loop .inv .2 ∙ put-line-length _ _ _ _ (c .before .before .before .before .before .before .before .before .before .before .before .before .before .before .before .before .before .before .before .before .before .before .before .before .before .before .before .before .before .before .before .before .before .before .before .put-line2 .ensures) ∙ put-all-length _ _ _ _ (c .before .before .before .before .before .before .before .before .before .before .before .before .before .before .before .before .before .before .before .before .before .before .before .before .before .before .before .before .before .before .before .before .before .before .before .before .before .before .before .before .before .before .before .before .before .put-joins .ensures .1))
     -- returns-2
     (λ c.
     let a = c .before .before .before .before .before .before .before .before .before .before .before .before .before .before .before .before .before .before .before .before .before .before .before .before .before .before .before .before .before .before .before .before .before .before .before .before .before .before .before .before .before .before .before .before .before .before .before .before .before .before .args in
-    let p = c .before .before .before .before .before .before .before .before .before .before .before .before .before .before .before .before .before .before .before .before .before .before .before .before .before .before .before .before .before .before .before .before .before .before .before .before .before .before .before .before .before .before .before .before .before .before .before .before .before .before .pre in
-    lists-after _ (joinedWith (a .pairs) (pathAs (a .single) (a .rep .now) (a .link .now) (a .reach .now) (a .link2 .now) (a .reach2 .now) (a .link3 .now) (a .reach3 .now))) _ _ _ _ _ _ (c .before .before .before .before .before .before .before .before .before .before .before .before .before .before .before .before .before .before .before .before .before .before .before .before .before .before .before .before .before .before .before .before .before .before .before .before .before .before .before .before .before .before .before .before .before .put-joins .ensures .0) (c .before .before .before .before .before .before .before .before .before .before .before .before .before .before .before .before .before .before .before .before .before .before .before .before .before .before .before .before .before .before .before .before .before .before .before .before .before .before .before .before .before .before .before .before .before .put-joins .ensures .1) _ (going-stop _ _ _ _ _ _ _ _ _ _ (sym (terms-said _ _ (p .1 .0))) _ _ _ _ _ _ _ (subst (λ (j : ℕ). c .before .before .before .before .before .before .before .before .before .before .before .before .before .before .before .before .before .before .before .before .before .before .before .before .before .before .before .before .before .before .loop .i < j) (c .before .before .before .before .before .before .before .before .before .before .before .before .before .before .before .before .before .before .before .before .before .before .before .before .before .before .before .before .before .before .before .before .count .ensures) (c .before .before .before .before .before .before .before .before .before .before .before .before .before .before .before .before .before .before .before .before .before .before .before .before .before .before .before .before .before .loop-test .taken)) _ (c .before .before .before .before .before .before .before .before .before .before .before .before .make .ensures .0) _ (c .before .before .before .list-in .ensures) (look-is _ _ _ (c .before .before .before .before .before .before .before .before .before .before .before .before .before .before .before .before .before .before .before .before .before .before .before .before .before .before .before .before .before .before .before .before .before .before .before .before .before .before .before .before .before .look .ensures) (c .before .before .before .before .before .before .before .before .before .before .before .before .before .before .before .before .before .before .before .before .before .before .before .before .before .before .before .before .before .before .before .before .before .before .before .before .before .before .before .k .given .1)) (look-some _ _ _ _ _ (p .1 .3) (look-is _ _ _ (c .before .before .before .before .before .before .before .before .before .before .before .before .before .before .before .before .before .before .before .before .before .before .before .before .before .before .before .before .before .before .before .before .before .before .before .before .before .before .before .before .before .look .ensures) (c .before .before .before .before .before .before .before .before .before .before .before .before .before .before .before .before .before .before .before .before .before .before .before .before .before .before .before .before .before .before .before .before .before .before .before .before .before .before .before .k .given .1))) _ _ (c .before .before .before .before .before .before .before .before .before .before .before .before .before .before .before .before .before .before .before .before .before .before .before .before .before .before .before .before .before .before .before .counted2 .ensures) (c .before .before .before .before .before .before .before .before .before .before .before .before .before .before .before .before .before .before .before .before .before .before .before .before .before .before .before .before .before .before .loop .inv .2 ∙ ap length (c .before .before .before .before .before .before .before .before .before .before .before .before .before .before .before .before .before .before .before .before .before .before .before .before .before .before .before .before .before .before .before .before .before .before .before .put-line2 .ensures) ∙ putLine-length _ _ _) (c .before .before .before .before .before .before .before .before .before .before .before .before .before .before .before .before .before .before .before .before .before .before .before .before .before .before .before .before .before .before .loop .inv .0) (c .if2 .taken)))
+    let p = c .before .before .before .before .before .before .before .before .before .before .before .before .before .before .before .before .before .before .before .before .before .before .before .before .before .before .before .before .before .before .before .before .before .before .before .before .before .before .before .before .before .before .before .before .before .before .before .before .before .before .pre .1 in
+    let q = said (a .layout) (a .query .now) in
+    let g = orderOf (a .order .now) in
+    let s = pathAs (a .single) (a .rep .now) (a .link .now) (a .reach .now) (a .link2 .now) (a .reach2 .now) (a .link3 .now) (a .reach3 .now) in
+    let m = c .before .before .before .before .before .before .before .before .before .before .before .before .before .before .before .before .before .before .before .before .before .before .before .before .before .before .before .before .before .before .before .before .before .before .before .before .before .before .before .k .given .0 in
+    let h = look-is (c .before .before .before .before .before .before .before .before .before .before .before .before .before .before .before .before .before .before .before .before .before .before .before .before .before .before .before .before .before .before .before .before .before .before .before .before .before .before .before .before .before .look .result) (seen.Applying (m .0) (m .1 .0) (m .1 .1 .0) (m .1 .1 .1 .0) (m .1 .1 .1 .1 .0)) (look q g s) (c .before .before .before .before .before .before .before .before .before .before .before .before .before .before .before .before .before .before .before .before .before .before .before .before .before .before .before .before .before .before .before .before .before .before .before .before .before .before .before .before .before .look .ensures) (c .before .before .before .before .before .before .before .before .before .before .before .before .before .before .before .before .before .before .before .before .before .before .before .before .before .before .before .before .before .before .before .before .before .before .before .before .before .before .before .k .given .1) in
+    let some-left = look-some q g (a .left) s (move (m .0 .0) (kindOf (m .1 .0)) (triple (m .1 .1 .0 .0) (m .1 .1 .1 .0 .0) (m .1 .1 .1 .1 .0 .0))) (p .3) h in
+    let o = c .before .before .before .before .before .before .before .before .before .before .before .before .before .before .before .before .before .before .before .before .before .before .before .before .before .before .before .before .before .before .loop in
+    let here = subst (λ (j : ℕ). o .i < j) (c .before .before .before .before .before .before .before .before .before .before .before .before .before .before .before .before .before .before .before .before .before .before .before .before .before .before .before .before .before .before .before .before .count .ensures) (c .before .before .before .before .before .before .before .before .before .before .before .before .before .before .before .before .before .before .before .before .before .before .before .before .before .before .before .before .before .loop-test .taken) in
+    let e = c .before .before .before .before .before .before .before .before .before .before .before .before .make .last in
+    let j = joinedIn (a .single) (e .1 .0) (e .1 .1 .0) (e .1 .1 .1 .0) (e .1 .1 .1 .1 .0) (e .1 .1 .1 .1 .1 .0) (e .1 .1 .1 .1 .1 .1 .0) (e .1 .1 .1 .1 .1 .1 .1 .0) (e .1 .1 .1 .1 .1 .1 .1 .1 .0) (e .1 .1 .1 .1 .1 .1 .1 .1 .1 .0) (c .before .before .before .before .before .before .before .before .before .before .before .before .make .result) in
+    lists-after (walk q g (a .left)) (joinedWith (a .pairs) s) (c .before .before .before .list-in .result) (a .lines .now) (c .before .before .before .before .before .before .before .before .before .before .before .before .before .before .before .before .before .before .before .before .before .before .before .before .before .before .before .before .before .before .before .before .before .before .before .before .before .before .before .before .before .before .before .before .before .put-joins .last .0) (a .first) (c .before .before .before .before .before .before .before .before .before .before .before .before .before .before .before .before .before .before .before .before .before .before .before .before .before .before .before .before .before .before .before .before .before .before .before .before .before .before .before .before .before .before .before .before .before .put-joins .result) (a .most) (c .before .before .before .before .before .before .before .before .before .before .before .before .before .before .before .before .before .before .before .before .before .before .before .before .before .before .before .before .before .before .before .before .before .before .before .before .before .before .before .before .before .before .before .before .before .put-joins .ensures .0) (c .before .before .before .before .before .before .before .before .before .before .before .before .before .before .before .before .before .before .before .before .before .before .before .before .before .before .before .before .before .before .before .before .before .before .before .before .before .before .before .before .before .before .before .before .before .put-joins .ensures .1) (c .before .before .before .list-in .last .1 .1 .1 .1 .1 .1 .1 .1 .1 .1 .1 .1 .1 .0) (going-stop q g (a .left) s (m .0 .0) (kindOf (m .1 .0)) (m .1 .1 .0 .0) (m .1 .1 .1 .0 .0) (m .1 .1 .1 .1 .0 .0) (a .layout .terms) (sym (terms-said (a .layout) (a .query .now) (p .0))) (c .before .before .before .before .before .before .before .before .before .before .before .before .before .before .before .before .before .before .before .before .before .before .before .before .before .before .before .before .before .before .before .before .before .before .before .put-line2 .last .0) (c .before .before .before .before .before .before .before .before .before .before .before .before .before .before .before .before .before .before .before .before .before .before .before .before .before .before .before .before .before .before .before .counted2 .result) (o .i) (o .lines) (c .before .before .before .list-in .last .1 .1 .1 .1 .1 .1 .1 .1 .1 .1 .1 .1 .1 .0) (o .written) (a .most) here j (c .before .before .before .before .before .before .before .before .before .before .before .before .make .ensures .0) (c .before .before .before .list-in .result) (c .before .before .before .list-in .ensures) h some-left (c .before .before .before .before .before .before .before .before .before .before .before .before .before .before .before .before .before .before .before .before .before .before .before .before .before .before .before .before .before .before .before .before .before .before .before .before .before .before .before .before .before .before .before .before .before .put-joins .last .0) (c .before .before .before .before .before .before .before .before .before .before .before .before .before .before .before .before .before .before .before .before .before .before .before .before .before .before .before .before .before .before .before .before .before .before .before .before .before .before .before .before .before .before .before .before .before .put-joins .result) (c .before .before .before .before .before .before .before .before .before .before .before .before .before .before .before .before .before .before .before .before .before .before .before .before .before .before .before .before .before .before .before .counted2 .ensures) (o .inv .2 ∙ put-line-length _ _ _ _ (c .before .before .before .before .before .before .before .before .before .before .before .before .before .before .before .before .before .before .before .before .before .before .before .before .before .before .before .before .before .before .before .before .before .before .before .put-line2 .ensures)) (o .inv .0) (c .if2 .taken)))
     -- add-i
-    (λ c. let b = c .before .before .before .before .before .before .before .before .before .before .before .before .before .before .before .before .before .before .before .before .before .before .before .before .before .before .before .before .before .loop-test .taken in let f = move-fits _ _ (c .before .before .before .before .before .before .before .before .before .before .before .before .before .before .before .before .before .before .before .before .before .before .before .before .before .before .before .before .before .before .before .before .before .before .before .before .before .before .before .before .before .before .before .before .before .before .before .before .before .before .pre .1 .0) _ _ _ _ _ _ _ (look-is _ _ _ (c .before .before .before .before .before .before .before .before .before .before .before .before .before .before .before .before .before .before .before .before .before .before .before .before .before .before .before .before .before .before .before .before .before .before .before .before .before .before .before .before .before .look .ensures) (c .before .before .before .before .before .before .before .before .before .before .before .before .before .before .before .before .before .before .before .before .before .before .before .before .before .before .before .before .before .before .before .before .before .before .before .before .before .before .before .k .given .1)) in omega (arith, b, c .before .before .before .before .before .before .before .before .before .before .before .before .before .before .before .before .before .before .before .before .before .before .before .before .before .before .before .before .before .before .before .before .count .ensures, count-few (kindOf (c .before .before .before .before .before .before .before .before .before .before .before .before .before .before .before .before .before .before .before .before .before .before .before .before .before .before .before .before .before .before .before .before .before .before .before .before .before .before .before .k .given .0 .1 .0)) (c .before .before .before .before .before .before .before .before .before .before .before .before .before .before .before .before .before .before .before .before .before .before .before .before .before .before .before .before .before .before .before .before .before .before .before .before .before .before .before .k .given .0 .1 .1 .1 .1 .0 .0) (f .2)))
+    (λ c.
+    let a = c .before .before .before .before .before .before .before .before .before .before .before .before .before .before .before .before .before .before .before .before .before .before .before .before .before .before .before .before .before .before .before .before .before .before .before .before .before .before .before .before .before .before .before .before .before .before .before .before .before .before .args in
+    let p = c .before .before .before .before .before .before .before .before .before .before .before .before .before .before .before .before .before .before .before .before .before .before .before .before .before .before .before .before .before .before .before .before .before .before .before .before .before .before .before .before .before .before .before .before .before .before .before .before .before .before .pre .1 in
+    let q = said (a .layout) (a .query .now) in
+    let g = orderOf (a .order .now) in
+    let s = pathAs (a .single) (a .rep .now) (a .link .now) (a .reach .now) (a .link2 .now) (a .reach2 .now) (a .link3 .now) (a .reach3 .now) in
+    let m = c .before .before .before .before .before .before .before .before .before .before .before .before .before .before .before .before .before .before .before .before .before .before .before .before .before .before .before .before .before .before .before .before .before .before .before .before .before .before .before .k .given .0 in
+    let h = look-is (c .before .before .before .before .before .before .before .before .before .before .before .before .before .before .before .before .before .before .before .before .before .before .before .before .before .before .before .before .before .before .before .before .before .before .before .before .before .before .before .before .before .look .result) (seen.Applying (m .0) (m .1 .0) (m .1 .1 .0) (m .1 .1 .1 .0) (m .1 .1 .1 .1 .0)) (look q g s) (c .before .before .before .before .before .before .before .before .before .before .before .before .before .before .before .before .before .before .before .before .before .before .before .before .before .before .before .before .before .before .before .before .before .before .before .before .before .before .before .before .before .look .ensures) (c .before .before .before .before .before .before .before .before .before .before .before .before .before .before .before .before .before .before .before .before .before .before .before .before .before .before .before .before .before .before .before .before .before .before .before .before .before .before .before .k .given .1) in
+    let b = c .before .before .before .before .before .before .before .before .before .before .before .before .before .before .before .before .before .before .before .before .before .before .before .before .before .before .before .before .before .loop-test .taken in
+    let f = move-fits (a .query .now) (a .layout) (p .0) g s (m .0 .0) (kindOf (m .1 .0)) (m .1 .1 .0 .0) (m .1 .1 .1 .0 .0) (m .1 .1 .1 .1 .0 .0) h in
+    omega (arith, b, c .before .before .before .before .before .before .before .before .before .before .before .before .before .before .before .before .before .before .before .before .before .before .before .before .before .before .before .before .before .before .before .before .count .ensures, count-few (kindOf (m .1 .0)) (m .1 .1 .1 .1 .0 .0) (f .2)))
     -- loop-less
     (λ c. let b = c .before .before .before .before .before .before .before .before .before .before .before .before .before .before .before .before .before .before .before .before .before .before .before .before .before .before .before .before .before .loop-test .taken in omega arith)
     -- loop-again
-    (λ c. (going-next _ _ _ _ _ _ _ _ _ _ (sym (terms-said _ _ (c .before .before .before .before .before .before .before .before .before .before .before .before .before .before .before .before .before .before .before .before .before .before .before .before .before .before .before .before .before .before .before .before .before .before .before .before .before .before .before .before .before .before .before .before .before .before .before .before .before .before .pre .1 .0))) _ _ _ _ _ _ _ (subst (λ (j : ℕ). c .before .before .before .before .before .before .before .before .before .before .before .before .before .before .before .before .before .before .before .before .before .before .before .before .before .before .before .before .before .before .loop .i < j) (c .before .before .before .before .before .before .before .before .before .before .before .before .before .before .before .before .before .before .before .before .before .before .before .before .before .before .before .before .before .before .before .before .count .ensures) (c .before .before .before .before .before .before .before .before .before .before .before .before .before .before .before .before .before .before .before .before .before .before .before .before .before .before .before .before .before .loop-test .taken)) _ (c .before .before .before .before .before .before .before .before .before .before .before .before .make .ensures .0) _ (c .before .before .before .list-in .ensures) (c .before .before .before .before .before .before .before .before .before .before .before .before .before .before .before .before .before .before .before .before .before .before .before .before .before .before .before .before .before .before .loop .inv .0) (c .if2 .left), c .before .before .before .list-in .ensures .bounded, c .before .before .before .list-in .ensures .same-length ∙ c .before .before .before .before .before .before .before .before .before .before .before .before .before .before .before .before .before .before .before .before .before .before .before .before .before .before .before .before .before .before .loop .inv .2))
+    (λ c.
+    let a = c .before .before .before .before .before .before .before .before .before .before .before .before .before .before .before .before .before .before .before .before .before .before .before .before .before .before .before .before .before .before .before .before .before .before .before .before .before .before .before .before .before .before .before .before .before .before .before .before .before .before .args in
+    let p = c .before .before .before .before .before .before .before .before .before .before .before .before .before .before .before .before .before .before .before .before .before .before .before .before .before .before .before .before .before .before .before .before .before .before .before .before .before .before .before .before .before .before .before .before .before .before .before .before .before .before .pre .1 in
+    let q = said (a .layout) (a .query .now) in
+    let g = orderOf (a .order .now) in
+    let s = pathAs (a .single) (a .rep .now) (a .link .now) (a .reach .now) (a .link2 .now) (a .reach2 .now) (a .link3 .now) (a .reach3 .now) in
+    let m = c .before .before .before .before .before .before .before .before .before .before .before .before .before .before .before .before .before .before .before .before .before .before .before .before .before .before .before .before .before .before .before .before .before .before .before .before .before .before .before .k .given .0 in
+    let o = c .before .before .before .before .before .before .before .before .before .before .before .before .before .before .before .before .before .before .before .before .before .before .before .before .before .before .before .before .before .before .loop in
+    let here = subst (λ (j : ℕ). o .i < j) (c .before .before .before .before .before .before .before .before .before .before .before .before .before .before .before .before .before .before .before .before .before .before .before .before .before .before .before .before .before .before .before .before .count .ensures) (c .before .before .before .before .before .before .before .before .before .before .before .before .before .before .before .before .before .before .before .before .before .before .before .before .before .before .before .before .before .loop-test .taken) in
+    let e = c .before .before .before .before .before .before .before .before .before .before .before .before .make .last in
+    let j = joinedIn (a .single) (e .1 .0) (e .1 .1 .0) (e .1 .1 .1 .0) (e .1 .1 .1 .1 .0) (e .1 .1 .1 .1 .1 .0) (e .1 .1 .1 .1 .1 .1 .0) (e .1 .1 .1 .1 .1 .1 .1 .0) (e .1 .1 .1 .1 .1 .1 .1 .1 .0) (e .1 .1 .1 .1 .1 .1 .1 .1 .1 .0) (c .before .before .before .before .before .before .before .before .before .before .before .before .make .result) in
+    (going-next q g (a .left) s (m .0 .0) (kindOf (m .1 .0)) (m .1 .1 .0 .0) (m .1 .1 .1 .0 .0) (m .1 .1 .1 .1 .0 .0) (a .layout .terms) (sym (terms-said (a .layout) (a .query .now) (p .0))) (c .before .before .before .before .before .before .before .before .before .before .before .before .before .before .before .before .before .before .before .before .before .before .before .before .before .before .before .before .before .before .before .before .before .before .before .put-line2 .last .0) (c .before .before .before .before .before .before .before .before .before .before .before .before .before .before .before .before .before .before .before .before .before .before .before .before .before .before .before .before .before .before .before .counted2 .result) (o .i) (o .lines) (c .before .before .before .list-in .last .1 .1 .1 .1 .1 .1 .1 .1 .1 .1 .1 .1 .1 .0) (o .written) (a .most) here j (c .before .before .before .before .before .before .before .before .before .before .before .before .make .ensures .0) (c .before .before .before .list-in .result) (c .before .before .before .list-in .ensures) (o .inv .0) (c .if2 .left), c .before .before .before .list-in .ensures .bounded, c .before .before .before .list-in .ensures .same-length ∙ o .inv .2))
     -- same-length-3
-    (λ c. ap length (c .before .before .before .before .before .before .put-joins .ensures .1) ∙ putAll-length _ _ _)
+    (λ c. put-all-length _ _ _ _ (c .before .before .before .before .before .before .put-joins .ensures .1))
     -- returns-3
     (λ c.
     let a = c .before .before .before .before .before .before .before .before .before .before .before .args in
-    let p = c .before .before .before .before .before .before .before .before .before .before .before .pre in
-    lists-after _ (joinedWith (a .pairs) (pathAs (a .single) (a .rep .now) (a .link .now) (a .reach .now) (a .link2 .now) (a .reach2 .now) (a .link3 .now) (a .reach3 .now))) _ _ _ _ _ _ (c .before .before .before .before .before .before .put-joins .ensures .0) (c .before .before .before .before .before .before .put-joins .ensures .1) _ (lists-saturated _ _ _ (pathAs (a .single) (a .rep .now) (a .link .now) (a .reach .now) (a .link2 .now) (a .reach2 .now) (a .link3 .now) (a .reach3 .now)) _ _ _ _ _ (look-is _ _ _ (c .before .before .look .ensures) (c .enum-told .given .1)) refl (headed-bound _ _ _ (c .before .before .before .before .before .before .put-joins .ensures .0) (p .1 .2))))
+    let p = c .before .before .before .before .before .before .before .before .before .before .before .pre .1 in
+    let q = said (a .layout) (a .query .now) in
+    let g = orderOf (a .order .now) in
+    let s = pathAs (a .single) (a .rep .now) (a .link .now) (a .reach .now) (a .link2 .now) (a .reach2 .now) (a .link3 .now) (a .reach3 .now) in
+    let h = look-is (c .before .before .look .result) seen.Saturated (look q g s) (c .before .before .look .ensures) (c .enum-told .given .1) in
+    lists-after (walk q g (a .left)) (joinedWith (a .pairs) s) _ (a .lines .now) (c .before .before .before .before .before .before .put-joins .last .0) (a .first) (c .before .before .before .before .before .before .put-joins .result) (a .most) (c .before .before .before .before .before .before .put-joins .ensures .0) (c .before .before .before .before .before .before .put-joins .ensures .1) (c .before .before .before .before .before .before .put-joins .last .0) (lists-saturated q g (a .left) s _ (c .before .before .before .before .before .before .put-joins .last .0) (c .before .before .before .before .before .before .put-joins .result) (a .most) (c .before .before .before .before .before .before .put-joins .last .0) h refl (headed-bound (a .first) (c .before .before .before .before .before .before .put-joins .result) _ (c .before .before .before .before .before .before .put-joins .ensures .0) (p .2))))
     -- same-length-4
-    (λ c. ap length (c .before .before .before .put-line .ensures) ∙ putLine-length _ _ _ ∙ ap length (c .before .before .before .before .before .before .before .before .before .before .before .before .put-joins .ensures .1) ∙ putAll-length _ _ _)
+    (λ c. put-line-length _ _ _ _ (c .before .before .before .put-line .ensures) ∙ put-all-length _ _ _ _ (c .before .before .before .before .before .before .before .before .before .before .before .before .put-joins .ensures .1))
     -- returns-4
     (λ c.
     let a = c .before .before .before .before .before .before .before .before .before .before .before .before .before .before .before .before .before .args in
-    let p = c .before .before .before .before .before .before .before .before .before .before .before .before .before .before .before .before .before .pre in
-    lists-after _ (joinedWith (a .pairs) (pathAs (a .single) (a .rep .now) (a .link .now) (a .reach .now) (a .link2 .now) (a .reach2 .now) (a .link3 .now) (a .reach3 .now))) _ _ _ _ _ _ (c .before .before .before .before .before .before .before .before .before .before .before .before .put-joins .ensures .0) (c .before .before .before .before .before .before .before .before .before .before .before .before .put-joins .ensures .1) _ (lists-clash _ _ _ (pathAs (a .single) (a .rep .now) (a .link .now) (a .reach .now) (a .link2 .now) (a .reach2 .now) (a .link3 .now) (a .reach3 .now)) _ _ _ _ _ _ (look-is _ _ _ (c .before .before .before .before .before .before .before .before .look .ensures) (c .before .before .before .before .before .before .section .given .1)) (headed-bound _ _ _ (c .before .before .before .before .before .before .before .before .before .before .before .before .put-joins .ensures .0) (p .1 .2)) refl (c .counted .ensures) (c .before .before .before .put-line .ensures)))
+    let p = c .before .before .before .before .before .before .before .before .before .before .before .before .before .before .before .before .before .pre .1 in
+    let q = said (a .layout) (a .query .now) in
+    let g = orderOf (a .order .now) in
+    let s = pathAs (a .single) (a .rep .now) (a .link .now) (a .reach .now) (a .link2 .now) (a .reach2 .now) (a .link3 .now) (a .reach3 .now) in
+    let m = c .before .before .before .before .before .before .section .given .0 in
+    let h = look-is (c .before .before .before .before .before .before .before .before .look .result) (seen.Clashing (m .0) (m .1 .0) (m .1 .1 .0)) (look q g s) (c .before .before .before .before .before .before .before .before .look .ensures) (c .before .before .before .before .before .before .section .given .1) in
+    lists-after (walk q g (a .left)) (joinedWith (a .pairs) s) _ (a .lines .now) (c .before .before .before .before .before .before .before .before .before .before .before .before .put-joins .last .0) (a .first) (c .before .before .before .before .before .before .before .before .before .before .before .before .put-joins .result) (a .most) (c .before .before .before .before .before .before .before .before .before .before .before .before .put-joins .ensures .0) (c .before .before .before .before .before .before .before .before .before .before .before .before .put-joins .ensures .1) (c .before .before .before .put-line .last .0) (lists-clash q g (a .left) s _ (c .before .before .before .before .before .before .before .before .before .before .before .before .put-joins .last .0) (c .before .before .before .before .before .before .before .before .before .before .before .before .put-joins .result) (a .most) (c .before .before .before .put-line .last .0) _ h (headed-bound (a .first) (c .before .before .before .before .before .before .before .before .before .before .before .before .put-joins .result) _ (c .before .before .before .before .before .before .before .before .before .before .before .before .put-joins .ensures .0) (p .2)) refl (c .counted .ensures) (c .before .before .before .put-line .ensures)))
     -- same-length-5
-    (λ c. c .before .loop .inv .2 ∙ ap length (c .before .before .before .before .before .before .put-line2 .ensures) ∙ putLine-length _ _ _ ∙ ap length (c .before .before .before .before .before .before .before .before .before .before .before .before .before .before .before .before .put-joins .ensures .1) ∙ putAll-length _ _ _)
+    (λ c. c .before .loop .inv .2 ∙ put-line-length _ _ _ _ (c .before .before .before .before .before .before .put-line2 .ensures) ∙ put-all-length _ _ _ _ (c .before .before .before .before .before .before .before .before .before .before .before .before .before .before .before .before .put-joins .ensures .1))
     -- returns-5
     (λ c.
     let a = c .before .before .before .before .before .before .before .before .before .before .before .before .before .before .before .before .before .before .before .before .before .args in
-    let p = c .before .before .before .before .before .before .before .before .before .before .before .before .before .before .before .before .before .before .before .before .before .pre in
-    lists-after _ (joinedWith (a .pairs) (pathAs (a .single) (a .rep .now) (a .link .now) (a .reach .now) (a .link2 .now) (a .reach2 .now) (a .link3 .now) (a .reach3 .now))) _ _ _ _ _ _ (c .before .before .before .before .before .before .before .before .before .before .before .before .before .before .before .before .put-joins .ensures .0) (c .before .before .before .before .before .before .before .before .before .before .before .before .before .before .before .before .put-joins .ensures .1) _ (going-last _ _ _ _ _ _ _ _ _ (look-is _ _ _ (c .before .before .before .before .before .before .before .before .before .before .before .before .look .ensures) (c .before .before .before .before .before .before .before .before .before .before .k .given .1)) (look-some _ _ _ _ _ (p .1 .3) (look-is _ _ _ (c .before .before .before .before .before .before .before .before .before .before .before .before .look .ensures) (c .before .before .before .before .before .before .before .before .before .before .k .given .1))) _ _ _ _ _ _ (c .before .loop .inv .0) (subst (λ (j : ℕ). j ≤ c .before .loop .i) (c .before .before .before .count .ensures) (c .loop-test .left)) _ _ _ _ (c .before .before .before .before .before .before .before .number .ensures .0) (c .before .before .before .before .before .before .put-line2 .ensures) (c .before .before .counted2 .ensures) (c .before .loop .inv .2 ∙ ap length (c .before .before .before .before .before .before .put-line2 .ensures) ∙ putLine-length _ _ _) (c .before .loop .inv .1) refl refl))
+    let p = c .before .before .before .before .before .before .before .before .before .before .before .before .before .before .before .before .before .before .before .before .before .pre .1 in
+    let q = said (a .layout) (a .query .now) in
+    let g = orderOf (a .order .now) in
+    let s = pathAs (a .single) (a .rep .now) (a .link .now) (a .reach .now) (a .link2 .now) (a .reach2 .now) (a .link3 .now) (a .reach3 .now) in
+    let m = c .before .before .before .before .before .before .before .before .before .before .k .given .0 in
+    let h = look-is (c .before .before .before .before .before .before .before .before .before .before .before .before .look .result) (seen.Applying (m .0) (m .1 .0) (m .1 .1 .0) (m .1 .1 .1 .0) (m .1 .1 .1 .1 .0)) (look q g s) (c .before .before .before .before .before .before .before .before .before .before .before .before .look .ensures) (c .before .before .before .before .before .before .before .before .before .before .k .given .1) in
+    let some-left = look-some q g (a .left) s (move (m .0 .0) (kindOf (m .1 .0)) (triple (m .1 .1 .0 .0) (m .1 .1 .1 .0 .0) (m .1 .1 .1 .1 .0 .0))) (p .3) h in
+    let o = c .before .loop in
+    lists-after (walk q g (a .left)) (joinedWith (a .pairs) s) _ (a .lines .now) (c .before .before .before .before .before .before .before .before .before .before .before .before .before .before .before .before .put-joins .last .0) (a .first) (c .before .before .before .before .before .before .before .before .before .before .before .before .before .before .before .before .put-joins .result) (a .most) (c .before .before .before .before .before .before .before .before .before .before .before .before .before .before .before .before .put-joins .ensures .0) (c .before .before .before .before .before .before .before .before .before .before .before .before .before .before .before .before .put-joins .ensures .1) (o .lines) (going-last q g (a .left) s (m .0 .0) (kindOf (m .1 .0)) (m .1 .1 .0 .0) (m .1 .1 .1 .0 .0) (m .1 .1 .1 .1 .0 .0) h some-left (c .before .before .before .before .before .before .put-line2 .last .0) (c .before .before .counted2 .result) (o .i) (o .lines) (o .written) (a .most) (o .inv .0) (subst (λ (j : ℕ). j ≤ o .i) (c .before .before .before .count .ensures) (c .loop-test .left)) _ (c .before .before .before .before .before .before .before .before .before .before .before .before .before .before .before .before .put-joins .last .0) (c .before .before .before .before .before .before .before .before .before .before .before .before .before .before .before .before .put-joins .result) _ (c .before .before .before .before .before .before .before .number .ensures .0) (c .before .before .before .before .before .before .put-line2 .ensures) (c .before .before .counted2 .ensures) (o .inv .2 ∙ put-line-length _ _ _ _ (c .before .before .before .before .before .before .put-line2 .ensures)) (o .inv .1) refl refl))

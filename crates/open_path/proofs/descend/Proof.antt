@@ -1,15 +1,17 @@
 -- Each turn goes into the first branch with a heap; our walk ends where the rest of it does. Assumes nothing.
 use borrow.Author.Needs.{needs}
-use native.Mathlib.Omega.{arith}
-use mathlib.Core.Path.{sym}
+use mathlib.Core.Path.{refl, sym}
+use Rattle.logic.specs.Walk.{look, orderOf}
 use Rattle.logic.specs.Decision.{HasHeap}
 use Rattle.link_query.specs.Said.{said}
 use Rattle.link_query.proofs.Said.{terms-said}
 use Rattle.facts.specs.Path.{pathOf}
+use Rattle.rules.specs.Answers.{kindOf}
 use Rattle.theory.proofs.Calls.Decision.{reachable-known}
 use Rattle.walk.proofs.Walks.{walk-saturated}
-use Rattle.walk.proofs.Steps.{look-is}
-use Rattle.decide.proofs.Turns.{some-left}
+use Rattle.walk.proofs.Steps.{look-is, less-left}
+use Rattle.walk.specs.declared.Seen.the-variants as seen
+use Rattle.plain_steps.proofs.Turns.{some-left}
 use Rattle.open_path.proofs.First.{Comes, never-clashes, comes-on}
 use Rattle.open_path.proofs.descend.Statement.{statement}
 use Rattle.open_path.proofs.descend.Tie as tie
@@ -36,32 +38,68 @@ descend-spec =
     -- enum-told
     (λ c. search needs)
     -- returns
-    (λ c. c .before .before .before .before .before .before .before .before .before .before .before .loop .inv .0 .ends _ (walk-saturated _ _ (c .before .before .before .before .before .before .before .before .before .before .before .loop .steps) _ (look-is _ _ _ (c .before .before .look .ensures) (c .enum-told .given .1))))
+    (λ c.
+    let a = c .before .before .before .before .before .before .before .before .before .before .before .before .before .before .args in
+    let p = c .before .before .before .before .before .before .before .before .before .before .before .before .before .before .pre in
+    let o = c .before .before .before .before .before .before .before .before .before .before .before .loop in
+    let q = said (a .layout) (a .query .now) in
+    let g = orderOf (a .order .now) in
+    let s = pathOf (o .path) in
+    (o .inv .0 .ends s (walk-saturated q g (o .steps) s (look-is (c .before .before .look .result) seen.Saturated (look q g s) (c .before .before .look .ensures) (c .enum-told .given .1))), o .inv .0 .reach))
     -- enum-told-2
     (λ c. search needs)
     -- returns-2
     (λ c.
-    let i = c .before .before .before .before .before .before .before .before .before .before .before .loop .inv .0 in
-    absurd (never-clashes (c .before .before .before .before .before .before .before .before .before .before .before .before .before .before .args .order .now) (c .before .before .before .before .before .before .before .before .before .before .before .before .before .before .pre .1) _ (i .reach) (i .has-heap) _ (look-is _ _ _ (c .before .before .look .ensures) (c .enum-told2 .given .1))))
+    let a = c .before .before .before .before .before .before .before .before .before .before .before .before .before .before .args in
+    let p = c .before .before .before .before .before .before .before .before .before .before .before .before .before .before .pre in
+    let o = c .before .before .before .before .before .before .before .before .before .before .before .loop in
+    let q = said (a .layout) (a .query .now) in
+    let g = orderOf (a .order .now) in
+    let s = pathOf (o .path) in
+    absurd (never-clashes {q = q} (a .order .now) (p .1) s (o .inv .0 .reach) (o .inv .0 .has-heap) _ (look-is (c .before .before .look .result) _ (look q g s) (c .before .before .look .ensures) (c .enum-told2 .given .1))))
     -- enum-known-k
     (λ c. search needs)
     -- first-open-requires
     (λ c κs.
+    let a = c .before .before .before .before .before .before .before .before .before .before .before .before .before .before .before .args in
     let p = c .before .before .before .before .before .before .before .before .before .before .before .before .before .before .before .pre in
-    let i = c .before .before .before .before .before .before .before .before .before .before .before .before .loop .inv in
-    (p .0, p .1, p .2, i .0 .reach, i .0 .most, i .0 .has-heap, i .1, look-is _ _ _ (c .before .before .before .look .ensures) (c .before .k .given .1)))
+    let o = c .before .before .before .before .before .before .before .before .before .before .before .before .loop in
+    let q = said (a .layout) (a .query .now) in
+    let g = orderOf (a .order .now) in
+    let s = pathOf (o .path) in
+    let m = c .before .k .given .0 in
+    let h = look-is (c .before .before .before .look .result) (seen.Applying (m .0) (m .1 .0) (m .1 .1 .0) (m .1 .1 .1 .0) (m .1 .1 .1 .1 .0)) (look q g s) (c .before .before .before .look .ensures) (c .before .k .given .1) in
+    (p .0, p .1, p .2, o .inv .0 .reach, o .inv .0 .most, o .inv .0 .has-heap, o .inv .1, h))
     -- sub-steps
     (λ c.
+    let a = c .before .before .before .before .before .before .before .before .before .before .before .before .before .before .before .before .before .before .args in
     let p = c .before .before .before .before .before .before .before .before .before .before .before .before .before .before .before .before .before .before .pre in
-    let i = c .before .before .before .before .before .before .before .before .before .before .before .before .before .before .before .loop .inv .0 in
-    some-left (c .before .before .before .before .before .before .before .before .before .before .before .before .before .before .before .before .before .before .args .order .now) (p .1) (p .2) (c .before .before .before .before .before .before .before .before .before .before .before .before .before .before .before .loop .steps) _ (reachable-known _ (p .1) _ (i .reach)) (i .most) _ (sym (terms-said _ _ (p .0))) _ _ _ _ _ (look-is _ _ _ (c .before .before .before .before .before .before .look .ensures) (c .before .before .before .before .k .given .1)))
+    let o = c .before .before .before .before .before .before .before .before .before .before .before .before .before .before .before .loop in
+    let q = said (a .layout) (a .query .now) in
+    let g = orderOf (a .order .now) in
+    let s = pathOf (o .path) in
+    let m = c .before .before .before .before .k .given .0 in
+    let h = look-is (c .before .before .before .before .before .before .look .result) (seen.Applying (m .0) (m .1 .0) (m .1 .1 .0) (m .1 .1 .1 .0) (m .1 .1 .1 .1 .0)) (look q g s) (c .before .before .before .before .before .before .look .ensures) (c .before .before .before .before .k .given .1) in
+    some-left {q = q} (a .order .now) (p .1) (p .2) (o .steps) s (reachable-known q (p .1) s (o .inv .0 .reach)) (o .inv .0 .most) (a .layout .terms) (sym (terms-said (a .layout) (a .query .now) (p .0))) (m .0 .0) (kindOf (m .1 .0)) (m .1 .1 .0 .0) (m .1 .1 .1 .0 .0) (m .1 .1 .1 .1 .0 .0) h)
     -- loop-less
     (λ c.
+    let a = c .before .before .before .before .before .before .before .before .before .before .before .before .before .before .before .before .before .before .args in
     let p = c .before .before .before .before .before .before .before .before .before .before .before .before .before .before .before .before .before .before .pre in
-    let i = c .before .before .before .before .before .before .before .before .before .before .before .before .before .before .before .loop .inv .0 in
-    omega (arith, some-left (c .before .before .before .before .before .before .before .before .before .before .before .before .before .before .before .before .before .before .args .order .now) (p .1) (p .2) (c .before .before .before .before .before .before .before .before .before .before .before .before .before .before .before .loop .steps) _ (reachable-known _ (p .1) _ (i .reach)) (i .most) _ (sym (terms-said _ _ (p .0))) _ _ _ _ _ (look-is _ _ _ (c .before .before .before .before .before .before .look .ensures) (c .before .before .before .before .k .given .1))))
+    let o = c .before .before .before .before .before .before .before .before .before .before .before .before .before .before .before .loop in
+    let q = said (a .layout) (a .query .now) in
+    let g = orderOf (a .order .now) in
+    let s = pathOf (o .path) in
+    let m = c .before .before .before .before .k .given .0 in
+    let h = look-is (c .before .before .before .before .before .before .look .result) (seen.Applying (m .0) (m .1 .0) (m .1 .1 .0) (m .1 .1 .1 .0) (m .1 .1 .1 .1 .0)) (look q g s) (c .before .before .before .before .before .before .look .ensures) (c .before .before .before .before .k .given .1) in
+    less-left (o .steps) (o .steps) (some-left {q = q} (a .order .now) (p .1) (p .2) (o .steps) s (reachable-known q (p .1) s (o .inv .0 .reach)) (o .inv .0 .most) (a .layout .terms) (sym (terms-said (a .layout) (a .query .now) (p .0))) (m .0 .0) (kindOf (m .1 .0)) (m .1 .1 .0 .0) (m .1 .1 .1 .0 .0) (m .1 .1 .1 .1 .0 .0) h) refl)
     -- loop-again
     (λ c.
+    let a = c .before .before .before .before .before .before .before .before .before .before .before .before .before .before .before .before .before .before .args in
     let p = c .before .before .before .before .before .before .before .before .before .before .before .before .before .before .before .before .before .before .pre in
-    let i = c .before .before .before .before .before .before .before .before .before .before .before .before .before .before .before .loop .inv .0 in
-    (comes-on (c .before .before .before .before .before .before .before .before .before .before .before .before .before .before .before .before .before .before .args .order .now) (p .1) (c .before .before .before .before .before .before .before .before .before .before .before .before .before .before .before .loop .steps) _ (i .reach) (i .most) _ (sym (terms-said _ _ (p .0))) _ _ _ _ _ (look-is _ _ _ (c .before .before .before .before .before .before .look .ensures) (c .before .before .before .before .k .given .1)) _ (c .before .before .first-open .ensures .0) (p .2) _ _ i, c .before .before .first-open .ensures .1)))
+    let o = c .before .before .before .before .before .before .before .before .before .before .before .before .before .before .before .loop in
+    let q = said (a .layout) (a .query .now) in
+    let g = orderOf (a .order .now) in
+    let s = pathOf (o .path) in
+    let m = c .before .before .before .before .k .given .0 in
+    let h = look-is (c .before .before .before .before .before .before .look .result) (seen.Applying (m .0) (m .1 .0) (m .1 .1 .0) (m .1 .1 .1 .0) (m .1 .1 .1 .1 .0)) (look q g s) (c .before .before .before .before .before .before .look .ensures) (c .before .before .before .before .k .given .1) in
+    (comes-on {q = q} (a .order .now) (p .1) (o .steps) s (o .inv .0 .reach) (o .inv .0 .most) (a .layout .terms) (sym (terms-said (a .layout) (a .query .now) (p .0))) (m .0 .0) (kindOf (m .1 .0)) (m .1 .1 .0 .0) (m .1 .1 .1 .0 .0) (m .1 .1 .1 .1 .0 .0) h (pathOf (c .before .before .first-open .result .facts)) (c .before .before .first-open .ensures .0) (p .2) (a .left) (pathOf (a .s)) (o .inv .0), c .before .before .first-open .ensures .1)))

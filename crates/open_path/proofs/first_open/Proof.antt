@@ -11,8 +11,7 @@ use Rattle.facts.specs.Path.{pathOf}
 use Rattle.rules.specs.Answers.{kindOf}
 use Rattle.walk.proofs.Steps.{move-fits, move-linked}
 use Rattle.decide.specs.Tells.{Decides}
-use Rattle.decide.proofs.Tells.{struck-none}
-use Rattle.decide.proofs.Turns.{some-left}
+use Rattle.plain_steps.proofs.Turns.{struck-none, some-left}
 use Rattle.theory.proofs.Calls.Decision.{reachable-known}
 use Rattle.open_path.proofs.First.{open-reach, open-fewer, open-struck, open-here, open-covered, open-last, some-branch}
 use Rattle.open_path.proofs.first_open.Statement.{statement}

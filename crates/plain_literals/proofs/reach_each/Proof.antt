@@ -86,4 +86,4 @@ reach-each-spec =
     let l = c .before .before .before .before .before .before .before .before .before .before .before .before .before .loop in
     ((l .inv .0 .0, l .inv .0 .1, c .add-to3 .ensures .1), λ single link link2 link3 h. subst (Left reachEach _ _ _ _ (l .i + 1)) (sym (reach-third single (c .before .before .before .before .before .before .before .before .before .before .before .before .before .before .before .args .rep .now) link (l .reach) link2 (l .reach2) link3 (l .reach3) (reachIn (c .before .before .before .before .before .before .before .before .before .before .before .before .before .before .before .args .layout .links) (c .before .before .before .before .before .before .before .before .before .before .before .before .before .before .before .args .query .now) (c .before .before .before .before .before .before .before .before .before .before .before .before .before .before .before .args .layout .«reach_at») (c .before .before .before .before .before .before .before .before .before .before .before .before .before .loop .i)) _ _ (c .before .before .before .before .before .before .before .read-rep .ensures ∙ ap (repOf (c .before .before .before .before .before .before .before .before .before .before .before .before .before .before .before .args .rep .now)) (c .before .before .before .before .before .before .before .before .reach-left .ensures)) (c .before .before .before .before .before .read-rep2 .ensures ∙ ap (repOf (c .before .before .before .before .before .before .before .before .before .before .before .before .before .before .before .args .rep .now)) (c .before .before .before .before .before .before .reach-right .ensures)) (sym (c .before .before .before .before .before .before .before .before .before .before .reach-sign .ensures) ∙ not-false _ (c .before .before .before .before .before .before .before .before .before .if2 .left)) _ (linked-in (c .before .before .before .before .before .before .before .before .before .before .before .before .before .before .before .pre .0) (c .before .before .before .before .before .before .before .before .before .before .before .before .before .before .before .pre .1) (c .before .before .before .before .before .before .before .before .before .before .before .before .before .loop .i) (c .before .before .before .before .before .before .before .before .before .before .before .if1 .taken) (cond single 1 3) h) (λ z. c .before .before .before .if3 .left (c .before .before .before .before .reach-link .ensures ∙ z)) (λ z. c .before .before .if4 .left (c .before .before .before .before .reach-link .ensures ∙ z)) (c .add-to3 .ensures .0))) (each-next reaches _ _ _ (reachability-said (c .before .before .before .before .before .before .before .before .before .before .before .before .before .before .before .args .layout) (c .before .before .before .before .before .before .before .before .before .before .before .before .before .before .before .args .query .now) (c .before .before .before .before .before .before .before .before .before .before .before .before .before .before .before .pre .0)) _ (l .i) (pathAs single (c .before .before .before .before .before .before .before .before .before .before .before .before .before .before .before .args .rep .now) link (l .reach) link2 (l .reach2) link3 (l .reach3)) (c .before .before .before .before .before .before .before .before .before .before .before .if1 .taken) (l .inv .1 single link link2 link3 h))))
     -- returns
-    (λ c. λ single link link2 link3 h. sym (each-end reaches _ _ _ (reachability-said (c .before .before .before .before .args .layout) (c .before .before .before .before .args .query .now) (c .before .before .before .before .pre .0)) _ _ _ (c .if1 .left) (c .before .before .loop .inv .1 single link link2 link3 h))))
+    (λ c. (λ single link link2 link3 h. sym (each-end reaches _ _ _ (reachability-said (c .before .before .before .before .args .layout) (c .before .before .before .before .args .query .now) (c .before .before .before .before .pre .0)) _ _ _ (c .if1 .left) (c .before .before .loop .inv .1 single link link2 link3 h)), c .before .before .loop .inv .0)))

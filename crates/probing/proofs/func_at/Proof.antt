@@ -22,7 +22,7 @@ func-at-spec =
     (λ c. omega arith)
     -- has-requires
     (λ c κs. omega arith)
-    -- fails-requires
+    -- some-soon-clashes-requires
     (λ c κs. let p = c .before .before .before .before .before .pre in (p .0, p .1, p .2, p .3, omega arith))
     -- returns
     (λ c. (omega arith, sym (c .before .before .before .has .ensures) ∙ c .before .before .if1 .taken))

@@ -22,7 +22,7 @@ scc-at-spec =
     (λ c. omega arith)
     -- has-requires
     (λ c κs. omega arith)
-    -- fails-requires
+    -- some-soon-clashes-requires
     (λ c κs. let p = c .before .before .before .before .before .pre in (p .0, p .1, p .2, omega arith, p .3))
     -- returns
     (λ c. (omega arith, sym (c .before .before .before .has .ensures) ∙ c .before .before .if1 .taken))

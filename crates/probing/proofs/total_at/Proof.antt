@@ -40,7 +40,7 @@ total-at-spec =
     (λ c κs. search needs)
     -- enum-known-x
     (λ c. search needs)
-    -- fails-requires
+    -- some-soon-clashes-requires
     (λ c κs. let h = lowest-in _ _ (c .before .x .given .1) _ (c .before .before .before .lowest .ensures) in let p = c .before .before .before .before .before .before .before .before .before .before .before .before .before .pre in (p .0, p .1, h .0, p .2, omega arith))
     -- returns
     (λ c. λ n link s k e. total-found n link (c .before .before .before .before .before .before .before .before .before .before .before .before .before .before .before .args .reach .now) s k e _ _ _ (c .before .before .before .before .before .before .before .before .before .before .before .before .before .before .before .args .back .now) (c .before .before .before .before .before .before .before .before .before .before .before .before .before .before .before .pre .3) (c .before .before .before .before .before .before .before .before .before .before .before .before .before .before .before .pre .2) (omega arith) (sym (c .before .before .before .before .before .before .before .before .has .ensures) ∙ not-true _ (c .before .before .before .before .before .before .before .if2 .taken)) (lowest-in _ _ (c .before .before .before .x .given .1) _ (c .before .before .before .before .before .lowest .ensures)))

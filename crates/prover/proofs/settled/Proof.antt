@@ -1,6 +1,5 @@
 -- What is settled of the start is how our walk ends. Assumes nothing.
 use mathlib.Core.Path.{sym}
-use Rattle.joins.specs.Pairs.{joinedOf}
 use Rattle.link_query.proofs.Said.{terms-said}
 use Rattle.prover.proofs.Outcomes.{start-steps}
 use Rattle.prover.proofs.Answers.{said-links, few-links}
@@ -14,13 +13,13 @@ settled-spec =
     (tie.spec
     -- limit-requires
     (λ c κs. let p = c .before .before .pre in (few-links _ _ (p .0), p .0 .terms-within))
-    -- start-requires
-    (λ c κs. let p = c .before .before .before .pre in (p .0, p .1))
+    -- start-in-requires
+    (λ c κs. let p = c .before .before .before .before .before .before .before .before .before .before .before .before .before .pre in (p .0, p .1))
     -- settle-requires
     (λ c κs.
-    let p = c .before .before .before .before .before .pre in
-    (p .0, p .1, p .2, start-reached _ (joinedOf (c .before .start .result)) (c .before .start .ensures), start-steps _ _ _ _ (joinedOf (c .before .start .result)) (said-links _ _) (sym (terms-said _ _ (p .0))) (c .before .before .limit .ensures) (c .before .start .ensures) (p .1)))
+    let p = c .before .before .before .before .before .before .before .before .before .before .before .before .before .before .before .before .before .before .before .before .before .pre in
+    (p .0, p .1, p .2, start-reached _ _ (c .before .before .before .before .before .before .before .start-in .ensures .0), start-steps _ _ _ _ _ (said-links _ _) (sym (terms-said _ _ (p .0))) (c .before .before .before .before .before .before .before .before .before .before .before .before .before .before .before .before .before .before .limit .ensures) (c .before .before .before .before .before .before .before .start-in .ensures .0) (p .1), c .before .before .before .before .before .before .before .start-in .ensures .1))
     -- returns
     (λ c.
-    let p = c .before .before .before .before .before .before .pre in
-    settles _ (p .1) _ (p .2) _ _ _ (joinedOf (c .before .before .start .result)) (said-links _ _) (sym (terms-said _ _ (p .0))) (c .before .before .before .limit .ensures) (c .before .before .start .ensures) _ (c .settle .ensures)))
+    let p = c .before .before .before .before .before .before .before .before .before .before .before .before .before .before .before .before .before .before .before .before .before .before .pre in
+    settles _ (p .1) _ (p .2) _ _ _ _ (said-links _ _) (sym (terms-said _ _ (p .0))) (c .before .before .before .before .before .before .before .before .before .before .before .before .before .before .before .before .before .before .before .limit .ensures) (c .before .before .before .before .before .before .before .before .start-in .ensures .0) _ _ (c .settle .ensures)))

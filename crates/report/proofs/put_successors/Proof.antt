@@ -6,7 +6,6 @@ use mathlib.Core.Path.{sym, _∙_}
 use Rattle.facts.specs.Path.{pathOf}
 use Rattle.heap_nodes.specs.Nodes.{marked}
 use Rattle.report.specs.Bytes.{successorsAmong}
-use Rattle.heap_nodes.proofs.Nodes.{numbers-below}
 use Rattle.report.proofs.Successors.{PutRows, rows-none, rows-room, rows-here, rows-all, successors-are, successors-length}
 use Rattle.report.proofs.put_successors.Statement.{statement}
 use Rattle.report.proofs.put_successors.Tie as tie
@@ -28,7 +27,7 @@ put-successors-spec =
     -- loop-holds
     (λ c. (omega arith, rows-none _ _ _ _))
     -- successor-bytes-requires
-    (λ c κs. let p = c .before .before .before .before .pre in (p .0, numbers-below _ _ (p .4) (omega (arith, p .1, p .2)), (omega arith, omega (arith, c .before .before .links .ensures .0))))
+    (λ c κs. let p = c .before .before .before .before .pre in (p .0, (omega arith, omega (arith, c .before .before .links .ensures .0))))
     -- put-nodes-requires
     (λ c κs. let p = c .before .before .before .before .before .before .before .pre in let r = rows-room _ _ _ _ (λ i. successors-length _ _ _ i ∙ sym (p .2)) _ _ _ _ (c .before .before .before .before .loop .inv .1) (omega (arith, c .before .before .before .before .before .links .ensures .0)) (p .3) in (p .0, omega (arith, r, p .2), p .4))
     -- add-to

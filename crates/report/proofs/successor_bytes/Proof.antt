@@ -17,7 +17,7 @@ successor-bytes-spec =
     (λ c κs. search needs)
     -- nodes-linked-requires
     (λ c κs.
-    let s = c .before in
-    (s .pre .0, λ t r. rw (c .shown-links .ensures) (omega (arith, shown-below (s .args .n) (pathOf (s .args .s)) (s .args .k .0) t)), s .pre .1))
+    let s = c .before .before in
+    (s .pre .0, λ t r. rw (c .before .shown-links .ensures) (omega (arith, shown-below (s .args .n) (pathOf (s .args .s)) (s .args .k .0) t))))
     -- returns
-    (λ c. λ t h. c .nodes-linked .ensures t h ∙ ap (λ (f : ℕ → ℕ). nodeOf (c .before .before .args .nodes) (f t)) (c .before .shown-links .ensures)))
+    (λ c. λ t h. c .nodes-linked .ensures t h ∙ ap (λ (f : ℕ → ℕ). nodeOf (c .before .before .before .args .nodes .now) (f t)) (c .before .before .shown-links .ensures)))

@@ -1,5 +1,5 @@
 -- One section behind the other. Assumes nothing.
-use Prim.Native.Nat.{_+_, _-_}
+use Prim.Native.Nat.{_+_}
 use native.Mathlib.Omega.{arith}
 use Rattle.text.proofs.Writing.{writes-then, writes-length}
 use Rattle.rewriter.specs.Bytes.{rewrittenBytes}

@@ -2,9 +2,10 @@
 use borrow.Author.Needs.{needs}
 use mathlib.Core.Path.{subst}
 use lib.ListN.{length}
-use Rattle.query.specs.Answers.{FullCheckedAs}
+use Rattle.query_checks.specs.Answers.{FullCheckedAs}
 use Rattle.query.specs.declared.FullChecked.{FullChecked}
 use Rattle.rewriting.specs.Call.{rewriteCall}
+use Rattle.lent.proofs.Writing.{blank-again, blank-long}
 use Rattle.rewriter.proofs.Answers as law
 use Rattle.rewriter.proofs.rewrite.Statement.{statement}
 use Rattle.rewriter.proofs.rewrite.Tie as tie
@@ -24,13 +25,13 @@ rewrite-spec =
     -- rewrite-checked-requires
     (λ c κs. (
       law.passing _ _ (subst (λ (x : FullChecked). FullCheckedAs x (c .before .before .before .before .before .before .before .before .before .before .before .args .query .now) 60 3) (c .before .before .full .given .1) (c .before .before .before .before .check-with .ensures)),
-      law.blank-again _ (length (c .before .before .before .before .before .before .before .before .before .before .before .args .out .now)) (c .before .before .before .before .before .before .before .clear .ensures),
+      blank-again _ (length (c .before .before .before .before .before .before .before .before .before .before .before .args .out .now)) (c .before .before .before .before .before .before .before .clear .ensures),
     ))
     -- same-length
-    (λ c. law.blank-long _ (length (c .before .before .before .before .before .before .before .before .before .before .args .out .now)) (c .before .before .before .before .before .before .clear .ensures))
+    (λ c. blank-long _ (length (c .before .before .before .before .before .before .before .before .before .before .args .out .now)) (c .before .before .before .before .before .before .clear .ensures))
     -- returns
     (λ c. law.refuses (c .before .before .before .before .before .before .before .before .before .before .args .query .now) (length (c .before .before .before .before .before .before .before .before .before .before .args .out .now)) (subst (λ (x : FullChecked). FullCheckedAs x (c .before .before .before .before .before .before .before .before .before .before .args .query .now) 60 3) (c .before .k .given .1) (c .before .before .before .check-with .ensures)) _ (c .before .before .before .before .before .before .clear .ensures))
     -- same-length-2
     (λ c. search needs)
     -- returns-2
-    (λ c. law.moved (rewriteCall (c .before .before .before .before .before .before .before .before .before .before .before .before .before .before .args .query .now)) (law.blank-long _ (length (c .before .before .before .before .before .before .before .before .before .before .before .before .before .before .args .out .now)) (c .before .before .before .before .before .before .before .before .before .before .clear .ensures)) (c .before .before .rewrite-checked .ensures)))
+    (λ c. law.moved (rewriteCall (c .before .before .before .before .before .before .before .before .before .before .before .before .before .before .args .query .now)) (blank-long _ (length (c .before .before .before .before .before .before .before .before .before .before .before .before .before .before .args .out .now)) (c .before .before .before .before .before .before .before .before .before .before .clear .ensures)) (c .before .before .rewrite-checked .ensures)))

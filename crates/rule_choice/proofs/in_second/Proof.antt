@@ -6,7 +6,7 @@ use Rattle.rows.specs.Bits.{bit}
 use Rattle.facts.specs.Path.{graphOf}
 use Rattle.rules.specs.Answers.{kindOf}
 use Rattle.rule_choice.specs.Smallest.{inSecond}
-use Rattle.rule_choice.proofs.Nested.{not-looped}
+use Rattle.rules.proofs.Halves.{is-cycle}
 use Rattle.rule_choice.proofs.in_second.Statement.{statement}
 use Rattle.rule_choice.proofs.in_second.Tie as tie
 
@@ -22,10 +22,10 @@ in-second-spec =
     (λ c.
     let a = c .before .before .before .args in
     c .scan-onward .ensures _ _ ∙ ap (λ (r : Rule). inSecond (a .n) (bit (a .alive)) (graphOf (a .link .now) (a .reach .now)) r (a .x .0)) (sym (ap kindOf (c .before .enum-told .given .1))))
-    -- looped-requires
+    -- is-not-cycle-requires
     (λ c κs. search needs)
     -- scan-requires
-    (λ c κs. (c .before .before .before .pre .0, c .before .before .before .pre .1, sym (c .before .looped .ensures) ∙ c .if1 .taken, c .before .before .before .pre .2))
+    (λ c κs. (c .before .before .before .pre .0, c .before .before .before .pre .1, sym (c .before .is-not-cycle .ensures) ∙ c .if1 .taken, c .before .before .before .pre .2))
     -- returns-2
     (λ c. c .scan .ensures)
     -- cycle-requires
@@ -33,4 +33,4 @@ in-second-spec =
     -- returns-3
     (λ c.
     let a = c .before .before .before .before .args in
-    c .cycle .ensures _ ∙ ap (λ (r : Rule). inSecond (a .n) (bit (a .alive)) (graphOf (a .link .now) (a .reach .now)) r (a .x .0)) (sym (not-looped _ (sym (c .before .before .looped .ensures) ∙ c .before .if1 .left)))))
+    c .cycle .ensures _ ∙ ap (λ (r : Rule). inSecond (a .n) (bit (a .alive)) (graphOf (a .link .now) (a .reach .now)) r (a .x .0)) (sym (is-cycle _ (sym (c .before .before .is-not-cycle .ensures) ∙ c .before .if1 .left)))))

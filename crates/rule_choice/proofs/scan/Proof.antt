@@ -10,13 +10,13 @@ use Rattle.facts.specs.Path.{graphOf}
 use Rattle.rows.specs.Answers.{foundOf}
 use Rattle.rules.specs.Answers.{kindOf}
 use Rattle.rule_choice.specs.Answers.{placeOf}
-use Rattle.rules.specs.Tests.{looped}
+use Rattle.rules.specs.Tests.{isNotCycle}
 use Rattle.rule_choice.proofs.Searches.{Left, left-all, left-none, left-pair, left-here, left-next, row-positive}
 use Rattle.rule_choice.proofs.scan.Statement.{statement}
 use Rattle.rule_choice.proofs.scan.Tie as tie
 
 abbrev Inv-loop : tie.InvT-loop
-Inv-loop rule alive link reach back n x row left₀ left = (left < 2 ^ 32) × ((few : n ≤ 16) (l : looped (kindOf rule) ≡ true) → Left n few (bit alive) (graphOf link reach) (kindOf rule) l (x .0) left)
+Inv-loop rule alive link reach back n x row left₀ left = (left < 2 ^ 32) × ((few : n ≤ 16) (l : isNotCycle (kindOf rule) ≡ true) → Left n few (bit alive) (graphOf link reach) (kindOf rule) l (x .0) left)
 
 abbrev μ-loop : tie.MeasureT-loop
 μ-loop rule alive link reach back n x row left₀ left = left

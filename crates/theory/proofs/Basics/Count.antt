@@ -5,8 +5,8 @@ use native.Mathlib.Nat.{zero-mul, suc-mul}
 use mathlib.Core.Path.{_≡_, refl, sym, ap, _∙_}
 use mathlib.Core.Logic.{⊎-elim}
 use mathlib.Core.Bool.{Bool, true, false}
-use mathlib.Core.List.{List, [], _∷_, List·Memᴰ, List·Memᴰ·not-nil, List·Memᴰ·cases-cons}
-use lib.ListN.{length, length-append}
+use mathlib.Core.List.{List, [], _∷_, List·Memᴰ, List·Memᴰ·head, List·Memᴰ·tail, List·Memᴰ·not-nil, List·Memᴰ·cases-cons}
+use lib.ListN.{length, getD, length-append}
 use Rattle.logic.specs.Search.{from, select, flatMap}
 use Rattle.theory.proofs.Basics.Search.{bool-cases}
 use Rattle.theory.proofs.Basics.Compare.{cond-true, cond-false}
@@ -15,6 +15,11 @@ pub length-from : (k i : ℕ) → length (from k i) ≡ k
 unfolding from
 length-from zero i = refl
 length-from (suc k) i = ap suc (length-from k (suc i))
+
+pub getD-mem : {A : Type 0} (xs : List A) (i : ℕ) (d : A) → i < length xs → List·Memᴰ (getD xs i d) xs
+getD-mem [] i d h = absurd (omega arith)
+getD-mem (x ∷ xs) zero d h = List·Memᴰ·head refl
+getD-mem (x ∷ xs) (suc i) d h = List·Memᴰ·tail (getD-mem xs i d (omega arith))
 
 -- lists of one length, one behind the other
 pub length-flatMap : {A B : Type 0} (f : A → List B) (m : ℕ) → ((x : A) → length (f x) ≡ m) → (xs : List A) → length (flatMap f xs) ≡ length xs * m

@@ -2,10 +2,10 @@
 use Prim.Native.Nat.{ℕ, zero, suc, _+_, _≤_, _<_}
 use native.Mathlib.Omega.{arith}
 use native.Mathlib.Nat.{eq-or-lt-of-le}
-use mathlib.Core.Path.{_≡_, refl, sym, ap, _∙_, subst}
+use mathlib.Core.Path.{_≡_, refl, sym, ap, ap₂, _∙_, subst}
 use mathlib.Core.Logic.{_⊎_, ⊎-elim, inl, inr}
 use mathlib.Core.Bool.{Bool, true, false, not, cond, true≢false, false≢true}
-use mathlib.Core.List.{List, [], _∷_, _++_, map, List·Memᴰ, List·Memᴰ·head, List·Memᴰ·tail, List·Memᴰ·not-nil, List·Memᴰ·cases-cons, List·Memᴰ·append-cases, Memᴰ·append-left, Memᴰ·append-right}
+use mathlib.Core.List.{List, [], _∷_, _++_, map, append-assoc, List·Memᴰ, List·Memᴰ·head, List·Memᴰ·tail, List·Memᴰ·not-nil, List·Memᴰ·cases-cons, List·Memᴰ·append-cases, Memᴰ·append-left, Memᴰ·append-right}
 use mathlib.Core.Option.{Option, none, some}
 use Rattle.logic.specs.Search.{_and_, _or_, from, keep, any, all, select, at, isSome, orElse, firstOf, find, flatMap}
 
@@ -64,6 +64,26 @@ unfolding _or_
 or-right true p = refl
 or-right false p = p
 
+pub and-false : (a : Bool) → a and false ≡ false
+unfolding _and_
+and-false true = refl
+and-false false = refl
+
+pub and-true : (a : Bool) → a and true ≡ a
+unfolding _and_
+and-true true = refl
+and-true false = refl
+
+pub or-false : (a : Bool) → a or false ≡ a
+unfolding _or_
+or-false true = refl
+or-false false = refl
+
+pub neither : (a b : Bool) → a or b ≡ false → (a ≡ false) × (b ≡ false)
+unfolding _or_
+neither true b p = absurd (true≢false p)
+neither false b p = (refl, p)
+
 -- Searches
 
 pub none-some : {A : Type 0} {a : A} → Path (Option A) none (some a) → ⊥
@@ -78,6 +98,14 @@ pub keep-none : {A : Type 0} (b : Bool) (a : A) → keep b a ≡ none → b ≡ 
 unfolding keep
 keep-none true a e = absurd (none-some (sym e))
 keep-none false a e = refl
+
+pub keep-true : {A : Type 0} {b : Bool} (a : A) → b ≡ true → keep b a ≡ some a
+unfolding keep
+keep-true a e = rw e
+
+pub keep-false : {A : Type 0} {b : Bool} (a : A) → b ≡ false → keep b a ≡ none
+unfolding keep
+keep-false a e = rw e
 
 pub isSome-true : {A : Type 0} (o : Option A) → isSome o ≡ true → (a : A) × (o ≡ some a)
 unfolding isSome
@@ -140,6 +168,11 @@ module _ {A : Type 0} (p : A → Bool) where
       go : (b : Bool) → List·Memᴰ x (select p xs) → List·Memᴰ x (cond b (y ∷ select p xs) (select p xs))
       go true n = List·Memᴰ·tail n
       go false n = n
+
+pub any-alike : {A : Type 0} (p q : A → Bool) (xs : List A) → ((x : A) → List·Memᴰ x xs → p x ≡ q x) → any p xs ≡ any q xs
+unfolding any
+any-alike p q [] h = refl
+any-alike p q (x ∷ xs) h = ap₂ (λ (a b : Bool). a or b) (h x (List·Memᴰ·head refl)) (any-alike p q xs (λ y m. h y (List·Memᴰ·tail m)))
 
 pub orElse-cases : {A : Type 0} (o o′ : Option A) (a : A) → orElse o o′ ≡ some a → (o ≡ some a) ⊎ ((o ≡ none) × (o′ ≡ some a))
 unfolding orElse
@@ -219,6 +252,11 @@ find-lowest p (suc k) i x h j l r =
     (λ e. let q = keep-some (p i) e in absurd (omega (arith, q .1)))
     (λ e. ⊎-elim (λ q. ap p (sym q) ∙ keep-none (p i) i (e .0)) (λ q. find-lowest p k (suc i) x (e .1) j q r) (eq-or-lt-of-le l))
     (orElse-cases (keep (p i) i) (find p (from k (suc i))) x h)
+
+pub flatMap-append : {A B : Type 0} (g : A → List B) (xs ys : List A) → flatMap g (xs ++ ys) ≡ flatMap g xs ++ flatMap g ys
+unfolding flatMap
+flatMap-append g [] ys = refl
+flatMap-append {B} g (x ∷ xs) ys = ap (λ (zs : List B). g x ++ zs) (flatMap-append g xs ys) ∙ sym (append-assoc (g x) (flatMap g xs) (flatMap g ys))
 
 module _ {A B : Type 0} (f : A → List B) where
   pub flatMap-mem : (b : B) (xs : List A) → List·Memᴰ b (flatMap f xs) → (x : A) × List·Memᴰ x xs × List·Memᴰ b (f x)

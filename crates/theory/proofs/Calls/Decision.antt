@@ -6,7 +6,7 @@ use native.Mathlib.Omega.{arith}
 use mathlib.Core.Path.{_≡_, refl, sym, ap, _∙_, subst, subst₂, fun-ext}
 use mathlib.Core.Logic.{_↔_, _⊎_, ⊎-elim, inl, inr}
 use mathlib.Core.Bool.{Bool, true, false, cond}
-use mathlib.Core.List.{List, [], _∷_, _++_, map, List·Memᴰ, List·Memᴰ·head, List·Memᴰ·tail, List·Memᴰ·not-nil, List·Memᴰ·cases-cons}
+use mathlib.Core.List.{List, [], _∷_, _++_, map, List·Memᴰ, List·Memᴰ·not-nil, List·Memᴰ·cases-cons}
 use mathlib.Core.Option.{none, some}
 use lib.ListN.{length, getD, length-map}
 use lib.Dec.{eqb}
@@ -45,6 +45,7 @@ use Rattle.theory.proofs.Completeness.ShownHeap.{rep-node, link-place, 
 use Rattle.theory.proofs.Calls.CallLaws.{FormLaws}
 use Rattle.theory.proofs.Calls.Refusals.{one-link-laws}
 use Rattle.theory.proofs.Calls.Verdicts.{Model, completed}
+use Rattle.theory.proofs.Basics.Count.{getD-mem}
 
 -- What is known of every path that is decided: the invariant, and that no number above the terms is replaced.
 pub record Known (q : Query) (s : Facts) : Type 0 where
@@ -248,11 +249,6 @@ module _ (q : Query) (ok : Accepted q) where
         go (saturation t) e = absurd (free (walk-saturation k s known most t e))
 
   -- The branches one after the other
-
-  getD-mem : {A : Type 0} (xs : List A) (i : ℕ) (d : A) → i < length xs → List·Memᴰ (getD xs i d) xs
-  getD-mem [] i d h = absurd (omega arith)
-  getD-mem (x ∷ xs) zero d h = List·Memᴰ·head refl
-  getD-mem (x ∷ xs) (suc i) d h = List·Memᴰ·tail (getD-mem xs i d (omega arith))
 
   mem-getD : {A : Type 0} (xs : List A) (d x : A) → List·Memᴰ x xs → (i : ℕ) × (i < length xs) × (getD xs i d ≡ x)
   mem-getD [] d x m = absurd (List·Memᴰ·not-nil m)

@@ -3,17 +3,17 @@ use Prim.Native.Nat.{ℕ, _+_, _-_, _*_, _/_}
 use native.Mathlib.Omega.{arith}
 use native.Mathlib.Nat.{div-one}
 use mathlib.Core.Path.{_≡_, refl, ap, _∙_, fun-ext}
-use mathlib.Core.Bool.{Bool, true, false, not}
+use mathlib.Core.Bool.{Bool, true, false}
 use mathlib.Core.List.{List, [], _∷_, map}
 use mathlib.Core.Option.{Option, none, some, Option·elim}
 use lib.ListN.{length, getD}
 use lib.Dec.{eqb, leb}
 use Rattle.logic.specs.Search.{_and_, _or_, from, all, any, keep, orElse, firstOf, find}
 use Rattle.logic.specs.Query.{Query, termCount}
-use Rattle.logic.specs.Facts.{Graph, Facts, linkNumbers, terms, live, successors, firstTwo, doubled}
-use Rattle.logic.specs.Rules.{Rule, REFLEX, TRANS1, TRANS2, FUNC, CYCLE, SCC, TOTAL, SHARE, ruleNumber, rules, ruleOf, Triple, triple, move, equal, round, conditions, alternatives, held, hasLink, applies, moveNumber, moveOf}
+use Rattle.logic.specs.Facts.{Graph, Facts, linkNumbers, terms, successors, firstTwo, doubled}
+use Rattle.logic.specs.Rules.{Rule, REFLEX, TRANS1, TRANS2, FUNC, CYCLE, SCC, TOTAL, SHARE, ruleNumber, rules, ruleOf, Triple, triple, move, equal, round, conditions, alternatives, held, moveNumber, moveOf}
 use Rattle.logic.specs.Walk.{limit}
-use Rattle.logic.specs.Shown.{isNode, sizeIn, heapIn, wellFormed}
+use Rattle.logic.specs.Shown.{isNode, sizeIn, wellFormed}
 use Rattle.theory.proofs.Basics.Compare.{eqb-self}
 
 -- Searches
@@ -44,10 +44,6 @@ module _ (n : ℕ) (s : Facts) (one : s .links ≡ 1) where
   unfolding doubled linkNumbers from
   doubled-one = rw one (ap (λ (f : ℕ → Option (ℕ × ℕ)). firstOf f (terms n)) (λ i t. firstOf-one (λ k. firstTwo (successors n (s .graph k) t)) 1 i))
 
-  pub applies-one : (r : Rule) (t : Triple) → applies n s (move 1 r t) ≡ (conditions n (live n s) (s .graph) (move 1 r t) and not (any (held (s .graph)) (alternatives n (s .graph) (move 1 r t))))
-  unfolding applies hasLink _and_
-  applies-one r t = rw one refl
-
 pub moveOf-one : (b : ℕ) (t : Triple) → moveOf 1 b t ≡ Option·elim (ruleOf b) none (λ r. some (move 1 r t))
 unfolding moveOf linkNumbers from moveNumber ruleOf
 moveOf-one b t =
@@ -70,16 +66,6 @@ wellFormed-one bytes =
     let e : 1 * m ≡ m = omega arith in
     rw (d, e, eqb-self m) refl
 
--- the heap of such a report
-module _ (bytes : List ℕ) where
-  pub heap-size-one : heapIn 1 bytes .size ≡ getD bytes 0 0
-  unfolding heapIn sizeIn
-  heap-size-one = div-one (getD bytes 0 0)
-
-  pub heap-link-one : (v : ℕ) → heapIn 1 bytes .link 1 v ≡ getD bytes v 0
-  unfolding heapIn _and_
-  heap-link-one v = ap (λ (k : ℕ). getD bytes k 0) (omega arith)
-
 -- A rule reads the facts of its own link alone
 
 module _ (n : ℕ) (alive : ℕ → Bool) (g : ℕ → Graph) (i : ℕ) where
@@ -93,17 +79,6 @@ module _ (n : ℕ) (alive : ℕ → Bool) (g : ℕ → Graph) (i : ℕ) where
   conditions-local SCC (triple x y z) = refl
   conditions-local TOTAL (triple x y z) = refl
   conditions-local SHARE (triple x y z) = refl
-
-  pub alternatives-local : (r : Rule) (t : Triple) → alternatives n g (move i r t) ≡ alternatives n (λ j. g i) (move i r t)
-  unfolding alternatives
-  alternatives-local REFLEX (triple x y z) = refl
-  alternatives-local TRANS1 (triple x y z) = refl
-  alternatives-local TRANS2 (triple x y z) = refl
-  alternatives-local FUNC (triple x y z) = refl
-  alternatives-local CYCLE (triple x y z) = refl
-  alternatives-local SCC (triple x y z) = refl
-  alternatives-local TOTAL (triple x y z) = refl
-  alternatives-local SHARE (triple x y z) = refl
 
   -- equal terms are held by any facts
   equal-held : (y : ℕ) (us : List ℕ) → any (held g) (map (equal y) us) ≡ any (held (λ j. g i)) (map (equal y) us)

@@ -8,7 +8,6 @@ use mathlib.Core.Option.{some}
 use lib.ListN.{length, getD, replicate}
 use lib.Seq.{getD-append-add}
 use lib.Dec.{ltb}
-use Rattle.logic.specs.Search.{_and_}
 use Rattle.logic.specs.Query.{Query}
 use Rattle.logic.specs.Shown.{report}
 use Rattle.logic.specs.Calls.{Input, Check, orderCheck, roomUnder, CallForm, verdictChecksOf, Outcome, refused, padded, verdictCallOf}

@@ -1,7 +1,7 @@
 -- A byte made of bits has these bits.
-use Prim.Native.Nat.{ℕ, zero, suc, _+_, _-_, _*_, _/_, _%_, _^_, _≤_, _<_}
+use Prim.Native.Nat.{ℕ, zero, suc, _+_, _-_, _*_, _/_, _%_, _≤_, _<_}
 use native.Mathlib.Omega.{arith}
-use native.Mathlib.Nat.{pow-succ', suc-add, add-suc, add-zero}
+use native.Mathlib.Nat.{suc-add, add-suc, add-zero}
 use mathlib.Core.Path.{_≡_, sym, ap, _∙_}
 use mathlib.Core.Bool.{Bool, true, false, cond}
 use lib.Dec.{eqb}
@@ -16,10 +16,6 @@ front-rest : (c : Bool) (b : ℕ) → (cond c 1 0 + 2 * b) / 2 ≡ b
 front-rest true b = omega arith
 front-rest false b = omega arith
 
-front-below : (c : Bool) (b p : ℕ) → b < p → cond c 1 0 + 2 * b < 2 * p
-front-below true b p h = omega arith
-front-below false b p h = omega arith
-
 module _ (f : ℕ → Bool) where
   bit-add : (i k d : ℕ) → d < k → bitOf (byteOf f i k) d ≡ f (i + d)
   unfolding bitOf byteOf
@@ -31,11 +27,3 @@ module _ (f : ℕ → Bool) where
   -- "field j in bit j-1"
   pub byte-bit : (j : ℕ) → 1 ≤ j → j ≤ 8 → bitOf (byteOf f 1 8) (j - 1) ≡ f j
   byte-bit j l h = let e : 1 + (j - 1) ≡ j = omega arith in bit-add 1 8 (j - 1) (omega arith) ∙ ap f e
-
-  byte-below : (i k : ℕ) → byteOf f i k < 2 ^ k
-  unfolding byteOf
-  byte-below i zero = omega arith
-  byte-below i (suc k) = rw (pow-succ' 2 k) (front-below (f i) (byteOf f (suc i) k) (2 ^ k) (byte-below (suc i) k))
-
-  pub byte-range : byteOf f 1 8 < 256
-  byte-range = byte-below 1 8

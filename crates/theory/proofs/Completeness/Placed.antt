@@ -1,10 +1,10 @@
 -- Where an element stands in a list.
 use Prim.Native.Nat.{ℕ, zero, suc, _+_, _≤_, _<_}
 use native.Mathlib.Omega.{arith}
-use mathlib.Core.Path.{_≡_, refl, sym, ap, _∙_}
+use mathlib.Core.Path.{_≡_, sym, ap, _∙_}
 use mathlib.Core.Logic.{⊎-elim}
 use mathlib.Core.Bool.{false}
-use mathlib.Core.List.{List, [], _∷_, List·Memᴰ, List·Memᴰ·head, List·Memᴰ·tail}
+use mathlib.Core.List.{List, _∷_, List·Memᴰ, List·Memᴰ·head, List·Memᴰ·tail}
 use mathlib.Core.Option.{Option, some}
 use lib.ListN.{length, getD}
 use lib.Dec.{eqb}
@@ -19,11 +19,6 @@ pub at-mem : {A : Type 0} {xs : List A} (x : A) → List·Memᴰ x xs → (i : �
 unfolding at
 at-mem {A} x (List·Memᴰ·head {x = y} {xs = ys} e) = (0, omega arith, ap {B = Option A} some (sym e))
 at-mem x (List·Memᴰ·tail {x = y} {xs = ys} m) = let r = at-mem x m in (suc (r .0), omega arith, r .2)
-
-pub getD-mem : (ts : List ℕ) (i : ℕ) → i < length ts → List·Memᴰ (getD ts i 0) ts
-getD-mem [] i h = absurd (omega arith)
-getD-mem (t ∷ ts) zero h = List·Memᴰ·head refl
-getD-mem (t ∷ ts) (suc i) h = List·Memᴰ·tail (getD-mem ts i (omega arith))
 
 pub getD-from : (k i j : ℕ) → j < k → getD (from k i) j 0 ≡ i + j
 unfolding from

@@ -49,7 +49,7 @@ lists-terms f n =
     }
 
 -- a byte behind a section, its place told from the section's end
-getD-past : (xs ys : List ℕ) (i k : ℕ) → k ≡ length xs + i → getD (xs ++ ys) k 0 ≡ getD ys i 0
+pub getD-past : (xs ys : List ℕ) (i k : ℕ) → k ≡ length xs + i → getD (xs ++ ys) k 0 ≡ getD ys i 0
 getD-past xs ys i k e = ap (λ (j : ℕ). getD (xs ++ ys) j 0) e ∙ getD-append-add xs ys i 0
 
 -- rows of m elements, one behind the other: element i of row k, both counted from 0
@@ -113,7 +113,7 @@ module _ (links m n flags : ℕ) (link : ℕ → ℕ → ℕ) (node datum : ℕ 
         past-at = λ i. past-data (suc (suc i)) (links * m + n + m + 5 + i) (omega arith);
       }
 
-regroup : (ls ns ds es rest : List ℕ) → (ls ++ (ns ++ (ds ++ es))) ++ rest ≡ ls ++ (ns ++ (ds ++ (es ++ rest)))
+pub regroup : (ls ns ds es rest : List ℕ) → (ls ++ (ns ++ (ds ++ es))) ++ rest ≡ ls ++ (ns ++ (ds ++ (es ++ rest)))
 regroup ls ns ds es rest = simp append-assoc
 
 -- the terms that are the nodes, in order; a link between them; and the number of a term's node

@@ -6,7 +6,7 @@ use mathlib.Core.Logic.{_⊎_, ⊎-elim, inl, inr}
 use mathlib.Core.Bool.{true}
 use mathlib.Core.List.{List, [], _∷_, List·Memᴰ, List·Memᴰ·not-nil, List·Memᴰ·cases-cons}
 use mathlib.Core.Option.{none}
-use Rattle.logic.specs.Search.{_and_, any}
+use Rattle.logic.specs.Search.{any}
 use Rattle.logic.specs.Facts.{Graph, Facts, live, liveTerms}
 use Rattle.logic.specs.Rules.{Rule, REFLEX, TRANS1, TRANS2, FUNC, CYCLE, SCC, TOTAL, SHARE, triple, move, Fact, equal, round, conditions, alternatives, held, choose}
 use Rattle.theory.proofs.Basics.Search.{bool-cases, true-false, and-intro, any-true, map-mem}

@@ -23,12 +23,13 @@ use Rattle.theory.proofs.Query.Entries.{nil-range}
 use Rattle.theory.proofs.Paths.Ranged.{link-range}
 use Rattle.theory.proofs.Completeness.Completed.{Completed}
 use Rattle.theory.proofs.Completeness.Byte.{byte-bit}
-use Rattle.theory.proofs.Completeness.Placed.{getD-mem, placeOf-mem, placeOf-range, placeOf-injective}
+use Rattle.theory.proofs.Completeness.Placed.{placeOf-mem, placeOf-range, placeOf-injective}
 use Rattle.theory.proofs.Completeness.Renamed.{reaches-name}
 use Rattle.theory.proofs.Completeness.NoClash.{equal-free, reach-free, field-free}
 use Rattle.theory.proofs.Completeness.ShownNodes.{nodes-length, live-mem, live-node, shownLink-node}
 use Rattle.theory.proofs.Completeness.ReportBytes.{nodesOf, linkShown, place, report-laid}
 use Rattle.theory.proofs.Completeness.ReportHeap.{heap-link, heap-loop, heap-field, heap-listed, node-listed, is-heap, is-formed}
+use Rattle.theory.proofs.Basics.Count.{getD-mem}
 
 -- "That is 2m+n+5 bytes", and m more for each further link
 pub report-size : (q : Query) (s : Facts) → length (report q s) ≡ q .links * length (nodesOf q s) + termCount q + length (nodesOf q s) + 5
@@ -39,10 +40,6 @@ report-length q s acc =
     let m = nodes-length (termCount q) s (acc .term-count) in
     let rows = mul-le-mul-left (q .links) (m .1) in
     omega (arith, report-size q s, m, rows, acc .term-count)
-
--- with one link, 53
-pub report-fits : (q : Query) (s : Facts) → Accepted q → q .links ≡ 1 → length (report q s) ≤ 53
-report-fits q s acc one = let l = report-length q s acc in let e = ap (λ (k : ℕ). k * 16) one in omega (arith, l, e)
 
 -- a literal's meaning, from that of each sign
 signed : (b : Bool) (P : Type 0) → (b ≡ true → P) → (b ≡ false → P → ⊥) → Signed b P
@@ -103,7 +100,7 @@ module _ (q : Query) (s : Facts) (acc : Accepted q) (tied : Tied q s) (comp : (i
 
   -- "every successor and node 1 to m"
   links-in : (k i : ℕ) → k < q .links → i < length (nodesOf q s) → InPlaces q s (place q s (linkShown q s (suc k) (getD (nodesOf q s) i 0)))
-  links-in k i l h = placeOf-range _ (link-node (suc k) (omega arith, l) _ (getD-mem (nodesOf q s) i h))
+  links-in k i l h = placeOf-range _ (link-node (suc k) (omega arith, l) _ (getD-mem (nodesOf q s) i 0 h))
 
   listed-in : (i : ℕ) → i < termCount q → InPlaces q s (place q s (s .rep (suc i)))
   listed-in i h = placeOf-range _ (rep-node (suc i) (omega arith, h))

@@ -1,13 +1,31 @@
 -- What it says that a rule applies, and what gives it.
-use Prim.Native.Nat.{ℕ}
+use Prim.Native.Nat.{ℕ, suc, _≤_}
+use native.Mathlib.Omega.{arith}
 use mathlib.Core.Path.{_≡_}
 use mathlib.Core.Bool.{Bool, true, false, not}
-use Rattle.logic.specs.Search.{_and_, any}
+use mathlib.Core.List.{map, List·Memᴰ}
+use Rattle.logic.specs.Search.{_and_, from, any, flatMap}
 use Rattle.logic.specs.Facts.{Facts, live}
-use Rattle.logic.specs.Rules.{Rule, Triple, Move, move, conditions, alternatives, held, hasLink, applies}
-use Rattle.theory.proofs.Basics.Search.{and-left, and-right, and-intro, not-true, not-intro}
+use Rattle.logic.specs.Rules.{Rule, Triple, triple, triples, Move, move, conditions, alternatives, held, hasLink, applies}
+use Rattle.theory.proofs.Basics.Search.{and-left, and-right, and-intro, not-true, not-intro, from-mem, flatMap-mem, map-mem}
 use Rattle.theory.proofs.Basics.Compare.{ltb-intro, leb-intro}
 use Rattle.theory.proofs.Paths.Ranged.{InRange, link-range}
+
+-- a triple that is searched is of numbers up to n
+pub triple-range : (n x y z : ℕ) → List·Memᴰ (triple x y z) (triples n) → (x ≤ n) × (y ≤ n) × (z ≤ n)
+unfolding triples
+triple-range n x y z m =
+    let a = flatMap-mem (λ x. flatMap (λ y. map (triple x y) (from (suc n) 0)) (from (suc n) 0)) (triple x y z) (from (suc n) 0) m in
+    let b = flatMap-mem (λ y. map (triple (a .0) y) (from (suc n) 0)) (triple x y z) (from (suc n) 0) (a .2) in
+    let c = map-mem (triple (a .0) (b .0)) (triple x y z) (from (suc n) 0) (b .2) in
+    let ra = from-mem (suc n) 0 (a .0) (a .1) in
+    let rb = from-mem (suc n) 0 (b .0) (b .1) in
+    let rc = from-mem (suc n) 0 (c .0) (c .1) in
+    let e = c .2 in
+    let ex : x ≡ a .0 = cc in
+    let ey : y ≡ b .0 = cc in
+    let ez : z ≡ c .0 = cc in
+    (omega arith, omega arith, omega arith)
 
 pub hasLink-range : (links i : ℕ) (r : Rule) (t : Triple) → hasLink links (move i r t) ≡ true → InRange links i
 unfolding hasLink

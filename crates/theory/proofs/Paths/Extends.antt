@@ -4,7 +4,7 @@ use Prim.Native.Nat.{ℕ}
 use mathlib.Core.Path.{_≡_, refl, sym, ap, _∙_}
 use mathlib.Core.Bool.{true}
 use lib.Dec.{eqb, ltb, leb}
-use Rattle.logic.specs.Search.{_and_, _or_}
+use Rattle.logic.specs.Search.{_and_}
 use Rattle.logic.specs.Facts.{Facts, replace, addReach, addLinks}
 use Rattle.theory.proofs.Basics.Search.{or-left}
 use Rattle.theory.proofs.Paths.Replace.{sub, replaceIn-intro}

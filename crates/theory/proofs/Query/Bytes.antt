@@ -68,20 +68,30 @@ abbrev pub Regular : List Section → Type 0
 Regular [] = Unit {0}
 Regular (s ∷ ss) = ((i : ℕ) → length (s .roles i) ≡ s .width) × Regular ss
 
-flatMap-length : (f : ℕ → List Role) (w : ℕ) → ((i : ℕ) → length (f i) ≡ w) → (c i : ℕ) → length (flatMap f (from c i)) ≡ c * w
+pub flatMap-length : (f : ℕ → List Role) (w : ℕ) → ((i : ℕ) → length (f i) ≡ w) → (c i : ℕ) → length (flatMap f (from c i)) ≡ c * w
 unfolding flatMap from
 flatMap-length f w h zero i = sym (zero-mul w)
 flatMap-length f w h (suc c) i = rw (length-append, suc-mul) (omega (arith, h i, flatMap-length f w h c (suc i)))
+
+-- the literals of a section of three bytes an entry
+pub literals-count : (c : ℕ) (bytes : List ℕ) → length bytes ≡ c * 3 → length (literals bytes) ≡ c
+unfolding literals
+literals-count zero [] e = refl
+literals-count (suc c) [] e = absurd (omega arith)
+literals-count c (s ∷ []) e = absurd (omega arith)
+literals-count c (s ∷ a ∷ []) e = absurd (omega arith)
+literals-count zero (s ∷ a ∷ b ∷ rest) e = absurd (omega arith)
+literals-count (suc c) (s ∷ a ∷ b ∷ rest) e = ap suc (literals-count c rest (omega arith))
 
 -- what a choice leads to, by its test
 pub cond-elim : {A : Type 0} (P : A → Type 0) (b : Bool) {x y : A} → (b ≡ true → P x) → (b ≡ false → P y) → P (cond b x y)
 cond-elim P true t f = t refl
 cond-elim P false t f = f refl
 
-faulty-parts : {k place : ℕ} {ps : List (List ℕ)} → faulty k place ≡ parts ps → ⊥
+pub faulty-parts : {k place : ℕ} {ps : List (List ℕ)} → faulty k place ≡ parts ps → ⊥
 faulty-parts e = let z : _≡_ {A = ℕ} 0 1 = cc in omega arith
 
-withPart-parts : (p : List ℕ) (l : Layout) (ps : List (List ℕ)) → withPart p l ≡ parts ps → (qs : List (List ℕ)) × (l ≡ parts qs) × (ps ≡ p ∷ qs)
+pub withPart-parts : (p : List ℕ) (l : Layout) (ps : List (List ℕ)) → withPart p l ≡ parts ps → (qs : List (List ℕ)) × (l ≡ parts qs) × (ps ≡ p ∷ qs)
 unfolding withPart
 withPart-parts p (faulty k place) ps h = absurd (faulty-parts h)
 withPart-parts p (parts qs) ps h = (qs, refl, cc)

@@ -4,13 +4,13 @@ use native.Mathlib.Omega.{arith}
 use mathlib.Core.Path.{_≡_, refl}
 use mathlib.Core.Logic.{⊎-elim}
 use mathlib.Core.Bool.{true}
-use mathlib.Core.List.{List, List·Memᴰ}
+use mathlib.Core.List.{List·Memᴰ}
 use lib.ListN.{length, List·getD-eq-default}
 use Rattle.logic.specs.Search.{from}
 use Rattle.logic.specs.Query.{Query, entryOf, namesNil, argumentOf, termCount, Entries}
 use Rattle.logic.specs.Facts.{terms, nilTerms}
 use Rattle.theory.proofs.Basics.Search.{select-mem, select-intro, from-mem, from-intro}
-use Rattle.theory.proofs.Basics.Compare.{eqb-true, le-cases, cond-true}
+use Rattle.theory.proofs.Basics.Compare.{eqb-true, le-cases}
 use Rattle.theory.proofs.Query.Tied.{InTerms}
 
 module _ (entries : Entries) where
@@ -40,11 +40,6 @@ module _ (entries : Entries) where
   pub nil-range : (t : ℕ) → namesNil entries t ≡ true → (1 ≤ t) × (t ≤ length (entries .terms))
   unfolding namesNil
   nil-range t h = entryOf-range t (λ e. omega (arith, e, eqb-true (entryOf entries t) 255 h))
-
-  -- nil has no argument
-  pub nil-argument : (t : ℕ) → namesNil entries t ≡ true → argumentOf entries t ≡ 0
-  unfolding argumentOf
-  nil-argument t h = cond-true 0 (entryOf entries t) h
 
 -- The terms that name nil
 

@@ -3,13 +3,13 @@ use Prim.Native.Nat.{ℕ, zero, suc, _+_, _-_, _*_, _≤_, _<_}
 use native.Mathlib.Omega.{arith}
 use native.Mathlib.Nat.{add-zero, add-suc, suc-add}
 use mathlib.Core.Path.{_≡_, refl, sym, ap, _∙_, subst}
-use mathlib.Core.Logic.{_⊎_, ⊎-elim}
+use mathlib.Core.Logic.{⊎-elim}
 use mathlib.Core.Bool.{Bool, true, false, not, cond}
 use mathlib.Core.List.{List, [], _∷_, List·Memᴰ, List·Memᴰ·not-nil, List·Memᴰ·cases-cons}
 use mathlib.Core.Option.{none, some}
 use lib.ListN.{length, getD}
 use lib.Dec.{eqb, ltb, leb}
-use Rattle.logic.specs.Search.{_and_, _or_, from, at, keep, orElse, flatMap}
+use Rattle.logic.specs.Search.{_or_, from, at, keep, orElse, flatMap}
 use Rattle.logic.specs.Query.{Literal, Entries, entryOf, namesNil, argumentOf, linkOf, termCount, Role, Section, entryRole, signRole, termRole, numberRole, countRole, booleanSection, Layout, faulty, parts, rolesOf, firstByte, layoutBy, layoutFault, byteFault, literals, section}
 use Rattle.logic.specs.ThreeLinks.{linkSections, isLink, mayPrecede, entryLinkFault, reachLinkFault, linkFault, firsts, seconds, linkedLiterals, linkedQuery, decodeLinks}
 use Rattle.theory.proofs.Basics.Search.{bool-cases, true-false, and-left, and-right, none-some, orElse-none, orElse-cases, keep-none, keep-some}

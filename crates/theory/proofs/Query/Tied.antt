@@ -2,7 +2,7 @@
 use Prim.Native.Nat.{ℕ, _≤_, _<_}
 use mathlib.Core.Path.{_≡_}
 use mathlib.Core.Bool.{true}
-use mathlib.Core.List.{List, List·Memᴰ}
+use mathlib.Core.List.{List·Memᴰ}
 use Rattle.logic.specs.Query.{Literal, Query, namesNil, argumentOf, linkOf, termCount}
 use Rattle.logic.specs.Facts.{Facts, live}
 

@@ -9,7 +9,7 @@ use mathlib.Core.Bool.{Bool, true, false, cond, false≢true}
 use mathlib.Core.List.{List, [], _∷_, List·Memᴰ, List·Memᴰ·head, List·Memᴰ·tail}
 use mathlib.Core.Option.{Option, none, some, Option·elim}
 use lib.Dec.{eqb, ltb, leb}
-use Rattle.logic.specs.Search.{_and_, _or_}
+use Rattle.logic.specs.Search.{_and_}
 use Rattle.logic.specs.Query.{Literal, Query, argumentOf, linkOf, termCount, literal}
 use Rattle.logic.specs.Heap.{Heap, Reaches, Meets, value}
 use Rattle.logic.specs.Facts.{Facts, replaceIn, replace, doubled, unjoined, andThen, settle, join, addReach, linksOf, joinEach, reachEach, nilTerms, addLinks, equalTo, addNilLinks, joinNil, startJoins, start}

@@ -2,7 +2,7 @@
 use Prim.Native.Nat.{ℕ, zero, suc, _≤_, _<_}
 use native.Mathlib.Omega.{arith}
 use mathlib.Core.Path.{_≡_, refl, sym, ap, _∙_}
-use mathlib.Core.Logic.{⊎-elim}
+use mathlib.Core.Logic.{_↔_, ⊎-elim}
 use mathlib.Core.Bool.{Bool, true, false, cond, true≢false, false≢true}
 use lib.Dec.{eqb}
 use Rattle.logic.specs.Query.{Query, argumentOf, linkOf, termCount, Entries}
@@ -69,6 +69,11 @@ module _ (h : Heap) (entries : Entries) where
         ∙ ap (h .link (linkOf entries t)) (within-enough t (argumentOf entries t) (argumentOf entries t) (omega arith) (omega arith))
 
 -- A plain literal says what it means, and a negated one denies it
+
+-- a literal that means the same is met alike
+pub signed-same : {P Q : Type 0} (b : Bool) → P ↔ Q → Signed b P → Signed b Q
+signed-same true e p = e .0 p
+signed-same false e p = λ x. p (e .1 x)
 
 pub signed-true : {P : Type 0} (b : Bool) → b ≡ true → Signed b P → P
 signed-true true e m = m

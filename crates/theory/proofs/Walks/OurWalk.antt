@@ -17,7 +17,7 @@ use Rattle.theory.proofs.Walks.Gains.{applies-step}
 
 -- Steps in front of others
 
-steps-first : {n k : ℕ} {s s′ s″ : Facts} → Step n s s′ → Steps n s′ k s″ → Steps n s (suc k) s″
+pub steps-first : {n k : ℕ} {s s′ s″ : Facts} → Step n s s′ → Steps n s′ k s″ → Steps n s (suc k) s″
 steps-first step at-first = one-more at-first step
 steps-first step (one-more steps last) = one-more (steps-first step steps) last
 

@@ -20,17 +20,17 @@ agrees-spec =
     (λ c. search needs)
     -- reorder-requires
     (λ c κs. search needs)
-    -- slice-aggregate-lemitsaka-verdict
+    -- slice-aggregate-verdict
     (λ c. search needs)
-    -- lemitsaka-verdict-requires
+    -- verdict-requires
     (λ c κs. search needs)
     -- array-share-prefix-room
     (λ c. search needs)
-    -- slice-aggregate-lemitsaka-verdict-2
+    -- slice-aggregate-verdict-2
     (λ c. sym (length-take-le _ _ (omega arith)))
-    -- slice-aggregate-lemitsaka-verdict-3
+    -- slice-aggregate-verdict-3
     (λ c. search needs)
-    -- lemitsaka-verdict-requires-2
+    -- verdict-requires-2
     (λ c κs. search needs)
     -- slice-aggregate-is-same
     (λ c. search needs)
