@@ -1,2 +1,2 @@
-pub mod Doubled
+pub mod Twos
 pub mod Joins

@@ -7,11 +7,11 @@ use Rattle.logic.specs.Search.{firstOf}
 use Rattle.logic.specs.Facts.{terms, firstTwo, successors}
 use Rattle.facts.specs.Path.{linksIn}
 
--- the two lowest successors of a term, by the first of three links that has two: "by lowest term, then link" (02, R-11)
-unfoldable pub twoIn : ℕ → List ℕ → List ℕ → List ℕ → ℕ → Option (ℕ × ℕ)
-twoIn n first second third t = firstOf (λ link. firstTwo (successors n (linksIn link) t)) (first ∷ second ∷ third ∷ [])
+-- the two lowest successors of a term, by the first link that has two, of a single link or of three: "by lowest term, then link" (02, R-11)
+unfoldable pub twoIn : ℕ → Bool → List ℕ → List ℕ → List ℕ → ℕ → Option (ℕ × ℕ)
+twoIn n single first second third t =
+    firstOf (λ link. firstTwo (successors n (linksIn link) t)) (first ∷ cond single [] (second ∷ third ∷ []))
 
--- what is doubled, by the links of a single link or of three
+-- what is doubled
 unfoldable pub doubledIn : ℕ → Bool → List ℕ → List ℕ → List ℕ → Option (ℕ × ℕ)
-doubledIn n single first second third =
-    cond single (firstOf (λ t. firstTwo (successors n (linksIn first) t)) (terms n)) (firstOf (twoIn n first second third) (terms n))
+doubledIn n single first second third = firstOf (twoIn n single first second third) (terms n)

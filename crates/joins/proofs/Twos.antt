@@ -1,7 +1,7 @@
 -- What is doubled: read off the links alone, and found by a loop over the terms.
 use Prim.Native.Nat.{ℕ, _+_, _-_, _≤_, _<_}
 use native.Mathlib.Omega.{arith}
-use mathlib.Core.Path.{_≡_, refl, sym, ap, _∙_}
+use mathlib.Core.Path.{_≡_, refl, ap}
 use mathlib.Core.Logic.{⊎-elim}
 use mathlib.Core.Bool.{Bool, true, false, cond}
 use mathlib.Core.List.{List}
@@ -9,8 +9,7 @@ use mathlib.Core.Option.{Option, none, some}
 use Rattle.logic.specs.Search.{from, orElse, firstOf}
 use Rattle.logic.specs.Facts.{Facts, linkNumbers, terms, firstTwo, successors, doubled}
 use Rattle.theory.proofs.Basics.Search.{bool-cases, firstOf-some}
-use Rattle.theory.proofs.Basics.Compare.{cond-true, cond-false}
-use Rattle.theory.proofs.Calls.OneLink.{firstOf-one, doubled-one}
+use Rattle.theory.proofs.Calls.OneLink.{firstOf-one}
 use Rattle.facts.specs.Path.{graphs, graphOf, pathAs, linksIn}
 use Rattle.rows.proofs.Successors.{two-below}
 use Rattle.joins.specs.Doubled.{twoIn, doubledIn}
@@ -20,34 +19,37 @@ module _ (n : ℕ) (single : Bool) (rep link reach link2 reach2 link3 reach3 : L
   abbrev path : Facts
   path = pathAs single rep link reach link2 reach2 link3 reach3
 
-  doubled-single : single ≡ true → doubled n path ≡ firstOf (λ t. firstTwo (successors n (linksIn link) t)) (terms n)
-  unfolding successors linksIn graphOf graphs
-  doubled-single e = doubled-one n path (ap (λ (b : Bool). cond b 1 3) e)
+  of-one : single ≡ true → doubledIn n single link link2 link3 ≡ doubled n path
+  unfolding doubledIn twoIn doubled linkNumbers from firstOf successors linksIn graphOf graphs
+  of-one e = rw e refl
 
-  doubled-three : single ≡ false → doubled n path ≡ firstOf (twoIn n link link2 link3) (terms n)
-  unfolding doubled linkNumbers from firstOf twoIn successors linksIn graphOf graphs
-  doubled-three e = rw e refl
+  of-three : single ≡ false → doubledIn n single link link2 link3 ≡ doubled n path
+  unfolding doubledIn twoIn doubled linkNumbers from firstOf successors linksIn graphOf graphs
+  of-three e = rw e refl
 
   pub doubled-links : doubledIn n single link link2 link3 ≡ doubled n path
-  unfolding doubledIn
-  doubled-links = ⊎-elim (λ e. cond-true _ _ e ∙ sym (doubled-single e)) (λ e. cond-false _ _ e ∙ sym (doubled-three e)) (bool-cases single)
+  doubled-links = ⊎-elim of-one of-three (bool-cases single)
 
--- the first of three links that has two successors
-module _ (n : ℕ) (f g h : List ℕ) (t : ℕ) where
+-- the first link that has two successors
+module _ (n : ℕ) (single : Bool) (f g h : List ℕ) (t : ℕ) where
   abbrev two : List ℕ → Option (ℕ × ℕ)
   two l = firstTwo (successors n (linksIn l) t)
 
-  pub two-first : (ab : ℕ × ℕ) → two f ≡ some ab → twoIn n f g h t ≡ some ab
+  pub two-first : (ab : ℕ × ℕ) → two f ≡ some ab → twoIn n single f g h t ≡ some ab
   unfolding twoIn firstOf orElse
   two-first ab e = rw e refl
 
-  pub two-second : (ab : ℕ × ℕ) → two f ≡ none → two g ≡ some ab → twoIn n f g h t ≡ some ab
+  pub two-alone : two f ≡ none → single ≡ true → twoIn n single f g h t ≡ none
   unfolding twoIn firstOf orElse
-  two-second ab e d = rw (e, d) refl
+  two-alone e s = rw (e, s) refl
 
-  pub two-third : two f ≡ none → two g ≡ none → twoIn n f g h t ≡ two h
+  pub two-second : (ab : ℕ × ℕ) → two f ≡ none → single ≡ false → two g ≡ some ab → twoIn n single f g h t ≡ some ab
   unfolding twoIn firstOf orElse
-  two-third e d = rw (e, d) (firstOf-one two h)
+  two-second ab e s d = rw (e, s, d) refl
+
+  pub two-third : two f ≡ none → single ≡ false → two g ≡ none → twoIn n single f g h t ≡ two h
+  unfolding twoIn firstOf orElse
+  two-third e s d = rw (e, s, d) (firstOf-one two h)
 
 -- the search of all terms as a loop meets it
 pub all-terms : (n : ℕ) (f : ℕ → Option (ℕ × ℕ)) → firstOf f (terms n) ≡ firstOf f (from (n + 1 - 1) 1)

@@ -5,21 +5,22 @@ use borrow.Author.Needs.{needs}
 use mathlib.Core.Path.{_≡_, sym, ap, _∙_}
 use Rattle.logic.specs.Search.{from, firstOf}
 use Rattle.logic.specs.Facts.{terms}
-use Rattle.joins.specs.Doubled.{twoIn}
+use Rattle.joins.specs.Doubled.{twoIn, doubledIn}
 use Rattle.joins.specs.Answers.{twoOf}
 use Rattle.rows.proofs.Loops.{first-end, first-here, first-next}
-use Rattle.joins.proofs.Doubled.{all-terms}
-use Rattle.joins.proofs.doubled_of.Statement.{statement}
-use Rattle.joins.proofs.doubled_of.Tie as tie
+use Rattle.joins.proofs.Twos.{all-terms}
+use Rattle.joins.proofs.doubled.Statement.{statement}
+use Rattle.joins.proofs.doubled.Tie as tie
 
 abbrev Inv-loop : tie.InvT-loop
-Inv-loop first second third n t₀ t = firstOf (twoIn n first second third) (terms n) ≡ firstOf (twoIn n first second third) (from (n + 1 - t) t)
+Inv-loop single first second third n t₀ t = firstOf (twoIn n single first second third) (terms n) ≡ firstOf (twoIn n single first second third) (from (n + 1 - t) t)
 
 abbrev μ-loop : tie.MeasureT-loop
-μ-loop first second third n t₀ t = n + 1 - t
+μ-loop single first second third n t₀ t = n + 1 - t
 
-pub doubled-of-spec : {M : Type 1} → statement M
-doubled-of-spec =
+pub doubled-spec : {M : Type 1} → statement M
+unfolding doubledIn
+doubled-spec =
     tie.close
     (tie.spec
     Inv-loop
