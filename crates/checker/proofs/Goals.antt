@@ -12,8 +12,8 @@ use Rattle.logic.specs.Facts.{Facts, Joined, Line, joinLines}
 use Rattle.logic.specs.Rules.{Rule, triple, Move, move, Fact, equal, alternatives, applies, branch, add}
 use Rattle.theory.proofs.Query.Tied.{Accepted}
 use Rattle.theory.proofs.Basics.Count.{getD-mem}
-use Rattle.branch.specs.Alternatives.{countOf, alternativeAt}
-use Rattle.branch.proofs.Alternatives.{count-is, alternative-is}
+use Rattle.alternatives.specs.Alternatives.{countOf, alternativeAt}
+use Rattle.alternatives.proofs.Alternatives.{count-is, alternative-is}
 use Rattle.checking.specs.Fitting.{Goal, goalOf, goalsOf}
 use Rattle.checker.specs.declared.Judged.{Judged}
 use Rattle.checker.specs.Reading.{Shaped, lineAt, Read, ending, ruling, unfit, readAt}

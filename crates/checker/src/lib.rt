@@ -22,7 +22,7 @@ ghost use Rattle.facts.specs.Path.{pathOf};
 ghost use Rattle.joins.specs.Pairs.{pairsOf, joinedOf};
 ghost use Rattle.query.specs.LaysOut.{LaysOut};
 ghost use Rattle.rules.specs.Answers.{kindOf};
-ghost use Rattle.branch.specs.Alternatives.{alternativeAt};
+ghost use Rattle.alternatives.specs.Alternatives.{alternativeAt};
 ghost use Rattle.logic.specs.Derivation.{linesIn};
 ghost use Rattle.checking.specs.Fitting.{wrongLine};
 ghost use Rattle.checking.specs.CheckCall.{countIn, byWrong, checkCall};
@@ -251,7 +251,7 @@ pub fn check_goal<'a>(
             at: at + 1,
         },
         Reading::Applies(rule, x, y, z) => {
-            let total = branch::count(rule, z);
+            let total = alternatives::count(rule, z);
             let mut to = at + 1;
             let mut i: usize = 0;
             while i < total {

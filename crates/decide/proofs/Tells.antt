@@ -13,7 +13,7 @@ use Rattle.theory.proofs.Query.Tied.{Accepted}
 use Rattle.theory.proofs.Paths.Applies.{hasLink-range, applies-linked}
 use Rattle.theory.proofs.Walks.Order.{rules-full}
 use Rattle.theory.proofs.Calls.Decision.{Known, clash-none, saturated-heap, struck-next, struck-all, open-branch, branch-at, closed-known, closed-heap, heap-closed}
-use Rattle.branch.specs.Alternatives.{countOf, alternativeAt}
+use Rattle.alternatives.specs.Alternatives.{countOf, alternativeAt}
 use Rattle.facts.specs.Path.{HasLink}
 use Rattle.plain_steps.specs.Walks.{isRefuted}
 use Rattle.plain_steps.specs.declared.Kind.{Kind}

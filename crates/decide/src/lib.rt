@@ -182,7 +182,7 @@ fn search_in(
                     budget: 0,
                 };
             }
-            let total = branch::count(rule, z);
+            let total = alternatives::count(rule, z);
             let mut fuel = plain_steps::spent(budget);
             let mut at: usize = 0;
             while at < total {

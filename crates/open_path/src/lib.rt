@@ -49,7 +49,7 @@ fn first_open(
     ensures { λ r. ⌜ FirstOpen (said layout (now (query .entry))) (pathOf s) (move (k .0) (kindOf rule) (triple (x .0) (y .0) (z .0))) (pathOf (r .facts)) × HasHeap (said layout (now (query .entry))) (pathOf (r .witness)) ⌝ }
 {
     let n = layout.terms;
-    let total = branch::count(rule, z);
+    let total = alternatives::count(rule, z);
     let mut how = first;
     let mut i: usize = 0;
     loop {

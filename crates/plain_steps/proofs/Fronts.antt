@@ -11,7 +11,7 @@ use Rattle.logic.specs.Steps.{AtMost}
 use Rattle.logic.specs.Decision.{Struck}
 use Rattle.theory.proofs.Query.Tied.{Accepted}
 use Rattle.theory.proofs.Calls.Decision.{Known}
-use Rattle.branch.specs.Alternatives.{countOf, alternativeAt}
+use Rattle.alternatives.specs.Alternatives.{countOf, alternativeAt}
 use Rattle.plain_steps.specs.Walks.{isRefuted, Ahead, WalksTo}
 use Rattle.plain_steps.specs.declared.Kind.{Kind}
 use Rattle.plain_steps.specs.declared.Kind.the-variants as kind

@@ -17,7 +17,7 @@ use Rattle.theory.proofs.Walks.Order.{order-full}
 use Rattle.theory.proofs.Walks.Derives.{seen-applying}
 use Rattle.theory.proofs.Walks.OurWalk.{look-some, look-fewer}
 use Rattle.theory.proofs.Calls.Decision.{Known, struck-next, struck-all, branch-at, walk-first}
-use Rattle.branch.specs.Alternatives.{countOf, alternativeAt}
+use Rattle.alternatives.specs.Alternatives.{countOf, alternativeAt}
 use Rattle.plain_steps.specs.Walks.{isRefuted, WalksTo}
 use Rattle.plain_steps.specs.declared.Kind.{Kind}
 use Rattle.plain_steps.specs.declared.Kind.the-variants as kind

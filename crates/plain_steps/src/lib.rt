@@ -197,7 +197,7 @@ pub fn plain_in(
             };
         }
         walk::Seen::Applying(k, rule, x, y, z) => {
-            let total = branch::count(rule, z);
+            let total = alternatives::count(rule, z);
             let mut fuel = spent(budget);
             let mut i: usize = 0;
             while i < total {

@@ -1,8 +1,8 @@
 -- The links are those of link k. Assumes nothing.
 use Rattle.rules.specs.Answers.{kindOf}
-use Rattle.branch.proofs.Rows.{by-first, by-second, by-third}
-use Rattle.branch.proofs.alternative_of.Statement.{statement}
-use Rattle.branch.proofs.alternative_of.Tie as tie
+use Rattle.alternatives.proofs.Rows.{by-first, by-second, by-third}
+use Rattle.alternatives.proofs.alternative_of.Statement.{statement}
+use Rattle.alternatives.proofs.alternative_of.Tie as tie
 
 pub alternative-of-spec : {M : Type 1} → statement M
 alternative-of-spec =

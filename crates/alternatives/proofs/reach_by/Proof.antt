@@ -1,7 +1,7 @@
 -- The rows of link k have the fact. Assumes nothing.
-use Rattle.branch.proofs.Rows.{reached-first, reached-second, reached-third}
-use Rattle.branch.proofs.reach_by.Statement.{statement}
-use Rattle.branch.proofs.reach_by.Tie as tie
+use Rattle.alternatives.proofs.Rows.{reached-first, reached-second, reached-third}
+use Rattle.alternatives.proofs.reach_by.Statement.{statement}
+use Rattle.alternatives.proofs.reach_by.Tie as tie
 
 pub reach-by-spec : {M : Type 1} → statement M
 reach-by-spec =

@@ -9,7 +9,7 @@ use lib.Dec.{eqb}
 use Rattle.logic.specs.Heap.{iterate}
 use Rattle.logic.specs.Facts.{Graph}
 use Rattle.logic.specs.Rules.{Rule, REFLEX, TRANS1, TRANS2, FUNC, CYCLE, SCC, TOTAL, SHARE, triple, move, Fact, equal, next, round, alternatives}
-use Rattle.branch.specs.Alternatives.{countOf, alternativeAt}
+use Rattle.alternatives.specs.Alternatives.{countOf, alternativeAt}
 
 round-length : (n : ℕ) (g : Graph) (k c : ℕ) → length (round n g k c) ≡ k
 unfolding round

@@ -6,7 +6,7 @@ use mathlib.Core.List.{List}
 use Rattle.logic.specs.Facts.{addReach}
 use Rattle.logic.specs.Rules.{Rule, Fact}
 use Rattle.facts.specs.Path.{pathAs, HasLink}
-use Rattle.branch.specs.Alternatives.{alternativeAt}
+use Rattle.alternatives.specs.Alternatives.{alternativeAt}
 
 -- a fact is the alternative of a rule, of any path with these links
 abbrev pub Alternative : ℕ → List ℕ → List ℕ → List ℕ → ℕ → Rule → ℕ → ℕ → ℕ → ℕ → Fact → Type 0

@@ -1,8 +1,8 @@
 -- The code's facts as the definitions'.
 use Prim.Native.Nat.{ℕ, _≤_}
 use Rattle.logic.specs.Rules.{Fact, equal, reaches}
-use Rattle.branch.specs.declared.Fact as code
-use Rattle.branch.specs.declared.Fact.the-variants as fact
+use Rattle.alternatives.specs.declared.Fact as code
+use Rattle.alternatives.specs.declared.Fact.the-variants as fact
 
 -- what it says of link k
 abbrev pub factOf : ℕ → code.Fact → Fact

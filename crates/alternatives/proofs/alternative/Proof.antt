@@ -2,9 +2,9 @@
 use borrow.Author.Needs.{needs}
 use mathlib.Core.Path.{refl, ap}
 use Rattle.logic.specs.Rules.{equal}
-use Rattle.branch.proofs.Steps.{followed, known-rule, first-of-two, second-of-two}
-use Rattle.branch.proofs.alternative.Statement.{statement}
-use Rattle.branch.proofs.alternative.Tie as tie
+use Rattle.alternatives.proofs.Steps.{followed, known-rule, first-of-two, second-of-two}
+use Rattle.alternatives.proofs.alternative.Statement.{statement}
+use Rattle.alternatives.proofs.alternative.Tie as tie
 
 pub alternative-spec : {M : Type 1} → statement M
 alternative-spec =
