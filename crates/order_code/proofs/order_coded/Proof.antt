@@ -1,7 +1,7 @@
 -- Each case by itself. Assumes nothing.
 use borrow.Author.Needs.{needs}
-use Rattle.lemitsaka.proofs.precedence_export.order_coded.Statement.{statement}
-use Rattle.lemitsaka.proofs.precedence_export.order_coded.Tie as tie
+use Rattle.order_code.proofs.order_coded.Statement.{statement}
+use Rattle.order_code.proofs.order_coded.Tie as tie
 
 pub order-coded-spec : {M : Type 1} → statement M
 order-coded-spec =
