@@ -3,8 +3,8 @@ use Prim.Native.Nat.{ℕ, _+_, _*_}
 use native.Mathlib.Omega.{arith}
 use mathlib.Core.Path.{ap₂}
 use Rattle.checking.specs.CheckCall.{countIn}
-use Rattle.checker.proofs.count_of.Statement.{statement}
-use Rattle.checker.proofs.count_of.Tie as tie
+use Rattle.derivation_lines.proofs.count_of.Statement.{statement}
+use Rattle.derivation_lines.proofs.count_of.Tie as tie
 
 pub count-of-spec : {M : Type 1} → statement M
 unfolding countIn

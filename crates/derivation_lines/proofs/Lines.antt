@@ -9,14 +9,14 @@ use lib.ListN.{length, getD, drop}
 use lib.Seq.{getD-drop}
 use lib.Dec.{eqb, ltb, leb}
 use borrow.Author.Tests.{ne-eqb, lt-ltb, le-ltb, leb-true, leb-false, eqb-true, ltb-false}
-use Rattle.logic.specs.Search.{_or_, at}
+use Rattle.logic.specs.Search.{_and_, _or_, at}
 use Rattle.logic.specs.Facts.{Line, line}
 use Rattle.logic.specs.Derivation.{linesFrom, linesIn}
-use Rattle.fitting.proofs.Laws.{four}
+use Rattle.rows.proofs.Selections.{and-both}
 use Rattle.checking.specs.Fitting.{sameLine}
 use Rattle.checking.specs.CheckCall.{countIn, misshapen}
 use Rattle.checking.proofs.Claims.{count-lines}
-use Rattle.checker.specs.Reading.{lineAt, isLine, shapely, Shaped}
+use Rattle.derivation_lines.specs.Lines.{lineAt, isLine, shapely, Shaped}
 
 -- Lists by places from 1
 
@@ -87,7 +87,12 @@ module _ (bytes : List ℕ) (count i kept replaced : ℕ) (s : Shaped bytes coun
 
   pub join-there : i < count → ((eqb (getD bytes (4 * i + 2) 0) 10 && eqb (getD bytes (4 * i + 2 + 1) 0) kept) && eqb (getD bytes (4 * i + 2 + 2) 0) replaced) && eqb (getD bytes (4 * i + 2 + 3) 0) 0 ≡ isLine (lineAt bytes i) (line 10 kept replaced 0)
   unfolding isLine sameLine
-  join-there h = four (eqb (getD bytes (4 * i + 2) 0) 10) (eqb (getD bytes (4 * i + 2 + 1) 0) kept) (eqb (getD bytes (4 * i + 2 + 2) 0) replaced) (eqb (getD bytes (4 * i + 2 + 3) 0) 0) ∙ sym (rw (line-there bytes count i s h) refl)
+  join-there h =
+      all-four (eqb (getD bytes (4 * i + 2) 0) 10) (eqb (getD bytes (4 * i + 2 + 1) 0) kept) (eqb (getD bytes (4 * i + 2 + 2) 0) replaced) (eqb (getD bytes (4 * i + 2 + 3) 0) 0)
+      ∙ sym (rw (line-there bytes count i s h) refl)
+    where
+      all-four : (a b c d : Bool) → ((a && b) && c) && d ≡ (a and b and c and d)
+      all-four a b c d = and-both ((a && b) && c) d ∙ ap (λ (p : Bool). p and d) (and-both (a && b) c ∙ ap (λ (p : Bool). p and c) (and-both a b))
 
 -- The shape
 

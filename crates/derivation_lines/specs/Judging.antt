@@ -1,16 +1,15 @@
 -- What the code's answer says of the goals that follow.
-use Prim.Native.Nat.{ℕ, _+_, _-_, _≤_}
+use Prim.Native.Nat.{ℕ, _+_, _≤_}
 use mathlib.Core.Path.{_≡_}
 use mathlib.Core.Bool.{true, false, cond}
 use mathlib.Core.List.{List, [], _∷_}
 use lib.ListN.{drop}
-use Rattle.logic.specs.Query.{Query, termCount}
-use Rattle.logic.specs.Facts.{Facts, joinLines, start}
-use Rattle.logic.specs.Walk.{limit}
-use Rattle.logic.specs.Steps.{Steps}
+use Rattle.logic.specs.Query.{Query}
+use Rattle.logic.specs.Facts.{Facts, joinLines}
 use Rattle.logic.specs.Derivation.{linesIn}
-use Rattle.checking.specs.Fitting.{Goal, goalOf, wrongFrom}
-use Rattle.checker.specs.declared.Judged.{Judged}
+use Rattle.checking.specs.Fitting.{Goal, goalOf, startGoal, wrongFrom, wrongLine}
+use Rattle.derivation_lines.specs.declared.Judged.{Judged}
+use Rattle.derivation_lines.specs.Lines.{Shaped}
 
 -- the first wrong line where i lines are read and these goals are left, or 0
 unfoldable pub wrongAt : Query → List ℕ → List Goal → ℕ → ℕ
@@ -36,7 +35,6 @@ pub record JudgesHead (bytes : List ℕ) (count : ℕ) (pairs : List (ℕ × ℕ
   pub within : r .fits ≡ true → r .at ≤ count
   pub numbered : r .fits ≡ false → 1 ≤ r .at
 
--- Rule steps led to the path from the start, and `left` of the n times n plus n are left.
-pub record Ahead (q : Query) (s : Facts) (left : ℕ) : Type 0 where
-  pub some : left ≤ limit q
-  pub led : Steps (termCount q) (start q) (limit q - left) s
+-- What is found of the start's goal tells the first wrong line, 0 being none, whatever query and bytes it was found of.
+pub record Concludes (count : ℕ) (judged : Judged) (r : ℕ) : Type 0 where
+  pub concludes : (q : Query) (bytes : List ℕ) → Shaped bytes count → JudgesGoal q bytes count (startGoal q) 0 judged → r ≡ wrongLine q (linesIn bytes)

@@ -1,8 +1,8 @@
 -- The four bytes, where they stand. Assumes nothing.
 use native.Mathlib.Omega.{arith}
-use Rattle.checker.proofs.Lines.{join-past, join-there}
-use Rattle.checker.proofs.is_join.Statement.{statement}
-use Rattle.checker.proofs.is_join.Tie as tie
+use Rattle.derivation_lines.proofs.Lines.{join-past, join-there}
+use Rattle.derivation_lines.proofs.is_join.Statement.{statement}
+use Rattle.derivation_lines.proofs.is_join.Tie as tie
 
 pub is-join-spec : {M : Type 1} → statement M
 is-join-spec =

@@ -1,8 +1,8 @@
 -- Assumes nothing.
 use native.Mathlib.Omega.{arith}
-use Rattle.checker.proofs.Lines.{shape-short, shape-is}
-use Rattle.checker.proofs.is_shaped.Statement.{statement}
-use Rattle.checker.proofs.is_shaped.Tie as tie
+use Rattle.derivation_lines.proofs.Lines.{shape-short, shape-is}
+use Rattle.derivation_lines.proofs.is_shaped.Statement.{statement}
+use Rattle.derivation_lines.proofs.is_shaped.Tie as tie
 
 pub is-shaped-spec : {M : Type 1} → statement M
 is-shaped-spec =
