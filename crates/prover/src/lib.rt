@@ -140,7 +140,7 @@ pub fn verdict_in(three: bool, order: &[u8], query: &[u8], report: &mut [u8]) ->
     match checked(three, query) {
         Checked::Refused(k, place) => Answer::Refused(k, place),
         Checked::Accepted(layout) => {
-            if report.len() < call_limits::room(three) {
+            if call_limits::lacks_room(report.len(), three) {
                 return Answer::Refused(9, 0);
             }
             decide(order, query, layout, report)
