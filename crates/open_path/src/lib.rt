@@ -2,7 +2,7 @@
 // the walk goes into the first that is not refuted.
 use facts::Facts;
 use facts::Link;
-use plain_steps::Kind;
+use kinds::Kind;
 use query::Layout;
 use rows::Term;
 use rules::Rule;
@@ -184,7 +184,7 @@ pub fn settle(
         40,
     );
     let kind = w.kind;
-    if !plain_steps::is_unknown(kind) {
+    if !kinds::is_unknown(kind) {
         return kind;
     }
     let d = decide::has_heap(query, layout, order, left, s, 0);

@@ -23,7 +23,7 @@ use Rattle.decide.proofs.search_in.Kinds as search-in-kinds
 use Rattle.decide.proofs.+search_in.Lts-search_in as search-in-lts
 use Rattle.alternatives.proofs.count.Reads as count-reads
 use Rattle.branch.proofs.take.Reads as take-reads
-use Rattle.plain_steps.proofs.is_refuted.Reads as is-refuted-reads
+use Rattle.kinds.proofs.is_refuted.Reads as is-refuted-reads
 use Rattle.decide.proofs.sees.Reads as sees-reads
 use Rattle.plain_steps.proofs.spent.Reads as spent-reads
 use Rattle.decide.proofs.+search_in.{statement}

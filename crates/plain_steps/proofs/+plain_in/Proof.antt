@@ -27,7 +27,7 @@ use Rattle.plain_steps.proofs.+plain_in.Lts-plain_in as plain-in-lts
 use Rattle.alternatives.proofs.count.Reads as count-reads
 use Rattle.branch.proofs.take.Reads as take-reads
 use Rattle.plain_steps.proofs.close_ahead.Reads as close-ahead-reads
-use Rattle.plain_steps.proofs.is_refuted.Reads as is-refuted-reads
+use Rattle.kinds.proofs.is_refuted.Reads as is-refuted-reads
 use Rattle.plain_steps.proofs.look_ahead.Reads as look-ahead-reads
 use Rattle.plain_steps.proofs.spent.Reads as spent-reads
 use Rattle.plain_steps.proofs.+plain_in.{statement}
