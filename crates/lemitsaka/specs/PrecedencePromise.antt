@@ -2,7 +2,7 @@
 use Prim.Native.Nat.{ℕ}
 use mathlib.Core.Path.{_≡_}
 use mathlib.Core.List.{List}
-use Rattle.precedence.specs.Calls.{Answer, order, ring, refused, Outcome}
+use Rattle.ordering.specs.Calls.{Answer, order, ring, refused, Outcome}
 use Rattle.lemitsaka.specs.Codes.{numberedCode}
 
 -- an answer as a number

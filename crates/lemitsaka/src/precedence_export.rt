@@ -2,7 +2,7 @@
 use precedence::OrderAnswer;
 ghost use mathlib.Core.Path.{_≡_};
 ghost use lib.ListN.{length};
-ghost use Rattle.precedence.specs.Calls.{orderCall};
+ghost use Rattle.ordering.specs.Calls.{orderCall};
 ghost use Rattle.precedence.specs.Answers.{meaning};
 ghost use Rattle.lemitsaka.specs.PrecedencePromise.{orderCode, OrderCodes};
 
