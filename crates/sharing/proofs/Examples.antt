@@ -13,7 +13,7 @@ use Rattle.printing.specs.HeapverdictText.{answerText}
 use Rattle.fnv.specs.Mark.{marked, markFrom, markOf}
 use Rattle.tally.specs.Counting.{kindOf, ruleLines, raisedFrom, raised, fits, tallied, noLines}
 use Rattle.fractions.specs.Fractions.{gcdWithin, gcd, share, totalOf, sharesOf, fractionText, sharesText}
-use Rattle.shares.specs.Output.{hexWord, linesOf, answerOf, writtenLines, queryLine, lengthIn, isBad, wanted, turnOf, firstTurn, firstLength, outputWithin, outputFrom, output}
+use Rattle.sharing.specs.Output.{hexWord, linesOf, answerOf, writtenLines, queryLine, lengthIn, isBad, wanted, turnOf, firstTurn, firstLength, outputWithin, outputFrom, output}
 
 examples :
     (output [] ≡ ascii "0/1\n0/1\n0/1\n0/1\n0/1\n0/1\n0/1\n0/1\n")

@@ -1,15 +1,13 @@
 -- A stream that is read in pieces (02, R-14: "Standard input is an order list, then queries"): what is printed of a piece, and what is kept
 -- of it for the next.
-use Prim.Native.Nat.{ℕ, _≤_, _<_, min}
+use Prim.Native.Nat.{ℕ, _≤_, _<_}
 use mathlib.Core.Path.{_≡_}
 use mathlib.Core.Logic.{_⊎_}
 use mathlib.Core.Bool.{Bool, true, false, cond}
 use mathlib.Core.List.{List, [], _++_}
 use lib.ListN.{length}
-use lib.Dec.{ltb}
 use Rattle.fractions.specs.Fractions.{sharesText}
-use Rattle.shares.specs.Output.{firstTurn, firstLength, outputFrom}
-use Rattle.shares.specs.Taking.{Takes}
+use Rattle.sharing.specs.Output.{outputFrom}
 
 -- What is still to be printed: where a query may follow, all that is printed of these bytes, the order list first; else the shares alone.
 unfoldable pub stillPrinted : Bool → List ℕ → List ℕ → List ℕ
@@ -22,12 +20,3 @@ pub record Processes (counts held : List ℕ) (ended : Bool) (text after kept : 
   pub shrinks : length kept ≤ length held
   -- it takes something, or waits for more bytes: those held are fewer than an order list and the longest query with its length
   pub advances : goes ≡ true → (length kept < length held) ⊎ ((ended ≡ false) × (length held < 691))
-
--- For the code: a turn on the bytes that stand first, and how many of them it takes.
-pub record TakesFirst (order counts bytes before after : List ℕ) (r : ℕ) (left : List ℕ) (goes : Bool) (taken : ℕ) : Type 0 where
-  pub takes : Takes (firstTurn order counts bytes) before after r left goes
-  pub passes : taken ≡ min (length bytes) (firstLength bytes)
-
--- fewer bytes have come than are needed, and more may come
-unfoldable pub mustWait : ℕ → ℕ → Bool → Bool
-mustWait n needed ended = cond ended false (ltb n needed)

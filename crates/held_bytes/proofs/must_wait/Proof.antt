@@ -1,7 +1,7 @@
 -- Assumes nothing.
-use Rattle.share_stream.proofs.Rounds.{wait-ended, wait-open}
-use Rattle.share_stream.proofs.must_wait.Statement.{statement}
-use Rattle.share_stream.proofs.must_wait.Tie as tie
+use Rattle.held_bytes.proofs.Waiting.{wait-ended, wait-open}
+use Rattle.held_bytes.proofs.must_wait.Statement.{statement}
+use Rattle.held_bytes.proofs.must_wait.Tie as tie
 
 pub must-wait-spec : {M : Type 1} → statement M
 must-wait-spec =

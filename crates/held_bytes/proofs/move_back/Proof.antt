@@ -2,9 +2,9 @@
 use borrow.Author.Needs.{needs}
 use Prim.Native.Nat.{_-_, _≤_}
 use native.Mathlib.Omega.{arith}
-use Rattle.share_stream.proofs.Moves.{Moved, moved-none, moved-next, moved-all}
-use Rattle.share_stream.proofs.move_back.Statement.{statement}
-use Rattle.share_stream.proofs.move_back.Tie as tie
+use Rattle.held_bytes.proofs.Moves.{Moved, moved-none, moved-next, moved-all}
+use Rattle.held_bytes.proofs.move_back.Statement.{statement}
+use Rattle.held_bytes.proofs.move_back.Tie as tie
 
 abbrev Inv-loop : tie.InvT-loop
 Inv-loop held₀ to from kept i₀ held i = (i ≤ kept) × Moved held₀ to from held i

@@ -10,9 +10,9 @@ use lib.Seq.{take-all, take-at, drop-at, take-append-le, drop-append-le, drop-dr
 use Rattle.logic.specs.Search.{_or_}
 use Rattle.theory.proofs.Basics.Compare.{le-cases}
 use Rattle.fractions.specs.Fractions.{sharesText}
-use Rattle.shares.specs.Output.{Turn, isBad, wanted, turnOf, firstTurn, firstLength, outputWithin, outputFrom}
-use Rattle.shares.proofs.Turns.{wanted-few}
-use Rattle.share_stream.specs.Streaming.{stillPrinted}
+use Rattle.sharing.specs.Output.{Turn, isBad, wanted, turnOf, firstTurn, firstLength, outputWithin, outputFrom}
+use Rattle.sharing.proofs.Lengths.{wanted-few}
+use Rattle.sharing.specs.Streaming.{stillPrinted}
 
 -- a turn that goes on has a whole length
 pub goes-two : (order counts bytes : List ℕ) → firstTurn order counts bytes .goes ≡ true → 2 ≤ length bytes

@@ -6,8 +6,8 @@ use mathlib.Core.List.{List, [], _++_}
 use lib.ListN.{length}
 use Rattle.tally.specs.Counting.{noLines}
 use Rattle.fractions.specs.Fractions.{sharesText}
-use Rattle.shares.specs.Output.{output}
-use Rattle.share_stream.specs.Streaming.{Processes}
+use Rattle.sharing.specs.Output.{output}
+use Rattle.sharing.specs.Streaming.{Processes}
 
 -- Where the program stands: the tally, the bytes that are kept, and those of the stream that are not read yet.
 pub record Standing : Type 0 where

@@ -1,8 +1,8 @@
 -- Assumes nothing.
 use borrow.Author.Needs.{needs}
-use Rattle.shares.proofs.Turns.{wanted-none, wanted-all, asked}
-use Rattle.shares.proofs.query_length.Statement.{statement}
-use Rattle.shares.proofs.query_length.Tie as tie
+use Rattle.share_lengths.proofs.Lengths.{wanted-none, wanted-all, asked}
+use Rattle.share_lengths.proofs.query_length.Statement.{statement}
+use Rattle.share_lengths.proofs.query_length.Tie as tie
 
 pub query-length-spec : {M : Type 1} → statement M
 query-length-spec =

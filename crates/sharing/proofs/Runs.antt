@@ -6,9 +6,9 @@ use mathlib.Core.Logic.{⊎-elim}
 use mathlib.Core.Bool.{Bool, true, false, false≢true}
 use mathlib.Core.List.{List, _++_, append-assoc}
 use lib.ListN.{length, length-append}
-use Rattle.shares.specs.Output.{output, outputFrom}
-use Rattle.share_stream.specs.Streaming.{Processes, stillPrinted}
-use Rattle.share_stream.specs.Claims.{Standing, Round, Rounds, no-round, one-more, Run, Claims}
+use Rattle.sharing.specs.Output.{output, outputFrom}
+use Rattle.sharing.specs.Streaming.{Processes, stillPrinted}
+use Rattle.sharing.specs.Claims.{Standing, Round, Rounds, no-round, one-more, Run, Claims}
 
 -- all that is printed from there on
 abbrev ahead : Standing → List ℕ

@@ -1,12 +1,14 @@
--- Bytes moved back, one by one. Assumes nothing.
-use Prim.Native.Nat.{ℕ, suc, _+_, _-_, _≤_, _<_}
+-- Bytes moved back, one by one, behind the order list. Assumes nothing.
+use Prim.Native.Nat.{ℕ, suc, _+_, _-_, _≤_, _<_, min}
 use native.Mathlib.Omega.{arith}
 use native.Mathlib.Nat.{add-zero}
 use native.Mathlib.Numerals.{add-one}
 use mathlib.Core.Path.{_≡_, refl, sym, ap, _∙_}
+use mathlib.Core.Logic.{⊎-elim}
 use mathlib.Core.List.{List, [], _∷_, _++_, append-assoc, append-nil}
 use lib.ListN.{length, getD, set, take, drop, length-set, length-drop}
 use lib.Seq.{take-all, take-suc, take-suc-set, drop-set-lt, drop-drop, getD-drop}
+use Rattle.theory.proofs.Basics.Compare.{le-cases}
 
 -- i bytes stand behind those before `to`, and those from `to + i` on are as they were
 pub record Moved (before : List ℕ) (to from : ℕ) (after : List ℕ) (i : ℕ) : Type 0 where
@@ -59,3 +61,15 @@ module _ {before after : List ℕ} {to from i : ℕ} (m : Moved before to from a
   moved-all e =
       ap (λ (k : ℕ). take (to + k) after) e ∙ m .front
       ∙ ap (λ (xs : List ℕ). take to before ++ xs) (take-all i (drop from before) (omega (arith, length-drop from before)))
+
+-- the order list, as far as it has come
+module _ (held : List ℕ) (ordered : ℕ) (o : ordered ≡ min (length held) 8) where
+  pub order-lent : take ordered held ≡ take 8 held
+  order-lent =
+      ⊎-elim
+      (λ (l : 8 ≤ length held). let n : ordered ≡ 8 = omega arith in ap (λ (k : ℕ). take k held) n)
+      (λ (l : length held < 8). take-all ordered held (omega arith) ∙ sym (take-all 8 held (omega arith)))
+      (le-cases 8 (length held))
+
+  pub kept-behind : (after : List ℕ) (at : ℕ) → take (ordered + (length held - at)) after ≡ take ordered held ++ drop at held → take (ordered + (length held - at)) after ≡ take 8 held ++ drop at held
+  kept-behind after at m = m ∙ ap (λ (l : List ℕ). l ++ drop at held) order-lent

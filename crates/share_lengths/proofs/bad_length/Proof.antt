@@ -1,9 +1,9 @@
 -- Assumes nothing.
 use borrow.Author.Needs.{needs}
 use mathlib.Core.Path.{sym}
-use Rattle.shares.proofs.Turns.{cut-short, whole-length}
-use Rattle.shares.proofs.bad_length.Statement.{statement}
-use Rattle.shares.proofs.bad_length.Tie as tie
+use Rattle.share_lengths.proofs.Lengths.{cut-short, whole-length}
+use Rattle.share_lengths.proofs.bad_length.Statement.{statement}
+use Rattle.share_lengths.proofs.bad_length.Tie as tie
 
 pub bad-length-spec : {M : Type 1} → statement M
 bad-length-spec =
