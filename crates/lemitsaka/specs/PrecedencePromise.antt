@@ -2,7 +2,7 @@
 use Prim.Native.Nat.{ℕ}
 use mathlib.Core.Path.{_≡_}
 use mathlib.Core.List.{List}
-use Rattle.precedence.specs.Calls.{Outcome}
+use Rattle.ordering.specs.Calls.{Outcome}
 use Rattle.order_code.specs.OrderCode.{orderCode}
 
 pub record OrderCodes (outcome : Outcome) (r : ℕ) (bytes : List ℕ) : Type 0 where

@@ -1,6 +1,6 @@
 // The precedence call for C.
 ghost use lib.ListN.{length};
-ghost use Rattle.precedence.specs.Calls.{orderCall};
+ghost use Rattle.ordering.specs.Calls.{orderCall};
 ghost use Rattle.lemitsaka.specs.PrecedencePromise.{OrderCodes};
 
 // The order list of a precedence sheet, or none and its ring.

@@ -1,6 +1,6 @@
 -- How the precedence call's answer is one number for C (include/lemitsaka.h).
 use Prim.Native.Nat.{ℕ}
-use Rattle.precedence.specs.Calls.{Answer, order, ring, refused}
+use Rattle.ordering.specs.Calls.{Answer, order, ring, refused}
 use Rattle.codes.specs.Codes.{numberedCode}
 
 -- an answer as a number
