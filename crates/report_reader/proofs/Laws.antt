@@ -1,4 +1,4 @@
--- Tests as a loop meets them, what is left, one at a time; and as the code makes them.
+-- The tests of a report as the code makes them.
 use Prim.Native.Nat.{ℕ, _+_, _-_, _≤_, _<_}
 use native.Mathlib.Omega.{arith}
 use mathlib.Core.Path.{_≡_, sym, ap, _∙_}
@@ -12,24 +12,8 @@ use Rattle.logic.specs.Search.{_and_, from, all}
 use Rattle.logic.specs.Shown.{sizeIn, isNode, wellFormed}
 use Rattle.theory.proofs.Basics.Search.{bool-cases, true-false, not-of, and-intro, and-right}
 use Rattle.theory.proofs.Calls.OneLink.{wellFormed-one}
-use Rattle.rows.proofs.Loops.{from-end, from-next}
 use Rattle.rows.proofs.Selections.{and-both}
 use Rattle.drawing.specs.Text.{countIn}
-
--- Tests
-
-module _ (p : ℕ → Bool) (m : ℕ) where
-  pub all-end : (k : ℕ) → m ≤ k → all p (from (m - k) k) ≡ true
-  unfolding all
-  all-end k h = ap (all p) (from-end m k h)
-
-  pub all-fails : (k : ℕ) → k < m → p k ≡ false → all p (from (m - k) k) ≡ false
-  unfolding all _and_
-  all-fails k h e = rw (from-next m k h, e)
-
-  pub all-next : (k : ℕ) → k < m → p k ≡ true → all p (from (m - k) k) ≡ all p (from (m - (k + 1)) (k + 1))
-  unfolding all _and_
-  all-next k h e = rw (from-next m k h, e)
 
 -- a node, as the code tests it
 module _ (m : ℕ) {v b : ℕ} (e : v ≡ b) where

@@ -6,7 +6,8 @@ use mathlib.Core.Path.{_≡_, refl, sym, _∙_}
 use lib.ListN.{getD}
 use Rattle.logic.specs.Search.{from, all}
 use Rattle.logic.specs.Shown.{isNode}
-use Rattle.report_reader.proofs.Laws.{all-end, all-fails, all-next, no-node, is-node}
+use Rattle.rows.proofs.Loops.{all-end, all-fails, all-next}
+use Rattle.report_reader.proofs.Laws.{no-node, is-node}
 use Rattle.report_reader.proofs.all_nodes.Statement.{statement}
 use Rattle.report_reader.proofs.all_nodes.Tie as tie
 

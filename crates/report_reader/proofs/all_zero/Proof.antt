@@ -7,7 +7,7 @@ use mathlib.Core.Path.{_≡_, refl, sym, _∙_}
 use lib.ListN.{length, getD}
 use lib.Dec.{eqb}
 use Rattle.logic.specs.Search.{from, all}
-use Rattle.report_reader.proofs.Laws.{all-end, all-fails, all-next}
+use Rattle.rows.proofs.Loops.{all-end, all-fails, all-next}
 use Rattle.report_reader.proofs.all_zero.Statement.{statement}
 use Rattle.report_reader.proofs.all_zero.Tie as tie
 
