@@ -1,15 +1,13 @@
 // Joins of a path, in place: two terms, then doubled successors, with the pairs that were joined.
+use doubled::Two;
 use facts::Facts;
-use rows::Found;
 use rows::Term;
 ghost use mathlib.Core.Path.{_≡_};
 ghost use Prim.Native.Nat.{_+_, _≤_, _<_, min, max};
 ghost use mathlib.Core.List.{[], _∷_, _++_};
 ghost use lib.ListN.{length};
-ghost use Rattle.logic.specs.Facts.{firstTwo, successors, andThen, settle, join};
-ghost use Rattle.facts.specs.Path.{Whole, linksIn};
-ghost use Rattle.joins.specs.Answers.{twoOf};
-ghost use Rattle.joins.specs.Doubled.{twoIn, doubledIn};
+ghost use Rattle.logic.specs.Facts.{andThen, settle, join};
+ghost use Rattle.facts.specs.Path.{Whole};
 ghost use Rattle.joins.specs.Pairs.{pairsIn, pairsOf, joinedIn, Fits};
 
 // The pairs that were joined, in order, `count` of them: the term that was kept, and the one that it replaced. One join of at most
@@ -24,73 +22,6 @@ pub struct Pairs {
 pub struct Joined {
     pub pairs: Pairs,
     pub facts: Facts,
-}
-
-// Two terms that were looked for.
-pub enum Two {
-    Of(Term, Term),
-    Nothing,
-}
-
-// The two lowest successors of t, where it has two.
-pub fn first_two(link: &[u32; 17], n: usize, t: Term) -> Two
-    requires { ⌜ (n ≤ 16) × (t .0 ≤ 16) ⌝ }
-    ensures { λ r. ⌜ twoOf r ≡ firstTwo (successors n (linksIn (now (link .entry))) (t .0)) ⌝ }
-{
-    let row = rows::successor_row(link, n, t);
-    let Found::At(a) = rows::first(row) else {
-        return Two::Nothing;
-    };
-    let Found::At(b) = rows::first(row & (row - 1)) else {
-        return Two::Nothing;
-    };
-    Two::Of(a, b)
-}
-
-// The two lowest successors of t by the lowest link that has two, of a single link or of three.
-fn first_two_of<'a>(
-    single: bool,
-    first: &'a [u32; 17],
-    second: &'a [u32; 17],
-    third: &'a [u32; 17],
-    n: usize,
-    t: Term,
-) -> Two
-    requires { ⌜ (n ≤ 16) × (t .0 ≤ 16) ⌝ }
-    ensures { λ r. ⌜ twoOf r ≡ twoIn n single (now (first .entry)) (now (second .entry)) (now (third .entry)) (t .0) ⌝ }
-{
-    if let Two::Of(a, b) = first_two(first, n, t) {
-        return Two::Of(a, b);
-    }
-    if single {
-        return Two::Nothing;
-    }
-    if let Two::Of(a, b) = first_two(second, n, t) {
-        return Two::Of(a, b);
-    }
-    first_two(third, n, t)
-}
-
-// "the two lowest successors of the lowest such term", "by lowest term, then link" (02, R-11). The rows are lent, so that a join copies no
-// path for it.
-fn doubled<'a>(
-    single: bool,
-    first: &'a [u32; 17],
-    second: &'a [u32; 17],
-    third: &'a [u32; 17],
-    n: usize,
-) -> Two
-    requires { ⌜ n ≤ 16 ⌝ }
-    ensures { λ r. ⌜ twoOf r ≡ doubledIn n single (now (first .entry)) (now (second .entry)) (now (third .entry)) ⌝ }
-{
-    let mut t: usize = 1;
-    while t <= n {
-        if let Two::Of(a, b) = first_two_of(single, first, second, third, n, Term(t)) {
-            return Two::Of(a, b);
-        }
-        t += 1;
-    }
-    Two::Nothing
 }
 
 // No pair.
@@ -138,7 +69,7 @@ pub fn settle(
     let mut total = count;
     let mut left = n;
     while 0 < left {
-        let Two::Of(a, b) = doubled(single, link, link2, link3, n) else {
+        let Two::Of(a, b) = doubled::lowest(single, link, link2, link3, n) else {
             return total;
         };
         and_pair(kept, replaced, total, a, b);

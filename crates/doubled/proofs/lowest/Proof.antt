@@ -5,12 +5,12 @@ use borrow.Author.Needs.{needs}
 use mathlib.Core.Path.{_≡_, sym, ap, _∙_}
 use Rattle.logic.specs.Search.{from, firstOf}
 use Rattle.logic.specs.Facts.{terms}
-use Rattle.joins.specs.Doubled.{twoIn, doubledIn}
-use Rattle.joins.specs.Answers.{twoOf}
+use Rattle.doubled.specs.Doubled.{twoIn, doubledIn}
+use Rattle.doubled.specs.Answers.{twoOf}
 use Rattle.rows.proofs.Loops.{first-end, first-here, first-next}
-use Rattle.joins.proofs.Twos.{all-terms}
-use Rattle.joins.proofs.doubled.Statement.{statement}
-use Rattle.joins.proofs.doubled.Tie as tie
+use Rattle.doubled.proofs.Twos.{all-terms}
+use Rattle.doubled.proofs.lowest.Statement.{statement}
+use Rattle.doubled.proofs.lowest.Tie as tie
 
 abbrev Inv-loop : tie.InvT-loop
 Inv-loop single first second third n t₀ t = firstOf (twoIn n single first second third) (terms n) ≡ firstOf (twoIn n single first second third) (from (n + 1 - t) t)
@@ -18,9 +18,9 @@ Inv-loop single first second third n t₀ t = firstOf (twoIn n single first seco
 abbrev μ-loop : tie.MeasureT-loop
 μ-loop single first second third n t₀ t = n + 1 - t
 
-pub doubled-spec : {M : Type 1} → statement M
+pub lowest-spec : {M : Type 1} → statement M
 unfolding doubledIn
-doubled-spec =
+lowest-spec =
     tie.close
     (tie.spec
     Inv-loop

@@ -1,10 +1,10 @@
 -- The first link that has two. Assumes nothing.
 use borrow.Author.Needs.{needs}
 use mathlib.Core.Path.{sym, ap, _∙_}
-use Rattle.joins.specs.Answers.{twoOf}
-use Rattle.joins.proofs.Twos.{two-first, two-alone, two-second, two-third}
-use Rattle.joins.proofs.first_two_of.Statement.{statement}
-use Rattle.joins.proofs.first_two_of.Tie as tie
+use Rattle.doubled.specs.Answers.{twoOf}
+use Rattle.doubled.proofs.Twos.{two-first, two-alone, two-second, two-third}
+use Rattle.doubled.proofs.first_two_of.Statement.{statement}
+use Rattle.doubled.proofs.first_two_of.Tie as tie
 
 pub first-two-of-spec : {M : Type 1} → statement M
 first-two-of-spec =

@@ -6,8 +6,8 @@ use Rattle.logic.specs.Facts.{successors}
 use Rattle.facts.specs.Path.{linksIn}
 use Rattle.rows.specs.Answers.{foundOf}
 use Rattle.rows.proofs.Successors.{two-none, two-one, two-both, lowest-term, next-term, found-positive}
-use Rattle.joins.proofs.first_two.Statement.{statement}
-use Rattle.joins.proofs.first_two.Tie as tie
+use Rattle.doubled.proofs.first_two.Statement.{statement}
+use Rattle.doubled.proofs.first_two.Tie as tie
 
 returns : tie.Need-returns
 unfolding successors linksIn

@@ -12,7 +12,7 @@ use Rattle.theory.proofs.Basics.Search.{bool-cases, firstOf-some}
 use Rattle.theory.proofs.Calls.OneLink.{firstOf-one}
 use Rattle.facts.specs.Path.{graphs, graphOf, pathAs, linksIn}
 use Rattle.rows.proofs.Successors.{two-below}
-use Rattle.joins.specs.Doubled.{twoIn, doubledIn}
+use Rattle.doubled.specs.Doubled.{twoIn, doubledIn}
 
 -- what is doubled is read off the links alone
 module _ (n : ℕ) (single : Bool) (rep link reach link2 reach2 link3 reach3 : List ℕ) where
