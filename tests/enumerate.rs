@@ -1,7 +1,7 @@
-// Makes the queries of crates/prover_trials/src/enumerator.rt again, decides each by trying every heap of up to one node more than it
-// has terms, and prints what that program must print first. It reads nothing and uses nothing of the prover or of that program:
+// Makes the queries of crates/enumerator again, decides each by trying every heap of up to one node more than it has terms, and prints
+// what that program must print. It reads nothing and uses nothing of the prover or of that program:
 //
-//     rustc -O -o target/enumerate tests/enumerate.rs && target/enumerate | cmp -n "$(target/enumerate | wc -c)" - crates/prover_trials/stdout
+//     rustc -O -o target/enumerate tests/enumerate.rs && target/enumerate | cmp - crates/enumerator/stdout
 
 const QUERIES: usize = 6000;
 

@@ -56,7 +56,6 @@ module _ (n : ℕ) (bytes : List ℕ) (at : ℕ) (h : at < length bytes) where
 
 pub record Five (bytes : List ℕ) (at : ℕ) : Type 0 where
   pub counted : at < length bytes
-  pub some-byte : 0 < at
   pub first-same : firstByte (take at bytes) ≡ firstByte bytes
   pub laid-parts : List (List ℕ)
   pub laid : layout (sections (firstByte bytes)) 0 (take at bytes) ≡ parts laid-parts
@@ -87,7 +86,6 @@ five bytes at h =
     let more : 0 < at = positive (sections (firstByte bytes)) at bytes (r .laid-parts) (not-empty (firstByte bytes)) laid in
     record {
       counted = let e = ap length (r .whole) ∙ length-append (r .front) (r .back) in omega (arith, e, size, r .more-left);
-      some-byte = more;
       first-same = first-taken at bytes more;
       laid-parts = r .laid-parts;
       laid = laid;

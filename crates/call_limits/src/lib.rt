@@ -2,6 +2,7 @@
 ghost use mathlib.Core.Path.{_≡_};
 ghost use mathlib.Core.Logic.{_⊎_};
 ghost use Prim.Native.Nat.{_+_, _*_, _≤_, _<_};
+ghost use lib.Dec.{ltb};
 ghost use Rattle.call_limits.specs.Forms.{formOf};
 
 // "n times n plus n rule steps", and with three links "3 times n times n, plus n" (02, R-11)
@@ -20,6 +21,13 @@ pub fn room(three: bool) -> usize
         return 85;
     }
     53
+}
+
+// A report of this length is too short, which is refusal 9.
+pub fn lacks_room(length: usize, three: bool) -> bool
+    ensures { λ r. ⌜ r ≡ ltb length (formOf three .room) ⌝ }
+{
+    length < room(three)
 }
 
 // The most lines that a derivation in a buffer of this length may have.

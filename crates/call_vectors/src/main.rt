@@ -1,6 +1,6 @@
-// Runs a row of cases, each of one of the calls that 02 asks for, and prints a line for each: what the call answers, and what it leaves in
-// the lent bytes, in hex. A case is a byte that names the call, three parts, each after its length in two bytes, high byte first (a call that
-// takes fewer has empty ones), and in two bytes how many bytes are lent.
+// Runs a row of cases, each of one of 01's two calls or of one that 02 asks for, and prints a line for each: what the call answers, and what
+// it leaves in the lent bytes, in hex. A case is a byte that names the call, three parts, each after its length in two bytes, high byte first
+// (a call that takes fewer has empty ones), and in two bytes how many bytes are lent. They are lent full of 255.
 use between_call::BetweenAnswer;
 use checker::CheckAnswer;
 use dot::DotAnswer;
@@ -9,8 +9,10 @@ use joiner::HandBack;
 use joiner::JoinAnswer;
 use libc::STDOUT_FILENO;
 use precedence::OrderAnswer;
+use prover::Answer;
 use rewriter::Rewritten;
 ghost use Prim.Native.Nat.{_≤_, _<_};
+ghost use lib.ListN.{length};
 
 fn wide(x: u8) -> usize
     ensures { λ r. ⌜ r < 256 ⌝ }
@@ -55,6 +57,34 @@ fn report_size(report: &[u8]) -> usize {
         return 0;
     }
     m + wide(report[m + 1]) + m + 5
+}
+
+// How many bytes there are without the zeros at the end.
+fn used(bytes: &[u8]) -> usize
+    ensures { λ r. ⌜ r ≤ length (now (bytes .entry)) ⌝ }
+{
+    let mut n = bytes.len();
+    while n > 0 {
+        if bytes[n - 1] != 0 {
+            return n;
+        }
+        n -= 1;
+    }
+    0
+}
+
+// The answer of 01's calls, and all that was lent: in hex as far as the last byte that is not zero, and how many zeros follow.
+fn print_answer(answer: Answer, out: &[u8]) {
+    match answer {
+        Answer::Satisfiable => print_word(b"sat"),
+        Answer::Refuted => print_word(b"refuted"),
+        Answer::Refused(k, place) => print_refusal(k, place),
+    }
+    print_word(b" ");
+    let n = used(out);
+    print_bytes(out, n);
+    print_word(b"+");
+    print_number(out.len() - n);
 }
 
 // R-2
@@ -175,8 +205,16 @@ fn run_rewrite(query: &[u8], out: &mut [u8]) {
     }
 }
 
-// A call is named by its request's number, R-12's hand-back by any other.
+// 01's calls are named by a letter, another by its request's number, R-12's hand-back by any other byte.
 fn run_case<'a>(call: u8, a: &'a [u8], b: &'a [u8], c: &[u8], out: &mut [u8]) {
+    if call == b'v' {
+        let answer = prover::verdict(a, b, out);
+        return print_answer(answer, out);
+    }
+    if call == b'd' {
+        let answer = prover::derivation(a, b, out);
+        return print_answer(answer, out);
+    }
     if call == 2 {
         return run_dot(a, out);
     }
@@ -271,7 +309,7 @@ fn run_one() -> bool {
     if !read_part(&mut third, k) {
         return false;
     }
-    let mut out = [0u8; 1024];
+    let mut out = [255u8; 64002];
     let room = read_number();
     run_sized(call[0], &first, i, &second, j, &third, k, &mut out, room)
 }

@@ -19,9 +19,10 @@ use Rattle.checking.specs.CheckCall.{countIn, checkCall}
 use Rattle.checker.specs.Promise.{meaning}
 use Rattle.checker.specs.declared.CheckAnswer.{CheckAnswer}
 use Rattle.checker.specs.declared.CheckAnswer.the-variants as answer
-use Rattle.check_printing.specs.CheckText.{begins, endsNumber, nextPlace, isBetween, prepend, numbersFrom, newlineIn, newlines, textBytes, derivationIn, checkedText, checkderivationText}
-use Rattle.check_printing.specs.Puts.{Puts}
-use Rattle.check_printing.proofs.Reading.{digit-range, place-on, place-back, newline-is, newline-not}
+use Rattle.decimal_lines.specs.DecimalLines.{begins, endsNumber, nextPlace, isBetween, prepend, numbersFrom, newlineIn, newlines}
+use Rattle.check_printing.specs.CheckText.{textBytes, derivationIn, checkedText, checkderivationText}
+use Rattle.decimal_lines.specs.Puts.{Puts}
+use Rattle.decimal_lines.proofs.Reading.{digit-range, place-on, place-back, newline-is, newline-not}
 
 some-same : {ns ms : List ℕ} → some ns ≡ some ms → ns ≡ ms
 some-same e = cc

@@ -12,7 +12,8 @@ use Rattle.checking.specs.Fitting.{goalOf, sameLine, moveIn, goalsOf, afterRule
 use Rattle.checking.specs.CheckCall.{countIn, misshapen, byWrong, refusedQuery, queryRefusal, checkCall}
 use Rattle.text.specs.Text.{decimal, decimalWithin, isDigit}
 use Rattle.wording.specs.Words.{refusedText}
-use Rattle.check_printing.specs.CheckText.{begins, endsNumber, nextPlace, isBetween, prepend, numbersFrom, newlineIn, newlines, textBytes, derivationIn, checkedText, checkderivationText}
+use Rattle.decimal_lines.specs.DecimalLines.{begins, endsNumber, nextPlace, isBetween, prepend, numbersFrom, newlineIn, newlines}
+use Rattle.check_printing.specs.CheckText.{textBytes, derivationIn, checkedText, checkderivationText}
 use Rattle.check_printing.specs.Examples.{PrintsHold, example4, prints}
 
 pub prints-hold : PrintsHold

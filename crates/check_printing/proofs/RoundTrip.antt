@@ -22,8 +22,9 @@ use Rattle.wording.specs.Words.{lineText}
 use Rattle.wording.proofs.Texts.{line-words}
 use Rattle.checking.specs.CheckCall.{accepted, checkCall}
 use Rattle.checking.proofs.Claims.{claims}
-use Rattle.check_printing.specs.CheckText.{endsNumber, nextPlace, isBetween, prepend, numbersFrom, newlineIn, newlines, textBytes}
-use Rattle.check_printing.proofs.Reading.{digit-range, newline-not, prepend-more}
+use Rattle.decimal_lines.specs.DecimalLines.{endsNumber, nextPlace, isBetween, prepend, numbersFrom, newlineIn, newlines}
+use Rattle.check_printing.specs.CheckText.{textBytes}
+use Rattle.decimal_lines.proofs.Reading.{digit-range, newline-not, prepend-more}
 
 -- digits are read to the number that they show
 number-grows : (v : ℕ) (ds : List ℕ) → v ≤ numberFrom v ds

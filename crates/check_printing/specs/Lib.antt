@@ -1,3 +1,2 @@
 pub mod CheckText
-pub mod Puts
 pub mod Examples

@@ -1,9 +1,9 @@
 -- What the call answers, by the start's goal.
-use Prim.Native.Nat.{ℕ, zero, suc, _+_, _*_, _≤_, _<_}
+use Prim.Native.Nat.{ℕ, zero, suc, _+_, _*_, _≤_}
 use native.Mathlib.Omega.{arith}
 use mathlib.Core.Path.{_≡_, refl, sym, ap, _∙_, subst}
 use mathlib.Core.Bool.{Bool, true, false, not, true≢false, false≢true}
-use mathlib.Core.List.{List, [], _∷_}
+use mathlib.Core.List.{List, []}
 use mathlib.Core.Option.{none}
 use Rattle.logic.specs.Query.{Query, decode, termCount}
 use Rattle.logic.specs.Facts.{Joined}
@@ -20,14 +20,13 @@ use Rattle.query_checks.specs.declared.Checked.the-variants as checked
 use Rattle.link_query.specs.Said.{said}
 use Rattle.link_query.proofs.Said.{one-said}
 use Rattle.start.specs.Started.{started}
-use Rattle.checking.specs.Fitting.{Goal, goalOf, startGoal, step, shortOf, wrongFrom, wrongLine}
+use Rattle.checking.specs.Fitting.{Goal, goalOf, startGoal, wrongLine}
 use Rattle.checking.specs.CheckCall.{Checked, accepted, wrong, refused, misshapen, byWrong, queryRefusal, checkCall}
 use Rattle.checking.proofs.Claims.{check-refused, check-misshapen, check-judged}
-use Rattle.checker.specs.declared.Judged.{Judged}
-use Rattle.checker.specs.Reading.{Shaped, shapely, lineAt}
-use Rattle.checker.specs.Judging.{wrongAt, resumed, JudgesGoal, Ahead}
-use Rattle.checker.proofs.Lines.{lineFrom, line-there, line-past, drop-none}
-use Rattle.checker.proofs.Judging.{wrong-unfit}
+use Rattle.derivation_lines.specs.declared.Judged.{Judged}
+use Rattle.derivation_lines.specs.Lines.{Shaped, shapely}
+use Rattle.derivation_lines.specs.Judging.{JudgesGoal, Concludes}
+use Rattle.checker.specs.Ahead.{Ahead}
 use Rattle.checker.proofs.Range.{ahead-start}
 
 by-some : (k : ℕ) → 1 ≤ k → wrong k ≡ byWrong k
@@ -58,31 +57,20 @@ start-ahead query j n k a e f g =
     subst (λ (i : Joined). Ahead (decode query) (i .facts) k) (sym e)
     (ahead-start (decode query) (acceptance.accepted query a) k (g ∙ ap (λ (m : ℕ). m * m + m) f ∙ sym (limit-one (decode query) (acceptance.decode-links query))))
 
-module _ (q : Query) (bytes : List ℕ) (count : ℕ) (shape : Shaped bytes count) (j : Joined) (j-is : j ≡ started q) (r : Judged) (h : JudgesGoal q bytes count (goalOf j) 0 r) where
-  whole : wrongLine q (linesIn bytes) ≡ resumed q bytes [] r
-  unfolding wrongLine wrongAt
-  whole = ap (λ (g : Goal). wrongFrom q (g ∷ []) 1 (linesIn bytes)) (sym (start-goal q j j-is)) ∙ h .judges []
+-- the start's goal by its path and the pairs joined there, and so the first wrong line
+module _ (q : Query) (bytes : List ℕ) (count : ℕ) (shape : Shaped bytes count) (j : Joined) (j-is : j ≡ started q) (r : Judged) (h : JudgesGoal q bytes count (goalOf j) 0 r) (k : ℕ) (found : Concludes count r k) where
+  first-is : k ≡ wrongLine q (linesIn bytes)
+  first-is = found .concludes q bytes shape (subst (λ (g : Goal). JudgesGoal q bytes count g 0 r) (start-goal q j j-is) h)
 
   abbrev Answers : Checked → Type 0
   Answers a = a ≡ byWrong (wrongLine q (linesIn bytes))
 
-  pub judged-wrong : r .fits ≡ false → Answers (wrong (r .at))
-  unfolding resumed
-  judged-wrong f = by-some (r .at) (h .numbered f) ∙ sym (ap byWrong (whole ∙ rw f refl))
-
-  pub judged-more : r .fits ≡ true → r .at < count → Answers (wrong (r .at + 1))
-  unfolding resumed step
-  judged-more f l =
-      by-some (r .at + 1) (omega arith)
-      ∙ sym (ap byWrong (whole ∙ rw f (wrong-unfit q bytes (r .at) [] (lineFrom bytes (4 * r .at + 2)) (line-there bytes count (r .at) shape l) refl)))
-
-  past-zero : r .fits ≡ true → count ≤ r .at → resumed q bytes [] r ≡ 0
-  unfolding resumed wrongAt wrongFrom shortOf lineAt
-  past-zero f l = rw (f, drop-none (linesIn bytes) (r .at) (line-past bytes count (r .at) shape l)) refl
-
-  pub judged-all : r .fits ≡ true → count ≤ r .at → Answers accepted
+  pub answer-none : k ≡ 0 → Answers accepted
   unfolding byWrong
-  judged-all f l = sym (ap byWrong (whole ∙ past-zero f l))
+  answer-none e = sym (ap byWrong (sym first-is ∙ e))
+
+  pub answer-some : (k ≡ 0 → ⊥) → Answers (wrong k)
+  answer-some n = by-some k (omega (arith, n)) ∙ ap byWrong first-is
 
 -- the checks
 

@@ -12,13 +12,15 @@ use Rattle.logic.specs.Facts.{Facts, Joined, Line, joinLines}
 use Rattle.logic.specs.Rules.{Rule, triple, Move, move, Fact, equal, alternatives, applies, branch, add}
 use Rattle.theory.proofs.Query.Tied.{Accepted}
 use Rattle.theory.proofs.Basics.Count.{getD-mem}
-use Rattle.branch.specs.Alternatives.{countOf, alternativeAt}
-use Rattle.branch.proofs.Alternatives.{count-is, alternative-is}
+use Rattle.alternatives.specs.Alternatives.{countOf, alternativeAt}
+use Rattle.alternatives.proofs.Alternatives.{count-is, alternative-is}
 use Rattle.checking.specs.Fitting.{Goal, goalOf, goalsOf}
-use Rattle.checker.specs.declared.Judged.{Judged}
-use Rattle.checker.specs.Reading.{Shaped, lineAt, Read, ending, ruling, unfit, readAt}
-use Rattle.checker.specs.Judging.{wrongAt, resumed, JudgesHead, JudgesGoal, Ahead}
-use Rattle.checker.proofs.Lines.{line-within}
+use Rattle.derivation_lines.specs.declared.Judged.{Judged}
+use Rattle.derivation_lines.specs.Lines.{Shaped, lineAt}
+use Rattle.derivation_lines.specs.Judging.{wrongAt, resumed, JudgesHead, JudgesGoal}
+use Rattle.derivation_lines.proofs.Lines.{line-within}
+use Rattle.checker.specs.Reading.{Read, ending, ruling, unfit, readAt}
+use Rattle.checker.specs.Ahead.{Ahead}
 use Rattle.checker.proofs.Judging.{path-ends, path-rules, path-wrong}
 use Rattle.checker.proofs.Range.{ahead-next}
 

@@ -1,44 +1,27 @@
 -- One line more: what is left, and what is found wrong.
-use Prim.Native.Nat.{ℕ, suc, _+_, _≤_, _<_}
+use Prim.Native.Nat.{ℕ, _+_, _≤_, _<_}
 use native.Mathlib.Omega.{arith}
-use native.Mathlib.Numerals.{add-one}
 use mathlib.Core.Path.{_≡_, refl, sym, ap, _∙_, subst}
 use mathlib.Core.Bool.{Bool, true, false, cond, true≢false, false≢true}
 use mathlib.Core.List.{List, [], _∷_, _++_}
 use mathlib.Core.Option.{Option, none, some, Option·elim}
-use lib.ListN.{drop}
 use Rattle.logic.specs.Search.{keep}
 use Rattle.logic.specs.Query.{Query, termCount}
 use Rattle.logic.specs.Facts.{Facts, Line, line, joinLines, isClash}
 use Rattle.logic.specs.Rules.{Move, applies}
 use Rattle.logic.specs.Walk.{isClashed}
-use Rattle.logic.specs.Derivation.{linesIn}
 use Rattle.joins.specs.Pairs.{pairAt, pairsOf}
 use Rattle.joins.specs.declared.Pairs.{Pairs}
 use Rattle.walk.proofs.Lines.{pairsFrom, pairs-whole, pairs-end, pairs-next}
-use Rattle.checking.specs.Fitting.{Goal, sameLine, moveIn, goalsOf, afterRule, atPath, atGoal, step, shortOf, wrongFrom}
-use Rattle.checking.proofs.Judged.{wrong-step, wrong-here}
-use Rattle.checker.specs.declared.Judged.{Judged}
-use Rattle.checker.specs.Reading.{Shaped, lineAt, isLine, Read, ending, ruling, unfit, readRule, readLine, readAt}
-use Rattle.checker.specs.Judging.{wrongAt, resumed, JudgesHead}
-use Rattle.checker.proofs.Lines.{drop-some, drop-none, line-within}
+use Rattle.checking.specs.Fitting.{Goal, sameLine, moveIn, goalsOf, afterRule, atPath, atGoal, step}
+use Rattle.derivation_lines.specs.declared.Judged.{Judged}
+use Rattle.derivation_lines.specs.Lines.{Shaped, lineAt, isLine}
+use Rattle.derivation_lines.specs.Judging.{wrongAt, resumed, JudgesHead}
+use Rattle.derivation_lines.proofs.Lines.{line-within}
+use Rattle.derivation_lines.proofs.Wrong.{wrong-none, wrong-unfit, wrong-fit}
+use Rattle.checker.specs.Reading.{Read, ending, ruling, unfit, readRule, readLine, readAt}
 
 module _ (q : Query) (bytes : List ℕ) (i : ℕ) where
-  -- there is no line, it does not fit, or it fits
-  wrong-none : (g : Goal) (gs : List Goal) → lineAt bytes i ≡ none → wrongAt q bytes (g ∷ gs) i ≡ i + 1
-  unfolding wrongAt wrongFrom shortOf lineAt
-  wrong-none g gs h = rw (drop-none (linesIn bytes) i h) refl
-
-  pub wrong-unfit : (gs : List Goal) (l : Line) → lineAt bytes i ≡ some l → step q gs l ≡ none → wrongAt q bytes gs i ≡ i + 1
-  unfolding wrongAt lineAt
-  wrong-unfit gs l h e = ap (wrongFrom q gs (i + 1)) (drop-some (linesIn bytes) i l h) ∙ wrong-here q gs (i + 1) l (drop (suc i) (linesIn bytes)) e
-
-  wrong-fit : (gs hs : List Goal) (l : Line) → lineAt bytes i ≡ some l → step q gs l ≡ some hs → wrongAt q bytes gs i ≡ wrongAt q bytes hs (i + 1)
-  unfolding wrongAt lineAt
-  wrong-fit gs hs l h e =
-      ap (wrongFrom q gs (i + 1)) (drop-some (linesIn bytes) i l h) ∙ wrong-step q gs hs (i + 1) l (drop (suc i) (linesIn bytes)) e
-      ∙ rw (add-one i, add-one (suc i)) refl
-
   -- a join line
   module _ (h : Line) (hs : List Line) (s : Facts) (gs : List Goal) where
     abbrev headed : List Goal
@@ -54,15 +37,15 @@ module _ (q : Query) (bytes : List ℕ) (i : ℕ) where
       where
         go : (o : Option Line) → lineAt bytes i ≡ o → isLine o h ≡ true → wrongAt q bytes headed i ≡ wrongAt q bytes (record { heading = hs; facts = s } ∷ gs) (i + 1)
         go none f e = absurd (false≢true e)
-        go (some l) f e = wrong-fit headed (record { heading = hs; facts = s } ∷ gs) l f (join-step l true e)
+        go (some l) f e = wrong-fit q bytes i headed (record { heading = hs; facts = s } ∷ gs) l f (join-step l true e)
 
     pub join-unfit : isLine (lineAt bytes i) h ≡ false → wrongAt q bytes headed i ≡ i + 1
     unfolding isLine keep Option·elim
     join-unfit e = go (lineAt bytes i) refl e
       where
         go : (o : Option Line) → lineAt bytes i ≡ o → isLine o h ≡ false → wrongAt q bytes headed i ≡ i + 1
-        go none f e = wrong-none (record { heading = h ∷ hs; facts = s }) gs f
-        go (some l) f e = wrong-unfit headed l f (join-step l false e)
+        go none f e = wrong-none q bytes i (record { heading = h ∷ hs; facts = s }) gs f
+        go (some l) f e = wrong-unfit q bytes i headed l f (join-step l false e)
 
   -- a line at a path
   module _ (s : Facts) (gs : List Goal) where
@@ -77,23 +60,23 @@ module _ (q : Query) (bytes : List ℕ) (i : ℕ) where
 
     says : (o : Option Line) → lineAt bytes i ≡ o → Says (readAt q s o)
     unfolding Says readAt readLine readRule step atGoal atPath afterRule Option·elim keep
-    says none f = wrong-none (record { heading = []; facts = s }) gs f
+    says none f = wrong-none q bytes i (record { heading = []; facts = s }) gs f
     says (some l) f = at-clash (isClash q s l) refl
       where
         at-applies : (m : Move) (b : Bool) → isClash q s l ≡ false → isClashed q s ≡ false → moveIn (s .links) l ≡ some m → applies (termCount q) s m ≡ b → Says (cond b (ruling m) unfit)
-        at-applies m true c d e a = wrong-fit bare (goalsOf (termCount q) s m ++ gs) l f (rw (c, d, e, a) refl)
-        at-applies m false c d e a = wrong-unfit bare l f (rw (c, d, e, a) refl)
+        at-applies m true c d e a = wrong-fit q bytes i bare (goalsOf (termCount q) s m ++ gs) l f (rw (c, d, e, a) refl)
+        at-applies m false c d e a = wrong-unfit q bytes i bare l f (rw (c, d, e, a) refl)
 
         at-move : (o : Option Move) → isClash q s l ≡ false → isClashed q s ≡ false → moveIn (s .links) l ≡ o → Says (readRule q s o)
-        at-move none c d e = wrong-unfit bare l f (rw (c, d, e) refl)
+        at-move none c d e = wrong-unfit q bytes i bare l f (rw (c, d, e) refl)
         at-move (some m) c d e = at-applies m (applies (termCount q) s m) c d e refl
 
         at-free : (b : Bool) → isClash q s l ≡ false → isClashed q s ≡ b → Says (cond b unfit (readRule q s (moveIn (s .links) l)))
-        at-free true c d = wrong-unfit bare l f (rw (c, d) refl)
+        at-free true c d = wrong-unfit q bytes i bare l f (rw (c, d) refl)
         at-free false c d = at-move (moveIn (s .links) l) c d refl
 
         at-clash : (b : Bool) → isClash q s l ≡ b → Says (cond b ending (cond (isClashed q s) unfit (readRule q s (moveIn (s .links) l))))
-        at-clash true c = wrong-fit bare gs l f (rw c refl)
+        at-clash true c = wrong-fit q bytes i bare gs l f (rw c refl)
         at-clash false c = at-free (isClashed q s) c refl
 
     pub path-ends : readAt q s (lineAt bytes i) ≡ ending → wrongAt q bytes bare i ≡ wrongAt q bytes gs (i + 1)

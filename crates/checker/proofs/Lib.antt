@@ -1,4 +1,3 @@
-pub mod Lines
 pub mod Judging
 pub mod Readings
 pub mod Range

@@ -24,7 +24,7 @@ use Rattle.theory.proofs.Paths.Round.{returns-cases, round-all}
 use Rattle.theory.proofs.Paths.Invariant.{Invariant, start-invariant, branch-invariant}
 use Rattle.theory.proofs.Walks.Gains.{applies-step}
 use Rattle.theory.proofs.Walks.Limit.{start-atMost}
-use Rattle.checker.specs.Judging.{Ahead}
+use Rattle.checker.specs.Ahead.{Ahead}
 
 -- A cycle of links
 

@@ -14,8 +14,9 @@ use Rattle.logic.specs.Rules.{Rule, rules, ruleNumber, ruleOf, triple, Move, mo
 use Rattle.logic.specs.Walk.{isClashed}
 use Rattle.theory.proofs.Calls.OneLink.{moveOf-one}
 use Rattle.checking.specs.Fitting.{moveIn}
-use Rattle.checker.specs.Reading.{Shaped, lineAt, Read, ending, ruling, unfit, readRule, readLine, readAt}
-use Rattle.checker.proofs.Lines.{line-there, line-past}
+use Rattle.derivation_lines.specs.Lines.{Shaped, lineAt}
+use Rattle.derivation_lines.proofs.Lines.{line-there, line-past}
+use Rattle.checker.specs.Reading.{Read, ending, ruling, unfit, readRule, readLine, readAt}
 
 -- what the code finds in a query that is read by where its sections stand
 pub clash-in : (o : Option Line) (p q : Query) (s : Facts) → o ≡ clash p s → p ≡ q → o ≡ clash q s

@@ -14,7 +14,7 @@ use Rattle.facts.specs.Path.{graphs, pathOf}
 use Rattle.joins.specs.Pairs.{pairsOf, joinedOf}
 use Rattle.facts.specs.declared.Facts as facts
 use Rattle.joins.specs.declared.Joined as joined
-use Rattle.branch.specs.Alternatives.{alternativeAt}
+use Rattle.alternatives.specs.Alternatives.{alternativeAt}
 use Rattle.checker.specs.Reading.{pathIn, singleOf, Read, readAt}
 
 -- a record of a single link has the path of that link's rows, whatever its other rows hold

@@ -1,3 +1,3 @@
 pub mod Reading
-pub mod Judging
+pub mod Ahead
 pub mod Promise

@@ -1,44 +1,20 @@
--- One line of a derivation's bytes, and what it is at a path.
-use Prim.Native.Nat.{ℕ, suc, _+_, _*_, _≤_}
-use mathlib.Core.Path.{_≡_}
-use mathlib.Core.Bool.{Bool, false, not, cond}
+-- What a line of a derivation is at a path.
+use Prim.Native.Nat.{ℕ}
+use mathlib.Core.Bool.{cond}
 use mathlib.Core.List.{List}
 use mathlib.Core.Option.{Option, none, some}
-use lib.ListN.{length}
 use lib.Dec.{eqb}
-use Rattle.logic.specs.Search.{at}
 use Rattle.logic.specs.Query.{Query, termCount}
 use Rattle.logic.specs.Facts.{Facts, Joined, Line, isClash}
 use Rattle.logic.specs.Rules.{triple, Move, move, applies}
 use Rattle.logic.specs.Walk.{isClashed}
-use Rattle.logic.specs.Derivation.{linesIn}
 use Rattle.facts.specs.Path.{repOf, graphOf, noFacts}
 use Rattle.joins.specs.Pairs.{pairsOf}
 use Rattle.rules.specs.Answers.{kindOf}
-use Rattle.checking.specs.Fitting.{sameLine, moveIn}
-use Rattle.checking.specs.CheckCall.{countIn, misshapen}
+use Rattle.checking.specs.Fitting.{moveIn}
 use Rattle.checker.specs.declared.Single.{Single}
 use Rattle.checker.specs.declared.Reading.{Reading}
 use Rattle.checker.specs.declared.Reading.the-variants as reading
-
--- the bytes of a derivation of `count` lines
-pub record Shaped (bytes : List ℕ) (count : ℕ) : Type 0 where
-  pub long : length bytes ≡ 2 + 4 * count
-  pub counted : count ≡ countIn bytes
-  pub bounded : count ≤ 16000
-
--- no refusal 20
-unfoldable pub shapely : List ℕ → Bool
-shapely bytes = not (misshapen bytes)
-
--- line i, from 0, where there is one
-unfoldable pub lineAt : List ℕ → ℕ → Option Line
-lineAt bytes i = at (linesIn bytes) (suc i)
-
--- it is there and is this line
-unfoldable pub isLine : Option Line → Line → Bool
-isLine none h = false
-isLine (some l) h = sameLine l h
 
 -- the path of one link that has these rows
 unfoldable pub pathIn : List ℕ → List ℕ → List ℕ → Facts

@@ -1,5 +1,6 @@
 // Derivations from elsewhere: their lines are read in place, one after the other, each where it stands.
 use clash::Clash;
+use derivation_lines::Judged;
 use facts::Facts;
 use facts::Link;
 use joins::Joined;
@@ -12,29 +13,24 @@ use rules::Rule;
 use rules::Third;
 ghost use mathlib.Core.Path.{_≡_};
 ghost use mathlib.Core.Bool.{true};
-ghost use Prim.Native.Nat.{_+_, _*_, _≤_, _<_};
+ghost use Prim.Native.Nat.{_≤_};
 ghost use lib.ListN.{length};
 ghost use Rattle.logic.specs.Query.{decode};
-ghost use Rattle.logic.specs.Facts.{line};
 ghost use Rattle.logic.specs.Rules.{branch};
 ghost use Rattle.logic.specs.Calls.{accepts};
 ghost use Rattle.facts.specs.Path.{pathOf};
 ghost use Rattle.joins.specs.Pairs.{pairsOf, joinedOf};
 ghost use Rattle.query.specs.LaysOut.{LaysOut};
 ghost use Rattle.rules.specs.Answers.{kindOf};
-ghost use Rattle.branch.specs.Alternatives.{alternativeAt};
+ghost use Rattle.alternatives.specs.Alternatives.{alternativeAt};
 ghost use Rattle.logic.specs.Derivation.{linesIn};
 ghost use Rattle.checking.specs.Fitting.{wrongLine};
-ghost use Rattle.checking.specs.CheckCall.{countIn, byWrong, checkCall};
-ghost use Rattle.checker.specs.Reading.{lineAt, isLine, pathIn, singleOf, readAt, readingOf, shapely, Shaped};
-ghost use Rattle.checker.specs.Judging.{goalIn, JudgesHead, JudgesGoal, Ahead};
+ghost use Rattle.checking.specs.CheckCall.{byWrong, checkCall};
+ghost use Rattle.derivation_lines.specs.Lines.{lineAt, shapely, Shaped};
+ghost use Rattle.derivation_lines.specs.Judging.{goalIn, JudgesHead, JudgesGoal};
+ghost use Rattle.checker.specs.Reading.{pathIn, singleOf, readAt, readingOf};
+ghost use Rattle.checker.specs.Ahead.{Ahead};
 ghost use Rattle.checker.specs.Promise.{meaning};
-
-// How far lines fit: `at` of them were read and all fit; or the first wrong line has number `at`.
-pub struct Judged {
-    pub fits: bool,
-    pub at: usize,
-}
 
 // What a line is at a path: its end, a rule that applies, or wrong.
 pub enum Reading {
@@ -58,21 +54,6 @@ pub enum CheckAnswer {
     Refused(usize, usize),
 }
 
-// Line `at`, from 0, is there and is the join line 10, kept, replaced, 0.
-fn is_join(derivation: &[u8], count: usize, at: usize, kept: u8, replaced: u8) -> bool
-    requires { ⌜ Shaped (now derivation) count ⌝ }
-    ensures { λ r. ⌜ r ≡ isLine (lineAt (now (derivation .entry)) at) (line 10 kept replaced 0) ⌝ }
-{
-    if count <= at {
-        return false;
-    }
-    let place = 4 * at + 2;
-    (derivation[place] == 10)
-        & (derivation[place + 1] == kept)
-        & (derivation[place + 2] == replaced)
-        & (derivation[place + 3] == 0)
-}
-
 // The lines of the joins at the head of a branch.
 fn check_head(derivation: &[u8], count: usize, pairs: Pairs, first: usize) -> Judged
     requires { ⌜ Shaped (now derivation) count × (length (pairsOf pairs) ≤ 17) × (first ≤ count) ⌝ }
@@ -84,7 +65,7 @@ fn check_head(derivation: &[u8], count: usize, pairs: Pairs, first: usize) -> Ju
     while i < total {
         let kept = pairs.kept[i];
         let replaced = pairs.replaced[i];
-        if !is_join(derivation, count, at, kept, replaced) {
+        if !derivation_lines::is_join(derivation, count, at, kept, replaced) {
             return Judged {
                 fits: false,
                 at: at + 1,
@@ -251,7 +232,7 @@ pub fn check_goal<'a>(
             at: at + 1,
         },
         Reading::Applies(rule, x, y, z) => {
-            let total = branch::count(rule, z);
+            let total = alternatives::count(rule, z);
             let mut to = at + 1;
             let mut i: usize = 0;
             while i < total {
@@ -279,34 +260,12 @@ pub fn check_goal<'a>(
     }
 }
 
-// "Line count in two bytes, high byte first"
-fn count_of(derivation: &[u8]) -> usize
-    requires { ⌜ 2 ≤ length (now derivation) ⌝ }
-    ensures { λ r. ⌜ (r ≡ countIn (now (derivation .entry))) × (r < 65536) ⌝ }
-{
-    let high = entries::byte_at(derivation, 0);
-    let low = entries::byte_at(derivation, 1);
-    256 * high + low
-}
-
-// The length is 2 plus 4 times the count, and the count is at most 16,000.
-fn is_shaped(derivation: &[u8]) -> bool
-    ensures { λ r. ⌜ r ≡ shapely (now (derivation .entry)) ⌝ }
-{
-    let length = derivation.len();
-    if length < 2 {
-        return false;
-    }
-    let count = count_of(derivation);
-    (length == 2 + 4 * count) & (count <= 16000)
-}
-
 // The lines of a query that passes its checks, from its start.
 fn judge(query: &[u8], layout: Layout, derivation: &[u8]) -> CheckAnswer
     requires { ⌜ LaysOut layout (now query) × (accepts (now query) ≡ true) × (shapely (now derivation) ≡ true) ⌝ }
     ensures { λ r. ⌜ meaning r ≡ byWrong (wrongLine (decode (now (query .entry))) (linesIn (now (derivation .entry)))) ⌝ }
 {
-    let count = count_of(derivation);
+    let count = derivation_lines::count_of(derivation);
     let n = layout.terms;
     let goal = rows_of(start::start(query, layout));
     let judged = check_goal(
@@ -321,14 +280,11 @@ fn judge(query: &[u8], layout: Layout, derivation: &[u8]) -> CheckAnswer
         &goal.reach,
         0,
     );
-    let at = judged.at;
-    if !judged.fits {
-        return CheckAnswer::Wrong(at);
+    let wrong = derivation_lines::first_wrong(count, judged);
+    if wrong == 0 {
+        return CheckAnswer::Accepted;
     }
-    if at < count {
-        return CheckAnswer::Wrong(at + 1);
-    }
-    CheckAnswer::Accepted
+    CheckAnswer::Wrong(wrong)
 }
 
 // The checking call: "accept exactly the full trees", else the first wrong line's number, or one of the refusals 2 to 8, 26 and 20.
@@ -338,7 +294,7 @@ pub fn check(query: &[u8], derivation: &[u8]) -> CheckAnswer
     match query_checks::check(query) {
         Checked::Refused(k, place) => CheckAnswer::Refused(k, place),
         Checked::Accepted(layout) => {
-            if !is_shaped(derivation) {
+            if !derivation_lines::is_shaped(derivation) {
                 return CheckAnswer::Refused(20, 0);
             }
             judge(query, layout, derivation)

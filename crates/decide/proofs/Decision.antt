@@ -11,9 +11,10 @@ use Rattle.logic.specs.Decision.{Reachable}
 use Rattle.theory.proofs.Query.Tied.{Accepted}
 use Rattle.theory.proofs.Walks.Order.{order-full}
 use Rattle.theory.proofs.Calls.Decision.{Known, reachable-known, walk-saturation}
-use Rattle.plain_steps.specs.Walks.{isRefuted, WalksTo}
-use Rattle.plain_steps.specs.declared.Kind.{Kind}
-use Rattle.plain_steps.specs.declared.Kind.the-variants as kind
+use Rattle.kinds.specs.Kinds.{isRefuted}
+use Rattle.plain_steps.specs.Walks.{WalksTo}
+use Rattle.kinds.specs.declared.Kind.{Kind}
+use Rattle.kinds.specs.declared.Kind.the-variants as kind
 use Rattle.decide.specs.Tells.{Ends, Decides, Shows}
 
 module _ {q : Query} (s : Facts) where

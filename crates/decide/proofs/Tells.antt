@@ -13,11 +13,11 @@ use Rattle.theory.proofs.Query.Tied.{Accepted}
 use Rattle.theory.proofs.Paths.Applies.{hasLink-range, applies-linked}
 use Rattle.theory.proofs.Walks.Order.{rules-full}
 use Rattle.theory.proofs.Calls.Decision.{Known, clash-none, saturated-heap, struck-next, struck-all, open-branch, branch-at, closed-known, closed-heap, heap-closed}
-use Rattle.branch.specs.Alternatives.{countOf, alternativeAt}
+use Rattle.alternatives.specs.Alternatives.{countOf, alternativeAt}
 use Rattle.facts.specs.Path.{HasLink}
-use Rattle.plain_steps.specs.Walks.{isRefuted}
-use Rattle.plain_steps.specs.declared.Kind.{Kind}
-use Rattle.plain_steps.specs.declared.Kind.the-variants as kind
+use Rattle.kinds.specs.Kinds.{isRefuted}
+use Rattle.kinds.specs.declared.Kind.{Kind}
+use Rattle.kinds.specs.declared.Kind.the-variants as kind
 use Rattle.plain_steps.proofs.Branches.{same-branch, row-length, row-at}
 use Rattle.plain_steps.proofs.Cases.{refuted-open, refuted-unknown, open-unknown, refuted-is}
 use Rattle.decide.specs.Tells.{Sees, Tells, Ends}

@@ -8,8 +8,8 @@ use Rattle.logic.specs.Facts.{Facts, Line, clash}
 use Rattle.logic.specs.Rules.{triple, move, applies, rules, choose}
 use Rattle.logic.specs.Decision.{HasHeap, NoHeap}
 use Rattle.rules.specs.Answers.{kindOf}
-use Rattle.plain_steps.specs.declared.Kind.{Kind}
-use Rattle.plain_steps.specs.declared.Kind.the-variants as kind
+use Rattle.kinds.specs.declared.Kind.{Kind}
+use Rattle.kinds.specs.declared.Kind.the-variants as kind
 use Rattle.decide.specs.declared.Seen.{Seen}
 use Rattle.decide.specs.declared.Seen.the-variants as seen
 

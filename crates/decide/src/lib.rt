@@ -3,7 +3,7 @@
 use clash::Clash;
 use facts::Facts;
 use facts::Link;
-use plain_steps::Kind;
+use kinds::Kind;
 use plain_steps::Told;
 use query::Layout;
 use rows::Term;
@@ -182,7 +182,7 @@ fn search_in(
                     budget: 0,
                 };
             }
-            let total = branch::count(rule, z);
+            let total = alternatives::count(rule, z);
             let mut fuel = plain_steps::spent(budget);
             let mut at: usize = 0;
             while at < total {
@@ -232,7 +232,7 @@ fn search_in(
                     fuel,
                 );
                 let kind = w.kind;
-                if !plain_steps::is_refuted(kind) {
+                if !kinds::is_refuted(kind) {
                     *rep = own_rep;
                     *link = own_link;
                     *reach = own_reach;
@@ -320,7 +320,7 @@ fn in_turn(query: &[u8], layout: Layout, s: Facts, first: usize) -> Settled
 {
     let quick = search(query, layout, 0, 300, s, 50);
     let known = quick.kind;
-    if !plain_steps::is_unknown(known) {
+    if !kinds::is_unknown(known) {
         let end = quick.facts;
         return Settled {
             kind: known,
@@ -330,7 +330,7 @@ fn in_turn(query: &[u8], layout: Layout, s: Facts, first: usize) -> Settled
     }
     let soon = search(query, layout, first, 300, s, 400);
     let found = soon.kind;
-    if !plain_steps::is_unknown(found) {
+    if !kinds::is_unknown(found) {
         let end = soon.facts;
         return Settled {
             kind: found,
@@ -344,7 +344,7 @@ fn in_turn(query: &[u8], layout: Layout, s: Facts, first: usize) -> Settled
         let how = (turn + 2) % 4;
         let tried = search(query, layout, how, 300, s, budget);
         let kind = tried.kind;
-        if !plain_steps::is_unknown(kind) {
+        if !kinds::is_unknown(kind) {
             let end = tried.facts;
             return Settled {
                 kind,
@@ -394,7 +394,7 @@ pub fn has_heap(
             let w = plain_steps::plain(query, layout, order, left, s, false, 0);
             let kind = w.kind;
             Decided {
-                has: !plain_steps::is_refuted(kind),
+                has: !kinds::is_refuted(kind),
                 how,
                 facts: s,
             }

@@ -1,5 +1,5 @@
--- Tests and searches as a loop meets them: what is left at i, or of the numbers from k below m, equals the whole.
-use Prim.Native.Nat.{ℕ, _+_, _-_, _≤_, _<_}
+-- Tests as a loop over the bytes meets them: what is left at i equals the whole.
+use Prim.Native.Nat.{ℕ, _+_, _≤_, _<_}
 use native.Mathlib.Nat.{add-assoc}
 use native.Mathlib.Numerals.{add-one}
 use native.Mathlib.Omega.{arith}
@@ -8,8 +8,7 @@ use mathlib.Core.Bool.{Bool, true, false}
 use mathlib.Core.List.{List, _∷_}
 use lib.ListN.{length, getD, drop, drop-of-length-le}
 use lib.Seq.{drop-cons}
-use Rattle.logic.specs.Search.{_and_, _or_, from, any, all}
-use Rattle.rows.proofs.Loops.{from-end, from-next}
+use Rattle.logic.specs.Search.{_or_, any}
 
 -- the bytes from i on begin with byte i
 pub drop-next : (xs : List ℕ) (i : ℕ) → i < length xs → drop i xs ≡ getD xs i 0 ∷ drop (i + 1) xs
@@ -41,16 +40,3 @@ module _ (p : ℕ → Bool) (xs : List ℕ) where
   pub any-next : (i : ℕ) → i < length xs → p (getD xs i 0) ≡ false → any p (drop i xs) ≡ any p (drop (i + 1) xs)
   unfolding any _or_
   any-next i h e = rw (drop-next xs i h, e)
-
-module _ (p : ℕ → Bool) (m : ℕ) where
-  pub all-end : (k : ℕ) → m ≤ k → all p (from (m - k) k) ≡ true
-  unfolding all
-  all-end k h = rw (from-end m k h)
-
-  pub all-fails : (k : ℕ) → k < m → p k ≡ false → all p (from (m - k) k) ≡ false
-  unfolding all _and_
-  all-fails k h e = rw (from-next m k h, e)
-
-  pub all-next : (k : ℕ) → k < m → p k ≡ true → all p (from (m - k) k) ≡ all p (from (m - (k + 1)) (k + 1))
-  unfolding all _and_
-  all-next k h e = rw (from-next m k h, e)

@@ -37,7 +37,7 @@ unfolding _and_
 three-right true b c = both b c
 three-right false b c = refl
 
-pub four : (a b c d : Bool) → ((a && b) && c) && d ≡ (a and b and c and d)
+four : (a b c d : Bool) → ((a && b) && c) && d ≡ (a and b and c and d)
 unfolding _and_
 four true b c d = three b c d
 four false b c d = refl

@@ -13,8 +13,9 @@ use Rattle.joining.specs.HandBack as handed
 use Rattle.text.specs.Text.{decimal, decimalWithin, hexByte, hexDigit, isDigit}
 use Rattle.wording.specs.Words.{behind, lineOf, refusedText}
 use Rattle.checking.specs.CheckCall.{countIn}
-use Rattle.check_printing.specs.CheckText.{begins, endsNumber, nextPlace, isBetween, prepend, numbersFrom}
-use Rattle.join_printing.specs.JoinText.{queryIn, behindQuery, hexLine, answerText, joinedText, partText, handedText, lineIn, toldText, joinqueriesText}
+use Rattle.decimal_lines.specs.DecimalLines.{begins, endsNumber, nextPlace, isBetween, prepend, numbersFrom}
+use Rattle.hex_lines.specs.HexLines.{hexLine}
+use Rattle.join_printing.specs.JoinText.{queryIn, behindQuery, answerText, joinedText, partText, handedText, lineIn, toldText, joinqueriesText}
 use Rattle.join_printing.specs.Examples.{PrintsHold, teams, prints}
 
 pub prints-hold : PrintsHold

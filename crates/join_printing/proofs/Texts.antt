@@ -1,23 +1,23 @@
 -- The texts as they are written, part by part. Assumes nothing.
-use Prim.Native.Nat.{ℕ, zero, suc, _+_, _-_, _*_, _≤_, _<_, min}
+use Prim.Native.Nat.{ℕ, _+_, _-_, _*_, _≤_, _<_, min}
 use native.Mathlib.Omega.{arith}
-use native.Mathlib.Numerals.{add-one}
 use mathlib.Core.Path.{_≡_, refl, sym, ap, subst, _∙_}
 use mathlib.Core.Logic.{⊎-elim}
 use mathlib.Core.Bool.{Bool, true, false, cond}
-use mathlib.Core.List.{List, [], _∷_, _++_, map}
+use mathlib.Core.List.{List, [], _∷_, _++_}
 use mathlib.Core.Option.{Option, none, some, Option·elim}
-use lib.ListN.{length, getD, take, drop, length-drop, drop-of-length-le}
-use lib.Seq.{take-all, drop-cons}
+use lib.ListN.{length, getD, take, drop}
+use lib.Seq.{take-all}
 use lib.Dec.{eqb}
 use borrow.Author.Tests.{lt-ltb, le-ltb}
 use Rattle.theory.proofs.Basics.Compare.{le-cases}
-use Rattle.text.specs.Text.{ascii, decimal, hexByte}
+use Rattle.text.specs.Text.{ascii, decimal}
 use Rattle.text.proofs.Writing.{writes-taken}
-use Rattle.wording.specs.Words.{behind, lineOf, refusedText}
+use Rattle.wording.specs.Words.{refusedText}
 use Rattle.checking.specs.CheckCall.{countIn}
-use Rattle.check_printing.specs.CheckText.{begins, numbersFrom, newlineIn, newlines}
-use Rattle.check_printing.specs.Puts.{Puts}
+use Rattle.hex_lines.specs.HexLines.{hexLine}
+use Rattle.decimal_lines.specs.DecimalLines.{begins, numbersFrom, newlineIn, newlines}
+use Rattle.decimal_lines.specs.Puts.{Puts}
 use Rattle.check_printing.proofs.Answers.{numbers-length, query-read, rest-whole}
 use Rattle.joining.specs.Call.{Outcome, joinCall}
 use Rattle.joining.specs.HandBack.{handBackCall, partOf}
@@ -26,34 +26,7 @@ use Rattle.joiner.specs.declared.JoinAnswer.{JoinAnswer}
 use Rattle.joiner.specs.declared.JoinAnswer.the-variants as answer
 use Rattle.joiner.specs.declared.HandBack.{HandBack}
 use Rattle.joiner.specs.declared.HandBack.the-variants as back
-use Rattle.wording.proofs.Texts.{behind-length}
-use Rattle.join_printing.specs.JoinText.{queryIn, behindQuery, hexLine, answerText, joinedText, partText, handedText, lineIn, toldText, joinqueriesText}
-
--- bytes in hex, from i on
-abbrev pub left : List ℕ → ℕ → List ℕ
-left bytes i = behind (map hexByte (drop i bytes))
-
-module _ (bytes : List ℕ) (i : ℕ) where
-  pub left-next : i < length bytes → left bytes i ≡ (ascii " " ++ hexByte (getD bytes i 0)) ++ left bytes (i + 1)
-  unfolding behind
-  left-next h = ap (λ (xs : List ℕ). behind (map hexByte xs)) (drop-cons bytes i 0 h ∙ ap (λ (k : ℕ). getD bytes i 0 ∷ drop k bytes) (sym (add-one i)))
-
-  pub left-end : length bytes ≤ i → left bytes i ≡ ascii "\n"
-  unfolding behind
-  left-end h = ap (λ (xs : List ℕ). behind (map hexByte xs)) (drop-of-length-le bytes {i = i} h)
-
-  pub left-length : length (left bytes i) ≡ 3 * (length bytes - i) + 1
-  left-length = behind-length (drop i bytes) ∙ ap (λ (k : ℕ). 3 * k + 1) (length-drop i bytes)
-
-pub hex-none : (bytes : List ℕ) → length bytes ≡ 0 → ascii "\n" ≡ hexLine bytes
-unfolding hexLine lineOf
-hex-none [] h = refl
-hex-none (b ∷ bytes) h = absurd (omega arith)
-
-pub hex-some : (bytes : List ℕ) → 0 < length bytes → hexByte (getD bytes 0 0) ++ left bytes 1 ≡ hexLine bytes
-unfolding hexLine lineOf
-hex-some [] h = absurd (omega arith)
-hex-some (b ∷ bytes) h = refl
+use Rattle.join_printing.specs.JoinText.{queryIn, behindQuery, answerText, joinedText, partText, handedText, lineIn, toldText, joinqueriesText}
 
 -- what the joining call answers and leaves
 module _ (first second pairs : List ℕ) (room : ℕ) (bytes : List ℕ) (r : JoinAnswer) (does : Does (joinCall first second pairs room) r bytes) (full : room ≡ 561) where
@@ -175,14 +148,6 @@ module _ (first second rest : List ℕ) where
       ap (handedText first second) g ∙ ap (λ (t : Bool). cond t (handedText first second (lineIn rest)) (joinedText first second rest)) (sym f ∙ e)
 
 -- the parts among the bytes that are read
-pub taken-few : (n : ℕ) (xs : List ℕ) → length (take n xs) ≤ n
-taken-few zero xs = omega arith
-taken-few (suc n) [] = omega arith
-taken-few (suc n) (x ∷ xs) = omega (arith, taken-few n xs)
-
-pub taken-within : (n : ℕ) (xs : List ℕ) (m : ℕ) → n ≤ m → length (take n xs) ≤ m
-taken-within n xs m h = omega (arith, taken-few n xs)
-
 module _ {p q : ℕ} (bytes : List ℕ) (from to : ℕ) (a : p ≡ getD bytes 0 0) (b : q ≡ getD bytes 1 0) (f : from ≡ min (length bytes) 2) (t : to ≡ min (length bytes) (2 + (256 * p + q))) where
   sized : 256 * p + q ≡ countIn bytes
   unfolding countIn

@@ -1,15 +1,16 @@
 -- What joinqueries prints, byte for byte, as a function of the bytes that it is given (02, R-12): two queries, each behind its length in two
 -- bytes, high first, and then a pair list, or a clash line as heapverdict prints it.
 use Prim.Native.Nat.{ℕ, _+_}
-use mathlib.Core.List.{List, [], _++_, map}
+use mathlib.Core.List.{List, [], _++_}
 use mathlib.Core.Bool.{false, cond}
 use mathlib.Core.Option.{Option·elim}
 use lib.ListN.{length, take, drop}
 use lib.Dec.{ltb}
-use Rattle.text.specs.Text.{ascii, decimal, hexByte}
-use Rattle.wording.specs.Words.{lineOf, refusedText}
+use Rattle.text.specs.Text.{ascii, decimal}
+use Rattle.wording.specs.Words.{refusedText}
+use Rattle.hex_lines.specs.HexLines.{hexLine}
+use Rattle.decimal_lines.specs.DecimalLines.{begins, numbersFrom}
 use Rattle.checking.specs.CheckCall.{countIn}
-use Rattle.check_printing.specs.CheckText.{begins, numbersFrom}
 use Rattle.joining.specs.Call.{Answer, written, firstRefused, secondRefused, refused, Outcome, joinCall}
 use Rattle.joining.specs.HandBack.{Handed, handBackCall, partOf}
 use Rattle.joining.specs.HandBack as handed
@@ -20,10 +21,6 @@ queryIn bytes = take (countIn bytes) (drop 2 bytes)
 
 unfoldable pub behindQuery : List ℕ → List ℕ
 behindQuery bytes = drop (2 + countIn bytes) bytes
-
--- bytes as two hex digits each, separated by blanks
-unfoldable pub hexLine : List ℕ → List ℕ
-hexLine bytes = lineOf (map hexByte bytes)
 
 -- The joined query, or a refusal and the query that it is about.
 unfoldable pub answerText : Answer → List ℕ → List ℕ

@@ -2,39 +2,12 @@
 use joiner::HandBack;
 use joiner::JoinAnswer;
 ghost use mathlib.Core.Path.{_≡_};
-ghost use mathlib.Core.List.{_++_, map};
-ghost use Prim.Native.Nat.{_+_, _≤_};
-ghost use lib.ListN.{length, drop, take};
-ghost use Rattle.text.specs.Text.{Writes, ascii, decimal, hexByte};
-ghost use Rattle.wording.specs.Words.{behind, refusedText};
-ghost use Rattle.join_printing.specs.JoinText.{hexLine, joinedText, handedText, lineIn, toldText, queryIn, behindQuery, joinqueriesText};
-
-// Bytes from a place on in hex digits, a blank before each, and a newline.
-fn put_behind(buffer: &mut [u8], at: usize, bytes: &[u8], first: usize) -> usize
-    requires { ⌜ (at ≤ 1000) × (first ≤ length (now bytes)) × (length (now bytes) ≤ 100000) ⌝ }
-    ensures { λ r. ⌜ Writes (now (buffer .entry)) at (behind (map hexByte (drop first (now (bytes .entry))))) (now (buffer .exit)) r ⌝ }
-{
-    let mut to = at;
-    let mut i = first;
-    while i < bytes.len() {
-        to = text::put_byte(buffer, to, b' ');
-        to = text::put_hex_byte(buffer, to, bytes[i]);
-        i += 1;
-    }
-    text::put_byte(buffer, to, b'\n')
-}
-
-// Bytes in hex digits with blanks between, and a newline.
-pub fn put_hex_line(buffer: &mut [u8], at: usize, bytes: &[u8]) -> usize
-    requires { ⌜ (at ≤ 900) × (length (now bytes) ≤ 100000) ⌝ }
-    ensures { λ r. ⌜ Writes (now (buffer .entry)) at (hexLine (now (bytes .entry))) (now (buffer .exit)) r ⌝ }
-{
-    if bytes.len() == 0 {
-        return text::put_byte(buffer, at, b'\n');
-    }
-    let to = text::put_hex_byte(buffer, at, bytes[0]);
-    put_behind(buffer, to, bytes, 1)
-}
+ghost use mathlib.Core.List.{_++_};
+ghost use Prim.Native.Nat.{_≤_};
+ghost use lib.ListN.{length, take};
+ghost use Rattle.text.specs.Text.{Writes};
+ghost use Rattle.wording.specs.Words.{refusedText};
+ghost use Rattle.join_printing.specs.JoinText.{joinedText, handedText, lineIn, toldText, queryIn, behindQuery, joinqueriesText};
 
 // A refusal, and which query it is about.
 fn put_refusal(buffer: &mut [u8], k: usize, place: usize, about: &[u8]) -> usize
@@ -53,7 +26,7 @@ fn put_joined(buffer: &mut [u8], first: &[u8], second: &[u8], pairs: &[u8]) -> u
     match joiner::join(first, second, pairs, &mut out) {
         JoinAnswer::Written(length) => {
             let end = check_printing::at_most(length, 561);
-            put_hex_line(buffer, 0, &out[..end])
+            hex_lines::put_hex_line(buffer, 0, &out[..end])
         }
         JoinAnswer::FirstRefused(k, place) => {
             put_refusal(buffer, k, place, b" of the first query\n")
@@ -65,17 +38,6 @@ fn put_joined(buffer: &mut [u8], first: &[u8], second: &[u8], pairs: &[u8]) -> u
     }
 }
 
-// Where a literal stands, and its bytes.
-fn put_part(buffer: &mut [u8], word: &[u8], at: usize, part: &[u8]) -> usize
-    requires { ⌜ (length (now word) ≤ 100) × (length (now part) ≤ 100000) ⌝ }
-    ensures { λ r. ⌜ Writes (now (buffer .entry)) 0 (now (word .entry) ++ (decimal at ++ (ascii ": " ++ hexLine (now (part .entry))))) (now (buffer .exit)) r ⌝ }
-{
-    let number = text::put_bytes(buffer, 0, word);
-    let colon = text::put_decimal(buffer, number, at);
-    let bytes = text::put_bytes(buffer, colon, b": ");
-    put_hex_line(buffer, bytes, part)
-}
-
 // The literal that a clash line names, from the query that it came from.
 fn put_handed(buffer: &mut [u8], first: &[u8], second: &[u8], line: &[u8]) -> usize
     requires { ⌜ (length (now first) ≤ 65535) × (length (now second) ≤ 65535) ⌝ }
@@ -84,11 +46,11 @@ fn put_handed(buffer: &mut [u8], first: &[u8], second: &[u8], line: &[u8]) -> us
     match joiner::find_named(first, second, line) {
         HandBack::InFirst(at, size) => {
             let end = at + size;
-            put_part(buffer, b"first query at ", at, &first[at..end])
+            hex_lines::put_in_first(buffer, at, &first[at..end])
         }
         HandBack::InSecond(at, size) => {
             let end = at + size;
-            put_part(buffer, b"second query at ", at, &second[at..end])
+            hex_lines::put_in_second(buffer, at, &second[at..end])
         }
         HandBack::FirstRefused(k, place) => {
             put_refusal(buffer, k, place, b" of the first query\n")
@@ -108,7 +70,7 @@ fn read_line(line: &mut [u8], text: &[u8]) -> usize
     if 64 < text.len() {
         return 0;
     }
-    check_printing::put_numbers(line, 0, text)
+    decimal_lines::put_numbers(line, 0, text)
 }
 
 // What is told of two queries: the literal that a clash line names, or both as one.
@@ -116,7 +78,7 @@ fn put_told(buffer: &mut [u8], first: &[u8], second: &[u8], rest: &[u8]) -> usiz
     requires { ⌜ (length (now first) ≤ 65535) × (length (now second) ≤ 65535) ⌝ }
     ensures { λ r. ⌜ Writes (now (buffer .entry)) 0 (toldText (now (first .entry)) (now (second .entry)) (now (rest .entry))) (now (buffer .exit)) r ⌝ }
 {
-    if !check_printing::begins(rest, b"9 ") {
+    if !decimal_lines::begins_clash(rest) {
         return put_joined(buffer, first, second, rest);
     }
     let mut line = [0u8; 256];

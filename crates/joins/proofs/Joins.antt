@@ -83,23 +83,17 @@ module _ (n : ℕ) (j : Joined) where
   unfolding join
   join-same a b e = andThen-at j (join n a b) unjoined (rw (eq-eqb a b e)) ∙ andThen-unjoined j
 
-  joined : (a b lo hi : ℕ) → (a ≡ b → ⊥) → min a b ≡ lo → max a b ≡ hi → andThen j (join n a b) ≡ andThen (pairBehind j lo hi) (settle n n)
+  pub join-pair : (a b lo hi : ℕ) → (a ≡ b → ⊥) → lo ≡ min a b → hi ≡ max a b → andThen j (join n a b) ≡ andThen (pairBehind j lo hi) (settle n n)
   unfolding join
-  joined a b lo hi d e f = andThen-at j (join n a b) (λ s. andThen (joinPair (lo, hi) s) (settle n n)) (rw (ne-eqb a b d, e, f)) ∙ pair-behind j lo hi (settle n n)
+  join-pair a b lo hi d e f = andThen-at j (join n a b) (λ s. andThen (joinPair (lo, hi) s) (settle n n)) (rw (ne-eqb a b d, e, f)) ∙ pair-behind j lo hi (settle n n)
 
-  pub join-lower : (a b : ℕ) → a < b → andThen j (join n a b) ≡ andThen (pairBehind j a b) (settle n n)
-  join-lower a b h = joined a b a b (λ e. omega arith) (omega arith) (omega arith)
+  -- there is room for the pair
+  pub fits-join : (a b lo hi : ℕ) → (a ≡ b → ⊥) → lo ≡ min a b → hi ≡ max a b → Fits (andThen j (join n a b)) → length (j .pairs) < 17
+  fits-join a b lo hi d e f h = fits-pair j lo hi (settle n n) (subst Fits (join-pair a b lo hi d e f) h)
 
-  pub join-higher : (a b : ℕ) → b < a → andThen j (join n a b) ≡ andThen (pairBehind j b a) (settle n n)
-  join-higher a b h = joined a b b a (λ e. omega arith) (omega arith) (omega arith)
-
-  -- the same, of the pair and the facts as a call makes them
-  pub lower-made : (a b : ℕ) → a < b → (ps : List (ℕ × ℕ)) (s : Facts) → ps ≡ j .pairs ++ ((a, b) ∷ []) → s ≡ replace a b (j .facts) → andThen j (join n a b) ≡ andThen (record { pairs = ps; facts = s }) (settle n n)
-  lower-made a b h ps s e f = join-lower a b h ∙ made-behind j a b (settle n n) ps s e f
-
-  -- the lower of the two named first or last
-  pub join-either : (a b : ℕ) → b < a → andThen j (join n a b) ≡ andThen j (join n b a)
-  join-either a b h = join-higher a b h ∙ sym (join-lower b a h)
+  -- the same join, of the pair and the facts as a call makes them
+  pub join-made : (a b lo hi : ℕ) → (a ≡ b → ⊥) → lo ≡ min a b → hi ≡ max a b → (ps : List (ℕ × ℕ)) (s : Facts) → ps ≡ j .pairs ++ ((lo, hi) ∷ []) → s ≡ replace lo hi (j .facts) → andThen j (join n a b) ≡ andThen (record { pairs = ps; facts = s }) (settle n n)
+  join-made a b lo hi d e f ps s g h = join-pair a b lo hi d e f ∙ made-behind j lo hi (settle n n) ps s g h
 
 -- settling k times makes no more than k pairs, and a join one more
 pub settle-pairs : (n k : ℕ) (s : Facts) → length (settle n k s .pairs) ≤ k

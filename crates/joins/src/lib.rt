@@ -1,16 +1,13 @@
 // Joins of a path, in place: two terms, then doubled successors, with the pairs that were joined.
+use doubled::Two;
 use facts::Facts;
-use rows::Found;
 use rows::Term;
 ghost use mathlib.Core.Path.{_≡_};
-ghost use Prim.Native.Nat.{_+_, _≤_, _<_};
+ghost use Prim.Native.Nat.{_+_, _≤_, _<_, min, max};
 ghost use mathlib.Core.List.{[], _∷_, _++_};
 ghost use lib.ListN.{length};
-ghost use Rattle.logic.specs.Search.{firstOf};
-ghost use Rattle.logic.specs.Facts.{terms, firstTwo, successors, andThen, settle, join};
-ghost use Rattle.facts.specs.Path.{Whole, linksIn};
-ghost use Rattle.joins.specs.Answers.{twoOf};
-ghost use Rattle.joins.specs.Doubled.{twoIn, doubledIn};
+ghost use Rattle.logic.specs.Facts.{andThen, settle, join};
+ghost use Rattle.facts.specs.Path.{Whole};
 ghost use Rattle.joins.specs.Pairs.{pairsIn, pairsOf, joinedIn, Fits};
 
 // The pairs that were joined, in order, `count` of them: the term that was kept, and the one that it replaced. One join of at most
@@ -25,99 +22,6 @@ pub struct Pairs {
 pub struct Joined {
     pub pairs: Pairs,
     pub facts: Facts,
-}
-
-// Two terms that were looked for.
-pub enum Two {
-    Of(Term, Term),
-    Nothing,
-}
-
-// The two lowest successors of t, where it has two.
-pub fn first_two(link: &[u32; 17], n: usize, t: Term) -> Two
-    requires { ⌜ (n ≤ 16) × (t .0 ≤ 16) ⌝ }
-    ensures { λ r. ⌜ twoOf r ≡ firstTwo (successors n (linksIn (now (link .entry))) (t .0)) ⌝ }
-{
-    let row = rows::successor_row(link, n, t);
-    let Found::At(a) = rows::first(row) else {
-        return Two::Nothing;
-    };
-    let Found::At(b) = rows::first(row & (row - 1)) else {
-        return Two::Nothing;
-    };
-    Two::Of(a, b)
-}
-
-// "the two lowest successors of the lowest such term", of one link
-fn doubled_in(link: &[u32; 17], n: usize) -> Two
-    requires { ⌜ n ≤ 16 ⌝ }
-    ensures { λ r. ⌜ twoOf r ≡ firstOf (λ t. firstTwo (successors n (linksIn (now (link .entry))) t)) (terms n) ⌝ }
-{
-    let mut t: usize = 1;
-    while t <= n {
-        if let Two::Of(a, b) = first_two(link, n, Term(t)) {
-            return Two::Of(a, b);
-        }
-        t += 1;
-    }
-    Two::Nothing
-}
-
-// The two lowest successors of t by the lowest of three links that has two.
-fn first_two_of<'a>(
-    first: &'a [u32; 17],
-    second: &'a [u32; 17],
-    third: &'a [u32; 17],
-    n: usize,
-    t: Term,
-) -> Two
-    requires { ⌜ (n ≤ 16) × (t .0 ≤ 16) ⌝ }
-    ensures { λ r. ⌜ twoOf r ≡ twoIn n (now (first .entry)) (now (second .entry)) (now (third .entry)) (t .0) ⌝ }
-{
-    if let Two::Of(a, b) = first_two(first, n, t) {
-        return Two::Of(a, b);
-    }
-    if let Two::Of(a, b) = first_two(second, n, t) {
-        return Two::Of(a, b);
-    }
-    first_two(third, n, t)
-}
-
-// "by lowest term, then link" (02, R-11)
-fn doubled_of<'a>(
-    first: &'a [u32; 17],
-    second: &'a [u32; 17],
-    third: &'a [u32; 17],
-    n: usize,
-) -> Two
-    requires { ⌜ n ≤ 16 ⌝ }
-    ensures { λ r. ⌜ twoOf r ≡ firstOf (twoIn n (now (first .entry)) (now (second .entry)) (now (third .entry))) (terms n) ⌝ }
-{
-    let mut t: usize = 1;
-    while t <= n {
-        if let Two::Of(a, b) = first_two_of(first, second, third, n, Term(t)) {
-            return Two::Of(a, b);
-        }
-        t += 1;
-    }
-    Two::Nothing
-}
-
-// The same of a single link or of three. The rows are lent, so that a join copies no path for it.
-fn doubled_rows<'a>(
-    single: bool,
-    first: &'a [u32; 17],
-    second: &'a [u32; 17],
-    third: &'a [u32; 17],
-    n: usize,
-) -> Two
-    requires { ⌜ n ≤ 16 ⌝ }
-    ensures { λ r. ⌜ twoOf r ≡ doubledIn n single (now (first .entry)) (now (second .entry)) (now (third .entry)) ⌝ }
-{
-    if single {
-        return doubled_in(first, n);
-    }
-    doubled_of(first, second, third, n)
 }
 
 // No pair.
@@ -165,7 +69,7 @@ pub fn settle(
     let mut total = count;
     let mut left = n;
     while 0 < left {
-        let Two::Of(a, b) = doubled_rows(single, link, link2, link3, n) else {
+        let Two::Of(a, b) = doubled::lowest(single, link, link2, link3, n) else {
             return total;
         };
         and_pair(kept, replaced, total, a, b);
@@ -176,55 +80,23 @@ pub fn settle(
     total
 }
 
-// Joining a lower and a higher number, after the pairs that were joined before.
-fn join_lower(
-    single: bool,
-    rep: &mut [u8; 17],
-    link: &mut [u32; 17],
-    reach: &mut [u32; 17],
-    link2: &mut [u32; 17],
-    reach2: &mut [u32; 17],
-    link3: &mut [u32; 17],
-    reach3: &mut [u32; 17],
-    kept: &mut [u8; 17],
-    replaced: &mut [u8; 17],
-    count: usize,
-    n: usize,
-    lo: Term,
-    hi: Term,
-) -> usize
-    requires { ⌜ (n ≤ 16) × (lo .0 < hi .0) × (hi .0 ≤ 16) × Fits (andThen (joinedIn single (now rep) (now link) (now reach) (now link2) (now reach2) (now link3) (now reach3) (now kept) (now replaced) count) (join n (lo .0) (hi .0))) ⌝ }
-    requires { ⌜ Whole (now rep) (now link) (now reach) (now link2) (now reach2) (now link3) (now reach3) × (length (now kept) ≡ 17) × (length (now replaced) ≡ 17) ⌝ }
-    ensures { λ r. ⌜ joinedIn single (now (rep .exit)) (now (link .exit)) (now (reach .exit)) (now (link2 .exit)) (now (reach2 .exit)) (now (link3 .exit)) (now (reach3 .exit)) (now (kept .exit)) (now (replaced .exit)) r ≡ andThen (joinedIn single (now (rep .entry)) (now (link .entry)) (now (reach .entry)) (now (link2 .entry)) (now (reach2 .entry)) (now (link3 .entry)) (now (reach3 .entry)) (now (kept .entry)) (now (replaced .entry)) count) (join n (lo .0) (hi .0)) ⌝ }
-    ensures { λ _. ⌜ Whole (now (rep .exit)) (now (link .exit)) (now (reach .exit)) (now (link2 .exit)) (now (reach2 .exit)) (now (link3 .exit)) (now (reach3 .exit)) × (length (now (kept .exit)) ≡ 17) × (length (now (replaced .exit)) ≡ 17) ⌝ }
+// The lower and the higher of two terms.
+fn lower(a: Term, b: Term) -> Term
+    ensures { λ r. ⌜ r .0 ≡ min (a .0) (b .0) ⌝ }
 {
-    and_pair(kept, replaced, count, lo, hi);
-    facts::replace(
-        single,
-        rep,
-        link,
-        reach,
-        link2,
-        reach2,
-        link3,
-        reach3,
-        lo,
-        hi,
-    );
-    settle(
-        single,
-        rep,
-        link,
-        reach,
-        link2,
-        reach2,
-        link3,
-        reach3,
-        kept,
-        replaced,
-        count + 1,
-        n,
-    )
+    if a.0 < b.0 {
+        return a;
+    }
+    b
+}
+
+fn higher(a: Term, b: Term) -> Term
+    ensures { λ r. ⌜ r .0 ≡ max (a .0) (b .0) ⌝ }
+{
+    if a.0 < b.0 {
+        return b;
+    }
+    a
 }
 
 // "Joining a and b", after the pairs that were joined before. A term joined with itself is no pair.
@@ -252,25 +124,22 @@ pub fn join(
     if a.0 == b.0 {
         return count;
     }
-    if a.0 < b.0 {
-        return join_lower(
-            single,
-            rep,
-            link,
-            reach,
-            link2,
-            reach2,
-            link3,
-            reach3,
-            kept,
-            replaced,
-            count,
-            n,
-            a,
-            b,
-        );
-    }
-    join_lower(
+    let lo = lower(a, b);
+    let hi = higher(a, b);
+    and_pair(kept, replaced, count, lo, hi);
+    facts::replace(
+        single,
+        rep,
+        link,
+        reach,
+        link2,
+        reach2,
+        link3,
+        reach3,
+        lo,
+        hi,
+    );
+    settle(
         single,
         rep,
         link,
@@ -281,9 +150,7 @@ pub fn join(
         reach3,
         kept,
         replaced,
-        count,
+        count + 1,
         n,
-        b,
-        a,
     )
 }

@@ -1,7 +1,7 @@
 -- What the checking call promises to C.
 use Prim.Native.Nat.{ℕ, _%_}
 use Rattle.checking.specs.CheckCall.{Checked, accepted, wrong, refused}
-use Rattle.lemitsaka.specs.Codes.{numberedCode}
+use Rattle.codes.specs.Codes.{numberedCode}
 
 -- an answer as a number, for C: a wrong line's number is at most 16,001
 abbrev pub codeOfCheck : Checked → ℕ

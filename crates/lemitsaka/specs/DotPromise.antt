@@ -3,7 +3,7 @@ use Prim.Native.Nat.{ℕ, _%_}
 use mathlib.Core.Path.{_≡_}
 use mathlib.Core.List.{List}
 use Rattle.drawing.specs.Call.{Outcome, Answer, written, refused}
-use Rattle.lemitsaka.specs.Codes.{numberedCode}
+use Rattle.codes.specs.Codes.{numberedCode}
 
 -- an answer as a number, for C: a text has at most 508 bytes
 abbrev pub codeOfDot : Answer → ℕ

@@ -3,7 +3,7 @@ use Prim.Native.Nat.{ℕ, _%_}
 use mathlib.Core.Path.{_≡_}
 use mathlib.Core.List.{List}
 use Rattle.formula.specs.Call.{Outcome, Answer, conjunction, refuted, refused}
-use Rattle.lemitsaka.specs.Codes.{numberedCode}
+use Rattle.codes.specs.Codes.{numberedCode}
 
 -- an answer as a number: 0 refuted, else the conjunction's number, at most 64
 abbrev pub codeOfFormula : Answer → ℕ

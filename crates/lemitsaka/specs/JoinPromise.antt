@@ -4,7 +4,7 @@ use mathlib.Core.Path.{_≡_}
 use mathlib.Core.List.{List}
 use Rattle.joining.specs.Call.{Outcome, Answer, written, firstRefused, secondRefused, refused}
 use Rattle.joining.specs.HandBack as hand
-use Rattle.lemitsaka.specs.Codes.{numberedCode}
+use Rattle.codes.specs.Codes.{numberedCode}
 
 -- an answer as a number, for C: 4,294,967,296 is added to a refusal that is about the second query
 abbrev pub codeOfJoin : Answer → ℕ

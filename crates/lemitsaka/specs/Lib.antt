@@ -1,4 +1,3 @@
-pub mod Codes
 pub mod VerdictPromise
 pub mod DotPromise
 pub mod PrecedencePromise

@@ -2,14 +2,8 @@
 use Prim.Native.Nat.{ℕ}
 use mathlib.Core.Path.{_≡_}
 use mathlib.Core.List.{List}
-use Rattle.precedence.specs.Calls.{Answer, order, ring, refused, Outcome}
-use Rattle.lemitsaka.specs.Codes.{numberedCode}
-
--- an answer as a number
-abbrev pub orderCode : Answer → ℕ
-orderCode order = 0
-orderCode ring = 1
-orderCode (refused k place) = numberedCode k place
+use Rattle.ordering.specs.Calls.{Outcome}
+use Rattle.order_code.specs.OrderCode.{orderCode}
 
 pub record OrderCodes (outcome : Outcome) (r : ℕ) (bytes : List ℕ) : Type 0 where
   pub answers : r ≡ orderCode (outcome .answer)

@@ -3,7 +3,7 @@ use Prim.Native.Nat.{ℕ, _%_}
 use mathlib.Core.Path.{_≡_}
 use mathlib.Core.List.{List}
 use Rattle.encoding.specs.WritingCall.{Outcome, Answer, written, refused}
-use Rattle.lemitsaka.specs.Codes.{numberedCode}
+use Rattle.codes.specs.Codes.{numberedCode}
 
 -- an answer as a number, for C: a query has at most 561 bytes, and one with three links at most 637
 abbrev pub codeOfRewrite : Answer → ℕ

@@ -6,7 +6,7 @@ use mathlib.Core.List.{List}
 use lib.Dec.{eqb}
 use Rattle.logic.specs.Calls.{Outcome}
 use Rattle.logic.specs.Calls as calls
-use Rattle.lemitsaka.specs.Codes.{numberedCode}
+use Rattle.codes.specs.Codes.{numberedCode}
 
 -- an answer as a number
 abbrev pub codeOf : calls.Answer → ℕ

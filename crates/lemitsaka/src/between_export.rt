@@ -13,7 +13,7 @@ fn coded_between(answer: BetweenAnswer) -> u64
     match answer {
         BetweenAnswer::Heap => 0,
         BetweenAnswer::Nothing => 1,
-        BetweenAnswer::Refused(k, place) => crate::numbered(k, place),
+        BetweenAnswer::Refused(k, place) => codes::numbered(k, place),
     }
 }
 

@@ -12,7 +12,7 @@ fn coded_check(answer: CheckAnswer) -> u64
     match answer {
         CheckAnswer::Accepted => 0,
         CheckAnswer::Wrong(line) => (line % 65536) as u64,
-        CheckAnswer::Refused(k, place) => crate::numbered(k, place),
+        CheckAnswer::Refused(k, place) => codes::numbered(k, place),
     }
 }
 

@@ -12,7 +12,7 @@ fn coded_dot(answer: DotAnswer) -> u64
 {
     match answer {
         DotAnswer::Written(length) => (length % 65536) as u64,
-        DotAnswer::Refused(k, place) => crate::numbered(k, place),
+        DotAnswer::Refused(k, place) => codes::numbered(k, place),
     }
 }
 

@@ -12,7 +12,7 @@ fn coded_formula(answer: FormulaAnswer) -> u64
     match answer {
         FormulaAnswer::Refuted => 0,
         FormulaAnswer::Conjunction(n) => (n % 65536) as u64,
-        FormulaAnswer::Refused(k, place) => crate::numbered(k, place),
+        FormulaAnswer::Refused(k, place) => codes::numbered(k, place),
     }
 }
 

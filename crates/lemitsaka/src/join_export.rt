@@ -14,9 +14,9 @@ fn coded_join(answer: JoinAnswer) -> u64
 {
     match answer {
         JoinAnswer::Written(length) => (length % 65536) as u64,
-        JoinAnswer::FirstRefused(k, place) => crate::numbered(k, place),
-        JoinAnswer::SecondRefused(k, place) => 4294967296 + crate::numbered(k, place),
-        JoinAnswer::Refused(k, place) => crate::numbered(k, place),
+        JoinAnswer::FirstRefused(k, place) => codes::numbered(k, place),
+        JoinAnswer::SecondRefused(k, place) => 4294967296 + codes::numbered(k, place),
+        JoinAnswer::Refused(k, place) => codes::numbered(k, place),
     }
 }
 
@@ -34,11 +34,11 @@ fn coded_part(found: HandBack) -> u64
     ensures { λ r. ⌜ r ≡ codeOfHanded (handed found) ⌝ }
 {
     match found {
-        HandBack::InFirst(at, size) => crate::numbered(at, size),
-        HandBack::InSecond(at, size) => 4294967296 + crate::numbered(at, size),
-        HandBack::FirstRefused(k, place) => 1099511627776 + crate::numbered(k, place),
-        HandBack::SecondRefused(k, place) => 1099511627776 + crate::numbered(k, place),
-        HandBack::Refused(k, place) => 1099511627776 + crate::numbered(k, place),
+        HandBack::InFirst(at, size) => codes::numbered(at, size),
+        HandBack::InSecond(at, size) => 4294967296 + codes::numbered(at, size),
+        HandBack::FirstRefused(k, place) => 1099511627776 + codes::numbered(k, place),
+        HandBack::SecondRefused(k, place) => 1099511627776 + codes::numbered(k, place),
+        HandBack::Refused(k, place) => 1099511627776 + codes::numbered(k, place),
     }
 }
 

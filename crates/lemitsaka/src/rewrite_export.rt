@@ -12,7 +12,7 @@ pub fn coded_rewrite(answer: Rewritten) -> u64
 {
     match answer {
         Rewritten::Written(length) => (length % 65536) as u64,
-        Rewritten::Refused(k, place) => crate::numbered(k, place),
+        Rewritten::Refused(k, place) => codes::numbered(k, place),
     }
 }
 

@@ -13,7 +13,7 @@ fn coded(answer: Answer) -> u64
     match answer {
         Answer::Satisfiable => 0,
         Answer::Refuted => 1,
-        Answer::Refused(k, place) => crate::numbered(k, place),
+        Answer::Refused(k, place) => codes::numbered(k, place),
     }
 }
 

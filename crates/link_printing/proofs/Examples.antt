@@ -9,7 +9,7 @@ use Rattle.encoding.specs.WritingCall.{roomCheck, writingChecks, refusal, blank
 use Rattle.link_rewriting.specs.LinkedQuery.{linkBefore, entryBytes, reachBytes, encodeLinks}
 use Rattle.text.specs.Text.{decimal, decimalWithin, hexByte, hexDigit}
 use Rattle.wording.specs.Words.{behind, lineOf, refusedText, refusalText}
-use Rattle.join_printing.specs.JoinText.{hexLine}
+use Rattle.hex_lines.specs.HexLines.{hexLine}
 use Rattle.rewrite_printing.specs.RewriteText.{answerText, outcomeText}
 use Rattle.link_printing.specs.LinkText.{textOf, rewritelinksText}
 use Rattle.link_printing.specs.Examples.{PrintsHold, prints}

@@ -10,8 +10,8 @@ use Rattle.logic.specs.Query.{Query, termCount}
 use Rattle.logic.specs.Facts.{Facts, Joined, Line, line, joinLines}
 use Rattle.logic.specs.Rules.{Rule, triple, Move, move, Fact, equal, moveNumber, moveLine, alternatives, branch}
 use Rattle.logic.specs.Walk.{clashing, applying, saturated, look, Ending, refutation, saturation, after, walkBranch, walkEach, walk}
-use Rattle.branch.specs.Alternatives.{countOf, alternativeAt}
-use Rattle.branch.proofs.Alternatives.{count-is}
+use Rattle.alternatives.specs.Alternatives.{countOf, alternativeAt}
+use Rattle.alternatives.proofs.Alternatives.{count-is}
 use Rattle.branch.proofs.Steps.{branch-fits}
 use Rattle.joins.specs.Pairs.{Fits}
 use Rattle.walk.specs.Lines.{counted, countAll, putLine, putAll}

@@ -77,7 +77,7 @@ fn list_in<'a>(
         }
         Seen::Applying(k, rule, x, y, z) => {
             walk::put_line(lines, count, walk::number(k, rule), x.0, y.0, z.0);
-            let total = branch::count(rule, z);
+            let total = alternatives::count(rule, z);
             let mut written = walk::counted(count);
             let mut i: usize = 0;
             while i < total {

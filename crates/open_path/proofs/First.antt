@@ -15,7 +15,7 @@ use Rattle.theory.proofs.Query.Tied.{Accepted}
 use Rattle.theory.proofs.Walks.Order.{order-full}
 use Rattle.theory.proofs.Walks.Derives.{seen-applying, seen-clashing}
 use Rattle.theory.proofs.Calls.Decision.{Known, reachable-known, clash-none, heap-branch, struck-next, last-open, walk-first}
-use Rattle.branch.specs.Alternatives.{countOf, alternativeAt}
+use Rattle.alternatives.specs.Alternatives.{countOf, alternativeAt}
 use Rattle.covering.specs.Covers.{Covers}
 use Rattle.covering.proofs.Covered.{covered-heap}
 use Rattle.plain_steps.proofs.Branches.{row-length, row-at}

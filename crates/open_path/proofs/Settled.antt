@@ -13,9 +13,10 @@ use Rattle.theory.proofs.Query.Tied.{Accepted}
 use Rattle.theory.proofs.Calls.Decision.{reachable-known}
 use Rattle.facts.specs.Path.{pathAs, pathOf}
 use Rattle.facts.specs.declared.Facts as code
-use Rattle.plain_steps.specs.Walks.{isUnknown, WalksTo}
-use Rattle.plain_steps.specs.declared.Kind.{Kind}
-use Rattle.plain_steps.specs.declared.Kind.the-variants as kind
+use Rattle.kinds.specs.Kinds.{isUnknown}
+use Rattle.plain_steps.specs.Walks.{WalksTo}
+use Rattle.kinds.specs.declared.Kind.{Kind}
+use Rattle.kinds.specs.declared.Kind.the-variants as kind
 use Rattle.plain_steps.proofs.Cases.{refuted-open, refuted-unknown, open-unknown}
 use Rattle.decide.specs.Tells.{Decides}
 

@@ -2,7 +2,7 @@
 // the walk goes into the first that is not refuted.
 use facts::Facts;
 use facts::Link;
-use plain_steps::Kind;
+use kinds::Kind;
 use query::Layout;
 use rows::Term;
 use rules::Rule;
@@ -49,7 +49,7 @@ fn first_open(
     ensures { λ r. ⌜ FirstOpen (said layout (now (query .entry))) (pathOf s) (move (k .0) (kindOf rule) (triple (x .0) (y .0) (z .0))) (pathOf (r .facts)) × HasHeap (said layout (now (query .entry))) (pathOf (r .witness)) ⌝ }
 {
     let n = layout.terms;
-    let total = branch::count(rule, z);
+    let total = alternatives::count(rule, z);
     let mut how = first;
     let mut i: usize = 0;
     loop {
@@ -184,7 +184,7 @@ pub fn settle(
         40,
     );
     let kind = w.kind;
-    if !plain_steps::is_unknown(kind) {
+    if !kinds::is_unknown(kind) {
         return kind;
     }
     let d = decide::has_heap(query, layout, order, left, s, 0);

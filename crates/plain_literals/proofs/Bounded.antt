@@ -9,7 +9,7 @@ use Rattle.logic.specs.Query.{Literal, Query}
 use Rattle.logic.specs.Facts.{Facts, Joined, linksOf, replace, unjoined, andThen, settle, join}
 use Rattle.theory.proofs.Paths.Joined.{join-facts}
 use Rattle.theory.proofs.Paths.Settle.{settle-keeps}
-use Rattle.joins.proofs.Doubled.{doubled-below}
+use Rattle.doubled.proofs.Twos.{doubled-below}
 use Rattle.facts.specs.Path.{repOf, replacedBy}
 use Rattle.plain_literals.specs.Taken.{joinOne, Bounded, Terms}
 

@@ -8,8 +8,8 @@ use Rattle.logic.specs.Query.{Query, termCount}
 use Rattle.logic.specs.Facts.{Facts}
 use Rattle.logic.specs.Rules.{Rule, triple, move, Fact, equal, alternatives, branch, add, branches}
 use Rattle.facts.specs.Path.{HasLink}
-use Rattle.branch.specs.Alternatives.{countOf, alternativeAt}
-use Rattle.branch.proofs.Alternatives.{count-is, alternative-is}
+use Rattle.alternatives.specs.Alternatives.{countOf, alternativeAt}
+use Rattle.alternatives.proofs.Alternatives.{count-is, alternative-is}
 
 getD-map : {A B : Type 0} (f : A → B) (xs : List A) (i : ℕ) (d : A) (e : B) → i < length xs → getD (map f xs) i e ≡ f (getD xs i d)
 getD-map f [] i d e l = absurd (omega arith)

@@ -1,9 +1,9 @@
 -- What is found out, case by case.
 use mathlib.Core.Path.{_≡_, refl, ap}
 use mathlib.Core.Bool.{true, true≢false, false≢true}
-use Rattle.plain_steps.specs.Walks.{isRefuted, isUnknown}
-use Rattle.plain_steps.specs.declared.Kind.{Kind}
-use Rattle.plain_steps.specs.declared.Kind.the-variants as kind
+use Rattle.kinds.specs.Kinds.{isRefuted, isUnknown}
+use Rattle.kinds.specs.declared.Kind.{Kind}
+use Rattle.kinds.specs.declared.Kind.the-variants as kind
 
 -- the cases differ
 pub refuted-open : kind.Refuted ≡ kind.Open → ⊥

@@ -11,7 +11,7 @@ use Rattle.theory.proofs.Walks.Derives.{seen-clashing}
 use Rattle.theory.proofs.Calls.Decision.{Known, clash-none}
 use Rattle.walk.proofs.Walks.{walk-saturated}
 use Rattle.plain_steps.specs.Walks.{WalksTo}
-use Rattle.plain_steps.specs.declared.Kind.the-variants as kind
+use Rattle.kinds.specs.declared.Kind.the-variants as kind
 use Rattle.plain_steps.proofs.Cases.{refuted-open, refuted-unknown, open-unknown}
 
 pub both-left : (a b : Bool) → a && b ≡ true → a ≡ true

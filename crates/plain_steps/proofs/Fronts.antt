@@ -11,10 +11,11 @@ use Rattle.logic.specs.Steps.{AtMost}
 use Rattle.logic.specs.Decision.{Struck}
 use Rattle.theory.proofs.Query.Tied.{Accepted}
 use Rattle.theory.proofs.Calls.Decision.{Known}
-use Rattle.branch.specs.Alternatives.{countOf, alternativeAt}
-use Rattle.plain_steps.specs.Walks.{isRefuted, Ahead, WalksTo}
-use Rattle.plain_steps.specs.declared.Kind.{Kind}
-use Rattle.plain_steps.specs.declared.Kind.the-variants as kind
+use Rattle.alternatives.specs.Alternatives.{countOf, alternativeAt}
+use Rattle.kinds.specs.Kinds.{isRefuted}
+use Rattle.plain_steps.specs.Walks.{Ahead, WalksTo}
+use Rattle.kinds.specs.declared.Kind.{Kind}
+use Rattle.kinds.specs.declared.Kind.the-variants as kind
 use Rattle.plain_steps.proofs.Branches.{same-branch}
 use Rattle.plain_steps.proofs.Ended.{walks-clash, walks-saturated}
 use Rattle.plain_steps.proofs.Leads.{ahead-known, ahead-most, ahead-walks}

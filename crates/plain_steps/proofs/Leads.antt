@@ -23,7 +23,7 @@ use Rattle.closing.specs.Closed.{Closed, Begins, begins}
 use Rattle.closing.proofs.Order.{begins-with}
 use Rattle.closing.proofs.Walks.{closed-most, closed-walk, look-rest}
 use Rattle.plain_steps.specs.Walks.{Ahead, WalksTo}
-use Rattle.plain_steps.specs.declared.Kind.{Kind}
+use Rattle.kinds.specs.declared.Kind.{Kind}
 
 pub order-long : (order : List ℕ) → isOrder order ≡ true → 3 ≤ length order
 unfolding isOrder

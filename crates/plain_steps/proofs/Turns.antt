@@ -17,10 +17,11 @@ use Rattle.theory.proofs.Walks.Order.{order-full}
 use Rattle.theory.proofs.Walks.Derives.{seen-applying}
 use Rattle.theory.proofs.Walks.OurWalk.{look-some, look-fewer}
 use Rattle.theory.proofs.Calls.Decision.{Known, struck-next, struck-all, branch-at, walk-first}
-use Rattle.branch.specs.Alternatives.{countOf, alternativeAt}
-use Rattle.plain_steps.specs.Walks.{isRefuted, WalksTo}
-use Rattle.plain_steps.specs.declared.Kind.{Kind}
-use Rattle.plain_steps.specs.declared.Kind.the-variants as kind
+use Rattle.alternatives.specs.Alternatives.{countOf, alternativeAt}
+use Rattle.kinds.specs.Kinds.{isRefuted}
+use Rattle.plain_steps.specs.Walks.{WalksTo}
+use Rattle.kinds.specs.declared.Kind.{Kind}
+use Rattle.kinds.specs.declared.Kind.the-variants as kind
 use Rattle.plain_steps.proofs.Branches.{row-length, row-at}
 use Rattle.plain_steps.proofs.Cases.{refuted-open, refuted-unknown, refuted-is}
 

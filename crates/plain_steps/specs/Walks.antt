@@ -9,19 +9,9 @@ use Rattle.logic.specs.Walk.{orderOf, walk, saturation}
 use Rattle.logic.specs.Decision.{NoHeap, Closes}
 use Rattle.facts.specs.Path.{pathOf}
 use Rattle.closing.specs.Closed.{Closed, begins}
-use Rattle.plain_steps.specs.declared.Kind.{Kind}
-use Rattle.plain_steps.specs.declared.Kind.the-variants as kind
+use Rattle.kinds.specs.declared.Kind.{Kind}
+use Rattle.kinds.specs.declared.Kind.the-variants as kind
 use Rattle.plain_steps.specs.declared.Walked.{Walked}
-
-abbrev pub isRefuted : Kind → Bool
-isRefuted kind.Refuted = true
-isRefuted kind.Open = false
-isRefuted kind.Unknown = false
-
-abbrev pub isUnknown : Kind → Bool
-isUnknown kind.Refuted = false
-isUnknown kind.Open = false
-isUnknown kind.Unknown = true
 
 -- the path that plain steps look at: closed under REFLEX, TRANS1 and TRANS2 where the order list begins with these
 abbrev pub Ahead : ℕ → List ℕ → Facts → Facts → Type 0

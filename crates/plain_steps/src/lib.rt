@@ -1,6 +1,7 @@
 // Plain steps: our walk of a path under the order list, without its lines. They tell whether some finite heap meets the query and the facts of the
 // path, and where the walk ends.
 use facts::Facts;
+use kinds::Kind;
 use query::Layout;
 ghost use mathlib.Core.Path.{_≡_};
 ghost use mathlib.Core.Bool.{true};
@@ -15,14 +16,7 @@ ghost use Rattle.facts.specs.Path.{pathAs, pathOf, Whole};
 ghost use Rattle.link_query.specs.Said.{said, Within};
 ghost use Rattle.closing.specs.Closed.{Closed, begins};
 ghost use Rattle.walk.specs.Looks.{lookOf};
-ghost use Rattle.plain_steps.specs.Walks.{isRefuted, isUnknown, Ahead, WalksTo, Walks};
-
-// What is found out of a path.
-pub enum Kind {
-    Refuted,
-    Open,
-    Unknown,
-}
+ghost use Rattle.plain_steps.specs.Walks.{Ahead, WalksTo, Walks};
 
 // What plain steps find out, the path where they end (where they do not, the one that was given), and the budget left.
 pub struct Walked {
@@ -35,26 +29,6 @@ pub struct Walked {
 pub struct Told {
     pub kind: Kind,
     pub budget: usize,
-}
-
-pub fn is_refuted(kind: Kind) -> bool
-    ensures { λ r. ⌜ r ≡ isRefuted kind ⌝ }
-{
-    match kind {
-        Kind::Refuted => true,
-        Kind::Open => false,
-        Kind::Unknown => false,
-    }
-}
-
-pub fn is_unknown(kind: Kind) -> bool
-    ensures { λ r. ⌜ r ≡ isUnknown kind ⌝ }
-{
-    match kind {
-        Kind::Refuted => false,
-        Kind::Open => false,
-        Kind::Unknown => true,
-    }
 }
 
 // One step less.
@@ -197,7 +171,7 @@ pub fn plain_in(
             };
         }
         walk::Seen::Applying(k, rule, x, y, z) => {
-            let total = branch::count(rule, z);
+            let total = alternatives::count(rule, z);
             let mut fuel = spent(budget);
             let mut i: usize = 0;
             while i < total {
@@ -248,7 +222,7 @@ pub fn plain_in(
                     fuel,
                 );
                 let kind = w.kind;
-                if !is_refuted(kind) {
+                if !kinds::is_refuted(kind) {
                     *rep = own_rep;
                     *link = own_link;
                     *reach = own_reach;

@@ -9,16 +9,16 @@ use lib.ListN.{length, replicate, length-append, length-replicate, replicate-app
 use borrow.Author.Tests.{le-leb, lt-leb}
 use Rattle.logic.specs.Search.{keep}
 use Rattle.logic.specs.Calls.{padded}
-use Rattle.precedence.specs.Sheet.{Pair, pairs, laidOut, rulesOnly}
-use Rattle.precedence.specs.Finding.{grow, shownRing}
-use Rattle.precedence.specs.Calls.{answered, orderCall, refusal}
+use Rattle.ordering.specs.Sheet.{Pair, pairs, laidOut, rulesOnly}
+use Rattle.ordering.specs.Finding.{grow, shownRing}
+use Rattle.ordering.specs.Calls.{answered, orderCall, refusal}
 use Rattle.precedence.specs.Answers.{grownOf, Does}
 use Rattle.precedence.specs.declared.Grown.{Grown}
 use Rattle.precedence.specs.declared.OrderAnswer.{OrderAnswer}
 use Rattle.precedence.specs.declared.OrderAnswer.the-variants as answer
-use Rattle.precedence.proofs.Lists.{order-eight}
-use Rattle.precedence.proofs.Sheets.{sheet-numbered}
-use Rattle.precedence.proofs.Orders.{grown-smallest}
+use Rattle.ordering.proofs.Lists.{order-eight}
+use Rattle.ordering.proofs.Sheets.{sheet-numbered}
+use Rattle.ordering.proofs.Orders.{grown-smallest}
 
 pub grown-some : (g : Grown) (o : Option (List ℕ)) → g .complete ≡ true → grownOf g ≡ o → o ≡ some (g .list)
 unfolding keep

@@ -1,10 +1,3 @@
--- The theory, from its leaves up: no part knows one below it.
-pub mod Lists
-pub mod Places
-pub mod Rings
-pub mod Sheets
-pub mod Orders
-pub mod Promised
-pub mod Examples
+-- The turns of the code's loops, and its answer.
 pub mod Turns
 pub mod Answered

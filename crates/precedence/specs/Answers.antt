@@ -2,18 +2,12 @@
 use Prim.Native.Nat.{ℕ}
 use mathlib.Core.Path.{_≡_}
 use mathlib.Core.List.{List}
-use mathlib.Core.Option.{Option, none, some}
+use mathlib.Core.Option.{Option}
 use Rattle.logic.specs.Search.{keep}
-use Rattle.precedence.specs.Calls.{Outcome, Answer, order, ring, refused}
-use Rattle.precedence.specs.declared.Found.{Found}
-use Rattle.precedence.specs.declared.Found.the-variants as found
+use Rattle.ordering.specs.Calls.{Outcome, Answer, order, ring, refused}
 use Rattle.precedence.specs.declared.Grown.{Grown}
 use Rattle.precedence.specs.declared.OrderAnswer.{OrderAnswer}
 use Rattle.precedence.specs.declared.OrderAnswer.the-variants as answer
-
-abbrev pub foundOf : Found → Option ℕ
-foundOf (found.At r) = some r
-foundOf found.Nothing = none
 
 abbrev pub grownOf : Grown → Option (List ℕ)
 grownOf g = keep (g .complete) (g .list)

@@ -71,7 +71,7 @@ fn still_left(
     requires { ⌜ Within layout (now query) × HasLink (pathOf s) (k .0) × (x .0 ≤ 16) × (y .0 ≤ 16) × (z .0 ≤ 16) ⌝ }
 {
     let n = layout.terms;
-    let total = branch::count(rule, z);
+    let total = alternatives::count(rule, z);
     let mut left = Left { count: 0, facts: s };
     for i in 0..total {
         let path = taken(s, n, k, rule, x, y, z, i);
@@ -124,7 +124,7 @@ fn some_soon_clashes(
     requires { ⌜ Within layout (now query) × HasLink (pathOf s) (k .0) × (x .0 ≤ 16) × (y .0 ≤ 16) × (z .0 ≤ 16) ⌝ }
 {
     let n = layout.terms;
-    let total = branch::count(rule, z);
+    let total = alternatives::count(rule, z);
     for i in 0..total {
         let path = taken(s, n, k, rule, x, y, z, i);
         if soon_clashes(query, layout, path) {

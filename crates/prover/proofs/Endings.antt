@@ -14,9 +14,10 @@ use Rattle.theory.proofs.Query.Tied.{Accepted}
 use Rattle.theory.proofs.Calls.Decision.{start-heap}
 use Rattle.theory.proofs.Calls.Verdicts.{our-right}
 use Rattle.start.specs.Started.{started}
-use Rattle.plain_steps.specs.Walks.{isRefuted, WalksTo}
-use Rattle.plain_steps.specs.declared.Kind.{Kind}
-use Rattle.plain_steps.specs.declared.Kind.the-variants as kind
+use Rattle.kinds.specs.Kinds.{isRefuted}
+use Rattle.plain_steps.specs.Walks.{WalksTo}
+use Rattle.kinds.specs.declared.Kind.{Kind}
+use Rattle.kinds.specs.declared.Kind.the-variants as kind
 use Rattle.plain_steps.proofs.Cases.{refuted-is}
 use Rattle.prover.specs.Promise.{Settles}
 use Rattle.prover.proofs.Outcomes.{our-walk}

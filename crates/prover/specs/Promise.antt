@@ -8,8 +8,8 @@ use Rattle.logic.specs.Facts.{Facts}
 use Rattle.logic.specs.Walk.{Ending, saturation, Verdict, ourVerdict}
 use Rattle.logic.specs.Calls.{Input, Outcome}
 use Rattle.logic.specs.Calls as calls
-use Rattle.plain_steps.specs.Walks.{isRefuted}
-use Rattle.plain_steps.specs.declared.Kind.{Kind}
+use Rattle.kinds.specs.Kinds.{isRefuted}
+use Rattle.kinds.specs.declared.Kind.{Kind}
 use Rattle.prover.specs.declared.Answer.{Answer}
 use Rattle.prover.specs.declared.Answer.the-variants as answer
 

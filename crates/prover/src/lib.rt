@@ -1,7 +1,7 @@
 // Lemitsaka's calls: a verdict with its heap, and a derivation, of queries in the form of 01 or with three links (02, R-11). None asks
 // anything of its caller.
 use facts::Facts;
-use plain_steps::Kind;
+use kinds::Kind;
 use query::Layout;
 use query_checks::Checked;
 ghost use mathlib.Core.Path.{_≡_};
@@ -101,7 +101,7 @@ fn decide(order: &[u8], query: &[u8], layout: Layout, report: &mut [u8]) -> Answ
         &mut link3,
         &mut reach3,
     );
-    if plain_steps::is_refuted(kind) {
+    if kinds::is_refuted(kind) {
         return Answer::Refuted;
     }
     let single = layout.links == 1;
@@ -140,7 +140,7 @@ pub fn verdict_in(three: bool, order: &[u8], query: &[u8], report: &mut [u8]) ->
     match checked(three, query) {
         Checked::Refused(k, place) => Answer::Refused(k, place),
         Checked::Accepted(layout) => {
-            if report.len() < call_limits::room(three) {
+            if call_limits::lacks_room(report.len(), three) {
                 return Answer::Refused(9, 0);
             }
             decide(order, query, layout, report)
@@ -198,7 +198,7 @@ fn derive(order: &[u8], query: &[u8], layout: Layout, buffer: &mut [u8]) -> Answ
         &mut link3,
         &mut reach3,
     );
-    if plain_steps::is_refuted(kind) {
+    if kinds::is_refuted(kind) {
         return write_lines(order, query, layout, buffer);
     }
     Answer::Refused(11, 0)

@@ -3,7 +3,6 @@ use Prim.Native.Nat.{ℕ, zero, suc, _+_, _*_, _/_, _%_, _^_, _≤_, _<_}
 use native.Mathlib.Nat.{pow-suc, div-div-eq-div-mul, mod-one, mod-lt, zero-lt-suc, mul-comm, add-comm}
 use native.Mathlib.Omega.{arith}
 use mathlib.Core.Path.{_≡_, refl, sym, ap, ap₂, _∙_}
-use mathlib.Core.Logic.{⊎-elim}
 use mathlib.Core.Bool.{Bool, true, false, cond}
 use mathlib.Core.List.{List, _∷_}
 use lib.ListN.{length, getD, set, replicate, getD-replicate}
@@ -11,21 +10,16 @@ use lib.Arith.{mod-mul}
 use lib.Pow.{pow-pos}
 use lib.Bits.{bitAnd, bitOr, and-mask, mask-lt}
 use lib.Dec.{eqb}
-use borrow.Author.Tests.{eqb-true, eqb-false, eq-eqb, ne-eqb}
 use Rattle.logic.specs.Search.{_and_, _or_, any}
 use Rattle.logic.specs.Query.{Literal}
 use Rattle.logic.specs.Shown.{byteOf}
-use Rattle.theory.proofs.Basics.Search.{bool-cases}
+use Rattle.theory.proofs.Basics.Compare.{eqb-turned}
 use Rattle.rows.specs.Bits.{bit}
 use Rattle.rows.specs.Square.{square}
 use Rattle.rows.proofs.Bits.{bit-is, bit-none}
 use Rattle.rows.proofs.Square.{square-in, square-add}
 use Rattle.query.proofs.Literals.{listed, listed-end, listed-next}
 use Rattle.report.specs.Bytes.{fieldHeld}
-
-eqb-turned : (a b : ℕ) → eqb a b ≡ eqb b a
-eqb-turned a b =
-    ⊎-elim (λ e. e ∙ sym (eq-eqb b a (sym (eqb-true a b e)))) (λ e. e ∙ sym (ne-eqb b a (λ q. eqb-false a b e (sym q)))) (bool-cases (eqb a b))
 
 -- a mark that is set at a turn
 or-turn : (s a b r : Bool) → s or (b and a or r) ≡ s or (a and b) or r

@@ -12,7 +12,7 @@ use Rattle.rewriting.specs.Rewritten.{asField, withFresh, rewritten, rewrite}
 use Rattle.rewriting.specs.Call.{hasRoom}
 use Rattle.text.specs.Text.{decimal, decimalWithin, hexByte, hexDigit}
 use Rattle.wording.specs.Words.{behind, lineOf, refusedText, refusalText}
-use Rattle.join_printing.specs.JoinText.{hexLine}
+use Rattle.hex_lines.specs.HexLines.{hexLine}
 use Rattle.rewrite_printing.specs.RewriteText.{answerText, outcomeText, textOf, rewritequeryText}
 use Rattle.rewrite_printing.specs.Examples.{PrintsHold, prints}
 

@@ -13,7 +13,7 @@ use Rattle.rewriting.specs.Call.{rewriteCall}
 use Rattle.rewriter.specs.Promise.{meaning, Does}
 use Rattle.rewriter.specs.declared.Rewritten.{Rewritten}
 use Rattle.rewriter.specs.declared.Rewritten.the-variants as answer
-use Rattle.join_printing.specs.JoinText.{hexLine}
+use Rattle.hex_lines.specs.HexLines.{hexLine}
 use Rattle.rewrite_printing.specs.RewriteText.{answerText, outcomeText, textOf, rewritequeryText}
 
 -- what is printed of an answer

@@ -5,7 +5,7 @@ use lib.ListN.{take}
 use Rattle.encoding.specs.WritingCall.{Answer, written, refused, Outcome}
 use Rattle.wording.specs.Words.{refusalText}
 use Rattle.rewriting.specs.Call.{rewriteCall}
-use Rattle.join_printing.specs.JoinText.{hexLine}
+use Rattle.hex_lines.specs.HexLines.{hexLine}
 
 -- the bytes of the query written, as two hex digits each, separated by blanks, or a refusal
 unfoldable pub answerText : Answer → List ℕ → List ℕ

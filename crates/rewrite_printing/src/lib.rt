@@ -15,7 +15,7 @@ pub fn put_answer(buffer: &mut [u8], answer: Rewritten, out: &[u8]) -> usize
     match answer {
         Rewritten::Written(length) => {
             let end = check_printing::at_most(length, size);
-            join_printing::put_hex_line(buffer, 0, &out[..end])
+            hex_lines::put_hex_line(buffer, 0, &out[..end])
         }
         Rewritten::Refused(k, place) => wording::put_refusal(buffer, 0, k, place),
     }

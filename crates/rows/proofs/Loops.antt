@@ -1,4 +1,4 @@
--- A search over the numbers from k below m, as a loop over k meets it: what is left of it equals the whole.
+-- A search or a test of the numbers from k below m, as a loop over k meets it: what is left of it equals the whole.
 use Prim.Native.Nat.{ℕ, suc, _+_, _-_, _≤_, _<_}
 use native.Mathlib.Nat.{sub-eq-zero-of-le}
 use native.Mathlib.Numerals.{add-one}
@@ -7,7 +7,7 @@ use mathlib.Core.Path.{_≡_, sym, ap, _∙_}
 use mathlib.Core.Bool.{Bool, true, false}
 use mathlib.Core.List.{[], _∷_}
 use mathlib.Core.Option.{Option, none, some}
-use Rattle.logic.specs.Search.{from, keep, orElse, firstOf, find}
+use Rattle.logic.specs.Search.{_and_, from, keep, orElse, firstOf, find, all}
 
 pub from-end : (m k : ℕ) → m ≤ k → from (m - k) k ≡ []
 unfolding from
@@ -45,3 +45,15 @@ module _ (p : ℕ → Bool) (m : ℕ) where
   pub find-next : (k : ℕ) → k < m → p k ≡ false → find p (from (m - k) k) ≡ find p (from (m - (k + 1)) (k + 1))
   unfolding find keep
   find-next k h e = first-next (λ a. keep (p a) a) m k h (rw e)
+
+  pub all-end : (k : ℕ) → m ≤ k → all p (from (m - k) k) ≡ true
+  unfolding all
+  all-end k h = rw (from-end m k h)
+
+  pub all-fails : (k : ℕ) → k < m → p k ≡ false → all p (from (m - k) k) ≡ false
+  unfolding all _and_
+  all-fails k h e = rw (from-next m k h, e)
+
+  pub all-next : (k : ℕ) → k < m → p k ≡ true → all p (from (m - k) k) ≡ all p (from (m - (k + 1)) (k + 1))
+  unfolding all _and_
+  all-next k h e = rw (from-next m k h, e)

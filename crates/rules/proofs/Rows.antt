@@ -1,16 +1,14 @@
 -- The rows that the searches are made of: each has the numbers that pass a rule's test.
 use Prim.Native.Nat.{ℕ, _/_, _^_, _≤_}
 use mathlib.Core.Path.{_≡_, sym, ap, ap₂, _∙_}
-use mathlib.Core.Logic.{⊎-elim}
 use mathlib.Core.Bool.{Bool, not}
 use mathlib.Core.List.{List}
 use lib.ListN.{getD}
 use lib.Bits.{bitAnd}
 use lib.Dec.{eqb}
-use borrow.Author.Tests.{ne-eqb}
 use Rattle.logic.specs.Search.{_and_}
 use Rattle.logic.specs.Rules.{REFLEX, TRANS1, TRANS2, FUNC, SCC, TOTAL, SHARE}
-use Rattle.theory.proofs.Basics.Compare.{eq-cases}
+use Rattle.theory.proofs.Basics.Compare.{eqb-turned}
 use Rattle.rows.specs.Bits.{bit}
 use Rattle.rows.specs.Square.{Turned}
 use Rattle.facts.specs.Path.{graphOf}
@@ -18,9 +16,6 @@ use Rattle.rows.proofs.Bits.{bit-and}
 use Rattle.rows.proofs.Words.{bit-single}
 use Rattle.rows.proofs.Square.{square-in}
 use Rattle.rules.specs.Tests.{pairTest, thirdTest}
-
-eqb-turned : (a b : ℕ) → eqb a b ≡ eqb b a
-eqb-turned a b = ⊎-elim (λ e. rw e) (λ d. d .1 ∙ sym (ne-eqb b a (λ e. d .0 (sym e)))) (eq-cases a b)
 
 module _ (link reach : List ℕ) where
   -- what the rows of x have, as the graph says it

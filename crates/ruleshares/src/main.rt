@@ -1,6 +1,6 @@
 // Reads an order list and queries from standard input, and prints a line for each query and then each rule's share of the rule lines of their
-// derivations. It reads and writes in pieces of 64 KiB; what is printed is `output` (crates/shares/specs) of all that is read
-// (crates/share_stream/specs, Claims).
+// derivations. It reads and writes in pieces of 64 KiB; what is printed is `output` (crates/sharing/specs) of all that is read
+// (Claims, there).
 use libc::STDERR_FILENO;
 use libc::STDIN_FILENO;
 use libc::STDOUT_FILENO;

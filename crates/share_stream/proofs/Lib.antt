@@ -1,4 +1,1 @@
-pub mod Streams
 pub mod Rounds
-pub mod Moves
-pub mod Runs

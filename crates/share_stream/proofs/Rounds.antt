@@ -3,20 +3,22 @@ use Prim.Native.Nat.{ℕ, _+_, _-_, _≤_, _<_, min}
 use native.Mathlib.Omega.{arith}
 use mathlib.Core.Path.{_≡_, refl, sym, ap, subst, _∙_}
 use mathlib.Core.Logic.{_⊎_, ⊎-elim, inl, inr}
-use mathlib.Core.Bool.{Bool, true, false, cond, false≢true}
+use mathlib.Core.Bool.{Bool, true, false, false≢true}
 use mathlib.Core.List.{List, [], _++_, append-assoc}
 use lib.ListN.{length, take, drop, length-append, length-drop, length-take, take-append-drop, drop-of-length-le}
 use lib.Seq.{take-all, take-nil, take-append-le, take-append-add, length-take-le}
-use lib.Dec.{ltb}
 use borrow.Author.Tests.{ltb-true, ltb-false}
 use borrow.Rule.Slice.PartMut.{putMid, postOf, same-len-mid}
 use Rattle.theory.proofs.Basics.Compare.{le-cases}
 use Rattle.text.specs.Text.{Writes}
 use Rattle.text.proofs.Writing.{writes-taken, writes-length}
-use Rattle.shares.specs.Output.{Turn, wanted, turnOf, firstTurn, firstLength, outputFrom}
+use Rattle.sharing.specs.Output.{Turn, wanted, turnOf, firstTurn, firstLength, outputFrom}
 use Rattle.shares.specs.Taking.{Takes}
-use Rattle.share_stream.specs.Streaming.{stillPrinted, Processes, TakesFirst, mustWait}
-use Rattle.share_stream.proofs.Streams.{goes-two, first-two, turn-prints}
+use Rattle.held_bytes.specs.Waiting.{mustWait}
+use Rattle.held_bytes.proofs.Moves.{order-lent}
+use Rattle.share_stream.specs.Turning.{TakesFirst}
+use Rattle.sharing.specs.Streaming.{stillPrinted, Processes}
+use Rattle.sharing.proofs.Streams.{goes-two, first-two, turn-prints}
 
 -- The bytes of a length and those of the query, cut from the bytes that stand first.
 module _ (bytes : List ℕ) (behind : ℕ) (b : behind ≡ min (length bytes) 2) where
@@ -60,16 +62,7 @@ module _ (bytes : List ℕ) (behind : ℕ) (b : behind ≡ min (length bytes) 2)
             passes = omega (arith, sized);
           }
 
--- waiting: the test, and what it tells
-module _ {ended : Bool} (n needed : ℕ) where
-  pub wait-ended : ended ≡ true → false ≡ mustWait n needed ended
-  unfolding mustWait
-  wait-ended e = ap (λ (b : Bool). cond b false (ltb n needed)) (sym e)
-
-  pub wait-open : ended ≡ false → ltb n needed ≡ mustWait n needed ended
-  unfolding mustWait
-  wait-open e = ap (λ (b : Bool). cond b false (ltb n needed)) (sym e)
-
+-- what waiting tells
 pub wait-cut : {n needed : ℕ} {r ended : Bool} → r ≡ mustWait n needed ended → r ≡ true → (ended ≡ false) × (n < needed)
 unfolding mustWait
 wait-cut {ended = true} e f = absurd (false≢true (sym e ∙ f))
@@ -114,16 +107,9 @@ pub taken-some : {why : Type 0} {ordered at made : ℕ} → (at ≤ ordered → 
 taken-some {why} {ordered} {at} none h = ⊎-elim (λ (l : at ≤ ordered). absurd (omega (arith, none l))) (λ (l : ordered < at). inl l) (le-cases at ordered)
 
 module _ (held : List ℕ) (ordered : ℕ) (o : ordered ≡ min (length held) 8) where
-  pub order-lent : take ordered held ≡ take 8 held
-  order-lent =
-      ⊎-elim
-      (λ (l : 8 ≤ length held). let n : ordered ≡ 8 = omega arith in ap (λ (k : ℕ). take k held) n)
-      (λ (l : length held < 8). take-all ordered held (omega arith) ∙ sym (take-all 8 held (omega arith)))
-      (le-cases 8 (length held))
-
   pub going-start : (counts text : List ℕ) (ended : Bool) → Going counts held ended (take 0 text) counts ordered
   going-start counts text ended =
-      record { prints = λ (more : List ℕ) none. ap (λ (l : List ℕ). outputFrom counts (l ++ more)) (sym (ap (λ (l : List ℕ). l ++ drop ordered held) (sym order-lent) ∙ take-append-drop ordered held)) }
+      record { prints = λ (more : List ℕ) none. ap (λ (l : List ℕ). outputFrom counts (l ++ more)) (sym (ap (λ (l : List ℕ). l ++ drop ordered held) (sym (order-lent held ordered o)) ∙ take-append-drop ordered held)) }
 
   module _ (at : ℕ) (b : ordered ≤ at) (a : at ≤ length held) where
     kept-length : length (take 8 held ++ drop at held) ≡ ordered + (length held - at)
@@ -193,9 +179,6 @@ module _ (held : List ℕ) (ordered : ℕ) (o : ordered ≡ min (length held) 8)
             };
           }
 
--- the bytes that are kept, moved behind the order list
-pub kept-moved : {counts held text left : List ℕ} {ended goes : Bool} {ordered : ℕ} (after : List ℕ) (at : ℕ) → ordered ≡ min (length held) 8
-    → take (ordered + (length held - at)) after ≡ take ordered held ++ drop at held
-    → Processes counts held ended text left (take 8 held ++ drop at held) goes → Processes counts held ended text left (take (ordered + (length held - at)) after) goes
-kept-moved {counts} {held} {text} {left} {ended} {goes} {ordered} after at o m p =
-    subst (λ (l : List ℕ). Processes counts held ended text left l goes) (ap (λ (l : List ℕ). l ++ drop at held) (sym (order-lent held ordered o)) ∙ sym m) p
+-- the bytes that are kept
+pub kept-moved : {counts held text left kept bytes : List ℕ} {ended goes : Bool} → kept ≡ bytes → Processes counts held ended text left bytes goes → Processes counts held ended text left kept goes
+kept-moved {counts} {held} {text} {left} {ended = ended} {goes} e p = subst (λ (l : List ℕ). Processes counts held ended text left l goes) (sym e) p

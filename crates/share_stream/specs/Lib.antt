@@ -1,2 +1,1 @@
-pub mod Streaming
-pub mod Claims
+pub mod Turning

@@ -2,18 +2,13 @@
 use Prim.Native.Nat.{ℕ, _+_, _*_, _/_, _%_, _≤_, _<_}
 use native.Mathlib.Omega.{arith}
 use mathlib.Core.Path.{_≡_, refl, sym, ap, subst, _∙_}
-use mathlib.Core.Bool.{Bool, true, false, cond}
+use mathlib.Core.Bool.{Bool, true, false}
 use mathlib.Core.List.{List, [], _∷_, _++_}
-use lib.ListN.{length, getD, replicate}
-use lib.Dec.{ltb}
-use borrow.Author.Tests.{lt-ltb, le-ltb, ltb-false}
-use Rattle.logic.specs.Search.{_or_}
+use lib.ListN.{length, getD}
 use Rattle.logic.specs.Facts.{Line}
-use Rattle.logic.specs.Derivation.{linesFrom, linesIn}
-use Rattle.logic.specs.Calls.{Outcome, verdictCall, derivationCall}
+use Rattle.logic.specs.Derivation.{linesIn}
+use Rattle.logic.specs.Calls.{verdictCall, derivationCall}
 use Rattle.logic.specs.Calls as calls
-use Rattle.theory.proofs.Calls.Demands.{demand1}
-use Rattle.theory.proofs.Basics.Search.{neither}
 use Rattle.prover.specs.Promise.{meaning, inputOf, Does}
 use Rattle.prover.specs.declared.Answer.{Answer}
 use Rattle.prover.specs.declared.Answer.the-variants as answer
@@ -23,47 +18,23 @@ use Rattle.printing.specs.HeapverdictText.{answerText}
 use Rattle.printing.proofs.Texts.{lines-count}
 use Rattle.fnv.specs.Mark.{markOf}
 use Rattle.tally.specs.Counting.{tallied}
-use Rattle.shares.specs.Output.{Turn, hexWord, linesOf, answerOf, writtenLines, queryLine, lengthIn, isBad, wanted, turnOf}
+use Rattle.sharing.specs.Output.{Turn, hexWord, answerOf, writtenLines, queryLine, isBad, turnOf}
+use Rattle.sharing.proofs.Lines.{sat-none, lines-left}
 use Rattle.shares.specs.Taking.{Finishes, Prints, Takes}
-
--- no lines in two zeros
-none-in : (bytes : List ℕ) → getD bytes 0 0 ≡ 0 → getD bytes 1 0 ≡ 0 → linesIn bytes ≡ []
-unfolding linesIn linesFrom
-none-in bytes a b = rw (a, b)
 
 -- the answer of the verdict call
 pub answered : (order query before bytes : List ℕ) (r : Answer) → length before ≡ 53 → Does (verdictCall (inputOf order query before)) r bytes → meaning r ≡ answerOf order query
 unfolding answerOf
 answered order query before bytes r e does = does .answers ∙ ap (λ (n : ℕ). verdictCall (record { order = order; query = query; room = n }) .answer) e
 
--- a satisfiable query has no derivation
+-- the lines that are counted: those of a derivation that was asked for, or none
 module _ (order query : List ℕ) where
-  abbrev derived : Outcome
-  derived = derivationCall (record { order = order; query = query; room = 64002 })
-
   pub sat-lines : (r : Answer) → meaning r ≡ answerOf order query → r ≡ answer.Satisfiable → linesIn (0 ∷ 0 ∷ []) ≡ writtenLines order query
-  unfolding answerOf writtenLines linesOf linesIn linesFrom
-  sat-lines r e s =
-      let v : verdictCall (record { order = order; query = query; room = 53 }) .answer ≡ calls.satisfiable = sym e ∙ ap meaning s in
-      let d : derived .answer ≡ calls.refused 11 0 = demand1 .one-heap (record { order = order; query = query; room = 53 }) (record { order = order; query = query; room = 64002 }) (refl, refl) (omega arith) .0 v in
-      sym (ap (λ (a : calls.Answer). linesOf a (derived .lent)) d)
-
-  -- else the lines are those in the bytes that the derivation call leaves, and there are none where it is refused
-  refused-none : (k place : ℕ) → derived .answer ≡ calls.refused k place → linesIn (derived .lent) ≡ linesOf (calls.refused k place) (derived .lent)
-  unfolding linesOf
-  refused-none k place e =
-      ap linesIn (demand1 .derivation-refusals .refusal-blank (record { order = order; query = query; room = 64002 }) k place e) ∙ none-in (replicate 64002 0) refl refl
-
-  lines-of : (a : calls.Answer) → derived .answer ≡ a → linesIn (derived .lent) ≡ linesOf a (derived .lent)
-  unfolding linesOf
-  lines-of (calls.refused k place) e = refused-none k place e
-  lines-of calls.satisfiable e = absurd (demand1 .never-satisfiable (record { order = order; query = query; room = 64002 }) e)
-  lines-of calls.refuted e = refl
+  sat-lines r e s = sat-none order query (sym e ∙ ap meaning s)
 
   pub derived-lines : (before bytes : List ℕ) (r : Answer) → length before ≡ 64002 → Does (derivationCall (inputOf order query before)) r bytes → linesIn bytes ≡ writtenLines order query
-  unfolding writtenLines
   derived-lines before bytes r e does =
-      ap linesIn (does .leaves ∙ ap (λ (n : ℕ). derivationCall (record { order = order; query = query; room = n }) .lent) e) ∙ lines-of (derived .answer) refl
+      ap linesIn (does .leaves ∙ ap (λ (n : ℕ). derivationCall (record { order = order; query = query; room = n }) .lent) e) ∙ lines-left order query
 
 -- a line from its words
 pub line-words : (order query : List ℕ) (m : ℕ) (a : calls.Answer) → m ≡ markOf query → a ≡ answerOf order query
@@ -74,24 +45,6 @@ line-words order query m a e f = rw (e, f)
 pub word-bytes : {a b c d : ℕ} (k : ℕ) → a ≡ k / 16777216 % 256 → b ≡ k / 65536 % 256 → c ≡ k / 256 % 256 → d ≡ k % 256 → hexByte a ++ (hexByte b ++ (hexByte c ++ hexByte d)) ≡ hexWord k
 unfolding hexWord
 word-bytes k e f g h = rw (e, f, g, h)
-
--- lengths: cut short, too long, and good
-module _ (head : List ℕ) where
-  pub cut-short : length head < 2 → isBad head ≡ true
-  unfolding isBad _or_
-  cut-short h = rw (lt-ltb (length head) 2 h)
-
-  pub whole-length : {p q : ℕ} → 2 ≤ length head → p ≡ getD head 0 0 → q ≡ getD head 1 0 → ltb 681 (256 * p + q) ≡ isBad head
-  unfolding isBad lengthIn _or_
-  whole-length h e f = rw (le-ltb (length head) 2 h, e, f)
-
-  pub wanted-none : {b : Bool} → b ≡ isBad head → b ≡ true → 0 ≡ wanted head
-  unfolding wanted
-  wanted-none e f = ap (λ (t : Bool). cond t 0 (lengthIn head)) (sym f ∙ e)
-
-  pub wanted-all : {p q : ℕ} {b : Bool} → b ≡ isBad head → b ≡ false → p ≡ getD head 0 0 → q ≡ getD head 1 0 → 256 * p + q ≡ wanted head
-  unfolding wanted lengthIn
-  wanted-all {p} {q} e f g h = let n : 256 * p + q ≡ 256 * getD head 0 0 + getD head 1 0 = omega arith in n ∙ ap (λ (t : Bool). cond t 0 (lengthIn head)) (sym f ∙ e)
 
 -- the end of a line, of lines that are equal
 pub finishes-as : {before after counts left : List ℕ} {at r : ℕ} {goes : Bool} {ls ms : List Line} → ls ≡ ms → Finishes before at ls counts after r left goes → Finishes before at ms counts after r left goes
@@ -129,16 +82,3 @@ module _ (order counts query : List ℕ) where
   pub takes-query : {before after left : List ℕ} {r : ℕ} {b goes : Bool} (head : List ℕ) → 1 ≤ length head → b ≡ isBad head → b ≡ false → Prints before order query counts after r left goes → Takes (turnOf order counts head query) before after r left goes
   takes-query {before} {after} {left} {r} {b} {goes} head h e f p =
       subst (λ (t : Turn). Takes t before after r left goes) (sym (turn-query head h (sym e ∙ f))) (record { wrote = p .wrote; short = p .short; leaves = p .leaves; going = p .going })
-
--- "a length above 681" is bad
-few : (head : List ℕ) (b : Bool) → isBad head ≡ b → cond b 0 (lengthIn head) ≤ 681
-unfolding isBad
-few head true e = omega arith
-few head false e = let l = ltb-false 681 (lengthIn head) (neither (ltb (length head) 2) _ e .1) in omega arith
-
-pub wanted-few : (head : List ℕ) → wanted head ≤ 681
-unfolding wanted
-wanted-few head = few head (isBad head) refl
-
-pub asked : {r : ℕ} (head : List ℕ) → r ≡ wanted head → (r ≡ wanted head) × (r ≤ 681)
-asked head e = (e, omega (arith, wanted-few head))

@@ -1,2 +1,1 @@
-pub mod Output
 pub mod Taking

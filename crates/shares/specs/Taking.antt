@@ -7,7 +7,7 @@ use lib.ListN.{length}
 use Rattle.logic.specs.Facts.{Line}
 use Rattle.text.specs.Text.{Writes, ascii, decimal}
 use Rattle.tally.specs.Counting.{tallied}
-use Rattle.shares.specs.Output.{Turn, writtenLines, queryLine}
+use Rattle.sharing.specs.Output.{Turn, writtenLines, queryLine}
 
 -- the end of a query's line, and the tally
 pub record Finishes (before : List ℕ) (at : ℕ) (ls : List Line) (counts after : List ℕ) (r : ℕ) (left : List ℕ) (goes : Bool) : Type 0 where

@@ -9,7 +9,7 @@ ghost use lib.ListN.{length};
 ghost use Rattle.logic.specs.Derivation.{linesIn};
 ghost use Rattle.prover.specs.Promise.{meaning};
 ghost use Rattle.text.specs.Text.{Writes};
-ghost use Rattle.shares.specs.Output.{hexWord, answerOf, writtenLines, isBad, wanted, turnOf};
+ghost use Rattle.sharing.specs.Output.{hexWord, answerOf, writtenLines, turnOf};
 ghost use Rattle.shares.specs.Taking.{Finishes, Prints, Takes};
 
 // A turn as it is taken: the tally after it, the length of what is to be printed, and whether a query may follow.
@@ -87,26 +87,6 @@ fn put_query(buffer: &mut [u8], order: &[u8], query: &[u8], tally: Tally) -> Tak
     count_lines(buffer, counted, order, query, answer, tally)
 }
 
-// "a length above 681 or cut short"
-fn bad_length(head: &[u8]) -> bool
-    ensures { λ r. ⌜ r ≡ isBad (now (head .entry)) ⌝ }
-{
-    if head.len() < 2 {
-        return true;
-    }
-    681 < 256 * tally::byte_at(head, 0) + tally::byte_at(head, 1)
-}
-
-// How many bytes are to be read behind a length.
-pub fn query_length(head: &[u8]) -> usize
-    ensures { λ r. ⌜ (r ≡ wanted (now (head .entry))) × (r ≤ 681) ⌝ }
-{
-    if bad_length(head) {
-        return 0;
-    }
-    256 * tally::byte_at(head, 0) + tally::byte_at(head, 1)
-}
-
 // A turn. What it prints is stored as far as there is room; 128 bytes are always enough.
 pub fn take_turn(buffer: &mut [u8], order: &[u8], head: &[u8], query: &[u8], tally: Tally) -> Taken
     ensures { λ r. ⌜ Takes (turnOf (now (order .entry)) (tally .counts) (now (head .entry)) (now (query .entry))) (now (buffer .entry)) (now (buffer .exit)) (r .length) (r .tally .counts) (r .goes) ⌝ }
@@ -118,7 +98,7 @@ pub fn take_turn(buffer: &mut [u8], order: &[u8], head: &[u8], query: &[u8], tal
             goes: false,
         };
     }
-    if bad_length(head) {
+    if share_lengths::bad_length(head) {
         let end = text::put_bytes(buffer, 0, b"bad length\n");
         return Taken {
             tally: tally,

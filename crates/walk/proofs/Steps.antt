@@ -19,8 +19,8 @@ use Rattle.query.specs.declared.Layout.{Layout}
 use Rattle.query.proofs.Literals.{listed-length}
 use Rattle.link_query.specs.Said.{said, Within, reachIn}
 use Rattle.link_query.proofs.Said.{terms-said, equalities-said, reachability-said, fields-said}
-use Rattle.branch.specs.Alternatives.{countOf, alternativeAt}
-use Rattle.branch.proofs.Alternatives.{count-is, alternative-is}
+use Rattle.alternatives.specs.Alternatives.{countOf, alternativeAt}
+use Rattle.alternatives.proofs.Alternatives.{count-is, alternative-is}
 use Rattle.walk.specs.Lines.{countAll}
 use Rattle.walk.specs.Looks.{lookOf}
 use Rattle.walk.specs.declared.Seen.{Seen}

@@ -1,7 +1,7 @@
 -- A fact is joined or added. Assumes nothing.
 use borrow.Author.Needs.{needs}
 use mathlib.Core.Path.{subst}
-use Rattle.branch.specs.Answers.{InRange}
+use Rattle.alternatives.specs.Answers.{InRange}
 use Rattle.branch.proofs.Steps.{added-equal, added-reaches}
 use Rattle.branch.proofs.added.Statement.{statement}
 use Rattle.branch.proofs.added.Tie as tie

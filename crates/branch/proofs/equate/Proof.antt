@@ -5,7 +5,7 @@ use lib.ListN.{replicate}
 use Rattle.logic.specs.Facts.{Joined}
 use Rattle.facts.specs.Path.{pathAs}
 use Rattle.branch.proofs.Steps.{alone-fits}
-use Rattle.branch.proofs.Rows.{join-alone}
+use Rattle.branch.proofs.Steps.{join-alone}
 use Rattle.branch.proofs.equate.Statement.{statement}
 use Rattle.branch.proofs.equate.Tie as tie
 

@@ -2,9 +2,9 @@
 use borrow.Author.Needs.{needs}
 use mathlib.Core.Path.{subst}
 use Rattle.facts.specs.Path.{pathAs}
-use Rattle.branch.specs.Answers.{InRange}
+use Rattle.alternatives.specs.Answers.{InRange}
 use Rattle.branch.proofs.Steps.{alone-fits}
-use Rattle.branch.proofs.Rows.{join-alone, made-equal, made-reaches}
+use Rattle.branch.proofs.Steps.{join-alone, made-equal, made-reaches}
 use Rattle.branch.proofs.make.Statement.{statement}
 use Rattle.branch.proofs.make.Tie as tie
 

@@ -2,8 +2,8 @@
 use borrow.Author.Needs.{needs}
 use mathlib.Core.Path.{subst}
 use Rattle.facts.specs.Path.{pathAs}
-use Rattle.branch.specs.Answers.{InRange}
-use Rattle.branch.proofs.Rows.{taken-equal, taken-reaches}
+use Rattle.alternatives.specs.Answers.{InRange}
+use Rattle.branch.proofs.Steps.{taken-equal, taken-reaches}
 use Rattle.branch.proofs.take.Statement.{statement}
 use Rattle.branch.proofs.take.Tie as tie
 

@@ -4,7 +4,7 @@ use native.Mathlib.Omega.{arith}
 use mathlib.Core.Path.{sym, ap, _∙_}
 use lib.Seq.{length-take-le}
 use Rattle.checking.specs.CheckCall.{checkCall}
-use Rattle.check_printing.proofs.Reading.{not-left, not-taken, begins-long}
+use Rattle.decimal_lines.proofs.Reading.{not-left, not-taken, begins-long}
 use Rattle.check_printing.proofs.Answers.{bytes-there, text-there}
 use Rattle.check_printing.proofs.answer.Statement.{statement}
 use Rattle.check_printing.proofs.answer.Tie as tie

@@ -22,7 +22,7 @@ use Rattle.checker.proofs.check_goal.Reads as check-goal
 use Rattle.checker.proofs.check_goal.Kinds as check-goal-kinds
 use Rattle.checker.proofs.+check_goal.Lts-check_goal as check-goal-lts
 use Rattle.checker.proofs.branch_at.Reads as branch-at-reads
-use Rattle.branch.proofs.count.Reads as count-reads
+use Rattle.alternatives.proofs.count.Reads as count-reads
 use Rattle.checker.proofs.check_head.Reads as check-head-reads
 use Rattle.checker.proofs.read_at.Reads as read-at-reads
 use Rattle.checker.proofs.+check_goal.{statement}

@@ -1,13 +1,12 @@
 -- The goal of the start, and then nothing. Assumes nothing.
 use native.Mathlib.Omega.{arith}
-use borrow.Author.Tests.{not-true, not-false}
 use mathlib.Core.Path.{sym, _∙_, subst}
 use Rattle.joins.specs.Pairs.{joinedOf, Fits}
 use Rattle.link_query.proofs.Said.{one-within}
 use Rattle.start.proofs.Laid.{started-fits}
 use Rattle.checker.specs.Reading.{singleOf}
-use Rattle.checker.proofs.Lines.{shaped, shaped-long}
-use Rattle.checker.proofs.Answered.{accepted-in, started-in, start-one, start-ahead, judged-wrong, judged-more, judged-all}
+use Rattle.derivation_lines.proofs.Lines.{shaped, shaped-long}
+use Rattle.checker.proofs.Answered.{accepted-in, started-in, start-one, start-ahead, answer-none, answer-some}
 use Rattle.checker.proofs.judge.Statement.{statement}
 use Rattle.checker.proofs.judge.Tie as tie
 
@@ -34,11 +33,9 @@ judge-spec =
       subst Fits (sym made) (started-fits (one-within _ _ (p .0)) (accepted-in _ _ (p .0) (p .1))),
       omega arith,
     ))
+    -- first-wrong-requires
+    (λ c κs. shaped _ (c .before .before .before .before .before .before .before .before .before .before .before .before .pre .2) _ (c .before .before .before .before .before .before .before .before .before .count-of .ensures .0) .bounded)
     -- returns
-    (λ c. let p = c .before .before .before .before .before .before .before .before .before .before .before .before .before .before .pre in judged-wrong _ _ _ (shaped _ (p .2) _ (c .before .before .before .before .before .before .before .before .before .before .before .count-of .ensures .0)) (singleOf (c .before .before .before .before .before .before .before .before .before .rows-of .result)) (started-in _ _ (p .0) _ (c .before .before .before .before .before .before .before .before .before .rows-of .ensures ∙ c .before .before .before .before .before .before .before .before .before .before .start .ensures)) _ (c .before .before .check-goal .ensures) (not-true _ (c .if1 .taken)))
-    -- add-t17
-    (λ c. let l = c .if2 .taken in let u = c .before .before .before .before .before .before .before .before .before .before .before .before .count-of .ensures .1 in omega arith)
+    (λ c. let p = c .before .before .before .before .before .before .before .before .before .before .before .before .before .before .pre in answer-none _ _ _ (shaped _ (p .2) _ (c .before .before .before .before .before .before .before .before .before .before .before .count-of .ensures .0)) (singleOf (c .before .before .before .before .before .before .before .before .before .rows-of .result)) (started-in _ _ (p .0) _ (c .before .before .before .before .before .before .before .before .before .rows-of .ensures ∙ c .before .before .before .before .before .before .before .before .before .before .start .ensures)) _ (c .before .before .check-goal .ensures) _ (c .before .first-wrong .ensures) (c .if1 .taken))
     -- returns-2
-    (λ c. let p = c .before .before .before .before .before .before .before .before .before .before .before .before .before .before .before .pre in judged-more _ _ _ (shaped _ (p .2) _ (c .before .before .before .before .before .before .before .before .before .before .before .before .count-of .ensures .0)) (singleOf (c .before .before .before .before .before .before .before .before .before .before .rows-of .result)) (started-in _ _ (p .0) _ (c .before .before .before .before .before .before .before .before .before .before .rows-of .ensures ∙ c .before .before .before .before .before .before .before .before .before .before .before .start .ensures)) _ (c .before .before .before .check-goal .ensures) (not-false _ (c .before .if1 .left)) (c .if2 .taken))
-    -- returns-3
-    (λ c. let p = c .before .before .before .before .before .before .before .before .before .before .before .before .before .before .before .pre in judged-all _ _ _ (shaped _ (p .2) _ (c .before .before .before .before .before .before .before .before .before .before .before .before .count-of .ensures .0)) (singleOf (c .before .before .before .before .before .before .before .before .before .before .rows-of .result)) (started-in _ _ (p .0) _ (c .before .before .before .before .before .before .before .before .before .before .rows-of .ensures ∙ c .before .before .before .before .before .before .before .before .before .before .before .start .ensures)) _ (c .before .before .before .check-goal .ensures) (not-false _ (c .before .if1 .left)) (c .if2 .left)))
+    (λ c. let p = c .before .before .before .before .before .before .before .before .before .before .before .before .before .before .pre in answer-some _ _ _ (shaped _ (p .2) _ (c .before .before .before .before .before .before .before .before .before .before .before .count-of .ensures .0)) (singleOf (c .before .before .before .before .before .before .before .before .before .rows-of .result)) (started-in _ _ (p .0) _ (c .before .before .before .before .before .before .before .before .before .rows-of .ensures ∙ c .before .before .before .before .before .before .before .before .before .before .start .ensures)) _ (c .before .before .check-goal .ensures) _ (c .before .first-wrong .ensures) (c .if1 .left)))

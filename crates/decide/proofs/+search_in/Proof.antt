@@ -11,7 +11,7 @@ use Rattle.logic.specs.Rules.{triple, move}
 use Rattle.logic.specs.Decision.{Struck}
 use Rattle.facts.specs.Path.{pathAs, Whole}
 use Rattle.rules.specs.Answers.{kindOf}
-use Rattle.branch.proofs.Alternatives.{count-few}
+use Rattle.alternatives.proofs.Alternatives.{count-few}
 use Rattle.link_query.specs.Said.{said}
 use Rattle.link_query.proofs.Said.{terms-said}
 use Rattle.plain_steps.proofs.Branches.{same-linked}
@@ -21,9 +21,9 @@ use Rattle.decide.proofs.Tells.{fewer-left, seen-as, ends-nothing, ends
 use Rattle.decide.proofs.search_in.Reads as search-in
 use Rattle.decide.proofs.search_in.Kinds as search-in-kinds
 use Rattle.decide.proofs.+search_in.Lts-search_in as search-in-lts
-use Rattle.branch.proofs.count.Reads as count-reads
+use Rattle.alternatives.proofs.count.Reads as count-reads
 use Rattle.branch.proofs.take.Reads as take-reads
-use Rattle.plain_steps.proofs.is_refuted.Reads as is-refuted-reads
+use Rattle.kinds.proofs.is_refuted.Reads as is-refuted-reads
 use Rattle.decide.proofs.sees.Reads as sees-reads
 use Rattle.plain_steps.proofs.spent.Reads as spent-reads
 use Rattle.decide.proofs.+search_in.{statement}

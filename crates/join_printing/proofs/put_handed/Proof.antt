@@ -5,7 +5,8 @@ use native.Mathlib.Omega.{arith}
 use mathlib.Core.Path.{refl}
 use lib.ListN.{drop}
 use Rattle.text.proofs.Writing.{writes-as}
-use Rattle.join_printing.proofs.Texts.{taken-few, inside-first, inside-second, in-first, in-second, first-refused, second-refused, hand-refused}
+use Rattle.hex_lines.proofs.Hex.{taken-few}
+use Rattle.join_printing.proofs.Texts.{inside-first, inside-second, in-first, in-second, first-refused, second-refused, hand-refused}
 use Rattle.join_printing.proofs.put_handed.Statement.{statement}
 use Rattle.join_printing.proofs.put_handed.Tie as tie
 
@@ -19,30 +20,26 @@ put-handed-spec =
     (λ c. search needs)
     -- add-end
     (λ c. omega (arith, inside-first _ _ (c .before .at .given .1) (c .before .before .before .find-named .ensures .1)))
-    -- slice-aggregate-put-part
-    (λ c. search needs)
-    -- sub-put-part
+    -- sub-put-in-first
     (λ c. omega arith)
-    -- part-put-part-start
-    (λ c. omega (arith, inside-first _ _ (c .before .before .before .at .given .1) (c .before .before .before .before .before .find-named .ensures .1)))
-    -- part-put-part-end
-    (λ c. omega (arith, inside-first _ _ (c .before .before .before .at .given .1) (c .before .before .before .before .before .find-named .ensures .1)))
-    -- put-part-requires
-    (λ c κs. (omega arith, omega (arith, taken-few (c .before .before .before .before .at .given .0 .0 + c .before .before .before .before .at .given .0 .1 .0 - c .before .before .before .before .at .given .0 .0) (drop (c .before .before .before .before .at .given .0 .0) (c .before .before .before .before .before .before .before .before .before .before .before .args .first .now)), inside-first _ _ (c .before .before .before .before .at .given .1) (c .before .before .before .before .before .before .find-named .ensures .1))))
+    -- part-put-in-first-start
+    (λ c. omega (arith, inside-first _ _ (c .before .before .at .given .1) (c .before .before .before .before .find-named .ensures .1)))
+    -- part-put-in-first-end
+    (λ c. omega (arith, inside-first _ _ (c .before .before .at .given .1) (c .before .before .before .before .find-named .ensures .1)))
+    -- put-in-first-requires
+    (λ c κs. omega (arith, taken-few (c .before .before .before .at .given .0 .0 + c .before .before .before .at .given .0 .1 .0 - c .before .before .before .at .given .0 .0) (drop (c .before .before .before .at .given .0 .0) (c .before .before .before .before .before .before .before .before .before .before .args .first .now)), inside-first _ _ (c .before .before .before .at .given .1) (c .before .before .before .before .before .find-named .ensures .1)))
     -- enum-known-at-2
     (λ c. search needs)
     -- add-end-2
     (λ c. omega (arith, inside-second _ _ (c .before .at2 .given .1) (c .before .before .before .find-named .ensures .1)))
-    -- slice-aggregate-put-part-2
-    (λ c. search needs)
-    -- sub-put-part-2
+    -- sub-put-in-second
     (λ c. omega arith)
-    -- part-put-part-start-2
-    (λ c. omega (arith, inside-second _ _ (c .before .before .before .at2 .given .1) (c .before .before .before .before .before .find-named .ensures .1)))
-    -- part-put-part-end-2
-    (λ c. omega (arith, inside-second _ _ (c .before .before .before .at2 .given .1) (c .before .before .before .before .before .find-named .ensures .1)))
-    -- put-part-requires-2
-    (λ c κs. (omega arith, omega (arith, taken-few (c .before .before .before .before .at2 .given .0 .0 + c .before .before .before .before .at2 .given .0 .1 .0 - c .before .before .before .before .at2 .given .0 .0) (drop (c .before .before .before .before .at2 .given .0 .0) (c .before .before .before .before .before .before .before .before .before .before .before .args .second .now)), inside-second _ _ (c .before .before .before .before .at2 .given .1) (c .before .before .before .before .before .before .find-named .ensures .1))))
+    -- part-put-in-second-start
+    (λ c. omega (arith, inside-second _ _ (c .before .before .at2 .given .1) (c .before .before .before .before .find-named .ensures .1)))
+    -- part-put-in-second-end
+    (λ c. omega (arith, inside-second _ _ (c .before .before .at2 .given .1) (c .before .before .before .before .find-named .ensures .1)))
+    -- put-in-second-requires
+    (λ c κs. omega (arith, taken-few (c .before .before .before .at2 .given .0 .0 + c .before .before .before .at2 .given .0 .1 .0 - c .before .before .before .at2 .given .0 .0) (drop (c .before .before .before .at2 .given .0 .0) (c .before .before .before .before .before .before .before .before .before .before .args .second .now)), inside-second _ _ (c .before .before .before .at2 .given .1) (c .before .before .before .before .before .find-named .ensures .1)))
     -- enum-known-k
     (λ c. search needs)
     -- slice-aggregate-put-refusal
@@ -64,11 +61,11 @@ put-handed-spec =
     -- same-length
     (λ c. search needs)
     -- returns
-    (λ c. writes-as (in-first _ _ _ _ (c .before .before .before .before .before .before .before .before .before .find-named .ensures .0) _ _ _ (c .before .before .before .before .before .before .before .at .given .1) refl) (c .before .before .put-part .ensures))
+    (λ c. writes-as (in-first _ _ _ _ (c .before .before .before .before .before .before .before .before .find-named .ensures .0) _ _ _ (c .before .before .before .before .before .before .at .given .1) refl) (c .before .before .put-in-first .ensures))
     -- same-length-2
     (λ c. search needs)
     -- returns-2
-    (λ c. writes-as (in-second _ _ _ _ (c .before .before .before .before .before .before .before .before .before .find-named .ensures .0) _ _ _ (c .before .before .before .before .before .before .before .at2 .given .1) refl) (c .before .before .put-part2 .ensures))
+    (λ c. writes-as (in-second _ _ _ _ (c .before .before .before .before .before .before .before .before .find-named .ensures .0) _ _ _ (c .before .before .before .before .before .before .at2 .given .1) refl) (c .before .before .put-in-second .ensures))
     -- same-length-3
     (λ c. search needs)
     -- returns-3

@@ -6,7 +6,8 @@ use mathlib.Core.Path.{sym}
 use lib.ListN.{length-replicate}
 use lib.Seq.{length-take-le}
 use Rattle.text.proofs.Writing.{writes-as}
-use Rattle.join_printing.proofs.Texts.{taken-within, written-text, first-text, second-text, refused-text}
+use Rattle.hex_lines.proofs.Hex.{taken-within}
+use Rattle.join_printing.proofs.Texts.{written-text, first-text, second-text, refused-text}
 use Rattle.join_printing.proofs.put_joined.Statement.{statement}
 use Rattle.join_printing.proofs.put_joined.Tie as tie
 

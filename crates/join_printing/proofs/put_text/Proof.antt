@@ -4,7 +4,8 @@ use Prim.Native.Nat.{_-_}
 use native.Mathlib.Omega.{arith}
 use lib.ListN.{drop}
 use Rattle.text.proofs.Writing.{writes-as}
-use Rattle.join_printing.proofs.Texts.{taken-few, input-read}
+use Rattle.hex_lines.proofs.Hex.{taken-few}
+use Rattle.join_printing.proofs.Texts.{input-read}
 use Rattle.join_printing.proofs.put_text.Statement.{statement}
 use Rattle.join_printing.proofs.put_text.Tie as tie
 

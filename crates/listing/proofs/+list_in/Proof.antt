@@ -15,8 +15,8 @@ use Rattle.facts.specs.Path.{pathAs}
 use Rattle.joins.specs.Pairs.{pairsOf, joinedIn}
 use Rattle.link_query.specs.Said.{said}
 use Rattle.link_query.proofs.Said.{terms-said}
-use Rattle.branch.specs.Alternatives.{alternativeAt}
-use Rattle.branch.proofs.Alternatives.{count-few}
+use Rattle.alternatives.specs.Alternatives.{alternativeAt}
+use Rattle.alternatives.proofs.Alternatives.{count-few}
 use Rattle.rules.specs.Answers.{kindOf}
 use Rattle.walk.specs.declared.Seen.the-variants as seen
 use Rattle.walk.proofs.Lines.{counted-bound}
@@ -26,7 +26,7 @@ use Rattle.listing.proofs.Listing.{links-few, put-line-length, put-all-
 use Rattle.listing.proofs.list_in.Reads as list-in
 use Rattle.listing.proofs.list_in.Kinds as list-in-kinds
 use Rattle.listing.proofs.+list_in.Lts-list_in as list-in-lts
-use Rattle.branch.proofs.count.Reads as count-reads
+use Rattle.alternatives.proofs.count.Reads as count-reads
 use Rattle.branch.proofs.make.Reads as make-reads
 use Rattle.walk.proofs.counted.Reads as counted-reads
 use Rattle.walk.proofs.look.Reads as look-reads

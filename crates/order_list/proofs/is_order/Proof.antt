@@ -6,7 +6,7 @@ use borrow.Author.Tests.{not-true, not-false}
 use mathlib.Core.Path.{_≡_, sym, _∙_}
 use Rattle.logic.specs.Search.{from, all}
 use Rattle.logic.specs.Query.{isOrder}
-use Rattle.entries.proofs.Loops.{all-end, all-fails, all-next}
+use Rattle.rows.proofs.Loops.{all-end, all-fails, all-next}
 use Rattle.order_list.proofs.Order.{named, other-length, all-named}
 use Rattle.order_list.proofs.is_order.Statement.{statement}
 use Rattle.order_list.proofs.is_order.Tie as tie

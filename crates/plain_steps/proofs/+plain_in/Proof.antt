@@ -11,7 +11,7 @@ use Rattle.logic.specs.Walk.{look, orderOf}
 use Rattle.logic.specs.Decision.{Struck}
 use Rattle.facts.specs.Path.{pathAs, Whole}
 use Rattle.rules.specs.Answers.{kindOf}
-use Rattle.branch.proofs.Alternatives.{count-few}
+use Rattle.alternatives.proofs.Alternatives.{count-few}
 use Rattle.walk.specs.declared.Seen.the-variants as seen
 use Rattle.walk.proofs.Steps.{look-is, move-fits, move-linked, less-left}
 use Rattle.link_query.specs.Said.{said}
@@ -24,10 +24,10 @@ use Rattle.plain_steps.proofs.Fronts.{front-clash, front-saturated, fro
 use Rattle.plain_steps.proofs.plain_in.Reads as plain-in
 use Rattle.plain_steps.proofs.plain_in.Kinds as plain-in-kinds
 use Rattle.plain_steps.proofs.+plain_in.Lts-plain_in as plain-in-lts
-use Rattle.branch.proofs.count.Reads as count-reads
+use Rattle.alternatives.proofs.count.Reads as count-reads
 use Rattle.branch.proofs.take.Reads as take-reads
 use Rattle.plain_steps.proofs.close_ahead.Reads as close-ahead-reads
-use Rattle.plain_steps.proofs.is_refuted.Reads as is-refuted-reads
+use Rattle.kinds.proofs.is_refuted.Reads as is-refuted-reads
 use Rattle.plain_steps.proofs.look_ahead.Reads as look-ahead-reads
 use Rattle.plain_steps.proofs.spent.Reads as spent-reads
 use Rattle.plain_steps.proofs.+plain_in.{statement}

@@ -6,9 +6,9 @@ use mathlib.Core.Bool.{not, _&&_}
 use lib.ListN.{take}
 use lib.Dec.{eqb}
 use Rattle.logic.specs.Search.{from, any, all}
-use Rattle.entries.proofs.Loops.{all-end, all-fails, all-next}
-use Rattle.precedence.specs.Sheet.{pairAt, pairs}
-use Rattle.precedence.specs.Finding.{free}
+use Rattle.rows.proofs.Loops.{all-end, all-fails, all-next}
+use Rattle.ordering.specs.Sheet.{pairAt, pairs}
+use Rattle.ordering.specs.Finding.{free}
 use Rattle.precedence.proofs.Turns.{all-pairs, free-test}
 use Rattle.precedence.proofs.is_free.Statement.{statement}
 use Rattle.precedence.proofs.is_free.Tie as tie

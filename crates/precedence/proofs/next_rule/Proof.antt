@@ -5,8 +5,8 @@ use mathlib.Core.Path.{_≡_, refl, sym, _∙_}
 use Rattle.logic.specs.Search.{from, find}
 use Rattle.rows.proofs.Loops.{find-end, find-here, find-next}
 use lib.ListN.{take}
-use Rattle.precedence.specs.Sheet.{pairs}
-use Rattle.precedence.specs.Finding.{ready, nextRule}
+use Rattle.ordering.specs.Sheet.{pairs}
+use Rattle.ordering.specs.Finding.{ready, nextRule}
 use Rattle.precedence.proofs.next_rule.Statement.{statement}
 use Rattle.precedence.proofs.next_rule.Tie as tie
 

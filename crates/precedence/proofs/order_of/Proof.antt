@@ -5,8 +5,8 @@ use borrow.Author.Tests.{not-true, not-false}
 use mathlib.Core.Path.{sym, subst, _∙_}
 use lib.ListN.{length}
 use Rattle.lent.proofs.Writing.{blank-again, blank-long}
-use Rattle.precedence.specs.Sheet.{pairs}
-use Rattle.precedence.specs.Calls.{answered}
+use Rattle.ordering.specs.Sheet.{pairs}
+use Rattle.ordering.specs.Calls.{answered}
 use Rattle.precedence.specs.Answers.{Does}
 use Rattle.precedence.proofs.Answered.{refused-15, refused-16, refused-14, does-answered}
 use Rattle.precedence.proofs.order_of.Statement.{statement}

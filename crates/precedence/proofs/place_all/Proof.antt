@@ -6,9 +6,9 @@ use mathlib.Core.Path.{_≡_, refl, sym, ap, _∙_}
 use mathlib.Core.List.{[]}
 use lib.ListN.{length, take, length-set}
 use Rattle.logic.specs.Search.{keep}
-use Rattle.precedence.specs.Sheet.{pairs}
-use Rattle.precedence.specs.Finding.{grow}
-use Rattle.precedence.specs.Answers.{foundOf}
+use Rattle.ordering.specs.Sheet.{pairs}
+use Rattle.ordering.specs.Finding.{grow}
+use Rattle.pair_rings.specs.Answers.{foundOf}
 use Rattle.precedence.proofs.Turns.{grow-stuck, grow-placed, grow-whole}
 use Rattle.precedence.proofs.place_all.Statement.{statement}
 use Rattle.precedence.proofs.place_all.Tie as tie

@@ -4,7 +4,7 @@ use borrow.Author.Needs.{needs}
 use mathlib.Core.Path.{sym}
 use lib.Seq.{length-take-le}
 use Rattle.text.proofs.Writing.{writes-as}
-use Rattle.join_printing.proofs.Texts.{taken-within}
+use Rattle.hex_lines.proofs.Hex.{taken-within}
 use Rattle.rewrite_printing.proofs.Texts.{written-text, refused-text}
 use Rattle.rewrite_printing.proofs.put_answer.Statement.{statement}
 use Rattle.rewrite_printing.proofs.put_answer.Tie as tie

@@ -6,7 +6,7 @@ use mathlib.Core.Path.{_≡_, sym}
 use lib.ListN.{length, length-take}
 use lib.Seq.{length-take-le}
 use borrow.Author.Tests.{not-false}
-use Rattle.share_stream.proofs.Runs.{room-left}
+use Rattle.sharing.proofs.Runs.{room-left}
 use Rattle.ruleshares.proofs.run.Statement.{statement}
 use Rattle.ruleshares.proofs.run.Tie as tie
 

@@ -7,7 +7,8 @@ use mathlib.Core.Logic.{inr}
 use borrow.Author.Tests.{not-true, not-false}
 use lib.ListN.{length, take}
 use lib.Seq.{length-take-le}
-use Rattle.share_stream.proofs.Rounds.{Going, order-lent, going-start, stops, taken-some, next-turn, wait-cut, wait-none}
+use Rattle.held_bytes.proofs.Moves.{order-lent}
+use Rattle.share_stream.proofs.Rounds.{Going, going-start, stops, taken-some, next-turn, wait-cut, wait-none}
 use Rattle.share_stream.proofs.take_turns.Statement.{statement}
 use Rattle.share_stream.proofs.take_turns.Tie as tie
 

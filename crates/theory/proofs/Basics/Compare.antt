@@ -1,6 +1,6 @@
 -- The tests of numbers as equations, to and from what they test.
 use Prim.Native.Nat.{ℕ, _≤_, _<_}
-use mathlib.Core.Path.{_≡_, refl, subst}
+use mathlib.Core.Path.{_≡_, refl, sym, subst, _∙_}
 use mathlib.Core.Logic.{_⊎_, ⊎-elim, inl, inr}
 use mathlib.Core.Bool.{Bool, true, false, not, cond, true≢false, false≢true}
 use lib.Dec.{T, eqb, eqb→eq, eqb-refl, ltb, ltb→lt, lt→ltb, leb, leb→le, le→leb, nleb→lt}
@@ -41,6 +41,9 @@ leb-intro {m} {n} h = of-T (leb m n) (le→leb m n h)
 -- two numbers are equal or not, and the test says which
 pub eq-cases : (m n : ℕ) → (m ≡ n) ⊎ ((m ≡ n → ⊥) × (eqb m n ≡ false))
 eq-cases m n = ⊎-elim (λ h. inl (eqb-true m n h)) (λ h. inr (λ e. true-false (eqb-intro e) h, h)) (bool-cases (eqb m n))
+
+pub eqb-turned : (m n : ℕ) → eqb m n ≡ eqb n m
+eqb-turned m n = ⊎-elim (λ e. rw e) (λ d. d .1 ∙ sym (eqb-false n m (λ e. d .0 (sym e)))) (eq-cases m n)
 
 pub le-cases : (m n : ℕ) → (m ≤ n) ⊎ (n < m)
 le-cases m n = ⊎-elim (λ h. inl (leb-true m n h)) (λ h. inr (nleb→lt m n (T-of (not (leb m n)) (not-intro h)))) (bool-cases (leb m n))

@@ -10,7 +10,7 @@ use lib.ListN.{length, getD}
 use lib.Dec.{eqb, leb}
 use Rattle.logic.specs.Search.{_and_, _or_, from, all, any, keep, orElse, firstOf, find}
 use Rattle.logic.specs.Query.{Query, termCount}
-use Rattle.logic.specs.Facts.{Graph, Facts, linkNumbers, terms, successors, firstTwo, doubled}
+use Rattle.logic.specs.Facts.{Graph, linkNumbers, terms}
 use Rattle.logic.specs.Rules.{Rule, REFLEX, TRANS1, TRANS2, FUNC, CYCLE, SCC, TOTAL, SHARE, ruleNumber, rules, ruleOf, Triple, triple, move, equal, round, conditions, alternatives, held, moveNumber, moveOf}
 use Rattle.logic.specs.Walk.{limit}
 use Rattle.logic.specs.Shown.{isNode, sizeIn, wellFormed}
@@ -38,11 +38,6 @@ firstOf-keep {A} {B} p f (x ∷ xs) = go (p x) (firstOf-keep p f xs)
     go false ih = ih
 
 -- Rules
-
-module _ (n : ℕ) (s : Facts) (one : s .links ≡ 1) where
-  pub doubled-one : doubled n s ≡ firstOf (λ t. firstTwo (successors n (s .graph 1) t)) (terms n)
-  unfolding doubled linkNumbers from
-  doubled-one = rw one (ap (λ (f : ℕ → Option (ℕ × ℕ)). firstOf f (terms n)) (λ i t. firstOf-one (λ k. firstTwo (successors n (s .graph k) t)) 1 i))
 
 pub moveOf-one : (b : ℕ) (t : Triple) → moveOf 1 b t ≡ Option·elim (ruleOf b) none (λ r. some (move 1 r t))
 unfolding moveOf linkNumbers from moveNumber ruleOf

@@ -1,7 +1,7 @@
 -- The call's answer, as a number. Assumes nothing.
 use borrow.Author.Needs.{needs}
 use mathlib.Core.Path.{ap, _∙_}
-use Rattle.lemitsaka.specs.PrecedencePromise.{orderCode}
+use Rattle.order_code.specs.OrderCode.{orderCode}
 use Rattle.lemitsaka.proofs.precedence_export.lemitsaka_order.Statement.{statement}
 use Rattle.lemitsaka.proofs.precedence_export.lemitsaka_order.Tie as tie
 

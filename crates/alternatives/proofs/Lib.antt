@@ -1,0 +1,3 @@
+pub mod Alternatives
+pub mod Steps
+pub mod Rows

@@ -1,0 +1,2 @@
+pub mod DecimalLines
+pub mod Puts

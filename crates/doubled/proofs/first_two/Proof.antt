@@ -1,0 +1,60 @@
+-- The lowest successor, and the lowest of the rest. Assumes nothing.
+use borrow.Author.Needs.{needs}
+use native.Mathlib.Omega.{arith}
+use mathlib.Core.Path.{sym, ap, _∙_}
+use Rattle.logic.specs.Facts.{successors}
+use Rattle.facts.specs.Path.{linksIn}
+use Rattle.rows.specs.Answers.{foundOf}
+use Rattle.rows.proofs.Successors.{two-none, two-one, two-both, lowest-term, next-term, found-positive}
+use Rattle.doubled.proofs.first_two.Statement.{statement}
+use Rattle.doubled.proofs.first_two.Tie as tie
+
+returns : tie.Need-returns
+unfolding successors linksIn
+returns c = sym (two-none _ _ (sym (lowest-term _ _ (omega arith) _ (c .before .before .before .successor-row .ensures)) ∙ (sym (c .before .before .first .ensures) ∙ ap foundOf (c .enum-told .given .1))))
+
+sub-first : tie.Need-sub-first
+sub-first c = found-positive _ _ (omega arith) (c .before .before .before .before .successor-row .result) (c .before .before .before .before .successor-row .ensures) (search needs) _ (sym (c .before .before .before .first .ensures) ∙ ap foundOf (c .before .a .given .1))
+
+returns-2 : tie.Need-returns-2
+unfolding successors linksIn
+returns-2 c =
+    let r = c .before .before .before .before .before .before .before .successor-row in
+    let f = (sym (c .before .before .before .before .before .before .first .ensures) ∙ ap foundOf (c .before .before .before .before .a .given .1)) in
+    sym
+    (two-one _ _ _
+    (sym (lowest-term _ _ (omega arith) _ (r .ensures)) ∙ f)
+    (sym (next-term _ _ (omega arith) (r .result) (r .ensures) (search needs) _ f) ∙ sym (c .before .before .first2 .ensures) ∙ ap foundOf (c .enum-told2 .given .1)))
+
+returns-3 : tie.Need-returns-3
+unfolding successors linksIn
+returns-3 c =
+    let r = c .before .before .before .before .before .before .before .before .successor-row in
+    let f = (sym (c .before .before .before .before .before .before .before .first .ensures) ∙ ap foundOf (c .before .before .before .before .before .a .given .1)) in
+    sym
+    (two-both _ _ _ _
+    (sym (lowest-term _ _ (omega arith) _ (r .ensures)) ∙ f)
+    (sym (next-term _ _ (omega arith) (r .result) (r .ensures) (search needs) _ f) ∙ sym (c .before .before .before .first2 .ensures) ∙ ap foundOf (c .before .b .given .1)))
+
+pub first-two-spec : {M : Type 1} → statement M
+first-two-spec =
+    tie.close
+    (tie.spec
+    -- successor-row-requires
+    (λ c κs. search needs)
+    -- first-requires
+    (λ c κs. search needs)
+    -- enum-known-a
+    (λ c. search needs)
+    -- enum-told
+    (λ c. search needs)
+    returns
+    sub-first
+    -- first-requires-2
+    (λ c κs. search needs)
+    -- enum-known-b
+    (λ c. search needs)
+    -- enum-told-2
+    (λ c. search needs)
+    returns-2
+    returns-3)

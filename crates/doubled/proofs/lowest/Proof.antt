@@ -1,0 +1,45 @@
+-- What is left to search equals the whole. Assumes nothing.
+use Prim.Native.Nat.{_+_, _-_}
+use native.Mathlib.Omega.{arith}
+use borrow.Author.Needs.{needs}
+use mathlib.Core.Path.{_≡_, sym, ap, _∙_}
+use Rattle.logic.specs.Search.{from, firstOf}
+use Rattle.logic.specs.Facts.{terms}
+use Rattle.doubled.specs.Doubled.{twoIn, doubledIn}
+use Rattle.doubled.specs.Answers.{twoOf}
+use Rattle.rows.proofs.Loops.{first-end, first-here, first-next}
+use Rattle.doubled.proofs.Twos.{all-terms}
+use Rattle.doubled.proofs.lowest.Statement.{statement}
+use Rattle.doubled.proofs.lowest.Tie as tie
+
+abbrev Inv-loop : tie.InvT-loop
+Inv-loop single first second third n t₀ t = firstOf (twoIn n single first second third) (terms n) ≡ firstOf (twoIn n single first second third) (from (n + 1 - t) t)
+
+abbrev μ-loop : tie.MeasureT-loop
+μ-loop single first second third n t₀ t = n + 1 - t
+
+pub lowest-spec : {M : Type 1} → statement M
+unfolding doubledIn
+lowest-spec =
+    tie.close
+    (tie.spec
+    Inv-loop
+    μ-loop
+    -- loop-holds
+    (λ c. all-terms _ _)
+    -- first-two-of-requires
+    (λ c κs. omega arith)
+    -- enum-known-a
+    (λ c. search needs)
+    -- returns
+    (λ c. sym (c .before .before .before .before .before .loop .inv ∙ first-here _ _ _ _ (omega arith) (sym (c .before .before .before .first-two-of .ensures) ∙ ap twoOf (c .before .a .given .1))))
+    -- enum-told
+    (λ c. search needs)
+    -- add-t
+    (λ c. omega arith)
+    -- loop-less
+    (λ c. omega arith)
+    -- loop-again
+    (λ c. c .before .before .before .before .loop .inv ∙ first-next _ _ _ (omega arith) (sym (c .before .before .first-two-of .ensures) ∙ ap twoOf (c .enum-told .given .1)))
+    -- returns-2
+    (λ c. sym (c .before .loop .inv ∙ first-end _ _ _ (omega arith))))

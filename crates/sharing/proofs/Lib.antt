@@ -1,0 +1,6 @@
+-- The theorems, from the leaves up.
+pub mod Lines
+pub mod Lengths
+pub mod Streams
+pub mod Runs
+pub mod Examples

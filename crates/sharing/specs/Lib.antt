@@ -1,0 +1,4 @@
+-- What must be believed of what ruleshares prints, in reading order.
+pub mod Output
+pub mod Streaming
+pub mod Claims
