@@ -2,7 +2,6 @@
 use Prim.Native.Nat.{ℕ, _+_, _*_, _≤_, _<_}
 use native.Mathlib.Omega.{arith}
 use mathlib.Core.Path.{_≡_, refl, sym, ap, _∙_, subst}
-use mathlib.Core.Logic.{⊎-elim}
 use mathlib.Core.Bool.{Bool, true, false}
 use mathlib.Core.List.{List}
 use lib.ListN.{length, replicate, length-replicate}
@@ -44,9 +43,6 @@ zeros-as bytes n m e f = e ∙ ap (λ (k : ℕ). replicate k 0) f
 pub said-links : (l : Layout) (bytes : List ℕ) → l .links ≡ said l bytes .links
 unfolding said
 said-links l bytes = refl
-
-pub few-links : (l : Layout) (bytes : List ℕ) → Within l bytes → l .links ≤ 3
-few-links l bytes w = ⊎-elim (λ e. omega (arith, e)) (λ e. omega (arith, e)) (w .one-or-three)
 
 -- what a report is written of
 module _ (bytes : List ℕ) (l : Layout) (s : code.Facts) (within : Within l bytes) (ok : Accepted (said l bytes)) where
