@@ -1,23 +1,17 @@
 -- What is doubled: read off the links alone, and found by loops over terms and links.
 use Prim.Native.Nat.{ℕ, _+_, _-_, _≤_, _<_}
 use native.Mathlib.Omega.{arith}
-use mathlib.Core.Path.{_≡_, refl, sym, ap, ap₂, fun-ext}
+use mathlib.Core.Path.{_≡_, sym, ap, fun-ext}
 use mathlib.Core.Bool.{Bool, cond}
-use mathlib.Core.List.{List, [], _∷_, List·Memᴰ, List·Memᴰ·head, List·Memᴰ·tail}
+use mathlib.Core.List.{List}
 use mathlib.Core.Option.{Option, some}
-use Rattle.logic.specs.Search.{from, orElse, firstOf}
+use Rattle.logic.specs.Search.{from, firstOf}
 use Rattle.logic.specs.Facts.{Graph, Facts, linkNumbers, terms, firstTwo, successors, doubled}
-use Rattle.theory.proofs.Basics.Search.{firstOf-some, from-mem}
+use Rattle.theory.proofs.Basics.Search.{firstOf-some, firstOf-alike, from-mem}
 use Rattle.facts.specs.Path.{graphs, graphIn, pathAs, linksBy}
 use Rattle.facts.proofs.Path.{graph-at}
 use Rattle.rows.proofs.Successors.{two-below}
 use Rattle.doubled.specs.Doubled.{twoIn, doubledIn}
-
--- a search asks only those in its list
-first-same : {A B : Type 0} (f g : A → Option B) (xs : List A) → ((x : A) → List·Memᴰ x xs → f x ≡ g x) → firstOf f xs ≡ firstOf g xs
-unfolding firstOf
-first-same f g [] e = refl
-first-same f g (x ∷ xs) e = ap₂ orElse (e x (List·Memᴰ·head refl)) (first-same f g xs (λ y m. e y (List·Memᴰ·tail m)))
 
 -- what is doubled is read off the links alone
 module _ (n : ℕ) (single : Bool) (rep link reach : List ℕ) where
@@ -29,7 +23,7 @@ module _ (n : ℕ) (single : Bool) (rep link reach : List ℕ) where
   unfolding doubledIn twoIn doubled linkNumbers
   doubled-links =
       ap (λ (f : ℕ → Option (ℕ × ℕ)). firstOf f (terms n))
-      (fun-ext (λ t. first-same _ _ (from (cond single 1 3) 1) (λ k m. let r = from-mem (cond single 1 3) 1 k m in ap firstTwo (links-alone k t (omega (arith, r))))))
+      (fun-ext (λ t. firstOf-alike _ _ (from (cond single 1 3) 1) (λ k m. let r = from-mem (cond single 1 3) 1 k m in ap firstTwo (links-alone k t (omega (arith, r))))))
 
 -- the search of the numbers up to m as a loop up to `last` meets it
 pub up-to : (m last : ℕ) (f : ℕ → Option (ℕ × ℕ)) → last ≡ m → firstOf f (from m 1) ≡ firstOf f (from (last + 1 - 1) 1)

@@ -12,6 +12,7 @@ use Rattle.logic.specs.Search.{_and_}
 use Rattle.logic.specs.Facts.{Graph, live}
 use Rattle.logic.specs.Rules.{Rule, Triple, REFLEX, TRANS1, TRANS2, FUNC, CYCLE, SCC, TOTAL, SHARE, triple, move, next, returns, conditions, alternatives, applies}
 use Rattle.theory.proofs.Basics.Search.{and-left}
+use Rattle.rows.proofs.Selections.{and-four}
 use Rattle.rows.specs.Square.{square}
 use Rattle.link_rows.specs.Cube.{cube}
 use Rattle.facts.specs.Path.{pathOf, graphOf, linksIn, HasLink}
@@ -40,11 +41,6 @@ unfolding _and_
 three-right true b c = both b c
 three-right false b c = refl
 
-four : (a b c d : Bool) → ((a && b) && c) && d ≡ (a and b and c and d)
-unfolding _and_
-four true b c d = three b c d
-four false b c d = refl
-
 four-right : (a b c d : Bool) → ((a && b) && c) && d ≡ (a and (b and c and d))
 unfolding _and_
 four-right true b c d = three b c d
@@ -64,7 +60,7 @@ module _ (lives : ℕ → Bool) (g : Graph) (x y z : ℕ) (k : Rule) where
 
   pub reflex-passes : (alive xx : Bool) → k ≡ REFLEX → alive ≡ lives x → xx ≡ g .reach x x → Passes (((alive && not xx) && eqb y 0) && eqb z 0)
   unfolding pairTest thirdTest
-  reflex-passes alive xx e a b = rw (e, a, b) (four (lives x) (not (g .reach x x)) (eqb y 0) (eqb z 0))
+  reflex-passes alive xx e a b = rw (e, a, b) (and-four (lives x) (not (g .reach x x)) (eqb y 0) (eqb z 0))
 
   pub trans1-passes : (near far : Bool) → k ≡ TRANS1 → near ≡ g .link x y → far ≡ g .reach x y → Passes ((near && not far) && eqb z 0)
   unfolding pairTest thirdTest

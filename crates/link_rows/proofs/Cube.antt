@@ -16,11 +16,12 @@ use Rattle.logic.specs.Search.{_and_, _or_, any}
 use Rattle.logic.specs.Facts.{became, replaceIn}
 use Rattle.theory.proofs.Basics.Search.{and-false}
 use Rattle.theory.proofs.Basics.Compare.{eq-cases, le-cases}
+use Rattle.theory.proofs.Basics.Count.{getD-zeros}
 use Rattle.rows.specs.Bits.{bit}
 use Rattle.rows.specs.Square.{rowOf, square}
 use Rattle.rows.proofs.Bits.{bit-and}
 use Rattle.rows.proofs.Fill.{Filled, filled-none, filled-old, filled-more, filled-all}
-use Rattle.rows.proofs.Square.{row-or, row-only, row-none, row-in, row-beyond, square-row, square-above, nothing-at, nothing-held}
+use Rattle.rows.proofs.Square.{row-or, row-only, row-none, row-in, row-beyond, square-row, square-above, nothing-held}
 use Rattle.rows.proofs.Square as sq
 use Rattle.link_rows.specs.Cube.{cube}
 
@@ -59,7 +60,7 @@ module _ (rows : List ℕ) where
 -- empty rows hold nothing
 pub nothing-linked : (n k a b : ℕ) → cube (replicate n 0) k a b ≡ false
 unfolding cube
-nothing-linked n k a b = rw (nothing-at n (17 * (k - 1) + a), row-none b) (and-false (ltb 0 k and ltb a 17))
+nothing-linked n k a b = rw (getD-zeros n (17 * (k - 1) + a), row-none b) (and-false (ltb 0 k and ltb a 17))
 
 -- rows that agree in their places agree in a row of a link
 pub same-row : (rows later : List ℕ) (j x : ℕ) → (0 < j → x ≤ 16 → getD later (17 * (j - 1) + x) 0 ≡ getD rows (17 * (j - 1) + x) 0) → cube later j x ≡ cube rows j x

@@ -4,7 +4,7 @@ use native.Mathlib.Omega.{arith}
 use mathlib.Core.Path.{_≡_, refl, sym, ap, _∙_, subst}
 use mathlib.Core.Bool.{Bool, true, false}
 use mathlib.Core.List.{List}
-use lib.ListN.{length, replicate, length-replicate}
+use lib.ListN.{length, replicate}
 use Rattle.logic.specs.Query.{Query, isOrder, termCount}
 use Rattle.logic.specs.Walk.{ourWalk, saturation}
 use Rattle.logic.specs.Calls.{CallForm, Input, refused, verdictOf, derivationOf, derivationCallOf, derivationChecksOf, verdictCallOf, verdictChecksOf}
@@ -30,12 +30,6 @@ use Rattle.prover.proofs.Checks.{order-refused, query-refused, room-ref
 use Rattle.prover.proofs.Outcomes.{does-blank, saturated-tied}
 
 -- zeros are zeros again
-pub blank-again : (bytes : List ℕ) (n : ℕ) → bytes ≡ replicate n 0 → bytes ≡ replicate (length bytes) 0
-blank-again bytes n e = e ∙ ap (λ (k : ℕ). replicate k 0) (sym (ap length e ∙ length-replicate n 0))
-
-pub blank-long : (bytes : List ℕ) (n : ℕ) → bytes ≡ replicate n 0 → length bytes ≡ n
-blank-long bytes n e = ap length e ∙ length-replicate n 0
-
 pub zeros-as : (bytes : List ℕ) (n m : ℕ) → bytes ≡ replicate n 0 → n ≡ m → bytes ≡ replicate m 0
 zeros-as bytes n m e f = e ∙ ap (λ (k : ℕ). replicate k 0) f
 

@@ -1,5 +1,5 @@
 -- Rows read and written. Callers use these laws and know nothing of words.
-use Prim.Native.Nat.{ℕ, zero, suc, _≤_, _<_}
+use Prim.Native.Nat.{ℕ, _≤_, _<_}
 use native.Mathlib.Omega.{arith}
 use mathlib.Core.Path.{_≡_, refl, sym, ap, _∙_, fun-ext}
 use mathlib.Core.Bool.{Bool, true, false}
@@ -11,6 +11,7 @@ use lib.Dec.{ltb, eqb}
 use borrow.Author.Tests.{lt-ltb, le-ltb, eqb-true, eqb-false, eq-eqb, ne-eqb, ltb-false}
 use Rattle.logic.specs.Search.{_and_, _or_, any}
 use Rattle.logic.specs.Facts.{became}
+use Rattle.theory.proofs.Basics.Count.{getD-zeros}
 use Rattle.rows.specs.Bits.{bit}
 use Rattle.rows.specs.Square.{rowOf, square, renamedRow}
 use Rattle.rows.proofs.Bits.{bit-or, bit-none}
@@ -79,18 +80,30 @@ module _ (rows : List ℕ) (a w : ℕ) where
   set-other x n = fun-ext (λ b. ap (λ (v : ℕ). ltb x 17 and rowOf v b) (getD-set-other rows a x w 0 n))
 
 -- nothing is held
-pub nothing-at : (k i : ℕ) → _≡_ {A = ℕ} (getD (replicate k 0) i 0) 0
-nothing-at zero i = refl
-nothing-at (suc k) zero = refl
-nothing-at (suc k) (suc i) = nothing-at k i
-
 pub nothing-held : (k a b : ℕ) → square (replicate k 0) a b ≡ false
 unfolding square _and_
-nothing-held k a b = rw (nothing-at k a, row-none b) (go (ltb a 17))
+nothing-held k a b = rw (getD-zeros k a, row-none b) (go (ltb a 17))
   where
     go : (t : Bool) → t and false ≡ false
     go true = refl
     go false = refl
+
+-- a bit is added to a row
+pub square-add : (rows : List ℕ) → length rows ≡ 17 → (a b w : ℕ) → a ≤ 16 → b ≤ 16 → ((i : ℕ) → bit w i ≡ eqb i b) → square (set rows a (bitOr (getD rows a 0) w)) ≡ (λ x y. square rows x y or (eqb x a and eqb y b))
+unfolding _and_ _or_
+square-add rows full a b w h k e = fun-ext (λ x. fun-ext (λ y. go x y (eqb x a) refl))
+  where
+    none : (t : Bool) → t ≡ t or false
+    none true = refl
+    none false = refl
+
+    go : (x y : ℕ) (s : Bool) → eqb x a ≡ s → square (set rows a (bitOr (getD rows a 0) w)) x y ≡ square rows x y or (s and eqb y b)
+    go x y true f =
+        rw (eqb-true x a f)
+        (ap (λ (g : ℕ → Bool). g y) (set-same rows a _ full h)
+        ∙ row-or (getD rows a 0) w y
+        ∙ rw (row-only w b k e y, square-row rows a h))
+    go x y false f = ap (λ (g : ℕ → Bool). g y) (set-other rows a _ x (eqb-false x a f)) ∙ none (square rows x y)
 
 -- a row in which hi is replaced by lo
 module _ (lo hi : ℕ) (below : lo < hi) (p : ℕ → Bool) where

@@ -2,9 +2,9 @@
 use Prim.Native.Nat.{ℕ, suc, _+_, _-_, _≤_, _<_}
 use native.Mathlib.Omega.{arith}
 use native.Mathlib.Numerals.{add-one}
-use mathlib.Core.Path.{_≡_, refl, sym, ap, ap₂, _∙_, fun-ext}
+use mathlib.Core.Path.{_≡_, refl, sym, ap, _∙_, fun-ext}
 use mathlib.Core.Bool.{Bool, true, false, cond}
-use mathlib.Core.List.{List, [], _∷_, _++_, map, List·Memᴰ, List·Memᴰ·head, List·Memᴰ·tail}
+use mathlib.Core.List.{List, [], _∷_, map, List·Memᴰ}
 use mathlib.Core.Option.{Option, none, some, Option·elim}
 use lib.ListN.{length, getD, drop, drop-of-length-le}
 use lib.Seq.{drop-cons}
@@ -12,7 +12,7 @@ use Rattle.logic.specs.Search.{_and_, from, keep, orElse, firstOf, find, flatMa
 use Rattle.logic.specs.Facts.{Graph, Facts, linkNumbers, live}
 use Rattle.logic.specs.Rules.{Rule, Triple, triple, Move, move, applies, triples, ruleOf, choose}
 use Rattle.logic.specs.Walk.{orderOf}
-use Rattle.theory.proofs.Basics.Search.{firstOf-empty, from-mem}
+use Rattle.theory.proofs.Basics.Search.{firstOf-empty, firstOf-append, firstOf-alike, from-mem}
 use Rattle.theory.proofs.Paths.Ranged.{InRange}
 use Rattle.theory.proofs.Calls.OneLink.{firstOf-one}
 use Rattle.rows.specs.Square.{square}
@@ -25,16 +25,6 @@ use Rattle.rules.proofs.Halves.{halves, allowed-any, applies-allowed, rows-are}
 use Rattle.rule_choice.specs.Smallest.{inThird, inSecond, inFirst, moveAt, triedAt, triedBy}
 
 -- Rows of triples
-
-module _ {B C : Type 0} (f : B → Option C) where
-  firstOf-append : (xs ys : List B) → firstOf f (xs ++ ys) ≡ orElse (firstOf f xs) (firstOf f ys)
-  unfolding firstOf orElse
-  firstOf-append [] ys = refl
-  firstOf-append (x ∷ xs) ys = go (f x) (firstOf-append xs ys)
-    where
-      go : (o : Option C) → firstOf f (xs ++ ys) ≡ orElse (firstOf f xs) (firstOf f ys) → orElse o (firstOf f (xs ++ ys)) ≡ orElse (orElse o (firstOf f xs)) (firstOf f ys)
-      go none e = e
-      go (some a) e = refl
 
 module _ {A B C : Type 0} (f : B → Option C) where
   firstOf-flatMap : (h : A → List B) (xs : List A) → firstOf f (flatMap h xs) ≡ firstOf (λ x. firstOf f (h x)) xs
@@ -116,12 +106,6 @@ firstOf-option f (some a) = go (f a)
     go : {B : Type 0} (o : Option B) → orElse o none ≡ o
     go none = refl
     go (some b) = refl
-
--- searches that answer alike on what they meet
-firstOf-alike : {A B : Type 0} (f g : A → Option B) (xs : List A) → ((x : A) → List·Memᴰ x xs → f x ≡ g x) → firstOf f xs ≡ firstOf g xs
-unfolding firstOf
-firstOf-alike f g [] h = refl
-firstOf-alike f g (x ∷ xs) h = ap₂ orElse (h x (List·Memᴰ·head refl)) (firstOf-alike f g xs (λ y m. h y (List·Memᴰ·tail m)))
 
 -- the order list, byte after byte, and for each the links
 module _ (n : ℕ) (s : Facts) where
