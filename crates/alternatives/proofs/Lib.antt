@@ -1,3 +1,2 @@
 pub mod Alternatives
 pub mod Steps
-pub mod Rows

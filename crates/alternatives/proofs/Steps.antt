@@ -12,7 +12,10 @@ use Rattle.logic.specs.Search.{find}
 use Rattle.logic.specs.Facts.{Graph, terms}
 use Rattle.logic.specs.Rules.{Rule, REFLEX, TRANS1, TRANS2, FUNC, CYCLE, SCC, TOTAL, SHARE, Fact, equal, next}
 use Rattle.rows.specs.Square.{square}
-use Rattle.facts.specs.Path.{linksIn}
+use Rattle.link_rows.specs.Cube.{cube}
+use Rattle.facts.specs.declared.Facts as code
+use Rattle.facts.specs.Path.{linksIn, linksBy, graphIn, graphs, pathOf, HasLink}
+use Rattle.facts.proofs.Path.{graph-at, link-at}
 use Rattle.rules.specs.declared.Rule as rules
 use Rattle.rules.specs.Answers.{kindOf}
 use Rattle.link_steps.specs.Cycle.{stepsTo}
@@ -34,13 +37,26 @@ pub second-of-two : (i : ℕ) (f e : Fact) → (i ≡ 0 → ⊥) → e ≡ cond 
 second-of-two i f e h = rw (ne-eqb i 0 h)
 
 -- alternatives read the links alone
-pub alternative-links : (k n : ℕ) (link : List ℕ) (g : Graph) → square link ≡ g .link → (r : Rule) (x y z i : ℕ) → alternativeAt k n (linksIn link) r x y z i ≡ alternativeAt k n g r x y z i
-unfolding next linksIn
-alternative-links k n link g e REFLEX x y z i = refl
-alternative-links k n link g e TRANS1 x y z i = refl
-alternative-links k n link g e TRANS2 x y z i = refl
-alternative-links k n link g e FUNC x y z i = refl
-alternative-links k n link g e CYCLE x y z i = ap (λ (f : ℕ → ℕ → Bool). equal y (iterate (λ c. Option·getD (find (f c) (terms n)) 0) i x)) e
-alternative-links k n link g e SCC x y z i = refl
-alternative-links k n link g e TOTAL x y z i = refl
-alternative-links k n link g e SHARE x y z i = refl
+pub alternative-links : (k n : ℕ) (f g : Graph) → f .link ≡ g .link → (r : Rule) (x y z i : ℕ) → alternativeAt k n f r x y z i ≡ alternativeAt k n g r x y z i
+unfolding next
+alternative-links k n f g e REFLEX x y z i = refl
+alternative-links k n f g e TRANS1 x y z i = refl
+alternative-links k n f g e TRANS2 x y z i = refl
+alternative-links k n f g e FUNC x y z i = refl
+alternative-links k n f g e CYCLE x y z i = ap (λ (l : ℕ → ℕ → Bool). equal y (iterate (λ c. Option·getD (find (l c) (terms n)) 0) i x)) e
+alternative-links k n f g e SCC x y z i = refl
+alternative-links k n f g e TOTAL x y z i = refl
+alternative-links k n f g e SHARE x y z i = refl
+
+-- of rows copied out, and of a path that has them
+pub alternative-own : (k n : ℕ) (link own : List ℕ) → square own ≡ cube link k → (r : Rule) (x y z i : ℕ) → alternativeAt k n (linksIn own) r x y z i ≡ alternativeAt k n (linksBy link k) r x y z i
+unfolding linksIn linksBy
+alternative-own k n link own e = alternative-links k n (linksIn own) (linksBy link k) e
+
+pub alternative-path : (k n : ℕ) (single : Bool) (link reach : List ℕ) → k ≤ cond single 1 3 → (r : Rule) (x y z i : ℕ) → alternativeAt k n (linksBy link k) r x y z i ≡ alternativeAt k n (graphs single link reach k) r x y z i
+unfolding linksBy graphIn
+alternative-path k n single link reach h = alternative-links k n (linksBy link k) (graphs single link reach k) (ap (λ (g : Graph). g .link) (sym (graph-at single link reach k h)))
+
+pub alternative-record : (k n : ℕ) (s : code.Facts) → HasLink (pathOf s) k → (r : Rule) (x y z i : ℕ) → alternativeAt k n (linksBy (s .link) k) r x y z i ≡ alternativeAt k n (pathOf s .graph k) r x y z i
+unfolding linksBy
+alternative-record k n s h = alternative-links k n (linksBy (s .link) k) (pathOf s .graph k) (link-at s k h)

@@ -1,16 +1,14 @@
 // The alternatives of a rule, left to right, by a link.
-use facts::Link;
+use link_rows::Link;
 use rows::Term;
 use rules::Rule;
 use rules::Third;
 ghost use mathlib.Core.Path.{_≡_};
-ghost use Prim.Native.Nat.{_≤_};
-ghost use lib.ListN.{length};
-ghost use Rattle.facts.specs.Path.{linksIn};
+ghost use Prim.Native.Nat.{_≤_, _<_};
+ghost use Rattle.facts.specs.Path.{linksBy};
 ghost use Rattle.rules.specs.Answers.{kindOf};
 ghost use Rattle.alternatives.specs.Answers.{factOf, InRange};
 ghost use Rattle.alternatives.specs.Alternatives.{countOf, alternativeAt};
-ghost use Rattle.alternatives.specs.Rows.{Alternative, Reached};
 
 // What a rule concludes, of its link.
 pub enum Fact {
@@ -36,7 +34,7 @@ pub fn count(rule: Rule, z: Third) -> usize
 
 // The alternative of a rule at i, from 0, by link k. That of CYCLE is the term i links on from x: 17 is no term, so that all i are followed.
 pub fn alternative(
-    link: &[u32; 17],
+    link: &[u32; 51],
     n: usize,
     k: Link,
     rule: Rule,
@@ -45,8 +43,8 @@ pub fn alternative(
     z: Third,
     i: usize,
 ) -> Fact
-    requires { ⌜ (n ≤ 16) × (x .0 ≤ 16) × (y .0 ≤ 16) × (z .0 ≤ 16) ⌝ }
-    ensures { λ r. ⌜ (factOf (k .0) r ≡ alternativeAt (k .0) n (linksIn (now (link .entry))) (kindOf rule) (x .0) (y .0) (z .0) i) × InRange r ⌝ }
+    requires { ⌜ (n ≤ 16) × (0 < k .0) × (k .0 ≤ 3) × (x .0 ≤ 16) × (y .0 ≤ 16) × (z .0 ≤ 16) ⌝ }
+    ensures { λ r. ⌜ (factOf (k .0) r ≡ alternativeAt (k .0) n (linksBy (now (link .entry)) (k .0)) (kindOf rule) (x .0) (y .0) (z .0) i) × InRange r ⌝ }
 {
     let t = rules::third_term(z);
     match rule {
@@ -60,7 +58,8 @@ pub fn alternative(
             Fact::Reaches(y, t)
         }
         Rule::Cycle => {
-            let round = link_steps::follow(link, n, x, Term(17), i);
+            let own = link_rows::rows_of(link, k);
+            let round = link_steps::follow(&own, n, x, Term(17), i);
             let u = round.term;
             Fact::Equal(y, u)
         }
@@ -78,52 +77,4 @@ pub fn alternative(
         }
         Rule::Share => Fact::Equal(x, y),
     }
-}
-
-// The alternative of a rule by link k, of the links of a path.
-pub fn alternative_of<'a>(
-    link: &'a [u32; 17],
-    link2: &'a [u32; 17],
-    link3: &'a [u32; 17],
-    n: usize,
-    k: Link,
-    rule: Rule,
-    x: Term,
-    y: Term,
-    z: Third,
-    i: usize,
-) -> Fact
-    requires { ⌜ (n ≤ 16) × (x .0 ≤ 16) × (y .0 ≤ 16) × (z .0 ≤ 16) ⌝ }
-    ensures { λ r. ⌜ Alternative (k .0) (now (link .entry)) (now (link2 .entry)) (now (link3 .entry)) n (kindOf rule) (x .0) (y .0) (z .0) i (factOf (k .0) r) × InRange r ⌝ }
-{
-    if k.0 == 1 {
-        return alternative(link, n, k, rule, x, y, z, i);
-    }
-    if k.0 == 2 {
-        return alternative(link2, n, k, rule, x, y, z, i);
-    }
-    alternative(link3, n, k, rule, x, y, z, i)
-}
-
-// "a reaches b" by link k is added to a path, of which these rows change alone.
-pub fn reach_by(
-    reach: &mut [u32; 17],
-    reach2: &mut [u32; 17],
-    reach3: &mut [u32; 17],
-    k: Link,
-    a: Term,
-    b: Term,
-)
-    requires { ⌜ (a .0 ≤ 16) × (b .0 ≤ 16) × (length (now reach) ≡ 17) × (length (now reach2) ≡ 17) × (length (now reach3) ≡ 17) ⌝ }
-    ensures { λ _. ⌜ Reached (k .0) (a .0) (b .0) (now (reach .entry)) (now (reach2 .entry)) (now (reach3 .entry)) (now (reach .exit)) (now (reach2 .exit)) (now (reach3 .exit)) × (length (now (reach .exit)) ≡ 17) × (length (now (reach2 .exit)) ≡ 17) × (length (now (reach3 .exit)) ≡ 17) ⌝ }
-{
-    if k.0 == 1 {
-        rows::add_to(reach, a, b);
-        return;
-    }
-    if k.0 == 2 {
-        rows::add_to(reach2, a, b);
-        return;
-    }
-    rows::add_to(reach3, a, b);
 }

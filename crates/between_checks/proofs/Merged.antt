@@ -1,8 +1,7 @@
 -- The bytes of the sixth section, literal by literal; and refusals 2 to 8 and 26 of six sections from those of the five and of the sixth.
-use Prim.Native.Nat.{ℕ, suc, _+_, _-_, _≤_, _<_}
+use Prim.Native.Nat.{ℕ, _+_, _≤_, _<_}
 use native.Mathlib.Omega.{arith}
 use native.Mathlib.Nat.{sub-zero, sub-eq-zero-of-le}
-use native.Mathlib.Numerals.{add-one}
 use mathlib.Core.Path.{_≡_, refl, sym, ap, _∙_, subst}
 use mathlib.Core.Logic.{_⊎_, ⊎-elim, inl, inr}
 use mathlib.Core.List.{List, [], _∷_, _++_, List·Memᴰ·head, List·Memᴰ·tail, List·Memᴰ·not-nil}
@@ -18,7 +17,7 @@ use Rattle.query_checks.specs.declared.Checked.the-variants as five-checked
 use Rattle.query_checks.specs.Answers.{CheckedAs}
 use Rattle.query_checks.proofs.Checks.{layout-refused}
 use Rattle.query_checks.proofs.Checks.{checked-accepts}
-use Rattle.entries.proofs.Faults.{orElse-some, orElse-next, append-here, append-next, entriesLeft}
+use Rattle.entries.proofs.Faults.{orElse-some, orElse-next, append-here, append-next, entriesLeft, entries-next}
 use Rattle.between_search.specs.Bytes.{betweenSection, sixSections, sixLayout, sixChecks}
 use Rattle.between_search.proofs.Accepted.{six-excesses}
 use Rattle.between_checks.specs.declared.Met.the-variants as met
@@ -28,13 +27,6 @@ use Rattle.between_checks.proofs.Told.{nat-cases, answerAt, First, firs
 use Rattle.between_checks.proofs.Six.{early, ended, Five, five, sixth-other, sixth-refused, laid-five, terms-five, six-laid, six-says, six-fault}
 
 -- The literals left of `count` behind the first i
-
-entries-next : (roles : ℕ → List Role) (count i : ℕ) → i < count → entriesLeft roles count i ≡ roles (i + 1) ++ entriesLeft roles count (i + 1)
-unfolding flatMap from
-entries-next roles count i h = rw left (ap (λ (j : ℕ). roles (i + 1) ++ flatMap roles (from (count - (i + 1)) j)) (sym (add-one (i + 1))))
-  where
-    left : count - i ≡ suc (count - (i + 1))
-    left = omega arith
 
 module _ (k n count : ℕ) (bytes : List ℕ) (i at : ℕ) where
   pub sixth-end : count ≤ i → roleFault k at (entriesLeft (tripleRoles n) count i) (drop at bytes) ≡ none

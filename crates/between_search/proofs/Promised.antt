@@ -25,6 +25,7 @@ use Rattle.theory.proofs.Calls.CallLaws.{refusalOf-none, verdict-passed}
 use Rattle.theory.proofs.Calls.Refusals.{refused-one, one-link-laws}
 use Rattle.theory.proofs.Calls.VerdictCall.{VerdictCase, by-refusal, by-lines, by-model, verdict-case}
 use Rattle.theory.proofs.Calls.Demands.{demand2}
+use Rattle.theory.proofs.Basics.Count.{getD-behind}
 use Rattle.between.specs.Meaning.{BetweenLiteral, BetweenQuery, MeetsBetween, SatisfiableBetween}
 use Rattle.between_search.specs.Bytes.{sixSections, decodeSix, fiveTermsCheck, sixChecks, betweenChecks}
 use Rattle.between_search.specs.Search.{Found, entry, heapFound, reportOf, mostNodes}
@@ -107,17 +108,7 @@ module _ (query : List ℕ) (room : ℕ) (passed : refusalOf betweenChecks (give
 
     padded-entry : (xs : List ℕ) (u : ℕ) → entry (padded 17 xs) u ≡ entry xs u
     unfolding entry padded
-    padded-entry xs u = go xs (17 - length xs) u
-      where
-        zeros : (k u : ℕ) → _≡_ {A = ℕ} (getD (replicate k 0) u 0) 0
-        zeros zero u = refl
-        zeros (suc k) zero = refl
-        zeros (suc k) (suc u) = zeros k u
-
-        go : (xs : List ℕ) (k u : ℕ) → getD (xs ++ replicate k 0) u 0 ≡ getD xs u 0
-        go [] k u = zeros k u
-        go (x ∷ xs) k zero = refl
-        go (x ∷ xs) k (suc u) = go xs k u
+    padded-entry xs u = getD-behind xs (17 - length xs) u
 
     link-is : (v : ℕ) → entry (c .links) v ≡ entry (f .search .links) v
     link-is v = ap (λ (x : Found). entry (x .links) v) (f .search .found) ∙ padded-entry (f .search .links) v

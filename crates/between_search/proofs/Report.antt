@@ -19,6 +19,7 @@ use Rattle.theory.proofs.Completeness.Placed.{length-from, getD-from}
 use Rattle.theory.proofs.Completeness.Byte.{byte-bit}
 use Rattle.theory.proofs.Completeness.ReportBytes.{Laid, getD-past, regroup}
 use Rattle.theory.proofs.Completeness.ReportHeap.{heap-size, heap-link, heap-loop, heap-field, heap-listed, node-listed, is-heap, is-formed}
+use Rattle.theory.proofs.Basics.Count.{getD-zeros}
 use Rattle.between.specs.Meaning.{BetweenQuery}
 use Rattle.between_search.specs.Search.{Found, entry, dataByte, reportOf}
 
@@ -133,12 +134,7 @@ module _ (q : BetweenQuery) (c : Found) (room m : ℕ) (size : entry (c .links) 
 
   pub shown-formed : 1 ≤ m → m ≤ 16 → n ≤ 16 → ((v : ℕ) → (1 ≤ v) × (v ≤ m) → (1 ≤ link v) × (link v ≤ m)) → ((t : ℕ) → 1 ≤ t → t ≤ n → (1 ≤ node t) × (node t ≤ m)) → wellFormed 1 shown ≡ true
   shown-formed one few-nodes few-terms links nodes =
-      is-formed report-laid (omega arith) one (λ k i l h. links (suc i) (omega arith, h)) (λ i h. nodes (suc i) (omega arith) h) few-nodes few-terms (zeros (room - length (reportOf q c)))
-    where
-      zeros : (k i : ℕ) → _≡_ {A = ℕ} (getD (replicate k 0) i 0) 0
-      zeros zero i = refl
-      zeros (suc k) zero = refl
-      zeros (suc k) (suc i) = zeros k i
+      is-formed report-laid (omega arith) one (λ k i l h. links (suc i) (omega arith, h)) (λ i h. nodes (suc i) (omega arith) h) few-nodes few-terms (getD-zeros (room - length (reportOf q c)))
 
   pub shown-field : (j v : ℕ) → (1 ≤ j) × (j ≤ 8) → (1 ≤ v) × (v ≤ m) → heapIn 1 shown .field j v ≡ any (λ k. k .plain && eqb (k .left) j && eqb (node (k .right)) v) (q .base .fields)
   unfolding dataByte

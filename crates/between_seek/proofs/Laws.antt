@@ -13,6 +13,7 @@ use borrow.Author.Tests.{eq-eqb, ne-eqb, lt-ltb, le-ltb, ltb-true}
 use Rattle.logic.specs.Search.{_or_, from, any, isSome, firstOf}
 use Rattle.logic.specs.Query.{argumentOf, termCount}
 use Rattle.logic.specs.Calls.{padded}
+use Rattle.theory.proofs.Basics.Count.{getD-zeros, getD-behind}
 use Rattle.lent.proofs.Writing.{appends-byte}
 use Rattle.between.specs.Meaning.{BetweenQuery}
 use Rattle.between_search.specs.Tests.{used, breaks, nilBreaks, fieldBreaks, pairBreaks, tripleBreaks}
@@ -22,19 +23,9 @@ use Rattle.between_seek.specs.Answers.{Chosen}
 
 -- Lists that are chosen up to a place
 
-zeros-entry : (k u : ℕ) → _≡_ {A = ℕ} (getD (replicate k 0) u 0) 0
-zeros-entry zero u = refl
-zeros-entry (suc k) zero = refl
-zeros-entry (suc k) (suc u) = zeros-entry k u
-
-front-entry : (ys : List ℕ) (k u : ℕ) → getD (ys ++ replicate k 0) u 0 ≡ getD ys u 0
-front-entry [] k u = zeros-entry k u
-front-entry (y ∷ ys) k zero = refl
-front-entry (y ∷ ys) k (suc u) = front-entry ys k u
-
 pub chosen-entry : (xs : List ℕ) (i : ℕ) → Chosen xs i → entry xs ≡ entry (take i xs)
 unfolding entry padded
-chosen-entry xs i c = fun-ext (λ u. ap (λ (ys : List ℕ). getD ys u 0) c ∙ front-entry (take i xs) (17 - length (take i xs)) u)
+chosen-entry xs i c = fun-ext (λ u. ap (λ (ys : List ℕ). getD ys u 0) c ∙ getD-behind (take i xs) (17 - length (take i xs)) u)
 
 module _ (xs : List ℕ) (i v : ℕ) (size : length xs ≡ 17) (room : i < 17) where
   pub taken-next : take (i + 1) (set xs i v) ≡ take i xs ++ (v ∷ [])
@@ -243,4 +234,4 @@ module _ (q : BetweenQuery) (sorted : Bool) (m : ℕ) (ls : List ℕ) (j : ℕ) 
 
 pub small-zeros : Small (replicate 17 0)
 unfolding entry
-small-zeros i = subst (λ (x : ℕ). x ≤ 5) (sym (zeros-entry 17 i)) (omega arith)
+small-zeros i = subst (λ (x : ℕ). x ≤ 5) (sym (getD-zeros 17 i)) (omega arith)

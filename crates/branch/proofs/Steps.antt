@@ -5,17 +5,13 @@ use mathlib.Core.Path.{_≡_, refl, sym, ap, ap₂, _∙_}
 use mathlib.Core.List.{List, []}
 use Rattle.logic.specs.Search.{from}
 use Rattle.logic.specs.Facts.{Facts, Joined, unjoined, andThen, join, addReach}
-use Rattle.logic.specs.Rules.{Rule, Fact, equal, reaches, branch}
+use Rattle.logic.specs.Rules.{Fact, equal, reaches, branch}
 use Rattle.rows.specs.declared.Term.{Term}
-use Rattle.rows.specs.Square.{square}
-use Rattle.facts.specs.Path.{linksIn}
 use Rattle.joins.specs.Pairs.{pairsIn, Fits}
 use Rattle.joins.proofs.Joins.{none-before, join-pairs}
-use Rattle.alternatives.specs.Alternatives.{alternativeAt}
 use Rattle.alternatives.specs.Answers.{factOf}
 use Rattle.alternatives.specs.declared.Fact as code
 use Rattle.alternatives.specs.declared.Fact.the-variants as fact
-use Rattle.alternatives.proofs.Steps.{alternative-links}
 
 -- no pair stands before a single join
 pub alone-fits : (kept replaced : List ℕ) (n a b : ℕ) (s : Facts) → n ≤ 16 → Fits (andThen (record { pairs = pairsIn kept replaced 0; facts = s }) (join n a b))
@@ -34,8 +30,8 @@ pub added-reaches : (k n : ℕ) (f : code.Fact) (a b : Term) (s p : Facts) (ps :
 unfolding branch unjoined
 added-reaches k n f a b s p ps e q h = ap₂ (λ (qs : List (ℕ × ℕ)) (t : Facts). record { pairs = qs; facts = t }) q h ∙ ap (λ (x : code.Fact). branch n s (factOf k x)) (sym e)
 
-pub branch-made : (k n : ℕ) (s : Facts) (link : List ℕ) → square link ≡ s .graph k .link → (r : Rule) (x y z i : ℕ) (f : Fact) (j : Joined) → f ≡ alternativeAt k n (linksIn link) r x y z i → j ≡ branch n s f → j ≡ branch n s (alternativeAt k n (s .graph k) r x y z i)
-branch-made k n s link l r x y z i f j e h = h ∙ ap (branch n s) (e ∙ alternative-links k n link (s .graph k) l r x y z i)
+pub branch-made : (n : ℕ) (s : Facts) (c f : Fact) (j : Joined) → f ≡ c → j ≡ branch n s f → j ≡ branch n s c
+branch-made n s c f j e h = h ∙ ap (branch n s) e
 
 -- joining behind no pairs
 pub join-alone : (kept replaced : List ℕ) (n a b : ℕ) (s : Facts) (j : Joined) → j ≡ andThen (record { pairs = pairsIn kept replaced 0; facts = s }) (join n a b) → j ≡ join n a b s

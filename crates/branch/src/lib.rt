@@ -1,9 +1,9 @@
 // The branches of a rule: each of its alternatives, joined or added.
 use alternatives::Fact;
 use facts::Facts;
-use facts::Link;
 use joins::Joined;
 use joins::Pairs;
+use link_rows::Link;
 use rows::Term;
 use rules::Rule;
 use rules::Third;
@@ -27,10 +27,6 @@ fn equated(s: Facts, n: usize, a: Term, b: Term) -> Joined
     let mut rep = s.rep;
     let mut link = s.link;
     let mut reach = s.reach;
-    let mut link2 = s.link2;
-    let mut reach2 = s.reach2;
-    let mut link3 = s.link3;
-    let mut reach3 = s.reach3;
     let mut kept = [0u8; 17];
     let mut replaced = [0u8; 17];
     let count = joins::join(
@@ -38,10 +34,6 @@ fn equated(s: Facts, n: usize, a: Term, b: Term) -> Joined
         &mut rep,
         &mut link,
         &mut reach,
-        &mut link2,
-        &mut reach2,
-        &mut link3,
-        &mut reach3,
         &mut kept,
         &mut replaced,
         0,
@@ -60,10 +52,6 @@ fn equated(s: Facts, n: usize, a: Term, b: Term) -> Joined
             single,
             link,
             reach,
-            link2,
-            reach2,
-            link3,
-            reach3,
         },
     }
 }
@@ -99,8 +87,7 @@ pub fn branch(
     requires { ⌜ (n ≤ 16) × HasLink (pathOf s) (k .0) × (x .0 ≤ 16) × (y .0 ≤ 16) × (z .0 ≤ 16) ⌝ }
     ensures { λ r. ⌜ joinedOf r ≡ branch n (pathOf s) (alternativeAt (k .0) n (pathOf s .graph (k .0)) (kindOf rule) (x .0) (y .0) (z .0) i) ⌝ }
 {
-    let link = facts::link_rows(s, k);
-    let fact = alternatives::alternative(&link, n, k, rule, x, y, z, i);
+    let fact = alternatives::alternative(&s.link, n, k, rule, x, y, z, i);
     added(s, n, k, fact)
 }
 
@@ -108,18 +95,14 @@ pub fn branch(
 fn equate(
     single: bool,
     rep: &mut [u8; 17],
-    link: &mut [u32; 17],
-    reach: &mut [u32; 17],
-    link2: &mut [u32; 17],
-    reach2: &mut [u32; 17],
-    link3: &mut [u32; 17],
-    reach3: &mut [u32; 17],
+    link: &mut [u32; 51],
+    reach: &mut [u32; 51],
     n: usize,
     a: Term,
     b: Term,
 )
-    requires { ⌜ (n ≤ 16) × (a .0 ≤ 16) × (b .0 ≤ 16) × Whole (now rep) (now link) (now reach) (now link2) (now reach2) (now link3) (now reach3) ⌝ }
-    ensures { λ _. ⌜ (pathAs single (now (rep .exit)) (now (link .exit)) (now (reach .exit)) (now (link2 .exit)) (now (reach2 .exit)) (now (link3 .exit)) (now (reach3 .exit)) ≡ join n (a .0) (b .0) (pathAs single (now (rep .entry)) (now (link .entry)) (now (reach .entry)) (now (link2 .entry)) (now (reach2 .entry)) (now (link3 .entry)) (now (reach3 .entry))) .facts) × Whole (now (rep .exit)) (now (link .exit)) (now (reach .exit)) (now (link2 .exit)) (now (reach2 .exit)) (now (link3 .exit)) (now (reach3 .exit)) ⌝ }
+    requires { ⌜ (n ≤ 16) × (a .0 ≤ 16) × (b .0 ≤ 16) × Whole (now rep) (now link) (now reach) ⌝ }
+    ensures { λ _. ⌜ (pathAs single (now (rep .exit)) (now (link .exit)) (now (reach .exit)) ≡ join n (a .0) (b .0) (pathAs single (now (rep .entry)) (now (link .entry)) (now (reach .entry))) .facts) × Whole (now (rep .exit)) (now (link .exit)) (now (reach .exit)) ⌝ }
 {
     let mut kept = [0u8; 17];
     let mut replaced = [0u8; 17];
@@ -128,10 +111,6 @@ fn equate(
         rep,
         link,
         reach,
-        link2,
-        reach2,
-        link3,
-        reach3,
         &mut kept,
         &mut replaced,
         0,
@@ -145,12 +124,8 @@ fn equate(
 pub fn take(
     single: bool,
     rep: &mut [u8; 17],
-    link: &mut [u32; 17],
-    reach: &mut [u32; 17],
-    link2: &mut [u32; 17],
-    reach2: &mut [u32; 17],
-    link3: &mut [u32; 17],
-    reach3: &mut [u32; 17],
+    link: &mut [u32; 51],
+    reach: &mut [u32; 51],
     n: usize,
     k: Link,
     rule: Rule,
@@ -159,24 +134,12 @@ pub fn take(
     z: Third,
     i: usize,
 )
-    requires { ⌜ (n ≤ 16) × HasLink (pathAs single (now rep) (now link) (now reach) (now link2) (now reach2) (now link3) (now reach3)) (k .0) × (x .0 ≤ 16) × (y .0 ≤ 16) × (z .0 ≤ 16) × Whole (now rep) (now link) (now reach) (now link2) (now reach2) (now link3) (now reach3) ⌝ }
-    ensures { λ _. ⌜ (pathAs single (now (rep .exit)) (now (link .exit)) (now (reach .exit)) (now (link2 .exit)) (now (reach2 .exit)) (now (link3 .exit)) (now (reach3 .exit)) ≡ branch n (pathAs single (now (rep .entry)) (now (link .entry)) (now (reach .entry)) (now (link2 .entry)) (now (reach2 .entry)) (now (link3 .entry)) (now (reach3 .entry))) (alternativeAt (k .0) n (pathAs single (now (rep .entry)) (now (link .entry)) (now (reach .entry)) (now (link2 .entry)) (now (reach2 .entry)) (now (link3 .entry)) (now (reach3 .entry)) .graph (k .0)) (kindOf rule) (x .0) (y .0) (z .0) i) .facts) × Whole (now (rep .exit)) (now (link .exit)) (now (reach .exit)) (now (link2 .exit)) (now (reach2 .exit)) (now (link3 .exit)) (now (reach3 .exit)) ⌝ }
+    requires { ⌜ (n ≤ 16) × HasLink (pathAs single (now rep) (now link) (now reach)) (k .0) × (x .0 ≤ 16) × (y .0 ≤ 16) × (z .0 ≤ 16) × Whole (now rep) (now link) (now reach) ⌝ }
+    ensures { λ _. ⌜ (pathAs single (now (rep .exit)) (now (link .exit)) (now (reach .exit)) ≡ branch n (pathAs single (now (rep .entry)) (now (link .entry)) (now (reach .entry))) (alternativeAt (k .0) n (pathAs single (now (rep .entry)) (now (link .entry)) (now (reach .entry)) .graph (k .0)) (kindOf rule) (x .0) (y .0) (z .0) i) .facts) × Whole (now (rep .exit)) (now (link .exit)) (now (reach .exit)) ⌝ }
 {
-    match alternatives::alternative_of(link, link2, link3, n, k, rule, x, y, z, i) {
-        Fact::Equal(a, b) => equate(
-            single,
-            rep,
-            link,
-            reach,
-            link2,
-            reach2,
-            link3,
-            reach3,
-            n,
-            a,
-            b,
-        ),
-        Fact::Reaches(a, b) => alternatives::reach_by(reach, reach2, reach3, k, a, b),
+    match alternatives::alternative(link, n, k, rule, x, y, z, i) {
+        Fact::Equal(a, b) => equate(single, rep, link, reach, n, a, b),
+        Fact::Reaches(a, b) => link_rows::add(reach, k, a, b),
     }
 }
 
@@ -184,12 +147,8 @@ pub fn take(
 pub fn make(
     single: bool,
     rep: &mut [u8; 17],
-    link: &mut [u32; 17],
-    reach: &mut [u32; 17],
-    link2: &mut [u32; 17],
-    reach2: &mut [u32; 17],
-    link3: &mut [u32; 17],
-    reach3: &mut [u32; 17],
+    link: &mut [u32; 51],
+    reach: &mut [u32; 51],
     kept: &mut [u8; 17],
     replaced: &mut [u8; 17],
     n: usize,
@@ -200,30 +159,15 @@ pub fn make(
     z: Third,
     i: usize,
 ) -> usize
-    requires { ⌜ (n ≤ 16) × HasLink (pathAs single (now rep) (now link) (now reach) (now link2) (now reach2) (now link3) (now reach3)) (k .0) × (x .0 ≤ 16) × (y .0 ≤ 16) × (z .0 ≤ 16) ⌝ }
-    requires { ⌜ Whole (now rep) (now link) (now reach) (now link2) (now reach2) (now link3) (now reach3) × (length (now kept) ≡ 17) × (length (now replaced) ≡ 17) ⌝ }
-    ensures { λ r. ⌜ joinedIn single (now (rep .exit)) (now (link .exit)) (now (reach .exit)) (now (link2 .exit)) (now (reach2 .exit)) (now (link3 .exit)) (now (reach3 .exit)) (now (kept .exit)) (now (replaced .exit)) r ≡ branch n (pathAs single (now (rep .entry)) (now (link .entry)) (now (reach .entry)) (now (link2 .entry)) (now (reach2 .entry)) (now (link3 .entry)) (now (reach3 .entry))) (alternativeAt (k .0) n (pathAs single (now (rep .entry)) (now (link .entry)) (now (reach .entry)) (now (link2 .entry)) (now (reach2 .entry)) (now (link3 .entry)) (now (reach3 .entry)) .graph (k .0)) (kindOf rule) (x .0) (y .0) (z .0) i) ⌝ }
-    ensures { λ _. ⌜ Whole (now (rep .exit)) (now (link .exit)) (now (reach .exit)) (now (link2 .exit)) (now (reach2 .exit)) (now (link3 .exit)) (now (reach3 .exit)) ⌝ }
+    requires { ⌜ (n ≤ 16) × HasLink (pathAs single (now rep) (now link) (now reach)) (k .0) × (x .0 ≤ 16) × (y .0 ≤ 16) × (z .0 ≤ 16) ⌝ }
+    requires { ⌜ Whole (now rep) (now link) (now reach) × (length (now kept) ≡ 17) × (length (now replaced) ≡ 17) ⌝ }
+    ensures { λ r. ⌜ joinedIn single (now (rep .exit)) (now (link .exit)) (now (reach .exit)) (now (kept .exit)) (now (replaced .exit)) r ≡ branch n (pathAs single (now (rep .entry)) (now (link .entry)) (now (reach .entry))) (alternativeAt (k .0) n (pathAs single (now (rep .entry)) (now (link .entry)) (now (reach .entry)) .graph (k .0)) (kindOf rule) (x .0) (y .0) (z .0) i) ⌝ }
+    ensures { λ _. ⌜ Whole (now (rep .exit)) (now (link .exit)) (now (reach .exit)) ⌝ }
 {
-    match alternatives::alternative_of(link, link2, link3, n, k, rule, x, y, z, i) {
-        Fact::Equal(a, b) => joins::join(
-            single,
-            rep,
-            link,
-            reach,
-            link2,
-            reach2,
-            link3,
-            reach3,
-            kept,
-            replaced,
-            0,
-            n,
-            a,
-            b,
-        ),
+    match alternatives::alternative(link, n, k, rule, x, y, z, i) {
+        Fact::Equal(a, b) => joins::join(single, rep, link, reach, kept, replaced, 0, n, a, b),
         Fact::Reaches(a, b) => {
-            alternatives::reach_by(reach, reach2, reach3, k, a, b);
+            link_rows::add(reach, k, a, b);
             0
         }
     }

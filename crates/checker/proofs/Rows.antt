@@ -1,16 +1,23 @@
 -- A path of one link by its rows: what is asked of the record is asked of them.
-use Prim.Native.Nat.{ℕ, min, max}
+use Prim.Native.Nat.{ℕ, _≤_, _<_, min, max}
 use native.Mathlib.Omega.{arith}
 use mathlib.Core.Path.{_≡_, refl, sym, ap, _∙_}
+use mathlib.Core.Logic.{⊎-elim}
 use mathlib.Core.Bool.{Bool, true, false, cond}
 use mathlib.Core.List.{List}
 use mathlib.Core.Option.{Option}
+use lib.Arith.{lt-of-le-ne}
 use lib.Dec.{eqb}
+use borrow.Author.Tests.{eq-eqb, ne-eqb}
 use Rattle.logic.specs.Query.{Query}
-use Rattle.logic.specs.Facts.{Facts, Joined, Line, unjoined, joinPair, andThen, replace, settle, join, addReach}
+use Rattle.logic.specs.Facts.{Graph, Facts, Joined, Line, unjoined, joinPair, andThen, replace, settle, join, addReach}
 use Rattle.logic.specs.Rules.{Rule, Fact, equal, reaches, branch}
 use Rattle.theory.proofs.Paths.Settle.{settle-keeps}
-use Rattle.facts.specs.Path.{graphs, pathOf}
+use Rattle.theory.proofs.Basics.Compare.{eq-cases}
+use Rattle.rows.specs.Square.{square}
+use Rattle.link_rows.specs.Cube.{cube}
+use Rattle.facts.specs.Path.{noFacts, graphOf, graphIn, pathAs, pathOf}
+use Rattle.facts.proofs.Path.{alike, alike-graph, graph-none, by-link}
 use Rattle.joins.specs.Pairs.{pairsOf, joinedOf}
 use Rattle.facts.specs.declared.Facts as facts
 use Rattle.joins.specs.declared.Joined as joined
@@ -18,9 +25,24 @@ use Rattle.alternatives.specs.Alternatives.{alternativeAt}
 use Rattle.checker.specs.Reading.{pathIn, singleOf, Read, readAt}
 
 -- a record of a single link has the path of that link's rows, whatever its other rows hold
-pub rows-path : (s : facts.Facts) → s .single ≡ true → pathOf s ≡ pathIn (s .rep) (s .link) (s .reach)
-unfolding pathOf pathIn graphs
-rows-path s e = rw e refl
+pub rows-path : (s : facts.Facts) (link reach : List ℕ) → s .single ≡ true → square link ≡ cube (s .link) 1 → square reach ≡ cube (s .reach) 1 → pathOf s ≡ pathIn (s .rep) link reach
+unfolding pathOf pathIn graphOf graphIn
+rows-path s link reach e l r = ap (λ (b : Bool). pathAs b (s .rep) (s .link) (s .reach)) e ∙ alike true refl (by-link true (s .link) (s .reach) _ within beyond)
+  where
+    one : ℕ → Graph
+    one i = cond (eqb i 1) (graphOf link reach) noFacts
+
+    within : (k : ℕ) → k ≤ 1 → graphIn (s .link) (s .reach) k ≡ one k
+    within k h = ⊎-elim here (λ d. rw (d .1) (graph-none (s .link) (s .reach) k (zero k h (d .0)))) (eq-cases k 1)
+      where
+        here : k ≡ 1 → graphIn (s .link) (s .reach) k ≡ one k
+        here i = ap (graphIn (s .link) (s .reach)) i ∙ alike-graph (sym l) (sym r) ∙ sym (rw (eq-eqb k 1 i))
+
+        zero : (k : ℕ) → k ≤ 1 → (k ≡ 1 → ⊥) → k ≤ 0
+        zero k h d = let below : k < 1 = lt-of-le-ne h d in omega (arith, below)
+
+    beyond : (k : ℕ) → 1 < k → noFacts ≡ one k
+    beyond k h = sym (rw (ne-eqb k 1 (λ i. omega (arith, h, i))))
 
 one-single : (s : facts.Facts) → pathOf s .links ≡ 1 → s .single ≡ true
 unfolding pathOf
@@ -30,9 +52,13 @@ one-single s = go (s .single)
     go true e = refl
     go false e = absurd (omega (arith, e))
 
+-- rows put as those of the first link are its
+pub first-row : (own rows later : List ℕ) → cube later ≡ (λ j. cond (eqb j 1) (square own) (cube rows j)) → square own ≡ cube later 1
+first-row own rows later e = sym (ap (λ (f : ℕ → ℕ → ℕ → Bool). f 1) e)
+
 -- so nothing of a branch of one link is lost with its other rows
-pub rows-joined : (j : joined.Joined) → pathOf (j .facts) .links ≡ 1 → singleOf (record { pairs = j .pairs; rep = j .facts .rep; link = j .facts .link; reach = j .facts .reach }) ≡ joinedOf j
-rows-joined j e = ap (λ (s : Facts). record { pairs = pairsOf (j .pairs); facts = s }) (sym (rows-path (j .facts) (one-single (j .facts) e)))
+pub rows-joined : (j : joined.Joined) (link reach : List ℕ) → pathOf (j .facts) .links ≡ 1 → square link ≡ cube (j .facts .link) 1 → square reach ≡ cube (j .facts .reach) 1 → singleOf (record { pairs = j .pairs; rep = j .facts .rep; link = link; reach = reach }) ≡ joinedOf j
+rows-joined j link reach e l r = ap (λ (s : Facts). record { pairs = pairsOf (j .pairs); facts = s }) (sym (rows-path (j .facts) link reach (one-single (j .facts) e) l r))
 
 -- a branch has the links of its path: joining replaces terms alone
 settle-links : (n k : ℕ) (s : Facts) → settle n k s .facts .links ≡ s .links

@@ -2,9 +2,9 @@
 use clash::Clash;
 use derivation_lines::Judged;
 use facts::Facts;
-use facts::Link;
 use joins::Joined;
 use joins::Pairs;
+use link_rows::Link;
 use query::Layout;
 use query_checks::Checked;
 use rows::Term;
@@ -103,15 +103,7 @@ fn read_line(
         }
         return Reading::Wrong;
     }
-    if let Clash::At(section, i, j) = clash::find_clash(
-        query,
-        layout,
-        &s.rep,
-        s.single,
-        &s.reach,
-        &s.reach2,
-        &s.reach3,
-    ) {
+    if let Clash::At(section, i, j) = clash::find_clash(query, layout, &s.rep, s.single, &s.reach) {
         return Reading::Wrong;
     }
     let Numbered::Is(rule) = rules::rule_numbered(k) else {
@@ -128,18 +120,15 @@ fn held<'a>(rep: &'a [u8; 17], link: &'a [u32; 17], reach: &'a [u32; 17]) -> Fac
     ensures { λ r. ⌜ pathOf r ≡ pathIn (now (rep .entry)) (now (link .entry)) (now (reach .entry)) ⌝ }
 {
     let own_rep = *rep;
-    let own_link = *link;
-    let own_reach = *reach;
-    let none = [0u32; 17];
+    let mut all_link = [0u32; 51];
+    let mut all_reach = [0u32; 51];
+    link_rows::put(&mut all_link, Link(1), link);
+    link_rows::put(&mut all_reach, Link(1), reach);
     Facts {
         rep: own_rep,
         single: true,
-        link: own_link,
-        reach: own_reach,
-        link2: none,
-        reach2: none,
-        link3: none,
-        reach3: none,
+        link: all_link,
+        reach: all_reach,
     }
 }
 
@@ -151,8 +140,8 @@ fn rows_of(j: Joined) -> Single
     let pairs = j.pairs;
     let s = j.facts;
     let rep = s.rep;
-    let link = s.link;
-    let reach = s.reach;
+    let link = link_rows::rows_of(&s.link, Link(1));
+    let reach = link_rows::rows_of(&s.reach, Link(1));
     Single {
         pairs,
         rep,

@@ -19,12 +19,12 @@ use Rattle.clash.specs.Sections.{literalsIn, alone, paired}
 use Rattle.clash.proofs.Decomposed.{pathClash, clash-split}
 
 -- what is found with the rows lent that hold the reachability of a path is the clash of that path
-pub rows-clash : (single : Bool) (rep link reach link2 reach2 link3 reach3 : List ℕ) (r : Clash) (q : Query) → ClashOf r q (repOf rep) (rowsOf single reach reach2 reach3) → lineOf r ≡ clash q (pathAs single rep link reach link2 reach2 link3 reach3)
-rows-clash single rep link reach link2 reach2 link3 reach3 r q h = h _ refl (rows-reach single rep link reach link2 reach2 link3 reach3)
+pub rows-clash : (single : Bool) (rep link reach : List ℕ) (r : Clash) (q : Query) → ClashOf r q (repOf rep) (rowsOf single reach) → lineOf r ≡ clash q (pathAs single rep link reach)
+rows-clash single rep link reach r q h = h _ refl (rows-reach single rep link reach)
 
 pub path-clash : (r : Clash) (q : Query) (s : code.Facts) → ClashOf r q (repOf (s .rep)) (reachOf s) → lineOf r ≡ clash q (pathOf s)
 unfolding pathOf
-path-clash r q s = rows-clash (s .single) (s .rep) (s .link) (s .reach) (s .link2) (s .reach2) (s .link3) (s .reach3) r q
+path-clash r q s = rows-clash (s .single) (s .rep) (s .link) (s .reach) r q
 
 module _ (l : Layout) (bytes : List ℕ) (rep : ℕ → ℕ) (reach : ℕ → ℕ → ℕ → Bool) (s : Facts) (same-rep : s .rep ≡ rep) (same-reach : (λ k. s .graph k .reach) ≡ reach) where
   abbrev inEqualities : (ℕ → ℕ) → Option Line

@@ -42,27 +42,15 @@ fn reach_clash<'a>(
     layout: Layout,
     rep: &'a [u8; 17],
     single: bool,
-    first: &'a [u32; 17],
-    second: &'a [u32; 17],
-    third: &'a [u32; 17],
+    reach: &'a [u32; 51],
 ) -> Clash
     requires { ⌜ Within layout (now query) ⌝ }
-    ensures { λ r. ⌜ lineOf r ≡ alone 3 (said layout (now (query .entry)) .reachability) (rowsHeld (repOf (now (rep .entry))) (rowsOf single (now (first .entry)) (now (second .entry)) (now (third .entry)))) ⌝ }
+    ensures { λ r. ⌜ lineOf r ≡ alone 3 (said layout (now (query .entry)) .reachability) (rowsHeld (repOf (now (rep .entry))) (rowsOf single (now (reach .entry)))) ⌝ }
 {
     let count = layout.reach_count;
     let mut i: usize = 0;
     while i < count {
-        if literal_tests::is_held_in(
-            query,
-            layout.links,
-            layout.reach_at,
-            i,
-            rep,
-            single,
-            first,
-            second,
-            third,
-        ) {
+        if literal_tests::is_held_in(query, layout.links, layout.reach_at, i, rep, single, reach) {
             return Clash::At(3, i + 1, 0);
         }
         i += 1;
@@ -112,17 +100,15 @@ pub fn find_clash<'a>(
     layout: Layout,
     rep: &'a [u8; 17],
     single: bool,
-    first: &'a [u32; 17],
-    second: &'a [u32; 17],
-    third: &'a [u32; 17],
+    reach: &'a [u32; 51],
 ) -> Clash
     requires { ⌜ Within layout (now query) ⌝ }
-    ensures { λ r. ⌜ ClashOf r (said layout (now (query .entry))) (repOf (now (rep .entry))) (rowsOf single (now (first .entry)) (now (second .entry)) (now (third .entry))) ⌝ }
+    ensures { λ r. ⌜ ClashOf r (said layout (now (query .entry))) (repOf (now (rep .entry))) (rowsOf single (now (reach .entry))) ⌝ }
 {
     if let Clash::At(k, i, j) = equality_clash(query, layout.equal_at, layout.equal_count, rep) {
         return Clash::At(k, i, j);
     }
-    if let Clash::At(k, i, j) = reach_clash(query, layout, rep, single, first, second, third) {
+    if let Clash::At(k, i, j) = reach_clash(query, layout, rep, single, reach) {
         return Clash::At(k, i, j);
     }
     field_clash(query, layout.field_at, layout.field_count, rep)

@@ -1,14 +1,14 @@
 -- A word added to a row.
 use Prim.Native.Nat.{ℕ, _+_, _≤_, _<_}
 use native.Mathlib.Omega.{arith}
-use mathlib.Core.Path.{_≡_, refl, sym, ap, ap₂, _∙_, subst}
+use mathlib.Core.Path.{_≡_, refl, sym, ap, ap₂, _∙_, subst, subst₂}
 use mathlib.Core.Logic.{_⊎_, ⊎-elim, inl, inr}
 use mathlib.Core.Bool.{Bool, true, false, cond}
 use mathlib.Core.List.{List}
 use lib.ListN.{length, getD, set}
 use lib.Bits.{bitAnd, bitOr}
-use lib.Arith.{lt-of-le-ne}
 use lib.Dec.{eqb}
+use borrow.Author.Tests.{ne-eqb}
 use Rattle.logic.specs.Search.{_and_, _or_}
 use Rattle.logic.specs.Facts.{Graph, Facts, live}
 use Rattle.logic.specs.Decision.{Follows, is-held, itself, by-link, onward, Closes}
@@ -17,7 +17,9 @@ use Rattle.theory.proofs.Basics.Compare.{eq-cases, eqb-true, eqb-self, le-cases
 use Rattle.theory.proofs.Paths.Ranged.{live-range}
 use Rattle.rows.specs.Bits.{bit}
 use Rattle.rows.specs.Square.{rowOf, square}
-use Rattle.facts.specs.Path.{graphOf, noFacts, graphs, pathAs, replacedBy, HasLink}
+use Rattle.link_rows.specs.Cube.{cube}
+use Rattle.facts.specs.Path.{graphOf, graphIn, noFacts, graphs, pathAs, replacedBy, HasLink}
+use Rattle.facts.proofs.Path.{linking, alike-graph, graph-at, graph-beyond, graph-none}
 use Rattle.rows.proofs.Bits.{bit-and, bit-or, bit-none}
 use Rattle.rows.proofs.Square.{row-or, row-in, row-beyond, row-none, square-row, square-in, square-above, square-beside, set-same, set-other}
 use Rattle.closing.specs.Closed.{Closed}
@@ -256,58 +258,66 @@ module _ (n : ℕ) (s t : Facts) (alive : ℕ → Bool) (e : alive ≡ live n s)
         onward-held = λ i a b d f g. at-link i (reach-within i a b f) .onward-held a b d f g;
       }
 
--- the same of the path that arrays hold
-module _ (n : ℕ) (single : Bool) (rep link reach link2 reach2 link3 reach3 later later2 later3 : List ℕ) (alive : ℕ → Bool) (e : alive ≡ live n (replacedBy rep))
-    (first : LinkClosed alive (graphOf link reach) (graphOf link later))
-    (others : single ≡ false → LinkClosed alive (graphOf link2 reach2) (graphOf link2 later2) × LinkClosed alive (graphOf link3 reach3) (graphOf link3 later3)) where
+-- rows of all links in which those of link k alone were put in place
+module _ (later rows : List ℕ) (k : ℕ) (own : ℕ → ℕ → Bool) (e : cube later ≡ (λ j. cond (eqb j k) own (cube rows j))) where
+  at : (j : ℕ) → cube later j ≡ cond (eqb j k) own (cube rows j)
+  at j = ap (λ (f : ℕ → ℕ → ℕ → Bool). f j) e
+
+  pub put-own : cube later k ≡ own
+  put-own = at k ∙ rw (eqb-self k)
+
+  pub put-others : (j : ℕ) → (j ≡ k → ⊥) → cube later j ≡ cube rows j
+  put-others j d = at j ∙ rw (ne-eqb j k d)
+
+-- a link closed in rows of its own is closed in those of all links
+pub closed-in : (alive : ℕ → Bool) (link reach later : List ℕ) (k : ℕ) (own part last : List ℕ) → square own ≡ cube link k → square part ≡ cube reach k → cube later k ≡ square last → LinkClosed alive (graphOf own part) (graphOf own last) → LinkClosed alive (graphIn link reach k) (graphIn link later k)
+unfolding graphOf graphIn
+closed-in alive link reach later k own part last d e f = subst₂ (LinkClosed alive) (alike-graph d e) (alike-graph d (sym f))
+
+-- The links closed one after the other
+module _ (alive : ℕ → Bool) (link reach : List ℕ) where
+  -- those below k are closed, and the rows of the others are as they were
+  abbrev pub ClosedBelow : ℕ → List ℕ → Type 0
+  ClosedBelow k later = ((j : ℕ) → 0 < j → j < k → LinkClosed alive (graphIn link reach j) (graphIn link later j)) × ((j : ℕ) → k ≤ j → cube later j ≡ cube reach j)
+
+  pub closed-none : ClosedBelow 1 reach
+  closed-none = (λ j l m. absurd (omega arith), λ j l. refl)
+
+  pub closed-more : (k : ℕ) (cur later : List ℕ) → LinkClosed alive (graphIn link cur k) (graphIn link later k) → ((j : ℕ) → (j ≡ k → ⊥) → cube later j ≡ cube cur j) → ClosedBelow k cur → ClosedBelow (k + 1) later
+  unfolding graphIn
+  closed-more k cur later here there (done, left) = (
+    λ j l m.
+        ⊎-elim
+        (λ e. rw e (subst (λ (f : ℕ → ℕ → Bool). LinkClosed alive (linking (cube link k) f) (graphIn link later k)) (left k (omega arith)) here))
+        (λ d. rw (there j (d .0)) (done j l (let ne = d .0 in omega arith)))
+        (eq-cases j k),
+    λ j l. there j (λ e. omega arith) ∙ left j (omega arith),
+  )
+
+-- the path that arrays hold, once all its links are closed
+module _ (n : ℕ) (single : Bool) (rep link reach later : List ℕ) (alive : ℕ → Bool) (e : alive ≡ live n (replacedBy rep)) (k : ℕ) (past : cond single 1 3 < k) (below : ClosedBelow alive link reach k later) where
   abbrev was : Facts
-  was = pathAs single rep link reach link2 reach2 link3 reach3
+  was = pathAs single rep link reach
 
   abbrev becomes : Facts
-  becomes = pathAs single rep link later link2 later2 link3 later3
+  becomes = pathAs single rep link later
 
   alive-is : alive ≡ live n was
   unfolding live replacedBy
   alive-is = e
 
-  one-of : (i : ℕ) → (i ≡ 1) ⊎ (((single ≡ false) × ((i ≡ 2) ⊎ (i ≡ 3))) ⊎ ((HasLink was i → ⊥) × (was .graph i ≡ noFacts) × (becomes .graph i ≡ noFacts)))
-  unfolding graphs
-  one-of i = ⊎-elim inl (λ d. inr (go d single refl)) (eq-cases i 1)
-    where
-      go : ((i ≡ 1 → ⊥) × (eqb i 1 ≡ false)) → (b : Bool) → single ≡ b → ((single ≡ false) × ((i ≡ 2) ⊎ (i ≡ 3))) ⊎ ((HasLink was i → ⊥) × (was .graph i ≡ noFacts) × (becomes .graph i ≡ noFacts))
-      go d true f = inr (rw f (λ h. d .0 (omega (arith, h .0, h .1))), rw (d .1, f) refl, rw (d .1, f) refl)
-      go d false f =
-          ⊎-elim (λ p. inl (f, inl p))
-          (λ d′.
-          ⊎-elim (λ p. inl (f, inr p))
-          (λ d″. inr (rw f (λ h. d″ .0 (let above = lt-of-le-ne (h .0) (λ z. d .0 (sym z)) in let past = lt-of-le-ne above (λ z. d′ .0 (sym z)) in omega (arith, h .1, past))), rw (d .1, f, d′ .1, d″ .1) refl, rw (d .1, f, d′ .1, d″ .1) refl))
-          (eq-cases i 3))
-          (eq-cases i 2)
-
-  at-first : (i : ℕ) → i ≡ 1 → HasLink was i × LinkClosed alive (was .graph i) (becomes .graph i)
-  unfolding graphs
-  at-first i p = rw p ((omega arith, few single), first)
-    where
-      few : (b : Bool) → 1 ≤ cond b 1 3
-      few true = omega arith
-      few false = omega arith
-
-  at-second : (i : ℕ) → i ≡ 2 → single ≡ false → HasLink was i × LinkClosed alive (was .graph i) (becomes .graph i)
-  unfolding graphs
-  at-second i p f = rw (p, f) ((omega arith, omega arith), others f .0)
-
-  at-third : (i : ℕ) → i ≡ 3 → single ≡ false → HasLink was i × LinkClosed alive (was .graph i) (becomes .graph i)
-  unfolding graphs
-  at-third i p f = rw (p, f) ((omega arith, omega arith), others f .1)
-
-  each : (i : ℕ) → (HasLink was i × LinkClosed alive (was .graph i) (becomes .graph i)) ⊎ ((HasLink was i → ⊥) × (was .graph i ≡ noFacts) × (becomes .graph i ≡ noFacts))
-  each i = ⊎-elim (λ p. inl (at-first i p)) (λ m. ⊎-elim (λ x. inl (⊎-elim (λ p. at-second i p (x .0)) (λ p. at-third i p (x .0)) (x .1))) inr m) (one-of i)
-
   at-each : (i : ℕ) → HasLink was i → LinkClosed alive (was .graph i) (becomes .graph i)
-  at-each i h = ⊎-elim (λ x. x .1) (λ x. absurd (x .0 h)) (each i)
+  at-each i h = rw (graph-at single link reach i (h .1), graph-at single link later i (h .1)) (below .0 i (h .0) (omega (arith, h .1, past)))
 
   outside : (i : ℕ) → HasLink was i ⊎ ((was .graph i ≡ noFacts) × (becomes .graph i ≡ noFacts))
-  outside i = ⊎-elim (λ x. inl (x .0)) (λ x. inr (x .1, x .2)) (each i)
+  outside i =
+      ⊎-elim
+      (λ l. ⊎-elim (λ z. inr (none reach l z, none later l z)) (λ z. inl (z, l)) (le-cases i 0))
+      (λ l. inr (graph-beyond single link reach i l, graph-beyond single link later i l))
+      (le-cases i (cond single 1 3))
+    where
+      none : (rows : List ℕ) → i ≤ cond single 1 3 → i ≤ 0 → graphs single link rows i ≡ noFacts
+      none rows l z = graph-at single link rows i l ∙ graph-none link rows i z
 
   pub rows-closed : n ≤ 16 → Closes n was becomes × Closed n becomes
   rows-closed small = (closes n was becomes alive alive-is refl refl at-each outside, closed n was becomes alive alive-is refl refl at-each outside small)

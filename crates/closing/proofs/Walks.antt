@@ -24,6 +24,7 @@ use Rattle.theory.proofs.Paths.Applies.{hasLink-range, hasLink-intro, applies-l
 use Rattle.theory.proofs.Walks.Order.{HoldsAll, triples-full, choose-some}
 use Rattle.theory.proofs.Walks.OurWalk.{walks-unique, walk-walks, steps-first}
 use Rattle.theory.proofs.Calls.Decision.{Known, clash-none, branch-known, heap-closed, walk-saturation, closed-known}
+use Rattle.theory.proofs.Joins.Quotient.{alike, test-same}
 use Rattle.closing.specs.Closed.{Closed, closing, Begins}
 
 -- Of a rule that concludes one reachability fact
@@ -39,9 +40,6 @@ module _ (n : ℕ) (s : Facts) (m : Move) (i a b : ℕ) (one : alternatives n (s
     where
       lone : s .graph i .reach a b ≡ false → any (held (s .graph)) (reaches i a b ∷ []) ≡ false
       lone e = rw e refl
-
-made : (ℕ → ℕ) → ℕ → (ℕ → ℕ → ℕ → Bool) → (ℕ → ℕ → ℕ → Bool) → Facts
-made rep links link reach = record { rep = rep; links = links; graph = λ i. record { link = link i; reach = reach i } }
 
 -- Where nothing is left to the three rules
 
@@ -95,18 +93,9 @@ module _ (n : ℕ) (s : Facts) where
           step-held n s (move i TRANS2 (triple a b c)) i a c refl (linked TRANS2 (triple a b c)) (and-intro x y) (idle i in-range TRANS2 refl (triple a b c) (triples-full n a b c (up-to a p) (up-to b p′) (up-to c u′)))
 
     same-facts : (t : Facts) → Closes n s t → s ≡ t
-    unfolding made
     same-facts t cl =
-        facts-same (sym (cl .same-rep)) (sym (cl .same-links)) (λ i. sym (cl .same-link i))
-        (λ i a b. both (s .graph i .reach a b) (t .graph i .reach a b) (cl .reach-kept i a b) (λ e. follows-held i (cl .reach-linked i a b e) (cl .reach-follows i a b e)))
-      where
-        both : (x y : Bool) → (x ≡ true → y ≡ true) → (y ≡ true → x ≡ true) → x ≡ y
-        both true y f g = sym (f refl)
-        both false true f g = g refl
-        both false false f g = refl
-
-        facts-same : s .rep ≡ t .rep → s .links ≡ t .links → ((i : ℕ) → s .graph i .link ≡ t .graph i .link) → ((i a b : ℕ) → s .graph i .reach a b ≡ t .graph i .reach a b) → s ≡ t
-        facts-same r k l e = λ j. made (r j) (k j) (λ i. l i j) (λ i a b. e i a b j)
+        alike s t (λ x. ap (λ (f : ℕ → ℕ). f x) (sym (cl .same-rep))) (sym (cl .same-links)) (λ i a b. ap (λ (f : ℕ → ℕ → Bool). f a b) (sym (cl .same-link i)))
+        (λ i a b. test-same (s .graph i .reach a b) (t .graph i .reach a b) (cl .reach-kept i a b) (λ e. follows-held i (cl .reach-linked i a b e) (cl .reach-follows i a b e)))
 
 -- The choice under an order list that begins with the three rules
 

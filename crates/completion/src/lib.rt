@@ -11,7 +11,7 @@ ghost use Rattle.logic.specs.Rules.{next};
 ghost use Rattle.logic.specs.Shown.{reached, inBasin, onPath, basinLink, treeLink, newLink, linkEach, shownLink};
 ghost use Rattle.completion.specs.Links.{linkOf, InRange, reachIn, leadsTo, begins, coversAll};
 use facts::Facts;
-use facts::Link;
+use link_rows::Link;
 use rows::Found;
 use rows::Term;
 
@@ -209,8 +209,8 @@ pub fn shown_links(s: Facts, n: usize, k: Link) -> [u8; 17]
     requires { ⌜ (n ≤ 16) × HasLink (pathOf s) (k .0) ⌝ }
     ensures { λ r. ⌜ linkOf r ≡ shownLink n (pathOf s) (k .0) ⌝ }
 {
-    let link = facts::link_rows(s, k);
-    let reach = facts::reach_rows(s, k);
+    let link = link_rows::rows_of(&s.link, k);
+    let reach = link_rows::rows_of(&s.reach, k);
     let known = known_links(&link, n);
     link_each(known, &s.rep, &reach, n)
 }

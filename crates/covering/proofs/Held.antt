@@ -1,9 +1,9 @@
 -- What rows hold, number by number.
 use Prim.Native.Nat.{ℕ, _+_, _≤_, _<_}
 use native.Mathlib.Omega.{arith}
-use mathlib.Core.Path.{_≡_, sym, ap, _∙_, subst}
+use mathlib.Core.Path.{_≡_, sym, ap, _∙_, subst, subst₂}
 use mathlib.Core.Logic.{⊎-elim}
-use mathlib.Core.Bool.{Bool, true, false}
+use mathlib.Core.Bool.{Bool, true, cond}
 use mathlib.Core.List.{List}
 use lib.ListN.{getD}
 use Rattle.logic.specs.Facts.{Graph}
@@ -12,8 +12,9 @@ use Rattle.theory.proofs.Basics.Compare.{eq-cases, le-cases}
 use Rattle.rows.specs.Bits.{bit}
 use Rattle.rows.specs.Square.{rowOf, square}
 use Rattle.rows.proofs.Square.{row-in, row-none, square-row, square-in, square-above, square-beside}
-use Rattle.facts.specs.Path.{noFacts, repOf, pathOf}
-use Rattle.facts.proofs.Path.{first, second, third, by-link, graph-first, graph-second, graph-third}
+use Rattle.link_rows.specs.Cube.{cube}
+use Rattle.facts.specs.Path.{graphOf, noFacts, graphs, repOf, pathOf}
+use Rattle.facts.proofs.Path.{links-few, graph-at, graph-beyond, graph-none, graph-own}
 use Rattle.facts.specs.declared.Facts as code
 use Rattle.covering.specs.Covers.{RowHeld, RowsHeld, GraphHeld, SameReps, Covers}
 
@@ -55,30 +56,30 @@ pub rows-held : (rows reps others : List ℕ) → ((a : ℕ) → a ≤ 16 → (b
 rows-held rows reps others h a b e =
     ⊎-elim (λ l. h a l b e) (λ l. absurd (true-false e (square-above rows a b (omega arith)))) (le-cases a 16)
 
--- the whole path: the first link, and where there are three the others; another number has no facts
-module _ (w s : code.Facts) (same : SameReps (repOf (w .rep)) (repOf (s .rep))) (here : GraphHeld (first s) (repOf (w .rep)) (first w)) where
-  abbrev Held : ℕ → Type 0
-  Held i = GraphHeld (pathOf s .graph i) (repOf (w .rep)) (pathOf w .graph i)
+-- The whole path, link by link: a number that is no link of s has no facts there
+module _ (w s : code.Facts) where
+  abbrev graph : code.Facts → ℕ → Graph
+  graph p = graphs (p .single) (p .link) (p .reach)
 
-  covered : ((i : ℕ) → Held i) → Covers (pathOf w) (pathOf s)
-  unfolding pathOf
-  covered h = record { same-reps = same; links-held = λ i. h i .0; reach-held = λ i. h i .1 }
+  abbrev pub LinkHeld : ℕ → Type 0
+  LinkHeld k = GraphHeld (graph s k) (repOf (w .rep)) (graph w k)
 
-  none : (i : ℕ) → pathOf s .graph i ≡ noFacts → Held i
+  no-facts : (k : ℕ) → graph s k ≡ noFacts → LinkHeld k
   unfolding noFacts
-  none i e = (λ a b f. absurd (true-false f (ap (λ (g : Graph). g .link a b) e)), λ a b f. absurd (true-false f (ap (λ (g : Graph). g .reach a b) e)))
+  no-facts k e = (λ a b f. absurd (true-false f (ap (λ (g : Graph). g .link a b) e)), λ a b f. absurd (true-false f (ap (λ (g : Graph). g .reach a b) e)))
 
-  at : (i : ℕ) (f g : Graph) → f ≡ pathOf s .graph i → g ≡ pathOf w .graph i → GraphHeld f (repOf (w .rep)) g → Held i
-  at i f g e d h = subst (λ (f : Graph). GraphHeld f (repOf (w .rep)) (pathOf w .graph i)) e (subst (λ (g : Graph). GraphHeld f (repOf (w .rep)) g) d h)
+  -- 0 is the number of no link
+  pub links-none : Below LinkHeld 1
+  links-none k l = no-facts k (graph-at (s .single) (s .link) (s .reach) k (omega (arith, l, links-few (s .single) .0)) ∙ graph-none (s .link) (s .reach) k (omega arith))
 
-  first-held : (i : ℕ) → i ≡ 1 → Held i
-  first-held i e = at i (first s) (first w) (graph-first s i e) (graph-first w i e) here
+  -- a link in rows of its own
+  pub link-held : (k : ℕ) → k ≤ cond (s .single) 1 3 → k ≤ cond (w .single) 1 3 → (l r l′ r′ : List ℕ) → square l ≡ cube (s .link) k → square r ≡ cube (s .reach) k → square l′ ≡ cube (w .link) k → square r′ ≡ cube (w .reach) k → GraphHeld (graphOf l r) (repOf (w .rep)) (graphOf l′ r′) → LinkHeld k
+  link-held k m m′ l r l′ r′ d e d′ e′ =
+      subst₂ (λ (f g : Graph). GraphHeld f (repOf (w .rep)) g) (graph-own (s .single) (s .link) (s .reach) k m l r d e) (graph-own (w .single) (w .link) (w .reach) k m′ l′ r′ d′ e′)
 
-  pub covers-one : s .single ≡ true → Covers (pathOf w) (pathOf s)
-  covers-one e = covered (by-link s Held none first-held (λ i f d. absurd (true-false e d)) (λ i f d. absurd (true-false e d)))
-
-  pub covers-three : w .single ≡ false → GraphHeld (second s) (repOf (w .rep)) (second w) → GraphHeld (third s) (repOf (w .rep)) (third w) → Covers (pathOf w) (pathOf s)
-  covers-three few h k =
-      covered
-      (by-link s Held none first-held (λ i e d. at i (second s) (second w) (graph-second s i e d) (graph-second w i e few) h)
-      (λ i e d. at i (third s) (third w) (graph-third s i e d) (graph-third w i e few) k))
+  pub links-all : SameReps (repOf (w .rep)) (repOf (s .rep)) → (k : ℕ) → cond (s .single) 1 3 < k → Below LinkHeld k → Covers (pathOf w) (pathOf s)
+  unfolding pathOf
+  links-all same k past below = record { same-reps = same; links-held = λ i. each i .0; reach-held = λ i. each i .1 }
+    where
+      each : (i : ℕ) → LinkHeld i
+      each i = ⊎-elim (λ l. below i (omega (arith, l, past))) (λ l. no-facts i (graph-beyond (s .single) (s .link) (s .reach) i l)) (le-cases i (cond (s .single) 1 3))

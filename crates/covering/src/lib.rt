@@ -1,5 +1,6 @@
 // A path whose facts another path holds, in the terms that stand for them there: whatever heap meets the other meets it too.
 use facts::Facts;
+use link_rows::Link;
 use rows::Term;
 ghost use mathlib.Core.Path.{_≡_};
 ghost use mathlib.Core.Bool.{true};
@@ -117,17 +118,20 @@ pub fn covers(w: Facts, s: Facts) -> bool
     if !same_reps(&w.rep, &s.rep) {
         return false;
     }
-    if !graph_held(&s.link, &s.reach, &w.rep, &w.link, &w.reach) {
+    let count = facts::links(s.single);
+    if facts::links(w.single) < count {
         return false;
     }
-    if s.single {
-        return true;
+    let mut k: usize = 1;
+    while k <= count {
+        let link = link_rows::rows_of(&s.link, Link(k));
+        let reach = link_rows::rows_of(&s.reach, Link(k));
+        let other_link = link_rows::rows_of(&w.link, Link(k));
+        let other_reach = link_rows::rows_of(&w.reach, Link(k));
+        if !graph_held(&link, &reach, &w.rep, &other_link, &other_reach) {
+            return false;
+        }
+        k += 1;
     }
-    if w.single {
-        return false;
-    }
-    if !graph_held(&s.link2, &s.reach2, &w.rep, &w.link2, &w.reach2) {
-        return false;
-    }
-    graph_held(&s.link3, &s.reach3, &w.rep, &w.link3, &w.reach3)
+    true
 }

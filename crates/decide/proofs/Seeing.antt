@@ -8,7 +8,7 @@ use Rattle.rules.specs.declared.Choice.the-variants as choice
 use Rattle.rules.specs.declared.Rule.{Rule}
 use Rattle.rules.specs.declared.Third.{Third}
 use Rattle.rows.specs.declared.Term.{Term}
-use Rattle.facts.specs.declared.Link.{Link}
+use Rattle.link_rows.specs.declared.Link.{Link}
 use Rattle.clash.specs.Answers.{lineOf}
 use Rattle.clash.specs.declared.Clash.{Clash}
 use Rattle.clash.specs.declared.Clash.the-variants as found

@@ -2,8 +2,8 @@
 // our own. What each of them says is right whatever it picks, and one that runs out says nothing.
 use clash::Clash;
 use facts::Facts;
-use facts::Link;
 use kinds::Kind;
+use link_rows::Link;
 use plain_steps::Told;
 use query::Layout;
 use rows::Term;
@@ -53,34 +53,17 @@ pub enum Seen {
 }
 
 // The path that these arrays hold, copied.
-pub fn held<'a>(
-    single: bool,
-    rep: &'a [u8; 17],
-    link: &'a [u32; 17],
-    reach: &'a [u32; 17],
-    link2: &'a [u32; 17],
-    reach2: &'a [u32; 17],
-    link3: &'a [u32; 17],
-    reach3: &'a [u32; 17],
-) -> Facts
-    ensures { λ r. ⌜ pathOf r ≡ pathAs single (now (rep .entry)) (now (link .entry)) (now (reach .entry)) (now (link2 .entry)) (now (reach2 .entry)) (now (link3 .entry)) (now (reach3 .entry)) ⌝ }
+pub fn held<'a>(single: bool, rep: &'a [u8; 17], link: &'a [u32; 51], reach: &'a [u32; 51]) -> Facts
+    ensures { λ r. ⌜ pathOf r ≡ pathAs single (now (rep .entry)) (now (link .entry)) (now (reach .entry)) ⌝ }
 {
     let own_rep = *rep;
     let own_link = *link;
     let own_reach = *reach;
-    let own_link2 = *link2;
-    let own_reach2 = *reach2;
-    let own_link3 = *link3;
-    let own_reach3 = *reach3;
     Facts {
         rep: own_rep,
         single,
         link: own_link,
         reach: own_reach,
-        link2: own_link2,
-        reach2: own_reach2,
-        link3: own_link3,
-        reach3: own_reach3,
     }
 }
 
@@ -91,39 +74,17 @@ fn sees<'a>(
     how: usize,
     single: bool,
     rep: &'a [u8; 17],
-    link: &'a [u32; 17],
-    reach: &'a mut [u32; 17],
-    link2: &'a [u32; 17],
-    reach2: &'a mut [u32; 17],
-    link3: &'a [u32; 17],
-    reach3: &'a mut [u32; 17],
+    link: &'a [u32; 51],
+    reach: &'a mut [u32; 51],
 ) -> Seen
-    requires { ⌜ Within layout (now query) × (length (now reach) ≡ 17) × (length (now reach2) ≡ 17) × (length (now reach3) ≡ 17) ⌝ }
-    ensures { λ r. ⌜ Closes (layout .terms) (pathAs single (now (rep .entry)) (now (link .entry)) (now (reach .entry)) (now (link2 .entry)) (now (reach2 .entry)) (now (link3 .entry)) (now (reach3 .entry))) (pathAs single (now (rep .entry)) (now (link .entry)) (now (reach .exit)) (now (link2 .entry)) (now (reach2 .exit)) (now (link3 .entry)) (now (reach3 .exit))) × Sees (said layout (now (query .entry))) (pathAs single (now (rep .entry)) (now (link .entry)) (now (reach .exit)) (now (link2 .entry)) (now (reach2 .exit)) (now (link3 .entry)) (now (reach3 .exit))) r × (length (now (reach .exit)) ≡ 17) × (length (now (reach2 .exit)) ≡ 17) × (length (now (reach3 .exit)) ≡ 17) ⌝ }
+    requires { ⌜ Within layout (now query) × (length (now reach) ≡ 51) ⌝ }
+    ensures { λ r. ⌜ Closes (layout .terms) (pathAs single (now (rep .entry)) (now (link .entry)) (now (reach .entry))) (pathAs single (now (rep .entry)) (now (link .entry)) (now (reach .exit))) × Sees (said layout (now (query .entry))) (pathAs single (now (rep .entry)) (now (link .entry)) (now (reach .exit))) r × (length (now (reach .exit)) ≡ 51) ⌝ }
 {
-    closing::close_rows(
-        single,
-        rep,
-        link,
-        reach,
-        link2,
-        reach2,
-        link3,
-        reach3,
-        layout.terms,
-    );
-    if let Clash::At(_, _, _) = clash::find_clash(
-        query,
-        layout,
-        rep,
-        single,
-        reach,
-        reach2,
-        reach3,
-    ) {
+    closing::close_rows(single, rep, link, reach, layout.terms);
+    if let Clash::At(_, _, _) = clash::find_clash(query, layout, rep, single, reach) {
         return Seen::Clashing;
     }
-    let s = held(single, rep, link, reach, link2, reach2, link3, reach3);
+    let s = held(single, rep, link, reach);
     let Choice::Apply(k, rule, x, y, z) = picking::pick(query, layout, how, s) else {
         return Seen::Saturated;
     };
@@ -138,31 +99,15 @@ fn search_in(
     left: usize,
     single: bool,
     rep: &mut [u8; 17],
-    link: &mut [u32; 17],
-    reach: &mut [u32; 17],
-    link2: &mut [u32; 17],
-    reach2: &mut [u32; 17],
-    link3: &mut [u32; 17],
-    reach3: &mut [u32; 17],
+    link: &mut [u32; 51],
+    reach: &mut [u32; 51],
     budget: usize,
 ) -> Told
-    requires { ⌜ Within layout (now query) × Accepted (said layout (now query)) × Known (said layout (now query)) (pathAs single (now rep) (now link) (now reach) (now link2) (now reach2) (now link3) (now reach3)) × Whole (now rep) (now link) (now reach) (now link2) (now reach2) (now link3) (now reach3) ⌝ }
-    ensures { λ r. ⌜ Ends (said layout (now (query .entry))) (pathAs single (now (rep .entry)) (now (link .entry)) (now (reach .entry)) (now (link2 .entry)) (now (reach2 .entry)) (now (link3 .entry)) (now (reach3 .entry))) (r .kind) (pathAs single (now (rep .exit)) (now (link .exit)) (now (reach .exit)) (now (link2 .exit)) (now (reach2 .exit)) (now (link3 .exit)) (now (reach3 .exit))) × Whole (now (rep .exit)) (now (link .exit)) (now (reach .exit)) (now (link2 .exit)) (now (reach2 .exit)) (now (link3 .exit)) (now (reach3 .exit)) ⌝ }
+    requires { ⌜ Within layout (now query) × Accepted (said layout (now query)) × Known (said layout (now query)) (pathAs single (now rep) (now link) (now reach)) × Whole (now rep) (now link) (now reach) ⌝ }
+    ensures { λ r. ⌜ Ends (said layout (now (query .entry))) (pathAs single (now (rep .entry)) (now (link .entry)) (now (reach .entry))) (r .kind) (pathAs single (now (rep .exit)) (now (link .exit)) (now (reach .exit))) × Whole (now (rep .exit)) (now (link .exit)) (now (reach .exit)) ⌝ }
 {
     let n = layout.terms;
-    match sees(
-        query,
-        layout,
-        how,
-        single,
-        rep,
-        link,
-        reach,
-        link2,
-        reach2,
-        link3,
-        reach3,
-    ) {
+    match sees(query, layout, how, single, rep, link, reach) {
         Seen::Saturated => {
             return Told {
                 kind: Kind::Open,
@@ -195,19 +140,11 @@ fn search_in(
                 let mut own_rep = *rep;
                 let mut own_link = *link;
                 let mut own_reach = *reach;
-                let mut own_link2 = *link2;
-                let mut own_reach2 = *reach2;
-                let mut own_link3 = *link3;
-                let mut own_reach3 = *reach3;
                 branch::take(
                     single,
                     &mut own_rep,
                     &mut own_link,
                     &mut own_reach,
-                    &mut own_link2,
-                    &mut own_reach2,
-                    &mut own_link3,
-                    &mut own_reach3,
                     n,
                     k,
                     rule,
@@ -225,10 +162,6 @@ fn search_in(
                     &mut own_rep,
                     &mut own_link,
                     &mut own_reach,
-                    &mut own_link2,
-                    &mut own_reach2,
-                    &mut own_link3,
-                    &mut own_reach3,
                     fuel,
                 );
                 let kind = w.kind;
@@ -236,10 +169,6 @@ fn search_in(
                     *rep = own_rep;
                     *link = own_link;
                     *reach = own_reach;
-                    *link2 = own_link2;
-                    *reach2 = own_reach2;
-                    *link3 = own_link3;
-                    *reach3 = own_reach3;
                     return w;
                 }
                 fuel = w.budget;
@@ -262,10 +191,6 @@ fn search(query: &[u8], layout: Layout, how: usize, left: usize, s: Facts, budge
     let mut rep = s.rep;
     let mut link = s.link;
     let mut reach = s.reach;
-    let mut link2 = s.link2;
-    let mut reach2 = s.reach2;
-    let mut link3 = s.link3;
-    let mut reach3 = s.reach3;
     let w = search_in(
         query,
         layout,
@@ -275,10 +200,6 @@ fn search(query: &[u8], layout: Layout, how: usize, left: usize, s: Facts, budge
         &mut rep,
         &mut link,
         &mut reach,
-        &mut link2,
-        &mut reach2,
-        &mut link3,
-        &mut reach3,
         budget,
     );
     let kind = w.kind;
@@ -290,10 +211,6 @@ fn search(query: &[u8], layout: Layout, how: usize, left: usize, s: Facts, budge
             single,
             link,
             reach,
-            link2,
-            reach2,
-            link3,
-            reach3,
         },
     }
 }

@@ -12,7 +12,7 @@ use borrow.Author.Tests.{ne-eqb, lt-ltb, le-ltb, leb-true, leb-false, eqb-true, 
 use Rattle.logic.specs.Search.{_and_, _or_, at}
 use Rattle.logic.specs.Facts.{Line, line}
 use Rattle.logic.specs.Derivation.{linesFrom, linesIn}
-use Rattle.rows.proofs.Selections.{and-both}
+use Rattle.rows.proofs.Selections.{and-four}
 use Rattle.checking.specs.Fitting.{sameLine}
 use Rattle.checking.specs.CheckCall.{countIn, misshapen}
 use Rattle.checking.proofs.Claims.{count-lines}
@@ -88,11 +88,8 @@ module _ (bytes : List ℕ) (count i kept replaced : ℕ) (s : Shaped bytes coun
   pub join-there : i < count → ((eqb (getD bytes (4 * i + 2) 0) 10 && eqb (getD bytes (4 * i + 2 + 1) 0) kept) && eqb (getD bytes (4 * i + 2 + 2) 0) replaced) && eqb (getD bytes (4 * i + 2 + 3) 0) 0 ≡ isLine (lineAt bytes i) (line 10 kept replaced 0)
   unfolding isLine sameLine
   join-there h =
-      all-four (eqb (getD bytes (4 * i + 2) 0) 10) (eqb (getD bytes (4 * i + 2 + 1) 0) kept) (eqb (getD bytes (4 * i + 2 + 2) 0) replaced) (eqb (getD bytes (4 * i + 2 + 3) 0) 0)
+      and-four (eqb (getD bytes (4 * i + 2) 0) 10) (eqb (getD bytes (4 * i + 2 + 1) 0) kept) (eqb (getD bytes (4 * i + 2 + 2) 0) replaced) (eqb (getD bytes (4 * i + 2 + 3) 0) 0)
       ∙ sym (rw (line-there bytes count i s h) refl)
-    where
-      all-four : (a b c d : Bool) → ((a && b) && c) && d ≡ (a and b and c and d)
-      all-four a b c d = and-both ((a && b) && c) d ∙ ap (λ (p : Bool). p and d) (and-both (a && b) c ∙ ap (λ (p : Bool). p and c) (and-both a b))
 
 -- The shape
 

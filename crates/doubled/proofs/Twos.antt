@@ -1,63 +1,33 @@
--- What is doubled: read off the links alone, and found by a loop over the terms.
+-- What is doubled: read off the links alone, and found by loops over terms and links.
 use Prim.Native.Nat.{ℕ, _+_, _-_, _≤_, _<_}
 use native.Mathlib.Omega.{arith}
-use mathlib.Core.Path.{_≡_, refl, ap}
-use mathlib.Core.Logic.{⊎-elim}
-use mathlib.Core.Bool.{Bool, true, false, cond}
+use mathlib.Core.Path.{_≡_, sym, ap, fun-ext}
+use mathlib.Core.Bool.{Bool, cond}
 use mathlib.Core.List.{List}
-use mathlib.Core.Option.{Option, none, some}
-use Rattle.logic.specs.Search.{from, orElse, firstOf}
-use Rattle.logic.specs.Facts.{Facts, linkNumbers, terms, firstTwo, successors, doubled}
-use Rattle.theory.proofs.Basics.Search.{bool-cases, firstOf-some}
-use Rattle.theory.proofs.Calls.OneLink.{firstOf-one}
-use Rattle.facts.specs.Path.{graphs, graphOf, pathAs, linksIn}
+use mathlib.Core.Option.{Option, some}
+use Rattle.logic.specs.Search.{from, firstOf}
+use Rattle.logic.specs.Facts.{Graph, Facts, linkNumbers, terms, firstTwo, successors, doubled}
+use Rattle.theory.proofs.Basics.Search.{firstOf-some, firstOf-alike, from-mem}
+use Rattle.facts.specs.Path.{graphs, graphIn, pathAs, linksBy}
+use Rattle.facts.proofs.Path.{graph-at}
 use Rattle.rows.proofs.Successors.{two-below}
 use Rattle.doubled.specs.Doubled.{twoIn, doubledIn}
 
 -- what is doubled is read off the links alone
-module _ (n : ℕ) (single : Bool) (rep link reach link2 reach2 link3 reach3 : List ℕ) where
-  abbrev path : Facts
-  path = pathAs single rep link reach link2 reach2 link3 reach3
+module _ (n : ℕ) (single : Bool) (rep link reach : List ℕ) where
+  links-alone : (k t : ℕ) → k ≤ cond single 1 3 → successors n (linksBy link k) t ≡ successors n (graphs single link reach k) t
+  unfolding successors linksBy graphIn
+  links-alone k t h = ap (λ (g : Graph). successors n g t) (sym (graph-at single link reach k h))
 
-  of-one : single ≡ true → doubledIn n single link link2 link3 ≡ doubled n path
-  unfolding doubledIn twoIn doubled linkNumbers from firstOf successors linksIn graphOf graphs
-  of-one e = rw e refl
+  pub doubled-links : doubledIn n single link ≡ doubled n (pathAs single rep link reach)
+  unfolding doubledIn twoIn doubled linkNumbers
+  doubled-links =
+      ap (λ (f : ℕ → Option (ℕ × ℕ)). firstOf f (terms n))
+      (fun-ext (λ t. firstOf-alike _ _ (from (cond single 1 3) 1) (λ k m. let r = from-mem (cond single 1 3) 1 k m in ap firstTwo (links-alone k t (omega (arith, r))))))
 
-  of-three : single ≡ false → doubledIn n single link link2 link3 ≡ doubled n path
-  unfolding doubledIn twoIn doubled linkNumbers from firstOf successors linksIn graphOf graphs
-  of-three e = rw e refl
-
-  pub doubled-links : doubledIn n single link link2 link3 ≡ doubled n path
-  doubled-links = ⊎-elim of-one of-three (bool-cases single)
-
--- the first link that has two successors
-module _ (n : ℕ) (single : Bool) (f g h : List ℕ) (t : ℕ) where
-  abbrev two : List ℕ → Option (ℕ × ℕ)
-  two l = firstTwo (successors n (linksIn l) t)
-
-  pub two-first : (ab : ℕ × ℕ) → two f ≡ some ab → twoIn n single f g h t ≡ some ab
-  unfolding twoIn firstOf orElse
-  two-first ab e = rw e refl
-
-  pub two-alone : two f ≡ none → single ≡ true → twoIn n single f g h t ≡ none
-  unfolding twoIn firstOf orElse
-  two-alone e s = rw (e, s) refl
-
-  pub two-second : (ab : ℕ × ℕ) → two f ≡ none → single ≡ false → two g ≡ some ab → twoIn n single f g h t ≡ some ab
-  unfolding twoIn firstOf orElse
-  two-second ab e s d = rw (e, s, d) refl
-
-  pub two-third : two f ≡ none → single ≡ false → two g ≡ none → twoIn n single f g h t ≡ two h
-  unfolding twoIn firstOf orElse
-  two-third e s d = rw (e, s, d) (firstOf-one two h)
-
--- the search of all terms as a loop meets it
-pub all-terms : (n : ℕ) (f : ℕ → Option (ℕ × ℕ)) → firstOf f (terms n) ≡ firstOf f (from (n + 1 - 1) 1)
-unfolding terms
-all-terms n f = ap (λ (j : ℕ). firstOf f (from j 1)) one-less
-  where
-    one-less : n ≡ n + 1 - 1
-    one-less = omega arith
+-- the search of the numbers up to m as a loop up to `last` meets it
+pub up-to : (m last : ℕ) (f : ℕ → Option (ℕ × ℕ)) → last ≡ m → firstOf f (from m 1) ≡ firstOf f (from (last + 1 - 1) 1)
+up-to m last f e = ap (λ (j : ℕ). firstOf f (from j 1)) (omega arith)
 
 pub doubled-below : (n : ℕ) (s : Facts) (a b : ℕ) → doubled n s ≡ some (a, b) → (a < b) × (b ≤ n)
 unfolding doubled successors

@@ -15,6 +15,7 @@ use Rattle.logic.specs.Shown.{sizeIn, nodeIn, wellFormed}
 use Rattle.theory.proofs.Basics.Search.{bool-cases, not-of, true-false, any-true, any-intro, select-mem, select-intro, from-mem, from-intro}
 use Rattle.theory.proofs.Basics.Compare.{eq-cases}
 use Rattle.theory.proofs.Completeness.Placed.{length-from}
+use Rattle.theory.proofs.Basics.Count.{getD-behind}
 use Rattle.drawing.specs.Text.{countIn, linkIn, datumIn, booleansIn, reportSize, commentLine, nodeLine, arrowLine, termsAt, text}
 use Rattle.drawing.specs.Reader.{read, labelOf, reportOf, reportIn}
 use Rattle.drawing.specs.Claims.{unpadded}
@@ -208,31 +209,21 @@ report-of-text a b r s e = sym (text-gives-report a r) ∙ ap reportIn e ∙ tex
 
 -- Zeros behind a report
 
-getD-zeros : (k i : ℕ) → _≡_ {A = ℕ} (getD (replicate k 0) i 0) 0
-getD-zeros zero i = refl
-getD-zeros (suc k) zero = refl
-getD-zeros (suc k) (suc i) = getD-zeros k i
-
-getD-unseen : (bytes : List ℕ) (k i : ℕ) → getD (bytes ++ replicate k 0) i 0 ≡ getD bytes i 0
-getD-unseen [] k i = getD-zeros k i
-getD-unseen (b ∷ bytes) k zero = refl
-getD-unseen (b ∷ bytes) k (suc i) = getD-unseen bytes k i
-
 flat-same : (g h : ℕ → List ℕ) → ((v : ℕ) → g v ≡ h v) → (vs : List ℕ) → flatMap g vs ≡ flatMap h vs
 flat-same g h e vs = ap (λ (u : ℕ → List ℕ). flatMap u vs) (fun-ext e)
 
 module _ (bytes : List ℕ) (k : ℕ) where
   node-unseen : (v : ℕ) → nodeLine (bytes ++ replicate k 0) v ≡ nodeLine bytes v
   unfolding nodeLine termsAt countIn datumIn sizeIn nodeIn
-  node-unseen v = simp (getD-unseen bytes k)
+  node-unseen v = simp (getD-behind bytes k)
 
   arrow-unseen : (v : ℕ) → arrowLine (bytes ++ replicate k 0) v ≡ arrowLine bytes v
   unfolding arrowLine linkIn
-  arrow-unseen v = simp (getD-unseen bytes k)
+  arrow-unseen v = simp (getD-behind bytes k)
 
   pub zeros-unseen : text (bytes ++ replicate k 0) ≡ text bytes
   unfolding text commentLine booleansIn countIn sizeIn
-  zeros-unseen = simp (getD-unseen bytes k, flat-same (nodeLine (bytes ++ replicate k 0)) (nodeLine bytes) node-unseen, flat-same (arrowLine (bytes ++ replicate k 0)) (arrowLine bytes) arrow-unseen)
+  zeros-unseen = simp (getD-behind bytes k, flat-same (nodeLine (bytes ++ replicate k 0)) (nodeLine bytes) node-unseen, flat-same (arrowLine (bytes ++ replicate k 0)) (arrowLine bytes) arrow-unseen)
 
 pub text-of-report : (a b : List ℕ) → wellFormed 1 a ≡ true → wellFormed 1 b ≡ true → unpadded a ≡ unpadded b → text a ≡ text b
 text-of-report a b r s e = alone a r ∙ ap text e ∙ sym (alone b s)

@@ -184,7 +184,7 @@ room-next count i w h = rw (left-next count i h, suc-mul) (omega arith)
 abbrev pub entriesLeft : (ℕ → List Role) → ℕ → ℕ → List Role
 entriesLeft roles count i = flatMap roles (from (count - i) (i + 1))
 
-entries-next : (roles : ℕ → List Role) (count i : ℕ) → i < count → entriesLeft roles count i ≡ roles (i + 1) ++ entriesLeft roles count (i + 1)
+pub entries-next : (roles : ℕ → List Role) (count i : ℕ) → i < count → entriesLeft roles count i ≡ roles (i + 1) ++ entriesLeft roles count (i + 1)
 unfolding flatMap from
 entries-next roles count i h = rw (left-next count i h) (ap (λ (j : ℕ). roles (i + 1) ++ flatMap roles (from (count - (i + 1)) j)) (sym (add-one (i + 1))))
 

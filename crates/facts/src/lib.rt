@@ -1,5 +1,5 @@
-// The facts of a path as the code holds them: a relation in rows for the links and for the reachability of each link, and what each term
-// was replaced by.
+// The facts of a path as the code holds them: what each term was replaced by, and the rows of each link and of its reachability.
+use link_rows::Link;
 use rows::Term;
 ghost use mathlib.Core.Path.{_≡_};
 ghost use Prim.Native.Nat.{_≤_, _<_};
@@ -8,23 +8,15 @@ ghost use lib.Dec.{eqb};
 ghost use lib.ListN.{length};
 ghost use Rattle.logic.specs.Facts.{addReach, replace, live};
 ghost use Rattle.rows.specs.Bits.{bit};
-ghost use Rattle.rows.specs.Square.{square};
 ghost use Rattle.facts.specs.Path.{pathAs, pathOf, Whole, repOf, replaceRep, replacedBy, HasLink};
 
-// A link by its number, from 1.
-pub struct Link(pub usize);
-
-// What each term was replaced by, as a byte, and the facts of each link: f(a) = b, and "a reaches b", are bit b of row a. A single link is
-// held in `link` and `reach`, and the rows of the other two are not read then.
+// What each term was replaced by, as a byte, and the facts of each link, 17 rows a link: f(a) = b, and "a reaches b", are bit b of row a.
+// A path of a single link does not read the rows of the other two.
 pub struct Facts {
     pub rep: [u8; 17],
     pub single: bool,
-    pub link: [u32; 17],
-    pub reach: [u32; 17],
-    pub link2: [u32; 17],
-    pub reach2: [u32; 17],
-    pub link3: [u32; 17],
-    pub reach3: [u32; 17],
+    pub link: [u32; 51],
+    pub reach: [u32; 51],
 }
 
 // What the term t was replaced by; a number above 16 is no term, and is not replaced.
@@ -66,41 +58,14 @@ pub fn live(rep: &[u8; 17], n: usize) -> u32
     out & rows::term_row(n)
 }
 
-// How many links the path has.
-pub fn links(s: Facts) -> usize
-    ensures { λ r. ⌜ (r ≡ pathOf s .links) × (0 < r) × (r ≤ 3) ⌝ }
+// How many links a path has.
+pub fn links(single: bool) -> usize
+    ensures { λ r. ⌜ (r ≡ cond single 1 3) × (0 < r) × (r ≤ 3) ⌝ }
 {
-    if s.single {
+    if single {
         return 1;
     }
     3
-}
-
-// The facts of one link as rows: f(a) = b, and "a reaches b".
-pub fn link_rows(s: Facts, k: Link) -> [u32; 17]
-    requires { ⌜ HasLink (pathOf s) (k .0) ⌝ }
-    ensures { λ r. ⌜ square r ≡ pathOf s .graph (k .0) .link ⌝ }
-{
-    if k.0 == 1 {
-        return s.link;
-    }
-    if k.0 == 2 {
-        return s.link2;
-    }
-    s.link3
-}
-
-pub fn reach_rows(s: Facts, k: Link) -> [u32; 17]
-    requires { ⌜ HasLink (pathOf s) (k .0) ⌝ }
-    ensures { λ r. ⌜ square r ≡ pathOf s .graph (k .0) .reach ⌝ }
-{
-    if k.0 == 1 {
-        return s.reach;
-    }
-    if k.0 == 2 {
-        return s.reach2;
-    }
-    s.reach3
 }
 
 // The reachability fact is added.
@@ -108,18 +73,8 @@ pub fn add_reach(s: Facts, k: Link, a: Term, b: Term) -> Facts
     requires { ⌜ HasLink (pathOf s) (k .0) × (a .0 ≤ 16) × (b .0 ≤ 16) ⌝ }
     ensures { λ r. ⌜ pathOf r ≡ addReach (k .0) (a .0) (b .0) (pathOf s) ⌝ }
 {
-    let at = a.0;
-    let added = rows::only(b.0);
     let mut t = s;
-    if k.0 == 1 {
-        t.reach[at] = t.reach[at] | added;
-        return t;
-    }
-    if k.0 == 2 {
-        t.reach2[at] = t.reach2[at] | added;
-        return t;
-    }
-    t.reach3[at] = t.reach3[at] | added;
+    link_rows::add(&mut t.reach, k, a, b);
     t
 }
 
@@ -151,26 +106,16 @@ fn replace_rep(rep: &mut [u8; 17], lo: Term, hi: Term)
 pub fn replace(
     single: bool,
     rep: &mut [u8; 17],
-    link: &mut [u32; 17],
-    reach: &mut [u32; 17],
-    link2: &mut [u32; 17],
-    reach2: &mut [u32; 17],
-    link3: &mut [u32; 17],
-    reach3: &mut [u32; 17],
+    link: &mut [u32; 51],
+    reach: &mut [u32; 51],
     lo: Term,
     hi: Term,
 )
-    requires { ⌜ (lo .0 < hi .0) × (hi .0 ≤ 16) × Whole (now rep) (now link) (now reach) (now link2) (now reach2) (now link3) (now reach3) ⌝ }
-    ensures { λ _. ⌜ (pathAs single (now (rep .exit)) (now (link .exit)) (now (reach .exit)) (now (link2 .exit)) (now (reach2 .exit)) (now (link3 .exit)) (now (reach3 .exit)) ≡ replace (lo .0) (hi .0) (pathAs single (now (rep .entry)) (now (link .entry)) (now (reach .entry)) (now (link2 .entry)) (now (reach2 .entry)) (now (link3 .entry)) (now (reach3 .entry)))) × Whole (now (rep .exit)) (now (link .exit)) (now (reach .exit)) (now (link2 .exit)) (now (reach2 .exit)) (now (link3 .exit)) (now (reach3 .exit)) ⌝ }
+    requires { ⌜ (lo .0 < hi .0) × (hi .0 ≤ 16) × Whole (now rep) (now link) (now reach) ⌝ }
+    ensures { λ _. ⌜ (pathAs single (now (rep .exit)) (now (link .exit)) (now (reach .exit)) ≡ replace (lo .0) (hi .0) (pathAs single (now (rep .entry)) (now (link .entry)) (now (reach .entry)))) × Whole (now (rep .exit)) (now (link .exit)) (now (reach .exit)) ⌝ }
 {
+    let count = links(single);
     replace_rep(rep, lo, hi);
-    rows::replace_in(link, lo, hi);
-    rows::replace_in(reach, lo, hi);
-    if single {
-        return;
-    }
-    rows::replace_in(link2, lo, hi);
-    rows::replace_in(reach2, lo, hi);
-    rows::replace_in(link3, lo, hi);
-    rows::replace_in(reach3, lo, hi);
+    link_rows::replace(link, count, lo, hi);
+    link_rows::replace(reach, count, lo, hi);
 }

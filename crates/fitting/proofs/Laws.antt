@@ -9,15 +9,19 @@ use lib.Dec.{eqb, ltb}
 use borrow.Author.Tests.{eq-eqb, ne-eqb, lt-ltb, le-ltb, ltb-true}
 use native.Mathlib.Nat.{eq-or-lt-of-le}
 use Rattle.logic.specs.Search.{_and_}
-use Rattle.logic.specs.Facts.{Facts, Graph, live}
-use Rattle.logic.specs.Rules.{Rule, REFLEX, TRANS1, TRANS2, FUNC, CYCLE, SCC, TOTAL, SHARE, triple, move, next, returns, conditions, alternatives, applies}
+use Rattle.logic.specs.Facts.{Graph, live}
+use Rattle.logic.specs.Rules.{Rule, Triple, REFLEX, TRANS1, TRANS2, FUNC, CYCLE, SCC, TOTAL, SHARE, triple, move, next, returns, conditions, alternatives, applies}
 use Rattle.theory.proofs.Basics.Search.{and-left}
+use Rattle.rows.proofs.Selections.{and-four}
 use Rattle.rows.specs.Square.{square}
-use Rattle.facts.specs.Path.{graphOf, linksIn, HasLink}
+use Rattle.link_rows.specs.Cube.{cube}
+use Rattle.facts.specs.Path.{pathOf, graphOf, linksIn, HasLink}
+use Rattle.facts.specs.declared.Facts as code
+use Rattle.facts.proofs.Path.{links-few, graph-own}
 use Rattle.rules.specs.Tests.{pairTest, thirdTest, isNotCycle}
 use Rattle.rules.specs.Allowed.{allowed}
 use Rattle.link_steps.specs.Cycle.{stepsTo}
-use Rattle.rules.proofs.Halves.{halves, applies-allowed}
+use Rattle.rules.proofs.Halves.{is-cycle, halves, applies-allowed}
 use Rattle.link_steps.proofs.Around.{steps-le, returns-not, returns-at, round-is, steps-links}
 
 -- Tests that are made one after the other
@@ -36,11 +40,6 @@ three-right : (a b c : Bool) → (a && b) && c ≡ (a and (b and c))
 unfolding _and_
 three-right true b c = both b c
 three-right false b c = refl
-
-four : (a b c d : Bool) → ((a && b) && c) && d ≡ (a and b and c and d)
-unfolding _and_
-four true b c d = three b c d
-four false b c d = refl
 
 four-right : (a b c d : Bool) → ((a && b) && c) && d ≡ (a and (b and c and d))
 unfolding _and_
@@ -61,7 +60,7 @@ module _ (lives : ℕ → Bool) (g : Graph) (x y z : ℕ) (k : Rule) where
 
   pub reflex-passes : (alive xx : Bool) → k ≡ REFLEX → alive ≡ lives x → xx ≡ g .reach x x → Passes (((alive && not xx) && eqb y 0) && eqb z 0)
   unfolding pairTest thirdTest
-  reflex-passes alive xx e a b = rw (e, a, b) (four (lives x) (not (g .reach x x)) (eqb y 0) (eqb z 0))
+  reflex-passes alive xx e a b = rw (e, a, b) (and-four (lives x) (not (g .reach x x)) (eqb y 0) (eqb z 0))
 
   pub trans1-passes : (near far : Bool) → k ≡ TRANS1 → near ≡ g .link x y → far ≡ g .reach x y → Passes ((near && not far) && eqb z 0)
   unfolding pairTest thirdTest
@@ -92,9 +91,25 @@ pub cycle-excluded : (r : Rule) → r ≡ CYCLE → isNotCycle r ≡ true → �
 unfolding isNotCycle
 cycle-excluded r e h = false≢true (sym (ap isNotCycle e) ∙ h)
 
--- a rule of link 1, by its two tests
-pub applies-halves : (n : ℕ) (s : Facts) → HasLink s 1 → (r : Rule) (x y z : ℕ) → isNotCycle r ≡ true → applies n s (move 1 r (triple x y z)) ≡ (pairTest (live n s) (s .graph 1) x y r and thirdTest (s .graph 1) x y z r)
-applies-halves n s has r x y z h = applies-allowed n s 1 has r (triple x y z) ∙ halves n (live n s) (s .graph 1) x y z r h
+-- A rule of link 1 of a path, by rows of that link's own
+module _ (n : ℕ) (s : code.Facts) (link reach : List ℕ) (e : square link ≡ cube (s .link) 1) (f : square reach ≡ cube (s .reach) 1) where
+  has-one : HasLink (pathOf s) 1
+  unfolding pathOf
+  has-one = (omega arith, links-few (s .single) .0)
+
+  own-rows : graphOf link reach ≡ pathOf s .graph 1
+  unfolding pathOf
+  own-rows = graph-own (s .single) (s .link) (s .reach) 1 (links-few (s .single) .0) link reach e f
+
+  applies-own : (r : Rule) (t : Triple) → allowed n (live n (pathOf s)) (graphOf link reach) (move 1 r t) ≡ applies n (pathOf s) (move 1 r t)
+  applies-own r t = ap (λ (g : Graph). allowed n (live n (pathOf s)) g (move 1 r t)) own-rows ∙ sym (applies-allowed n (pathOf s) 1 has-one r t)
+
+  -- by its two tests
+  pub applies-halves : (r : Rule) (x y z : ℕ) → isNotCycle r ≡ true → (v : Bool) → v ≡ (pairTest (live n (pathOf s)) (graphOf link reach) x y r and thirdTest (graphOf link reach) x y z r) → v ≡ applies n (pathOf s) (move 1 r (triple x y z))
+  applies-halves r x y z h v u = u ∙ sym (halves n (live n (pathOf s)) (graphOf link reach) x y z r h) ∙ applies-own r (triple x y z)
+
+  pub applies-cycle : (r : Rule) (t : Triple) → isNotCycle r ≡ false → (v : Bool) → v ≡ allowed n (live n (pathOf s)) (graphOf link reach) (move 1 CYCLE t) → v ≡ applies n (pathOf s) (move 1 r t)
+  applies-cycle r t h v u = u ∙ ap (λ (k : Rule). allowed n (live n (pathOf s)) (graphOf link reach) (move 1 k t)) (sym (is-cycle r h)) ∙ applies-own r t
 
 -- CYCLE
 

@@ -1,5 +1,6 @@
 // One line at one path, whatever numbers it holds: whether a rule applies at a triple, and whether a clash is a true one.
 use facts::Facts;
+use link_rows::Link;
 use query::Layout;
 use rows::Term;
 use rules::Rule;
@@ -106,8 +107,8 @@ pub fn applies(s: Facts, n: usize, rule: Rule, x: usize, y: usize, z: usize) -> 
     requires { ⌜ n ≤ 16 ⌝ }
     ensures { λ r. ⌜ r ≡ applies n (pathOf s) (move 1 (kindOf rule) (triple x y z)) ⌝ }
 {
-    let link = s.link;
-    let reach = s.reach;
+    let link = link_rows::rows_of(&s.link, Link(1));
+    let reach = link_rows::rows_of(&s.reach, Link(1));
     if rules::is_not_cycle(rule) {
         let alive = is_live(s, n, x);
         return is_allowed(rule, alive, &link, &reach, x, y, z);

@@ -4,7 +4,7 @@ use mathlib.Core.Bool.{cond}
 use mathlib.Core.List.{List}
 use lib.Dec.{ltb}
 use Rattle.logic.specs.Facts.{Facts}
-use Rattle.facts.specs.declared.Link.{Link}
+use Rattle.link_rows.specs.declared.Link.{Link}
 use Rattle.rules.specs.declared.Choice.{Choice}
 use Rattle.units.specs.Proposes.{Proposes, RowsOf}
 use Rattle.gains.specs.declared.Best.{Best}

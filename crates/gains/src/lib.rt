@@ -1,7 +1,7 @@
 // The place of a branching rule whose alternatives would add most facts, as far as counting tells. That the rule applies there is proved; that
 // no other place would add more is not, since no verdict rests on it.
 use facts::Facts;
-use facts::Link;
+use link_rows::Link;
 use rows::Found;
 use rows::Term;
 use rules::Choice;
@@ -177,15 +177,15 @@ pub fn most(s: Facts, n: usize) -> Choice
     requires { ⌜ n ≤ 16 ⌝ }
     ensures { λ r. ⌜ Proposes n (pathOf s) r ⌝ }
 {
-    let total = facts::links(s);
+    let total = facts::links(s.single);
     let mut best = Best {
         score: 0,
         place: Choice::Nothing,
     };
     let mut k: usize = 1;
     while k <= total {
-        let link = facts::link_rows(s, Link(k));
-        let reach = facts::reach_rows(s, Link(k));
+        let link = link_rows::rows_of(&s.link, Link(k));
+        let reach = link_rows::rows_of(&s.reach, Link(k));
         let next = most_at(Link(k), &link, &reach, n, best);
         best = next;
         k += 1;

@@ -29,9 +29,9 @@ abbrev pub joinedOf : joined.Joined → Joined
 joinedOf j = joinedAs (j .pairs) (j .facts)
 
 -- the same, of pairs and facts in arrays
-abbrev pub joinedIn : Bool → List ℕ → List ℕ → List ℕ → List ℕ → List ℕ → List ℕ → List ℕ → List ℕ → List ℕ → ℕ → Joined
-joinedIn single rep link reach link2 reach2 link3 reach3 kept replaced count =
-    record { pairs = pairsIn kept replaced count; facts = pathAs single rep link reach link2 reach2 link3 reach3 }
+abbrev pub joinedIn : Bool → List ℕ → List ℕ → List ℕ → List ℕ → List ℕ → ℕ → Joined
+joinedIn single rep link reach kept replaced count =
+    record { pairs = pairsIn kept replaced count; facts = pathAs single rep link reach }
 
 -- the array has room for the pairs
 abbrev pub Fits : Joined → Type 0

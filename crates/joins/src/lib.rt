@@ -50,31 +50,27 @@ fn and_pair(kept: &mut [u8; 17], replaced: &mut [u8; 17], count: usize, lo: Term
 pub fn settle(
     single: bool,
     rep: &mut [u8; 17],
-    link: &mut [u32; 17],
-    reach: &mut [u32; 17],
-    link2: &mut [u32; 17],
-    reach2: &mut [u32; 17],
-    link3: &mut [u32; 17],
-    reach3: &mut [u32; 17],
+    link: &mut [u32; 51],
+    reach: &mut [u32; 51],
     kept: &mut [u8; 17],
     replaced: &mut [u8; 17],
     count: usize,
     n: usize,
 ) -> usize
-    requires { ⌜ (n ≤ 16) × Fits (andThen (joinedIn single (now rep) (now link) (now reach) (now link2) (now reach2) (now link3) (now reach3) (now kept) (now replaced) count) (settle n n)) ⌝ }
-    requires { ⌜ Whole (now rep) (now link) (now reach) (now link2) (now reach2) (now link3) (now reach3) × (length (now kept) ≡ 17) × (length (now replaced) ≡ 17) ⌝ }
-    ensures { λ r. ⌜ joinedIn single (now (rep .exit)) (now (link .exit)) (now (reach .exit)) (now (link2 .exit)) (now (reach2 .exit)) (now (link3 .exit)) (now (reach3 .exit)) (now (kept .exit)) (now (replaced .exit)) r ≡ andThen (joinedIn single (now (rep .entry)) (now (link .entry)) (now (reach .entry)) (now (link2 .entry)) (now (reach2 .entry)) (now (link3 .entry)) (now (reach3 .entry)) (now (kept .entry)) (now (replaced .entry)) count) (settle n n) ⌝ }
-    ensures { λ _. ⌜ Whole (now (rep .exit)) (now (link .exit)) (now (reach .exit)) (now (link2 .exit)) (now (reach2 .exit)) (now (link3 .exit)) (now (reach3 .exit)) × (length (now (kept .exit)) ≡ 17) × (length (now (replaced .exit)) ≡ 17) ⌝ }
+    requires { ⌜ (n ≤ 16) × Fits (andThen (joinedIn single (now rep) (now link) (now reach) (now kept) (now replaced) count) (settle n n)) ⌝ }
+    requires { ⌜ Whole (now rep) (now link) (now reach) × (length (now kept) ≡ 17) × (length (now replaced) ≡ 17) ⌝ }
+    ensures { λ r. ⌜ joinedIn single (now (rep .exit)) (now (link .exit)) (now (reach .exit)) (now (kept .exit)) (now (replaced .exit)) r ≡ andThen (joinedIn single (now (rep .entry)) (now (link .entry)) (now (reach .entry)) (now (kept .entry)) (now (replaced .entry)) count) (settle n n) ⌝ }
+    ensures { λ _. ⌜ Whole (now (rep .exit)) (now (link .exit)) (now (reach .exit)) × (length (now (kept .exit)) ≡ 17) × (length (now (replaced .exit)) ≡ 17) ⌝ }
 {
     let mut total = count;
     let mut left = n;
     while 0 < left {
-        let Two::Of(a, b) = doubled::lowest(single, link, link2, link3, n) else {
+        let Two::Of(a, b) = doubled::lowest(single, link, n) else {
             return total;
         };
         and_pair(kept, replaced, total, a, b);
         total += 1;
-        facts::replace(single, rep, link, reach, link2, reach2, link3, reach3, a, b);
+        facts::replace(single, rep, link, reach, a, b);
         left -= 1;
     }
     total
@@ -103,12 +99,8 @@ fn higher(a: Term, b: Term) -> Term
 pub fn join(
     single: bool,
     rep: &mut [u8; 17],
-    link: &mut [u32; 17],
-    reach: &mut [u32; 17],
-    link2: &mut [u32; 17],
-    reach2: &mut [u32; 17],
-    link3: &mut [u32; 17],
-    reach3: &mut [u32; 17],
+    link: &mut [u32; 51],
+    reach: &mut [u32; 51],
     kept: &mut [u8; 17],
     replaced: &mut [u8; 17],
     count: usize,
@@ -116,10 +108,10 @@ pub fn join(
     a: Term,
     b: Term,
 ) -> usize
-    requires { ⌜ (n ≤ 16) × (a .0 ≤ 16) × (b .0 ≤ 16) × Fits (andThen (joinedIn single (now rep) (now link) (now reach) (now link2) (now reach2) (now link3) (now reach3) (now kept) (now replaced) count) (join n (a .0) (b .0))) ⌝ }
-    requires { ⌜ Whole (now rep) (now link) (now reach) (now link2) (now reach2) (now link3) (now reach3) × (length (now kept) ≡ 17) × (length (now replaced) ≡ 17) ⌝ }
-    ensures { λ r. ⌜ joinedIn single (now (rep .exit)) (now (link .exit)) (now (reach .exit)) (now (link2 .exit)) (now (reach2 .exit)) (now (link3 .exit)) (now (reach3 .exit)) (now (kept .exit)) (now (replaced .exit)) r ≡ andThen (joinedIn single (now (rep .entry)) (now (link .entry)) (now (reach .entry)) (now (link2 .entry)) (now (reach2 .entry)) (now (link3 .entry)) (now (reach3 .entry)) (now (kept .entry)) (now (replaced .entry)) count) (join n (a .0) (b .0)) ⌝ }
-    ensures { λ _. ⌜ Whole (now (rep .exit)) (now (link .exit)) (now (reach .exit)) (now (link2 .exit)) (now (reach2 .exit)) (now (link3 .exit)) (now (reach3 .exit)) × (length (now (kept .exit)) ≡ 17) × (length (now (replaced .exit)) ≡ 17) ⌝ }
+    requires { ⌜ (n ≤ 16) × (a .0 ≤ 16) × (b .0 ≤ 16) × Fits (andThen (joinedIn single (now rep) (now link) (now reach) (now kept) (now replaced) count) (join n (a .0) (b .0))) ⌝ }
+    requires { ⌜ Whole (now rep) (now link) (now reach) × (length (now kept) ≡ 17) × (length (now replaced) ≡ 17) ⌝ }
+    ensures { λ r. ⌜ joinedIn single (now (rep .exit)) (now (link .exit)) (now (reach .exit)) (now (kept .exit)) (now (replaced .exit)) r ≡ andThen (joinedIn single (now (rep .entry)) (now (link .entry)) (now (reach .entry)) (now (kept .entry)) (now (replaced .entry)) count) (join n (a .0) (b .0)) ⌝ }
+    ensures { λ _. ⌜ Whole (now (rep .exit)) (now (link .exit)) (now (reach .exit)) × (length (now (kept .exit)) ≡ 17) × (length (now (replaced .exit)) ≡ 17) ⌝ }
 {
     if a.0 == b.0 {
         return count;
@@ -127,30 +119,6 @@ pub fn join(
     let lo = lower(a, b);
     let hi = higher(a, b);
     and_pair(kept, replaced, count, lo, hi);
-    facts::replace(
-        single,
-        rep,
-        link,
-        reach,
-        link2,
-        reach2,
-        link3,
-        reach3,
-        lo,
-        hi,
-    );
-    settle(
-        single,
-        rep,
-        link,
-        reach,
-        link2,
-        reach2,
-        link3,
-        reach3,
-        kept,
-        replaced,
-        count + 1,
-        n,
-    )
+    facts::replace(single, rep, link, reach, lo, hi);
+    settle(single, rep, link, reach, kept, replaced, count + 1, n)
 }

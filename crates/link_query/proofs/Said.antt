@@ -49,6 +49,10 @@ module _ {links : ℕ} where
     unfolding reachIn
     more-literal e = rw (ne-eqb _ _ e)
 
+-- there are few links
+pub few-links : (l : Layout) (bytes : List ℕ) → Within l bytes → l .links ≤ 3
+few-links l bytes w = ⊎-elim (λ e. omega (arith, e)) (λ e. omega (arith, e)) (w .one-or-three)
+
 -- literal i is within the section
 pub literal-fits : (w at i count n : ℕ) → i < count → at + w * count ≤ n → at + w * i + w ≤ n
 literal-fits w at i count n h u = omega (arith, mul-suc w i, mul-le-mul (le-refl w) h)

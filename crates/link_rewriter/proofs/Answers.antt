@@ -1,7 +1,7 @@
 -- What the call does, case by case. Assumes nothing.
 use Prim.Native.Nat.{ℕ, _+_, _≤_, _<_}
 use native.Mathlib.Omega.{arith}
-use mathlib.Core.Path.{_≡_, refl, sym, _∙_}
+use mathlib.Core.Path.{_≡_, refl, _∙_}
 use mathlib.Core.Bool.{true}
 use mathlib.Core.List.{List}
 use lib.ListN.{length, replicate}
@@ -10,7 +10,7 @@ use Rattle.logic.specs.Query.{sections}
 use Rattle.logic.specs.Calls.{accepts, queryChecks}
 use Rattle.logic.specs.Calls as calls
 use Rattle.encoding.specs.WritingCall.{given, acceptsIn}
-use Rattle.encoding.proofs.WritingCall.{call-refused, call-full, call-writes, none-accepts}
+use Rattle.encoding.proofs.WritingCall.{call-refused, call-full, call-writes}
 use Rattle.text.specs.Text.{Writes}
 use Rattle.text.proofs.Writing.{writes-as}
 use Rattle.query_checks.specs.Answers.{CheckedAs}
@@ -42,7 +42,3 @@ module _ (l : Layout) (bytes : List ℕ) (laid : LaysOut l bytes) (ok : accepts 
 pub refuses : (bytes : List ℕ) (room : ℕ) {k place : ℕ} → CheckedAs (checked.Refused k place) bytes → (out : List ℕ) → out ≡ replicate room 0 → Does (linksRewriteCall bytes room) (answer.Refused k place) out
 unfolding queryChecks
 refuses bytes room {k} {place} h out e = does-blank room (call-refused rewritingLinks bytes room (calls.refused k place) (h (given bytes room) refl)) e
-
-pub accepted : (l : Layout) (bytes : List ℕ) → CheckedAs (checked.Accepted l) bytes → accepts bytes ≡ true
-unfolding queryChecks
-accepted l bytes h = sym (accepts-same bytes) ∙ none-accepts rewritingLinks bytes 0 (h .0 (given bytes 0) refl)

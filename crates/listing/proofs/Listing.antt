@@ -3,7 +3,7 @@ use Prim.Native.Nat.{ℕ, _+_, _-_, _≤_, _<_}
 use native.Mathlib.Omega.{arith}
 use mathlib.Core.Path.{_≡_, refl, sym, ap, _∙_, subst}
 use mathlib.Core.Logic.{_⊎_, inl, inr}
-use mathlib.Core.Bool.{Bool, true, false, cond, true≢false, false≢true}
+use mathlib.Core.Bool.{true, false, true≢false, false≢true}
 use mathlib.Core.List.{List, [], _∷_, _++_}
 use lib.ListN.{length, getD, drop}
 use Rattle.logic.specs.Query.{Query, termCount}
@@ -21,11 +21,6 @@ use Rattle.walk.proofs.Turns.{Turn, turn-first, turn-whole}
 use Rattle.walk.proofs.Steps.{branch-walked, move-line}
 use Rattle.listing.specs.Lists.{Lists}
 use Rattle.listing.specs.declared.Listed.{Listed}
-
--- a path has one link or three
-pub links-few : (single : Bool) → cond single 1 3 ≤ 3
-links-few true = omega arith
-links-few false = omega arith
 
 -- lines that are written keep the length of the buffer
 pub put-line-length : (xs ys : List ℕ) (c : ℕ) (l : Line) → xs ≡ putLine ys c l → length xs ≡ length ys

@@ -30,18 +30,14 @@ fn list_in<'a>(
     pairs: Pairs,
     single: bool,
     rep: &'a [u8; 17],
-    link: &'a [u32; 17],
-    reach: &'a [u32; 17],
-    link2: &'a [u32; 17],
-    reach2: &'a [u32; 17],
-    link3: &'a [u32; 17],
-    reach3: &'a [u32; 17],
+    link: &'a [u32; 51],
+    reach: &'a [u32; 51],
     lines: &mut [u8],
     first: usize,
     most: usize,
 ) -> Listed
-    requires { ⌜ Within layout (now query) × (length (pairsOf pairs) ≤ 17) × (first ≤ 16001) × AtMost (termCount (said layout (now query))) (pathAs single (now rep) (now link) (now reach) (now link2) (now reach2) (now link3) (now reach3)) left × Whole (now rep) (now link) (now reach) (now link2) (now reach2) (now link3) (now reach3) ⌝ }
-    ensures { λ r. ⌜ Lists r (walkBranch (walk (said layout (now (query .entry))) (orderOf (now (order .entry))) left) (joinedWith pairs (pathAs single (now (rep .entry)) (now (link .entry)) (now (reach .entry)) (now (link2 .entry)) (now (reach2 .entry)) (now (link3 .entry)) (now (reach3 .entry))))) (now (lines .entry)) first most (now (lines .exit)) ⌝ }
+    requires { ⌜ Within layout (now query) × (length (pairsOf pairs) ≤ 17) × (first ≤ 16001) × AtMost (termCount (said layout (now query))) (pathAs single (now rep) (now link) (now reach)) left × Whole (now rep) (now link) (now reach) ⌝ }
+    ensures { λ r. ⌜ Lists r (walkBranch (walk (said layout (now (query .entry))) (orderOf (now (order .entry))) left) (joinedWith pairs (pathAs single (now (rep .entry)) (now (link .entry)) (now (reach .entry))))) (now (lines .entry)) first most (now (lines .exit)) ⌝ }
 {
     let n = layout.terms;
     let count = walk::put_joins(lines, first, pairs);
@@ -51,19 +47,7 @@ fn list_in<'a>(
             count,
         };
     }
-    match walk::look(
-        query,
-        layout,
-        order,
-        single,
-        rep,
-        link,
-        reach,
-        link2,
-        reach2,
-        link3,
-        reach3,
-    ) {
+    match walk::look(query, layout, order, single, rep, link, reach) {
         Seen::Saturated => Listed {
             stopped: true,
             count,
@@ -84,10 +68,6 @@ fn list_in<'a>(
                 let mut own_rep = *rep;
                 let mut own_link = *link;
                 let mut own_reach = *reach;
-                let mut own_link2 = *link2;
-                let mut own_reach2 = *reach2;
-                let mut own_link3 = *link3;
-                let mut own_reach3 = *reach3;
                 let mut kept = [0u8; 17];
                 let mut replaced = [0u8; 17];
                 let made = branch::make(
@@ -95,10 +75,6 @@ fn list_in<'a>(
                     &mut own_rep,
                     &mut own_link,
                     &mut own_reach,
-                    &mut own_link2,
-                    &mut own_reach2,
-                    &mut own_link3,
-                    &mut own_reach3,
                     &mut kept,
                     &mut replaced,
                     n,
@@ -124,10 +100,6 @@ fn list_in<'a>(
                     &own_rep,
                     &own_link,
                     &own_reach,
-                    &own_link2,
-                    &own_reach2,
-                    &own_link3,
-                    &own_reach3,
                     lines,
                     written,
                     most,
@@ -171,10 +143,6 @@ pub fn list(
         &s.rep,
         &s.link,
         &s.reach,
-        &s.link2,
-        &s.reach2,
-        &s.link3,
-        &s.reach3,
         lines,
         first,
         most,

@@ -1,6 +1,7 @@
 // Tests of one literal of the query, in place, against a path: of a negated equality, of a negated reachability literal, and of a data
 // literal that may be the plain partner of a negated one.
 use facts::Facts;
+use link_rows::Link;
 use rows::Term;
 ghost use mathlib.Core.Path.{_≡_};
 ghost use mathlib.Core.Bool.{not};
@@ -26,31 +27,17 @@ pub fn is_unequal_to_itself(query: &[u8], at: usize, i: usize, rep: &[u8; 17]) -
     a.0 == b.0
 }
 
-// "a reaches b" by link k is held in the rows of a single link, or of three.
-fn reaches_by<'a>(
-    single: bool,
-    first: &'a [u32; 17],
-    second: &'a [u32; 17],
-    third: &'a [u32; 17],
-    k: usize,
-    a: Term,
-    b: Term,
-) -> bool
-    ensures { λ r. ⌜ r ≡ rowsOf single (now (first .entry)) (now (second .entry)) (now (third .entry)) k (a .0) (b .0) ⌝ }
+// "a reaches b" by link k, in the rows of a single link or of three.
+fn reaches_by(single: bool, reach: &[u32; 51], k: usize, a: Term, b: Term) -> bool
+    ensures { λ r. ⌜ r ≡ rowsOf single (now (reach .entry)) k (a .0) (b .0) ⌝ }
 {
-    if k == 1 {
-        return rows::is_held(first, a.0, b.0);
-    }
-    if single {
+    if k == 0 {
         return false;
     }
-    if k == 2 {
-        return rows::is_held(second, a.0, b.0);
+    if facts::links(single) < k {
+        return false;
     }
-    if k == 3 {
-        return rows::is_held(third, a.0, b.0);
-    }
-    false
+    link_rows::is_held(reach, Link(k), a.0, b.0)
 }
 
 // Reachability literal i is negated, and its fact is held in these rows. Of a plain one only the sign is read. The rows are lent: a path by
@@ -62,12 +49,10 @@ pub fn is_held_in<'a>(
     i: usize,
     rep: &'a [u8; 17],
     single: bool,
-    first: &'a [u32; 17],
-    second: &'a [u32; 17],
-    third: &'a [u32; 17],
+    reach: &'a [u32; 51],
 ) -> bool
     requires { ⌜ at + reachWidth links * i + reachWidth links ≤ length (now query) ⌝ }
-    ensures { λ r. ⌜ r ≡ (not (reachIn links (now (query .entry)) at i .plain) and rowsHeld (repOf (now (rep .entry))) (rowsOf single (now (first .entry)) (now (second .entry)) (now (third .entry))) (reachIn links (now (query .entry)) at i)) ⌝ }
+    ensures { λ r. ⌜ r ≡ (not (reachIn links (now (query .entry)) at i .plain) and rowsHeld (repOf (now (rep .entry))) (rowsOf single (now (reach .entry))) (reachIn links (now (query .entry)) at i)) ⌝ }
 {
     if link_query::reach_sign(query, links, at, i) {
         return false;
@@ -75,7 +60,7 @@ pub fn is_held_in<'a>(
     let k = link_query::reach_link(query, links, at, i);
     let a = facts::read_rep(rep, link_query::reach_left(query, links, at, i));
     let b = facts::read_rep(rep, link_query::reach_right(query, links, at, i));
-    reaches_by(single, first, second, third, k, a, b)
+    reaches_by(single, reach, k, a, b)
 }
 
 // Reachability literal i is negated, and its fact is held.
@@ -83,17 +68,7 @@ pub fn is_held_negated(query: &[u8], links: usize, at: usize, i: usize, s: Facts
     requires { ⌜ at + reachWidth links * i + reachWidth links ≤ length (now query) ⌝ }
     ensures { λ r. ⌜ r ≡ (not (reachIn links (now (query .entry)) at i .plain) and reachHeld (pathOf s) (reachIn links (now (query .entry)) at i)) ⌝ }
 {
-    is_held_in(
-        query,
-        links,
-        at,
-        i,
-        &s.rep,
-        s.single,
-        &s.reach,
-        &s.reach2,
-        &s.reach3,
-    )
+    is_held_in(query, links, at, i, &s.rep, s.single, &s.reach)
 }
 
 // Data literal j is plain, and says this field of a term with this representative.

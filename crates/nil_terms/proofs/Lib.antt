@@ -1,1 +1,2 @@
 pub mod Nil
+pub mod Links

@@ -1,4 +1,5 @@
 // Nil taken into a path: the terms that name it are joined to the lowest, and each of its links goes to itself.
+use link_rows::Link;
 use query::Layout;
 use rows::Term;
 ghost use mathlib.Core.Path.{_≡_};
@@ -31,12 +32,8 @@ fn next_nil(query: &[u8], layout: Layout, start: usize) -> usize
 fn join_others(
     single: bool,
     rep: &mut [u8; 17],
-    link: &mut [u32; 17],
-    reach: &mut [u32; 17],
-    link2: &mut [u32; 17],
-    reach2: &mut [u32; 17],
-    link3: &mut [u32; 17],
-    reach3: &mut [u32; 17],
+    link: &mut [u32; 51],
+    reach: &mut [u32; 51],
     kept: &mut [u8; 17],
     replaced: &mut [u8; 17],
     count: usize,
@@ -44,10 +41,10 @@ fn join_others(
     layout: Layout,
     first: usize,
 ) -> usize
-    requires { ⌜ Within layout (now query) × (first ≤ layout .terms) × Bounded (replacedBy (now rep)) × Fits (andThen (joinedIn single (now rep) (now link) (now reach) (now link2) (now reach2) (now link3) (now reach3) (now kept) (now replaced) count) (joinEach (layout .terms) (equalTo first (nilFrom (said layout (now query) .entries) (layout .terms) (first + 1))))) ⌝ }
-    requires { ⌜ Whole (now rep) (now link) (now reach) (now link2) (now reach2) (now link3) (now reach3) × (length (now kept) ≡ 17) × (length (now replaced) ≡ 17) ⌝ }
-    ensures { λ r. ⌜ joinedIn single (now (rep .exit)) (now (link .exit)) (now (reach .exit)) (now (link2 .exit)) (now (reach2 .exit)) (now (link3 .exit)) (now (reach3 .exit)) (now (kept .exit)) (now (replaced .exit)) r ≡ andThen (joinedIn single (now (rep .entry)) (now (link .entry)) (now (reach .entry)) (now (link2 .entry)) (now (reach2 .entry)) (now (link3 .entry)) (now (reach3 .entry)) (now (kept .entry)) (now (replaced .entry)) count) (joinEach (layout .terms) (equalTo first (nilFrom (said layout (now (query .entry)) .entries) (layout .terms) (first + 1)))) ⌝ }
-    ensures { λ _. ⌜ Bounded (replacedBy (now (rep .exit))) × Whole (now (rep .exit)) (now (link .exit)) (now (reach .exit)) (now (link2 .exit)) (now (reach2 .exit)) (now (link3 .exit)) (now (reach3 .exit)) × (length (now (kept .exit)) ≡ 17) × (length (now (replaced .exit)) ≡ 17) ⌝ }
+    requires { ⌜ Within layout (now query) × (first ≤ layout .terms) × Bounded (replacedBy (now rep)) × Fits (andThen (joinedIn single (now rep) (now link) (now reach) (now kept) (now replaced) count) (joinEach (layout .terms) (equalTo first (nilFrom (said layout (now query) .entries) (layout .terms) (first + 1))))) ⌝ }
+    requires { ⌜ Whole (now rep) (now link) (now reach) × (length (now kept) ≡ 17) × (length (now replaced) ≡ 17) ⌝ }
+    ensures { λ r. ⌜ joinedIn single (now (rep .exit)) (now (link .exit)) (now (reach .exit)) (now (kept .exit)) (now (replaced .exit)) r ≡ andThen (joinedIn single (now (rep .entry)) (now (link .entry)) (now (reach .entry)) (now (kept .entry)) (now (replaced .entry)) count) (joinEach (layout .terms) (equalTo first (nilFrom (said layout (now (query .entry)) .entries) (layout .terms) (first + 1)))) ⌝ }
+    ensures { λ _. ⌜ Bounded (replacedBy (now (rep .exit))) × Whole (now (rep .exit)) (now (link .exit)) (now (reach .exit)) × (length (now (kept .exit)) ≡ 17) × (length (now (replaced .exit)) ≡ 17) ⌝ }
 {
     let mut total = count;
     let mut u = next_nil(query, layout, first + 1);
@@ -57,10 +54,6 @@ fn join_others(
             rep,
             link,
             reach,
-            link2,
-            reach2,
-            link3,
-            reach3,
             kept,
             replaced,
             total,
@@ -74,46 +67,34 @@ fn join_others(
 }
 
 // The link fact is added for every link.
-fn add_links(
-    single: bool,
-    link: &mut [u32; 17],
-    link2: &mut [u32; 17],
-    link3: &mut [u32; 17],
-    a: Term,
-    b: Term,
-)
-    requires { ⌜ (a .0 ≤ 16) × (b .0 ≤ 16) × (length (now link) ≡ 17) × (length (now link2) ≡ 17) × (length (now link3) ≡ 17) ⌝ }
-    ensures { λ _. ⌜ ((rep reach reach2 reach3 : List ℕ) → pathAs single rep (now (link .exit)) reach (now (link2 .exit)) reach2 (now (link3 .exit)) reach3 ≡ addLinks (a .0) (b .0) (pathAs single rep (now (link .entry)) reach (now (link2 .entry)) reach2 (now (link3 .entry)) reach3)) ⌝ }
-    ensures { λ _. ⌜ (length (now (link .exit)) ≡ 17) × (length (now (link2 .exit)) ≡ 17) × (length (now (link3 .exit)) ≡ 17) ⌝ }
+fn add_links(single: bool, link: &mut [u32; 51], a: Term, b: Term)
+    requires { ⌜ (a .0 ≤ 16) × (b .0 ≤ 16) × (length (now link) ≡ 51) ⌝ }
+    ensures { λ _. ⌜ ((rep reach : List ℕ) → pathAs single rep (now (link .exit)) reach ≡ addLinks (a .0) (b .0) (pathAs single rep (now (link .entry)) reach)) × (length (now (link .exit)) ≡ 51) ⌝ }
 {
-    rows::add_to(link, a, b);
-    if single {
-        return;
+    let count = facts::links(single);
+    let mut k: usize = 1;
+    while k <= count {
+        link_rows::add(link, Link(k), a, b);
+        k += 1;
     }
-    rows::add_to(link2, a, b);
-    rows::add_to(link3, a, b);
 }
 
 // "then adds nil's link and joins its doubled successors"; nil's links "are added before their joins" (02, R-11)
 pub fn join_nil(
     single: bool,
     rep: &mut [u8; 17],
-    link: &mut [u32; 17],
-    reach: &mut [u32; 17],
-    link2: &mut [u32; 17],
-    reach2: &mut [u32; 17],
-    link3: &mut [u32; 17],
-    reach3: &mut [u32; 17],
+    link: &mut [u32; 51],
+    reach: &mut [u32; 51],
     kept: &mut [u8; 17],
     replaced: &mut [u8; 17],
     count: usize,
     query: &[u8],
     layout: Layout,
 ) -> usize
-    requires { ⌜ Within layout (now query) × Bounded (replacedBy (now rep)) × Fits (andThen (joinedIn single (now rep) (now link) (now reach) (now link2) (now reach2) (now link3) (now reach3) (now kept) (now replaced) count) (joinNil (layout .terms) (nilFrom (said layout (now query) .entries) (layout .terms) 1))) ⌝ }
-    requires { ⌜ Whole (now rep) (now link) (now reach) (now link2) (now reach2) (now link3) (now reach3) × (length (now kept) ≡ 17) × (length (now replaced) ≡ 17) ⌝ }
-    ensures { λ r. ⌜ joinedIn single (now (rep .exit)) (now (link .exit)) (now (reach .exit)) (now (link2 .exit)) (now (reach2 .exit)) (now (link3 .exit)) (now (reach3 .exit)) (now (kept .exit)) (now (replaced .exit)) r ≡ andThen (joinedIn single (now (rep .entry)) (now (link .entry)) (now (reach .entry)) (now (link2 .entry)) (now (reach2 .entry)) (now (link3 .entry)) (now (reach3 .entry)) (now (kept .entry)) (now (replaced .entry)) count) (joinNil (layout .terms) (nilFrom (said layout (now (query .entry)) .entries) (layout .terms) 1)) ⌝ }
-    ensures { λ _. ⌜ Bounded (replacedBy (now (rep .exit))) × Whole (now (rep .exit)) (now (link .exit)) (now (reach .exit)) (now (link2 .exit)) (now (reach2 .exit)) (now (link3 .exit)) (now (reach3 .exit)) × (length (now (kept .exit)) ≡ 17) × (length (now (replaced .exit)) ≡ 17) ⌝ }
+    requires { ⌜ Within layout (now query) × Bounded (replacedBy (now rep)) × Fits (andThen (joinedIn single (now rep) (now link) (now reach) (now kept) (now replaced) count) (joinNil (layout .terms) (nilFrom (said layout (now query) .entries) (layout .terms) 1))) ⌝ }
+    requires { ⌜ Whole (now rep) (now link) (now reach) × (length (now kept) ≡ 17) × (length (now replaced) ≡ 17) ⌝ }
+    ensures { λ r. ⌜ joinedIn single (now (rep .exit)) (now (link .exit)) (now (reach .exit)) (now (kept .exit)) (now (replaced .exit)) r ≡ andThen (joinedIn single (now (rep .entry)) (now (link .entry)) (now (reach .entry)) (now (kept .entry)) (now (replaced .entry)) count) (joinNil (layout .terms) (nilFrom (said layout (now (query .entry)) .entries) (layout .terms) 1)) ⌝ }
+    ensures { λ _. ⌜ Bounded (replacedBy (now (rep .exit))) × Whole (now (rep .exit)) (now (link .exit)) (now (reach .exit)) × (length (now (kept .exit)) ≡ 17) × (length (now (replaced .exit)) ≡ 17) ⌝ }
 {
     let terms = layout.terms;
     let first = next_nil(query, layout, 1);
@@ -125,10 +106,6 @@ pub fn join_nil(
         rep,
         link,
         reach,
-        link2,
-        reach2,
-        link3,
-        reach3,
         kept,
         replaced,
         count,
@@ -137,19 +114,6 @@ pub fn join_nil(
         first,
     );
     let nil = facts::read_rep(rep, Term(first));
-    add_links(single, link, link2, link3, nil, nil);
-    joins::settle(
-        single,
-        rep,
-        link,
-        reach,
-        link2,
-        reach2,
-        link3,
-        reach3,
-        kept,
-        replaced,
-        total,
-        terms,
-    )
+    add_links(single, link, nil, nil);
+    joins::settle(single, rep, link, reach, kept, replaced, total, terms)
 }

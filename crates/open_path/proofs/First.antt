@@ -1,9 +1,9 @@
 -- The first branch with a heap, and the walk that goes into it.
-use Prim.Native.Nat.{ℕ, zero, suc, _+_, _-_, _≤_, _<_}
+use Prim.Native.Nat.{ℕ, suc, _+_, _-_, _≤_, _<_}
 use native.Mathlib.Omega.{arith}
 use mathlib.Core.Path.{_≡_, refl, sym, ap, subst}
 use mathlib.Core.Bool.{true, false}
-use mathlib.Core.List.{List, [], _∷_, List·Memᴰ, List·Memᴰ·head, List·Memᴰ·tail, List·Memᴰ·not-nil}
+use mathlib.Core.List.{List, [], _∷_, List·Memᴰ, List·Memᴰ·not-nil}
 use lib.ListN.{length, getD}
 use Rattle.logic.specs.Query.{Query, termCount, isOrder}
 use Rattle.logic.specs.Facts.{Facts, Line, Joined}
@@ -15,6 +15,7 @@ use Rattle.theory.proofs.Query.Tied.{Accepted}
 use Rattle.theory.proofs.Walks.Order.{order-full}
 use Rattle.theory.proofs.Walks.Derives.{seen-applying, seen-clashing}
 use Rattle.theory.proofs.Calls.Decision.{Known, reachable-known, clash-none, heap-branch, struck-next, last-open, walk-first}
+use Rattle.theory.proofs.Basics.Count.{getD-mem}
 use Rattle.alternatives.specs.Alternatives.{countOf, alternativeAt}
 use Rattle.covering.specs.Covers.{Covers}
 use Rattle.covering.proofs.Covered.{covered-heap}
@@ -22,11 +23,6 @@ use Rattle.plain_steps.proofs.Branches.{row-length, row-at}
 use Rattle.plain_steps.proofs.Turns.{row-fewer}
 use Rattle.decide.specs.Tells.{Decides}
 use Rattle.open_path.specs.First.{FirstOpen}
-
-getD-mem : {A : Type 0} (xs : List A) (i : ℕ) (d : A) → i < length xs → List·Memᴰ (getD xs i d) xs
-getD-mem [] i d h = absurd (omega arith)
-getD-mem (x ∷ xs) zero d h = List·Memᴰ·head refl
-getD-mem (x ∷ xs) (suc i) d h = List·Memᴰ·tail (getD-mem xs i d (omega arith))
 
 mem-some : {A : Type 0} (xs : List A) (x : A) → List·Memᴰ x xs → 0 < length xs
 mem-some [] x m = absurd (List·Memᴰ·not-nil m)

@@ -59,8 +59,8 @@ module _ (q : Query) (ok : Accepted q) where
   reached-links : (s : Facts) → Reachable q s → s .links ≡ q .links
   reached-links s r = reachable-known q ok s r .invariant .tied .same-links
 
-  pub marked-as : (s : Facts) (single : Bool) → s .links ≡ cond single 1 3 → Reachable q s → (p : code.Facts) → Reachable q (pathOf p) → pathOf p ≡ pathAs single (p .rep) (p .link) (p .reach) (p .link2) (p .reach2) (p .link3) (p .reach3)
+  pub marked-as : (s : Facts) (single : Bool) → s .links ≡ cond single 1 3 → Reachable q s → (p : code.Facts) → Reachable q (pathOf p) → pathOf p ≡ pathAs single (p .rep) (p .link) (p .reach)
   unfolding pathOf
   marked-as s single e r p u =
-      ap (λ (b : Bool). pathAs b (p .rep) (p .link) (p .reach) (p .link2) (p .reach2) (p .link3) (p .reach3))
+      ap (λ (b : Bool). pathAs b (p .rep) (p .link) (p .reach))
       (one-mark (q .links) (p .single) single (sym (reached-links (pathOf p) u)) (sym (reached-links s r) ∙ e))

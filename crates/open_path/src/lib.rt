@@ -1,8 +1,8 @@
 // The first open path under the customer's order, without turning back: at each rule its branches are decided from left to right, and
 // the walk goes into the first that is not refuted.
 use facts::Facts;
-use facts::Link;
 use kinds::Kind;
+use link_rows::Link;
 use query::Layout;
 use rows::Term;
 use rules::Rule;
@@ -110,10 +110,6 @@ pub fn descend(
             &path.rep,
             &path.link,
             &path.reach,
-            &path.link2,
-            &path.reach2,
-            &path.link3,
-            &path.reach3,
         ) {
             walk::Seen::Saturated => {
                 return path;
@@ -155,18 +151,14 @@ pub fn settle(
     left: usize,
     single: bool,
     rep: &mut [u8; 17],
-    link: &mut [u32; 17],
-    reach: &mut [u32; 17],
-    link2: &mut [u32; 17],
-    reach2: &mut [u32; 17],
-    link3: &mut [u32; 17],
-    reach3: &mut [u32; 17],
+    link: &mut [u32; 51],
+    reach: &mut [u32; 51],
 ) -> Kind
-    requires { ⌜ Within layout (now query) × Accepted (said layout (now query)) × (isOrder (now order) ≡ true) × Reachable (said layout (now query)) (pathAs single (now rep) (now link) (now reach) (now link2) (now reach2) (now link3) (now reach3)) × AtMost (termCount (said layout (now query))) (pathAs single (now rep) (now link) (now reach) (now link2) (now reach2) (now link3) (now reach3)) left × Whole (now rep) (now link) (now reach) (now link2) (now reach2) (now link3) (now reach3) ⌝ }
-    ensures { λ r. ⌜ WalksTo (said layout (now (query .entry))) (now (order .entry)) left (pathAs single (now (rep .entry)) (now (link .entry)) (now (reach .entry)) (now (link2 .entry)) (now (reach2 .entry)) (now (link3 .entry)) (now (reach3 .entry))) false r (pathAs single (now (rep .exit)) (now (link .exit)) (now (reach .exit)) (now (link2 .exit)) (now (reach2 .exit)) (now (link3 .exit)) (now (reach3 .exit))) ⌝ }
+    requires { ⌜ Within layout (now query) × Accepted (said layout (now query)) × (isOrder (now order) ≡ true) × Reachable (said layout (now query)) (pathAs single (now rep) (now link) (now reach)) × AtMost (termCount (said layout (now query))) (pathAs single (now rep) (now link) (now reach)) left × Whole (now rep) (now link) (now reach) ⌝ }
+    ensures { λ r. ⌜ WalksTo (said layout (now (query .entry))) (now (order .entry)) left (pathAs single (now (rep .entry)) (now (link .entry)) (now (reach .entry))) false r (pathAs single (now (rep .exit)) (now (link .exit)) (now (reach .exit))) ⌝ }
 {
     // Plain steps that run out leave another path in the arrays; it is this one that is decided.
-    let s = decide::held(single, rep, link, reach, link2, reach2, link3, reach3);
+    let s = decide::held(single, rep, link, reach);
     let w = plain_steps::plain_in(
         query,
         layout,
@@ -176,10 +168,6 @@ pub fn settle(
         rep,
         link,
         reach,
-        link2,
-        reach2,
-        link3,
-        reach3,
         true,
         40,
     );
@@ -196,16 +184,8 @@ pub fn settle(
     let end_rep = path.rep;
     let end_link = path.link;
     let end_reach = path.reach;
-    let end_link2 = path.link2;
-    let end_reach2 = path.reach2;
-    let end_link3 = path.link3;
-    let end_reach3 = path.reach3;
     *rep = end_rep;
     *link = end_link;
     *reach = end_reach;
-    *link2 = end_link2;
-    *reach2 = end_reach2;
-    *link3 = end_link3;
-    *reach3 = end_reach3;
     Kind::Open
 }

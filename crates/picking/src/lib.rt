@@ -14,18 +14,7 @@ fn plain(s: Facts, n: usize) -> Choice
     ensures { λ r. ⌜ Picks n (pathOf s) r ⌝ }
 {
     let order = [1u8, 2, 3, 8, 4, 5, 6, 7];
-    rule_choice::choose(
-        &order,
-        s.single,
-        &s.rep,
-        &s.link,
-        &s.reach,
-        &s.link2,
-        &s.reach2,
-        &s.link3,
-        &s.reach3,
-        n,
-    )
+    rule_choice::choose(&order, s.single, &s.rep, &s.link, &s.reach, n)
 }
 
 // The same, and of the rules that branch TOTAL first.
@@ -34,18 +23,7 @@ fn total_first(s: Facts, n: usize) -> Choice
     ensures { λ r. ⌜ Picks n (pathOf s) r ⌝ }
 {
     let order = [1u8, 2, 3, 8, 7, 6, 5, 4];
-    rule_choice::choose(
-        &order,
-        s.single,
-        &s.rep,
-        &s.link,
-        &s.reach,
-        &s.link2,
-        &s.reach2,
-        &s.link3,
-        &s.reach3,
-        n,
-    )
+    rule_choice::choose(&order, s.single, &s.rep, &s.link, &s.reach, n)
 }
 
 // Where strategies other than 1 look next. 2 leaves the choice to an order list where nothing soon clashes: what is slow for one is seldom slow

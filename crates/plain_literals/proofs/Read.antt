@@ -8,7 +8,7 @@ use Rattle.theory.proofs.Query.Tied.{Accepted}
 use Rattle.query.specs.declared.Layout.{Layout}
 use Rattle.query.proofs.Ranges.{UpTo, equal-terms-of, reach-terms-of, reach-linked-of}
 use Rattle.link_query.specs.Said.{said, Within, reachIn}
-use Rattle.link_query.proofs.Said.{terms-said, equalities-said, reachability-said}
+use Rattle.link_query.proofs.Said.{terms-said, equalities-said, reachability-said, few-links}
 use Rattle.plain_literals.specs.Taken.{Terms, TermsIn}
 
 module _ {l : Layout} {bytes : List ℕ} (w : Within l bytes) where
@@ -30,6 +30,12 @@ module _ {l : Layout} {bytes : List ℕ} (w : Within l bytes) where
       unfolding said
       reach-linked = reach-linked-of acc counted _ (l .«reach_count») i h (reachability-said l bytes w)
 
-      -- the link of a literal is one of the path
-      pub linked-in : (links : ℕ) → links ≡ l .links → (0 < reachIn (l .links) bytes (l .«reach_at») i .link) × (reachIn (l .links) bytes (l .«reach_at») i .link ≤ links)
-      linked-in links e = let r = reach-linked in (r .0, omega (arith, e, r .1))
+      module _ (by : ℕ) (e : by ≡ reachIn (l .links) bytes (l .«reach_at») i .link) where
+        -- the link of a literal has rows
+        pub linked-rows : (0 < by) × (by ≤ 3)
+        linked-rows =
+            let r = reach-linked in (omega (arith, e, r .0), omega (arith, e, r .1, few-links l bytes w))
+
+        -- and is one of the path
+        pub linked-in : (links : ℕ) → links ≡ l .links → by ≤ links
+        linked-in links f = omega (arith, e, f, reach-linked .1)

@@ -1,18 +1,17 @@
 -- One literal taken, as the code reads it through the array of representatives.
 use Prim.Native.Nat.{ℕ, _≤_}
 use native.Mathlib.Omega.{arith}
-use mathlib.Core.Path.{_≡_, refl, sym, ap₂, _∙_}
-use mathlib.Core.Bool.{Bool, true, false}
+use mathlib.Core.Path.{_≡_, sym, ap₂, _∙_}
+use mathlib.Core.Bool.{Bool, true, false, cond}
 use mathlib.Core.List.{List}
 use lib.Dec.{eqb}
 use Rattle.logic.specs.Search.{_and_, _or_}
 use Rattle.logic.specs.Query.{Literal}
 use Rattle.logic.specs.Facts.{Facts, Joined, unjoined, andThen, join, addReach}
 use Rattle.theory.proofs.Basics.Compare.{cond-true, cond-false}
-use Rattle.facts.specs.declared.Facts as code
-use Rattle.rows.specs.Square.{square}
-use Rattle.facts.specs.Path.{repOf, pathAs, pathOf, graphOf, replacedBy, HasLink}
-use Rattle.facts.proofs.Path.{alike-graph, reaching, changed, addReach-changed, set-first, set-second, set-third, three, last}
+use Rattle.link_rows.specs.Cube.{cube}
+use Rattle.facts.specs.Path.{repOf, pathAs, replacedBy}
+use Rattle.facts.proofs.Path.{addReach-rows}
 use Rattle.joins.proofs.Joins.{andThen-at, andThen-unjoined}
 use Rattle.plain_literals.specs.Taken.{joinOne, same, Bounded}
 use Rattle.plain_literals.proofs.Each.{reachOne}
@@ -22,9 +21,9 @@ pub read-bounded : (rep : List ℕ) → Bounded (replacedBy rep) → (t a : ℕ)
 unfolding replacedBy
 read-bounded rep b t a h e = omega (arith, e, b .within t h)
 
-module _ (single : Bool) (rep link reach link2 reach2 link3 reach3 : List ℕ) (l : Literal) where
+module _ (single : Bool) (rep link reach : List ℕ) (l : Literal) where
   abbrev path : Facts
-  path = pathAs single rep link reach link2 reach2 link3 reach3
+  path = pathAs single rep link reach
 
   -- the numbers a and b are read for the terms of a literal
   module _ (a b : ℕ) (e : a ≡ repOf rep (l .left)) (f : b ≡ repOf rep (l .right)) (p : l .plain ≡ true) where
@@ -34,27 +33,9 @@ module _ (single : Bool) (rep link reach link2 reach2 link3 reach3 : List ℕ) (
         andThen-at (record { pairs = ps; facts = path }) (join n a b) (joinOne n l) (ap₂ (λ a b. join n a b path) e f ∙ sym (cond-true _ _ p))
 
     -- the fact is added to the rows of its link
-    abbrev Added : List ℕ → List ℕ → Type 0
-    Added rows new = square new ≡ (λ x y. square rows x y or (eqb x a and eqb y b))
-
-    abbrev held : code.Facts
-    held = record { rep = rep; single = single; link = link; reach = reach; link2 = link2; reach2 = reach2; link3 = link3; reach3 = reach3 }
-
-    add-is : changed (l .link) (reaching a b) path ≡ reachOne l path
+    pub reach-plain : (by : ℕ) → by ≡ l .link → by ≤ cond single 1 3 → (later : List ℕ) → cube later ≡ (λ j x y. cube reach j x y or (eqb j by and eqb x a and eqb y b)) → pathAs single rep link later ≡ reachOne l path
     unfolding reachOne
-    add-is = sym (addReach-changed (l .link) path a b) ∙ ap₂ (λ a b. addReach (l .link) a b path) e f ∙ sym (cond-true _ _ p)
-
-    pub reach-first : (new : List ℕ) → l .link ≡ 1 → Added reach new → pathAs single rep link new link2 reach2 link3 reach3 ≡ reachOne l path
-    unfolding pathOf graphOf
-    reach-first new one d = set-first held (l .link) (reaching a b) _ one (alike-graph refl d) ∙ add-is
-
-    pub reach-second : (new : List ℕ) → HasLink path (l .link) → l .link ≡ 2 → Added reach2 new → pathAs single rep link reach link2 new link3 reach3 ≡ reachOne l path
-    unfolding pathOf graphOf
-    reach-second new h two d = set-second held (l .link) (reaching a b) _ two (three held (l .link) h (λ z. omega (arith, z, two))) (alike-graph refl d) ∙ add-is
-
-    pub reach-third : (new : List ℕ) → HasLink path (l .link) → (l .link ≡ 1 → ⊥) → (l .link ≡ 2 → ⊥) → Added reach3 new → pathAs single rep link reach link2 reach2 link3 new ≡ reachOne l path
-    unfolding pathOf graphOf
-    reach-third new h one two d = set-third held (l .link) (reaching a b) _ (last held (l .link) h one two) (three held (l .link) h one) (alike-graph refl d) ∙ add-is
+    reach-plain by d h later added = addReach-rows single rep link reach later by a b h added ∙ (λ i. addReach (d i) (e i) (f i) path) ∙ sym (cond-true _ _ p)
 
 -- a negated literal is passed over
 module _ (l : Literal) (p : l .plain ≡ false) where

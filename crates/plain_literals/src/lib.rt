@@ -1,4 +1,5 @@
 // The plain literals of a query taken into a path: its equalities are joined, its reachability facts are added.
+use link_rows::Link;
 use query::Layout;
 use rows::Term;
 ghost use mathlib.Core.Path.{_≡_};
@@ -18,12 +19,8 @@ ghost use Rattle.plain_literals.specs.Taken.{joinOne, same, Bounded, Ter
 pub fn join_terms(
     single: bool,
     rep: &mut [u8; 17],
-    link: &mut [u32; 17],
-    reach: &mut [u32; 17],
-    link2: &mut [u32; 17],
-    reach2: &mut [u32; 17],
-    link3: &mut [u32; 17],
-    reach3: &mut [u32; 17],
+    link: &mut [u32; 51],
+    reach: &mut [u32; 51],
     kept: &mut [u8; 17],
     replaced: &mut [u8; 17],
     count: usize,
@@ -31,41 +28,22 @@ pub fn join_terms(
     left: Term,
     right: Term,
 ) -> usize
-    requires { ⌜ (n ≤ 16) × Terms (same (left .0) (right .0)) × Bounded (replacedBy (now rep)) × Fits (andThen (joinedIn single (now rep) (now link) (now reach) (now link2) (now reach2) (now link3) (now reach3) (now kept) (now replaced) count) (joinOne n (same (left .0) (right .0)))) ⌝ }
-    requires { ⌜ Whole (now rep) (now link) (now reach) (now link2) (now reach2) (now link3) (now reach3) × (length (now kept) ≡ 17) × (length (now replaced) ≡ 17) ⌝ }
-    ensures { λ r. ⌜ joinedIn single (now (rep .exit)) (now (link .exit)) (now (reach .exit)) (now (link2 .exit)) (now (reach2 .exit)) (now (link3 .exit)) (now (reach3 .exit)) (now (kept .exit)) (now (replaced .exit)) r ≡ andThen (joinedIn single (now (rep .entry)) (now (link .entry)) (now (reach .entry)) (now (link2 .entry)) (now (reach2 .entry)) (now (link3 .entry)) (now (reach3 .entry)) (now (kept .entry)) (now (replaced .entry)) count) (joinOne n (same (left .0) (right .0))) ⌝ }
-    ensures { λ _. ⌜ Bounded (replacedBy (now (rep .exit))) × Whole (now (rep .exit)) (now (link .exit)) (now (reach .exit)) (now (link2 .exit)) (now (reach2 .exit)) (now (link3 .exit)) (now (reach3 .exit)) × (length (now (kept .exit)) ≡ 17) × (length (now (replaced .exit)) ≡ 17) ⌝ }
+    requires { ⌜ (n ≤ 16) × Terms (same (left .0) (right .0)) × Bounded (replacedBy (now rep)) × Fits (andThen (joinedIn single (now rep) (now link) (now reach) (now kept) (now replaced) count) (joinOne n (same (left .0) (right .0)))) ⌝ }
+    requires { ⌜ Whole (now rep) (now link) (now reach) × (length (now kept) ≡ 17) × (length (now replaced) ≡ 17) ⌝ }
+    ensures { λ r. ⌜ joinedIn single (now (rep .exit)) (now (link .exit)) (now (reach .exit)) (now (kept .exit)) (now (replaced .exit)) r ≡ andThen (joinedIn single (now (rep .entry)) (now (link .entry)) (now (reach .entry)) (now (kept .entry)) (now (replaced .entry)) count) (joinOne n (same (left .0) (right .0))) ⌝ }
+    ensures { λ _. ⌜ Bounded (replacedBy (now (rep .exit))) × Whole (now (rep .exit)) (now (link .exit)) (now (reach .exit)) × (length (now (kept .exit)) ≡ 17) × (length (now (replaced .exit)) ≡ 17) ⌝ }
 {
     let a = facts::read_rep(rep, left);
     let b = facts::read_rep(rep, right);
-    joins::join(
-        single,
-        rep,
-        link,
-        reach,
-        link2,
-        reach2,
-        link3,
-        reach3,
-        kept,
-        replaced,
-        count,
-        n,
-        a,
-        b,
-    )
+    joins::join(single, rep, link, reach, kept, replaced, count, n, a, b)
 }
 
 // "then each plain equality joined in query order"; a negated one is passed over.
 pub fn join_each(
     single: bool,
     rep: &mut [u8; 17],
-    link: &mut [u32; 17],
-    reach: &mut [u32; 17],
-    link2: &mut [u32; 17],
-    reach2: &mut [u32; 17],
-    link3: &mut [u32; 17],
-    reach3: &mut [u32; 17],
+    link: &mut [u32; 51],
+    reach: &mut [u32; 51],
     kept: &mut [u8; 17],
     replaced: &mut [u8; 17],
     count: usize,
@@ -74,10 +52,10 @@ pub fn join_each(
     at: usize,
     number: usize,
 ) -> usize
-    requires { ⌜ (n ≤ 16) × (at + 3 * number ≤ length (now query)) × TermsIn (now query) at number × Bounded (replacedBy (now rep)) × Fits (andThen (joinedIn single (now rep) (now link) (now reach) (now link2) (now reach2) (now link3) (now reach3) (now kept) (now replaced) count) (joinEach n (literals (take (3 * number) (drop at (now query)))))) ⌝ }
-    requires { ⌜ Whole (now rep) (now link) (now reach) (now link2) (now reach2) (now link3) (now reach3) × (length (now kept) ≡ 17) × (length (now replaced) ≡ 17) ⌝ }
-    ensures { λ r. ⌜ joinedIn single (now (rep .exit)) (now (link .exit)) (now (reach .exit)) (now (link2 .exit)) (now (reach2 .exit)) (now (link3 .exit)) (now (reach3 .exit)) (now (kept .exit)) (now (replaced .exit)) r ≡ andThen (joinedIn single (now (rep .entry)) (now (link .entry)) (now (reach .entry)) (now (link2 .entry)) (now (reach2 .entry)) (now (link3 .entry)) (now (reach3 .entry)) (now (kept .entry)) (now (replaced .entry)) count) (joinEach n (literals (take (3 * number) (drop at (now (query .entry)))))) ⌝ }
-    ensures { λ _. ⌜ Bounded (replacedBy (now (rep .exit))) × Whole (now (rep .exit)) (now (link .exit)) (now (reach .exit)) (now (link2 .exit)) (now (reach2 .exit)) (now (link3 .exit)) (now (reach3 .exit)) × (length (now (kept .exit)) ≡ 17) × (length (now (replaced .exit)) ≡ 17) ⌝ }
+    requires { ⌜ (n ≤ 16) × (at + 3 * number ≤ length (now query)) × TermsIn (now query) at number × Bounded (replacedBy (now rep)) × Fits (andThen (joinedIn single (now rep) (now link) (now reach) (now kept) (now replaced) count) (joinEach n (literals (take (3 * number) (drop at (now query)))))) ⌝ }
+    requires { ⌜ Whole (now rep) (now link) (now reach) × (length (now kept) ≡ 17) × (length (now replaced) ≡ 17) ⌝ }
+    ensures { λ r. ⌜ joinedIn single (now (rep .exit)) (now (link .exit)) (now (reach .exit)) (now (kept .exit)) (now (replaced .exit)) r ≡ andThen (joinedIn single (now (rep .entry)) (now (link .entry)) (now (reach .entry)) (now (kept .entry)) (now (replaced .entry)) count) (joinEach n (literals (take (3 * number) (drop at (now (query .entry)))))) ⌝ }
+    ensures { λ _. ⌜ Bounded (replacedBy (now (rep .exit))) × Whole (now (rep .exit)) (now (link .exit)) (now (reach .exit)) × (length (now (kept .exit)) ≡ 17) × (length (now (replaced .exit)) ≡ 17) ⌝ }
 {
     let mut total = count;
     let mut i: usize = 0;
@@ -93,10 +71,6 @@ pub fn join_each(
             rep,
             link,
             reach,
-            link2,
-            reach2,
-            link3,
-            reach3,
             kept,
             replaced,
             total,
@@ -110,17 +84,9 @@ pub fn join_each(
 }
 
 // "then the plain reachability facts", each set in its row of its link, whatever the links are
-pub fn reach_each(
-    rep: &[u8; 17],
-    reach: &mut [u32; 17],
-    reach2: &mut [u32; 17],
-    reach3: &mut [u32; 17],
-    query: &[u8],
-    layout: Layout,
-)
-    requires { ⌜ Within layout (now query) × Accepted (said layout (now query)) × Bounded (replacedBy (now rep)) × (length (now reach) ≡ 17) × (length (now reach2) ≡ 17) × (length (now reach3) ≡ 17) ⌝ }
-    ensures { λ _. ⌜ ((single : Bool) (link link2 link3 : List ℕ) → cond single 1 3 ≡ layout .links → pathAs single (now (rep .entry)) link (now (reach .exit)) link2 (now (reach2 .exit)) link3 (now (reach3 .exit)) ≡ reachEach (said layout (now (query .entry)) .reachability) (pathAs single (now (rep .entry)) link (now (reach .entry)) link2 (now (reach2 .entry)) link3 (now (reach3 .entry)))) ⌝ }
-    ensures { λ _. ⌜ (length (now (reach .exit)) ≡ 17) × (length (now (reach2 .exit)) ≡ 17) × (length (now (reach3 .exit)) ≡ 17) ⌝ }
+pub fn reach_each(rep: &[u8; 17], reach: &mut [u32; 51], query: &[u8], layout: Layout)
+    requires { ⌜ Within layout (now query) × Accepted (said layout (now query)) × Bounded (replacedBy (now rep)) × (length (now reach) ≡ 51) ⌝ }
+    ensures { λ _. ⌜ ((single : Bool) (link : List ℕ) → cond single 1 3 ≡ layout .links → pathAs single (now (rep .entry)) link (now (reach .exit)) ≡ reachEach (said layout (now (query .entry)) .reachability) (pathAs single (now (rep .entry)) link (now (reach .entry)))) × (length (now (reach .exit)) ≡ 51) ⌝ }
 {
     let mut i: usize = 0;
     while i < layout.reach_count {
@@ -138,17 +104,7 @@ pub fn reach_each(
             link_query::reach_right(query, layout.links, layout.reach_at, i),
         );
         let by = link_query::reach_link(query, layout.links, layout.reach_at, i);
-        if by == 1 {
-            rows::add_to(reach, a, b);
-            i += 1;
-            continue;
-        }
-        if by == 2 {
-            rows::add_to(reach2, a, b);
-            i += 1;
-            continue;
-        }
-        rows::add_to(reach3, a, b);
+        link_rows::add(reach, Link(by), a, b);
         i += 1;
     }
 }

@@ -1,9 +1,9 @@
 -- Plain steps where a rule applies: the branches one after the other.
-use Prim.Native.Nat.{ℕ, zero, suc, _+_, _-_, _≤_, _<_}
+use Prim.Native.Nat.{ℕ, _+_, _-_, _≤_, _<_}
 use native.Mathlib.Omega.{arith}
-use mathlib.Core.Path.{_≡_, refl, sym, ap, _∙_, subst}
+use mathlib.Core.Path.{_≡_, sym, ap, _∙_, subst}
 use mathlib.Core.Bool.{Bool, true, false, true≢false}
-use mathlib.Core.List.{List, [], _∷_, List·Memᴰ, List·Memᴰ·head, List·Memᴰ·tail}
+use mathlib.Core.List.{List}
 use lib.ListN.{length, getD}
 use Rattle.logic.specs.Query.{Query, termCount, isOrder}
 use Rattle.logic.specs.Facts.{Facts}
@@ -17,6 +17,7 @@ use Rattle.theory.proofs.Walks.Order.{order-full}
 use Rattle.theory.proofs.Walks.Derives.{seen-applying}
 use Rattle.theory.proofs.Walks.OurWalk.{look-some, look-fewer}
 use Rattle.theory.proofs.Calls.Decision.{Known, struck-next, struck-all, branch-at, walk-first}
+use Rattle.theory.proofs.Basics.Count.{getD-mem}
 use Rattle.alternatives.specs.Alternatives.{countOf, alternativeAt}
 use Rattle.kinds.specs.Kinds.{isRefuted}
 use Rattle.plain_steps.specs.Walks.{WalksTo}
@@ -26,11 +27,6 @@ use Rattle.plain_steps.proofs.Branches.{row-length, row-at}
 use Rattle.plain_steps.proofs.Cases.{refuted-open, refuted-unknown, refuted-is}
 
 -- each branch of a rule that is seen has a step fewer
-getD-mem : {A : Type 0} (xs : List A) (i : ℕ) (d : A) → i < length xs → List·Memᴰ (getD xs i d) xs
-getD-mem [] i d h = absurd (omega arith)
-getD-mem (x ∷ xs) zero d h = List·Memᴰ·head refl
-getD-mem (x ∷ xs) (suc i) d h = List·Memᴰ·tail (getD-mem xs i d (omega arith))
-
 pub row-fewer : (q : Query) (order : List Rule) (k : ℕ) (s : Facts) (m : Move) → AtMost (termCount q) s k → look q order s ≡ applying m → (i : ℕ) → i < length (branches (termCount q) s m) → AtMost (termCount q) (getD (branches (termCount q) s m) i s) (k - 1)
 unfolding branches
 row-fewer q order k s m most h i l =

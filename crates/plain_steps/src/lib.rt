@@ -46,19 +46,15 @@ fn close_ahead<'a>(
     order: &[u8],
     single: bool,
     rep: &'a [u8; 17],
-    link: &'a [u32; 17],
-    reach: &'a mut [u32; 17],
-    link2: &'a [u32; 17],
-    reach2: &'a mut [u32; 17],
-    link3: &'a [u32; 17],
-    reach3: &'a mut [u32; 17],
+    link: &'a [u32; 51],
+    reach: &'a mut [u32; 51],
     n: usize,
 )
-    requires { ⌜ (n ≤ 16) × (3 ≤ length (now order)) × (length (now reach) ≡ 17) × (length (now reach2) ≡ 17) × (length (now reach3) ≡ 17) ⌝ }
-    ensures { λ _. ⌜ Ahead n (now (order .entry)) (pathAs single (now (rep .entry)) (now (link .entry)) (now (reach .entry)) (now (link2 .entry)) (now (reach2 .entry)) (now (link3 .entry)) (now (reach3 .entry))) (pathAs single (now (rep .entry)) (now (link .entry)) (now (reach .exit)) (now (link2 .entry)) (now (reach2 .exit)) (now (link3 .entry)) (now (reach3 .exit))) × (length (now (reach .exit)) ≡ 17) × (length (now (reach2 .exit)) ≡ 17) × (length (now (reach3 .exit)) ≡ 17) ⌝ }
+    requires { ⌜ (n ≤ 16) × (3 ≤ length (now order)) × (length (now reach) ≡ 51) ⌝ }
+    ensures { λ _. ⌜ Ahead n (now (order .entry)) (pathAs single (now (rep .entry)) (now (link .entry)) (now (reach .entry))) (pathAs single (now (rep .entry)) (now (link .entry)) (now (reach .exit))) × (length (now (reach .exit)) ≡ 51) ⌝ }
 {
     if closing::begins(order) {
-        closing::close_rows(single, rep, link, reach, link2, reach2, link3, reach3, n);
+        closing::close_rows(single, rep, link, reach, n);
     }
 }
 
@@ -69,44 +65,16 @@ fn look_ahead<'a>(
     order: &[u8],
     single: bool,
     rep: &'a [u8; 17],
-    link: &'a [u32; 17],
-    reach: &'a [u32; 17],
-    link2: &'a [u32; 17],
-    reach2: &'a [u32; 17],
-    link3: &'a [u32; 17],
-    reach3: &'a [u32; 17],
+    link: &'a [u32; 51],
+    reach: &'a [u32; 51],
 ) -> walk::Seen
-    requires { ⌜ Within layout (now query) × (3 ≤ length (now order)) × (begins (now order) ≡ true → Closed (layout .terms) (pathAs single (now rep) (now link) (now reach) (now link2) (now reach2) (now link3) (now reach3))) ⌝ }
-    ensures { λ r. ⌜ lookOf r ≡ look (said layout (now (query .entry))) (orderOf (now (order .entry))) (pathAs single (now (rep .entry)) (now (link .entry)) (now (reach .entry)) (now (link2 .entry)) (now (reach2 .entry)) (now (link3 .entry)) (now (reach3 .entry))) ⌝ }
+    requires { ⌜ Within layout (now query) × (3 ≤ length (now order)) × (begins (now order) ≡ true → Closed (layout .terms) (pathAs single (now rep) (now link) (now reach))) ⌝ }
+    ensures { λ r. ⌜ lookOf r ≡ look (said layout (now (query .entry))) (orderOf (now (order .entry))) (pathAs single (now (rep .entry)) (now (link .entry)) (now (reach .entry))) ⌝ }
 {
     if closing::begins(order) {
-        return walk::look(
-            query,
-            layout,
-            &order[3..],
-            single,
-            rep,
-            link,
-            reach,
-            link2,
-            reach2,
-            link3,
-            reach3,
-        );
+        return walk::look(query, layout, &order[3..], single, rep, link, reach);
     }
-    walk::look(
-        query,
-        layout,
-        order,
-        single,
-        rep,
-        link,
-        reach,
-        link2,
-        reach2,
-        link3,
-        reach3,
-    )
+    walk::look(query, layout, order, single, rep, link, reach)
 }
 
 // Plain steps: our walk under the order list, without its lines. Where it is limited it gives up as its budget runs out; where it is not, it
@@ -120,44 +88,17 @@ pub fn plain_in(
     left: usize,
     single: bool,
     rep: &mut [u8; 17],
-    link: &mut [u32; 17],
-    reach: &mut [u32; 17],
-    link2: &mut [u32; 17],
-    reach2: &mut [u32; 17],
-    link3: &mut [u32; 17],
-    reach3: &mut [u32; 17],
+    link: &mut [u32; 51],
+    reach: &mut [u32; 51],
     limited: bool,
     budget: usize,
 ) -> Told
-    requires { ⌜ Within layout (now query) × Accepted (said layout (now query)) × (isOrder (now order) ≡ true) × Known (said layout (now query)) (pathAs single (now rep) (now link) (now reach) (now link2) (now reach2) (now link3) (now reach3)) × AtMost (termCount (said layout (now query))) (pathAs single (now rep) (now link) (now reach) (now link2) (now reach2) (now link3) (now reach3)) left × Whole (now rep) (now link) (now reach) (now link2) (now reach2) (now link3) (now reach3) ⌝ }
-    ensures { λ r. ⌜ WalksTo (said layout (now (query .entry))) (now (order .entry)) left (pathAs single (now (rep .entry)) (now (link .entry)) (now (reach .entry)) (now (link2 .entry)) (now (reach2 .entry)) (now (link3 .entry)) (now (reach3 .entry))) limited (r .kind) (pathAs single (now (rep .exit)) (now (link .exit)) (now (reach .exit)) (now (link2 .exit)) (now (reach2 .exit)) (now (link3 .exit)) (now (reach3 .exit))) × Whole (now (rep .exit)) (now (link .exit)) (now (reach .exit)) (now (link2 .exit)) (now (reach2 .exit)) (now (link3 .exit)) (now (reach3 .exit)) ⌝ }
+    requires { ⌜ Within layout (now query) × Accepted (said layout (now query)) × (isOrder (now order) ≡ true) × Known (said layout (now query)) (pathAs single (now rep) (now link) (now reach)) × AtMost (termCount (said layout (now query))) (pathAs single (now rep) (now link) (now reach)) left × Whole (now rep) (now link) (now reach) ⌝ }
+    ensures { λ r. ⌜ WalksTo (said layout (now (query .entry))) (now (order .entry)) left (pathAs single (now (rep .entry)) (now (link .entry)) (now (reach .entry))) limited (r .kind) (pathAs single (now (rep .exit)) (now (link .exit)) (now (reach .exit))) × Whole (now (rep .exit)) (now (link .exit)) (now (reach .exit)) ⌝ }
 {
     let n = layout.terms;
-    close_ahead(
-        order,
-        single,
-        rep,
-        link,
-        reach,
-        link2,
-        reach2,
-        link3,
-        reach3,
-        n,
-    );
-    match look_ahead(
-        query,
-        layout,
-        order,
-        single,
-        rep,
-        link,
-        reach,
-        link2,
-        reach2,
-        link3,
-        reach3,
-    ) {
+    close_ahead(order, single, rep, link, reach, n);
+    match look_ahead(query, layout, order, single, rep, link, reach) {
         walk::Seen::Saturated => {
             return Told {
                 kind: Kind::Open,
@@ -184,19 +125,11 @@ pub fn plain_in(
                 let mut own_rep = *rep;
                 let mut own_link = *link;
                 let mut own_reach = *reach;
-                let mut own_link2 = *link2;
-                let mut own_reach2 = *reach2;
-                let mut own_link3 = *link3;
-                let mut own_reach3 = *reach3;
                 branch::take(
                     single,
                     &mut own_rep,
                     &mut own_link,
                     &mut own_reach,
-                    &mut own_link2,
-                    &mut own_reach2,
-                    &mut own_link3,
-                    &mut own_reach3,
                     n,
                     k,
                     rule,
@@ -214,10 +147,6 @@ pub fn plain_in(
                     &mut own_rep,
                     &mut own_link,
                     &mut own_reach,
-                    &mut own_link2,
-                    &mut own_reach2,
-                    &mut own_link3,
-                    &mut own_reach3,
                     limited,
                     fuel,
                 );
@@ -226,10 +155,6 @@ pub fn plain_in(
                     *rep = own_rep;
                     *link = own_link;
                     *reach = own_reach;
-                    *link2 = own_link2;
-                    *reach2 = own_reach2;
-                    *link3 = own_link3;
-                    *reach3 = own_reach3;
                     return w;
                 }
                 fuel = w.budget;
@@ -260,10 +185,6 @@ pub fn plain(
     let mut rep = s.rep;
     let mut link = s.link;
     let mut reach = s.reach;
-    let mut link2 = s.link2;
-    let mut reach2 = s.reach2;
-    let mut link3 = s.link3;
-    let mut reach3 = s.reach3;
     let w = plain_in(
         query,
         layout,
@@ -273,10 +194,6 @@ pub fn plain(
         &mut rep,
         &mut link,
         &mut reach,
-        &mut link2,
-        &mut reach2,
-        &mut link3,
-        &mut reach3,
         limited,
         budget,
     );
@@ -289,10 +206,6 @@ pub fn plain(
             single,
             link,
             reach,
-            link2,
-            reach2,
-            link3,
-            reach3,
         },
     }
 }

@@ -2,7 +2,7 @@
 // That the rule applies there is proved; that the alternative clashes is not, since no verdict rests on it.
 use clash::Clash;
 use facts::Facts;
-use facts::Link;
+use link_rows::Link;
 use query::Layout;
 use rows::Found;
 use rows::Term;
@@ -26,15 +26,7 @@ struct Left {
 fn clashes(query: &[u8], layout: Layout, s: Facts) -> bool
     requires { ⌜ Within layout (now query) ⌝ }
 {
-    if let Clash::At(_, _, _) = clash::find_clash(
-        query,
-        layout,
-        &s.rep,
-        s.single,
-        &s.reach,
-        &s.reach2,
-        &s.reach3,
-    ) {
+    if let Clash::At(_, _, _) = clash::find_clash(query, layout, &s.rep, s.single, &s.reach) {
         return true;
     }
     false
@@ -283,11 +275,11 @@ pub fn failing(query: &[u8], layout: Layout, s: Facts) -> Choice
     requires { ⌜ Within layout (now query) ⌝ }
     ensures { λ r. ⌜ Proposes (layout .terms) (pathOf s) r ⌝ }
 {
-    let total = facts::links(s);
+    let total = facts::links(s.single);
     let mut k: usize = 1;
     while k <= total {
-        let link = facts::link_rows(s, Link(k));
-        let reach = facts::reach_rows(s, Link(k));
+        let link = link_rows::rows_of(&s.link, Link(k));
+        let reach = link_rows::rows_of(&s.reach, Link(k));
         if let Proposal::At(rule, x, y, z) = failing_at(query, layout, s, Link(k), &link, &reach) {
             return Choice::Apply(Link(k), rule, x, y, z);
         }

@@ -2,10 +2,9 @@
 use Prim.Native.Nat.{ℕ, _+_, _*_, _≤_, _<_}
 use native.Mathlib.Omega.{arith}
 use mathlib.Core.Path.{_≡_, refl, sym, ap, _∙_, subst}
-use mathlib.Core.Logic.{⊎-elim}
 use mathlib.Core.Bool.{Bool, true, false}
 use mathlib.Core.List.{List}
-use lib.ListN.{length, replicate, length-replicate}
+use lib.ListN.{length, replicate}
 use Rattle.logic.specs.Query.{Query, isOrder, termCount}
 use Rattle.logic.specs.Walk.{ourWalk, saturation}
 use Rattle.logic.specs.Calls.{CallForm, Input, refused, verdictOf, derivationOf, derivationCallOf, derivationChecksOf, verdictCallOf, verdictChecksOf}
@@ -31,12 +30,6 @@ use Rattle.prover.proofs.Checks.{order-refused, query-refused, room-ref
 use Rattle.prover.proofs.Outcomes.{does-blank, saturated-tied}
 
 -- zeros are zeros again
-pub blank-again : (bytes : List ℕ) (n : ℕ) → bytes ≡ replicate n 0 → bytes ≡ replicate (length bytes) 0
-blank-again bytes n e = e ∙ ap (λ (k : ℕ). replicate k 0) (sym (ap length e ∙ length-replicate n 0))
-
-pub blank-long : (bytes : List ℕ) (n : ℕ) → bytes ≡ replicate n 0 → length bytes ≡ n
-blank-long bytes n e = ap length e ∙ length-replicate n 0
-
 pub zeros-as : (bytes : List ℕ) (n m : ℕ) → bytes ≡ replicate n 0 → n ≡ m → bytes ≡ replicate m 0
 zeros-as bytes n m e f = e ∙ ap (λ (k : ℕ). replicate k 0) f
 
@@ -44,9 +37,6 @@ zeros-as bytes n m e f = e ∙ ap (λ (k : ℕ). replicate k 0) f
 pub said-links : (l : Layout) (bytes : List ℕ) → l .links ≡ said l bytes .links
 unfolding said
 said-links l bytes = refl
-
-pub few-links : (l : Layout) (bytes : List ℕ) → Within l bytes → l .links ≤ 3
-few-links l bytes w = ⊎-elim (λ e. omega (arith, e)) (λ e. omega (arith, e)) (w .one-or-three)
 
 -- what a report is written of
 module _ (bytes : List ℕ) (l : Layout) (s : code.Facts) (within : Within l bytes) (ok : Accepted (said l bytes)) where

@@ -1,6 +1,6 @@
 -- The checks of a call in their order, as the code makes them: what each outcome says of the call.
 use Prim.Native.Nat.{_≤_, _<_}
-use mathlib.Core.Path.{_≡_, refl, ap, _∙_}
+use mathlib.Core.Path.{_≡_, ap, _∙_}
 use mathlib.Core.Bool.{true, false}
 use mathlib.Core.List.{List, [], _∷_, _++_}
 use mathlib.Core.Option.{Option, none, some, Option·elim}
@@ -9,16 +9,7 @@ use Rattle.logic.specs.Search.{keep, orElse, firstOf}
 use Rattle.logic.specs.Query.{isOrder}
 use Rattle.logic.specs.Walk.{Ending, ourWalk}
 use Rattle.logic.specs.Calls.{Input, Check, CallForm, orderCheck, Answer, refused, Outcome, refusalOf, blank, call, derivationChecksOf, roomUnder, verdictChecksOf}
-
--- a search of one list behind another
-firstOf-append : {A B : Type 0} (f : A → Option B) (xs ys : List A) → firstOf f (xs ++ ys) ≡ orElse (firstOf f xs) (firstOf f ys)
-unfolding firstOf orElse
-firstOf-append f [] ys = refl
-firstOf-append {B} f (x ∷ xs) ys = go (f x) (firstOf-append f xs ys)
-  where
-    go : (o : Option B) → firstOf f (xs ++ ys) ≡ orElse (firstOf f xs) (firstOf f ys) → orElse o (firstOf f (xs ++ ys)) ≡ orElse (orElse o (firstOf f xs)) (firstOf f ys)
-    go none ih = ih
-    go (some b) ih = refl
+use Rattle.theory.proofs.Basics.Search.{firstOf-append}
 
 module _ (i : Input) where
   -- the order list is refused

@@ -34,47 +34,18 @@ fn settled(
     query: &[u8],
     layout: Layout,
     rep: &mut [u8; 17],
-    link: &mut [u32; 17],
-    reach: &mut [u32; 17],
-    link2: &mut [u32; 17],
-    reach2: &mut [u32; 17],
-    link3: &mut [u32; 17],
-    reach3: &mut [u32; 17],
+    link: &mut [u32; 51],
+    reach: &mut [u32; 51],
 ) -> Kind
     requires { ⌜ Within layout (now query) × Accepted (said layout (now query)) × (isOrder (now order) ≡ true) ⌝ }
-    ensures { λ r. ⌜ Settles (ourWalk (now (order .entry)) (said layout (now (query .entry)))) r (pathAs (eqb (layout .links) 1) (now (rep .exit)) (now (link .exit)) (now (reach .exit)) (now (link2 .exit)) (now (reach2 .exit)) (now (link3 .exit)) (now (reach3 .exit))) ⌝ }
+    ensures { λ r. ⌜ Settles (ourWalk (now (order .entry)) (said layout (now (query .entry)))) r (pathAs (eqb (layout .links) 1) (now (rep .exit)) (now (link .exit)) (now (reach .exit))) ⌝ }
 {
     let steps = call_limits::limit(layout.links, layout.terms);
     let single = layout.links == 1;
     let mut kept = [0u8; 17];
     let mut replaced = [0u8; 17];
-    start::start_in(
-        query,
-        layout,
-        rep,
-        link,
-        reach,
-        link2,
-        reach2,
-        link3,
-        reach3,
-        &mut kept,
-        &mut replaced,
-    );
-    open_path::settle(
-        query,
-        layout,
-        order,
-        steps,
-        single,
-        rep,
-        link,
-        reach,
-        link2,
-        reach2,
-        link3,
-        reach3,
-    )
+    start::start_in(query, layout, rep, link, reach, &mut kept, &mut replaced);
+    open_path::settle(query, layout, order, steps, single, rep, link, reach)
 }
 
 // The verdict of a query that passes its checks, and the heap shown in a blank report.
@@ -83,24 +54,9 @@ fn decide(order: &[u8], query: &[u8], layout: Layout, report: &mut [u8]) -> Answ
     ensures { λ r. ⌜ Does (verdictOf (said layout (now (query .entry))) (length (now (report .entry))) (ourWalk (now (order .entry)) (said layout (now (query .entry))))) r (now (report .exit)) ⌝ }
 {
     let mut rep = [0u8; 17];
-    let mut link = [0u32; 17];
-    let mut reach = [0u32; 17];
-    let mut link2 = [0u32; 17];
-    let mut reach2 = [0u32; 17];
-    let mut link3 = [0u32; 17];
-    let mut reach3 = [0u32; 17];
-    let kind = settled(
-        order,
-        query,
-        layout,
-        &mut rep,
-        &mut link,
-        &mut reach,
-        &mut link2,
-        &mut reach2,
-        &mut link3,
-        &mut reach3,
-    );
+    let mut link = [0u32; 51];
+    let mut reach = [0u32; 51];
+    let kind = settled(order, query, layout, &mut rep, &mut link, &mut reach);
     if kinds::is_refuted(kind) {
         return Answer::Refuted;
     }
@@ -110,10 +66,6 @@ fn decide(order: &[u8], query: &[u8], layout: Layout, report: &mut [u8]) -> Answ
         single,
         link,
         reach,
-        link2,
-        reach2,
-        link3,
-        reach3,
     };
     report::write_report(report, query, layout, path);
     Answer::Satisfiable
@@ -180,24 +132,9 @@ fn derive(order: &[u8], query: &[u8], layout: Layout, buffer: &mut [u8]) -> Answ
     ensures { λ r. ⌜ Does (derivationOf (length (now (buffer .entry))) (ourWalk (now (order .entry)) (said layout (now (query .entry))))) r (now (buffer .exit)) ⌝ }
 {
     let mut rep = [0u8; 17];
-    let mut link = [0u32; 17];
-    let mut reach = [0u32; 17];
-    let mut link2 = [0u32; 17];
-    let mut reach2 = [0u32; 17];
-    let mut link3 = [0u32; 17];
-    let mut reach3 = [0u32; 17];
-    let kind = settled(
-        order,
-        query,
-        layout,
-        &mut rep,
-        &mut link,
-        &mut reach,
-        &mut link2,
-        &mut reach2,
-        &mut link3,
-        &mut reach3,
-    );
+    let mut link = [0u32; 51];
+    let mut reach = [0u32; 51];
+    let kind = settled(order, query, layout, &mut rep, &mut link, &mut reach);
     if kinds::is_refuted(kind) {
         return write_lines(order, query, layout, buffer);
     }

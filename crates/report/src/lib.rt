@@ -13,7 +13,7 @@ ghost use Rattle.lent.specs.Appending.{Appends};
 ghost use Rattle.report.specs.Bytes.{fieldHeld, literalsAt, FieldsIn, Reportable, allSuccessors, sections};
 ghost use Rattle.link_query.specs.Said.{said};
 use facts::Facts;
-use facts::Link;
+use link_rows::Link;
 use query::Layout;
 
 // The byte of each term, ascending.
@@ -102,7 +102,7 @@ fn put_successors(
     requires { ⌜ (n ≤ 16) × (m ≤ 16) × (m ≡ length (marked (now marks) n)) × (at + pathOf s .links * m ≤ length (now buffer)) × Numbers (now nodes) (marked (now marks) n) ⌝ }
     ensures { λ r. ⌜ (r ≡ at + pathOf s .links * m) × Appends (now (buffer .entry)) (now (buffer .exit)) at (allSuccessors n (pathOf s) (marked (now (marks .entry)) n)) ⌝ }
 {
-    let links = facts::links(s);
+    let links = facts::links(s.single);
     let mut to = at;
     let mut k: usize = 1;
     while k <= links {
@@ -127,7 +127,7 @@ fn put_successor_section(
     requires { ⌜ (n ≤ 16) × (m ≤ 16) × (m ≡ length (marked (now marks) n)) × (at + 1 + pathOf s .links * m ≤ length (now buffer)) × Numbers (now nodes) (marked (now marks) n) ⌝ }
     ensures { λ r. ⌜ (r ≡ at + 1 + pathOf s .links * m) × Appends (now (buffer .entry)) (now (buffer .exit)) at (pathOf s .links * m ∷ allSuccessors n (pathOf s) (marked (now (marks .entry)) n)) ⌝ }
 {
-    let links = facts::links(s);
+    let links = facts::links(s.single);
     let count = links * m;
     let next = lent::put(buffer, at, count as u8);
     put_successors(buffer, next, s, m, marks, nodes, n)

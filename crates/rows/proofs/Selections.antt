@@ -1,7 +1,7 @@
 -- Searches over a selection of the numbers from k below m, as a loop over k meets them.
 use Prim.Native.Nat.{ℕ, zero, suc, _+_, _-_, _≤_, _<_}
 use native.Mathlib.Omega.{arith}
-use mathlib.Core.Path.{_≡_, refl, ap}
+use mathlib.Core.Path.{_≡_, refl, ap, _∙_}
 use mathlib.Core.Bool.{Bool, true, false, not, cond, _&&_}
 use mathlib.Core.List.{List, [], _∷_}
 use mathlib.Core.Option.{Option, none, some}
@@ -89,6 +89,9 @@ pub and-both : (a b : Bool) → a && b ≡ a and b
 unfolding _and_
 and-both true b = refl
 and-both false b = refl
+
+pub and-four : (a b c d : Bool) → ((a && b) && c) && d ≡ (a and b and c and d)
+and-four a b c d = and-both ((a && b) && c) d ∙ ap (λ (p : Bool). p and d) (and-both (a && b) c ∙ ap (λ (p : Bool). p and c) (and-both a b))
 
 pub find-nothing : (p : ℕ → Bool) (xs : List ℕ) → ((x : ℕ) → p x ≡ false) → find p xs ≡ none
 unfolding find firstOf keep orElse

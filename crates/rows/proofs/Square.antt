@@ -1,5 +1,5 @@
 -- Rows read and written. Callers use these laws and know nothing of words.
-use Prim.Native.Nat.{ℕ, zero, suc, _≤_, _<_}
+use Prim.Native.Nat.{ℕ, _≤_, _<_}
 use native.Mathlib.Omega.{arith}
 use mathlib.Core.Path.{_≡_, refl, sym, ap, _∙_, fun-ext}
 use mathlib.Core.Bool.{Bool, true, false}
@@ -8,9 +8,10 @@ use lib.ListN.{length, getD, set, replicate}
 use lib.Seq.{getD-set-same, getD-set-other}
 use lib.Bits.{bitOr}
 use lib.Dec.{ltb, eqb}
-use borrow.Author.Tests.{lt-ltb, le-ltb, eqb-true, eqb-false, eq-eqb, ne-eqb, ltb-true, ltb-false}
+use borrow.Author.Tests.{lt-ltb, le-ltb, eqb-true, eqb-false, eq-eqb, ne-eqb, ltb-false}
 use Rattle.logic.specs.Search.{_and_, _or_, any}
 use Rattle.logic.specs.Facts.{became}
+use Rattle.theory.proofs.Basics.Count.{getD-zeros}
 use Rattle.rows.specs.Bits.{bit}
 use Rattle.rows.specs.Square.{rowOf, square, renamedRow}
 use Rattle.rows.proofs.Bits.{bit-or, bit-none}
@@ -79,14 +80,9 @@ module _ (rows : List ℕ) (a w : ℕ) where
   set-other x n = fun-ext (λ b. ap (λ (v : ℕ). ltb x 17 and rowOf v b) (getD-set-other rows a x w 0 n))
 
 -- nothing is held
-nothing-at : (k i : ℕ) → _≡_ {A = ℕ} (getD (replicate k 0) i 0) 0
-nothing-at zero i = refl
-nothing-at (suc k) zero = refl
-nothing-at (suc k) (suc i) = nothing-at k i
-
 pub nothing-held : (k a b : ℕ) → square (replicate k 0) a b ≡ false
 unfolding square _and_
-nothing-held k a b = rw (nothing-at k a, row-none b) (go (ltb a 17))
+nothing-held k a b = rw (getD-zeros k a, row-none b) (go (ltb a 17))
   where
     go : (t : Bool) → t and false ≡ false
     go true = refl
@@ -108,23 +104,6 @@ square-add rows full a b w h k e = fun-ext (λ x. fun-ext (λ y. go x y (eqb x a
         ∙ row-or (getD rows a 0) w y
         ∙ rw (row-only w b k e y, square-row rows a h))
     go x y false f = ap (λ (g : ℕ → Bool). g y) (set-other rows a _ x (eqb-false x a f)) ∙ none (square rows x y)
-
--- the same, where the bit is wanted
-pub square-with : (rows : List ℕ) → length rows ≡ 17 → (a b w : ℕ) (wanted : Bool) → a ≤ 16 → b ≤ 16 → ((i : ℕ) → bit w i ≡ bit (getD rows a 0) i or (eqb i b and wanted)) → (x y : ℕ) → square (set rows a w) x y ≡ square rows x y or (eqb x a and (eqb y b and wanted))
-unfolding _and_ _or_
-square-with rows full a b w wanted h k e x y = go (eqb x a) refl
-  where
-    none : (t : Bool) → t ≡ t or false
-    none true = refl
-    none false = refl
-
-    here : (t : Bool) → ltb y 17 ≡ t → rowOf w y ≡ square rows a y or (eqb y b and wanted)
-    here true f = let l = ltb-true y 17 f in row-in w y (omega arith) ∙ e y ∙ sym (rw (square-in rows a y h (omega arith)))
-    here false f = let l = ltb-false y 17 f in row-beyond w y l ∙ sym (rw (square-beside rows a y l, ne-eqb y b (λ z. omega arith)))
-
-    go : (s : Bool) → eqb x a ≡ s → square (set rows a w) x y ≡ square rows x y or (s and (eqb y b and wanted))
-    go true f = rw (eqb-true x a f) (ap (λ (g : ℕ → Bool). g y) (set-same rows a w full h) ∙ here (ltb y 17) refl)
-    go false f = ap (λ (g : ℕ → Bool). g y) (set-other rows a w x (eqb-false x a f)) ∙ none (square rows x y)
 
 -- a row in which hi is replaced by lo
 module _ (lo hi : ℕ) (below : lo < hi) (p : ℕ → Bool) where

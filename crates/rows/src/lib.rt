@@ -118,15 +118,6 @@ pub fn is_held(rows: &[u32; 17], a: usize, b: usize) -> bool
     holds(rows, Term(a), Term(b))
 }
 
-// The fact about a and b is added.
-pub fn add_to(rows: &mut [u32; 17], a: Term, b: Term)
-    requires { ⌜ (a .0 ≤ 16) × (b .0 ≤ 16) × (length (now rows) ≡ 17) ⌝ }
-    ensures { λ _. ⌜ (square (now (rows .exit)) ≡ (λ x y. square (now (rows .entry)) x y or (eqb x (a .0) and eqb y (b .0)))) × (length (now (rows .exit)) ≡ 17) ⌝ }
-{
-    let at = a.0;
-    rows[at] = rows[at] | only(b.0);
-}
-
 // Column y of a relation, as a row.
 fn column(rows: &[u32; 17], y: usize) -> u32
     requires { ⌜ y ≤ 16 ⌝ }
@@ -165,7 +156,7 @@ fn renamed_row(row: u32, lo: usize, hi: usize) -> u32
 }
 
 // In every row, the lower number stands where the higher did.
-fn merge_columns(rows: &mut [u32; 17], lo: Term, hi: Term)
+fn merge_columns(rows: &mut [u32], lo: Term, hi: Term)
     requires { ⌜ (lo .0 < hi .0) × (hi .0 ≤ 16) × (length (now rows) ≡ 17) ⌝ }
     ensures { λ _. ⌜ (square (now (rows .exit)) ≡ columns (lo .0) (hi .0) (square (now (rows .entry)))) × (length (now (rows .exit)) ≡ 17) ⌝ }
 {
@@ -179,7 +170,7 @@ fn merge_columns(rows: &mut [u32; 17], lo: Term, hi: Term)
 }
 
 // The lower row gets what the higher holds, and the higher is cleared.
-fn merge_rows(cells: &mut [u32; 17], lo: Term, hi: Term)
+fn merge_rows(cells: &mut [u32], lo: Term, hi: Term)
     requires { ⌜ (lo .0 < hi .0) × (hi .0 ≤ 16) × (length (now cells) ≡ 17) ⌝ }
     ensures { λ _. ⌜ (square (now (cells .exit)) ≡ rows (lo .0) (hi .0) (square (now (cells .entry)))) × (length (now (cells .exit)) ≡ 17) ⌝ }
 {
@@ -190,7 +181,7 @@ fn merge_rows(cells: &mut [u32; 17], lo: Term, hi: Term)
 }
 
 // hi is replaced by lo in a relation.
-pub fn replace_in(rows: &mut [u32; 17], lo: Term, hi: Term)
+pub fn replace_in(rows: &mut [u32], lo: Term, hi: Term)
     requires { ⌜ (lo .0 < hi .0) × (hi .0 ≤ 16) × (length (now rows) ≡ 17) ⌝ }
     ensures { λ _. ⌜ (square (now (rows .exit)) ≡ replaceIn (lo .0) (hi .0) (square (now (rows .entry)))) × (length (now (rows .exit)) ≡ 17) ⌝ }
 {

@@ -2,9 +2,9 @@
 use Prim.Native.Nat.{ℕ, suc, _+_, _-_, _≤_, _<_}
 use native.Mathlib.Omega.{arith}
 use native.Mathlib.Numerals.{add-one}
-use mathlib.Core.Path.{_≡_, refl, sym, ap, ap₂, _∙_, fun-ext}
-use mathlib.Core.Bool.{Bool, true, false}
-use mathlib.Core.List.{List, [], _∷_, _++_, map, List·Memᴰ, List·Memᴰ·head, List·Memᴰ·tail}
+use mathlib.Core.Path.{_≡_, refl, sym, ap, _∙_, fun-ext}
+use mathlib.Core.Bool.{Bool, true, false, cond}
+use mathlib.Core.List.{List, [], _∷_, map, List·Memᴰ}
 use mathlib.Core.Option.{Option, none, some, Option·elim}
 use lib.ListN.{length, getD, drop, drop-of-length-le}
 use lib.Seq.{drop-cons}
@@ -12,26 +12,19 @@ use Rattle.logic.specs.Search.{_and_, from, keep, orElse, firstOf, find, flatMa
 use Rattle.logic.specs.Facts.{Graph, Facts, linkNumbers, live}
 use Rattle.logic.specs.Rules.{Rule, Triple, triple, Move, move, applies, triples, ruleOf, choose}
 use Rattle.logic.specs.Walk.{orderOf}
-use Rattle.theory.proofs.Basics.Search.{firstOf-empty, from-mem}
+use Rattle.theory.proofs.Basics.Search.{firstOf-empty, firstOf-append, firstOf-alike, from-mem}
 use Rattle.theory.proofs.Paths.Ranged.{InRange}
 use Rattle.theory.proofs.Calls.OneLink.{firstOf-one}
-use Rattle.facts.specs.Path.{graphOf, graphs, pathAs, replacedBy}
+use Rattle.rows.specs.Square.{square}
+use Rattle.link_rows.specs.Cube.{cube}
+use Rattle.facts.specs.Path.{graphOf, graphIn, pathAs, replacedBy}
+use Rattle.facts.proofs.Path.{graph-at}
 use Rattle.rules.specs.Tests.{pairTest, thirdTest, isNotCycle}
 use Rattle.rules.specs.Allowed.{allowed}
-use Rattle.rules.proofs.Halves.{halves, allowed-any, applies-allowed}
+use Rattle.rules.proofs.Halves.{halves, allowed-any, applies-allowed, rows-are}
 use Rattle.rule_choice.specs.Smallest.{inThird, inSecond, inFirst, moveAt, triedAt, triedBy}
 
 -- Rows of triples
-
-module _ {B C : Type 0} (f : B → Option C) where
-  firstOf-append : (xs ys : List B) → firstOf f (xs ++ ys) ≡ orElse (firstOf f xs) (firstOf f ys)
-  unfolding firstOf orElse
-  firstOf-append [] ys = refl
-  firstOf-append (x ∷ xs) ys = go (f x) (firstOf-append xs ys)
-    where
-      go : (o : Option C) → firstOf f (xs ++ ys) ≡ orElse (firstOf f xs) (firstOf f ys) → orElse o (firstOf f (xs ++ ys)) ≡ orElse (orElse o (firstOf f xs)) (firstOf f ys)
-      go none e = e
-      go (some a) e = refl
 
 module _ {A B C : Type 0} (f : B → Option C) where
   firstOf-flatMap : (h : A → List B) (xs : List A) → firstOf f (flatMap h xs) ≡ firstOf (λ x. firstOf f (h x)) xs
@@ -114,12 +107,6 @@ firstOf-option f (some a) = go (f a)
     go none = refl
     go (some b) = refl
 
--- searches that answer alike on what they meet
-firstOf-alike : {A B : Type 0} (f g : A → Option B) (xs : List A) → ((x : A) → List·Memᴰ x xs → f x ≡ g x) → firstOf f xs ≡ firstOf g xs
-unfolding firstOf
-firstOf-alike f g [] h = refl
-firstOf-alike f g (x ∷ xs) h = ap₂ orElse (h x (List·Memᴰ·head refl)) (firstOf-alike f g xs (λ y m. h y (List·Memᴰ·tail m)))
-
 -- the order list, byte after byte, and for each the links
 module _ (n : ℕ) (s : Facts) where
   abbrev moved : ℕ → Rule → Option Move
@@ -149,45 +136,39 @@ module _ (n : ℕ) (s : Facts) where
       ∙ firstOf-flatMap _ _ order
       ∙ ap (λ (f : ℕ → Option Move). firstOf f order) (fun-ext (λ k. firstOf-option _ (ruleOf k) ∙ inside (ruleOf k)))
 
--- the first of three links that allows the rule
-module _ (n : ℕ) (alive : ℕ → Bool) (f g h : Graph) (k : ℕ) where
-  pub tried-first : (m : Move) → triedAt 1 n alive f k ≡ some m → triedBy n alive f g h k ≡ some m
-  unfolding triedBy orElse
-  tried-first m e = rw e refl
-
-  pub tried-second : (m : Move) → triedAt 1 n alive f k ≡ none → triedAt 2 n alive g k ≡ some m → triedBy n alive f g h k ≡ some m
-  unfolding triedBy orElse
-  tried-second m e d = rw (e, d) refl
-
-  pub tried-third : triedAt 1 n alive f k ≡ none → triedAt 2 n alive g k ≡ none → triedBy n alive f g h k ≡ triedAt 3 n alive h k
-  unfolding triedBy orElse
-  tried-third e d = rw (e, d) refl
+-- a rule is tried alike in rows of the link's own and in the rows of all links
+pub own-tried : (link reach l r : List ℕ) (i : ℕ) → square l ≡ cube link i → square r ≡ cube reach i → (n : ℕ) (alive : ℕ → Bool) (k : ℕ) → triedAt i n alive (graphOf l r) k ≡ triedAt i n alive (graphIn link reach i) k
+unfolding graphIn
+own-tried link reach l r i e f n alive k = ap (λ (g : Graph). triedAt i n alive g k) (rows-are l r (graphIn link reach i) e f)
 
 -- the choice at the path that arrays hold, of a single link or of three
-module _ (n : ℕ) (single : Bool) (rep link reach link2 reach2 link3 reach3 order : List ℕ) (alive : ℕ → Bool) (e : alive ≡ live n (replacedBy rep)) where
+module _ (n : ℕ) (single : Bool) (rep link reach order : List ℕ) (alive : ℕ → Bool) (e : alive ≡ live n (replacedBy rep)) where
   abbrev path : Facts
-  path = pathAs single rep link reach link2 reach2 link3 reach3
+  path = pathAs single rep link reach
 
-  abbrev by-links-of : (ℕ → Bool) → ℕ → Option Move
-  by-links-of a k = firstOf (λ i. triedAt i n a (path .graph i) k) (linkNumbers (path .links))
+  abbrev by-links-of : (ℕ → Bool) → (ℕ → Graph) → ℕ → Option Move
+  by-links-of a g k = firstOf (λ i. triedAt i n a (g i) k) (linkNumbers (cond single 1 3))
 
-  choose-path : choose n (orderOf order) path ≡ firstOf (by-links-of alive) order
+  in-rows : (k : ℕ) → by-links-of alive (path .graph) k ≡ by-links-of alive (graphIn link reach) k
+  in-rows k = firstOf-alike _ _ (linkNumbers (path .links)) (λ i m. ap (λ (g : Graph). triedAt i n alive g k) (graph-at single link reach i (in-links n path i m .1)))
+
+  choose-path : choose n (orderOf order) path ≡ firstOf (by-links-of alive (graphIn link reach)) order
   unfolding live replacedBy
-  choose-path = choose-by n path order ∙ ap (λ (a : ℕ → Bool). firstOf (by-links-of a) order) (sym e)
+  choose-path =
+      choose-by n path order
+      ∙ ap (λ (a : ℕ → Bool). firstOf (by-links-of a (path .graph)) order) (sym e)
+      ∙ ap (λ (f : ℕ → Option Move). firstOf f order) (fun-ext in-rows)
 
-  single-tried : single ≡ true → (k : ℕ) → by-links-of alive k ≡ triedAt 1 n alive (graphOf link reach) k
-  unfolding linkNumbers from graphs
-  single-tried one k = rw one (firstOf-one (λ i. triedAt i n alive (graphs true (graphOf link reach) (graphOf link2 reach2) (graphOf link3 reach3) i) k) 1)
+  single-tried : single ≡ true → (k : ℕ) → by-links-of alive (graphIn link reach) k ≡ triedAt 1 n alive (graphIn link reach 1) k
+  unfolding linkNumbers from
+  single-tried one k = rw one (firstOf-one (λ i. triedAt i n alive (graphIn link reach i) k) 1)
 
-  three-tried : single ≡ false → (k : ℕ) → by-links-of alive k ≡ triedBy n alive (graphOf link reach) (graphOf link2 reach2) (graphOf link3 reach3) k
-  unfolding linkNumbers from graphs triedBy firstOf
-  three-tried three k = rw three (ap (λ (o : Option Move). orElse (triedAt 1 n alive (graphOf link reach) k) (orElse (triedAt 2 n alive (graphOf link2 reach2) k) o)) (firstOf-one (λ i. triedAt i n alive (graphOf link3 reach3) k) 3))
+  pub choose-single : single ≡ true → (l r : List ℕ) → square l ≡ cube link 1 → square r ≡ cube reach 1 → choose n (orderOf order) path ≡ firstOf (triedAt 1 n alive (graphOf l r)) order
+  choose-single one l r d f = choose-path ∙ ap (λ (g : ℕ → Option Move). firstOf g order) (fun-ext (λ k. single-tried one k ∙ sym (own-tried link reach l r 1 d f n alive k)))
 
-  pub choose-single : single ≡ true → choose n (orderOf order) path ≡ firstOf (triedAt 1 n alive (graphOf link reach)) order
-  choose-single one = choose-path ∙ ap (λ (f : ℕ → Option Move). firstOf f order) (fun-ext (single-tried one))
-
-  pub choose-three : single ≡ false → choose n (orderOf order) path ≡ firstOf (triedBy n alive (graphOf link reach) (graphOf link2 reach2) (graphOf link3 reach3)) order
-  choose-three three = choose-path ∙ ap (λ (f : ℕ → Option Move). firstOf f order) (fun-ext (three-tried three))
+  pub choose-three : single ≡ false → choose n (orderOf order) path ≡ firstOf (triedBy n alive (graphIn link reach)) order
+  unfolding triedBy
+  choose-three three = choose-path ∙ rw three
 
 module _ {B : Type 0} (f : ℕ → Option B) (xs : List ℕ) (i : ℕ) where
   pub rest-end : length xs ≤ i → firstOf f (drop i xs) ≡ none

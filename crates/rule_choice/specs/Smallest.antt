@@ -2,8 +2,8 @@
 use Prim.Native.Nat.{ℕ, _+_, _-_}
 use mathlib.Core.Bool.{Bool}
 use mathlib.Core.Option.{Option, none, Option·elim}
-use Rattle.logic.specs.Search.{from, keep, orElse, firstOf}
-use Rattle.logic.specs.Facts.{Graph}
+use Rattle.logic.specs.Search.{from, keep, firstOf}
+use Rattle.logic.specs.Facts.{Graph, linkNumbers}
 use Rattle.logic.specs.Rules.{Rule, Triple, triple, Move, move, ruleOf, triples}
 use Rattle.rules.specs.Allowed.{allowed}
 
@@ -26,5 +26,5 @@ unfoldable pub triedAt : ℕ → ℕ → (ℕ → Bool) → Graph → ℕ → Op
 triedAt i n alive g k = Option·elim (ruleOf k) none (moveAt i n alive g)
 
 -- "within a rule link 1 is tried first" (02, R-11): the rule that has number k, by the first of three links that allows it
-unfoldable pub triedBy : ℕ → (ℕ → Bool) → Graph → Graph → Graph → ℕ → Option Move
-triedBy n alive f g h k = orElse (triedAt 1 n alive f k) (orElse (triedAt 2 n alive g k) (triedAt 3 n alive h k))
+unfoldable pub triedBy : ℕ → (ℕ → Bool) → (ℕ → Graph) → ℕ → Option Move
+triedBy n alive g k = firstOf (λ i. triedAt i n alive (g i) k) (linkNumbers 3)

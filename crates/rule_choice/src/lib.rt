@@ -1,5 +1,5 @@
 // The choice of a rule: the first that applies, at the smallest triple.
-use facts::Link;
+use link_rows::Link;
 use rows::Found;
 use rows::Term;
 use rules::Choice;
@@ -9,8 +9,8 @@ use rules::Third;
 ghost use mathlib.Core.Path.{_≡_};
 ghost use mathlib.Core.Bool.{Bool, true, false};
 ghost use mathlib.Core.List.{List};
-ghost use Prim.Native.Nat.{ℕ, _≤_};
-ghost use Rattle.facts.specs.Path.{graphOf, pathAs};
+ghost use Prim.Native.Nat.{ℕ, _≤_, _<_};
+ghost use Rattle.facts.specs.Path.{graphOf, graphIn, pathAs};
 ghost use Rattle.rules.specs.Answers.{kindOf, choiceOf};
 ghost use Rattle.rows.specs.Bits.{bit};
 ghost use Rattle.rows.specs.Square.{Turned};
@@ -248,67 +248,53 @@ fn choose_by(
 }
 
 // The rule that has this number, by link i, with reachability turned round where the rule reads it so.
-fn tried_at(i: Link, k: u8, alive: u32, link: &[u32; 17], reach: &[u32; 17], n: usize) -> Choice
-    requires { ⌜ n ≤ 16 ⌝ }
-    ensures { λ r. ⌜ choiceOf r ≡ triedAt (i .0) n (bit alive) (graphOf (now (link .entry)) (now (reach .entry))) k ⌝ }
+fn tried_at<'a>(
+    i: Link,
+    k: u8,
+    alive: u32,
+    link: &'a [u32; 51],
+    reach: &'a [u32; 51],
+    n: usize,
+) -> Choice
+    requires { ⌜ (n ≤ 16) × (0 < i .0) × (i .0 ≤ 3) ⌝ }
+    ensures { λ r. ⌜ choiceOf r ≡ triedAt (i .0) n (bit alive) (graphIn (now (link .entry)) (now (reach .entry)) (i .0)) k ⌝ }
 {
+    let own_link = link_rows::rows_of(link, i);
+    let own_reach = link_rows::rows_of(reach, i);
     let unturned = [0u32; 17];
-    let back = turned_once(reach, looks_back(k), unturned);
-    tried(i, k, alive, link, reach, &back, n)
+    let back = turned_once(&own_reach, looks_back(k), unturned);
+    tried(i, k, alive, &own_link, &own_reach, &back, n)
 }
 
 // "within a rule link 1 is tried first" (02, R-11)
-fn tried_by<'a>(
-    k: u8,
-    alive: u32,
-    link: &'a [u32; 17],
-    reach: &'a [u32; 17],
-    link2: &'a [u32; 17],
-    reach2: &'a [u32; 17],
-    link3: &'a [u32; 17],
-    reach3: &'a [u32; 17],
-    n: usize,
-) -> Choice
+fn tried_by<'a>(k: u8, alive: u32, link: &'a [u32; 51], reach: &'a [u32; 51], n: usize) -> Choice
     requires { ⌜ n ≤ 16 ⌝ }
-    ensures { λ r. ⌜ choiceOf r ≡ triedBy n (bit alive) (graphOf (now (link .entry)) (now (reach .entry))) (graphOf (now (link2 .entry)) (now (reach2 .entry))) (graphOf (now (link3 .entry)) (now (reach3 .entry))) k ⌝ }
+    ensures { λ r. ⌜ choiceOf r ≡ triedBy n (bit alive) (graphIn (now (link .entry)) (now (reach .entry))) k ⌝ }
 {
-    if let Choice::Apply(l, rule, x, y, z) = tried_at(Link(1), k, alive, link, reach, n) {
-        return Choice::Apply(l, rule, x, y, z);
+    let mut i: usize = 1;
+    while i <= 3 {
+        if let Choice::Apply(l, rule, x, y, z) = tried_at(Link(i), k, alive, link, reach, n) {
+            return Choice::Apply(l, rule, x, y, z);
+        }
+        i += 1;
     }
-    if let Choice::Apply(l, rule, x, y, z) = tried_at(Link(2), k, alive, link2, reach2, n) {
-        return Choice::Apply(l, rule, x, y, z);
-    }
-    tried_at(Link(3), k, alive, link3, reach3, n)
+    Choice::Nothing
 }
 
 // The first applicable rule of the order list, by any of three links.
 fn choose_any<'a>(
     order: &[u8],
     alive: u32,
-    link: &'a [u32; 17],
-    reach: &'a [u32; 17],
-    link2: &'a [u32; 17],
-    reach2: &'a [u32; 17],
-    link3: &'a [u32; 17],
-    reach3: &'a [u32; 17],
+    link: &'a [u32; 51],
+    reach: &'a [u32; 51],
     n: usize,
 ) -> Choice
     requires { ⌜ n ≤ 16 ⌝ }
-    ensures { λ r. ⌜ choiceOf r ≡ firstOf (triedBy n (bit alive) (graphOf (now (link .entry)) (now (reach .entry))) (graphOf (now (link2 .entry)) (now (reach2 .entry))) (graphOf (now (link3 .entry)) (now (reach3 .entry)))) (now (order .entry)) ⌝ }
+    ensures { λ r. ⌜ choiceOf r ≡ firstOf (triedBy n (bit alive) (graphIn (now (link .entry)) (now (reach .entry)))) (now (order .entry)) ⌝ }
 {
     let mut i: usize = 0;
     while i < order.len() {
-        if let Choice::Apply(l, rule, x, y, z) = tried_by(
-            order[i],
-            alive,
-            link,
-            reach,
-            link2,
-            reach2,
-            link3,
-            reach3,
-            n,
-        ) {
+        if let Choice::Apply(l, rule, x, y, z) = tried_by(order[i], alive, link, reach, n) {
             return Choice::Apply(l, rule, x, y, z);
         }
         i += 1;
@@ -321,20 +307,18 @@ pub fn choose<'a>(
     order: &[u8],
     single: bool,
     rep: &'a [u8; 17],
-    link: &'a [u32; 17],
-    reach: &'a [u32; 17],
-    link2: &'a [u32; 17],
-    reach2: &'a [u32; 17],
-    link3: &'a [u32; 17],
-    reach3: &'a [u32; 17],
+    link: &'a [u32; 51],
+    reach: &'a [u32; 51],
     n: usize,
 ) -> Choice
     requires { ⌜ n ≤ 16 ⌝ }
-    ensures { λ r. ⌜ choiceOf r ≡ choose n (orderOf (now (order .entry))) (pathAs single (now (rep .entry)) (now (link .entry)) (now (reach .entry)) (now (link2 .entry)) (now (reach2 .entry)) (now (link3 .entry)) (now (reach3 .entry))) ⌝ }
+    ensures { λ r. ⌜ choiceOf r ≡ choose n (orderOf (now (order .entry))) (pathAs single (now (rep .entry)) (now (link .entry)) (now (reach .entry))) ⌝ }
 {
     let alive = facts::live(rep, n);
     if single {
-        return choose_by(Link(1), order, alive, link, reach, n);
+        let own_link = link_rows::rows_of(link, Link(1));
+        let own_reach = link_rows::rows_of(reach, Link(1));
+        return choose_by(Link(1), order, alive, &own_link, &own_reach, n);
     }
-    choose_any(order, alive, link, reach, link2, reach2, link3, reach3, n)
+    choose_any(order, alive, link, reach, n)
 }

@@ -1,5 +1,5 @@
 // The eight rules, and the rows of the numbers that each asks for.
-use facts::Link;
+use link_rows::Link;
 use rows::Term;
 ghost use mathlib.Core.Path.{_≡_};
 ghost use mathlib.Core.Bool.{true};

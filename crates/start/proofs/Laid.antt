@@ -13,7 +13,7 @@ use Rattle.theory.proofs.Paths.Start.{start-tied}
 use Rattle.query.specs.declared.Layout.{Layout}
 use Rattle.link_query.specs.Said.{said, Within}
 use Rattle.link_query.proofs.Said.{terms-said}
-use Rattle.rows.specs.Square.{square}
+use Rattle.link_rows.specs.Cube.{cube}
 use Rattle.facts.specs.Path.{repOf}
 use Rattle.joins.specs.Pairs.{joinedIn, Fits}
 use Rattle.joins.proofs.Joins.{none-before, fits-left}
@@ -72,11 +72,10 @@ module _ {l : Layout} {bytes : List ℕ} (w : Within l bytes) where
 
   module _ (acc : Accepted (said l bytes)) where
     -- the links that rows hold are settled behind no pair
-    pub links-laid : (single : Bool) (rep link link2 link3 : List ℕ) → single ≡ eqb (l .links) 1 → repOf rep ≡ (λ t. t) → square link ≡ linksOf (said l bytes) .graph 1 .link → square link2 ≡ linksOf (said l bytes) .graph 2 .link → square link3 ≡ linksOf (said l bytes) .graph 3 .link → andThen (joinedIn single rep link (replicate 17 0) link2 (replicate 17 0) link3 (replicate 17 0) (replicate 17 0) (replicate 17 0) 0) (settle (l .terms) (l .terms)) ≡ links
+    pub links-laid : (single : Bool) (rep link : List ℕ) → single ≡ eqb (l .links) 1 → repOf rep ≡ (λ t. t) → ((k : ℕ) → cube link k ≡ linksOf (said l bytes) .graph k .link) → andThen (joinedIn single rep link (replicate 51 0) (replicate 17 0) (replicate 17 0) 0) (settle (l .terms) (l .terms)) ≡ links
     unfolding said
-    links-laid single rep link link2 link3 e r f g h =
-        none-before (replicate 17 0) (replicate 17 0) _ (settle (l .terms) (l .terms))
-        ∙ ap (settle (l .terms) (l .terms)) (linked-in-rows (said l bytes) acc single rep link link2 link3 e (w .one-or-three) r f g h)
+    links-laid single rep link e r f =
+        none-before (replicate 17 0) (replicate 17 0) _ (settle (l .terms) (l .terms)) ∙ ap (settle (l .terms) (l .terms)) (linked-in-rows (said l bytes) acc single rep link e (w .one-or-three) r f)
 
     -- the joins leave the links that there are
     pub joins-links : joins .facts .links ≡ l .links

@@ -16,53 +16,28 @@ pub fn start_in(
     query: &[u8],
     layout: Layout,
     rep: &mut [u8; 17],
-    link: &mut [u32; 17],
-    reach: &mut [u32; 17],
-    link2: &mut [u32; 17],
-    reach2: &mut [u32; 17],
-    link3: &mut [u32; 17],
-    reach3: &mut [u32; 17],
+    link: &mut [u32; 51],
+    reach: &mut [u32; 51],
     kept: &mut [u8; 17],
     replaced: &mut [u8; 17],
 ) -> usize
     requires { ⌜ Within layout (now query) × Accepted (said layout (now query)) ⌝ }
-    ensures { λ r. ⌜ joinedIn (eqb (layout .links) 1) (now (rep .exit)) (now (link .exit)) (now (reach .exit)) (now (link2 .exit)) (now (reach2 .exit)) (now (link3 .exit)) (now (reach3 .exit)) (now (kept .exit)) (now (replaced .exit)) r ≡ started (said layout (now (query .entry))) ⌝ }
-    ensures { λ _. ⌜ Whole (now (rep .exit)) (now (link .exit)) (now (reach .exit)) (now (link2 .exit)) (now (reach2 .exit)) (now (link3 .exit)) (now (reach3 .exit)) ⌝ }
+    ensures { λ r. ⌜ joinedIn (eqb (layout .links) 1) (now (rep .exit)) (now (link .exit)) (now (reach .exit)) (now (kept .exit)) (now (replaced .exit)) r ≡ started (said layout (now (query .entry))) ⌝ }
+    ensures { λ _. ⌜ Whole (now (rep .exit)) (now (link .exit)) (now (reach .exit)) ⌝ }
 {
     let n = layout.terms;
     let single = layout.links == 1;
     *rep = facts::unreplaced();
-    *link = term_links::links_of(query, layout, 1);
-    *link2 = term_links::others_of(query, layout, 2);
-    *link3 = term_links::others_of(query, layout, 3);
-    *reach = [0u32; 17];
-    *reach2 = [0u32; 17];
-    *reach3 = [0u32; 17];
+    *link = term_links::links_of(query, layout);
+    *reach = [0u32; 51];
     *kept = [0u8; 17];
     *replaced = [0u8; 17];
-    let settled = joins::settle(
-        single,
-        rep,
-        link,
-        reach,
-        link2,
-        reach2,
-        link3,
-        reach3,
-        kept,
-        replaced,
-        0,
-        n,
-    );
+    let settled = joins::settle(single, rep, link, reach, kept, replaced, 0, n);
     let nilled = nil_terms::join_nil(
         single,
         rep,
         link,
         reach,
-        link2,
-        reach2,
-        link3,
-        reach3,
         kept,
         replaced,
         settled,
@@ -74,10 +49,6 @@ pub fn start_in(
         rep,
         link,
         reach,
-        link2,
-        reach2,
-        link3,
-        reach3,
         kept,
         replaced,
         nilled,
@@ -86,7 +57,7 @@ pub fn start_in(
         layout.equal_at,
         layout.equal_count,
     );
-    plain_literals::reach_each(rep, reach, reach2, reach3, query, layout);
+    plain_literals::reach_each(rep, reach, query, layout);
     joined
 }
 
@@ -97,12 +68,8 @@ pub fn start(query: &[u8], layout: Layout) -> Joined
 {
     let single = layout.links == 1;
     let mut rep = [0u8; 17];
-    let mut link = [0u32; 17];
-    let mut reach = [0u32; 17];
-    let mut link2 = [0u32; 17];
-    let mut reach2 = [0u32; 17];
-    let mut link3 = [0u32; 17];
-    let mut reach3 = [0u32; 17];
+    let mut link = [0u32; 51];
+    let mut reach = [0u32; 51];
     let mut kept = [0u8; 17];
     let mut replaced = [0u8; 17];
     let count = start_in(
@@ -111,10 +78,6 @@ pub fn start(query: &[u8], layout: Layout) -> Joined
         &mut rep,
         &mut link,
         &mut reach,
-        &mut link2,
-        &mut reach2,
-        &mut link3,
-        &mut reach3,
         &mut kept,
         &mut replaced,
     );
@@ -129,10 +92,6 @@ pub fn start(query: &[u8], layout: Layout) -> Joined
             single,
             link,
             reach,
-            link2,
-            reach2,
-            link3,
-            reach3,
         },
     }
 }

@@ -2,7 +2,7 @@
 use Prim.Native.Nat.{ℕ, _≤_, _<_}
 use native.Mathlib.Omega.{arith}
 use mathlib.Core.Path.{_≡_, refl, sym, ap, _∙_, subst}
-use mathlib.Core.Bool.{Bool, true, false, not}
+use mathlib.Core.Bool.{Bool, true, false, not, cond}
 use mathlib.Core.List.{List}
 use lib.ListN.{getD}
 use lib.Bits.{bitAnd, bitOr}
@@ -12,13 +12,15 @@ use Rattle.logic.specs.Search.{_and_, from, find}
 use Rattle.logic.specs.Facts.{Graph, Facts, live}
 use Rattle.logic.specs.Rules.{Rule, FUNC, CYCLE, SCC, TOTAL, SHARE, Triple, triple, move, applies}
 use Rattle.theory.proofs.Basics.Search.{and-left, and-right, and-intro, not-intro, find-some, from-mem, neither}
-use Rattle.theory.proofs.Paths.Ranged.{InRange}
 use Rattle.theory.proofs.Paths.Applies.{hasLink-range, applies-linked}
 use Rattle.rows.specs.Bits.{bit}
 use Rattle.rows.specs.Square.{square, Turned}
 use Rattle.rows.specs.Answers.{foundOf}
-use Rattle.facts.specs.Path.{graphOf, HasLink}
-use Rattle.facts.specs.declared.Link.{Link}
+use Rattle.link_rows.specs.Cube.{cube}
+use Rattle.link_rows.specs.declared.Link.{Link}
+use Rattle.facts.specs.Path.{graphOf, pathOf, HasLink}
+use Rattle.facts.specs.declared.Facts as path
+use Rattle.facts.proofs.Path.{graph-own}
 use Rattle.rows.specs.declared.Term.{Term}
 use Rattle.rows.specs.declared.Found.{Found}
 use Rattle.rows.specs.declared.Found.the-variants as found
@@ -29,7 +31,7 @@ use Rattle.rules.specs.Allowed.{allowed}
 use Rattle.rules.specs.declared.Rule as code
 use Rattle.rules.specs.declared.Third.{Third}
 use Rattle.rules.specs.declared.Choice.{Choice}
-use Rattle.rules.proofs.Halves.{halves, allowed-any, applies-allowed, rows-are}
+use Rattle.rules.proofs.Halves.{halves, allowed-any, applies-allowed}
 use Rattle.units.specs.declared.Proposal.{Proposal}
 use Rattle.units.specs.declared.Proposal.the-variants as proposal
 use Rattle.units.specs.Proposes.{Applies, Proposes, RowsOf, ProposesIn, FoundIn}
@@ -79,19 +81,21 @@ pub handed-in : (n : ℕ) (link reach : List ℕ) (p q : Proposal) → p ≡ q �
 handed-in n link reach p q e h = subst (ProposesIn n link reach) e h
 
 -- Links of a path: those that are counted, and one by which a rule applies
-pub link-counted : (links total k : ℕ) → total ≡ links → 1 ≤ k → k ≤ total → InRange links k
-link-counted links total k e h l = (h, omega (arith, e, l))
+pub link-counted : (s : path.Facts) (total k : ℕ) → total ≡ cond (s .single) 1 3 → 1 ≤ k → k ≤ total → HasLink (pathOf s) k
+unfolding pathOf
+link-counted s total k e h l = (h, omega (arith, e, l))
 
 pub applies-by : (n : ℕ) (s : Facts) (k : ℕ) (r : Rule) (t : Triple) → applies n s (move k r t) ≡ true → HasLink s k
 applies-by n s k r t h = hasLink-range (s .links) k r t (applies-linked n s (move k r t) h)
 
 -- what the rows of a link propose is proposed by that link
-module _ (s : Facts) (k : Link) (link reach : List ℕ) (h : HasLink s (k .0)) (l : square link ≡ s .graph (k .0) .link) (m : square reach ≡ s .graph (k .0) .reach) where
-  pub rows-of : RowsOf s k link reach
-  rows-of = (h, sym (rows-are link reach (s .graph (k .0)) l m))
+module _ (s : path.Facts) (k : Link) (link reach : List ℕ) (h : HasLink (pathOf s) (k .0)) (l : square link ≡ cube (s .link) (k .0)) (m : square reach ≡ cube (s .reach) (k .0)) where
+  pub rows-of : RowsOf (pathOf s) k link reach
+  unfolding pathOf
+  rows-of = (h, sym (graph-own (s .single) (s .link) (s .reach) (k .0) (h .1) link reach l m))
 
-  pub proposed-by : (n : ℕ) (p : Proposal) (r : code.Rule) (x y : Term) (z : Third) → p ≡ proposal.At r x y z → ProposesIn n link reach p → Applies n s k r x y z
-  proposed-by n p r x y z e q = handed-in n link reach p (proposal.At r x y z) e q s k rows-of
+  pub proposed-by : (n : ℕ) (p : Proposal) (r : code.Rule) (x y : Term) (z : Third) → p ≡ proposal.At r x y z → ProposesIn n link reach p → Applies n (pathOf s) k r x y z
+  proposed-by n p r x y z e q = handed-in n link reach p (proposal.At r x y z) e q (pathOf s) k rows-of
 
 module _ (n : ℕ) (link reach : List ℕ) (s : Facts) (j : Link) (rows : RowsOf s j link reach) where
   -- the rule applies by the link at numbers that are in range

@@ -7,7 +7,7 @@ use Rattle.logic.specs.Facts.{Facts}
 use Rattle.logic.specs.Rules.{triple, move, applies}
 use Rattle.rows.specs.Bits.{bit}
 use Rattle.facts.specs.Path.{graphOf, HasLink}
-use Rattle.facts.specs.declared.Link.{Link}
+use Rattle.link_rows.specs.declared.Link.{Link}
 use Rattle.rows.specs.declared.Term.{Term}
 use Rattle.rows.specs.declared.Found.{Found}
 use Rattle.rows.specs.declared.Found.the-variants as found

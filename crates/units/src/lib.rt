@@ -1,7 +1,7 @@
 // Places of the branching rules where at most one alternative is left, once those that would clash at once are struck. That the rule applies
 // at a place is proved; that so few alternatives are left is not, since no verdict rests on it. The rows that such searches read are here too.
 use facts::Facts;
-use facts::Link;
+use link_rows::Link;
 use query::Layout;
 use rows::Found;
 use rows::Term;
@@ -450,11 +450,11 @@ pub fn unit(query: &[u8], layout: Layout, s: Facts) -> Choice
 {
     let reps = s.rep;
     let differ = apart(query, layout, &reps);
-    let total = facts::links(s);
+    let total = facts::links(s.single);
     let mut k: usize = 1;
     while k <= total {
-        let link = facts::link_rows(s, Link(k));
-        let reach = facts::reach_rows(s, Link(k));
+        let link = link_rows::rows_of(&s.link, Link(k));
+        let reach = link_rows::rows_of(&s.reach, Link(k));
         if let Proposal::At(rule, x, y, z) = unit_at(
             query,
             layout,

@@ -1,7 +1,7 @@
 // One look of the branch walk, and the lines that it writes.
 use clash::Clash;
-use facts::Link;
 use joins::Pairs;
+use link_rows::Link;
 use query::Layout;
 use rows::Term;
 use rules::Choice;
@@ -102,15 +102,11 @@ pub fn look<'a>(
     order: &[u8],
     single: bool,
     rep: &'a [u8; 17],
-    link: &'a [u32; 17],
-    reach: &'a [u32; 17],
-    link2: &'a [u32; 17],
-    reach2: &'a [u32; 17],
-    link3: &'a [u32; 17],
-    reach3: &'a [u32; 17],
+    link: &'a [u32; 51],
+    reach: &'a [u32; 51],
 ) -> Seen
     requires { ⌜ Within layout (now query) ⌝ }
-    ensures { λ r. ⌜ lookOf r ≡ look (said layout (now (query .entry))) (orderOf (now (order .entry))) (pathAs single (now (rep .entry)) (now (link .entry)) (now (reach .entry)) (now (link2 .entry)) (now (reach2 .entry)) (now (link3 .entry)) (now (reach3 .entry))) ⌝ }
+    ensures { λ r. ⌜ lookOf r ≡ look (said layout (now (query .entry))) (orderOf (now (order .entry))) (pathAs single (now (rep .entry)) (now (link .entry)) (now (reach .entry))) ⌝ }
 {
     let n = layout.terms;
     if let Clash::At(section, place, partner) = clash::find_clash(
@@ -119,23 +115,11 @@ pub fn look<'a>(
         rep,
         single,
         reach,
-        reach2,
-        reach3,
     ) {
         return Seen::Clashing(section, place, partner);
     }
-    let Choice::Apply(k, rule, x, y, z) = rule_choice::choose(
-        order,
-        single,
-        rep,
-        link,
-        reach,
-        link2,
-        reach2,
-        link3,
-        reach3,
-        n,
-    ) else {
+    let Choice::Apply(k, rule, x, y, z) = rule_choice::choose(order, single, rep, link, reach, n)
+    else {
         return Seen::Saturated;
     };
     Seen::Applying(k, rule, x, y, z)

@@ -4,8 +4,7 @@ use mathlib.Core.Path.{ap}
 use lib.ListN.{replicate}
 use Rattle.logic.specs.Facts.{Joined}
 use Rattle.facts.specs.Path.{pathAs}
-use Rattle.branch.proofs.Steps.{alone-fits}
-use Rattle.branch.proofs.Steps.{join-alone}
+use Rattle.branch.proofs.Steps.{alone-fits, join-alone}
 use Rattle.branch.proofs.equate.Statement.{statement}
 use Rattle.branch.proofs.equate.Tie as tie
 
@@ -15,10 +14,10 @@ equate-spec =
     (tie.spec
     -- join-requires
     (λ c κs.
-    let p = c .before .before .before .before .before .before .before .before .before .pre in
-    let a = c .before .before .before .before .before .before .before .before .before .args in
-    ((p .0, p .1, p .2, alone-fits (replicate 17 0) (replicate 17 0) (a .n) (a .a .0) (a .b .0) (pathAs (a .single) (a .rep .now) (a .link .now) (a .reach .now) (a .link2 .now) (a .reach2 .now) (a .link3 .now) (a .reach3 .now)) (p .0)), (p .3, search needs, search needs)))
+    let p = c .before .before .before .before .before .pre in
+    let a = c .before .before .before .before .before .args in
+    ((p .0, p .1, p .2, alone-fits (replicate 17 0) (replicate 17 0) (a .n) (a .a .0) (a .b .0) (pathAs (a .single) (a .rep .now) (a .link .now) (a .reach .now)) (p .0)), (p .3, search needs, search needs)))
     -- returns
     (λ c.
-    let a = c .before .before .before .before .before .before .before .before .before .before .args in
-    (ap (λ (j : Joined). j .facts) (join-alone (replicate 17 0) (replicate 17 0) (a .n) (a .a .0) (a .b .0) (pathAs (a .single) (a .rep .now) (a .link .now) (a .reach .now) (a .link2 .now) (a .reach2 .now) (a .link3 .now) (a .reach3 .now)) _ (c .join .ensures .0)), c .join .ensures .1 .0)))
+    let a = c .before .before .before .before .before .before .args in
+    (ap (λ (j : Joined). j .facts) (join-alone (replicate 17 0) (replicate 17 0) (a .n) (a .a .0) (a .b .0) (pathAs (a .single) (a .rep .now) (a .link .now) (a .reach .now)) _ (c .join .ensures .0)), c .join .ensures .1 .0)))

@@ -1,8 +1,12 @@
 -- The same as with the pairs. Assumes nothing.
+use native.Mathlib.Omega.{arith}
 use borrow.Author.Needs.{needs}
-use mathlib.Core.Path.{subst}
+use mathlib.Core.Path.{_∙_, subst}
 use Rattle.facts.specs.Path.{pathAs}
+use Rattle.facts.proofs.Path.{links-few, addReach-rows}
+use Rattle.rules.specs.Answers.{kindOf}
 use Rattle.alternatives.specs.Answers.{InRange}
+use Rattle.alternatives.proofs.Steps.{alternative-path}
 use Rattle.branch.proofs.Steps.{taken-equal, taken-reaches}
 use Rattle.branch.proofs.take.Statement.{statement}
 use Rattle.branch.proofs.take.Tie as tie
@@ -11,29 +15,30 @@ pub take-spec : {M : Type 1} → statement M
 take-spec =
     tie.close
     (tie.spec
-    -- alternative-of-requires
-    (λ c κs. let p = c .before .before .before .pre in (p .0, p .2, p .3, p .4))
+    -- alternative-requires
+    (λ c κs. let p = c .before .pre in (p .0, p .1 .0, omega (arith, p .1 .1, links-few (c .before .args .single) .1), p .2, p .3, p .4))
     -- enum-known-a
     (λ c. search needs)
     -- equate-requires
-    (λ c κs. let p = c .before .before .before .before .before .before .before .before .before .before .before .before .before .before .pre in let h = subst InRange (c .before .before .before .before .before .before .before .before .a .given .1) (c .before .before .before .before .before .before .before .before .before .before .alternative-of .ensures .1) in (p .0, h .0, h .1, p .5))
+    (λ c κs. let p = c .before .before .before .before .before .before .before .before .pre in let h = subst InRange (c .before .before .before .before .a .given .1) (c .before .before .before .before .before .before .alternative .ensures .1) in (p .0, h .0, h .1, p .5))
     -- enum-known-a-2
     (λ c. search needs)
-    -- reach-by-requires
+    -- add-requires
     (λ c κs.
-    let w = c .before .before .before .before .before .before .before .before .before .before .pre .5 in
-    let h = subst InRange (c .before .before .before .before .a2 .given .1) (c .before .before .before .before .before .before .alternative-of .ensures .1) in
-    (h .0, h .1, w .of-reach, w .of-reach2, w .of-reach3))
+    let p = c .before .before .before .before .before .before .pre in
+    let w = p .5 in
+    let h = subst InRange (c .before .before .a2 .given .1) (c .before .before .before .before .alternative .ensures .1) in
+    (p .1 .0, omega (arith, p .1 .1, links-few (c .before .before .before .before .before .before .args .single) .1), h .0, h .1, w .of-reach))
     -- returns
     (λ c.
-    let a = c .before .before .before .before .before .before .before .before .before .before .before .before .before .before .before .args in
-    (taken-equal (a .k .0) (a .n) (pathAs (a .single) (a .rep .now) (a .link .now) (a .reach .now) (a .link2 .now) (a .reach2 .now) (a .link3 .now) (a .reach3 .now)) _ _ (c .before .before .before .before .before .before .before .before .before .before .before .alternative-of .ensures .0 (a .single) (a .rep .now) (a .reach .now) (a .reach2 .now) (a .reach3 .now) (c .before .before .before .before .before .before .before .before .before .before .before .before .before .before .before .pre .1)) _ _ _ (c .before .before .before .before .before .before .before .before .before .a .given .1) (c .equate .ensures .0), c .equate .ensures .1))
+    let a = c .before .before .before .before .before .before .before .before .before .args in
+    (taken-equal (a .k .0) (a .n) (pathAs (a .single) (a .rep .now) (a .link .now) (a .reach .now)) _ _ (c .before .before .before .before .before .before .before .alternative .ensures .0 ∙ alternative-path (a .k .0) (a .n) (a .single) (a .link .now) (a .reach .now) (c .before .before .before .before .before .before .before .before .before .pre .1 .1) (kindOf (a .rule)) (a .x .0) (a .y .0) (a .z .0) (a .i)) _ _ _ (c .before .before .before .before .before .a .given .1) (c .equate .ensures .0), c .equate .ensures .1))
     -- returns-2
     (λ c.
-    let p = c .before .before .before .before .before .before .before .before .before .before .before .pre in
+    let p = c .before .before .before .before .before .before .before .pre in
     let w = p .5 in
-    let a = c .before .before .before .before .before .before .before .before .before .before .before .args in
-    let r = c .reach-by .ensures in (
-      taken-reaches (a .k .0) (a .n) (pathAs (a .single) (a .rep .now) (a .link .now) (a .reach .now) (a .link2 .now) (a .reach2 .now) (a .link3 .now) (a .reach3 .now)) _ _ (c .before .before .before .before .before .before .before .alternative-of .ensures .0 (a .single) (a .rep .now) (a .reach .now) (a .reach2 .now) (a .reach3 .now) (p .1)) _ _ _ (c .before .before .before .before .before .a2 .given .1) (r .0 (a .single) (a .rep .now) (a .link .now) (a .link2 .now) (a .link3 .now) (p .1)),
-      record { of-rep = w .of-rep; of-link = w .of-link; of-reach = r .1; of-link2 = w .of-link2; of-reach2 = r .2; of-link3 = w .of-link3; of-reach3 = r .3 },
+    let a = c .before .before .before .before .before .before .before .args in
+    let r = c .add .ensures in (
+      taken-reaches (a .k .0) (a .n) (pathAs (a .single) (a .rep .now) (a .link .now) (a .reach .now)) _ _ (c .before .before .before .before .before .alternative .ensures .0 ∙ alternative-path (a .k .0) (a .n) (a .single) (a .link .now) (a .reach .now) (p .1 .1) (kindOf (a .rule)) (a .x .0) (a .y .0) (a .z .0) (a .i)) _ _ _ (c .before .before .before .a2 .given .1) (addReach-rows (a .single) (a .rep .now) (a .link .now) (a .reach .now) _ _ _ _ (p .1 .1) (r .0)),
+      record { of-rep = w .of-rep; of-link = w .of-link; of-reach = r .1 },
     )))

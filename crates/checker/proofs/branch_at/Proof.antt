@@ -3,9 +3,8 @@ use native.Mathlib.Omega.{arith}
 use borrow.Author.Needs.{needs}
 use mathlib.Core.Path.{_∙_}
 use Rattle.joins.specs.Pairs.{joinedOf}
-use Rattle.facts.proofs.Path.{links-few}
 use Rattle.rules.specs.Answers.{kindOf}
-use Rattle.checker.proofs.Rows.{branch-one, branch-rows}
+use Rattle.checker.proofs.Rows.{one-link, branch-one, branch-rows}
 use Rattle.checker.proofs.branch_at.Statement.{statement}
 use Rattle.checker.proofs.branch_at.Tie as tie
 
@@ -16,7 +15,7 @@ branch-at-spec =
     -- held-requires
     (λ c κs. search needs)
     -- branch-requires
-    (λ c κs. let p = c .before .pre in (p .0, (omega arith, links-few (c .held .result) .0), p .1, p .2, p .3))
+    (λ c κs. let p = c .before .pre in (p .0, (omega arith, omega (arith, one-link _ _ _ _ (c .held .ensures))), p .1, p .2, p .3))
     -- rows-of-requires
     (λ c κs. branch-one _ _ _ _ (c .before .held .ensures) _ _ (joinedOf (c .branch .result)) (c .branch .ensures))
     -- returns

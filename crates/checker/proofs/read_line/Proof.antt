@@ -41,11 +41,11 @@ read-line-spec =
     -- returns-3
     (λ c. read-false _ _ _ _ _ (c .before .before .before .before .before .before .before .before .before .before .pre .1) (c .before .before .before .before .before .before .before .before .before .before .pre .2) (let l = c .before .before .before .before .before .before .before .if1 .left in omega arith) _ _ _ _ refl (c .before .before .before .before .before .byte-at .ensures) (c .before .before .before .before .byte-at2 .ensures) (c .before .before .before .byte-at3 .ensures) _ (c .before .before .if2 .taken) (is-clash-in _ _ _ _ _ (c .before .is-clash .ensures) (one-said _ _ (c .before .before .before .before .before .before .before .before .before .before .pre .0))) (c .if3 .left))
     -- find-clash-requires
-    (λ c κs. one-within _ _ (c .before .before .before .before .before .before .before .before .before .before .before .before .before .pre .0))
+    (λ c κs. one-within _ _ (c .before .before .before .before .before .before .before .before .before .before .before .pre .0))
     -- enum-known-section
     (λ c. search needs)
     -- returns-4
-    (λ c. read-clashed _ _ _ _ _ (c .before .before .before .before .before .before .before .before .before .before .before .before .before .before .before .before .before .pre .1) (c .before .before .before .before .before .before .before .before .before .before .before .before .before .before .before .before .before .pre .2) (let l = c .before .before .before .before .before .before .before .before .before .before .before .before .before .before .if1 .left in omega arith) _ _ _ _ refl (c .before .before .before .before .before .before .before .before .before .before .before .before .byte-at .ensures) (c .before .before .before .before .before .before .before .before .before .before .before .byte-at2 .ensures) (c .before .before .before .before .before .before .before .before .before .before .byte-at3 .ensures) (c .before .before .before .before .before .before .before .before .before .if2 .left) _ (clash-in _ _ _ _ (path-clash (c .before .before .before .find-clash .result) _ _ (c .before .before .before .find-clash .ensures)) (one-said _ _ (c .before .before .before .before .before .before .before .before .before .before .before .before .before .before .before .before .before .pre .0))) _ (ap lineOf (c .before .section .given .1)))
+    (λ c. read-clashed _ _ _ _ _ (c .before .before .before .before .before .before .before .before .before .before .before .before .before .before .before .pre .1) (c .before .before .before .before .before .before .before .before .before .before .before .before .before .before .before .pre .2) (let l = c .before .before .before .before .before .before .before .before .before .before .before .before .if1 .left in omega arith) _ _ _ _ refl (c .before .before .before .before .before .before .before .before .before .before .byte-at .ensures) (c .before .before .before .before .before .before .before .before .before .byte-at2 .ensures) (c .before .before .before .before .before .before .before .before .byte-at3 .ensures) (c .before .before .before .before .before .before .before .if2 .left) _ (clash-in _ _ _ _ (path-clash (c .before .before .before .find-clash .result) _ _ (c .before .before .before .find-clash .ensures)) (one-said _ _ (c .before .before .before .before .before .before .before .before .before .before .before .before .before .before .before .pre .0))) _ (ap lineOf (c .before .section .given .1)))
     -- enum-told
     (λ c. search needs)
     -- rule-numbered-requires
@@ -55,10 +55,10 @@ read-line-spec =
     -- enum-told-2
     (λ c. search needs)
     -- returns-5
-    (λ c. read-unruled _ _ _ _ _ (c .before .before .before .before .before .before .before .before .before .before .before .before .before .before .before .before .before .before .before .pre .1) (c .before .before .before .before .before .before .before .before .before .before .before .before .before .before .before .before .before .before .before .pre .2) (let l = c .before .before .before .before .before .before .before .before .before .before .before .before .before .before .before .before .if1 .left in omega arith) _ _ _ _ refl (c .before .before .before .before .before .before .before .before .before .before .before .before .before .before .byte-at .ensures) (c .before .before .before .before .before .before .before .before .before .before .before .before .before .byte-at2 .ensures) (c .before .before .before .before .before .before .before .before .before .before .before .before .byte-at3 .ensures) (c .before .before .before .before .before .before .before .before .before .before .before .if2 .left) _ (clash-in _ _ _ _ (path-clash (c .before .before .before .before .before .find-clash .result) _ _ (c .before .before .before .before .before .find-clash .ensures)) (one-said _ _ (c .before .before .before .before .before .before .before .before .before .before .before .before .before .before .before .before .before .before .before .pre .0))) (ap lineOf (c .before .before .before .enum-told .given .1)) (sym (ap numberedOf (c .enum-told2 .given .1)) ∙ c .before .before .rule-numbered .ensures))
+    (λ c. read-unruled _ _ _ _ _ (c .before .before .before .before .before .before .before .before .before .before .before .before .before .before .before .before .before .pre .1) (c .before .before .before .before .before .before .before .before .before .before .before .before .before .before .before .before .before .pre .2) (let l = c .before .before .before .before .before .before .before .before .before .before .before .before .before .before .if1 .left in omega arith) _ _ _ _ refl (c .before .before .before .before .before .before .before .before .before .before .before .before .byte-at .ensures) (c .before .before .before .before .before .before .before .before .before .before .before .byte-at2 .ensures) (c .before .before .before .before .before .before .before .before .before .before .byte-at3 .ensures) (c .before .before .before .before .before .before .before .before .before .if2 .left) _ (clash-in _ _ _ _ (path-clash (c .before .before .before .before .before .find-clash .result) _ _ (c .before .before .before .before .before .find-clash .ensures)) (one-said _ _ (c .before .before .before .before .before .before .before .before .before .before .before .before .before .before .before .before .before .pre .0))) (ap lineOf (c .before .before .before .enum-told .given .1)) (sym (ap numberedOf (c .enum-told2 .given .1)) ∙ c .before .before .rule-numbered .ensures))
     -- applies-requires
-    (λ c κs. c .before .before .before .before .before .before .before .before .before .before .before .before .before .before .before .before .before .before .before .before .pre .0 .terms-within)
+    (λ c κs. c .before .before .before .before .before .before .before .before .before .before .before .before .before .before .before .before .before .before .pre .0 .terms-within)
     -- returns-6
-    (λ c. read-rule _ _ _ _ _ (c .before .before .before .before .before .before .before .before .before .before .before .before .before .before .before .before .before .before .before .before .before .before .pre .1) (c .before .before .before .before .before .before .before .before .before .before .before .before .before .before .before .before .before .before .before .before .before .before .pre .2) (let l = c .before .before .before .before .before .before .before .before .before .before .before .before .before .before .before .before .before .before .before .if1 .left in omega arith) _ _ _ _ refl (c .before .before .before .before .before .before .before .before .before .before .before .before .before .before .before .before .before .byte-at .ensures) (c .before .before .before .before .before .before .before .before .before .before .before .before .before .before .before .before .byte-at2 .ensures) (c .before .before .before .before .before .before .before .before .before .before .before .before .before .before .before .byte-at3 .ensures) (c .before .before .before .before .before .before .before .before .before .before .before .before .before .before .if2 .left) _ (clash-in _ _ _ _ (path-clash (c .before .before .before .before .before .before .before .before .find-clash .result) _ _ (c .before .before .before .before .before .before .before .before .find-clash .ensures)) (one-said _ _ (c .before .before .before .before .before .before .before .before .before .before .before .before .before .before .before .before .before .before .before .before .before .before .pre .0))) _ _ _ (ap lineOf (c .before .before .before .before .before .before .enum-told .given .1)) (sym (ap numberedOf (c .before .before .before .rule .given .1)) ∙ c .before .before .before .before .before .rule-numbered .ensures) (c .before .before .before .before .before .before .before .before .before .before .before .before .before .before .before .before .before .before .before .before .before .before .pre .0 .term-count) (c .before .applies .ensures) (c .if4 .taken))
+    (λ c. read-rule _ _ _ _ _ (c .before .before .before .before .before .before .before .before .before .before .before .before .before .before .before .before .before .before .before .before .pre .1) (c .before .before .before .before .before .before .before .before .before .before .before .before .before .before .before .before .before .before .before .before .pre .2) (let l = c .before .before .before .before .before .before .before .before .before .before .before .before .before .before .before .before .before .if1 .left in omega arith) _ _ _ _ refl (c .before .before .before .before .before .before .before .before .before .before .before .before .before .before .before .byte-at .ensures) (c .before .before .before .before .before .before .before .before .before .before .before .before .before .before .byte-at2 .ensures) (c .before .before .before .before .before .before .before .before .before .before .before .before .before .byte-at3 .ensures) (c .before .before .before .before .before .before .before .before .before .before .before .before .if2 .left) _ (clash-in _ _ _ _ (path-clash (c .before .before .before .before .before .before .before .before .find-clash .result) _ _ (c .before .before .before .before .before .before .before .before .find-clash .ensures)) (one-said _ _ (c .before .before .before .before .before .before .before .before .before .before .before .before .before .before .before .before .before .before .before .before .pre .0))) _ _ _ (ap lineOf (c .before .before .before .before .before .before .enum-told .given .1)) (sym (ap numberedOf (c .before .before .before .rule .given .1)) ∙ c .before .before .before .before .before .rule-numbered .ensures) (c .before .before .before .before .before .before .before .before .before .before .before .before .before .before .before .before .before .before .before .before .pre .0 .term-count) (c .before .applies .ensures) (c .if4 .taken))
     -- returns-7
-    (λ c. read-idle _ _ _ _ _ (c .before .before .before .before .before .before .before .before .before .before .before .before .before .before .before .before .before .before .before .before .before .before .pre .1) (c .before .before .before .before .before .before .before .before .before .before .before .before .before .before .before .before .before .before .before .before .before .before .pre .2) (let l = c .before .before .before .before .before .before .before .before .before .before .before .before .before .before .before .before .before .before .before .if1 .left in omega arith) _ _ _ _ refl (c .before .before .before .before .before .before .before .before .before .before .before .before .before .before .before .before .before .byte-at .ensures) (c .before .before .before .before .before .before .before .before .before .before .before .before .before .before .before .before .byte-at2 .ensures) (c .before .before .before .before .before .before .before .before .before .before .before .before .before .before .before .byte-at3 .ensures) (c .before .before .before .before .before .before .before .before .before .before .before .before .before .before .if2 .left) _ (clash-in _ _ _ _ (path-clash (c .before .before .before .before .before .before .before .before .find-clash .result) _ _ (c .before .before .before .before .before .before .before .before .find-clash .ensures)) (one-said _ _ (c .before .before .before .before .before .before .before .before .before .before .before .before .before .before .before .before .before .before .before .before .before .before .pre .0))) _ _ _ (ap lineOf (c .before .before .before .before .before .before .enum-told .given .1)) (sym (ap numberedOf (c .before .before .before .rule .given .1)) ∙ c .before .before .before .before .before .rule-numbered .ensures) (c .before .before .before .before .before .before .before .before .before .before .before .before .before .before .before .before .before .before .before .before .before .before .pre .0 .term-count) (c .before .applies .ensures) (c .if4 .left)))
+    (λ c. read-idle _ _ _ _ _ (c .before .before .before .before .before .before .before .before .before .before .before .before .before .before .before .before .before .before .before .before .pre .1) (c .before .before .before .before .before .before .before .before .before .before .before .before .before .before .before .before .before .before .before .before .pre .2) (let l = c .before .before .before .before .before .before .before .before .before .before .before .before .before .before .before .before .before .if1 .left in omega arith) _ _ _ _ refl (c .before .before .before .before .before .before .before .before .before .before .before .before .before .before .before .byte-at .ensures) (c .before .before .before .before .before .before .before .before .before .before .before .before .before .before .byte-at2 .ensures) (c .before .before .before .before .before .before .before .before .before .before .before .before .before .byte-at3 .ensures) (c .before .before .before .before .before .before .before .before .before .before .before .before .if2 .left) _ (clash-in _ _ _ _ (path-clash (c .before .before .before .before .before .before .before .before .find-clash .result) _ _ (c .before .before .before .before .before .before .before .before .find-clash .ensures)) (one-said _ _ (c .before .before .before .before .before .before .before .before .before .before .before .before .before .before .before .before .before .before .before .before .pre .0))) _ _ _ (ap lineOf (c .before .before .before .before .before .before .enum-told .given .1)) (sym (ap numberedOf (c .before .before .before .rule .given .1)) ∙ c .before .before .before .before .before .rule-numbered .ensures) (c .before .before .before .before .before .before .before .before .before .before .before .before .before .before .before .before .before .before .before .before .pre .0 .term-count) (c .before .applies .ensures) (c .if4 .left)))

@@ -11,10 +11,10 @@ use Rattle.clash.proofs.reach_clash.Statement.{statement}
 use Rattle.clash.proofs.reach_clash.Tie as tie
 
 abbrev Inv-loop : tie.InvT-loop
-Inv-loop query layout rep single first second third count i₀ i = AloneLeft (said layout query .reachability) (layout .«reach_count») 3 (rowsHeld (repOf rep) (rowsOf single first second third)) i
+Inv-loop query layout rep single reach count i₀ i = AloneLeft (said layout query .reachability) (layout .«reach_count») 3 (rowsHeld (repOf rep) (rowsOf single reach)) i
 
 abbrev μ-loop : tie.MeasureT-loop
-μ-loop query layout rep single first second third count i₀ i = count - i
+μ-loop query layout rep single reach count i₀ i = count - i
 
 pub reach-clash-spec : {M : Type 1} → statement M
 reach-clash-spec =
@@ -26,7 +26,7 @@ reach-clash-spec =
     (λ c. alone-begin _ _ _ (reachability-said _ _ (c .before .pre)) _ _)
     -- is-held-in-requires
     (λ c κs. literal-fits _ _ _ _ _ (c .loop-test .taken) (c .before .before .before .pre .reach-fit))
-    -- add-t12
+    -- add-t10
     (λ c. omega (arith, c .before .before .before .before .before .pre .reach-within))
     -- returns
     (λ c. sym (alone-here _ _ _ (reachability-said _ _ (c .before .before .before .before .before .pre)) _ _ _ (c .before .before .loop-test .taken) (sym (c .before .is-held-in .ensures) ∙ c .if1 .taken) (c .before .before .before .loop .inv)))

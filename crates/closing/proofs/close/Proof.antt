@@ -1,9 +1,6 @@
--- Each link of the path is closed. Assumes nothing.
+-- The rows of the copy are closed. Assumes nothing.
 use borrow.Author.Needs.{needs}
-use mathlib.Core.Path.{sym, _∙_}
-use mathlib.Core.Bool.{true≢false}
 use Rattle.facts.specs.Path.{pathOf}
-use Rattle.closing.proofs.Rows.{rows-closed}
 use Rattle.closing.proofs.close.Statement.{statement}
 use Rattle.closing.proofs.close.Tie as tie
 
@@ -12,15 +9,7 @@ unfolding pathOf
 close-spec =
     tie.close
     (tie.spec
-    -- live-requires
-    (λ c κs. search needs)
-    -- close-link-requires
+    -- close-rows-requires
     (λ c κs. search needs)
     -- returns
-    (λ c. rows-closed _ _ _ _ _ _ _ _ _ _ _ _ _ (c .before .before .before .before .before .live .ensures) (c .before .close-link .ensures .0) (λ e. absurd (true≢false (sym (c .if1 .taken) ∙ e))) (c .before .before .before .before .before .before .before .before .pre))
-    -- close-link-requires-2
-    (λ c κs. search needs)
-    -- close-link-requires-3
-    (λ c κs. search needs)
-    -- returns-2
-    (λ c. rows-closed _ _ _ _ _ _ _ _ _ _ _ _ _ (c .before .before .before .before .before .before .before .before .before .before .before .before .before .live .ensures) (c .before .before .before .before .before .before .before .before .before .close-link .ensures .0) (λ e. (c .before .before .before .before .close-link2 .ensures .0, c .close-link3 .ensures .0)) (c .before .before .before .before .before .before .before .before .before .before .before .before .before .before .before .before .pre)))
+    (λ c. (c .close-rows .ensures .0, c .close-rows .ensures .1)))

@@ -1,4 +1,5 @@
 -- The rows with what REFLEX and TRANS1 give are handed on. Assumes nothing.
+use native.Mathlib.Omega.{arith}
 use borrow.Author.Needs.{needs}
 use Rattle.closing.proofs.Rows.{link-closed, seeded-kept}
 use Rattle.closing.proofs.close_link.Statement.{statement}
@@ -11,6 +12,8 @@ close-link-spec =
     -- seed-requires
     (λ c κs. search needs)
     -- pass-on-requires
-    (λ c κs. c .before .seed .ensures .3)
+    (λ c κs. c .before .before .before .seed .ensures .3)
+    -- same-length
+    (λ c. omega arith)
     -- returns
-    (λ c. (link-closed _ _ _ _ (c .pass-on .ensures .0 _ _ _ (c .before .before .seed .ensures .0)) (λ a b e. c .pass-on .ensures .1 a b (c .before .before .seed .ensures .1 a b e)) (seeded-kept _ _ _ _ (c .pass-on .ensures .1) (c .before .before .seed .ensures .2)) (c .pass-on .ensures .2), c .pass-on .ensures .3)))
+    (λ c. (link-closed _ _ _ _ (c .before .before .pass-on .ensures .0 _ _ _ (c .before .before .before .before .before .before .seed .ensures .0)) (λ a b e. c .before .before .pass-on .ensures .1 a b (c .before .before .before .before .before .before .seed .ensures .1 a b e)) (seeded-kept _ _ _ _ (c .before .before .pass-on .ensures .1) (c .before .before .before .before .before .before .seed .ensures .2)) (c .before .before .pass-on .ensures .2), c .before .before .pass-on .ensures .3)))

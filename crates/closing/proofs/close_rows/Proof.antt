@@ -1,24 +1,39 @@
--- Each link of the path is closed. Assumes nothing.
+-- After k links, those are closed. Assumes nothing.
+use Prim.Native.Nat.{_+_, _-_, _≤_, _<_}
+use native.Mathlib.Omega.{arith}
 use borrow.Author.Needs.{needs}
-use mathlib.Core.Path.{sym, _∙_}
-use mathlib.Core.Bool.{true≢false}
-use Rattle.closing.proofs.Rows.{rows-closed}
+use mathlib.Core.Path.{_≡_}
+use lib.ListN.{length}
+use Rattle.rows.specs.Bits.{bit}
+use Rattle.closing.proofs.Rows.{ClosedBelow, closed-none, closed-more, rows-closed}
 use Rattle.closing.proofs.close_rows.Statement.{statement}
 use Rattle.closing.proofs.close_rows.Tie as tie
+
+abbrev Inv-loop : tie.InvT-loop
+Inv-loop single rep link reach₀ n alive count k₀ reach k = (0 < k) × (k ≤ count + 1) × (length reach ≡ 51) × ClosedBelow (bit alive) link reach₀ k reach
+
+abbrev μ-loop : tie.MeasureT-loop
+μ-loop single rep link reach₀ n alive count k₀ reach k = count + 1 - k
 
 pub close-rows-spec : {M : Type 1} → statement M
 close-rows-spec =
     tie.close
     (tie.spec
+    Inv-loop
+    μ-loop
     -- live-requires
     (λ c κs. search needs)
-    -- close-link-requires
+    -- links-requires
     (λ c κs. search needs)
+    -- loop-holds
+    (λ c. (omega arith, omega arith, search needs, closed-none _ _ _))
+    -- close-by-requires
+    (λ c κs. (c .before .before .loop .inv .0, omega (arith, c .before .before .before .links .ensures .2), c .before .before .loop .inv .2))
+    -- add-k
+    (λ c. omega (arith, c .before .before .before .before .links .ensures .2))
+    -- loop-less
+    (λ c. omega arith)
+    -- loop-again
+    (λ c. (omega arith, omega arith, c .close-by .ensures .2, closed-more _ _ _ _ _ _ (c .close-by .ensures .0) (c .close-by .ensures .1) (c .before .before .before .loop .inv .3)))
     -- returns
-    (λ c. let done = rows-closed _ _ _ _ _ _ _ _ _ _ _ _ _ (c .before .before .before .live .ensures) (c .before .close-link .ensures .0) (λ e. absurd (true≢false (sym (c .if1 .taken) ∙ e))) (c .before .before .before .before .pre .0) in (done .0, done .1, c .before .close-link .ensures .1, c .before .before .before .before .pre .2, c .before .before .before .before .pre .3))
-    -- close-link-requires-2
-    (λ c κs. search needs)
-    -- close-link-requires-3
-    (λ c κs. search needs)
-    -- returns-2
-    (λ c. let done = rows-closed _ _ _ _ _ _ _ _ _ _ _ _ _ (c .before .before .before .before .before .before .before .live .ensures) (c .before .before .before .before .before .close-link .ensures .0) (λ e. (c .before .before .close-link2 .ensures .0, c .close-link3 .ensures .0)) (c .before .before .before .before .before .before .before .before .pre .0) in (done .0, done .1, c .before .before .before .before .before .close-link .ensures .1, c .before .before .close-link2 .ensures .1, c .close-link3 .ensures .1)))
+    (λ c. let done = rows-closed _ _ _ _ _ _ _ (c .before .before .before .live .ensures) _ (omega (arith, c .before .before .links .ensures .0, c .loop-test .left)) (c .before .loop .inv .3) (c .before .before .before .before .pre .0) in (done .0, done .1, c .before .loop .inv .2)))

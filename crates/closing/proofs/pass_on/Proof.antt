@@ -36,12 +36,14 @@ pass-on-spec =
     (λ c. omega arith)
     -- loop-again
     (λ c.
-    let l = c .before .before .before .loop in (
+    let l = c .before .before .before .before .before .loop in (
       omega arith,
-      c .through .ensures .1,
-      λ alive link reach h. passed-within _ _ _ (c .through .ensures .0) alive link reach (l .inv .2 alive link reach h),
-      λ a b e. passed-kept _ _ _ (c .through .ensures .0) a b (l .inv .3 a b e),
-      passed-onward _ _ _ (c .through .ensures .0) (l .inv .4),
+      c .before .before .through .ensures .1,
+      λ alive link reach h. passed-within _ _ _ (c .before .before .through .ensures .0) alive link reach (l .inv .2 alive link reach h),
+      λ a b e. passed-kept _ _ _ (c .before .before .through .ensures .0) a b (l .inv .3 a b e),
+      passed-onward _ _ _ (c .before .before .through .ensures .0) (l .inv .4),
     ))
+    -- same-length
+    (λ c. omega arith)
     -- returns
     (λ c. (c .before .loop .inv .2, c .before .loop .inv .3, onward-all _ (rw (whole c) at (c .before .loop .inv .4)), c .before .loop .inv .1)))

@@ -32,15 +32,15 @@ seed-spec =
     (λ c κs. omega arith)
     -- mul-reach
     (λ c. omega arith)
-    -- element-copy-out-reach
+    -- slice-read-reach
     (λ c. omega arith)
     -- mul-reach-2
     (λ c. omega arith)
-    -- element-copy-out-reach-2
+    -- element-copy-out-reach
     (λ c. omega arith)
     -- mul-reach-3
     (λ c. omega arith)
-    -- element-write-reach
+    -- slice-write-reach
     (λ c. omega arith)
     -- add-a
     (λ c. omega arith)
@@ -55,5 +55,7 @@ seed-spec =
       above-more _ (l .inv .1) _ _ (omega arith) _ (l .inv .3),
       seeded-more _ _ _ _ _ (l .inv .1) (omega arith) (c .before .before .only .ensures) (l .inv .4),
     ))
+    -- same-length
+    (λ c. omega arith)
     -- returns
     (λ c. (c .before .loop .inv .2, c .before .loop .inv .3, seeded-all _ _ _ (rw (whole c) at (c .before .loop .inv .4)), c .before .loop .inv .1)))

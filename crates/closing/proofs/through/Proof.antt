@@ -27,25 +27,25 @@ through-spec =
     μ-loop
     -- mul-far
     (λ c. omega arith)
-    -- element-copy-out-far
+    -- slice-read-far
     (λ c. omega arith)
     -- returns
-    (λ c. (through-none _ _ (omega arith) (c .if1 .taken), c .before .before .pre .1))
+    (λ c. (through-none _ _ (omega arith) (c .if1 .taken), c .before .before .before .pre .1))
     -- loop-holds
-    (λ c. (omega arith, c .before .before .pre .1, λ x b l. absurd (omega arith), λ x b l. refl))
+    (λ c. (omega arith, c .before .before .before .pre .1, λ x b l. absurd (omega arith), λ x b l. refl))
     -- mul-passed-on
     (λ c. omega arith)
-    -- element-copy-out-passed-on
+    -- slice-read-passed-on
     (λ c. omega arith)
     -- passed-on-requires
     (λ c κs. search needs)
     -- mul-rows
     (λ c. omega arith)
-    -- element-copy-out-rows
+    -- slice-read-rows
     (λ c. omega arith)
     -- mul-rows-2
     (λ c. omega arith)
-    -- element-write-rows
+    -- slice-write-rows
     (λ c. omega arith)
     -- add-a
     (λ c. omega arith)
@@ -59,5 +59,7 @@ through-spec =
       through-more _ _ _ _ _ (l .inv .1) (omega arith) (omega arith) (l .inv .2) (l .inv .3) (c .before .passed-on .ensures),
       through-left _ _ _ _ (l .inv .3),
     ))
+    -- same-length
+    (λ c. omega arith)
     -- returns-2
     (λ c. (through-all _ _ _ (rw (whole c) at (c .before .loop .inv .2)), c .before .loop .inv .1)))

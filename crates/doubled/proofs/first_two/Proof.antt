@@ -3,21 +3,21 @@ use borrow.Author.Needs.{needs}
 use native.Mathlib.Omega.{arith}
 use mathlib.Core.Path.{sym, ap, _∙_}
 use Rattle.logic.specs.Facts.{successors}
-use Rattle.facts.specs.Path.{linksIn}
+use Rattle.facts.specs.Path.{linksBy}
 use Rattle.rows.specs.Answers.{foundOf}
 use Rattle.rows.proofs.Successors.{two-none, two-one, two-both, lowest-term, next-term, found-positive}
 use Rattle.doubled.proofs.first_two.Statement.{statement}
 use Rattle.doubled.proofs.first_two.Tie as tie
 
 returns : tie.Need-returns
-unfolding successors linksIn
+unfolding successors linksBy
 returns c = sym (two-none _ _ (sym (lowest-term _ _ (omega arith) _ (c .before .before .before .successor-row .ensures)) ∙ (sym (c .before .before .first .ensures) ∙ ap foundOf (c .enum-told .given .1))))
 
 sub-first : tie.Need-sub-first
 sub-first c = found-positive _ _ (omega arith) (c .before .before .before .before .successor-row .result) (c .before .before .before .before .successor-row .ensures) (search needs) _ (sym (c .before .before .before .first .ensures) ∙ ap foundOf (c .before .a .given .1))
 
 returns-2 : tie.Need-returns-2
-unfolding successors linksIn
+unfolding successors linksBy
 returns-2 c =
     let r = c .before .before .before .before .before .before .before .successor-row in
     let f = (sym (c .before .before .before .before .before .before .first .ensures) ∙ ap foundOf (c .before .before .before .before .a .given .1)) in
@@ -27,7 +27,7 @@ returns-2 c =
     (sym (next-term _ _ (omega arith) (r .result) (r .ensures) (search needs) _ f) ∙ sym (c .before .before .first2 .ensures) ∙ ap foundOf (c .enum-told2 .given .1)))
 
 returns-3 : tie.Need-returns-3
-unfolding successors linksIn
+unfolding successors linksBy
 returns-3 c =
     let r = c .before .before .before .before .before .before .before .before .successor-row in
     let f = (sym (c .before .before .before .before .before .before .before .first .ensures) ∙ ap foundOf (c .before .before .before .before .before .a .given .1)) in

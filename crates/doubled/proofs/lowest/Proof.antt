@@ -2,31 +2,31 @@
 use Prim.Native.Nat.{_+_, _-_}
 use native.Mathlib.Omega.{arith}
 use borrow.Author.Needs.{needs}
-use mathlib.Core.Path.{_≡_, sym, ap, _∙_}
+use mathlib.Core.Path.{_≡_, refl, sym, ap, _∙_}
 use Rattle.logic.specs.Search.{from, firstOf}
 use Rattle.logic.specs.Facts.{terms}
 use Rattle.doubled.specs.Doubled.{twoIn, doubledIn}
 use Rattle.doubled.specs.Answers.{twoOf}
 use Rattle.rows.proofs.Loops.{first-end, first-here, first-next}
-use Rattle.doubled.proofs.Twos.{all-terms}
+use Rattle.doubled.proofs.Twos.{up-to}
 use Rattle.doubled.proofs.lowest.Statement.{statement}
 use Rattle.doubled.proofs.lowest.Tie as tie
 
 abbrev Inv-loop : tie.InvT-loop
-Inv-loop single first second third n t₀ t = firstOf (twoIn n single first second third) (terms n) ≡ firstOf (twoIn n single first second third) (from (n + 1 - t) t)
+Inv-loop single link n t₀ t = firstOf (twoIn n single link) (terms n) ≡ firstOf (twoIn n single link) (from (n + 1 - t) t)
 
 abbrev μ-loop : tie.MeasureT-loop
-μ-loop single first second third n t₀ t = n + 1 - t
+μ-loop single link n t₀ t = n + 1 - t
 
 pub lowest-spec : {M : Type 1} → statement M
-unfolding doubledIn
+unfolding doubledIn terms
 lowest-spec =
     tie.close
     (tie.spec
     Inv-loop
     μ-loop
     -- loop-holds
-    (λ c. all-terms _ _)
+    (λ c. up-to _ _ _ refl)
     -- first-two-of-requires
     (λ c κs. omega arith)
     -- enum-known-a

@@ -1,9 +1,8 @@
 -- One link, or three. Assumes nothing.
-use mathlib.Core.Path.{sym, ap, _∙_}
-use mathlib.Core.Bool.{Bool, cond}
 use native.Mathlib.Omega.{arith}
 use Prim.Native.Nat.{ℕ}
-use Rattle.facts.proofs.Path.{links-is}
+use mathlib.Core.Path.{sym, ap}
+use mathlib.Core.Bool.{Bool, cond}
 use Rattle.facts.proofs.links.Statement.{statement}
 use Rattle.facts.proofs.links.Tie as tie
 
@@ -12,6 +11,6 @@ links-spec =
     tie.close
     (tie.spec
     -- returns
-    (λ c. (sym (links-is (c .before .args .s) ∙ ap (λ (b : Bool). cond {A = ℕ} b 1 3) (c .if1 .taken)), omega arith, omega arith))
+    (λ c. (sym (ap (λ (b : Bool). cond {A = ℕ} b 1 3) (c .if1 .taken)), omega arith, omega arith))
     -- returns-2
-    (λ c. (sym (links-is (c .before .args .s) ∙ ap (λ (b : Bool). cond {A = ℕ} b 1 3) (c .if1 .left)), omega arith, omega arith)))
+    (λ c. (sym (ap (λ (b : Bool). cond {A = ℕ} b 1 3) (c .if1 .left)), omega arith, omega arith)))

@@ -6,7 +6,7 @@ use mathlib.Core.Path.{sym, _∙_, subst}
 use lib.ListN.{length}
 use Rattle.query_checks.specs.Answers.{CheckedAs}
 use Rattle.query_checks.specs.declared.Checked.{Checked}
-use Rattle.prover.proofs.Answers.{blank-again, blank-long}
+use Rattle.lent.proofs.Writing.{blank-again, blank-long}
 use Rattle.formula_call.proofs.FormulaLaws.{formula-order, formula-query, formula-room, formula-text, text-room}
 use Rattle.formula_call.proofs.formula.Statement.{statement}
 use Rattle.formula_call.proofs.formula.Tie as tie

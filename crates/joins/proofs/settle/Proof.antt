@@ -13,11 +13,11 @@ use Rattle.joins.proofs.settle.Statement.{statement}
 use Rattle.joins.proofs.settle.Tie as tie
 
 abbrev Inv-loop : tie.InvT-loop
-Inv-loop single rep₀ link₀ reach₀ link2₀ reach2₀ link3₀ reach3₀ kept₀ replaced₀ count n total₀ left₀ rep link reach link2 reach2 link3 reach3 kept replaced total left =
-    (andThen (joinedIn single rep₀ link₀ reach₀ link2₀ reach2₀ link3₀ reach3₀ kept₀ replaced₀ count) (settle n n) ≡ andThen (joinedIn single rep link reach link2 reach2 link3 reach3 kept replaced total) (settle n left)) × (Whole rep link reach link2 reach2 link3 reach3 × (length kept ≡ 17) × (length replaced ≡ 17))
+Inv-loop single rep₀ link₀ reach₀ kept₀ replaced₀ count n total₀ left₀ rep link reach kept replaced total left =
+    (andThen (joinedIn single rep₀ link₀ reach₀ kept₀ replaced₀ count) (settle n n) ≡ andThen (joinedIn single rep link reach kept replaced total) (settle n left)) × (Whole rep link reach × (length kept ≡ 17) × (length replaced ≡ 17))
 
 abbrev μ-loop : tie.MeasureT-loop
-μ-loop single rep₀ link₀ reach₀ link2₀ reach2₀ link3₀ reach3₀ kept₀ replaced₀ count n total₀ left₀ rep link reach link2 reach2 link3 reach3 kept replaced total left = left
+μ-loop single rep₀ link₀ reach₀ kept₀ replaced₀ count n total₀ left₀ rep link reach kept replaced total left = left
 
 pub settle-spec : {M : Type 1} → statement M
 settle-spec =
@@ -35,26 +35,26 @@ settle-spec =
     (λ c. search needs)
     -- returns
     (λ c.
-    let l = c .before .before .before .before .before .before .before .loop in
-    let e = sym (doubled-links _ (c .before .before .before .before .before .before .before .before .args .single) (l .rep) (l .link) (l .reach) (l .link2) (l .reach2) (l .link3) (l .reach3)) ∙ sym (c .before .before .lowest .ensures) ∙ ap twoOf (c .enum-told .given .1) in
-    (sym (l .inv .0 ∙ settle-done _ (joinedIn (c .before .before .before .before .before .before .before .before .args .single) (l .rep) (l .link) (l .reach) (l .link2) (l .reach2) (l .link3) (l .reach3) (l .kept) (l .replaced) (l .total)) (l .left) e), l .inv .1))
+    let l = c .before .before .before .before .before .loop in
+    let e = sym (doubled-links _ (c .before .before .before .before .before .before .args .single) (l .rep) (l .link) (l .reach)) ∙ sym (c .before .before .lowest .ensures) ∙ ap twoOf (c .enum-told .given .1) in
+    (sym (l .inv .0 ∙ settle-done _ (joinedIn (c .before .before .before .before .before .before .args .single) (l .rep) (l .link) (l .reach) (l .kept) (l .replaced) (l .total)) (l .left) e), l .inv .1))
     -- and-pair-requires
     (λ c κs.
-    let l = c .before .before .before .before .before .before .before .before .before .before .loop in
-    let e = sym (doubled-links _ (c .before .before .before .before .before .before .before .before .before .before .before .args .single) (l .rep) (l .link) (l .reach) (l .link2) (l .reach2) (l .link3) (l .reach3)) ∙ sym (c .before .before .before .before .before .lowest .ensures) ∙ ap twoOf (c .before .before .before .a .given .1) in
+    let l = c .before .before .before .before .before .before .before .before .loop in
+    let e = sym (doubled-links _ (c .before .before .before .before .before .before .before .before .before .args .single) (l .rep) (l .link) (l .reach)) ∙ sym (c .before .before .before .before .before .lowest .ensures) ∙ ap twoOf (c .before .before .before .a .given .1) in
     let h = doubled-below _ _ _ _ e in
-    let room = fits-turn _ (joinedIn (c .before .before .before .before .before .before .before .before .before .before .before .args .single) (l .rep) (l .link) (l .reach) (l .link2) (l .reach2) (l .link3) (l .reach3) (l .kept) (l .replaced) (l .total)) (l .left) _ _ (omega arith) e _ (l .inv .0) (c .before .before .before .before .before .before .before .before .before .before .before .pre .0 .1) in
+    let room = fits-turn _ (joinedIn (c .before .before .before .before .before .before .before .before .before .args .single) (l .rep) (l .link) (l .reach) (l .kept) (l .replaced) (l .total)) (l .left) _ _ (omega arith) e _ (l .inv .0) (c .before .before .before .before .before .before .before .before .before .pre .0 .1) in
     (omega (arith, room, count-pairs (l .kept) (l .replaced) (l .total)), omega arith, omega arith, l .inv .1 .1, l .inv .1 .2))
     -- add-total
     (λ c.
-    let l = c .before .before .before .before .before .before .before .before .before .before .before .loop in
-    let e = sym (doubled-links _ (c .before .before .before .before .before .before .before .before .before .before .before .before .args .single) (l .rep) (l .link) (l .reach) (l .link2) (l .reach2) (l .link3) (l .reach3)) ∙ sym (c .before .before .before .before .before .before .lowest .ensures) ∙ ap twoOf (c .before .before .before .before .a .given .1) in
-    let room = fits-turn _ (joinedIn (c .before .before .before .before .before .before .before .before .before .before .before .before .args .single) (l .rep) (l .link) (l .reach) (l .link2) (l .reach2) (l .link3) (l .reach3) (l .kept) (l .replaced) (l .total)) (l .left) _ _ (omega arith) e _ (l .inv .0) (c .before .before .before .before .before .before .before .before .before .before .before .before .pre .0 .1) in
+    let l = c .before .before .before .before .before .before .before .before .before .loop in
+    let e = sym (doubled-links _ (c .before .before .before .before .before .before .before .before .before .before .args .single) (l .rep) (l .link) (l .reach)) ∙ sym (c .before .before .before .before .before .before .lowest .ensures) ∙ ap twoOf (c .before .before .before .before .a .given .1) in
+    let room = fits-turn _ (joinedIn (c .before .before .before .before .before .before .before .before .before .before .args .single) (l .rep) (l .link) (l .reach) (l .kept) (l .replaced) (l .total)) (l .left) _ _ (omega arith) e _ (l .inv .0) (c .before .before .before .before .before .before .before .before .before .before .pre .0 .1) in
     omega (arith, room, count-pairs (l .kept) (l .replaced) (l .total)))
     -- replace-requires
     (λ c κs.
-    let l = c .before .before .before .before .before .before .before .before .before .before .before .before .before .before .before .before .before .before .loop in
-    let h = doubled-below _ _ _ _ (sym (doubled-links _ (c .before .before .before .before .before .before .before .before .before .before .before .before .before .before .before .before .before .before .before .args .single) (l .rep) (l .link) (l .reach) (l .link2) (l .reach2) (l .link3) (l .reach3)) ∙ sym (c .before .before .before .before .before .before .before .before .before .before .before .before .before .lowest .ensures) ∙ ap twoOf (c .before .before .before .before .before .before .before .before .before .before .before .a .given .1)) in
+    let l = c .before .before .before .before .before .before .before .before .before .before .before .before .loop in
+    let h = doubled-below _ _ _ _ (sym (doubled-links _ (c .before .before .before .before .before .before .before .before .before .before .before .before .before .args .single) (l .rep) (l .link) (l .reach)) ∙ sym (c .before .before .before .before .before .before .before .before .before .lowest .ensures) ∙ ap twoOf (c .before .before .before .before .before .before .before .a .given .1)) in
     (h .0, omega arith, l .inv .1 .0))
     -- sub-left
     (λ c. search needs)
@@ -62,8 +62,8 @@ settle-spec =
     (λ c. omega arith)
     -- loop-again
     (λ c.
-    let l = c .before .before .before .before .before .before .before .before .before .before .before .before .before .before .before .before .before .before .before .loop in
-    let e = sym (doubled-links _ (c .before .before .before .before .before .before .before .before .before .before .before .before .before .before .before .before .before .before .before .before .args .single) (l .rep) (l .link) (l .reach) (l .link2) (l .reach2) (l .link3) (l .reach3)) ∙ sym (c .before .before .before .before .before .before .before .before .before .before .before .before .before .before .lowest .ensures) ∙ ap twoOf (c .before .before .before .before .before .before .before .before .before .before .before .before .a .given .1) in
-    (l .inv .0 ∙ settle-turn _ (joinedIn (c .before .before .before .before .before .before .before .before .before .before .before .before .before .before .before .before .before .before .before .before .args .single) (l .rep) (l .link) (l .reach) (l .link2) (l .reach2) (l .link3) (l .reach3) (l .kept) (l .replaced) (l .total)) (l .left) _ _ (omega arith) e ∙ made-behind (joinedIn (c .before .before .before .before .before .before .before .before .before .before .before .before .before .before .before .before .before .before .before .before .args .single) (l .rep) (l .link) (l .reach) (l .link2) (l .reach2) (l .link3) (l .reach3) (l .kept) (l .replaced) (l .total)) _ _ _ _ _ (c .before .before .before .before .before .before .before .before .and-pair .ensures .0) (c .replace .ensures .0), (c .replace .ensures .1, c .before .before .before .before .before .before .before .before .and-pair .ensures .1, c .before .before .before .before .before .before .before .before .and-pair .ensures .2)))
+    let l = c .before .before .before .before .before .before .before .before .before .before .before .before .before .loop in
+    let e = sym (doubled-links _ (c .before .before .before .before .before .before .before .before .before .before .before .before .before .before .args .single) (l .rep) (l .link) (l .reach)) ∙ sym (c .before .before .before .before .before .before .before .before .before .before .lowest .ensures) ∙ ap twoOf (c .before .before .before .before .before .before .before .before .a .given .1) in
+    (l .inv .0 ∙ settle-turn _ (joinedIn (c .before .before .before .before .before .before .before .before .before .before .before .before .before .before .args .single) (l .rep) (l .link) (l .reach) (l .kept) (l .replaced) (l .total)) (l .left) _ _ (omega arith) e ∙ made-behind (joinedIn (c .before .before .before .before .before .before .before .before .before .before .before .before .before .before .args .single) (l .rep) (l .link) (l .reach) (l .kept) (l .replaced) (l .total)) _ _ _ _ _ (c .before .before .before .before .and-pair .ensures .0) (c .replace .ensures .0), (c .replace .ensures .1, c .before .before .before .before .and-pair .ensures .1, c .before .before .before .before .and-pair .ensures .2)))
     -- returns-2
     (λ c. let l = c .before .loop in (sym (l .inv .0 ∙ settle-none _ _ _ (omega arith)), l .inv .1)))

@@ -4,6 +4,7 @@ use mathlib.Core.Path.{subst}
 use lib.ListN.{length}
 use Rattle.query_checks.specs.Answers.{CheckedAs}
 use Rattle.query_checks.specs.declared.Checked.{Checked}
+use Rattle.query_checks.proofs.Checks.{checked-accepts}
 use Rattle.rewriter.proofs.Answers.{moved}
 use Rattle.link_rewriting.specs.Call.{linksRewriteCall}
 use Rattle.lent.proofs.Writing.{blank-again, blank-long}
@@ -26,7 +27,7 @@ rewrite-spec =
     -- rewrite-checked-requires
     (λ c κs. (
       subst (λ (x : Checked). CheckedAs x (c .before .before .before .before .before .before .before .before .before .before .before .args .query .now)) (c .before .before .l .given .1) (c .before .before .before .before .check .ensures) .1,
-      law.accepted _ (c .before .before .before .before .before .before .before .before .before .before .before .args .query .now) (subst (λ (x : Checked). CheckedAs x (c .before .before .before .before .before .before .before .before .before .before .before .args .query .now)) (c .before .before .l .given .1) (c .before .before .before .before .check .ensures)),
+      checked-accepts _ (c .before .before .before .before .before .before .before .before .before .before .before .args .query .now) (subst (λ (x : Checked). CheckedAs x (c .before .before .before .before .before .before .before .before .before .before .before .args .query .now)) (c .before .before .l .given .1) (c .before .before .before .before .check .ensures)),
       blank-again _ (length (c .before .before .before .before .before .before .before .before .before .before .before .args .out .now)) (c .before .before .before .before .before .before .before .clear .ensures),
     ))
     -- same-length

@@ -12,6 +12,7 @@ use Rattle.logic.specs.Rules.{triple, move}
 use Rattle.logic.specs.Walk.{look, walk, orderOf}
 use Rattle.theory.proofs.Walks.OurWalk.{look-some}
 use Rattle.facts.specs.Path.{pathAs}
+use Rattle.facts.proofs.Path.{links-few}
 use Rattle.joins.specs.Pairs.{pairsOf, joinedIn}
 use Rattle.link_query.specs.Said.{said}
 use Rattle.link_query.proofs.Said.{terms-said}
@@ -22,7 +23,7 @@ use Rattle.walk.specs.declared.Seen.the-variants as seen
 use Rattle.walk.proofs.Lines.{counted-bound}
 use Rattle.walk.proofs.Steps.{look-is, clash-fits, move-fits, move-linked, branch-fewer, headed-bound, less-left}
 use Rattle.listing.specs.Lists.{joinedWith}
-use Rattle.listing.proofs.Listing.{links-few, put-line-length, put-all-length, made-fits, Going, going-first, going-next, going-stop, going-last, lists-clash, lists-saturated, lists-after, lists-early}
+use Rattle.listing.proofs.Listing.{put-line-length, put-all-length, made-fits, Going, going-first, going-next, going-stop, going-last, lists-clash, lists-saturated, lists-after, lists-early}
 use Rattle.listing.proofs.list_in.Reads as list-in
 use Rattle.listing.proofs.list_in.Kinds as list-in-kinds
 use Rattle.listing.proofs.+list_in.Lts-list_in as list-in-lts
@@ -46,13 +47,13 @@ abbrev list-in-below : ℕ → In 4 list-in-kinds.ps
 list-in-below t = and 4 list-in-kinds.ps (falls 4 list-in-kinds.ps _<_ μ-list-in t) list-in.Pre
 
 abbrev list-in-Inv-loop : list-in-lts.InvT-loop
-list-in-Inv-loop query layout order left single rep link reach link2 reach2 link3 reach3 lines₀ first most n count k rule x y z total written₀ i₀ lines written i =
-    Going (said layout query) (orderOf order) left (pathAs single rep link reach link2 reach2 link3 reach3) (k .0) (kindOf rule) (x .0) (y .0) (z .0) lines₀ written₀ i lines written
+list-in-Inv-loop query layout order left single rep link reach lines₀ first most n count k rule x y z total written₀ i₀ lines written i =
+    Going (said layout query) (orderOf order) left (pathAs single rep link reach) (k .0) (kindOf rule) (x .0) (y .0) (z .0) lines₀ written₀ i lines written
     × (written ≤ 16001)
     × (length lines ≡ length lines₀)
 
 abbrev list-in-μ-loop : list-in-lts.MeasureT-loop
-list-in-μ-loop query layout order left single rep link reach link2 reach2 link3 reach3 lines₀ first most n count k rule x y z total written₀ i₀ lines written i = total - i
+list-in-μ-loop query layout order left single rep link reach lines₀ first most n count k rule x y z total written₀ i₀ lines written i = total - i
 
 pub +list-in-spec : {M : Type 1} → statement M
 unfolding pairsOf
@@ -88,7 +89,7 @@ unfolding pairsOf
     let p = c .before .before .before .before .before .before .before .before .pre .1 in
     let q = said (a .layout) (a .query .now) in
     let g = orderOf (a .order .now) in
-    let s = pathAs (a .single) (a .rep .now) (a .link .now) (a .reach .now) (a .link2 .now) (a .reach2 .now) (a .link3 .now) (a .reach3 .now) in
+    let s = pathAs (a .single) (a .rep .now) (a .link .now) (a .reach .now) in
     lists-early (walk q g (a .left)) (joinedWith (a .pairs) s) _ (a .lines .now) (c .before .before .before .put-joins .last .0) (a .first) (c .before .before .before .put-joins .result) (a .most) (c .before .before .before .put-joins .ensures .0) (c .before .before .before .put-joins .ensures .1) (c .if1 .taken) (p .2) refl refl)
     -- look-requires
     (λ c κs. c .before .before .before .before .before .before .before .before .pre .1 .0)
@@ -102,7 +103,7 @@ unfolding pairsOf
     let p = c .before .before .before .before .before .before .before .before .before .before .before .before .before .pre .1 in
     let q = said (a .layout) (a .query .now) in
     let g = orderOf (a .order .now) in
-    let s = pathAs (a .single) (a .rep .now) (a .link .now) (a .reach .now) (a .link2 .now) (a .reach2 .now) (a .link3 .now) (a .reach3 .now) in
+    let s = pathAs (a .single) (a .rep .now) (a .link .now) (a .reach .now) in
     let m = c .before .before .section .given .0 in
     let h = look-is (c .before .before .before .before .look .result) (seen.Clashing (m .0) (m .1 .0) (m .1 .1 .0)) (look q g s) (c .before .before .before .before .look .ensures) (c .before .before .section .given .1) in
     let f = clash-fits (a .query .now) (a .layout) (p .0) g s (m .0) (m .1 .0) (m .1 .1 .0) h in
@@ -117,18 +118,18 @@ unfolding pairsOf
     let p = c .before .before .before .before .before .before .before .before .before .before .before .before .before .pre .1 in
     let q = said (a .layout) (a .query .now) in
     let g = orderOf (a .order .now) in
-    let s = pathAs (a .single) (a .rep .now) (a .link .now) (a .reach .now) (a .link2 .now) (a .reach2 .now) (a .link3 .now) (a .reach3 .now) in
+    let s = pathAs (a .single) (a .rep .now) (a .link .now) (a .reach .now) in
     let m = c .before .before .k .given .0 in
     let h = look-is (c .before .before .before .before .look .result) (seen.Applying (m .0) (m .1 .0) (m .1 .1 .0) (m .1 .1 .1 .0) (m .1 .1 .1 .1 .0)) (look q g s) (c .before .before .before .before .look .ensures) (c .before .before .k .given .1) in
     let l = move-linked q g s (m .0 .0) (kindOf (m .1 .0)) (m .1 .1 .0 .0) (m .1 .1 .1 .0 .0) (m .1 .1 .1 .1 .0 .0) h in
-    (l .0, le-trans (l .1) (links-few (a .single))))
+    (l .0, le-trans (l .1) (links-few (a .single) .1)))
     -- put-line-requires-2
     (λ c κs.
     let a = c .before .before .before .before .before .before .before .before .before .before .before .before .before .before .args in
     let p = c .before .before .before .before .before .before .before .before .before .before .before .before .before .before .pre .1 in
     let q = said (a .layout) (a .query .now) in
     let g = orderOf (a .order .now) in
-    let s = pathAs (a .single) (a .rep .now) (a .link .now) (a .reach .now) (a .link2 .now) (a .reach2 .now) (a .link3 .now) (a .reach3 .now) in
+    let s = pathAs (a .single) (a .rep .now) (a .link .now) (a .reach .now) in
     let m = c .before .before .before .k .given .0 in
     let h = look-is (c .before .before .before .before .before .look .result) (seen.Applying (m .0) (m .1 .0) (m .1 .1 .0) (m .1 .1 .1 .0) (m .1 .1 .1 .1 .0)) (look q g s) (c .before .before .before .before .before .look .ensures) (c .before .before .before .k .given .1) in
     let f = move-fits (a .query .now) (a .layout) (p .0) g s (m .0 .0) (kindOf (m .1 .0)) (m .1 .1 .0 .0) (m .1 .1 .1 .0 .0) (m .1 .1 .1 .1 .0 .0) h in
@@ -143,89 +144,89 @@ unfolding pairsOf
     let p = c .before .before .before .before .before .before .before .before .before .before .before .before .before .before .before .before .before .before .before .pre .1 in
     let q = said (a .layout) (a .query .now) in
     let g = orderOf (a .order .now) in
-    let s = pathAs (a .single) (a .rep .now) (a .link .now) (a .reach .now) (a .link2 .now) (a .reach2 .now) (a .link3 .now) (a .reach3 .now) in
+    let s = pathAs (a .single) (a .rep .now) (a .link .now) (a .reach .now) in
     let m = c .before .before .before .before .before .before .before .before .k .given .0 in
     (going-first q g (a .left) s (m .0 .0) (kindOf (m .1 .0)) (m .1 .1 .0 .0) (m .1 .1 .1 .0 .0) (m .1 .1 .1 .1 .0 .0) (c .before .before .before .before .put-line2 .last .0) (c .counted2 .result), subst (λ (j : ℕ). j ≤ 16001) (sym (c .counted2 .ensures)) (counted-bound (c .before .before .before .before .before .before .before .before .before .before .before .before .before .before .put-joins .result) (headed-bound (a .first) (c .before .before .before .before .before .before .before .before .before .before .before .before .before .before .put-joins .result) _ (c .before .before .before .before .before .before .before .before .before .before .before .before .before .before .put-joins .ensures .0) (p .2))), refl))
     -- make-requires
     (λ c κs.
-    let a = c .before .before .before .before .before .before .before .before .before .before .before .before .before .before .before .before .before .before .before .before .before .before .before .before .before .before .before .before .before .before .before .before .before .before .before .before .before .args in
-    let p = c .before .before .before .before .before .before .before .before .before .before .before .before .before .before .before .before .before .before .before .before .before .before .before .before .before .before .before .before .before .before .before .before .before .before .before .before .before .pre .1 in
+    let a = c .before .before .before .before .before .before .before .before .before .before .before .before .before .before .before .before .before .before .before .before .before .before .before .before .before .before .before .before .before .args in
+    let p = c .before .before .before .before .before .before .before .before .before .before .before .before .before .before .before .before .before .before .before .before .before .before .before .before .before .before .before .before .before .pre .1 in
     let q = said (a .layout) (a .query .now) in
     let g = orderOf (a .order .now) in
-    let s = pathAs (a .single) (a .rep .now) (a .link .now) (a .reach .now) (a .link2 .now) (a .reach2 .now) (a .link3 .now) (a .reach3 .now) in
-    let m = c .before .before .before .before .before .before .before .before .before .before .before .before .before .before .before .before .before .before .before .before .before .before .before .before .before .before .k .given .0 in
-    let h = look-is (c .before .before .before .before .before .before .before .before .before .before .before .before .before .before .before .before .before .before .before .before .before .before .before .before .before .before .before .before .look .result) (seen.Applying (m .0) (m .1 .0) (m .1 .1 .0) (m .1 .1 .1 .0) (m .1 .1 .1 .1 .0)) (look q g s) (c .before .before .before .before .before .before .before .before .before .before .before .before .before .before .before .before .before .before .before .before .before .before .before .before .before .before .before .before .look .ensures) (c .before .before .before .before .before .before .before .before .before .before .before .before .before .before .before .before .before .before .before .before .before .before .before .before .before .before .k .given .1) in
+    let s = pathAs (a .single) (a .rep .now) (a .link .now) (a .reach .now) in
+    let m = c .before .before .before .before .before .before .before .before .before .before .before .before .before .before .before .before .before .before .k .given .0 in
+    let h = look-is (c .before .before .before .before .before .before .before .before .before .before .before .before .before .before .before .before .before .before .before .before .look .result) (seen.Applying (m .0) (m .1 .0) (m .1 .1 .0) (m .1 .1 .1 .0) (m .1 .1 .1 .1 .0)) (look q g s) (c .before .before .before .before .before .before .before .before .before .before .before .before .before .before .before .before .before .before .before .before .look .ensures) (c .before .before .before .before .before .before .before .before .before .before .before .before .before .before .before .before .before .before .k .given .1) in
     let f = move-fits (a .query .now) (a .layout) (p .0) g s (m .0 .0) (kindOf (m .1 .0)) (m .1 .1 .0 .0) (m .1 .1 .1 .0 .0) (m .1 .1 .1 .1 .0 .0) h in
     ((p .0 .terms-within, move-linked q g s (m .0 .0) (kindOf (m .1 .0)) (m .1 .1 .0 .0) (m .1 .1 .1 .0 .0) (m .1 .1 .1 .1 .0 .0) h, f .0, f .1, f .2), (p .4, search needs, search needs)))
     -- sub-list-in
+    (λ c.
+    let a = c .before .before .before .before .before .before .before .before .before .before .before .before .before .before .before .before .before .before .before .before .before .before .before .before .before .before .before .before .before .before .args in
+    let p = c .before .before .before .before .before .before .before .before .before .before .before .before .before .before .before .before .before .before .before .before .before .before .before .before .before .before .before .before .before .before .pre .1 in
+    let q = said (a .layout) (a .query .now) in
+    let g = orderOf (a .order .now) in
+    let s = pathAs (a .single) (a .rep .now) (a .link .now) (a .reach .now) in
+    let m = c .before .before .before .before .before .before .before .before .before .before .before .before .before .before .before .before .before .before .before .k .given .0 in
+    let h = look-is (c .before .before .before .before .before .before .before .before .before .before .before .before .before .before .before .before .before .before .before .before .before .look .result) (seen.Applying (m .0) (m .1 .0) (m .1 .1 .0) (m .1 .1 .1 .0) (m .1 .1 .1 .1 .0)) (look q g s) (c .before .before .before .before .before .before .before .before .before .before .before .before .before .before .before .before .before .before .before .before .before .look .ensures) (c .before .before .before .before .before .before .before .before .before .before .before .before .before .before .before .before .before .before .before .k .given .1) in
+    look-some q g (a .left) s (move (m .0 .0) (kindOf (m .1 .0)) (triple (m .1 .1 .0 .0) (m .1 .1 .1 .0 .0) (m .1 .1 .1 .1 .0 .0))) (p .3) h)
+    -- list-in-requires
+    (λ c κs.
+    let a = c .before .before .before .before .before .before .before .before .before .before .before .before .before .before .before .before .before .before .before .before .before .before .before .before .before .before .before .before .before .before .before .before .before .before .args in
+    let p = c .before .before .before .before .before .before .before .before .before .before .before .before .before .before .before .before .before .before .before .before .before .before .before .before .before .before .before .before .before .before .before .before .before .before .pre .1 in
+    let q = said (a .layout) (a .query .now) in
+    let g = orderOf (a .order .now) in
+    let s = pathAs (a .single) (a .rep .now) (a .link .now) (a .reach .now) in
+    let m = c .before .before .before .before .before .before .before .before .before .before .before .before .before .before .before .before .before .before .before .before .before .before .before .k .given .0 in
+    let h = look-is (c .before .before .before .before .before .before .before .before .before .before .before .before .before .before .before .before .before .before .before .before .before .before .before .before .before .look .result) (seen.Applying (m .0) (m .1 .0) (m .1 .1 .0) (m .1 .1 .1 .0) (m .1 .1 .1 .1 .0)) (look q g s) (c .before .before .before .before .before .before .before .before .before .before .before .before .before .before .before .before .before .before .before .before .before .before .before .before .before .look .ensures) (c .before .before .before .before .before .before .before .before .before .before .before .before .before .before .before .before .before .before .before .before .before .before .before .k .given .1) in
+    let some-left = look-some q g (a .left) s (move (m .0 .0) (kindOf (m .1 .0)) (triple (m .1 .1 .0 .0) (m .1 .1 .1 .0 .0) (m .1 .1 .1 .1 .0 .0))) (p .3) h in
+    let o = c .before .before .before .before .before .before .before .before .before .before .before .before .before .before .loop in
+    let here = subst (λ (j : ℕ). o .i < j) (c .before .before .before .before .before .before .before .before .before .before .before .before .before .before .before .before .count .ensures) (c .before .before .before .before .before .before .before .before .before .before .before .before .before .loop-test .taken) in
+    let e = c .before .before .before .before .make .last in
+    let j = joinedIn (a .single) (e .1 .0) (e .1 .1 .0) (e .1 .1 .1 .0) (e .1 .1 .1 .1 .0) (e .1 .1 .1 .1 .1 .0) (c .before .before .before .before .make .result) in
+    (less-left (a .left) _ some-left (c .before .before .before .before .before .before .before .before .before .before .before .before .before .before .before .before .before .before .before .before .before .before .before .before .before .before .before .before .before .before .before .before .before .before .pre .0), (p .0, made-fits (a .layout .terms) s (alternativeAt (m .0 .0) (a .layout .terms) (s .graph (m .0 .0)) (kindOf (m .1 .0)) (m .1 .1 .0 .0) (m .1 .1 .1 .0 .0) (m .1 .1 .1 .1 .0 .0) (o .i)) j (c .before .before .before .before .make .ensures .0) (p .0 .terms-within), o .inv .1, branch-fewer q g (a .left) (a .layout .terms) s (m .0 .0) (kindOf (m .1 .0)) (m .1 .1 .0 .0) (m .1 .1 .1 .0 .0) (m .1 .1 .1 .1 .0 .0) h some-left (sym (terms-said (a .layout) (a .query .now) (p .0))) (p .3) j (o .i) here (c .before .before .before .before .make .ensures .0), c .before .before .before .before .make .ensures .1)))
+    -- same-length-2
+    (λ c. c .before .before .before .list-in .ensures .same-length ∙ c .before .before .before .before .before .before .before .before .before .before .before .before .before .before .before .before .before .before .loop .inv .2 ∙ put-line-length _ _ _ _ (c .before .before .before .before .before .before .before .before .before .before .before .before .before .before .before .before .before .before .before .before .before .before .before .put-line2 .ensures) ∙ put-all-length _ _ _ _ (c .before .before .before .before .before .before .before .before .before .before .before .before .before .before .before .before .before .before .before .before .before .before .before .before .before .before .before .before .before .before .before .before .before .put-joins .ensures .1))
+    -- returns-2
     (λ c.
     let a = c .before .before .before .before .before .before .before .before .before .before .before .before .before .before .before .before .before .before .before .before .before .before .before .before .before .before .before .before .before .before .before .before .before .before .before .before .before .before .args in
     let p = c .before .before .before .before .before .before .before .before .before .before .before .before .before .before .before .before .before .before .before .before .before .before .before .before .before .before .before .before .before .before .before .before .before .before .before .before .before .before .pre .1 in
     let q = said (a .layout) (a .query .now) in
     let g = orderOf (a .order .now) in
-    let s = pathAs (a .single) (a .rep .now) (a .link .now) (a .reach .now) (a .link2 .now) (a .reach2 .now) (a .link3 .now) (a .reach3 .now) in
+    let s = pathAs (a .single) (a .rep .now) (a .link .now) (a .reach .now) in
     let m = c .before .before .before .before .before .before .before .before .before .before .before .before .before .before .before .before .before .before .before .before .before .before .before .before .before .before .before .k .given .0 in
     let h = look-is (c .before .before .before .before .before .before .before .before .before .before .before .before .before .before .before .before .before .before .before .before .before .before .before .before .before .before .before .before .before .look .result) (seen.Applying (m .0) (m .1 .0) (m .1 .1 .0) (m .1 .1 .1 .0) (m .1 .1 .1 .1 .0)) (look q g s) (c .before .before .before .before .before .before .before .before .before .before .before .before .before .before .before .before .before .before .before .before .before .before .before .before .before .before .before .before .before .look .ensures) (c .before .before .before .before .before .before .before .before .before .before .before .before .before .before .before .before .before .before .before .before .before .before .before .before .before .before .before .k .given .1) in
-    look-some q g (a .left) s (move (m .0 .0) (kindOf (m .1 .0)) (triple (m .1 .1 .0 .0) (m .1 .1 .1 .0 .0) (m .1 .1 .1 .1 .0 .0))) (p .3) h)
-    -- list-in-requires
-    (λ c κs.
-    let a = c .before .before .before .before .before .before .before .before .before .before .before .before .before .before .before .before .before .before .before .before .before .before .before .before .before .before .before .before .before .before .before .before .before .before .before .before .before .before .before .before .before .before .before .before .before .before .args in
-    let p = c .before .before .before .before .before .before .before .before .before .before .before .before .before .before .before .before .before .before .before .before .before .before .before .before .before .before .before .before .before .before .before .before .before .before .before .before .before .before .before .before .before .before .before .before .before .before .pre .1 in
-    let q = said (a .layout) (a .query .now) in
-    let g = orderOf (a .order .now) in
-    let s = pathAs (a .single) (a .rep .now) (a .link .now) (a .reach .now) (a .link2 .now) (a .reach2 .now) (a .link3 .now) (a .reach3 .now) in
-    let m = c .before .before .before .before .before .before .before .before .before .before .before .before .before .before .before .before .before .before .before .before .before .before .before .before .before .before .before .before .before .before .before .before .before .before .before .k .given .0 in
-    let h = look-is (c .before .before .before .before .before .before .before .before .before .before .before .before .before .before .before .before .before .before .before .before .before .before .before .before .before .before .before .before .before .before .before .before .before .before .before .before .before .look .result) (seen.Applying (m .0) (m .1 .0) (m .1 .1 .0) (m .1 .1 .1 .0) (m .1 .1 .1 .1 .0)) (look q g s) (c .before .before .before .before .before .before .before .before .before .before .before .before .before .before .before .before .before .before .before .before .before .before .before .before .before .before .before .before .before .before .before .before .before .before .before .before .before .look .ensures) (c .before .before .before .before .before .before .before .before .before .before .before .before .before .before .before .before .before .before .before .before .before .before .before .before .before .before .before .before .before .before .before .before .before .before .before .k .given .1) in
     let some-left = look-some q g (a .left) s (move (m .0 .0) (kindOf (m .1 .0)) (triple (m .1 .1 .0 .0) (m .1 .1 .1 .0 .0) (m .1 .1 .1 .1 .0 .0))) (p .3) h in
-    let o = c .before .before .before .before .before .before .before .before .before .before .before .before .before .before .before .before .before .before .before .before .before .before .before .before .before .before .loop in
-    let here = subst (λ (j : ℕ). o .i < j) (c .before .before .before .before .before .before .before .before .before .before .before .before .before .before .before .before .before .before .before .before .before .before .before .before .before .before .before .before .count .ensures) (c .before .before .before .before .before .before .before .before .before .before .before .before .before .before .before .before .before .before .before .before .before .before .before .before .before .loop-test .taken) in
+    let o = c .before .before .before .before .before .before .before .before .before .before .before .before .before .before .before .before .before .before .loop in
+    let here = subst (λ (j : ℕ). o .i < j) (c .before .before .before .before .before .before .before .before .before .before .before .before .before .before .before .before .before .before .before .before .count .ensures) (c .before .before .before .before .before .before .before .before .before .before .before .before .before .before .before .before .before .loop-test .taken) in
     let e = c .before .before .before .before .before .before .before .before .make .last in
-    let j = joinedIn (a .single) (e .1 .0) (e .1 .1 .0) (e .1 .1 .1 .0) (e .1 .1 .1 .1 .0) (e .1 .1 .1 .1 .1 .0) (e .1 .1 .1 .1 .1 .1 .0) (e .1 .1 .1 .1 .1 .1 .1 .0) (e .1 .1 .1 .1 .1 .1 .1 .1 .0) (e .1 .1 .1 .1 .1 .1 .1 .1 .1 .0) (c .before .before .before .before .before .before .before .before .make .result) in
-    (less-left (a .left) _ some-left (c .before .before .before .before .before .before .before .before .before .before .before .before .before .before .before .before .before .before .before .before .before .before .before .before .before .before .before .before .before .before .before .before .before .before .before .before .before .before .before .before .before .before .before .before .before .before .pre .0), (p .0, made-fits (a .layout .terms) s (alternativeAt (m .0 .0) (a .layout .terms) (s .graph (m .0 .0)) (kindOf (m .1 .0)) (m .1 .1 .0 .0) (m .1 .1 .1 .0 .0) (m .1 .1 .1 .1 .0 .0) (o .i)) j (c .before .before .before .before .before .before .before .before .make .ensures .0) (p .0 .terms-within), o .inv .1, branch-fewer q g (a .left) (a .layout .terms) s (m .0 .0) (kindOf (m .1 .0)) (m .1 .1 .0 .0) (m .1 .1 .1 .0 .0) (m .1 .1 .1 .1 .0 .0) h some-left (sym (terms-said (a .layout) (a .query .now) (p .0))) (p .3) j (o .i) here (c .before .before .before .before .before .before .before .before .make .ensures .0), c .before .before .before .before .before .before .before .before .make .ensures .1)))
-    -- same-length-2
-    (λ c. c .before .before .before .list-in .ensures .same-length ∙ c .before .before .before .before .before .before .before .before .before .before .before .before .before .before .before .before .before .before .before .before .before .before .before .before .before .before .before .before .before .before .loop .inv .2 ∙ put-line-length _ _ _ _ (c .before .before .before .before .before .before .before .before .before .before .before .before .before .before .before .before .before .before .before .before .before .before .before .before .before .before .before .before .before .before .before .before .before .before .before .put-line2 .ensures) ∙ put-all-length _ _ _ _ (c .before .before .before .before .before .before .before .before .before .before .before .before .before .before .before .before .before .before .before .before .before .before .before .before .before .before .before .before .before .before .before .before .before .before .before .before .before .before .before .before .before .before .before .before .before .put-joins .ensures .1))
-    -- returns-2
-    (λ c.
-    let a = c .before .before .before .before .before .before .before .before .before .before .before .before .before .before .before .before .before .before .before .before .before .before .before .before .before .before .before .before .before .before .before .before .before .before .before .before .before .before .before .before .before .before .before .before .before .before .before .before .before .before .args in
-    let p = c .before .before .before .before .before .before .before .before .before .before .before .before .before .before .before .before .before .before .before .before .before .before .before .before .before .before .before .before .before .before .before .before .before .before .before .before .before .before .before .before .before .before .before .before .before .before .before .before .before .before .pre .1 in
-    let q = said (a .layout) (a .query .now) in
-    let g = orderOf (a .order .now) in
-    let s = pathAs (a .single) (a .rep .now) (a .link .now) (a .reach .now) (a .link2 .now) (a .reach2 .now) (a .link3 .now) (a .reach3 .now) in
-    let m = c .before .before .before .before .before .before .before .before .before .before .before .before .before .before .before .before .before .before .before .before .before .before .before .before .before .before .before .before .before .before .before .before .before .before .before .before .before .before .before .k .given .0 in
-    let h = look-is (c .before .before .before .before .before .before .before .before .before .before .before .before .before .before .before .before .before .before .before .before .before .before .before .before .before .before .before .before .before .before .before .before .before .before .before .before .before .before .before .before .before .look .result) (seen.Applying (m .0) (m .1 .0) (m .1 .1 .0) (m .1 .1 .1 .0) (m .1 .1 .1 .1 .0)) (look q g s) (c .before .before .before .before .before .before .before .before .before .before .before .before .before .before .before .before .before .before .before .before .before .before .before .before .before .before .before .before .before .before .before .before .before .before .before .before .before .before .before .before .before .look .ensures) (c .before .before .before .before .before .before .before .before .before .before .before .before .before .before .before .before .before .before .before .before .before .before .before .before .before .before .before .before .before .before .before .before .before .before .before .before .before .before .before .k .given .1) in
-    let some-left = look-some q g (a .left) s (move (m .0 .0) (kindOf (m .1 .0)) (triple (m .1 .1 .0 .0) (m .1 .1 .1 .0 .0) (m .1 .1 .1 .1 .0 .0))) (p .3) h in
-    let o = c .before .before .before .before .before .before .before .before .before .before .before .before .before .before .before .before .before .before .before .before .before .before .before .before .before .before .before .before .before .before .loop in
-    let here = subst (λ (j : ℕ). o .i < j) (c .before .before .before .before .before .before .before .before .before .before .before .before .before .before .before .before .before .before .before .before .before .before .before .before .before .before .before .before .before .before .before .before .count .ensures) (c .before .before .before .before .before .before .before .before .before .before .before .before .before .before .before .before .before .before .before .before .before .before .before .before .before .before .before .before .before .loop-test .taken) in
-    let e = c .before .before .before .before .before .before .before .before .before .before .before .before .make .last in
-    let j = joinedIn (a .single) (e .1 .0) (e .1 .1 .0) (e .1 .1 .1 .0) (e .1 .1 .1 .1 .0) (e .1 .1 .1 .1 .1 .0) (e .1 .1 .1 .1 .1 .1 .0) (e .1 .1 .1 .1 .1 .1 .1 .0) (e .1 .1 .1 .1 .1 .1 .1 .1 .0) (e .1 .1 .1 .1 .1 .1 .1 .1 .1 .0) (c .before .before .before .before .before .before .before .before .before .before .before .before .make .result) in
-    lists-after (walk q g (a .left)) (joinedWith (a .pairs) s) (c .before .before .before .list-in .result) (a .lines .now) (c .before .before .before .before .before .before .before .before .before .before .before .before .before .before .before .before .before .before .before .before .before .before .before .before .before .before .before .before .before .before .before .before .before .before .before .before .before .before .before .before .before .before .before .before .before .put-joins .last .0) (a .first) (c .before .before .before .before .before .before .before .before .before .before .before .before .before .before .before .before .before .before .before .before .before .before .before .before .before .before .before .before .before .before .before .before .before .before .before .before .before .before .before .before .before .before .before .before .before .put-joins .result) (a .most) (c .before .before .before .before .before .before .before .before .before .before .before .before .before .before .before .before .before .before .before .before .before .before .before .before .before .before .before .before .before .before .before .before .before .before .before .before .before .before .before .before .before .before .before .before .before .put-joins .ensures .0) (c .before .before .before .before .before .before .before .before .before .before .before .before .before .before .before .before .before .before .before .before .before .before .before .before .before .before .before .before .before .before .before .before .before .before .before .before .before .before .before .before .before .before .before .before .before .put-joins .ensures .1) (c .before .before .before .list-in .last .1 .1 .1 .1 .1 .1 .1 .1 .1 .1 .1 .1 .1 .0) (going-stop q g (a .left) s (m .0 .0) (kindOf (m .1 .0)) (m .1 .1 .0 .0) (m .1 .1 .1 .0 .0) (m .1 .1 .1 .1 .0 .0) (a .layout .terms) (sym (terms-said (a .layout) (a .query .now) (p .0))) (c .before .before .before .before .before .before .before .before .before .before .before .before .before .before .before .before .before .before .before .before .before .before .before .before .before .before .before .before .before .before .before .before .before .before .before .put-line2 .last .0) (c .before .before .before .before .before .before .before .before .before .before .before .before .before .before .before .before .before .before .before .before .before .before .before .before .before .before .before .before .before .before .before .counted2 .result) (o .i) (o .lines) (c .before .before .before .list-in .last .1 .1 .1 .1 .1 .1 .1 .1 .1 .1 .1 .1 .1 .0) (o .written) (a .most) here j (c .before .before .before .before .before .before .before .before .before .before .before .before .make .ensures .0) (c .before .before .before .list-in .result) (c .before .before .before .list-in .ensures) h some-left (c .before .before .before .before .before .before .before .before .before .before .before .before .before .before .before .before .before .before .before .before .before .before .before .before .before .before .before .before .before .before .before .before .before .before .before .before .before .before .before .before .before .before .before .before .before .put-joins .last .0) (c .before .before .before .before .before .before .before .before .before .before .before .before .before .before .before .before .before .before .before .before .before .before .before .before .before .before .before .before .before .before .before .before .before .before .before .before .before .before .before .before .before .before .before .before .before .put-joins .result) (c .before .before .before .before .before .before .before .before .before .before .before .before .before .before .before .before .before .before .before .before .before .before .before .before .before .before .before .before .before .before .before .counted2 .ensures) (o .inv .2 ∙ put-line-length _ _ _ _ (c .before .before .before .before .before .before .before .before .before .before .before .before .before .before .before .before .before .before .before .before .before .before .before .before .before .before .before .before .before .before .before .before .before .before .before .put-line2 .ensures)) (o .inv .0) (c .if2 .taken)))
+    let j = joinedIn (a .single) (e .1 .0) (e .1 .1 .0) (e .1 .1 .1 .0) (e .1 .1 .1 .1 .0) (e .1 .1 .1 .1 .1 .0) (c .before .before .before .before .before .before .before .before .make .result) in
+    lists-after (walk q g (a .left)) (joinedWith (a .pairs) s) (c .before .before .before .list-in .result) (a .lines .now) (c .before .before .before .before .before .before .before .before .before .before .before .before .before .before .before .before .before .before .before .before .before .before .before .before .before .before .before .before .before .before .before .before .before .put-joins .last .0) (a .first) (c .before .before .before .before .before .before .before .before .before .before .before .before .before .before .before .before .before .before .before .before .before .before .before .before .before .before .before .before .before .before .before .before .before .put-joins .result) (a .most) (c .before .before .before .before .before .before .before .before .before .before .before .before .before .before .before .before .before .before .before .before .before .before .before .before .before .before .before .before .before .before .before .before .before .put-joins .ensures .0) (c .before .before .before .before .before .before .before .before .before .before .before .before .before .before .before .before .before .before .before .before .before .before .before .before .before .before .before .before .before .before .before .before .before .put-joins .ensures .1) (c .before .before .before .list-in .last .1 .1 .1 .1 .1 .1 .1 .1 .1 .0) (going-stop q g (a .left) s (m .0 .0) (kindOf (m .1 .0)) (m .1 .1 .0 .0) (m .1 .1 .1 .0 .0) (m .1 .1 .1 .1 .0 .0) (a .layout .terms) (sym (terms-said (a .layout) (a .query .now) (p .0))) (c .before .before .before .before .before .before .before .before .before .before .before .before .before .before .before .before .before .before .before .before .before .before .before .put-line2 .last .0) (c .before .before .before .before .before .before .before .before .before .before .before .before .before .before .before .before .before .before .before .counted2 .result) (o .i) (o .lines) (c .before .before .before .list-in .last .1 .1 .1 .1 .1 .1 .1 .1 .1 .0) (o .written) (a .most) here j (c .before .before .before .before .before .before .before .before .make .ensures .0) (c .before .before .before .list-in .result) (c .before .before .before .list-in .ensures) h some-left (c .before .before .before .before .before .before .before .before .before .before .before .before .before .before .before .before .before .before .before .before .before .before .before .before .before .before .before .before .before .before .before .before .before .put-joins .last .0) (c .before .before .before .before .before .before .before .before .before .before .before .before .before .before .before .before .before .before .before .before .before .before .before .before .before .before .before .before .before .before .before .before .before .put-joins .result) (c .before .before .before .before .before .before .before .before .before .before .before .before .before .before .before .before .before .before .before .counted2 .ensures) (o .inv .2 ∙ put-line-length _ _ _ _ (c .before .before .before .before .before .before .before .before .before .before .before .before .before .before .before .before .before .before .before .before .before .before .before .put-line2 .ensures)) (o .inv .0) (c .if2 .taken)))
     -- add-i
     (λ c.
-    let a = c .before .before .before .before .before .before .before .before .before .before .before .before .before .before .before .before .before .before .before .before .before .before .before .before .before .before .before .before .before .before .before .before .before .before .before .before .before .before .before .before .before .before .before .before .before .before .before .before .before .before .args in
-    let p = c .before .before .before .before .before .before .before .before .before .before .before .before .before .before .before .before .before .before .before .before .before .before .before .before .before .before .before .before .before .before .before .before .before .before .before .before .before .before .before .before .before .before .before .before .before .before .before .before .before .before .pre .1 in
+    let a = c .before .before .before .before .before .before .before .before .before .before .before .before .before .before .before .before .before .before .before .before .before .before .before .before .before .before .before .before .before .before .before .before .before .before .before .before .before .before .args in
+    let p = c .before .before .before .before .before .before .before .before .before .before .before .before .before .before .before .before .before .before .before .before .before .before .before .before .before .before .before .before .before .before .before .before .before .before .before .before .before .before .pre .1 in
     let q = said (a .layout) (a .query .now) in
     let g = orderOf (a .order .now) in
-    let s = pathAs (a .single) (a .rep .now) (a .link .now) (a .reach .now) (a .link2 .now) (a .reach2 .now) (a .link3 .now) (a .reach3 .now) in
-    let m = c .before .before .before .before .before .before .before .before .before .before .before .before .before .before .before .before .before .before .before .before .before .before .before .before .before .before .before .before .before .before .before .before .before .before .before .before .before .before .before .k .given .0 in
-    let h = look-is (c .before .before .before .before .before .before .before .before .before .before .before .before .before .before .before .before .before .before .before .before .before .before .before .before .before .before .before .before .before .before .before .before .before .before .before .before .before .before .before .before .before .look .result) (seen.Applying (m .0) (m .1 .0) (m .1 .1 .0) (m .1 .1 .1 .0) (m .1 .1 .1 .1 .0)) (look q g s) (c .before .before .before .before .before .before .before .before .before .before .before .before .before .before .before .before .before .before .before .before .before .before .before .before .before .before .before .before .before .before .before .before .before .before .before .before .before .before .before .before .before .look .ensures) (c .before .before .before .before .before .before .before .before .before .before .before .before .before .before .before .before .before .before .before .before .before .before .before .before .before .before .before .before .before .before .before .before .before .before .before .before .before .before .before .k .given .1) in
-    let b = c .before .before .before .before .before .before .before .before .before .before .before .before .before .before .before .before .before .before .before .before .before .before .before .before .before .before .before .before .before .loop-test .taken in
+    let s = pathAs (a .single) (a .rep .now) (a .link .now) (a .reach .now) in
+    let m = c .before .before .before .before .before .before .before .before .before .before .before .before .before .before .before .before .before .before .before .before .before .before .before .before .before .before .before .k .given .0 in
+    let h = look-is (c .before .before .before .before .before .before .before .before .before .before .before .before .before .before .before .before .before .before .before .before .before .before .before .before .before .before .before .before .before .look .result) (seen.Applying (m .0) (m .1 .0) (m .1 .1 .0) (m .1 .1 .1 .0) (m .1 .1 .1 .1 .0)) (look q g s) (c .before .before .before .before .before .before .before .before .before .before .before .before .before .before .before .before .before .before .before .before .before .before .before .before .before .before .before .before .before .look .ensures) (c .before .before .before .before .before .before .before .before .before .before .before .before .before .before .before .before .before .before .before .before .before .before .before .before .before .before .before .k .given .1) in
+    let b = c .before .before .before .before .before .before .before .before .before .before .before .before .before .before .before .before .before .loop-test .taken in
     let f = move-fits (a .query .now) (a .layout) (p .0) g s (m .0 .0) (kindOf (m .1 .0)) (m .1 .1 .0 .0) (m .1 .1 .1 .0 .0) (m .1 .1 .1 .1 .0 .0) h in
-    omega (arith, b, c .before .before .before .before .before .before .before .before .before .before .before .before .before .before .before .before .before .before .before .before .before .before .before .before .before .before .before .before .before .before .before .before .count .ensures, count-few (kindOf (m .1 .0)) (m .1 .1 .1 .1 .0 .0) (f .2)))
+    omega (arith, b, c .before .before .before .before .before .before .before .before .before .before .before .before .before .before .before .before .before .before .before .before .count .ensures, count-few (kindOf (m .1 .0)) (m .1 .1 .1 .1 .0 .0) (f .2)))
     -- loop-less
-    (λ c. let b = c .before .before .before .before .before .before .before .before .before .before .before .before .before .before .before .before .before .before .before .before .before .before .before .before .before .before .before .before .before .loop-test .taken in omega arith)
+    (λ c. let b = c .before .before .before .before .before .before .before .before .before .before .before .before .before .before .before .before .before .loop-test .taken in omega arith)
     -- loop-again
     (λ c.
-    let a = c .before .before .before .before .before .before .before .before .before .before .before .before .before .before .before .before .before .before .before .before .before .before .before .before .before .before .before .before .before .before .before .before .before .before .before .before .before .before .before .before .before .before .before .before .before .before .before .before .before .before .args in
-    let p = c .before .before .before .before .before .before .before .before .before .before .before .before .before .before .before .before .before .before .before .before .before .before .before .before .before .before .before .before .before .before .before .before .before .before .before .before .before .before .before .before .before .before .before .before .before .before .before .before .before .before .pre .1 in
+    let a = c .before .before .before .before .before .before .before .before .before .before .before .before .before .before .before .before .before .before .before .before .before .before .before .before .before .before .before .before .before .before .before .before .before .before .before .before .before .before .args in
+    let p = c .before .before .before .before .before .before .before .before .before .before .before .before .before .before .before .before .before .before .before .before .before .before .before .before .before .before .before .before .before .before .before .before .before .before .before .before .before .before .pre .1 in
     let q = said (a .layout) (a .query .now) in
     let g = orderOf (a .order .now) in
-    let s = pathAs (a .single) (a .rep .now) (a .link .now) (a .reach .now) (a .link2 .now) (a .reach2 .now) (a .link3 .now) (a .reach3 .now) in
-    let m = c .before .before .before .before .before .before .before .before .before .before .before .before .before .before .before .before .before .before .before .before .before .before .before .before .before .before .before .before .before .before .before .before .before .before .before .before .before .before .before .k .given .0 in
-    let o = c .before .before .before .before .before .before .before .before .before .before .before .before .before .before .before .before .before .before .before .before .before .before .before .before .before .before .before .before .before .before .loop in
-    let here = subst (λ (j : ℕ). o .i < j) (c .before .before .before .before .before .before .before .before .before .before .before .before .before .before .before .before .before .before .before .before .before .before .before .before .before .before .before .before .before .before .before .before .count .ensures) (c .before .before .before .before .before .before .before .before .before .before .before .before .before .before .before .before .before .before .before .before .before .before .before .before .before .before .before .before .before .loop-test .taken) in
-    let e = c .before .before .before .before .before .before .before .before .before .before .before .before .make .last in
-    let j = joinedIn (a .single) (e .1 .0) (e .1 .1 .0) (e .1 .1 .1 .0) (e .1 .1 .1 .1 .0) (e .1 .1 .1 .1 .1 .0) (e .1 .1 .1 .1 .1 .1 .0) (e .1 .1 .1 .1 .1 .1 .1 .0) (e .1 .1 .1 .1 .1 .1 .1 .1 .0) (e .1 .1 .1 .1 .1 .1 .1 .1 .1 .0) (c .before .before .before .before .before .before .before .before .before .before .before .before .make .result) in
-    (going-next q g (a .left) s (m .0 .0) (kindOf (m .1 .0)) (m .1 .1 .0 .0) (m .1 .1 .1 .0 .0) (m .1 .1 .1 .1 .0 .0) (a .layout .terms) (sym (terms-said (a .layout) (a .query .now) (p .0))) (c .before .before .before .before .before .before .before .before .before .before .before .before .before .before .before .before .before .before .before .before .before .before .before .before .before .before .before .before .before .before .before .before .before .before .before .put-line2 .last .0) (c .before .before .before .before .before .before .before .before .before .before .before .before .before .before .before .before .before .before .before .before .before .before .before .before .before .before .before .before .before .before .before .counted2 .result) (o .i) (o .lines) (c .before .before .before .list-in .last .1 .1 .1 .1 .1 .1 .1 .1 .1 .1 .1 .1 .1 .0) (o .written) (a .most) here j (c .before .before .before .before .before .before .before .before .before .before .before .before .make .ensures .0) (c .before .before .before .list-in .result) (c .before .before .before .list-in .ensures) (o .inv .0) (c .if2 .left), c .before .before .before .list-in .ensures .bounded, c .before .before .before .list-in .ensures .same-length ∙ o .inv .2))
+    let s = pathAs (a .single) (a .rep .now) (a .link .now) (a .reach .now) in
+    let m = c .before .before .before .before .before .before .before .before .before .before .before .before .before .before .before .before .before .before .before .before .before .before .before .before .before .before .before .k .given .0 in
+    let o = c .before .before .before .before .before .before .before .before .before .before .before .before .before .before .before .before .before .before .loop in
+    let here = subst (λ (j : ℕ). o .i < j) (c .before .before .before .before .before .before .before .before .before .before .before .before .before .before .before .before .before .before .before .before .count .ensures) (c .before .before .before .before .before .before .before .before .before .before .before .before .before .before .before .before .before .loop-test .taken) in
+    let e = c .before .before .before .before .before .before .before .before .make .last in
+    let j = joinedIn (a .single) (e .1 .0) (e .1 .1 .0) (e .1 .1 .1 .0) (e .1 .1 .1 .1 .0) (e .1 .1 .1 .1 .1 .0) (c .before .before .before .before .before .before .before .before .make .result) in
+    (going-next q g (a .left) s (m .0 .0) (kindOf (m .1 .0)) (m .1 .1 .0 .0) (m .1 .1 .1 .0 .0) (m .1 .1 .1 .1 .0 .0) (a .layout .terms) (sym (terms-said (a .layout) (a .query .now) (p .0))) (c .before .before .before .before .before .before .before .before .before .before .before .before .before .before .before .before .before .before .before .before .before .before .before .put-line2 .last .0) (c .before .before .before .before .before .before .before .before .before .before .before .before .before .before .before .before .before .before .before .counted2 .result) (o .i) (o .lines) (c .before .before .before .list-in .last .1 .1 .1 .1 .1 .1 .1 .1 .1 .0) (o .written) (a .most) here j (c .before .before .before .before .before .before .before .before .make .ensures .0) (c .before .before .before .list-in .result) (c .before .before .before .list-in .ensures) (o .inv .0) (c .if2 .left), c .before .before .before .list-in .ensures .bounded, c .before .before .before .list-in .ensures .same-length ∙ o .inv .2))
     -- same-length-3
     (λ c. put-all-length _ _ _ _ (c .before .before .before .before .before .before .put-joins .ensures .1))
     -- returns-3
@@ -234,7 +235,7 @@ unfolding pairsOf
     let p = c .before .before .before .before .before .before .before .before .before .before .before .pre .1 in
     let q = said (a .layout) (a .query .now) in
     let g = orderOf (a .order .now) in
-    let s = pathAs (a .single) (a .rep .now) (a .link .now) (a .reach .now) (a .link2 .now) (a .reach2 .now) (a .link3 .now) (a .reach3 .now) in
+    let s = pathAs (a .single) (a .rep .now) (a .link .now) (a .reach .now) in
     let h = look-is (c .before .before .look .result) seen.Saturated (look q g s) (c .before .before .look .ensures) (c .enum-told .given .1) in
     lists-after (walk q g (a .left)) (joinedWith (a .pairs) s) _ (a .lines .now) (c .before .before .before .before .before .before .put-joins .last .0) (a .first) (c .before .before .before .before .before .before .put-joins .result) (a .most) (c .before .before .before .before .before .before .put-joins .ensures .0) (c .before .before .before .before .before .before .put-joins .ensures .1) (c .before .before .before .before .before .before .put-joins .last .0) (lists-saturated q g (a .left) s _ (c .before .before .before .before .before .before .put-joins .last .0) (c .before .before .before .before .before .before .put-joins .result) (a .most) (c .before .before .before .before .before .before .put-joins .last .0) h refl (headed-bound (a .first) (c .before .before .before .before .before .before .put-joins .result) _ (c .before .before .before .before .before .before .put-joins .ensures .0) (p .2))))
     -- same-length-4
@@ -245,7 +246,7 @@ unfolding pairsOf
     let p = c .before .before .before .before .before .before .before .before .before .before .before .before .before .before .before .before .before .pre .1 in
     let q = said (a .layout) (a .query .now) in
     let g = orderOf (a .order .now) in
-    let s = pathAs (a .single) (a .rep .now) (a .link .now) (a .reach .now) (a .link2 .now) (a .reach2 .now) (a .link3 .now) (a .reach3 .now) in
+    let s = pathAs (a .single) (a .rep .now) (a .link .now) (a .reach .now) in
     let m = c .before .before .before .before .before .before .section .given .0 in
     let h = look-is (c .before .before .before .before .before .before .before .before .look .result) (seen.Clashing (m .0) (m .1 .0) (m .1 .1 .0)) (look q g s) (c .before .before .before .before .before .before .before .before .look .ensures) (c .before .before .before .before .before .before .section .given .1) in
     lists-after (walk q g (a .left)) (joinedWith (a .pairs) s) _ (a .lines .now) (c .before .before .before .before .before .before .before .before .before .before .before .before .put-joins .last .0) (a .first) (c .before .before .before .before .before .before .before .before .before .before .before .before .put-joins .result) (a .most) (c .before .before .before .before .before .before .before .before .before .before .before .before .put-joins .ensures .0) (c .before .before .before .before .before .before .before .before .before .before .before .before .put-joins .ensures .1) (c .before .before .before .put-line .last .0) (lists-clash q g (a .left) s _ (c .before .before .before .before .before .before .before .before .before .before .before .before .put-joins .last .0) (c .before .before .before .before .before .before .before .before .before .before .before .before .put-joins .result) (a .most) (c .before .before .before .put-line .last .0) _ h (headed-bound (a .first) (c .before .before .before .before .before .before .before .before .before .before .before .before .put-joins .result) _ (c .before .before .before .before .before .before .before .before .before .before .before .before .put-joins .ensures .0) (p .2)) refl (c .counted .ensures) (c .before .before .before .put-line .ensures)))
@@ -257,7 +258,7 @@ unfolding pairsOf
     let p = c .before .before .before .before .before .before .before .before .before .before .before .before .before .before .before .before .before .before .before .before .before .pre .1 in
     let q = said (a .layout) (a .query .now) in
     let g = orderOf (a .order .now) in
-    let s = pathAs (a .single) (a .rep .now) (a .link .now) (a .reach .now) (a .link2 .now) (a .reach2 .now) (a .link3 .now) (a .reach3 .now) in
+    let s = pathAs (a .single) (a .rep .now) (a .link .now) (a .reach .now) in
     let m = c .before .before .before .before .before .before .before .before .before .before .k .given .0 in
     let h = look-is (c .before .before .before .before .before .before .before .before .before .before .before .before .look .result) (seen.Applying (m .0) (m .1 .0) (m .1 .1 .0) (m .1 .1 .1 .0) (m .1 .1 .1 .1 .0)) (look q g s) (c .before .before .before .before .before .before .before .before .before .before .before .before .look .ensures) (c .before .before .before .before .before .before .before .before .before .before .k .given .1) in
     let some-left = look-some q g (a .left) s (move (m .0 .0) (kindOf (m .1 .0)) (triple (m .1 .1 .0 .0) (m .1 .1 .1 .0 .0) (m .1 .1 .1 .1 .0 .0))) (p .3) h in

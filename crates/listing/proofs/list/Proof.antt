@@ -11,9 +11,8 @@ use Rattle.listing.proofs.list.Statement.{statement}
 use Rattle.listing.proofs.list.Tie as tie
 
 -- the arrays of the record have their size
-whole : (κs : Lfts 3) (a : Dens κs kinds.ps) → GoodsP κs kinds.ps a → Whole (a .1 .1 .1 .1 .0 .facts .rep) (a .1 .1 .1 .1 .0 .facts .link) (a .1 .1 .1 .1 .0 .facts .reach) (a .1 .1 .1 .1 .0 .facts .link2) (a .1 .1 .1 .1 .0 .facts .reach2) (a .1 .1 .1 .1 .0 .facts .link3) (a .1 .1 .1 .1 .0 .facts .reach3)
-whole κs a good =
-    record { of-rep = search needs; of-link = search needs; of-reach = search needs; of-link2 = search needs; of-reach2 = search needs; of-link3 = search needs; of-reach3 = search needs }
+whole : (κs : Lfts 3) (a : Dens κs kinds.ps) → GoodsP κs kinds.ps a → Whole (a .1 .1 .1 .1 .0 .facts .rep) (a .1 .1 .1 .1 .0 .facts .link) (a .1 .1 .1 .1 .0 .facts .reach)
+whole κs a good = record { of-rep = search needs; of-link = search needs; of-reach = search needs }
 
 pub list-spec : {M : Type 1} → statement M
 unfolding pathOf
@@ -21,7 +20,7 @@ list-spec =
     tie.close
     (tie.spec
     -- list-in-requires
-    (λ c κs. let p = c .before .before .before .before .before .before .before .before .before .before .before .before .before .pre in (p .0, p .1, p .2, p .3, whole (c .before .before .before .before .before .before .before .before .before .before .before .before .before .κs) (lts.dens (list-in-reads.Asked, list-in-reads.Learnt) reads.Pre reads.Post (c .before .before .before .before .before .before .before .before .before .before .before .before .before .κs) (c .before .before .before .before .before .before .before .before .before .before .before .before .before .args)) (c .before .before .before .before .before .before .before .before .before .before .before .before .before .good)))
+    (λ c κs. let p = c .before .before .before .before .before .before .before .before .before .pre in (p .0, p .1, p .2, p .3, whole (c .before .before .before .before .before .before .before .before .before .κs) (lts.dens (list-in-reads.Asked, list-in-reads.Learnt) reads.Pre reads.Post (c .before .before .before .before .before .before .before .before .before .κs) (c .before .before .before .before .before .before .before .before .before .args)) (c .before .before .before .before .before .before .before .before .before .good)))
     -- same-length
     (λ c. c .before .before .list-in .ensures .same-length)
     -- returns

@@ -10,8 +10,8 @@ use Rattle.literal_tests.specs.Tests.{rowsOf}
 use Rattle.literal_tests.proofs.is_held_in.Statement.{statement}
 use Rattle.literal_tests.proofs.is_held_in.Tie as tie
 
-held : (single : Bool) (first second third : List ℕ) {k j a b x y : ℕ} → k ≡ j → a ≡ x → b ≡ y → rowsOf single first second third k a b ≡ rowsOf single first second third j x y
-held single first second third e f g = λ i. rowsOf single first second third (e i) (f i) (g i)
+held : (single : Bool) (reach : List ℕ) {k j a b x y : ℕ} → k ≡ j → a ≡ x → b ≡ y → rowsOf single reach k a b ≡ rowsOf single reach j x y
+held single reach e f g = λ i. rowsOf single reach (e i) (f i) (g i)
 
 pub is-held-in-spec : {M : Type 1} → statement M
 unfolding _and_
@@ -35,4 +35,4 @@ is-held-in-spec =
     -- reaches-by-requires
     (λ c κs. search needs)
     -- returns-2
-    (λ c. rw (sym (c .before .before .before .before .before .before .before .reach-sign .ensures) ∙ c .before .before .before .before .before .before .if1 .left) (c .reaches-by .ensures ∙ held _ _ _ _ (c .before .before .before .before .before .reach-link .ensures) (c .before .before .before .read-rep .ensures ∙ ap (repOf _) (c .before .before .before .before .reach-left .ensures)) (c .before .read-rep2 .ensures ∙ ap (repOf _) (c .before .before .reach-right .ensures)))))
+    (λ c. rw (sym (c .before .before .before .before .before .before .before .reach-sign .ensures) ∙ c .before .before .before .before .before .before .if1 .left) (c .reaches-by .ensures ∙ held _ _ (c .before .before .before .before .before .reach-link .ensures) (c .before .before .before .read-rep .ensures ∙ ap (repOf _) (c .before .before .before .before .reach-left .ensures)) (c .before .read-rep2 .ensures ∙ ap (repOf _) (c .before .before .reach-right .ensures)))))

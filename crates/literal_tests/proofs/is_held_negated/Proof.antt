@@ -20,6 +20,6 @@ is-held-negated-spec =
     (λ c κs. search needs)
     -- returns
     (λ c.
-    let a = c .before .before .before .before .before .before .before .args in
+    let a = c .before .before .before .before .before .args in
     let l = reachIn (a .links) (a .query .now) (a .at) (a .i) in
     c .is-held-in .ensures ∙ ap (λ (reach : ℕ → ℕ → ℕ → Bool). not (l .plain) and rowsHeld (repOf (a .t5 .rep)) reach l) (sym (path-reach (a .t5)))))

@@ -1,28 +1,29 @@
--- The rows of link k, where there are any. Assumes nothing.
+-- No link has the number 0 or one above the links; else the rows are asked. Assumes nothing.
 use borrow.Author.Needs.{needs}
-use borrow.Author.Tests.{eq-eqb, ne-eqb}
+use native.Mathlib.Omega.{arith}
+use mathlib.Core.Path.{sym}
+use mathlib.Core.Bool.{cond}
+use lib.Dec.{leb}
+use borrow.Author.Tests.{le-leb, lt-leb}
+use Rattle.logic.specs.Search.{_and_}
+use Rattle.theory.proofs.Basics.Search.{and-false}
+use Rattle.link_rows.proofs.Cube.{cube-none}
 use Rattle.literal_tests.specs.Tests.{rowsOf}
 use Rattle.literal_tests.proofs.reaches_by.Statement.{statement}
 use Rattle.literal_tests.proofs.reaches_by.Tie as tie
 
 pub reaches-by-spec : {M : Type 1} → statement M
-unfolding rowsOf
+unfolding rowsOf _and_
 reaches-by-spec =
     tie.close
     (tie.spec
-    -- is-held-requires
-    (λ c κs. search needs)
     -- returns
-    (λ c. rw (eq-eqb _ _ (c .before .if1 .taken)) (c .is-held .ensures))
+    (λ c. let a = c .before .args in rw (cube-none (a .reach .now) (a .k) (a .a .0) (a .b .0) (omega (arith, c .if1 .taken))) (sym (and-false (leb (a .k) (cond (a .single) 1 3)))))
+    -- links-requires
+    (λ c κs. search needs)
     -- returns-2
-    (λ c. rw (ne-eqb _ _ (c .before .if1 .left), c .if2 .taken))
-    -- is-held-requires-2
-    (λ c κs. search needs)
+    (λ c. let a = c .before .before .before .args in rw (lt-leb (a .k) (cond (a .single) 1 3) (omega (arith, c .if2 .taken, c .before .links .ensures .0))))
+    -- is-held-requires
+    (λ c κs. (omega (arith, c .before .before .if1 .left), omega (arith, c .if2 .left, c .before .links .ensures)))
     -- returns-3
-    (λ c. rw (ne-eqb _ _ (c .before .before .before .if1 .left), c .before .before .if2 .left, eq-eqb _ _ (c .before .if3 .taken)) (c .is-held2 .ensures))
-    -- is-held-requires-3
-    (λ c κs. search needs)
-    -- returns-4
-    (λ c. rw (ne-eqb _ _ (c .before .before .before .before .if1 .left), c .before .before .before .if2 .left, ne-eqb _ _ (c .before .before .if3 .left), eq-eqb _ _ (c .before .if4 .taken)) (c .is-held3 .ensures))
-    -- returns-5
-    (λ c. rw (ne-eqb _ _ (c .before .before .before .if1 .left), c .before .before .if2 .left, ne-eqb _ _ (c .before .if3 .left), ne-eqb _ _ (c .if4 .left))))
+    (λ c. let a = c .before .before .before .before .args in rw (le-leb (a .k) (cond (a .single) 1 3) (omega (arith, c .before .if2 .left, c .before .before .links .ensures .0))) (c .is-held .ensures)))

@@ -1,35 +1,36 @@
--- The fact is added to the rows of each link. Assumes nothing.
-use mathlib.Core.Path.{refl, sym, _∙_}
-use Rattle.facts.specs.Path.{graphOf}
-use Rattle.facts.proofs.Path.{alike, alike-graph, alone, addLinks-each}
+-- After k links, those have the fact. Assumes nothing.
+use Prim.Native.Nat.{_+_, _-_, _≤_, _<_}
+use native.Mathlib.Omega.{arith}
+use borrow.Author.Needs.{needs}
+use mathlib.Core.Path.{_≡_}
+use lib.ListN.{length}
+use Rattle.nil_terms.proofs.Links.{AddedBelow, added-none, added-more, added-all}
 use Rattle.nil_terms.proofs.add_links.Statement.{statement}
 use Rattle.nil_terms.proofs.add_links.Tie as tie
 
--- returns
-returns : tie.Need-returns
-unfolding graphOf
-returns c = (
-  λ rep reach reach2 reach3. alone _ _ _ _ _ (c .if1 .taken) refl (alike-graph (c .before .add-to .ensures .0) refl) ∙ sym (addLinks-each _ _ _ _ _ _ _),
-  (c .before .add-to .ensures .1, c .before .before .before .pre .3, c .before .before .before .pre .4),
-)
+abbrev Inv-loop : tie.InvT-loop
+Inv-loop single link₀ a b count k₀ link k = (0 < k) × (k ≤ count + 1) × (length link ≡ 51) × AddedBelow link₀ (a .0) (b .0) k link
 
--- returns-2
-returns-2 : tie.Need-returns-2
-unfolding graphOf
-returns-2 c = (
-  λ rep reach reach2 reach3. alike _ refl (alike-graph (c .before .before .before .before .before .add-to .ensures .0) refl) (alike-graph (c .before .before .add-to2 .ensures .0) refl) (alike-graph (c .add-to3 .ensures .0) refl) ∙ sym (addLinks-each _ _ _ _ _ _ _),
-  (c .before .before .before .before .before .add-to .ensures .1, c .before .before .add-to2 .ensures .1, c .add-to3 .ensures .1),
-)
+abbrev μ-loop : tie.MeasureT-loop
+μ-loop single link₀ a b count k₀ link k = count + 1 - k
 
 pub add-links-spec : {M : Type 1} → statement M
 add-links-spec =
     tie.close
     (tie.spec
-    -- add-to-requires
-    (λ c κs. let p = c .before .pre in (p .0, p .1, p .2))
-    returns
-    -- add-to-requires-2
-    (λ c κs. let p = c .before .before .before .before .pre in (p .0, p .1, p .3))
-    -- add-to-requires-3
-    (λ c κs. let p = c .before .before .before .before .before .before .pre in (p .0, p .1, p .4))
-    returns-2)
+    Inv-loop
+    μ-loop
+    -- links-requires
+    (λ c κs. search needs)
+    -- loop-holds
+    (λ c. (omega arith, omega arith, search needs, added-none _ _ _))
+    -- add-requires
+    (λ c κs. let p = c .before .before .before .before .pre in (c .before .before .loop .inv .0, omega (arith, c .before .loop-test .taken, c .before .before .before .links .ensures .2), p .0, p .1, c .before .before .loop .inv .2))
+    -- add-k
+    (λ c. omega (arith, c .before .before .loop-test .taken, c .before .before .before .before .links .ensures .2))
+    -- loop-less
+    (λ c. omega arith)
+    -- loop-again
+    (λ c. let l = c .before .before .before .loop in (omega arith, omega arith, c .add .ensures .1, added-more _ _ _ _ _ (l .k) (l .inv .0) (c .add .ensures .0) (l .inv .3)))
+    -- returns
+    (λ c. (λ rep reach. added-all _ _ _ _ _ _ _ (c .before .loop .k) (omega (arith, c .loop-test .left, c .before .before .links .ensures .0)) (c .before .loop .inv .3), c .before .loop .inv .2)))

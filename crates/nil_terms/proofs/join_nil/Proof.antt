@@ -23,34 +23,33 @@ join-nil-spec =
     -- returns
     (λ c.
     let p = c .before .before .before .pre in
-    (sym (ap (λ (us : List ℕ). andThen (joinedIn (c .before .before .before .args .single) (c .before .before .before .args .rep .now) (c .before .before .before .args .link .now) (c .before .before .before .args .reach .now) (c .before .before .before .args .link2 .now) (c .before .before .before .args .reach2 .now) (c .before .before .before .args .link3 .now) (c .before .before .before .args .reach3 .now) (c .before .before .before .args .kept .now) (c .before .before .before .args .replaced .now) (c .before .before .before .args .count)) (joinNil (c .before .before .before .args .layout .terms) us)) (c .before .next-nil .ensures .nothing (c .if1 .taken)) ∙ nil-none _ _), (p .0 .1, p .1 .0, p .1 .1, p .1 .2)))
+    (sym (ap (λ (us : List ℕ). andThen (joinedIn (c .before .before .before .args .single) (c .before .before .before .args .rep .now) (c .before .before .before .args .link .now) (c .before .before .before .args .reach .now) (c .before .before .before .args .kept .now) (c .before .before .before .args .replaced .now) (c .before .before .before .args .count)) (joinNil (c .before .before .before .args .layout .terms) us)) (c .before .next-nil .ensures .nothing (c .if1 .taken)) ∙ nil-none _ _), (p .0 .1, p .1 .0, p .1 .1, p .1 .2)))
     -- join-others-requires
     (λ c κs.
-    let p = c .before .before .before .before .before .before .before .before .before .before .before .before .pre in
-    let below : c .before .before .before .before .before .before .before .before .before .before .next-nil .result ≤ c .before .before .before .before .before .before .before .before .before .before .before .before .args .layout .terms = omega (arith, c .before .before .before .before .before .before .before .before .before .if1 .left) in
-    ((p .0 .0, below, p .0 .1, fits-left _ _ (subst Fits (nil-opened _ _ _ (c .before .before .before .before .before .before .before .before .before .before .next-nil .ensures) below (joinedIn (c .before .before .before .before .before .before .before .before .before .before .before .before .args .single) (c .before .before .before .before .before .before .before .before .before .before .before .before .args .rep .now) (c .before .before .before .before .before .before .before .before .before .before .before .before .args .link .now) (c .before .before .before .before .before .before .before .before .before .before .before .before .args .reach .now) (c .before .before .before .before .before .before .before .before .before .before .before .before .args .link2 .now) (c .before .before .before .before .before .before .before .before .before .before .before .before .args .reach2 .now) (c .before .before .before .before .before .before .before .before .before .before .before .before .args .link3 .now) (c .before .before .before .before .before .before .before .before .before .before .before .before .args .reach3 .now) (c .before .before .before .before .before .before .before .before .before .before .before .before .args .kept .now) (c .before .before .before .before .before .before .before .before .before .before .before .before .args .replaced .now) (c .before .before .before .before .before .before .before .before .before .before .before .before .args .count))) (p .0 .2))), p .1))
+    let p = c .before .before .before .before .before .before .before .before .pre in
+    let below : c .before .before .before .before .before .before .next-nil .result ≤ c .before .before .before .before .before .before .before .before .args .layout .terms = omega (arith, c .before .before .before .before .before .if1 .left) in
+    ((p .0 .0, below, p .0 .1, fits-left _ _ (subst Fits (nil-opened _ _ _ (c .before .before .before .before .before .before .next-nil .ensures) below (joinedIn (c .before .before .before .before .before .before .before .before .args .single) (c .before .before .before .before .before .before .before .before .args .rep .now) (c .before .before .before .before .before .before .before .before .args .link .now) (c .before .before .before .before .before .before .before .before .args .reach .now) (c .before .before .before .before .before .before .before .before .args .kept .now) (c .before .before .before .before .before .before .before .before .args .replaced .now) (c .before .before .before .before .before .before .before .before .args .count))) (p .0 .2))), p .1))
     -- read-rep-requires
     (λ c κs. search needs)
     -- add-links-requires
     (λ c κs.
-    let below : c .before .before .before .before .before .before .before .before .before .before .before .before .before .before .before .before .next-nil .result ≤ 16 = omega (arith, c .before .before .before .before .before .before .before .before .before .before .before .before .before .before .before .if1 .left, c .before .before .before .before .before .before .before .before .before .before .before .before .before .before .before .before .before .before .pre .0 .0 .terms-within) in
-    let w = c .before .before .before .before .before .join-others .ensures .1 in
-    let b = read-bounded _ (w .0) (c .before .before .before .before .before .before .before .before .before .before .before .before .before .before .before .before .next-nil .result) _ below (c .before .before .before .read-rep .ensures) in
-    (b, b, w .1 .of-link, w .1 .of-link2, w .1 .of-link3))
+    let below : c .before .before .before .before .before .before .before .before .before .before .next-nil .result ≤ 16 = omega (arith, c .before .before .before .before .before .before .before .before .before .if1 .left, c .before .before .before .before .before .before .before .before .before .before .before .before .pre .0 .0 .terms-within) in
+    let w = c .before .before .before .join-others .ensures .1 in
+    let b = read-bounded _ (w .0) (c .before .before .before .before .before .before .before .before .before .before .next-nil .result) _ below (c .before .read-rep .ensures) in
+    (b, b, w .1 .of-link))
     -- settle-requires
     (λ c κs.
-    let p = c .before .before .before .before .before .before .before .before .before .before .before .before .before .before .before .before .before .before .before .before .before .before .before .before .before .before .before .before .pre .0 in
-    let below : c .before .before .before .before .before .before .before .before .before .before .before .before .before .before .before .before .before .before .before .before .before .before .before .before .before .before .next-nil .result ≤ c .before .before .before .before .before .before .before .before .before .before .before .before .before .before .before .before .before .before .before .before .before .before .before .before .before .before .before .before .args .layout .terms = omega (arith, c .before .before .before .before .before .before .before .before .before .before .before .before .before .before .before .before .before .before .before .before .before .before .before .before .before .if1 .left) in
-    let w = c .before .before .before .before .before .before .before .before .before .before .before .before .before .before .before .join-others .ensures .1 in
-    let v = c .before .before .before .before .before .before .before .before .before .add-links .ensures .1 in (
-      (p .0 .terms-within, subst Fits (sym (nil-whole (said (c .before .before .before .before .before .before .before .before .before .before .before .before .before .before .before .before .before .before .before .before .before .before .before .before .before .before .before .before .args .layout) (c .before .before .before .before .before .before .before .before .before .before .before .before .before .before .before .before .before .before .before .before .before .before .before .before .before .before .before .before .args .query .now) .entries) (c .before .before .before .before .before .before .before .before .before .before .before .before .before .before .before .before .before .before .before .before .before .before .before .before .before .before .before .before .args .layout .terms) (c .before .before .before .before .before .before .before .before .before .before .before .before .before .before .before .before .before .before .before .before .before .before .before .before .before .before .next-nil .result) (c .before .before .before .before .before .before .before .before .before .before .before .before .before .before .before .before .before .before .before .before .before .before .before .before .before .before .next-nil .ensures) below (joinedIn (c .before .before .before .before .before .before .before .before .before .before .before .before .before .before .before .before .before .before .before .before .before .before .before .before .before .before .before .before .args .single) (c .before .before .before .before .before .before .before .before .before .before .before .before .before .before .before .before .before .before .before .before .before .before .before .before .before .before .before .before .args .rep .now) (c .before .before .before .before .before .before .before .before .before .before .before .before .before .before .before .before .before .before .before .before .before .before .before .before .before .before .before .before .args .link .now) (c .before .before .before .before .before .before .before .before .before .before .before .before .before .before .before .before .before .before .before .before .before .before .before .before .before .before .before .before .args .reach .now) (c .before .before .before .before .before .before .before .before .before .before .before .before .before .before .before .before .before .before .before .before .before .before .before .before .before .before .before .before .args .link2 .now) (c .before .before .before .before .before .before .before .before .before .before .before .before .before .before .before .before .before .before .before .before .before .before .before .before .before .before .before .before .args .reach2 .now) (c .before .before .before .before .before .before .before .before .before .before .before .before .before .before .before .before .before .before .before .before .before .before .before .before .before .before .before .before .args .link3 .now) (c .before .before .before .before .before .before .before .before .before .before .before .before .before .before .before .before .before .before .before .before .before .before .before .before .before .before .before .before .args .reach3 .now) (c .before .before .before .before .before .before .before .before .before .before .before .before .before .before .before .before .before .before .before .before .before .before .before .before .before .before .before .before .args .kept .now) (c .before .before .before .before .before .before .before .before .before .before .before .before .before .before .before .before .before .before .before .before .before .before .before .before .before .before .before .before .args .replaced .now) (c .before .before .before .before .before .before .before .before .before .before .before .before .before .before .before .before .before .before .before .before .before .before .before .before .before .before .before .before .args .count)) _ (c .before .before .before .before .before .before .before .before .before .before .before .before .before .before .before .join-others .ensures .0) _ _ (c .before .before .before .before .before .before .before .before .before .before .before .before .before .read-rep .ensures) (c .before .before .before .before .before .before .before .before .before .add-links .ensures .0 _ _ _ _))) (p .2)),
-      (record { of-rep = w .1 .of-rep; of-link = v .0; of-reach = w .1 .of-reach; of-link2 = v .1; of-reach2 = w .1 .of-reach2; of-link3 = v .2; of-reach3 = w .1 .of-reach3 }, w .2, w .3),
+    let p = c .before .before .before .before .before .before .before .before .before .before .before .before .before .before .before .before .before .before .pre .0 in
+    let below : c .before .before .before .before .before .before .before .before .before .before .before .before .before .before .before .before .next-nil .result ≤ c .before .before .before .before .before .before .before .before .before .before .before .before .before .before .before .before .before .before .args .layout .terms = omega (arith, c .before .before .before .before .before .before .before .before .before .before .before .before .before .before .before .if1 .left) in
+    let w = c .before .before .before .before .before .before .before .before .before .join-others .ensures .1 in (
+      (p .0 .terms-within, subst Fits (sym (nil-whole (said (c .before .before .before .before .before .before .before .before .before .before .before .before .before .before .before .before .before .before .args .layout) (c .before .before .before .before .before .before .before .before .before .before .before .before .before .before .before .before .before .before .args .query .now) .entries) (c .before .before .before .before .before .before .before .before .before .before .before .before .before .before .before .before .before .before .args .layout .terms) (c .before .before .before .before .before .before .before .before .before .before .before .before .before .before .before .before .next-nil .result) (c .before .before .before .before .before .before .before .before .before .before .before .before .before .before .before .before .next-nil .ensures) below (joinedIn (c .before .before .before .before .before .before .before .before .before .before .before .before .before .before .before .before .before .before .args .single) (c .before .before .before .before .before .before .before .before .before .before .before .before .before .before .before .before .before .before .args .rep .now) (c .before .before .before .before .before .before .before .before .before .before .before .before .before .before .before .before .before .before .args .link .now) (c .before .before .before .before .before .before .before .before .before .before .before .before .before .before .before .before .before .before .args .reach .now) (c .before .before .before .before .before .before .before .before .before .before .before .before .before .before .before .before .before .before .args .kept .now) (c .before .before .before .before .before .before .before .before .before .before .before .before .before .before .before .before .before .before .args .replaced .now) (c .before .before .before .before .before .before .before .before .before .before .before .before .before .before .before .before .before .before .args .count)) _ (c .before .before .before .before .before .before .before .before .before .join-others .ensures .0) _ _ (c .before .before .before .before .before .before .before .read-rep .ensures) (c .before .before .before .before .before .add-links .ensures .0 _ _))) (p .2)),
+      (record { of-rep = w .1 .of-rep; of-link = c .before .before .before .before .before .add-links .ensures .1; of-reach = w .1 .of-reach }, w .2, w .3),
     ))
     -- returns-2
     (λ c.
-    let p = c .before .before .before .before .before .before .before .before .before .before .before .before .before .before .before .before .before .before .before .before .before .before .before .before .before .before .before .before .before .pre .0 in
-    let below : c .before .before .before .before .before .before .before .before .before .before .before .before .before .before .before .before .before .before .before .before .before .before .before .before .before .before .before .next-nil .result ≤ c .before .before .before .before .before .before .before .before .before .before .before .before .before .before .before .before .before .before .before .before .before .before .before .before .before .before .before .before .before .args .layout .terms = omega (arith, c .before .before .before .before .before .before .before .before .before .before .before .before .before .before .before .before .before .before .before .before .before .before .before .before .before .before .if1 .left) in
+    let p = c .before .before .before .before .before .before .before .before .before .before .before .before .before .before .before .before .before .before .before .pre .0 in
+    let below : c .before .before .before .before .before .before .before .before .before .before .before .before .before .before .before .before .before .next-nil .result ≤ c .before .before .before .before .before .before .before .before .before .before .before .before .before .before .before .before .before .before .before .args .layout .terms = omega (arith, c .before .before .before .before .before .before .before .before .before .before .before .before .before .before .before .before .if1 .left) in
     let w = c .settle .ensures .1 in (
-      c .settle .ensures .0 ∙ nil-whole (said (c .before .before .before .before .before .before .before .before .before .before .before .before .before .before .before .before .before .before .before .before .before .before .before .before .before .before .before .before .before .args .layout) (c .before .before .before .before .before .before .before .before .before .before .before .before .before .before .before .before .before .before .before .before .before .before .before .before .before .before .before .before .before .args .query .now) .entries) (c .before .before .before .before .before .before .before .before .before .before .before .before .before .before .before .before .before .before .before .before .before .before .before .before .before .before .before .before .before .args .layout .terms) (c .before .before .before .before .before .before .before .before .before .before .before .before .before .before .before .before .before .before .before .before .before .before .before .before .before .before .before .next-nil .result) (c .before .before .before .before .before .before .before .before .before .before .before .before .before .before .before .before .before .before .before .before .before .before .before .before .before .before .before .next-nil .ensures) below (joinedIn (c .before .before .before .before .before .before .before .before .before .before .before .before .before .before .before .before .before .before .before .before .before .before .before .before .before .before .before .before .before .args .single) (c .before .before .before .before .before .before .before .before .before .before .before .before .before .before .before .before .before .before .before .before .before .before .before .before .before .before .before .before .before .args .rep .now) (c .before .before .before .before .before .before .before .before .before .before .before .before .before .before .before .before .before .before .before .before .before .before .before .before .before .before .before .before .before .args .link .now) (c .before .before .before .before .before .before .before .before .before .before .before .before .before .before .before .before .before .before .before .before .before .before .before .before .before .before .before .before .before .args .reach .now) (c .before .before .before .before .before .before .before .before .before .before .before .before .before .before .before .before .before .before .before .before .before .before .before .before .before .before .before .before .before .args .link2 .now) (c .before .before .before .before .before .before .before .before .before .before .before .before .before .before .before .before .before .before .before .before .before .before .before .before .before .before .before .before .before .args .reach2 .now) (c .before .before .before .before .before .before .before .before .before .before .before .before .before .before .before .before .before .before .before .before .before .before .before .before .before .before .before .before .before .args .link3 .now) (c .before .before .before .before .before .before .before .before .before .before .before .before .before .before .before .before .before .before .before .before .before .before .before .before .before .before .before .before .before .args .reach3 .now) (c .before .before .before .before .before .before .before .before .before .before .before .before .before .before .before .before .before .before .before .before .before .before .before .before .before .before .before .before .before .args .kept .now) (c .before .before .before .before .before .before .before .before .before .before .before .before .before .before .before .before .before .before .before .before .before .before .before .before .before .before .before .before .before .args .replaced .now) (c .before .before .before .before .before .before .before .before .before .before .before .before .before .before .before .before .before .before .before .before .before .before .before .before .before .before .before .before .before .args .count)) _ (c .before .before .before .before .before .before .before .before .before .before .before .before .before .before .before .before .join-others .ensures .0) _ _ (c .before .before .before .before .before .before .before .before .before .before .before .before .before .before .read-rep .ensures) (c .before .before .before .before .before .before .before .before .before .before .add-links .ensures .0 _ _ _ _),
-      (rep-bounded _ _ refl (nil-settled (said (c .before .before .before .before .before .before .before .before .before .before .before .before .before .before .before .before .before .before .before .before .before .before .before .before .before .before .before .before .before .args .layout) (c .before .before .before .before .before .before .before .before .before .before .before .before .before .before .before .before .before .before .before .before .before .before .before .before .before .before .before .before .before .args .query .now) .entries) (c .before .before .before .before .before .before .before .before .before .before .before .before .before .before .before .before .before .before .before .before .before .before .before .before .before .before .before .before .before .args .layout .terms) (c .before .before .before .before .before .before .before .before .before .before .before .before .before .before .before .before .before .before .before .before .before .before .before .before .before .before .before .next-nil .result) (c .before .before .before .before .before .before .before .before .before .before .before .before .before .before .before .before .before .before .before .before .before .before .before .before .before .before .before .next-nil .ensures) below (joinedIn (c .before .before .before .before .before .before .before .before .before .before .before .before .before .before .before .before .before .before .before .before .before .before .before .before .before .before .before .before .before .args .single) (c .before .before .before .before .before .before .before .before .before .before .before .before .before .before .before .before .before .before .before .before .before .before .before .before .before .before .before .before .before .args .rep .now) (c .before .before .before .before .before .before .before .before .before .before .before .before .before .before .before .before .before .before .before .before .before .before .before .before .before .before .before .before .before .args .link .now) (c .before .before .before .before .before .before .before .before .before .before .before .before .before .before .before .before .before .before .before .before .before .before .before .before .before .before .before .before .before .args .reach .now) (c .before .before .before .before .before .before .before .before .before .before .before .before .before .before .before .before .before .before .before .before .before .before .before .before .before .before .before .before .before .args .link2 .now) (c .before .before .before .before .before .before .before .before .before .before .before .before .before .before .before .before .before .before .before .before .before .before .before .before .before .before .before .before .before .args .reach2 .now) (c .before .before .before .before .before .before .before .before .before .before .before .before .before .before .before .before .before .before .before .before .before .before .before .before .before .before .before .before .before .args .link3 .now) (c .before .before .before .before .before .before .before .before .before .before .before .before .before .before .before .before .before .before .before .before .before .before .before .before .before .before .before .before .before .args .reach3 .now) (c .before .before .before .before .before .before .before .before .before .before .before .before .before .before .before .before .before .before .before .before .before .before .before .before .before .before .before .before .before .args .kept .now) (c .before .before .before .before .before .before .before .before .before .before .before .before .before .before .before .before .before .before .before .before .before .before .before .before .before .before .before .before .before .args .replaced .now) (c .before .before .before .before .before .before .before .before .before .before .before .before .before .before .before .before .before .before .before .before .before .before .before .before .before .before .before .before .before .args .count)) _ (c .before .before .before .before .before .before .before .before .before .before .before .before .before .before .before .before .join-others .ensures .0) _ _ (c .before .before .before .before .before .before .before .before .before .before .before .before .before .before .read-rep .ensures) (c .before .before .before .before .before .before .before .before .before .before .add-links .ensures .0 _ _ _ _) _ (c .settle .ensures .0) (p .0 .terms-within) _ refl (c .before .before .before .before .before .before .before .before .before .before .before .before .before .before .before .before .join-others .ensures .1 .0)), w .0, w .1, w .2),
+      c .settle .ensures .0 ∙ nil-whole (said (c .before .before .before .before .before .before .before .before .before .before .before .before .before .before .before .before .before .before .before .args .layout) (c .before .before .before .before .before .before .before .before .before .before .before .before .before .before .before .before .before .before .before .args .query .now) .entries) (c .before .before .before .before .before .before .before .before .before .before .before .before .before .before .before .before .before .before .before .args .layout .terms) (c .before .before .before .before .before .before .before .before .before .before .before .before .before .before .before .before .before .next-nil .result) (c .before .before .before .before .before .before .before .before .before .before .before .before .before .before .before .before .before .next-nil .ensures) below (joinedIn (c .before .before .before .before .before .before .before .before .before .before .before .before .before .before .before .before .before .before .before .args .single) (c .before .before .before .before .before .before .before .before .before .before .before .before .before .before .before .before .before .before .before .args .rep .now) (c .before .before .before .before .before .before .before .before .before .before .before .before .before .before .before .before .before .before .before .args .link .now) (c .before .before .before .before .before .before .before .before .before .before .before .before .before .before .before .before .before .before .before .args .reach .now) (c .before .before .before .before .before .before .before .before .before .before .before .before .before .before .before .before .before .before .before .args .kept .now) (c .before .before .before .before .before .before .before .before .before .before .before .before .before .before .before .before .before .before .before .args .replaced .now) (c .before .before .before .before .before .before .before .before .before .before .before .before .before .before .before .before .before .before .before .args .count)) _ (c .before .before .before .before .before .before .before .before .before .before .join-others .ensures .0) _ _ (c .before .before .before .before .before .before .before .before .read-rep .ensures) (c .before .before .before .before .before .before .add-links .ensures .0 _ _),
+      (rep-bounded _ _ refl (nil-settled (said (c .before .before .before .before .before .before .before .before .before .before .before .before .before .before .before .before .before .before .before .args .layout) (c .before .before .before .before .before .before .before .before .before .before .before .before .before .before .before .before .before .before .before .args .query .now) .entries) (c .before .before .before .before .before .before .before .before .before .before .before .before .before .before .before .before .before .before .before .args .layout .terms) (c .before .before .before .before .before .before .before .before .before .before .before .before .before .before .before .before .before .next-nil .result) (c .before .before .before .before .before .before .before .before .before .before .before .before .before .before .before .before .before .next-nil .ensures) below (joinedIn (c .before .before .before .before .before .before .before .before .before .before .before .before .before .before .before .before .before .before .before .args .single) (c .before .before .before .before .before .before .before .before .before .before .before .before .before .before .before .before .before .before .before .args .rep .now) (c .before .before .before .before .before .before .before .before .before .before .before .before .before .before .before .before .before .before .before .args .link .now) (c .before .before .before .before .before .before .before .before .before .before .before .before .before .before .before .before .before .before .before .args .reach .now) (c .before .before .before .before .before .before .before .before .before .before .before .before .before .before .before .before .before .before .before .args .kept .now) (c .before .before .before .before .before .before .before .before .before .before .before .before .before .before .before .before .before .before .before .args .replaced .now) (c .before .before .before .before .before .before .before .before .before .before .before .before .before .before .before .before .before .before .before .args .count)) _ (c .before .before .before .before .before .before .before .before .before .before .join-others .ensures .0) _ _ (c .before .before .before .before .before .before .before .before .read-rep .ensures) (c .before .before .before .before .before .before .add-links .ensures .0 _ _) _ (c .settle .ensures .0) (p .0 .terms-within) _ refl (c .before .before .before .before .before .before .before .before .before .before .join-others .ensures .1 .0)), w .0, w .1, w .2),
     )))

@@ -34,14 +34,14 @@ descend-spec =
     let p = c .before .before .pre in
     (record { reach = p .3; most = p .4; has-heap = p .5; ends = λ u e. e }, p .6))
     -- look-requires
-    (λ c κs. c .before .before .before .before .before .before .before .before .before .before .before .pre .0)
+    (λ c κs. c .before .before .before .before .before .before .before .pre .0)
     -- enum-told
     (λ c. search needs)
     -- returns
     (λ c.
-    let a = c .before .before .before .before .before .before .before .before .before .before .before .before .before .before .args in
-    let p = c .before .before .before .before .before .before .before .before .before .before .before .before .before .before .pre in
-    let o = c .before .before .before .before .before .before .before .before .before .before .before .loop in
+    let a = c .before .before .before .before .before .before .before .before .before .before .args in
+    let p = c .before .before .before .before .before .before .before .before .before .before .pre in
+    let o = c .before .before .before .before .before .before .before .loop in
     let q = said (a .layout) (a .query .now) in
     let g = orderOf (a .order .now) in
     let s = pathOf (o .path) in
@@ -50,9 +50,9 @@ descend-spec =
     (λ c. search needs)
     -- returns-2
     (λ c.
-    let a = c .before .before .before .before .before .before .before .before .before .before .before .before .before .before .args in
-    let p = c .before .before .before .before .before .before .before .before .before .before .before .before .before .before .pre in
-    let o = c .before .before .before .before .before .before .before .before .before .before .before .loop in
+    let a = c .before .before .before .before .before .before .before .before .before .before .args in
+    let p = c .before .before .before .before .before .before .before .before .before .before .pre in
+    let o = c .before .before .before .before .before .before .before .loop in
     let q = said (a .layout) (a .query .now) in
     let g = orderOf (a .order .now) in
     let s = pathOf (o .path) in
@@ -61,9 +61,9 @@ descend-spec =
     (λ c. search needs)
     -- first-open-requires
     (λ c κs.
-    let a = c .before .before .before .before .before .before .before .before .before .before .before .before .before .before .before .args in
-    let p = c .before .before .before .before .before .before .before .before .before .before .before .before .before .before .before .pre in
-    let o = c .before .before .before .before .before .before .before .before .before .before .before .before .loop in
+    let a = c .before .before .before .before .before .before .before .before .before .before .before .args in
+    let p = c .before .before .before .before .before .before .before .before .before .before .before .pre in
+    let o = c .before .before .before .before .before .before .before .before .loop in
     let q = said (a .layout) (a .query .now) in
     let g = orderOf (a .order .now) in
     let s = pathOf (o .path) in
@@ -72,9 +72,9 @@ descend-spec =
     (p .0, p .1, p .2, o .inv .0 .reach, o .inv .0 .most, o .inv .0 .has-heap, o .inv .1, h))
     -- sub-steps
     (λ c.
-    let a = c .before .before .before .before .before .before .before .before .before .before .before .before .before .before .before .before .before .before .args in
-    let p = c .before .before .before .before .before .before .before .before .before .before .before .before .before .before .before .before .before .before .pre in
-    let o = c .before .before .before .before .before .before .before .before .before .before .before .before .before .before .before .loop in
+    let a = c .before .before .before .before .before .before .before .before .before .before .before .before .before .before .args in
+    let p = c .before .before .before .before .before .before .before .before .before .before .before .before .before .before .pre in
+    let o = c .before .before .before .before .before .before .before .before .before .before .before .loop in
     let q = said (a .layout) (a .query .now) in
     let g = orderOf (a .order .now) in
     let s = pathOf (o .path) in
@@ -83,9 +83,9 @@ descend-spec =
     some-left {q = q} (a .order .now) (p .1) (p .2) (o .steps) s (reachable-known q (p .1) s (o .inv .0 .reach)) (o .inv .0 .most) (a .layout .terms) (sym (terms-said (a .layout) (a .query .now) (p .0))) (m .0 .0) (kindOf (m .1 .0)) (m .1 .1 .0 .0) (m .1 .1 .1 .0 .0) (m .1 .1 .1 .1 .0 .0) h)
     -- loop-less
     (λ c.
-    let a = c .before .before .before .before .before .before .before .before .before .before .before .before .before .before .before .before .before .before .args in
-    let p = c .before .before .before .before .before .before .before .before .before .before .before .before .before .before .before .before .before .before .pre in
-    let o = c .before .before .before .before .before .before .before .before .before .before .before .before .before .before .before .loop in
+    let a = c .before .before .before .before .before .before .before .before .before .before .before .before .before .before .args in
+    let p = c .before .before .before .before .before .before .before .before .before .before .before .before .before .before .pre in
+    let o = c .before .before .before .before .before .before .before .before .before .before .before .loop in
     let q = said (a .layout) (a .query .now) in
     let g = orderOf (a .order .now) in
     let s = pathOf (o .path) in
@@ -94,9 +94,9 @@ descend-spec =
     less-left (o .steps) (o .steps) (some-left {q = q} (a .order .now) (p .1) (p .2) (o .steps) s (reachable-known q (p .1) s (o .inv .0 .reach)) (o .inv .0 .most) (a .layout .terms) (sym (terms-said (a .layout) (a .query .now) (p .0))) (m .0 .0) (kindOf (m .1 .0)) (m .1 .1 .0 .0) (m .1 .1 .1 .0 .0) (m .1 .1 .1 .1 .0 .0) h) refl)
     -- loop-again
     (λ c.
-    let a = c .before .before .before .before .before .before .before .before .before .before .before .before .before .before .before .before .before .before .args in
-    let p = c .before .before .before .before .before .before .before .before .before .before .before .before .before .before .before .before .before .before .pre in
-    let o = c .before .before .before .before .before .before .before .before .before .before .before .before .before .before .before .loop in
+    let a = c .before .before .before .before .before .before .before .before .before .before .before .before .before .before .args in
+    let p = c .before .before .before .before .before .before .before .before .before .before .before .before .before .before .pre in
+    let o = c .before .before .before .before .before .before .before .before .before .before .before .loop in
     let q = said (a .layout) (a .query .now) in
     let g = orderOf (a .order .now) in
     let s = pathOf (o .path) in

@@ -15,4 +15,4 @@ total-first-spec =
     -- choose-requires
     (λ c κs. search needs)
     -- returns
-    (λ c. chosen-picks _ (c .before .before .before .before .before .before .before .before .before .before .pre) _ total-order _ (c .choose .result) (c .choose .ensures)))
+    (λ c. chosen-picks _ (c .before .before .before .before .before .before .pre) _ total-order _ (c .choose .result) (c .choose .ensures)))

@@ -33,22 +33,22 @@ use Rattle.plain_steps.proofs.spent.Reads as spent-reads
 use Rattle.plain_steps.proofs.+plain_in.{statement}
 use Rattle.plain_steps.proofs.+plain_in.Tie.{close}
 
-abbrev μ-plain-in : Measures 9 plain-in-kinds.ps ℕ
+abbrev μ-plain-in : Measures 5 plain-in-kinds.ps ℕ
 μ-plain-in κs a = a .1 .1 .1 .0
 
-abbrev plain-in-at : ℕ → In 9 plain-in-kinds.ps
-plain-in-at t = and 9 plain-in-kinds.ps (is 9 plain-in-kinds.ps μ-plain-in t) plain-in.Pre
+abbrev plain-in-at : ℕ → In 5 plain-in-kinds.ps
+plain-in-at t = and 5 plain-in-kinds.ps (is 5 plain-in-kinds.ps μ-plain-in t) plain-in.Pre
 
-abbrev plain-in-below : ℕ → In 9 plain-in-kinds.ps
-plain-in-below t = and 9 plain-in-kinds.ps (falls 9 plain-in-kinds.ps _<_ μ-plain-in t) plain-in.Pre
+abbrev plain-in-below : ℕ → In 5 plain-in-kinds.ps
+plain-in-below t = and 5 plain-in-kinds.ps (falls 5 plain-in-kinds.ps _<_ μ-plain-in t) plain-in.Pre
 
 -- the arrays are those that were looked at: where they are written, the loop is left
 abbrev plain-in-Inv-loop : plain-in-lts.InvT-loop
-plain-in-Inv-loop query layout order left single rep₀ link₀ reach₀ link2₀ reach2₀ link3₀ reach3₀ limited budget n k rule x y z total fuel₀ i₀ rep link reach link2 reach2 link3 reach3 fuel i =
-    (i ≤ total) × Struck (said layout query) (pathAs single rep₀ link₀ reach₀ link2₀ reach2₀ link3₀ reach3₀) (move (k .0) (kindOf rule) (triple (x .0) (y .0) (z .0))) i × (pathAs single rep link reach link2 reach2 link3 reach3 ≡ pathAs single rep₀ link₀ reach₀ link2₀ reach2₀ link3₀ reach3₀) × Whole rep link reach link2 reach2 link3 reach3
+plain-in-Inv-loop query layout order left single rep₀ link₀ reach₀ limited budget n k rule x y z total fuel₀ i₀ rep link reach fuel i =
+    (i ≤ total) × Struck (said layout query) (pathAs single rep₀ link₀ reach₀) (move (k .0) (kindOf rule) (triple (x .0) (y .0) (z .0))) i × (pathAs single rep link reach ≡ pathAs single rep₀ link₀ reach₀) × Whole rep link reach
 
 abbrev plain-in-μ-loop : plain-in-lts.MeasureT-loop
-plain-in-μ-loop query layout order left single rep₀ link₀ reach₀ link2₀ reach2₀ link3₀ reach3₀ limited budget n k rule x y z total fuel₀ i₀ rep link reach link2 reach2 link3 reach3 fuel i = total - i
+plain-in-μ-loop query layout order left single rep₀ link₀ reach₀ limited budget n k rule x y z total fuel₀ i₀ rep link reach fuel i = total - i
 
 pub +plain-in-spec : {M : Type 1} → statement M
 +plain-in-spec = close μ-plain-in λ t. plain-in-lts.spec (
@@ -72,37 +72,37 @@ pub +plain-in-spec : {M : Type 1} → statement M
     plain-in-Inv-loop
     plain-in-μ-loop
     -- close-ahead-requires
-    (λ c κs. let p = c .before .before .before .before .before .before .before .before .before .pre .1 in (p .0 .terms-within, order-long _ (p .2), p .5 .of-reach, p .5 .of-reach2, p .5 .of-reach3))
+    (λ c κs. let p = c .before .before .before .before .before .pre .1 in (p .0 .terms-within, order-long _ (p .2), p .5 .of-reach))
     -- look-ahead-requires
-    (λ c κs. let p = c .before .before .before .before .before .before .before .before .before .before .before .before .before .before .before .before .before .pre .1 in (p .0, order-long _ (p .2), λ b. c .before .before .before .before .before .before .before .close-ahead .ensures .0 .0 b .1))
+    (λ c κs. let p = c .before .before .before .before .before .before .before .before .before .pre .1 in (p .0, order-long _ (p .2), λ b. c .before .before .before .close-ahead .ensures .0 .0 b .1))
     -- enum-told
     (λ c. search needs)
     -- spent-requires
     (λ c κs. search needs)
     -- returns
     (λ c.
-    let a = c .before .before .before .before .before .before .before .before .before .before .before .before .before .before .before .before .before .before .before .before .before .args in
-    let p = c .before .before .before .before .before .before .before .before .before .before .before .before .before .before .before .before .before .before .before .before .before .pre .1 in
+    let a = c .before .before .before .before .before .before .before .before .before .before .before .before .before .args in
+    let p = c .before .before .before .before .before .before .before .before .before .before .before .before .before .pre .1 in
     let q = said (a .layout) (a .query .now) in
-    let s = pathAs (a .single) (a .rep .now) (a .link .now) (a .reach .now) (a .link2 .now) (a .reach2 .now) (a .link3 .now) (a .reach3 .now) in
-    let r = c .before .before .before .before .before .before .before .before .before .before .before .close-ahead .last in
-    let t = pathAs (a .single) (a .rep .now) (a .link .now) (r .1 .1 .1 .1 .0) (a .link2 .now) (r .1 .1 .1 .1 .1 .1 .0) (a .link3 .now) (r .1 .1 .1 .1 .1 .1 .1 .1 .0) in
+    let s = pathAs (a .single) (a .rep .now) (a .link .now) (a .reach .now) in
+    let r = c .before .before .before .before .before .before .before .close-ahead .last in
+    let t = pathAs (a .single) (a .rep .now) (a .link .now) (r .1 .1 .1 .1 .0) in
     let l = look q (orderOf (a .order .now)) t in
-    (front-saturated {q = q} (a .order .now) (p .1) (p .2) (a .left) s t (p .3) (p .4) (a .layout .terms) (sym (terms-said (a .layout) (a .query .now) (p .0))) (c .before .before .before .before .before .before .before .before .before .before .before .close-ahead .ensures .0) (look-is (c .before .before .before .look-ahead .result) seen.Saturated l (c .before .before .before .look-ahead .ensures) (c .before .enum-told .given .1)) (a .limited), record { of-rep = p .5 .of-rep; of-link = p .5 .of-link; of-reach = c .before .before .before .before .before .before .before .before .before .before .before .close-ahead .ensures .1; of-link2 = p .5 .of-link2; of-reach2 = c .before .before .before .before .before .before .before .before .before .before .before .close-ahead .ensures .2; of-link3 = p .5 .of-link3; of-reach3 = c .before .before .before .before .before .before .before .before .before .before .before .close-ahead .ensures .3 }))
+    (front-saturated {q = q} (a .order .now) (p .1) (p .2) (a .left) s t (p .3) (p .4) (a .layout .terms) (sym (terms-said (a .layout) (a .query .now) (p .0))) (c .before .before .before .before .before .before .before .close-ahead .ensures .0) (look-is (c .before .before .before .look-ahead .result) seen.Saturated l (c .before .before .before .look-ahead .ensures) (c .before .enum-told .given .1)) (a .limited), record { of-rep = p .5 .of-rep; of-link = p .5 .of-link; of-reach = c .before .before .before .before .before .before .before .close-ahead .ensures .1 }))
     -- enum-told-2
     (λ c. search needs)
     -- spent-requires-2
     (λ c κs. search needs)
     -- returns-2
     (λ c.
-    let a = c .before .before .before .before .before .before .before .before .before .before .before .before .before .before .before .before .before .before .before .before .before .args in
-    let p = c .before .before .before .before .before .before .before .before .before .before .before .before .before .before .before .before .before .before .before .before .before .pre .1 in
+    let a = c .before .before .before .before .before .before .before .before .before .before .before .before .before .args in
+    let p = c .before .before .before .before .before .before .before .before .before .before .before .before .before .pre .1 in
     let q = said (a .layout) (a .query .now) in
-    let s = pathAs (a .single) (a .rep .now) (a .link .now) (a .reach .now) (a .link2 .now) (a .reach2 .now) (a .link3 .now) (a .reach3 .now) in
-    let r = c .before .before .before .before .before .before .before .before .before .before .before .close-ahead .last in
-    let t = pathAs (a .single) (a .rep .now) (a .link .now) (r .1 .1 .1 .1 .0) (a .link2 .now) (r .1 .1 .1 .1 .1 .1 .0) (a .link3 .now) (r .1 .1 .1 .1 .1 .1 .1 .1 .0) in
+    let s = pathAs (a .single) (a .rep .now) (a .link .now) (a .reach .now) in
+    let r = c .before .before .before .before .before .before .before .close-ahead .last in
+    let t = pathAs (a .single) (a .rep .now) (a .link .now) (r .1 .1 .1 .1 .0) in
     let l = look q (orderOf (a .order .now)) t in
-    (front-clash {q = q} (a .order .now) (p .1) (p .2) (a .left) s t (p .3) (p .4) (a .layout .terms) (sym (terms-said (a .layout) (a .query .now) (p .0))) (c .before .before .before .before .before .before .before .before .before .before .before .close-ahead .ensures .0) _ (look-is (c .before .before .before .look-ahead .result) _ l (c .before .before .before .look-ahead .ensures) (c .before .enum-told2 .given .1)) (a .limited) t, record { of-rep = p .5 .of-rep; of-link = p .5 .of-link; of-reach = c .before .before .before .before .before .before .before .before .before .before .before .close-ahead .ensures .1; of-link2 = p .5 .of-link2; of-reach2 = c .before .before .before .before .before .before .before .before .before .before .before .close-ahead .ensures .2; of-link3 = p .5 .of-link3; of-reach3 = c .before .before .before .before .before .before .before .before .before .before .before .close-ahead .ensures .3 }))
+    (front-clash {q = q} (a .order .now) (p .1) (p .2) (a .left) s t (p .3) (p .4) (a .layout .terms) (sym (terms-said (a .layout) (a .query .now) (p .0))) (c .before .before .before .before .before .before .before .close-ahead .ensures .0) _ (look-is (c .before .before .before .look-ahead .result) _ l (c .before .before .before .look-ahead .ensures) (c .before .enum-told2 .given .1)) (a .limited) t, record { of-rep = p .5 .of-rep; of-link = p .5 .of-link; of-reach = c .before .before .before .before .before .before .before .close-ahead .ensures .1 }))
     -- enum-known-k
     (λ c. search needs)
     -- count-requires
@@ -110,121 +110,121 @@ pub +plain-in-spec : {M : Type 1} → statement M
     -- spent-requires-3
     (λ c κs. search needs)
     -- loop-holds
-    (λ c. let p = c .before .before .before .before .before .before .before .before .before .before .before .before .before .before .before .before .before .before .before .before .before .before .before .pre .1 in (omega arith, struck-none _ _ _ _ refl, refl, record { of-rep = p .5 .of-rep; of-link = p .5 .of-link; of-reach = c .before .before .before .before .before .before .before .before .before .before .before .before .before .close-ahead .ensures .1; of-link2 = p .5 .of-link2; of-reach2 = c .before .before .before .before .before .before .before .before .before .before .before .before .before .close-ahead .ensures .2; of-link3 = p .5 .of-link3; of-reach3 = c .before .before .before .before .before .before .before .before .before .before .before .before .before .close-ahead .ensures .3 }))
+    (λ c. let p = c .before .before .before .before .before .before .before .before .before .before .before .before .before .before .before .pre .1 in (omega arith, struck-none _ _ _ _ refl, refl, record { of-rep = p .5 .of-rep; of-link = p .5 .of-link; of-reach = c .before .before .before .before .before .before .before .before .before .close-ahead .ensures .1 }))
     -- returns-3
     (λ c.
-    let a = c .before .before .before .before .before .before .before .before .before .before .before .before .before .before .before .before .before .before .before .before .before .before .before .before .before .before .args in
-    let p = c .before .before .before .before .before .before .before .before .before .before .before .before .before .before .before .before .before .before .before .before .before .before .before .before .before .before .pre .1 in
+    let a = c .before .before .before .before .before .before .before .before .before .before .before .before .before .before .before .before .before .before .args in
+    let p = c .before .before .before .before .before .before .before .before .before .before .before .before .before .before .before .before .before .before .pre .1 in
     let o = c .before .before .loop in
-    (walks-nothing {q = said (a .layout) (a .query .now)} (a .order .now) (p .1) (a .left) (pathAs (a .single) (a .rep .now) (a .link .now) (a .reach .now) (a .link2 .now) (a .reach2 .now) (a .link3 .now) (a .reach3 .now)) (p .3) (a .limited) (pathAs (a .single) (o .rep) (o .link) (o .reach) (o .link2) (o .reach2) (o .link3) (o .reach3)) (both-left _ _ (c .if1 .taken)), o .inv .3))
+    (walks-nothing {q = said (a .layout) (a .query .now)} (a .order .now) (p .1) (a .left) (pathAs (a .single) (a .rep .now) (a .link .now) (a .reach .now)) (p .3) (a .limited) (pathAs (a .single) (o .rep) (o .link) (o .reach)) (both-left _ _ (c .if1 .taken)), o .inv .3))
     -- take-requires
     (λ c κs.
-    let a = c .before .before .before .before .before .before .before .before .before .before .before .before .before .before .before .before .before .before .before .before .before .before .before .before .before .before .before .before .before .before .before .before .before .before .before .before .before .before .before .before .args in
-    let p = c .before .before .before .before .before .before .before .before .before .before .before .before .before .before .before .before .before .before .before .before .before .before .before .before .before .before .before .before .before .before .before .before .before .before .before .before .before .before .before .before .pre .1 in
+    let a = c .before .before .before .before .before .before .before .before .before .before .before .before .before .before .before .before .before .before .before .before .before .before .before .before .args in
+    let p = c .before .before .before .before .before .before .before .before .before .before .before .before .before .before .before .before .before .before .before .before .before .before .before .before .pre .1 in
     let q = said (a .layout) (a .query .now) in
-    let s = pathAs (a .single) (a .rep .now) (a .link .now) (a .reach .now) (a .link2 .now) (a .reach2 .now) (a .link3 .now) (a .reach3 .now) in
-    let r = c .before .before .before .before .before .before .before .before .before .before .before .before .before .before .before .before .before .before .before .before .before .before .before .before .before .before .before .before .before .before .close-ahead .last in
-    let t = pathAs (a .single) (a .rep .now) (a .link .now) (r .1 .1 .1 .1 .0) (a .link2 .now) (r .1 .1 .1 .1 .1 .1 .0) (a .link3 .now) (r .1 .1 .1 .1 .1 .1 .1 .1 .0) in
+    let s = pathAs (a .single) (a .rep .now) (a .link .now) (a .reach .now) in
+    let r = c .before .before .before .before .before .before .before .before .before .before .before .before .before .before .before .before .before .before .close-ahead .last in
+    let t = pathAs (a .single) (a .rep .now) (a .link .now) (r .1 .1 .1 .1 .0) in
     let l = look q (orderOf (a .order .now)) t in
-    let m = c .before .before .before .before .before .before .before .before .before .before .before .before .before .before .before .before .before .before .before .before .k .given .0 in
-    let h = look-is (c .before .before .before .before .before .before .before .before .before .before .before .before .before .before .before .before .before .before .before .before .before .before .look-ahead .result) (seen.Applying (m .0) (m .1 .0) (m .1 .1 .0) (m .1 .1 .1 .0) (m .1 .1 .1 .1 .0)) l (c .before .before .before .before .before .before .before .before .before .before .before .before .before .before .before .before .before .before .before .before .before .before .look-ahead .ensures) (c .before .before .before .before .before .before .before .before .before .before .before .before .before .before .before .before .before .before .before .before .k .given .1) in
+    let m = c .before .before .before .before .before .before .before .before .before .before .before .before .k .given .0 in
+    let h = look-is (c .before .before .before .before .before .before .before .before .before .before .before .before .before .before .look-ahead .result) (seen.Applying (m .0) (m .1 .0) (m .1 .1 .0) (m .1 .1 .1 .0) (m .1 .1 .1 .1 .0)) l (c .before .before .before .before .before .before .before .before .before .before .before .before .before .before .look-ahead .ensures) (c .before .before .before .before .before .before .before .before .before .before .before .before .k .given .1) in
     let f = move-fits (a .query .now) (a .layout) (p .0) (orderOf (a .order .now)) t (m .0 .0) (kindOf (m .1 .0)) (m .1 .1 .0 .0) (m .1 .1 .1 .0 .0) (m .1 .1 .1 .1 .0 .0) h in
-    let o = c .before .before .before .before .before .before .before .before .before .before .before .before .before .before .before .before .loop in
-    (p .0 .terms-within, same-linked (pathAs (a .single) (o .rep) (o .link) (o .reach) (o .link2) (o .reach2) (o .link3) (o .reach3)) t (o .inv .2) (m .0 .0) (move-linked q (orderOf (a .order .now)) t (m .0 .0) (kindOf (m .1 .0)) (m .1 .1 .0 .0) (m .1 .1 .1 .0 .0) (m .1 .1 .1 .1 .0 .0) h), f .0, f .1, f .2, o .inv .3))
+    let o = c .before .before .before .before .before .before .before .before .loop in
+    (p .0 .terms-within, same-linked (pathAs (a .single) (o .rep) (o .link) (o .reach)) t (o .inv .2) (m .0 .0) (move-linked q (orderOf (a .order .now)) t (m .0 .0) (kindOf (m .1 .0)) (m .1 .1 .0 .0) (m .1 .1 .1 .0 .0) (m .1 .1 .1 .1 .0 .0) h), f .0, f .1, f .2, o .inv .3))
     -- sub-plain-in
-    (λ c.
-    let a = c .before .before .before .before .before .before .before .before .before .before .before .before .before .before .before .before .before .before .before .before .before .before .before .before .before .before .before .before .before .before .before .before .before .before .before .before .before .before .before .before .before .args in
-    let p = c .before .before .before .before .before .before .before .before .before .before .before .before .before .before .before .before .before .before .before .before .before .before .before .before .before .before .before .before .before .before .before .before .before .before .before .before .before .before .before .before .before .pre .1 in
-    let q = said (a .layout) (a .query .now) in
-    let s = pathAs (a .single) (a .rep .now) (a .link .now) (a .reach .now) (a .link2 .now) (a .reach2 .now) (a .link3 .now) (a .reach3 .now) in
-    let r = c .before .before .before .before .before .before .before .before .before .before .before .before .before .before .before .before .before .before .before .before .before .before .before .before .before .before .before .before .before .before .before .close-ahead .last in
-    let t = pathAs (a .single) (a .rep .now) (a .link .now) (r .1 .1 .1 .1 .0) (a .link2 .now) (r .1 .1 .1 .1 .1 .1 .0) (a .link3 .now) (r .1 .1 .1 .1 .1 .1 .1 .1 .0) in
-    let l = look q (orderOf (a .order .now)) t in
-    let m = c .before .before .before .before .before .before .before .before .before .before .before .before .before .before .before .before .before .before .before .before .before .k .given .0 in
-    let h = look-is (c .before .before .before .before .before .before .before .before .before .before .before .before .before .before .before .before .before .before .before .before .before .before .before .look-ahead .result) (seen.Applying (m .0) (m .1 .0) (m .1 .1 .0) (m .1 .1 .1 .0) (m .1 .1 .1 .1 .0)) l (c .before .before .before .before .before .before .before .before .before .before .before .before .before .before .before .before .before .before .before .before .before .before .before .look-ahead .ensures) (c .before .before .before .before .before .before .before .before .before .before .before .before .before .before .before .before .before .before .before .before .before .k .given .1) in
-    front-left {q = q} (a .order .now) (p .1) (p .2) (a .left) s t (p .3) (p .4) (a .layout .terms) (sym (terms-said (a .layout) (a .query .now) (p .0))) (c .before .before .before .before .before .before .before .before .before .before .before .before .before .before .before .before .before .before .before .before .before .before .before .before .before .before .before .before .before .before .before .close-ahead .ensures .0) (m .0 .0) (kindOf (m .1 .0)) (m .1 .1 .0 .0) (m .1 .1 .1 .0 .0) (m .1 .1 .1 .1 .0 .0) h)
-    -- plain-in-requires
-    (λ c κs.
-    let a = c .before .before .before .before .before .before .before .before .before .before .before .before .before .before .before .before .before .before .before .before .before .before .before .before .before .before .before .before .before .before .before .before .before .before .before .before .before .before .before .before .before .before .before .before .before .before .before .before .args in
-    let p = c .before .before .before .before .before .before .before .before .before .before .before .before .before .before .before .before .before .before .before .before .before .before .before .before .before .before .before .before .before .before .before .before .before .before .before .before .before .before .before .before .before .before .before .before .before .before .before .before .pre .1 in
-    let q = said (a .layout) (a .query .now) in
-    let s = pathAs (a .single) (a .rep .now) (a .link .now) (a .reach .now) (a .link2 .now) (a .reach2 .now) (a .link3 .now) (a .reach3 .now) in
-    let r = c .before .before .before .before .before .before .before .before .before .before .before .before .before .before .before .before .before .before .before .before .before .before .before .before .before .before .before .before .before .before .before .before .before .before .before .before .before .before .close-ahead .last in
-    let t = pathAs (a .single) (a .rep .now) (a .link .now) (r .1 .1 .1 .1 .0) (a .link2 .now) (r .1 .1 .1 .1 .1 .1 .0) (a .link3 .now) (r .1 .1 .1 .1 .1 .1 .1 .1 .0) in
-    let l = look q (orderOf (a .order .now)) t in
-    let m = c .before .before .before .before .before .before .before .before .before .before .before .before .before .before .before .before .before .before .before .before .before .before .before .before .before .before .before .before .k .given .0 in
-    let h = look-is (c .before .before .before .before .before .before .before .before .before .before .before .before .before .before .before .before .before .before .before .before .before .before .before .before .before .before .before .before .before .before .look-ahead .result) (seen.Applying (m .0) (m .1 .0) (m .1 .1 .0) (m .1 .1 .1 .0) (m .1 .1 .1 .1 .0)) l (c .before .before .before .before .before .before .before .before .before .before .before .before .before .before .before .before .before .before .before .before .before .before .before .before .before .before .before .before .before .before .look-ahead .ensures) (c .before .before .before .before .before .before .before .before .before .before .before .before .before .before .before .before .before .before .before .before .before .before .before .before .before .before .before .before .k .given .1) in
-    let o = c .before .before .before .before .before .before .before .before .before .before .before .before .before .before .before .before .before .before .before .before .before .before .before .before .loop in
-    let here = subst (λ (j : ℕ). o .i < j) (c .before .before .before .before .before .before .before .before .before .before .before .before .before .before .before .before .before .before .before .before .before .before .before .before .before .before .count .ensures) (c .before .before .before .before .before .before .before .before .before .before .before .before .before .before .before .before .before .before .before .before .before .before .before .loop-test .taken) in
-    let e = c .before .before .before .before .before .before .before .take .last in
-    let u = pathAs (a .single) (e .1 .0) (e .1 .1 .0) (e .1 .1 .1 .0) (e .1 .1 .1 .1 .0) (e .1 .1 .1 .1 .1 .0) (e .1 .1 .1 .1 .1 .1 .0) (e .1 .1 .1 .1 .1 .1 .1 .0) in
-    let g = front-next {q = q} (a .order .now) (p .1) (p .2) (a .left) s t (p .3) (p .4) (a .layout .terms) (sym (terms-said (a .layout) (a .query .now) (p .0))) (c .before .before .before .before .before .before .before .before .before .before .before .before .before .before .before .before .before .before .before .before .before .before .before .before .before .before .before .before .before .before .before .before .before .before .before .before .before .before .close-ahead .ensures .0) (m .0 .0) (kindOf (m .1 .0)) (m .1 .1 .0 .0) (m .1 .1 .1 .0 .0) (m .1 .1 .1 .1 .0 .0) h (pathAs (a .single) (o .rep) (o .link) (o .reach) (o .link2) (o .reach2) (o .link3) (o .reach3)) (o .inv .2) (o .i) here u (c .before .before .before .before .before .before .before .take .ensures .0) in
-    (less-left (a .left) _ (g .0) (c .before .before .before .before .before .before .before .before .before .before .before .before .before .before .before .before .before .before .before .before .before .before .before .before .before .before .before .before .before .before .before .before .before .before .before .before .before .before .before .before .before .before .before .before .before .before .before .before .pre .0), (p .0, p .1, p .2, g .1, g .2, c .before .before .before .before .before .before .before .take .ensures .1)))
-    -- is-refuted-requires
-    (λ c κs. search needs)
-    -- returns-4
-    (λ c.
-    let a = c .before .before .before .before .before .before .before .before .before .before .before .before .before .before .before .before .before .before .before .before .before .before .before .before .before .before .before .before .before .before .before .before .before .before .before .before .before .before .before .before .before .before .before .before .before .before .before .before .before .before .before .args in
-    let p = c .before .before .before .before .before .before .before .before .before .before .before .before .before .before .before .before .before .before .before .before .before .before .before .before .before .before .before .before .before .before .before .before .before .before .before .before .before .before .before .before .before .before .before .before .before .before .before .before .before .before .before .pre .1 in
-    let q = said (a .layout) (a .query .now) in
-    let s = pathAs (a .single) (a .rep .now) (a .link .now) (a .reach .now) (a .link2 .now) (a .reach2 .now) (a .link3 .now) (a .reach3 .now) in
-    let r = c .before .before .before .before .before .before .before .before .before .before .before .before .before .before .before .before .before .before .before .before .before .before .before .before .before .before .before .before .before .before .before .before .before .before .before .before .before .before .before .before .before .close-ahead .last in
-    let t = pathAs (a .single) (a .rep .now) (a .link .now) (r .1 .1 .1 .1 .0) (a .link2 .now) (r .1 .1 .1 .1 .1 .1 .0) (a .link3 .now) (r .1 .1 .1 .1 .1 .1 .1 .1 .0) in
-    let l = look q (orderOf (a .order .now)) t in
-    let m = c .before .before .before .before .before .before .before .before .before .before .before .before .before .before .before .before .before .before .before .before .before .before .before .before .before .before .before .before .before .before .before .k .given .0 in
-    let h = look-is (c .before .before .before .before .before .before .before .before .before .before .before .before .before .before .before .before .before .before .before .before .before .before .before .before .before .before .before .before .before .before .before .before .before .look-ahead .result) (seen.Applying (m .0) (m .1 .0) (m .1 .1 .0) (m .1 .1 .1 .0) (m .1 .1 .1 .1 .0)) l (c .before .before .before .before .before .before .before .before .before .before .before .before .before .before .before .before .before .before .before .before .before .before .before .before .before .before .before .before .before .before .before .before .before .look-ahead .ensures) (c .before .before .before .before .before .before .before .before .before .before .before .before .before .before .before .before .before .before .before .before .before .before .before .before .before .before .before .before .before .before .before .k .given .1) in
-    let o = c .before .before .before .before .before .before .before .before .before .before .before .before .before .before .before .before .before .before .before .before .before .before .before .before .before .before .before .loop in
-    let here = subst (λ (j : ℕ). o .i < j) (c .before .before .before .before .before .before .before .before .before .before .before .before .before .before .before .before .before .before .before .before .before .before .before .before .before .before .before .before .before .count .ensures) (c .before .before .before .before .before .before .before .before .before .before .before .before .before .before .before .before .before .before .before .before .before .before .before .before .before .before .loop-test .taken) in
-    let e = c .before .before .before .before .before .before .before .before .before .before .take .last in
-    let u = pathAs (a .single) (e .1 .0) (e .1 .1 .0) (e .1 .1 .1 .0) (e .1 .1 .1 .1 .0) (e .1 .1 .1 .1 .1 .0) (e .1 .1 .1 .1 .1 .1 .0) (e .1 .1 .1 .1 .1 .1 .1 .0) in
-    let f = c .before .before .plain-in .last in
-    let v = pathAs (a .single) (f .1 .1 .1 .1 .1 .0) (f .1 .1 .1 .1 .1 .1 .0) (f .1 .1 .1 .1 .1 .1 .1 .0) (f .1 .1 .1 .1 .1 .1 .1 .1 .0) (f .1 .1 .1 .1 .1 .1 .1 .1 .1 .0) (f .1 .1 .1 .1 .1 .1 .1 .1 .1 .1 .0) (f .1 .1 .1 .1 .1 .1 .1 .1 .1 .1 .1 .0) in
-    (front-branch {q = q} (a .order .now) (p .1) (p .2) (a .left) s t (p .3) (p .4) (a .layout .terms) (sym (terms-said (a .layout) (a .query .now) (p .0))) (c .before .before .before .before .before .before .before .before .before .before .before .before .before .before .before .before .before .before .before .before .before .before .before .before .before .before .before .before .before .before .before .before .before .before .before .before .before .before .before .before .before .close-ahead .ensures .0) (m .0 .0) (kindOf (m .1 .0)) (m .1 .1 .0 .0) (m .1 .1 .1 .0 .0) (m .1 .1 .1 .1 .0 .0) h (pathAs (a .single) (o .rep) (o .link) (o .reach) (o .link2) (o .reach2) (o .link3) (o .reach3)) (o .inv .2) (o .i) here u (c .before .before .before .before .before .before .before .before .before .before .take .ensures .0) (o .inv .1) (a .limited) (c .before .before .plain-in .result .kind) v (c .before .before .plain-in .ensures .0) (sym (c .before .is-refuted .ensures) ∙ not-true _ (c .if2 .taken)), c .before .before .plain-in .ensures .1))
-    -- add-i
-    (λ c.
-    let a = c .before .before .before .before .before .before .before .before .before .before .before .before .before .before .before .before .before .before .before .before .before .before .before .before .before .before .before .before .before .before .before .before .before .before .before .before .before .before .before .before .before .before .before .before .before .before .before .before .before .before .before .args in
-    let p = c .before .before .before .before .before .before .before .before .before .before .before .before .before .before .before .before .before .before .before .before .before .before .before .before .before .before .before .before .before .before .before .before .before .before .before .before .before .before .before .before .before .before .before .before .before .before .before .before .before .before .before .pre .1 in
-    let q = said (a .layout) (a .query .now) in
-    let s = pathAs (a .single) (a .rep .now) (a .link .now) (a .reach .now) (a .link2 .now) (a .reach2 .now) (a .link3 .now) (a .reach3 .now) in
-    let r = c .before .before .before .before .before .before .before .before .before .before .before .before .before .before .before .before .before .before .before .before .before .before .before .before .before .before .before .before .before .before .before .before .before .before .before .before .before .before .before .before .before .close-ahead .last in
-    let t = pathAs (a .single) (a .rep .now) (a .link .now) (r .1 .1 .1 .1 .0) (a .link2 .now) (r .1 .1 .1 .1 .1 .1 .0) (a .link3 .now) (r .1 .1 .1 .1 .1 .1 .1 .1 .0) in
-    let l = look q (orderOf (a .order .now)) t in
-    let m = c .before .before .before .before .before .before .before .before .before .before .before .before .before .before .before .before .before .before .before .before .before .before .before .before .before .before .before .before .before .before .before .k .given .0 in
-    let h = look-is (c .before .before .before .before .before .before .before .before .before .before .before .before .before .before .before .before .before .before .before .before .before .before .before .before .before .before .before .before .before .before .before .before .before .look-ahead .result) (seen.Applying (m .0) (m .1 .0) (m .1 .1 .0) (m .1 .1 .1 .0) (m .1 .1 .1 .1 .0)) l (c .before .before .before .before .before .before .before .before .before .before .before .before .before .before .before .before .before .before .before .before .before .before .before .before .before .before .before .before .before .before .before .before .before .look-ahead .ensures) (c .before .before .before .before .before .before .before .before .before .before .before .before .before .before .before .before .before .before .before .before .before .before .before .before .before .before .before .before .before .before .before .k .given .1) in
-    let b = c .before .before .before .before .before .before .before .before .before .before .before .before .before .before .before .before .before .before .before .before .before .before .before .before .before .before .loop-test .taken in
-    let f = move-fits (a .query .now) (a .layout) (p .0) (orderOf (a .order .now)) t (m .0 .0) (kindOf (m .1 .0)) (m .1 .1 .0 .0) (m .1 .1 .1 .0 .0) (m .1 .1 .1 .1 .0 .0) h in
-    omega (arith, b, c .before .before .before .before .before .before .before .before .before .before .before .before .before .before .before .before .before .before .before .before .before .before .before .before .before .before .before .before .before .count .ensures, count-few (kindOf (m .1 .0)) (m .1 .1 .1 .1 .0 .0) (f .2)))
-    -- loop-less
-    (λ c. let b = c .before .before .before .before .before .before .before .before .before .before .before .before .before .before .before .before .before .before .before .before .before .before .before .before .before .before .loop-test .taken in omega arith)
-    -- loop-again
-    (λ c.
-    let a = c .before .before .before .before .before .before .before .before .before .before .before .before .before .before .before .before .before .before .before .before .before .before .before .before .before .before .before .before .before .before .before .before .before .before .before .before .before .before .before .before .before .before .before .before .before .before .before .before .before .before .before .args in
-    let p = c .before .before .before .before .before .before .before .before .before .before .before .before .before .before .before .before .before .before .before .before .before .before .before .before .before .before .before .before .before .before .before .before .before .before .before .before .before .before .before .before .before .before .before .before .before .before .before .before .before .before .before .pre .1 in
-    let q = said (a .layout) (a .query .now) in
-    let s = pathAs (a .single) (a .rep .now) (a .link .now) (a .reach .now) (a .link2 .now) (a .reach2 .now) (a .link3 .now) (a .reach3 .now) in
-    let r = c .before .before .before .before .before .before .before .before .before .before .before .before .before .before .before .before .before .before .before .before .before .before .before .before .before .before .before .before .before .before .before .before .before .before .before .before .before .before .before .before .before .close-ahead .last in
-    let t = pathAs (a .single) (a .rep .now) (a .link .now) (r .1 .1 .1 .1 .0) (a .link2 .now) (r .1 .1 .1 .1 .1 .1 .0) (a .link3 .now) (r .1 .1 .1 .1 .1 .1 .1 .1 .0) in
-    let l = look q (orderOf (a .order .now)) t in
-    let m = c .before .before .before .before .before .before .before .before .before .before .before .before .before .before .before .before .before .before .before .before .before .before .before .before .before .before .before .before .before .before .before .k .given .0 in
-    let h = look-is (c .before .before .before .before .before .before .before .before .before .before .before .before .before .before .before .before .before .before .before .before .before .before .before .before .before .before .before .before .before .before .before .before .before .look-ahead .result) (seen.Applying (m .0) (m .1 .0) (m .1 .1 .0) (m .1 .1 .1 .0) (m .1 .1 .1 .1 .0)) l (c .before .before .before .before .before .before .before .before .before .before .before .before .before .before .before .before .before .before .before .before .before .before .before .before .before .before .before .before .before .before .before .before .before .look-ahead .ensures) (c .before .before .before .before .before .before .before .before .before .before .before .before .before .before .before .before .before .before .before .before .before .before .before .before .before .before .before .before .before .before .before .k .given .1) in
-    let o = c .before .before .before .before .before .before .before .before .before .before .before .before .before .before .before .before .before .before .before .before .before .before .before .before .before .before .before .loop in
-    let here = subst (λ (j : ℕ). o .i < j) (c .before .before .before .before .before .before .before .before .before .before .before .before .before .before .before .before .before .before .before .before .before .before .before .before .before .before .before .before .before .count .ensures) (c .before .before .before .before .before .before .before .before .before .before .before .before .before .before .before .before .before .before .before .before .before .before .before .before .before .before .loop-test .taken) in
-    let e = c .before .before .before .before .before .before .before .before .before .before .take .last in
-    let u = pathAs (a .single) (e .1 .0) (e .1 .1 .0) (e .1 .1 .1 .0) (e .1 .1 .1 .1 .0) (e .1 .1 .1 .1 .1 .0) (e .1 .1 .1 .1 .1 .1 .0) (e .1 .1 .1 .1 .1 .1 .1 .0) in
-    let f = c .before .before .plain-in .last in
-    let v = pathAs (a .single) (f .1 .1 .1 .1 .1 .0) (f .1 .1 .1 .1 .1 .1 .0) (f .1 .1 .1 .1 .1 .1 .1 .0) (f .1 .1 .1 .1 .1 .1 .1 .1 .0) (f .1 .1 .1 .1 .1 .1 .1 .1 .1 .0) (f .1 .1 .1 .1 .1 .1 .1 .1 .1 .1 .0) (f .1 .1 .1 .1 .1 .1 .1 .1 .1 .1 .1 .0) in
-    let b = c .before .before .before .before .before .before .before .before .before .before .before .before .before .before .before .before .before .before .before .before .before .before .before .before .before .before .loop-test .taken in
-    (omega arith, front-struck {q = q} (a .order .now) (p .1) (p .2) (a .left) s t (p .3) (p .4) (a .layout .terms) (sym (terms-said (a .layout) (a .query .now) (p .0))) (c .before .before .before .before .before .before .before .before .before .before .before .before .before .before .before .before .before .before .before .before .before .before .before .before .before .before .before .before .before .before .before .before .before .before .before .before .before .before .before .before .before .close-ahead .ensures .0) (m .0 .0) (kindOf (m .1 .0)) (m .1 .1 .0 .0) (m .1 .1 .1 .0 .0) (m .1 .1 .1 .1 .0 .0) h (pathAs (a .single) (o .rep) (o .link) (o .reach) (o .link2) (o .reach2) (o .link3) (o .reach3)) (o .inv .2) (o .i) here u (c .before .before .before .before .before .before .before .before .before .before .take .ensures .0) (o .inv .1) (a .limited) (c .before .before .plain-in .result .kind) v (c .before .before .plain-in .ensures .0) (sym (c .before .is-refuted .ensures) ∙ not-false _ (c .if2 .left)), o .inv .2, o .inv .3))
-    -- returns-5
     (λ c.
     let a = c .before .before .before .before .before .before .before .before .before .before .before .before .before .before .before .before .before .before .before .before .before .before .before .before .before .args in
     let p = c .before .before .before .before .before .before .before .before .before .before .before .before .before .before .before .before .before .before .before .before .before .before .before .before .before .pre .1 in
     let q = said (a .layout) (a .query .now) in
-    let s = pathAs (a .single) (a .rep .now) (a .link .now) (a .reach .now) (a .link2 .now) (a .reach2 .now) (a .link3 .now) (a .reach3 .now) in
-    let r = c .before .before .before .before .before .before .before .before .before .before .before .before .before .before .before .close-ahead .last in
-    let t = pathAs (a .single) (a .rep .now) (a .link .now) (r .1 .1 .1 .1 .0) (a .link2 .now) (r .1 .1 .1 .1 .1 .1 .0) (a .link3 .now) (r .1 .1 .1 .1 .1 .1 .1 .1 .0) in
+    let s = pathAs (a .single) (a .rep .now) (a .link .now) (a .reach .now) in
+    let r = c .before .before .before .before .before .before .before .before .before .before .before .before .before .before .before .before .before .before .before .close-ahead .last in
+    let t = pathAs (a .single) (a .rep .now) (a .link .now) (r .1 .1 .1 .1 .0) in
+    let l = look q (orderOf (a .order .now)) t in
+    let m = c .before .before .before .before .before .before .before .before .before .before .before .before .before .k .given .0 in
+    let h = look-is (c .before .before .before .before .before .before .before .before .before .before .before .before .before .before .before .look-ahead .result) (seen.Applying (m .0) (m .1 .0) (m .1 .1 .0) (m .1 .1 .1 .0) (m .1 .1 .1 .1 .0)) l (c .before .before .before .before .before .before .before .before .before .before .before .before .before .before .before .look-ahead .ensures) (c .before .before .before .before .before .before .before .before .before .before .before .before .before .k .given .1) in
+    front-left {q = q} (a .order .now) (p .1) (p .2) (a .left) s t (p .3) (p .4) (a .layout .terms) (sym (terms-said (a .layout) (a .query .now) (p .0))) (c .before .before .before .before .before .before .before .before .before .before .before .before .before .before .before .before .before .before .before .close-ahead .ensures .0) (m .0 .0) (kindOf (m .1 .0)) (m .1 .1 .0 .0) (m .1 .1 .1 .0 .0) (m .1 .1 .1 .1 .0 .0) h)
+    -- plain-in-requires
+    (λ c κs.
+    let a = c .before .before .before .before .before .before .before .before .before .before .before .before .before .before .before .before .before .before .before .before .before .before .before .before .before .before .before .before .args in
+    let p = c .before .before .before .before .before .before .before .before .before .before .before .before .before .before .before .before .before .before .before .before .before .before .before .before .before .before .before .before .pre .1 in
+    let q = said (a .layout) (a .query .now) in
+    let s = pathAs (a .single) (a .rep .now) (a .link .now) (a .reach .now) in
+    let r = c .before .before .before .before .before .before .before .before .before .before .before .before .before .before .before .before .before .before .before .before .before .before .close-ahead .last in
+    let t = pathAs (a .single) (a .rep .now) (a .link .now) (r .1 .1 .1 .1 .0) in
+    let l = look q (orderOf (a .order .now)) t in
+    let m = c .before .before .before .before .before .before .before .before .before .before .before .before .before .before .before .before .k .given .0 in
+    let h = look-is (c .before .before .before .before .before .before .before .before .before .before .before .before .before .before .before .before .before .before .look-ahead .result) (seen.Applying (m .0) (m .1 .0) (m .1 .1 .0) (m .1 .1 .1 .0) (m .1 .1 .1 .1 .0)) l (c .before .before .before .before .before .before .before .before .before .before .before .before .before .before .before .before .before .before .look-ahead .ensures) (c .before .before .before .before .before .before .before .before .before .before .before .before .before .before .before .before .k .given .1) in
+    let o = c .before .before .before .before .before .before .before .before .before .before .before .before .loop in
+    let here = subst (λ (j : ℕ). o .i < j) (c .before .before .before .before .before .before .before .before .before .before .before .before .before .before .count .ensures) (c .before .before .before .before .before .before .before .before .before .before .before .loop-test .taken) in
+    let e = c .before .before .before .take .last in
+    let u = pathAs (a .single) (e .1 .0) (e .1 .1 .0) (e .1 .1 .1 .0) in
+    let g = front-next {q = q} (a .order .now) (p .1) (p .2) (a .left) s t (p .3) (p .4) (a .layout .terms) (sym (terms-said (a .layout) (a .query .now) (p .0))) (c .before .before .before .before .before .before .before .before .before .before .before .before .before .before .before .before .before .before .before .before .before .before .close-ahead .ensures .0) (m .0 .0) (kindOf (m .1 .0)) (m .1 .1 .0 .0) (m .1 .1 .1 .0 .0) (m .1 .1 .1 .1 .0 .0) h (pathAs (a .single) (o .rep) (o .link) (o .reach)) (o .inv .2) (o .i) here u (c .before .before .before .take .ensures .0) in
+    (less-left (a .left) _ (g .0) (c .before .before .before .before .before .before .before .before .before .before .before .before .before .before .before .before .before .before .before .before .before .before .before .before .before .before .before .before .pre .0), (p .0, p .1, p .2, g .1, g .2, c .before .before .before .take .ensures .1)))
+    -- is-refuted-requires
+    (λ c κs. search needs)
+    -- returns-4
+    (λ c.
+    let a = c .before .before .before .before .before .before .before .before .before .before .before .before .before .before .before .before .before .before .before .before .before .before .before .before .before .before .before .before .before .before .before .args in
+    let p = c .before .before .before .before .before .before .before .before .before .before .before .before .before .before .before .before .before .before .before .before .before .before .before .before .before .before .before .before .before .before .before .pre .1 in
+    let q = said (a .layout) (a .query .now) in
+    let s = pathAs (a .single) (a .rep .now) (a .link .now) (a .reach .now) in
+    let r = c .before .before .before .before .before .before .before .before .before .before .before .before .before .before .before .before .before .before .before .before .before .before .before .before .before .close-ahead .last in
+    let t = pathAs (a .single) (a .rep .now) (a .link .now) (r .1 .1 .1 .1 .0) in
+    let l = look q (orderOf (a .order .now)) t in
+    let m = c .before .before .before .before .before .before .before .before .before .before .before .before .before .before .before .before .before .before .before .k .given .0 in
+    let h = look-is (c .before .before .before .before .before .before .before .before .before .before .before .before .before .before .before .before .before .before .before .before .before .look-ahead .result) (seen.Applying (m .0) (m .1 .0) (m .1 .1 .0) (m .1 .1 .1 .0) (m .1 .1 .1 .1 .0)) l (c .before .before .before .before .before .before .before .before .before .before .before .before .before .before .before .before .before .before .before .before .before .look-ahead .ensures) (c .before .before .before .before .before .before .before .before .before .before .before .before .before .before .before .before .before .before .before .k .given .1) in
+    let o = c .before .before .before .before .before .before .before .before .before .before .before .before .before .before .before .loop in
+    let here = subst (λ (j : ℕ). o .i < j) (c .before .before .before .before .before .before .before .before .before .before .before .before .before .before .before .before .before .count .ensures) (c .before .before .before .before .before .before .before .before .before .before .before .before .before .before .loop-test .taken) in
+    let e = c .before .before .before .before .before .before .take .last in
+    let u = pathAs (a .single) (e .1 .0) (e .1 .1 .0) (e .1 .1 .1 .0) in
+    let f = c .before .before .plain-in .last in
+    let v = pathAs (a .single) (f .1 .1 .1 .1 .1 .0) (f .1 .1 .1 .1 .1 .1 .0) (f .1 .1 .1 .1 .1 .1 .1 .0) in
+    (front-branch {q = q} (a .order .now) (p .1) (p .2) (a .left) s t (p .3) (p .4) (a .layout .terms) (sym (terms-said (a .layout) (a .query .now) (p .0))) (c .before .before .before .before .before .before .before .before .before .before .before .before .before .before .before .before .before .before .before .before .before .before .before .before .before .close-ahead .ensures .0) (m .0 .0) (kindOf (m .1 .0)) (m .1 .1 .0 .0) (m .1 .1 .1 .0 .0) (m .1 .1 .1 .1 .0 .0) h (pathAs (a .single) (o .rep) (o .link) (o .reach)) (o .inv .2) (o .i) here u (c .before .before .before .before .before .before .take .ensures .0) (o .inv .1) (a .limited) (c .before .before .plain-in .result .kind) v (c .before .before .plain-in .ensures .0) (sym (c .before .is-refuted .ensures) ∙ not-true _ (c .if2 .taken)), c .before .before .plain-in .ensures .1))
+    -- add-i
+    (λ c.
+    let a = c .before .before .before .before .before .before .before .before .before .before .before .before .before .before .before .before .before .before .before .before .before .before .before .before .before .before .before .before .before .before .before .args in
+    let p = c .before .before .before .before .before .before .before .before .before .before .before .before .before .before .before .before .before .before .before .before .before .before .before .before .before .before .before .before .before .before .before .pre .1 in
+    let q = said (a .layout) (a .query .now) in
+    let s = pathAs (a .single) (a .rep .now) (a .link .now) (a .reach .now) in
+    let r = c .before .before .before .before .before .before .before .before .before .before .before .before .before .before .before .before .before .before .before .before .before .before .before .before .before .close-ahead .last in
+    let t = pathAs (a .single) (a .rep .now) (a .link .now) (r .1 .1 .1 .1 .0) in
+    let l = look q (orderOf (a .order .now)) t in
+    let m = c .before .before .before .before .before .before .before .before .before .before .before .before .before .before .before .before .before .before .before .k .given .0 in
+    let h = look-is (c .before .before .before .before .before .before .before .before .before .before .before .before .before .before .before .before .before .before .before .before .before .look-ahead .result) (seen.Applying (m .0) (m .1 .0) (m .1 .1 .0) (m .1 .1 .1 .0) (m .1 .1 .1 .1 .0)) l (c .before .before .before .before .before .before .before .before .before .before .before .before .before .before .before .before .before .before .before .before .before .look-ahead .ensures) (c .before .before .before .before .before .before .before .before .before .before .before .before .before .before .before .before .before .before .before .k .given .1) in
+    let b = c .before .before .before .before .before .before .before .before .before .before .before .before .before .before .loop-test .taken in
+    let f = move-fits (a .query .now) (a .layout) (p .0) (orderOf (a .order .now)) t (m .0 .0) (kindOf (m .1 .0)) (m .1 .1 .0 .0) (m .1 .1 .1 .0 .0) (m .1 .1 .1 .1 .0 .0) h in
+    omega (arith, b, c .before .before .before .before .before .before .before .before .before .before .before .before .before .before .before .before .before .count .ensures, count-few (kindOf (m .1 .0)) (m .1 .1 .1 .1 .0 .0) (f .2)))
+    -- loop-less
+    (λ c. let b = c .before .before .before .before .before .before .before .before .before .before .before .before .before .before .loop-test .taken in omega arith)
+    -- loop-again
+    (λ c.
+    let a = c .before .before .before .before .before .before .before .before .before .before .before .before .before .before .before .before .before .before .before .before .before .before .before .before .before .before .before .before .before .before .before .args in
+    let p = c .before .before .before .before .before .before .before .before .before .before .before .before .before .before .before .before .before .before .before .before .before .before .before .before .before .before .before .before .before .before .before .pre .1 in
+    let q = said (a .layout) (a .query .now) in
+    let s = pathAs (a .single) (a .rep .now) (a .link .now) (a .reach .now) in
+    let r = c .before .before .before .before .before .before .before .before .before .before .before .before .before .before .before .before .before .before .before .before .before .before .before .before .before .close-ahead .last in
+    let t = pathAs (a .single) (a .rep .now) (a .link .now) (r .1 .1 .1 .1 .0) in
+    let l = look q (orderOf (a .order .now)) t in
+    let m = c .before .before .before .before .before .before .before .before .before .before .before .before .before .before .before .before .before .before .before .k .given .0 in
+    let h = look-is (c .before .before .before .before .before .before .before .before .before .before .before .before .before .before .before .before .before .before .before .before .before .look-ahead .result) (seen.Applying (m .0) (m .1 .0) (m .1 .1 .0) (m .1 .1 .1 .0) (m .1 .1 .1 .1 .0)) l (c .before .before .before .before .before .before .before .before .before .before .before .before .before .before .before .before .before .before .before .before .before .look-ahead .ensures) (c .before .before .before .before .before .before .before .before .before .before .before .before .before .before .before .before .before .before .before .k .given .1) in
+    let o = c .before .before .before .before .before .before .before .before .before .before .before .before .before .before .before .loop in
+    let here = subst (λ (j : ℕ). o .i < j) (c .before .before .before .before .before .before .before .before .before .before .before .before .before .before .before .before .before .count .ensures) (c .before .before .before .before .before .before .before .before .before .before .before .before .before .before .loop-test .taken) in
+    let e = c .before .before .before .before .before .before .take .last in
+    let u = pathAs (a .single) (e .1 .0) (e .1 .1 .0) (e .1 .1 .1 .0) in
+    let f = c .before .before .plain-in .last in
+    let v = pathAs (a .single) (f .1 .1 .1 .1 .1 .0) (f .1 .1 .1 .1 .1 .1 .0) (f .1 .1 .1 .1 .1 .1 .1 .0) in
+    let b = c .before .before .before .before .before .before .before .before .before .before .before .before .before .before .loop-test .taken in
+    (omega arith, front-struck {q = q} (a .order .now) (p .1) (p .2) (a .left) s t (p .3) (p .4) (a .layout .terms) (sym (terms-said (a .layout) (a .query .now) (p .0))) (c .before .before .before .before .before .before .before .before .before .before .before .before .before .before .before .before .before .before .before .before .before .before .before .before .before .close-ahead .ensures .0) (m .0 .0) (kindOf (m .1 .0)) (m .1 .1 .0 .0) (m .1 .1 .1 .0 .0) (m .1 .1 .1 .1 .0 .0) h (pathAs (a .single) (o .rep) (o .link) (o .reach)) (o .inv .2) (o .i) here u (c .before .before .before .before .before .before .take .ensures .0) (o .inv .1) (a .limited) (c .before .before .plain-in .result .kind) v (c .before .before .plain-in .ensures .0) (sym (c .before .is-refuted .ensures) ∙ not-false _ (c .if2 .left)), o .inv .2, o .inv .3))
+    -- returns-5
+    (λ c.
+    let a = c .before .before .before .before .before .before .before .before .before .before .before .before .before .before .before .before .before .args in
+    let p = c .before .before .before .before .before .before .before .before .before .before .before .before .before .before .before .before .before .pre .1 in
+    let q = said (a .layout) (a .query .now) in
+    let s = pathAs (a .single) (a .rep .now) (a .link .now) (a .reach .now) in
+    let r = c .before .before .before .before .before .before .before .before .before .before .before .close-ahead .last in
+    let t = pathAs (a .single) (a .rep .now) (a .link .now) (r .1 .1 .1 .1 .0) in
     let l = look q (orderOf (a .order .now)) t in
     let m = c .before .before .before .before .before .k .given .0 in
     let h = look-is (c .before .before .before .before .before .before .before .look-ahead .result) (seen.Applying (m .0) (m .1 .0) (m .1 .1 .0) (m .1 .1 .1 .0) (m .1 .1 .1 .1 .0)) l (c .before .before .before .before .before .before .before .look-ahead .ensures) (c .before .before .before .before .before .k .given .1) in
     let o = c .before .loop in
-    (front-all {q = q} (a .order .now) (p .1) (p .2) (a .left) s t (p .3) (p .4) (a .layout .terms) (sym (terms-said (a .layout) (a .query .now) (p .0))) (c .before .before .before .before .before .before .before .before .before .before .before .before .before .before .before .close-ahead .ensures .0) (m .0 .0) (kindOf (m .1 .0)) (m .1 .1 .0 .0) (m .1 .1 .1 .0 .0) (m .1 .1 .1 .1 .0 .0) h (o .i) (o .inv .1) (subst (λ (j : ℕ). j ≤ o .i) (c .before .before .before .count .ensures) (c .loop-test .left)) (a .limited) (pathAs (a .single) (o .rep) (o .link) (o .reach) (o .link2) (o .reach2) (o .link3) (o .reach3)), o .inv .3))
+    (front-all {q = q} (a .order .now) (p .1) (p .2) (a .left) s t (p .3) (p .4) (a .layout .terms) (sym (terms-said (a .layout) (a .query .now) (p .0))) (c .before .before .before .before .before .before .before .before .before .before .before .close-ahead .ensures .0) (m .0 .0) (kindOf (m .1 .0)) (m .1 .1 .0 .0) (m .1 .1 .1 .0 .0) (m .1 .1 .1 .1 .0 .0) h (o .i) (o .inv .1) (subst (λ (j : ℕ). j ≤ o .i) (c .before .before .before .count .ensures) (c .loop-test .left)) (a .limited) (pathAs (a .single) (o .rep) (o .link) (o .reach)), o .inv .3))

@@ -11,8 +11,8 @@ close-ahead-spec =
     -- begins-requires
     (λ c κs. c .before .pre .1)
     -- close-rows-requires
-    (λ c κs. let p = c .before .before .before .before .before .before .pre in (p .0, p .2, p .3, p .4))
+    (λ c κs. let p = c .before .before .before .before .pre in (p .0, p .2))
     -- returns
-    (λ c. let r = c .close-rows .ensures in ((λ b. (r .0, r .1), λ b. absurd (true-false (c .before .before .before .before .if1 .taken) (c .before .before .before .before .before .begins .ensures ∙ b))), r .2, r .3, r .4))
+    (λ c. let r = c .close-rows .ensures in ((λ b. (r .0, r .1), λ b. absurd (true-false (c .before .before .if1 .taken) (c .before .before .before .begins .ensures ∙ b))), r .2))
     -- returns-2
-    (λ c. let p = c .before .before .before .pre in ((λ b. absurd (true-false (c .before .begins .ensures ∙ b) (c .if1 .left)), λ b. refl), p .2, p .3, p .4)))
+    (λ c. let p = c .before .before .before .pre in ((λ b. absurd (true-false (c .before .begins .ensures ∙ b) (c .if1 .left)), λ b. refl), p .2)))

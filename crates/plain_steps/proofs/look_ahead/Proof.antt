@@ -29,7 +29,7 @@ look-ahead-spec =
     let start = c .before .before .before .before .before .before in
     let a = start .args in
     let b = sym (c .before .before .before .begins .ensures) ∙ c .before .before .if1 .taken in
-    let t = pathAs (a .single) (a .rep .now) (a .link .now) (a .reach .now) (a .link2 .now) (a .reach2 .now) (a .link3 .now) (a .reach3 .now) in
+    let t = pathAs (a .single) (a .rep .now) (a .link .now) (a .reach .now) in
     look-ended (lookOf (c .look .result)) (said (a .layout) (a .query .now)) (a .order .now) (a .layout .terms) t (sym (terms-said (a .layout) (a .query .now) (start .pre .0))) (start .pre .1) b (start .pre .2 b) (c .look .ensures))
     -- look-requires-2
     (λ c κs. search needs)

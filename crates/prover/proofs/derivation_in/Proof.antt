@@ -8,7 +8,8 @@ use Rattle.link_query.specs.Answers.{CheckedBy}
 use Rattle.link_query.proofs.Accepted.{accepted-said}
 use Rattle.call_limits.specs.Forms.{formOf}
 use Rattle.theory.proofs.Calls.DerivationCall.{derivation-whole}
-use Rattle.prover.proofs.Answers.{blank-again, blank-long, laws-of, derivation-order, derivation-query, derivation-walked}
+use Rattle.lent.proofs.Writing.{blank-again, blank-long}
+use Rattle.prover.proofs.Answers.{laws-of, derivation-order, derivation-query, derivation-walked}
 use Rattle.prover.proofs.derivation_in.Statement.{statement}
 use Rattle.prover.proofs.derivation_in.Tie as tie
 

@@ -10,14 +10,14 @@ derive-spec =
     tie.close
     (tie.spec
     -- settled-requires
-    (λ c κs. let p = c .before .before .before .before .before .before .before .before .before .before .pre in (p .0, p .1, p .2))
+    (λ c κs. let p = c .before .before .before .before .before .before .pre in (p .0, p .1, p .2))
     -- is-refuted-requires
     (λ c κs. search needs)
     -- write-lines-requires
-    (λ c κs. let p = c .before .before .before .before .before .before .before .before .before .before .before .before .before .before .pre in (p .0, p .1, p .3, c .before .before .before .settled .ensures .refuted (sym (c .before .before .is-refuted .ensures) ∙ c .before .if1 .taken)))
+    (λ c κs. let p = c .before .before .before .before .before .before .before .before .before .before .pre in (p .0, p .1, p .3, c .before .before .before .settled .ensures .refuted (sym (c .before .before .is-refuted .ensures) ∙ c .before .if1 .taken)))
     -- same-length
     (λ c. search needs)
     -- returns
     (λ c. c .before .before .write-lines .ensures)
     -- returns-2
-    (λ c. derivation-satisfiable _ _ _ _ (c .before .before .settled .ensures .shown (sym (c .before .is-refuted .ensures) ∙ c .if1 .left)) (c .before .before .before .before .before .before .before .before .before .before .before .before .before .pre .3)))
+    (λ c. derivation-satisfiable _ _ _ _ (c .before .before .settled .ensures .shown (sym (c .before .is-refuted .ensures) ∙ c .if1 .left)) (c .before .before .before .before .before .before .before .before .before .pre .3)))

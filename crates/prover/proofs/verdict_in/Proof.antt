@@ -4,11 +4,12 @@ use borrow.Author.Needs.{needs}
 use borrow.Author.Tests.{not-true, not-false, ltb-true, ltb-false}
 use mathlib.Core.Path.{sym, _∙_, subst}
 use lib.ListN.{length}
+use Rattle.lent.proofs.Writing.{blank-again, blank-long}
 use Rattle.query_checks.specs.declared.Checked.{Checked}
 use Rattle.link_query.specs.Answers.{CheckedBy}
 use Rattle.link_query.proofs.Accepted.{accepted-said}
 use Rattle.call_limits.specs.Forms.{formOf}
-use Rattle.prover.proofs.Answers.{blank-again, blank-long, laws-of, room-of, verdict-order, verdict-query, verdict-room, verdict-walked}
+use Rattle.prover.proofs.Answers.{laws-of, room-of, verdict-order, verdict-query, verdict-room, verdict-walked}
 use Rattle.prover.proofs.Demands.{report-whole}
 use Rattle.prover.proofs.verdict_in.Statement.{statement}
 use Rattle.prover.proofs.verdict_in.Tie as tie

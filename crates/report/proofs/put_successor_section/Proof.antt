@@ -3,8 +3,9 @@ use Prim.Native.Nat.{ℕ, _*_}
 use native.Mathlib.Nat.{mul-le-mul}
 use native.Mathlib.Omega.{arith}
 use borrow.Author.Needs.{needs}
-use mathlib.Core.Path.{ap}
+use mathlib.Core.Path.{sym, ap, _∙_}
 use Rattle.report.proofs.Successors.{counted-then}
+use Rattle.facts.proofs.Path.{path-links}
 use Rattle.report.proofs.put_successor_section.Statement.{statement}
 use Rattle.report.proofs.put_successor_section.Tie as tie
 
@@ -30,5 +31,5 @@ put-successor-section-spec =
     let first = c .before .before .before .before .before .before .put in
     let rest = c .before .before .put-successors in (
       omega (arith, first .ensures .0, rest .ensures .0),
-      counted-then _ (first .last .0) (rest .last .0) _ _ _ _ _ (ap (λ (k : ℕ). k * p .args .m) (c .before .before .before .before .before .before .before .before .links .ensures .0)) (first .kept .0) (first .ensures .0) (first .ensures .1) (rest .ensures .1),
+      counted-then _ (first .last .0) (rest .last .0) _ _ _ _ _ (ap (λ (k : ℕ). k * p .args .m) (c .before .before .before .before .before .before .before .before .links .ensures .0 ∙ sym (path-links (c .before .before .before .before .before .before .before .before .before .before .args .s)))) (first .kept .0) (first .ensures .0) (first .ensures .1) (rest .ensures .1),
     )))

@@ -30,13 +30,13 @@ merge-columns-spec =
     (λ c. (omega arith, search needs, filled-none _ _))
     -- mul-renamed-row
     (λ c. omega arith)
-    -- element-copy-out-renamed-row
+    -- slice-read-renamed-row
     (λ c. omega arith)
     -- renamed-row-requires
     (λ c κs. (omega arith, omega arith))
     -- mul-rows
     (λ c. omega arith)
-    -- element-write-rows
+    -- slice-write-rows
     (λ c. omega arith)
     -- add-a
     (λ c. omega arith)
@@ -49,5 +49,7 @@ merge-columns-spec =
       simp length-set (l .inv .1),
       merge-more _ _ (omega arith) (omega arith) _ (l .a) (omega arith) (l .rows) (l .inv .1) _ (c .renamed-row .ensures) (l .inv .2),
     ))
+    -- same-length
+    (λ c. omega arith)
     -- returns
     (λ c. (merge-all _ _ (omega arith) (omega arith) _ _ (rw (whole c) at (c .before .loop .inv .2)) (square-above _), c .before .loop .inv .1)))

@@ -12,19 +12,21 @@ merge-rows-spec =
     (tie.spec
     -- mul-cells
     (λ c. search needs)
-    -- element-copy-out-cells
+    -- slice-read-cells
     (λ c. search needs)
     -- mul-cells-2
     (λ c. search needs)
-    -- element-copy-out-cells-2
+    -- slice-read-cells-2
     (λ c. search needs)
     -- mul-cells-3
     (λ c. search needs)
-    -- element-write-cells
+    -- slice-write-cells
     (λ c. search needs)
     -- mul-cells-4
     (λ c. search needs)
-    -- element-write-cells-2
+    -- slice-write-cells-2
+    (λ c. simp length-set (omega arith))
+    -- same-length
     (λ c. search needs)
     -- returns
     (λ c. (rows-merged _ _ (omega arith) (omega arith) _ (c .before .before .pre .2), simp length-set (c .before .before .pre .2))))

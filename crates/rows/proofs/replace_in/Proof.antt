@@ -1,4 +1,5 @@
 -- First the columns, then the rows. Assumes nothing.
+use native.Mathlib.Omega.{arith}
 use borrow.Author.Needs.{needs}
 use mathlib.Core.Path.{_∙_, ap}
 use Rattle.rows.specs.Square.{rows}
@@ -14,5 +15,7 @@ replace-in-spec =
     (λ c κs. search needs)
     -- merge-rows-requires
     (λ c κs. search needs)
+    -- same-length
+    (λ c. omega arith)
     -- returns
-    (λ c. (c .merge-rows .ensures .0 ∙ ap (rows _ _) (c .before .before .merge-columns .ensures .0) ∙ replaced _ _ _, c .merge-rows .ensures .1)))
+    (λ c. (c .before .before .merge-rows .ensures .0 ∙ ap (rows _ _) (c .before .before .before .before .before .before .merge-columns .ensures .0) ∙ replaced _ _ _, c .before .before .merge-rows .ensures .1)))

@@ -6,7 +6,7 @@ use mathlib.Core.Path.{_≡_, refl, sym, ap, _∙_}
 use lib.ListN.{length, drop}
 use Rattle.logic.specs.Search.{firstOf}
 use Rattle.rows.specs.Bits.{bit}
-use Rattle.facts.specs.Path.{graphOf}
+use Rattle.facts.specs.Path.{graphIn}
 use Rattle.rules.specs.Answers.{choiceOf}
 use Rattle.rule_choice.specs.Smallest.{triedBy}
 use Rattle.rule_choice.proofs.Nested.{rest-end, rest-here, rest-next}
@@ -14,12 +14,12 @@ use Rattle.rule_choice.proofs.choose_any.Statement.{statement}
 use Rattle.rule_choice.proofs.choose_any.Tie as tie
 
 abbrev Inv-loop : tie.InvT-loop
-Inv-loop order alive link reach link2 reach2 link3 reach3 n i₀ i =
+Inv-loop order alive link reach n i₀ i =
     (i ≤ length order)
-    × (firstOf (triedBy n (bit alive) (graphOf link reach) (graphOf link2 reach2) (graphOf link3 reach3)) order ≡ firstOf (triedBy n (bit alive) (graphOf link reach) (graphOf link2 reach2) (graphOf link3 reach3)) (drop i order))
+    × (firstOf (triedBy n (bit alive) (graphIn link reach)) order ≡ firstOf (triedBy n (bit alive) (graphIn link reach)) (drop i order))
 
 abbrev μ-loop : tie.MeasureT-loop
-μ-loop order alive link reach link2 reach2 link3 reach3 n i₀ i = length order - i
+μ-loop order alive link reach n i₀ i = length order - i
 
 pub choose-any-spec : {M : Type 1} → statement M
 choose-any-spec =

@@ -1,32 +1,51 @@
--- One law for each return. Assumes nothing.
+-- What is left to search equals the whole. Assumes nothing.
+use Prim.Native.Nat.{_-_, _<_}
+use native.Mathlib.Omega.{arith}
 use borrow.Author.Needs.{needs}
-use mathlib.Core.Path.{sym, ap, _∙_}
+use mathlib.Core.Path.{_≡_, refl, sym, ap, _∙_}
+use Rattle.logic.specs.Search.{from, firstOf}
+use Rattle.logic.specs.Facts.{linkNumbers}
+use Rattle.rows.specs.Bits.{bit}
+use Rattle.rows.proofs.Loops.{first-end, first-here, first-next}
+use Rattle.facts.specs.Path.{graphIn}
 use Rattle.rules.specs.Answers.{choiceOf}
-use Rattle.rule_choice.proofs.Nested.{tried-first, tried-second, tried-third}
+use Rattle.rule_choice.specs.Smallest.{triedAt, triedBy}
 use Rattle.rule_choice.proofs.tried_by.Statement.{statement}
 use Rattle.rule_choice.proofs.tried_by.Tie as tie
+
+abbrev Inv-loop : tie.InvT-loop
+Inv-loop k alive link reach n i₀ i =
+    (0 < i)
+    × (triedBy n (bit alive) (graphIn link reach) k ≡ firstOf (λ j. triedAt j n (bit alive) (graphIn link reach j) k) (from (4 - i) i))
+
+abbrev μ-loop : tie.MeasureT-loop
+μ-loop k alive link reach n i₀ i = 4 - i
+
+loop-holds : tie.Need-loop-holds Inv-loop μ-loop
+unfolding triedBy linkNumbers
+-- loop-holds
+loop-holds c = (omega arith, refl)
 
 pub tried-by-spec : {M : Type 1} → statement M
 tried-by-spec =
     tie.close
     (tie.spec
+    Inv-loop
+    μ-loop
+    loop-holds
     -- tried-at-requires
-    (λ c κs. search needs)
+    (λ c κs. (c .before .before .pre, c .before .loop .inv .0, omega arith))
     -- enum-known-l
     (λ c. search needs)
     -- returns
-    (λ c. sym (tried-first _ _ _ _ _ _ _ (sym (c .before .before .before .tried-at .ensures) ∙ ap choiceOf (c .before .l .given .1))))
+    (λ c. sym (c .before .before .before .before .before .loop .inv .1 ∙ first-here _ _ _ _ (omega arith) (sym (c .before .before .before .tried-at .ensures) ∙ ap choiceOf (c .before .l .given .1))))
     -- enum-told
     (λ c. search needs)
-    -- tried-at-requires-2
-    (λ c κs. search needs)
-    -- enum-known-l-2
-    (λ c. search needs)
+    -- add-i
+    (λ c. omega arith)
+    -- loop-less
+    (λ c. omega arith)
+    -- loop-again
+    (λ c. (omega arith, c .before .before .before .before .loop .inv .1 ∙ first-next _ _ _ (omega arith) (sym (c .before .before .tried-at .ensures) ∙ ap choiceOf (c .enum-told .given .1))))
     -- returns-2
-    (λ c. sym (tried-second _ _ _ _ _ _ _ (sym (c .before .before .before .before .before .before .tried-at .ensures) ∙ ap choiceOf (c .before .before .before .before .enum-told .given .1)) (sym (c .before .before .before .tried-at2 .ensures) ∙ ap choiceOf (c .before .l2 .given .1))))
-    -- enum-told-2
-    (λ c. search needs)
-    -- tried-at-requires-3
-    (λ c κs. search needs)
-    -- returns-3
-    (λ c. c .tried-at3 .ensures ∙ sym (tried-third _ _ _ _ _ _ (sym (c .before .before .before .before .before .before .tried-at .ensures) ∙ ap choiceOf (c .before .before .before .before .enum-told .given .1)) (sym (c .before .before .before .tried-at2 .ensures) ∙ ap choiceOf (c .before .enum-told2 .given .1)))))
+    (λ c. sym (c .before .loop .inv .1 ∙ first-end _ _ _ (omega arith))))

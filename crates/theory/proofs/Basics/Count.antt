@@ -5,8 +5,8 @@ use native.Mathlib.Nat.{zero-mul, suc-mul}
 use mathlib.Core.Path.{_≡_, refl, sym, ap, _∙_}
 use mathlib.Core.Logic.{⊎-elim}
 use mathlib.Core.Bool.{Bool, true, false}
-use mathlib.Core.List.{List, [], _∷_, List·Memᴰ, List·Memᴰ·head, List·Memᴰ·tail, List·Memᴰ·not-nil, List·Memᴰ·cases-cons}
-use lib.ListN.{length, getD, length-append}
+use mathlib.Core.List.{List, [], _∷_, _++_, List·Memᴰ, List·Memᴰ·head, List·Memᴰ·tail, List·Memᴰ·not-nil, List·Memᴰ·cases-cons}
+use lib.ListN.{length, getD, replicate, length-append}
 use Rattle.logic.specs.Search.{from, select, flatMap}
 use Rattle.theory.proofs.Basics.Search.{bool-cases}
 use Rattle.theory.proofs.Basics.Compare.{cond-true, cond-false}
@@ -20,6 +20,17 @@ pub getD-mem : {A : Type 0} (xs : List A) (i : ℕ) (d : A) → i < length xs �
 getD-mem [] i d h = absurd (omega arith)
 getD-mem (x ∷ xs) zero d h = List·Memᴰ·head refl
 getD-mem (x ∷ xs) (suc i) d h = List·Memᴰ·tail (getD-mem xs i d (omega arith))
+
+-- zeros, also behind a list
+pub getD-zeros : (k i : ℕ) → _≡_ {A = ℕ} (getD (replicate k 0) i 0) 0
+getD-zeros zero i = refl
+getD-zeros (suc k) zero = refl
+getD-zeros (suc k) (suc i) = getD-zeros k i
+
+pub getD-behind : (xs : List ℕ) (k i : ℕ) → getD (xs ++ replicate k 0) i 0 ≡ getD xs i 0
+getD-behind [] k i = getD-zeros k i
+getD-behind (x ∷ xs) k zero = refl
+getD-behind (x ∷ xs) k (suc i) = getD-behind xs k i
 
 -- lists of one length, one behind the other
 pub length-flatMap : {A B : Type 0} (f : A → List B) (m : ℕ) → ((x : A) → length (f x) ≡ m) → (xs : List A) → length (flatMap f xs) ≡ length xs * m

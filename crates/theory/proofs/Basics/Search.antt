@@ -219,6 +219,12 @@ module _ {A B : Type 0} (f : A → Option B) where
   firstOf-skip [] ys h = refl
   firstOf-skip (x ∷ xs) ys h = rw (h x (List·Memᴰ·head refl)) (firstOf-skip xs ys (λ y m. h y (List·Memᴰ·tail m)))
 
+-- searches that answer alike on what they meet
+pub firstOf-alike : {A B : Type 0} (f g : A → Option B) (xs : List A) → ((x : A) → List·Memᴰ x xs → f x ≡ g x) → firstOf f xs ≡ firstOf g xs
+unfolding firstOf
+firstOf-alike f g [] h = refl
+firstOf-alike f g (x ∷ xs) h = ap₂ orElse (h x (List·Memᴰ·head refl)) (firstOf-alike f g xs (λ y m. h y (List·Memᴰ·tail m)))
+
 module _ {A : Type 0} (p : A → Bool) where
   pub find-some : (xs : List A) (a : A) → find p xs ≡ some a → List·Memᴰ a xs × (p a ≡ true)
   unfolding find

@@ -1,5 +1,5 @@
 -- So many bytes as check 9 asks for are enough for every report: they are never refused, and every byte past them is zero.
-use Prim.Native.Nat.{ℕ, zero, suc, _+_, _-_, _≤_, _<_}
+use Prim.Native.Nat.{ℕ, zero, _+_, _-_, _≤_, _<_}
 use native.Mathlib.Omega.{arith}
 use mathlib.Core.Path.{_≡_, refl, sym, ap, _∙_}
 use mathlib.Core.Logic.{⊎-elim}
@@ -18,6 +18,7 @@ use Rattle.theory.proofs.Calls.CheckingOrder.{first-own}
 use Rattle.theory.proofs.Calls.CallLaws.{FormLaws, verdict-passed}
 use Rattle.theory.proofs.Calls.Refusals.{blank-lent}
 use Rattle.theory.proofs.Calls.VerdictCall.{fits, verdict-refusals, VerdictCase, by-refusal, by-lines, by-model, verdict-case}
+use Rattle.theory.proofs.Basics.Count.{getD-zeros}
 
 module _ (f : CallForm) (laws : FormLaws f) where
   -- check 9 is that of the report's room
@@ -40,22 +41,17 @@ module _ (f : CallForm) (laws : FormLaws f) where
       let g = verdict-refusals f laws .first-exactly i 9 place nine-checked .0 h in
       omega (arith, l, nine i (g .check) (first-own (verdictChecksOf f) i 9 place g) (g .numbered) place (g .stands))
 
-zeros-zero : (k n : ℕ) → getD (replicate {A = ℕ} k 0) n 0 ≡ 0
-zeros-zero zero n = refl
-zeros-zero (suc k) zero = refl
-zeros-zero (suc k) (suc n) = zeros-zero k n
-
 padded-zero : (room : ℕ) (bytes : List ℕ) (n : ℕ) → length bytes ≤ n → getD (padded room bytes) n 0 ≡ 0
 unfolding padded
 padded-zero room bytes n l =
     let zeros : List ℕ = replicate (room - length bytes) 0 in
     let e : n ≡ length bytes + (n - length bytes) = omega (arith, l) in
-    ap (λ (k : ℕ). getD (bytes ++ zeros) k 0) e ∙ getD-append-add bytes zeros (n - length bytes) 0 ∙ zeros-zero (room - length bytes) (n - length bytes)
+    ap (λ (k : ℕ). getD (bytes ++ zeros) k 0) e ∙ getD-append-add bytes zeros (n - length bytes) 0 ∙ getD-zeros (room - length bytes) (n - length bytes)
 
 module _ (f : CallForm) (laws : FormLaws f) where
   case-short : (i : Input) (o : Outcome) → VerdictCase f laws i o → (n : ℕ) → f .room ≤ n → getD (o .lent) n 0 ≡ 0
-  case-short i o (by-refusal k p u e) n l = ap (λ (b : List ℕ). getD b n 0) (blank-lent o (i .room) _ e) ∙ zeros-zero (i .room) n
-  case-short i o (by-lines ls w e h) n l = ap (λ (b : List ℕ). getD b n 0) (blank-lent o (i .room) _ e) ∙ zeros-zero (i .room) n
+  case-short i o (by-refusal k p u e) n l = ap (λ (b : List ℕ). getD b n 0) (blank-lent o (i .room) _ e) ∙ getD-zeros (i .room) n
+  case-short i o (by-lines ls w e h) n l = ap (λ (b : List ℕ). getD b n 0) (blank-lent o (i .room) _ e) ∙ getD-zeros (i .room) n
   case-short i o (by-model s w e h) n l =
       let q : Query = f .decode (i .query) in
       let short = fits f laws (i .query) s (verdict-passed f laws i h .0 .query) n l in

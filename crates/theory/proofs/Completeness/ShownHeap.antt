@@ -29,7 +29,7 @@ use Rattle.theory.proofs.Completeness.NoClash.{equal-free, reach-free, 
 use Rattle.theory.proofs.Completeness.ShownNodes.{nodes-length, live-mem, live-node, shownLink-node}
 use Rattle.theory.proofs.Completeness.ReportBytes.{nodesOf, linkShown, place, report-laid}
 use Rattle.theory.proofs.Completeness.ReportHeap.{heap-link, heap-loop, heap-field, heap-listed, node-listed, is-heap, is-formed}
-use Rattle.theory.proofs.Basics.Count.{getD-mem}
+use Rattle.theory.proofs.Basics.Count.{getD-mem, getD-zeros}
 
 -- "That is 2m+n+5 bytes", and m more for each further link
 pub report-size : (q : Query) (s : Facts) → length (report q s) ≡ q .links * length (nodesOf q s) + termCount q + length (nodesOf q s) + 5
@@ -59,11 +59,6 @@ setsField-true : (s : Facts) (j v : ℕ) (l : Literal) → setsField s j v l ≡
 setsField-true s j v l e =
     let named = and-left (l .plain and eqb (l .left) j) (eqb (s .rep (l .right)) v) e in
     (and-left (l .plain) (eqb (l .left) j) named, eqb-true (l .left) j (and-right (l .plain) (eqb (l .left) j) named), eqb-true (s .rep (l .right)) v (and-right (l .plain and eqb (l .left) j) (eqb (s .rep (l .right)) v) e))
-
-getD-zeros : (k i : ℕ) → getD {A = ℕ} (replicate k 0) i 0 ≡ 0
-getD-zeros zero i = refl
-getD-zeros (suc k) zero = refl
-getD-zeros (suc k) (suc i) = getD-zeros k i
 
 -- v is the term of a node; p is the number of one
 abbrev IsNode : Query → Facts → ℕ → Type 0

@@ -18,7 +18,7 @@ look-spec =
     -- enum-known-section
     (λ c. search needs)
     -- returns
-    (λ c. seen-clashing _ _ _ _ (sym (terms-said _ _ (c .before .before .before .before .before .before .pre))) _ (rows-clash _ _ _ _ _ _ _ _ (c .before .before .before .find-clash .result) _ (c .before .before .before .find-clash .ensures)) _ (ap lineOf (c .before .section .given .1)))
+    (λ c. seen-clashing _ _ _ _ (sym (terms-said _ _ (c .before .before .before .before .before .before .pre))) _ (rows-clash _ _ _ _ (c .before .before .before .find-clash .result) _ (c .before .before .before .find-clash .ensures)) _ (ap lineOf (c .before .section .given .1)))
     -- enum-told
     (λ c. search needs)
     -- choose-requires
@@ -28,6 +28,6 @@ look-spec =
     -- enum-told-2
     (λ c. search needs)
     -- returns-2
-    (λ c. seen-saturated _ _ _ _ (sym (terms-said _ _ (c .before .before .before .before .before .before .before .before .pre))) _ (rows-clash _ _ _ _ _ _ _ _ (c .before .before .before .before .before .find-clash .result) _ (c .before .before .before .before .before .find-clash .ensures)) _ (ap lineOf (c .before .before .before .enum-told .given .1)) (c .before .before .choose .ensures) (ap choiceOf (c .enum-told2 .given .1)))
+    (λ c. seen-saturated _ _ _ _ (sym (terms-said _ _ (c .before .before .before .before .before .before .before .before .pre))) _ (rows-clash _ _ _ _ (c .before .before .before .before .before .find-clash .result) _ (c .before .before .before .before .before .find-clash .ensures)) _ (ap lineOf (c .before .before .before .enum-told .given .1)) (c .before .before .choose .ensures) (ap choiceOf (c .enum-told2 .given .1)))
     -- returns-3
-    (λ c. seen-applying _ _ _ _ (sym (terms-said _ _ (c .before .before .before .before .before .before .before .before .before .pre))) _ (rows-clash _ _ _ _ _ _ _ _ (c .before .before .before .before .before .before .find-clash .result) _ (c .before .before .before .before .before .before .find-clash .ensures)) _ (ap lineOf (c .before .before .before .before .enum-told .given .1)) (c .before .before .before .choose .ensures) _ (ap choiceOf (c .before .k .given .1))))
+    (λ c. seen-applying _ _ _ _ (sym (terms-said _ _ (c .before .before .before .before .before .before .before .before .before .pre))) _ (rows-clash _ _ _ _ (c .before .before .before .before .before .before .find-clash .result) _ (c .before .before .before .before .before .before .find-clash .ensures)) _ (ap lineOf (c .before .before .before .before .enum-told .given .1)) (c .before .before .before .choose .ensures) _ (ap choiceOf (c .before .k .given .1))))

@@ -1,0 +1,28 @@
+-- The bit is read in its row. Assumes nothing.
+use native.Mathlib.Omega.{arith}
+use borrow.Author.Needs.{needs}
+use mathlib.Core.Path.{sym, _∙_}
+use Rattle.link_rows.proofs.Cube.{cube-above, cube-beside, held-at}
+use Rattle.link_rows.proofs.is_held.Statement.{statement}
+use Rattle.link_rows.proofs.is_held.Tie as tie
+
+pub is-held-spec : {M : Type 1} → statement M
+is-held-spec =
+    tie.close
+    (tie.spec
+    -- returns
+    (λ c. sym (cube-above _ _ _ _ (c .if1 .taken)))
+    -- returns-2
+    (λ c. sym (cube-beside _ _ _ _ (c .if2 .taken)))
+    -- place-requires
+    (λ c κs. search needs)
+    -- add-at
+    (λ c. omega (arith, c .place .ensures .1, c .before .before .if1 .left))
+    -- mul-has
+    (λ c. omega (arith, c .place .ensures .1, c .before .before .if1 .left))
+    -- element-copy-out-has
+    (λ c. omega (arith, c .place .ensures .1, c .before .before .if1 .left))
+    -- has-requires
+    (λ c κs. omega (arith, c .before .before .if2 .left))
+    -- returns-3
+    (λ c. c .has .ensures ∙ held-at _ _ _ _ (c .before .before .before .before .before .pre .0) (omega (arith, c .before .before .before .before .if1 .left)) (omega (arith, c .before .before .before .if2 .left)) _ (c .before .before .place .ensures .0)))
