@@ -2,8 +2,9 @@
 use mathlib.Core.Path.{refl}
 use mathlib.Core.Option.{Option·elim}
 use Rattle.logic.specs.Search.{_and_, _or_, from, all, select, at}
+use Rattle.between_search.specs.Tests.{stepCount}
 use Rattle.routine_logic.specs.State.{changed, changedAt, withVariable, withLink, withFlag}
-use Rattle.routine_logic.specs.Formulas.{baseNode, follow, node, stepCount, reachesBy, betweenBy, sameTruth, holds, meets}
+use Rattle.routine_logic.specs.Formulas.{baseNode, follow, node, reachesBy, betweenBy, sameTruth, holds, meets}
 use Rattle.routine_logic.specs.Runs.{canFail, checking, prefixes, dereferenced, dereferencedIn, reading, testing, clauses, giving, run, finishing, entering, returning, atHead, loopSegments, segments}
 use Rattle.routine_logic.specs.Checks.{sameBase, sameLinks, sameTerm, once, termsOf, nulls, invariantChecks, ensuresChecks, codeChecks, checks}
 use Rattle.routine_logic.specs.Shown.{kindNumber, clauseNumber, termIn, sameKind, sameCheck, ownLine, shownIn, shown}

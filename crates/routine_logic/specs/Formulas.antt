@@ -1,11 +1,13 @@
--- Terms and formulas in a state (03, "What a text means"). That `reaches` and `between` are those of 01 and of R-10 is a theorem (proofs/Formulas).
-use Prim.Native.Nat.{ℕ, zero, suc}
+-- Terms and formulas in a state (03, "What a text means"). That `reaches` and `between` are those of 01 and of R-10 is a theorem
+-- (`reaches-means`, `between-means` of crates/routine_theory).
+use Prim.Native.Nat.{ℕ}
 use mathlib.Core.Path.{_≡_}
-use mathlib.Core.Bool.{Bool, true, false, not, cond}
+use mathlib.Core.Bool.{Bool, true, false, not}
 use mathlib.Core.List.{List, [], _∷_}
 use lib.Dec.{eqb, leb, ltb}
 use lib.ListN.{getD}
 use Rattle.logic.specs.Search.{_and_, _or_, from, all}
+use Rattle.between_search.specs.Tests.{stepCount}
 use Rattle.routine_logic.specs.Syntax.{Base, null, variable, bound, Term, Formula, always, never, equal, unequal, reaches, between, flag, negation, both, either, implies, same, forall, Clause}
 use Rattle.routine_logic.specs.State.{State, nullNode}
 
@@ -26,12 +28,8 @@ follow s (i ∷ is) v = follow s is (s .link i v)
 unfoldable pub node : State → Bound → Term → ℕ
 node s e t = follow s (t .links) (baseNode s e (t .base))
 
--- the least number of links from v to w, of k numbers from 0 on: k where it is none of them
-unfoldable pub stepCount : (ℕ → ℕ) → ℕ → ℕ → ℕ → ℕ
-stepCount f zero v w = 0
-stepCount f (suc k) v w = let rest : ℕ = suc (stepCount f k (f v) w) in cond (eqb v w) 0 rest
-
--- "`reaches`: zero or more links": fewer than there are nodes, if any
+-- "`reaches`: zero or more links": fewer than there are nodes, if any. `stepCount f k v w` is the least number of links from v to w, or k where
+-- it is none of the k numbers from 0 on.
 unfoldable pub reachesBy : State → ℕ → ℕ → ℕ → Bool
 reachesBy s i v w = ltb (stepCount (s .link i) (s .size) v w) (s .size)
 
