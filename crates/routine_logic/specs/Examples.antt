@@ -8,7 +8,7 @@ use lib.Dec.{eqb}
 use lib.ListN.{length, getD}
 use Rattle.logic.specs.Search.{from, at}
 use Rattle.routine_logic.specs.Syntax.{null, variable, bound, Term, Formula, always, never, equal, unequal, reaches, between, flag, negation, both, either, implies, same, forall, Place, Clause, Code, end, assign, assignLink, assignFlag, havoc, assume, assert, cover, branch, loop, leave, breakOut, Routine}
-use Rattle.routine_logic.specs.State.{State}
+use Rattle.routine_logic.specs.State.{State, IsState}
 use Rattle.routine_logic.specs.Formulas.{meets}
 use Rattle.routine_logic.specs.Runs.{segments}
 use Rattle.routine_logic.specs.Checks.{checks}
@@ -217,3 +217,7 @@ pub record ExamplesHold : Type 0 where
   pub reaches-by : map (λ f. meets (stateOf ((1 ∷ 3 ∷ 4 ∷ 1 ∷ []) ∷ (1 ∷ 1 ∷ 2 ∷ 3 ∷ []) ∷ []) [] (2 ∷ 4 ∷ [])) (clause 1 f ∷ []))
       (reaches 1 (name 0) (name 1) ∷ reaches 2 (name 0) (name 1) ∷ reaches 2 (name 1) (name 0) ∷ reaches 1 (name 0) NULL ∷ reaches 1 (name 0) (name 0) ∷ reaches 1 NULL (name 0) ∷ [])
       ≡ true ∷ false ∷ true ∷ true ∷ true ∷ false ∷ []
+  -- NULL's "links lead to itself and its flags are 0"
+  pub null-at-home : IsState (stateOf ((1 ∷ 1 ∷ []) ∷ []) ((0 ∷ 1 ∷ []) ∷ []) [])
+  pub null-astray : IsState (stateOf ((2 ∷ 1 ∷ []) ∷ []) [] []) → ⊥
+  pub null-flagged : IsState (stateOf ((1 ∷ 1 ∷ []) ∷ []) ((1 ∷ 0 ∷ []) ∷ []) []) → ⊥

@@ -42,7 +42,7 @@ Events = List Event
 -- "A run of a segment ends at the first check that fails." `rest` is what happens behind one that does not.
 unfoldable pub checking : ℕ → Kind → Bool → ℕ → State → Events → Events
 checking number kind passes line s rest =
-    checked (record { statement = number; kind = kind }) passes line s ∷ cond (passes) rest (cond (canFail kind) [] rest)
+    checked (record { statement = number; kind = kind }) passes line s ∷ cond passes rest (cond (canFail kind) [] rest)
 
 -- Where a run is: a state, and "the nodes that its havocs give, in order" from there on.
 pub record Now : Type 0 where

@@ -27,11 +27,15 @@ module _ (s : State) (is : IsState s) (i v : ℕ) (h : Node s v) where
   counted : (w j : ℕ) → MetAfter (s .link i) v w j → (count w ≡ j) × (j < s .size)
   counted w j m = let l = met-soon (s .link i) (s .size) v w j inside m in (met-count (s .link i) w (s .size) v j m l, l)
 
+  -- what is met is counted below the number of nodes
+  below : (w j : ℕ) → MetAfter (s .link i) v w j → ltb (count w) (s .size) ≡ true
+  below w j m = let c = counted w j m in ltb-intro {m = count w} {n = s .size} (omega (arith, c .0, c .1))
+
   pub reaches-means : (w : ℕ) → (reachesBy s i v w ≡ true) ↔ Reaches (s .link i) v w
   unfolding reachesBy Reaches
   reaches-means w = (
     λ e. (count w, count-met (s .link i) w (s .size) v (ltb-true _ _ e) .met),
-    λ r. let m = met-first (s .link i) (r .0) v w (r .1) in let c = counted w (m .0) (m .2) in ltb-intro (omega (arith, c .0, c .1)),
+    λ r. let m = met-first (s .link i) (r .0) v w (r .1) in below w (m .0) (m .2),
   )
 
   pub between-means : (y z : ℕ) → (betweenBy s i v y z ≡ true) ↔ Between (s .link i) v y z
@@ -53,4 +57,5 @@ module _ (s : State) (is : IsState s) (i v : ℕ) (h : Node s v) where
       back b =
           let p = counted y (b .steps) (b .middle-met) in
           let q = counted z (b .steps-to) (b .to-met) in
-          and-intro (and-intro (ltb-intro (omega (arith, p .0, p .1))) (ltb-intro (omega (arith, q .0, q .1)))) (leb-intro (omega (arith, p .0, q .0, b .not-above)))
+          and-intro (and-intro (below y (b .steps) (b .middle-met)) (below z (b .steps-to) (b .to-met)))
+          (leb-intro {m = count y} {n = count z} (omega (arith, p .0, q .0, b .not-above)))
