@@ -16,6 +16,15 @@ use Rattle.routine_logic.specs.Checks.{sameBase, sameLinks, sameTerm, on
 use Rattle.routine_logic.specs.Shown.{kindNumber, clauseNumber, termIn, sameKind, sameCheck, ownLine, shownIn, shown}
 use Rattle.routine_logic.specs.Examples.{ExamplesHold, stateOf, seen, remove, bent, unguarded, palletiser, tested, walking, rowsOf}
 
+-- NULL's link leads elsewhere; a flag of NULL is 1
+astray : IsState (stateOf ((2 ∷ 1 ∷ []) ∷ []) [] []) → ⊥
+unfolding stateOf at Option·elim
+astray is = absurd (omega (arith, is .null-link 1))
+
+flagged : IsState (stateOf ((1 ∷ 1 ∷ []) ∷ []) ((1 ∷ 0 ∷ []) ∷ []) []) → ⊥
+unfolding stateOf at Option·elim
+flagged is = false≢true (sym (is .null-flag 1))
+
 -- a list of one node behind NULL is a state: every node's link leads to NULL, or, where there is no such link, to the node itself
 one-node : State
 one-node = stateOf ((1 ∷ 1 ∷ []) ∷ []) ((0 ∷ 1 ∷ []) ∷ []) []
@@ -48,8 +57,8 @@ unfolding one-node stateOf at Option·elim
 at-home =
     record {
       is-heap = record { nonempty = omega arith; link-node = one-link; variable-node = λ t. (omega arith, omega arith) };
-      null-link = λ i. null-links _;
-      null-flag = λ j. null-flags _;
+      null-link = null-links;
+      null-flag = null-flags;
     }
 
 pub examples-hold : ExamplesHold
@@ -87,6 +96,6 @@ examples-hold =
       between-on-ring = refl;
       reaches-by = refl;
       null-at-home = at-home;
-      null-astray = λ is. absurd (omega (arith, is .null-link 1));
-      null-flagged = λ is. false≢true (sym (is .null-flag 1));
+      null-astray = astray;
+      null-flagged = flagged;
     }
