@@ -57,9 +57,10 @@ pub record Shows (r : Routine) (c : Check) (passes : Bool) (segment : Segment) (
   pub happens : Happens (segment .go now) c passes
 
 -- "`unreached`, if no run of a segment comes to it; else `holds`, if none fails at it; `can fail`, with a state from which a segment fails at it.
--- .. For a cover `possible` with a state, or `impossible`." (Where a limit is passed, a check that no run comes to may be said to hold.)
+-- .. For a cover `possible` with a state, or `impossible`", also where no run comes to it, as in the second example of 03. (Where a limit is
+-- passed, a check that no run comes to may be said to hold.)
 abbrev pub Right : Routine → Check → Answer → Type 0
-Right r c unreached = Comes r c → ⊥
+Right r c unreached = (canFail (c .kind) ≡ true) × (Comes r c → ⊥)
 Right r c holding = (canFail (c .kind) ≡ true) × (Fails r c → ⊥)
 Right r c impossible = (canFail (c .kind) ≡ false) × (Met r c → ⊥)
 Right r c (failing segment now) = (canFail (c .kind) ≡ true) × Shows r c false segment now
