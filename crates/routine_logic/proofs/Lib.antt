@@ -1,0 +1,2 @@
+-- What the definitions give for the examples, by computation.
+pub mod Examples

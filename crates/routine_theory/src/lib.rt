@@ -1,0 +1,1 @@
+// Theorems about routines in proofs/. There is no code in this crate.
