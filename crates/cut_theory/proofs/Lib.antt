@@ -1,0 +1,4 @@
+-- Theorems about cut links, from their leaves up; the examples first.
+pub mod Examples
+pub mod Jumps
+pub mod Versions
