@@ -51,7 +51,7 @@ in-move links (line k x y z) m h =
     ap moveLine (sym (g .1)) ∙ ap (λ (j : ℕ). line j x y z) (eqb-true (moveNumber i r) k (g .0))
 
 -- a rule's number is below that of a clash line
-rule-below : (r : Rule) → ruleNumber r < 9
+pub rule-below : (r : Rule) → ruleNumber r < 9
 unfolding ruleNumber
 rule-below REFLEX = omega arith
 rule-below TRANS1 = omega arith
