@@ -34,10 +34,14 @@ unfolding numberFrom
 number-grows v [] = omega arith
 number-grows v (d ∷ ds) = omega (arith, number-grows (10 * v + (d - 48)) ds)
 
+-- the number that a digit goes on with
+abbrev goesOn : ℕ → ℕ → ℕ
+goesOn v d = 10 * v + (d - 48)
+
 module _ (place : ℕ) (rest : List ℕ) where
-  digit-read : (v d : ℕ) (begun : Bool) (ds : List ℕ) → isDigit d ≡ true → 10 * v + (d - 48) ≤ 255 → numbersFrom place v begun (d ∷ (ds ++ rest)) ≡ numbersFrom place (10 * v + (d - 48)) true (ds ++ rest)
+  digit-read : (v d : ℕ) (begun : Bool) (ds : List ℕ) → isDigit d ≡ true → goesOn v d ≤ 255 → numbersFrom place v begun (d ∷ (ds ++ rest)) ≡ numbersFrom place (goesOn v d) true (ds ++ rest)
   unfolding numbersFrom
-  digit-read v d begun ds e l = rw (e, le-ltb 255 (10 * v + (d - 48)) l) refl
+  digit-read v d begun ds e l = rw (e, le-ltb 255 (goesOn v d) l) refl
 
   digits-read : (v : ℕ) (ds : List ℕ) → all isDigit ds ≡ true → numberFrom v ds ≤ 255 → numbersFrom place v true (ds ++ rest) ≡ numbersFrom place (numberFrom v ds) true rest
   unfolding numberFrom all
@@ -149,7 +153,22 @@ lines-counted (line a b c d ∷ ls) = omega (arith, newlines-line a b c d (flatM
 
 line-short : (a b c d : ℕ) (rest : List ℕ) → Bytes (line a b c d) → length (lineText (line a b c d) ++ rest) ≤ 16 + length rest
 line-short a b c d rest (p, q, r, s) =
-    omega (arith, ap length (line-spread a b c d rest), length-append (decimal a) (ascii " " ++ (decimal b ++ (ascii " " ++ (decimal c ++ (ascii " " ++ (decimal d ++ (ascii "\n" ++ rest))))))), length-append (decimal b) (ascii " " ++ (decimal c ++ (ascii " " ++ (decimal d ++ (ascii "\n" ++ rest))))), length-append (decimal c) (ascii " " ++ (decimal d ++ (ascii "\n" ++ rest))), length-append (decimal d) (ascii "\n" ++ rest), decimal-byte a p, decimal-byte b q, decimal-byte c r, decimal-byte d s)
+    let last : List ℕ = ascii "\n" ++ rest in
+    let third : List ℕ = ascii " " ++ (decimal d ++ last) in
+    let second : List ℕ = ascii " " ++ (decimal c ++ third) in
+    let first : List ℕ = ascii " " ++ (decimal b ++ second) in
+    omega (
+      arith,
+      ap length (line-spread a b c d rest),
+      length-append (decimal a) first,
+      length-append (decimal b) second,
+      length-append (decimal c) third,
+      length-append (decimal d) last,
+      decimal-byte a p,
+      decimal-byte b q,
+      decimal-byte c r,
+      decimal-byte d s,
+    )
 
 lines-short : (ls : List Line) → AllBytes ls → length (flatMap lineText ls) ≤ 16 * length ls
 unfolding flatMap

@@ -8,7 +8,7 @@ use Rattle.logic.specs.Query.{Query, termCount}
 use Rattle.logic.specs.Facts.{Facts, start}
 use Rattle.logic.specs.Rules.{Rule, triple, Move, move, Fact, alternatives, applies, add, branches}
 use Rattle.logic.specs.Walk.{limit}
-use Rattle.logic.specs.Steps.{Steps, at-first, one-more}
+use Rattle.logic.specs.Steps.{Step, Steps, at-first, one-more}
 use Rattle.theory.proofs.Basics.Search.{map-intro}
 use Rattle.theory.proofs.Query.Tied.{Accepted}
 use Rattle.theory.proofs.Paths.Invariant.{Invariant, start-invariant, branch-invariant}
@@ -35,9 +35,10 @@ module _ (q : Query) (ok : Accepted q) where
     ahead-next c mem =
         let e : suc (limit q - left) ≡ limit q - (left - 1) = (let l = ahead-some in let u = ahead .some in omega arith) in
         let u = ahead .some in
+        let step : Step (termCount q) s (add (termCount q) s c) = record { rule-move = m; applicable = app; branch = map-intro (add (termCount q) s) c mem } in
         record {
           some = omega arith;
-          led = subst (λ (k : ℕ). Steps (termCount q) (start q) k (add (termCount q) s c)) e (one-more (ahead .led) (record { rule-move = m; applicable = app; branch = map-intro (add (termCount q) s) c mem }));
+          led = subst (λ (k : ℕ). Steps (termCount q) (start q) k (add (termCount q) s c)) e (one-more (ahead .led) step);
         }
 
   pub ahead-numbers : (s : Facts) (left : ℕ) → Ahead q s left → (i : ℕ) (r : Rule) (x y z : ℕ) → applies (termCount q) s (move i r (triple x y z)) ≡ true → (x ≤ 16) × (y ≤ 16) × (z ≤ 16)

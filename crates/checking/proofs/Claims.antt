@@ -151,7 +151,9 @@ module _ (query derivation : List ℕ) where
   refused-exactly k place own = (λ h. there h cases, λ f. back f cases)
     where
       there : checkCall query derivation ≡ refused k place → Case → FirstStands queryChecks (queryAlone query) k place
-      there h (by-query j p f e) = let (a, b) = refused-same (sym e ∙ h) in subst (λ (x : ℕ). FirstStands queryChecks (queryAlone query) x place) a (subst (FirstStands queryChecks (queryAlone query) j) b f)
+      there h (by-query j p f e) =
+          let (a, b) = refused-same (sym e ∙ h) in
+          subst (λ (x : ℕ). FirstStands queryChecks (queryAlone query) x place) a (subst (FirstStands queryChecks (queryAlone query) j) b f)
       there h (by-shape a m e) = absurd (not-twenty own (sym (refused-same (sym e ∙ h) .0)))
       there h (by-lines t n e) = absurd (accepted-refused (sym e ∙ h))
       there h (by-line t j n e) = absurd (wrong-refused (sym e ∙ h))

@@ -26,12 +26,19 @@ module _ (n : ℕ) (g : Graph) (x : ℕ) where
   returns-there zero c h = absurd (false≢true h)
   returns-there (suc k) c h = ⊎-elim (λ e. ap (λ (j : ℕ). iterate (next n g) j (next n g c)) (e .1) ∙ e .0) (returns-there k (next n g c)) (returns-cases n g x k c h)
 
-  not-before : (k c : ℕ) → returns n g x k c ≡ true → (j : ℕ) → suc j < k → iterate (next n g) (suc j) c ≡ x → ⊥
+  -- links from c lead to x after none of the steps from 1 up to k
+  abbrev NotBefore : ℕ → ℕ → Type 0
+  NotBefore k c = (j : ℕ) → suc j < k → iterate (next n g) (suc j) c ≡ x → ⊥
+
+  not-before : (k c : ℕ) → returns n g x k c ≡ true → NotBefore k c
   unfolding returns iterate
   not-before zero c h j l e = omega arith
   not-before (suc k) c h j l e = go (eqb (next n g c) x) refl h (not-before k (next n g c)) j l e
     where
-      go : (b : Bool) → eqb (next n g c) x ≡ b → cond b (eqb k 0) (returns n g x k (next n g c)) ≡ true → (returns n g x k (next n g c) ≡ true → (j : ℕ) → suc j < k → iterate (next n g) (suc j) (next n g c) ≡ x → ⊥) → (j : ℕ) → suc j < suc k → iterate (next n g) j (next n g c) ≡ x → ⊥
+      rest : Bool
+      rest = returns n g x k (next n g c)
+
+      go : (b : Bool) → eqb (next n g c) x ≡ b → cond b (eqb k 0) rest ≡ true → (rest ≡ true → NotBefore k (next n g c)) → NotBefore (suc k) c
       go true f h ih j l e = omega (arith, eqb-true k 0 h)
       go false f h ih zero l e = true-false (eqb-intro e) f
       go false f h ih (suc j) l e = ih h j (omega arith) e
@@ -48,7 +55,9 @@ module _ (n : ℕ) (g : Graph) (x : ℕ) where
   cycle-steps r linked (suc k) h =
       ⊎-elim (λ l. l)
       (λ l.
-      let within : Within (next n g) n x = λ i m. round-all n g x (r .0) (λ a b e. linked a b e .0 .0) (InRange n) (λ a b e. linked a b e .1) (suc k) x h r (iterate (next n g) i x) (in-round (suc k) x i (omega arith)) in
+      let along : (u : ℕ) → List·Memᴰ u (round n g (suc k) x) → InRange n u =
+      round-all n g x (r .0) (λ a b e. linked a b e .0 .0) (InRange n) (λ a b e. linked a b e .1) (suc k) x h r in
+      let within : Within (next n g) n x = λ i m. along (iterate (next n g) i x) (in-round (suc k) x i (omega arith)) in
       let (d, m, e) = cycle-short (next n g) n x within (k, returns-there (suc k) x h) in
       absurd (not-before (suc k) x h d (omega arith) e))
       (le-cases (suc k) n)

@@ -9,7 +9,8 @@ use mathlib.Core.Option.{Option, none, some, Option·elim}
 use lib.Dec.{eqb}
 use Rattle.logic.specs.Search.{firstOf}
 use Rattle.logic.specs.Query.{Literal, Query, literal, termCount}
-use Rattle.logic.specs.Facts.{Facts, Joined, linkNumbers, terms, live, successors, firstTwo, doubled, unjoined, joinPair, andThen, settle, join, linksOf, joinEach, nilTerms, equalTo, addNilLinks, joinNil, startJoins}
+use Rattle.logic.specs.Facts.{Facts, Joined, linkNumbers, terms, live, successors, firstTwo, doubled, unjoined, joinPair, andThen}
+use Rattle.logic.specs.Facts.{settle, join, linksOf, joinEach, nilTerms, equalTo, addNilLinks, joinNil, startJoins}
 use Rattle.logic.specs.Rules.{Fact, equal, reaches, branch}
 use Rattle.theory.proofs.Basics.Search.{firstOf-some, select-mem, from-mem, map-mem}
 use Rattle.theory.proofs.Query.Tied.{Accepted}
@@ -42,7 +43,9 @@ module _ (n : ℕ) where
       let f = firstOf-some (λ t. firstOf (at t) (linkNumbers (s .links))) (terms n) ab h in
       let e = firstOf-some (at (f .0)) (linkNumbers (s .links)) ab (f .2) in
       let l = firstTwo-some (successors n (s .graph (e .0)) (f .0)) ab (e .2) in
-      (term (e .0) (f .0) (ab .0) (subst (List·Memᴰ (ab .0)) (sym (l .1)) (List·Memᴰ·head refl)), term (e .0) (f .0) (ab .1) (subst (List·Memᴰ (ab .1)) (sym (l .1)) (List·Memᴰ·tail (List·Memᴰ·head refl))))
+      let low = subst (List·Memᴰ (ab .0)) (sym (l .1)) (List·Memᴰ·head refl) in
+      let high = subst (List·Memᴰ (ab .1)) (sym (l .1)) (List·Memᴰ·tail (List·Memᴰ·head refl)) in
+      (term (e .0) (f .0) (ab .0) low, term (e .0) (f .0) (ab .1) high)
     where
       term : (i t u : ℕ) → List·Memᴰ u (successors n (s .graph i) t) → u ≤ n
       term i t u m = let r = from-mem n 1 u (select-mem (s .graph i .link t) u (terms n) m .0) in omega arith

@@ -79,13 +79,28 @@ module _ (q : Query) where
   heading-fits [] s gs = fitting.no-line
   heading-fits (h ∷ hs) s gs = fitting.one-more h (step-heading h hs s gs) (heading-fits hs s gs)
 
-  pub step-clash : (s : Facts) (gs : List Goal) (l : Line) → isClash q s l ≡ true → step q (record { heading = []; facts = s } ∷ gs) l ≡ some gs
-  unfolding step atGoal atPath Option·elim
-  step-clash s gs l e = rw e
+  -- what is left of all goals, by what is left of the first; and of a path, by whether the line is its clash
+  abbrev leaves : Option (List Goal) → List Goal → Option (List Goal)
+  leaves o gs = Option·elim o none (λ new. some (new ++ gs))
 
-  pub step-rule : (s : Facts) (gs : List Goal) (l : Line) (m : Move) → isClash q s l ≡ false → clash q s ≡ none → moveIn (s .links) l ≡ some m → applies (termCount q) s m ≡ true → step q (record { heading = []; facts = s } ∷ gs) l ≡ some (goalsOf (termCount q) s m ++ gs)
-  unfolding step atGoal atPath afterRule Option·elim isClashed isSome keep
-  step-rule s gs l m e f g h = rw (e, f, g, h)
+  abbrev unclashed : Facts → Line → Option (List Goal)
+  unclashed s l = cond (isClashed q s) none (afterRule q s l)
+
+  module _ (s : Facts) (gs : List Goal) (l : Line) where
+    abbrev Leaves : List Goal → Type 0
+    Leaves hs = step q (record { heading = []; facts = s } ∷ gs) l ≡ some hs
+
+    pub step-clash : isClash q s l ≡ true → Leaves gs
+    unfolding step atGoal atPath Option·elim
+    step-clash e = ap (λ (b : Bool). leaves (cond b (some []) (unclashed s l)) gs) e
+
+    pub step-rule : (m : Move) → isClash q s l ≡ false → clash q s ≡ none → moveIn (s .links) l ≡ some m → applies (termCount q) s m ≡ true → Leaves (goalsOf (termCount q) s m ++ gs)
+    unfolding step atGoal atPath afterRule Option·elim isClashed isSome keep
+    step-rule m e f g h =
+        ap (λ (b : Bool). leaves (cond b (some []) (unclashed s l)) gs) e
+        ∙ ap (λ (o : Option Line). leaves (cond (isSome o) none (afterRule q s l)) gs) f
+        ∙ ap (λ (o : Option Move). leaves (Option·elim o none (λ m. keep (applies (termCount q) s m) (goalsOf (termCount q) s m))) gs) g
+        ∙ ap (λ (b : Bool). leaves (keep b (goalsOf (termCount q) s m)) gs) h
 
   -- a rule line is no clash line
   rule-no-clash : (s : Facts) (m : Move) → isClash q s (moveLine m) ≡ false
