@@ -246,7 +246,10 @@ ours-accepted i h =
 -- Derivations by a hand
 
 module _ (query : List ℕ) (picks : List Pick) where
-  hand-any-clash : (ends : List Line) → accepts query ≡ true → Ends (decode query) (rowAfter query picks) ends → (lines : List Line) × HandAccepted query picks lines × (select isClashLine lines ≡ ends)
+  abbrev EndedBy : List Line → Type 0
+  EndedBy ends = (lines : List Line) × HandAccepted query picks lines × (select isClashLine lines ≡ ends)
+
+  hand-any-clash : (ends : List Line) → accepts query ≡ true → Ends (decode query) (rowAfter query picks) ends → EndedBy ends
   hand-any-clash ends a e =
       let (lines, writes, same) = hand-writes (decode query) picks ends e in
       (lines, (writes, derivation-accepted query lines a (writes .follows)), same)

@@ -293,7 +293,10 @@ module _ (q : Query) (p : Pick) where
       free : Bool
       free = not (isClashed q s)
 
-      go : (o : Option Move) → free and holdsOf o (applies (termCount q) s) ≡ false → Option·elim o (s ∷ []) (λ m. cond (free and applies (termCount q) s m) (branches (termCount q) s m) (s ∷ [])) ≡ s ∷ []
+      at-move : Move → List Facts
+      at-move m = cond (free and applies (termCount q) s m) (branches (termCount q) s m) (s ∷ [])
+
+      go : (o : Option Move) → free and holdsOf o (applies (termCount q) s) ≡ false → Option·elim o (s ∷ []) at-move ≡ s ∷ []
       go none h = refl
       go (some m) h = cond-false (branches (termCount q) s m) (s ∷ []) h
 
