@@ -7,7 +7,7 @@ A line there has parts in hex (`-` is none), in most files a room in decimal beh
 names the call, three parts, each after its length in two bytes, high byte first, and the room in two bytes; the answers are what the
 program must print, and behind each every byte that was lent.
 
-buffers.txt, limits.txt and texts.txt are written by hand from 01 and 02: before the parts the call, behind the answer the bytes that it leaves at
+buffers.txt, edge-calls.txt, limits.txt and texts.txt are written by hand from 01 and 02: before the parts the call, behind the answer the bytes that it leaves at
 the front of the room. base and rewritten have inputs of heapverdict and what it prints of them: order and query are asked again with the
 equalities in other orders. long has derivations of 16,000 lines, which the checking call must accept (02, R-8).
 """
@@ -209,6 +209,7 @@ CASES = [
     *hand_back(),
     *with_room(13, 'R-13-rewriting.txt'),
     *by_hand('buffers.txt'),
+    *by_hand('edge-calls.txt'),
     *by_hand('limits.txt'),
     *texts(),
     *sixteen_thousand(),
