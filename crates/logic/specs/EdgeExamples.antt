@@ -117,6 +117,8 @@ answeredRows =
     -- "every pair it joined, in order" (02, R-1): the pair asked for, then its doubled successors: 1=2, and f(1), f(2) differ
     ∷ derives inOrder (4 ∷ 0 ∷ 0 ∷ 1 ∷ 2 ∷ 2 ∷ 1 ∷ 1 ∷ 2 ∷ 0 ∷ 3 ∷ 4 ∷ 0 ∷ 0 ∷ 0 ∷ [])
     ((0 ∷ 3 ∷ 10 ∷ 1 ∷ 2 ∷ 0 ∷ 10 ∷ 3 ∷ 4 ∷ 0 ∷ 9 ∷ 2 ∷ 2 ∷ 0 ∷ []) ++ zeros 39)
+    -- "joining a term with itself does nothing" (01): 1=1, and not 1=1
+    ∷ derives inOrder (1 ∷ 0 ∷ 2 ∷ 1 ∷ 1 ∷ 1 ∷ 0 ∷ 1 ∷ 1 ∷ 0 ∷ 0 ∷ 0 ∷ []) ((0 ∷ 1 ∷ 9 ∷ 2 ∷ 2 ∷ 0 ∷ []) ++ zeros 47)
     -- "joins the nil terms to the lowest, ascending" (02, R-3): 1, 3 and 4, and 3 and 4 differ
     ∷ derives inOrder (4 ∷ 255 ∷ 0 ∷ 255 ∷ 255 ∷ 1 ∷ 0 ∷ 3 ∷ 4 ∷ 0 ∷ 0 ∷ 0 ∷ [])
     ((0 ∷ 3 ∷ 10 ∷ 1 ∷ 3 ∷ 0 ∷ 10 ∷ 1 ∷ 4 ∷ 0 ∷ 9 ∷ 2 ∷ 1 ∷ 0 ∷ []) ++ zeros 39)
