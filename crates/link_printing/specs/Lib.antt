@@ -1,2 +1,3 @@
 pub mod LinkText
+pub mod Claims
 pub mod Examples

@@ -1,2 +1,3 @@
 pub mod RewriteText
+pub mod Claims
 pub mod Examples
