@@ -1,3 +1,2 @@
 pub mod LinkText
 pub mod Claims
-pub mod Examples

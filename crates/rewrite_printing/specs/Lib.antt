@@ -1,3 +1,2 @@
 pub mod RewriteText
 pub mod Claims
-pub mod Examples
