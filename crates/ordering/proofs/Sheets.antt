@@ -18,7 +18,7 @@ use Rattle.ordering.proofs.Rings.{Numbered}
 
 pub laid-length : (sheet : List ℕ) → laidOut sheet ≡ true → length sheet ≡ 2 * countOf sheet + 1
 unfolding laidOut
-laid-length sheet h = eqb-true (length sheet) (2 * countOf sheet + 1) (and-right (leb (countOf sheet) 28) (eqb (length sheet) (2 * countOf sheet + 1)) h)
+laid-length sheet h = eqb-true (length sheet) (2 * countOf sheet + 1) (and-right _ _ h)
 
 pub number-rule : (sheet : List ℕ) → rulesOnly sheet ≡ true → (k : ℕ) → suc k < length sheet → isRule (getD sheet (1 + k) 0) ≡ true
 unfolding rulesOnly
@@ -56,7 +56,7 @@ pub laid-whole : (sheet : List ℕ) → laidOut sheet ≡ true → WholeSheet sh
 unfolding laidOut
 laid-whole sheet h =
     record {
-      count-within = leb-true (countOf sheet) 28 (and-left (leb (countOf sheet) 28) (eqb (length sheet) (2 * countOf sheet + 1)) h);
+      count-within = leb-true (countOf sheet) _ (and-left _ _ h);
       length-is = omega (arith, laid-length sheet h);
     }
 
