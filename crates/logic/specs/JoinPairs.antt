@@ -80,7 +80,7 @@ nilGiven (t ∷ us) = equalGiven (equalTo t us) ++ (nilLinks t ∷ [])
 -- what a start is given behind the links of section 1: nil, "then each plain equality joined in query order, then the plain reachability facts"
 unfoldable pub startGiven : Query → List Given
 startGiven q =
-    nilGiven (nilTerms q) ++ (equalGiven (q .equalities) ++ plainGiven (λ l. reaches (l .link) (l .left) (l .right)) (q .reachability))
+    (nilGiven (nilTerms q) ++ equalGiven (q .equalities)) ++ plainGiven (λ l. reaches (l .link) (l .left) (l .right)) (q .reachability)
 
 -- the facts with pairs replaced one after the other, and with the links of nil, if a term names it
 unfoldable pub replaceEach : List (ℕ × ℕ) → Facts → Facts

@@ -20,26 +20,40 @@ use Rattle.theory.proofs.Paths.Start.{linksOf-ranged, joinEach-kept, ni
 abbrev Pairs : Type 0
 Pairs = List (ℕ × ℕ)
 
--- What is joined, and then what follows it: pairs of the rest in hand, those of a join stand before them.
 module _ (n : ℕ) (end : Facts) where
-  replays-settle : (k : ℕ) (s : Facts) (given : List Given) (pairs : Pairs) → Replays n (settle n k s .facts) given pairs end → Replays n s given (settle n k s .pairs ++ pairs) end
-  unfolding settle unjoined joinPair andThen Option·elim
-  replays-settle zero s given pairs r = r
-  replays-settle (suc k) s given pairs r = go (doubled n s) refl (λ s′. replays-settle k s′ given pairs) r
-    where
-      go : (o : Option (ℕ × ℕ)) → doubled n s ≡ o → ((s′ : Facts) → Replays n (settle n k s′ .facts) given pairs end → Replays n s′ given (settle n k s′ .pairs ++ pairs) end) → Replays n (Option·elim o (unjoined s) (λ ab. andThen (joinPair ab s) (settle n k)) .facts) given pairs end → Replays n s given (Option·elim o (unjoined s) (λ ab. andThen (joinPair ab s) (settle n k)) .pairs ++ pairs) end
-      go none e ih r = r
-      go (some ab) e ih r = doubles ab e (ih (replace (ab .0) (ab .1) s) r)
+  -- joins are replayed by what is given first: where the rest is replayed from what they leave, all of it is from where they began
+  abbrev First : Facts → List Given → Joined → Type 0
+  First s first j = (given : List Given) (pairs : Pairs) → Replays n (j .facts) given pairs end → Replays n s (first ++ given) (j .pairs ++ pairs) end
 
-  -- what is given, and what is known to become of it
-  takes-as : (s : Facts) (g : Given) (j : Joined) (given : List Given) (pairs : Pairs) → taken g s ≡ j → doubled n s ≡ none → Replays n (j .facts) given pairs end → Replays n s (g ∷ given) (j .pairs ++ pairs) end
-  takes-as s g j given pairs e d r =
+  first-none : (s : Facts) → First s [] (unjoined s)
+  unfolding unjoined
+  first-none s given pairs r = r
+
+  first-then : (s : Facts) (first second : List Given) (j : Joined) (f : Facts → Joined) → First s first j → First (j .facts) second (f (j .facts)) → First s (first ++ second) (andThen j f)
+  unfolding andThen
+  first-then s first second j f a b given pairs r =
+      subst (λ (gs : List Given). Replays n s gs ((j .pairs ++ f (j .facts) .pairs) ++ pairs) end) (sym (append-assoc first second given))
+      (subst (λ (ps : Pairs). Replays n s (first ++ (second ++ given)) ps end) (sym (append-assoc (j .pairs) (f (j .facts) .pairs) pairs))
+      (a (second ++ given) (f (j .facts) .pairs ++ pairs) (b given pairs r)))
+
+  -- what is given, where it is known what becomes of it
+  first-taken : (s : Facts) (g : Given) (j : Joined) → taken g s ≡ j → doubled n s ≡ none → First s (g ∷ []) j
+  first-taken s g j e d given pairs r =
       subst (λ (i : Joined). Replays n s (g ∷ given) (i .pairs ++ pairs) end) e
       (takes g d (subst (λ (i : Joined). Replays n (i .facts) given pairs end) (sym e) r))
 
-  replays-join : (a b : ℕ) (s : Facts) (given : List Given) (pairs : Pairs) → doubled n s ≡ none → Replays n (join n (s .rep a) (s .rep b) s .facts) given pairs end → Replays n s (fact (equal a b) ∷ given) (join n (s .rep a) (s .rep b) s .pairs ++ pairs) end
-  unfolding join unjoined joinPair andThen taken
-  replays-join a b s given pairs d r = go (eqb x y) refl r
+  first-settle : (k : ℕ) (s : Facts) → First s [] (settle n k s)
+  unfolding settle unjoined joinPair andThen Option·elim
+  first-settle zero s = first-none s
+  first-settle (suc k) s = go (doubled n s) refl (λ s′. first-settle k s′)
+    where
+      go : (o : Option (ℕ × ℕ)) → doubled n s ≡ o → ((s′ : Facts) → First s′ [] (settle n k s′)) → First s [] (Option·elim o (unjoined s) (λ ab. andThen (joinPair ab s) (settle n k)))
+      go none e ih = first-none s
+      go (some ab) e ih = λ given pairs r. doubles ab e (ih (replace (ab .0) (ab .1) s) given pairs r)
+
+  first-join : (a b : ℕ) (s : Facts) → doubled n s ≡ none → First s (fact (equal a b) ∷ []) (join n (s .rep a) (s .rep b) s)
+  unfolding join unjoined taken
+  first-join a b s d = go (eqb x y) refl
     where
       x : ℕ
       x = s .rep a
@@ -47,123 +61,115 @@ module _ (n : ℕ) (end : Facts) where
       y : ℕ
       y = s .rep b
 
-      g : Given
-      g = fact (equal a b)
-
       both : Joined
       both = joinPair (min x y, max x y) s
 
-      taken-as : (c : Bool) → eqb x y ≡ c → taken g s ≡ cond c (unjoined s) both
+      taken-as : (c : Bool) → eqb x y ≡ c → taken (fact (equal a b)) s ≡ cond c (unjoined s) both
       taken-as c e = ap (λ (i : Bool). cond i (unjoined s) both) e
 
-      go : (c : Bool) → eqb x y ≡ c → Replays n (cond c (unjoined s) (andThen both (settle n n)) .facts) given pairs end → Replays n s (g ∷ given) (cond c (unjoined s) (andThen both (settle n n)) .pairs ++ pairs) end
-      go true e r = takes-as s g (unjoined s) given pairs (taken-as true e) d r
-      go false e r = takes-as s g both given (settle n n (both .facts) .pairs ++ pairs) (taken-as false e) d (replays-settle n (both .facts) given pairs r)
+      go : (c : Bool) → eqb x y ≡ c → First s (fact (equal a b) ∷ []) (cond c (unjoined s) (andThen both (settle n n)))
+      go true e = first-taken s (fact (equal a b)) (unjoined s) (taken-as true e) d
+      go false e = first-then s (fact (equal a b) ∷ []) [] both (settle n n) (first-taken s (fact (equal a b)) both (taken-as false e) d) (first-settle n (both .facts))
 
-  -- one join after another's pairs
-  regrouped : (s : Facts) (given : List Given) (ps qs pairs : Pairs) → Replays n s given (ps ++ (qs ++ pairs)) end → Replays n s given ((ps ++ qs) ++ pairs) end
-  regrouped s given ps qs pairs = subst (λ (rs : Pairs). Replays n s given rs end) (sym (append-assoc ps qs pairs))
-
-  replays-joinEach : (ls : List Literal) (s : Facts) (given : List Given) (pairs : Pairs) → ((l : Literal) → List·Memᴰ l ls → InRange n (l .left) × InRange n (l .right)) → Sane n s → Replays n (joinEach n ls s .facts) given pairs end → Replays n s (equalGiven ls ++ given) (joinEach n ls s .pairs ++ pairs) end
-  unfolding joinEach unjoined andThen equalGiven plainGiven select
-  replays-joinEach [] s given pairs t h r = r
-  replays-joinEach (l ∷ ls) s given pairs t h r = go (l .plain) (λ s′ h′ r′. replays-joinEach ls s′ given pairs (λ l′ m. t l′ (List·Memᴰ·tail m)) h′ r′) r
+  first-joinEach : (ls : List Literal) (s : Facts) → ((l : Literal) → List·Memᴰ l ls → InRange n (l .left) × InRange n (l .right)) → Sane n s → First s (equalGiven ls) (joinEach n ls s)
+  unfolding joinEach unjoined equalGiven plainGiven select
+  first-joinEach [] s t h = first-none s
+  first-joinEach (l ∷ ls) s t h = go (l .plain) (λ s′ h′. first-joinEach ls s′ (λ l′ m. t l′ (List·Memᴰ·tail m)) h′)
     where
-      first : Joined
-      first = join n (s .rep (l .left)) (s .rep (l .right)) s
-
-      joined : Bool → Joined
-      joined b = andThen (cond b first (unjoined s)) (joinEach n ls)
-
       said : Literal → Given
       said k = fact (equal (k .left) (k .right))
 
       rest : List Literal
       rest = select (λ k. k .plain) ls
 
-      go : (b : Bool) → ((s′ : Facts) → Sane n s′ → Replays n (joinEach n ls s′ .facts) given pairs end → Replays n s′ (map said rest ++ given) (joinEach n ls s′ .pairs ++ pairs) end) → Replays n (joined b .facts) given pairs end → Replays n s (map said (cond b (l ∷ rest) rest) ++ given) (joined b .pairs ++ pairs) end
-      go true ih r =
+      joined : Joined
+      joined = join n (s .rep (l .left)) (s .rep (l .right)) s
+
+      go : (b : Bool) → ((s′ : Facts) → Sane n s′ → First s′ (map said rest) (joinEach n ls s′)) → First s (map said (cond b (l ∷ rest) rest)) (andThen (cond b joined (unjoined s)) (joinEach n ls))
+      go true ih =
           let u = t l (List·Memᴰ·head refl) in
           let k = join-kept n (s .rep (l .left)) (s .rep (l .right)) s (h .ranged .rep-live (l .left) (u .0)) (h .ranged .rep-live (l .right) (u .1)) h .0 in
-          regrouped s (said l ∷ (map said rest ++ given)) (first .pairs) (joinEach n ls (first .facts) .pairs) pairs
-          (replays-join (l .left) (l .right) s (map said rest ++ given) (joinEach n ls (first .facts) .pairs ++ pairs) (h .single) (ih (first .facts) (k .sane) r))
-      go false ih r = ih s h r
+          first-then s (said l ∷ []) (map said rest) joined (joinEach n ls) (first-join (l .left) (l .right) s (h .single)) (ih (joined .facts) (k .sane))
+      go false ih = first-then s [] (map said rest) (unjoined s) (joinEach n ls) (first-none s) (ih s h)
 
-  replays-joinNil : (ts : List ℕ) (s : Facts) (given : List Given) (pairs : Pairs) → ((t : ℕ) → List·Memᴰ t ts → InRange n t) → Sane n s → Replays n (joinNil n ts s .facts) given pairs end → Replays n s (nilGiven ts ++ given) (joinNil n ts s .pairs ++ pairs) end
-  unfolding joinNil unjoined andThen nilGiven equalTo taken
-  replays-joinNil [] s given pairs t h r = r
-  replays-joinNil (t ∷ us) s given pairs m h r =
+  first-joinNil : (ts : List ℕ) (s : Facts) → ((t : ℕ) → List·Memᴰ t ts → InRange n t) → Sane n s → First s (nilGiven ts) (joinNil n ts s)
+  unfolding joinNil unjoined nilGiven equalTo taken
+  first-joinNil [] s m h = first-none s
+  first-joinNil (t ∷ us) s m h =
       let rt = m t (List·Memᴰ·head refl) in
       let in-range : (l : Literal) → List·Memᴰ l (equalTo t us) → InRange n (l .left) × InRange n (l .right) = λ l k.
       let (u, i, p) = map-mem (λ u. literal true t u) l us k in
       subst (λ (x : Literal). InRange n (x .left) × InRange n (x .right)) (sym p) (rt, m u (List·Memᴰ·tail i)) in
       let j : Joined = joinEach n (equalTo t us) s in
-      let sane = joinEach-kept n (equalTo t us) s in-range h .0 .sane in
-      let linked : Facts = addNilLinks t (j .facts) in
-      let ps : Pairs = settle n n linked .pairs in
-      subst (λ (gs : List Given). Replays n s gs ((j .pairs ++ ps) ++ pairs) end) (sym (append-assoc (equalGiven (equalTo t us)) (nilLinks t ∷ []) given))
-      (regrouped s (equalGiven (equalTo t us) ++ (nilLinks t ∷ given)) (j .pairs) ps pairs
-      (replays-joinEach (equalTo t us) s (nilLinks t ∷ given) (ps ++ pairs) in-range h (takes (nilLinks t) (sane .single) (replays-settle n linked given pairs r))))
+      let single = joinEach-kept n (equalTo t us) s in-range h .0 .sane .single in
+      first-then s (equalGiven (equalTo t us)) (nilLinks t ∷ []) j (λ s′. settle n n (addNilLinks t s′)) (first-joinEach (equalTo t us) s in-range h)
+      (λ given pairs r. takes (nilLinks t) single (first-settle n (addNilLinks t (j .facts)) given pairs r))
 
-  replays-reachEach : (ls : List Literal) (s : Facts) (given : List Given) (pairs : Pairs) → doubled n s ≡ none → Replays n (reachEach ls s) given pairs end → Replays n s (plainGiven (λ l. reaches (l .link) (l .left) (l .right)) ls ++ given) pairs end
-  unfolding reachEach plainGiven select taken unjoined addReach doubled successors
-  replays-reachEach [] s given pairs d r = r
-  replays-reachEach (l ∷ ls) s given pairs d r = go (l .plain) (λ s′ d′ r′. replays-reachEach ls s′ given pairs d′ r′) r
+  first-reachEach : (ls : List Literal) (s : Facts) → doubled n s ≡ none → First s (plainGiven (λ l. reaches (l .link) (l .left) (l .right)) ls) (unjoined (reachEach ls s))
+  unfolding reachEach unjoined plainGiven select taken addReach doubled successors
+  first-reachEach [] s d = first-none s
+  first-reachEach (l ∷ ls) s d = go (l .plain) (λ s′ d′. first-reachEach ls s′ d′)
     where
-      added : Facts
-      added = addReach (l .link) (s .rep (l .left)) (s .rep (l .right)) s
-
       said : Literal → Given
       said k = fact (reaches (k .link) (k .left) (k .right))
 
       rest : List Literal
       rest = select (λ k. k .plain) ls
 
-      go : (b : Bool) → ((s′ : Facts) → doubled n s′ ≡ none → Replays n (reachEach ls s′) given pairs end → Replays n s′ (map said rest ++ given) pairs end) → Replays n (reachEach ls (cond b added s)) given pairs end → Replays n s (map said (cond b (l ∷ rest) rest) ++ given) pairs end
-      go true ih r = takes (said l) d (ih added d r)
-      go false ih r = ih s d r
+      added : Facts
+      added = addReach (l .link) (s .rep (l .left)) (s .rep (l .right)) s
 
--- nothing is left
-replays-last : (n : ℕ) (s end : Facts) (given : List Given) (pairs : Pairs) → Replays n s given (pairs ++ []) end → Replays n s given pairs end
-replays-last n s end given pairs = subst (λ (ps : Pairs). Replays n s given ps end) (append-nil pairs)
+      go : (b : Bool) → ((s′ : Facts) → doubled n s′ ≡ none → First s′ (map said rest) (unjoined (reachEach ls s′))) → First s (map said (cond b (l ∷ rest) rest)) (unjoined (reachEach ls (cond b added s)))
+      go true ih = λ given pairs r. takes (said l) d (ih added d given pairs r)
+      go false ih = ih s d
+
+-- nothing is left behind joins
+replays-all : (n : ℕ) (s : Facts) (first : List Given) (j : Joined) → First n (j .facts) s first j → doubled n (j .facts) ≡ none → Replays n s first (j .pairs) (j .facts)
+replays-all n s first j a d =
+    subst (λ (gs : List Given). Replays n s gs (j .pairs) (j .facts)) (append-nil first)
+    (subst (λ (ps : Pairs). Replays n s (first ++ []) ps (j .facts)) (append-nil (j .pairs)) (a [] [] (all-taken d)))
 
 -- a branch: its alternative is about terms that are not replaced
 pub replays-branch : (n : ℕ) (s : Facts) (c : Fact) → LiveFact n s c → Sane n s → Replays n s (fact c ∷ []) (branch n s c .pairs) (branch n s c .facts)
 unfolding branch unjoined LiveFact taken
 replays-branch n s (equal a b) l h =
-    let k = join-kept n (s .rep a) (s .rep b) s (read a (l .0)) (read b (l .1)) h .0 .sane .single in
     let j : Joined = join n (s .rep a) (s .rep b) s in
+    let single = join-kept n (s .rep a) (s .rep b) s (read a (l .0)) (read b (l .1)) h .0 .sane .single in
     subst (λ (i : Joined). Replays n s (fact (equal a b) ∷ []) (i .pairs) (i .facts)) (ap₂ (λ (x y : ℕ). join n x y s) (live-rep n s a (l .0)) (live-rep n s b (l .1)))
-    (replays-last n s (j .facts) (fact (equal a b) ∷ []) (j .pairs) (replays-join n (j .facts) a b s [] [] (h .single) (all-taken k)))
+    (replays-all n s (fact (equal a b) ∷ []) j (first-join n (j .facts) a b s (h .single)) single)
   where
     -- what a live term became is live
     read : (t : ℕ) → live n s t ≡ true → live n s (s .rep t) ≡ true
     read t e = subst (λ (u : ℕ). live n s u ≡ true) (sym (live-rep n s t e)) e
 replays-branch n s (reaches i a b) l h =
-    let k = addReach-kept n a b s (l .0) (l .1) i (l .2) h .sane .single in
-    takes-as n (addReach i a b s) s (fact (reaches i a b)) (unjoined (addReach i a b s)) [] []
-    (ap₂ (λ (x y : ℕ). unjoined (addReach i x y s)) (live-rep n s a (l .0)) (live-rep n s b (l .1))) (h .single) (all-taken k)
+    let j : Joined = unjoined (addReach i a b s) in
+    let single = addReach-kept n a b s (l .0) (l .1) i (l .2) h .sane .single in
+    replays-all n s (fact (reaches i a b) ∷ []) j
+    (first-taken n (j .facts) s (fact (reaches i a b)) j (ap₂ (λ (x y : ℕ). unjoined (addReach i x y s)) (live-rep n s a (l .0)) (live-rep n s b (l .1))) (h .single)) single
 
 -- the start
 pub replays-start : (q : Query) → Accepted q → Replays (termCount q) (linksOf q) (startGiven q) (startJoins q .pairs) (start q)
-unfolding startJoins start andThen startGiven
+unfolding startJoins start andThen unjoined startGiven
 replays-start q ok =
     let n : ℕ = termCount q in
-    let settled : Joined = settle n n (linksOf q) in
-    let nilled : Joined = joinNil n (nilTerms q) (settled .facts) in
-    let joined : Joined = joinEach n (q .equalities) (nilled .facts) in
-    let reached : List Given = plainGiven (λ l. reaches (l .link) (l .left) (l .right)) (q .reachability) in
-    let sane = kept-settle n (linksOf q) (linksOf-ranged q ok) .sane in
-    let single = joinEach-kept n (q .equalities) (nilled .facts) (ok .equal-terms) (nilled-sane q ok) .0 .sane .single in
+    let s : Facts = linksOf q in
     let end : Facts = start q in
-    let by-reach : Replays n (joined .facts) reached [] end =
-    subst (λ (gs : List Given). Replays n (joined .facts) gs [] end) (append-nil reached)
-    (replays-reachEach n end (q .reachability) (joined .facts) [] [] single (all-taken (start-sane q ok .single))) in
-    let by-equalities = replays-last n (nilled .facts) end (equalGiven (q .equalities) ++ reached) (joined .pairs)
-    (replays-joinEach n end (q .equalities) (nilled .facts) reached [] (ok .equal-terms) (nilled-sane q ok) by-reach) in
-    regrouped n end (linksOf q) (startGiven q) (settled .pairs) (nilled .pairs) (joined .pairs)
-    (replays-settle n end n (linksOf q) (startGiven q) (nilled .pairs ++ joined .pairs)
-    (replays-joinNil n end (nilTerms q) (settled .facts) (equalGiven (q .equalities) ++ reached) (joined .pairs) (λ t m. nilTerms-names q t m .0) sane by-equalities))
+    let settled : Joined = settle n n s in
+    let nilled : Joined = andThen settled (joinNil n (nilTerms q)) in
+    let joined : Joined = andThen nilled (joinEach n (q .equalities)) in
+    let nils : List Given = nilGiven (nilTerms q) in
+    let equals : List Given = equalGiven (q .equalities) in
+    let reached : List Given = plainGiven (λ l. reaches (l .link) (l .left) (l .right)) (q .reachability) in
+    let sane = kept-settle n s (linksOf-ranged q ok) .sane in
+    let single = joinEach-kept n (q .equalities) (nilled .facts) (ok .equal-terms) (nilled-sane q ok) .0 .sane .single in
+    let by-nil = first-then n end s [] nils settled (joinNil n (nilTerms q)) (first-settle n end n s)
+    (first-joinNil n end (nilTerms q) (settled .facts) (λ t m. nilTerms-names q t m .0) sane) in
+    let by-equal = first-then n end s nils equals nilled (joinEach n (q .equalities)) by-nil
+    (first-joinEach n end (q .equalities) (nilled .facts) (ok .equal-terms) (nilled-sane q ok)) in
+    let by-reach = first-then n end s (nils ++ equals) reached joined (λ u. unjoined (reachEach (q .reachability) u)) by-equal
+    (first-reachEach n end (q .reachability) (joined .facts) single) in
+    subst (λ (ps : Pairs). Replays n s (startGiven q) ps end) (append-nil (joined .pairs))
+    (replays-all n s (startGiven q) (andThen joined (λ u. unjoined (reachEach (q .reachability) u))) by-reach (start-sane q ok .single))
 
 -- The facts with the pairs replaced one after the other
 abbrev Replaced : Facts → Joined → Type 0
