@@ -2,14 +2,14 @@
 use Prim.Native.Nat.{ℕ}
 use native.Mathlib.Omega.{arith}
 use mathlib.Core.Path.{_≡_, refl, sym, ap, _∙_, subst}
-use mathlib.Core.List.{List, [], _∷_, _++_}
+use mathlib.Core.List.{List, [], _∷_, _++_, map}
 use lib.ListN.{length}
 use mathlib.Core.Option.{Option, none, some, Option·elim}
 use Rattle.logic.specs.Search.{_and_, _or_, from, any, select, orElse, firstOf}
 use Rattle.logic.specs.Query.{termCount, entryOf, namesNil, argumentOf, fourSections, booleanSection, fiveSections, sections, withPart, layout, layoutBy, layoutOf, literals, section, queryOf, decode}
 use Rattle.logic.specs.Facts.{Facts, linkNumbers, terms, became, replaceIn, replace, successors, firstTwo, doubled, unjoined, joinPair, andThen, settle, join, linksOf, joinEach, reachEach, nilTerms, joinNil, startJoins, start}
 use Rattle.logic.specs.Rules.{equal}
-use Rattle.logic.specs.JoinPairs.{Given, fact, taken, Replays, doubles, takes, all-taken, plainGiven, equalGiven, nilGiven, startGiven, threeEqual, ReplaysThree, ReplayExample}
+use Rattle.logic.specs.JoinPairs.{Given, fact, taken, Replays, doubles, takes, all-taken, plainGiven, equalGiven, nilGiven, startGiven, replaceEach, threeEqual, ReplaysThree, ReplayExample}
 
 module _ (n : ℕ) where
   -- how pairs begin, by what is given and by the doubled successors found
@@ -41,10 +41,10 @@ module _ (n : ℕ) where
       let (p, there) = subst (Begins s [] pairs′ end′) e (begins r′) in
       (sym p, sym there)
 
--- the pairs of the example: its two equalities, each with no doubled successors before it or behind it
-three-replays : ReplaysThree ((2, 3) ∷ (1, 2) ∷ []) (start threeEqual)
-unfolding Option·elim _and_ _or_ from any select orElse firstOf termCount entryOf namesNil argumentOf fourSections booleanSection fiveSections sections withPart layout layoutBy layoutOf literals section queryOf decode linkNumbers terms became replaceIn replace successors firstTwo doubled unjoined joinPair andThen settle join linksOf joinEach reachEach nilTerms joinNil startJoins start taken plainGiven equalGiven nilGiven startGiven threeEqual
-three-replays = takes (fact (equal 2 3)) refl (takes (fact (equal 1 2)) refl (all-taken refl))
+-- the example: its two equalities are its pairs, with no doubled successors before or behind; and what the other pairs make of its terms
+three-computed : ReplaysThree ((2, 3) ∷ (1, 2) ∷ []) (start threeEqual) × (map (replaceEach ((1, 2) ∷ (1, 3) ∷ []) (linksOf threeEqual) .rep) (1 ∷ 2 ∷ 3 ∷ []) ≡ map (start threeEqual .rep) (1 ∷ 2 ∷ 3 ∷ []))
+unfolding Option·elim _and_ _or_ from any select orElse firstOf termCount entryOf namesNil argumentOf fourSections booleanSection fiveSections sections withPart layout layoutBy layoutOf literals section queryOf decode linkNumbers terms became replaceIn replace successors firstTwo doubled unjoined joinPair andThen settle join linksOf joinEach reachEach nilTerms joinNil startJoins start taken plainGiven equalGiven nilGiven startGiven replaceEach threeEqual
+three-computed = (takes (fact (equal 2 3)) refl (takes (fact (equal 1 2)) refl (all-taken refl)), refl)
 
 -- what tells lists of pairs apart: the term kept first, and how many they are
 firstKept : List (ℕ × ℕ) → ℕ
@@ -53,13 +53,14 @@ firstKept (ab ∷ rest) = ab .0
 
 three-only : (pairs : List (ℕ × ℕ)) (end : Facts) → ReplaysThree pairs end → (2 ≡ firstKept pairs) × (2 ≡ length pairs)
 unfolding firstKept
-three-only pairs end r = let e = replays-one 3 three-replays pairs end r .0 in (ap firstKept e, ap length e)
+three-only pairs end r = let e = replays-one 3 (three-computed .0) pairs end r .0 in (ap firstKept e, ap length e)
 
 pub replay-example-holds : ReplayExample
 unfolding firstKept
 replay-example-holds =
     record {
-      in-order = three-replays;
+      in-order = three-computed .0;
+      other-replaced = three-computed .1;
       other-order = λ end r. absurd (omega (arith, three-only _ end r .0));
       left-out = λ end r. absurd (omega (arith, three-only _ end r .1));
       written-twice = λ end r. absurd (omega (arith, three-only _ end r .1));

@@ -97,12 +97,12 @@ pub record PairsReplay (f : CallForm) : Type 0 where
   pub branch-replays : (query : List ℕ) (s : Facts) (m : Move) (c : Fact) → acceptsBy f query ≡ true → Held (f .decode query) s → applies (termCount (f .decode query)) s m ≡ true → List·Memᴰ c (alternatives (termCount (f .decode query)) (s .graph) m) → Replays (termCount (f .decode query)) s (fact c ∷ []) (branch (termCount (f .decode query)) s c .pairs) (branch (termCount (f .decode query)) s c .facts)
   -- no other pairs, nor these in another order, lead from the same facts by the same: none is left out, added or written twice
   pub one-replay : (n : ℕ) (s end end′ : Facts) (given : List Given) (pairs pairs′ : List (ℕ × ℕ)) → Replays n s given pairs end → Replays n s given pairs′ end′ → (pairs ≡ pairs′) × (end ≡ end′)
-  -- so the facts of a branch that joins are those of its parent with the pairs replaced one after the other, and those of the start are the
-  -- links of section 1 likewise, with nil's added between two of them
+  -- the facts of a branch that joins are those of its parent with the pairs replaced one after the other, in order; those of the start are the
+  -- links of section 1 likewise, with nil's links where they stand, between two of the replacements
   pub branch-facts : (n a b : ℕ) (s : Facts) → branch n s (equal a b) .facts ≡ replaceEach (branch n s (equal a b) .pairs) s
   pub start-facts : (q : Query) → (before : List (ℕ × ℕ)) × (behind : List (ℕ × ℕ)) × (startJoins q .pairs ≡ before ++ behind) × (startJoins q .facts ≡ replaceEach behind (withNil (nilTerms q) (replaceEach before (linksOf q))))
 
--- Three variables, 2=3 and then 1=2: the pairs are (2,3) and (1,2). No other pairs lead to where all three are 1.
+-- Three variables, 2=3 and then 1=2: the pairs are (2,3) and (1,2). Replacing by (1,2), (1,3) makes 1 of all three too, and is no replay.
 unfoldable pub threeEqual : Query
 threeEqual = decode (3 ∷ 0 ∷ 0 ∷ 0 ∷ 2 ∷ 1 ∷ 2 ∷ 3 ∷ 1 ∷ 1 ∷ 2 ∷ 0 ∷ 0 ∷ 0 ∷ [])
 
@@ -111,6 +111,7 @@ ReplaysThree pairs end = Replays 3 (linksOf threeEqual) (startGiven threeEqual) 
 
 pub record ReplayExample : Type 0 where
   pub in-order : ReplaysThree ((2, 3) ∷ (1, 2) ∷ []) (start threeEqual)
+  pub other-replaced : map (replaceEach ((1, 2) ∷ (1, 3) ∷ []) (linksOf threeEqual) .rep) (1 ∷ 2 ∷ 3 ∷ []) ≡ map (start threeEqual .rep) (1 ∷ 2 ∷ 3 ∷ [])
   pub other-order : (end : Facts) → ReplaysThree ((1, 2) ∷ (1, 3) ∷ []) end → ⊥
   pub left-out : (end : Facts) → ReplaysThree ((2, 3) ∷ []) end → ⊥
   pub written-twice : (end : Facts) → ReplaysThree ((2, 3) ∷ (2, 3) ∷ (1, 2) ∷ []) end → ⊥
