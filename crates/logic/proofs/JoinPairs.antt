@@ -21,11 +21,16 @@ module _ (n : ℕ) where
   Begins s given pairs end none = Taken s given pairs end
   Begins s given pairs end (some ab) = (rest : List (ℕ × ℕ)) × Replays n (replace (ab .0) (ab .1) s) given rest end × (pairs ≡ ab ∷ rest)
 
+  -- where no term has two successors, what is given decides
+  begins-taken : (s end : Facts) (given : List Given) (pairs : List (ℕ × ℕ)) → doubled n s ≡ none → Taken s given pairs end → Begins s given pairs end (doubled n s)
+  unfolding Begins
+  begins-taken s end given pairs e t = subst (Begins s given pairs end) (sym e) t
+
   begins : {s end : Facts} {given : List Given} {pairs : List (ℕ × ℕ)} → Replays n s given pairs end → Begins s given pairs end (doubled n s)
   unfolding Begins Taken
   begins (doubles {s = s} {end = end} {given = given} {pairs = pairs} ab e r) = subst (Begins s given (ab ∷ pairs) end) (sym e) (pairs, r, refl)
-  begins (takes {s = s} {end = end} g {given = given} {pairs = pairs} e r) = subst (Begins s (g ∷ given) (taken g s .pairs ++ pairs) end) (sym e) (pairs, r, refl)
-  begins (all-taken {s = s} e) = subst (Begins s [] [] s) (sym e) (refl, refl)
+  begins (takes {s = s} {end = end} g {given = given} {pairs = pairs} e r) = begins-taken s end (g ∷ given) (taken g s .pairs ++ pairs) e (pairs, r, refl)
+  begins (all-taken {s = s} e) = begins-taken s s [] [] e (refl, refl)
 
   pub replays-one : {s end : Facts} {given : List Given} {pairs : List (ℕ × ℕ)} → Replays n s given pairs end → (pairs′ : List (ℕ × ℕ)) (end′ : Facts) → Replays n s given pairs′ end′ → (pairs ≡ pairs′) × (end ≡ end′)
   unfolding Begins Taken
