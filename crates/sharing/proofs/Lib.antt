@@ -5,4 +5,5 @@ pub mod Streams
 pub mod Turns
 pub mod FirstLines
 pub mod Runs
+pub mod Loops
 pub mod Examples
