@@ -95,7 +95,8 @@ processed-first counts held h =
       take 8 held ++ drop (8 + taken) held,
       t .goes,
       record {
-        prints = λ (more : List ℕ) none. ap (λ (l : List ℕ). outputFrom counts (l ++ more)) (sym (take-append-drop 8 held)) ∙ turn-prints held 8 (omega arith) (omega arith) counts more (inr (omega arith)) taken refl;
+        prints = λ (more : List ℕ) none. ap (λ (l : List ℕ). outputFrom counts (l ++ more)) (sym (take-append-drop 8 held))
+            ∙ turn-prints held 8 (omega arith) (omega arith) counts more (inr (omega arith)) taken refl;
         shrinks = omega arith;
         advances = λ f. inl shorter;
       },

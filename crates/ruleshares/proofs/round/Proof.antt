@@ -39,5 +39,6 @@ round-spec =
     let read = piece .ensures in
     let long = length-take-le (piece .result .filled) (piece .last .0) (omega (arith, read .most, read .same-length)) in (
       round-read read (start .pre .0) (kept-moved (take-append-le (done .result .kept) (done .last .1 .0) _ (omega (arith, done .ensures .0 .0, long))) (done .ensures .1)),
-      λ e. omega (arith, room-left 65536 (done .ensures .1) e (omega (arith, read .most, start .pre .1, long)) (omega arith), length-take (done .result .kept) (done .last .1 .0), done .ensures .0 .0, long),
+      λ e. let room = room-left 65536 (done .ensures .1) e (omega (arith, read .most, start .pre .1, long)) (omega arith) in
+          omega (arith, room, length-take (done .result .kept) (done .last .1 .0), done .ensures .0 .0, long),
     )))
