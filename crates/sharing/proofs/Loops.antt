@@ -6,7 +6,7 @@ use mathlib.Core.Path.{_≡_, refl, sym, ap, subst, _∙_}
 use mathlib.Core.Logic.{⊎-elim}
 use mathlib.Core.Bool.{Bool, true, false, false≢true}
 use mathlib.Core.List.{List, [], _∷_, _++_, append-assoc, append-nil}
-use lib.ListN.{length, take, drop, length-append, length-drop, take-append-drop}
+use lib.ListN.{length, take, drop, length-drop, take-append-drop}
 use lib.Seq.{take-take, length-take-le}
 use lib.Dec.{ltb}
 use borrow.Author.Tests.{ltb-false, lt-ltb, le-ltb}
@@ -17,7 +17,6 @@ use Rattle.tally.specs.Counting.{noLines}
 use Rattle.fractions.specs.Fractions.{sharesText}
 use Rattle.sharing.specs.Streaming.{Processes}
 use Rattle.sharing.specs.Claims.{Standing, atFirst, Round, Rounds, no-round, one-more, Run, Ran, Ends, ran, used-up, Reads, RoundOf}
-use Rattle.sharing.proofs.Runs.{claims}
 
 none-long : (xs : List ℕ) → length xs ≡ 0 → xs ≡ []
 none-long [] e = refl
@@ -89,8 +88,10 @@ module _ {counts kept after left : List ℕ} {was ended goes : Bool} (r : RoundO
     pub ran-last : goes ≡ false → Ends after
     ran-last e = ran (ran-all e)
 
-pub never-more : {counts kept : List ℕ} {ended : Bool} {n : ℕ} → Gone counts kept ended n → 18446744073709551615 ≤ n → Ends counts
-never-more g h = used-up (g .bytes) (omega (arith, claims .rounds-few (g .rounds [] (λ e. refl)), length-append (g .bytes) []))
+pub never-more : {counts kept : List ℕ} {ended : Bool} {n : ℕ} → Gone counts kept ended n → n ≡ 18446744073709551615 → Ends counts
+never-more {counts} {kept} g e =
+    used-up (g .bytes ++ []) (g .printed) kept
+    (subst (Rounds (atFirst (g .bytes ++ [])) (g .printed) (record { counts = counts; kept = kept; unread = [] })) e (g .rounds [] (λ f. refl)))
 
 -- A round from its parts: a piece is read behind the bytes kept, and these bytes are processed.
 module _ {before after : List ℕ} {kept filled : ℕ} {was ended : Bool} (r : Reads before kept was after filled ended) where

@@ -54,10 +54,10 @@ pub record Ran (counts : List ℕ) : Type 0 where
   pub printed : List ℕ
   pub run : (future : List ℕ) → (ended ≡ true → future ≡ []) → Run (bytes ++ future) (printed ++ sharesText counts)
 
--- The loop ends so, or after 2^64 - 1 rounds, and then 2^63 bytes or more were read.
+-- The loop ends so, or after 2^64 - 1 rounds that all went on; then 2^63 bytes or more were read (`rounds-few`).
 pub data Ends (counts : List ℕ) : Type 0 where
   ran : Ran counts → Ends counts
-  used-up : (bytes : List ℕ) → 9223372036854775808 ≤ length bytes → Ends counts
+  used-up : (bytes printed kept : List ℕ) → Rounds (atFirst bytes) printed (record { counts = counts; kept = kept; unread = [] }) 18446744073709551615 → Ends counts
 
 -- What a read leaves: the bytes that are kept stay, what is read stands behind them, and the input has ended where it had before, or where what is
 -- read does not fill the space.
