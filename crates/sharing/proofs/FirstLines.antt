@@ -9,9 +9,6 @@ use lib.Seq.{take-all, take-at, drop-at}
 use lib.Dec.{ltb, leb}
 use borrow.Author.Tests.{lt-ltb, leb-true, ltb-true, ne-eqb}
 use Rattle.logic.specs.Search.{_and_, all, flatMap}
-use Rattle.logic.specs.Facts.{Line}
-use Rattle.logic.specs.Derivation.{linesIn}
-use Rattle.logic.specs.Walk.{Ending}
 use Rattle.logic.specs.Calls.{Answer, Outcome, Input, oneLinkForm, refused, satisfiable, refuted, blank, verdictOf, verdictCall, derivationCall}
 use Rattle.theory.proofs.Basics.Search.{and-left, and-right, and-intro}
 use Rattle.theory.proofs.Calls.CallLaws.{verdict-clear, alike-clear}

@@ -16,7 +16,7 @@ use Rattle.theory.proofs.Basics.Compare.{le-cases}
 use Rattle.tally.specs.Counting.{noLines}
 use Rattle.fractions.specs.Fractions.{sharesText}
 use Rattle.sharing.specs.Streaming.{Processes}
-use Rattle.sharing.specs.Claims.{Standing, atFirst, Round, Rounds, no-round, one-more, Run, Ran, Ends, ran, used-up, Reads, RoundOf}
+use Rattle.sharing.specs.Claims.{Standing, atFirst, Round, Rounds, no-round, one-more, Ran, Ends, ran, used-up, Reads, RoundOf}
 
 none-long : (xs : List ℕ) → length xs ≡ 0 → xs ≡ []
 none-long [] e = refl

@@ -11,7 +11,7 @@ use Rattle.tally.specs.Counting.{noLines}
 use Rattle.fractions.specs.Fractions.{sharesText}
 use Rattle.sharing.specs.Output.{Turn, firstTurn, firstLength, outputWithin, output, outputFrom}
 use Rattle.sharing.specs.Streaming.{Processes, stillPrinted}
-use Rattle.sharing.specs.Claims.{Standing, atFirst, Round, Rounds, no-round, one-more, Run, Ran, Claims}
+use Rattle.sharing.specs.Claims.{Standing, atFirst, Round, Rounds, no-round, one-more, Run, Claims}
 use Rattle.sharing.proofs.Streams.{first-two, turn-prints}
 
 -- all that is printed from there on

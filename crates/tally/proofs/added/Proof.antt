@@ -1,7 +1,7 @@
 -- `tally::added` meets its contract: a walk of its MIR, by hand. The local is lent to `add` for a lifetime that is made for the call, and taken back at the value that `add` left.
 -- All that the proof knows of `add` is that it meets its contract.
 -- Assumes nothing.
-use mathlib.Core.Path.{_≡_, refl, ap}
+use mathlib.Core.Path.{refl, ap}
 use Prim.Native.Nat.{ℕ}
 use mathlib.Core.List.{[], _∷_, List}
 use lib.ListN.{length}
@@ -18,7 +18,7 @@ use ghost.Atoms.{Atoms, sem}
 use contract.Monad.{Fun, fact}
 use contract.Running.{givenOf, tables, tablesOf}
 use types.Tokens.{lft-new, lft-end}
-use types.Kit.{Given, ‵, raw, _⊛_, ⋆, rewrite, fpick, fpack, use3, some, later, _$_, _∵_, !, qed, by, move, keep, use1, use2, split, join, pick, fsplit, fjoin, suffices, frame, await, done}
+use types.Kit.{Given, ‵, raw, _⊛_, ⋆, rewrite, fpick, fpack, use3, some, later, _$_, _∵_, !, qed, by, move, keep, use1, split, join, pick, fsplit, fjoin, suffices, frame, await, done}
 use types.Run.{look, init, forget, stop, from, load, addr, of-opd, and-then, no-more, assigns, land, returns, enter, alloc1, alloc0, params1, pass1, pass0, free1, free0}
 use types.Part.{agg}
 use types.SemTy.{Body}
