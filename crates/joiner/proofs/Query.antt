@@ -23,7 +23,8 @@ use Rattle.encoding.specs.QueryBytes.{literalBytes, sectionBytes, encode, withi
 use Rattle.joining.specs.Joined.{raisedEntry, raised, pairLiteral, joined}
 use Rattle.encoding.proofs.Encoded.{Limits, within-limits}
 use Rattle.encoding.proofs.Decoded.{accepted-encodable}
-use Rattle.joining.proofs.Accepted.{Paired, pair-terms, count-joined}
+use Rattle.joining.proofs.PairLists.{pair-terms}
+use Rattle.joining.proofs.Accepted.{Paired, count-joined}
 use Rattle.rows.proofs.Selections.{and-both}
 use Rattle.joiner.specs.Bytes.{Small, SmallEntries, SmallPairs, keepsLimits, Bounded}
 use Rattle.joiner.specs.Promise.{Passing}

@@ -1,4 +1,7 @@
 -- The theorems, from the leaves up.
+pub mod PairLists
+pub mod Checks
+pub mod Calls
 pub mod Terms
 pub mod Accepted
 pub mod OneHeap
