@@ -13,15 +13,18 @@ section-length : (ls : List Literal) → length (sectionBytes ls) ≡ 1 + length
 unfolding sectionBytes literalBytes
 section-length ls = ap suc (length-flatMap literalBytes 3 (λ l. refl) ls) ∙ omega arith
 
+-- a section, and what stands behind it
+behind : (ls : List Literal) (rest : List ℕ) → length (sectionBytes ls ++ rest) ≡ 1 + 3 * length ls + length rest
+behind ls rest = omega (arith, length-append (sectionBytes ls) rest, section-length ls)
+
 pub encode-length : (q : Query) → length (encode q) ≡ termCount q + 3 * length (q .equalities) + 3 * length (q .reachability) + 3 * length (q .fields) + 5
 unfolding encode termCount
 encode-length q =
     let fifth : List ℕ = 0 ∷ [] in
-    let fourth = sectionBytes (q .fields) in
-    let third = sectionBytes (q .reachability) in
-    let second = sectionBytes (q .equalities) in
-    omega
-    (arith, length-append (q .entries .terms) (second ++ (third ++ (fourth ++ fifth))), length-append second (third ++ (fourth ++ fifth)), length-append third (fourth ++ fifth), length-append fourth fifth, section-length (q .equalities), section-length (q .reachability), section-length (q .fields))
+    let fourth = behind (q .fields) fifth in
+    let third = behind (q .reachability) (sectionBytes (q .fields) ++ fifth) in
+    let second = behind (q .equalities) (sectionBytes (q .reachability) ++ (sectionBytes (q .fields) ++ fifth)) in
+    omega (arith, length-append (q .entries .terms) (sectionBytes (q .equalities) ++ (sectionBytes (q .reachability) ++ (sectionBytes (q .fields) ++ fifth))), second, third, fourth)
 
 -- the longest query has 561 bytes
 pub encode-within : (q : Query) → Limits q → length (encode q) ≤ 561

@@ -5,7 +5,6 @@ use native.Mathlib.Nat.{zero-add}
 use mathlib.Core.Path.{_≡_, refl, sym, ap, _∙_, subst}
 use mathlib.Core.Logic.{⊎-elim}
 use mathlib.Core.List.{List, _++_, map, List·Memᴰ, List·Memᴰ·append-cases}
-use lib.ListN.{length, length-append, length-map}
 use Rattle.logic.specs.Query.{Literal, Query, termCount, argumentOf, linkOf, decode}
 use Rattle.theory.proofs.Basics.Search.{map-mem}
 use Rattle.theory.proofs.Basics.Compare.{le-cases}
@@ -13,6 +12,7 @@ use Rattle.theory.proofs.Query.Tied.{Accepted, InTerms}
 use Rattle.joining.specs.Pairs.{Pair}
 use Rattle.joining.specs.Joined.{raised, raisedEntry, pairLiteral, joined}
 use Rattle.joining.specs.Claims.{BothAccepted, ListsPairs, asOne}
+use Rattle.joining.proofs.Counts.{count-terms}
 use Rattle.joining.proofs.Terms.{Among, first-among, second-among, whose}
 use Rattle.encoding.proofs.Encoded.{Limits, limits-within, AboutOne, OneLinked, Encodable}
 use Rattle.encoding.proofs.Decoded.{accepted-encodable}
@@ -22,16 +22,12 @@ abbrev pub Paired : Query → Query → Pair → Type 0
 Paired a b p = InTerms a (p .first) × InTerms b (p .second)
 
 module _ (a b : Query) (ps : List Pair) (first : Encodable a) (second : Encodable b) (paired : (p : Pair) → List·Memᴰ p ps → Paired a b p) where
-  pub count-joined : termCount (joined a b ps) ≡ termCount a + termCount b
-  unfolding joined termCount
-  count-joined = length-append (a .entries .terms) (map (raisedEntry (length (a .entries .terms))) (b .entries .terms)) ∙ ap (λ (k : ℕ). length (a .entries .terms) + k) (length-map (b .entries .terms) (raisedEntry (length (a .entries .terms))))
-
   -- a term of the first, and one of the second raised
   in-first : (t : ℕ) → InTerms a t → InTerms (joined a b ps) t
-  in-first t h = omega (arith, count-joined, h .0, h .1)
+  in-first t h = omega (arith, count-terms a b ps, h .0, h .1)
 
   in-second : (t : ℕ) → InTerms b t → InTerms (joined a b ps) (termCount a + t)
-  in-second t h = (omega (arith, h .0), omega (arith, count-joined, h .1))
+  in-second t h = (omega (arith, h .0), omega (arith, count-terms a b ps, h .1))
 
   module _ (small : termCount (joined a b ps) ≤ 16) where
     pub of-first : Among (λ t. t) (joined a b ps .entries) (a .entries) (termCount a)
@@ -40,10 +36,10 @@ module _ (a b : Query) (ps : List Pair) (first : Encodable a) (second : Encodabl
 
     pub of-second : Among (λ t. termCount a + t) (joined a b ps .entries) (b .entries) (termCount b)
     unfolding joined termCount
-    of-second = second-among (termCount a) (a .entries .terms) (b .entries) (second .one-linked .entries) refl (second .accepted .entry-below) (omega (arith, count-joined))
+    of-second = second-among (termCount a) (a .entries .terms) (b .entries) (second .one-linked .entries) refl (second .accepted .entry-below) (omega (arith, count-terms a b ps))
 
     entry-below : (t : ℕ) → InTerms (joined a b ps) t → argumentOf (joined a b ps .entries) t < t
-    entry-below t h = ⊎-elim low high (whose (termCount a) (termCount b) t (h .0) (omega (arith, count-joined, h .1)))
+    entry-below t h = ⊎-elim low high (whose (termCount a) (termCount b) t (h .0) (omega (arith, count-terms a b ps, h .1)))
       where
         low : t ≤ termCount a → argumentOf (joined a b ps .entries) t < t
         low u =

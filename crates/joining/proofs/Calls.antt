@@ -1,5 +1,5 @@
 -- What the joining call answers, by cases, and so how it refuses and how long a query it writes. Assumes nothing.
-use Prim.Native.Nat.{ℕ, _-_, _≤_}
+use Prim.Native.Nat.{ℕ, _+_, _-_, _≤_}
 use native.Mathlib.Omega.{arith}
 use mathlib.Core.Path.{_≡_, refl, sym, ap, ap₂, _∙_, subst}
 use mathlib.Core.Logic.{_⊎_, inl, inr, ⊎-elim}
@@ -23,7 +23,8 @@ use Rattle.encoding.proofs.Encoded.{Limits, limits-within, within-limits}
 use Rattle.encoding.proofs.Lengths.{encode-within}
 use Rattle.joining.specs.Pairs.{Pair, pairsOf, isPairList}
 use Rattle.joining.specs.Call.{Answer, written, firstRefused, secondRefused, refused, Outcome, ofFirst, ofSecond, blank, fitted, joinOf, joinCall}
-use Rattle.joining.specs.Claims.{BothAccepted, ListsPairs, asOne, Exceeds, Fits, JoinRefusals}
+use Rattle.joining.specs.Claims.{BothAccepted, ListsPairs, asOne, Exceeds, Fits, Unlisted, TooLarge, WrittenAs, JoinRefusals}
+use Rattle.joining.proofs.Counts.{count-terms, count-equalities, count-reachability, count-fields}
 use Rattle.joining.proofs.PairLists.{listed-lists, lists-pairs, lists-listed}
 use Rattle.joining.proofs.Checks.{no-refusal, refusal-met, Checked, passes, stands, checked}
 
@@ -33,42 +34,58 @@ use Rattle.joining.proofs.Checks.{no-refusal, refusal-met, Checked, pas
 abbrev pub writes : ℕ → List ℕ → Outcome
 writes room bytes = record { answer = written (length bytes); lent = padded room bytes }
 
-pub fits-limits : {room : ℕ} {q : Query} → Fits room q → Limits q
-fits-limits f = record { terms = f .terms; equalities = f .equalities; reachability = f .reachability; fields = f .fields }
+module _ (room : ℕ) (first second : List ℕ) (ps : List Pair) where
+  abbrev q : Query
+  q = asOne first second ps
 
-module _ (room : ℕ) (q : Query) where
-  fits-cases : Fits room q ⊎ Exceeds room q
+  fits-cases : Fits room first second ps ⊎ Exceeds room first second ps
   fits-cases =
-      ⊎-elim (λ a. ⊎-elim (λ b. ⊎-elim (λ c. ⊎-elim (λ d. ⊎-elim (λ e. inl (record { terms = a; equalities = b; reachability = c; fields = d; output = e }))
-      (λ e. inr (inr (inr (inr (inr e))))) (le-cases (length (encode q)) room))
-      (λ d. inr (inr (inr (inr (inl d))))) (le-cases (length (q .fields)) 60))
-      (λ c. inr (inr (inr (inl c)))) (le-cases (length (q .reachability)) 60))
-      (λ b. inr (inr (inl b))) (le-cases (length (q .equalities)) 60))
-      (λ a. inr (inl a)) (le-cases (termCount q) 16)
+      let a = decode first in
+      let b = decode second in
+      ⊎-elim (λ i. ⊎-elim (λ j. ⊎-elim (λ k. ⊎-elim (λ l. ⊎-elim (λ m. inl (record { terms = i; equalities = j; reachability = k; fields = l; output = m }))
+      (λ m. inr (inr (inr (inr (inr m))))) (le-cases (length (encode q)) room))
+      (λ l. inr (inr (inr (inr (inl l))))) (le-cases (length (a .fields) + length (b .fields)) 60))
+      (λ k. inr (inr (inr (inl k)))) (le-cases (length (a .reachability) + length (b .reachability)) 60))
+      (λ j. inr (inr (inl j))) (le-cases (length (a .equalities) + length (b .equalities) + length ps) 60))
+      (λ i. inr (inl i)) (le-cases (termCount a + termCount b) 16)
 
-  exceeds-not : Fits room q → Exceeds room q → ⊥
+  exceeds-not : Fits room first second ps → Exceeds room first second ps → ⊥
   exceeds-not f =
-      ⊎-elim (λ a. omega (arith, f .terms)) (⊎-elim (λ b. omega (arith, f .equalities)) (⊎-elim (λ c. omega (arith, f .reachability)) (⊎-elim (λ d. omega (arith, f .fields)) (λ e. omega (arith, f .output)))))
+      ⊎-elim (λ i. omega (arith, f .terms))
+      (⊎-elim (λ j. omega (arith, f .equalities))
+      (⊎-elim (λ k. omega (arith, f .reachability)) (⊎-elim (λ l. omega (arith, f .fields)) (λ m. omega (arith, f .output)))))
 
-  fits-test : Fits room q → withinLimits q and leb (length (encode q)) room ≡ true
-  fits-test f = and-intro (limits-within q (fits-limits f)) (le-leb _ room (f .output))
-
-  test-fits : withinLimits q and leb (length (encode q)) room ≡ true → Fits room q
-  test-fits h =
-      let l = within-limits q (and-left _ _ h) in
+  -- the limits of the joined query, whose sections have so many entries
+  pub fits-limits : Fits room first second ps → Limits (asOne first second ps)
+  fits-limits f =
       record {
-        terms = l .terms;
-        equalities = l .equalities;
-        reachability = l .reachability;
-        fields = l .fields;
-        output = leb-true _ room (and-right _ _ h);
+        terms = omega (arith, f .terms, count-terms (decode first) (decode second) ps);
+        equalities = omega (arith, f .equalities, count-equalities (decode first) (decode second) ps);
+        reachability = omega (arith, f .reachability, count-reachability (decode first) (decode second) ps);
+        fields = omega (arith, f .fields, count-fields (decode first) (decode second) ps);
       }
 
-  fitted-writes : Fits room q → fitted room q ≡ writes room (encode q)
+  limits-fits : Limits q → length (encode q) ≤ room → Fits room first second ps
+  limits-fits l m =
+      record {
+        terms = omega (arith, l .terms, count-terms (decode first) (decode second) ps);
+        equalities = omega (arith, l .equalities, count-equalities (decode first) (decode second) ps);
+        reachability = omega (arith, l .reachability, count-reachability (decode first) (decode second) ps);
+        fields = omega (arith, l .fields, count-fields (decode first) (decode second) ps);
+        output = m;
+      }
+
+  fits-test : Fits room first second ps → withinLimits q and leb (length (encode q)) room ≡ true
+  fits-test f = and-intro (limits-within q (fits-limits f)) (le-leb _ room (f .output))
+
+  test-fits : withinLimits q and leb (length (encode q)) room ≡ true → Fits room first second ps
+  test-fits h = limits-fits (within-limits q (and-left _ _ h)) (leb-true _ room (and-right _ _ h))
+
+  fitted-writes : Fits room first second ps → fitted room q ≡ writes room (encode q)
   unfolding fitted
   fitted-writes f = rw (fits-test f)
 
-  fitted-full : Exceeds room q → fitted room q ≡ blank room (refused 24 0)
+  fitted-full : Exceeds room first second ps → fitted room q ≡ blank room (refused 24 0)
   unfolding fitted
   fitted-full x = ⊎-elim (λ h. absurd (exceeds-not (test-fits h) x)) (λ h. rw h) (bool-cases (withinLimits q and leb (length (encode q)) room))
 
@@ -77,9 +94,6 @@ module _ (room : ℕ) (q : Query) where
 module _ (first second pairs : List ℕ) (room : ℕ) where
   abbrev call : Outcome
   call = joinCall first second pairs room
-
-  abbrev q : Query
-  q = asOne first second (pairsOf pairs)
 
   call-first : (k place : ℕ) → FirstStands queryChecks (given first 0) k place → call ≡ blank room (firstRefused k place)
   unfolding joinCall Option·elim ofFirst
@@ -102,16 +116,13 @@ module _ (first second pairs : List ℕ) (room : ℕ) where
   call-listed ps h l = call-joins h ∙ rw (lists-listed _ _ pairs ps l, lists-pairs _ _ pairs ps l)
 
   -- what each answer means
-  abbrev Unlisted : Type 0
-  Unlisted = (ps : List Pair) → ListsPairs first second pairs ps → ⊥
-
   abbrev Means : Answer → Type 0
-  Means (written n) = BothAccepted first second × ((ps : List Pair) × ListsPairs first second pairs ps × Fits room (asOne first second ps) × (n ≡ length (encode (asOne first second ps))))
+  Means (written n) = BothAccepted first second × WrittenAs first second pairs room n
   Means (firstRefused k place) = FirstStands queryChecks (given first 0) k place
   Means (secondRefused k place) = (accepts first ≡ true) × FirstStands queryChecks (given second 0) k place
   Means (refused k place) =
-      ((k ≡ 23) × (place ≡ 0) × BothAccepted first second × Unlisted)
-      ⊎ ((k ≡ 24) × (place ≡ 0) × BothAccepted first second × ((ps : List Pair) × ListsPairs first second pairs ps × Exceeds room (asOne first second ps)))
+      ((k ≡ 23) × (place ≡ 0) × BothAccepted first second × Unlisted first second pairs room)
+      ⊎ ((k ≡ 24) × (place ≡ 0) × BothAccepted first second × TooLarge first second pairs room)
 
   -- and what it leaves
   abbrev Leaves : Outcome → Type 0
@@ -125,9 +136,9 @@ module _ (first second pairs : List ℕ) (room : ℕ) where
   listed-leaves ps h l =
       subst Leaves (sym (call-listed ps h l))
       (⊎-elim
-      (λ f. subst Leaves (sym (fitted-writes room (asOne first second ps) f)) ((h, (ps, l, f, refl)), padded-length room _ (f .output), λ w. absurd (w _ refl)))
-      (λ x. subst Leaves (sym (fitted-full room (asOne first second ps) x)) (blanks _ (inr (refl, refl, h, (ps, l, x)))))
-      (fits-cases room (asOne first second ps)))
+      (λ f. subst Leaves (sym (fitted-writes room first second ps f)) ((h, (ps, l, f, refl)), padded-length room _ (f .output), λ w. absurd (w _ refl)))
+      (λ x. subst Leaves (sym (fitted-full room first second ps x)) (blanks _ (inr (refl, refl, h, (ps, l, x)))))
+      (fits-cases room first second ps))
 
   accepted-leaves : BothAccepted first second → Leaves call
   accepted-leaves h =
@@ -154,13 +165,13 @@ module _ (first second pairs : List ℕ) (room : ℕ) where
   unfolding blank
   answers a e = ap (λ (o : Outcome). o .answer) e
 
-  pairs-only : (place : ℕ) → Means (refused 23 place) → (place ≡ 0) × BothAccepted first second × Unlisted
+  pairs-only : (place : ℕ) → Means (refused 23 place) → (place ≡ 0) × BothAccepted first second × Unlisted first second pairs room
   pairs-only place = ⊎-elim (λ r. (r .1, r .2, r .3)) (λ r. absurd (omega (arith, r .0)))
 
-  room-only : (place : ℕ) → Means (refused 24 place) → (place ≡ 0) × BothAccepted first second × ((ps : List Pair) × ListsPairs first second pairs ps × Exceeds room (asOne first second ps))
+  room-only : (place : ℕ) → Means (refused 24 place) → (place ≡ 0) × BothAccepted first second × TooLarge first second pairs room
   room-only place = ⊎-elim (λ r. absurd (omega (arith, r .0))) (λ r. (r .1, r .2, r .3))
 
-  pairs-if : (place : ℕ) → (place ≡ 0) × BothAccepted first second × Unlisted → call .answer ≡ refused 23 place
+  pairs-if : (place : ℕ) → (place ≡ 0) × BothAccepted first second × Unlisted first second pairs room → call .answer ≡ refused 23 place
   pairs-if place h =
       let n = termCount (decode first) in
       let m = termCount (decode second) in
@@ -174,12 +185,12 @@ module _ (first second pairs : List ℕ) (room : ℕ) where
         pairs-exactly = λ place. (λ e. pairs-only place (means (refused 23 place) e), pairs-if place);
         room-exactly = λ place. (
           λ e. room-only place (means (refused 24 place) e),
-          λ h. let (ps, l, x) = h .2 in answers _ (call-listed ps (h .1) l ∙ fitted-full room (asOne first second ps) x) ∙ ap (refused 24) (sym (h .0)),
+          λ h. let (ps, l, x) = h .2 in answers _ (call-listed ps (h .1) l ∙ fitted-full room first second ps x) ∙ ap (refused 24) (sym (h .0)),
         );
         refusal-numbered = λ k place e. ⊎-elim (λ r. inl (r .0)) (λ r. inr (r .0)) (means (refused k place) e);
         written-exactly = λ n. (
           means (written n),
-          λ h. let (ps, l, f, e) = h .1 in ap (λ (o : Outcome). o .answer) (call-listed ps (h .0) l ∙ fitted-writes room (asOne first second ps) f) ∙ ap written (sym e),
+          λ h. let (ps, l, f, e) = h .1 in ap (λ (o : Outcome). o .answer) (call-listed ps (h .0) l ∙ fitted-writes room first second ps f) ∙ ap written (sym e),
         );
         refusal-blank = leaves .2;
         lent-whole = leaves .1;
@@ -189,12 +200,12 @@ module _ (first second pairs : List ℕ) (room : ℕ) where
   pub join-length : (n : ℕ) → joinCall first second pairs room .answer ≡ written n → (n ≤ 561) × (n ≤ room)
   join-length n e =
       let (ps, l, f, c) = means (written n) e .1 in
-      (omega (arith, c, encode-within (asOne first second ps) (fits-limits f)), omega (arith, c, f .output))
+      (omega (arith, c, encode-within (asOne first second ps) (fits-limits room first second ps f)), omega (arith, c, f .output))
 
   -- what is written for the pairs that are listed
   pub record Wrote (n : ℕ) (ps : List Pair) : Type 0 where
     pub both : BothAccepted first second
-    pub fits : Fits room (asOne first second ps)
+    pub fits : Fits room first second ps
     pub taken-are : take n (joinCall first second pairs room .lent) ≡ encode (asOne first second ps)
     pub zeros-follow : joinCall first second pairs room .lent ≡ take n (joinCall first second pairs room .lent) ++ replicate (room - n) 0
 
@@ -204,9 +215,9 @@ module _ (first second pairs : List ℕ) (room : ℕ) where
       let (both, r) = means (written n) e in
       let (qs, m, f, c) = r in
       let same : qs ≡ ps = sym (lists-pairs _ _ pairs qs m) ∙ lists-pairs _ _ pairs ps l in
-      let fits = subst (λ (xs : List Pair). Fits room (asOne first second xs)) same f in
+      let fits = subst (λ (xs : List Pair). Fits room first second xs) same f in
       let counted : n ≡ length (encode (asOne first second ps)) = c ∙ ap (λ (xs : List Pair). length (encode (asOne first second xs))) same in
-      let lent = ap (λ (o : Outcome). o .lent) (call-listed ps both l ∙ fitted-writes room (asOne first second ps) fits) in
+      let lent = ap (λ (o : Outcome). o .lent) (call-listed ps both l ∙ fitted-writes room first second ps fits) in
       let taken-are : take n (joinCall first second pairs room .lent) ≡ encode (asOne first second ps) = ap (take n) lent ∙ take-at (encode (asOne first second ps)) _ n (sym counted) in
       record {
         both = both;

@@ -1,22 +1,19 @@
 -- What is claimed, for every two queries, pair list, buffer and line. Assumes nothing.
-use Prim.Native.Nat.{ℕ, _≤_}
+use Prim.Native.Nat.{ℕ}
 use mathlib.Core.Path.{_≡_, refl, sym, ap, _∙_, subst}
 use mathlib.Core.Logic.{_↔_}
-use mathlib.Core.List.{List, [], _∷_, _++_}
-use lib.ListN.{length, replicate, take}
-use lib.Seq.{take-at}
+use mathlib.Core.List.{List, [], _∷_}
 use Rattle.logic.specs.Query.{Query, decode}
 use Rattle.logic.specs.Heap.{Satisfiable}
-use Rattle.logic.specs.Calls.{Input, layoutCheck, byteCheck, formChecks, queryChecks, accepts, padded}
+use Rattle.logic.specs.Calls.{Input, layoutCheck, byteCheck, formChecks, queryChecks, accepts}
 use Rattle.logic.specs.Demands.{numbers}
 use Rattle.theory.proofs.Calls.Demands.{demand2}
-use Rattle.encoding.specs.QueryBytes.{encode}
 use Rattle.encoding.proofs.Encoded.{Encodable, decoded}
 use Rattle.encoding.proofs.Decoded.{accepted-encodable, encoded-accepts}
 use Rattle.joining.specs.Pairs.{Pair}
 use Rattle.joining.specs.Heaps.{OneHeap}
-use Rattle.joining.specs.Call.{Answer}
-use Rattle.joining.specs.Claims.{BothAccepted, ListsPairs, asOne, answered, left, taken, Fits, Written, Claims}
+use Rattle.joining.specs.Call.{written}
+use Rattle.joining.specs.Claims.{ListsPairs, asOne, answered, taken, Written, Claims}
 use Rattle.joining.proofs.Accepted.{all-paired, one-encodable}
 use Rattle.joining.proofs.OneHeap.{joined-only, joined-if}
 use Rattle.joining.proofs.Calls.{fits-limits, Wrote, wrote, refusals, join-length}
@@ -29,12 +26,12 @@ query-checks = refl
 along : {P Q R : Type 0} → (P ↔ Q) → (Q ↔ R) → P ↔ R
 along e f = (λ p. f .0 (e .0 p), λ r. e .1 (f .1 r))
 
-module _ (first second pairs : List ℕ) (room n : ℕ) (ps : List Pair) (h : answered first second pairs room ≡ Answer.written n) (listed : ListsPairs first second pairs ps) where
+module _ (first second pairs : List ℕ) (room n : ℕ) (ps : List Pair) (h : answered first second pairs room ≡ written n) (listed : ListsPairs first second pairs ps) where
   did : Wrote first second pairs room n ps
   did = wrote first second pairs room n ps h listed
 
   encodable : Encodable (asOne first second ps)
-  encodable = one-encodable first second pairs ps (did .both) listed (fits-limits (did .fits))
+  encodable = one-encodable first second pairs ps (did .both) listed (fits-limits room first second ps (did .fits))
 
   says : decode (taken first second pairs room n ps) ≡ asOne first second ps
   says = ap decode (did .taken-are) ∙ decoded (asOne first second ps) encodable
@@ -44,7 +41,7 @@ module _ (first second pairs : List ℕ) (room n : ℕ) (ps : List Pair) (h : an
       let a = accepted-encodable first (did .both .0) in
       let b = accepted-encodable second (did .both .1) in
       let paired = all-paired first second pairs ps (did .both) listed in
-      let small = did .fits .terms in
+      let small = fits-limits room first second ps (did .fits) .terms in
       (joined-only (decode first) (decode second) ps a b paired small, joined-if (decode first) (decode second) ps a b paired small)
 
   one-heap : Satisfiable (decode (taken first second pairs room n ps)) ↔ OneHeap (decode first) (decode second) ps
@@ -54,8 +51,8 @@ module _ (first second pairs : List ℕ) (room n : ℕ) (ps : List Pair) (h : an
   of-call : (i : Input) → i .query ≡ taken first second pairs room n ps → Satisfiable (decode (i .query)) ↔ OneHeap (decode first) (decode second) ps
   of-call i e = subst (λ (query : List ℕ). Satisfiable (decode query) ↔ OneHeap (decode first) (decode second) ps) (sym e) one-heap
 
-  written : Written first second pairs room n ps
-  written =
+  joins : Written first second pairs room n ps
+  joins =
       record {
         is-joined = did .taken-are;
         zeros-follow = did .zeros-follow;
@@ -68,4 +65,4 @@ module _ (first second pairs : List ℕ) (room n : ℕ) (ps : List Pair) (h : an
       }
 
 pub claims : Claims
-claims = record { query-checks = query-checks; refusals = refusals; written = written; hand-back = hand-back; clash-handed = clash-handed }
+claims = record { query-checks = query-checks; refusals = refusals; joins = joins; hand-back = hand-back; clash-handed = clash-handed }

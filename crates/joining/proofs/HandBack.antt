@@ -19,7 +19,7 @@ use Rattle.theory.proofs.Basics.Compare.{eq-cases, le-cases, eqb-self}
 use Rattle.joining.specs.Pairs.{Pair}
 use Rattle.joining.specs.Joined.{pairLiteral, joined}
 use Rattle.joining.specs.HandBack.{Handed, inFirst, inSecond, firstRefused, secondRefused, refused, literalsIn, raisedIn, placeIn, isAmong, handBackOf, ofFirst, ofSecond, handBackCall, partOf}
-use Rattle.joining.specs.Claims.{BothAccepted, asOne, IsPart, section, number, NamesFirst, NamesSecond, OfFirst, OfSecond, Unnamed, HandBackClaims}
+use Rattle.joining.specs.Claims.{BothAccepted, asOne, IsPart, section, number, NamesFirst, NamesSecond, NamedIn, OfPair, OfFirst, OfSecond, Unnamed, HandBackClaims, ClashHanded}
 use Rattle.encoding.specs.WritingCall.{given}
 use Rattle.encoding.proofs.Decoded.{at-own, at-within}
 use Rattle.joining.proofs.Checks.{no-refusal, refusal-met, Checked, passes, stands, checked}
@@ -148,9 +148,6 @@ empty first second (firstRefused r place) n = refl
 empty first second (secondRefused r place) n = refl
 empty first second (refused r place) n = refl
 
-refused-same : {k place j at-byte : ℕ} → refused k place ≡ refused j at-byte → (k ≡ j) × (place ≡ at-byte)
-refused-same e = (cc, cc)
-
 -- a query that passes its checks meets none of them
 met-none : (bytes : List ℕ) (k place : ℕ) → accepts bytes ≡ true → FirstStands queryChecks (given bytes 0) k place → ⊥
 met-none bytes k place h f = none-some (sym (no-refusal bytes h) ∙ refusal-met bytes k place f)
@@ -168,6 +165,13 @@ module _ (first second bytes : List ℕ) where
   abbrev k : ℕ
   k = number first second bytes
 
+  -- how many literals of the section either query has
+  abbrev firsts : ℕ
+  firsts = length (literalsIn a s)
+
+  abbrev seconds : ℕ
+  seconds = length (literalsIn b s)
+
   -- what each answer means
   record FirstFound (at-byte size : ℕ) : Type 0 where
     both : BothAccepted first second
@@ -182,7 +186,7 @@ module _ (first second bytes : List ℕ) where
     begins : getD bytes 0 0 ≡ 9
     literal : Literal
     own : NamesSecond first second bytes literal
-    behind : length (literalsIn a s) < k
+    behind : firsts < k
     within : (size ≡ 3) × (at-byte + size ≤ length second)
     reads : literals (take size (drop at-byte second)) ≡ literal ∷ []
 
@@ -194,20 +198,20 @@ module _ (first second bytes : List ℕ) where
   Means (refused r place) = (r ≡ 25) × (place ≡ 0) × BothAccepted first second × Unnamed first second bytes
 
   module _ (both : BothAccepted first second) where
-    found-first : getD bytes 0 0 ≡ 9 → isAmong 0 (length (literalsIn a s)) k ≡ true → FirstFound (placeIn a s k) 3
+    found-first : getD bytes 0 0 ≡ 9 → isAmong 0 firsts k ≡ true → FirstFound (placeIn a s k) 3
     found-first begins h =
-        let r = among-within 0 (length (literalsIn a s)) k h in
+        let r = among-within 0 firsts k h in
         let one : 1 ≤ k = omega (arith, r .0) in
-        let low : k ≤ length (literalsIn a s) = omega (arith, r .1) in
+        let low : k ≤ firsts = omega (arith, r .1) in
         let (l, own, reads) = literal-stands first (both .0) s k one low in
         record { both = both; begins = begins; literal = l; own = own; within = (refl, literal-fits first (both .0) s k one low); reads = reads }
 
-    found-second : getD bytes 0 0 ≡ 9 → isAmong (length (literalsIn a s)) (length (literalsIn b s)) k ≡ true → SecondFound (placeIn b s (k - length (literalsIn a s))) 3
+    found-second : getD bytes 0 0 ≡ 9 → isAmong firsts seconds k ≡ true → SecondFound (placeIn b s (k - firsts)) 3
     found-second begins h =
-        let r = among-within (length (literalsIn a s)) (length (literalsIn b s)) k h in
-        let j = k - length (literalsIn a s) in
+        let r = among-within firsts seconds k h in
+        let j = k - firsts in
         let one : 1 ≤ j = omega (arith, r .0) in
-        let low : j ≤ length (literalsIn b s) = omega (arith, r .1) in
+        let low : j ≤ seconds = omega (arith, r .1) in
         let (l, own, reads) = literal-stands second (both .1) s j one low in
         record {
           both = both;
@@ -219,23 +223,27 @@ module _ (first second bytes : List ℕ) where
           reads = reads;
         }
 
-    unnamed : isAmong 0 (length (literalsIn a s)) k ≡ false → isAmong (length (literalsIn a s)) (length (literalsIn b s)) k ≡ false → (l : Literal) → NamesFirst first second bytes l ⊎ NamesSecond first second bytes l → ⊥
+    unnamed : isAmong 0 firsts k ≡ false → isAmong firsts seconds k ≡ false → (l : Literal) → NamesFirst first second bytes l ⊎ NamesSecond first second bytes l → ⊥
     unnamed x y l =
-        let u = among-outside 0 (length (literalsIn a s)) k x in
-        let v = among-outside (length (literalsIn a s)) (length (literalsIn b s)) k y in
+        let u = among-outside 0 firsts k x in
+        let v = among-outside firsts seconds k y in
         ⊎-elim
         (λ e. let w = at-within (literalsIn a s) k l e in ⊎-elim (λ low. omega (arith, w .0)) (λ high. omega (arith, w .1)) u)
         (λ e. let w = at-within (literalsIn b s) (e .0) l (e .2) in ⊎-elim (λ low. omega (arith, w .0, e .1)) (λ high. omega (arith, w .1, e .1)) v)
 
     -- by the three tests
-    by-tests : (x y z : Bool) → eqb (getD bytes 0 0) 9 ≡ x → isAmong 0 (length (literalsIn a s)) k ≡ y → isAmong (length (literalsIn a s)) (length (literalsIn b s)) k ≡ z → Means (cond x (cond y (inFirst (placeIn a s k) 3) (cond z (inSecond (placeIn b s (k - length (literalsIn a s))) 3) (refused 25 0))) (refused 25 0))
+    told : Bool → Bool → Bool → Handed
+    told x y z = cond x (cond y (inFirst (placeIn a s k) 3) (cond z (inSecond (placeIn b s (k - firsts)) 3) (refused 25 0))) (refused 25 0)
+
+    by-tests : (x y z : Bool) → eqb (getD bytes 0 0) 9 ≡ x → isAmong 0 firsts k ≡ y → isAmong firsts seconds k ≡ z → Means (told x y z)
+    unfolding told
     by-tests false y z e f g = (refl, refl, both, inl (λ begins. true-false (ap (λ (i : ℕ). eqb i 9) begins ∙ eqb-self 9) e))
     by-tests true true z e f g = found-first (eqb-true (getD bytes 0 0) 9 e) f
     by-tests true false true e f g = found-second (eqb-true (getD bytes 0 0) 9 e) g
     by-tests true false false e f g = (refl, refl, both, inr (unnamed f g))
 
     accepted-means : Means (handBackCall first second bytes)
-    unfolding handBackCall Option·elim handBackOf
+    unfolding handBackCall Option·elim handBackOf told
     accepted-means = rw (no-refusal first (both .0), no-refusal second (both .1)) (by-tests _ _ _ refl refl refl)
 
   first-if : (r place : ℕ) → FirstStands queryChecks (given first 0) r place → handBackCall first second bytes ≡ firstRefused r place
@@ -263,7 +271,7 @@ module _ (first second bytes : List ℕ) where
   unnamed-in (refused r place) m both u = ap (λ (i : ℕ). refused i place) (m .0) ∙ ap (refused 25) (m .1)
 
   -- and what it names in the joined query is of a pair
-  pair-in : (ps : List Pair) (l : Literal) (h : Handed) → Means h → BothAccepted first second → (IsPart h → ⊥) → getD bytes 0 0 ≡ 9 → at (literalsIn (asOne first second ps) s) k ≡ some l → OfPairs (termCount a) ps l
+  pair-in : (ps : List Pair) (l : Literal) (h : Handed) → Means h → BothAccepted first second → (IsPart h → ⊥) → getD bytes 0 0 ≡ 9 → NamedIn first second bytes ps l → OfPair first second bytes ps l
   pair-in ps l (inFirst at-byte size) m both n begins e = absurd (n tt)
   pair-in ps l (inSecond at-byte size) m both n begins e = absurd (n tt)
   pair-in ps l (firstRefused r place) m both n begins e = absurd (met-none first r place (both .0) m)
@@ -273,20 +281,20 @@ module _ (first second bytes : List ℕ) where
       none : (x : Literal) → NamesFirst first second bytes x ⊎ NamesSecond first second bytes x → ⊥
       none = ⊎-elim (λ other. absurd (other begins)) (λ no. no) (m .3)
 
-      above : length (literalsIn a s) < k
+      above : firsts < k
       above =
           ⊎-elim
           (λ low. let r = literal-stands first (both .0) s k (at-within _ k l e .0) low in absurd (none (r .0) (inl (r .1))))
           (λ high. high)
-          (le-cases k (length (literalsIn a s)))
+          (le-cases k firsts)
 
-      high : length (literalsIn a s) + length (literalsIn b s) < k
+      high : firsts + seconds < k
       high =
-          let j = k - length (literalsIn a s) in
+          let j = k - firsts in
           ⊎-elim
           (λ low. let r = literal-stands second (both .1) s j (omega (arith, above)) (omega (arith, above)) in absurd (none (r .0) (inr (j, omega (arith, above), r .1))))
           (λ high. high)
-          (le-cases k (length (literalsIn a s) + length (literalsIn b s)))
+          (le-cases k (firsts + seconds))
 
   of-first : (at-byte size : ℕ) → handBackCall first second bytes ≡ inFirst at-byte size → OfFirst first second bytes at-byte size
   unfolding partOf
@@ -363,9 +371,9 @@ clash-names q facts nine s k j h = (
     there : (t : ℕ) → eqb s t ≡ true → ((l : Literal) × (at (literalsIn q t) k ≡ some l) × (l .plain ≡ false)) → (l : Literal) × (at (literalsIn q s) k ≡ some l) × (l .plain ≡ false)
     there t e r = subst (λ (u : ℕ). (l : Literal) × (at (literalsIn q u) k ≡ some l) × (l .plain ≡ false)) (sym (eqb-true s t e)) r
 
-pub clash-handed : (first second : List ℕ) (ps : List Pair) (facts : Facts) (nine s k j : ℕ) → BothAccepted first second → isClash (asOne first second ps) facts (line nine s k j) ≡ true → IsPart (handBackCall first second (nine ∷ s ∷ k ∷ j ∷ []))
+pub clash-handed : (first second : List ℕ) → BothAccepted first second → ClashHanded first second
 unfolding pairLiteral
-clash-handed first second ps facts nine s k j both h =
+clash-handed first second both ps facts nine s k j h =
     let (begins, named) = clash-names (asOne first second ps) facts nine s k j h in
     let (l, e, f) = named in
     let bytes : List ℕ = nine ∷ s ∷ k ∷ j ∷ [] in

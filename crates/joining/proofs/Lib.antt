@@ -1,5 +1,6 @@
 -- The theorems, from the leaves up.
 pub mod PairLists
+pub mod Counts
 pub mod Checks
 pub mod Calls
 pub mod Terms

@@ -4,7 +4,7 @@ use native.Mathlib.Omega.{arith}
 use mathlib.Core.Path.{_≡_, refl, sym, ap, ap₂, _∙_}
 use mathlib.Core.Bool.{true}
 use mathlib.Core.List.{List, [], _∷_, List·Memᴰ}
-use lib.ListN.{length, drop}
+use lib.ListN.{length}
 use borrow.Author.Tests.{leb-true, eqb-true, le-leb, lt-ltb, ltb-true}
 use Rattle.logic.specs.Search.{flatMap}
 use Rattle.logic.specs.Query.{firstByte}
@@ -56,12 +56,12 @@ module _ (n m : ℕ) where
       let front = and-left _ _ h in
       let sized = eqb-true (length (c ∷ rest)) (1 + 2 * c) (and-right _ _ front) in
       let r = pairs-written c rest (omega arith) in
-      let each : (p : Pair) → List·Memᴰ p (pairs rest) → ((1 ≤ p .first) × (p .first ≤ n)) × ((1 ≤ p .second) × (p .second ≤ m)) = λ p own. pair-terms p (all-true (hasTerms n m) p (and-right _ _ h) own) in
+      let each : (p : Pair) → List·Memᴰ p (pairs rest) → hasTerms n m p ≡ true = λ p own. all-true (hasTerms n m) p (and-right _ _ h) own in
       record {
         at-most = omega (arith, r .1, leb-true c 60 (and-left _ _ front));
         bytes-are = sym (ap₂ (λ (x : ℕ) (xs : List ℕ). x ∷ xs) (r .1) (r .0));
-        first-terms = λ p own. each p own .0;
-        second-terms = λ p own. each p own .1;
+        first-terms = λ p own. pair-terms p (each p own) .0;
+        second-terms = λ p own. pair-terms p (each p own) .1;
       }
 
   -- and bytes list no others

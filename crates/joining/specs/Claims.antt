@@ -42,17 +42,29 @@ ListsPairs first second = Lists (termCount (decode first)) (termCount (decode se
 abbrev pub asOne : List ℕ → List ℕ → List Pair → Query
 asOne first second = joined (decode first) (decode second)
 
--- "24 a limit passed or output buffer too short": of 16 terms and of 60 literals a section (01); bytes that just fill the buffer are not too many
-abbrev pub Exceeds : ℕ → Query → Type 0
-Exceeds room q =
-    (16 < termCount q) ⊎ (60 < length (q .equalities)) ⊎ (60 < length (q .reachability)) ⊎ (60 < length (q .fields)) ⊎ (room < length (encode q))
+-- "24 a limit passed or output buffer too short": the limits are 16 terms and 60 literals a section (01), in each "first's entries, then second's ..,
+-- then an equality per pair"; bytes that just fill the buffer are not too many
+module _ (room : ℕ) (first second : List ℕ) (ps : List Pair) where
+  abbrev a : Query
+  a = decode first
 
-pub record Fits (room : ℕ) (q : Query) : Type 0 where
-  pub terms : termCount q ≤ 16
-  pub equalities : length (q .equalities) ≤ 60
-  pub reachability : length (q .reachability) ≤ 60
-  pub fields : length (q .fields) ≤ 60
-  pub output : length (encode q) ≤ room
+  abbrev b : Query
+  b = decode second
+
+  abbrev pub Exceeds : Type 0
+  Exceeds =
+      (16 < termCount a + termCount b)
+      ⊎ (60 < length (a .equalities) + length (b .equalities) + length ps)
+      ⊎ (60 < length (a .reachability) + length (b .reachability))
+      ⊎ (60 < length (a .fields) + length (b .fields))
+      ⊎ (room < length (encode (asOne first second ps)))
+
+  pub record Fits : Type 0 where
+    pub terms : termCount a + termCount b ≤ 16
+    pub equalities : length (a .equalities) + length (b .equalities) + length ps ≤ 60
+    pub reachability : length (a .reachability) + length (b .reachability) ≤ 60
+    pub fields : length (a .fields) + length (b .fields) ≤ 60
+    pub output : length (encode (asOne first second ps)) ≤ room
 
 -- The joining call
 
@@ -63,19 +75,29 @@ module _ (first second pairs : List ℕ) (room : ℕ) where
   abbrev pub left : List ℕ
   left = joinCall first second pairs room .lent
 
+  -- the bytes list no pairs; they list some, and the query is too large, or fits and has n bytes
+  abbrev pub Unlisted : Type 0
+  Unlisted = (ps : List Pair) → ListsPairs first second pairs ps → ⊥
+
+  abbrev pub TooLarge : Type 0
+  TooLarge = (ps : List Pair) × ListsPairs first second pairs ps × Exceeds room first second ps
+
+  abbrev pub WrittenAs : ℕ → Type 0
+  WrittenAs n = (ps : List Pair) × ListsPairs first second pairs ps × Fits room first second ps × (n ≡ length (encode (asOne first second ps)))
+
   -- How the call refuses. For every input:
   pub record JoinRefusals : Type 0 where
     -- "Checks: 2 to 8 for the first, then the second": the first in checking order whose condition stands
     pub first-exactly : (k place : ℕ) → (answered ≡ firstRefused k place) ↔ FirstStands queryChecks (given first 0) k place
     pub second-exactly : (k place : ℕ) → (answered ≡ secondRefused k place) ↔ ((accepts first ≡ true) × FirstStands queryChecks (given second 0) k place)
     -- "23 a pair list of wrong length or count, or with a term its query lacks": the bytes list no pairs of terms, however many
-    pub pairs-exactly : (place : ℕ) → (answered ≡ refused 23 place) ↔ ((place ≡ 0) × BothAccepted first second × ((ps : List Pair) → ListsPairs first second pairs ps → ⊥))
-    -- 24, where they list some
-    pub room-exactly : (place : ℕ) → (answered ≡ refused 24 place) ↔ ((place ≡ 0) × BothAccepted first second × ((ps : List Pair) × ListsPairs first second pairs ps × Exceeds room (asOne first second ps)))
+    pub pairs-exactly : (place : ℕ) → (answered ≡ refused 23 place) ↔ ((place ≡ 0) × BothAccepted first second × Unlisted)
+    -- then 24
+    pub room-exactly : (place : ℕ) → (answered ≡ refused 24 place) ↔ ((place ≡ 0) × BothAccepted first second × TooLarge)
     -- there is no other
     pub refusal-numbered : (k place : ℕ) → answered ≡ refused k place → (k ≡ 23) ⊎ (k ≡ 24)
     -- a query is written exactly where it fits, and its length is answered
-    pub written-exactly : (n : ℕ) → (answered ≡ written n) ↔ (BothAccepted first second × ((ps : List Pair) × ListsPairs first second pairs ps × Fits room (asOne first second ps) × (n ≡ length (encode (asOne first second ps)))))
+    pub written-exactly : (n : ℕ) → (answered ≡ written n) ↔ (BothAccepted first second × WrittenAs n)
     -- "All bytes .. are zero after a refusal" (01), and the call fills just what was lent in any case
     pub refusal-blank : ((n : ℕ) → answered ≡ written n → ⊥) → left ≡ replicate room 0
     pub lent-whole : length left ≡ room
@@ -127,13 +149,20 @@ module _ (first second bytes : List ℕ) where
   abbrev pub NamesSecond : Literal → Type 0
   NamesSecond l = (k : ℕ) × (number ≡ length (literalsIn (decode first) section) + k) × (at (literalsIn (decode second) section) k ≡ some l)
 
+  -- a literal of the two joined with these pairs; the equality of one of these
+  abbrev pub NamedIn : List Pair → Literal → Type 0
+  NamedIn ps l = at (literalsIn (asOne first second ps) section) number ≡ some l
+
+  abbrev pub OfPair : List Pair → Literal → Type 0
+  OfPair ps l = (p : Pair) × List·Memᴰ p ps × (l ≡ pairLiteral (termCount (decode first)) p)
+
   -- the part is three bytes of the query, which read as the literal that the line names; in the joined query that of the second is raised
   pub record OfFirst (at-byte size : ℕ) : Type 0 where
     pub both : BothAccepted first second
     pub begins : getD bytes 0 0 ≡ 9
     pub literal : Literal
     pub own : NamesFirst literal
-    pub named : (ps : List Pair) → at (literalsIn (asOne first second ps) section) number ≡ some literal
+    pub named : (ps : List Pair) → NamedIn ps literal
     pub within : (size ≡ 3) × (at-byte + size ≤ length first)
     pub part : partOf result first second ≡ take size (drop at-byte first)
     pub reads : literals (partOf result first second) ≡ literal ∷ []
@@ -143,7 +172,7 @@ module _ (first second bytes : List ℕ) where
     pub begins : getD bytes 0 0 ≡ 9
     pub literal : Literal
     pub own : NamesSecond literal
-    pub named : (ps : List Pair) → at (literalsIn (asOne first second ps) section) number ≡ some (raisedIn (termCount (decode first)) section literal)
+    pub named : (ps : List Pair) → NamedIn ps (raisedIn (termCount (decode first)) section literal)
     pub within : (size ≡ 3) × (at-byte + size ≤ length second)
     pub part : partOf result first second ≡ take size (drop at-byte second)
     pub reads : literals (partOf result first second) ≡ literal ∷ []
@@ -164,13 +193,18 @@ module _ (first second bytes : List ℕ) where
     -- "A refused hand-back is an empty part"
     pub refused-empty : (IsPart result → ⊥) → partOf result first second ≡ []
     -- what else is named in the joined query, by a line that is refused, is the equality of a pair
-    pub pair-named : (ps : List Pair) (l : Literal) → BothAccepted first second → (IsPart result → ⊥) → getD bytes 0 0 ≡ 9 → at (literalsIn (asOne first second ps) section) number ≡ some l → (p : Pair) × List·Memᴰ p ps × (l ≡ pairLiteral (termCount (decode first)) p)
+    pub pair-named : (ps : List Pair) (l : Literal) → BothAccepted first second → (IsPart result → ⊥) → getD bytes 0 0 ≡ 9 → NamedIn ps l → OfPair ps l
+
+-- a clash line of the result is not refused: it names a negated literal, and the pairs' equalities are plain
+abbrev pub ClashHanded : List ℕ → List ℕ → Type 0
+ClashHanded first second =
+    (ps : List Pair) (facts : Facts) (nine s k j : ℕ) → isClash (asOne first second ps) facts (line nine s k j) ≡ true
+    → IsPart (handBackCall first second (nine ∷ s ∷ k ∷ j ∷ []))
 
 pub record Claims : Type 0 where
   -- "2 to 8", and 26 among them (02, R-13)
   pub query-checks : numbers queryChecks ≡ 2 ∷ 3 ∷ 26 ∷ 4 ∷ 5 ∷ 6 ∷ 7 ∷ 8 ∷ []
   pub refusals : (first second pairs : List ℕ) (room : ℕ) → JoinRefusals first second pairs room
-  pub written : (first second pairs : List ℕ) (room n : ℕ) (ps : List Pair) → answered first second pairs room ≡ Answer.written n → ListsPairs first second pairs ps → Written first second pairs room n ps
+  pub joins : (first second pairs : List ℕ) (room n : ℕ) (ps : List Pair) → answered first second pairs room ≡ written n → ListsPairs first second pairs ps → Written first second pairs room n ps
   pub hand-back : (first second bytes : List ℕ) → HandBackClaims first second bytes
-  -- no clash line of the result is refused: a clash line names a negated literal, and the pairs' equalities are plain
-  pub clash-handed : (first second : List ℕ) (ps : List Pair) (facts : Facts) (nine s k j : ℕ) → BothAccepted first second → isClash (asOne first second ps) facts (line nine s k j) ≡ true → IsPart (handBackCall first second (nine ∷ s ∷ k ∷ j ∷ []))
+  pub clash-handed : (first second : List ℕ) → BothAccepted first second → ClashHanded first second
