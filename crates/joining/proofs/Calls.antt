@@ -14,8 +14,8 @@ use Rattle.logic.specs.Search.{_and_}
 use Rattle.logic.specs.Query.{Query, termCount, decode}
 use Rattle.logic.specs.Calls.{queryChecks, accepts, padded}
 use Rattle.logic.specs.Demands.{FirstStands}
-use Rattle.theory.proofs.Basics.Search.{true-false, and-left, and-right, and-intro, bool-cases}
-use Rattle.theory.proofs.Basics.Compare.{le-cases}
+use Rattle.theory.proofs.Basics.Search.{true-false, not-of, and-left, and-right, and-intro, bool-cases}
+use Rattle.theory.proofs.Basics.Compare.{le-cases, cond-true, cond-false}
 use Rattle.theory.proofs.Calls.CallLaws.{padded-length}
 use Rattle.encoding.specs.QueryBytes.{encode, withinLimits}
 use Rattle.encoding.specs.WritingCall.{given}
@@ -83,11 +83,11 @@ module _ (room : ℕ) (first second : List ℕ) (ps : List Pair) where
 
   fitted-writes : Fits room first second ps → fitted room q ≡ writes room (encode q)
   unfolding fitted
-  fitted-writes f = rw (fits-test f)
+  fitted-writes f = cond-true _ _ (fits-test f)
 
   fitted-full : Exceeds room first second ps → fitted room q ≡ blank room (refused 24 0)
   unfolding fitted
-  fitted-full x = ⊎-elim (λ h. absurd (exceeds-not (test-fits h) x)) (λ h. rw h) (bool-cases (withinLimits q and leb (length (encode q)) room))
+  fitted-full x = cond-false _ _ (not-of (λ h. exceeds-not (test-fits h) x))
 
 -- The call
 
@@ -109,11 +109,11 @@ module _ (first second pairs : List ℕ) (room : ℕ) where
 
   call-unlisted : BothAccepted first second → isPairList (termCount (decode first)) (termCount (decode second)) pairs ≡ false → call ≡ blank room (refused 23 0)
   unfolding joinOf
-  call-unlisted h u = call-joins h ∙ rw u
+  call-unlisted h u = call-joins h ∙ cond-false _ _ u
 
   call-listed : (ps : List Pair) → BothAccepted first second → ListsPairs first second pairs ps → call ≡ fitted room (asOne first second ps)
   unfolding joinOf
-  call-listed ps h l = call-joins h ∙ rw (lists-listed _ _ pairs ps l, lists-pairs _ _ pairs ps l)
+  call-listed ps h l = call-joins h ∙ cond-true _ _ (lists-listed _ _ pairs ps l) ∙ ap (λ (xs : List Pair). fitted room (asOne first second xs)) (lists-pairs _ _ pairs ps l)
 
   -- what each answer means
   abbrev Means : Answer → Type 0
