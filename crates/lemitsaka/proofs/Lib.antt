@@ -1,1 +1,4 @@
+pub mod Places
+pub mod Bounds
 pub mod Header
+pub mod Numbers
