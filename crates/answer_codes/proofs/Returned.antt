@@ -85,11 +85,11 @@ pub data JoinAnswers : joining.Answer → Type 0 where
   written : {n : ℕ} → n < 65536 → JoinAnswers (joining.written n)
   first : {k place : ℕ} → OfQuery k place → JoinAnswers (joining.firstRefused k place)
   second : {k place : ℕ} → OfQuery k place → JoinAnswers (joining.secondRefused k place)
-  neither : {k place : ℕ} → (k ≡ 23) ⊎ (k ≡ 24) → place < 65536 → JoinAnswers (joining.refused k place)
+  neither : {k : ℕ} → (k ≡ 23) ⊎ (k ≡ 24) → JoinAnswers (joining.refused k 0)
 
-neither-read : (k place : ℕ) → (k ≡ 23) ⊎ (k ≡ 24) → joinRead (refusal k place) ≡ joining.refused k place
+neither-read : (k : ℕ) → (k ≡ 23) ⊎ (k ≡ 24) → joinRead (refusal k 0) ≡ joining.refused k 0
 unfolding joinRead readBack _or_
-neither-read k place = ⊎-elim (λ e. rw e) (λ e. rw e)
+neither-read k = ⊎-elim (λ e. rw e) (λ e. rw e)
 
 pub join-returns : {a : joining.Answer} → JoinAnswers a → Returns joinDigits joinRead a
 unfolding joinRead readBack _or_
@@ -97,7 +97,7 @@ join-returns (written h) = record { fits = (omega arith, h); read = refl }
 join-returns (first {k = k} s) =
     record { fits = (s .small .1, s .small .2); read = rw (ne-eqb k 0 (λ e. omega arith), ne-eqb k 23 (λ e. s .joining (inl e)), ne-eqb k 24 (λ e. s .joining (inr e))) }
 join-returns (second s) = record { fits = (s .small .1, s .small .2); read = refl }
-join-returns (neither {k = k} {place = place} e h) = record { fits = (⊎-elim (λ e. omega arith) (λ e. omega arith) e, h); read = neither-read k place e }
+join-returns (neither {k = k} e) = record { fits = (⊎-elim (λ e. omega arith) (λ e. omega arith) e, omega arith); read = neither-read k e }
 
 -- the answers that the hand-back gives
 pub data HandAnswers : hand.Handed → Type 0 where
@@ -105,7 +105,7 @@ pub data HandAnswers : hand.Handed → Type 0 where
   in-second : {at size : ℕ} → at < 65536 → size < 65536 → HandAnswers (hand.inSecond at size)
   first : {k place : ℕ} → OfQuery k place → HandAnswers (hand.firstRefused k place)
   second : {k place : ℕ} → OfQuery k place → HandAnswers (hand.secondRefused k place)
-  neither : {k place : ℕ} → k ≡ 25 → place < 65536 → HandAnswers (hand.refused k place)
+  neither : HandAnswers (hand.refused 25 0)
 
 pub hand-returns : {a : hand.Handed} → HandAnswers a → Returns handDigits handRead a
 unfolding handRead
@@ -113,4 +113,4 @@ hand-returns (in-first a b) = record { fits = (a, b); read = refl }
 hand-returns (in-second a b) = record { fits = (a, b); read = refl }
 hand-returns (first {k = k} s) = record { fits = (s .small .1, s .small .2); read = rw (ne-eqb k 25 (s .handing)) }
 hand-returns (second s) = record { fits = (s .small .1, s .small .2); read = refl }
-hand-returns (neither e h) = record { fits = (omega arith, h); read = rw e }
+hand-returns neither = record { fits = (omega arith, omega arith); read = refl }

@@ -58,7 +58,7 @@ use Rattle.lemitsaka.proofs.Places.{refusal-number, numbers-within, zer
 
 -- The forms of query, and the bytes of the longest of each
 
-one-most : (n : ℕ) → most (sections n) ≡ 561
+pub one-most : (n : ℕ) → most (sections n) ≡ 561
 unfolding most sections fiveSections fourSections booleanSection
 one-most n = refl
 

@@ -20,16 +20,20 @@ use Rattle.rewriting.specs.Call.{rewriteCall}
 use Rattle.rewriting.proofs.Claims as rewriting
 use Rattle.link_rewriting.specs.Call.{linksRewriteCall}
 use Rattle.link_rewriting.proofs.Claims as link-rewriting
+use Rattle.joining.specs.Call.{joinCall}
+use Rattle.joining.specs.HandBack.{handBackCall}
 use Rattle.codes.specs.Codes.{code, digitsIn}
 use Rattle.codes.proofs.Numbers.{number-back}
-use Rattle.answer_codes.specs.Numbers.{verdictDigits, verdictRead, orderDigits, orderRead, formulaDigits, formulaRead, checkDigits, checkRead, dotDigits, dotRead, writingDigits, writingRead}
-use Rattle.answer_codes.proofs.Returned.{verdict-returns, order-returns, formula-returns, check-returns, dot-returns, writing-returns}
+use Rattle.answer_codes.specs.Numbers.{verdictDigits, verdictRead, orderDigits, orderRead, formulaDigits, formulaRead, checkDigits, checkRead, dotDigits, dotRead, writingDigits, writingRead, joinDigits, joinRead, handDigits, handRead}
+use Rattle.answer_codes.proofs.Returned.{verdict-returns, order-returns, formula-returns, check-returns, dot-returns, writing-returns, join-returns, hand-returns}
 use Rattle.lemitsaka.specs.VerdictPromise.{answerIn, Codes}
 use Rattle.lemitsaka.specs.PrecedencePromise.{OrderCodes}
 use Rattle.lemitsaka.specs.FormulaPromise.{CodesFormula}
 use Rattle.lemitsaka.specs.DotPromise.{DotCodes}
 use Rattle.lemitsaka.specs.RewritePromise.{RewriteCodes}
+use Rattle.lemitsaka.specs.JoinPromise.{JoinCodes}
 use Rattle.lemitsaka.proofs.Bounds.{check-counted, check-refused, formula-counted, formula-refused, between-refused, rewrite-refused, links-rewrite-refused, order-refused, dot-refused}
+use Rattle.lemitsaka.proofs.TwoQueries.{join-answers, hand-answers}
 use Rattle.lemitsaka.proofs.Header as header
 
 module _ (order query before bytes : List ℕ) (r : ℕ) where
@@ -71,3 +75,11 @@ module _ (given : List ℕ) (room : ℕ) (bytes : List ℕ) (r : ℕ) where
   pub lemitsaka-links-rewrite : RewriteCodes (linksRewriteCall given room) r bytes → writingRead (digitsIn r) ≡ linksRewriteCall given room .answer
   lemitsaka-links-rewrite codes =
       number-back writingDigits writingRead _ (writing-returns _ (λ n e. omega (arith, link-rewriting.claims .written given room n e .within)) (links-rewrite-refused given room)) r (codes .answers)
+
+-- the calls that take two queries
+module _ (first second : List ℕ) (r : ℕ) where
+  pub lemitsaka-join : (pairs : List ℕ) (room : ℕ) (bytes : List ℕ) → JoinCodes (joinCall first second pairs room) r bytes → joinRead (digitsIn r) ≡ joinCall first second pairs room .answer
+  lemitsaka-join pairs room bytes codes = number-back joinDigits joinRead _ (join-returns (join-answers first second pairs room)) r (codes .answers)
+
+  pub lemitsaka-hand-back : (line : List ℕ) → r ≡ code (handDigits (handBackCall first second line)) → handRead (digitsIn r) ≡ handBackCall first second line
+  lemitsaka-hand-back line = number-back handDigits handRead _ (hand-returns (hand-answers first second line)) r
