@@ -80,37 +80,44 @@ pub record OfQuery (k place : ℕ) : Type 0 where
   pub joining : (k ≡ 23) ⊎ (k ≡ 24) → ⊥
   pub handing : k ≡ 25 → ⊥
 
--- the answers that the joining call gives
-pub data JoinAnswers : joining.Answer → Type 0 where
-  written : {n : ℕ} → n < 65536 → JoinAnswers (joining.written n)
-  first : {k place : ℕ} → OfQuery k place → JoinAnswers (joining.firstRefused k place)
-  second : {k place : ℕ} → OfQuery k place → JoinAnswers (joining.secondRefused k place)
-  neither : {k : ℕ} → (k ≡ 23) ⊎ (k ≡ 24) → JoinAnswers (joining.refused k 0)
+-- what is asked of the answers of the joining call, and of the hand-back
+pub record JoinSmall (a : joining.Answer) : Type 0 where
+  pub lengths : (n : ℕ) → a ≡ joining.written n → n < 65536
+  pub of-first : (k place : ℕ) → a ≡ joining.firstRefused k place → OfQuery k place
+  pub of-second : (k place : ℕ) → a ≡ joining.secondRefused k place → OfQuery k place
+  pub of-neither : (k place : ℕ) → a ≡ joining.refused k place → ((k ≡ 23) ⊎ (k ≡ 24)) × (place < 65536)
 
-neither-read : (k : ℕ) → (k ≡ 23) ⊎ (k ≡ 24) → joinRead (refusal k 0) ≡ joining.refused k 0
-unfolding joinRead readBack _or_
-neither-read k = ⊎-elim (λ e. rw e) (λ e. rw e)
+pub record HandSmall (a : hand.Handed) : Type 0 where
+  pub parts-first : (at size : ℕ) → a ≡ hand.inFirst at size → (at < 65536) × (size < 65536)
+  pub parts-second : (at size : ℕ) → a ≡ hand.inSecond at size → (at < 65536) × (size < 65536)
+  pub of-first : (k place : ℕ) → a ≡ hand.firstRefused k place → OfQuery k place
+  pub of-second : (k place : ℕ) → a ≡ hand.secondRefused k place → OfQuery k place
+  pub of-neither : (k place : ℕ) → a ≡ hand.refused k place → (k ≡ 25) × (place < 65536)
 
-pub join-returns : {a : joining.Answer} → JoinAnswers a → Returns joinDigits joinRead a
+neither-read : (k place : ℕ) → (k ≡ 23) ⊎ (k ≡ 24) → joinRead (refusal k place) ≡ joining.refused k place
 unfolding joinRead readBack _or_
-join-returns (written h) = record { fits = (omega arith, h); read = refl }
-join-returns (first {k = k} s) =
+neither-read k place = ⊎-elim (λ e. rw e) (λ e. rw e)
+
+pub join-returns : (a : joining.Answer) → JoinSmall a → Returns joinDigits joinRead a
+unfolding joinRead readBack _or_
+join-returns (joining.written n) h = record { fits = (omega arith, h .lengths n refl); read = refl }
+join-returns (joining.firstRefused k place) h =
+    let s = h .of-first k place refl in
     record { fits = (s .small .1, s .small .2); read = rw (ne-eqb k 0 (λ e. omega arith), ne-eqb k 23 (λ e. s .joining (inl e)), ne-eqb k 24 (λ e. s .joining (inr e))) }
-join-returns (second s) = record { fits = (s .small .1, s .small .2); read = refl }
-join-returns (neither {k = k} e) = record { fits = (⊎-elim (λ e. omega arith) (λ e. omega arith) e, omega arith); read = neither-read k e }
+join-returns (joining.secondRefused k place) h = let s = h .of-second k place refl in record { fits = (s .small .1, s .small .2); read = refl }
+join-returns (joining.refused k place) h =
+    let s = h .of-neither k place refl in
+    record { fits = (⊎-elim (λ e. omega arith) (λ e. omega arith) (s .0), s .1); read = neither-read k place (s .0) }
 
--- the answers that the hand-back gives
-pub data HandAnswers : hand.Handed → Type 0 where
-  in-first : {at size : ℕ} → at < 65536 → size < 65536 → HandAnswers (hand.inFirst at size)
-  in-second : {at size : ℕ} → at < 65536 → size < 65536 → HandAnswers (hand.inSecond at size)
-  first : {k place : ℕ} → OfQuery k place → HandAnswers (hand.firstRefused k place)
-  second : {k place : ℕ} → OfQuery k place → HandAnswers (hand.secondRefused k place)
-  neither : HandAnswers (hand.refused 25 0)
-
-pub hand-returns : {a : hand.Handed} → HandAnswers a → Returns handDigits handRead a
+pub hand-returns : (a : hand.Handed) → HandSmall a → Returns handDigits handRead a
 unfolding handRead
-hand-returns (in-first a b) = record { fits = (a, b); read = refl }
-hand-returns (in-second a b) = record { fits = (a, b); read = refl }
-hand-returns (first {k = k} s) = record { fits = (s .small .1, s .small .2); read = rw (ne-eqb k 25 (s .handing)) }
-hand-returns (second s) = record { fits = (s .small .1, s .small .2); read = refl }
-hand-returns neither = record { fits = (omega arith, omega arith); read = refl }
+hand-returns (hand.inFirst at size) h = record { fits = h .parts-first at size refl; read = refl }
+hand-returns (hand.inSecond at size) h = record { fits = h .parts-second at size refl; read = refl }
+hand-returns (hand.firstRefused k place) h =
+    let s = h .of-first k place refl in
+    record { fits = (s .small .1, s .small .2); read = rw (ne-eqb k 25 (s .handing)) }
+hand-returns (hand.secondRefused k place) h = let s = h .of-second k place refl in record { fits = (s .small .1, s .small .2); read = refl }
+hand-returns (hand.refused k place) h =
+    let s = h .of-neither k place refl in
+    let e = s .0 in
+    record { fits = (omega arith, s .1); read = rw e }

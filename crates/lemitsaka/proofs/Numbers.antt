@@ -33,7 +33,7 @@ use Rattle.lemitsaka.specs.DotPromise.{DotCodes}
 use Rattle.lemitsaka.specs.RewritePromise.{RewriteCodes}
 use Rattle.lemitsaka.specs.JoinPromise.{JoinCodes}
 use Rattle.lemitsaka.proofs.Bounds.{check-counted, check-refused, formula-counted, formula-refused, between-refused, rewrite-refused, links-rewrite-refused, order-refused, dot-refused}
-use Rattle.lemitsaka.proofs.TwoQueries.{join-answers, hand-answers}
+use Rattle.lemitsaka.proofs.TwoQueries.{join-small, hand-small}
 use Rattle.lemitsaka.proofs.Header as header
 
 module _ (order query before bytes : List ℕ) (r : ℕ) where
@@ -79,7 +79,7 @@ module _ (given : List ℕ) (room : ℕ) (bytes : List ℕ) (r : ℕ) where
 -- the calls that take two queries
 module _ (first second : List ℕ) (r : ℕ) where
   pub lemitsaka-join : (pairs : List ℕ) (room : ℕ) (bytes : List ℕ) → JoinCodes (joinCall first second pairs room) r bytes → joinRead (digitsIn r) ≡ joinCall first second pairs room .answer
-  lemitsaka-join pairs room bytes codes = number-back joinDigits joinRead _ (join-returns (join-answers first second pairs room)) r (codes .answers)
+  lemitsaka-join pairs room bytes codes = number-back joinDigits joinRead _ (join-returns _ (join-small first second pairs room)) r (codes .answers)
 
   pub lemitsaka-hand-back : (line : List ℕ) → r ≡ code (handDigits (handBackCall first second line)) → handRead (digitsIn r) ≡ handBackCall first second line
-  lemitsaka-hand-back line = number-back handDigits handRead _ (hand-returns (hand-answers first second line)) r
+  lemitsaka-hand-back line = number-back handDigits handRead _ (hand-returns _ (hand-small first second line)) r

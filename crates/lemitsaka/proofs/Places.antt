@@ -10,7 +10,7 @@ use lib.Dec.{eqb, ltb}
 use borrow.Author.Tests.{ltb-true, eqb-true}
 use Rattle.logic.specs.Search.{_and_, _or_, all, keep, from}
 use Rattle.logic.specs.Query.{Form}
-use Rattle.logic.specs.Calls.{Input, Check, layoutCheck, byteCheck, formChecks, Answer, refused, refusalOf}
+use Rattle.logic.specs.Calls.{Input, Check, layoutCheck, byteCheck, formChecks, refused, refusalOf}
 use Rattle.logic.specs.Demands.{NoneStands, numbers}
 use Rattle.theory.proofs.Basics.Search.{and-left, and-right, or-cases, all-true, keep-some, map-mem, map-intro}
 use Rattle.theory.proofs.Query.Bytes.{layoutNumbers, Excesses}
@@ -20,10 +20,7 @@ use Rattle.theory.proofs.Calls.CallLaws.{Placed, refusalOf-some}
 use Rattle.theory.proofs.Calls.Refusals.{refused-one, both-placed}
 use Rattle.answer_codes.proofs.Returned.{OfQuery}
 
--- a check that stands gives a refusal, whose number is that of a check
-pub refusal-is : (cs : List Check) (i : Input) (a : Answer) → refusalOf cs i ≡ some a → (k : ℕ) × (place : ℕ) × (a ≡ refused k place)
-refusal-is cs i a h = let r = refusal-first cs i a h in (r .0, r .1, r .3)
-
+-- the number of a refusal is that of a check
 pub refusal-number : (cs : List Check) (i : Input) (k place : ℕ) → refusalOf cs i ≡ some (refused k place) → List·Memᴰ k (numbers cs)
 refusal-number cs i k place h =
     let r = refusal-first cs i (refused k place) h in
