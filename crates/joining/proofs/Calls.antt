@@ -130,7 +130,7 @@ module _ (first second pairs : List ℕ) (room : ℕ) where
 
   blanks : (a : Answer) → Means a → Leaves (blank room a)
   unfolding blank
-  blanks a m = (m, length-replicate room 0, λ w. refl)
+  blanks a m = (m, length-replicate room _, λ w. refl)
 
   listed-leaves : (ps : List Pair) → BothAccepted first second → ListsPairs first second pairs ps → Leaves call
   listed-leaves ps h l =

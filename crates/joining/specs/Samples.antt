@@ -5,7 +5,7 @@ use mathlib.Core.List.{List, [], _∷_, _++_, map}
 use lib.ListN.{length, replicate}
 use Rattle.logic.specs.Calls.{padded}
 use Rattle.logic.specs.EdgeExamples.{times}
-use Rattle.joining.specs.Call.{Answer, written, firstRefused, secondRefused, refused, Outcome, blank, joinCall}
+use Rattle.joining.specs.Call.{Answer, written, firstRefused, secondRefused, refused, Outcome, joinCall}
 use Rattle.joining.specs.HandBack.{Handed, handBackCall}
 use Rattle.joining.specs.HandBack as handed
 
@@ -28,7 +28,8 @@ joins first second pairs room bytes =
     }
 
 abbrev pub refuses : List ℕ → List ℕ → List ℕ → ℕ → Answer → JoinSample
-refuses first second pairs room a = record { first = first; second = second; pairs = pairs; room = room; outcome = blank room a }
+refuses first second pairs room a =
+    record { first = first; second = second; pairs = pairs; room = room; outcome = record { answer = a; lent = replicate room 0 } }
 
 -- two queries of a vector, of 2 and 5 terms, and one of none
 abbrev pub two : List ℕ
@@ -54,6 +55,8 @@ joinSamples =
     ∷ joins (variables 1) (variables 1) (60 ∷ times 60 (1 ∷ 1 ∷ [])) 681
     (2 ∷ 0 ∷ 0 ∷ 60 ∷ (times 60 (1 ∷ 1 ∷ 2 ∷ []) ++ (0 ∷ 0 ∷ 0 ∷ [])))
     ∷ refuses (variables 1) (variables 1) (61 ∷ times 61 (1 ∷ 1 ∷ [])) 681 (refused 23 0)
+    -- an equality more than 60
+    ∷ refuses (variables 1) (1 ∷ 0 ∷ 1 ∷ 1 ∷ 1 ∷ 1 ∷ 0 ∷ 0 ∷ 0 ∷ []) (60 ∷ times 60 (1 ∷ 1 ∷ [])) 681 (refused 24 0)
     -- 16 terms, and one more: 24, but 23 before it
     ∷ joins (variables 9) (variables 7) (0 ∷ []) 681 (variables 16)
     ∷ refuses (variables 9) (variables 8) (0 ∷ []) 681 (refused 24 0)
@@ -86,10 +89,11 @@ handSamples =
     ∷ hands two five [] (handed.refused 25 0)
     ∷ hands two five (9 ∷ 4 ∷ []) (handed.refused 25 0)
     ∷ hands two five (8 ∷ 4 ∷ 1 ∷ 0 ∷ []) (handed.refused 25 0)
-    -- section 5 names no literal, and a query that has booleans is refused (02, R-13)
+    -- section 5 names no literal
     ∷ hands two five (9 ∷ 5 ∷ 1 ∷ 1 ∷ []) (handed.refused 25 0)
-    ∷ hands (1 ∷ []) five (9 ∷ 2 ∷ 1 ∷ 0 ∷ []) (handed.firstRefused 2 1)
-    ∷ hands two (0 ∷ 0 ∷ 0 ∷ 0 ∷ 1 ∷ 1 ∷ 1 ∷ []) (9 ∷ 5 ∷ 1 ∷ 1 ∷ []) (handed.secondRefused 26 4)
+    -- "25 .. after 2 to 8 alone", and 26 (02, R-13), of the first before the second
+    ∷ hands (1 ∷ []) (1 ∷ []) (8 ∷ []) (handed.firstRefused 2 1)
+    ∷ hands two (0 ∷ 0 ∷ 0 ∷ 0 ∷ 1 ∷ 1 ∷ 1 ∷ []) (8 ∷ []) (handed.secondRefused 26 4)
     ∷ []
 
 -- what the definitions give for the samples
