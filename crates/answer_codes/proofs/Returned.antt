@@ -15,7 +15,8 @@ use Rattle.joining.specs.Call as joining
 use Rattle.joining.specs.HandBack as hand
 use Rattle.codes.specs.Codes.{refusal, readBack}
 use Rattle.codes.proofs.Numbers.{Returns}
-use Rattle.answer_codes.specs.Numbers.{verdictDigits, verdictRead, orderDigits, orderRead, formulaDigits, formulaRead, checkDigits, checkRead, dotDigits, dotRead, writingDigits, writingRead, joinDigits, joinRead, handDigits, handRead}
+use Rattle.answer_codes.specs.Numbers.{verdictDigits, verdictRead, orderDigits, orderRead, formulaDigits, formulaRead, checkDigits, checkRead}
+use Rattle.answer_codes.specs.Numbers.{dotDigits, dotRead, writingDigits, writingRead, joinDigits, joinRead, handDigits, handRead}
 
 -- a refusal's number and place, and a number of the call's own that is not 0
 abbrev pub Small : ℕ → ℕ → Type 0

@@ -25,4 +25,5 @@ pub record Rows : Type 0 where
   pub dot-row : numbers dotDigits (drawing.written 508 ∷ drawing.refused 13 0 ∷ []) ≡ 508 ∷ 851968 ∷ []
   pub writing-row : numbers writingDigits (writing.written 637 ∷ writing.refused 27 0 ∷ []) ≡ 637 ∷ 1769472 ∷ []
   pub join-row : numbers joinDigits (joining.written 561 ∷ joining.firstRefused 2 5 ∷ joining.secondRefused 2 5 ∷ joining.refused 24 0 ∷ []) ≡ 561 ∷ 131077 ∷ 4295098373 ∷ 1572864 ∷ []
-  pub hand-row : numbers handDigits (hand.inFirst 4 3 ∷ hand.inSecond 4 3 ∷ hand.firstRefused 2 5 ∷ hand.secondRefused 2 5 ∷ hand.refused 25 0 ∷ []) ≡ 262147 ∷ 4295229443 ∷ 1099511758853 ∷ 1103806726149 ∷ 1099513266176 ∷ []
+  pub hand-row : numbers handDigits (hand.inFirst 4 3 ∷ hand.inSecond 4 3 ∷ hand.firstRefused 2 5 ∷ hand.secondRefused 2 5 ∷ hand.refused 25 0 ∷ [])
+      ≡ 262147 ∷ 4295229443 ∷ 1099511758853 ∷ 1103806726149 ∷ 1099513266176 ∷ []

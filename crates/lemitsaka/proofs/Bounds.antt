@@ -161,7 +161,8 @@ module _ (w : Writing) (longest : ℕ) (most-form : (n : ℕ) → most (w .form 
   unfolding writingChecks writing.roomCheck formChecks layoutCheck byteCheck all _and_
   writing-number = numbers-within (numbers (writingChecks w)) refl
 
-  pub writing-refused : (NoRoom : ℕ → List ℕ → Type 0) (bytes : List ℕ) (room : ℕ) → WritingRefusals w NoRoom bytes room → (k place : ℕ) → writingCall w bytes room .answer ≡ writing.refused k place → Small k place
+  pub writing-refused : (NoRoom : ℕ → List ℕ → Type 0) (bytes : List ℕ) (room : ℕ) → WritingRefusals w NoRoom bytes room
+      → (k place : ℕ) → writingCall w bytes room .answer ≡ writing.refused k place → Small k place
   writing-refused NoRoom bytes room law k place e =
       let h = first-refusal (writingChecks w) (writing.given bytes room) k place (law .first-exactly k place .0 e) in
       let n = writing-number k (refusal-number (writingChecks w) (writing.given bytes room) k place h) in
@@ -200,7 +201,10 @@ dot-answers : (report : List ℕ) (room : ℕ) → DotAnswers report (dotCall re
 unfolding dotCall drawing.drawn drawing.refusal
 dot-answers report room = by-form (wellFormed 1 report) refl
   where
-    by-room : wellFormed 1 report ≡ true → (b : Bool) → DotAnswers report (cond b (drawing.refusal room 14) (record { answer = drawing.written (length (text report)); lent = padded room (text report) }) .answer)
+    written : drawing.Outcome
+    written = record { answer = drawing.written (length (text report)); lent = padded room (text report) }
+
+    by-room : wellFormed 1 report ≡ true → (b : Bool) → DotAnswers report (cond b (drawing.refusal room 14) written .answer)
     by-room f true = short
     by-room f false = drawn f
 

@@ -66,7 +66,8 @@ module _ (cs : List Check) (outcome : Input → Outcome) (longest : ℕ) (short 
     blank k place e = codes .leaves ∙ law .refusal-blank (inputOf order query before) k place (answered (calls.refused k place) e)
 
 -- A call "writes every byte, whatever it answers": what the lent bytes held before makes no difference, only their length.
-pub every-byte-written : (outcome : Input → Outcome) (order query before before′ bytes bytes′ : List ℕ) (r r′ : ℕ) → Codes (outcome (inputOf order query before)) r bytes → Codes (outcome (inputOf order query before′)) r′ bytes′ → length before ≡ length before′ → (r ≡ r′) × (bytes ≡ bytes′)
+pub every-byte-written : (outcome : Input → Outcome) (order query before before′ bytes bytes′ : List ℕ) (r r′ : ℕ)
+    → Codes (outcome (inputOf order query before)) r bytes → Codes (outcome (inputOf order query before′)) r′ bytes′ → length before ≡ length before′ → (r ≡ r′) × (bytes ≡ bytes′)
 every-byte-written outcome order query before before′ bytes bytes′ r r′ c c′ l =
     let e : outcome (inputOf order query before) ≡ outcome (inputOf order query before′) = ap (λ (n : ℕ). outcome (record { order = order; query = query; room = n })) l in
     (c .answers ∙ ap (λ (o : Outcome). code (verdictDigits (o .answer))) e ∙ sym (c′ .answers), c .leaves ∙ ap (λ (o : Outcome). o .lent) e ∙ sym (c′ .leaves))

@@ -24,7 +24,8 @@ use Rattle.joining.specs.Call.{joinCall}
 use Rattle.joining.specs.HandBack.{handBackCall}
 use Rattle.codes.specs.Codes.{code, digitsIn}
 use Rattle.codes.proofs.Numbers.{number-back}
-use Rattle.answer_codes.specs.Numbers.{verdictDigits, verdictRead, orderDigits, orderRead, formulaDigits, formulaRead, checkDigits, checkRead, dotDigits, dotRead, writingDigits, writingRead, joinDigits, joinRead, handDigits, handRead}
+use Rattle.answer_codes.specs.Numbers.{verdictDigits, verdictRead, orderDigits, orderRead, formulaDigits, formulaRead, checkDigits, checkRead}
+use Rattle.answer_codes.specs.Numbers.{dotDigits, dotRead, writingDigits, writingRead, joinDigits, joinRead, handDigits, handRead}
 use Rattle.answer_codes.proofs.Returned.{verdict-returns, order-returns, formula-returns, check-returns, dot-returns, writing-returns, join-returns, hand-returns}
 use Rattle.lemitsaka.specs.VerdictPromise.{answerIn, Codes}
 use Rattle.lemitsaka.specs.PrecedencePromise.{OrderCodes}
@@ -49,7 +50,8 @@ module _ (order query before bytes : List ℕ) (r : ℕ) where
   pub lemitsaka-links-derivation : Codes (derivationCallOf threeLinkForm (inputOf order query before)) r bytes → answerIn r ≡ derivationCallOf threeLinkForm (inputOf order query before) .answer
   lemitsaka-links-derivation = header.derivation-number threeLinkForm three-link-laws (omega arith) order query before bytes r
 
-  pub lemitsaka-formula : (text : List ℕ) → CodesFormula (formulaCall (formulaInput order query text before)) r bytes → formulaRead (digitsIn r) ≡ formulaCall (formulaInput order query text before) .answer
+  pub lemitsaka-formula : (text : List ℕ) → CodesFormula (formulaCall (formulaInput order query text before)) r bytes
+      → formulaRead (digitsIn r) ≡ formulaCall (formulaInput order query text before) .answer
   lemitsaka-formula text codes =
       let i = formulaInput order query text before in
       number-back formulaDigits formulaRead _ (formula-returns _ (formula-counted i) (λ k place. formula-refused i place k)) r (codes .answers)

@@ -75,7 +75,8 @@ module _ (form : Form) (longest : ℕ) (most-form : (n : ℕ) → most (form n) 
       single passed k place h =
           let (c, m, (p, s, q)) = refusalOf-some (map (byteCheck form) (from 4 5)) i _ h in
           let (j, n, e) = map-mem (byteCheck form) c (from 4 5) m in
-          byte-place-of form longest most-form excesses j (i .query) place (λ l o. passed (layoutCheck form l) (map-intro (layoutCheck form) l o)) (sym (ap (λ (x : Check). x .place i) e) ∙ s ∙ ap some (sym (refused-one q .1)))
+          byte-place-of form longest most-form excesses j (i .query) place (λ l o. passed (layoutCheck form l) (map-intro (layoutCheck form) l o))
+          (sym (ap (λ (x : Check). x .place i) e) ∙ s ∙ ap some (sym (refused-one q .1)))
 
   pub form-refusal : longest < 65536 → (i : Input) (k place : ℕ) → refusalOf (formChecks form) i ≡ some (refused k place) → OfQuery k place
   form-refusal short i k place h =

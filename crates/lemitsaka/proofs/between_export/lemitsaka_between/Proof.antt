@@ -17,4 +17,6 @@ lemitsaka-between-spec =
     -- same-length
     (λ c. search needs)
     -- returns
-    (λ c. record { answers = c .between-number .ensures ∙ ap (λ a. code (verdictDigits a)) (c .before .before .before .between .ensures .answers); leaves = c .before .before .before .between .ensures .leaves }))
+    (λ c.
+    let did = c .before .before .before .between .ensures in
+    record { answers = c .between-number .ensures ∙ ap (λ a. code (verdictDigits a)) (did .answers); leaves = did .leaves }))

@@ -17,4 +17,6 @@ lemitsaka-formula-spec =
     -- same-length
     (λ c. c .before .before .before .formula .kept .1 .1 .1 .0)
     -- returns
-    (λ c. record { answers = c .formula-number .ensures ∙ ap (λ a. code (formulaDigits a)) (c .before .before .before .formula .ensures .answers); leaves = c .before .before .before .formula .ensures .leaves }))
+    (λ c.
+    let did = c .before .before .before .formula .ensures in
+    record { answers = c .formula-number .ensures ∙ ap (λ a. code (formulaDigits a)) (did .answers); leaves = did .leaves }))

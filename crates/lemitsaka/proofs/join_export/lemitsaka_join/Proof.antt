@@ -17,4 +17,6 @@ lemitsaka-join-spec =
     -- same-length
     (λ c. search needs)
     -- returns
-    (λ c. record { answers = c .join-number .ensures ∙ ap (λ a. code (joinDigits a)) (c .before .before .before .join .ensures .answers); leaves = c .before .before .before .join .ensures .leaves }))
+    (λ c.
+    let did = c .before .before .before .join .ensures in
+    record { answers = c .join-number .ensures ∙ ap (λ a. code (joinDigits a)) (did .answers); leaves = did .leaves }))

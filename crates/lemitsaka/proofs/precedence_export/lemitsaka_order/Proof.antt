@@ -17,4 +17,6 @@ lemitsaka-order-spec =
     -- same-length
     (λ c. search needs)
     -- returns
-    (λ c. record { answers = c .order-number .ensures ∙ ap (λ a. code (orderDigits a)) (c .before .before .before .order-of .ensures .answers); leaves = c .before .before .before .order-of .ensures .leaves }))
+    (λ c.
+    let did = c .before .before .before .order-of .ensures in
+    record { answers = c .order-number .ensures ∙ ap (λ a. code (orderDigits a)) (did .answers); leaves = did .leaves }))

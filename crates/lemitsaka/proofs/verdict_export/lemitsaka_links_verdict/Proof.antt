@@ -17,4 +17,6 @@ lemitsaka-links-verdict-spec =
     -- same-length
     (λ c. search needs)
     -- returns
-    (λ c. record { answers = c .verdict-number .ensures ∙ ap (λ a. code (verdictDigits a)) (c .before .before .before .links-verdict .ensures .answers); leaves = c .before .before .before .links-verdict .ensures .leaves }))
+    (λ c.
+    let did = c .before .before .before .links-verdict .ensures in
+    record { answers = c .verdict-number .ensures ∙ ap (λ a. code (verdictDigits a)) (did .answers); leaves = did .leaves }))
