@@ -11,22 +11,32 @@ use lib.Dec.{ltb}
 use Rattle.logic.specs.Shown.{wellFormed}
 use Rattle.logic.specs.Calls.{padded}
 use Rattle.theory.proofs.Basics.Search.{bool-cases}
+use Rattle.theory.proofs.Basics.Compare.{cond-true, cond-false}
 use Rattle.drawing.specs.Text.{text}
 use Rattle.drawing.specs.Call.{Answer, Outcome, written, refused, refusal, drawn, dotCall}
 use Rattle.drawing.specs.Claims.{Answers}
 
+-- a text, by the room that there is
+drawn-short : (room : ℕ) (t : List ℕ) → room < length t → drawn room t ≡ record { answer = refused 14 0; lent = replicate room 0 }
+unfolding drawn refusal
+drawn-short room t l = cond-true _ _ (lt-ltb room (length t) l)
+
+drawn-whole : (room : ℕ) (t : List ℕ) → length t ≤ room → drawn room t ≡ record { answer = written (length t); lent = padded room t }
+unfolding drawn
+drawn-whole room t l = cond-false _ _ (le-ltb room (length t) l)
+
 module _ (bytes : List ℕ) (room : ℕ) where
   pub call-unformed : wellFormed 1 bytes ≡ false → dotCall bytes room ≡ record { answer = refused 13 0; lent = replicate room 0 }
   unfolding dotCall refusal
-  call-unformed h = rw h
+  call-unformed h = cond-false _ _ h
 
   pub call-short : wellFormed 1 bytes ≡ true → room < length (text bytes) → dotCall bytes room ≡ record { answer = refused 14 0; lent = replicate room 0 }
-  unfolding dotCall drawn refusal
-  call-short h l = rw (h, lt-ltb room (length (text bytes)) l)
+  unfolding dotCall
+  call-short h l = cond-true _ _ h ∙ drawn-short room (text bytes) l
 
   pub call-written : wellFormed 1 bytes ≡ true → length (text bytes) ≤ room → dotCall bytes room ≡ record { answer = written (length (text bytes)); lent = padded room (text bytes) }
-  unfolding dotCall drawn
-  call-written h l = rw (h, le-ltb room (length (text bytes)) l)
+  unfolding dotCall
+  call-written h l = cond-true _ _ h ∙ drawn-whole room (text bytes) l
 
 -- the answers are not one another's, and a refusal has one number and one place
 refused-same : {k place j at : ℕ} → refused k place ≡ refused j at → (k ≡ j) × (place ≡ at)
