@@ -72,30 +72,13 @@ pub fn put_number<'a>(w: Writer<'a>, k: usize) -> Writer<'a>
     }
 }
 
-// Bytes through a writer.
-pub fn add_bytes(out: &mut [u8], fill: usize, bytes: &[u8]) -> usize
-    requires { ⌜ fill + length (now bytes) ≤ 18446744073709551615 ⌝ }
-    ensures { λ r. ⌜ Writes (now (out .entry)) fill (now (bytes .entry)) (now (out .exit)) r ⌝ }
-{
-    let w = put_bytes(new(out, fill), bytes);
-    filled(w)
-}
-
-// A number in decimal through a writer.
-pub fn add_number(out: &mut [u8], fill: usize, k: usize) -> usize
-    requires { ⌜ fill + 20 ≤ 18446744073709551615 ⌝ }
-    ensures { λ r. ⌜ Writes (now (out .entry)) fill (decimal k) (now (out .exit)) r ⌝ }
-{
-    let w = put_number(new(out, fill), k);
-    filled(w)
-}
-
-// A number in decimal between two words.
-pub fn add(out: &mut [u8], fill: usize, before: &[u8], k: usize, after: &[u8]) -> usize
+// A number in decimal between two words, through one writer.
+pub fn add<'a, 'b>(out: &'a mut [u8], fill: usize, before: &'b [u8], k: usize, after: &'b [u8]) -> usize
     requires { ⌜ fill + length (now before) + 20 + length (now after) ≤ 18446744073709551615 ⌝ }
     ensures { λ r. ⌜ Writes (now (out .entry)) fill (now (before .entry) ++ (decimal k ++ now (after .entry))) (now (out .exit)) r ⌝ }
 {
-    let first = add_bytes(out, fill, before);
-    let second = add_number(out, first, k);
-    add_bytes(out, second, after)
+    let first = put_bytes(new(out, fill), before);
+    let second = put_number(first, k);
+    let third = put_bytes(second, after);
+    filled(third)
 }
