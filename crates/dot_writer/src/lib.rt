@@ -82,3 +82,15 @@ pub fn add<'a, 'b>(out: &'a mut [u8], fill: usize, before: &'b [u8], k: usize, a
     let third = put_bytes(second, after);
     filled(third)
 }
+
+// Two numbers in decimal, a word behind each, through one writer.
+pub fn add_two<'a, 'b>(out: &'a mut [u8], fill: usize, j: usize, between: &'b [u8], k: usize, after: &'b [u8]) -> usize
+    requires { ⌜ fill + 20 + length (now between) + 20 + length (now after) ≤ 18446744073709551615 ⌝ }
+    ensures { λ r. ⌜ Writes (now (out .entry)) fill (decimal j ++ (now (between .entry) ++ (decimal k ++ now (after .entry)))) (now (out .exit)) r ⌝ }
+{
+    let first = put_number(new(out, fill), j);
+    let second = put_bytes(first, between);
+    let third = put_number(second, k);
+    let fourth = put_bytes(third, after);
+    filled(fourth)
+}

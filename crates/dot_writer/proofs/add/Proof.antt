@@ -3,7 +3,7 @@
 -- so what `filled` says of the last list is said of `out`'s. The borrow is given up for good (`gave-slice`). Of each word's borrow one copy goes to
 -- `put_bytes`, and one is kept for the exit.
 -- Assumes nothing.
-use mathlib.Core.Path.{_≡_, refl, _∙_}
+use mathlib.Core.Path.{_≡_, refl}
 use Prim.Native.Nat.{ℕ, _+_, _<_, _≤_, _^_}
 use native.Mathlib.Omega.{arith}
 use mathlib.Core.List.{[], _∷_, _++_, List}
@@ -26,7 +26,7 @@ use types.Kit.{Given, ‵, raw, some, later, _⊛_, _$_, _∵_, !, qed, by, move
 use types.Run.{look, init, forget, stop, hop, fld, from, load, addr, of-opd, and-then, no-more, assigns, land, returns, enter, alloc1, alloc0, params1, pass1, pass0, free1, free0}
 use types.Part.{agg, whole, sub, look-in}
 use sound.WpLaws.{FmC, fmOf, WpFn-mono}
-use denote.RattleType.{owns}
+use denote.RattleType.{RattleType, owns}
 use denote.Laws.{Is, shows}
 use denote.Plain.{uint-makes, uint-vals, uint-tells, uint-lawful}
 use denote.Builtin.{u8, usize}
@@ -70,7 +70,11 @@ use Rattle.dot_writer.proofs.add.Code as code
 
 abbrev stayed : Stays (add.ended .signature .params) (add.ended .kept)
 stayed =
-    (gave-slice (0 ∷ []) tt (plain (λ _. u8)), (stay-none (λ _. usize) yes, (stay-none-slice (1 ∷ []) tt (plain (λ _. u8)) yes, (stay-none (λ _. usize) yes, (stay-none-slice (1 ∷ []) tt (plain (λ _. u8)) yes, tt)))))
+    (gave-slice (0 ∷ []) tt (plain (λ _. u8)),
+    (stay-none (λ _. usize) yes,
+    (stay-none-slice (1 ∷ []) tt (plain (λ _. u8)) yes,
+    (stay-none (λ _. usize) yes,
+    (stay-none-slice (1 ∷ []) tt (plain (λ _. u8)) yes, tt)))))
 
 module _ {M : Type 1} (𝓤 : URA M) (H : Heap 𝓤) (A : Atoms 𝓤) (W : Given 𝓤 H A) (mem : Memory → SProp 𝓤) (run : Routine → Fun 𝓤)
     (κ κ′ : Lft) (q q′ : Share) (x : RefT (List ℕ)) (u : ℕ) (u-fits : u < 2 ^ 64) (y : RefT (List ℕ)) (v : ℕ) (v-fits : v < 2 ^ 64) (z : RefT (List ℕ))
@@ -89,21 +93,27 @@ module _ {M : Type 1} (𝓤 : URA M) (H : Heap 𝓤) (A : Atoms 𝓤) (W : Given
   h₃ = written h₂ (z .now)
 
   -- what each part asks of the fill
-  first-fits : h₀ .fill + length (y .now) ≤ 18446744073709551615
-  first-fits = omega (arith, more)
+  fits₁ : h₀ .fill + length (y .now) ≤ 18446744073709551615
+  fits₁ = omega (arith, more)
 
-  second-fits : h₁ .fill + 20 ≤ 18446744073709551615
-  second-fits = omega (arith, more)
+  fits₂ : h₁ .fill + 20 ≤ 18446744073709551615
+  fits₂ = omega (arith, more)
 
-  third-fits : h₂ .fill + length (z .now) ≤ 18446744073709551615
-  third-fits = omega (arith, more, decimal-machine v (omega (arith, v-fits)))
+  fits₃ : h₂ .fill + length (z .now) ≤ 18446744073709551615
+  fits₃ = omega (arith, more, decimal-machine v (omega (arith, v-fits)))
 
-  -- the three parts, one behind the other
-  abbrev parts : List ℕ
-  parts = y .now ++ (decimal v ++ z .now)
+  -- the parts, one behind the other
+  abbrev whole-text : List ℕ
+  whole-text = y .now ++ (decimal v ++ z .now)
 
-  wrote : (r : ℕ) (zs : List ℕ) → (r ≡ h₃ .fill) × (zs ≡ h₃ .out .now) → Writes (x .now) u parts zs r
-  wrote r zs e = writes-then {b = h₁ .out .now} (record { leaves = refl; ends = refl }) (writes-then {b = h₂ .out .now} (record { leaves = refl; ends = refl }) (record { leaves = e .1; ends = e .0 }))
+  abbrev Last : ℕ → List ℕ → Type 0
+  Last r zs = (r ≡ h₃ .fill) × (zs ≡ h₃ .out .now)
+
+  step : (h : Writer) (bytes : List ℕ) → Writes (h .out .now) (h .fill) bytes (written h bytes .out .now) (written h bytes .fill)
+  step h bytes = record { leaves = refl; ends = refl }
+
+  wrote : (r : ℕ) (zs : List ℕ) → Last r zs → Writes (x .now) u whole-text zs r
+  wrote r zs e = writes-then (step h₀ (y .now)) (writes-then (step h₁ (decimal v)) (record { leaves = e .1; ends = e .0 }))
 
   -- what the words' borrows own
   abbrev Own : RefT (List ℕ) → Fml
@@ -121,15 +131,21 @@ module _ {M : Type 1} (𝓤 : URA M) (H : Heap 𝓤) (A : Atoms 𝓤) (W : Given
   abbrev Post : Val → SProp 𝓤
   Post = walkOf 𝓤 H A add.ended stayed (add.clauses 𝓤 H A mem run) .post (((κ, (κ′, tt)), (q, (q′, tt)), tt, a, vals), tt)
 
-  exits : (r : ℕ) (w : Val) (zs : List ℕ) → (r ≡ h₃ .fill) × (zs ≡ h₃ .out .now)
-      → ent 𝓤 (sep 𝓤 (sep 𝓤 (A .lft κ q) (sem 𝓤 H A ftrue)) (sep 𝓤 (sem 𝓤 H A (finally u8 (x .name) zs)) (sep 𝓤 (sem 𝓤 H A (usize .own r (w ∷ []))) (sep 𝓤 (sep 𝓤 (A .lft κ′ q′) (sem 𝓤 H A ftrue)) (sep 𝓤 (sem 𝓤 H A (Own z)) (sem 𝓤 H A (Own y))))))) (Post w)
+  -- [the token of κ; the last list; the result; the token of κ′ and the words' borrows]
+  exits : (r : ℕ) (w : Val) (zs : List ℕ) → Last r zs
+      → ent 𝓤
+      (sep 𝓤 (sep 𝓤 (A .lft κ q) (sem 𝓤 H A ftrue)) (sep 𝓤 (sem 𝓤 H A (finally u8 (x .name) zs)) (sep 𝓤 (sem 𝓤 H A (usize .own r (w ∷ [])))
+      (sep 𝓤 (sep 𝓤 (A .lft κ′ q′) (sem 𝓤 H A ftrue)) (sep 𝓤 (sem 𝓤 H A (Own z)) (sem 𝓤 H A (Own y)))))))
+      (Post w)
   exits r w zs e =
       qed W ((‵ (flft κ q) ⊛ ‵ ftrue) ∷ ‵ (finally u8 (x .name) zs) ∷ ‵ (usize .own r (w ∷ [])) ∷ ((‵ (flft κ′ q′) ⊛ ‵ ftrue) ⊛ (‵ (Own z) ⊛ ‵ (Own y))) ∷ []) ∵
-      suffices ! _ (ends-at 𝓤 H A add.ended stayed (add.clauses 𝓤 H A mem run) W (((κ, (κ′, tt)), (q, (q′, tt)), tt, a, vals), tt) w r (zs, (tt, (tt, (tt, (tt, tt))))) (writes-length (wrote r zs e), (tt, (tt, (tt, (tt, tt)))))) $ says ! (wrote r zs e) $
-      split ! $ move ! (4 ∷ []) $ split ! $ move ! (2 ∷ 0 ∷ []) $ join ! $ frame ! $
-      -- [the words' borrows; true; the last list; the result]
-      split ! $ move ! (0 ∷ 2 ∷ []) $ fjoin ! $ owned ! usize (Is usize) (uint-makes 𝓤 H A W w64) v _ (refl, v-fits) $ fjoin ! $
-      move ! (1 ∷ 0 ∷ []) $ fjoin ! $ owned ! usize (Is usize) (uint-makes 𝓤 H A W w64) u _ (refl, u-fits) $ fjoin ! $ move ! (1 ∷ 0 ∷ []) $ fjoin ! $ done !
+      suffices ! _
+      (ends-at 𝓤 H A add.ended stayed (add.clauses 𝓤 H A mem run) W (((κ, (κ′, tt)), (q, (q′, tt)), tt, a, vals), tt) w r (zs, (tt, (tt, (tt, (tt, tt)))))
+      (writes-length (wrote r zs e), (tt, (tt, (tt, (tt, tt)))))) $ says ! (wrote r zs e) $
+      split ! $ move ! (4 ∷ []) $ split ! $ move ! (2 ∷ 0 ∷ []) $ join ! $ frame ! $ split ! $ move ! (0 ∷ 2 ∷ []) $
+      -- [the second word's borrow; true; the first's; the last list; the result]
+      fjoin ! $ owned ! usize (Is usize) (uint-makes 𝓤 H A W w64) v _ (refl, v-fits) $ fjoin ! $ move ! (1 ∷ 0 ∷ []) $ fjoin ! $
+      owned ! usize (Is usize) (uint-makes 𝓤 H A W w64) u _ (refl, u-fits) $ fjoin ! $ move ! (1 ∷ 0 ∷ []) $ fjoin ! $ done !
 
   module _ (C : Calls 𝓤 H) (Λ : Loops 𝓤 H) (fm : FmC 𝓤 H (W .laws) C)
       (known-new : Triple 𝓤 (C #dot-writer·new) (New 𝓤 H A mem run)) (known-bytes : Triple 𝓤 (C #dot-writer·put-bytes) (PutBytes 𝓤 H A mem run))
@@ -144,7 +160,7 @@ module _ {M : Type 1} (𝓤 : URA M) (H : Heap 𝓤) (A : Atoms 𝓤) (W : Given
         pass1 ! (init ! 26 refl (tt, (tt, (record { fits = room .0 }, tt)))) $ pass1 ! (init ! 24 refl (tt, record { fits = u-fits })) $
         pass1 ! (init ! 22 refl (shr-slice-lawful 𝓤 H A W (named 1) κ′ u8 .typed y (at y ∷ []) p .0)) $ pass1 ! (init ! 20 refl (tt, record { fits = v-fits })) $
         pass1 ! (init ! 18 refl (shr-slice-lawful 𝓤 H A W (named 1) κ′ u8 .typed z (at z ∷ []) p′ .0)) $ pass0 ! $
-        -- [_14; …; _13; …; …; _1; …; room for _0; …; the tokens; what the parameters own]
+        -- [_14; …; …; _1; …; room for _0; …; the tokens; what the parameters own]
         assigns ! (addr ! (from ! (fld ! refl (hop ! (look-in ! 26 (sub ! 0 refl (whole !))) (stop !))))) (from ! (stop !)) (init ! 8 refl (tt, tt)) $
         assigns ! (agg ! (and-then ! (load ! (from ! (stop !)) (look ! 8 refl)) (and-then ! (load ! (from ! (fld ! refl (stop !))) (look-in ! 26 (sub ! 1 refl (whole !)))) (no-more !))))
         (from ! (stop !)) (init ! 6 refl (tt, (tt, (record { fits = room .0 }, tt)))) $
@@ -154,20 +170,22 @@ module _ {M : Type 1} (𝓤 : URA M) (H : Heap 𝓤) (A : Atoms 𝓤) (W : Given
         move ! (1 ∷ 3 ∷ []) $ join ! $ move ! (1 ∷ 2 ∷ []) $ use2 W (raw (New 𝓤 H A mem run .pre (to-new 𝓤 H A mem run κ q x u))) (goes-new 𝓤 H A mem run W κ q x u u-fits) $
         calls-at ! fm (New 𝓤 H A mem run) known-new (to-new 𝓤 H A mem run κ q x u)
         (and-then ! (load ! (from ! (stop !)) (look ! 8 refl)) (and-then ! (load ! (from ! (stop !)) (look ! 26 refl)) (no-more !))) (λ w₀.
-        use1 W (later (some (λ (r : Writer). ((‵ (flft κ q) ⊛ ‵ ftrue) ⊛ ‵ (T.the-row (lifetime κ) .own r (w₀ ∷ []))) ⊛ raw (ensured 𝓤 H A new.ended (new.clauses 𝓤 H A mem run) (κ, tt) (x, (u, tt)) tt r))))
-        (id⊢ 𝓤 _) $ await ! tt $ pick ! (λ r₀.
+        use1 W (later (some (λ (r : Writer). ((‵ (flft κ q) ⊛ ‵ ftrue) ⊛ ‵ (T.the-row (lifetime κ) .own r (w₀ ∷ [])))
+        ⊛ raw (ensured 𝓤 H A new.ended (new.clauses 𝓤 H A mem run) (κ, tt) (x, (u, tt)) tt r)))) (id⊢ 𝓤 _) $ await ! tt $ pick ! (λ r₀.
         split ! $ move ! (1 ∷ []) $ use1 W (raw (fact 𝓤 ((r₀ .out ≡ x) × (r₀ .fill ≡ u)))) (new-of 𝓤 H A mem run κ x u r₀) $ heard ! ((r₀ .out ≡ x) × (r₀ .fill ≡ u)) (λ e₀.
         split ! $ rewrite ! 1 (λ (h : Writer). ‵ (T.the-row (lifetime κ) .own h (w₀ ∷ []))) (λ i. record { out = e₀ .0 i; fill = e₀ .1 i }) refl $
         move ! (1 ∷ []) $ peeks ! (T.the-row (lifetime κ)) (Is (T.the-row (lifetime κ))) (shows 𝓤 H A (T.the-row (lifetime κ))) h₀ (w₀ ∷ []) (λ is₀.
         land ! (from ! (stop !)) (init ! 13 refl (typed κ h₀ w₀ is₀)) $
-        -- `put_bytes`: each word's borrow twice, and both tokens
-        move ! (2 ∷ []) $ split ! $ move ! (1 ∷ []) $ fsplit ! $ move ! (1 ∷ []) $ fsplit ! $ use1 W (‵ (Own y) ⊛ ‵ (Own y)) (shr-slice-copy 𝓤 H A W (named 1) κ′ u8 .twice y (at y ∷ [])) $ split ! $
-        move ! (2 ∷ []) $ fsplit ! $ drop ! $ fsplit ! $ use1 W (‵ (Own z) ⊛ ‵ (Own z)) (shr-slice-copy 𝓤 H A W (named 1) κ′ u8 .twice z (at z ∷ [])) $ split ! $
-        -- [after's borrow, twice; true; before's, twice; what fill owns; the token of κ′; the writer; the token of κ; …]
-        move ! (2 ∷ []) $ drop ! $ move ! (4 ∷ []) $ drop ! $ move ! (6 ∷ []) $ split ! $ move ! (0 ∷ 6 ∷ []) $ join ! $ move ! (1 ∷ []) $ drop ! $
-        -- [both tokens; after's borrow, twice; before's, twice; the writer; …]
-        move ! (1 ∷ 2 ∷ []) $ join ! $ move ! (0 ∷ 2 ∷ []) $ join ! $ move ! (1 ∷ 3 ∷ 2 ∷ []) $
-        use3 W (raw (PutBytes 𝓤 H A mem run .pre (to-bytes 𝓤 H A mem run κ κ′ q q′ h₀ w₀ y))) (goes-bytes 𝓤 H A mem run W κ q κ′ q′ h₀ w₀ y first-fits) $
+        -- each word's borrow twice; what the numbers own is dropped
+        move ! (2 ∷ []) $ split ! $ move ! (1 ∷ []) $ fsplit ! $ drop ! $ fsplit ! $ use1 W (‵ (Own y) ⊛ ‵ (Own y)) (shr-slice-copy 𝓤 H A W (named 1) κ′ u8 .twice y (at y ∷ [])) $
+        move ! (1 ∷ []) $ fsplit ! $ drop ! $ fsplit ! $ use1 W (‵ (Own z) ⊛ ‵ (Own z)) (shr-slice-copy 𝓤 H A W (named 1) κ′ u8 .twice z (at z ∷ [])) $ move ! (1 ∷ []) $
+        drop ! $ join ! $ move ! (1 ∷ 0 ∷ []) $ join ! $ move ! (1 ∷ 2 ∷ []) $
+        -- [the writer; the token of κ; the token of κ′ and the words' borrows; …]
+        -- `put_bytes`
+        move ! (2 ∷ []) $ split ! $ move ! (3 ∷ []) $ split ! $ move ! (0 ∷ 2 ∷ []) $ join ! $ move ! (1 ∷ []) $ drop ! $
+        -- [both tokens; the words' borrows; the writer; …]
+        move ! (1 ∷ []) $ split ! $ move ! (1 ∷ []) $ split ! $ move ! (1 ∷ 2 ∷ []) $ join ! $ move ! (2 ∷ 3 ∷ 1 ∷ []) $
+        use3 W (raw (PutBytes 𝓤 H A mem run .pre (to-bytes 𝓤 H A mem run κ κ′ q q′ h₀ w₀ y))) (goes-bytes 𝓤 H A mem run W κ q κ′ q′ h₀ w₀ y fits₁) $
         calls-at ! fm (PutBytes 𝓤 H A mem run) known-bytes (to-bytes 𝓤 H A mem run κ κ′ q q′ h₀ w₀ y)
         (and-then ! (load ! (from ! (stop !)) (look ! 12 refl)) (and-then ! (load ! (from ! (stop !)) (look ! 24 refl)) (no-more !))) (λ w₁.
         use1 W (later (some (λ (r : Writer). ((‵ (flft κ q) ⊛ ‵ (flft κ′ q′) ⊛ ‵ ftrue) ⊛ ‵ (T.the-row (lifetime κ) .own r (w₁ ∷ [])))
@@ -179,12 +197,11 @@ module _ {M : Type 1} (𝓤 : URA M) (H : Heap 𝓤) (A : Atoms 𝓤) (W : Given
         assigns ! (of-opd ! (load ! (from ! (stop !)) (look ! 19 refl))) (from ! (stop !)) (init ! 7 refl (typed κ h₁ w₁ is₁)) $
         -- `put_number`
         move ! (1 ∷ []) $ split ! $ nothing ! $ move ! (1 ∷ 0 ∷ []) $ join ! $ move ! (1 ∷ 3 ∷ []) $ join ! $ move ! (1 ∷ 2 ∷ []) $
-        -- [the token of κ; the writer; the token of κ′ and the words' borrows; …]
-        use2 W (raw (PutNumber 𝓤 H A mem run .pre (to-number 𝓤 H A mem run κ q h₁ w₁ v))) (goes-number 𝓤 H A mem run W κ q h₁ w₁ v v-fits second-fits) $
+        use2 W (raw (PutNumber 𝓤 H A mem run .pre (to-number 𝓤 H A mem run κ q h₁ w₁ v))) (goes-number 𝓤 H A mem run W κ q h₁ w₁ v v-fits fits₂) $
         calls-at ! fm (PutNumber 𝓤 H A mem run) known-number (to-number 𝓤 H A mem run κ q h₁ w₁ v)
         (and-then ! (load ! (from ! (stop !)) (look ! 6 refl)) (and-then ! (load ! (from ! (stop !)) (look ! 22 refl)) (no-more !))) (λ w₂.
-        use1 W (later (some (λ (r : Writer). ((‵ (flft κ q) ⊛ ‵ ftrue) ⊛ ‵ (T.the-row (lifetime κ) .own r (w₂ ∷ []))) ⊛ raw (ensured 𝓤 H A put-number.ended (put-number.clauses 𝓤 H A mem run) (κ, tt) (h₁, (v, tt)) tt r))))
-        (id⊢ 𝓤 _) $ await ! tt $ pick ! (λ r₂.
+        use1 W (later (some (λ (r : Writer). ((‵ (flft κ q) ⊛ ‵ ftrue) ⊛ ‵ (T.the-row (lifetime κ) .own r (w₂ ∷ [])))
+        ⊛ raw (ensured 𝓤 H A put-number.ended (put-number.clauses 𝓤 H A mem run) (κ, tt) (h₁, (v, tt)) tt r)))) (id⊢ 𝓤 _) $ await ! tt $ pick ! (λ r₂.
         split ! $ move ! (1 ∷ []) $ use1 W (raw (fact 𝓤 (r₂ ≡ h₂))) (number-of 𝓤 H A mem run κ h₁ v r₂) $ heard ! (r₂ ≡ h₂) (λ e₂.
         split ! $ rewrite ! 1 (λ (h : Writer). ‵ (T.the-row (lifetime κ) .own h (w₂ ∷ []))) e₂ refl $
         move ! (1 ∷ []) $ peeks ! (T.the-row (lifetime κ)) (Is (T.the-row (lifetime κ))) (shows 𝓤 H A (T.the-row (lifetime κ))) h₂ (w₂ ∷ []) (λ is₂.
@@ -193,8 +210,8 @@ module _ {M : Type 1} (𝓤 : URA M) (H : Heap 𝓤) (A : Atoms 𝓤) (W : Given
         -- `put_bytes`
         move ! (2 ∷ []) $ split ! $ move ! (3 ∷ []) $ split ! $ move ! (0 ∷ 2 ∷ []) $ join ! $ move ! (1 ∷ []) $ drop ! $
         -- [both tokens; the words' borrows; the writer; …]
-        move ! (1 ∷ []) $ split ! $ split ! $ move ! (1 ∷ 2 ∷ []) $ join ! $ move ! (2 ∷ 3 ∷ 1 ∷ []) $
-        use3 W (raw (PutBytes 𝓤 H A mem run .pre (to-bytes 𝓤 H A mem run κ κ′ q q′ h₂ w₂ z))) (goes-bytes 𝓤 H A mem run W κ q κ′ q′ h₂ w₂ z third-fits) $
+        move ! (1 ∷ []) $ split ! $ move ! (1 ∷ []) $ split ! $ move ! (1 ∷ 2 ∷ []) $ join ! $ move ! (2 ∷ 3 ∷ 1 ∷ []) $
+        use3 W (raw (PutBytes 𝓤 H A mem run .pre (to-bytes 𝓤 H A mem run κ κ′ q q′ h₂ w₂ z))) (goes-bytes 𝓤 H A mem run W κ q κ′ q′ h₂ w₂ z fits₃) $
         calls-at ! fm (PutBytes 𝓤 H A mem run) known-bytes (to-bytes 𝓤 H A mem run κ κ′ q q′ h₂ w₂ z)
         (and-then ! (load ! (from ! (stop !)) (look ! 4 refl)) (and-then ! (load ! (from ! (stop !)) (look ! 20 refl)) (no-more !))) (λ w₃.
         use1 W (later (some (λ (r : Writer). ((‵ (flft κ q) ⊛ ‵ (flft κ′ q′) ⊛ ‵ ftrue) ⊛ ‵ (T.the-row (lifetime κ) .own r (w₃ ∷ [])))
@@ -208,16 +225,15 @@ module _ {M : Type 1} (𝓤 : URA M) (H : Heap 𝓤) (A : Atoms 𝓤) (W : Given
         move ! (1 ∷ []) $ split ! $ nothing ! $ move ! (1 ∷ 0 ∷ []) $ join ! $ move ! (1 ∷ 3 ∷ []) $ join ! $ move ! (1 ∷ 2 ∷ []) $
         use2 W (raw (Filled 𝓤 H A mem run .pre (to-filled 𝓤 H A mem run κ q h₃ w₃))) (goes-filled 𝓤 H A mem run W κ q h₃ w₃) $
         calls-at ! fm (Filled 𝓤 H A mem run) known-filled (to-filled 𝓤 H A mem run κ q h₃ w₃) (and-then ! (load ! (from ! (stop !)) (look ! 2 refl)) (no-more !)) (λ w.
-        use1 W (later (some (λ (r : ℕ). ((‵ (flft κ q) ⊛ ‵ ftrue) ⊛ ‵ (usize .own r (w ∷ []))) ⊛ raw (ensured 𝓤 H A filled.ended (filled.clauses 𝓤 H A mem run) (κ, tt) (h₃, tt) tt r))))
-        (id⊢ 𝓤 _) $ await ! tt $ pick ! (λ r.
-        split ! $ move ! (1 ∷ []) $ use1 W (some (λ (zs : (List ℕ × Unit {0}) × Unit {0}). ‵ (lasts filled.ended (κ, tt) (h₃, tt) zs) ⊛ raw (fact 𝓤 ((r ≡ h₃ .fill) × (zs .0 .0 ≡ h₃ .out .now)))))
-        (id⊢ 𝓤 _) $ pick ! (λ zs.
-        split ! $ move ! (1 ∷ []) $ heard ! ((r ≡ h₃ .fill) × (zs .0 .0 ≡ h₃ .out .now)) (λ e. fsplit ! $ fsplit ! $ fsplit ! $ move ! (1 ∷ []) $ feqL ! (λ l.
+        use1 W (later (some (λ (r : ℕ). ((‵ (flft κ q) ⊛ ‵ ftrue) ⊛ ‵ (usize .own r (w ∷ [])))
+        ⊛ raw (ensured 𝓤 H A filled.ended (filled.clauses 𝓤 H A mem run) (κ, tt) (h₃, tt) tt r)))) (id⊢ 𝓤 _) $ await ! tt $ pick ! (λ r.
+        split ! $ move ! (1 ∷ []) $ use1 W (some (λ (zs : (List ℕ × Unit {0}) × Unit {0}). ‵ (lasts filled.ended (κ, tt) (h₃, tt) zs) ⊛ raw (fact 𝓤 (Last r (zs .0 .0))))) (id⊢ 𝓤 _) $
+        pick ! (λ zs. split ! $ move ! (1 ∷ []) $ heard ! (Last r (zs .0 .0)) (λ e. fsplit ! $ fsplit ! $ fsplit ! $ move ! (1 ∷ []) $ feqL ! (λ l.
         -- [the last list; true; …; the token and the result; …]
         move ! (3 ∷ []) $ split ! $ move ! (1 ∷ []) $ peeks ! usize (Is usize) (shows 𝓤 H A usize) r (w ∷ []) (λ is.
         land ! (from ! (stop !)) (init ! 34 refl (uint-lawful 𝓤 H A W w64 .typed r _ is .0)) $ returns ! (look ! 34 refl) $
-        forget ! 6 refl $ forget ! 8 refl $ forget ! 10 refl $ forget ! 12 refl $ forget ! 14 refl $ forget ! 16 refl $ forget ! 18 refl $ forget ! 20 refl $
-        forget ! 22 refl $ forget ! 24 refl $ forget ! 26 refl $ forget ! 28 refl $ forget ! 30 refl $ forget ! 32 refl $ forget ! 34 refl $
+        forget ! 6 refl $ forget ! 8 refl $ forget ! 10 refl $ forget ! 12 refl $ forget ! 14 refl $ forget ! 16 refl $ forget ! 18 refl $ forget ! 20 refl $ forget ! 22 refl $
+        forget ! 24 refl $ forget ! 26 refl $ forget ! 28 refl $ forget ! 30 refl $ forget ! 32 refl $ forget ! 34 refl $
         move ! (34 ∷ 35 ∷ []) $ free1 ! $ move ! (32 ∷ 33 ∷ []) $ free1 ! $ move ! (30 ∷ 31 ∷ []) $ free1 ! $ move ! (28 ∷ 29 ∷ []) $ free1 ! $ move ! (26 ∷ 27 ∷ []) $ free1 ! $
         move ! (24 ∷ 25 ∷ []) $ free1 ! $ move ! (22 ∷ 23 ∷ []) $ free1 ! $ move ! (20 ∷ 21 ∷ []) $ free1 ! $ move ! (18 ∷ 19 ∷ []) $ free1 ! $ move ! (16 ∷ 17 ∷ []) $ free1 ! $
         move ! (14 ∷ 15 ∷ []) $ free1 ! $ move ! (12 ∷ 13 ∷ []) $ free1 ! $ move ! (10 ∷ 11 ∷ []) $ free1 ! $ move ! (8 ∷ 9 ∷ []) $ free1 ! $ move ! (6 ∷ 7 ∷ []) $ free1 ! $ free0 ! $
@@ -240,7 +256,8 @@ module _ {M : Type 1} (𝓤 : URA M) (H : Heap 𝓤) (A : Atoms 𝓤) (W : Given
       (goes-gave-slice 𝓤 H A W 2 0 tt (plain (λ _. u8)),
         (goes-none 𝓤 H A W 2 (λ _. usize) yes (λ κs x f. refl),
         (goes-none-slice 𝓤 H A W 2 (1 ∷ []) tt (plain (λ _. u8)) yes,
-        (goes-none 𝓤 H A W 2 (λ _. usize) yes (λ κs x f. refl), (goes-none-slice 𝓤 H A W 2 (1 ∷ []) tt (plain (λ _. u8)) yes, tt)))))
+        (goes-none 𝓤 H A W 2 (λ _. usize) yes (λ κs x f. refl),
+        (goes-none-slice 𝓤 H A W 2 (1 ∷ []) tt (plain (λ _. u8)) yes, tt)))))
       (add.clauses 𝓤 H A mem run) (WpFn 𝓤 H (𝓣 .C) (𝓣 .Λ) code.function) (WpFn-mono 𝓤 H (W .laws) 𝓣 code.function) add-walks
 
 pub add-spec : {M : Type 1} → stated.statement M
@@ -251,5 +268,6 @@ add-spec 𝓤 H 𝓜 𝓖 𝓡 =
     (add-meets 𝓤 H (𝓖 .A) (givenOf 𝓤 H 𝓜 𝓖) (𝓜 .mem) (𝓡 .run) (tablesOf 𝓤 H 𝓜 (tables 𝓤 H 𝓜 𝓡 code.env))
     (cited 𝓤 H (New 𝓤 H (𝓖 .A) (𝓜 .mem) (𝓡 .run)) 𝓜 𝓡 code.env #dot-writer·new new-def.routine code.calls-dot-writer·new (new-thm.met 𝓤 H 𝓜 𝓖 𝓡))
     (cited 𝓤 H (PutBytes 𝓤 H (𝓖 .A) (𝓜 .mem) (𝓡 .run)) 𝓜 𝓡 code.env #dot-writer·put-bytes put-bytes-def.routine code.calls-dot-writer·put-bytes (put-bytes-thm.met 𝓤 H 𝓜 𝓖 𝓡))
-    (cited 𝓤 H (PutNumber 𝓤 H (𝓖 .A) (𝓜 .mem) (𝓡 .run)) 𝓜 𝓡 code.env #dot-writer·put-number put-number-def.routine code.calls-dot-writer·put-number (put-number-thm.met 𝓤 H 𝓜 𝓖 𝓡))
+    (cited 𝓤 H (PutNumber 𝓤 H (𝓖 .A) (𝓜 .mem) (𝓡 .run)) 𝓜 𝓡 code.env #dot-writer·put-number put-number-def.routine code.calls-dot-writer·put-number
+    (put-number-thm.met 𝓤 H 𝓜 𝓖 𝓡))
     (cited 𝓤 H (Filled 𝓤 H (𝓖 .A) (𝓜 .mem) (𝓡 .run)) 𝓜 𝓡 code.env #dot-writer·filled filled-def.routine code.calls-dot-writer·filled (filled-thm.met 𝓤 H 𝓜 𝓖 𝓡)))
