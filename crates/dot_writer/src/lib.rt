@@ -73,7 +73,13 @@ pub fn put_number<'a>(w: Writer<'a>, k: usize) -> Writer<'a>
 }
 
 // A number in decimal between two words, through one writer.
-pub fn add<'a, 'b>(out: &'a mut [u8], fill: usize, before: &'b [u8], k: usize, after: &'b [u8]) -> usize
+pub fn add<'a, 'b>(
+    out: &'a mut [u8],
+    fill: usize,
+    before: &'b [u8],
+    k: usize,
+    after: &'b [u8],
+) -> usize
     requires { ⌜ fill + length (now before) + 20 + length (now after) ≤ 18446744073709551615 ⌝ }
     ensures { λ r. ⌜ Writes (now (out .entry)) fill (now (before .entry) ++ (decimal k ++ now (after .entry))) (now (out .exit)) r ⌝ }
 {
@@ -84,7 +90,14 @@ pub fn add<'a, 'b>(out: &'a mut [u8], fill: usize, before: &'b [u8], k: usize, a
 }
 
 // Two numbers in decimal, a word behind each, through one writer.
-pub fn add_two<'a, 'b>(out: &'a mut [u8], fill: usize, j: usize, between: &'b [u8], k: usize, after: &'b [u8]) -> usize
+pub fn add_two<'a, 'b>(
+    out: &'a mut [u8],
+    fill: usize,
+    j: usize,
+    between: &'b [u8],
+    k: usize,
+    after: &'b [u8],
+) -> usize
     requires { ⌜ fill + 20 + length (now between) + 20 + length (now after) ≤ 18446744073709551615 ⌝ }
     ensures { λ r. ⌜ Writes (now (out .entry)) fill (decimal j ++ (now (between .entry) ++ (decimal k ++ now (after .entry)))) (now (out .exit)) r ⌝ }
 {

@@ -69,13 +69,22 @@ use Rattle.dot_writer.proofs.add_two.Statement as stated
 use Rattle.dot_writer.proofs.add_two.Code as code
 
 abbrev stayed : Stays (add-two.ended .signature .params) (add-two.ended .kept)
-stayed =
-    (gave-slice (0 ∷ []) tt (plain (λ _. u8)),
-    (stay-none (λ _. usize) yes,
-    (stay-none (λ _. usize) yes,
-    (stay-none-slice (1 ∷ []) tt (plain (λ _. u8)) yes,
-    (stay-none (λ _. usize) yes,
-    (stay-none-slice (1 ∷ []) tt (plain (λ _. u8)) yes, tt))))))
+stayed = (
+  gave-slice (0 ∷ []) tt (plain (λ _. u8)),
+  (
+    stay-none (λ _. usize) yes,
+    (
+      stay-none (λ _. usize) yes,
+      (
+        stay-none-slice (1 ∷ []) tt (plain (λ _. u8)) yes,
+        (
+          stay-none (λ _. usize) yes,
+          (stay-none-slice (1 ∷ []) tt (plain (λ _. u8)) yes, tt),
+        ),
+      ),
+    ),
+  ),
+)
 
 module _ {M : Type 1} (𝓤 : URA M) (H : Heap 𝓤) (A : Atoms 𝓤) (W : Given 𝓤 H A) (mem : Memory → SProp 𝓤) (run : Routine → Fun 𝓤)
     (κ κ′ : Lft) (q q′ : Share) (x : RefT (List ℕ)) (u : ℕ) (u-fits : u < 2 ^ 64) (v : ℕ) (v-fits : v < 2 ^ 64) (y : RefT (List ℕ)) (v′ : ℕ) (v′-fits : v′ < 2 ^ 64) (z : RefT (List ℕ))
@@ -275,13 +284,22 @@ module _ {M : Type 1} (𝓤 : URA M) (H : Heap 𝓤) (A : Atoms 𝓤) (W : Given
 
   add-two-meets : Meets 𝓤 H A add-two.signature (WpFn 𝓤 H (𝓣 .C) (𝓣 .Λ) code.function) (add-two.spec 𝓤 H A mem run)
   add-two-meets =
-      walk-meets 𝓤 H A add-two.ended stayed W
-      (goes-gave-slice 𝓤 H A W 2 0 tt (plain (λ _. u8)),
-        (goes-none 𝓤 H A W 2 (λ _. usize) yes (λ κs x f. refl),
-        (goes-none 𝓤 H A W 2 (λ _. usize) yes (λ κs x f. refl),
-        (goes-none-slice 𝓤 H A W 2 (1 ∷ []) tt (plain (λ _. u8)) yes,
-        (goes-none 𝓤 H A W 2 (λ _. usize) yes (λ κs x f. refl),
-        (goes-none-slice 𝓤 H A W 2 (1 ∷ []) tt (plain (λ _. u8)) yes, tt))))))
+      walk-meets 𝓤 H A add-two.ended stayed W (
+        goes-gave-slice 𝓤 H A W 2 0 tt (plain (λ _. u8)),
+        (
+          goes-none 𝓤 H A W 2 (λ _. usize) yes (λ κs x f. refl),
+          (
+            goes-none 𝓤 H A W 2 (λ _. usize) yes (λ κs x f. refl),
+            (
+              goes-none-slice 𝓤 H A W 2 (1 ∷ []) tt (plain (λ _. u8)) yes,
+              (
+                goes-none 𝓤 H A W 2 (λ _. usize) yes (λ κs x f. refl),
+                (goes-none-slice 𝓤 H A W 2 (1 ∷ []) tt (plain (λ _. u8)) yes, tt),
+              ),
+            ),
+          ),
+        ),
+      )
       (add-two.clauses 𝓤 H A mem run) (WpFn 𝓤 H (𝓣 .C) (𝓣 .Λ) code.function) (WpFn-mono 𝓤 H (W .laws) 𝓣 code.function) add-two-walks
 
 pub add-two-spec : {M : Type 1} → stated.statement M
