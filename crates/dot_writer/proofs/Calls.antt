@@ -1,6 +1,6 @@
 -- The calls that a chain over one writer makes, for the walks of functions that make a writer, pass it on from call to call and drop it. Each callee is called at the borrow's own lifetime, share and ghost name: what it returns is, by its contract, a record that is known whole.
---     New, PutBytes, PutNumber, Filled    the contracts
---     new-of, bytes-of, number-of         of what each ensures, the clause alone: none has a last value
+--     New, Puts, PutNumber, Filled        the contracts: `Puts` of whichever function adds by the bytes that it is given (`Put.antt`), `PutBytes` of `put_bytes`
+--     new-of, puts-of, number-of          of what each ensures, the clause alone: none has a last value
 --     to-..., goes-...                    what a triple binds outside, and that the caller has what it asks
 -- Assumes nothing.
 use mathlib.Core.Path.{_≡_, refl, sym, ap, subst}
@@ -35,10 +35,18 @@ use Rattle.dot_writer.specs.declared.Writer.{Writer}
 use Rattle.dot_writer.specs.Written.{written}
 use Rattle.dot_writer.proofs.Writer as T
 use Rattle.dot_writer.proofs.Writer.Laws as T′
+use Rattle.dot_writer.proofs.Put.{Asks, put-clauses, put-spec}
 use Rattle.dot_writer.proofs.new as new
 use Rattle.dot_writer.proofs.put_bytes as put-bytes
 use Rattle.dot_writer.proofs.put_number as put-number
 use Rattle.dot_writer.proofs.filled as filled
+
+-- what `put_bytes` asks and adds
+abbrev pub fitting : Asks
+fitting fill bytes = fill + length bytes ≤ 18446744073709551615
+
+abbrev pub same : List ℕ → List ℕ
+same bytes = bytes
 
 -- a slice's pointer and count
 abbrev pub at : RefT (List ℕ) → Val
@@ -59,8 +67,11 @@ module _ {M : Type 1} (𝓤 : URA M) (H : Heap 𝓤) (A : Atoms 𝓤) (mem : Mem
   abbrev pub New : Contract 𝓤
   New = tripleOf 𝓤 H A new.signature (new.spec 𝓤 H A mem run)
 
+  abbrev pub Puts : Asks → (List ℕ → List ℕ) → Contract 𝓤
+  Puts asks text = tripleOf 𝓤 H A put-bytes.signature (put-spec 𝓤 H A asks text)
+
   abbrev pub PutBytes : Contract 𝓤
-  PutBytes = tripleOf 𝓤 H A put-bytes.signature (put-bytes.spec 𝓤 H A mem run)
+  PutBytes = Puts fitting same
 
   abbrev pub PutNumber : Contract 𝓤
   PutNumber = tripleOf 𝓤 H A put-number.signature (put-number.spec 𝓤 H A mem run)
@@ -71,8 +82,9 @@ module _ {M : Type 1} (𝓤 : URA M) (H : Heap 𝓤) (A : Atoms 𝓤) (mem : Mem
   pub new-of : (κ : Lft) (x : RefT (List ℕ)) (u : ℕ) (r : Writer) → ent 𝓤 (ensured 𝓤 H A new.ended (new.clauses 𝓤 H A mem run) (κ, tt) (x, (u, tt)) tt r) (fact 𝓤 ((r .out ≡ x) × (r .fill ≡ u)))
   new-of κ x u r = exE 𝓤 _ (λ ws. snd∗ 𝓤 (sem 𝓤 H A (lasts new.ended (κ, tt) (x, (u, tt)) ws)) (fact 𝓤 ((r .out ≡ x) × (r .fill ≡ u))))
 
-  pub bytes-of : (κ κ′ : Lft) (h : Writer) (y : RefT (List ℕ)) (r : Writer) → ent 𝓤 (ensured 𝓤 H A put-bytes.ended (put-bytes.clauses 𝓤 H A mem run) (κ, (κ′, tt)) (h, (y, tt)) tt r) (fact 𝓤 (r ≡ written h (y .now)))
-  bytes-of κ κ′ h y r = exE 𝓤 _ (λ ws. snd∗ 𝓤 (sem 𝓤 H A (lasts put-bytes.ended (κ, (κ′, tt)) (h, (y, tt)) ws)) (fact 𝓤 (r ≡ written h (y .now))))
+  pub puts-of : (asks : Asks) (text : List ℕ → List ℕ) (κ κ′ : Lft) (h : Writer) (y : RefT (List ℕ)) (r : Writer)
+      → ent 𝓤 (ensured 𝓤 H A put-bytes.ended (put-clauses 𝓤 H A asks text) (κ, (κ′, tt)) (h, (y, tt)) tt r) (fact 𝓤 (r ≡ written h (text (y .now))))
+  puts-of asks text κ κ′ h y r = exE 𝓤 _ (λ ws. snd∗ 𝓤 (sem 𝓤 H A (lasts put-bytes.ended (κ, (κ′, tt)) (h, (y, tt)) ws)) (fact 𝓤 (r ≡ written h (text (y .now)))))
 
   pub number-of : (κ : Lft) (h : Writer) (v : ℕ) (r : Writer) → ent 𝓤 (ensured 𝓤 H A put-number.ended (put-number.clauses 𝓤 H A mem run) (κ, tt) (h, (v, tt)) tt r) (fact 𝓤 (r ≡ written h (decimal v)))
   number-of κ h v r = exE 𝓤 _ (λ ws. snd∗ 𝓤 (sem 𝓤 H A (lasts put-number.ended (κ, tt) (h, (v, tt)) ws)) (fact 𝓤 (r ≡ written h (decimal v))))
@@ -87,8 +99,8 @@ module _ {M : Type 1} (𝓤 : URA M) (H : Heap 𝓤) (A : Atoms 𝓤) (mem : Mem
   abbrev pub to-new : Lft → Share → RefT (List ℕ) → ℕ → New .Ghost
   to-new κ q x u = (((κ, tt), (q, tt), tt, (x, (u, tt)), (at x ∷ [], (vint w64 u ∷ [], tt))), tt)
 
-  abbrev pub to-bytes : Lft → Lft → Share → Share → Writer → Val → RefT (List ℕ) → PutBytes .Ghost
-  to-bytes κ κ′ q q′ h w y = (((κ, (κ′, tt)), (q, (q′, tt)), tt, (h, (y, tt)), (w ∷ [], (at y ∷ [], tt))), tt)
+  abbrev pub to-put : (asks : Asks) (text : List ℕ → List ℕ) → Lft → Lft → Share → Share → Writer → Val → RefT (List ℕ) → Puts asks text .Ghost
+  to-put asks text κ κ′ q q′ h w y = (((κ, (κ′, tt)), (q, (q′, tt)), tt, (h, (y, tt)), (w ∷ [], (at y ∷ [], tt))), tt)
 
   abbrev pub to-number : Lft → Share → Writer → Val → ℕ → PutNumber .Ghost
   to-number κ q h w v = (((κ, tt), (q, tt), tt, (h, (v, tt)), (w ∷ [], (vint w64 v ∷ [], tt))), tt)
@@ -102,9 +114,9 @@ module _ {M : Type 1} (𝓤 : URA M) (H : Heap 𝓤) (A : Atoms 𝓤) (mem : Mem
         qed W ((‵ (flft κ q) ⊛ ‵ ftrue) ∷ ‵ (MutSlice (named 0) κ u8 .own x (at x ∷ [])) ∷ []) ∵ nothing ! $ owned ! usize (Is usize) (uint-makes 𝓤 H A W w64) u _ (refl, fits) $ fjoin ! $
         move ! (2 ∷ 0 ∷ []) $ fjoin ! $ move ! (1 ∷ 0 ∷ []) $ join ! $ frame ! $ done !
 
-    pub goes-bytes : (κ′ : Lft) (q′ : Share) (h : Writer) (w : Val) (y : RefT (List ℕ)) → h .fill + length (y .now) ≤ 18446744073709551615
-        → ent 𝓤 (sep 𝓤 (sep 𝓤 (A .lft κ q) (Token κ′ q′)) (sep 𝓤 (Owns κ h w) (sem 𝓤 H A (ShrSlice (named 1) κ′ u8 .own y (at y ∷ []))))) (PutBytes .pre (to-bytes κ κ′ q q′ h w y))
-    goes-bytes κ′ q′ h w y within =
+    pub goes-put : (asks : Asks) (text : List ℕ → List ℕ) (κ′ : Lft) (q′ : Share) (h : Writer) (w : Val) (y : RefT (List ℕ)) → asks (h .fill) (y .now)
+        → ent 𝓤 (sep 𝓤 (sep 𝓤 (A .lft κ q) (Token κ′ q′)) (sep 𝓤 (Owns κ h w) (sem 𝓤 H A (ShrSlice (named 1) κ′ u8 .own y (at y ∷ []))))) (Puts asks text .pre (to-put asks text κ κ′ q q′ h w y))
+    goes-put asks text κ′ q′ h w y within =
         qed W ((‵ (flft κ q) ⊛ ‵ (flft κ′ q′) ⊛ ‵ ftrue) ∷ ‵ (T.the-row (lifetime κ) .own h (w ∷ [])) ∷ ‵ (ShrSlice (named 1) κ′ u8 .own y (at y ∷ [])) ∷ []) ∵ says ! within $ frame ! $
         nothing ! $ move ! (2 ∷ 0 ∷ []) $ fjoin ! $ move ! (1 ∷ 0 ∷ []) $ fjoin ! $ done !
 

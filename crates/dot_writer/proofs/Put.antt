@@ -82,10 +82,10 @@ put-function callee =
     }
 
 -- A covered function on the slice, the number and the bytes, and what it asks and writes
-abbrev Pre : Type 1
-Pre = ℕ → List ℕ → Type 0
+abbrev pub Asks : Type 1
+Asks = ℕ → List ℕ → Type 0
 
-module _ {M : Type 1} (𝓤 : URA M) (H : Heap 𝓤) (A : Atoms 𝓤) (asks : Pre) (text : List ℕ → List ℕ) where
+module _ {M : Type 1} (𝓤 : URA M) (H : Heap 𝓤) (A : Atoms 𝓤) (asks : Asks) (text : List ℕ → List ℕ) where
   abbrev pub at-clauses : Clauses 𝓤 bytes-at.ended
   at-clauses κs a =
       record { ghost = Unit {0}; requires = λ _. fact 𝓤 (asks (a .1 .0) (a .1 .1 .0 .now)); ensures = λ _ r e. fact 𝓤 (Writes (a .0 .now) (a .1 .0) (text (a .1 .1 .0 .now)) (now (e .0)) r) }
@@ -100,7 +100,7 @@ module _ {M : Type 1} (𝓤 : URA M) (H : Heap 𝓤) (A : Atoms 𝓤) (asks : Pr
   abbrev pub put-spec : Spec 𝓤 put-bytes.signature
   put-spec = closing 𝓤 H A put-bytes.ended put-clauses
 
-module _ {M : Type 1} (𝓤 : URA M) (H : Heap 𝓤) (A : Atoms 𝓤) (W : Given 𝓤 H A) (callee : Name) (asks : Pre) (text : List ℕ → List ℕ) (κ κ′ : Lft) (q q′ : Share) (b o : ℕ) (γ : GName) (ys : List ℕ) (n : ℕ) (n-fits : n < 2 ^ 64) (y : RefT (List ℕ)) where
+module _ {M : Type 1} (𝓤 : URA M) (H : Heap 𝓤) (A : Atoms 𝓤) (W : Given 𝓤 H A) (callee : Name) (asks : Asks) (text : List ℕ → List ℕ) (κ κ′ : Lft) (q q′ : Share) (b o : ℕ) (γ : GName) (ys : List ℕ) (n : ℕ) (n-fits : n < 2 ^ 64) (y : RefT (List ℕ)) where
   abbrev α : NamedLft
   α = record { mir = named 0; lft = κ }
 
@@ -202,7 +202,7 @@ module _ {M : Type 1} (𝓤 : URA M) (H : Heap 𝓤) (A : Atoms 𝓤) (W : Given
         move ! (24 ∷ 25 ∷ []) $ free1 ! $ move ! (22 ∷ 23 ∷ []) $ free1 ! $ move ! (20 ∷ 21 ∷ []) $ free1 ! $ move ! (18 ∷ 19 ∷ []) $ free1 ! $ move ! (16 ∷ 17 ∷ []) $ free1 ! $ move ! (14 ∷ 15 ∷ []) $ free1 ! $ move ! (12 ∷ 13 ∷ []) $ free1 ! $ move ! (10 ∷ 11 ∷ []) $ free1 ! $ move ! (8 ∷ 9 ∷ []) $ free1 ! $ free0 ! $
         keep ! (1 ∷ 2 ∷ 0 ∷ 5 ∷ []) $ by ! (exits r (zs .0) e (is .1))))))))))))))))))))
 
-module _ {M : Type 1} (𝓤 : URA M) (H : Heap 𝓤) (A : Atoms 𝓤) (W : Given 𝓤 H A) (callee : Name) (asks : Pre) (text : List ℕ → List ℕ) where
+module _ {M : Type 1} (𝓤 : URA M) (H : Heap 𝓤) (A : Atoms 𝓤) (W : Given 𝓤 H A) (callee : Name) (asks : Asks) (text : List ℕ → List ℕ) where
   put-walks : (C : Calls 𝓤 H) (Λ : Loops 𝓤 H) → FmC 𝓤 H (W .laws) C → Triple 𝓤 (C callee) (At 𝓤 H A asks text) → Walks 𝓤 H A put-bytes.ended stayed (WpFn 𝓤 H C Λ (put-function callee)) (put-clauses 𝓤 H A asks text)
   put-walks C Λ fm known = walked 𝓤 H A put-bytes.ended stayed (put-clauses 𝓤 H A asks text) (WpFn 𝓤 H C Λ (put-function callee))
       (λ κs. (LL.vals (T.the-type (namedLft 2 0 tt κs)) (T′.the-laws (namedLft 2 0 tt κs)), (slice-vals, tt))) (λ κs. (LL.tells (T.the-type (namedLft 2 0 tt κs)) (T′.the-laws (namedLft 2 0 tt κs)), (shr-slice-tells (named 1) (κs .1 .0) u8, tt)))
@@ -210,7 +210,7 @@ module _ {M : Type 1} (𝓤 : URA M) (H : Heap 𝓤) (A : Atoms 𝓤) (W : Given
       let fields = LL.owed (T.the-type (namedLft 2 0 tt κs)) (T′.the-laws (namedLft 2 0 tt κs)) (a .0) _ (are .0) in
       walk 𝓤 H A W callee asks text (κs .0) (κs .1 .0) (qs .0) (qs .1 .0) (a .0 .out .ptr .0) (a .0 .out .ptr .1) (a .0 .out .name) (a .0 .out .now) (a .0 .fill) (fields .1 .0 .1) (a .1 .0) C Λ fm known (are .0) (are .1 .0) (fields .0 .0 .1) within))
 
-pub put-meets : {M : Type 1} (𝓤 : URA M) (H : Heap 𝓤) (A : Atoms 𝓤) → Given 𝓤 H A → (callee : Name) (asks : Pre) (text : List ℕ → List ℕ) (𝓣 : Tables 𝓤 H) → Triple 𝓤 (𝓣 .C callee) (At 𝓤 H A asks text)
+pub put-meets : {M : Type 1} (𝓤 : URA M) (H : Heap 𝓤) (A : Atoms 𝓤) → Given 𝓤 H A → (callee : Name) (asks : Asks) (text : List ℕ → List ℕ) (𝓣 : Tables 𝓤 H) → Triple 𝓤 (𝓣 .C callee) (At 𝓤 H A asks text)
     → Meets 𝓤 H A put-bytes.signature (WpFn 𝓤 H (𝓣 .C) (𝓣 .Λ) (put-function callee)) (put-spec 𝓤 H A asks text)
 put-meets 𝓤 H A W callee asks text 𝓣 known =
     walk-meets 𝓤 H A put-bytes.ended stayed W (writer-spent-two-goes 𝓤 H A W, (goes-none-slice 𝓤 H A W 2 (1 ∷ []) tt (plain (λ _. u8)) yes, tt)) (put-clauses 𝓤 H A asks text)

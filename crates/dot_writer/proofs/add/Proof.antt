@@ -45,8 +45,8 @@ use denote.Signature.{plain}
 use Rattle.dot_writer.specs.declared.Writer.{Writer}
 use Rattle.dot_writer.specs.Written.{written}
 use Rattle.dot_writer.proofs.Writer as T
-use Rattle.dot_writer.proofs.Calls.{at, lifetime, typed, New, PutBytes, PutNumber, Filled, new-of, bytes-of, number-of}
-use Rattle.dot_writer.proofs.Calls.{to-new, to-bytes, to-number, to-filled, goes-new, goes-bytes, goes-number, goes-filled}
+use Rattle.dot_writer.proofs.Calls.{at, lifetime, typed, fitting, same, New, PutBytes, PutNumber, Filled, new-of, puts-of, number-of}
+use Rattle.dot_writer.proofs.Calls.{to-new, to-put, to-number, to-filled, goes-new, goes-put, goes-number, goes-filled}
 use Rattle.dot_writer.proofs.new as new
 use Rattle.dot_writer.proofs.new.Symbol as new-def
 use Rattle.dot_writer.proofs.new.Symbol.{name as #dot-writer·new}
@@ -192,12 +192,12 @@ module _ {M : Type 1} (𝓤 : URA M) (H : Heap 𝓤) (A : Atoms 𝓤) (W : Given
         move ! (2 ∷ []) $ split ! $ move ! (3 ∷ []) $ split ! $ move ! (0 ∷ 2 ∷ []) $ join ! $ move ! (1 ∷ []) $ drop ! $
         -- [both tokens; the words' borrows; the writer; …]
         move ! (1 ∷ []) $ split ! $ move ! (1 ∷ []) $ split ! $ move ! (1 ∷ 2 ∷ []) $ join ! $ move ! (2 ∷ 3 ∷ 1 ∷ []) $
-        use3 W (raw (PutBytes 𝓤 H A mem run .pre (to-bytes 𝓤 H A mem run κ κ′ q q′ h₀ w₀ y))) (goes-bytes 𝓤 H A mem run W κ q κ′ q′ h₀ w₀ y fits₁) $
-        calls-at ! fm (PutBytes 𝓤 H A mem run) known-bytes (to-bytes 𝓤 H A mem run κ κ′ q q′ h₀ w₀ y)
+        use3 W (raw (PutBytes 𝓤 H A mem run .pre (to-put 𝓤 H A mem run fitting same κ κ′ q q′ h₀ w₀ y))) (goes-put 𝓤 H A mem run W κ q fitting same κ′ q′ h₀ w₀ y fits₁) $
+        calls-at ! fm (PutBytes 𝓤 H A mem run) known-bytes (to-put 𝓤 H A mem run fitting same κ κ′ q q′ h₀ w₀ y)
         (and-then ! (load ! (from ! (stop !)) (look ! 12 refl)) (and-then ! (load ! (from ! (stop !)) (look ! 24 refl)) (no-more !))) (λ w₁.
         use1 W (later (some (λ (r : Writer). ((‵ (flft κ q) ⊛ ‵ (flft κ′ q′) ⊛ ‵ ftrue) ⊛ ‵ (T.the-row (lifetime κ) .own r (w₁ ∷ [])))
         ⊛ raw (ensured 𝓤 H A put-bytes.ended (put-bytes.clauses 𝓤 H A mem run) (κ, (κ′, tt)) (h₀, (y, tt)) tt r)))) (id⊢ 𝓤 _) $ await ! tt $ pick ! (λ r₁.
-        split ! $ move ! (1 ∷ []) $ use1 W (raw (fact 𝓤 (r₁ ≡ h₁))) (bytes-of 𝓤 H A mem run κ κ′ h₀ y r₁) $ heard ! (r₁ ≡ h₁) (λ e₁.
+        split ! $ move ! (1 ∷ []) $ use1 W (raw (fact 𝓤 (r₁ ≡ h₁))) (puts-of 𝓤 H A mem run fitting same κ κ′ h₀ y r₁) $ heard ! (r₁ ≡ h₁) (λ e₁.
         split ! $ rewrite ! 1 (λ (h : Writer). ‵ (T.the-row (lifetime κ) .own h (w₁ ∷ []))) e₁ refl $
         move ! (1 ∷ []) $ peeks ! (T.the-row (lifetime κ)) (Is (T.the-row (lifetime κ))) (shows 𝓤 H A (T.the-row (lifetime κ))) h₁ (w₁ ∷ []) (λ is₁.
         land ! (from ! (stop !)) (init ! 19 refl (typed κ h₁ w₁ is₁)) $
@@ -218,12 +218,12 @@ module _ {M : Type 1} (𝓤 : URA M) (H : Heap 𝓤) (A : Atoms 𝓤) (W : Given
         move ! (2 ∷ []) $ split ! $ move ! (3 ∷ []) $ split ! $ move ! (0 ∷ 2 ∷ []) $ join ! $ move ! (1 ∷ []) $ drop ! $
         -- [both tokens; the words' borrows; the writer; …]
         move ! (1 ∷ []) $ split ! $ move ! (1 ∷ []) $ split ! $ move ! (1 ∷ 2 ∷ []) $ join ! $ move ! (2 ∷ 3 ∷ 1 ∷ []) $
-        use3 W (raw (PutBytes 𝓤 H A mem run .pre (to-bytes 𝓤 H A mem run κ κ′ q q′ h₂ w₂ z))) (goes-bytes 𝓤 H A mem run W κ q κ′ q′ h₂ w₂ z fits₃) $
-        calls-at ! fm (PutBytes 𝓤 H A mem run) known-bytes (to-bytes 𝓤 H A mem run κ κ′ q q′ h₂ w₂ z)
+        use3 W (raw (PutBytes 𝓤 H A mem run .pre (to-put 𝓤 H A mem run fitting same κ κ′ q q′ h₂ w₂ z))) (goes-put 𝓤 H A mem run W κ q fitting same κ′ q′ h₂ w₂ z fits₃) $
+        calls-at ! fm (PutBytes 𝓤 H A mem run) known-bytes (to-put 𝓤 H A mem run fitting same κ κ′ q q′ h₂ w₂ z)
         (and-then ! (load ! (from ! (stop !)) (look ! 4 refl)) (and-then ! (load ! (from ! (stop !)) (look ! 20 refl)) (no-more !))) (λ w₃.
         use1 W (later (some (λ (r : Writer). ((‵ (flft κ q) ⊛ ‵ (flft κ′ q′) ⊛ ‵ ftrue) ⊛ ‵ (T.the-row (lifetime κ) .own r (w₃ ∷ [])))
         ⊛ raw (ensured 𝓤 H A put-bytes.ended (put-bytes.clauses 𝓤 H A mem run) (κ, (κ′, tt)) (h₂, (z, tt)) tt r)))) (id⊢ 𝓤 _) $ await ! tt $ pick ! (λ r₃.
-        split ! $ move ! (1 ∷ []) $ use1 W (raw (fact 𝓤 (r₃ ≡ h₃))) (bytes-of 𝓤 H A mem run κ κ′ h₂ z r₃) $ heard ! (r₃ ≡ h₃) (λ e₃.
+        split ! $ move ! (1 ∷ []) $ use1 W (raw (fact 𝓤 (r₃ ≡ h₃))) (puts-of 𝓤 H A mem run fitting same κ κ′ h₂ z r₃) $ heard ! (r₃ ≡ h₃) (λ e₃.
         split ! $ rewrite ! 1 (λ (h : Writer). ‵ (T.the-row (lifetime κ) .own h (w₃ ∷ []))) e₃ refl $
         move ! (1 ∷ []) $ peeks ! (T.the-row (lifetime κ)) (Is (T.the-row (lifetime κ))) (shows 𝓤 H A (T.the-row (lifetime κ))) h₃ (w₃ ∷ []) (λ is₃.
         land ! (from ! (stop !)) (init ! 15 refl (typed κ h₃ w₃ is₃)) $

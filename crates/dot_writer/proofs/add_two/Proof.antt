@@ -45,8 +45,8 @@ use denote.Signature.{plain}
 use Rattle.dot_writer.specs.declared.Writer.{Writer}
 use Rattle.dot_writer.specs.Written.{written}
 use Rattle.dot_writer.proofs.Writer as T
-use Rattle.dot_writer.proofs.Calls.{at, lifetime, typed, New, PutBytes, PutNumber, Filled, new-of, bytes-of, number-of}
-use Rattle.dot_writer.proofs.Calls.{to-new, to-bytes, to-number, to-filled, goes-new, goes-bytes, goes-number, goes-filled}
+use Rattle.dot_writer.proofs.Calls.{at, lifetime, typed, fitting, same, New, PutBytes, PutNumber, Filled, new-of, puts-of, number-of}
+use Rattle.dot_writer.proofs.Calls.{to-new, to-put, to-number, to-filled, goes-new, goes-put, goes-number, goes-filled}
 use Rattle.dot_writer.proofs.new as new
 use Rattle.dot_writer.proofs.new.Symbol as new-def
 use Rattle.dot_writer.proofs.new.Symbol.{name as #dot-writer·new}
@@ -216,12 +216,12 @@ module _ {M : Type 1} (𝓤 : URA M) (H : Heap 𝓤) (A : Atoms 𝓤) (W : Given
         move ! (2 ∷ []) $ split ! $ move ! (3 ∷ []) $ split ! $ move ! (0 ∷ 2 ∷ []) $ join ! $ move ! (1 ∷ []) $ drop ! $
         -- [both tokens; the words' borrows; the writer; …]
         move ! (1 ∷ []) $ split ! $ move ! (1 ∷ []) $ split ! $ move ! (1 ∷ 2 ∷ []) $ join ! $ move ! (2 ∷ 3 ∷ 1 ∷ []) $
-        use3 W (raw (PutBytes 𝓤 H A mem run .pre (to-bytes 𝓤 H A mem run κ κ′ q q′ h₁ w₁ y))) (goes-bytes 𝓤 H A mem run W κ q κ′ q′ h₁ w₁ y fits₂) $
-        calls-at ! fm (PutBytes 𝓤 H A mem run) known-bytes (to-bytes 𝓤 H A mem run κ κ′ q q′ h₁ w₁ y)
+        use3 W (raw (PutBytes 𝓤 H A mem run .pre (to-put 𝓤 H A mem run fitting same κ κ′ q q′ h₁ w₁ y))) (goes-put 𝓤 H A mem run W κ q fitting same κ′ q′ h₁ w₁ y fits₂) $
+        calls-at ! fm (PutBytes 𝓤 H A mem run) known-bytes (to-put 𝓤 H A mem run fitting same κ κ′ q q′ h₁ w₁ y)
         (and-then ! (load ! (from ! (stop !)) (look ! 8 refl)) (and-then ! (load ! (from ! (stop !)) (look ! 28 refl)) (no-more !))) (λ w₂.
         use1 W (later (some (λ (r : Writer). ((‵ (flft κ q) ⊛ ‵ (flft κ′ q′) ⊛ ‵ ftrue) ⊛ ‵ (T.the-row (lifetime κ) .own r (w₂ ∷ [])))
         ⊛ raw (ensured 𝓤 H A put-bytes.ended (put-bytes.clauses 𝓤 H A mem run) (κ, (κ′, tt)) (h₁, (y, tt)) tt r)))) (id⊢ 𝓤 _) $ await ! tt $ pick ! (λ r₂.
-        split ! $ move ! (1 ∷ []) $ use1 W (raw (fact 𝓤 (r₂ ≡ h₂))) (bytes-of 𝓤 H A mem run κ κ′ h₁ y r₂) $ heard ! (r₂ ≡ h₂) (λ e₂.
+        split ! $ move ! (1 ∷ []) $ use1 W (raw (fact 𝓤 (r₂ ≡ h₂))) (puts-of 𝓤 H A mem run fitting same κ κ′ h₁ y r₂) $ heard ! (r₂ ≡ h₂) (λ e₂.
         split ! $ rewrite ! 1 (λ (h : Writer). ‵ (T.the-row (lifetime κ) .own h (w₂ ∷ []))) e₂ refl $
         move ! (1 ∷ []) $ peeks ! (T.the-row (lifetime κ)) (Is (T.the-row (lifetime κ))) (shows 𝓤 H A (T.the-row (lifetime κ))) h₂ (w₂ ∷ []) (λ is₂.
         land ! (from ! (stop !)) (init ! 21 refl (typed κ h₂ w₂ is₂)) $
@@ -242,12 +242,12 @@ module _ {M : Type 1} (𝓤 : URA M) (H : Heap 𝓤) (A : Atoms 𝓤) (W : Given
         move ! (2 ∷ []) $ split ! $ move ! (3 ∷ []) $ split ! $ move ! (0 ∷ 2 ∷ []) $ join ! $ move ! (1 ∷ []) $ drop ! $
         -- [both tokens; the words' borrows; the writer; …]
         move ! (1 ∷ []) $ split ! $ move ! (1 ∷ []) $ split ! $ move ! (1 ∷ 2 ∷ []) $ join ! $ move ! (2 ∷ 3 ∷ 1 ∷ []) $
-        use3 W (raw (PutBytes 𝓤 H A mem run .pre (to-bytes 𝓤 H A mem run κ κ′ q q′ h₃ w₃ z))) (goes-bytes 𝓤 H A mem run W κ q κ′ q′ h₃ w₃ z fits₄) $
-        calls-at ! fm (PutBytes 𝓤 H A mem run) known-bytes (to-bytes 𝓤 H A mem run κ κ′ q q′ h₃ w₃ z)
+        use3 W (raw (PutBytes 𝓤 H A mem run .pre (to-put 𝓤 H A mem run fitting same κ κ′ q q′ h₃ w₃ z))) (goes-put 𝓤 H A mem run W κ q fitting same κ′ q′ h₃ w₃ z fits₄) $
+        calls-at ! fm (PutBytes 𝓤 H A mem run) known-bytes (to-put 𝓤 H A mem run fitting same κ κ′ q q′ h₃ w₃ z)
         (and-then ! (load ! (from ! (stop !)) (look ! 4 refl)) (and-then ! (load ! (from ! (stop !)) (look ! 24 refl)) (no-more !))) (λ w₄.
         use1 W (later (some (λ (r : Writer). ((‵ (flft κ q) ⊛ ‵ (flft κ′ q′) ⊛ ‵ ftrue) ⊛ ‵ (T.the-row (lifetime κ) .own r (w₄ ∷ [])))
         ⊛ raw (ensured 𝓤 H A put-bytes.ended (put-bytes.clauses 𝓤 H A mem run) (κ, (κ′, tt)) (h₃, (z, tt)) tt r)))) (id⊢ 𝓤 _) $ await ! tt $ pick ! (λ r₄.
-        split ! $ move ! (1 ∷ []) $ use1 W (raw (fact 𝓤 (r₄ ≡ h₄))) (bytes-of 𝓤 H A mem run κ κ′ h₃ z r₄) $ heard ! (r₄ ≡ h₄) (λ e₄.
+        split ! $ move ! (1 ∷ []) $ use1 W (raw (fact 𝓤 (r₄ ≡ h₄))) (puts-of 𝓤 H A mem run fitting same κ κ′ h₃ z r₄) $ heard ! (r₄ ≡ h₄) (λ e₄.
         split ! $ rewrite ! 1 (λ (h : Writer). ‵ (T.the-row (lifetime κ) .own h (w₄ ∷ []))) e₄ refl $
         move ! (1 ∷ []) $ peeks ! (T.the-row (lifetime κ)) (Is (T.the-row (lifetime κ))) (shows 𝓤 H A (T.the-row (lifetime κ))) h₄ (w₄ ∷ []) (λ is₄.
         land ! (from ! (stop !)) (init ! 17 refl (typed κ h₄ w₄ is₄)) $
