@@ -1,4 +1,5 @@
--- The calls that a chain over one writer makes, for the walks of functions that make a writer, pass it on from call to call and drop it. Each callee is called at the borrow's own lifetime, share and ghost name: what it returns is, by its contract, a record that is known whole.
+-- The calls that a chain over one writer makes, for the walks of functions that make a writer, pass it on from call to call and drop it. Each callee is
+-- called at the borrow's own lifetime, share and ghost name: what it returns is, by its contract, a record that is known whole.
 --     New, Puts, PutNumber, Filled        the contracts: `Puts` of whichever function adds by the bytes that it is given (`Put.antt`), `PutBytes` of `put_bytes`
 --     new-of, puts-of, number-of          of what each ensures, the clause alone: none has a last value
 --     to-..., goes-...                    what a triple binds outside, and that the caller has what it asks

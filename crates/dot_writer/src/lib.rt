@@ -1,6 +1,7 @@
 // A writer for text: it holds the caller's buffer and how much of it is filled (02, R-2: "Text and numbers are added through a writer
 // that holds the caller's buffer and its fill"). Each function over the struct takes it apart and calls one on the slice and the number,
-// which does the work; `add` and `add_bytes` above them have plain parameters, and serve every other caller.
+// which does the work. `add` and `add_two` above them have plain parameters, for callers that loop: each makes one writer, passes it on
+// through its parts and drops it.
 ghost use mathlib.Core.Path.{_≡_};
 ghost use mathlib.Core.List.{_++_};
 ghost use Prim.Native.Nat.{_+_, _≤_};

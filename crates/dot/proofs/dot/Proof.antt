@@ -24,7 +24,8 @@ dot-spec =
     -- returns
     (λ c.
     let start = c .before .before .before .before .before .before .before .before in
-    answer-unformed (start .args .report .now) _ (length (start .args .text .now)) (sym (c .before .is-well-formed .ensures) ∙ not-true _ (c .if1 .taken)) (c .before .before .before .before .clear .ensures))
+    let cleared = c .before .before .before .before .clear in
+    answer-unformed (start .args .report .now) _ (length (start .args .text .now)) (sym (c .before .is-well-formed .ensures) ∙ not-true _ (c .if1 .taken)) (cleared .ensures))
     -- draw-requires
     (λ c κs.
     let start = c .before .before .before .before .before .before .before .before .before in

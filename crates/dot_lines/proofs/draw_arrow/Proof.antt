@@ -15,7 +15,8 @@ returns : tie.Need-returns
 unfolding arrowLine
 returns c =
     let start = c .before .before .before .before .before .before .before .before .before in
-    writes-as (ap (λ (k : ℕ). decimal (start .args .v .0) ++ (arrow ++ (decimal k ++ lineEnd))) (c .before .before .before .before .before .before .link-in .ensures)) (c .before .before .add-two .ensures)
+    let link = c .before .before .before .before .before .before .link-in in
+    writes-as (ap (λ (k : ℕ). decimal (start .args .v .0) ++ (arrow ++ (decimal k ++ lineEnd))) (link .ensures)) (c .before .before .add-two .ensures)
 
 pub draw-arrow-spec : {M : Type 1} → statement M
 draw-arrow-spec =

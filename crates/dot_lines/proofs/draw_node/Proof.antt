@@ -32,14 +32,17 @@ module _ (report : List ℕ) (v : ℕ) where
 draw-terms-requires : tie.Need-draw-terms-requires
 draw-terms-requires c κs =
     let start = c .before .before .before .before .before .before .before .before .before .before in
-    omega (arith, start .pre .1, c .before .before .before .add .ensures .ends, sizes (start .args .report .now) (start .args .v .0) _ (c .before .before .before .before .before .before .before .datum-in .ensures))
+    let read = c .before .before .before .before .before .before .before .datum-in in
+    omega (arith, start .pre .1, c .before .before .before .add .ensures .ends, sizes (start .args .report .now) (start .args .v .0) _ (read .ensures))
 
 -- add-requires-2
 add-requires-2 : tie.Need-add-requires-2
 add-requires-2 c κs =
     let start = c .before .before .before .before .before .before .before .before .before .before .before .before .before .before .before .before in
     let first = c .before .before .before .before .before .before .before .before .before .add in
-    omega (arith, start .pre .1, first .ensures .ends, c .before .before .before .before .before .draw-terms .ensures .ends, sizes (start .args .report .now) (start .args .v .0) _ (c .before .before .before .before .before .before .before .before .before .before .before .before .before .datum-in .ensures))
+    let terms = c .before .before .before .before .before .draw-terms in
+    let read = c .before .before .before .before .before .before .before .before .before .before .before .before .before .datum-in in
+    omega (arith, start .pre .1, first .ensures .ends, terms .ensures .ends, sizes (start .args .report .now) (start .args .v .0) _ (read .ensures))
 
 -- returns
 returns : tie.Need-returns
@@ -47,7 +50,8 @@ returns c =
     let start = c .before .before .before .before .before .before .before .before .before .before .before .before .before .before .before .before .before .before .before in
     let first = c .before .before .before .before .before .before .before .before .before .before .before .before .add in
     let terms = c .before .before .before .before .before .before .before .before .draw-terms in
-    writes-as (parts (start .args .report .now) (start .args .v .0) _ (c .before .before .before .before .before .before .before .before .before .before .before .before .before .before .before .before .datum-in .ensures))
+    let read = c .before .before .before .before .before .before .before .before .before .before .before .before .before .before .before .before .datum-in in
+    writes-as (parts (start .args .report .now) (start .args .v .0) _ (read .ensures))
     (writes-then (first .ensures) (writes-then (terms .ensures) (c .before .before .add2 .ensures)))
 
 pub draw-node-spec : {M : Type 1} → statement M

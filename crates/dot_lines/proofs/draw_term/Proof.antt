@@ -20,7 +20,8 @@ returns c =
 returns-2 : tie.Need-returns-2
 returns-2 c =
     let start = c .before .before .before .before .before .before .before .before in
-    rw (c .before .before .before .before .before .before .if1 .left) (writes-as (ap (λ (xs : List ℕ). blank false ++ xs) (append-nil (decimal (start .args .t .0)))) (c .before .before .add2 .ensures))
+    let came = c .before .before .before .before .before .before .if1 in
+    rw (came .left) (writes-as (ap (λ (xs : List ℕ). blank false ++ xs) (append-nil (decimal (start .args .t .0)))) (c .before .before .add2 .ensures))
 
 pub draw-term-spec : {M : Type 1} → statement M
 draw-term-spec =

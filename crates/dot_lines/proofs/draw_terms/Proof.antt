@@ -38,11 +38,12 @@ draw-term-requires : tie.Need-draw-term-requires Inv-loop μ-loop
 draw-term-requires c κs =
     let start = c .before .before .before .before .before .before .before .before .before .before in
     let report : List ℕ = start .args .report .now in
-    let first : Bool = c .before .before .before .before .before .before .loop .first in
-    let t : ℕ = c .before .before .before .before .before .before .loop .t in
+    let at = c .before .before .before .before .before .before .loop in
+    let count = c .before .before .before .before .before .before .before .count-in in
+    let node = c .before .before .before .before .node-in in
     let q : ℕ → Bool = named report (start .args .v .0) in
-    let here = terms-here q (countIn report) first t (omega (arith, c .before .before .before .before .before .before .before .count-in .ensures .0)) (eq-eqb _ _ (sym (c .before .before .before .before .node-in .ensures) ∙ c .before .if1 .left)) in
-    omega (arith, part-room (blank first ++ decimal t) (terms q (countIn report) false (t + 1)) (c .before .before .before .before .before .before .loop .inv) here (start .pre))
+    let here = terms-here q (countIn report) (at .first) (at .t) (omega (arith, count .ensures .0)) (eq-eqb _ _ (sym (node .ensures) ∙ c .before .if1 .left)) in
+    omega (arith, part-room (blank (at .first) ++ decimal (at .t)) (terms q (countIn report) false (at .t + 1)) (at .inv) here (start .pre))
 
 pub draw-terms-spec : {M : Type 1} → statement M
 draw-terms-spec =
@@ -66,8 +67,10 @@ draw-terms-spec =
     let start = c .before .before .before .before .before .before .before .before .before in
     let report : List ℕ = start .args .report .now in
     let q : ℕ → Bool = named report (start .args .v .0) in
-    part-skip (c .before .before .before .before .before .loop .inv)
-    (terms-skip q (countIn report) (c .before .before .before .before .before .loop .first) (c .before .before .before .before .before .loop .t) (omega (arith, c .before .before .before .before .before .before .count-in .ensures .0)) (ne-eqb _ _ (λ e. c .if1 .taken (c .before .before .before .node-in .ensures ∙ e)))))
+    let at = c .before .before .before .before .before .loop in
+    let count = c .before .before .before .before .before .before .count-in in
+    let node = c .before .before .before .node-in in
+    part-skip (at .inv) (terms-skip q (countIn report) (at .first) (at .t) (omega (arith, count .ensures .0)) (ne-eqb _ _ (λ e. c .if1 .taken (node .ensures ∙ e)))))
     draw-term-requires
     -- add-t-2
     (λ c. omega arith)
@@ -79,9 +82,10 @@ draw-terms-spec =
     let at = c .before .before .before .before .before .before .before .before .before .loop in
     let report : List ℕ = start .args .report .now in
     let q : ℕ → Bool = named report (start .args .v .0) in
+    let count = c .before .before .before .before .before .before .before .before .before .before .count-in in
+    let node = c .before .before .before .before .before .before .before .node-in in
     part-more (at .inv)
-    (terms-here q (countIn report) (at .first) (at .t) (omega (arith, c .before .before .before .before .before .before .before .before .before .before .count-in .ensures .0)) (eq-eqb _ _ (sym (c .before .before .before .before .before .before .before .node-in .ensures) ∙ c .before .before .before .before .if1 .left)))
-    (c .before .before .draw-term .ensures))
+    (terms-here q (countIn report) (at .first) (at .t) (omega (arith, count .ensures .0)) (eq-eqb _ _ (sym (node .ensures) ∙ c .before .before .before .before .if1 .left))) (c .before .before .draw-term .ensures))
     -- same-length
     (λ c. part-length (c .before .loop .inv))
     -- returns

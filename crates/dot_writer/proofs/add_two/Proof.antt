@@ -279,7 +279,8 @@ module _ {M : Type 1} (𝓤 : URA M) (H : Heap 𝓤) (A : Atoms 𝓤) (W : Given
       (λ κs. (slice-vals, (uint-vals w64, (uint-vals w64, (slice-vals, (uint-vals w64, (slice-vals, tt)))))))
       (λ κs. (mut-slice-tells (named 0) (κs .0) u8, (uint-tells w64, (uint-tells w64, (shr-slice-tells (named 1) (κs .1 .0) u8, (uint-tells w64, (shr-slice-tells (named 1) (κs .1 .0) u8, tt)))))))
       (λ κs qs bounds a g are. needs 𝓤 (a .1 .0 + 20 + length (a .1 .1 .1 .0 .now) + 20 + length (a .1 .1 .1 .1 .1 .0 .now) ≤ 18446744073709551615) _ (λ more.
-      walk 𝓤 H A W mem run (κs .0) (κs .1 .0) (qs .0) (qs .1 .0) (a .0) (a .1 .0) (are .1 .0 .1) (a .1 .1 .0) (are .1 .1 .0 .1) (a .1 .1 .1 .0) (a .1 .1 .1 .1 .0) (are .1 .1 .1 .1 .0 .1) (a .1 .1 .1 .1 .1 .0) more
+      walk 𝓤 H A W mem run (κs .0) (κs .1 .0) (qs .0) (qs .1 .0) (a .0) (a .1 .0) (are .1 .0 .1) (a .1 .1 .0) (are .1 .1 .0 .1) (a .1 .1 .1 .0) (a .1 .1 .1 .1 .0) (are .1 .1 .1 .1 .0 .1)
+      (a .1 .1 .1 .1 .1 .0) more
       (𝓣 .C) (𝓣 .Λ) (fmOf 𝓤 H (W .laws) 𝓣) known-new known-bytes known-number known-filled (are .0 .0 .1) (are .1 .1 .1 .0) (are .1 .1 .1 .1 .1 .0)))
 
   add-two-meets : Meets 𝓤 H A add-two.signature (WpFn 𝓤 H (𝓣 .C) (𝓣 .Λ) code.function) (add-two.spec 𝓤 H A mem run)
