@@ -1,0 +1,3 @@
+-- Theorems about paths.
+pub mod States
+pub mod Exact

@@ -1,0 +1,3 @@
+-- What a path of a segment says, in reading order.
+pub mod Points
+pub mod Paths
