@@ -73,11 +73,11 @@ module _ (s : State) (nodes : List ℕ) where
   abbrev pub Exact : Go → Follow → Type 0
   Exact g h = (p : Point) (fs : List Fact) → Hold fs → Exactly (g (nowAt p)) (h (at-point p fs))
 
-  nothing : (xs : Cases) → ((c : Check) (b : Bool) (at : State) → Sees s nodes c b at xs → ⊥) → Exactly [] xs
+  pub nothing : (xs : Cases) → ((c : Check) (b : Bool) (at : State) → Sees s nodes c b at xs → ⊥) → Exactly [] xs
   unfolding Meets
   nothing xs h c b at = (λ z. absurd z, λ z. absurd (h c b at z))
 
-  no-case : (c : Check) (b : Bool) (at : State) → Sees s nodes c b at [] → ⊥
+  pub no-case : (c : Check) (b : Bool) (at : State) → Sees s nodes c b at [] → ⊥
   unfolding Sees
   no-case c b at h = h
 
@@ -251,7 +251,7 @@ module _ (s : State) (nodes : List ℕ) where
   cond-grows true g h k l = k
   cond-grows false g h k l = l
 
-  testing-grows : (q : Place) (f : Formula) (next : Bool → Follow) → ((b : Bool) → Grows (next b)) → Grows (λ t. testingPaths q f t next)
+  pub testing-grows : (q : Place) (f : Formula) (next : Bool → Follow) → ((b : Bool) → Grows (next b)) → Grows (λ t. testingPaths q f t next)
   unfolding testingPaths
   testing-grows q (negation f) next grows = testing-grows q f (λ b. next (not b)) (λ b. grows (not b))
   testing-grows q (both f g) next grows =
@@ -304,7 +304,7 @@ module _ (s : State) (nodes : List ℕ) where
 
   -- Clauses
 
-  clauses-grows : (number : ℕ) (kind : ℕ → Kind) (i : ℕ) (cs : List Clause) (next : Follow) → Grows next → Grows (λ t. clausesPaths number kind i cs t next)
+  pub clauses-grows : (number : ℕ) (kind : ℕ → Kind) (i : ℕ) (cs : List Clause) (next : Follow) → Grows next → Grows (λ t. clausesPaths number kind i cs t next)
   unfolding clausesPaths
   clauses-grows number kind i [] next grows = grows
   clauses-grows number kind i (c ∷ cs) next grows = asking-grows number (kind i) (c .formula) _ (clauses-grows number kind (suc i) cs next grows)

@@ -3,7 +3,7 @@
 use Prim.Native.Nat.{ℕ, suc}
 use mathlib.Core.Path.{_≡_}
 use mathlib.Core.Bool.{Bool, true, false, not, cond}
-use mathlib.Core.List.{List, [], _∷_, _++_}
+use mathlib.Core.List.{List, [], _∷_, _++_, map}
 use lib.Dec.{ltb}
 use lib.ListN.{length}
 use Rattle.logic.specs.Search.{all}
@@ -11,7 +11,7 @@ use Rattle.routine_logic.specs.Syntax.{null, Term, Formula, always, never, equa
 use Rattle.routine_logic.specs.State.{State}
 use Rattle.routine_logic.specs.Formulas.{holds, sameTruth}
 use Rattle.routine_logic.specs.Runs.{Kind, nullOf, asserted, covered, entry, kept, ensured, Check, canFail, dereferenced, dereferencedIn}
-use Rattle.path_theory.specs.Points.{Point, stateAt, nameOf, named, linked, marked, havocked}
+use Rattle.path_theory.specs.Points.{Point, atStart, stateAt, nameOf, named, linked, marked, havocked}
 
 -- What a path says: a formula has this value at a point; a `havoc` is given a node.
 pub data Fact : Type 0 where
@@ -106,3 +106,45 @@ paths final (branch p f yes·code no·code rest) next out t =
 paths final (loop p f invariants body rest) next out t = clausesPaths (p .number) entry 0 invariants t (λ t′. [])
 paths final (leave p rest) next out t = final t
 paths final (breakOut p rest) next out t = out t
+
+-- The paths of each segment of a routine, in the order of the segments: what the segment assumes, and its paths.
+pub record SegmentPaths : Type 0 where
+  pub assumes : List Clause
+  pub follow : Follow
+
+unfoldable pub finishingPaths : Routine → Follow
+finishingPaths r t = clausesPaths 0 ensured 0 (r .ensures) t (λ t′. [])
+
+unfoldable pub returningPaths : Place → List Clause → Follow
+returningPaths p invariants t = clausesPaths (p .number) kept 0 invariants t (λ t′. [])
+
+unfoldable pub headPaths : Place → Formula → List Clause → (Follow → Follow → Follow) → Follow → Follow
+headPaths p f invariants body behind t = testingPaths p f t (λ b. cond b (body (returningPaths p invariants) behind) behind)
+
+unfoldable pub loopPaths : Follow → Code → Follow → Follow → List SegmentPaths
+loopPaths final end next out = []
+loopPaths final (assign p x u rest) next out = loopPaths final rest next out
+loopPaths final (assignLink p u i v rest) next out = loopPaths final rest next out
+loopPaths final (assignFlag p u j b rest) next out = loopPaths final rest next out
+loopPaths final (havoc p x rest) next out = loopPaths final rest next out
+loopPaths final (assume p f rest) next out = loopPaths final rest next out
+loopPaths final (assert p f rest) next out = loopPaths final rest next out
+loopPaths final (cover p f rest) next out = loopPaths final rest next out
+loopPaths final (branch p f yes·code no·code rest) next out =
+    let behind : Follow = paths final rest next out in
+    loopPaths final yes·code behind out ++ loopPaths final no·code behind out ++ loopPaths final rest next out
+loopPaths final (loop p f invariants body rest) next out =
+    let behind : Follow = paths final rest next out in
+    record { assumes = invariants; follow = headPaths p f invariants (paths final body) behind }
+    ∷ loopPaths final body (returningPaths p invariants) behind ++ loopPaths final rest next out
+loopPaths final (leave p rest) next out = loopPaths final rest next out
+loopPaths final (breakOut p rest) next out = loopPaths final rest next out
+
+unfoldable pub segmentPaths : Routine → List SegmentPaths
+segmentPaths r =
+    record { assumes = r .requires; follow = paths (finishingPaths r) (r .body) (finishingPaths r) (λ t. []) }
+    ∷ loopPaths (finishingPaths r) (r .body) (finishingPaths r) (λ t. [])
+
+-- a path begins with what its segment assumes
+unfoldable pub startTrail : List Clause → Trail
+startTrail cs = record { point = atStart; facts = map (λ c. says true atStart (c .formula)) cs }
