@@ -143,7 +143,8 @@ module _ (final : Go) (final′ : Follow) (ends : Alike final final′) where
   block : (x : Code) (next out : Go) (next′ out′ : Follow) → Alike next next′ → Alike out out′ → Alike (run entering final x next out) (paths final′ x next′ out′)
   block x next out next′ out′ k l =
       record {
-        exact = λ s nodes. run-exact s nodes final final′ (ends .grows s nodes) (ends .exact s nodes) x next out next′ out′ (k .grows s nodes) (l .grows s nodes) (k .exact s nodes) (l .exact s nodes);
+        exact = λ s nodes. run-exact s nodes final final′ (ends .grows s nodes) (ends .exact s nodes) x next out next′ out′
+            (k .grows s nodes) (l .grows s nodes) (k .exact s nodes) (l .exact s nodes);
         grows = λ s nodes. paths-grow s nodes final′ (ends .grows s nodes) x next′ out′ (k .grows s nodes) (l .grows s nodes);
       }
 
@@ -167,7 +168,8 @@ module _ (final : Go) (final′ : Follow) (ends : Alike final final′) where
       let inside = block body (returning q invariants stop) _ (returningPaths q invariants) _ back behind in
       one-more
       (same-segment (q .line) invariants _ _
-      (λ s nodes. head-exact s nodes q f invariants (run entering final body) (paths final′ body) _ _ (inside .grows s nodes) (behind .grows s nodes) (inside .exact s nodes) (behind .exact s nodes))
+      (λ s nodes. head-exact s nodes q f invariants (run entering final body) (paths final′ body) _ _
+      (inside .grows s nodes) (behind .grows s nodes) (inside .exact s nodes) (behind .exact s nodes))
       (λ s nodes. head-grows s nodes q f invariants (paths final′ body) _ (inside .grows s nodes) (behind .grows s nodes)))
       (paired-append (loops-paired body _ _ _ _ back behind) (loops-paired rest next out next′ out′ k l))
   loops-paired (leave q rest) next out next′ out′ k l = loops-paired rest next out next′ out′ k l
