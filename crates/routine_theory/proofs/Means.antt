@@ -1,20 +1,22 @@
--- `reaches` and `between` of a state are those of 01 and of R-10.
+-- `reaches` and `between` of a state are those of 01 and of R-10, and `forall` ranges over all nodes.
 use Prim.Native.Nat.{ℕ, _<_}
 use native.Mathlib.Omega.{arith}
 use mathlib.Core.Path.{_≡_}
 use mathlib.Core.Logic.{_↔_}
 use mathlib.Core.Bool.{true}
+use mathlib.Core.List.{List, _∷_, List·Memᴰ}
 use lib.Dec.{leb, ltb}
-use Rattle.logic.specs.Search.{_and_}
+use Rattle.logic.specs.Search.{_and_, from, all}
 use Rattle.logic.specs.Heap.{Node, Reaches}
-use Rattle.theory.proofs.Basics.Search.{and-left, and-right, and-intro}
+use Rattle.theory.proofs.Basics.Search.{and-left, and-right, and-intro, all-true, all-intro, from-mem, from-intro}
 use Rattle.theory.proofs.Basics.Compare.{ltb-true, ltb-intro, leb-true, leb-intro}
 use Rattle.between.specs.Meaning.{MetAfter, Between}
 use Rattle.between.proofs.Until.{met-first}
 use Rattle.between_search.specs.Tests.{stepCount}
 use Rattle.between_search.proofs.StepCounts.{Stays, stays, count-met, met-count, met-soon}
 use Rattle.routine_logic.specs.State.{State, IsState}
-use Rattle.routine_logic.specs.Formulas.{reachesBy, betweenBy}
+use Rattle.routine_logic.specs.Syntax.{Formula, forall}
+use Rattle.routine_logic.specs.Formulas.{Bound, reachesBy, betweenBy, holds}
 
 module _ (s : State) (is : IsState s) (i v : ℕ) (h : Node s v) where
   abbrev count : ℕ → ℕ
@@ -59,3 +61,16 @@ module _ (s : State) (is : IsState s) (i v : ℕ) (h : Node s v) where
           let q = counted z (b .steps-to) (b .to-met) in
           and-intro (and-intro (below y (b .steps) (b .middle-met)) (below z (b .steps-to) (b .to-met)))
           (leb-intro {m = count y} {n = count z} (omega (arith, p .0, q .0, b .not-above)))
+
+-- "`forall` ranges over all nodes": what is assumed of all holds of every node that has a name
+pub forall-means : (s : State) (e : Bound) (f : Formula) → (holds s e (forall f) ≡ true) ↔ ((v : ℕ) → Node s v → holds s (v ∷ e) f ≡ true)
+unfolding holds
+forall-means s e f = (
+  λ h v n. all-true (λ v. holds s (v ∷ e) f) v h (from-intro (s .size) 1 v (n .0) (let l = n .1 in omega (arith, l))),
+  λ h. all-intro (λ v. holds s (v ∷ e) f) (from (s .size) 1) (λ v m. let r = from-mem (s .size) 1 v m in h v (r .0, omega (arith, r .1))),
+)
+
+-- where every node has a name, holding at the names is holding
+pub forall-named : (s : State) (e : Bound) (f : Formula) (names : List ℕ) → ((v : ℕ) → Node s v → List·Memᴰ v names) →
+    all (λ v. holds s (v ∷ e) f) names ≡ true → holds s e (forall f) ≡ true
+forall-named s e f names named h = forall-means s e f .1 (λ v n. all-true (λ v. holds s (v ∷ e) f) v h (named v n))

@@ -1,0 +1,4 @@
+-- Theorems about paths.
+pub mod States
+pub mod Exact
+pub mod Claims

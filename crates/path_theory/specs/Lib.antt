@@ -1,0 +1,4 @@
+-- What a path of a segment says, in reading order.
+pub mod Points
+pub mod Paths
+pub mod Claims
