@@ -2,11 +2,14 @@
 use Prim.Native.Nat.{_-_, _≤_}
 use native.Mathlib.Omega.{arith}
 use borrow.Author.Needs.{needs}
+use mathlib.Core.Path.{_≡_, ap, _∙_}
+use mathlib.Core.Logic.{⊎-elim}
+use lib.ListN.{length}
 use Rattle.units.proofs.opposed.Statement.{statement}
 use Rattle.units.proofs.opposed.Tie as tie
 
 abbrev Inv-loop : tie.InvT-loop
-Inv-loop some other out₀ a₀ out a = a ≤ 17
+Inv-loop some other out₀ a₀ out a = (a ≤ 17) × (length out ≡ 17)
 
 abbrev μ-loop : tie.MeasureT-loop
 μ-loop some other out₀ a₀ out a = 17 - a
@@ -18,7 +21,7 @@ opposed-spec =
     Inv-loop
     μ-loop
     -- loop-holds
-    (λ c. omega arith)
+    (λ c. (omega arith, search needs))
     -- mul-own
     (λ c. omega arith)
     -- element-copy-out-own
@@ -26,12 +29,12 @@ opposed-spec =
     -- having-requires
     (λ c κs. search needs)
     -- mark-requires
-    (λ c κs. search needs)
+    (λ c κs. c .before .before .before .before .before .loop .inv .1)
     -- add-a
     (λ c. omega arith)
     -- loop-less
     (λ c. omega arith)
     -- loop-again
-    (λ c. omega arith)
+    (λ c. let l = c .before .before .before .loop in ⊎-elim (λ w. (omega arith, ap length (w .4) ∙ w .3 .ensures .1)) (λ w. (omega arith, ap length (w .1) ∙ l .inv .1)) (c .if1 .came))
     -- returns
     (λ c. search needs))

@@ -1,0 +1,135 @@
+-- Rows that are marked, one after the other.
+use Prim.Native.Nat.{ℕ, _+_, _≤_, _<_}
+use native.Mathlib.Omega.{arith}
+use mathlib.Core.Path.{_≡_, refl, sym, ap, ap₂, _∙_, subst, fun-ext}
+use mathlib.Core.Bool.{Bool, true, false, not}
+use mathlib.Core.List.{List, _∷_}
+use lib.ListN.{length, getD, set, replicate}
+use lib.Bits.{bitOr}
+use lib.Dec.{eqb, ltb}
+use borrow.Author.Tests.{lt-ltb, le-ltb, ltb-false, eqb-true, eqb-false, eq-eqb, ne-eqb}
+use Rattle.logic.specs.Search.{_and_, _or_, any}
+use Rattle.logic.specs.Query.{Literal}
+use Rattle.theory.proofs.Basics.Search.{and-false, and-true, or-false}
+use Rattle.rows.specs.Bits.{bit}
+use Rattle.rows.specs.Square.{rowOf, square}
+use Rattle.rows.proofs.Fill.{Filled, filled-old, filled-more, filled-all}
+use Rattle.rows.proofs.Square.{row-in, row-or, square-row, square-above, set-same, set-other, nothing-held}
+use Rattle.query.proofs.Literals.{listed, listed-next, any-listed-end}
+use Rattle.units.specs.Marks.{Marked, standFor, holdsApart, denies, SaidOf}
+
+or-assoc : (p q r : Bool) → (p or q) or r ≡ p or (q or r)
+unfolding _or_
+or-assoc true q r = refl
+or-assoc false q r = refl
+
+and-comm : (p q : Bool) → p and q ≡ q and p
+unfolding _and_
+and-comm true q = sym (and-true q)
+and-comm false q = sym (and-false q)
+
+-- a row is written, where it is one
+pub row-marked : (rows : List ℕ) (a more : ℕ) → length rows ≡ 17 → a < 17 → Marked (set rows a (bitOr (getD rows a 0) more)) rows a more
+unfolding _and_ _or_
+row-marked rows a more full h x y = rw (lt-ltb a 17 h) (go (eqb x a) refl)
+  where
+    go : (s : Bool) → eqb x a ≡ s → square (set rows a (bitOr (getD rows a 0) more)) x y ≡ square rows x y or (s and rowOf more y)
+    go true f =
+        rw (eqb-true x a f)
+        (ap (λ (g : ℕ → Bool). g y) (set-same rows a _ full (omega arith))
+        ∙ row-or (getD rows a 0) more y
+        ∙ rw (square-row rows a (omega arith)) refl)
+    go false f = ap (λ (g : ℕ → Bool). g y) (set-other rows a _ x (eqb-false x a f)) ∙ sym (or-false (square rows x y))
+
+pub row-kept : (rows : List ℕ) (a more : ℕ) → 17 ≤ a → Marked rows rows a more
+unfolding _and_
+row-kept rows a more h x y = rw (le-ltb a 17 h) (sym (or-false (square rows x y)))
+
+-- beside it the rows stay
+pub kept-beside : (rows later : List ℕ) (a more : ℕ) → Marked later rows a more → (x : ℕ) → (x ≡ a → ⊥) → (y : ℕ) → square later x y ≡ square rows x y
+unfolding _and_
+kept-beside rows later a more m x n y = m x y ∙ rw (ne-eqb x a n, and-false (ltb a 17)) (or-false (square rows x y))
+
+-- the row of b alone in row a: of numbers up to 16 there is one mark more
+pub one-more : (rows later : List ℕ) (a b w : ℕ) → ((i : ℕ) → bit w i ≡ (ltb b 17 and eqb i b)) → Marked later rows a w → (x y : ℕ) → x ≤ 16 → y ≤ 16 → square later x y ≡ square rows x y or (eqb x a and eqb y b)
+unfolding _and_
+one-more rows later a b w e m x y h k = m x y ∙ rw (row-in w y k, e y, within a x h, within b y k) refl
+  where
+    within : (b x : ℕ) → x ≤ 16 → ltb b 17 and eqb x b ≡ eqb x b
+    within b x h = go (ltb b 17) refl
+      where
+        go : (t : Bool) → ltb b 17 ≡ t → t and eqb x b ≡ eqb x b
+        go true f = refl
+        go false f = let l = ltb-false b 17 f in sym (ne-eqb x b (λ g. omega arith))
+
+-- The literals one after the other: what is marked, and what those from i on say, is what all say
+module _ (says : ℕ → ℕ → Literal → Bool) (f : ℕ → Literal) (count : ℕ) where
+  abbrev pub Telling : ℕ → List ℕ → Type 0
+  Telling i out = (a b : ℕ) → a ≤ 16 → b ≤ 16 → (square out a b or any (says a b) (listed f count i)) ≡ any (says a b) (listed f count 0)
+
+  pub telling-none : (k : ℕ) → Telling 0 (replicate k 0)
+  unfolding _or_
+  telling-none k a b h l = rw (nothing-held k a b) refl
+
+  pub telling-more : (i : ℕ) (out later : List ℕ) → i < count → ((a b : ℕ) → a ≤ 16 → b ≤ 16 → square later a b ≡ square out a b or says a b (f i)) → Telling i out → Telling (i + 1) later
+  unfolding any
+  telling-more i out later h e t a b k l =
+      ap (λ (s : Bool). s or any (says a b) (listed f count (i + 1))) (e a b k l)
+      ∙ or-assoc (square out a b) (says a b (f i)) (any (says a b) (listed f count (i + 1)))
+      ∙ ap (λ (ls : List Literal). square out a b or any (says a b) ls) (sym (listed-next f count i h))
+      ∙ t a b k l
+
+  pub telling-same : (i : ℕ) (out : List ℕ) → i < count → ((a b : ℕ) → says a b (f i) ≡ false) → Telling i out → Telling (i + 1) out
+  telling-same i out h e = telling-more i out out h (λ a b k l. rw (e a b) (sym (or-false (square out a b))))
+
+  pub telling-all : (i : ℕ) (out : List ℕ) (ls : List Literal) → count ≤ i → ls ≡ listed f count 0 → Telling i out → SaidOf says ls out
+  telling-all i out ls h e t a b k l = sym (or-false (square out a b)) ∙ ap (λ (s : Bool). square out a b or s) (sym (any-listed-end f (says a b) count i h)) ∙ t a b k l ∙ ap (any (says a b)) (sym e)
+
+-- A literal is read: of a plain one nothing is marked
+module _ (rep : ℕ → ℕ) (f : ℕ → Literal) (count i : ℕ) (h : i < count) (out o : List ℕ) where
+  pub plain-apart : not (f i .plain) ≡ false → o ≡ out → Telling (holdsApart rep) f count i out → Telling (holdsApart rep) f count (i + 1) o
+  unfolding holdsApart _and_
+  plain-apart e same t = subst (Telling (holdsApart rep) f count (i + 1)) (sym same) (telling-same (holdsApart rep) f count i out h (λ a b. rw e refl) t)
+
+  pub negated-apart : f i .plain ≡ false → (p q v w : ℕ) → p ≡ rep (f i .left) → q ≡ rep (f i .right) → ((j : ℕ) → bit v j ≡ (ltb q 17 and eqb j q)) → ((j : ℕ) → bit w j ≡ (ltb p 17 and eqb j p)) → (mid later : List ℕ) → Marked mid out p v → Marked later mid q w → o ≡ later → Telling (holdsApart rep) f count i out → Telling (holdsApart rep) f count (i + 1) o
+  unfolding holdsApart standFor _and_
+  negated-apart e p q v w l r row-v row-w mid later first second same t =
+      subst (Telling (holdsApart rep) f count (i + 1)) (sym same) (telling-more (holdsApart rep) f count i out later h turn t)
+    where
+      turn : (a b : ℕ) → a ≤ 16 → b ≤ 16 → square later a b ≡ square out a b or (not (f i .plain) and ((eqb a (rep (f i .left)) and eqb b (rep (f i .right))) or (eqb b (rep (f i .left)) and eqb a (rep (f i .right)))))
+      turn a b k m =
+          one-more mid later q p w row-w second a b k m
+          ∙ ap (λ (s : Bool). s or (eqb a q and eqb b p)) (one-more out mid p q v row-v first a b k m)
+          ∙ or-assoc (square out a b) (eqb a p and eqb b q) (eqb a q and eqb b p)
+          ∙ rw (e, l, r) (ap (λ (s : Bool). square out a b or ((eqb a (rep (f i .left)) and eqb b (rep (f i .right))) or s)) (and-comm (eqb a (rep (f i .right))) (eqb b (rep (f i .left)))))
+
+  module _ (k : ℕ) where
+    pub plain-denied : not (f i .plain) ≡ false → o ≡ out → Telling (denies rep k) f count i out → Telling (denies rep k) f count (i + 1) o
+    unfolding denies _and_
+    plain-denied e same t = subst (Telling (denies rep k) f count (i + 1)) (sym same) (telling-same (denies rep k) f count i out h (λ a b. rw e refl) t)
+
+    pub other-denied : (f i .link ≡ k → ⊥) → o ≡ out → Telling (denies rep k) f count i out → Telling (denies rep k) f count (i + 1) o
+    unfolding denies _and_
+    other-denied n same t = subst (Telling (denies rep k) f count (i + 1)) (sym same) (telling-same (denies rep k) f count i out h (λ a b. rw (ne-eqb (f i .link) k n) (ap (λ (s : Bool). s and standFor rep a b (f i)) (and-false (not (f i .plain))))) t)
+
+    pub negated-denied : f i .plain ≡ false → f i .link ≡ k → (p q v : ℕ) → p ≡ rep (f i .left) → q ≡ rep (f i .right) → ((j : ℕ) → bit v j ≡ (ltb q 17 and eqb j q)) → (later : List ℕ) → Marked later out p v → o ≡ later → Telling (denies rep k) f count i out → Telling (denies rep k) f count (i + 1) o
+    unfolding denies standFor _and_
+    negated-denied e g p q v l r row later first same t =
+        subst (Telling (denies rep k) f count (i + 1)) (sym same) (telling-more (denies rep k) f count i out later h (λ a b u m. one-more out later p q v row first a b u m ∙ rw (e, eq-eqb (f i .link) k g, l, r) refl) t)
+
+-- Three relations together, one row after the other
+module _ (p q r : List ℕ) where
+  abbrev pub Merging : ℕ → List ℕ → Type 0
+  Merging x out = Filled (λ i j. square p i j or square q i j or square r i j) (square (replicate 17 0)) x (square out)
+
+  pub merged-more : (x : ℕ) (out later : List ℕ) → x < 17 → Marked later out x (bitOr (bitOr (getD p x 0) (getD q x 0)) (getD r x 0)) → Merging x out → Merging (x + 1) later
+  unfolding _and_ _or_
+  merged-more x out later h m t =
+      filled-more _ _ x (square out) (square later)
+      (fun-ext (λ y. m x y ∙ rw (lt-ltb x 17 h, eq-eqb x x refl, filled-old _ _ x (square out) t, nothing-held 17 x y, square-row p x (omega arith), square-row q x (omega arith), square-row r x (omega arith)) (row-or (bitOr (getD p x 0) (getD q x 0)) (getD r x 0) y ∙ ap (λ (s : Bool). s or rowOf (getD r x 0) y) (row-or (getD p x 0) (getD q x 0) y))))
+      (λ i n. fun-ext (kept-beside out later x _ m i n))
+      t
+
+  pub merged-all : (out : List ℕ) → Merging 17 out → (x y : ℕ) → square out x y ≡ (square p x y or square q x y or square r x y)
+  unfolding _or_
+  merged-all out t x y = ap (λ (g : ℕ → ℕ → Bool). g x y) (filled-all _ _ 17 (square out) t (λ i h. fun-ext (λ j. rw (square-above (replicate 17 0) i j h, square-above p i j h, square-above q i j h, square-above r i j h) refl)))

@@ -1,0 +1,29 @@
+-- What the rows that the searches read say: of the literals of a query, by the terms that stand for theirs, and of other rows.
+use Prim.Native.Nat.{ℕ, _≤_}
+use mathlib.Core.Path.{_≡_}
+use mathlib.Core.Bool.{Bool, not}
+use mathlib.Core.List.{List}
+use lib.Dec.{eqb, ltb}
+use Rattle.logic.specs.Search.{_and_, _or_, any}
+use Rattle.logic.specs.Query.{Literal}
+use Rattle.rows.specs.Square.{rowOf, square}
+
+-- a row with more in it, where it is one of the 17, and no other change
+abbrev pub Marked : List ℕ → List ℕ → ℕ → ℕ → Type 0
+Marked later rows a more = (x y : ℕ) → square later x y ≡ (square rows x y or (ltb a 17 and eqb x a and rowOf more y))
+
+-- a and b stand for the terms of a literal, in this order
+unfoldable pub standFor : (ℕ → ℕ) → ℕ → ℕ → Literal → Bool
+standFor rep a b l = eqb a (rep (l .left)) and eqb b (rep (l .right))
+
+-- a negated equality holds them apart, whichever stands for which
+unfoldable pub holdsApart : (ℕ → ℕ) → ℕ → ℕ → Literal → Bool
+holdsApart rep a b l = not (l .plain) and (standFor rep a b l or standFor rep b a l)
+
+-- a negated reachability literal of link k denies that a reaches b
+unfoldable pub denies : (ℕ → ℕ) → ℕ → ℕ → ℕ → Literal → Bool
+denies rep k a b l = not (l .plain) and eqb (l .link) k and standFor rep a b l
+
+-- the rows hold of a and b what some literal says of them
+abbrev pub SaidOf : (ℕ → ℕ → Literal → Bool) → List Literal → List ℕ → Type 0
+SaidOf says ls rows = (a b : ℕ) → a ≤ 16 → b ≤ 16 → square rows a b ≡ any (says a b) ls
