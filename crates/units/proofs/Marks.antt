@@ -1,22 +1,28 @@
 -- Rows that are marked, one after the other.
-use Prim.Native.Nat.{ℕ, _+_, _≤_, _<_}
+use Prim.Native.Nat.{ℕ, _+_, _^_, _≤_, _<_}
 use native.Mathlib.Omega.{arith}
-use mathlib.Core.Path.{_≡_, refl, sym, ap, ap₂, _∙_, subst, fun-ext}
+use mathlib.Core.Path.{_≡_, refl, sym, ap, _∙_, subst, fun-ext}
+use mathlib.Core.Logic.{⊎-elim}
 use mathlib.Core.Bool.{Bool, true, false, not}
 use mathlib.Core.List.{List, _∷_}
 use lib.ListN.{length, getD, set, replicate}
-use lib.Bits.{bitOr}
+use lib.Bits.{bitAnd, bitOr, and-le-r}
+use lib.Count.{trailingZeros}
 use lib.Dec.{eqb, ltb}
 use borrow.Author.Tests.{lt-ltb, le-ltb, ltb-false, eqb-true, eqb-false, eq-eqb, ne-eqb}
-use Rattle.logic.specs.Search.{_and_, _or_, any}
+use Rattle.logic.specs.Search.{_and_, _or_, from, any}
 use Rattle.logic.specs.Query.{Literal}
-use Rattle.theory.proofs.Basics.Search.{and-false, and-true, or-false}
+use Rattle.theory.proofs.Basics.Search.{true-false, not-of, and-false, and-true, or-false, any-true, any-intro, from-intro}
+use Rattle.theory.proofs.Basics.Compare.{le-cases}
 use Rattle.rows.specs.Bits.{bit}
 use Rattle.rows.specs.Square.{rowOf, square}
+use Rattle.rows.proofs.Bits.{bit-and, bit-or, bit-none, lowest-set, lowest-in}
+use Rattle.rows.proofs.Words.{bit-with, bit-as-it-was}
+use Rattle.rows.proofs.Turning.{filled-bit}
 use Rattle.rows.proofs.Fill.{Filled, filled-old, filled-more, filled-all}
-use Rattle.rows.proofs.Square.{row-in, row-or, square-row, square-above, set-same, set-other, nothing-held}
+use Rattle.rows.proofs.Square.{row-in, row-beyond, row-or, square-row, square-in, square-above, square-beside, set-same, set-other, nothing-held}
 use Rattle.query.proofs.Literals.{listed, listed-next, any-listed-end}
-use Rattle.units.specs.Marks.{Marked, standFor, holdsApart, denies, SaidOf}
+use Rattle.units.specs.Marks.{Marked, standFor, holdsApart, denies, SaidOf, Spread, meet}
 
 or-assoc : (p q r : Bool) → (p or q) or r ≡ p or (q or r)
 unfolding _or_
@@ -133,3 +139,82 @@ module _ (p q r : List ℕ) where
   pub merged-all : (out : List ℕ) → Merging 17 out → (x y : ℕ) → square out x y ≡ (square p x y or square q x y or square r x y)
   unfolding _or_
   merged-all out t x y = ap (λ (g : ℕ → ℕ → Bool). g x y) (filled-all _ _ 17 (square out) t (λ i h. fun-ext (λ j. rw (square-above (replicate 17 0) i j h, square-above p i j h, square-above q i j h, square-above r i j h) refl)))
+
+-- More in each row of some, one row after the other
+module _ (rows : List ℕ) (some more : ℕ) where
+  abbrev pub Spreading : ℕ → List ℕ → Type 0
+  Spreading a out = Filled (λ x y. square rows x y or (rowOf some x and rowOf more y)) (square rows) a (square out)
+
+  pub spread-more : (a : ℕ) (out o : List ℕ) → a < 17 → length out ≡ 17 → bit some a ≡ true → o ≡ set out a (bitOr (getD out a 0) more) → Spreading a out → Spreading (a + 1) o
+  unfolding _and_
+  spread-more a out o h full e same t =
+      let m = row-marked out a more full h in
+      subst (Spreading (a + 1)) (sym same)
+      (filled-more _ _ a (square out) _
+      (fun-ext (λ y. m a y ∙ rw (lt-ltb a 17 h, eq-eqb a a refl, filled-old _ _ a (square out) t, row-in some a (omega arith), e) refl))
+      (λ x n. fun-ext (kept-beside out _ a more m x n))
+      t)
+
+  pub spread-same : (a : ℕ) (out o : List ℕ) → a < 17 → bit some a ≡ false → o ≡ out → Spreading a out → Spreading (a + 1) o
+  unfolding _and_
+  spread-same a out o h e same t =
+      subst (Spreading (a + 1)) (sym same)
+      (filled-more _ _ a (square out) (square out)
+      (fun-ext (λ y. ap (λ (g : ℕ → Bool). g y) (filled-old _ _ a (square out) t) ∙ sym (rw (row-in some a (omega arith), e) (or-false (square rows a y)))))
+      (λ x n. refl)
+      t)
+
+  pub spread-all : (out : List ℕ) → Spreading 17 out → Spread out rows some more
+  unfolding _and_
+  spread-all out t x y = ap (λ (g : ℕ → ℕ → Bool). g x y) (filled-all _ _ 17 (square out) t (λ i h. fun-ext (λ j. sym (rw (row-beyond some i h) (or-false (square rows i j))))))
+
+-- What two relations hold and two others do not, one row after the other
+module _ (p q r s : List ℕ) where
+  abbrev pub Left : ℕ → ℕ → Bool
+  Left x y = (square p x y or square q x y) and not (square r x y or square s x y)
+
+  pub left-more : (first : List ℕ) (x : ℕ) (out : List ℕ) (w : ℕ) → x < 17 → length out ≡ 17 → ((i : ℕ) → bit w i ≡ (bit (bitOr (getD p x 0) (getD q x 0)) i and not (bit (bitOr (getD r x 0) (getD s x 0)) i))) → Filled Left (square first) x (square out) → Filled Left (square first) (x + 1) (square (set out x w))
+  unfolding _and_ _or_
+  left-more first x out w h full e t = filled-more _ _ x (square out) _ (set-same out x w full (omega arith) ∙ fun-ext row) (set-other out x w) t
+    where
+      row : (y : ℕ) → rowOf w y ≡ Left x y
+      row y =
+          ⊎-elim
+          (λ k. row-in w y k ∙ e y ∙ rw (bit-or (getD p x 0) (getD q x 0) y, bit-or (getD r x 0) (getD s x 0) y, square-in p x y (omega arith) k, square-in q x y (omega arith) k, square-in r x y (omega arith) k, square-in s x y (omega arith) k) refl)
+          (λ k. row-beyond w y k ∙ sym (rw (square-beside p x y k, square-beside q x y k) refl))
+          (le-cases y 16)
+
+  pub left-all : (first out : List ℕ) → Filled Left (square first) 17 (square out) → (x y : ℕ) → square out x y ≡ Left x y
+  unfolding _and_ _or_
+  left-all first out t x y = ap (λ (g : ℕ → ℕ → Bool). g x y) (filled-all _ _ 17 (square out) t (λ i h. fun-ext (λ j. square-above first i j h ∙ sym (rw (square-above p i j h, square-above q i j h) refl))))
+
+-- Rows that have a number in common, as the word of what both have tells
+meet-some : (v w : ℕ) → w < 2 ^ 32 → (bitAnd v w ≡ 0 → ⊥) → meet v w ≡ true
+unfolding meet
+meet-some v w h n =
+    let u = bitAnd v w in
+    let l = and-le-r v w in
+    let t = trailingZeros 32 u in
+    any-intro (λ i. bit v i and bit w i) t (from-intro 32 0 t (omega arith) (omega (arith, lowest-in 32 u (omega (arith, n)) (omega arith)))) (sym (bit-and v w t) ∙ lowest-set 32 u (omega (arith, n)) (omega arith))
+
+meet-none : (v w : ℕ) → bitAnd v w ≡ 0 → meet v w ≡ false
+unfolding meet
+meet-none v w e = not-of (λ h. let r = any-true (λ i. bit v i and bit w i) (from 32 0) h in true-false (r .2) (sym (bit-and v w (r .0)) ∙ ap (λ (u : ℕ). bit u (r .0)) e ∙ bit-none (r .0)))
+
+module _ (some : ℕ) (rows : List ℕ) where
+  abbrev pub Having : ℕ → ℕ → Type 0
+  Having b out = Filled (λ x. ltb x 17 and meet (getD rows x 0) some) (bit 0) b (bit out)
+
+  pub having-more : (b out o only : ℕ) → b < 17 → some < 2 ^ 32 → (bitAnd (getD rows b 0) some ≡ 0 → ⊥) → ((i : ℕ) → bit only i ≡ eqb i b) → o ≡ bitOr out only → Having b out → Having (b + 1) o
+  unfolding _and_
+  having-more b out o only h fits n e same t =
+      subst (Having (b + 1)) (sym same) (filled-bit _ b out (bitOr out only) true (sym (rw (lt-ltb b 17 h) (meet-some (getD rows b 0) some fits n))) (λ i. bit-with out only b e i true refl) t)
+
+  pub having-same : (b out o : ℕ) → b < 17 → bitAnd (getD rows b 0) some ≡ 0 → o ≡ out → Having b out → Having (b + 1) o
+  unfolding _and_
+  having-same b out o h e same t =
+      subst (Having (b + 1)) (sym same) (filled-bit _ b out out false (sym (rw (lt-ltb b 17 h) (meet-none (getD rows b 0) some e))) (λ i. bit-as-it-was out b i false refl) t)
+
+  pub having-all : (out : ℕ) → Having 17 out → (b : ℕ) → bit out b ≡ (ltb b 17 and meet (getD rows b 0) some)
+  unfolding _and_
+  having-all out t b = ap (λ (g : ℕ → Bool). g b) (filled-all _ _ 17 (bit out) t (λ x h. bit-none x ∙ sym (rw (le-ltb x 17 h) refl)))

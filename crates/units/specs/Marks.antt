@@ -4,8 +4,9 @@ use mathlib.Core.Path.{_≡_}
 use mathlib.Core.Bool.{Bool, not}
 use mathlib.Core.List.{List}
 use lib.Dec.{eqb, ltb}
-use Rattle.logic.specs.Search.{_and_, _or_, any}
+use Rattle.logic.specs.Search.{_and_, _or_, from, any}
 use Rattle.logic.specs.Query.{Literal}
+use Rattle.rows.specs.Bits.{bit}
 use Rattle.rows.specs.Square.{rowOf, square}
 
 -- a row with more in it, where it is one of the 17, and no other change
@@ -27,3 +28,11 @@ denies rep k a b l = not (l .plain) and eqb (l .link) k and standFor rep a b l
 -- the rows hold of a and b what some literal says of them
 abbrev pub SaidOf : (ℕ → ℕ → Literal → Bool) → List Literal → List ℕ → Type 0
 SaidOf says ls rows = (a b : ℕ) → a ≤ 16 → b ≤ 16 → square rows a b ≡ any (says a b) ls
+
+-- more in each row of some, and no other change
+abbrev pub Spread : List ℕ → List ℕ → ℕ → ℕ → Type 0
+Spread later rows some more = (x y : ℕ) → square later x y ≡ (square rows x y or (rowOf some x and rowOf more y))
+
+-- two rows have a number in common
+unfoldable pub meet : ℕ → ℕ → Bool
+meet v w = any (λ i. bit v i and bit w i) (from 32 0)

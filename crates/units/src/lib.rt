@@ -13,7 +13,7 @@ ghost use mathlib.Core.Bool.{not};
 ghost use mathlib.Core.List.{List};
 ghost use Prim.Native.Nat.{ℕ, _+_, _*_, _≤_};
 ghost use lib.Dec.{eqb, ltb};
-ghost use lib.ListN.{length, take, drop};
+ghost use lib.ListN.{length, getD, take, drop};
 ghost use Rattle.logic.specs.Search.{_and_, _or_, from, find};
 ghost use Rattle.logic.specs.Query.{literals};
 ghost use Rattle.rows.specs.Bits.{bit};
@@ -22,7 +22,7 @@ ghost use Rattle.rows.specs.Answers.{foundOf};
 ghost use Rattle.facts.specs.Path.{repOf, graphOf, pathOf};
 ghost use Rattle.link_query.specs.Said.{said, Within};
 ghost use Rattle.units.specs.Rounds.{Rounds};
-ghost use Rattle.units.specs.Marks.{Marked, holdsApart, denies, SaidOf};
+ghost use Rattle.units.specs.Marks.{Marked, holdsApart, denies, SaidOf, Spread, meet};
 ghost use Rattle.units.specs.Proposes.{Proposes, ProposesIn, FoundIn};
 
 // The links from a term lead back to it after `steps` steps, through the terms `on`; it reaches the terms `off`, which are none of these.
@@ -180,7 +180,9 @@ fn fields(query: &[u8], at: usize, count: usize, rep: &[u8; 17], plain: bool) ->
 }
 
 // The terms that have one of these fields.
-fn having(some: u32, rows: &[u32; 17]) -> u32 {
+fn having(some: u32, rows: &[u32; 17]) -> u32
+    ensures { λ r. ⌜ ((b : ℕ) → bit r b ≡ (ltb b 17 and meet (getD (now (rows .entry)) b 0) some)) ⌝ }
+{
     let mut out: u32 = 0;
     for b in 0..17 {
         if rows[b] & some != 0 {
@@ -203,7 +205,10 @@ fn opposed(rows: [u32; 17], some: &[u32; 17], other: &[u32; 17]) -> [u32; 17] {
 }
 
 // More in each row of some, in place.
-fn spread(rows: &mut [u32; 17], some: u32, more: u32) {
+fn spread(rows: &mut [u32; 17], some: u32, more: u32)
+    requires { ⌜ length (now rows) ≡ 17 ⌝ }
+    ensures { λ _. ⌜ Spread (now (rows .exit)) (now (rows .entry)) some more × (length (now (rows .exit)) ≡ 17) ⌝ }
+{
     for a in 0..17 {
         if rows::has(some, a) {
             rows[a] = rows[a] | more;
@@ -340,7 +345,9 @@ fn struck(
     back: &[u32; 17],
     no_reach: &[u32; 17],
     no_back: &[u32; 17],
-) -> [u32; 17] {
+) -> [u32; 17]
+    ensures { λ r. ⌜ ((y z : ℕ) → square r y z ≡ ((square (now («no_reach» .entry)) y z or square (now («no_back» .entry)) y z) and not (square (now (reach .entry)) y z or square (now (back .entry)) y z))) ⌝ }
+{
     let mut out = [0u32; 17];
     for y in 0..17 {
         out[y] = rows::without(no_reach[y] | no_back[y], reach[y] | back[y]);
