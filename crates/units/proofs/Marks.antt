@@ -1,9 +1,9 @@
 -- Rows that are marked, one after the other.
-use Prim.Native.Nat.{ℕ, _+_, _^_, _≤_, _<_}
+use Prim.Native.Nat.{ℕ, _+_, _-_, _^_, _≤_, _<_}
 use native.Mathlib.Omega.{arith}
 use mathlib.Core.Path.{_≡_, refl, sym, ap, _∙_, subst, fun-ext}
 use mathlib.Core.Logic.{⊎-elim}
-use mathlib.Core.Bool.{Bool, true, false, not}
+use mathlib.Core.Bool.{Bool, true, false, not, Bool·beq}
 use mathlib.Core.List.{List, _∷_}
 use lib.ListN.{length, getD, set, replicate}
 use lib.Bits.{bitAnd, bitOr, and-le-r}
@@ -18,11 +18,12 @@ use Rattle.rows.specs.Bits.{bit}
 use Rattle.rows.specs.Square.{rowOf, square}
 use Rattle.rows.proofs.Bits.{bit-and, bit-or, bit-none, lowest-set, lowest-in}
 use Rattle.rows.proofs.Words.{bit-with, bit-as-it-was}
+use Rattle.rows.proofs.Selections.{any-turn, any-end}
 use Rattle.rows.proofs.Turning.{filled-bit}
 use Rattle.rows.proofs.Fill.{Filled, filled-old, filled-more, filled-all}
 use Rattle.rows.proofs.Square.{row-in, row-beyond, row-or, square-row, square-in, square-above, square-beside, set-same, set-other, nothing-held}
 use Rattle.query.proofs.Literals.{listed, listed-next, any-listed-end}
-use Rattle.units.specs.Marks.{Marked, standFor, holdsApart, denies, SaidOf, Spread, meet}
+use Rattle.units.specs.Marks.{Marked, standFor, holdsApart, denies, gives, SaidOf, Spread, meet, oppose, barred}
 
 or-assoc : (p q r : Bool) → (p or q) or r ≡ p or (q or r)
 unfolding _or_
@@ -123,6 +124,17 @@ module _ (rep : ℕ → ℕ) (f : ℕ → Literal) (count i : ℕ) (h : i < coun
     negated-denied e g p q v l r row later first same t =
         subst (Telling (denies rep k) f count (i + 1)) (sym same) (telling-more (denies rep k) f count i out later h (λ a b u m. one-more out later p q v row first a b u m ∙ rw (e, eq-eqb (f i .link) k g, l, r) refl) t)
 
+  -- and the same of data literals
+  module _ (plain : Bool) where
+    pub other-given : Bool·beq (f i .plain) plain ≡ false → o ≡ out → Telling (gives rep plain) f count i out → Telling (gives rep plain) f count (i + 1) o
+    unfolding gives _and_
+    other-given e same t = subst (Telling (gives rep plain) f count (i + 1)) (sym same) (telling-same (gives rep plain) f count i out h (λ a b. rw e refl) t)
+
+    pub field-given : Bool·beq (f i .plain) plain ≡ true → (p q v : ℕ) → p ≡ rep (f i .right) → q ≡ f i .left → ((j : ℕ) → bit v j ≡ (ltb q 17 and eqb j q)) → (later : List ℕ) → Marked later out p v → o ≡ later → Telling (gives rep plain) f count i out → Telling (gives rep plain) f count (i + 1) o
+    unfolding gives _and_
+    field-given e p q v l r row later first same t =
+        subst (Telling (gives rep plain) f count (i + 1)) (sym same) (telling-more (gives rep plain) f count i out later h (λ a b u m. one-more out later p q v row first a b u m ∙ rw (e, l, r) refl) t)
+
 -- Three relations together, one row after the other
 module _ (p q r : List ℕ) where
   abbrev pub Merging : ℕ → List ℕ → Type 0
@@ -218,3 +230,86 @@ module _ (some : ℕ) (rows : List ℕ) where
   pub having-all : (out : ℕ) → Having 17 out → (b : ℕ) → bit out b ≡ (ltb b 17 and meet (getD rows b 0) some)
   unfolding _and_
   having-all out t b = ap (λ (g : ℕ → Bool). g b) (filled-all _ _ 17 (bit out) t (λ x h. bit-none x ∙ sym (rw (le-ltb x 17 h) refl)))
+
+-- nothing is in common with an empty row
+meet-empty : (v w : ℕ) → w ≡ 0 → meet v w ≡ false
+meet-empty v w e = meet-none v w (let l = and-le-r v w in omega arith)
+
+-- Rows with what others oppose, one after the other
+module _ (rows some other : List ℕ) where
+  abbrev pub Opposing : ℕ → List ℕ → Type 0
+  Opposing a out = Filled (λ x y. square rows x y or oppose some other x y) (square rows) a (square out)
+
+  pub opposed-more : (a : ℕ) (out later o : List ℕ) (v : ℕ) → a < 17 → ((y : ℕ) → bit v y ≡ (ltb y 17 and meet (getD other y 0) (getD some a 0))) → Marked later out a v → o ≡ later → Opposing a out → Opposing (a + 1) o
+  unfolding _and_ oppose rowOf
+  opposed-more a out later o v h e m same t =
+      subst (Opposing (a + 1)) (sym same)
+      (filled-more _ _ a (square out) (square later)
+      (fun-ext (λ y. m a y ∙ rw (lt-ltb a 17 h, eq-eqb a a refl, filled-old _ _ a (square out) t, e y) (ap (λ (s : Bool). square rows a y or s) (twice (ltb y 17) (meet (getD other y 0) (getD some a 0))))))
+      (λ x n. fun-ext (kept-beside out later a v m x n))
+      t)
+    where
+      twice : (p q : Bool) → p and (p and q) ≡ p and q
+      twice true q = refl
+      twice false q = refl
+
+  pub opposed-same : (a : ℕ) (out o : List ℕ) → a < 17 → getD some a 0 ≡ 0 → o ≡ out → Opposing a out → Opposing (a + 1) o
+  unfolding _and_ oppose
+  opposed-same a out o h e same t =
+      subst (Opposing (a + 1)) (sym same)
+      (filled-more _ _ a (square out) (square out)
+      (fun-ext (λ y. ap (λ (g : ℕ → Bool). g y) (filled-old _ _ a (square out) t) ∙ sym (rw (lt-ltb a 17 h, meet-empty (getD other y 0) (getD some a 0) e, and-false (ltb y 17)) (or-false (square rows a y)))))
+      (λ x n. refl)
+      t)
+
+  pub opposed-all : (out : List ℕ) → Opposing 17 out → (x y : ℕ) → square out x y ≡ (square rows x y or oppose some other x y)
+  unfolding _and_ oppose
+  opposed-all out t x y = ap (λ (g : ℕ → ℕ → Bool). g x y) (filled-all _ _ 17 (square out) t (λ i h. fun-ext (λ j. sym (rw (le-ltb i 17 h) (or-false (square rows i j))))))
+
+-- What is barred by the terms below t, and by those from t on, is all that is
+module _ (reach denied : List ℕ) where
+  abbrev bar : ℕ → ℕ → ℕ → Bool
+  bar x y t = square reach t x and meet (getD reach y 0) (getD denied t 0)
+
+  abbrev pub Barring : ℕ → (ℕ → ℕ → Bool) → Type 0
+  Barring t g = (x y : ℕ) → x ≤ 16 → y ≤ 16 → (g x y or any (bar x y) (from (17 - t) t)) ≡ barred reach denied x y
+
+  pub bars-none : (k : ℕ) → Barring 0 (square (replicate k 0)) × Barring 0 (λ x y. square (replicate k 0) y x)
+  unfolding _or_ barred
+  bars-none k = (λ x y h l. rw (nothing-held k x y) refl, λ x y h l. rw (nothing-held k y x) refl)
+
+  bars-more : (t : ℕ) (g g′ : ℕ → ℕ → Bool) → t < 17 → ((x y : ℕ) → x ≤ 16 → y ≤ 16 → g′ x y ≡ g x y or bar x y t) → Barring t g → Barring (t + 1) g′
+  bars-more t g g′ h e b x y k l =
+      ap (λ (s : Bool). s or any (bar x y) (from (17 - (t + 1)) (t + 1))) (e x y k l)
+      ∙ or-assoc (g x y) (bar x y t) (any (bar x y) (from (17 - (t + 1)) (t + 1)))
+      ∙ ap (λ (s : Bool). g x y or s) (sym (any-turn (bar x y) 17 t h))
+      ∙ b x y k l
+
+  module _ (t : ℕ) (h : t < 17) (out o : List ℕ) where
+    module _ (off : ℕ) (e : (y : ℕ) → bit off y ≡ (ltb y 17 and meet (getD reach y 0) (getD denied t 0))) (later : List ℕ) (same : o ≡ later) where
+      off-in : (y : ℕ) → y ≤ 16 → rowOf off y ≡ meet (getD reach y 0) (getD denied t 0)
+      unfolding _and_
+      off-in y l = row-in off y l ∙ e y ∙ rw (lt-ltb y 17 (omega arith)) refl
+
+      far-in : (x : ℕ) → rowOf (getD reach t 0) x ≡ square reach t x
+      far-in x = sym (ap (λ (g : ℕ → Bool). g x) (square-row reach t (omega arith)))
+
+      pub ahead-more : Spread later out (getD reach t 0) off → Barring t (square out) → Barring (t + 1) (square o)
+      ahead-more m b = bars-more t (square out) (square o) h (λ x y k l. ap (λ (r : List ℕ). square r x y) same ∙ m x y ∙ rw (far-in x, off-in y l) refl) b
+
+      pub behind-more : Spread later out off (getD reach t 0) → Barring t (λ x y. square out y x) → Barring (t + 1) (λ x y. square o y x)
+      behind-more m b =
+          bars-more t (λ x y. square out y x) (λ x y. square o y x) h (λ x y k l. ap (λ (r : List ℕ). square r y x) same ∙ m y x ∙ rw (far-in x, off-in y l) (ap (λ (s : Bool). square out y x or s) (and-comm (meet (getD reach y 0) (getD denied t 0)) (square reach t x)))) b
+
+    module _ (none : getD denied t 0 ≡ 0) (same : o ≡ out) where
+      empty : (x y : ℕ) → bar x y t ≡ false
+      empty x y = rw (meet-empty (getD reach y 0) (getD denied t 0) none) (and-false (square reach t x))
+
+      pub ahead-same : Barring t (square out) → Barring (t + 1) (square o)
+      ahead-same b = bars-more t (square out) (square o) h (λ x y k l. ap (λ (r : List ℕ). square r x y) same ∙ sym (rw (empty x y) (or-false (square out x y)))) b
+
+      pub behind-same : Barring t (λ x y. square out y x) → Barring (t + 1) (λ x y. square o y x)
+      behind-same b = bars-more t (λ x y. square out y x) (λ x y. square o y x) h (λ x y k l. ap (λ (r : List ℕ). square r y x) same ∙ sym (rw (empty x y) (or-false (square out y x)))) b
+
+  pub bars-all : (t : ℕ) (g : ℕ → ℕ → Bool) → 17 ≤ t → Barring t g → (x y : ℕ) → x ≤ 16 → y ≤ 16 → g x y ≡ barred reach denied x y
+  bars-all t g h b x y k l = sym (or-false (g x y)) ∙ ap (λ (s : Bool). g x y or s) (sym (any-end (bar x y) 17 t h)) ∙ b x y k l

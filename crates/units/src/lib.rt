@@ -22,7 +22,7 @@ ghost use Rattle.rows.specs.Answers.{foundOf};
 ghost use Rattle.facts.specs.Path.{repOf, graphOf, pathOf};
 ghost use Rattle.link_query.specs.Said.{said, Within};
 ghost use Rattle.units.specs.Rounds.{Rounds};
-ghost use Rattle.units.specs.Marks.{Marked, holdsApart, denies, SaidOf, Spread, meet};
+ghost use Rattle.units.specs.Marks.{Marked, holdsApart, denies, gives, SaidOf, Spread, meet, oppose, barred};
 ghost use Rattle.units.specs.Proposes.{Proposes, ProposesIn, FoundIn};
 
 // The links from a term lead back to it after `steps` steps, through the terms `on`; it reaches the terms `off`, which are none of these.
@@ -168,6 +168,7 @@ fn denied(query: &[u8], layout: Layout, rep: &[u8; 17], k: Link) -> [u32; 17]
 // The fields that the data literals of one sign give each term.
 fn fields(query: &[u8], at: usize, count: usize, rep: &[u8; 17], plain: bool) -> [u32; 17]
     requires { ⌜ at + 3 * count ≤ length (now query) ⌝ }
+    ensures { λ r. ⌜ SaidOf (gives (repOf (now (rep .entry))) plain) (literals (take (3 * count) (drop at (now (query .entry))))) r ⌝ }
 {
     let mut out = [0u32; 17];
     for i in 0..count {
@@ -193,7 +194,9 @@ fn having(some: u32, rows: &[u32; 17]) -> u32
 }
 
 // The rows, each with the terms that have what the other rows give its own term.
-fn opposed(rows: [u32; 17], some: &[u32; 17], other: &[u32; 17]) -> [u32; 17] {
+fn opposed(rows: [u32; 17], some: &[u32; 17], other: &[u32; 17]) -> [u32; 17]
+    ensures { λ r. ⌜ ((a b : ℕ) → square r a b ≡ (square rows a b or oppose (now (some .entry)) (now (other .entry)) a b)) ⌝ }
+{
     let mut out = rows;
     for a in 0..17 {
         let own = some[a];
@@ -217,7 +220,9 @@ fn spread(rows: &mut [u32; 17], some: u32, more: u32)
 }
 
 // What no term can come to reach: where x is denied to reach d, no term that x reaches can reach one that reaches d.
-fn bars(reach: &[u32; 17], denied: &[u32; 17]) -> Barred {
+fn bars(reach: &[u32; 17], denied: &[u32; 17]) -> Barred
+    ensures { λ r. ⌜ ((x y : ℕ) → x ≤ 16 → y ≤ 16 → (square (r .ahead) x y ≡ barred (now (reach .entry)) (now (denied .entry)) x y) × (square (r .behind) y x ≡ barred (now (reach .entry)) (now (denied .entry)) x y)) ⌝ }
+{
     let mut ahead = [0u32; 17];
     let mut behind = [0u32; 17];
     for x in 0..17 {
