@@ -37,8 +37,14 @@ shifted p (suc k) i = select-next p k (suc i) ∙ ap (counted (p (suc i))) (shif
 up-to : (p : ℕ → Bool) (j l k : ℕ) → ((i : ℕ) → k + j ≤ i → p i ≡ false) → length (select p (from (j + l) k)) ≡ length (select p (from j k))
 unfolding select from counted
 up-to p zero zero k h = refl
-up-to p zero (suc l) k h = ap (λ (m : ℕ). length (select p (from m k))) (zero-add (suc l)) ∙ select-next p l k ∙ rw (h k (omega arith)) (ap (λ (m : ℕ). length (select p (from m (suc k)))) (sym (zero-add l)) ∙ up-to p zero l (suc k) (λ i m. h i (omega arith)))
-up-to p (suc j) l k h = ap (λ (m : ℕ). length (select p (from m k))) (suc-add j l) ∙ select-next p (j + l) k ∙ ap (counted (p k)) (up-to p j l (suc k) (λ i m. h i (omega arith))) ∙ sym (select-next p j k)
+up-to p zero (suc l) k h =
+    ap (λ (m : ℕ). length (select p (from m k))) (zero-add (suc l))
+    ∙ select-next p l k
+    ∙ rw (h k (omega arith)) (ap (λ (m : ℕ). length (select p (from m (suc k)))) (sym (zero-add l)) ∙ up-to p zero l (suc k) (λ i m. h i (omega arith)))
+up-to p (suc j) l k h =
+    ap (λ (m : ℕ). length (select p (from m k))) (suc-add j l)
+    ∙ select-next p (j + l) k
+    ∙ ap (counted (p k)) (up-to p j l (suc k) (λ i m. h i (omega arith))) ∙ sym (select-next p j k)
 
 digit : (w n : ℕ) → w % 2 + n ≡ counted (eqb (w % 2) 1) n
 unfolding counted

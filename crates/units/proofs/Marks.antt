@@ -57,8 +57,12 @@ pub kept-beside : (rows later : List ℕ) (a more : ℕ) → Marked later rows a
 unfolding _and_
 kept-beside rows later a more m x n y = m x y ∙ rw (ne-eqb x a n, and-false (ltb a 17)) (or-false (square rows x y))
 
+-- the row of b alone, which a number above 16 has none of
+abbrev Alone : ℕ → ℕ → Type 0
+Alone w b = (i : ℕ) → bit w i ≡ (ltb b 17 and eqb i b)
+
 -- the row of b alone in row a: of numbers up to 16 there is one mark more
-pub one-more : (rows later : List ℕ) (a b w : ℕ) → ((i : ℕ) → bit w i ≡ (ltb b 17 and eqb i b)) → Marked later rows a w → (x y : ℕ) → x ≤ 16 → y ≤ 16 → square later x y ≡ square rows x y or (eqb x a and eqb y b)
+pub one-more : (rows later : List ℕ) (a b w : ℕ) → Alone w b → Marked later rows a w → (x y : ℕ) → x ≤ 16 → y ≤ 16 → square later x y ≡ square rows x y or (eqb x a and eqb y b)
 unfolding _and_
 one-more rows later a b w e m x y h k = m x y ∙ rw (row-in w y k, e y, within a x h, within b y k) refl
   where
@@ -74,11 +78,14 @@ module _ (says : ℕ → ℕ → Literal → Bool) (f : ℕ → Literal) (count 
   abbrev pub Telling : ℕ → List ℕ → Type 0
   Telling i out = (a b : ℕ) → a ≤ 16 → b ≤ 16 → (square out a b or any (says a b) (listed f count i)) ≡ any (says a b) (listed f count 0)
 
+  abbrev Next : ℕ → List ℕ → List ℕ → Type 0
+  Next i out later = Telling i out → Telling (i + 1) later
+
   pub telling-none : (k : ℕ) → Telling 0 (replicate k 0)
   unfolding _or_
   telling-none k a b h l = rw (nothing-held k a b) refl
 
-  pub telling-more : (i : ℕ) (out later : List ℕ) → i < count → ((a b : ℕ) → a ≤ 16 → b ≤ 16 → square later a b ≡ square out a b or says a b (f i)) → Telling i out → Telling (i + 1) later
+  pub telling-more : (i : ℕ) (out later : List ℕ) → i < count → ((a b : ℕ) → a ≤ 16 → b ≤ 16 → square later a b ≡ square out a b or says a b (f i)) → Next i out later
   unfolding any
   telling-more i out later h e t a b k l =
       ap (λ (s : Bool). s or any (says a b) (listed f count (i + 1))) (e a b k l)
@@ -86,24 +93,28 @@ module _ (says : ℕ → ℕ → Literal → Bool) (f : ℕ → Literal) (count 
       ∙ ap (λ (ls : List Literal). square out a b or any (says a b) ls) (sym (listed-next f count i h))
       ∙ t a b k l
 
-  pub telling-same : (i : ℕ) (out : List ℕ) → i < count → ((a b : ℕ) → says a b (f i) ≡ false) → Telling i out → Telling (i + 1) out
+  pub telling-same : (i : ℕ) (out : List ℕ) → i < count → ((a b : ℕ) → says a b (f i) ≡ false) → Next i out out
   telling-same i out h e = telling-more i out out h (λ a b k l. rw (e a b) (sym (or-false (square out a b))))
 
   pub telling-all : (i : ℕ) (out : List ℕ) (ls : List Literal) → count ≤ i → ls ≡ listed f count 0 → Telling i out → SaidOf says ls out
-  telling-all i out ls h e t a b k l = sym (or-false (square out a b)) ∙ ap (λ (s : Bool). square out a b or s) (sym (any-listed-end f (says a b) count i h)) ∙ t a b k l ∙ ap (any (says a b)) (sym e)
+  telling-all i out ls h e t a b k l =
+      sym (or-false (square out a b))
+      ∙ ap (λ (s : Bool). square out a b or s) (sym (any-listed-end f (says a b) count i h))
+      ∙ t a b k l
+      ∙ ap (any (says a b)) (sym e)
 
 -- A literal is read: of a plain one nothing is marked
 module _ (rep : ℕ → ℕ) (f : ℕ → Literal) (count i : ℕ) (h : i < count) (out o : List ℕ) where
-  pub plain-apart : not (f i .plain) ≡ false → o ≡ out → Telling (holdsApart rep) f count i out → Telling (holdsApart rep) f count (i + 1) o
+  pub plain-apart : not (f i .plain) ≡ false → o ≡ out → Next (holdsApart rep) f count i out o
   unfolding holdsApart _and_
   plain-apart e same t = subst (Telling (holdsApart rep) f count (i + 1)) (sym same) (telling-same (holdsApart rep) f count i out h (λ a b. rw e refl) t)
 
-  pub negated-apart : f i .plain ≡ false → (p q v w : ℕ) → p ≡ rep (f i .left) → q ≡ rep (f i .right) → ((j : ℕ) → bit v j ≡ (ltb q 17 and eqb j q)) → ((j : ℕ) → bit w j ≡ (ltb p 17 and eqb j p)) → (mid later : List ℕ) → Marked mid out p v → Marked later mid q w → o ≡ later → Telling (holdsApart rep) f count i out → Telling (holdsApart rep) f count (i + 1) o
+  pub negated-apart : f i .plain ≡ false → (p q v w : ℕ) → p ≡ rep (f i .left) → q ≡ rep (f i .right) → Alone v q → Alone w p → (mid later : List ℕ) → Marked mid out p v → Marked later mid q w → o ≡ later → Next (holdsApart rep) f count i out o
   unfolding holdsApart standFor _and_
   negated-apart e p q v w l r row-v row-w mid later first second same t =
       subst (Telling (holdsApart rep) f count (i + 1)) (sym same) (telling-more (holdsApart rep) f count i out later h turn t)
     where
-      turn : (a b : ℕ) → a ≤ 16 → b ≤ 16 → square later a b ≡ square out a b or (not (f i .plain) and ((eqb a (rep (f i .left)) and eqb b (rep (f i .right))) or (eqb b (rep (f i .left)) and eqb a (rep (f i .right)))))
+      turn : (a b : ℕ) → a ≤ 16 → b ≤ 16 → square later a b ≡ square out a b or holdsApart rep a b (f i)
       turn a b k m =
           one-more mid later q p w row-w second a b k m
           ∙ ap (λ (s : Bool). s or (eqb a q and eqb b p)) (one-more out mid p q v row-v first a b k m)
@@ -111,29 +122,38 @@ module _ (rep : ℕ → ℕ) (f : ℕ → Literal) (count i : ℕ) (h : i < coun
           ∙ rw (e, l, r) (ap (λ (s : Bool). square out a b or ((eqb a (rep (f i .left)) and eqb b (rep (f i .right))) or s)) (and-comm (eqb a (rep (f i .right))) (eqb b (rep (f i .left)))))
 
   module _ (k : ℕ) where
-    pub plain-denied : not (f i .plain) ≡ false → o ≡ out → Telling (denies rep k) f count i out → Telling (denies rep k) f count (i + 1) o
+    pub plain-denied : not (f i .plain) ≡ false → o ≡ out → Next (denies rep k) f count i out o
     unfolding denies _and_
     plain-denied e same t = subst (Telling (denies rep k) f count (i + 1)) (sym same) (telling-same (denies rep k) f count i out h (λ a b. rw e refl) t)
 
-    pub other-denied : (f i .link ≡ k → ⊥) → o ≡ out → Telling (denies rep k) f count i out → Telling (denies rep k) f count (i + 1) o
+    pub other-denied : (f i .link ≡ k → ⊥) → o ≡ out → Next (denies rep k) f count i out o
     unfolding denies _and_
-    other-denied n same t = subst (Telling (denies rep k) f count (i + 1)) (sym same) (telling-same (denies rep k) f count i out h (λ a b. rw (ne-eqb (f i .link) k n) (ap (λ (s : Bool). s and standFor rep a b (f i)) (and-false (not (f i .plain))))) t)
+    other-denied n same t = subst (Telling (denies rep k) f count (i + 1)) (sym same) (telling-same (denies rep k) f count i out h none t)
+      where
+        none : (a b : ℕ) → denies rep k a b (f i) ≡ false
+        none a b = rw (ne-eqb (f i .link) k n) (ap (λ (s : Bool). s and standFor rep a b (f i)) (and-false (not (f i .plain))))
 
-    pub negated-denied : f i .plain ≡ false → f i .link ≡ k → (p q v : ℕ) → p ≡ rep (f i .left) → q ≡ rep (f i .right) → ((j : ℕ) → bit v j ≡ (ltb q 17 and eqb j q)) → (later : List ℕ) → Marked later out p v → o ≡ later → Telling (denies rep k) f count i out → Telling (denies rep k) f count (i + 1) o
+    pub negated-denied : f i .plain ≡ false → f i .link ≡ k → (p q v : ℕ) → p ≡ rep (f i .left) → q ≡ rep (f i .right) → Alone v q → (later : List ℕ) → Marked later out p v → o ≡ later → Next (denies rep k) f count i out o
     unfolding denies standFor _and_
     negated-denied e g p q v l r row later first same t =
-        subst (Telling (denies rep k) f count (i + 1)) (sym same) (telling-more (denies rep k) f count i out later h (λ a b u m. one-more out later p q v row first a b u m ∙ rw (e, eq-eqb (f i .link) k g, l, r) refl) t)
+        subst (Telling (denies rep k) f count (i + 1)) (sym same) (telling-more (denies rep k) f count i out later h turn t)
+      where
+        turn : (a b : ℕ) → a ≤ 16 → b ≤ 16 → square later a b ≡ square out a b or denies rep k a b (f i)
+        turn a b u m = one-more out later p q v row first a b u m ∙ rw (e, eq-eqb (f i .link) k g, l, r) refl
 
   -- and the same of data literals
   module _ (plain : Bool) where
-    pub other-given : Bool·beq (f i .plain) plain ≡ false → o ≡ out → Telling (gives rep plain) f count i out → Telling (gives rep plain) f count (i + 1) o
+    pub other-given : Bool·beq (f i .plain) plain ≡ false → o ≡ out → Next (gives rep plain) f count i out o
     unfolding gives _and_
     other-given e same t = subst (Telling (gives rep plain) f count (i + 1)) (sym same) (telling-same (gives rep plain) f count i out h (λ a b. rw e refl) t)
 
-    pub field-given : Bool·beq (f i .plain) plain ≡ true → (p q v : ℕ) → p ≡ rep (f i .right) → q ≡ f i .left → ((j : ℕ) → bit v j ≡ (ltb q 17 and eqb j q)) → (later : List ℕ) → Marked later out p v → o ≡ later → Telling (gives rep plain) f count i out → Telling (gives rep plain) f count (i + 1) o
+    pub field-given : Bool·beq (f i .plain) plain ≡ true → (p q v : ℕ) → p ≡ rep (f i .right) → q ≡ f i .left → Alone v q → (later : List ℕ) → Marked later out p v → o ≡ later → Next (gives rep plain) f count i out o
     unfolding gives _and_
     field-given e p q v l r row later first same t =
-        subst (Telling (gives rep plain) f count (i + 1)) (sym same) (telling-more (gives rep plain) f count i out later h (λ a b u m. one-more out later p q v row first a b u m ∙ rw (e, l, r) refl) t)
+        subst (Telling (gives rep plain) f count (i + 1)) (sym same) (telling-more (gives rep plain) f count i out later h turn t)
+      where
+        turn : (a b : ℕ) → a ≤ 16 → b ≤ 16 → square later a b ≡ square out a b or gives rep plain a b (f i)
+        turn a b u m = one-more out later p q v row first a b u m ∙ rw (e, l, r) refl
 
 -- Three relations together, one row after the other
 module _ (p q r : List ℕ) where
@@ -144,13 +164,21 @@ module _ (p q r : List ℕ) where
   unfolding _and_ _or_
   merged-more x out later h m t =
       filled-more _ _ x (square out) (square later)
-      (fun-ext (λ y. m x y ∙ rw (lt-ltb x 17 h, eq-eqb x x refl, filled-old _ _ x (square out) t, nothing-held 17 x y, square-row p x (omega arith), square-row q x (omega arith), square-row r x (omega arith)) (row-or (bitOr (getD p x 0) (getD q x 0)) (getD r x 0) y ∙ ap (λ (s : Bool). s or rowOf (getD r x 0) y) (row-or (getD p x 0) (getD q x 0) y))))
+      (fun-ext (λ y. m x y ∙ rw (lt-ltb x 17 h, eq-eqb x x refl, filled-old _ _ x (square out) t, nothing-held 17 x y) (row y)))
       (λ i n. fun-ext (kept-beside out later x _ m i n))
       t
+    where
+      row : (y : ℕ) → rowOf (bitOr (bitOr (getD p x 0) (getD q x 0)) (getD r x 0)) y ≡ (square p x y or square q x y or square r x y)
+      row y =
+          rw (square-row p x (omega arith), square-row q x (omega arith), square-row r x (omega arith))
+          (row-or (bitOr (getD p x 0) (getD q x 0)) (getD r x 0) y ∙ ap (λ (s : Bool). s or rowOf (getD r x 0) y) (row-or (getD p x 0) (getD q x 0) y))
 
   pub merged-all : (out : List ℕ) → Merging 17 out → (x y : ℕ) → square out x y ≡ (square p x y or square q x y or square r x y)
   unfolding _or_
-  merged-all out t x y = ap (λ (g : ℕ → ℕ → Bool). g x y) (filled-all _ _ 17 (square out) t (λ i h. fun-ext (λ j. rw (square-above (replicate 17 0) i j h, square-above p i j h, square-above q i j h, square-above r i j h) refl)))
+  merged-all out t x y = ap (λ (g : ℕ → ℕ → Bool). g x y) (filled-all _ _ 17 (square out) t (λ i h. fun-ext (above i h)))
+    where
+      above : (i : ℕ) → 17 ≤ i → (j : ℕ) → square (replicate 17 0) i j ≡ (square p i j or square q i j or square r i j)
+      above i h j = rw (square-above (replicate 17 0) i j h, square-above p i j h, square-above q i j h, square-above r i j h) refl
 
 -- More in each row of some, one row after the other
 module _ (rows : List ℕ) (some more : ℕ) where
@@ -185,20 +213,28 @@ module _ (p q r s : List ℕ) where
   abbrev pub Left : ℕ → ℕ → Bool
   Left x y = (square p x y or square q x y) and not (square r x y or square s x y)
 
-  pub left-more : (first : List ℕ) (x : ℕ) (out : List ℕ) (w : ℕ) → x < 17 → length out ≡ 17 → ((i : ℕ) → bit w i ≡ (bit (bitOr (getD p x 0) (getD q x 0)) i and not (bit (bitOr (getD r x 0) (getD s x 0)) i))) → Filled Left (square first) x (square out) → Filled Left (square first) (x + 1) (square (set out x w))
+  abbrev LeftIn : ℕ → ℕ → Type 0
+  LeftIn x w = (i : ℕ) → bit w i ≡ (bit (bitOr (getD p x 0) (getD q x 0)) i and not (bit (bitOr (getD r x 0) (getD s x 0)) i))
+
+  pub left-more : (first : List ℕ) (x : ℕ) (out : List ℕ) (w : ℕ) → x < 17 → length out ≡ 17 → LeftIn x w → Filled Left (square first) x (square out) → Filled Left (square first) (x + 1) (square (set out x w))
   unfolding _and_ _or_
   left-more first x out w h full e t = filled-more _ _ x (square out) _ (set-same out x w full (omega arith) ∙ fun-ext row) (set-other out x w) t
     where
       row : (y : ℕ) → rowOf w y ≡ Left x y
       row y =
           ⊎-elim
-          (λ k. row-in w y k ∙ e y ∙ rw (bit-or (getD p x 0) (getD q x 0) y, bit-or (getD r x 0) (getD s x 0) y, square-in p x y (omega arith) k, square-in q x y (omega arith) k, square-in r x y (omega arith) k, square-in s x y (omega arith) k) refl)
+          (λ k.
+          let at : (o : List ℕ) → square o x y ≡ bit (getD o x 0) y = λ o. square-in o x y (omega arith) k in
+          row-in w y k ∙ e y ∙ rw (bit-or (getD p x 0) (getD q x 0) y, bit-or (getD r x 0) (getD s x 0) y, at p, at q, at r, at s) refl)
           (λ k. row-beyond w y k ∙ sym (rw (square-beside p x y k, square-beside q x y k) refl))
           (le-cases y 16)
 
   pub left-all : (first out : List ℕ) → Filled Left (square first) 17 (square out) → (x y : ℕ) → square out x y ≡ Left x y
   unfolding _and_ _or_
-  left-all first out t x y = ap (λ (g : ℕ → ℕ → Bool). g x y) (filled-all _ _ 17 (square out) t (λ i h. fun-ext (λ j. square-above first i j h ∙ sym (rw (square-above p i j h, square-above q i j h) refl))))
+  left-all first out t x y = ap (λ (g : ℕ → ℕ → Bool). g x y) (filled-all _ _ 17 (square out) t (λ i h. fun-ext (above i h)))
+    where
+      above : (i : ℕ) → 17 ≤ i → (j : ℕ) → square first i j ≡ Left i j
+      above i h j = square-above first i j h ∙ sym (rw (square-above p i j h, square-above q i j h) refl)
 
 -- Rows that have a number in common, as the word of what both have tells
 meet-some : (v w : ℕ) → w < 2 ^ 32 → (bitAnd v w ≡ 0 → ⊥) → meet v w ≡ true
@@ -207,7 +243,8 @@ meet-some v w h n =
     let u = bitAnd v w in
     let l = and-le-r v w in
     let t = trailingZeros 32 u in
-    any-intro (λ i. bit v i and bit w i) t (from-intro 32 0 t (omega arith) (omega (arith, lowest-in 32 u (omega (arith, n)) (omega arith)))) (sym (bit-and v w t) ∙ lowest-set 32 u (omega (arith, n)) (omega arith))
+    let low = lowest-in 32 u (omega (arith, n)) (omega arith) in
+    any-intro (λ i. bit v i and bit w i) t (from-intro 32 0 t (omega arith) (omega (arith, low))) (sym (bit-and v w t) ∙ lowest-set 32 u (omega (arith, n)) (omega arith))
 
 meet-none : (v w : ℕ) → bitAnd v w ≡ 0 → meet v w ≡ false
 unfolding meet
@@ -240,12 +277,15 @@ module _ (rows some other : List ℕ) where
   abbrev pub Opposing : ℕ → List ℕ → Type 0
   Opposing a out = Filled (λ x y. square rows x y or oppose some other x y) (square rows) a (square out)
 
-  pub opposed-more : (a : ℕ) (out later o : List ℕ) (v : ℕ) → a < 17 → ((y : ℕ) → bit v y ≡ (ltb y 17 and meet (getD other y 0) (getD some a 0))) → Marked later out a v → o ≡ later → Opposing a out → Opposing (a + 1) o
+  abbrev OpposedIn : ℕ → ℕ → Type 0
+  OpposedIn a v = (y : ℕ) → bit v y ≡ (ltb y 17 and meet (getD other y 0) (getD some a 0))
+
+  pub opposed-more : (a : ℕ) (out later o : List ℕ) (v : ℕ) → a < 17 → OpposedIn a v → Marked later out a v → o ≡ later → Opposing a out → Opposing (a + 1) o
   unfolding _and_ oppose rowOf
   opposed-more a out later o v h e m same t =
       subst (Opposing (a + 1)) (sym same)
       (filled-more _ _ a (square out) (square later)
-      (fun-ext (λ y. m a y ∙ rw (lt-ltb a 17 h, eq-eqb a a refl, filled-old _ _ a (square out) t, e y) (ap (λ (s : Bool). square rows a y or s) (twice (ltb y 17) (meet (getD other y 0) (getD some a 0))))))
+      (fun-ext (λ y. m a y ∙ rw (lt-ltb a 17 h, eq-eqb a a refl, filled-old _ _ a (square out) t, e y) (ap (λ (s : Bool). square rows a y or s) (twice (ltb y 17) _))))
       (λ x n. fun-ext (kept-beside out later a v m x n))
       t)
     where
@@ -258,7 +298,9 @@ module _ (rows some other : List ℕ) where
   opposed-same a out o h e same t =
       subst (Opposing (a + 1)) (sym same)
       (filled-more _ _ a (square out) (square out)
-      (fun-ext (λ y. ap (λ (g : ℕ → Bool). g y) (filled-old _ _ a (square out) t) ∙ sym (rw (lt-ltb a 17 h, meet-empty (getD other y 0) (getD some a 0) e, and-false (ltb y 17)) (or-false (square rows a y)))))
+      (fun-ext (λ y.
+      let none = meet-empty (getD other y 0) (getD some a 0) e in
+      ap (λ (g : ℕ → Bool). g y) (filled-old _ _ a (square out) t) ∙ sym (rw (lt-ltb a 17 h, none, and-false (ltb y 17)) (or-false (square rows a y)))))
       (λ x n. refl)
       t)
 
@@ -299,7 +341,13 @@ module _ (reach denied : List ℕ) where
 
       pub behind-more : Spread later out off (getD reach t 0) → Barring t (λ x y. square out y x) → Barring (t + 1) (λ x y. square o y x)
       behind-more m b =
-          bars-more t (λ x y. square out y x) (λ x y. square o y x) h (λ x y k l. ap (λ (r : List ℕ). square r y x) same ∙ m y x ∙ rw (far-in x, off-in y l) (ap (λ (s : Bool). square out y x or s) (and-comm (meet (getD reach y 0) (getD denied t 0)) (square reach t x)))) b
+          bars-more t (λ x y. square out y x) (λ x y. square o y x) h turn b
+        where
+          turn : (x y : ℕ) → x ≤ 16 → y ≤ 16 → square o y x ≡ square out y x or bar x y t
+          turn x y k l =
+              ap (λ (r : List ℕ). square r y x) same
+              ∙ m y x
+              ∙ rw (far-in x, off-in y l) (ap (λ (s : Bool). square out y x or s) (and-comm (meet (getD reach y 0) (getD denied t 0)) (square reach t x)))
 
     module _ (none : getD denied t 0 ≡ 0) (same : o ≡ out) where
       empty : (x y : ℕ) → bar x y t ≡ false

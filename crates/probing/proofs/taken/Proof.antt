@@ -16,4 +16,7 @@ taken-spec =
     -- close-requires
     (λ c κs. search needs)
     -- returns
-    (λ c. (subst (λ (s : Facts). Closes (c .before .before .before .args .n) s (pathOf (c .close .result))) (ap (λ (j : Joined). j .facts) (c .before .before .branch .ensures)) (c .close .ensures .0), c .close .ensures .1)))
+    (λ c.
+    let n = c .before .before .before .args .n in
+    let made = ap (λ (j : Joined). j .facts) (c .before .before .branch .ensures) in
+    (subst (λ (s : Facts). Closes n s (pathOf (c .close .result))) made (c .close .ensures .0), c .close .ensures .1)))

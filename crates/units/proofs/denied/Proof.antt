@@ -55,10 +55,14 @@ denied-spec =
     let sign = c .before .reach-sign .ensures in
     let rep = repOf (c .before .before .before .before .before .args .rep .now) in
     ⊎-elim
-    (λ w. (
+    (λ w.
+    let negated = sym sign ∙ not-true _ (w .0 .taken) in
+    let by = sym (w .1 .ensures) ∙ w .3 .taken in
+    let left = w .5 .ensures ∙ ap rep (w .4 .ensures) in
+    let right = w .7 .ensures ∙ ap rep (w .6 .ensures) in (
       omega arith,
       ap length (w .11) ∙ w .10 .ensures .1,
-      negated-denied rep _ _ _ (omega arith) _ _ _ (sym sign ∙ not-true _ (w .0 .taken)) (sym (w .1 .ensures) ∙ w .3 .taken) _ _ _ (w .5 .ensures ∙ ap rep (w .4 .ensures)) (w .7 .ensures ∙ ap rep (w .6 .ensures)) (w .9 .ensures) _ (w .10 .ensures .0) (w .11) (l .inv .2),
+      negated-denied rep _ _ _ (omega arith) _ _ _ negated by _ _ _ left right (w .9 .ensures) _ (w .10 .ensures .0) (w .11) (l .inv .2),
     ))
     (⊎-elim
     (λ w. (omega arith, ap length (w .4) ∙ l .inv .1, other-denied rep _ _ _ (omega arith) _ _ _ (λ e. w .3 .left (w .1 .ensures ∙ e)) (w .4) (l .inv .2)))

@@ -56,10 +56,13 @@ unequal-spec =
     let l = c .before .before .before .loop in
     let rep = repOf (c .before .before .before .before .before .args .rep .now) in
     ⊎-elim
-    (λ w. (
+    (λ w.
+    let negated = sym (c .before .sign .ensures) ∙ not-true _ (w .0 .taken) in
+    let left = w .2 .ensures ∙ ap rep (w .1 .ensures) in
+    let right = w .4 .ensures ∙ ap rep (w .3 .ensures) in (
       omega arith,
       ap length (w .11) ∙ w .10 .ensures .1,
-      negated-apart rep _ _ _ (omega arith) _ _ (sym (c .before .sign .ensures) ∙ not-true _ (w .0 .taken)) _ _ _ _ (w .2 .ensures ∙ ap rep (w .1 .ensures)) (w .4 .ensures ∙ ap rep (w .3 .ensures)) (w .6 .ensures) (w .9 .ensures) _ _ (w .7 .ensures .0) (w .10 .ensures .0) (w .11) (l .inv .2),
+      negated-apart rep _ _ _ (omega arith) _ _ negated _ _ _ _ left right (w .6 .ensures) (w .9 .ensures) _ _ (w .7 .ensures .0) (w .10 .ensures .0) (w .11) (l .inv .2),
     ))
     (λ w. (omega arith, ap length (w .1) ∙ l .inv .1, plain-apart rep _ _ _ (omega arith) _ _ (ap not (sym (c .before .sign .ensures)) ∙ w .0 .left) (w .1) (l .inv .2)))
     (c .if1 .came))
