@@ -61,10 +61,14 @@ kept-beside rows later a more m x n y = m x y ∙ rw (ne-eqb x a n, and-false (l
 abbrev Alone : ℕ → ℕ → Type 0
 Alone w b = (i : ℕ) → bit w i ≡ (ltb b 17 and eqb i b)
 
+-- the same in row a of other rows
+abbrev MarkedOne : List ℕ → List ℕ → ℕ → ℕ → Type 0
+MarkedOne later rows a b = (w : ℕ) × Alone w b × Marked later rows a w
+
 -- the row of b alone in row a: of numbers up to 16 there is one mark more
-pub one-more : (rows later : List ℕ) (a b w : ℕ) → Alone w b → Marked later rows a w → (x y : ℕ) → x ≤ 16 → y ≤ 16 → square later x y ≡ square rows x y or (eqb x a and eqb y b)
+pub one-more : (rows later : List ℕ) (a b : ℕ) → MarkedOne later rows a b → (x y : ℕ) → x ≤ 16 → y ≤ 16 → square later x y ≡ square rows x y or (eqb x a and eqb y b)
 unfolding _and_
-one-more rows later a b w e m x y h k = m x y ∙ rw (row-in w y k, e y, within a x h, within b y k) refl
+one-more rows later a b (w, e, m) x y h k = m x y ∙ rw (row-in w y k, e y, within a x h, within b y k) refl
   where
     within : (b x : ℕ) → x ≤ 16 → ltb b 17 and eqb x b ≡ eqb x b
     within b x h = go (ltb b 17) refl
@@ -109,15 +113,15 @@ module _ (rep : ℕ → ℕ) (f : ℕ → Literal) (count i : ℕ) (h : i < coun
   unfolding holdsApart _and_
   plain-apart e same t = subst (Telling (holdsApart rep) f count (i + 1)) (sym same) (telling-same (holdsApart rep) f count i out h (λ a b. rw e refl) t)
 
-  pub negated-apart : f i .plain ≡ false → (p q v w : ℕ) → p ≡ rep (f i .left) → q ≡ rep (f i .right) → Alone v q → Alone w p → (mid later : List ℕ) → Marked mid out p v → Marked later mid q w → o ≡ later → Next (holdsApart rep) f count i out o
+  pub negated-apart : f i .plain ≡ false → (p q : ℕ) → p ≡ rep (f i .left) → q ≡ rep (f i .right) → (mid later : List ℕ) → MarkedOne mid out p q → MarkedOne later mid q p → o ≡ later → Next (holdsApart rep) f count i out o
   unfolding holdsApart standFor _and_
-  negated-apart e p q v w l r row-v row-w mid later first second same t =
+  negated-apart e p q l r mid later first second same t =
       subst (Telling (holdsApart rep) f count (i + 1)) (sym same) (telling-more (holdsApart rep) f count i out later h turn t)
     where
       turn : (a b : ℕ) → a ≤ 16 → b ≤ 16 → square later a b ≡ square out a b or holdsApart rep a b (f i)
       turn a b k m =
-          one-more mid later q p w row-w second a b k m
-          ∙ ap (λ (s : Bool). s or (eqb a q and eqb b p)) (one-more out mid p q v row-v first a b k m)
+          one-more mid later q p second a b k m
+          ∙ ap (λ (s : Bool). s or (eqb a q and eqb b p)) (one-more out mid p q first a b k m)
           ∙ or-assoc (square out a b) (eqb a p and eqb b q) (eqb a q and eqb b p)
           ∙ rw (e, l, r) (ap (λ (s : Bool). square out a b or ((eqb a (rep (f i .left)) and eqb b (rep (f i .right))) or s)) (and-comm (eqb a (rep (f i .right))) (eqb b (rep (f i .left)))))
 
@@ -133,13 +137,13 @@ module _ (rep : ℕ → ℕ) (f : ℕ → Literal) (count i : ℕ) (h : i < coun
         none : (a b : ℕ) → denies rep k a b (f i) ≡ false
         none a b = rw (ne-eqb (f i .link) k n) (ap (λ (s : Bool). s and standFor rep a b (f i)) (and-false (not (f i .plain))))
 
-    pub negated-denied : f i .plain ≡ false → f i .link ≡ k → (p q v : ℕ) → p ≡ rep (f i .left) → q ≡ rep (f i .right) → Alone v q → (later : List ℕ) → Marked later out p v → o ≡ later → Next (denies rep k) f count i out o
+    pub negated-denied : f i .plain ≡ false → f i .link ≡ k → (p q : ℕ) → p ≡ rep (f i .left) → q ≡ rep (f i .right) → (later : List ℕ) → MarkedOne later out p q → o ≡ later → Next (denies rep k) f count i out o
     unfolding denies standFor _and_
-    negated-denied e g p q v l r row later first same t =
+    negated-denied e g p q l r later first same t =
         subst (Telling (denies rep k) f count (i + 1)) (sym same) (telling-more (denies rep k) f count i out later h turn t)
       where
         turn : (a b : ℕ) → a ≤ 16 → b ≤ 16 → square later a b ≡ square out a b or denies rep k a b (f i)
-        turn a b u m = one-more out later p q v row first a b u m ∙ rw (e, eq-eqb (f i .link) k g, l, r) refl
+        turn a b u m = one-more out later p q first a b u m ∙ rw (e, eq-eqb (f i .link) k g, l, r) refl
 
   -- and the same of data literals
   module _ (plain : Bool) where
@@ -147,13 +151,13 @@ module _ (rep : ℕ → ℕ) (f : ℕ → Literal) (count i : ℕ) (h : i < coun
     unfolding gives _and_
     other-given e same t = subst (Telling (gives rep plain) f count (i + 1)) (sym same) (telling-same (gives rep plain) f count i out h (λ a b. rw e refl) t)
 
-    pub field-given : Bool·beq (f i .plain) plain ≡ true → (p q v : ℕ) → p ≡ rep (f i .right) → q ≡ f i .left → Alone v q → (later : List ℕ) → Marked later out p v → o ≡ later → Next (gives rep plain) f count i out o
+    pub field-given : Bool·beq (f i .plain) plain ≡ true → (p q : ℕ) → p ≡ rep (f i .right) → q ≡ f i .left → (later : List ℕ) → MarkedOne later out p q → o ≡ later → Next (gives rep plain) f count i out o
     unfolding gives _and_
-    field-given e p q v l r row later first same t =
+    field-given e p q l r later first same t =
         subst (Telling (gives rep plain) f count (i + 1)) (sym same) (telling-more (gives rep plain) f count i out later h turn t)
       where
         turn : (a b : ℕ) → a ≤ 16 → b ≤ 16 → square later a b ≡ square out a b or gives rep plain a b (f i)
-        turn a b u m = one-more out later p q v row first a b u m ∙ rw (e, l, r) refl
+        turn a b u m = one-more out later p q first a b u m ∙ rw (e, l, r) refl
 
 -- Three relations together, one row after the other
 module _ (p q r : List ℕ) where
@@ -216,7 +220,10 @@ module _ (p q r s : List ℕ) where
   abbrev LeftIn : ℕ → ℕ → Type 0
   LeftIn x w = (i : ℕ) → bit w i ≡ (bit (bitOr (getD p x 0) (getD q x 0)) i and not (bit (bitOr (getD r x 0) (getD s x 0)) i))
 
-  pub left-more : (first : List ℕ) (x : ℕ) (out : List ℕ) (w : ℕ) → x < 17 → length out ≡ 17 → LeftIn x w → Filled Left (square first) x (square out) → Filled Left (square first) (x + 1) (square (set out x w))
+  abbrev pub Leaving : List ℕ → ℕ → List ℕ → Type 0
+  Leaving first x out = Filled Left (square first) x (square out)
+
+  pub left-more : (first : List ℕ) (x : ℕ) (out : List ℕ) (w : ℕ) → x < 17 → length out ≡ 17 → LeftIn x w → Leaving first x out → Leaving first (x + 1) (set out x w)
   unfolding _and_ _or_
   left-more first x out w h full e t = filled-more _ _ x (square out) _ (set-same out x w full (omega arith) ∙ fun-ext row) (set-other out x w) t
     where
@@ -229,7 +236,7 @@ module _ (p q r s : List ℕ) where
           (λ k. row-beyond w y k ∙ sym (rw (square-beside p x y k, square-beside q x y k) refl))
           (le-cases y 16)
 
-  pub left-all : (first out : List ℕ) → Filled Left (square first) 17 (square out) → (x y : ℕ) → square out x y ≡ Left x y
+  pub left-all : (first out : List ℕ) → Leaving first 17 out → (x y : ℕ) → square out x y ≡ Left x y
   unfolding _and_ _or_
   left-all first out t x y = ap (λ (g : ℕ → ℕ → Bool). g x y) (filled-all _ _ 17 (square out) t (λ i h. fun-ext (above i h)))
     where

@@ -11,7 +11,8 @@ use Rattle.units.proofs.bars.Statement.{statement}
 use Rattle.units.proofs.bars.Tie as tie
 
 abbrev Inv-loop : tie.InvT-loop
-Inv-loop reach denied ahead₀ behind₀ x₀ ahead behind x = (x ≤ 17) × (length ahead ≡ 17) × (length behind ≡ 17) × Barring reach denied x (square ahead) × Barring reach denied x (λ i j. square behind j i)
+Inv-loop reach denied ahead₀ behind₀ x₀ ahead behind x =
+    (x ≤ 17) × (length ahead ≡ 17) × (length behind ≡ 17) × Barring reach denied x (square ahead) × Barring reach denied x (λ i j. square behind j i)
 
 abbrev μ-loop : tie.MeasureT-loop
 μ-loop reach denied ahead₀ behind₀ x₀ ahead behind x = 17 - x

@@ -62,7 +62,7 @@ denied-spec =
     let right = w .7 .ensures ∙ ap rep (w .6 .ensures) in (
       omega arith,
       ap length (w .11) ∙ w .10 .ensures .1,
-      negated-denied rep _ _ _ (omega arith) _ _ _ negated by _ _ _ left right (w .9 .ensures) _ (w .10 .ensures .0) (w .11) (l .inv .2),
+      negated-denied rep _ _ _ (omega arith) _ _ _ negated by _ _ left right _ (_, w .9 .ensures, w .10 .ensures .0) (w .11) (l .inv .2),
     ))
     (⊎-elim
     (λ w. (omega arith, ap length (w .4) ∙ l .inv .1, other-denied rep _ _ _ (omega arith) _ _ _ (λ e. w .3 .left (w .1 .ensures ∙ e)) (w .4) (l .inv .2)))

@@ -54,7 +54,7 @@ fields-spec =
     (λ w. (
       omega arith,
       ap length (w .7) ∙ w .6 .ensures .1,
-      field-given rep _ _ _ (omega arith) _ _ (a .plain) (sign ∙ w .0 .taken) _ _ _ (w .2 .ensures ∙ ap rep (w .1 .ensures)) (w .4 .ensures) (w .5 .ensures) _ (w .6 .ensures .0) (w .7) (l .inv .2),
+      field-given rep _ _ _ (omega arith) _ _ (a .plain) (sign ∙ w .0 .taken) _ _ (w .2 .ensures ∙ ap rep (w .1 .ensures)) (w .4 .ensures) _ (_, w .5 .ensures, w .6 .ensures .0) (w .7) (l .inv .2),
     ))
     (λ w. (omega arith, ap length (w .1) ∙ l .inv .1, other-given rep _ _ _ (omega arith) _ _ (a .plain) (sign ∙ w .0 .left) (w .1) (l .inv .2)))
     (c .if1 .came))

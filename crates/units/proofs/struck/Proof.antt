@@ -4,14 +4,13 @@ use native.Mathlib.Omega.{arith}
 use borrow.Author.Needs.{needs}
 use mathlib.Core.Path.{_≡_}
 use lib.ListN.{length, length-set}
-use Rattle.rows.specs.Square.{square}
-use Rattle.rows.proofs.Fill.{Filled, filled-none}
-use Rattle.units.proofs.Marks.{Left, left-more, left-all}
+use Rattle.rows.proofs.Fill.{filled-none}
+use Rattle.units.proofs.Marks.{Leaving, left-more, left-all}
 use Rattle.units.proofs.struck.Statement.{statement}
 use Rattle.units.proofs.struck.Tie as tie
 
 abbrev Inv-loop : tie.InvT-loop
-Inv-loop reach back no-reach no-back out₀ y₀ out y = (y ≤ 17) × (length out ≡ 17) × Filled (Left no-reach no-back reach back) (square out₀) y (square out)
+Inv-loop reach back no-reach no-back out₀ y₀ out y = (y ≤ 17) × (length out ≡ 17) × Leaving no-reach no-back reach back out₀ y out
 
 abbrev μ-loop : tie.MeasureT-loop
 μ-loop reach back no-reach no-back out₀ y₀ out y = 17 - y

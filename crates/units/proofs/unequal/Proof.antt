@@ -62,7 +62,7 @@ unequal-spec =
     let right = w .4 .ensures ∙ ap rep (w .3 .ensures) in (
       omega arith,
       ap length (w .11) ∙ w .10 .ensures .1,
-      negated-apart rep _ _ _ (omega arith) _ _ negated _ _ _ _ left right (w .6 .ensures) (w .9 .ensures) _ _ (w .7 .ensures .0) (w .10 .ensures .0) (w .11) (l .inv .2),
+      negated-apart rep _ _ _ (omega arith) _ _ negated _ _ left right _ _ (_, w .6 .ensures, w .7 .ensures .0) (_, w .9 .ensures, w .10 .ensures .0) (w .11) (l .inv .2),
     ))
     (λ w. (omega arith, ap length (w .1) ∙ l .inv .1, plain-apart rep _ _ _ (omega arith) _ _ (ap not (sym (c .before .sign .ensures)) ∙ w .0 .left) (w .1) (l .inv .2)))
     (c .if1 .came))
