@@ -1,11 +1,14 @@
 -- The facts of the branch are closed. Assumes nothing.
 use borrow.Author.Needs.{needs}
-use mathlib.Core.Path.{ap, subst}
+use Prim.Native.Nat.{ℕ}
+use mathlib.Core.Path.{_≡_, subst}
 use Rattle.logic.specs.Facts.{Facts, Joined}
 use Rattle.logic.specs.Decision.{Closes}
-use Rattle.facts.specs.Path.{pathOf}
 use Rattle.probing.proofs.taken.Statement.{statement}
 use Rattle.probing.proofs.taken.Tie as tie
+
+closes-made : (n : ℕ) (s : Facts) (j k : Joined) → j ≡ k → Closes n (j .facts) s → Closes n (k .facts) s
+closes-made n s j k e h = subst (λ (f : Joined). Closes n (f .facts) s) e h
 
 pub taken-spec : {M : Type 1} → statement M
 taken-spec =
@@ -16,7 +19,4 @@ taken-spec =
     -- close-requires
     (λ c κs. search needs)
     -- returns
-    (λ c.
-    let n = c .before .before .before .args .n in
-    let made = ap (λ (j : Joined). j .facts) (c .before .before .branch .ensures) in
-    (subst (λ (s : Facts). Closes n s (pathOf (c .close .result))) made (c .close .ensures .0), c .close .ensures .1)))
+    (λ c. (closes-made _ _ _ _ (c .before .before .branch .ensures) (c .close .ensures .0), c .close .ensures .1)))
