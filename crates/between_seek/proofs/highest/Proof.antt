@@ -7,6 +7,8 @@ use Rattle.between_seek.proofs.highest.Statement.{statement}
 use Rattle.between_seek.proofs.highest.Tie as tie
 use Rattle.between_seek.proofs.Laws.{highest-any, highest-link, fewer}
 
+use Rattle.between_tests.proofs.Laws.{node-read}
+
 pub highest-spec : {M : Type 1} → statement M
 highest-spec =
     tie.close
@@ -16,9 +18,9 @@ highest-spec =
     -- node-of-requires
     (λ c κs. let b = c .before .before .before .before .before .pre .0 .below _ (c .before .before .before .before .before .pre .4) (c .before .before .before .before .before .pre .5) in omega (arith, b, c .before .before .argument .ensures, c .before .before .before .before .before .pre .5, c .before .before .before .before .before .pre .0 .few))
     -- link-of-requires
-    (λ c κs. let s = c .before .before .before .before .before .before .pre .2 (c .before .before .before .argument .result .0) in omega (arith, s, c .node-of .ensures))
+    (λ c κs. let s = c .before .before .before .before .before .before .pre .2 (c .before .before .before .argument .result .0) in omega (arith, s, (node-read _ _ _ (c .node-of .ensures))))
     -- returns
-    (λ c. (highest-link _ _ _ _ _ _ _ _ _ (c .before .before .before .before .argument .ensures) (c .before .before .if1 .taken) (c .before .node-of .ensures) (c .link-of .ensures), let s = c .before .before .before .before .before .before .before .pre .1 (c .before .node-of .result .0) in omega (arith, s, c .link-of .ensures)))
+    (λ c. (highest-link _ _ _ _ _ _ _ _ _ (c .before .before .before .before .argument .ensures) (c .before .before .if1 .taken) (node-read _ _ _ (c .before .node-of .ensures)) (c .link-of .ensures), let s = c .before .before .before .before .before .before .before .pre .1 (c .before .node-of .result .0) in omega (arith, s, c .link-of .ensures)))
     -- sub-t18
     (λ c. omega (arith, c .before .before .before .before .before .before .pre .4))
     -- used-requires

@@ -5,6 +5,8 @@ use Rattle.between_seek.proofs.lowest.Statement.{statement}
 use Rattle.between_seek.proofs.lowest.Tie as tie
 use Rattle.between_seek.proofs.Laws.{lowest-any, lowest-link}
 
+use Rattle.between_tests.proofs.Laws.{node-read}
+
 pub lowest-spec : {M : Type 1} → statement M
 lowest-spec =
     tie.close
@@ -16,6 +18,6 @@ lowest-spec =
     -- node-of-requires
     (λ c κs. let b = c .before .before .before .before .before .pre .0 .below _ (c .before .before .before .before .before .pre .3) (c .before .before .before .before .before .pre .4) in omega (arith, b, c .before .before .argument .ensures, c .before .before .before .before .before .pre .4, c .before .before .before .before .before .pre .0 .few))
     -- link-of-requires
-    (λ c κs. let s = c .before .before .before .before .before .before .pre .2 (c .before .before .before .argument .result .0) in omega (arith, s, c .node-of .ensures))
+    (λ c κs. let s = c .before .before .before .before .before .before .pre .2 (c .before .before .before .argument .result .0) in omega (arith, s, (node-read _ _ _ (c .node-of .ensures))))
     -- returns-2
-    (λ c. (lowest-link _ _ _ _ _ _ _ (c .before .before .before .before .argument .ensures) (c .before .before .if1 .left) (c .before .node-of .ensures) (c .link-of .ensures), let s = c .before .before .before .before .before .before .before .pre .1 (c .before .node-of .result .0) in omega (arith, s, c .link-of .ensures))))
+    (λ c. (lowest-link _ _ _ _ _ _ _ (c .before .before .before .before .argument .ensures) (c .before .before .if1 .left) (node-read _ _ _ (c .before .node-of .ensures)) (c .link-of .ensures), let s = c .before .before .before .before .before .before .before .pre .1 (c .before .node-of .result .0) in omega (arith, s, c .link-of .ensures))))
