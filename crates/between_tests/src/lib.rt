@@ -115,7 +115,11 @@ fn pair_breaks(
     if !due_pair(a, b, t) {
         return false;
     }
-    let count = step_of(table, heap_nodes::node_of(nodes, a), heap_nodes::node_of(nodes, b));
+    let count = step_of(
+        table,
+        heap_nodes::node_of(nodes, a),
+        heap_nodes::node_of(nodes, b),
+    );
     let held = count <= most;
     !agrees(query::sign(query, at, i), held)
 }
