@@ -106,7 +106,9 @@ unfolding foundFrom
     let l = c .before .before .before .before .loop .inv in
     (l .0, l .1 ∙ first-next _ _ _ (c .before .before .before .loop-test .taken) out))
     -- add-t17
-    (λ c. omega (arith, c .before .before .before .before .before .before .before .before .before .if1 .left, c .before .before .before .before .before .before .before .before .before .before .before .before .before .before .pre .1 .0 .given .entered .few))
+    (λ c.
+    let i = c .before .before .before .before .before .before .before .before .before in
+    omega (arith, i .if1 .left, i .before .before .before .before .before .pre .1 .0 .given .entered .few))
     -- seek-nodes-requires
     (λ c κs.
     let s = c .before .before .before .before .before .before .before .before .before .before .before .before .before .before in

@@ -77,26 +77,32 @@ is-allowed-spec =
     -- returns-2
     (λ c lives e l.
     let a = c .before .before .before .before .before .args in
-    trans1-passes lives (graphOf (a .link .now) (a .reach .now)) _ _ _ _ _ _ (ap kindOf (c .before .before .before .enum-told2 .given .1)) (c .before .before .holds2 .ensures) (c .before .holds3 .ensures))
+    trans1-passes lives (graphOf (a .link .now) (a .reach .now)) _ _ _ _ _ _ (ap kindOf (c .before .before .before .enum-told2 .given .1)) (c .before .before .holds2 .ensures)
+    (c .before .holds3 .ensures))
     -- returns-3
     (λ c lives e l.
     let a = c .before .before .before .before .before .args in
-    trans2-passes lives (graphOf (a .link .now) (a .reach .now)) _ _ _ _ _ _ _ (ap kindOf (c .before .before .before .enum-told3 .given .1)) (c .before .before .holds4 .ensures) (c .before .holds5 .ensures) (c .holds6 .ensures))
+    trans2-passes lives (graphOf (a .link .now) (a .reach .now)) _ _ _ _ _ _ _ (ap kindOf (c .before .before .before .enum-told3 .given .1)) (c .before .before .holds4 .ensures)
+    (c .before .holds5 .ensures) (c .holds6 .ensures))
     -- returns-4
     (λ c lives e l.
     let a = c .before .before .before .before .before .before .before .args in
-    func-passes lives (graphOf (a .link .now) (a .reach .now)) _ _ _ _ _ _ _ (ap kindOf (c .before .before .before .before .before .enum-told4 .given .1)) (c .before .before .before .before .holds7 .ensures) (c .before .before .before .holds8 .ensures) (c .holds9 .ensures))
+    func-passes lives (graphOf (a .link .now) (a .reach .now)) _ _ _ _ _ _ _ (ap kindOf (c .before .before .before .before .before .enum-told4 .given .1))
+    (c .before .before .before .before .holds7 .ensures) (c .before .before .before .holds8 .ensures) (c .holds9 .ensures))
     -- returns-5
     (λ c lives e l. absurd (cycle-excluded _ (ap kindOf (c .enum-told5 .given .1)) l))
     -- returns-6
     (λ c lives e l.
     let a = c .before .before .before .before .before .before .before .before .args in
-    scc-passes lives (graphOf (a .link .now) (a .reach .now)) _ _ _ _ _ _ _ _ (ap kindOf (c .before .before .before .before .before .before .enum-told6 .given .1)) (c .before .before .before .before .before .holds10 .ensures) (c .before .before .before .before .holds11 .ensures) (c .before .holds12 .ensures) (c .holds13 .ensures))
+    scc-passes lives (graphOf (a .link .now) (a .reach .now)) _ _ _ _ _ _ _ _ (ap kindOf (c .before .before .before .before .before .before .enum-told6 .given .1))
+    (c .before .before .before .before .before .holds10 .ensures) (c .before .before .before .before .holds11 .ensures) (c .before .holds12 .ensures) (c .holds13 .ensures))
     -- returns-7
     (λ c lives e l.
     let a = c .before .before .before .before .before .before .args in
-    total-passes lives (graphOf (a .link .now) (a .reach .now)) _ _ _ _ _ _ _ _ (ap kindOf (c .before .before .before .before .enum-told7 .given .1)) (c .before .before .before .holds14 .ensures) (c .before .before .holds15 .ensures) (c .before .holds16 .ensures) (c .holds17 .ensures))
+    total-passes lives (graphOf (a .link .now) (a .reach .now)) _ _ _ _ _ _ _ _ (ap kindOf (c .before .before .before .before .enum-told7 .given .1)) (c .before .before .before .holds14 .ensures)
+    (c .before .before .holds15 .ensures) (c .before .holds16 .ensures) (c .holds17 .ensures))
     -- returns-8
     (λ c lives e l.
     let a = c .before .before .before .before .before .before .before .before .args in
-    share-passes lives (graphOf (a .link .now) (a .reach .now)) _ _ _ _ _ _ _ _ (ap kindOf (c .before .before .before .before .before .before .enum-told8 .given .1)) (c .before .before .before .before .before .holds18 .ensures) (c .before .before .before .before .holds19 .ensures) (c .before .holds20 .ensures) (c .holds21 .ensures)))
+    share-passes lives (graphOf (a .link .now) (a .reach .now)) _ _ _ _ _ _ _ _ (ap kindOf (c .before .before .before .before .before .before .enum-told8 .given .1))
+    (c .before .before .before .before .before .holds18 .ensures) (c .before .before .before .before .holds19 .ensures) (c .before .holds20 .ensures) (c .holds21 .ensures)))

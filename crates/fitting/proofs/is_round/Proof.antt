@@ -34,10 +34,15 @@ is-round-spec =
     -- returns-3
     (λ c lives.
     let a = c .before .before .before .before .before .before .before .args in
-    sym (round-other (a .n) lives (a .link .now) (a .reach .now) (a .x .0) (a .y .0) _ _ _ (c .before .before .before .next .ensures) (c .before .before .follow .ensures .0) (λ q. let d = c .if3 .taken in d (omega (arith, q)))))
+    sym (round-other (a .n) lives (a .link .now) (a .reach .now) (a .x .0) (a .y .0) _ _ _ (c .before .before .before .next .ensures) (c .before .before .follow .ensures .0)
+    (λ q. let d = c .if3 .taken in d (omega (arith, q)))))
     -- follow-requires-2
-    (λ c κs. let l = square-within _ _ _ (sym (c .before .before .before .before .before .before .holds .ensures) ∙ not-false _ (c .before .before .before .before .before .if1 .left)) in (c .before .before .before .before .before .before .before .pre, l))
+    (λ c κs. let l = square-within _ _ _ (sym (c .before .before .before .before .before .before .holds .ensures) ∙ not-false _ (c .before .before .before .before .before .if1 .left)) in
+    (c .before .before .before .before .before .before .before .pre, l))
     -- returns-4
     (λ c lives.
     let a = c .before .before .before .before .before .before .before .before .before .args in
-    round-found (a .n) lives (a .link .now) (a .reach .now) (a .x .0) (a .y .0) _ _ _ _ (sym (c .before .before .before .before .before .before .before .before .holds .ensures) ∙ not-false _ (c .before .before .before .before .before .before .before .if1 .left)) (c .before .before .before .before .before .next .ensures) (c .before .before .before .before .follow .ensures .0) (let d = c .before .before .before .before .before .before .if2 .left in let e = c .before .before .if3 .left in omega arith) (c .before .follow2 .ensures .0)))
+    round-found (a .n) lives (a .link .now) (a .reach .now) (a .x .0) (a .y .0) _ _ _ _
+    (sym (c .before .before .before .before .before .before .before .before .holds .ensures) ∙ not-false _ (c .before .before .before .before .before .before .before .if1 .left))
+    (c .before .before .before .before .before .next .ensures) (c .before .before .before .before .follow .ensures .0)
+    (let d = c .before .before .before .before .before .before .if2 .left in let e = c .before .before .if3 .left in omega arith) (c .before .follow2 .ensures .0)))
