@@ -40,27 +40,24 @@ fn breaks(base: &[u8], between: &[u8], apart: &[bool; 36], q: Sought, h: Choice,
     ensures { λ r. ⌜ r ≡ breaks (queryIn (now (base .entry)) (now (between .entry))) (q .m) (entry (h .links)) (entry (h .nodes)) (q .l .terms) (t .0) ⌝ }
 {
     let l = q.l;
-    let links = h.links;
-    let steps = h.steps;
-    let nodes = h.nodes;
     let left = l.terms - t.0;
-    let named = between_tests::used(&nodes, t);
+    let named = between_tests::used(&h.nodes, t);
     if named + left < q.m {
         return true;
     }
-    if between_tests::nil_breaks(base, l, &links, &nodes, t) {
+    if between_tests::nil_breaks(base, l, &h.links, &h.nodes, t) {
         return true;
     }
-    if between_tests::field_breaks(apart, &nodes, t) {
+    if between_tests::field_breaks(apart, &h.nodes, t) {
         return true;
     }
-    if between_tests::pairs_break(base, l.equal_at, l.equal_count, 0, &steps, &nodes, t) {
+    if between_tests::pairs_break(base, l.equal_at, l.equal_count, 0, &h.steps, &h.nodes, t) {
         return true;
     }
-    if between_tests::pairs_break(base, l.reach_at, l.reach_count, 5, &steps, &nodes, t) {
+    if between_tests::pairs_break(base, l.reach_at, l.reach_count, 5, &h.steps, &h.nodes, t) {
         return true;
     }
-    between_tests::triples_break(between, q.count, &steps, &nodes, t)
+    between_tests::triples_break(between, q.count, &h.steps, &h.nodes, t)
 }
 
 // The lowest node that term t can name, and the highest.
@@ -68,26 +65,24 @@ fn lowest(base: &[u8], l: Layout, h: Choice, t: Term) -> Node
     requires { ⌜ Entered (now base) l × Small (h .links) × Small (h .nodes) × (1 ≤ t .0) × (t .0 ≤ l .terms) ⌝ }
     ensures { λ r. ⌜ ((between : List ℕ) → r .0 ≡ lowestNode (queryIn (now (base .entry)) between) (entry (h .links)) (t .0) (entry (h .nodes))) × (r .0 ≤ 5) ⌝ }
 {
-    let links = h.links;
-    let nodes = h.nodes;
     let a = between_tests::argument(base, l, t);
     if a.0 == 0 {
         return Node(1);
     }
-    between_tests::link_of(&links, heap_nodes::node_of(&nodes, a))
+    let v = heap_nodes::node_of(&h.nodes, a);
+    between_tests::link_of(&h.links, v)
 }
 
 fn highest(base: &[u8], q: Sought, h: Choice, t: Term) -> Node
     requires { ⌜ Entered (now base) (q .l) × Small (h .links) × Small (h .nodes) × (q .m ≤ 5) × (1 ≤ t .0) × (t .0 ≤ q .l .terms) ⌝ }
     ensures { λ r. ⌜ ((between : List ℕ) → r .0 ≡ highestNode (queryIn (now (base .entry)) between) (q .sorted) (q .m) (entry (h .links)) (t .0) (entry (h .nodes))) × (r .0 ≤ 5) ⌝ }
 {
-    let links = h.links;
-    let nodes = h.nodes;
     let a = between_tests::argument(base, q.l, t);
     if a.0 != 0 {
-        return between_tests::link_of(&links, heap_nodes::node_of(&nodes, a));
+        let v = heap_nodes::node_of(&h.nodes, a);
+        return between_tests::link_of(&h.links, v);
     }
-    let next = between_tests::used(&nodes, Term(t.0 - 1)) + 1;
+    let next = between_tests::used(&h.nodes, Term(t.0 - 1)) + 1;
     let fewer = next < q.m;
     if q.sorted & fewer {
         return Node(next);
