@@ -13,21 +13,16 @@ use Rattle.between_search.specs.Tests.{breaks}
 use Rattle.between_search.specs.Search.{Found, entry, lowestNode, highestNode, seekNodes}
 use Rattle.between_tests.proofs.Laws.{small-set}
 use Rattle.between_seek.specs.declared.Searched.{Searched}
-use Rattle.between_seek.specs.declared.Sought.{Sought}
-use Rattle.between_seek.specs.declared.Choice.{Choice}
+use Rattle.between_seek.specs.declared.Linked.{Linked}
 use Rattle.between_seek.specs.Answers.{queryIn, foundOf, Sized, Tested, Placed}
 use Rattle.between_seek.proofs.Laws.{nodeTried, nodes-step, step-breaks, step-fits, nodes-all, chosen-next, chosen-size}
 
--- the choice in which term t names node v
-abbrev pub named : Choice → ℕ → ℕ → Choice
-named h t v = record { links = h .links; steps = h .steps; nodes = set (h .nodes) t v }
-
 -- what is found from term t on, and what with v as its node
-unfoldable pub foundFrom : BetweenQuery → Sought → Choice → ℕ → Option Found
-foundFrom query q h t = seekNodes query (q .sorted) (q .m) (take (q .m + 1) (h .links)) (q .l .terms + 1 - t) t (take t (h .nodes))
+unfoldable pub foundFrom : BetweenQuery → Linked → List ℕ → ℕ → Option Found
+foundFrom query h nodes t = seekNodes query (h .q .sorted) (h .q .m) (take (h .q .m + 1) (h .links)) (h .q .l .terms + 1 - t) t (take t nodes)
 
-unfoldable pub foundWith : BetweenQuery → Sought → Choice → ℕ → ℕ → Option Found
-foundWith query q h t v = nodeTried query (q .sorted) (q .m) (take (q .m + 1) (h .links)) (q .l .terms + 1 - t - 1) t (take t (h .nodes)) v
+unfoldable pub foundWith : BetweenQuery → Linked → List ℕ → ℕ → ℕ → Option Found
+foundWith query h nodes t v = nodeTried query (h .q .sorted) (h .q .m) (take (h .q .m + 1) (h .links)) (h .q .l .terms + 1 - t - 1) t (take t nodes) v
 
 -- an answer
 module _ (links nodes : List ℕ) (r : Searched) where
@@ -37,54 +32,54 @@ module _ (links nodes : List ℕ) (r : Searched) where
   pub is-none : r ≡ record { found = false; links = links; nodes = nodes } → foundOf r ≡ none
   is-none e = ap (λ (x : Searched). foundOf x) e ∙ keep-false _ refl
 
-module _ (base between : List ℕ) (apart : List Bool) (q : Sought) (h : Choice) (t : ℕ) (sized : Sized base between apart q) (placed : Placed q h t) where
+module _ (base between : List ℕ) (apart : List Bool) (h : Linked) (nodes : List ℕ) (t : ℕ) (sized : Sized base between apart (h .q)) (placed : Placed h nodes t) where
   abbrev query : BetweenQuery
   query = queryIn base between
 
-  pub all-named : q .l .terms < t → some (record { links = h .links; nodes = h .nodes }) ≡ foundFrom (queryIn base between) q h t
+  pub all-named : h .q .l .terms < t → some (record { links = h .links; nodes = nodes }) ≡ foundFrom (queryIn base between) h nodes t
   unfolding foundFrom
-  all-named l = nodes-all query (q .sorted) (q .m) (h .links) (h .nodes) t (placed .links-chosen) (placed .nodes-chosen) _ (omega arith)
+  all-named l = nodes-all query (h .q .sorted) (h .q .m) (h .links) nodes t (placed .links-chosen) (placed .nodes-chosen) _ (omega arith)
 
-  pub first-node : (lo hi : ℕ) → t ≤ q .l .terms → lo ≡ lowestNode (queryIn base between) (entry (h .links)) t (entry (h .nodes)) → hi ≡ highestNode (queryIn base between) (q .sorted) (q .m) (entry (h .links)) t (entry (h .nodes)) → foundFrom (queryIn base between) q h t ≡ firstOf (foundWith (queryIn base between) q h t) (from (hi + 1 - lo) lo)
+  pub first-node : (lo hi : ℕ) → t ≤ h .q .l .terms → lo ≡ lowestNode (queryIn base between) (entry (h .links)) t (entry nodes) → hi ≡ highestNode (queryIn base between) (h .q .sorted) (h .q .m) (entry (h .links)) t (entry nodes) → foundFrom (queryIn base between) h nodes t ≡ firstOf (foundWith (queryIn base between) h nodes t) (from (hi + 1 - lo) lo)
   unfolding foundFrom foundWith
-  first-node lo hi l e f = nodes-step query (q .sorted) (q .m) (h .links) (h .nodes) t (placed .links-chosen) (placed .nodes-chosen) _ lo hi (λ z. omega arith) e f
+  first-node lo hi l e f = nodes-step query (h .q .sorted) (h .q .m) (h .links) nodes t (placed .links-chosen) (placed .nodes-chosen) _ lo hi (λ z. omega arith) e f
 
   room : t < 17
   room = omega (arith, placed .high, sized .given .entered .few)
 
-  module _ (v : ℕ) (tried : Choice) (are : tried ≡ named h t v) (within : t ≤ q .l .terms) where
-    pub tested-next : v ≤ 5 → Tested h → Tested tried
+  module _ (v : ℕ) (tried : List ℕ) (are : tried ≡ set nodes t v) (within : t ≤ h .q .l .terms) where
+    pub tested-next : v ≤ 5 → Tested h nodes → Tested h tried
     tested-next l ok =
-        subst Tested (sym are)
-        (record { small-links = ok .small-links; small-nodes = small-set (h .nodes) t v l (ok .small-nodes); stepped = ok .stepped })
+        subst (Tested h) (sym are)
+        (record { small-links = ok .small-links; small-nodes = small-set nodes t v l (ok .small-nodes); stepped = ok .stepped })
 
-    pub placed-next : Placed q tried (t + 1)
+    pub placed-next : Placed h tried (t + 1)
     placed-next =
-        subst (λ (x : Choice). Placed q x (t + 1)) (sym are)
+        subst (λ (xs : List ℕ). Placed h xs (t + 1)) (sym are)
         (record {
           low = omega arith;
           high = omega arith;
           links-chosen = placed .links-chosen;
-          nodes-chosen = chosen-next (h .nodes) t v (chosen-size (h .nodes) t (placed .nodes-chosen) (omega (arith, room))) room (placed .nodes-chosen);
+          nodes-chosen = chosen-next nodes t v (chosen-size nodes t (placed .nodes-chosen) (omega (arith, room))) room (placed .nodes-chosen);
         })
 
-    module _ (b : Bool) (test : b ≡ breaks (queryIn base between) (q .m) (entry (tried .links)) (entry (tried .nodes)) (q .l .terms) t) where
-      tested : b ≡ breaks query (q .m) (entry (h .links)) (entry (set (h .nodes) t v)) (q .l .terms) t
-      tested = test ∙ ap (λ (x : Choice). breaks query (q .m) (entry (x .links)) (entry (x .nodes)) (q .l .terms) t) are
+    module _ (b : Bool) (test : b ≡ breaks (queryIn base between) (h .q .m) (entry (h .links)) (entry tried) (h .q .l .terms) t) where
+      tested : b ≡ breaks query (h .q .m) (entry (h .links)) (entry (set nodes t v)) (h .q .l .terms) t
+      tested = test ∙ ap (λ (xs : List ℕ). breaks query (h .q .m) (entry (h .links)) (entry xs) (h .q .l .terms) t) are
 
-      pub left-out : b ≡ true → foundWith (queryIn base between) q h t v ≡ none
+      pub left-out : b ≡ true → foundWith (queryIn base between) h nodes t v ≡ none
       unfolding foundWith
       left-out e =
-          step-breaks query (q .sorted) (q .m) (h .links) (h .nodes) t (placed .links-chosen) (placed .nodes-chosen) v (q .l .terms) b room
+          step-breaks query (h .q .sorted) (h .q .m) (h .links) nodes t (placed .links-chosen) (placed .nodes-chosen) v (h .q .l .terms) b room
           (sized .given .entered .laid .term-count) tested _ e
 
-      pub goes-on : b ≡ false → (o : Option Found) → o ≡ foundFrom (queryIn base between) q tried (t + 1) → foundWith (queryIn base between) q h t v ≡ o
+      pub goes-on : b ≡ false → (o : Option Found) → o ≡ foundFrom (queryIn base between) h tried (t + 1) → foundWith (queryIn base between) h nodes t v ≡ o
       unfolding foundWith foundFrom
       goes-on e o next =
-          step-fits query (q .sorted) (q .m) (h .links) (h .nodes) t (placed .links-chosen) (placed .nodes-chosen) v (q .l .terms) b room
+          step-fits query (h .q .sorted) (h .q .m) (h .links) nodes t (placed .links-chosen) (placed .nodes-chosen) v (h .q .l .terms) b room
           (sized .given .entered .laid .term-count) tested _ e
-          ∙ ap (λ (k : ℕ). seekNodes query (q .sorted) (q .m) (take (q .m + 1) (h .links)) k (t + 1) (take (t + 1) (set (h .nodes) t v))) fewer
-          ∙ sym (next ∙ ap (λ (x : Choice). foundFrom query q x (t + 1)) are)
+          ∙ ap (λ (k : ℕ). seekNodes query (h .q .sorted) (h .q .m) (take (h .q .m + 1) (h .links)) k (t + 1) (take (t + 1) (set nodes t v))) fewer
+          ∙ sym (next ∙ ap (λ (xs : List ℕ). foundFrom query h xs (t + 1)) are)
         where
-          fewer : q .l .terms + 1 - t - 1 ≡ q .l .terms + 1 - (t + 1)
+          fewer : h .q .l .terms + 1 - t - 1 ≡ h .q .l .terms + 1 - (t + 1)
           fewer = omega arith

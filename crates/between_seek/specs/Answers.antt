@@ -16,7 +16,7 @@ use Rattle.between_search.specs.Search.{Found, entry}
 use Rattle.between_tests.specs.Tables.{Small, Stepped, Opposed, literalsIn}
 use Rattle.between_seek.specs.declared.Searched.{Searched}
 use Rattle.between_seek.specs.declared.Sought.{Sought}
-use Rattle.between_seek.specs.declared.Choice.{Choice}
+use Rattle.between_seek.specs.declared.Linked.{Linked}
 
 -- a query whose first five sections and whose between literals stand in two slices
 abbrev pub queryIn : List ℕ → List ℕ → BetweenQuery
@@ -46,15 +46,15 @@ pub record Sized (base between : List ℕ) (apart : List Bool) (q : Sought) : Ty
   pub given : Given base (q .l) between (q .count) apart
   pub few-nodes : q .m ≤ 5
 
--- a choice as the tests take it: small numbers, and the step counts of the links
-pub record Tested (h : Choice) : Type 0 where
+-- links and nodes of terms as the tests take them: small numbers, and the step counts of the links
+pub record Tested (h : Linked) (nodes : List ℕ) : Type 0 where
   pub small-links : Small (h .links)
-  pub small-nodes : Small (h .nodes)
+  pub small-nodes : Small nodes
   pub stepped : Stepped (h .steps) (entry (h .links))
 
 -- the links are chosen, and the nodes of the terms below t
-pub record Placed (q : Sought) (h : Choice) (t : ℕ) : Type 0 where
+pub record Placed (h : Linked) (nodes : List ℕ) (t : ℕ) : Type 0 where
   pub low : 1 ≤ t
-  pub high : t ≤ q .l .terms + 1
-  pub links-chosen : Chosen (h .links) (q .m + 1)
-  pub nodes-chosen : Chosen (h .nodes) t
+  pub high : t ≤ h .q .l .terms + 1
+  pub links-chosen : Chosen (h .links) (h .q .m + 1)
+  pub nodes-chosen : Chosen nodes t

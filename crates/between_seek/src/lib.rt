@@ -27,62 +27,72 @@ struct Sought {
     sorted: bool,
 }
 
-// The links that are chosen, their step counts, and the nodes of the terms.
-struct Choice {
+// What is looked for with these links, and their step counts.
+struct Linked {
+    q: Sought,
     links: [u8; 17],
     steps: [u8; 36],
-    nodes: [u8; 17],
 }
 
 // Term t cannot name the node that it is given.
-fn breaks(base: &[u8], between: &[u8], apart: &[bool; 36], q: Sought, h: Choice, t: Term) -> bool
-    requires { ⌜ Sized (now base) (now between) (now apart) q × Tested h × (1 ≤ t .0) × (t .0 ≤ q .l .terms) ⌝ }
-    ensures { λ r. ⌜ r ≡ breaks (queryIn (now (base .entry)) (now (between .entry))) (q .m) (entry (h .links)) (entry (h .nodes)) (q .l .terms) (t .0) ⌝ }
+fn breaks(
+    base: &[u8],
+    between: &[u8],
+    apart: &[bool; 36],
+    h: Linked,
+    nodes: &[u8; 17],
+    t: Term,
+) -> bool
+    requires { ⌜ Sized (now base) (now between) (now apart) (h .q) × Tested h (now nodes) × (1 ≤ t .0) × (t .0 ≤ h .q .l .terms) ⌝ }
+    ensures { λ r. ⌜ r ≡ breaks (queryIn (now (base .entry)) (now (between .entry))) (h .q .m) (entry (h .links)) (entry (now (nodes .entry))) (h .q .l .terms) (t .0) ⌝ }
 {
+    let q = h.q;
     let l = q.l;
     let left = l.terms - t.0;
-    let named = between_tests::used(&h.nodes, t);
+    let named = between_tests::used(nodes, t);
     if named + left < q.m {
         return true;
     }
-    if between_tests::nil_breaks(base, l, &h.links, &h.nodes, t) {
+    if between_tests::nil_breaks(base, l, &h.links, nodes, t) {
         return true;
     }
-    if between_tests::field_breaks(apart, &h.nodes, t) {
+    if between_tests::field_breaks(apart, nodes, t) {
         return true;
     }
-    if between_tests::pairs_break(base, l.equal_at, l.equal_count, 0, &h.steps, &h.nodes, t) {
+    if between_tests::pairs_break(base, l.equal_at, l.equal_count, 0, &h.steps, nodes, t) {
         return true;
     }
-    if between_tests::pairs_break(base, l.reach_at, l.reach_count, 5, &h.steps, &h.nodes, t) {
+    if between_tests::pairs_break(base, l.reach_at, l.reach_count, 5, &h.steps, nodes, t) {
         return true;
     }
-    between_tests::triples_break(between, q.count, &h.steps, &h.nodes, t)
+    between_tests::triples_break(between, q.count, &h.steps, nodes, t)
 }
 
 // The lowest node that term t can name, and the highest.
-fn lowest(base: &[u8], l: Layout, h: Choice, t: Term) -> Node
-    requires { ⌜ Entered (now base) l × Small (h .links) × Small (h .nodes) × (1 ≤ t .0) × (t .0 ≤ l .terms) ⌝ }
-    ensures { λ r. ⌜ ((between : List ℕ) → r .0 ≡ lowestNode (queryIn (now (base .entry)) between) (entry (h .links)) (t .0) (entry (h .nodes))) × (r .0 ≤ 5) ⌝ }
+fn lowest(base: &[u8], h: Linked, nodes: &[u8; 17], t: Term) -> Node
+    requires { ⌜ Entered (now base) (h .q .l) × Tested h (now nodes) × (1 ≤ t .0) × (t .0 ≤ h .q .l .terms) ⌝ }
+    ensures { λ r. ⌜ ((between : List ℕ) → r .0 ≡ lowestNode (queryIn (now (base .entry)) between) (entry (h .links)) (t .0) (entry (now (nodes .entry)))) × (r .0 ≤ 5) ⌝ }
 {
-    let a = between_tests::argument(base, l, t);
+    let q = h.q;
+    let a = between_tests::argument(base, q.l, t);
     if a.0 == 0 {
         return Node(1);
     }
-    let v = heap_nodes::node_of(&h.nodes, a);
+    let v = heap_nodes::node_of(nodes, a);
     between_tests::link_of(&h.links, v)
 }
 
-fn highest(base: &[u8], q: Sought, h: Choice, t: Term) -> Node
-    requires { ⌜ Entered (now base) (q .l) × Small (h .links) × Small (h .nodes) × (q .m ≤ 5) × (1 ≤ t .0) × (t .0 ≤ q .l .terms) ⌝ }
-    ensures { λ r. ⌜ ((between : List ℕ) → r .0 ≡ highestNode (queryIn (now (base .entry)) between) (q .sorted) (q .m) (entry (h .links)) (t .0) (entry (h .nodes))) × (r .0 ≤ 5) ⌝ }
+fn highest(base: &[u8], h: Linked, nodes: &[u8; 17], t: Term) -> Node
+    requires { ⌜ Entered (now base) (h .q .l) × Tested h (now nodes) × (h .q .m ≤ 5) × (1 ≤ t .0) × (t .0 ≤ h .q .l .terms) ⌝ }
+    ensures { λ r. ⌜ ((between : List ℕ) → r .0 ≡ highestNode (queryIn (now (base .entry)) between) (h .q .sorted) (h .q .m) (entry (h .links)) (t .0) (entry (now (nodes .entry)))) × (r .0 ≤ 5) ⌝ }
 {
+    let q = h.q;
     let a = between_tests::argument(base, q.l, t);
     if a.0 != 0 {
-        let v = heap_nodes::node_of(&h.nodes, a);
+        let v = heap_nodes::node_of(nodes, a);
         return between_tests::link_of(&h.links, v);
     }
-    let next = between_tests::used(&h.nodes, Term(t.0 - 1)) + 1;
+    let next = between_tests::used(nodes, Term(t.0 - 1)) + 1;
     let fewer = next < q.m;
     if q.sorted & fewer {
         return Node(next);
@@ -90,29 +100,20 @@ fn highest(base: &[u8], q: Sought, h: Choice, t: Term) -> Node
     Node(q.m)
 }
 
-// The choice in which term t names node v.
-fn with_node(h: Choice, t: Term, v: Node) -> Choice
+// Term t names node v.
+fn put_node(nodes: &mut [u8; 17], t: Term, v: Node)
     requires { ⌜ (t .0 ≤ 16) × (v .0 ≤ 5) ⌝ }
-    ensures { λ r. ⌜ r ≡ record { links = h .links; steps = h .steps; nodes = set (h .nodes) (t .0) (v .0) } ⌝ }
+    ensures { λ r. ⌜ now (nodes .exit) ≡ set (now (nodes .entry)) (t .0) (v .0) ⌝ }
 {
-    let links = h.links;
-    let steps = h.steps;
-    let mut nodes = h.nodes;
     let at = t.0;
     nodes[at] = v.0 as u8;
-    Choice {
-        links,
-        steps,
-        nodes,
-    }
 }
 
 // Whether a heap is found, and its links and nodes.
-fn answered(found: bool, h: Choice) -> Searched
-    ensures { λ r. ⌜ r ≡ record { found = found; links = h .links; nodes = h .nodes } ⌝ }
+fn answered(found: bool, h: Linked, nodes: [u8; 17]) -> Searched
+    ensures { λ r. ⌜ r ≡ record { found = found; links = h .links; nodes = nodes } ⌝ }
 {
     let links = h.links;
-    let nodes = h.nodes;
     Searched {
         found,
         links,
@@ -125,32 +126,34 @@ fn seek_nodes(
     base: &[u8],
     between: &[u8],
     apart: &[bool; 36],
-    q: Sought,
-    h: Choice,
+    h: Linked,
+    nodes: [u8; 17],
     t: Term,
 ) -> Searched
-    requires { ⌜ Sized (now base) (now between) (now apart) q × Tested h × Placed q h (t .0) ⌝ }
-    ensures { λ r. ⌜ foundOf r ≡ seekNodes (queryIn (now (base .entry)) (now (between .entry))) (q .sorted) (q .m) (take (q .m + 1) (h .links)) (q .l .terms + 1 - t .0) (t .0) (take (t .0) (h .nodes)) ⌝ }
+    requires { ⌜ Sized (now base) (now between) (now apart) (h .q) × Tested h nodes × Placed h nodes (t .0) ⌝ }
+    ensures { λ r. ⌜ foundOf r ≡ seekNodes (queryIn (now (base .entry)) (now (between .entry))) (h .q .sorted) (h .q .m) (take (h .q .m + 1) (h .links)) (h .q .l .terms + 1 - t .0) (t .0) (take (t .0) nodes) ⌝ }
 {
+    let q = h.q;
     if q.l.terms < t.0 {
-        return answered(true, h);
+        return answered(true, h, nodes);
     }
-    let first = lowest(base, q.l, h, t);
-    let last = highest(base, q, h, t);
+    let first = lowest(base, h, &nodes, t);
+    let last = highest(base, h, &nodes, t);
     let end = last.0 + 1;
     let mut v = first.0;
     while v < end {
-        let tried = with_node(h, t, Node(v));
+        let mut tried = nodes;
+        put_node(&mut tried, t, Node(v));
         v += 1;
-        if breaks(base, between, apart, q, tried, t) {
+        if breaks(base, between, apart, h, &tried, t) {
             continue;
         }
-        let r = seek_nodes(base, between, apart, q, tried, Term(t.0 + 1));
+        let r = seek_nodes(base, between, apart, h, tried, Term(t.0 + 1));
         if r.found {
             return r;
         }
     }
-    answered(false, h)
+    answered(false, h, nodes)
 }
 
 // The nodes for a list of links.
@@ -167,12 +170,8 @@ fn nodes_found(
     let steps = between_tests::step_table(&links);
     let mut nodes = [0u8; 17];
     nodes[0] = q.l.terms as u8;
-    let h = Choice {
-        links,
-        steps,
-        nodes,
-    };
-    seek_nodes(base, between, apart, q, h, Term(1))
+    let h = Linked { q, links, steps };
+    seek_nodes(base, between, apart, h, nodes, Term(1))
 }
 
 // The links in which that of node j leads to node v.

@@ -125,13 +125,13 @@ fn pair_breaks(
 }
 
 // One of `count` literals does.
-pub fn pairs_break<'a>(
+pub fn pairs_break(
     query: &[u8],
     at: usize,
     count: usize,
     most: u8,
-    table: &'a [u8; 36],
-    nodes: &'a [u8; 17],
+    table: &[u8; 36],
+    nodes: &[u8; 17],
     t: Term,
 ) -> bool
     requires { ⌜ (at + 3 * count ≤ length (now query)) × Small (now nodes) × (t .0 ≤ 5) ⌝ }
@@ -173,11 +173,11 @@ fn triple_breaks(bytes: &[u8], i: usize, table: &[u8; 36], nodes: &[u8; 17], t: 
     !agrees(entries::byte_at(bytes, 4 * i) == 1, held)
 }
 
-pub fn triples_break<'a>(
+pub fn triples_break(
     bytes: &[u8],
     count: usize,
-    table: &'a [u8; 36],
-    nodes: &'a [u8; 17],
+    table: &[u8; 36],
+    nodes: &[u8; 17],
     t: Term,
 ) -> bool
     requires { ⌜ (4 * count ≡ length (now bytes)) × Small (now nodes) × (t .0 ≤ 5) ⌝ }
@@ -234,13 +234,7 @@ fn other_nil(query: &[u8], l: Layout, nodes: &[u8; 17], t: Term) -> bool
 }
 
 // "all nil terms are one node and its link goes to itself"
-pub fn nil_breaks<'a>(
-    query: &[u8],
-    l: Layout,
-    links: &'a [u8; 17],
-    nodes: &'a [u8; 17],
-    t: Term,
-) -> bool
+pub fn nil_breaks(query: &[u8], l: Layout, links: &[u8; 17], nodes: &[u8; 17], t: Term) -> bool
     requires { ⌜ LaysOut l (now query) × (1 ≤ t .0) × (t .0 ≤ l .terms) × Small (now nodes) ⌝ }
     ensures { λ r. ⌜ r ≡ nilBreaks (decode (now (query .entry)) .entries) (entry (now (links .entry))) (entry (now (nodes .entry))) (t .0) ⌝ }
 {
