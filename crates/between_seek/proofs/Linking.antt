@@ -58,7 +58,10 @@ module _ (base between : List ℕ) (apart : List Bool) (q : Sought) (links : Lis
         fewer = omega arith
 
 -- the search for nodes begins with the count of terms alone
-pub nodes-first : (query : BetweenQuery) (q : Sought) (links : List ℕ) (n : ℕ) → n ≡ termCount (query .base) → seekNodes query (q .sorted) (q .m) (take (q .m + 1) links) (n + 1 - 1) 1 (n ∷ []) ≡ nodesFound query (q .sorted) (q .m) (take (q .m + 1) links)
+pub nodes-first :
+    (query : BetweenQuery) (q : Sought) (links : List ℕ) (n : ℕ) →
+    n ≡ termCount (query .base) →
+    seekNodes query (q .sorted) (q .m) (take (q .m + 1) links) (n + 1 - 1) 1 (n ∷ []) ≡ nodesFound query (q .sorted) (q .m) (take (q .m + 1) links)
 nodes-first query q links n e =
     let all : n + 1 - 1 ≡ n = omega arith in
     ap (λ (k : ℕ). seekNodes query (q .sorted) (q .m) (take (q .m + 1) links) k 1 (n ∷ [])) all

@@ -40,7 +40,12 @@ module _ (base between : List ℕ) (apart : List Bool) (h : Linked) (nodes : Lis
   unfolding foundFrom
   all-named l = nodes-all query (h .q .sorted) (h .q .m) (h .links) nodes t (placed .links-chosen) (placed .nodes-chosen) _ (omega arith)
 
-  pub first-node : (lo hi : ℕ) → t ≤ h .q .l .terms → lo ≡ lowestNode (queryIn base between) (entry (h .links)) t (entry nodes) → hi ≡ highestNode (queryIn base between) (h .q .sorted) (h .q .m) (entry (h .links)) t (entry nodes) → foundFrom (queryIn base between) h nodes t ≡ firstOf (foundWith (queryIn base between) h nodes t) (from (hi + 1 - lo) lo)
+  pub first-node :
+      (lo hi : ℕ) →
+      t ≤ h .q .l .terms →
+      lo ≡ lowestNode (queryIn base between) (entry (h .links)) t (entry nodes) →
+      hi ≡ highestNode (queryIn base between) (h .q .sorted) (h .q .m) (entry (h .links)) t (entry nodes) →
+      foundFrom (queryIn base between) h nodes t ≡ firstOf (foundWith (queryIn base between) h nodes t) (from (hi + 1 - lo) lo)
   unfolding foundFrom foundWith
   first-node lo hi l e f = nodes-step query (h .q .sorted) (h .q .m) (h .links) nodes t (placed .links-chosen) (placed .nodes-chosen) _ lo hi (λ z. omega arith) e f
 

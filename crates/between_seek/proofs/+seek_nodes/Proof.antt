@@ -83,8 +83,10 @@ unfolding foundFrom
     ))
     -- put-node-requires
     (λ c κs.
-    let p = c .before .before .before .before .before .before .before .before .before .before .before .before .before .before .pre .1 in
-    (omega (arith, c .before .before .before .before .before .before .before .before .if1 .left, p .0 .given .entered .few), omega (arith, c .before .before .loop .inv .0, c .before .loop-test .taken)))
+    let p = c .before .before .before .before .before .before .before .before .before .before .before .before .before .before .pre .1 in (
+      omega (arith, c .before .before .before .before .before .before .before .before .if1 .left, p .0 .given .entered .few),
+      omega (arith, c .before .before .loop .inv .0, c .before .loop-test .taken),
+    ))
     -- add-v
     (λ c. omega (arith, c .before .before .before .loop .inv .0, c .before .before .loop-test .taken))
     -- breaks-requires
