@@ -27,7 +27,8 @@
  *
  * The answer is one number. Below 65,536 it is the call's own answer; else the call was refused, and it is the refusal's
  * number times 65,536, plus its place, counted from 0 in the query. After a refusal all of the lent bytes are zero.
- * lemitsaka_hand_back alone answers otherwise, as it says.
+ * lemitsaka_join adds LEMITSAKA_SECOND to a refusal of its second query, and lemitsaka_hand_back alone answers otherwise, as they
+ * say.
  */
 #ifndef LEMITSAKA_H
 #define LEMITSAKA_H
@@ -194,7 +195,8 @@ uint64_t lemitsaka_join(const uint8_t *first, size_t first_len,
  *
  * The answer is 65,536 times the offset of the literal's own bytes in the first query, plus their length; for the second query
  * LEMITSAKA_SECOND is added. From LEMITSAKA_NO_PART on the call was refused, and lemitsaka_refusal and lemitsaka_place take the
- * answer apart as it is: 2 to 8 and 26 of the first query, the same of the second (the number does not say of which), then 25. */
+ * answer apart as it is: 2 to 8 and 26 of the first query; the same of the second, from LEMITSAKA_NO_PART + LEMITSAKA_SECOND on;
+ * then 25, at 0. */
 #define LEMITSAKA_NO_PART 1099511627776u
 uint64_t lemitsaka_hand_back(const uint8_t *first, size_t first_len,
                              const uint8_t *second, size_t second_len,

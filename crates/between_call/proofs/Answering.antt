@@ -82,9 +82,7 @@ module _ (base : List ℕ) (l : Layout) (between : List ℕ) (count : ℕ) (aske
   pub ready-given : (apart : List Bool) → Opposed apart (literalsIn base (l .«field_at») (l .«field_count»)) → Given base l between count apart
   ready-given apart opposed =
       record {
-        laid = asked .laid;
-        few = asked .few;
-        below = entry-below l base (asked .laid) (asked .passes);
+        entered = record { laid = asked .laid; few = asked .few; below = entry-below l base (asked .laid) (asked .passes) };
         between-fit = asked .between-fit;
         opposed = opposed;
       }

@@ -1,5 +1,5 @@
 -- The report's bytes are those of the heap that was found.
-use Prim.Native.Nat.{ℕ, _≤_}
+use Prim.Native.Nat.{ℕ, _≤_, _<_}
 use native.Mathlib.Omega.{arith}
 use mathlib.Core.Path.{_≡_, refl, sym, ap, _∙_}
 use mathlib.Core.Bool.{Bool, true, false, _&&_}
@@ -16,16 +16,17 @@ use Rattle.rows.specs.Square.{square}
 use Rattle.query.specs.declared.Layout.{Layout}
 use Rattle.query.proofs.Literals.{listed, fields-listed}
 use Rattle.query.proofs.Ranges.{field-number-term}
+use Rattle.heap_nodes.specs.Nodes.{nodeOf}
 use Rattle.report.specs.Bytes.{fieldHeld, literalsAt, FieldsIn, sections}
 use Rattle.report.proofs.Held.{byte-alike}
 use Rattle.report.proofs.Successors.{map-alike}
 use Rattle.between_search.specs.Search.{entry, dataByte, reportOf}
+use Rattle.between_tests.proofs.Laws.{node-read}
 use Rattle.between_seek.specs.Answers.{queryIn}
 use Rattle.between_call.specs.Promise.{Reportable}
 
-pub node-in : (nodes : List ℕ) (t u : ℕ) → t ≡ u → getD nodes t 0 ≡ entry nodes u
-unfolding entry
-node-in nodes t u e = ap (λ (x : ℕ). getD nodes x 0) e
+pub node-in : (nodes : List ℕ) (t u v : ℕ) → (v ≡ nodeOf nodes t) × (v < 256) → t ≡ u → v ≡ entry nodes u
+node-in nodes t u v h e = node-read nodes t v h ∙ ap (entry nodes) e
 
 -- the tests of a data literal, in the report's words and in the search's
 and-are : (a b c : Bool) → a and b and c ≡ (a && b && c)

@@ -32,9 +32,8 @@ fn mark_fields(query: &[u8], at: usize, count: usize, nodes: &[u8; 17]) -> [u32;
             continue;
         }
         let field = query::field(query, at, i);
-        let term = query::right(query, at, i);
-        let t = term.0;
-        let v = nodes[t] as usize;
+        let node = heap_nodes::node_of(nodes, query::right(query, at, i));
+        let v = node.0;
         marks[v] = marks[v] | rows::only(field);
     }
     marks

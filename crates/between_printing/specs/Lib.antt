@@ -1,1 +1,3 @@
 pub mod BetweenverdictText
+pub mod Reading
+pub mod Examples

@@ -14,4 +14,5 @@ pub mod Report
 pub mod Accepted
 pub mod Layouts
 pub mod SixLayout
+pub mod OwnChecks
 pub mod Promised

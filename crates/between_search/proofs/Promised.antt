@@ -15,12 +15,12 @@ use Rattle.logic.specs.Query.{sections, parts, firstByte, layoutOf, decode, ter
 use Rattle.logic.specs.Facts.{terms}
 use Rattle.logic.specs.Heap.{Heap, IsHeap, Meets, Satisfiable, value}
 use Rattle.logic.specs.Shown.{heapIn, wellFormed}
-use Rattle.logic.specs.Calls.{Input, Check, roomCheck, oneLinkForm, Answer, refused, satisfiable, refuted, Outcome, refusalOf, accepts, padded, blank, verdictCall}
-use Rattle.logic.specs.Demands.{NotRefused, FirstStands}
-use Rattle.theory.proofs.Basics.Search.{keep-none, any-alike}
+use Rattle.logic.specs.Calls.{Input, Check, layoutCheck, byteCheck, formChecks, roomUnder, roomCheck, oneLinkForm, Answer, refused, satisfiable, refuted, Outcome, refusalOf, accepts, padded, blank, verdictCall}
+use Rattle.logic.specs.Demands.{NotRefused, FirstStands, numbers}
+use Rattle.theory.proofs.Basics.Search.{none-some, keep-none, any-alike}
 use Rattle.theory.proofs.Completeness.Placed.{length-from}
 use Rattle.theory.proofs.Query.AcceptedBytes.{Passes, form-passes, query-passes, laid-out, sections-excesses}
-use Rattle.theory.proofs.Calls.CheckingOrder.{first-unique, first-stands, refusal-first}
+use Rattle.theory.proofs.Calls.CheckingOrder.{first-unique, first-stands, first-refusal, refusal-first}
 use Rattle.theory.proofs.Calls.CallLaws.{refusalOf-none, verdict-passed}
 use Rattle.theory.proofs.Calls.Refusals.{refused-one, one-link-laws}
 use Rattle.theory.proofs.Calls.VerdictCall.{VerdictCase, by-refusal, by-lines, by-model, verdict-case}
@@ -38,6 +38,7 @@ use Rattle.between_search.proofs.Sizes.{FoundFirst, none-right, some-ri
 use Rattle.between_search.proofs.Report.{shown-size, shown-link, shown-loop, shown-variable, shown-node, shown-is, shown-formed, shown-field}
 use Rattle.between_search.proofs.OneLink.{AcceptedSix}
 use Rattle.between_search.proofs.Accepted.{accepted-six, terms-first}
+use Rattle.between_search.proofs.OwnChecks.{many-terms-only, many-terms-stand, little-room-only, little-room-stands}
 use Rattle.between_search.proofs.Layouts.{base-same, betweens-none}
 
 -- answers are apart
@@ -229,6 +230,23 @@ refused-exactly query room k place = (forth (done query room), back (done query 
     back (is-heap c e f o) s = absurd (first-stands betweenChecks (given query room) k place (refusalOf-none betweenChecks (given query room) e) s)
     back (is-none e f o) s = absurd (first-stands betweenChecks (given query room) k place (refusalOf-none betweenChecks (given query room) e) s)
 
+-- a refusal is what the checks say
+module _ (query : List ℕ) (room k place : ℕ) where
+  by-checks : betweenCall query room .answer ≡ refused k place → refusalOf betweenChecks (given query room) ≡ some (refused k place)
+  by-checks h = first-refusal betweenChecks (given query room) k place (refused-exactly query room k place .0 h)
+
+  checks-refuse : refusalOf betweenChecks (given query room) ≡ some (refused k place) → betweenCall query room .answer ≡ refused k place
+  checks-refuse e = go (done query room)
+    where
+      go : Done query room → betweenCall query room .answer ≡ refused k place
+      go (is-refused a f o) = let same : some a ≡ some (refused k place) = sym f ∙ e in let q : a ≡ refused k place = cc in answer-of o ∙ blank-answer room a ∙ q
+      go (is-heap c f g o) = absurd (none-some (sym f ∙ e))
+      go (is-none f g o) = absurd (none-some (sym f ∙ e))
+
+checks-in-order : numbers betweenChecks ≡ 2 ∷ 3 ∷ 26 ∷ 4 ∷ 5 ∷ 6 ∷ 7 ∷ 8 ∷ 9 ∷ 21 ∷ []
+unfolding betweenChecks sixChecks formChecks layoutCheck byteCheck roomUnder fiveTermsCheck
+checks-in-order = refl
+
 -- a refusal is one of the checks'
 refusal-is : (query : List ℕ) (room : ℕ) (a : Answer) → refusalOf betweenChecks (given query room) ≡ some a → (k : ℕ) × (p : ℕ) × (a ≡ refused k p)
 refusal-is query room a e = let r = refusal-first betweenChecks (given query room) a e in (r .0, r .1, r .3)
@@ -314,6 +332,9 @@ between-promised =
     record {
       refused-exactly = refused-exactly;
       refusal-blank = refusal-blank;
+      checks-in-order = checks-in-order;
+      many-terms-exactly = λ query room place. (λ h. many-terms-only query room place (by-checks query room 21 place h), λ h. checks-refuse query room 21 place (many-terms-stand query room place h));
+      little-room-exactly = λ query room place. (λ h. little-room-only query room place (by-checks query room 9 place h), λ h. checks-refuse query room 9 place (little-room-stands query room place h));
       heap-exactly = heap-exactly;
       heap-first = heap-first;
       report-formed = report-formed;

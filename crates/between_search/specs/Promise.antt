@@ -10,10 +10,10 @@ use Rattle.logic.specs.Query.{termCount}
 use Rattle.logic.specs.Facts.{terms}
 use Rattle.logic.specs.Heap.{Heap, value}
 use Rattle.logic.specs.Shown.{heapIn, nodeIn, wellFormed}
-use Rattle.logic.specs.Calls.{Answer, Input, verdictCall}
-use Rattle.logic.specs.Demands.{NotRefused, FirstStands}
+use Rattle.logic.specs.Calls.{Answer, Input, roomCheck, verdictCall}
+use Rattle.logic.specs.Demands.{NotRefused, NoneStands, FirstStands, numbers}
 use Rattle.between.specs.Meaning.{BetweenQuery, MeetsBetween, SatisfiableBetween}
-use Rattle.between_search.specs.Bytes.{decodeSix, betweenChecks}
+use Rattle.between_search.specs.Bytes.{decodeSix, sixChecks, betweenChecks}
 use Rattle.between_search.specs.Search.{mostNodes}
 use Rattle.between_search.specs.Calls.{given, betweenCall}
 
@@ -38,6 +38,11 @@ pub record BetweenPromised : Type 0 where
   -- each refusal is the first in checking order that stands, and leaves zeros
   pub refused-exactly : (query : List ℕ) (room k place : ℕ) → (betweenCall query room .answer ≡ Answer.refused k place) ↔ FirstStands betweenChecks (given query room) k place
   pub refusal-blank : (query : List ℕ) (room k place : ℕ) → betweenCall query room .answer ≡ Answer.refused k place → betweenCall query room .lent ≡ replicate room 0
+  -- "Checks: 2 to 9 over six sections .., then 21 more than five terms"; 26 stands where R-13 has it. 21 exactly where none of the others
+  -- stands and the query has more than five terms, 9 exactly where none of the bytes' checks stands and the report has fewer than 53 bytes
+  pub checks-in-order : numbers betweenChecks ≡ 2 ∷ 3 ∷ 26 ∷ 4 ∷ 5 ∷ 6 ∷ 7 ∷ 8 ∷ 9 ∷ 21 ∷ []
+  pub many-terms-exactly : (query : List ℕ) (room place : ℕ) → (betweenCall query room .answer ≡ Answer.refused 21 place) ↔ ((place ≡ 0) × NoneStands (sixChecks ++ (roomCheck ∷ [])) (given query room) × (5 < termCount (decodeSix query .base)))
+  pub little-room-exactly : (query : List ℕ) (room place : ℕ) → (betweenCall query room .answer ≡ Answer.refused 9 place) ↔ ((place ≡ 0) × NoneStands sixChecks (given query room) × (room < 53))
   -- a heap exactly where some finite heap of any size meets the query, and the one shown is the first
   pub heap-exactly : (query : List ℕ) (room : ℕ) → NotRefused (betweenCall query room .answer) → (betweenCall query room .answer ≡ Answer.satisfiable) ↔ SatisfiableBetween (decodeSix query)
   pub heap-first : (query : List ℕ) (room : ℕ) → betweenCall query room .answer ≡ Answer.satisfiable → ShowsFirst (decodeSix query) (betweenCall query room .lent)

@@ -1,4 +1,4 @@
--- Some of the vectors, the edges of the counts of sections 5 and 6, and 9 before 21, as one table and one statement.
+-- Some of the vectors, the edges of the counts of sections 1, 5 and 6, and 9 before 21, as one table and one statement.
 use Prim.Native.Nat.{ℕ}
 use mathlib.Core.Path.{_≡_}
 use mathlib.Core.List.{List, [], _∷_, map}
@@ -43,6 +43,8 @@ samples =
     -- "up to 60 such literals": behind five empty sections their count stands at 5; with 60 the query ends inside the section, and 61 is too much
     ∷ sample (0 ∷ 0 ∷ 0 ∷ 0 ∷ 0 ∷ 60 ∷ []) 53 (refused 2 6) ([])
     ∷ sample (0 ∷ 0 ∷ 0 ∷ 0 ∷ 0 ∷ 61 ∷ []) 53 (refused 3 5) ([])
+    -- "for at most five terms": five variables are one node
+    ∷ sample (5 ∷ 0 ∷ 0 ∷ 0 ∷ 0 ∷ 0 ∷ 0 ∷ 0 ∷ 0 ∷ 0 ∷ 0 ∷ []) 53 satisfiable (1 ∷ 1 ∷ 5 ∷ 1 ∷ 1 ∷ 1 ∷ 1 ∷ 1 ∷ 1 ∷ 0 ∷ 1 ∷ 0 ∷ [])
     -- "2 to 9 .., then 21 more than five terms"
     ∷ sample (6 ∷ 0 ∷ 0 ∷ 0 ∷ 0 ∷ 0 ∷ 0 ∷ 0 ∷ 0 ∷ 0 ∷ 0 ∷ 0 ∷ []) 52 (refused 9 0) ([])
     ∷ []

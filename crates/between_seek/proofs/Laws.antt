@@ -103,7 +103,11 @@ module _ (q : BetweenQuery) (sorted : Bool) (m : ℕ) (links : List ℕ) where
   nodeTried k t xs v =
       cond (not (breaks q m (entry links) (entry (xs ++ (v ∷ []))) (termCount (q .base)) t)) (seekNodes q sorted m links k (suc t) (xs ++ (v ∷ []))) none
 
-  pub nodes-next : (k t : ℕ) (xs : List ℕ) (lo hi : ℕ) → lo ≡ lowestNode q (entry links) t (entry xs) → hi ≡ highestNode q sorted m (entry links) t (entry xs) → seekNodes q sorted m links (suc k) t xs ≡ firstOf (nodeTried k t xs) (from (hi + 1 - lo) lo)
+  pub nodes-next :
+      (k t : ℕ) (xs : List ℕ) (lo hi : ℕ) →
+      lo ≡ lowestNode q (entry links) t (entry xs) →
+      hi ≡ highestNode q sorted m (entry links) t (entry xs) →
+      seekNodes q sorted m links (suc k) t xs ≡ firstOf (nodeTried k t xs) (from (hi + 1 - lo) lo)
   unfolding seekNodes seek nodeTried
   nodes-next k t xs lo hi e f = ap₂ (λ (a b : ℕ). firstOf (nodeTried k t xs) (from (b + 1 - a) a)) (sym e) (sym f)
 
@@ -111,7 +115,10 @@ module _ (q : BetweenQuery) (sorted : Bool) (m : ℕ) (links : List ℕ) where
   unfolding nodeTried
   tried-breaks k t xs v h = rw h
 
-  pub tried-fits : (k t : ℕ) (xs : List ℕ) (v : ℕ) → breaks q m (entry links) (entry (xs ++ (v ∷ []))) (termCount (q .base)) t ≡ false → nodeTried k t xs v ≡ seekNodes q sorted m links k (t + 1) (xs ++ (v ∷ []))
+  pub tried-fits :
+      (k t : ℕ) (xs : List ℕ) (v : ℕ) →
+      breaks q m (entry links) (entry (xs ++ (v ∷ []))) (termCount (q .base)) t ≡ false →
+      nodeTried k t xs v ≡ seekNodes q sorted m links k (t + 1) (xs ++ (v ∷ []))
   unfolding nodeTried
   tried-fits k t xs v h = rw (h, add-one t)
 
@@ -177,7 +184,12 @@ chosen-size xs i c h =
     min-le a b = omega arith
 
 module _ (q : BetweenQuery) (sorted : Bool) (m : ℕ) (ls ns : List ℕ) (t : ℕ) (cl : Chosen ls (m + 1)) (cn : Chosen ns t) where
-  pub nodes-step : (left lo hi : ℕ) → (left ≡ 0 → ⊥) → lo ≡ lowestNode q (entry ls) t (entry ns) → hi ≡ highestNode q sorted m (entry ls) t (entry ns) → seekNodes q sorted m (take (m + 1) ls) left t (take t ns) ≡ firstOf (nodeTried q sorted m (take (m + 1) ls) (left - 1) t (take t ns)) (from (hi + 1 - lo) lo)
+  pub nodes-step :
+      (left lo hi : ℕ) →
+      (left ≡ 0 → ⊥) →
+      lo ≡ lowestNode q (entry ls) t (entry ns) →
+      hi ≡ highestNode q sorted m (entry ls) t (entry ns) →
+      seekNodes q sorted m (take (m + 1) ls) left t (take t ns) ≡ firstOf (nodeTried q sorted m (take (m + 1) ls) (left - 1) t (take t ns)) (from (hi + 1 - lo) lo)
   nodes-step zero lo hi d e f = absurd (d refl)
   nodes-step (suc k) lo hi d e f =
       nodes-next q sorted m (take (m + 1) ls) k t (take t ns) lo hi

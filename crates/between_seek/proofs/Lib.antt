@@ -1,2 +1,5 @@
 pub mod Sections
 pub mod Laws
+pub mod Breaking
+pub mod Naming
+pub mod Linking

@@ -18,11 +18,18 @@ use Rattle.logic.specs.Query.{Literal, Entries, namesNil, argumentOf, decode}
 use Rattle.query.specs.declared.Layout.{Layout}
 use Rattle.query.specs.LaysOut.{LaysOut, literalIn}
 use Rattle.query.proofs.Literals.{listed, literals-are, entry-is}
+use Rattle.heap_nodes.specs.Nodes.{nodeOf}
 use Rattle.between.specs.Meaning.{BetweenLiteral}
 use Rattle.between_search.specs.Tests.{stepCount, steps, agrees, duePair, dueTriple, pairBreaks, tripleBreaks, nilBreaks, saysField, hasField, opposed, fieldBreaks, isFresh, used}
 use Rattle.between_search.specs.Search.{entry}
 use Rattle.between_search.proofs.Due.{first-of, second-of}
-use Rattle.between_tests.specs.Tables.{Small, literalsIn}
+use Rattle.between_tests.specs.Tables.{Small, MadeTo, literalsIn}
+
+-- The node of a term, by the term-to-node list
+
+pub node-read : (nodes : List ℕ) (t r : ℕ) → (r ≡ nodeOf nodes t) × (r < 256) → r ≡ entry nodes t
+unfolding nodeOf entry
+node-read nodes t r h = h .0
 
 -- Step counts
 
@@ -65,17 +72,13 @@ pub column-of : (v w : ℕ) → w ≤ 5 → (6 * v + w) % 6 ≡ w
 column-of v w h = omega arith
 
 module _ {A : Type 0} (g : ℕ → ℕ → A) (d : A) where
-  -- the entries below i are made
-  abbrev pub MadeTo : List A → ℕ → Type 0
-  MadeTo table i = (j : ℕ) → j < i → getD table j d ≡ g (j / 6) (j % 6)
-
-  pub made-next : (table : List A) (i : ℕ) (a : A) → i < length table → a ≡ g (i / 6) (i % 6) → MadeTo table i → MadeTo (set table i a) (i + 1)
-  made-next table i a l e m j h = elim (ℕ-discrete j i) [
-    | yes q ↦ ap (λ (x : ℕ). getD (set table i a) x d) q ∙ getD-set-same table i a d l ∙ e ∙ ap₂ (λ (x y : ℕ). g x y) (ap (λ (x : ℕ). x / 6) (sym q)) (ap (λ (x : ℕ). x % 6) (sym q))
-    | no n ↦ getD-set-other table i j a d n ∙ m j (omega arith)
+  pub made-next : (table : List A) (v w : ℕ) (a : A) → length table ≡ 36 → v ≤ 5 → w ≤ 5 → a ≡ g v w → MadeTo g d table (6 * v + w) → MadeTo g d (set table (6 * v + w) a) (6 * v + (w + 1))
+  made-next table v w a l x y e m j h = elim (ℕ-discrete j (6 * v + w)) [
+    | yes q ↦ ap (λ (x : ℕ). getD (set table (6 * v + w) a) x d) q ∙ getD-set-same table (6 * v + w) a d (omega arith) ∙ e ∙ ap₂ (λ (x y : ℕ). g x y) (sym (row-of v w y)) (sym (column-of v w y)) ∙ ap (λ (x : ℕ). g (x / 6) (x % 6)) (sym q)
+    | no n ↦ getD-set-other table (6 * v + w) j a d n ∙ m j (omega arith)
   ]
 
-  pub made-all : (table : List A) (i : ℕ) → 36 ≤ i → MadeTo table i → (v w : ℕ) → v ≤ 5 → w ≤ 5 → getD table (6 * v + w) d ≡ g v w
+  pub made-all : (table : List A) (i : ℕ) → 6 ≤ i → MadeTo g d table (6 * i) → (v w : ℕ) → v ≤ 5 → w ≤ 5 → getD table (6 * v + w) d ≡ g v w
   made-all table i l m v w a b = m (6 * v + w) (omega arith) ∙ ap₂ (λ (x y : ℕ). g x y) (row-of v w b) (column-of v w b)
 
 -- Literals that are due

@@ -1,5 +1,5 @@
 -- The code's tables and literals in the words of the definitions.
-use Prim.Native.Nat.{ℕ, _+_, _*_, _≤_}
+use Prim.Native.Nat.{ℕ, _+_, _*_, _/_, _%_, _≤_, _<_}
 use mathlib.Core.Path.{_≡_}
 use mathlib.Core.Bool.{Bool, false}
 use mathlib.Core.List.{List}
@@ -13,6 +13,10 @@ use Rattle.between_search.specs.Search.{entry}
 -- numbers that a table of six rows has
 abbrev pub Small : List ℕ → Type 0
 Small xs = (i : ℕ) → entry xs i ≤ 5
+
+-- a table of six rows is made up to an entry: from v to w it is at 6 * v + w
+abbrev pub MadeTo : {A : Type 0} → (ℕ → ℕ → A) → A → List A → ℕ → Type 0
+MadeTo g d table i = (j : ℕ) → j < i → getD table j d ≡ g (j / 6) (j % 6)
 
 -- the least step counts of these links
 abbrev pub Stepped : List ℕ → (ℕ → ℕ) → Type 0

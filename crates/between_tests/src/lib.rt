@@ -14,29 +14,15 @@ ghost use Rattle.query.specs.LaysOut.{LaysOut, literalIn};
 ghost use Rattle.between_search.specs.Bytes.{triples};
 ghost use Rattle.between_search.specs.Tests.{steps, agrees, duePair, dueTriple, pairBreaks, tripleBreaks, nilBreaks, saysField, hasField, opposed, fieldBreaks, isFresh, used};
 ghost use Rattle.between_search.specs.Search.{entry};
-ghost use Rattle.between_tests.specs.Tables.{Small, Stepped, Opposed, literalsIn, tripleIn};
+ghost use Rattle.between_tests.specs.Tables.{Small, MadeTo, Stepped, Opposed, literalsIn, tripleIn};
 
-fn wide(byte: u8) -> usize
-    ensures { λ r. ⌜ r ≡ byte ⌝ }
-{
-    byte as usize
-}
-
-// The node that term t names, and the node that a link leads to.
-pub fn node_of(nodes: &[u8; 17], t: Term) -> Node
-    requires { ⌜ t .0 ≤ 16 ⌝ }
-    ensures { λ r. ⌜ r .0 ≡ entry (now (nodes .entry)) (t .0) ⌝ }
-{
-    let at = t.0;
-    Node(wide(nodes[at]))
-}
-
+// The node that a link leads to.
 pub fn link_of(links: &[u8; 17], v: Node) -> Node
     requires { ⌜ v .0 ≤ 16 ⌝ }
     ensures { λ r. ⌜ r .0 ≡ entry (now (links .entry)) (v .0) ⌝ }
 {
     let at = v.0;
-    Node(wide(links[at]))
+    Node(rows::wide(links[at]))
 }
 
 // The least step count from v to w, or 6 where w is not met.
@@ -56,16 +42,29 @@ fn step_count(links: &[u8; 17], v: Node, w: Node) -> usize
     6
 }
 
-// All of these: from v to w it is at 6 * v + w.
+// The counts from v into the table: to w it is at 6 * v + w.
+fn put_steps(table: &mut [u8; 36], links: &[u8; 17], v: Node)
+    requires { ⌜ Small (now links) × (v .0 ≤ 5) × (length (now table) ≡ 36) ⌝ }
+    ensures { λ r. ⌜ (length (now (table .exit)) ≡ 36) × (MadeTo (steps (entry (now (links .entry)))) 0 (now (table .entry)) (6 * v .0) → MadeTo (steps (entry (now (links .entry)))) 0 (now (table .exit)) (6 * v .0 + 6)) ⌝ }
+{
+    let row = 6 * v.0;
+    let mut w: usize = 0;
+    while w < 6 {
+        table[row + w] = step_count(links, v, Node(w)) as u8;
+        w += 1;
+    }
+}
+
+// All of these.
 pub fn step_table(links: &[u8; 17]) -> [u8; 36]
     requires { ⌜ Small (now links) ⌝ }
     ensures { λ r. ⌜ Stepped r (entry (now (links .entry))) ⌝ }
 {
     let mut table = [0u8; 36];
-    let mut i: usize = 0;
-    while i < 36 {
-        table[i] = step_count(links, Node(i / 6), Node(i % 6)) as u8;
-        i += 1;
+    let mut v: usize = 0;
+    while v < 6 {
+        put_steps(&mut table, links, Node(v));
+        v += 1;
     }
     table
 }
@@ -116,7 +115,11 @@ fn pair_breaks(
     if !due_pair(a, b, t) {
         return false;
     }
-    let count = step_of(table, node_of(nodes, a), node_of(nodes, b));
+    let count = step_of(
+        table,
+        heap_nodes::node_of(nodes, a),
+        heap_nodes::node_of(nodes, b),
+    );
     let held = count <= most;
     !agrees(query::sign(query, at, i), held)
 }
@@ -163,9 +166,9 @@ fn triple_breaks(bytes: &[u8], i: usize, table: &[u8; 36], nodes: &[u8; 17], t: 
     if !due_triple(x, y, z, t) {
         return false;
     }
-    let start = node_of(nodes, x);
-    let middle = step_of(table, start, node_of(nodes, y));
-    let end = step_of(table, start, node_of(nodes, z));
+    let start = heap_nodes::node_of(nodes, x);
+    let middle = step_of(table, start, heap_nodes::node_of(nodes, y));
+    let end = step_of(table, start, heap_nodes::node_of(nodes, z));
     let held = (middle <= end) & (end <= 5);
     !agrees(entries::byte_at(bytes, 4 * i) == 1, held)
 }
@@ -216,12 +219,12 @@ fn other_nil(query: &[u8], l: Layout, nodes: &[u8; 17], t: Term) -> bool
     requires { ⌜ LaysOut l (now query) × (1 ≤ t .0) × (t .0 ≤ l .terms) ⌝ }
     ensures { λ r. ⌜ r ≡ any (λ u. namesNil (decode (now (query .entry)) .entries) u && not (eqb (entry (now (nodes .entry)) u) (entry (now (nodes .entry)) (t .0)))) (from (t .0) 1) ⌝ }
 {
-    let v = node_of(nodes, t);
+    let v = heap_nodes::node_of(nodes, t);
     let end = t.0 + 1;
     let mut u: usize = 1;
     while u < end {
         let nil = is_nil(query, l, Term(u));
-        let w = node_of(nodes, Term(u));
+        let w = heap_nodes::node_of(nodes, Term(u));
         if nil & !(w.0 == v.0) {
             return true;
         }
@@ -238,7 +241,7 @@ pub fn nil_breaks(query: &[u8], l: Layout, links: &[u8; 17], nodes: &[u8; 17], t
     if !is_nil(query, l, t) {
         return false;
     }
-    let v = node_of(nodes, t);
+    let v = heap_nodes::node_of(nodes, t);
     let w = link_of(links, v);
     if w.0 != v.0 {
         return true;
@@ -288,16 +291,29 @@ fn is_opposed(query: &[u8], at: usize, count: usize, a: Term, b: Term) -> bool
     false
 }
 
-// All of these: a against b is at 6 * a + b.
+// The tests of a into the table: against b it is at 6 * a + b.
+fn put_opposed(table: &mut [bool; 36], query: &[u8], at: usize, count: usize, a: Term)
+    requires { ⌜ (at + 3 * count ≤ length (now query)) × (a .0 ≤ 5) × (length (now table) ≡ 36) ⌝ }
+    ensures { λ r. ⌜ (length (now (table .exit)) ≡ 36) × (MadeTo (opposed (literalsIn (now (query .entry)) at count)) false (now (table .entry)) (6 * a .0) → MadeTo (opposed (literalsIn (now (query .entry)) at count)) false (now (table .exit)) (6 * a .0 + 6)) ⌝ }
+{
+    let row = 6 * a.0;
+    let mut b: usize = 0;
+    while b < 6 {
+        table[row + b] = is_opposed(query, at, count, a, Term(b));
+        b += 1;
+    }
+}
+
+// All of these.
 pub fn opposed_table(query: &[u8], at: usize, count: usize) -> [bool; 36]
     requires { ⌜ at + 3 * count ≤ length (now query) ⌝ }
     ensures { λ r. ⌜ Opposed r (literalsIn (now (query .entry)) at count) ⌝ }
 {
     let mut table = [false; 36];
-    let mut i: usize = 0;
-    while i < 36 {
-        table[i] = is_opposed(query, at, count, Term(i / 6), Term(i % 6));
-        i += 1;
+    let mut a: usize = 0;
+    while a < 6 {
+        put_opposed(&mut table, query, at, count, Term(a));
+        a += 1;
     }
     table
 }
@@ -315,11 +331,11 @@ pub fn field_breaks(table: &[bool; 36], nodes: &[u8; 17], t: Term) -> bool
     requires { ⌜ (1 ≤ t .0) × (t .0 ≤ 5) ⌝ }
     ensures { λ r. ⌜ ((fields : List Literal) → Opposed (now (table .entry)) fields → r ≡ fieldBreaks fields (entry (now (nodes .entry))) (t .0)) ⌝ }
 {
-    let v = node_of(nodes, t);
+    let v = heap_nodes::node_of(nodes, t);
     let end = t.0 + 1;
     let mut u: usize = 1;
     while u < end {
-        let w = node_of(nodes, Term(u));
+        let w = heap_nodes::node_of(nodes, Term(u));
         let apart = opposed_of(table, Term(u), t);
         let back = opposed_of(table, t, Term(u));
         if (w.0 == v.0) & (apart | back) {
@@ -335,11 +351,11 @@ fn is_fresh(nodes: &[u8; 17], t: Term) -> bool
     requires { ⌜ (1 ≤ t .0) × (t .0 ≤ 16) ⌝ }
     ensures { λ r. ⌜ r ≡ isFresh (entry (now (nodes .entry))) (t .0) ⌝ }
 {
-    let v = node_of(nodes, t);
+    let v = heap_nodes::node_of(nodes, t);
     let end = t.0;
     let mut u: usize = 1;
     while u < end {
-        let w = node_of(nodes, Term(u));
+        let w = heap_nodes::node_of(nodes, Term(u));
         if w.0 == v.0 {
             return false;
         }

@@ -1,6 +1,6 @@
-// Runs a row of cases, each of one of 01's two calls or of one that 02 asks for, and prints a line for each: what the call answers, and what
-// it leaves in the lent bytes, in hex. A case is a byte that names the call, three parts, each after its length in two bytes, high byte first
-// (a call that takes fewer has empty ones), and in two bytes how many bytes are lent. They are lent full of 255.
+// Runs a row of cases, each of a call or of what a program prints, and prints a line for each: what the call answers, and every byte that was
+// lent; or the program's text. A case is a byte that names the call, three parts, each after its length in two bytes, high byte first (a call that
+// takes fewer has empty ones), and in two bytes how many bytes are lent. They are lent full of 255.
 use between_call::BetweenAnswer;
 use checker::CheckAnswer;
 use dot::DotAnswer;
@@ -40,25 +40,6 @@ fn print_bytes(bytes: &[u8], count: usize) {
     }
 }
 
-fn print_refusal(k: usize, place: usize) {
-    print_word(b"refused ");
-    print_number(k);
-    print_word(b" at ");
-    print_number(place);
-}
-
-// "That is 2m+n+5 bytes", where they are there.
-fn report_size(report: &[u8]) -> usize {
-    if report.len() < 1 {
-        return 0;
-    }
-    let m = wide(report[0]);
-    if report.len() <= m + 1 {
-        return 0;
-    }
-    m + wide(report[m + 1]) + m + 5
-}
-
 // How many bytes there are without the zeros at the end.
 fn used(bytes: &[u8]) -> usize
     ensures { λ r. ⌜ r ≤ length (now (bytes .entry)) ⌝ }
@@ -73,13 +54,8 @@ fn used(bytes: &[u8]) -> usize
     0
 }
 
-// The answer of 01's calls, and all that was lent: in hex as far as the last byte that is not zero, and how many zeros follow.
-fn print_answer(answer: Answer, out: &[u8]) {
-    match answer {
-        Answer::Satisfiable => print_word(b"sat"),
-        Answer::Refuted => print_word(b"refuted"),
-        Answer::Refused(k, place) => print_refusal(k, place),
-    }
+// All bytes: in hex as far as the last one that is not zero, and how many zeros follow.
+fn print_lent(out: &[u8]) {
     print_word(b" ");
     let n = used(out);
     print_bytes(out, n);
@@ -87,13 +63,38 @@ fn print_answer(answer: Answer, out: &[u8]) {
     print_number(out.len() - n);
 }
 
+fn print_refusal(k: usize, place: usize) {
+    print_word(b"refused ");
+    print_number(k);
+    print_word(b" at ");
+    print_number(place);
+}
+
+// A refusal that is about one of two queries.
+fn print_refusal_of(k: usize, place: usize, query: &[u8]) {
+    print_refusal(k, place);
+    print_word(query);
+}
+
+// What was written, and how long it is.
+fn print_written(word: &[u8], length: usize) {
+    print_word(word);
+    print_number(length);
+}
+
+// 01's calls, and R-11's
+fn print_answer(answer: Answer) {
+    match answer {
+        Answer::Satisfiable => print_word(b"sat"),
+        Answer::Refuted => print_word(b"refuted"),
+        Answer::Refused(k, place) => print_refusal(k, place),
+    }
+}
+
 // R-2
 fn run_dot(report: &[u8], out: &mut [u8]) {
     match dot::dot(report, out) {
-        DotAnswer::Written(length) => {
-            print_word(b"text ");
-            print_bytes(out, length);
-        }
+        DotAnswer::Written(length) => print_written(b"text ", length),
         DotAnswer::Refused(k, place) => print_refusal(k, place),
     }
 }
@@ -101,14 +102,8 @@ fn run_dot(report: &[u8], out: &mut [u8]) {
 // R-6
 fn run_order(sheet: &[u8], out: &mut [u8]) {
     match precedence::order_of(sheet, out) {
-        OrderAnswer::Order => {
-            print_word(b"order ");
-            print_bytes(out, out.len());
-        }
-        OrderAnswer::Ring => {
-            print_word(b"none ");
-            print_bytes(out, out.len());
-        }
+        OrderAnswer::Order => print_word(b"order"),
+        OrderAnswer::Ring => print_word(b"none"),
         OrderAnswer::Refused(k, place) => print_refusal(k, place),
     }
 }
@@ -116,25 +111,17 @@ fn run_order(sheet: &[u8], out: &mut [u8]) {
 // R-7
 fn run_formula(order: &[u8], query: &[u8], formula: &[u8], out: &mut [u8]) {
     match formula_call::formula(order, query, formula, out) {
-        FormulaAnswer::Conjunction(n) => {
-            print_word(b"sat ");
-            print_number(n);
-            print_word(b" ");
-            print_bytes(out, report_size(out));
-        }
+        FormulaAnswer::Conjunction(n) => print_written(b"sat ", n),
         FormulaAnswer::Refuted => print_word(b"refuted"),
         FormulaAnswer::Refused(k, place) => print_refusal(k, place),
     }
 }
 
 // R-8
-fn run_check(query: &[u8], derivation: &[u8]) {
+fn print_check(query: &[u8], derivation: &[u8]) {
     match checker::check(query, derivation) {
         CheckAnswer::Accepted => print_word(b"accepted"),
-        CheckAnswer::Wrong(line) => {
-            print_word(b"wrong ");
-            print_number(line);
-        }
+        CheckAnswer::Wrong(line) => print_written(b"wrong ", line),
         CheckAnswer::Refused(k, place) => print_refusal(k, place),
     }
 }
@@ -142,10 +129,7 @@ fn run_check(query: &[u8], derivation: &[u8]) {
 // R-10
 fn run_between(query: &[u8], out: &mut [u8]) {
     match between_call::between(query, out) {
-        BetweenAnswer::Heap => {
-            print_word(b"heap ");
-            print_bytes(out, report_size(out));
-        }
+        BetweenAnswer::Heap => print_word(b"heap"),
         BetweenAnswer::Nothing => print_word(b"none"),
         BetweenAnswer::Refused(k, place) => print_refusal(k, place),
     }
@@ -154,89 +138,106 @@ fn run_between(query: &[u8], out: &mut [u8]) {
 // R-12
 fn run_join(first: &[u8], second: &[u8], pairs: &[u8], out: &mut [u8]) {
     match joiner::join(first, second, pairs, out) {
-        JoinAnswer::Written(length) => {
-            print_word(b"query ");
-            print_bytes(out, length);
-        }
-        JoinAnswer::FirstRefused(k, place) => print_refusal(k, place),
-        JoinAnswer::SecondRefused(k, place) => print_refusal(k, place),
+        JoinAnswer::Written(length) => print_written(b"query ", length),
+        JoinAnswer::FirstRefused(k, place) => print_refusal_of(k, place, b" of the first query"),
+        JoinAnswer::SecondRefused(k, place) => print_refusal_of(k, place, b" of the second query"),
         JoinAnswer::Refused(k, place) => print_refusal(k, place),
     }
 }
 
-// "hand back that literal's own bytes": from which query, where, and the bytes
-fn print_part<'a>(
-    query: usize,
-    at: usize,
-    size: usize,
-    first: &'a [u8],
-    second: &'a [u8],
-    line: &[u8],
-) {
+// From which query a literal is handed back, where it stands there, and how long it is.
+fn print_place(query: usize, at: usize, size: usize) {
     print_word(b"part ");
     print_number(query);
     print_word(b" ");
     print_number(at);
     print_word(b" ");
     print_number(size);
-    print_word(b" ");
-    let bytes = joiner::hand_back(first, second, line);
-    print_bytes(bytes, bytes.len());
 }
 
-fn run_hand_back<'a>(first: &'a [u8], second: &'a [u8], line: &[u8]) {
+// "a call beside it gives number and place"
+fn print_hand_back(first: &[u8], second: &[u8], line: &[u8]) {
     match joiner::find_named(first, second, line) {
-        HandBack::InFirst(at, size) => print_part(1, at, size, first, second, line),
-        HandBack::InSecond(at, size) => print_part(2, at, size, first, second, line),
-        HandBack::FirstRefused(k, place) => print_refusal(k, place),
-        HandBack::SecondRefused(k, place) => print_refusal(k, place),
+        HandBack::InFirst(at, size) => print_place(1, at, size),
+        HandBack::InSecond(at, size) => print_place(2, at, size),
+        HandBack::FirstRefused(k, place) => print_refusal_of(k, place, b" of the first query"),
+        HandBack::SecondRefused(k, place) => print_refusal_of(k, place, b" of the second query"),
         HandBack::Refused(k, place) => print_refusal(k, place),
     }
 }
 
-// R-13
-fn run_rewrite(query: &[u8], out: &mut [u8]) {
-    match rewriter::rewrite(query, out) {
-        Rewritten::Written(length) => {
-            print_word(b"query ");
-            print_bytes(out, length);
-        }
+// R-13, and R-11's rewriting with link 1
+fn print_rewritten(answer: Rewritten) {
+    match answer {
+        Rewritten::Written(length) => print_written(b"query ", length),
         Rewritten::Refused(k, place) => print_refusal(k, place),
     }
 }
 
-// 01's calls are named by a letter, another by its request's number, R-12's hand-back by any other byte.
+// A call with lent bytes: those of 01 and R-11 are named by a letter, another by its request's number.
+fn print_call(call: u8, a: &[u8], b: &[u8], c: &[u8], out: &mut [u8]) {
+    match call {
+        b'v' => print_answer(prover::verdict(a, b, out)),
+        b'd' => print_answer(prover::derivation(a, b, out)),
+        b'V' => print_answer(prover::links_verdict(a, b, out)),
+        b'D' => print_answer(prover::links_derivation(a, b, out)),
+        2 => run_dot(a, out),
+        6 => run_order(a, out),
+        7 => run_formula(a, b, c, out),
+        10 => run_between(a, out),
+        11 => print_rewritten(link_rewriter::rewrite(a, out)),
+        12 => run_join(a, b, c, out),
+        _ => print_rewritten(rewriter::rewrite(a, out)),
+    }
+}
+
+// Its answer, and all that was lent.
+fn run_call(call: u8, a: &[u8], b: &[u8], c: &[u8], out: &mut [u8]) {
+    print_call(call, a, b, c, out);
+    print_lent(out);
+    print_word(b"\n");
+}
+
+fn run_check(query: &[u8], derivation: &[u8]) {
+    print_check(query, derivation);
+    print_word(b"\n");
+}
+
+// "hand back that literal's own bytes", none where it is refused
+fn run_hand_back<'a>(first: &'a [u8], second: &'a [u8], line: &[u8]) {
+    print_hand_back(first, second, line);
+    print_lent(joiner::hand_back(first, second, line));
+    print_word(b"\n");
+}
+
+// What a program makes of its input, named by a letter: the length of its text.
+fn program_text(program: u8, input: &[u8], out: &mut [u8]) -> usize {
+    match program {
+        b'f' => formula_printing::put_text(out, input),
+        b'b' => between_printing::put_text(out, input),
+        b'c' => check_printing::put_text(out, input),
+        b'j' => join_printing::put_text(out, input),
+        b'r' => rewrite_printing::put_text(out, input),
+        _ => link_printing::put_text(out, input),
+    }
+}
+
+// The text, which ends its lines itself.
+fn run_program(program: u8, input: &[u8], out: &mut [u8]) {
+    let n = program_text(program, input, out);
+    if out.len() < n {
+        return;
+    }
+    print_word(&out[..n]);
+}
+
 fn run_case<'a>(call: u8, a: &'a [u8], b: &'a [u8], c: &[u8], out: &mut [u8]) {
-    if call == b'v' {
-        let answer = prover::verdict(a, b, out);
-        return print_answer(answer, out);
+    match call {
+        0 => run_hand_back(a, b, c),
+        8 => run_check(a, b),
+        b'b' | b'c' | b'f' | b'j' | b'l' | b'r' => run_program(call, a, out),
+        _ => run_call(call, a, b, c, out),
     }
-    if call == b'd' {
-        let answer = prover::derivation(a, b, out);
-        return print_answer(answer, out);
-    }
-    if call == 2 {
-        return run_dot(a, out);
-    }
-    if call == 6 {
-        return run_order(a, out);
-    }
-    if call == 7 {
-        return run_formula(a, b, c, out);
-    }
-    if call == 8 {
-        return run_check(a, b);
-    }
-    if call == 10 {
-        return run_between(a, out);
-    }
-    if call == 12 {
-        return run_join(a, b, c, out);
-    }
-    if call == 13 {
-        return run_rewrite(a, out);
-    }
-    run_hand_back(a, b, c)
 }
 
 // A number of two bytes, or 65536 where they are not there.
@@ -259,18 +260,27 @@ fn read_part(part: &mut [u8], size: usize) -> bool {
     size <= got
 }
 
-// Parts of these sizes, and so many bytes lent: whether there is room for them.
+// The sizes of the parts, and how many bytes are lent.
+struct Sizes {
+    first: usize,
+    second: usize,
+    third: usize,
+    room: usize,
+}
+
+// Parts of these sizes: whether there is room for them.
 fn run_sized<'a>(
     call: u8,
+    sizes: Sizes,
     a: &'a [u8],
-    i: usize,
     b: &'a [u8],
-    j: usize,
     c: &[u8],
-    k: usize,
     out: &mut [u8],
-    room: usize,
 ) -> bool {
+    let i = sizes.first;
+    let j = sizes.second;
+    let k = sizes.third;
+    let room = sizes.room;
     if a.len() < i {
         return false;
     }
@@ -284,7 +294,6 @@ fn run_sized<'a>(
         return false;
     }
     run_case(call, &a[..i], &b[..j], &c[..k], &mut out[..room]);
-    print_word(b"\n");
     true
 }
 
@@ -294,12 +303,12 @@ fn run_one() -> bool {
     if io::read_full(0, &mut call) < 1 {
         return false;
     }
-    let mut first = [0u8; 1024];
+    let mut first = [0u8; 65535];
     let i = read_number();
     if !read_part(&mut first, i) {
         return false;
     }
-    let mut second = [0u8; 1024];
+    let mut second = [0u8; 65535];
     let j = read_number();
     if !read_part(&mut second, j) {
         return false;
@@ -311,7 +320,13 @@ fn run_one() -> bool {
     }
     let mut out = [255u8; 64002];
     let room = read_number();
-    run_sized(call[0], &first, i, &second, j, &third, k, &mut out, room)
+    let sizes = Sizes {
+        first: i,
+        second: j,
+        third: k,
+        room: room,
+    };
+    run_sized(call[0], sizes, &first, &second, &third, &mut out)
 }
 
 // A proved loop has to end, so it counts down from a number that no run uses up.

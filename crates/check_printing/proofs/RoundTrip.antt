@@ -4,7 +4,7 @@ use native.Mathlib.Omega.{arith}
 use mathlib.Core.Path.{_≡_, refl, sym, ap, _∙_}
 use mathlib.Core.Bool.{Bool, true, false}
 use mathlib.Core.Logic.{⊎-elim}
-use mathlib.Core.List.{List, [], _∷_, _++_, append-assoc}
+use mathlib.Core.List.{List, [], _∷_, _++_, append-assoc, List·Memᴰ·head, List·Memᴰ·tail}
 use mathlib.Core.Option.{Option, some, Option·elim}
 use lib.ListN.{length, length-append}
 use borrow.Author.Tests.{lt-ltb, le-ltb}
@@ -21,7 +21,9 @@ use Rattle.text.proofs.Pinned.{decimal-reads, decimal-digits}
 use Rattle.wording.specs.Words.{lineText}
 use Rattle.wording.proofs.Texts.{line-words}
 use Rattle.checking.specs.CheckCall.{accepted, checkCall}
-use Rattle.checking.proofs.Claims.{claims}
+use Rattle.checking.specs.Claims.{Bytes, AllBytes}
+use Rattle.checking.proofs.Bytes.{derivation-bytes}
+use Rattle.checking.proofs.Claims.{derivation-accepted}
 use Rattle.decimal_lines.specs.DecimalLines.{endsNumber, nextPlace, isBetween, prepend, numbersFrom, newlineIn, newlines}
 use Rattle.check_printing.specs.CheckText.{textBytes}
 use Rattle.decimal_lines.proofs.Reading.{digit-range, newline-not, prepend-more}
@@ -32,10 +34,14 @@ unfolding numberFrom
 number-grows v [] = omega arith
 number-grows v (d ∷ ds) = omega (arith, number-grows (10 * v + (d - 48)) ds)
 
+-- the number that a digit goes on with
+abbrev goesOn : ℕ → ℕ → ℕ
+goesOn v d = 10 * v + (d - 48)
+
 module _ (place : ℕ) (rest : List ℕ) where
-  digit-read : (v d : ℕ) (begun : Bool) (ds : List ℕ) → isDigit d ≡ true → 10 * v + (d - 48) ≤ 255 → numbersFrom place v begun (d ∷ (ds ++ rest)) ≡ numbersFrom place (10 * v + (d - 48)) true (ds ++ rest)
+  digit-read : (v d : ℕ) (begun : Bool) (ds : List ℕ) → isDigit d ≡ true → goesOn v d ≤ 255 → numbersFrom place v begun (d ∷ (ds ++ rest)) ≡ numbersFrom place (goesOn v d) true (ds ++ rest)
   unfolding numbersFrom
-  digit-read v d begun ds e l = rw (e, le-ltb 255 (10 * v + (d - 48)) l) refl
+  digit-read v d begun ds e l = rw (e, le-ltb 255 (goesOn v d) l) refl
 
   digits-read : (v : ℕ) (ds : List ℕ) → all isDigit ds ≡ true → numberFrom v ds ≤ 255 → numbersFrom place v true (ds ++ rest) ≡ numbersFrom place (numberFrom v ds) true rest
   unfolding numberFrom all
@@ -77,10 +83,6 @@ end-read k rest = refl
 number-read : (place k : ℕ) (rest : List ℕ) → place < 3 → k < 256 → numbersFrom place 0 false (decimal k ++ (ascii " " ++ rest)) ≡ prepend (k ∷ []) (numbersFrom (place + 1) 0 false rest)
 number-read place k rest p h = decimal-read place k (ascii " " ++ rest) h ∙ blank-read place k rest p
 
--- four numbers below 256
-abbrev pub Bytes : Line → Type 0
-Bytes (line a b c d) = (a < 256) × (b < 256) × (c < 256) × (d < 256)
-
 abbrev words : ℕ → ℕ → ℕ → ℕ → List ℕ → List ℕ
 words a b c d rest = decimal a ++ (ascii " " ++ (decimal b ++ (ascii " " ++ (decimal c ++ (ascii " " ++ (decimal d ++ (ascii "\n" ++ rest)))))))
 
@@ -104,11 +106,6 @@ line-read (line a b c d) rest (p, q, r, s) =
     ∙ ap (prepend (a ∷ [])) (prepend-more (b ∷ []) (c ∷ d ∷ []) _)
     ∙ prepend-more (a ∷ []) (b ∷ c ∷ d ∷ []) _
 
--- every line's numbers are bytes
-pub data AllBytes : List Line → Type 0 where
-  no-line : AllBytes []
-  one-more : (l : Line) {ls : List Line} → Bytes l → AllBytes ls → AllBytes (l ∷ ls)
-
 prepended : (ns ms : List ℕ) → prepend ns (some ms) ≡ some (ns ++ ms)
 unfolding prepend Option·elim
 prepended ns ms = refl
@@ -116,8 +113,10 @@ prepended ns ms = refl
 lines-read : (ls : List Line) → AllBytes ls → numbersFrom 0 0 false (flatMap lineText ls) ≡ some (flatMap lineBytes ls)
 unfolding flatMap numbersFrom isBetween keep _and_
 lines-read [] b = refl
-lines-read (l ∷ ls) (one-more _ b bs) =
-    line-read l (flatMap lineText ls) b ∙ ap (prepend (lineBytes l)) (lines-read ls bs) ∙ prepended (lineBytes l) (flatMap lineBytes ls)
+lines-read (l ∷ ls) b =
+    line-read l (flatMap lineText ls) (b l (List·Memᴰ·head refl))
+    ∙ ap (prepend (lineBytes l)) (lines-read ls (λ k m. b k (List·Memᴰ·tail m)))
+    ∙ prepended (lineBytes l) (flatMap lineBytes ls)
 
 -- a newline each, and at most 16 bytes
 newlines-append : (xs ys : List ℕ) → newlines (xs ++ ys) ≡ newlines xs + newlines ys
@@ -154,19 +153,38 @@ lines-counted (line a b c d ∷ ls) = omega (arith, newlines-line a b c d (flatM
 
 line-short : (a b c d : ℕ) (rest : List ℕ) → Bytes (line a b c d) → length (lineText (line a b c d) ++ rest) ≤ 16 + length rest
 line-short a b c d rest (p, q, r, s) =
-    omega (arith, ap length (line-spread a b c d rest), length-append (decimal a) (ascii " " ++ (decimal b ++ (ascii " " ++ (decimal c ++ (ascii " " ++ (decimal d ++ (ascii "\n" ++ rest))))))), length-append (decimal b) (ascii " " ++ (decimal c ++ (ascii " " ++ (decimal d ++ (ascii "\n" ++ rest))))), length-append (decimal c) (ascii " " ++ (decimal d ++ (ascii "\n" ++ rest))), length-append (decimal d) (ascii "\n" ++ rest), decimal-byte a p, decimal-byte b q, decimal-byte c r, decimal-byte d s)
+    let last : List ℕ = ascii "\n" ++ rest in
+    let third : List ℕ = ascii " " ++ (decimal d ++ last) in
+    let second : List ℕ = ascii " " ++ (decimal c ++ third) in
+    let first : List ℕ = ascii " " ++ (decimal b ++ second) in
+    omega (
+      arith,
+      ap length (line-spread a b c d rest),
+      length-append (decimal a) first,
+      length-append (decimal b) second,
+      length-append (decimal c) third,
+      length-append (decimal d) last,
+      decimal-byte a p,
+      decimal-byte b q,
+      decimal-byte c r,
+      decimal-byte d s,
+    )
 
 lines-short : (ls : List Line) → AllBytes ls → length (flatMap lineText ls) ≤ 16 * length ls
 unfolding flatMap
 lines-short [] b = omega arith
-lines-short (line a b c d ∷ ls) (one-more _ p ps) = omega (arith, line-short a b c d (flatMap lineText ls) p, lines-short ls ps)
+lines-short (line a b c d ∷ ls) p =
+    omega (arith, line-short a b c d (flatMap lineText ls) (p (line a b c d) (List·Memᴰ·head refl)), lines-short ls (λ k m. p k (List·Memᴰ·tail m)))
 
--- the lines as heapverdict prints them are read back as the derivation's bytes
-pub printed-read : (ls : List Line) → AllBytes ls → length ls ≤ 16000 → textBytes (flatMap lineText ls) ≡ derivationBytes ls
+text-lines : (ls : List Line) → AllBytes ls → length ls ≤ 16000 → textBytes (flatMap lineText ls) ≡ derivationBytes ls
 unfolding textBytes derivationBytes Option·elim
-printed-read ls b h =
+text-lines ls b h =
     rw (le-ltb 256000 (length (flatMap lineText ls)) (omega (arith, lines-short ls b)), lines-counted ls, le-ltb 16000 (length ls) h, lines-read ls b) refl
 
+-- the lines of a derivation as heapverdict prints them are read back as its bytes
+pub printed-read : (query : List ℕ) (ls : List Line) → accepts query ≡ true → Derivation (decode query) ls → length ls ≤ 16000 → textBytes (flatMap lineText ls) ≡ derivationBytes ls
+printed-read query ls a d h = text-lines ls (derivation-bytes query a d) h
+
 -- so that what refutes a query is accepted as heapverdict would print it
-pub printed-accepted : (query : List ℕ) (ls : List Line) → AllBytes ls → length ls ≤ 16000 → accepts query ≡ true → Derivation (decode query) ls → checkCall query (textBytes (flatMap lineText ls)) ≡ accepted
-printed-accepted query ls b h a d = ap (checkCall query) (printed-read ls b h) ∙ claims .hand-accepted query ls a d h
+pub printed-accepted : (query : List ℕ) (ls : List Line) → accepts query ≡ true → Derivation (decode query) ls → length ls ≤ 16000 → checkCall query (textBytes (flatMap lineText ls)) ≡ accepted
+printed-accepted query ls a d h = ap (checkCall query) (printed-read query ls a d h) ∙ derivation-accepted query ls a d h

@@ -1,124 +1,21 @@
--- The numbers of a rule that applies are terms, or the steps of a cycle: at most as many as there are terms.
-use Prim.Native.Nat.{ℕ, zero, suc, _-_, _≤_, _<_}
+-- Rule steps from the start: how many are left at a path, and that the numbers of a rule that applies there are terms.
+use Prim.Native.Nat.{ℕ, suc, _-_, _≤_}
 use native.Mathlib.Omega.{arith}
-use mathlib.Core.Path.{_≡_, refl, ap, _∙_, subst}
-use mathlib.Core.Logic.{⊎-elim}
-use mathlib.Core.Bool.{Bool, true, false, cond, false≢true}
-use mathlib.Core.List.{List·Memᴰ, List·Memᴰ·head, List·Memᴰ·tail}
-use lib.Dec.{eqb}
-use Rattle.logic.specs.Search.{_and_}
-use Rattle.logic.specs.Heap.{iterate, Reaches}
+use mathlib.Core.Path.{_≡_, subst}
+use mathlib.Core.Bool.{true}
+use mathlib.Core.List.{List·Memᴰ}
 use Rattle.logic.specs.Query.{Query, termCount}
-use Rattle.logic.specs.Facts.{Graph, Facts, live, start}
-use Rattle.logic.specs.Rules.{Rule, REFLEX, TRANS1, TRANS2, FUNC, CYCLE, SCC, TOTAL, SHARE, triple, Move, move, Fact, next, returns, round, conditions, alternatives, applies, add, branches}
+use Rattle.logic.specs.Facts.{Facts, start}
+use Rattle.logic.specs.Rules.{Rule, triple, Move, move, Fact, alternatives, applies, add, branches}
 use Rattle.logic.specs.Walk.{limit}
-use Rattle.logic.specs.Steps.{Steps, at-first, one-more}
-use Rattle.theory.proofs.Basics.Search.{and-left, and-right, true-false, map-intro}
-use Rattle.theory.proofs.Basics.Compare.{eqb-true, eqb-intro, le-cases}
-use Rattle.theory.proofs.Graph.Cycles.{Within, cycle-short}
+use Rattle.logic.specs.Steps.{Step, Steps, at-first, one-more}
+use Rattle.theory.proofs.Basics.Search.{map-intro}
 use Rattle.theory.proofs.Query.Tied.{Accepted}
-use Rattle.theory.proofs.Paths.Ranged.{InRange, live-range}
-use Rattle.theory.proofs.Paths.Applies.{applies-met}
-use Rattle.theory.proofs.Paths.Kept.{Sane}
-use Rattle.theory.proofs.Paths.Round.{returns-cases, round-all}
 use Rattle.theory.proofs.Paths.Invariant.{Invariant, start-invariant, branch-invariant}
 use Rattle.theory.proofs.Walks.Gains.{applies-step}
 use Rattle.theory.proofs.Walks.Limit.{start-atMost}
+use Rattle.checking.proofs.Numbers.{move-numbers}
 use Rattle.checker.specs.Ahead.{Ahead}
-
--- A cycle of links
-
-module _ (n : ℕ) (g : Graph) (x : ℕ) where
-  returns-there : (k c : ℕ) → returns n g x k c ≡ true → iterate (next n g) k c ≡ x
-  unfolding returns iterate
-  returns-there zero c h = absurd (false≢true h)
-  returns-there (suc k) c h = ⊎-elim (λ e. ap (λ (j : ℕ). iterate (next n g) j (next n g c)) (e .1) ∙ e .0) (returns-there k (next n g c)) (returns-cases n g x k c h)
-
-  not-before : (k c : ℕ) → returns n g x k c ≡ true → (j : ℕ) → suc j < k → iterate (next n g) (suc j) c ≡ x → ⊥
-  unfolding returns iterate
-  not-before zero c h j l e = omega arith
-  not-before (suc k) c h j l e = go (eqb (next n g c) x) refl h (not-before k (next n g c)) j l e
-    where
-      go : (b : Bool) → eqb (next n g c) x ≡ b → cond b (eqb k 0) (returns n g x k (next n g c)) ≡ true → (returns n g x k (next n g c) ≡ true → (j : ℕ) → suc j < k → iterate (next n g) (suc j) (next n g c) ≡ x → ⊥) → (j : ℕ) → suc j < suc k → iterate (next n g) j (next n g c) ≡ x → ⊥
-      go true f h ih j l e = omega (arith, eqb-true k 0 h)
-      go false f h ih zero l e = true-false (eqb-intro e) f
-      go false f h ih (suc j) l e = ih h j (omega arith) e
-
-  in-round : (k c i : ℕ) → i < k → List·Memᴰ (iterate (next n g) i c) (round n g k c)
-  unfolding round iterate
-  in-round zero c i l = absurd (omega arith)
-  in-round (suc k) c zero l = List·Memᴰ·head refl
-  in-round (suc k) c (suc i) l = List·Memᴰ·tail (in-round k (next n g c) i (omega arith))
-
-  cycle-steps : InRange n x → ((a b : ℕ) → g .link a b ≡ true → InRange n a × InRange n b) → (k : ℕ) → returns n g x k x ≡ true → k ≤ n
-  unfolding Reaches returns iterate
-  cycle-steps r linked zero h = omega arith
-  cycle-steps r linked (suc k) h =
-      ⊎-elim (λ l. l)
-      (λ l.
-      let within : Within (next n g) n x = λ i m. round-all n g x (r .0) (λ a b e. linked a b e .0 .0) (InRange n) (λ a b e. linked a b e .1) (suc k) x h r (iterate (next n g) i x) (in-round (suc k) x i (omega arith)) in
-      let (d, m, e) = cycle-short (next n g) n x within (k, returns-there (suc k) x h) in
-      absurd (not-before (suc k) x h d (omega arith) e))
-      (le-cases (suc k) n)
-
--- The numbers of a move
-
-module _ (n : ℕ) (s : Facts) (sane : Sane n s) (i : ℕ) where
-  abbrev Numbers : ℕ → ℕ → ℕ → Type 0
-  Numbers x y z = (x ≤ n) × (y ≤ n) × (z ≤ n)
-
-  abbrev G : Graph
-  G = s .graph i
-
-  linked : (a b : ℕ) → G .link a b ≡ true → InRange n a × InRange n b
-  linked a b h = let l = sane .ranged .link-live i a b h in (live-range n s a (l .0), live-range n s b (l .1))
-
-  reached : (a b : ℕ) → G .reach a b ≡ true → InRange n a × InRange n b
-  reached a b h = let l = sane .ranged .reach-live i a b h in (live-range n s a (l .0), live-range n s b (l .1))
-
-  numbers : (r : Rule) (x y z : ℕ) → conditions n (live n s) (s .graph) (move i r (triple x y z)) ≡ true → Numbers x y z
-  unfolding conditions
-  numbers REFLEX x y z h =
-      let l = and-left (live n s x and eqb y 0) (eqb z 0) h in
-      let a = live-range n s x (and-left (live n s x) (eqb y 0) l) in
-      let b = eqb-true y 0 (and-right (live n s x) (eqb y 0) l) in
-      let c = eqb-true z 0 (and-right (live n s x and eqb y 0) (eqb z 0) h) in
-      (a .1, omega arith, omega arith)
-  numbers TRANS1 x y z h =
-      let a = linked x y (and-left (G .link x y) (eqb z 0) h) in
-      let c = eqb-true z 0 (and-right (G .link x y) (eqb z 0) h) in
-      (a .0 .1, a .1 .1, omega arith)
-  numbers TRANS2 x y z h =
-      let a = reached x y (and-left (G .reach x y) (G .reach y z) h) in
-      let b = reached y z (and-right (G .reach x y) (G .reach y z) h) in
-      (a .0 .1, a .1 .1, b .1 .1)
-  numbers FUNC x y z h =
-      let a = linked x y (and-left (G .link x y) (G .reach x z) h) in
-      let b = reached x z (and-right (G .link x y) (G .reach x z) h) in
-      (a .0 .1, a .1 .1, b .1 .1)
-  numbers CYCLE x y z h =
-      let a = reached x y (and-right (returns n G x z x) (G .reach x y) h) in
-      (a .0 .1, a .1 .1, cycle-steps n G x (a .0) linked z (and-left (returns n G x z x) (G .reach x y) h))
-  numbers SCC x y z h =
-      let l = and-left (G .reach x y and G .reach y x) (G .reach x z) h in
-      let a = reached x y (and-left (G .reach x y) (G .reach y x) l) in
-      let b = reached x z (and-right (G .reach x y and G .reach y x) (G .reach x z) h) in
-      (a .0 .1, a .1 .1, b .1 .1)
-  numbers TOTAL x y z h =
-      let a = reached x y (and-left (G .reach x y) (G .reach x z) h) in
-      let b = reached x z (and-right (G .reach x y) (G .reach x z) h) in
-      (a .0 .1, a .1 .1, b .1 .1)
-  numbers SHARE x y z h =
-      let l = and-left (G .link x z and G .link y z and G .reach x y) (G .reach y x) h in
-      let m = and-left (G .link x z and G .link y z) (G .reach x y) l in
-      let a = linked x z (and-left (G .link x z) (G .link y z) m) in
-      let b = linked y z (and-right (G .link x z) (G .link y z) m) in
-      (a .0 .1, b .0 .1, a .1 .1)
-
-  move-numbers : (r : Rule) (x y z : ℕ) → applies n s (move i r (triple x y z)) ≡ true → Numbers x y z
-  move-numbers r x y z h = numbers r x y z (applies-met n s (move i r (triple x y z)) h)
-
--- Rule steps from the start
 
 module _ (q : Query) (ok : Accepted q) where
   steps-invariant : {k : ℕ} {s : Facts} → Steps (termCount q) (start q) k s → Invariant q s
@@ -138,9 +35,10 @@ module _ (q : Query) (ok : Accepted q) where
     ahead-next c mem =
         let e : suc (limit q - left) ≡ limit q - (left - 1) = (let l = ahead-some in let u = ahead .some in omega arith) in
         let u = ahead .some in
+        let step : Step (termCount q) s (add (termCount q) s c) = record { rule-move = m; applicable = app; branch = map-intro (add (termCount q) s) c mem } in
         record {
           some = omega arith;
-          led = subst (λ (k : ℕ). Steps (termCount q) (start q) k (add (termCount q) s c)) e (one-more (ahead .led) (record { rule-move = m; applicable = app; branch = map-intro (add (termCount q) s) c mem }));
+          led = subst (λ (k : ℕ). Steps (termCount q) (start q) k (add (termCount q) s c)) e (one-more (ahead .led) step);
         }
 
   pub ahead-numbers : (s : Facts) (left : ℕ) → Ahead q s left → (i : ℕ) (r : Rule) (x y z : ℕ) → applies (termCount q) s (move i r (triple x y z)) ≡ true → (x ≤ 16) × (y ≤ 16) × (z ≤ 16)

@@ -109,7 +109,7 @@ fn read_line(
     let Numbered::Is(rule) = rules::rule_numbered(k) else {
         return Reading::Wrong;
     };
-    if fitting::applies(s, layout.terms, rule, x, y, z) {
+    if fitting::applies(s, layout.terms, rule, Term(x), Term(y), Third(z)) {
         return Reading::Applies(rule, Term(x), Term(y), Third(z));
     }
     Reading::Wrong

@@ -8,10 +8,12 @@ use mathlib.Core.Bool.{Bool, true, false}
 use mathlib.Core.List.{List, [], _∷_, _++_, append-nil, List·Memᴰ, List·Memᴰ·head, Memᴰ·append-left, Memᴰ·append-right}
 use mathlib.Core.Option.{Option, none, some, Option·elim}
 use lib.ListN.{length, take, replicate}
-use Rattle.logic.specs.Search.{_or_, isSome}
+use Rattle.logic.specs.Search.{_or_, select, isSome}
 use Rattle.logic.specs.Query.{decode}
 use Rattle.logic.specs.Heap.{Satisfiable}
 use Rattle.logic.specs.Facts.{Line}
+use Rattle.logic.specs.Walk.{Pick, handVerdict}
+use Rattle.logic.specs.Walk as walk
 use Rattle.logic.specs.Derivation.{Derivation, derivationBytes, linesFrom, linesIn}
 use Rattle.logic.specs.Calls.{Input, layoutCheck, byteCheck, formChecks, queryChecks, Answer, accepts, padded, derivationCall, acceptsBy}
 use Rattle.logic.specs.Calls as calls
@@ -27,7 +29,10 @@ use Rattle.theory.proofs.Calls.DerivationBytes.{derivation-length, lines-read}
 use Rattle.theory.proofs.Calls.Demands.{demand1, demand2}
 use Rattle.checking.specs.Fitting.{FirstWrong, wrongLine}
 use Rattle.checking.specs.CheckCall.{accepted, wrong, refused, countIn, misshapen, byWrong, refusedQuery, queryRefusal, checkCall}
-use Rattle.checking.specs.Claims.{queryAlone, unpadded, Taken, Claims}
+use Rattle.checking.specs.Hand.{isClashLine, Ends}
+use Rattle.checking.specs.Claims.{queryAlone, unpadded, Taken, WithinAccepted, rowAfter, HandAccepted, Claims}
+use Rattle.checking.proofs.Bytes.{derivation-bytes}
+use Rattle.checking.proofs.Hand.{hand-writes, refuted-ends, vain-stays}
 use Rattle.checking.proofs.Judged.{zero-exactly, wrong-number, first-placed}
 
 -- The answers are told apart
@@ -146,7 +151,9 @@ module _ (query derivation : List ℕ) where
   refused-exactly k place own = (λ h. there h cases, λ f. back f cases)
     where
       there : checkCall query derivation ≡ refused k place → Case → FirstStands queryChecks (queryAlone query) k place
-      there h (by-query j p f e) = let (a, b) = refused-same (sym e ∙ h) in subst (λ (x : ℕ). FirstStands queryChecks (queryAlone query) x place) a (subst (FirstStands queryChecks (queryAlone query) j) b f)
+      there h (by-query j p f e) =
+          let (a, b) = refused-same (sym e ∙ h) in
+          subst (λ (x : ℕ). FirstStands queryChecks (queryAlone query) x place) a (subst (FirstStands queryChecks (queryAlone query) j) b f)
       there h (by-shape a m e) = absurd (not-twenty own (sym (refused-same (sym e ∙ h) .0)))
       there h (by-lines t n e) = absurd (accepted-refused (sym e ∙ h))
       there h (by-line t j n e) = absurd (wrong-refused (sym e ∙ h))
@@ -214,8 +221,8 @@ written-taken lines l =
     let c : countIn (derivationBytes lines) ≡ length lines = ap countIn (sym (append-nil (derivationBytes lines))) ∙ counted lines [] in
     rw (c, derivation-length lines, eqb-self (2 + 4 * length lines)) (le-ltb 16000 (length lines) l)
 
-hand-accepted : (query : List ℕ) (lines : List Line) → accepts query ≡ true → Derivation (decode query) lines → length lines ≤ 16000 → checkCall query (derivationBytes lines) ≡ accepted
-hand-accepted query lines a d l =
+pub derivation-accepted : (query : List ℕ) (lines : List Line) → accepts query ≡ true → Derivation (decode query) lines → WithinAccepted query lines
+derivation-accepted query lines a d l =
     let e : linesIn (derivationBytes lines) ≡ lines = ap linesIn (sym (append-nil (derivationBytes lines))) ∙ lines-read lines [] in
     accepted-exactly query (derivationBytes lines) .1 ((a, written-taken lines l), subst (Derivation (decode query)) (sym e) d)
 
@@ -231,9 +238,27 @@ unpadded-written room lines =
 ours-accepted : (i : Input) → derivationCall i .answer ≡ calls.refuted → checkCall (i .query) (unpadded (derivationCall i .lent)) ≡ accepted
 ours-accepted i h =
     let lent = derivationCall i .lent in
+    let passed : accepts (i .query) ≡ true = derivation-passed calls.oneLinkForm one-link-laws i (demand1 .lines-exactly i .0 h .0) .query in
     let e : unpadded lent ≡ derivationBytes (linesIn lent) = ap unpadded (demand2 .derivation-formed i h) ∙ unpadded-written (i .room) (linesIn lent) in
     ap (checkCall (i .query)) e
-    ∙ hand-accepted (i .query) (linesIn lent) (derivation-passed calls.oneLinkForm one-link-laws i (demand1 .lines-exactly i .0 h .0) .query) (demand2 .derivation-follows i h) (demand2 .derivation-counted i h .0)
+    ∙ derivation-accepted (i .query) (linesIn lent) passed (demand2 .derivation-follows i h) (demand2 .derivation-counted i h .0)
+
+-- Derivations by a hand
+
+module _ (query : List ℕ) (picks : List Pick) where
+  abbrev EndedBy : List Line → Type 0
+  EndedBy ends = (lines : List Line) × HandAccepted query picks lines × (select isClashLine lines ≡ ends)
+
+  hand-any-clash : (ends : List Line) → accepts query ≡ true → Ends (decode query) (rowAfter query picks) ends → EndedBy ends
+  hand-any-clash ends a e =
+      let (lines, writes, same) = hand-writes (decode query) picks ends e in
+      (lines, (writes, derivation-accepted query lines a (writes .follows)), same)
+
+  hand-accepted : accepts query ≡ true → handVerdict (decode query) (rowAfter query picks) ≡ some walk.refuted → (lines : List Line) × HandAccepted query picks lines
+  hand-accepted a h =
+      let (ends, e) = refuted-ends (decode query) (rowAfter query picks) h in
+      let (lines, held, same) = hand-any-clash ends a e in
+      (lines, held)
 
 pub claims : Claims
 claims =
@@ -248,4 +273,7 @@ claims =
       accepted-sound = accepted-sound;
       ours-accepted = ours-accepted;
       hand-accepted = hand-accepted;
+      hand-any-clash = hand-any-clash;
+      vain-stays = vain-stays;
+      lines-bytes = λ query lines a d. derivation-bytes query a d;
     }

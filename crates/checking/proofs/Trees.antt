@@ -9,7 +9,8 @@ use lib.Dec.{eqb}
 use Rattle.logic.specs.Search.{_and_, keep, isSome, firstOf}
 use Rattle.logic.specs.Query.{Query, termCount}
 use Rattle.logic.specs.Facts.{Facts, Line, line, joinLines, startJoins, start, isClash, clash, linkNumbers}
-use Rattle.logic.specs.Rules.{Rule, REFLEX, TRANS1, TRANS2, FUNC, CYCLE, SCC, TOTAL, SHARE, rules, ruleNumber, Triple, triple, Move, move, Fact, alternatives, hasLink, applies, branch, add, moveNumber, moveLine, moveOf}
+use Rattle.logic.specs.Rules.{Rule, REFLEX, TRANS1, TRANS2, FUNC, CYCLE, SCC, TOTAL, SHARE, rules, ruleNumber, Triple, triple, Move, move, Fact}
+use Rattle.logic.specs.Rules.{alternatives, hasLink, applies, branch, add, moveNumber, moveLine, moveOf}
 use Rattle.logic.specs.Walk.{isClashed}
 use Rattle.logic.specs.Derivation.{Derivation, Refutes, ends, follows, RefutesEach, none-left, one-more}
 use Rattle.theory.proofs.Basics.Search.{none-some, keep-some, and-left, and-right, and-intro, isSome-false, firstOf-some}
@@ -51,7 +52,7 @@ in-move links (line k x y z) m h =
     ap moveLine (sym (g .1)) ∙ ap (λ (j : ℕ). line j x y z) (eqb-true (moveNumber i r) k (g .0))
 
 -- a rule's number is below that of a clash line
-rule-below : (r : Rule) → ruleNumber r < 9
+pub rule-below : (r : Rule) → ruleNumber r < 9
 unfolding ruleNumber
 rule-below REFLEX = omega arith
 rule-below TRANS1 = omega arith
@@ -68,24 +69,43 @@ pub fit-append : (q : Query) {gs hs ks : List Goal} {ls ms : List Line} → Fit 
 fit-append q fitting.no-line g = g
 fit-append q (fitting.one-more l e f) g = fitting.one-more l e (fit-append q f g)
 
+-- a path with the lines still to come at its head; and what is left of all goals, by what is left of the first
+abbrev goal : List Line → Facts → Goal
+goal head s = record { heading = head; facts = s }
+
+abbrev leaves : Option (List Goal) → List Goal → Option (List Goal)
+leaves o gs = Option·elim o none (λ new. some (new ++ gs))
+
 -- A derivation fits
 
 module _ (q : Query) where
-  step-heading : (h : Line) (hs : List Line) (s : Facts) (gs : List Goal) → step q (record { heading = h ∷ hs; facts = s } ∷ gs) h ≡ some (record { heading = hs; facts = s } ∷ gs)
+  step-heading : (h : Line) (hs : List Line) (s : Facts) (gs : List Goal) → step q (goal (h ∷ hs) s ∷ gs) h ≡ some (goal hs s ∷ gs)
   unfolding step atGoal Option·elim keep
   step-heading h hs s gs = rw (line-same h)
 
-  heading-fits : (hs : List Line) (s : Facts) (gs : List Goal) → Fit q (record { heading = hs; facts = s } ∷ gs) hs (record { heading = []; facts = s } ∷ gs)
+  heading-fits : (hs : List Line) (s : Facts) (gs : List Goal) → Fit q (goal hs s ∷ gs) hs (goal [] s ∷ gs)
   heading-fits [] s gs = fitting.no-line
   heading-fits (h ∷ hs) s gs = fitting.one-more h (step-heading h hs s gs) (heading-fits hs s gs)
 
-  pub step-clash : (s : Facts) (gs : List Goal) (l : Line) → isClash q s l ≡ true → step q (record { heading = []; facts = s } ∷ gs) l ≡ some gs
-  unfolding step atGoal atPath Option·elim
-  step-clash s gs l e = rw e
+  -- what is left of a path, unless the line is its clash
+  abbrev unclashed : Facts → Line → Option (List Goal)
+  unclashed s l = cond (isClashed q s) none (afterRule q s l)
 
-  pub step-rule : (s : Facts) (gs : List Goal) (l : Line) (m : Move) → isClash q s l ≡ false → clash q s ≡ none → moveIn (s .links) l ≡ some m → applies (termCount q) s m ≡ true → step q (record { heading = []; facts = s } ∷ gs) l ≡ some (goalsOf (termCount q) s m ++ gs)
-  unfolding step atGoal atPath afterRule Option·elim isClashed isSome keep
-  step-rule s gs l m e f g h = rw (e, f, g, h)
+  module _ (s : Facts) (gs : List Goal) (l : Line) where
+    abbrev Leaves : List Goal → Type 0
+    Leaves hs = step q (goal [] s ∷ gs) l ≡ some hs
+
+    pub step-clash : isClash q s l ≡ true → Leaves gs
+    unfolding step atGoal atPath Option·elim
+    step-clash e = ap (λ (b : Bool). leaves (cond b (some []) (unclashed s l)) gs) e
+
+    pub step-rule : (m : Move) → isClash q s l ≡ false → clash q s ≡ none → moveIn (s .links) l ≡ some m → applies (termCount q) s m ≡ true → Leaves (goalsOf (termCount q) s m ++ gs)
+    unfolding step atGoal atPath afterRule Option·elim isClashed isSome keep
+    step-rule m e f g h =
+        ap (λ (b : Bool). leaves (cond b (some []) (unclashed s l)) gs) e
+        ∙ ap (λ (o : Option Line). leaves (cond (isSome o) none (afterRule q s l)) gs) f
+        ∙ ap (λ (o : Option Move). leaves (Option·elim o none (λ m. keep (applies (termCount q) s m) (goalsOf (termCount q) s m))) gs) g
+        ∙ ap (λ (b : Bool). leaves (keep b (goalsOf (termCount q) s m)) gs) h
 
   -- a rule line is no clash line
   rule-no-clash : (s : Facts) (m : Move) → isClash q s (moveLine m) ≡ false
@@ -96,10 +116,10 @@ module _ (q : Query) where
   goalsBy : Facts → List Fact → List Goal
   goalsBy s cs = map (λ c. goalOf (branch (termCount q) s c)) cs
 
-  pub refutes-fit : {s : Facts} {ls : List Line} → Refutes q s ls → (gs : List Goal) → Fit q (record { heading = []; facts = s } ∷ gs) ls gs
+  pub refutes-fit : {s : Facts} {ls : List Line} → Refutes q s ls → (gs : List Goal) → Fit q (goal [] s ∷ gs) ls gs
   unfolding goalsBy goalsOf goalOf add
   refutes-fit r =
-      elim r as (λ s ls r. (gs : List Goal) → Fit q (record { heading = []; facts = s } ∷ gs) ls gs) (λ s cs ls r. (gs : List Goal) → Fit q (goalsBy s cs ++ gs) ls gs) [
+      elim r as (λ s ls r. (gs : List Goal) → Fit q (goal [] s ∷ gs) ls gs) (λ s cs ls r. (gs : List Goal) → Fit q (goalsBy s cs ++ gs) ls gs) [
         | ends {s = s} l e ↦ λ gs. fitting.one-more l (step-clash s gs l e) fitting.no-line
         | follows {s = s} m free app (rs → below) ↦ λ gs.
             fitting.one-more (moveLine m) (step-rule s gs (moveLine m) m (rule-no-clash s m) free (move-in (s .links) m (applies-linked (termCount q) s m app)) app) (below gs)
@@ -123,7 +143,10 @@ module _ (q : Query) where
   RefutesAll (g ∷ gs) ls = (ms : List Line) × (rest : List Line) × (ls ≡ (g .heading ++ ms) ++ rest) × Refutes q (g .facts) ms × RefutesAll gs rest
 
   -- the goals of a rule's branches, and others after them
-  each-of : (s : Facts) (cs : List Fact) (gs : List Goal) (ls : List Line) → RefutesAll (goalsBy q s cs ++ gs) ls → (ms : List Line) × (rest : List Line) × (ls ≡ ms ++ rest) × RefutesEach q s cs ms × RefutesAll gs rest
+  abbrev EachOf : Facts → List Fact → List Goal → List Line → Type 0
+  EachOf s cs gs ls = (ms : List Line) × (rest : List Line) × (ls ≡ ms ++ rest) × RefutesEach q s cs ms × RefutesAll gs rest
+
+  each-of : (s : Facts) (cs : List Fact) (gs : List Goal) (ls : List Line) → RefutesAll (goalsBy q s cs ++ gs) ls → EachOf s cs gs ls
   unfolding goalsBy RefutesAll goalOf add
   each-of s [] gs ls r = ([], ls, refl, none-left, r)
   each-of s (c ∷ cs) gs ls (ms, rest, e, r, rs) =
@@ -136,34 +159,40 @@ module _ (q : Query) where
     clashed : isClash q s l ≡ true → Left s gs l gs
     ruled : (m : Move) → clash q s ≡ none → moveLine m ≡ l → applies (termCount q) s m ≡ true → Left s gs l (goalsOf (termCount q) s m ++ gs)
 
-  pub left-by : (s : Facts) (gs : List Goal) (l : Line) (hs : List Goal) → step q (record { heading = []; facts = s } ∷ gs) l ≡ some hs → Left s gs l hs
+  pub left-by : (s : Facts) (gs : List Goal) (l : Line) (hs : List Goal) → step q (goal [] s ∷ gs) l ≡ some hs → Left s gs l hs
   unfolding step atGoal atPath afterRule Option·elim isClashed keep
   left-by s gs l hs h = at-clash (isClash q s l) refl h
     where
-      at-applies : (m : Move) (b : Bool) → clash q s ≡ none → moveLine m ≡ l → applies (termCount q) s m ≡ b → Option·elim (keep b (goalsOf (termCount q) s m)) none (λ new. some (new ++ gs)) ≡ some hs → Left s gs l hs
-      at-applies m true free e a h = let f : goalsOf (termCount q) s m ++ gs ≡ hs = cc in subst (Left s gs l) f (ruled m free e a)
+      new : Move → List Goal
+      new m = goalsOf (termCount q) s m
+
+      at-applies : (m : Move) (b : Bool) → clash q s ≡ none → moveLine m ≡ l → applies (termCount q) s m ≡ b → leaves (keep b (new m)) gs ≡ some hs → Left s gs l hs
+      at-applies m true free e a h = let f : new m ++ gs ≡ hs = cc in subst (Left s gs l) f (ruled m free e a)
       at-applies m false free e a h = absurd (none-some h)
 
-      at-move : (o : Option Move) → clash q s ≡ none → moveIn (s .links) l ≡ o → Option·elim (Option·elim o none (λ m. keep (applies (termCount q) s m) (goalsOf (termCount q) s m))) none (λ new. some (new ++ gs)) ≡ some hs → Left s gs l hs
+      after : Option Move → Option (List Goal)
+      after o = Option·elim o none (λ m. keep (applies (termCount q) s m) (new m))
+
+      at-move : (o : Option Move) → clash q s ≡ none → moveIn (s .links) l ≡ o → leaves (after o) gs ≡ some hs → Left s gs l hs
       at-move none free e h = absurd (none-some h)
       at-move (some m) free e h = at-applies m (applies (termCount q) s m) free (in-move (s .links) l m e) refl h
 
-      at-free : (b : Bool) → isClashed q s ≡ b → Option·elim (cond b none (afterRule q s l)) none (λ new. some (new ++ gs)) ≡ some hs → Left s gs l hs
+      at-free : (b : Bool) → isClashed q s ≡ b → leaves (cond b none (afterRule q s l)) gs ≡ some hs → Left s gs l hs
       at-free true e h = absurd (none-some h)
       at-free false e h = at-move (moveIn (s .links) l) (isSome-false (clash q s) e) refl h
 
-      at-clash : (b : Bool) → isClash q s l ≡ b → Option·elim (cond b (some []) (cond (isClashed q s) none (afterRule q s l))) none (λ new. some (new ++ gs)) ≡ some hs → Left s gs l hs
+      at-clash : (b : Bool) → isClash q s l ≡ b → leaves (cond b (some []) (unclashed q s l)) gs ≡ some hs → Left s gs l hs
       at-clash true e h = let f : gs ≡ hs = cc in subst (Left s gs l) f (clashed e)
       at-clash false e h = at-free (isClashed q s) refl h
 
-  all-after : (s : Facts) (gs : List Goal) (l : Line) {hs : List Goal} (ls : List Line) → Left s gs l hs → RefutesAll hs ls → RefutesAll (record { heading = []; facts = s } ∷ gs) (l ∷ ls)
+  all-after : (s : Facts) (gs : List Goal) (l : Line) {hs : List Goal} (ls : List Line) → Left s gs l hs → RefutesAll hs ls → RefutesAll (goal [] s ∷ gs) (l ∷ ls)
   unfolding RefutesAll goalsOf goalsBy
   all-after s gs l ls (clashed e) r = (l ∷ [], ls, refl, ends l e, r)
   all-after s gs l ls (ruled m free e a) r =
       let (ms, rest, f, each, all) = each-of s (alternatives (termCount q) (s .graph) m) gs ls r in
       (moveLine m ∷ ms, rest, ap₂ (λ (x : Line) (y : List Line). x ∷ y) (sym e) f, follows m free a each, all)
 
-  all-headed : (h : Line) (head : List Line) (s : Facts) (gs : List Goal) (l : Line) (ls : List Line) → l ≡ h → RefutesAll (record { heading = head; facts = s } ∷ gs) ls → RefutesAll (record { heading = h ∷ head; facts = s } ∷ gs) (l ∷ ls)
+  all-headed : (h : Line) (head : List Line) (s : Facts) (gs : List Goal) (l : Line) (ls : List Line) → l ≡ h → RefutesAll (goal head s ∷ gs) ls → RefutesAll (goal (h ∷ head) s ∷ gs) (l ∷ ls)
   unfolding RefutesAll
   all-headed h head s gs l ls e (ms, rest, f, r, all) = (ms, rest, ap₂ (λ (x : Line) (y : List Line). x ∷ y) e f, r, all)
 
@@ -172,13 +201,13 @@ module _ (q : Query) where
   all-before [] l hs ls e r = absurd (none-some e)
   all-before (g ∷ gs) l hs ls e r = at-heading (g .heading) (g .facts) e
     where
-      at-heading : (head : List Line) (s : Facts) → step q (record { heading = head; facts = s } ∷ gs) l ≡ some hs → RefutesAll (record { heading = head; facts = s } ∷ gs) (l ∷ ls)
+      at-heading : (head : List Line) (s : Facts) → step q (goal head s ∷ gs) l ≡ some hs → RefutesAll (goal head s ∷ gs) (l ∷ ls)
       at-heading [] s e = all-after s gs l ls (left-by s gs l hs e) r
       at-heading (h ∷ head) s e = at-same (sameLine l h) refl e
         where
-          at-same : (b : Bool) → sameLine l h ≡ b → Option·elim (keep b (record { heading = head; facts = s } ∷ [])) none (λ new. some (new ++ gs)) ≡ some hs → RefutesAll (record { heading = h ∷ head; facts = s } ∷ gs) (l ∷ ls)
+          at-same : (b : Bool) → sameLine l h ≡ b → leaves (keep b (goal head s ∷ [])) gs ≡ some hs → RefutesAll (goal (h ∷ head) s ∷ gs) (l ∷ ls)
           at-same true f e =
-              let k : record { heading = head; facts = s } ∷ gs ≡ hs = cc in
+              let k : goal head s ∷ gs ≡ hs = cc in
               all-headed h head s gs l ls (same-line l h f) (subst (λ (x : List Goal). RefutesAll x ls) (sym k) r)
           at-same false f e = absurd (none-some e)
 

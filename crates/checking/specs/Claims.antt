@@ -1,19 +1,24 @@
 -- What is claimed of the call, as statements about the definitions (02, R-8).
-use Prim.Native.Nat.{ℕ, _+_, _*_, _≤_}
+use Prim.Native.Nat.{ℕ, _+_, _*_, _≤_, _<_}
 use mathlib.Core.Path.{_≡_}
 use mathlib.Core.Logic.{_↔_}
 use mathlib.Core.Bool.{true, false}
 use mathlib.Core.List.{List, [], _∷_, _++_, List·Memᴰ}
+use mathlib.Core.Option.{some}
 use lib.ListN.{length, take}
-use Rattle.logic.specs.Query.{decode}
+use Rattle.logic.specs.Search.{select}
+use Rattle.logic.specs.Query.{Query, decode}
 use Rattle.logic.specs.Heap.{Satisfiable}
-use Rattle.logic.specs.Facts.{Line}
+use Rattle.logic.specs.Facts.{Facts, Line, line}
+use Rattle.logic.specs.Walk.{Pick, picked, splice, handRow, handVerdict}
+use Rattle.logic.specs.Walk as walk
 use Rattle.logic.specs.Derivation.{Derivation, derivationBytes, linesIn}
 use Rattle.logic.specs.Calls.{Input, queryChecks, accepts, derivationCall}
 use Rattle.logic.specs.Calls as calls
 use Rattle.logic.specs.Demands.{FirstStands, numbers}
 use Rattle.checking.specs.Fitting.{FirstWrong}
 use Rattle.checking.specs.CheckCall.{accepted, wrong, refused, countIn, misshapen, checkCall}
+use Rattle.checking.specs.Hand.{isVain, isClashLine, Ends, HandWrites}
 
 -- what a call's checks of the query are given
 abbrev pub queryAlone : List ℕ → Input
@@ -26,6 +31,24 @@ unpadded bytes = take (2 + 4 * countIn bytes) bytes
 -- both byte strings pass their checks
 abbrev pub Taken : List ℕ → List ℕ → Type 0
 Taken query derivation = (accepts query ≡ true) × (misshapen derivation ≡ false)
+
+-- the four numbers of a line are bytes; those of all lines are
+abbrev pub Bytes : Line → Type 0
+Bytes (line a b c d) = (a < 256) × (b < 256) × (c < 256) × (d < 256)
+
+abbrev pub AllBytes : List Line → Type 0
+AllBytes lines = (l : Line) → List·Memᴰ l lines → Bytes l
+
+-- "within 16,000 lines is accepted": so many lines, as bytes
+abbrev pub WithinAccepted : List ℕ → List Line → Type 0
+WithinAccepted query lines = length lines ≤ 16000 → checkCall query (derivationBytes lines) ≡ accepted
+
+-- the row of a hand's walk of these picks, and lines that it writes, which are accepted
+abbrev pub rowAfter : List ℕ → List Pick → List Facts
+rowAfter query picks = handRow (decode query) picks
+
+abbrev pub HandAccepted : List ℕ → List Pick → List Line → Type 0
+HandAccepted query picks lines = HandWrites (decode query) picks lines × WithinAccepted query lines
 
 -- For every query and every derivation, bytes of any length:
 pub record Claims : Type 0 where
@@ -45,5 +68,12 @@ pub record Claims : Type 0 where
   pub accepted-sound : (query derivation : List ℕ) → checkCall query derivation ≡ accepted → Satisfiable (decode query) → ⊥
   -- "Whatever refutation our prover (without the zeros past its lines) .. writes": what the derivation call leaves in any buffer
   pub ours-accepted : (i : Input) → derivationCall i .answer ≡ calls.refuted → checkCall (i .query) (unpadded (derivationCall i .lent)) ≡ accepted
-  -- ".. or a hand following the rules writes within 16,000 lines is accepted"
-  pub hand-accepted : (query : List ℕ) (lines : List Line) → accepts query ≡ true → Derivation (decode query) lines → length lines ≤ 16000 → checkCall query (derivationBytes lines) ≡ accepted
+  -- ".. or a hand following the rules writes within 16,000 lines is accepted": after every list of picks that leaves the hand's walk refuted
+  -- there are lines that the hand writes, and if they are so few, their bytes are accepted
+  pub hand-accepted : (query : List ℕ) (picks : List Pick) → accepts query ≡ true → handVerdict (decode query) (rowAfter query picks) ≡ some walk.refuted → (lines : List Line) × HandAccepted query picks lines
+  -- "(any one, with any plain partner)": and so whichever clashes end its paths
+  pub hand-any-clash : (query : List ℕ) (picks : List Pick) (ends : List Line) → accepts query ≡ true → Ends (decode query) (rowAfter query picks) ends → (lines : List Line) × HandAccepted query picks lines × (select isClashLine lines ≡ ends)
+  -- "Any other pick is vain: the row stays."
+  pub vain-stays : (q : Query) (p : Pick) (row : List Facts) → isVain q p row ≡ true → splice (picked q p) (p .position) row ≡ row
+  -- "lines of four bytes": every number of a derivation fits one
+  pub lines-bytes : (query : List ℕ) (lines : List Line) → accepts query ≡ true → Derivation (decode query) lines → AllBytes lines

@@ -1,4 +1,5 @@
 pub mod Fitting
 pub mod CheckCall
+pub mod Hand
 pub mod Claims
 pub mod Samples

@@ -2,3 +2,4 @@
 pub mod Examples
 pub mod Jumps
 pub mod Versions
+pub mod Trees

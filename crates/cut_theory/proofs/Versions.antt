@@ -119,7 +119,7 @@ module _ (c : ℕ → ℕ) (j i : ℕ) where
         (λ m k e. h m (ltb-true i m (and-left _ _ e)) k (eqb-true (c m) (c i) (and-right (ltb i m) _ e))),
   )
 
-  not-below : j ≤ i → ltb i j ≡ false
+  pub not-below : j ≤ i → ltb i j ≡ false
   not-below l = not-of (λ e. let k = ltb-true i j e in absurd (omega (arith, k, l)))
 
   pub active-first : j ≤ i → (active c j i ≡ true) ↔ First

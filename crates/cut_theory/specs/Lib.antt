@@ -2,3 +2,4 @@
 pub mod Versions
 pub mod Jumps
 pub mod Examples
+pub mod Trees

@@ -12,15 +12,12 @@ pub enum DotAnswer {
     Refused(usize, usize),
 }
 
-// The whole text.
+// The whole text, with its closing line.
 fn draw(report: &[u8], out: &mut [u8]) -> usize
     requires { ⌜ length (drawing.text (now report)) ≤ 1000 ⌝ }
     ensures { λ r. ⌜ Writes (now (out .entry)) 0 (drawing.text (now (report .entry))) (now (out .exit)) r ⌝ }
 {
-    let head = dot_lines::draw_head(report, out);
-    let nodes = dot_lines::draw_nodes(report, out, head);
-    let arrows = dot_lines::draw_arrows(report, out, nodes);
-    dot_writer::add_bytes(out, arrows, b"}\n")
+    dot_text::draw(out, report, b"}\n")
 }
 
 // The text of a report, its length and zeros past it; or a refusal, and zeros: "13 a report not well formed, then 14 buffer too short"

@@ -1,2 +1,4 @@
 pub mod Again
 pub mod Held
+pub mod Calls
+pub mod Put

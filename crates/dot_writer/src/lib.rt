@@ -1,6 +1,7 @@
 // A writer for text: it holds the caller's buffer and how much of it is filled (02, R-2: "Text and numbers are added through a writer
 // that holds the caller's buffer and its fill"). Each function over the struct takes it apart and calls one on the slice and the number,
-// which does the work; `add` and `add_bytes` above them have plain parameters, and serve every other caller.
+// which does the work. `add` and `add_two` above them have plain parameters, for callers that loop: each makes one writer, passes it on
+// through its parts and drops it.
 ghost use mathlib.Core.Path.{_≡_};
 ghost use mathlib.Core.List.{_++_};
 ghost use Prim.Native.Nat.{_+_, _≤_};
@@ -72,30 +73,38 @@ pub fn put_number<'a>(w: Writer<'a>, k: usize) -> Writer<'a>
     }
 }
 
-// Bytes through a writer.
-pub fn add_bytes(out: &mut [u8], fill: usize, bytes: &[u8]) -> usize
-    requires { ⌜ fill + length (now bytes) ≤ 18446744073709551615 ⌝ }
-    ensures { λ r. ⌜ Writes (now (out .entry)) fill (now (bytes .entry)) (now (out .exit)) r ⌝ }
-{
-    let w = put_bytes(new(out, fill), bytes);
-    filled(w)
-}
-
-// A number in decimal through a writer.
-pub fn add_number(out: &mut [u8], fill: usize, k: usize) -> usize
-    requires { ⌜ fill + 20 ≤ 18446744073709551615 ⌝ }
-    ensures { λ r. ⌜ Writes (now (out .entry)) fill (decimal k) (now (out .exit)) r ⌝ }
-{
-    let w = put_number(new(out, fill), k);
-    filled(w)
-}
-
-// A number in decimal between two words.
-pub fn add(out: &mut [u8], fill: usize, before: &[u8], k: usize, after: &[u8]) -> usize
+// A number in decimal between two words, through one writer.
+pub fn add<'a, 'b>(
+    out: &'a mut [u8],
+    fill: usize,
+    before: &'b [u8],
+    k: usize,
+    after: &'b [u8],
+) -> usize
     requires { ⌜ fill + length (now before) + 20 + length (now after) ≤ 18446744073709551615 ⌝ }
     ensures { λ r. ⌜ Writes (now (out .entry)) fill (now (before .entry) ++ (decimal k ++ now (after .entry))) (now (out .exit)) r ⌝ }
 {
-    let first = add_bytes(out, fill, before);
-    let second = add_number(out, first, k);
-    add_bytes(out, second, after)
+    let first = put_bytes(new(out, fill), before);
+    let second = put_number(first, k);
+    let third = put_bytes(second, after);
+    filled(third)
+}
+
+// Two numbers in decimal, a word behind each, through one writer.
+pub fn add_two<'a, 'b>(
+    out: &'a mut [u8],
+    fill: usize,
+    j: usize,
+    between: &'b [u8],
+    k: usize,
+    after: &'b [u8],
+) -> usize
+    requires { ⌜ fill + 20 + length (now between) + 20 + length (now after) ≤ 18446744073709551615 ⌝ }
+    ensures { λ r. ⌜ Writes (now (out .entry)) fill (decimal j ++ (now (between .entry) ++ (decimal k ++ now (after .entry)))) (now (out .exit)) r ⌝ }
+{
+    let first = put_number(new(out, fill), j);
+    let second = put_bytes(first, between);
+    let third = put_number(second, k);
+    let fourth = put_bytes(third, after);
+    filled(fourth)
 }

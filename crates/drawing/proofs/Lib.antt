@@ -6,4 +6,5 @@ pub mod Formed
 pub mod Recovered
 pub mod Longest
 pub mod Samples
+pub mod Answers
 pub mod Claims

@@ -1,11 +1,10 @@
--- Reports and what the call leaves of them: the example of 02 (R-2), and a sample of the vectors.
+-- Reports and what the call leaves of them: the example of 02 (R-2), and a sample of the vectors. Each outcome is written out.
 use Prim.Native.Nat.{ℕ}
 use mathlib.Core.Path.{_≡_}
-use mathlib.Core.List.{List, [], _∷_, map}
+use mathlib.Core.List.{List, [], _∷_, _++_, map}
 use lib.ListN.{length, replicate}
-use Rattle.logic.specs.Calls.{padded}
 use Rattle.text.specs.Text.{ascii}
-use Rattle.drawing.specs.Call.{Outcome, written, refusal, dotCall}
+use Rattle.drawing.specs.Call.{Outcome, written, refused, dotCall}
 
 -- a report, how many bytes are lent, and what the call answers and leaves
 pub record Sample : Type 0 where
@@ -13,40 +12,29 @@ pub record Sample : Type 0 where
   pub room : ℕ
   pub outcome : Outcome
 
-abbrev pub draws : List ℕ → ℕ → List ℕ → Sample
-draws report room text = record { report = report; room = room; outcome = record { answer = written (length text); lent = padded room text } }
+-- a text and so many zeros past it
+abbrev pub draws : List ℕ → ℕ → List ℕ → ℕ → Sample
+draws report room text zeros = record { report = report; room = room; outcome = record { answer = written (length text); lent = text ++ replicate zeros 0 } }
 
+-- a refusal's number, the place 0, and zeros
 abbrev pub refuses : List ℕ → ℕ → ℕ → Sample
-refuses report room k = record { report = report; room = room; outcome = refusal room k }
+refuses report room k = record { report = report; room = room; outcome = record { answer = refused k 0; lent = replicate room 0 } }
 
 unfoldable pub samples : List Sample
 samples =
     -- E2, "five lines, each with a newline"
     draws (1 ∷ 1 ∷ 1 ∷ 1 ∷ 1 ∷ 0 ∷ 1 ∷ 0 ∷ []) 49
-    (ascii "digraph heap {\n// 0\n1 [label=\"1/0\"];\n1 -> 1;\n}\n")
-    -- terms of one node, blanks between
+    (ascii "digraph heap {\n// 0\n1 [label=\"1/0\"];\n1 -> 1;\n}\n") 2
+    -- nodes before arrows, both ascending; terms of one node ascending, blanks between
     ∷ draws (4 ∷ 1 ∷ 1 ∷ 2 ∷ 4 ∷ 10 ∷ 1 ∷ 1 ∷ 1 ∷ 2 ∷ 1 ∷ 1 ∷ 1 ∷ 3 ∷ 4 ∷ 4 ∷ 4 ∷ 0 ∷ 1 ∷ 0 ∷ 0 ∷ 1 ∷ 0 ∷ []) 137
-    (ascii "digraph heap {\n// 0\n1 [label=\"1 2 3 5 6 7/0\"];\n2 [label=\"4/1\"];\n3 [label=\"8/0\"];\n4 [label=\"9 10/0\"];\n1 -> 1;\n2 -> 1;\n3 -> 2;\n4 -> 4;\n}\n")
-    -- no term names the node
-    ∷ draws (1 ∷ 1 ∷ 0 ∷ 1 ∷ 0 ∷ 1 ∷ 0 ∷ []) 48
-    (ascii "digraph heap {\n// 0\n1 [label=\"/0\"];\n1 -> 1;\n}\n")
-    -- booleans of three digits
-    ∷ draws (6 ∷ 2 ∷ 6 ∷ 4 ∷ 2 ∷ 5 ∷ 6 ∷ 7 ∷ 1 ∷ 2 ∷ 3 ∷ 4 ∷ 5 ∷ 4 ∷ 6 ∷ 6 ∷ 0 ∷ 0 ∷ 0 ∷ 0 ∷ 0 ∷ 0 ∷ 1 ∷ 255 ∷ []) 178
-    (ascii "digraph heap {\n// 255\n1 [label=\"1/0\"];\n2 [label=\"2/0\"];\n3 [label=\"3/0\"];\n4 [label=\"4 6/0\"];\n5 [label=\"5/0\"];\n6 [label=\"7/0\"];\n1 -> 2;\n2 -> 6;\n3 -> 4;\n4 -> 2;\n5 -> 5;\n6 -> 6;\n}\n")
-    -- a text that just fits
+    (ascii "digraph heap {\n// 0\n1 [label=\"1 2 3 5 6 7/0\"];\n2 [label=\"4/1\"];\n3 [label=\"8/0\"];\n4 [label=\"9 10/0\"];\n1 -> 1;\n2 -> 1;\n3 -> 2;\n4 -> 4;\n}\n") 2
+    -- a text that just fits; no term names the node
     ∷ draws (1 ∷ 1 ∷ 0 ∷ 1 ∷ 0 ∷ 1 ∷ 1 ∷ []) 46
-    (ascii "digraph heap {\n// 1\n1 [label=\"/0\"];\n1 -> 1;\n}\n")
-    -- a byte too short
+    (ascii "digraph heap {\n// 1\n1 [label=\"/0\"];\n1 -> 1;\n}\n") 0
+    -- a byte too short; the zeros behind a report are not part of it
     ∷ refuses (1 ∷ 1 ∷ 0 ∷ 1 ∷ 0 ∷ 1 ∷ 0 ∷ replicate 46 0) 45 14
-    -- a buffer too short
-    ∷ refuses (6 ∷ 1 ∷ 2 ∷ 4 ∷ 2 ∷ 6 ∷ 6 ∷ 7 ∷ 1 ∷ 1 ∷ 2 ∷ 3 ∷ 4 ∷ 5 ∷ 6 ∷ 6 ∷ 0 ∷ 16 ∷ 0 ∷ 0 ∷ 0 ∷ 0 ∷ 1 ∷ 0 ∷ []) 164 14
-    -- zeros past the report
-    ∷ draws (4 ∷ 3 ∷ 1 ∷ 4 ∷ 4 ∷ 6 ∷ 1 ∷ 2 ∷ 3 ∷ 4 ∷ 3 ∷ 4 ∷ 4 ∷ 0 ∷ 0 ∷ 8 ∷ 0 ∷ 1 ∷ 0 ∷ 0 ∷ 0 ∷ 0 ∷ 0 ∷ 0 ∷ 0 ∷ 0 ∷ 0 ∷ 0 ∷ 0 ∷ 0 ∷ 0 ∷ 0 ∷ 0 ∷ 0 ∷ 0 ∷ 0 ∷ 0 ∷ 0 ∷ 0 ∷ 0 ∷ 0 ∷ 0 ∷ 0 ∷ 0 ∷ 0 ∷ 0 ∷ 0 ∷ 0 ∷ 0 ∷ 0 ∷ 0 ∷ 0 ∷ 0 ∷ []) 128
-    (ascii "digraph heap {\n// 0\n1 [label=\"1/0\"];\n2 [label=\"2/0\"];\n3 [label=\"3 5/8\"];\n4 [label=\"4 6/0\"];\n1 -> 3;\n2 -> 1;\n3 -> 4;\n4 -> 4;\n}\n")
-    -- a byte past the report
+    -- a byte past the report, and no room either: 13 is met first
     ∷ refuses (1 ∷ 1 ∷ 0 ∷ 1 ∷ 0 ∷ 1 ∷ 0 ∷ 2 ∷ 2 ∷ 0 ∷ []) 8 13
-    -- a successor above m
-    ∷ refuses (6 ∷ 1 ∷ 255 ∷ 6 ∷ 4 ∷ 5 ∷ 6 ∷ 6 ∷ 1 ∷ 2 ∷ 3 ∷ 4 ∷ 5 ∷ 6 ∷ 6 ∷ 0 ∷ 0 ∷ 0 ∷ 0 ∷ 0 ∷ 0 ∷ 1 ∷ 0 ∷ []) 8 13
     ∷ []
 
 -- what the definitions give for a sample

@@ -4,6 +4,7 @@ use link_rows::Link;
 use query::Layout;
 use rows::Term;
 use rules::Rule;
+use rules::Third;
 ghost use mathlib.Core.Path.{_≡_};
 ghost use mathlib.Core.Bool.{Bool, true};
 ghost use Prim.Native.Nat.{ℕ, _+_, _*_, _≤_, _<_};
@@ -12,6 +13,7 @@ ghost use Rattle.logic.specs.Search.{_and_};
 ghost use Rattle.logic.specs.Facts.{live, line, negatedAt, plainAt, isClash};
 ghost use Rattle.logic.specs.Rules.{CYCLE, triple, move, applies};
 ghost use Rattle.facts.specs.Path.{graphOf, pathOf, repOf};
+ghost use Rattle.rows.specs.Square.{square};
 ghost use Rattle.link_query.specs.Said.{said, Within};
 ghost use Rattle.rules.specs.Answers.{kindOf};
 ghost use Rattle.rules.specs.Tests.{pairTest, thirdTest, isNotCycle};
@@ -20,18 +22,26 @@ ghost use Rattle.literal_tests.specs.Tests.{oneTerm, reachHeld, sameField};
 ghost use Rattle.clash.specs.Sections.{literalsIn};
 
 // Term t is not replaced.
-fn is_live(s: Facts, n: usize, t: usize) -> bool
+fn is_live(s: Facts, n: usize, t: Term) -> bool
     requires { ⌜ n ≤ 16 ⌝ }
-    ensures { λ r. ⌜ r ≡ live n (pathOf s) t ⌝ }
+    ensures { λ r. ⌜ r ≡ live n (pathOf s) (t .0) ⌝ }
 {
-    if t == 0 {
+    let at = t.0;
+    if at == 0 {
         return false;
     }
-    if n < t {
+    if n < at {
         return false;
     }
-    let to = rows::wide(s.rep[t]);
-    to == t
+    let to = rows::wide(s.rep[at]);
+    to == at
+}
+
+// The fact about a and b is held, whatever numbers they have.
+fn holds(rows: &[u32; 17], a: Term, b: Term) -> bool
+    ensures { λ r. ⌜ r ≡ square (now (rows .entry)) (a .0) (b .0) ⌝ }
+{
+    rows::is_held(rows, a.0, b.0)
 }
 
 // A rule other than CYCLE applies at a triple; `alive` says whether x is not replaced.
@@ -40,80 +50,72 @@ fn is_allowed(
     alive: bool,
     link: &[u32; 17],
     reach: &[u32; 17],
-    x: usize,
-    y: usize,
-    z: usize,
+    x: Term,
+    y: Term,
+    z: Term,
 ) -> bool
-    ensures { λ r. ⌜ ((lives : ℕ → Bool) → alive ≡ lives x → isNotCycle (kindOf rule) ≡ true → r ≡ (pairTest lives (graphOf (now (link .entry)) (now (reach .entry))) x y (kindOf rule) and thirdTest (graphOf (now (link .entry)) (now (reach .entry))) x y z (kindOf rule))) ⌝ }
+    ensures { λ r. ⌜ ((lives : ℕ → Bool) → alive ≡ lives (x .0) → isNotCycle (kindOf rule) ≡ true → r ≡ (pairTest lives (graphOf (now (link .entry)) (now (reach .entry))) (x .0) (y .0) (kindOf rule) and thirdTest (graphOf (now (link .entry)) (now (reach .entry))) (x .0) (y .0) (z .0) (kindOf rule))) ⌝ }
 {
     match rule {
-        Rule::Reflex => alive & !rows::is_held(reach, x, x) & (y == 0) & (z == 0),
-        Rule::Trans1 => rows::is_held(link, x, y) & !rows::is_held(reach, x, y) & (z == 0),
-        Rule::Trans2 => rows::is_held(reach, x, y)
-            & rows::is_held(reach, y, z)
-            & !rows::is_held(reach, x, z),
+        Rule::Reflex => alive & !holds(reach, x, x) & (y.0 == 0) & (z.0 == 0),
+        Rule::Trans1 => holds(link, x, y) & !holds(reach, x, y) & (z.0 == 0),
+        Rule::Trans2 => holds(reach, x, y) & holds(reach, y, z) & !holds(reach, x, z),
         Rule::Func => {
-            rows::is_held(link, x, y)
-                & rows::is_held(reach, x, z)
-                & (x != z)
-                & !rows::is_held(reach, y, z)
+            holds(link, x, y) & holds(reach, x, z) & (x.0 != z.0) & !holds(reach, y, z)
         }
         Rule::Cycle => false,
         Rule::Scc => {
-            rows::is_held(reach, x, y)
-                & rows::is_held(reach, y, x)
-                & (x != y)
-                & rows::is_held(reach, x, z)
-                & !rows::is_held(reach, z, x)
+            holds(reach, x, y)
+                & holds(reach, y, x)
+                & (x.0 != y.0)
+                & holds(reach, x, z)
+                & !holds(reach, z, x)
         }
         Rule::Total => {
-            rows::is_held(reach, x, y)
-                & rows::is_held(reach, x, z)
-                & !rows::is_held(reach, y, z)
-                & !rows::is_held(reach, z, y)
+            holds(reach, x, y) & holds(reach, x, z) & !holds(reach, y, z) & !holds(reach, z, y)
         }
         Rule::Share => {
-            rows::is_held(reach, x, y)
-                & rows::is_held(reach, y, x)
-                & (x != y)
-                & rows::is_held(link, x, z)
-                & rows::is_held(link, y, z)
+            holds(reach, x, y)
+                & holds(reach, y, x)
+                & (x.0 != y.0)
+                & holds(link, x, z)
+                & holds(link, y, z)
         }
     }
 }
 
 // CYCLE applies at x, y and k: the links return to x after k steps and not before, x reaches y, and y is none of the k terms from x on.
-fn is_round(link: &[u32; 17], reach: &[u32; 17], n: usize, x: usize, y: usize, k: usize) -> bool
+fn is_round(link: &[u32; 17], reach: &[u32; 17], n: usize, x: Term, y: Term, k: usize) -> bool
     requires { ⌜ n ≤ 16 ⌝ }
-    ensures { λ r. ⌜ ((lives : ℕ → Bool) → r ≡ allowed n lives (graphOf (now (link .entry)) (now (reach .entry))) (move 1 CYCLE (triple x y k))) ⌝ }
+    ensures { λ r. ⌜ ((lives : ℕ → Bool) → r ≡ allowed n lives (graphOf (now (link .entry)) (now (reach .entry))) (move 1 CYCLE (triple (x .0) (y .0) k))) ⌝ }
 {
-    if !rows::is_held(reach, x, y) {
+    if !holds(reach, x, y) {
         return false;
     }
     if k == 0 {
         return false;
     }
-    let first = link_steps::next(link, n, Term(x));
-    let back = link_steps::follow(link, n, first, Term(x), k);
+    let first = link_steps::next(link, n, x);
+    let back = link_steps::follow(link, n, first, x, k);
     if back.steps != k - 1 {
         return false;
     }
-    let round = link_steps::follow(link, n, Term(x), Term(y), k);
+    let round = link_steps::follow(link, n, x, y, k);
     round.steps == k
 }
 
-// The rule applies to the path at this triple.
-pub fn applies(s: Facts, n: usize, rule: Rule, x: usize, y: usize, z: usize) -> bool
+// The rule applies to the path at this triple, whose third number is a term, or the steps of CYCLE.
+pub fn applies(s: Facts, n: usize, rule: Rule, x: Term, y: Term, z: Third) -> bool
     requires { ⌜ n ≤ 16 ⌝ }
-    ensures { λ r. ⌜ r ≡ applies n (pathOf s) (move 1 (kindOf rule) (triple x y z)) ⌝ }
+    ensures { λ r. ⌜ r ≡ applies n (pathOf s) (move 1 (kindOf rule) (triple (x .0) (y .0) (z .0))) ⌝ }
 {
     let link = link_rows::rows_of(&s.link, Link(1));
     let reach = link_rows::rows_of(&s.reach, Link(1));
     if rules::is_not_cycle(rule) {
         let alive = is_live(s, n, x);
-        return is_allowed(rule, alive, &link, &reach, x, y, z);
+        return is_allowed(rule, alive, &link, &reach, x, y, Term(z.0));
     }
-    is_round(&link, &reach, n, x, y, z)
+    is_round(&link, &reach, n, x, y, z.0)
 }
 
 // Equality i, from 1, is negated, and its terms have one representative.

@@ -15,4 +15,4 @@ use Rattle.formula.specs.ReadingSamples.{SamplesHold, given, inputOf, re
 
 pub samples-hold : SamplesHold
 unfolding Option·elim _and_ _or_ from any all at keep orElse firstOf flatMap isSome termCount entryRole signRole termRole numberRole countRole fourSections booleanSection fiveSections sections withPart layout rolesOf firstByte layoutBy layoutOf faultIn layoutFault roleFault byteFault isOrder literals section queryOf decode orderCheck layoutCheck byteCheck roomUnder formChecks queryChecks verdictChecksOf refusalOf isDigit letterByte isPlace shown expand present digitsAt pastDigits mark pastBlanks andThen joined further closed named itemBy itemAt read calls ended readText blank decided afterReading textOutcome asRefusal formulaCall given inputOf refusal opens closes ors refusals refusalComputed reads readings readComputed
-samples-hold = record { refusals-hold = refl; readings-hold = refl; retired = refl; long-name = refl }
+samples-hold = record { refusals-hold = refl; readings-hold = refl }

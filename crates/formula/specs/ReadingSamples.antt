@@ -1,7 +1,6 @@
--- Samples of texts, worked by hand from the words of 02, R-7: what is refused and where, and what is read.
+-- Samples of texts, worked by hand from the words of 02, R-7: what is refused and where, and what is read. The gate's data have many more.
 use Prim.Native.Nat.{ℕ}
 use mathlib.Core.Path.{_≡_}
-use mathlib.Core.Bool.{true}
 use mathlib.Core.List.{List, [], _∷_, _++_, map}
 use lib.ListN.{replicate}
 use Rattle.logic.specs.Search.{flatMap}
@@ -38,37 +37,21 @@ ors n = 69 ∷ 49 ∷ flatMap (λ (bar : ℕ). bar ∷ 69 ∷ 49 ∷ []) (replic
 
 unfoldable pub refusals : List Refusal
 refusals =
-    -- "the first byte that no text of the grammar could have there, or the length": nothing, `E1|`, `E1&|E2`, `(E1`, `E1)`, `()`, `e1`
-    refusal [] 17 0
-    ∷ refusal (69 ∷ 49 ∷ 124 ∷ []) 17 3
-    ∷ refusal (69 ∷ 49 ∷ 38 ∷ 124 ∷ 69 ∷ 50 ∷ []) 17 3
-    ∷ refusal (40 ∷ 69 ∷ 49 ∷ []) 17 3
-    ∷ refusal (69 ∷ 49 ∷ 41 ∷ []) 17 2
-    ∷ refusal (40 ∷ 41 ∷ []) 17 1
-    ∷ refusal (101 ∷ 49 ∷ []) 17 0
-    -- blanks stand round literals and not in them; "a place from 1, no leading zero": a blank, `E 1`, `E1 2`, `E0`, `E01`
-    ∷ refusal (32 ∷ []) 17 1
+    -- "the first byte that no text of the grammar could have there, or the length": `E1|`; blanks stand round literals and not in them: `E 1`
+    refusal (69 ∷ 49 ∷ 124 ∷ []) 17 3
     ∷ refusal (69 ∷ 32 ∷ 49 ∷ []) 17 1
-    ∷ refusal (69 ∷ 49 ∷ 32 ∷ 50 ∷ []) 17 3
-    ∷ refusal (69 ∷ 48 ∷ []) 17 1
+    -- "a place from 1, no leading zero": `E01`, and the bytes beside the digits, `E1/` and `E1:`
     ∷ refusal (69 ∷ 48 ∷ 49 ∷ []) 17 1
-    -- "naming an absent literal (its letter)", with all its digits: `E3`, `E1&B1`, `E1000`; "lowest place first": ` (E3`, `E3|`, `E3x`, `E1x&E3`
-    ∷ refusal (69 ∷ 51 ∷ []) 17 0
+    ∷ refusal (69 ∷ 49 ∷ 47 ∷ []) 17 2
+    ∷ refusal (69 ∷ 49 ∷ 58 ∷ []) 17 2
+    -- "naming an absent literal (its letter)": `E1&B1`
     ∷ refusal (69 ∷ 49 ∷ 38 ∷ 66 ∷ 49 ∷ []) 17 3
-    ∷ refusal (69 ∷ 49 ∷ 48 ∷ 48 ∷ 48 ∷ []) 17 0
-    ∷ refusal (32 ∷ 40 ∷ 69 ∷ 51 ∷ []) 17 2
-    ∷ refusal (69 ∷ 51 ∷ 124 ∷ []) 17 0
-    ∷ refusal (69 ∷ 51 ∷ 120 ∷ []) 17 0
-    ∷ refusal (69 ∷ 49 ∷ 120 ∷ 38 ∷ 69 ∷ 51 ∷ []) 17 2
-    -- "18 too deep (the 33rd parenthesis open at once)"; of an absent literal behind it or before it, the lower place
+    -- "18 too deep (the 33rd parenthesis open at once)"
     ∷ refusal (opens 33 ++ (69 ∷ 49 ∷ closes 33)) 18 32
-    ∷ refusal (opens 33 ++ (69 ∷ 51 ∷ [])) 18 32
-    ∷ refusal (69 ∷ 51 ∷ 38 ∷ opens 33) 17 0
     -- "17 on a tie": with 32 open, a parenthesis behind E1 is the 33rd and is one that no text of the grammar has there
     ∷ refusal (opens 32 ++ (69 ∷ 49 ∷ 40 ∷ [])) 17 34
     -- "17 text too long (place 512)", even where a fault stands before; "19 more than 64 conjunctions"
     ∷ refusal (replicate 513 41) 17 512
-    ∷ refusal (replicate 512 32) 17 512
     ∷ refusal (ors 64) 19 0
     ∷ []
 
@@ -82,18 +65,12 @@ pub record Read : Type 0 where
 unfoldable pub reads : List ℕ → Formula → Read
 reads text f = record { text = text; reading = done f [] }
 
--- "`&` binding tighter, blanks free round literals, `&`, `|` and parentheses": `E1`, `  E2 `, `E1|E2&R1`, `E1&E2|R1`, `(E1 | E2) & R1`;
--- "to a depth of 32"
+-- "`&` binding tighter, blanks free round literals, `&`, `|` and parentheses": `E1|E2&R1`, `(E1 | E2) & R1`; "to a depth of 32"
 unfoldable pub readings : List Read
 readings =
-    reads (69 ∷ 49 ∷ []) (literal E 1)
-    ∷ reads (32 ∷ 32 ∷ 69 ∷ 50 ∷ 32 ∷ []) (literal E 2)
-    ∷ reads (69 ∷ 49 ∷ 124 ∷ 69 ∷ 50 ∷ 38 ∷ 82 ∷ 49 ∷ []) (either (literal E 1) (both (literal E 2) (literal R 1)))
-    ∷ reads (69 ∷ 49 ∷ 38 ∷ 69 ∷ 50 ∷ 124 ∷ 82 ∷ 49 ∷ []) (either (both (literal E 1) (literal E 2)) (literal R 1))
+    reads (69 ∷ 49 ∷ 124 ∷ 69 ∷ 50 ∷ 38 ∷ 82 ∷ 49 ∷ []) (either (literal E 1) (both (literal E 2) (literal R 1)))
     ∷ reads (40 ∷ 69 ∷ 49 ∷ 32 ∷ 124 ∷ 32 ∷ 69 ∷ 50 ∷ 41 ∷ 32 ∷ 38 ∷ 32 ∷ 82 ∷ 49 ∷ []) (both (either (literal E 1) (literal E 2)) (literal R 1))
     ∷ reads (opens 32 ++ (69 ∷ 49 ∷ closes 32)) (literal E 1)
-    -- 33 are opened, but not all are open at once
-    ∷ reads (opens 32 ++ (69 ∷ 49 ∷ 41 ∷ 38 ∷ 40 ∷ 69 ∷ 50 ∷ closes 32)) (both (literal E 1) (literal E 2))
     ∷ []
 
 unfoldable pub readComputed : Read → Read
@@ -102,7 +79,3 @@ readComputed s = record { text = s .text; reading = readText (present (decode gi
 pub record SamplesHold : Type 0 where
   pub refusals-hold : map refusalComputed refusals ≡ refusals
   pub readings-hold : map readComputed readings ≡ readings
-  -- "26 a boolean count above 0 (that count's place)" (02, R-13), before `B1` is looked at
-  pub retired : formulaCall (record { order = 1 ∷ 2 ∷ 3 ∷ 4 ∷ 5 ∷ 6 ∷ 7 ∷ 8 ∷ []; query = 1 ∷ 0 ∷ 0 ∷ 0 ∷ 0 ∷ 1 ∷ 1 ∷ 1 ∷ []; text = 66 ∷ 49 ∷ []; room = 53 }) .answer ≡ refused 26 5
-  -- a name of many digits, where every literal is there
-  pub long-name : readText (λ l n. true) 32 (82 ∷ 49 ∷ 48 ∷ 48 ∷ 48 ∷ 48 ∷ 48 ∷ 48 ∷ 48 ∷ 48 ∷ 48 ∷ 49 ∷ []) ≡ done (literal R 10000000001) []

@@ -10,6 +10,9 @@ use rules::Third;
 ghost use mathlib.Core.Path.{_≡_};
 ghost use mathlib.Core.List.{List};
 ghost use Prim.Native.Nat.{ℕ, _≤_};
+ghost use lib.ListN.{length};
+ghost use Rattle.logic.specs.Search.{from, select};
+ghost use Rattle.rows.specs.Bits.{bit};
 ghost use Rattle.rows.specs.Square.{Turned};
 ghost use Rattle.facts.specs.Path.{pathOf};
 ghost use Rattle.units.specs.Proposes.{Proposes};
@@ -22,7 +25,9 @@ struct Best {
 }
 
 // How many numbers up to 16 a row has.
-fn ones(row: u32) -> usize {
+fn ones(row: u32) -> usize
+    ensures { λ r. ⌜ r ≡ length (select (bit row) (from 17 0)) ⌝ }
+{
     u32::count_ones(row & rows::up_to(16)) as usize
 }
 

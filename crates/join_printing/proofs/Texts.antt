@@ -2,15 +2,12 @@
 use Prim.Native.Nat.{ℕ, _+_, _-_, _*_, _≤_, _<_, min}
 use native.Mathlib.Omega.{arith}
 use mathlib.Core.Path.{_≡_, refl, sym, ap, subst, _∙_}
-use mathlib.Core.Logic.{⊎-elim}
 use mathlib.Core.Bool.{Bool, true, false, cond}
 use mathlib.Core.List.{List, [], _∷_, _++_}
 use mathlib.Core.Option.{Option, none, some, Option·elim}
 use lib.ListN.{length, getD, take, drop}
-use lib.Seq.{take-all}
 use lib.Dec.{eqb}
 use borrow.Author.Tests.{lt-ltb, le-ltb}
-use Rattle.theory.proofs.Basics.Compare.{le-cases}
 use Rattle.text.specs.Text.{ascii, decimal}
 use Rattle.text.proofs.Writing.{writes-taken}
 use Rattle.wording.specs.Words.{refusedText}
@@ -21,6 +18,7 @@ use Rattle.decimal_lines.specs.Puts.{Puts}
 use Rattle.check_printing.proofs.Answers.{numbers-length, query-read, rest-whole}
 use Rattle.joining.specs.Call.{Outcome, joinCall}
 use Rattle.joining.specs.HandBack.{handBackCall, partOf}
+use Rattle.joining.proofs.Calls.{join-length}
 use Rattle.joiner.specs.Promise.{meaning, Does, handed, Inside}
 use Rattle.joiner.specs.declared.JoinAnswer.{JoinAnswer}
 use Rattle.joiner.specs.declared.JoinAnswer.the-variants as answer
@@ -43,14 +41,13 @@ module _ (first second pairs : List ℕ) (room : ℕ) (bytes : List ℕ) (r : Jo
   told-as : {a : JoinAnswer} → r ≡ a → answerText (meaning a) bytes ≡ joinedText first second pairs
   told-as e = sym (joined-told ∙ ap (λ (a : JoinAnswer). answerText (meaning a) bytes) e)
 
-  pub written-text : (n end : ℕ) → r ≡ answer.Written n → end ≡ min n 561 → length bytes ≡ 561 → hexLine (take end bytes) ≡ joinedText first second pairs
+  -- what is written lies in the buffer
+  pub written-within : (n : ℕ) → r ≡ answer.Written n → n ≤ 561
+  written-within n e = join-length first second pairs room n (sym (does .answers) ∙ ap meaning e) .0
+
+  pub written-text : (n : ℕ) → r ≡ answer.Written n → hexLine (take n bytes) ≡ joinedText first second pairs
   unfolding answerText
-  written-text n end e m l =
-      ap hexLine (⊎-elim
-      (λ (k : 561 ≤ n). take-all end bytes (omega arith) ∙ sym (take-all n bytes (omega arith)))
-      (λ (k : n < 561). let z : end ≡ n = omega arith in ap (λ (j : ℕ). take j bytes) z)
-      (le-cases 561 n))
-      ∙ told-as e
+  written-text n e = told-as e
 
   pub first-text : (k place : ℕ) → r ≡ answer.FirstRefused k place → refusedText k place ++ ascii " of the first query\n" ≡ joinedText first second pairs
   unfolding answerText

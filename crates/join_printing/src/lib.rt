@@ -24,10 +24,7 @@ fn put_joined(buffer: &mut [u8], first: &[u8], second: &[u8], pairs: &[u8]) -> u
 {
     let mut out = [0u8; 561];
     match joiner::join(first, second, pairs, &mut out) {
-        JoinAnswer::Written(length) => {
-            let end = check_printing::at_most(length, 561);
-            hex_lines::put_hex_line(buffer, 0, &out[..end])
-        }
+        JoinAnswer::Written(length) => hex_lines::put_hex_line(buffer, 0, &out[..length]),
         JoinAnswer::FirstRefused(k, place) => {
             put_refusal(buffer, k, place, b" of the first query\n")
         }

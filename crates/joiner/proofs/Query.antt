@@ -22,8 +22,9 @@ use Rattle.joining.specs.Pairs.{Pair, pairsOf, hasTerms, isPairList}
 use Rattle.encoding.specs.QueryBytes.{literalBytes, sectionBytes, encode, withinLimits}
 use Rattle.joining.specs.Joined.{raisedEntry, raised, pairLiteral, joined}
 use Rattle.encoding.proofs.Encoded.{Limits, within-limits}
-use Rattle.encoding.proofs.Decoded.{accepted-encodable}
-use Rattle.joining.proofs.Accepted.{Paired, pair-terms, count-joined}
+use Rattle.joining.proofs.PairLists.{pair-terms}
+use Rattle.joining.proofs.Counts.{count-terms, count-equalities, count-reachability, count-fields}
+use Rattle.joining.proofs.Accepted.{Paired}
 use Rattle.rows.proofs.Selections.{and-both}
 use Rattle.joiner.specs.Bytes.{Small, SmallEntries, SmallPairs, keepsLimits, Bounded}
 use Rattle.joiner.specs.Promise.{Passing}
@@ -130,24 +131,16 @@ module _ (first second pairs : List ℕ) (f s : Layout) (pf : Passing f first) (
 
   -- how long the sections are
   terms-sum : termCount whole ≡ f .terms + s .terms
-  terms-sum = count-joined (decode first) (decode second) (pairsOf pairs) (accepted-encodable first (pf .accepted)) (accepted-encodable second (ps .accepted)) paired ∙ omega (arith, pf .laid .term-count, ps .laid .term-count)
+  terms-sum = count-terms (decode first) (decode second) (pairsOf pairs) ∙ omega (arith, pf .laid .term-count, ps .laid .term-count)
 
   equal-sum : length (whole .equalities) ≡ f .«equal_count» + s .«equal_count» + getD pairs 0 0
-  unfolding joined
-  equal-sum =
-      length-append (decode first .equalities) _
-      ∙ omega (arith, equal-counted f first (pf .laid), equal-counted s second (ps .laid), pairs-count, length-append (map (raised (termCount (decode first)) (termCount (decode first))) (decode second .equalities)) (map (pairLiteral (termCount (decode first))) (pairsOf pairs)), length-map (decode second .equalities) (raised (termCount (decode first)) (termCount (decode first))), length-map (pairsOf pairs) (pairLiteral (termCount (decode first))))
+  equal-sum = count-equalities (decode first) (decode second) (pairsOf pairs) ∙ omega (arith, equal-counted f first (pf .laid), equal-counted s second (ps .laid), pairs-count)
 
   reach-sum : length (whole .reachability) ≡ f .«reach_count» + s .«reach_count»
-  unfolding joined
-  reach-sum =
-      length-append (decode first .reachability) _
-      ∙ omega (arith, reach-counted f first (pf .laid), reach-counted s second (ps .laid), length-map (decode second .reachability) (raised (termCount (decode first)) (termCount (decode first))))
+  reach-sum = count-reachability (decode first) (decode second) (pairsOf pairs) ∙ omega (arith, reach-counted f first (pf .laid), reach-counted s second (ps .laid))
 
   field-sum : length (whole .fields) ≡ f .«field_count» + s .«field_count»
-  unfolding joined
-  field-sum =
-      length-append (decode first .fields) _ ∙ omega (arith, field-counted f first (pf .laid), field-counted s second (ps .laid), length-map (decode second .fields) (raised 0 (termCount (decode first))))
+  field-sum = count-fields (decode first) (decode second) (pairsOf pairs) ∙ omega (arith, field-counted f first (pf .laid), field-counted s second (ps .laid))
 
   -- "a limit passed", as the code tests it
   pub limits-same : (count : ℕ) → count ≡ getD pairs 0 0 → keepsLimits f s count ≡ withinLimits whole

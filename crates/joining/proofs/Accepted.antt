@@ -4,45 +4,30 @@ use native.Mathlib.Omega.{arith}
 use native.Mathlib.Nat.{zero-add}
 use mathlib.Core.Path.{_≡_, refl, sym, ap, _∙_, subst}
 use mathlib.Core.Logic.{⊎-elim}
-use mathlib.Core.Bool.{true}
 use mathlib.Core.List.{List, _++_, map, List·Memᴰ, List·Memᴰ·append-cases}
-use lib.ListN.{length, length-append, length-map}
-use borrow.Author.Tests.{ltb-true, leb-true}
 use Rattle.logic.specs.Query.{Literal, Query, termCount, argumentOf, linkOf, decode}
-use Rattle.theory.proofs.Basics.Search.{and-left, and-right, map-mem, all-true}
+use Rattle.theory.proofs.Basics.Search.{map-mem}
 use Rattle.theory.proofs.Basics.Compare.{le-cases}
 use Rattle.theory.proofs.Query.Tied.{Accepted, InTerms}
-use Rattle.joining.specs.Pairs.{Pair, pairsOf, hasTerms, isPairList}
+use Rattle.joining.specs.Pairs.{Pair}
 use Rattle.joining.specs.Joined.{raised, raisedEntry, pairLiteral, joined}
-use Rattle.joining.specs.Claims.{Joinable}
+use Rattle.joining.specs.Claims.{BothAccepted, ListsPairs, asOne}
+use Rattle.joining.proofs.Counts.{count-terms}
 use Rattle.joining.proofs.Terms.{Among, first-among, second-among, whose}
-use Rattle.encoding.proofs.Encoded.{within-limits, AboutOne, OneLinked, Encodable}
+use Rattle.encoding.proofs.Encoded.{Limits, limits-within, AboutOne, OneLinked, Encodable}
 use Rattle.encoding.proofs.Decoded.{accepted-encodable}
 
 -- a pair names a term of either query
 abbrev pub Paired : Query → Query → Pair → Type 0
 Paired a b p = InTerms a (p .first) × InTerms b (p .second)
 
-pub pair-terms : (n m : ℕ) (p : Pair) → hasTerms n m p ≡ true → ((1 ≤ p .first) × (p .first ≤ n)) × ((1 ≤ p .second) × (p .second ≤ m))
-unfolding hasTerms
-pair-terms n m p h =
-    let left = and-left _ _ h in
-    let right = and-right _ _ h in (
-      (ltb-true 0 (p .first) (and-left _ _ left), leb-true (p .first) n (and-right _ _ left)),
-      (ltb-true 0 (p .second) (and-left _ _ right), leb-true (p .second) m (and-right _ _ right)),
-    )
-
 module _ (a b : Query) (ps : List Pair) (first : Encodable a) (second : Encodable b) (paired : (p : Pair) → List·Memᴰ p ps → Paired a b p) where
-  pub count-joined : termCount (joined a b ps) ≡ termCount a + termCount b
-  unfolding joined termCount
-  count-joined = length-append (a .entries .terms) (map (raisedEntry (length (a .entries .terms))) (b .entries .terms)) ∙ ap (λ (k : ℕ). length (a .entries .terms) + k) (length-map (b .entries .terms) (raisedEntry (length (a .entries .terms))))
-
   -- a term of the first, and one of the second raised
   in-first : (t : ℕ) → InTerms a t → InTerms (joined a b ps) t
-  in-first t h = omega (arith, count-joined, h .0, h .1)
+  in-first t h = omega (arith, count-terms a b ps, h .0, h .1)
 
   in-second : (t : ℕ) → InTerms b t → InTerms (joined a b ps) (termCount a + t)
-  in-second t h = (omega (arith, h .0), omega (arith, count-joined, h .1))
+  in-second t h = (omega (arith, h .0), omega (arith, count-terms a b ps, h .1))
 
   module _ (small : termCount (joined a b ps) ≤ 16) where
     pub of-first : Among (λ t. t) (joined a b ps .entries) (a .entries) (termCount a)
@@ -51,10 +36,10 @@ module _ (a b : Query) (ps : List Pair) (first : Encodable a) (second : Encodabl
 
     pub of-second : Among (λ t. termCount a + t) (joined a b ps .entries) (b .entries) (termCount b)
     unfolding joined termCount
-    of-second = second-among (termCount a) (a .entries .terms) (b .entries) (second .one-linked .entries) refl (second .accepted .entry-below) (omega (arith, count-joined))
+    of-second = second-among (termCount a) (a .entries .terms) (b .entries) (second .one-linked .entries) refl (second .accepted .entry-below) (omega (arith, count-terms a b ps))
 
     entry-below : (t : ℕ) → InTerms (joined a b ps) t → argumentOf (joined a b ps .entries) t < t
-    entry-below t h = ⊎-elim low high (whose (termCount a) (termCount b) t (h .0) (omega (arith, count-joined, h .1)))
+    entry-below t h = ⊎-elim low high (whose (termCount a) (termCount b) t (h .0) (omega (arith, count-terms a b ps, h .1)))
       where
         low : t ≤ termCount a → argumentOf (joined a b ps .entries) t < t
         low u =
@@ -140,20 +125,17 @@ module _ (a b : Query) (ps : List Pair) (first : Encodable a) (second : Encodabl
           field-term = λ l m. ⊎-elim (λ x. in-first (l .right) (first .accepted .field-term l x)) (λ x. right-raised l x .1) (List·Memᴰ·append-cases (a .fields) m);
         }
 
--- two queries and a pair list that can be joined
-module _ (first second pairs : List ℕ) (ok : Joinable first second pairs) where
-  pub all-paired : (p : Pair) → List·Memᴰ p (pairsOf pairs) → Paired (decode first) (decode second) p
-  unfolding isPairList
-  all-paired p m =
-      pair-terms (termCount (decode first)) (termCount (decode second)) p (all-true (hasTerms (termCount (decode first)) (termCount (decode second))) p (and-right _ _ (ok .pairs-listed)) m)
+-- two queries and pairs of their terms that can be joined
+module _ (first second pairs : List ℕ) (ps : List Pair) (both : BothAccepted first second) (listed : ListsPairs first second pairs ps) where
+  pub all-paired : (p : Pair) → List·Memᴰ p ps → Paired (decode first) (decode second) p
+  all-paired p m = (listed .first-terms p m, listed .second-terms p m)
 
-  pub joined-small : termCount (joined (decode first) (decode second) (pairsOf pairs)) ≤ 16
-  joined-small = within-limits _ (ok .within-limits) .terms
-
-  pub encodable : Encodable (joined (decode first) (decode second) (pairsOf pairs))
-  encodable =
+  pub one-encodable : Limits (asOne first second ps) → Encodable (asOne first second ps)
+  one-encodable l =
+      let a = accepted-encodable first (both .0) in
+      let b = accepted-encodable second (both .1) in
       record {
-        accepted = joined-accepted (decode first) (decode second) (pairsOf pairs) (accepted-encodable first (ok .first-accepted)) (accepted-encodable second (ok .second-accepted)) all-paired joined-small;
-        one-linked = joined-linked (decode first) (decode second) (pairsOf pairs) (accepted-encodable first (ok .first-accepted)) (accepted-encodable second (ok .second-accepted)) all-paired joined-small;
-        within = ok .within-limits;
+        accepted = joined-accepted (decode first) (decode second) ps a b all-paired (l .terms);
+        one-linked = joined-linked (decode first) (decode second) ps a b all-paired (l .terms);
+        within = limits-within (asOne first second ps) l;
       }

@@ -1,4 +1,4 @@
--- What is handed back: the literal that the line names. Assumes nothing.
+-- What is handed back: the literal that the line names, or a refusal. Assumes nothing.
 use Prim.Native.Nat.{ℕ, zero, suc, _+_, _-_, _≤_, _<_}
 use native.Mathlib.Omega.{arith}
 use mathlib.Core.Path.{_≡_, refl, sym, ap, _∙_, subst}
@@ -6,22 +6,24 @@ use mathlib.Core.Logic.{_⊎_, inl, inr, ⊎-elim}
 use mathlib.Core.Bool.{Bool, true, false, not, cond, true≢false}
 use mathlib.Core.List.{List, [], _∷_, _++_, map, append-nil, List·Memᴰ, List·Memᴰ·not-nil}
 use mathlib.Core.Option.{Option, none, some, Option·elim}
-use lib.ListN.{length, getD, length-map}
+use lib.ListN.{length, getD, take, drop, length-map}
 use lib.Dec.{eqb, ltb, leb}
 use borrow.Author.Tests.{ltb-true, ltb-false, leb-true, leb-false, eqb-true}
 use Rattle.logic.specs.Search.{_and_, at, holdsOf}
-use Rattle.logic.specs.Query.{Literal, Query, termCount, decode}
+use Rattle.logic.specs.Query.{Literal, Query, termCount, literals, decode}
 use Rattle.logic.specs.Facts.{Facts, line, isClash, negatedAt}
-use Rattle.logic.specs.Calls.{accepts, acceptsBy}
-use Rattle.theory.proofs.Basics.Search.{true-false, not-true, and-left, and-right, and-false-cases, or-cases, none-some, isSome-false, map-mem, at-left}
-use Rattle.theory.proofs.Basics.Compare.{eq-cases, eqb-self}
+use Rattle.logic.specs.Calls.{queryChecks, accepts}
+use Rattle.logic.specs.Demands.{FirstStands}
+use Rattle.theory.proofs.Basics.Search.{true-false, not-true, and-left, and-right, and-false-cases, or-cases, none-some, map-mem, at-left}
+use Rattle.theory.proofs.Basics.Compare.{eq-cases, le-cases, eqb-self}
 use Rattle.joining.specs.Pairs.{Pair}
 use Rattle.joining.specs.Joined.{pairLiteral, joined}
-use Rattle.joining.specs.Call.{queryRefusal}
-use Rattle.joining.specs.HandBack.{Handed, inFirst, inSecond, firstRefused, secondRefused, refused, literalsIn, raisedIn, placeIn, isAmong, handBackOf, handBackCall}
-use Rattle.joining.specs.Claims.{OfFirst, OfSecond, Unnamed, HandsBack, IsPart, HandBackClaims}
+use Rattle.joining.specs.HandBack.{Handed, inFirst, inSecond, firstRefused, secondRefused, refused, literalsIn, raisedIn, placeIn, isAmong, handBackOf, ofFirst, ofSecond, handBackCall, partOf}
+use Rattle.joining.specs.Claims.{BothAccepted, asOne, IsPart, section, number, NamesFirst, NamesSecond, NamedIn, OfPair, OfFirst, OfSecond, Unnamed, HandBackClaims, ClashHanded}
+use Rattle.encoding.specs.WritingCall.{given}
 use Rattle.encoding.proofs.Decoded.{at-own, at-within}
-use Rattle.joining.proofs.Places.{literal-stands}
+use Rattle.joining.proofs.Checks.{no-refusal, refusal-met, Checked, passes, stands, checked}
+use Rattle.joining.proofs.Places.{literal-stands, literal-fits}
 
 -- Places of a list, counted from 1
 
@@ -130,102 +132,252 @@ among-outside : (i m k : ℕ) → isAmong i m k ≡ false → (k ≤ i) ⊎ (i +
 unfolding isAmong
 among-outside i m k h = ⊎-elim (λ e. inl (ltb-false i k e)) (λ e. inr (leb-false k (i + m) e)) (and-false-cases (ltb i k) (leb k (i + m)) h)
 
-module _ (first second : List ℕ) (ok₁ : accepts first ≡ true) (ok₂ : accepts second ≡ true) where
+-- a refused hand-back is an empty part
+part-cases : (h : Handed) → IsPart h ⊎ (IsPart h → ⊥)
+part-cases (inFirst at-byte size) = inl tt
+part-cases (inSecond at-byte size) = inl tt
+part-cases (firstRefused r place) = inr (λ x. x)
+part-cases (secondRefused r place) = inr (λ x. x)
+part-cases (refused r place) = inr (λ x. x)
+
+empty : (first second : List ℕ) (h : Handed) → (IsPart h → ⊥) → partOf h first second ≡ []
+unfolding partOf
+empty first second (inFirst at-byte size) n = absurd (n tt)
+empty first second (inSecond at-byte size) n = absurd (n tt)
+empty first second (firstRefused r place) n = refl
+empty first second (secondRefused r place) n = refl
+empty first second (refused r place) n = refl
+
+-- a query that passes its checks meets none of them
+met-none : (bytes : List ℕ) (k place : ℕ) → accepts bytes ≡ true → FirstStands queryChecks (given bytes 0) k place → ⊥
+met-none bytes k place h f = none-some (sym (no-refusal bytes h) ∙ refusal-met bytes k place f)
+
+module _ (first second bytes : List ℕ) where
   abbrev a : Query
   a = decode first
 
   abbrev b : Query
   b = decode second
 
-  no-refusal : (bytes : List ℕ) → accepts bytes ≡ true → queryRefusal bytes ≡ none
-  unfolding acceptsBy queryRefusal
-  no-refusal bytes h = isSome-false _ (not-true h)
+  abbrev s : ℕ
+  s = section first second bytes
 
-  -- accepted queries are refused no line but by 25
-  handed : (bytes : List ℕ) → handBackCall first second bytes ≡ handBackOf (decode first) (decode second) bytes
-  unfolding handBackCall Option·elim
-  handed bytes = rw (no-refusal first ok₁, no-refusal second ok₂)
+  abbrev k : ℕ
+  k = number first second bytes
 
-  module _ (nine s k : ℕ) where
-    of-first : nine ≡ 9 → isAmong 0 (length (literalsIn a s)) k ≡ true → OfFirst first second nine s k (placeIn a s k) 3
-    of-first begins h =
-        let r = among-within 0 (length (literalsIn a s)) k h in
-        let (l, own, reads) = literal-stands first ok₁ s k (omega (arith, r .0)) (omega (arith, r .1)) in
-        record { literal = l; begins = begins; reads = reads; own = own; named = λ ps. named-first a b ps s k l own }
+  -- how many literals of the section either query has
+  abbrev firsts : ℕ
+  firsts = length (literalsIn a s)
 
-    of-second : nine ≡ 9 → isAmong (length (literalsIn a s)) (length (literalsIn b s)) k ≡ true → OfSecond first second nine s k (placeIn b s (k - length (literalsIn a s))) 3
-    of-second begins h =
-        let r = among-within (length (literalsIn a s)) (length (literalsIn b s)) k h in
-        let (l, own, reads) = literal-stands second ok₂ s (k - length (literalsIn a s)) (omega (arith, r .0)) (omega (arith, r .1)) in
+  abbrev seconds : ℕ
+  seconds = length (literalsIn b s)
+
+  -- what each answer means
+  record FirstFound (at-byte size : ℕ) : Type 0 where
+    both : BothAccepted first second
+    begins : getD bytes 0 0 ≡ 9
+    literal : Literal
+    own : NamesFirst first second bytes literal
+    within : (size ≡ 3) × (at-byte + size ≤ length first)
+    reads : literals (take size (drop at-byte first)) ≡ literal ∷ []
+
+  record SecondFound (at-byte size : ℕ) : Type 0 where
+    both : BothAccepted first second
+    begins : getD bytes 0 0 ≡ 9
+    literal : Literal
+    own : NamesSecond first second bytes literal
+    behind : firsts < k
+    within : (size ≡ 3) × (at-byte + size ≤ length second)
+    reads : literals (take size (drop at-byte second)) ≡ literal ∷ []
+
+  abbrev Means : Handed → Type 0
+  Means (inFirst at-byte size) = FirstFound at-byte size
+  Means (inSecond at-byte size) = SecondFound at-byte size
+  Means (firstRefused r place) = FirstStands queryChecks (given first 0) r place
+  Means (secondRefused r place) = (accepts first ≡ true) × FirstStands queryChecks (given second 0) r place
+  Means (refused r place) = (r ≡ 25) × (place ≡ 0) × BothAccepted first second × Unnamed first second bytes
+
+  module _ (both : BothAccepted first second) where
+    found-first : getD bytes 0 0 ≡ 9 → isAmong 0 firsts k ≡ true → FirstFound (placeIn a s k) 3
+    found-first begins h =
+        let r = among-within 0 firsts k h in
+        let one : 1 ≤ k = omega (arith, r .0) in
+        let low : k ≤ firsts = omega (arith, r .1) in
+        let (l, own, reads) = literal-stands first (both .0) s k one low in
+        record { both = both; begins = begins; literal = l; own = own; within = (refl, literal-fits first (both .0) s k one low); reads = reads }
+
+    found-second : getD bytes 0 0 ≡ 9 → isAmong firsts seconds k ≡ true → SecondFound (placeIn b s (k - firsts)) 3
+    found-second begins h =
+        let r = among-within firsts seconds k h in
+        let j = k - firsts in
+        let one : 1 ≤ j = omega (arith, r .0) in
+        let low : j ≤ seconds = omega (arith, r .1) in
+        let (l, own, reads) = literal-stands second (both .1) s j one low in
         record {
-          literal = l;
+          both = both;
           begins = begins;
+          literal = l;
+          own = (j, omega (arith, r .0), own);
+          behind = r .0;
+          within = (refl, literal-fits second (both .1) s j one low);
           reads = reads;
-          place = k - length (literalsIn a s);
-          own = own;
-          named = λ ps. named-second a b ps s k l (r .0) own;
         }
 
-    unnamed : isAmong 0 (length (literalsIn a s)) k ≡ false → isAmong (length (literalsIn a s)) (length (literalsIn b s)) k ≡ false → Unnamed first second nine s k
-    unnamed x y ps l begins e =
-        let w = at-within (literalsIn (joined a b ps) s) k l e in
-        let u : (k ≤ 0) ⊎ (0 + length (literalsIn a s) < k) = among-outside 0 (length (literalsIn a s)) k x in
-        let v : (k ≤ length (literalsIn a s)) ⊎ (length (literalsIn a s) + length (literalsIn b s) < k) = among-outside (length (literalsIn a s)) (length (literalsIn b s)) k y in
-        ⊎-elim (λ low. absurd (omega (arith, w .0)))
-        (λ above. ⊎-elim (λ low. absurd (omega arith)) (λ high. named-pair a b ps s k l high e) v) u
+    unnamed : isAmong 0 firsts k ≡ false → isAmong firsts seconds k ≡ false → (l : Literal) → NamesFirst first second bytes l ⊎ NamesSecond first second bytes l → ⊥
+    unnamed x y l =
+        let u = among-outside 0 firsts k x in
+        let v = among-outside firsts seconds k y in
+        ⊎-elim
+        (λ e. let w = at-within (literalsIn a s) k l e in ⊎-elim (λ low. omega (arith, w .0)) (λ high. omega (arith, w .1)) u)
+        (λ e. let w = at-within (literalsIn b s) (e .0) l (e .2) in ⊎-elim (λ low. omega (arith, w .0, e .1)) (λ high. omega (arith, w .1, e .1)) v)
 
     -- by the three tests
-    by-tests : (x y z : Bool) → eqb nine 9 ≡ x → isAmong 0 (length (literalsIn a s)) k ≡ y → isAmong (length (literalsIn a s)) (length (literalsIn b s)) k ≡ z → HandsBack first second nine s k (cond x (cond y (inFirst (placeIn a s k) 3) (cond z (inSecond (placeIn b s (k - length (literalsIn a s))) 3) (refused 25 0))) (refused 25 0))
-    by-tests false y z e f g = (refl, refl, λ ps l begins h. absurd (true-false (ap (λ (i : ℕ). eqb i 9) begins ∙ eqb-self 9) e))
-    by-tests true true z e f g = of-first (eqb-true nine 9 e) f
-    by-tests true false true e f g = of-second (eqb-true nine 9 e) g
-    by-tests true false false e f g = (refl, refl, unnamed f g)
+    told : Bool → Bool → Bool → Handed
+    told x y z = cond x (cond y (inFirst (placeIn a s k) 3) (cond z (inSecond (placeIn b s (k - firsts)) 3) (refused 25 0))) (refused 25 0)
 
-  pub hands-back : (bytes : List ℕ) → HandsBack first second (getD bytes 0 0) (getD bytes 1 0) (getD bytes 2 0) (handBackCall first second bytes)
-  unfolding handBackOf
-  hands-back bytes = rw (handed bytes) (by-tests (getD bytes 0 0) (getD bytes 1 0) (getD bytes 2 0) _ _ _ refl refl refl)
+    by-tests : (x y z : Bool) → eqb (getD bytes 0 0) 9 ≡ x → isAmong 0 firsts k ≡ y → isAmong firsts seconds k ≡ z → Means (told x y z)
+    unfolding told
+    by-tests false y z e f g = (refl, refl, both, inl (λ begins. true-false (ap (λ (i : ℕ). eqb i 9) begins ∙ eqb-self 9) e))
+    by-tests true true z e f g = found-first (eqb-true (getD bytes 0 0) 9 e) f
+    by-tests true false true e f g = found-second (eqb-true (getD bytes 0 0) 9 e) g
+    by-tests true false false e f g = (refl, refl, both, inr (unnamed f g))
 
-  -- A clash line names a negated literal of its section.
-  negated : (ls : List Literal) (k : ℕ) (p : Literal → Bool) → negatedAt ls k p ≡ true → (l : Literal) × (at ls k ≡ some l) × (l .plain ≡ false)
-  unfolding negatedAt holdsOf
-  negated ls k p h = go (at ls k) refl h
+    accepted-means : Means (handBackCall first second bytes)
+    unfolding handBackCall Option·elim handBackOf told
+    accepted-means = rw (no-refusal first (both .0), no-refusal second (both .1)) (by-tests _ _ _ refl refl refl)
+
+  first-if : (r place : ℕ) → FirstStands queryChecks (given first 0) r place → handBackCall first second bytes ≡ firstRefused r place
+  unfolding handBackCall Option·elim ofFirst
+  first-if r place f = rw (refusal-met first r place f)
+
+  second-if : (r place : ℕ) → accepts first ≡ true → FirstStands queryChecks (given second 0) r place → handBackCall first second bytes ≡ secondRefused r place
+  unfolding handBackCall Option·elim ofSecond
+  second-if r place h f = rw (no-refusal first h, refusal-met second r place f)
+
+  means : Means (handBackCall first second bytes)
+  means = go (checked first) (checked second)
     where
-      go : (o : Option Literal) → at ls k ≡ o → holdsOf o (λ l. not (l .plain) and p l) ≡ true → (l : Literal) × (at ls k ≡ some l) × (l .plain ≡ false)
-      go none e x = absurd (true≢false (sym x))
-      go (some l) e x = (l, e, not-true (and-left _ _ x))
+      go : Checked first → Checked second → Means (handBackCall first second bytes)
+      go (stands r place f) c = subst Means (sym (first-if r place f)) f
+      go (passes h) (stands r place f) = subst Means (sym (second-if r place h f)) (h, f)
+      go (passes h) (passes g) = accepted-means (h, g)
 
-  clash-names : (q : Query) (facts : Facts) (nine s k j : ℕ) → isClash q facts (line nine s k j) ≡ true → (nine ≡ 9) × ((l : Literal) × (at (literalsIn q s) k ≡ some l) × (l .plain ≡ false))
-  unfolding isClash literalsIn
-  clash-names q facts nine s k j h = (
-    eqb-true nine 9 (and-left _ _ h),
+  -- a line that names nothing is refused 25
+  unnamed-in : (h : Handed) → Means h → BothAccepted first second → Unnamed first second bytes → h ≡ refused 25 0
+  unnamed-in (inFirst at-byte size) m both u = absurd (⊎-elim (λ n. n (m .begins)) (λ n. n (m .literal) (inl (m .own))) u)
+  unnamed-in (inSecond at-byte size) m both u = absurd (⊎-elim (λ n. n (m .begins)) (λ n. n (m .literal) (inr (m .own))) u)
+  unnamed-in (firstRefused r place) m both u = absurd (met-none first r place (both .0) m)
+  unnamed-in (secondRefused r place) m both u = absurd (met-none second r place (both .1) (m .1))
+  unnamed-in (refused r place) m both u = ap (λ (i : ℕ). refused i place) (m .0) ∙ ap (refused 25) (m .1)
+
+  -- and what it names in the joined query is of a pair
+  pair-in : (ps : List Pair) (l : Literal) (h : Handed) → Means h → BothAccepted first second → (IsPart h → ⊥) → getD bytes 0 0 ≡ 9 → NamedIn first second bytes ps l → OfPair first second bytes ps l
+  pair-in ps l (inFirst at-byte size) m both n begins e = absurd (n tt)
+  pair-in ps l (inSecond at-byte size) m both n begins e = absurd (n tt)
+  pair-in ps l (firstRefused r place) m both n begins e = absurd (met-none first r place (both .0) m)
+  pair-in ps l (secondRefused r place) m both n begins e = absurd (met-none second r place (both .1) (m .1))
+  pair-in ps l (refused r place) m both n begins e = named-pair a b ps s k l high e
+    where
+      none : (x : Literal) → NamesFirst first second bytes x ⊎ NamesSecond first second bytes x → ⊥
+      none = ⊎-elim (λ other. absurd (other begins)) (λ no. no) (m .3)
+
+      above : firsts < k
+      above =
+          ⊎-elim
+          (λ low. let r = literal-stands first (both .0) s k (at-within _ k l e .0) low in absurd (none (r .0) (inl (r .1))))
+          (λ high. high)
+          (le-cases k firsts)
+
+      high : firsts + seconds < k
+      high =
+          let j = k - firsts in
+          ⊎-elim
+          (λ low. let r = literal-stands second (both .1) s j (omega (arith, above)) (omega (arith, above)) in absurd (none (r .0) (inr (j, omega (arith, above), r .1))))
+          (λ high. high)
+          (le-cases k (firsts + seconds))
+
+  of-first : (at-byte size : ℕ) → handBackCall first second bytes ≡ inFirst at-byte size → OfFirst first second bytes at-byte size
+  unfolding partOf
+  of-first at-byte size e =
+      let m = subst Means e means in
+      let part = ap (λ (h : Handed). partOf h first second) e in
+      record {
+        both = m .both;
+        begins = m .begins;
+        literal = m .literal;
+        own = m .own;
+        named = λ ps. named-first a b ps s k (m .literal) (m .own);
+        within = m .within;
+        part = part;
+        reads = ap literals part ∙ m .reads;
+      }
+
+  of-second : (at-byte size : ℕ) → handBackCall first second bytes ≡ inSecond at-byte size → OfSecond first second bytes at-byte size
+  unfolding partOf
+  of-second at-byte size e =
+      let m = subst Means e means in
+      let part = ap (λ (h : Handed). partOf h first second) e in
+      let (j, there, own) = m .own in
+      record {
+        both = m .both;
+        begins = m .begins;
+        literal = m .literal;
+        own = m .own;
+        named = λ ps. named-second a b ps s k (m .literal) (m .behind) (ap (at (literalsIn b s)) (omega (arith, there)) ∙ own);
+        within = m .within;
+        part = part;
+        reads = ap literals part ∙ m .reads;
+      }
+
+  pub hand-back : HandBackClaims first second bytes
+  hand-back =
+      record {
+        first-exactly = λ r place. (λ e. subst Means e means, first-if r place);
+        second-exactly = λ r place. (λ e. subst Means e means, λ h. second-if r place (h .0) (h .1));
+        unnamed-exactly = λ r place. (
+          λ e. subst Means e means,
+          λ h. unnamed-in (handBackCall first second bytes) means (h .2) (h .3) ∙ ap (λ (i : ℕ). refused i 0) (sym (h .0)) ∙ ap (refused r) (sym (h .1)),
+        );
+        of-first = of-first;
+        of-second = of-second;
+        refused-empty = empty first second (handBackCall first second bytes);
+        pair-named = λ ps l. pair-in ps l (handBackCall first second bytes) means;
+      }
+
+-- A clash line names a negated literal of its section.
+
+negated : (ls : List Literal) (k : ℕ) (p : Literal → Bool) → negatedAt ls k p ≡ true → (l : Literal) × (at ls k ≡ some l) × (l .plain ≡ false)
+unfolding negatedAt holdsOf
+negated ls k p h = go (at ls k) refl h
+  where
+    go : (o : Option Literal) → at ls k ≡ o → holdsOf o (λ l. not (l .plain) and p l) ≡ true → (l : Literal) × (at ls k ≡ some l) × (l .plain ≡ false)
+    go none e x = absurd (true≢false (sym x))
+    go (some l) e x = (l, e, not-true (and-left _ _ x))
+
+clash-names : (q : Query) (facts : Facts) (nine s k j : ℕ) → isClash q facts (line nine s k j) ≡ true → (nine ≡ 9) × ((l : Literal) × (at (literalsIn q s) k ≡ some l) × (l .plain ≡ false))
+unfolding isClash literalsIn
+clash-names q facts nine s k j h = (
+  eqb-true nine 9 (and-left _ _ h),
+  ⊎-elim
+      (λ z.
+      ⊎-elim
+      (λ w. there 2 (and-left _ _ (and-left _ _ w)) (negated (q .equalities) k _ (and-right _ _ w)))
+      (λ w. there 3 (and-left _ _ (and-left _ _ w)) (negated (q .reachability) k _ (and-right _ _ w)))
+      (or-cases _ _ z))
+      (λ z. there 4 (and-left _ _ z) (negated (q .fields) k _ (and-right _ _ z)))
+      (or-cases _ _ (and-right _ _ h)),
+)
+  where
+    there : (t : ℕ) → eqb s t ≡ true → ((l : Literal) × (at (literalsIn q t) k ≡ some l) × (l .plain ≡ false)) → (l : Literal) × (at (literalsIn q s) k ≡ some l) × (l .plain ≡ false)
+    there t e r = subst (λ (u : ℕ). (l : Literal) × (at (literalsIn q u) k ≡ some l) × (l .plain ≡ false)) (sym (eqb-true s t e)) r
+
+pub clash-handed : (first second : List ℕ) → BothAccepted first second → ClashHanded first second
+unfolding pairLiteral
+clash-handed first second both ps facts nine s k j h =
+    let (begins, named) = clash-names (asOne first second ps) facts nine s k j h in
+    let (l, e, f) = named in
+    let bytes : List ℕ = nine ∷ s ∷ k ∷ j ∷ [] in
     ⊎-elim
-        (λ z.
-        ⊎-elim
-        (λ w. there 2 (and-left _ _ (and-left _ _ w)) (negated (q .equalities) k _ (and-right _ _ w)))
-        (λ w. there 3 (and-left _ _ (and-left _ _ w)) (negated (q .reachability) k _ (and-right _ _ w)))
-        (or-cases _ _ z))
-        (λ z. there 4 (and-left _ _ z) (negated (q .fields) k _ (and-right _ _ z)))
-        (or-cases _ _ (and-right _ _ h)),
-  )
-    where
-      there : (t : ℕ) → eqb s t ≡ true → ((l : Literal) × (at (literalsIn q t) k ≡ some l) × (l .plain ≡ false)) → (l : Literal) × (at (literalsIn q s) k ≡ some l) × (l .plain ≡ false)
-      there t e r = subst (λ (u : ℕ). (l : Literal) × (at (literalsIn q u) k ≡ some l) × (l .plain ≡ false)) (sym (eqb-true s t e)) r
-
-  part-of : (ps : List Pair) (nine s k : ℕ) (l : Literal) → nine ≡ 9 → at (literalsIn (joined a b ps) s) k ≡ some l → l .plain ≡ false → (r : Handed) → HandsBack first second nine s k r → IsPart r
-  unfolding pairLiteral
-  part-of ps nine s k l begins e f (inFirst at-byte size) h = tt
-  part-of ps nine s k l begins e f (inSecond at-byte size) h = tt
-  part-of ps nine s k l begins e f (firstRefused r place) h = h
-  part-of ps nine s k l begins e f (secondRefused r place) h = h
-  part-of ps nine s k l begins e f (refused r place) h =
-      let (p, m, q) = h .2 ps l begins e in
-      absurd (true-false (ap (λ (x : Literal). x .plain) q) f)
-
-  pub clash-handed : (ps : List Pair) (facts : Facts) (nine s k j : ℕ) → isClash (joined a b ps) facts (line nine s k j) ≡ true → IsPart (handBackCall first second (nine ∷ s ∷ k ∷ j ∷ []))
-  clash-handed ps facts nine s k j h =
-      let (begins, named) = clash-names (joined a b ps) facts nine s k j h in
-      let (l, e, f) = named in
-      part-of ps nine s k l begins e f (handBackCall first second (nine ∷ s ∷ k ∷ j ∷ [])) (hands-back (nine ∷ s ∷ k ∷ j ∷ []))
-
-  pub hand-back-claims : HandBackClaims first second
-  hand-back-claims = record { hands-back = hands-back; clash-handed = clash-handed }
+    (λ part. part)
+    (λ n. let (p, own, q) = hand-back first second bytes .pair-named ps l both n begins e in absurd (true-false (ap (λ (x : Literal). x .plain) q) f))
+    (part-cases (handBackCall first second bytes))

@@ -1,4 +1,8 @@
 -- The theorems, from the leaves up.
+pub mod PairLists
+pub mod Counts
+pub mod Checks
+pub mod Calls
 pub mod Terms
 pub mod Accepted
 pub mod OneHeap

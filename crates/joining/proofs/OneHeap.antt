@@ -21,7 +21,8 @@ use Rattle.joining.specs.Joined.{raised, pairLiteral, joined}
 use Rattle.joining.specs.Heaps.{naming, OneHeap}
 use Rattle.joining.proofs.Terms.{Among, whose}
 use Rattle.encoding.proofs.Encoded.{Encodable}
-use Rattle.joining.proofs.Accepted.{Paired, count-joined, of-first, of-second, joined-accepted}
+use Rattle.joining.proofs.Counts.{count-terms}
+use Rattle.joining.proofs.Accepted.{Paired, of-first, of-second, joined-accepted}
 
 -- Terms of a part of the entries have the same values among all of them, where variables are named alike.
 module _ (h : Heap) (v w : ℕ → ℕ) (g : ℕ → ℕ) (all own : Entries) (m : ℕ) (among : Among g all own m) (positive : (t : ℕ) → 1 ≤ t → 1 ≤ g t) (all-below : Below all) (own-below : Below own) (named : (t : ℕ) → 1 ≤ t → t ≤ m → v (g t) ≡ w t) where
@@ -200,7 +201,7 @@ module _ (a b : Query) (ps : List Pair) (first : Encodable a) (second : Encodabl
 
     nil-of : (t : ℕ) → namesNil whole t ≡ true → NilOf t
     unfolding termCount
-    nil-of t x = let r = nil-range whole t x in go (r .0) (whose n (termCount b) t (r .0) (omega (arith, r .1, count-joined a b ps first second paired)))
+    nil-of t x = let r = nil-range whole t x in go (r .0) (whose n (termCount b) t (r .0) (omega (arith, r .1, count-terms a b ps)))
       where
         go : 1 ≤ t → (t ≤ n) ⊎ ((u : ℕ) × (t ≡ n + u) × (1 ≤ u) × (u ≤ termCount b)) → NilOf t
         go l (inl u) = inl (t, sym (nil₁ t (l, u)) ∙ x, value₁ t (l, u))

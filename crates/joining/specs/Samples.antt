@@ -1,10 +1,11 @@
--- A sample of the vectors of R-12: what the joining call and the hand-back answer (02, R-12).
+-- Samples of the joining call and the hand-back, one of the vectors of R-12 and the limits: what they answer (02, R-12).
 use Prim.Native.Nat.{ℕ}
 use mathlib.Core.Path.{_≡_}
-use mathlib.Core.List.{List, [], _∷_, map}
-use lib.ListN.{length}
+use mathlib.Core.List.{List, [], _∷_, _++_, map}
+use lib.ListN.{length, replicate}
 use Rattle.logic.specs.Calls.{padded}
-use Rattle.joining.specs.Call.{Answer, written, firstRefused, secondRefused, refused, Outcome, blank, joinCall}
+use Rattle.logic.specs.EdgeExamples.{times}
+use Rattle.joining.specs.Call.{Answer, written, firstRefused, secondRefused, refused, Outcome, joinCall}
 use Rattle.joining.specs.HandBack.{Handed, handBackCall}
 use Rattle.joining.specs.HandBack as handed
 
@@ -27,31 +28,42 @@ joins first second pairs room bytes =
     }
 
 abbrev pub refuses : List ℕ → List ℕ → List ℕ → ℕ → Answer → JoinSample
-refuses first second pairs room a = record { first = first; second = second; pairs = pairs; room = room; outcome = blank room a }
+refuses first second pairs room a =
+    record { first = first; second = second; pairs = pairs; room = room; outcome = record { answer = a; lent = replicate room 0 } }
+
+-- two queries of a vector, of 2 and 5 terms, and one of none
+abbrev pub two : List ℕ
+two = 2 ∷ 0 ∷ 1 ∷ 0 ∷ 0 ∷ 1 ∷ 0 ∷ 7 ∷ 2 ∷ 0 ∷ []
+
+abbrev pub five : List ℕ
+five = 5 ∷ 255 ∷ 0 ∷ 1 ∷ 0 ∷ 0 ∷ 2 ∷ 0 ∷ 4 ∷ 4 ∷ 0 ∷ 1 ∷ 1 ∷ 3 ∷ 0 ∷ 5 ∷ 5 ∷ 1 ∷ 4 ∷ 1 ∷ 0 ∷ 5 ∷ 2 ∷ 1 ∷ 0 ∷ 7 ∷ 1 ∷ 0 ∷ []
+
+abbrev pub none : List ℕ
+none = 0 ∷ 0 ∷ 0 ∷ 0 ∷ 0 ∷ []
+
+-- n variables and nothing said of them
+abbrev pub variables : ℕ → List ℕ
+variables n = n ∷ (replicate n 0 ++ (0 ∷ 0 ∷ 0 ∷ 0 ∷ []))
 
 unfoldable pub joinSamples : List JoinSample
 joinSamples =
-    joins (0 ∷ 0 ∷ 0 ∷ 0 ∷ 0 ∷ []) (0 ∷ 0 ∷ 0 ∷ 0 ∷ 0 ∷ []) (0 ∷ []) 6
-    (0 ∷ 0 ∷ 0 ∷ 0 ∷ 0 ∷ [])
-    ∷ refuses (0 ∷ 0 ∷ 0 ∷ 0 ∷ 0 ∷ []) (0 ∷ 0 ∷ 1 ∷ 0 ∷ 0 ∷ []) (0 ∷ []) 681 (secondRefused 2 5)
-    ∷ refuses (1 ∷ 0 ∷ 2 ∷ 0 ∷ 1 ∷ 1 ∷ 0 ∷ 1 ∷ 1 ∷ 0 ∷ 2 ∷ 0 ∷ 3 ∷ 1 ∷ 0 ∷ 7 ∷ 1 ∷ 0 ∷ []) (0 ∷ 0 ∷ 0 ∷ 0 ∷ 0 ∷ []) (0 ∷ []) 17 (refused 24 0)
-    ∷ refuses (0 ∷ 0 ∷ 0 ∷ 0 ∷ 0 ∷ []) (5 ∷ 0 ∷ 0 ∷ 0 ∷ 0 ∷ 1 ∷ 4 ∷ 0 ∷ 5 ∷ 2 ∷ 0 ∷ 2 ∷ 5 ∷ 0 ∷ 5 ∷ 5 ∷ 1 ∷ 3 ∷ 4 ∷ 0 ∷ 3 ∷ 1 ∷ 4 ∷ 3 ∷ 1 ∷ 2 ∷ 1 ∷ 1 ∷ 2 ∷ 1 ∷ 0 ∷ []) (0 ∷ []) 30 (refused 24 0)
-    ∷ refuses (7 ∷ 0 ∷ 0 ∷ 0 ∷ 2 ∷ 4 ∷ 4 ∷ 0 ∷ 4 ∷ 0 ∷ 5 ∷ 3 ∷ 0 ∷ 4 ∷ 1 ∷ 0 ∷ 7 ∷ 5 ∷ 1 ∷ 5 ∷ 6 ∷ 1 ∷ 1 ∷ 3 ∷ 3 ∷ 1 ∷ 1 ∷ 1 ∷ 5 ∷ 0 ∷ []) (3 ∷ 0 ∷ 0 ∷ 2 ∷ 1 ∷ 0 ∷ 3 ∷ 1 ∷ 1 ∷ 1 ∷ 2 ∷ 1 ∷ 0 ∷ 0 ∷ []) (0 ∷ []) 38 (refused 24 0)
-    ∷ refuses (7 ∷ 0 ∷ 1 ∷ 2 ∷ 2 ∷ 4 ∷ 3 ∷ 0 ∷ 1 ∷ 0 ∷ 6 ∷ 6 ∷ 5 ∷ 1 ∷ 4 ∷ 3 ∷ 1 ∷ 7 ∷ 4 ∷ []) (0 ∷ 0 ∷ 0 ∷ 0 ∷ 0 ∷ []) (0 ∷ []) 681 (firstRefused 2 19)
-    ∷ refuses (0 ∷ 0 ∷ 0 ∷ 0 ∷ 0 ∷ []) (6 ∷ 0 ∷ 1 ∷ 1 ∷ 2 ∷ 2 ∷ 0 ∷ 2 ∷ 0 ∷ 6 ∷ 2 ∷ 0 ∷ 4 ∷ 3 ∷ 0 ∷ 3 ∷ 1 ∷ 2 ∷ 5 ∷ 1 ∷ 8 ∷ 3 ∷ 0 ∷ 4 ∷ 5 ∷ 0 ∷ []) (61 ∷ []) 681 (refused 23 0)
-    ∷ refuses (0 ∷ 0 ∷ 0 ∷ 0 ∷ 0 ∷ []) (5 ∷ 0 ∷ 0 ∷ 2 ∷ 3 ∷ 0 ∷ 3 ∷ 1 ∷ 1 ∷ 5 ∷ 0 ∷ 3 ∷ 1 ∷ 0 ∷ 1 ∷ 3 ∷ 3 ∷ 1 ∷ 4 ∷ 3 ∷ 1 ∷ 5 ∷ 4 ∷ 1 ∷ 2 ∷ 1 ∷ 0 ∷ 0 ∷ []) (182 ∷ []) 681 (refused 23 0)
-    ∷ refuses (1 ∷ 0 ∷ 4 ∷ 1 ∷ 1 ∷ 1 ∷ 0 ∷ 1 ∷ 1 ∷ 0 ∷ 1 ∷ 1 ∷ 0 ∷ 1 ∷ 1 ∷ 2 ∷ 1 ∷ 1 ∷ 1 ∷ 1 ∷ 1 ∷ 1 ∷ 3 ∷ 0 ∷ 1 ∷ 1 ∷ 1 ∷ 4 ∷ 1 ∷ 0 ∷ 5 ∷ 1 ∷ 0 ∷ []) (0 ∷ 0 ∷ 0 ∷ 0 ∷ 0 ∷ []) (17 ∷ []) 681 (refused 23 0)
-    ∷ joins (2 ∷ 0 ∷ 0 ∷ 1 ∷ 0 ∷ 2 ∷ 2 ∷ 0 ∷ 1 ∷ 0 ∷ 5 ∷ 2 ∷ 0 ∷ []) (8 ∷ 0 ∷ 1 ∷ 0 ∷ 1 ∷ 2 ∷ 0 ∷ 0 ∷ 0 ∷ 1 ∷ 0 ∷ 7 ∷ 8 ∷ 0 ∷ 0 ∷ 0 ∷ []) (3 ∷ 2 ∷ 1 ∷ 1 ∷ 3 ∷ 2 ∷ 7 ∷ []) 681
-    (10 ∷ 0 ∷ 0 ∷ 0 ∷ 3 ∷ 0 ∷ 3 ∷ 4 ∷ 0 ∷ 0 ∷ 0 ∷ 5 ∷ 0 ∷ 2 ∷ 2 ∷ 0 ∷ 9 ∷ 10 ∷ 1 ∷ 2 ∷ 3 ∷ 1 ∷ 1 ∷ 5 ∷ 1 ∷ 2 ∷ 9 ∷ 0 ∷ 1 ∷ 0 ∷ 5 ∷ 2 ∷ 0 ∷ [])
-    ∷ joins (7 ∷ 0 ∷ 0 ∷ 0 ∷ 0 ∷ 2 ∷ 255 ∷ 255 ∷ 2 ∷ 0 ∷ 5 ∷ 1 ∷ 0 ∷ 4 ∷ 1 ∷ 0 ∷ 0 ∷ 0 ∷ []) (5 ∷ 0 ∷ 1 ∷ 0 ∷ 2 ∷ 255 ∷ 2 ∷ 0 ∷ 1 ∷ 4 ∷ 0 ∷ 5 ∷ 4 ∷ 1 ∷ 0 ∷ 5 ∷ 3 ∷ 1 ∷ 1 ∷ 2 ∷ 4 ∷ 0 ∷ []) (1 ∷ 7 ∷ 4 ∷ []) 681
-    (12 ∷ 0 ∷ 0 ∷ 0 ∷ 0 ∷ 2 ∷ 255 ∷ 255 ∷ 0 ∷ 8 ∷ 0 ∷ 9 ∷ 255 ∷ 5 ∷ 0 ∷ 5 ∷ 1 ∷ 0 ∷ 4 ∷ 1 ∷ 0 ∷ 8 ∷ 11 ∷ 0 ∷ 12 ∷ 11 ∷ 1 ∷ 7 ∷ 11 ∷ 1 ∷ 0 ∷ 12 ∷ 10 ∷ 1 ∷ 1 ∷ 2 ∷ 11 ∷ 0 ∷ [])
-    ∷ joins (2 ∷ 0 ∷ 1 ∷ 0 ∷ 0 ∷ 1 ∷ 0 ∷ 7 ∷ 2 ∷ 0 ∷ []) (5 ∷ 255 ∷ 0 ∷ 1 ∷ 0 ∷ 0 ∷ 2 ∷ 0 ∷ 4 ∷ 4 ∷ 0 ∷ 1 ∷ 1 ∷ 3 ∷ 0 ∷ 5 ∷ 5 ∷ 1 ∷ 4 ∷ 1 ∷ 0 ∷ 5 ∷ 2 ∷ 1 ∷ 0 ∷ 7 ∷ 1 ∷ 0 ∷ []) (3 ∷ 1 ∷ 1 ∷ 1 ∷ 1 ∷ 1 ∷ 4 ∷ []) 681
+    -- every section, 0 and 255 kept, a pair twice: in just its room, and with a byte less
+    joins two five (3 ∷ 1 ∷ 1 ∷ 1 ∷ 1 ∷ 1 ∷ 4 ∷ []) 42
     (7 ∷ 0 ∷ 1 ∷ 255 ∷ 0 ∷ 3 ∷ 0 ∷ 0 ∷ 5 ∷ 0 ∷ 6 ∷ 6 ∷ 0 ∷ 3 ∷ 3 ∷ 1 ∷ 1 ∷ 3 ∷ 1 ∷ 1 ∷ 3 ∷ 1 ∷ 1 ∷ 6 ∷ 3 ∷ 0 ∷ 7 ∷ 7 ∷ 1 ∷ 6 ∷ 3 ∷ 0 ∷ 7 ∷ 4 ∷ 2 ∷ 0 ∷ 7 ∷ 2 ∷ 0 ∷ 7 ∷ 3 ∷ 0 ∷ [])
-    ∷ joins (7 ∷ 0 ∷ 1 ∷ 255 ∷ 0 ∷ 255 ∷ 2 ∷ 0 ∷ 0 ∷ 3 ∷ 1 ∷ 5 ∷ 4 ∷ 1 ∷ 5 ∷ 3 ∷ 1 ∷ 7 ∷ 2 ∷ 0 ∷ 0 ∷ []) (6 ∷ 0 ∷ 255 ∷ 1 ∷ 0 ∷ 0 ∷ 255 ∷ 1 ∷ 0 ∷ 2 ∷ 2 ∷ 1 ∷ 0 ∷ 6 ∷ 3 ∷ 3 ∷ 1 ∷ 5 ∷ 5 ∷ 1 ∷ 7 ∷ 2 ∷ 0 ∷ 7 ∷ 4 ∷ 0 ∷ []) (0 ∷ []) 681
-    (13 ∷ 0 ∷ 1 ∷ 255 ∷ 0 ∷ 255 ∷ 2 ∷ 0 ∷ 0 ∷ 255 ∷ 8 ∷ 0 ∷ 0 ∷ 255 ∷ 1 ∷ 0 ∷ 9 ∷ 9 ∷ 4 ∷ 1 ∷ 5 ∷ 4 ∷ 1 ∷ 5 ∷ 3 ∷ 1 ∷ 7 ∷ 2 ∷ 0 ∷ 13 ∷ 10 ∷ 3 ∷ 1 ∷ 5 ∷ 12 ∷ 1 ∷ 7 ∷ 9 ∷ 0 ∷ 7 ∷ 11 ∷ 0 ∷ [])
+    ∷ refuses two five (3 ∷ 1 ∷ 1 ∷ 1 ∷ 1 ∷ 1 ∷ 4 ∷ []) 41 (refused 24 0)
+    -- "a count of 0 to 60"
+    ∷ joins (variables 1) (variables 1) (60 ∷ times 60 (1 ∷ 1 ∷ [])) 681
+    (2 ∷ 0 ∷ 0 ∷ 60 ∷ (times 60 (1 ∷ 1 ∷ 2 ∷ []) ++ (0 ∷ 0 ∷ 0 ∷ [])))
+    ∷ refuses (variables 1) (variables 1) (61 ∷ times 61 (1 ∷ 1 ∷ [])) 681 (refused 23 0)
+    -- an equality more than 60
+    ∷ refuses (variables 1) (1 ∷ 0 ∷ 1 ∷ 1 ∷ 1 ∷ 1 ∷ 0 ∷ 0 ∷ 0 ∷ []) (60 ∷ times 60 (1 ∷ 1 ∷ [])) 681 (refused 24 0)
+    -- 16 terms, and one more: 24, but 23 before it
+    ∷ joins (variables 9) (variables 7) (0 ∷ []) 681 (variables 16)
+    ∷ refuses (variables 9) (variables 8) (0 ∷ []) 681 (refused 24 0)
+    ∷ refuses (variables 9) (variables 8) (1 ∷ 9 ∷ 9 ∷ []) 681 (refused 23 0)
     -- "26 a boolean count above 0 (that count's place)" (02, R-13), of the first before the second, and before a byte behind it
     ∷ refuses (1 ∷ 0 ∷ 0 ∷ 0 ∷ 0 ∷ 1 ∷ 1 ∷ 1 ∷ []) (0 ∷ 0 ∷ 0 ∷ 0 ∷ 1 ∷ 1 ∷ 1 ∷ []) (0 ∷ []) 561 (firstRefused 26 5)
-    ∷ refuses (0 ∷ 0 ∷ 0 ∷ 0 ∷ 0 ∷ []) (0 ∷ 0 ∷ 0 ∷ 0 ∷ 1 ∷ 1 ∷ 1 ∷ 0 ∷ []) (61 ∷ []) 561 (secondRefused 26 4)
+    ∷ refuses none (0 ∷ 0 ∷ 0 ∷ 0 ∷ 1 ∷ 1 ∷ 1 ∷ 0 ∷ []) (61 ∷ []) 561 (secondRefused 26 4)
     ∷ []
 
 -- two queries and a line, and what is handed back
@@ -66,23 +78,22 @@ hands first second line answer = record { first = first; second = second; line =
 
 unfoldable pub handSamples : List HandSample
 handSamples =
-    hands (4 ∷ 255 ∷ 0 ∷ 255 ∷ 0 ∷ 2 ∷ 0 ∷ 4 ∷ 2 ∷ 0 ∷ 1 ∷ 1 ∷ 0 ∷ 1 ∷ 1 ∷ 4 ∷ 1 ∷ 0 ∷ []) (5 ∷ 0 ∷ 1 ∷ []) (9 ∷ 3 ∷ 4 ∷ 2 ∷ []) (handed.secondRefused 2 3)
-    ∷ hands (1 ∷ []) (3 ∷ 0 ∷ 0 ∷ 1 ∷ 1 ∷ 0 ∷ 1 ∷ 3 ∷ 3 ∷ 1 ∷ 2 ∷ 1 ∷ 0 ∷ 2 ∷ 1 ∷ 1 ∷ 2 ∷ 3 ∷ 1 ∷ 1 ∷ 6 ∷ 3 ∷ 0 ∷ []) (9 ∷ 0 ∷ 5 ∷ 0 ∷ []) (handed.firstRefused 2 1)
-    ∷ hands (1 ∷ 255 ∷ 1 ∷ 1 ∷ 1 ∷ 1 ∷ 0 ∷ 0 ∷ 0 ∷ []) (4 ∷ 0 ∷ 0 ∷ 1 ∷ 2 ∷ 4 ∷ 1 ∷ 2 ∷ 3 ∷ 1 ∷ 3 ∷ 1 ∷ 0 ∷ 4 ∷ 3 ∷ 0 ∷ 2 ∷ 2 ∷ 0 ∷ 0 ∷ 0 ∷ []) (9 ∷ 1 ∷ 7 ∷ 2 ∷ []) (handed.refused 25 0)
-    ∷ hands (3 ∷ 0 ∷ 1 ∷ 0 ∷ 1 ∷ 0 ∷ 2 ∷ 2 ∷ 3 ∷ 0 ∷ 3 ∷ 1 ∷ 0 ∷ 1 ∷ 3 ∷ 1 ∷ 1 ∷ 3 ∷ 1 ∷ 1 ∷ 6 ∷ 2 ∷ 0 ∷ []) (5 ∷ 255 ∷ 0 ∷ 0 ∷ 2 ∷ 0 ∷ 0 ∷ 0 ∷ 0 ∷ 0 ∷ []) (0 ∷ 0 ∷ 3 ∷ 1 ∷ []) (handed.refused 25 0)
-    ∷ hands (4 ∷ 0 ∷ 0 ∷ 0 ∷ 0 ∷ 4 ∷ 1 ∷ 4 ∷ 2 ∷ 1 ∷ 1 ∷ 3 ∷ 1 ∷ 1 ∷ 3 ∷ 1 ∷ 1 ∷ 2 ∷ 0 ∷ 0 ∷ 0 ∷ []) (1 ∷ 0 ∷ 0 ∷ 2 ∷ 0 ∷ 1 ∷ 1 ∷ 1 ∷ 1 ∷ 1 ∷ 0 ∷ 0 ∷ []) (9 ∷ 3 ∷ 8 ∷ 1 ∷ []) (handed.refused 25 0)
-    ∷ hands (2 ∷ 0 ∷ 1 ∷ 1 ∷ 1 ∷ 1 ∷ 1 ∷ 1 ∷ 0 ∷ 1 ∷ 1 ∷ 0 ∷ 0 ∷ []) (6 ∷ 255 ∷ 0 ∷ 0 ∷ 255 ∷ 0 ∷ 0 ∷ 0 ∷ 1 ∷ 1 ∷ 6 ∷ 5 ∷ 2 ∷ 0 ∷ 3 ∷ 6 ∷ 1 ∷ 1 ∷ 6 ∷ 0 ∷ []) (9 ∷ 0 ∷ 6 ∷ 1 ∷ []) (handed.refused 25 0)
-    ∷ hands (1 ∷ 0 ∷ 1 ∷ 0 ∷ 1 ∷ 1 ∷ 2 ∷ 1 ∷ 1 ∷ 1 ∷ 1 ∷ 1 ∷ 1 ∷ 0 ∷ 0 ∷ []) (6 ∷ 0 ∷ 0 ∷ 255 ∷ 3 ∷ 0 ∷ 0 ∷ 1 ∷ 0 ∷ 6 ∷ 3 ∷ 1 ∷ 1 ∷ 2 ∷ 6 ∷ 1 ∷ 0 ∷ 5 ∷ 1 ∷ 0 ∷ []) (9 ∷ 2 ∷ 1 ∷ 0 ∷ []) (handed.inFirst 3 3)
-    ∷ hands (6 ∷ 0 ∷ 1 ∷ 1 ∷ 3 ∷ 4 ∷ 1 ∷ 0 ∷ 2 ∷ 1 ∷ 2 ∷ 4 ∷ 1 ∷ 3 ∷ 4 ∷ 0 ∷ 0 ∷ []) (2 ∷ 0 ∷ 1 ∷ 0 ∷ 4 ∷ 0 ∷ 1 ∷ 2 ∷ 1 ∷ 2 ∷ 2 ∷ 0 ∷ 2 ∷ 1 ∷ 1 ∷ 2 ∷ 1 ∷ 0 ∷ 0 ∷ []) (9 ∷ 3 ∷ 5 ∷ 2 ∷ []) (handed.inSecond 11 3)
-    ∷ hands (2 ∷ 0 ∷ 0 ∷ 1 ∷ 0 ∷ 2 ∷ 1 ∷ 2 ∷ 0 ∷ 1 ∷ 1 ∷ 1 ∷ 1 ∷ 2 ∷ 0 ∷ 0 ∷ []) (1 ∷ 0 ∷ 2 ∷ 0 ∷ 1 ∷ 1 ∷ 1 ∷ 1 ∷ 1 ∷ 1 ∷ 1 ∷ 1 ∷ 1 ∷ 3 ∷ 1 ∷ 7 ∷ 1 ∷ 0 ∷ 8 ∷ 1 ∷ 0 ∷ 4 ∷ 1 ∷ 0 ∷ []) (9 ∷ 3 ∷ 2 ∷ 1 ∷ []) (handed.inFirst 11 3)
-    ∷ hands (4 ∷ 0 ∷ 0 ∷ 1 ∷ 0 ∷ 1 ∷ 0 ∷ 3 ∷ 1 ∷ 1 ∷ 0 ∷ 3 ∷ 4 ∷ 0 ∷ 0 ∷ []) (2 ∷ 255 ∷ 0 ∷ 4 ∷ 0 ∷ 2 ∷ 1 ∷ 0 ∷ 2 ∷ 2 ∷ 1 ∷ 2 ∷ 1 ∷ 0 ∷ 2 ∷ 2 ∷ 2 ∷ 1 ∷ 1 ∷ 1 ∷ 1 ∷ 2 ∷ 2 ∷ 2 ∷ 1 ∷ 4 ∷ 1 ∷ 0 ∷ 8 ∷ 1 ∷ 0 ∷ []) (9 ∷ 2 ∷ 3 ∷ 3 ∷ []) (handed.inSecond 7 3)
-    ∷ hands (5 ∷ 0 ∷ 255 ∷ 0 ∷ 0 ∷ 2 ∷ 4 ∷ 1 ∷ 1 ∷ 4 ∷ 1 ∷ 3 ∷ 2 ∷ 0 ∷ 4 ∷ 5 ∷ 0 ∷ 2 ∷ 2 ∷ 1 ∷ 1 ∷ 1 ∷ 4 ∷ 2 ∷ 1 ∷ 7 ∷ 3 ∷ 0 ∷ 2 ∷ 5 ∷ 0 ∷ []) (6 ∷ 0 ∷ 1 ∷ 1 ∷ 0 ∷ 0 ∷ 1 ∷ 1 ∷ 1 ∷ 3 ∷ 5 ∷ 1 ∷ 1 ∷ 3 ∷ 1 ∷ 0 ∷ 0 ∷ []) (9 ∷ 4 ∷ 1 ∷ 2 ∷ []) (handed.inFirst 24 3)
-    -- an empty line, and one that is cut
-    ∷ hands (0 ∷ 0 ∷ 0 ∷ 0 ∷ 0 ∷ []) (1 ∷ 0 ∷ 0 ∷ 0 ∷ 1 ∷ 1 ∷ 1 ∷ 1 ∷ 0 ∷ []) [] (handed.refused 25 0)
-    ∷ hands (0 ∷ 0 ∷ 0 ∷ 0 ∷ 0 ∷ []) (1 ∷ 0 ∷ 0 ∷ 0 ∷ 1 ∷ 1 ∷ 1 ∷ 1 ∷ 0 ∷ []) (9 ∷ 4 ∷ []) (handed.refused 25 0)
-    -- section 5 names no literal, and a query that has booleans is refused (02, R-13)
-    ∷ hands (0 ∷ 0 ∷ 0 ∷ 0 ∷ 0 ∷ []) (1 ∷ 0 ∷ 0 ∷ 0 ∷ 1 ∷ 1 ∷ 1 ∷ 1 ∷ 0 ∷ []) (9 ∷ 5 ∷ 1 ∷ 1 ∷ []) (handed.refused 25 0)
-    ∷ hands (0 ∷ 0 ∷ 0 ∷ 0 ∷ 0 ∷ []) (0 ∷ 0 ∷ 0 ∷ 0 ∷ 1 ∷ 1 ∷ 1 ∷ []) (9 ∷ 5 ∷ 1 ∷ 1 ∷ []) (handed.secondRefused 26 4)
+    -- a literal of either, in each section; the pair's equality behind them is none
+    hands two five (9 ∷ 2 ∷ 1 ∷ 0 ∷ []) (handed.inSecond 7 3)
+    ∷ hands two five (9 ∷ 2 ∷ 2 ∷ 0 ∷ []) (handed.inSecond 10 3)
+    ∷ hands two five (9 ∷ 2 ∷ 3 ∷ 0 ∷ []) (handed.refused 25 0)
+    ∷ hands two five (9 ∷ 3 ∷ 1 ∷ 0 ∷ []) (handed.inSecond 14 3)
+    ∷ hands two five (9 ∷ 4 ∷ 1 ∷ 0 ∷ []) (handed.inFirst 6 3)
+    ∷ hands two five (9 ∷ 4 ∷ 2 ∷ 0 ∷ []) (handed.inSecond 24 3)
+    -- an empty line, one that is cut, and one that is no clash
+    ∷ hands two five [] (handed.refused 25 0)
+    ∷ hands two five (9 ∷ 4 ∷ []) (handed.refused 25 0)
+    ∷ hands two five (8 ∷ 4 ∷ 1 ∷ 0 ∷ []) (handed.refused 25 0)
+    -- section 5 names no literal
+    ∷ hands two five (9 ∷ 5 ∷ 1 ∷ 1 ∷ []) (handed.refused 25 0)
+    -- "25 .. after 2 to 8 alone", and 26 (02, R-13), of the first before the second
+    ∷ hands (1 ∷ []) (1 ∷ []) (8 ∷ []) (handed.firstRefused 2 1)
+    ∷ hands two (0 ∷ 0 ∷ 0 ∷ 0 ∷ 1 ∷ 1 ∷ 1 ∷ []) (8 ∷ []) (handed.secondRefused 26 4)
     ∷ []
 
 -- what the definitions give for the samples

@@ -7,7 +7,6 @@ use mathlib.Core.Path.{_≡_, refl, sym, ap, _∙_}
 use mathlib.Core.Logic.{⊎-elim}
 use mathlib.Core.List.{List, [], _∷_, _++_, List·Memᴰ, List·Memᴰ·cases-cons, List·Memᴰ·not-nil, List·Memᴰ·append-cases}
 use lib.ListN.{length, getD, replicate}
-use borrow.Author.Tests.{ne-eqb}
 use Rattle.logic.specs.Facts.{Line}
 use Rattle.logic.specs.Walk.{ourWalk, refutation}
 use Rattle.logic.specs.Calls.{Input, Check, CallForm, Outcome, verdictChecksOf, derivationChecksOf, verdictCallOf, derivationCallOf}
@@ -19,16 +18,11 @@ use Rattle.theory.proofs.Calls.Refusals.{verdict-early, derivation-early}
 use Rattle.theory.proofs.Calls.Demands.{demand1-of}
 use Rattle.theory.proofs.Calls.Room.{room-enough, report-short}
 use Rattle.prover.specs.Promise.{inputOf}
-use Rattle.lemitsaka.specs.VerdictPromise.{codeOf, answerIn, Codes}
-
--- The number gives back the answer. A refusal's number is small, and its place.
-refused-back : (k place : ℕ) → 1 ≤ k → k ≤ 26 → place < 65536 → answerIn (codeOf (calls.refused k place)) ≡ calls.refused k place
-unfolding answerIn
-refused-back k place l u h =
-    let n : ℕ = k % 65536 * 65536 + place % 65536 in
-    let a : n / 65536 ≡ k = omega arith in
-    let b : n % 65536 ≡ place = omega arith in
-    rw (ne-eqb n 0 (λ e. omega arith), ne-eqb n 1 (λ e. omega arith)) (ap (λ (j : ℕ). calls.refused j (n % 65536)) a ∙ ap (calls.refused k) b)
+use Rattle.codes.specs.Codes.{code, digitsIn, readBack}
+use Rattle.codes.proofs.Numbers.{Returns, number-back}
+use Rattle.answer_codes.specs.Numbers.{verdictDigits, verdictRead}
+use Rattle.answer_codes.proofs.Returned.{verdict-returns}
+use Rattle.lemitsaka.specs.VerdictPromise.{answerIn, Codes}
 
 -- the numbers of a call's refusals: those of its checks, 11 and 12
 abbrev numbersOf : List Check → List ℕ
@@ -47,23 +41,17 @@ module _ (cs : List Check) (outcome : Input → Outcome) (longest : ℕ) (short 
           (λ o. ⊎-elim (λ q. (omega (arith, q), omega (arith, q))) (λ z. absurd (List·Memᴰ·not-nil z)) (List·Memᴰ·cases-cons o))
           (List·Memᴰ·cases-cons n)
 
-  code-back : (i : Input) → answerIn (codeOf (outcome i .answer)) ≡ outcome i .answer
-  unfolding answerIn
-  code-back i = go (outcome i .answer) refl
-    where
-      go : (a : calls.Answer) → outcome i .answer ≡ a → answerIn (codeOf a) ≡ a
-      go calls.satisfiable e = refl
-      go calls.refuted e = refl
-      go (calls.refused k place) e =
-          let n = small k (law .refusal-numbered i k place e) in
-          refused-back k place (n .0) (n .1) (omega (arith, short, law .refusal-placed i k place e .1))
+  returned : (i : Input) → Returns verdictDigits verdictRead (outcome i .answer)
+  returned i =
+      verdict-returns (outcome i .answer)
+      (λ k place e. let n = small k (law .refusal-numbered i k place e) in (n .0, omega (arith, n .1), omega (arith, short, law .refusal-placed i k place e .1)))
 
   module _ (order query before bytes : List ℕ) (r : ℕ) (codes : Codes (outcome (inputOf order query before)) r bytes) where
-    number-back : answerIn r ≡ outcome (inputOf order query before) .answer
-    number-back = ap answerIn (codes .answers) ∙ code-back (inputOf order query before)
+    answer-back : answerIn r ≡ outcome (inputOf order query before) .answer
+    answer-back = number-back verdictDigits verdictRead _ (returned (inputOf order query before)) r (codes .answers)
 
     answered : (a : calls.Answer) → answerIn r ≡ a → outcome (inputOf order query before) .answer ≡ a
-    answered a e = sym number-back ∙ e
+    answered a e = sym answer-back ∙ e
 
     kept : length bytes ≡ length before
     kept = ap length (codes .leaves) ∙ law .lent-whole (inputOf order query before)
@@ -78,16 +66,17 @@ module _ (cs : List Check) (outcome : Input → Outcome) (longest : ℕ) (short 
     blank k place e = codes .leaves ∙ law .refusal-blank (inputOf order query before) k place (answered (calls.refused k place) e)
 
 -- A call "writes every byte, whatever it answers": what the lent bytes held before makes no difference, only their length.
-pub every-byte-written : (outcome : Input → Outcome) (order query before before′ bytes bytes′ : List ℕ) (r r′ : ℕ) → Codes (outcome (inputOf order query before)) r bytes → Codes (outcome (inputOf order query before′)) r′ bytes′ → length before ≡ length before′ → (r ≡ r′) × (bytes ≡ bytes′)
+pub every-byte-written : (outcome : Input → Outcome) (order query before before′ bytes bytes′ : List ℕ) (r r′ : ℕ)
+    → Codes (outcome (inputOf order query before)) r bytes → Codes (outcome (inputOf order query before′)) r′ bytes′ → length before ≡ length before′ → (r ≡ r′) × (bytes ≡ bytes′)
 every-byte-written outcome order query before before′ bytes bytes′ r r′ c c′ l =
     let e : outcome (inputOf order query before) ≡ outcome (inputOf order query before′) = ap (λ (n : ℕ). outcome (record { order = order; query = query; room = n })) l in
-    (c .answers ∙ ap (λ (o : Outcome). codeOf (o .answer)) e ∙ sym (c′ .answers), c .leaves ∙ ap (λ (o : Outcome). o .lent) e ∙ sym (c′ .leaves))
+    (c .answers ∙ ap (λ (o : Outcome). code (verdictDigits (o .answer))) e ∙ sym (c′ .answers), c .leaves ∙ ap (λ (o : Outcome). o .lent) e ∙ sym (c′ .leaves))
 
 -- The verdict call
 module _ (f : CallForm) (laws : FormLaws f) (short : f .longest < 65536) (order query before bytes : List ℕ) (r : ℕ) (codes : Codes (verdictCallOf f (inputOf order query before)) r bytes) where
   -- the number gives back the answer
   pub verdict-number : answerIn r ≡ verdictCallOf f (inputOf order query before) .answer
-  verdict-number = number-back (verdictChecksOf f) (verdictCallOf f) (f .longest) short (demand1-of f laws .verdict-refusals) (verdict-early f laws) order query before bytes r codes
+  verdict-number = answer-back (verdictChecksOf f) (verdictCallOf f) (f .longest) short (demand1-of f laws .verdict-refusals) (verdict-early f laws) order query before bytes r codes
 
   -- The refusals are those of its checks: "1 to 9 and 26", with three links 22 too. A refusal's place is at most the query's length, and at most
   -- 561, with three links 637.
@@ -115,7 +104,7 @@ module _ (f : CallForm) (laws : FormLaws f) (short : f .longest < 65536) (order 
 module _ (f : CallForm) (laws : FormLaws f) (short : f .longest < 65536) (order query before bytes : List ℕ) (r : ℕ) (codes : Codes (derivationCallOf f (inputOf order query before)) r bytes) where
   -- the number gives back the answer
   pub derivation-number : answerIn r ≡ derivationCallOf f (inputOf order query before) .answer
-  derivation-number = number-back (derivationChecksOf f) (derivationCallOf f) (f .longest) short (demand1-of f laws .derivation-refusals) (derivation-early f laws) order query before bytes r codes
+  derivation-number = answer-back (derivationChecksOf f) (derivationCallOf f) (f .longest) short (demand1-of f laws .derivation-refusals) (derivation-early f laws) order query before bytes r codes
 
   -- The refusals are those of its checks, "1 to 8, 26", with three links 22 too, and 11 and 12; the place as above.
   pub derivation-numbered : (k place : ℕ) → answerIn r ≡ calls.refused k place → List·Memᴰ k (numbersOf (derivationChecksOf f))
@@ -133,7 +122,7 @@ module _ (f : CallForm) (laws : FormLaws f) (short : f .longest < 65536) (order 
 
   -- "Never LEMITSAKA_SATISFIABLE", which is 0
   pub derivation-nonzero : r ≡ 0 → ⊥
-  unfolding answerIn
+  unfolding verdictRead readBack digitsIn
   derivation-nonzero e = demand1-of f laws .never-satisfiable (inputOf order query before) (sym derivation-number ∙ ap answerIn e)
 
   -- 64,002 are "the bytes that hold every derivation": refusal 12 then means more than 16,000 lines.

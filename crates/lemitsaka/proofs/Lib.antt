@@ -1,1 +1,5 @@
+pub mod Places
+pub mod Bounds
+pub mod TwoQueries
 pub mod Header
+pub mod Numbers

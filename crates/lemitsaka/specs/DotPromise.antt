@@ -1,15 +1,13 @@
 -- What the dot call promises to C.
-use Prim.Native.Nat.{ℕ, _%_}
+use Prim.Native.Nat.{ℕ, _≤_}
 use mathlib.Core.Path.{_≡_}
 use mathlib.Core.List.{List}
-use Rattle.drawing.specs.Call.{Outcome, Answer, written, refused}
-use Rattle.codes.specs.Codes.{numberedCode}
-
--- an answer as a number, for C: a text has at most 508 bytes
-abbrev pub codeOfDot : Answer → ℕ
-codeOfDot (written length) = length % 65536
-codeOfDot (refused k place) = numberedCode k place
+use Rattle.drawing.specs.Call.{Outcome, written}
+use Rattle.codes.specs.Codes.{code}
+use Rattle.answer_codes.specs.Numbers.{dotDigits}
 
 pub record DotCodes (outcome : Outcome) (r : ℕ) (bytes : List ℕ) : Type 0 where
-  pub answers : r ≡ codeOfDot (outcome .answer)
+  pub answers : r ≡ code (dotDigits (outcome .answer))
   pub leaves : bytes ≡ outcome .lent
+  -- no text is longer: what the call is lent is bytes, each below 256
+  pub short : (n : ℕ) → outcome .answer ≡ written n → n ≤ 508

@@ -2,6 +2,5 @@ pub mod VerdictPromise
 pub mod DotPromise
 pub mod PrecedencePromise
 pub mod FormulaPromise
-pub mod CheckPromise
 pub mod JoinPromise
 pub mod RewritePromise

@@ -8,5 +8,5 @@ ghost use Rattle.lemitsaka.specs.RewritePromise.{RewriteCodes};
 pub extern "C" fn lemitsaka_links_rewrite(old: &[u8], query: &mut [u8]) -> u64
     ensures { λ r. ⌜ RewriteCodes (linksRewriteCall (now (old .entry)) (length (now (query .entry)))) r (now (query .exit)) ⌝ }
 {
-    crate::rewrite_export::coded_rewrite(link_rewriter::rewrite(old, query))
+    answer_codes::rewrite_number(link_rewriter::rewrite(old, query))
 }

@@ -8,5 +8,5 @@ ghost use Rattle.lemitsaka.specs.PrecedencePromise.{OrderCodes};
 pub extern "C" fn lemitsaka_order(sheet: &[u8], out: &mut [u8]) -> u64
     ensures { λ r. ⌜ OrderCodes (orderCall (now (sheet .entry)) (length (now (out .entry)))) r (now (out .exit)) ⌝ }
 {
-    order_code::order_coded(precedence::order_of(sheet, out))
+    answer_codes::order_number(precedence::order_of(sheet, out))
 }

@@ -1,2 +1,2 @@
 pub mod Texts
-pub mod Examples
+pub mod Whole

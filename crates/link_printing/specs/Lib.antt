@@ -1,2 +1,2 @@
 pub mod LinkText
-pub mod Examples
+pub mod Claims

@@ -10,11 +10,11 @@ use Rattle.logic.specs.Query.{Literal, Query, termCount, decode}
 use Rattle.logic.specs.Calls.{accepts}
 use Rattle.encoding.specs.QueryBytes.{signByte, literalBytes, sectionBytes, encode}
 use Rattle.encoding.proofs.Encoded.{literal-bytes}
+use Rattle.encoding.proofs.Lengths.{encode-length, encode-within}
 use Rattle.encoding.proofs.Decoded.{accepted-limits, accepted-encodable}
 use Rattle.encoding.proofs.Recovered.{recovered}
 use Rattle.query.specs.LaysOut.{LaysOut}
 use Rattle.query.specs.declared.Layout.{Layout}
-use Rattle.rewriting.proofs.Encoded.{encode-length, encode-within}
 use Rattle.rewriter.specs.Bytes.{cut}
 use Rattle.rewriter.proofs.Written.{cut-at, equal-count, reach-count}
 use Rattle.link_rewriting.specs.LinkedQuery.{entryBytes, reachBytes, encodeLinks}

@@ -10,26 +10,15 @@ use Rattle.logic.specs.Derivation.{lineBytes, derivationBytes}
 use Rattle.logic.specs.Shown.{reached, inBasin, heads, onPath, basinLink, treeLink, newLink, linkEach, shownLink, orZero, nodes, placeOf, byteOf, fieldByte, successorsShown, report}
 use Rattle.logic.specs.Calls.{orderCheck, layoutCheck, byteCheck, formChecks, roomUnder, queryChecks, verdictChecksOf, derivationChecksOf, refusalOf, acceptsBy, padded, blank, call, verdictOf, verdictCallOf, derivationOf, derivationCallOf}
 use Rattle.logic.specs.Examples.{inOrder}
-use Rattle.logic.specs.EdgeExamples.{EdgeExamplesHold, leaves, zeros, refusedIn, edge, refuses, fault, computed, sample, changed, spoilt, times, badOrders, shortened, laidOutWrongly, badBytes, twoFaults, passing, derives, shows, clashes, oneTerm, notItself, twoLines, e10, rooms, clashesShown, fork, derivations, joinsShown, nilShown, bits, linksShown, answerTo, endsAfter}
+use Rattle.logic.specs.EdgeExamples.{EdgeExamplesHold, leaves, zeros, refusedIn, edge, refuses, fault, computed, sample, changed, spoilt, times, derives, shows, oneTerm, twoLines, answerTo, endsAfter, refusedRows, longest, answeredRows}
 
 pub edge-examples-hold : EdgeExamplesHold
-unfolding Option·elim _and_ _or_ from keep any all select at holdsOf orElse isSome firstOf flatMap find termCount entryOf namesNil argumentOf linkOf entryRole signRole termRole numberRole countRole fourSections booleanSection fiveSections sections withPart layout rolesOf firstByte layoutBy layoutOf faultIn layoutFault roleFault byteFault isOrder literals section queryOf decode linkNumbers terms live liveTerms became replaceIn replace successors firstTwo doubled unjoined joinPair andThen settle join addReach linksOf joinEach reachEach nilTerms addLinks equalTo addNilLinks joinNil startJoins start joinLines negatedAt plainAt isClash clashLines clash ruleNumber rules ruleOf next returns round conditions alternatives held hasLink applies branch add branches triples choose moveNumber moveLine orderOf look after thenEnding walkBranch walkEach endAt walk limit ourWalk lineBytes derivationBytes reached inBasin heads onPath basinLink treeLink newLink linkEach shownLink orZero nodes placeOf byteOf fieldByte successorsShown report orderCheck layoutCheck byteCheck formChecks roomUnder queryChecks verdictChecksOf derivationChecksOf refusalOf acceptsBy padded blank call verdictOf verdictCallOf derivationOf derivationCallOf inOrder leaves zeros refusedIn edge refuses fault computed sample changed spoilt times badOrders shortened laidOutWrongly badBytes twoFaults passing derives shows clashes oneTerm notItself twoLines e10 rooms clashesShown fork derivations joinsShown nilShown bits linksShown answerTo endsAfter
+unfolding Option·elim _and_ _or_ from keep any all select at holdsOf orElse isSome firstOf flatMap find termCount entryOf namesNil argumentOf linkOf entryRole signRole termRole numberRole countRole fourSections booleanSection fiveSections sections withPart layout rolesOf firstByte layoutBy layoutOf faultIn layoutFault roleFault byteFault isOrder literals section queryOf decode linkNumbers terms live liveTerms became replaceIn replace successors firstTwo doubled unjoined joinPair andThen settle join addReach linksOf joinEach reachEach nilTerms addLinks equalTo addNilLinks joinNil startJoins start joinLines negatedAt plainAt isClash clashLines clash ruleNumber rules ruleOf next returns round conditions alternatives held hasLink applies branch add branches triples choose moveNumber moveLine orderOf look after thenEnding walkBranch walkEach endAt walk limit ourWalk lineBytes derivationBytes reached inBasin heads onPath basinLink treeLink newLink linkEach shownLink orZero nodes placeOf byteOf fieldByte successorsShown report orderCheck layoutCheck byteCheck formChecks roomUnder queryChecks verdictChecksOf derivationChecksOf refusalOf acceptsBy padded blank call verdictOf verdictCallOf derivationOf derivationCallOf inOrder leaves zeros refusedIn edge refuses fault computed sample changed spoilt times derives shows oneTerm twoLines answerTo endsAfter refusedRows longest answeredRows
 edge-examples-hold =
     record {
-      orders-refused = refl;
-      short-refused = refl;
-      layouts-refused = refl;
-      bytes-refused = refl;
-      first-refused = refl;
-      all-pass = refl;
-      e10-holds = refl;
-      rooms-hold = refl;
-      clashes-hold = refl;
-      derivations-hold = refl;
-      joins-hold = refl;
-      nil-holds = refl;
-      bits-hold = refl;
-      links-hold = refl;
+      rows-refused = refl;
+      longest-passes = refl;
+      rows-answered = refl;
       limit-counted = refl;
       limit-kept = refl;
       lines-held = refl;

@@ -3,3 +3,4 @@ pub mod Examples
 pub mod EdgeExamples
 pub mod HeapExamples
 pub mod LinkExamples
+pub mod JoinPairs

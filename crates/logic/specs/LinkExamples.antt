@@ -1,5 +1,5 @@
--- Worked examples of three links (02, R-11), as one table and one statement: 01's examples with link 1, faults of a link byte, and queries in
--- which links meet.
+-- Worked examples of three links (02, R-11), as one table and one statement: of the vectors those that a slip in the definitions moves, and one by hand.
+-- The gate runs all vectors.
 use Prim.Native.Nat.{ℕ}
 use mathlib.Core.Path.{_≡_}
 use mathlib.Core.List.{List, [], _∷_, map}
@@ -32,47 +32,23 @@ linksRefused order query number place =
 
 unfoldable pub linkExamples : List Example
 linkExamples =
-    linksSat inOrder (0 ∷ 0 ∷ 0 ∷ 0 ∷ 0 ∷ [])
-    (3 ∷ 1 ∷ 1 ∷ 1 ∷ 0 ∷ 1 ∷ 0 ∷ 1 ∷ 0 ∷ [])
-    ∷ linksSat inOrder (1 ∷ 0 ∷ 0 ∷ 0 ∷ 0 ∷ 0 ∷ 0 ∷ [])
-    (3 ∷ 1 ∷ 1 ∷ 1 ∷ 1 ∷ 1 ∷ 1 ∷ 0 ∷ 1 ∷ 0 ∷ [])
-    ∷ linksSat inOrder (2 ∷ 0 ∷ 0 ∷ 0 ∷ 0 ∷ 1 ∷ 0 ∷ 1 ∷ 2 ∷ 2 ∷ 1 ∷ 1 ∷ 1 ∷ 2 ∷ 1 ∷ 1 ∷ 2 ∷ 1 ∷ 0 ∷ 0 ∷ [])
+    -- "3m successors, link by link": E3 with link 1
+    linksSat inOrder (2 ∷ 0 ∷ 0 ∷ 0 ∷ 0 ∷ 1 ∷ 0 ∷ 1 ∷ 2 ∷ 2 ∷ 1 ∷ 1 ∷ 1 ∷ 2 ∷ 1 ∷ 1 ∷ 2 ∷ 1 ∷ 0 ∷ 0 ∷ [])
     (6 ∷ 2 ∷ 1 ∷ 1 ∷ 2 ∷ 1 ∷ 2 ∷ 2 ∷ 1 ∷ 2 ∷ 2 ∷ 0 ∷ 0 ∷ 1 ∷ 0 ∷ [])
+    -- "within a rule link 1 is tried first", and "A rule line's first byte gains 16 times (link minus 1)": E4 with link 1
     ∷ linksUnsat inOrder (3 ∷ 0 ∷ 0 ∷ 1 ∷ 1 ∷ 0 ∷ 0 ∷ 1 ∷ 0 ∷ 1 ∷ 3 ∷ 2 ∷ 1 ∷ 1 ∷ 1 ∷ 3 ∷ 0 ∷ 1 ∷ 2 ∷ 3 ∷ 0 ∷ 0 ∷ [])
     (0 ∷ 14 ∷ 1 ∷ 1 ∷ 0 ∷ 0 ∷ 1 ∷ 2 ∷ 0 ∷ 0 ∷ 1 ∷ 3 ∷ 0 ∷ 0 ∷ 17 ∷ 1 ∷ 0 ∷ 0 ∷ 17 ∷ 2 ∷ 0 ∷ 0 ∷ 17 ∷ 3 ∷ 0 ∷ 0 ∷ 33 ∷ 1 ∷ 0 ∷ 0 ∷ 33 ∷ 2 ∷ 0 ∷ 0 ∷ 33 ∷ 3 ∷ 0 ∷ 0 ∷ 2 ∷ 1 ∷ 2 ∷ 0 ∷ 4 ∷ 1 ∷ 2 ∷ 3 ∷ 10 ∷ 1 ∷ 3 ∷ 0 ∷ 9 ∷ 2 ∷ 1 ∷ 0 ∷ 9 ∷ 3 ∷ 2 ∷ 0 ∷ [])
-    ∷ linksUnsat inOrder (1 ∷ 0 ∷ 0 ∷ 0 ∷ 1 ∷ 0 ∷ 1 ∷ 1 ∷ 1 ∷ 0 ∷ 0 ∷ [])
-    (0 ∷ 2 ∷ 1 ∷ 1 ∷ 0 ∷ 0 ∷ 9 ∷ 3 ∷ 1 ∷ 0 ∷ [])
-    ∷ linksUnsat inOrder (3 ∷ 0 ∷ 0 ∷ 1 ∷ 1 ∷ 1 ∷ 1 ∷ 1 ∷ 0 ∷ 2 ∷ 3 ∷ 0 ∷ 0 ∷ 0 ∷ [])
-    (0 ∷ 2 ∷ 10 ∷ 2 ∷ 3 ∷ 0 ∷ 9 ∷ 2 ∷ 1 ∷ 0 ∷ [])
-    ∷ linksUnsat inOrder (2 ∷ 0 ∷ 0 ∷ 0 ∷ 0 ∷ 1 ∷ 1 ∷ 1 ∷ 2 ∷ 0 ∷ 2 ∷ 1 ∷ 1 ∷ 1 ∷ 0 ∷ 1 ∷ 2 ∷ 0 ∷ [])
-    (0 ∷ 2 ∷ 10 ∷ 1 ∷ 2 ∷ 0 ∷ 9 ∷ 4 ∷ 2 ∷ 1 ∷ [])
-    ∷ linksUnsat (4 ∷ 1 ∷ 2 ∷ 3 ∷ 5 ∷ 6 ∷ 7 ∷ 8 ∷ []) (3 ∷ 0 ∷ 0 ∷ 1 ∷ 1 ∷ 0 ∷ 0 ∷ 1 ∷ 0 ∷ 1 ∷ 3 ∷ 2 ∷ 1 ∷ 1 ∷ 1 ∷ 3 ∷ 0 ∷ 1 ∷ 2 ∷ 3 ∷ 0 ∷ 0 ∷ [])
-    (0 ∷ 4 ∷ 4 ∷ 1 ∷ 2 ∷ 3 ∷ 10 ∷ 1 ∷ 3 ∷ 0 ∷ 9 ∷ 2 ∷ 1 ∷ 0 ∷ 9 ∷ 3 ∷ 2 ∷ 0 ∷ [])
-    ∷ linksSat inOrder (4 ∷ 0 ∷ 0 ∷ 0 ∷ 0 ∷ 1 ∷ 1 ∷ 1 ∷ 2 ∷ 2 ∷ 1 ∷ 3 ∷ 4 ∷ 0 ∷ 1 ∷ 2 ∷ 1 ∷ 1 ∷ 1 ∷ 1 ∷ 2 ∷ 0 ∷ 0 ∷ [])
-    (9 ∷ 3 ∷ 3 ∷ 2 ∷ 1 ∷ 2 ∷ 3 ∷ 1 ∷ 2 ∷ 3 ∷ 4 ∷ 1 ∷ 2 ∷ 3 ∷ 3 ∷ 3 ∷ 0 ∷ 0 ∷ 0 ∷ 1 ∷ 0 ∷ [])
-    ∷ linksRefused inOrder (17 ∷ []) 3 0
-    ∷ linksRefused inOrder (1 ∷ 0 ∷ 9 ∷ 0 ∷ 0 ∷ 0 ∷ 0 ∷ []) 22 1
-    ∷ linksRefused inOrder (1 ∷ 3 ∷ 9 ∷ 0 ∷ 0 ∷ 0 ∷ 0 ∷ []) 5 2
-    ∷ linksRefused inOrder (1 ∷ 1 ∷ 255 ∷ 0 ∷ 0 ∷ 0 ∷ 0 ∷ []) 22 1
-    ∷ linksRefused inOrder (2 ∷ 0 ∷ 0 ∷ 4 ∷ 1 ∷ 0 ∷ 0 ∷ 0 ∷ 0 ∷ []) 22 3
+    -- "22 (the lowest such link byte) stands between 4 and 5": a reachability link 4, and a term byte that 5 refuses
     ∷ linksRefused inOrder (1 ∷ 1 ∷ 1 ∷ 1 ∷ 9 ∷ 9 ∷ 9 ∷ 1 ∷ 9 ∷ 4 ∷ 9 ∷ 9 ∷ 0 ∷ 0 ∷ []) 22 9
-    ∷ linksRefused inOrder (1 ∷ 1 ∷ 1 ∷ 1 ∷ 9 ∷ 9 ∷ 9 ∷ 1 ∷ 9 ∷ 3 ∷ 9 ∷ 9 ∷ 0 ∷ 0 ∷ []) 5 2
-    ∷ linksRefused inOrder (2 ∷ 0 ∷ 0 ∷ 0 ∷ 1 ∷ 0 ∷ 0 ∷ 0 ∷ 0 ∷ []) 22 3
+    -- "doubled successors are joined by lowest term, then link"
     ∷ linksUnsat inOrder (6 ∷ 0 ∷ 0 ∷ 0 ∷ 0 ∷ 2 ∷ 1 ∷ 2 ∷ 1 ∷ 1 ∷ 2 ∷ 1 ∷ 2 ∷ 1 ∷ 0 ∷ 1 ∷ 1 ∷ 0 ∷ 0 ∷ 0 ∷ [])
     (0 ∷ 3 ∷ 10 ∷ 3 ∷ 4 ∷ 0 ∷ 10 ∷ 5 ∷ 6 ∷ 0 ∷ 9 ∷ 2 ∷ 1 ∷ 0 ∷ [])
+    -- "nil's three self-links are added before their joins"
     ∷ linksUnsat inOrder (5 ∷ 0 ∷ 0 ∷ 0 ∷ 255 ∷ 1 ∷ 2 ∷ 2 ∷ 2 ∷ 2 ∷ 3 ∷ 1 ∷ 0 ∷ 1 ∷ 1 ∷ 0 ∷ 0 ∷ 0 ∷ [])
     (0 ∷ 4 ∷ 10 ∷ 2 ∷ 3 ∷ 0 ∷ 10 ∷ 2 ∷ 4 ∷ 0 ∷ 10 ∷ 2 ∷ 5 ∷ 0 ∷ 9 ∷ 2 ∷ 1 ∷ 0 ∷ [])
-    ∷ linksUnsat inOrder (2 ∷ 0 ∷ 0 ∷ 0 ∷ 0 ∷ 0 ∷ 1 ∷ 0 ∷ 2 ∷ 2 ∷ 2 ∷ 0 ∷ 0 ∷ [])
-    (0 ∷ 5 ∷ 1 ∷ 1 ∷ 0 ∷ 0 ∷ 1 ∷ 2 ∷ 0 ∷ 0 ∷ 17 ∷ 1 ∷ 0 ∷ 0 ∷ 17 ∷ 2 ∷ 0 ∷ 0 ∷ 9 ∷ 3 ∷ 1 ∷ 0 ∷ [])
     -- by hand: FUNC by link 2 joins 1 and 3, and what link 2 says of them, 1>3, is then the 3>3 that is denied
     ∷ linksUnsat (4 ∷ 1 ∷ 2 ∷ 3 ∷ 5 ∷ 6 ∷ 7 ∷ 8 ∷ []) (3 ∷ 0 ∷ 0 ∷ 2 ∷ 1 ∷ 0 ∷ 0 ∷ 0 ∷ 3 ∷ 1 ∷ 2 ∷ 1 ∷ 3 ∷ 0 ∷ 2 ∷ 3 ∷ 3 ∷ 0 ∷ 2 ∷ 2 ∷ 3 ∷ 0 ∷ 0 ∷ [])
     (0 ∷ 4 ∷ 20 ∷ 1 ∷ 2 ∷ 3 ∷ 10 ∷ 1 ∷ 3 ∷ 0 ∷ 9 ∷ 3 ∷ 2 ∷ 0 ∷ 9 ∷ 3 ∷ 3 ∷ 0 ∷ [])
-    ∷ linksSat inOrder (4 ∷ 0 ∷ 255 ∷ 2 ∷ 1 ∷ 0 ∷ 0 ∷ 0 ∷ 0 ∷ 2 ∷ 1 ∷ 2 ∷ 1 ∷ 0 ∷ 4 ∷ 3 ∷ 1 ∷ 0 ∷ 2 ∷ 3 ∷ 1 ∷ 0 ∷ 0 ∷ [])
-    (9 ∷ 1 ∷ 2 ∷ 3 ∷ 1 ∷ 2 ∷ 3 ∷ 1 ∷ 2 ∷ 3 ∷ 4 ∷ 1 ∷ 1 ∷ 2 ∷ 3 ∷ 3 ∷ 0 ∷ 0 ∷ 0 ∷ 1 ∷ 0 ∷ [])
-    ∷ linksSat (4 ∷ 3 ∷ 8 ∷ 2 ∷ 5 ∷ 7 ∷ 6 ∷ 1 ∷ []) (3 ∷ 0 ∷ 0 ∷ 3 ∷ 1 ∷ 3 ∷ 1 ∷ 0 ∷ 2 ∷ 1 ∷ 3 ∷ 1 ∷ 3 ∷ 1 ∷ 3 ∷ 2 ∷ 1 ∷ 2 ∷ 1 ∷ 6 ∷ 2 ∷ 1 ∷ 5 ∷ 3 ∷ 0 ∷ [])
-    (3 ∷ 1 ∷ 1 ∷ 1 ∷ 3 ∷ 1 ∷ 1 ∷ 1 ∷ 1 ∷ 48 ∷ 1 ∷ 0 ∷ [])
-    ∷ linksSat inOrder (3 ∷ 0 ∷ 0 ∷ 1 ∷ 1 ∷ 0 ∷ 255 ∷ 1 ∷ 1 ∷ 2 ∷ 1 ∷ 0 ∷ 0 ∷ 0 ∷ [])
-    (6 ∷ 1 ∷ 2 ∷ 1 ∷ 2 ∷ 1 ∷ 2 ∷ 3 ∷ 1 ∷ 1 ∷ 2 ∷ 2 ∷ 0 ∷ 0 ∷ 1 ∷ 0 ∷ [])
     ∷ []
 
 -- what the definitions give for an example

@@ -18,11 +18,11 @@ use Rattle.ordering.specs.Sheet.{Pair, pairs, laidOut, rulesOnly}
 use Rattle.ordering.specs.Kept.{isRing, SmallestOrder, ShortestRing}
 use Rattle.ordering.specs.Finding.{nextRule, grow, shownRing}
 use Rattle.ordering.specs.Calls.{Answer, order, ring, refused, Outcome, refusal, answered, orderCall}
-use Rattle.ordering.specs.Promise.{Passes, StandsFirst, Means, Promised, PassesCheckOne}
+use Rattle.ordering.specs.Promise.{WholeSheet, RuleNumbers, Passes, StandsFirst, Means, Promised, PassesCheckOne}
 use Rattle.ordering.proofs.Lists.{order-eight}
 use Rattle.ordering.proofs.Places.{neither-smaller}
 use Rattle.ordering.proofs.Rings.{Numbered, ring-no-order, shown-right}
-use Rattle.ordering.proofs.Sheets.{sheet-numbered}
+use Rattle.ordering.proofs.Sheets.{sheet-numbered, laid-whole, whole-laid, rules-numbers, numbers-rules}
 use Rattle.ordering.proofs.Orders.{grown-smallest, stuck, stuck-round}
 
 -- "A sheet without a ring has an order", and one with a ring has none (`ring-no-order`).
@@ -47,7 +47,7 @@ unfolding answered Option·elim
 answered-means sheet room p = go (grow (pairs sheet) 8 []) refl
   where
     n : Numbered (pairs sheet)
-    n = sheet-numbered sheet (p .laid) (p .numbered)
+    n = sheet-numbered sheet (whole-laid sheet (p .whole)) (numbers-rules sheet (p .numbered))
 
     result : Option (List ℕ) → Outcome
     result o = Option·elim o (record { answer = ring; lent = padded room (shownRing (pairs sheet)) }) (λ l. record { answer = order; lent = padded room l })
@@ -64,10 +64,10 @@ call-promised sheet room = record { means = go (laidOut sheet) (rulesOnly sheet)
     result a b c = cond a (cond b (cond c (answered (pairs sheet) room) (refusal room 14)) (refusal room 16)) (refusal room 15)
 
     go : (a b c : Bool) → laidOut sheet ≡ a → rulesOnly sheet ≡ b → leb 8 room ≡ c → Means sheet room (result a b c .answer) (result a b c .lent)
-    go false b c d e f = (inl (refl, d), refl, refl)
-    go true false c d e f = (inr (inl (refl, d, e)), refl, refl)
-    go true true false d e f = (inr (inr (refl, d, e, leb-false 8 room f)), refl, refl)
-    go true true true d e f = answered-means sheet room (record { laid = d; numbered = e; roomy = leb-true 8 room f })
+    go false b c d e f = (inl (refl, λ w. true-false (whole-laid sheet w) d), refl, refl)
+    go true false c d e f = (inr (inl (refl, laid-whole sheet d, λ n. true-false (numbers-rules sheet n) e)), refl, refl)
+    go true true false d e f = (inr (inr (refl, laid-whole sheet d, rules-numbers sheet e, leb-false 8 room f)), refl, refl)
+    go true true true d e f = answered-means sheet room (record { whole = laid-whole sheet d; numbered = rules-numbers sheet e; roomy = leb-true 8 room f })
 
 -- No other answer keeps it
 
@@ -85,18 +85,18 @@ module _ (ps : List Pair) where
 -- the first refusal that stands is one
 stands-one : (j k : ℕ) (sheet : List ℕ) (room : ℕ) → StandsFirst j sheet room → StandsFirst k sheet room → j ≡ k
 stands-one j k sheet room (inl a) (inl b) = a .0 ∙ sym (b .0)
-stands-one j k sheet room (inl a) (inr (inl b)) = absurd (true-false (b .1) (a .1))
-stands-one j k sheet room (inl a) (inr (inr b)) = absurd (true-false (b .1) (a .1))
-stands-one j k sheet room (inr (inl a)) (inl b) = absurd (true-false (a .1) (b .1))
-stands-one j k sheet room (inr (inr a)) (inl b) = absurd (true-false (a .1) (b .1))
+stands-one j k sheet room (inl a) (inr (inl b)) = absurd (a .1 (b .1))
+stands-one j k sheet room (inl a) (inr (inr b)) = absurd (a .1 (b .1))
+stands-one j k sheet room (inr (inl a)) (inl b) = absurd (b .1 (a .1))
+stands-one j k sheet room (inr (inr a)) (inl b) = absurd (b .1 (a .1))
 stands-one j k sheet room (inr (inl a)) (inr (inl b)) = a .0 ∙ sym (b .0)
-stands-one j k sheet room (inr (inl a)) (inr (inr b)) = absurd (true-false (b .2) (a .2))
-stands-one j k sheet room (inr (inr a)) (inr (inl b)) = absurd (true-false (a .2) (b .2))
+stands-one j k sheet room (inr (inl a)) (inr (inr b)) = absurd (a .2 (b .2))
+stands-one j k sheet room (inr (inr a)) (inr (inl b)) = absurd (b .2 (a .2))
 stands-one j k sheet room (inr (inr a)) (inr (inr b)) = a .0 ∙ sym (b .0)
 
 passes-stands : (k : ℕ) (sheet : List ℕ) (room : ℕ) → Passes sheet room → StandsFirst k sheet room → ⊥
-passes-stands k sheet room p (inl b) = true-false (p .laid) (b .1)
-passes-stands k sheet room p (inr (inl b)) = true-false (p .numbered) (b .2)
+passes-stands k sheet room p (inl b) = b .1 (p .whole)
+passes-stands k sheet room p (inr (inl b)) = b .2 (p .numbered)
 passes-stands k sheet room p (inr (inr b)) = omega (arith, p .roomy, b .3)
 
 means-one : (sheet : List ℕ) (room : ℕ) (a b : Answer) (l m : List ℕ) → Means sheet room a l → Means sheet room b m → (a ≡ b) × (l ≡ m)

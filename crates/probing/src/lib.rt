@@ -10,11 +10,21 @@ use rules::Choice;
 use rules::Rule;
 use rules::Third;
 use units::Proposal;
+ghost use mathlib.Core.Path.{_≡_};
+ghost use mathlib.Core.Bool.{cond};
 ghost use mathlib.Core.List.{List};
 ghost use Prim.Native.Nat.{ℕ, _≤_};
+ghost use lib.Dec.{eqb};
+ghost use Rattle.logic.specs.Search.{isSome};
+ghost use Rattle.logic.specs.Facts.{clash};
+ghost use Rattle.logic.specs.Rules.{branch};
+ghost use Rattle.logic.specs.Decision.{Closes};
 ghost use Rattle.rows.specs.Square.{Turned};
 ghost use Rattle.facts.specs.Path.{pathOf, HasLink};
-ghost use Rattle.link_query.specs.Said.{Within};
+ghost use Rattle.link_query.specs.Said.{said, Within};
+ghost use Rattle.rules.specs.Answers.{kindOf};
+ghost use Rattle.alternatives.specs.Alternatives.{alternativeAt};
+ghost use Rattle.closing.specs.Closed.{Closed};
 ghost use Rattle.units.specs.Proposes.{Proposes, ProposesIn, FoundIn};
 
 // How many alternatives of a place do not clash at once, up to two, and the path of the last of them.
@@ -23,8 +33,10 @@ struct Left {
     pub facts: Facts,
 }
 
+// The path has a clash.
 fn clashes(query: &[u8], layout: Layout, s: Facts) -> bool
     requires { ⌜ Within layout (now query) ⌝ }
+    ensures { λ r. ⌜ r ≡ isSome (clash (said layout (now (query .entry))) (pathOf s)) ⌝ }
 {
     if let Clash::At(_, _, _) = clash::find_clash(query, layout, &s.rep, s.single, &s.reach) {
         return true;
@@ -33,7 +45,9 @@ fn clashes(query: &[u8], layout: Layout, s: Facts) -> bool
 }
 
 // One more alternative is left.
-fn and_left(left: Left, s: Facts) -> Left {
+fn and_left(left: Left, s: Facts) -> Left
+    ensures { λ r. ⌜ (r .count ≡ cond (eqb (left .count) 0) 1 2) × (r .facts ≡ s) ⌝ }
+{
     if left.count == 0 {
         return Left { count: 1, facts: s };
     }
@@ -43,6 +57,7 @@ fn and_left(left: Left, s: Facts) -> Left {
 // A branch of a rule by link k, closed.
 fn taken(s: Facts, n: usize, k: Link, rule: Rule, x: Term, y: Term, z: Third, i: usize) -> Facts
     requires { ⌜ (n ≤ 16) × HasLink (pathOf s) (k .0) × (x .0 ≤ 16) × (y .0 ≤ 16) × (z .0 ≤ 16) ⌝ }
+    ensures { λ r. ⌜ Closes n (branch n (pathOf s) (alternativeAt (k .0) n (pathOf s .graph (k .0)) (kindOf rule) (x .0) (y .0) (z .0) i) .facts) (pathOf r) × Closed n (pathOf r) ⌝ }
 {
     let joined = branch::branch(s, n, k, rule, x, y, z, i);
     let path = joined.facts;

@@ -1,5 +1,6 @@
 -- The three demands, of what the library's calls answer and write. `order`, `query` and `before` are what a call is given, `r` is what
 -- it answers and `bytes` what it leaves in the lent output: its contract is the hypothesis `does`. `f` is the form of queries that it takes.
+-- At the end: each of the four calls, with no hypothesis but its own contract.
 use Prim.Native.Nat.{ℕ, _≤_}
 use native.Mathlib.Omega.{arith}
 use mathlib.Core.Path.{_≡_, refl, sym, ap, _∙_, subst}
@@ -13,11 +14,14 @@ use Rattle.logic.specs.Facts.{Line}
 use Rattle.logic.specs.Walk.{refutation, Verdict, Pick, ourWalk, ourVerdict, handRow, handVerdict}
 use Rattle.logic.specs.Derivation.{Derivation, derivationBytes, linesIn}
 use Rattle.logic.specs.Shown.{wellFormed}
-use Rattle.logic.specs.Calls.{Input, Check, CallForm, Outcome, verdictChecksOf, derivationChecksOf, padded, verdictCallOf, derivationCallOf}
+use Rattle.logic.specs.Calls.{Input, Check, CallForm, oneLinkForm, Outcome, verdictChecksOf, derivationChecksOf, padded, verdictCallOf, verdictCall, derivationCallOf, derivationCall}
 use Rattle.logic.specs.Calls as calls
 use Rattle.logic.specs.Demands.{NotRefused, NoneStands, FirstStands, numbers, Refusals, Fits, Exceeds, Shows, answerOf}
+use Rattle.logic.specs.ThreeLinks.{threeLinkForm}
 use Rattle.theory.proofs.Calls.CallLaws.{FormLaws}
+use Rattle.theory.proofs.Calls.Refusals.{one-link-laws}
 use Rattle.theory.proofs.Calls.Demands.{demand1-of, demand2-of, demand3-of, call-passed}
+use Rattle.theory.proofs.Calls.ThreeLinks.{three-link-laws}
 use Rattle.prover.specs.Promise.{meaning, inputOf, Does}
 use Rattle.prover.specs.declared.Answer.{Answer}
 use Rattle.prover.specs.declared.Answer.the-variants as answer
@@ -76,6 +80,20 @@ refuses cs longest outcome law i r bytes does =
     }
 
 -- The verdict call
+pub record VerdictDemands (f : CallForm) (order query before bytes : List ℕ) (r : Answer) : Type 0 where
+  -- DEMAND 1; there is no refusal but by a check, and a report that shows a heap is well formed
+  pub verdict-refuses : Refuses (verdictChecksOf f) (f .longest) (inputOf order query before) r bytes
+  pub verdict-numbered : (k place : ℕ) → r ≡ answer.Refused k place → List·Memᴰ k (numbers (verdictChecksOf f))
+  pub report-formed : r ≡ answer.Satisfiable → wellFormed (f .links) bytes ≡ true
+  -- DEMAND 2: "satisfiable" exactly when some finite heap meets every literal, and the heap shown is one; "refuted" exactly when none
+  pub satisfiable-exactly : Unrefused r → (r ≡ answer.Satisfiable) ↔ Satisfiable (f .decode query)
+  pub heap-shown : r ≡ answer.Satisfiable → Shows bytes (f .decode query)
+  pub refuted-exactly : Unrefused r → (r ≡ answer.Refuted) ↔ (Satisfiable (f .decode query) → ⊥)
+  -- DEMAND 3: the call answers our walk's verdict, which is that of every hand's walk that is finished; and some hand's walk is
+  pub one-verdict : Unrefused r → meaning r ≡ answerOf (ourVerdict (ourWalk order (f .decode query)))
+  pub hand-agrees : Unrefused r → (picks : List Pick) (w : Verdict) → handVerdict (f .decode query) (handRow (f .decode query) picks) ≡ some w → meaning r ≡ answerOf w
+  pub hand-follows : Unrefused r → (picks : List Pick) × (w : Verdict) × (handVerdict (f .decode query) (handRow (f .decode query) picks) ≡ some w) × (meaning r ≡ answerOf w)
+
 module _ (f : CallForm) (laws : FormLaws f) (order query before bytes : List ℕ) (r : Answer) (does : Does (verdictCallOf f (inputOf order query before)) r bytes) where
   abbrev i : Input
   i = inputOf order query before
@@ -83,92 +101,105 @@ module _ (f : CallForm) (laws : FormLaws f) (order query before bytes : List ℕ
   unrefused : Unrefused r → NotRefused (verdictCallOf f i .answer)
   unrefused = not-refused _ r bytes does
 
-  -- DEMAND 1
-  pub verdict-refuses : Refuses (verdictChecksOf f) (f .longest) i r bytes
-  verdict-refuses = refuses (verdictChecksOf f) (f .longest) (verdictCallOf f) (demand1-of f laws .verdict-refusals) i r bytes does
-
-  pub verdict-numbered : (k place : ℕ) → r ≡ answer.Refused k place → List·Memᴰ k (numbers (verdictChecksOf f))
-  verdict-numbered k place e = demand1-of f laws .verdict-numbered i k place (same _ r bytes does (answer.Refused k place) e)
-
-  pub report-whole : length bytes ≡ length before
-  report-whole = verdict-refuses .lent-whole
-
   pub report-formed : r ≡ answer.Satisfiable → wellFormed (f .links) bytes ≡ true
   report-formed e = ap (wellFormed (f .links)) (does .leaves) ∙ demand1-of f laws .report-formed i (same _ r bytes does answer.Satisfiable e)
 
-  -- DEMAND 2: "satisfiable" exactly when some finite heap meets every literal, and the heap shown is one; "refuted" exactly when none
-  pub satisfiable-exactly : Unrefused r → (r ≡ answer.Satisfiable) ↔ Satisfiable (f .decode query)
-  satisfiable-exactly h = exactly _ r bytes does answer.Satisfiable (Satisfiable (f .decode query)) (demand2-of f laws .satisfiable-exactly i (unrefused h))
-
-  pub heap-shown : r ≡ answer.Satisfiable → Shows bytes (f .decode query)
-  heap-shown e = subst (λ (b : List ℕ). Shows b (f .decode query)) (sym (does .leaves)) (demand2-of f laws .heap-shown i (same _ r bytes does answer.Satisfiable e))
-
-  pub refuted-exactly : Unrefused r → (r ≡ answer.Refuted) ↔ (Satisfiable (f .decode query) → ⊥)
-  refuted-exactly h = exactly _ r bytes does answer.Refuted (Satisfiable (f .decode query) → ⊥) (demand2-of f laws .refuted-exactly i (unrefused h))
-
-  -- DEMAND 3: the call answers our walk's verdict, which is that of every hand's walk that is finished, and right
-  pub one-verdict : Unrefused r → meaning r ≡ answerOf (ourVerdict (ourWalk order (f .decode query)))
+  one-verdict : Unrefused r → meaning r ≡ answerOf (ourVerdict (ourWalk order (f .decode query)))
   one-verdict h = does .answers ∙ demand3-of f laws .call-answers i (unrefused h)
 
-  pub hand-agrees : Unrefused r → (picks : List Pick) (w : Verdict) → handVerdict (f .decode query) (handRow (f .decode query) picks) ≡ some w → meaning r ≡ answerOf w
-  hand-agrees h picks w e =
-      let p = call-passed f laws i (unrefused h) in
-      one-verdict h ∙ ap answerOf (demand3-of f laws .one-verdict query order picks w (p .query) (p .order) e)
+  pub verdict-demands-of : VerdictDemands f order query before bytes r
+  verdict-demands-of =
+      record {
+        verdict-refuses = refuses (verdictChecksOf f) (f .longest) (verdictCallOf f) (demand1-of f laws .verdict-refusals) i r bytes does;
+        verdict-numbered = λ k place e. demand1-of f laws .verdict-numbered i k place (same _ r bytes does (answer.Refused k place) e);
+        report-formed = report-formed;
+        satisfiable-exactly = λ h. exactly _ r bytes does answer.Satisfiable (Satisfiable (f .decode query)) (demand2-of f laws .satisfiable-exactly i (unrefused h));
+        heap-shown = λ e. subst (λ (b : List ℕ). Shows b (f .decode query)) (sym (does .leaves)) (demand2-of f laws .heap-shown i (same _ r bytes does answer.Satisfiable e));
+        refuted-exactly = λ h. exactly _ r bytes does answer.Refuted (Satisfiable (f .decode query) → ⊥) (demand2-of f laws .refuted-exactly i (unrefused h));
+        one-verdict = one-verdict;
+        hand-agrees = λ h picks w e.
+            let p = call-passed f laws i (unrefused h) in
+            one-verdict h ∙ ap answerOf (demand3-of f laws .one-verdict query order picks w (p .query) (p .order) e);
+        hand-follows = λ h.
+            let p = call-passed f laws i (unrefused h) in
+            let (picks, e) = demand3-of f laws .hand-follows query order (p .query) (p .order) in
+            (picks, ourVerdict (ourWalk order (f .decode query)), e, one-verdict h);
+      }
 
-  -- and some hand's walk is finished with it
-  pub hand-follows : Unrefused r → (picks : List Pick) × (w : Verdict) × (handVerdict (f .decode query) (handRow (f .decode query) picks) ≡ some w) × (meaning r ≡ answerOf w)
-  hand-follows h =
-      let p = call-passed f laws i (unrefused h) in
-      let (picks, e) = demand3-of f laws .hand-follows query order (p .query) (p .order) in
-      (picks, ourVerdict (ourWalk order (f .decode query)), e, one-verdict h)
+  pub report-whole : length bytes ≡ length before
+  report-whole = verdict-demands-of .verdict-refuses .lent-whole
 
 -- The derivation call
+pub record DerivationDemands (f : CallForm) (order query before bytes : List ℕ) (r : Answer) : Type 0 where
+  -- DEMAND 1; 11 exactly where some finite heap meets the query, 12 where none does and the lines are too many, else "refuted"
+  pub derivation-refuses : Refuses (derivationChecksOf f) (f .longest) (inputOf order query before) r bytes
+  pub heap-exactly : (place : ℕ) → (r ≡ answer.Refused 11 place) ↔ ((place ≡ 0) × NoneStands (derivationChecksOf f) (inputOf order query before) × Satisfiable (f .decode query))
+  pub excess-exactly : (place : ℕ) → (r ≡ answer.Refused 12 place) ↔ ((place ≡ 0) × NoneStands (derivationChecksOf f) (inputOf order query before) × (Satisfiable (f .decode query) → ⊥) × ((ls : List Line) × (ourWalk order (f .decode query) ≡ refutation ls) × Exceeds (length before) ls))
+  pub lines-exactly : (r ≡ answer.Refuted) ↔ (NoneStands (derivationChecksOf f) (inputOf order query before) × ((ls : List Line) × (ourWalk order (f .decode query) ≡ refutation ls) × Fits (length before) ls))
+  pub never-satisfiable : r ≡ answer.Satisfiable → ⊥
+  -- DEMAND 2's last sentence: the lines in the bytes left follow the rules, are those of our walk, and are written as 01 says
+  pub derivation-follows : r ≡ answer.Refuted → Derivation (f .decode query) (linesIn bytes)
+  pub derivation-walked : r ≡ answer.Refuted → ourWalk order (f .decode query) ≡ refutation (linesIn bytes)
+  pub derivation-formed : r ≡ answer.Refuted → bytes ≡ padded (length before) (derivationBytes (linesIn bytes))
+  pub derivation-counted : r ≡ answer.Refuted → Fits (length before) (linesIn bytes)
+
 module _ (f : CallForm) (laws : FormLaws f) (order query before bytes : List ℕ) (r : Answer) (does : Does (derivationCallOf f (inputOf order query before)) r bytes) where
   abbrev j : Input
   j = inputOf order query before
 
-  -- DEMAND 1
-  pub derivation-refuses : Refuses (derivationChecksOf f) (f .longest) j r bytes
-  derivation-refuses = refuses (derivationChecksOf f) (f .longest) (derivationCallOf f) (demand1-of f laws .derivation-refusals) j r bytes does
-
-  pub heap-exactly : (place : ℕ) → (r ≡ answer.Refused 11 place) ↔ ((place ≡ 0) × NoneStands (derivationChecksOf f) j × Satisfiable (f .decode query))
-  heap-exactly place = exactly _ r bytes does (answer.Refused 11 place) ((place ≡ 0) × NoneStands (derivationChecksOf f) j × Satisfiable (f .decode query)) (demand1-of f laws .heap-exactly j place)
-
-  abbrev Lines : (ℕ → List Line → Type 0) → Type 0
-  Lines P = (ls : List Line) × (ourWalk order (f .decode query) ≡ refutation ls) × P (length before) ls
-
-  pub excess-exactly : (place : ℕ) → (r ≡ answer.Refused 12 place) ↔ ((place ≡ 0) × NoneStands (derivationChecksOf f) j × (Satisfiable (f .decode query) → ⊥) × Lines Exceeds)
-  excess-exactly place = exactly _ r bytes does (answer.Refused 12 place) ((place ≡ 0) × NoneStands (derivationChecksOf f) j × (Satisfiable (f .decode query) → ⊥) × Lines Exceeds) (demand1-of f laws .excess-exactly j place)
-
-  pub lines-exactly : (r ≡ answer.Refuted) ↔ (NoneStands (derivationChecksOf f) j × Lines Fits)
-  lines-exactly = exactly _ r bytes does answer.Refuted (NoneStands (derivationChecksOf f) j × Lines Fits) (demand1-of f laws .lines-exactly j)
-
-  pub never-satisfiable : r ≡ answer.Satisfiable → ⊥
-  never-satisfiable e = demand1-of f laws .never-satisfiable j (same _ r bytes does answer.Satisfiable e)
-
-  -- DEMAND 2's last sentence, of the bytes left: what holds of the bytes that the definition leaves where it says "refuted" holds of the bytes left
+  -- what holds of the bytes that the definition leaves where it says "refuted" holds of the bytes left
   of-lines : (P : List ℕ → Type 0) → (derivationCallOf f j .answer ≡ calls.refuted → P (derivationCallOf f j .lent)) → r ≡ answer.Refuted → P bytes
   of-lines P h e = subst P (sym (does .leaves)) (h (same _ r bytes does answer.Refuted e))
 
-  pub derivation-follows : r ≡ answer.Refuted → Derivation (f .decode query) (linesIn bytes)
-  derivation-follows = of-lines (λ b. Derivation (f .decode query) (linesIn b)) (demand2-of f laws .derivation-follows j)
-
-  pub derivation-walked : r ≡ answer.Refuted → ourWalk order (f .decode query) ≡ refutation (linesIn bytes)
-  derivation-walked = of-lines (λ b. ourWalk order (f .decode query) ≡ refutation (linesIn b)) (demand2-of f laws .derivation-walked j)
-
-  pub derivation-formed : r ≡ answer.Refuted → bytes ≡ padded (length before) (derivationBytes (linesIn bytes))
-  derivation-formed = of-lines (λ b. b ≡ padded (length before) (derivationBytes (linesIn b))) (demand2-of f laws .derivation-formed j)
-
-  pub derivation-counted : r ≡ answer.Refuted → Fits (length before) (linesIn bytes)
-  derivation-counted = of-lines (λ b. Fits (length before) (linesIn b)) (demand2-of f laws .derivation-counted j)
+  pub derivation-demands-of : DerivationDemands f order query before bytes r
+  derivation-demands-of =
+      record {
+        derivation-refuses = refuses (derivationChecksOf f) (f .longest) (derivationCallOf f) (demand1-of f laws .derivation-refusals) j r bytes does;
+        heap-exactly = λ place. exactly _ r bytes does (answer.Refused 11 place) _ (demand1-of f laws .heap-exactly j place);
+        excess-exactly = λ place. exactly _ r bytes does (answer.Refused 12 place) _ (demand1-of f laws .excess-exactly j place);
+        lines-exactly = exactly _ r bytes does answer.Refuted _ (demand1-of f laws .lines-exactly j);
+        never-satisfiable = λ e. demand1-of f laws .never-satisfiable j (same _ r bytes does answer.Satisfiable e);
+        derivation-follows = of-lines (λ b. Derivation (f .decode query) (linesIn b)) (demand2-of f laws .derivation-follows j);
+        derivation-walked = of-lines (λ b. ourWalk order (f .decode query) ≡ refutation (linesIn b)) (demand2-of f laws .derivation-walked j);
+        derivation-formed = of-lines (λ b. b ≡ padded (length before) (derivationBytes (linesIn b))) (demand2-of f laws .derivation-formed j);
+        derivation-counted = of-lines (λ b. Fits (length before) (linesIn b)) (demand2-of f laws .derivation-counted j);
+      }
 
 -- Both calls, with one order list and one query: one verdict
-module _ (f : CallForm) (laws : FormLaws f) (order query before before′ bytes bytes′ : List ℕ) (r r′ : Answer) (does : Does (verdictCallOf f (inputOf order query before)) r bytes) (does′ : Does (derivationCallOf f (inputOf order query before′)) r′ bytes′) where
+pub record OneVerdict (f : CallForm) (before : List ℕ) (r r′ : Answer) : Type 0 where
   pub both-one-verdict : Unrefused r → Unrefused r′ → r ≡ r′
-  both-one-verdict h h′ =
-      meaning-one r r′ (does .answers ∙ demand1-of f laws .one-verdict (inputOf order query before) (inputOf order query before′) (refl, refl) (not-refused _ r bytes does h) (not-refused _ r′ bytes′ does′ h′) ∙ sym (does′ .answers))
-
   pub both-one-heap : f .room ≤ length before → (r ≡ answer.Satisfiable) ↔ (r′ ≡ answer.Refused 11 0)
-  both-one-heap l =
-      let h = demand1-of f laws .one-heap (inputOf order query before) (inputOf order query before′) (refl, refl) l in
-      (λ e. back _ r′ bytes′ does′ (answer.Refused 11 0) (h .0 (same _ r bytes does answer.Satisfiable e)), λ e. back _ r bytes does answer.Satisfiable (h .1 (same _ r′ bytes′ does′ (answer.Refused 11 0) e)))
+
+module _ (f : CallForm) (laws : FormLaws f) (order query before before′ bytes bytes′ : List ℕ) (r r′ : Answer) (does : Does (verdictCallOf f (inputOf order query before)) r bytes) (does′ : Does (derivationCallOf f (inputOf order query before′)) r′ bytes′) where
+  pub one-verdict-of : OneVerdict f before r r′
+  one-verdict-of =
+      record {
+        both-one-verdict = λ h h′.
+            meaning-one r r′ (does .answers ∙ demand1-of f laws .one-verdict (inputOf order query before) (inputOf order query before′) (refl, refl) (not-refused _ r bytes does h) (not-refused _ r′ bytes′ does′ h′) ∙ sym (does′ .answers));
+        both-one-heap = λ l.
+            let h = demand1-of f laws .one-heap (inputOf order query before) (inputOf order query before′) (refl, refl) l in
+            (λ e. back _ r′ bytes′ does′ (answer.Refused 11 0) (h .0 (same _ r bytes does answer.Satisfiable e)), λ e. back _ r bytes does answer.Satisfiable (h .1 (same _ r′ bytes′ does′ (answer.Refused 11 0) e)));
+      }
+
+-- The calls, each of what its contract (src/lib.rt) says of what it answers and leaves: `verdict` and `derivation`, of queries in the form of 01
+module _ (order query before bytes : List ℕ) (r : Answer) where
+  pub verdict-demands : Does (verdictCall (inputOf order query before)) r bytes → VerdictDemands oneLinkForm order query before bytes r
+  verdict-demands = verdict-demands-of oneLinkForm one-link-laws order query before bytes r
+
+  pub derivation-demands : Does (derivationCall (inputOf order query before)) r bytes → DerivationDemands oneLinkForm order query before bytes r
+  derivation-demands = derivation-demands-of oneLinkForm one-link-laws order query before bytes r
+
+  -- and `links_verdict` and `links_derivation`, of queries with three links
+  pub links-verdict-demands : Does (verdictCallOf threeLinkForm (inputOf order query before)) r bytes → VerdictDemands threeLinkForm order query before bytes r
+  links-verdict-demands = verdict-demands-of threeLinkForm three-link-laws order query before bytes r
+
+  pub links-derivation-demands : Does (derivationCallOf threeLinkForm (inputOf order query before)) r bytes → DerivationDemands threeLinkForm order query before bytes r
+  links-derivation-demands = derivation-demands-of threeLinkForm three-link-laws order query before bytes r
+
+  -- both calls of a form
+  module _ (before′ bytes′ : List ℕ) (r′ : Answer) where
+    pub calls-one-verdict : Does (verdictCall (inputOf order query before)) r bytes → Does (derivationCall (inputOf order query before′)) r′ bytes′ → OneVerdict oneLinkForm before r r′
+    calls-one-verdict = one-verdict-of oneLinkForm one-link-laws order query before before′ bytes bytes′ r r′
+
+    pub links-calls-one-verdict : Does (verdictCallOf threeLinkForm (inputOf order query before)) r bytes → Does (derivationCallOf threeLinkForm (inputOf order query before′)) r′ bytes′ → OneVerdict threeLinkForm before r r′
+    links-calls-one-verdict = one-verdict-of threeLinkForm three-link-laws order query before before′ bytes bytes′ r r′

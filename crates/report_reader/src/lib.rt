@@ -5,7 +5,9 @@ ghost use lib.ListN.{length, getD};
 ghost use lib.Dec.{eqb};
 ghost use Rattle.logic.specs.Search.{from, all};
 ghost use Rattle.logic.specs.Shown.{sizeIn, nodeIn, isNode, wellFormed};
-ghost use Rattle.drawing.specs.Text.{booleansIn, datumIn, countIn};
+ghost use Rattle.drawing.specs.Text.{booleansIn, datumIn, countIn, linkIn};
+use heap_nodes::Node;
+use rows::Term;
 
 // The byte at a place, and 0 past the end.
 pub fn byte_at(report: &[u8], at: usize) -> usize
@@ -30,18 +32,26 @@ pub fn count_in(report: &[u8]) -> usize
     byte_at(report, size_in(report) + 1)
 }
 
-pub fn node_in(report: &[u8], t: usize) -> usize
-    requires { ⌜ t < 256 ⌝ }
-    ensures { λ r. ⌜ r ≡ nodeIn (now (report .entry)) t ⌝ }
+// The node of a term, by the term-to-node section: a term's number becomes a node's in no other way.
+pub fn node_in(report: &[u8], t: Term) -> Node
+    requires { ⌜ t .0 < 256 ⌝ }
+    ensures { λ r. ⌜ r .0 ≡ nodeIn (now (report .entry)) (t .0) ⌝ }
 {
-    byte_at(report, size_in(report) + 1 + t)
+    Node(byte_at(report, size_in(report) + 1 + t.0))
 }
 
-pub fn datum_in(report: &[u8], v: usize) -> usize
-    requires { ⌜ v < 256 ⌝ }
-    ensures { λ r. ⌜ r ≡ datumIn (now (report .entry)) v ⌝ }
+// The node that a node links to, and its data byte.
+pub fn link_in(report: &[u8], v: Node) -> Node
+    ensures { λ r. ⌜ r .0 ≡ linkIn (now (report .entry)) (v .0) ⌝ }
 {
-    byte_at(report, size_in(report) + count_in(report) + 2 + v)
+    Node(byte_at(report, v.0))
+}
+
+pub fn datum_in(report: &[u8], v: Node) -> usize
+    requires { ⌜ v .0 < 256 ⌝ }
+    ensures { λ r. ⌜ r ≡ datumIn (now (report .entry)) (v .0) ⌝ }
+{
+    byte_at(report, size_in(report) + count_in(report) + 2 + v.0)
 }
 
 pub fn booleans_in(report: &[u8]) -> usize

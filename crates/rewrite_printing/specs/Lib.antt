@@ -1,2 +1,2 @@
 pub mod RewriteText
-pub mod Examples
+pub mod Claims

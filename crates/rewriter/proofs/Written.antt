@@ -12,6 +12,7 @@ use Rattle.theory.proofs.Basics.Count.{length-flatMap}
 use Rattle.theory.proofs.Query.Bytes.{Allowed, literals-count}
 use Rattle.theory.proofs.Basics.Search.{flatMap-append}
 use Rattle.encoding.specs.QueryBytes.{literalBytes, sectionBytes, encode}
+use Rattle.encoding.proofs.Lengths.{encode-length}
 use Rattle.encoding.proofs.Recovered.{sign-allowed}
 use Rattle.query.specs.LaysOut.{LaysOutAs}
 use Rattle.query.specs.declared.Layout.{Layout}
@@ -20,7 +21,6 @@ use Rattle.rewriting.specs.OldQuery.{oldSections, flags, decodeOld}
 use Rattle.rewriting.specs.Rewritten.{asField, withFresh, rewritten, rewrite}
 use Rattle.rewriting.specs.Call.{rewriteOf}
 use Rattle.rewriting.proofs.OldBytes.{old-parts, layout-is, booleans-are, boolean-part, flags-count}
-use Rattle.rewriting.proofs.Encoded.{encode-length}
 use Rattle.rewriting.proofs.Copied.{oldBytes, old-written}
 use Rattle.rewriter.specs.Bytes.{cut, fieldBytes, termBytes, dataBytes, rewrittenBytes}
 use Rattle.rewriter.specs.Promise.{Passing}

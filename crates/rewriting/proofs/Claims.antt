@@ -12,6 +12,7 @@ use Rattle.logic.specs.Demands.{numbers}
 use Rattle.theory.proofs.Calls.Demands.{demand2}
 use Rattle.encoding.specs.WritingCall.{Answer, roomCheck, writingChecks}
 use Rattle.encoding.proofs.Encoded.{Encodable, decoded}
+use Rattle.encoding.proofs.Lengths.{encode-within}
 use Rattle.encoding.proofs.Decoded.{encoded-accepts}
 use Rattle.encoding.proofs.WritingCall.{Wrote, wrote}
 use Rattle.rewriting.specs.OldQuery.{acceptsOld, decodeOld}
@@ -20,7 +21,7 @@ use Rattle.rewriting.specs.Call.{rewriteOf, rewritingOld, rewriteCall}
 use Rattle.rewriting.specs.Claims.{Rewriting, Written, taken, Claims}
 use Rattle.rewriting.proofs.SameVerdict.{same-verdict}
 use Rattle.rewriting.proofs.OldBytes.{base-accepted, base-linked, booleans-linked, base-limits, boolean-number}
-use Rattle.rewriting.proofs.Encoded.{Room, room-has, encode-within, rewrite-limits, rewrite-encodable}
+use Rattle.rewriting.proofs.Encoded.{Room, room-has, rewrite-limits, rewrite-encodable}
 use Rattle.rewriting.proofs.Copied.{copied, copied-accepts}
 use Rattle.rewriting.proofs.Calls.{refusals}
 

@@ -1,39 +1,24 @@
 -- The rewritten query can be written: its numbers are as they should be, and where there is room it keeps the limits. Assumes nothing.
-use Prim.Native.Nat.{ℕ, suc, _+_, _*_, _≤_, _<_}
+use Prim.Native.Nat.{ℕ, suc, _≤_, _<_}
 use native.Mathlib.Omega.{arith}
-use mathlib.Core.Path.{_≡_, refl, ap, _∙_}
+use mathlib.Core.Path.{_≡_, ap, _∙_}
 use mathlib.Core.Logic.{⊎-elim}
 use mathlib.Core.Bool.{true}
-use mathlib.Core.List.{List, [], _∷_, _++_, map, List·Memᴰ, List·Memᴰ·append-cases}
+use mathlib.Core.List.{List, [], _∷_, map, List·Memᴰ, List·Memᴰ·append-cases}
 use lib.ListN.{length, length-append}
 use borrow.Author.Tests.{leb-true, le-leb}
 use Rattle.logic.specs.Query.{Literal, Query, termCount, argumentOf, linkOf}
 use Rattle.theory.proofs.Basics.Search.{and-left, and-right, and-intro, map-mem}
 use Rattle.theory.proofs.Basics.Compare.{le-cases}
-use Rattle.theory.proofs.Basics.Count.{length-flatMap}
 use Rattle.theory.proofs.Query.Tied.{Accepted, InTerms, InLinks, ToEight}
 use Rattle.theory.proofs.Query.Entries.{argument-range}
 use Rattle.theory.proofs.Soundness.Value.{accepted-below}
-use Rattle.encoding.specs.QueryBytes.{literalBytes, sectionBytes, encode}
+use Rattle.encoding.specs.QueryBytes.{encode}
 use Rattle.encoding.proofs.Encoded.{Limits, limits-within, AboutOne, OneLinked, Encodable}
 use Rattle.rewriting.specs.OldQuery.{OldQuery}
 use Rattle.rewriting.specs.Rewritten.{asField, withFresh, rewritten, rewrite}
 use Rattle.rewriting.specs.Call.{hasRoom}
 use Rattle.rewriting.proofs.Fresh.{argument-same}
-
--- how long a query is
-section-length : (ls : List Literal) → length (sectionBytes ls) ≡ 1 + length ls * 3
-unfolding sectionBytes literalBytes
-section-length ls = ap suc (length-flatMap literalBytes 3 (λ l. refl) ls) ∙ omega arith
-
-pub encode-length : (q : Query) → length (encode q) ≡ termCount q + 3 * length (q .equalities) + 3 * length (q .reachability) + 3 * length (q .fields) + 5
-unfolding encode termCount
-encode-length q =
-    omega
-    (arith, length-append (q .entries .terms) (sectionBytes (q .equalities) ++ (sectionBytes (q .reachability) ++ (sectionBytes (q .fields) ++ (0 ∷ [])))), length-append (sectionBytes (q .equalities)) (sectionBytes (q .reachability) ++ (sectionBytes (q .fields) ++ (0 ∷ []))), length-append (sectionBytes (q .reachability)) (sectionBytes (q .fields) ++ (0 ∷ [])), length-append (sectionBytes (q .fields)) (0 ∷ []), section-length (q .equalities), section-length (q .reachability), section-length (q .fields))
-
-pub encode-within : (q : Query) → Limits q → length (encode q) ≤ 561
-encode-within q l = omega (arith, encode-length q, l .terms, l .equalities, l .reachability, l .fields)
 
 module _ (q : Query) (ok : Accepted q) (booleans : List Literal) (numbered : (l : Literal) → List·Memᴰ l booleans → ToEight (l .left)) where
   abbrev fresh : ℕ

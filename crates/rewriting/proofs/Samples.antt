@@ -1,4 +1,4 @@
--- The samples come out as the vectors say, by computation. Assumes nothing.
+-- The samples come out as they are listed, by computation. Assumes nothing.
 use mathlib.Core.Path.{refl}
 use mathlib.Core.Option.{Option·elim}
 use Rattle.logic.specs.Search.{_and_, _or_, from, keep, orElse, firstOf, flatMap}

@@ -6,9 +6,10 @@ use libc::STDIN_FILENO;
 use libc::STDOUT_FILENO;
 use tally::Tally;
 ghost use mathlib.Core.Path.{_≡_};
-ghost use mathlib.Core.Bool.{false};
-ghost use Prim.Native.Nat.{_≤_, _<_};
+ghost use mathlib.Core.Bool.{true};
+ghost use Prim.Native.Nat.{_<_, _≤_};
 ghost use lib.ListN.{length, take};
+ghost use Rattle.sharing.specs.Claims.{Reads, RoundOf, Ends};
 
 // How much of the input is held, and whether it has ended.
 struct Held {
@@ -16,10 +17,18 @@ struct Held {
     ended: bool,
 }
 
+// Where the program stands: the tally, how many bytes are kept, whether the input has ended, and whether a query may follow.
+struct Standing {
+    tally: Tally,
+    kept: usize,
+    ended: bool,
+    goes: bool,
+}
+
 // Reads a piece behind the bytes that are kept, which stay. The input has ended where it does not fill the space.
 fn read_piece(input: &mut [u8], kept: usize, ended: bool) -> Held
     requires { ⌜ kept < length (now input) ⌝ }
-    ensures { λ r. ⌜ (kept ≤ r .filled) × (r .filled ≤ length (now (input .entry))) × (r .ended ≡ false → kept < r .filled) × (take kept (now (input .exit)) ≡ take kept (now (input .entry))) ⌝ }
+    ensures { λ r. ⌜ Reads (now (input .entry)) kept ended (now (input .exit)) (r .filled) (r .ended) ⌝ }
 {
     if ended {
         return Held {
@@ -53,35 +62,55 @@ fn show_progress(left: u64) {
     }
 }
 
-// Piece by piece, as `Run` says. A proved loop has to end, so it counts down from a number that no stream uses up.
-fn run(input: &mut [u8], text: &mut [u8])
-    requires { ⌜ (length (now input) ≡ 65536) × (length (now text) ≡ 65536) ⌝ }
+// A round: a piece is read behind the bytes that are kept, just these bytes are processed, and the text is written.
+fn round(input: &mut [u8], text: &mut [u8], was: Standing) -> Standing
+    requires { ⌜ (was .kept < length (now input)) × (length (now input) ≡ 65536) × (128 ≤ length (now text)) ⌝ }
+    ensures { λ r. ⌜ RoundOf (was .tally .counts) (take (was .kept) (now (input .entry))) (was .ended) (r .tally .counts) (take (r .kept) (now (input .exit))) (r .ended) (r .goes) × (r .goes ≡ true → r .kept < 65536) ⌝ }
 {
-    let mut tally = tally::new();
-    let mut kept: usize = 0;
-    let mut ended = false;
+    let kept = was.kept;
+    let tally = was.tally;
+    let held = read_piece(input, kept, was.ended);
+    let filled = held.filled;
+    let done = share_stream::process(text, &mut input[..filled], held.ended, tally);
+    let made = done.made;
+    io::write_all(STDOUT_FILENO, &text[..made]);
+    let next = done.tally;
+    Standing {
+        tally: next,
+        kept: done.kept,
+        ended: held.ended,
+        goes: done.goes,
+    }
+}
+
+// Round by round, as long as a query may follow, to the tally whose shares are printed. A proved loop has to end, so it counts down from a
+// number that no stream uses up.
+fn run(input: &mut [u8], text: &mut [u8]) -> Tally
+    requires { ⌜ (length (now input) ≡ 65536) × (length (now text) ≡ 65536) ⌝ }
+    ensures { λ r. ⌜ Ends (r .counts) ⌝ }
+{
+    let none = tally::new();
+    let mut stands = Standing {
+        tally: none,
+        kept: 0,
+        ended: false,
+        goes: true,
+    };
     let mut left: u64 = 18446744073709551615;
     while left > 0 {
-        let held = read_piece(input, kept, ended);
-        let filled = held.filled;
-        ended = held.ended;
-        let done = share_stream::process(text, &mut input[..filled], ended, tally);
-        let made = done.made;
-        io::write_all(STDOUT_FILENO, &text[..made]);
-        let next = done.tally;
-        tally = next;
-        kept = done.kept;
+        stands = round(input, text, stands);
+        if !stands.goes {
+            return stands.tally;
+        }
         left -= 1;
         show_progress(left);
-        if !done.goes {
-            left = 0;
-        }
     }
-    print_shares(tally);
+    stands.tally
 }
 
 fn main() {
     let mut input = [0u8; 65536];
     let mut text = [0u8; 65536];
-    run(&mut input, &mut text);
+    let tally = run(&mut input, &mut text);
+    print_shares(tally);
 }

@@ -1,14 +1,18 @@
 -- Rounds on any pieces of a stream make the whole. Assumes nothing.
-use Prim.Native.Nat.{ℕ, _+_, _*_, _≤_, _<_}
+use Prim.Native.Nat.{ℕ, zero, suc, _+_, _*_, _≤_, _<_, min}
 use native.Mathlib.Omega.{arith}
 use mathlib.Core.Path.{_≡_, refl, sym, ap, _∙_}
-use mathlib.Core.Logic.{⊎-elim}
-use mathlib.Core.Bool.{Bool, true, false, false≢true}
-use mathlib.Core.List.{List, _++_, append-assoc}
-use lib.ListN.{length, length-append}
-use Rattle.sharing.specs.Output.{output, outputFrom}
+use mathlib.Core.Logic.{⊎-elim, inl, inr}
+use mathlib.Core.Bool.{Bool, true, false, cond, false≢true}
+use mathlib.Core.List.{List, [], _++_, append-assoc, append-nil}
+use lib.ListN.{length, take, drop, length-append, length-take, length-drop, take-append-drop}
+use Rattle.theory.proofs.Basics.Compare.{le-cases}
+use Rattle.tally.specs.Counting.{noLines}
+use Rattle.fractions.specs.Fractions.{sharesText}
+use Rattle.sharing.specs.Output.{Turn, firstTurn, firstLength, outputWithin, output, outputFrom}
 use Rattle.sharing.specs.Streaming.{Processes, stillPrinted}
-use Rattle.sharing.specs.Claims.{Standing, Round, Rounds, no-round, one-more, Run, Claims}
+use Rattle.sharing.specs.Claims.{Standing, atFirst, Round, Rounds, no-round, one-more, Run, Claims}
+use Rattle.sharing.proofs.Streams.{first-two, turn-prints}
 
 -- all that is printed from there on
 abbrev ahead : Standing → List ℕ
@@ -50,5 +54,98 @@ run-prints : {stream printed : List ℕ} → Run stream printed → printed ≡ 
 unfolding output stillPrinted
 run-prints r = r .prints ∙ ap (λ (xs : List ℕ). r .texts ++ xs) (sym (round-prints (r .last))) ∙ sym (rounds-print (r .rounds))
 
+-- Rounds that exist: of the bytes held with nothing behind them, all turns; of others, the first, or none where a turn may be cut.
+abbrev Whole : List ℕ → Type 0
+Whole printed = (text : List ℕ) × (after : List ℕ) × (printed ≡ text ++ sharesText after)
+
+with-turn : {rest : List ℕ} (t : Turn) (goes : Bool) → Whole rest → Whole (t .text ++ cond goes rest (sharesText (t .counts)))
+with-turn t true (text, after, e) = (t .text ++ text, after, ap (λ (xs : List ℕ). t .text ++ xs) e ∙ sym (append-assoc (t .text) text (sharesText after)))
+with-turn t false w = (t .text, t .counts, refl)
+
+all-turns : (steps : ℕ) (order counts bytes : List ℕ) → Whole (outputWithin steps order counts bytes)
+unfolding outputWithin
+all-turns zero order counts bytes = ([], counts, refl)
+all-turns (suc steps) order counts bytes =
+    let t : Turn = firstTurn order counts bytes in with-turn t (t .goes) (all-turns steps order (t .counts) (drop (firstLength bytes) bytes))
+
+processed-whole : (counts held : List ℕ) → (text : List ℕ) × (after : List ℕ) × Processes counts held true text after [] false
+unfolding outputFrom stillPrinted
+processed-whole counts held =
+    let (text, after, e) = all-turns (suc (length held)) (take 8 held) counts (drop 8 held) in (
+      text,
+      after,
+      record {
+        prints = λ (more : List ℕ) none. ap (λ (m : List ℕ). outputFrom counts (held ++ m)) (none refl) ∙ ap (outputFrom counts) (append-nil held) ∙ e;
+        shrinks = omega arith;
+        advances = λ f. absurd (false≢true f);
+      },
+    )
+
+abbrev Processed : List ℕ → List ℕ → Bool → Type 0
+Processed counts held ended = (text : List ℕ) × (after : List ℕ) × (kept : List ℕ) × (goes : Bool) × Processes counts held ended text after kept goes
+
+processed-first : (counts held : List ℕ) → 691 ≤ length held → Processed counts held false
+processed-first counts held h =
+    let t : Turn = firstTurn (take 8 held) counts (drop 8 held) in
+    let taken : ℕ = min (length (drop 8 held)) (firstLength (drop 8 held)) in
+    let shorter : length (take 8 held ++ drop (8 + taken) held) < length held =
+    omega (arith, length-append (take 8 held) (drop (8 + taken) held), length-take 8 held, length-drop (8 + taken) held, length-drop 8 held, first-two (drop 8 held)) in (
+      t .text,
+      t .counts,
+      take 8 held ++ drop (8 + taken) held,
+      t .goes,
+      record {
+        prints = λ (more : List ℕ) none. ap (λ (l : List ℕ). outputFrom counts (l ++ more)) (sym (take-append-drop 8 held))
+            ∙ turn-prints held 8 (omega arith) (omega arith) counts more (inr (omega arith)) taken refl;
+        shrinks = omega arith;
+        advances = λ f. inl shorter;
+      },
+    )
+
+processed-none : (counts held : List ℕ) → length held < 691 → Processed counts held false
+unfolding stillPrinted
+processed-none counts held h =
+    ([], counts, held, true, record { prints = λ (more : List ℕ) none. refl; shrinks = omega arith; advances = λ f. inr (refl, h) })
+
+processed : (counts held : List ℕ) (ended : Bool) → Processed counts held ended
+processed counts held true = let (text, after, p) = processed-whole counts held in (text, after, [], false, p)
+processed counts held false = ⊎-elim (λ (h : 691 ≤ length held). processed-first counts held h) (λ (h : length held < 691). processed-none counts held h) (le-cases 691 (length held))
+
+has-round : (s : Standing) (piece rest : List ℕ) (ended : Bool) → s .unread ≡ piece ++ rest → (ended ≡ true → rest ≡ []) → (ended ≡ false → 0 < length piece)
+    → (text : List ℕ) × (t : Standing) × (goes : Bool) × (t .unread ≡ rest) × Round s text t goes
+has-round s piece rest ended e all some =
+    let (text, after, kept, goes, p) = processed (s .counts) (s .kept ++ piece) ended in
+    (text, record { counts = after; kept = kept; unread = rest }, goes, refl, record { piece = piece; ended = ended; cut = e; all = all; some-bytes = some; processes = p })
+
+has-run : (stream : List ℕ) → (printed : List ℕ) × Run stream printed
+has-run stream =
+    let (text, after, p) = processed-whole noLines stream in (
+      text ++ sharesText after,
+      record {
+        before = atFirst stream;
+        after = record { counts = after; kept = []; unread = [] };
+        texts = [];
+        text = text;
+        number = 0;
+        rounds = no-round;
+        last = record {
+          piece = stream;
+          ended = true;
+          cut = sym (append-nil stream);
+          all = λ f. refl;
+          some-bytes = λ f. absurd (false≢true (sym f));
+          processes = p;
+        };
+        prints = refl;
+      },
+    )
+
 pub claims : Claims
-claims = record { run-prints = run-prints; rounds-few = λ rs. omega (arith, rounds-less rs) }
+claims =
+    record {
+      run-prints = run-prints;
+      rounds-few = λ rs. omega (arith, rounds-less rs);
+      has-run = has-run;
+      has-round = has-round;
+      ran-prints = λ r future none. run-prints (r .run future none);
+    }

@@ -49,7 +49,7 @@ module _ (order : List ℕ) where
 abbrev pub onward : List ℕ → List ℕ → List ℕ → List ℕ
 onward order counts bytes = outputWithin (suc (length bytes)) order counts bytes
 
-onward-turn : (order counts bytes : List ℕ) → onward order counts bytes ≡ firstTurn order counts bytes .text
+pub onward-turn : (order counts bytes : List ℕ) → onward order counts bytes ≡ firstTurn order counts bytes .text
     ++ cond (firstTurn order counts bytes .goes) (onward order (firstTurn order counts bytes .counts) (drop (firstLength bytes) bytes)) (sharesText (firstTurn order counts bytes .counts))
 unfolding outputWithin
 onward-turn order counts bytes =
@@ -59,7 +59,7 @@ onward-turn order counts bytes =
     (choose (sharesText (t .counts)) (t .goes) (λ (e : t .goes ≡ true). enough order (length bytes) (suc (length (drop n bytes))) (t .counts) (drop n bytes) (omega (arith, first-two bytes, length-drop n bytes, goes-two order counts bytes e)) (omega arith)))
 
 -- the order list is whole, or nothing is behind it
-from-order : (order counts bytes : List ℕ) → (length order ≡ 8) ⊎ ((length order ≤ 8) × (bytes ≡ [])) → outputFrom counts (order ++ bytes) ≡ onward order counts bytes
+pub from-order : (order counts bytes : List ℕ) → (length order ≡ 8) ⊎ ((length order ≤ 8) × (bytes ≡ [])) → outputFrom counts (order ++ bytes) ≡ onward order counts bytes
 unfolding outputFrom
 from-order order counts bytes (inl e) =
     ap (λ (o : List ℕ). outputWithin (suc (length (order ++ bytes))) o counts (drop 8 (order ++ bytes))) (take-at order bytes 8 e)

@@ -125,6 +125,10 @@ unfolding raisedFrom ruleLines
 raisedFrom-nothing r [] = refl
 raisedFrom-nothing r (c ∷ cs) = ap (λ (m : ℕ). m ∷ raisedFrom (suc r) cs []) (add-zero c) ∙ ap (λ (ms : List ℕ). c ∷ ms) (raisedFrom-nothing (suc r) cs)
 
+pub raised-nothing : (cs : List ℕ) → raised cs [] ≡ cs
+unfolding raised
+raised-nothing cs = raisedFrom-nothing 1 cs
+
 -- The lines of a derivation from line i on are left to count.
 abbrev pub left : ℕ → List ℕ → ℕ → List Line
 left count bytes i = linesFrom (count - i) (drop (2 + 4 * i) bytes)

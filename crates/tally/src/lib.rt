@@ -1,6 +1,6 @@
 // A tally of rule lines: eight counts, lent to a call for each derivation and changed there (02, R-14).
 ghost use mathlib.Core.Path.{_≡_};
-ghost use mathlib.Core.Bool.{true, false, cond};
+ghost use mathlib.Core.Bool.{true, false};
 ghost use mathlib.Core.List.{[], _∷_};
 ghost use Prim.Native.Nat.{_+_, _<_};
 ghost use lib.ListN.{length, getD};
@@ -102,71 +102,51 @@ fn sums(counts: [u32; 8], more: [u32; 8]) -> [u32; 8]
     next
 }
 
-// "28 a count would pass 4,294,967,295", else 0.
-fn refusal(was: Tally, more: Tally) -> usize
-    ensures { λ r. ⌜ r ≡ cond (fits (plus (was .counts) (more .counts))) 0 28 ⌝ }
-{
-    let counts = was.counts;
-    let added = more.counts;
-    if sums_fit(counts, added) {
-        return 0;
-    }
-    28
-}
-
-// The sums, and the tally as it was where they do not fit.
-fn grown(was: Tally, more: Tally) -> Tally
-    ensures { λ r. ⌜ r .counts ≡ cond (fits (plus (was .counts) (more .counts))) (plus (was .counts) (more .counts)) (was .counts) ⌝ }
-{
-    let counts = was.counts;
-    let added = more.counts;
-    if sums_fit(counts, added) {
-        let next = sums(counts, added);
-        return Tally { counts: next };
-    }
-    was
-}
-
-// "A tally of eight 32-bit counts is lent to the call for each result and changed there": `more` has the lines of each rule in a result.
-pub fn add(tally: &mut Tally, more: Tally) -> usize
-    ensures { λ r. ⌜ (r ≡ cond (fits (plus (now (tally .entry) .counts) (more .counts))) 0 28) × (now (tally .exit) .counts ≡ cond (fits (plus (now (tally .entry) .counts) (more .counts))) (plus (now (tally .entry) .counts) (more .counts)) (now (tally .entry) .counts)) ⌝ }
-{
-    let was = *tally;
-    *tally = grown(was, more);
-    refusal(was, more)
-}
-
 // What a derivation makes of a tally, and the refusal: 0, or 28 with the tally as it was.
 pub struct Step {
     pub tally: Tally,
     pub refused: usize,
 }
 
-// Lends a tally to `add`, for callers that hold it by value.
-fn lent(tally: Tally, more: Tally) -> Step
-    ensures { λ r. ⌜ (r .refused ≡ cond (fits (plus (tally .counts) (more .counts))) 0 28) × (r .tally .counts ≡ cond (fits (plus (tally .counts) (more .counts))) (plus (tally .counts) (more .counts)) (tally .counts)) ⌝ }
+// The sums, and where "a count would pass 4,294,967,295" 28 and the tally as it was.
+fn changed(was: Tally, derivation: &[u8]) -> Step
+    ensures { λ r. ⌜ Adds (was .counts) (linesIn (now (derivation .entry))) (r .tally .counts) (r .refused) ⌝ }
+{
+    let counts = was.counts;
+    let lines = rule_lines(derivation);
+    let more = lines.counts;
+    if sums_fit(counts, more) {
+        let next = Tally {
+            counts: sums(counts, more),
+        };
+        return Step {
+            tally: next,
+            refused: 0,
+        };
+    }
+    Step {
+        tally: was,
+        refused: 28,
+    }
+}
+
+// "A tally of eight 32-bit counts is lent to the call for each result and changed there". The answer is 0, or 28.
+pub fn add(tally: &mut Tally, derivation: &[u8]) -> usize
+    ensures { λ r. ⌜ Adds (now (tally .entry) .counts) (linesIn (now (derivation .entry))) (now (tally .exit) .counts) r ⌝ }
+{
+    let made = changed(*tally, derivation);
+    *tally = made.tally;
+    made.refused
+}
+
+// Lends a tally to `add`, for a caller that holds it by value.
+pub fn added(tally: Tally, derivation: &[u8]) -> Step
+    ensures { λ r. ⌜ Adds (tally .counts) (linesIn (now (derivation .entry))) (r .tally .counts) (r .refused) ⌝ }
 {
     let mut held = tally;
-    let refused = add(&mut held, more);
+    let refused = add(&mut held, derivation);
     Step {
         tally: held,
         refused: refused,
     }
-}
-
-// How many counts there are: the prover knows it of an array, and not of a field.
-fn eight(counts: [u32; 8]) -> usize
-    ensures { λ r. ⌜ (r ≡ 8) × (length counts ≡ 8) ⌝ }
-{
-    8
-}
-
-// What a derivation makes of a tally.
-pub fn added(tally: Tally, derivation: &[u8]) -> Step
-    ensures { λ r. ⌜ Adds (tally .counts) (linesIn (now (derivation .entry))) (r .tally .counts) (r .refused) ⌝ }
-{
-    let counts = tally.counts;
-    eight(counts);
-    let fresh = rule_lines(derivation);
-    lent(tally, fresh)
 }

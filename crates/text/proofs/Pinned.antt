@@ -1,4 +1,4 @@
--- What pins the digits down: they read back as the number, they are digits, and none leads that need not. Assumes nothing.
+-- What pins the digits down: they read back as the number, they are digits and no other byte is one, and none leads that need not. Assumes nothing.
 use Prim.Native.Nat.{ℕ, zero, suc, _+_, _-_, _*_, _/_, _%_, _≤_, _<_}
 use native.Mathlib.Omega.{arith}
 use mathlib.Core.Path.{_≡_, refl, ap, _∙_}
@@ -6,9 +6,10 @@ use mathlib.Core.Logic.{⊎-elim}
 use mathlib.Core.Bool.{true, false}
 use mathlib.Core.List.{List, [], _∷_, _++_}
 use lib.ListN.{length, getD, length-append, List·getD-append}
-use borrow.Author.Tests.{le-leb, lt-leb}
+use lib.Dec.{leb}
+use borrow.Author.Tests.{le-leb, lt-leb, leb-true}
 use Rattle.logic.specs.Search.{_and_, _or_, all}
-use Rattle.theory.proofs.Basics.Search.{and-left, and-right, and-intro}
+use Rattle.theory.proofs.Basics.Search.{and-left, and-right, and-intro, or-cases}
 use Rattle.theory.proofs.Basics.Compare.{le-cases}
 use Rattle.text.specs.Text.{ascii, decimalWithin, decimal, hexDigit, hexByte, numberFrom, numberIn, isDigit, hexValue, hexFrom, hexIn, isHexDigit}
 use Rattle.text.proofs.Digits.{decimal-small, decimal-more, hexDigit-low, hexDigit-high}
@@ -59,6 +60,15 @@ decimal-digits k = each-number (λ k. all isDigit (decimal k) ≡ true) small mo
     more : (k : ℕ) → 10 ≤ k → all isDigit (decimal (k / 10)) ≡ true → all isDigit (decimal k) ≡ true
     more k h ih = ap (all isDigit) (decimal-more k h) ∙ digits-last (decimal (k / 10)) (48 + k % 10) ih (digit-of (k % 10) (omega arith))
 
+-- no other byte is a digit: each is how a number below 10 is written
+pub digit-written : (c : ℕ) → isDigit c ≡ true → (k : ℕ) × (k < 10) × (decimal k ≡ c ∷ [])
+unfolding isDigit
+digit-written c h =
+    let low = leb-true 48 c (and-left (leb 48 c) (leb c 57) h) in
+    let high = leb-true c 57 (and-right (leb 48 c) (leb c 57) h) in
+    let e : 48 + (c - 48) ≡ c = omega arith in
+    (c - 48, omega arith, decimal-small (c - 48) (omega arith) ∙ ap (λ (b : ℕ). b ∷ []) e)
+
 -- the first digit is above `0`, save of 0 itself
 abbrev Leads : ℕ → Type 0
 Leads k = 1 ≤ k → (0 < length (decimal k)) × (48 < getD (decimal k) 0 0)
@@ -102,6 +112,23 @@ hex-reads k h =
 pub hex-digits : (k : ℕ) → k < 256 → all isHexDigit (hexByte k) ≡ true
 unfolding all hexByte
 hex-digits k h = and-intro (hex-of (k / 16) (omega arith) .1) (and-intro (hex-of (k % 16) (omega arith) .1) refl)
+
+-- no other byte is a hex digit: each is how a number below 16 is written
+pub hex-written : (c : ℕ) → isHexDigit c ≡ true → (d : ℕ) × (d < 16) × (hexDigit d ≡ c)
+unfolding isHexDigit isDigit
+hex-written c h = ⊎-elim digit letter (or-cases (isDigit c) (leb 97 c and leb c 102) h)
+  where
+    digit : leb 48 c and leb c 57 ≡ true → (d : ℕ) × (d < 16) × (hexDigit d ≡ c)
+    digit t =
+        let low = leb-true 48 c (and-left (leb 48 c) (leb c 57) t) in
+        let high = leb-true c 57 (and-right (leb 48 c) (leb c 57) t) in
+        (c - 48, omega arith, hexDigit-low (c - 48) (omega arith) ∙ omega arith)
+
+    letter : leb 97 c and leb c 102 ≡ true → (d : ℕ) × (d < 16) × (hexDigit d ≡ c)
+    letter t =
+        let low = leb-true 97 c (and-left (leb 97 c) (leb c 102) t) in
+        let high = leb-true c 102 (and-right (leb 97 c) (leb c 102) t) in
+        (c - 87, omega arith, hexDigit-high (c - 87) (omega arith) ∙ omega arith)
 
 -- computed
 word-example : ascii "sat 1\n" ≡ 115 ∷ 97 ∷ 116 ∷ 32 ∷ 49 ∷ 10 ∷ []

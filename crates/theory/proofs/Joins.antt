@@ -4,3 +4,4 @@ pub mod Congruence
 pub mod AnyOrder
 pub mod Reach
 pub mod Pairs
+pub mod Replay

@@ -13,14 +13,16 @@ ghost use mathlib.Core.Bool.{not};
 ghost use mathlib.Core.List.{List};
 ghost use Prim.Native.Nat.{ℕ, _+_, _*_, _≤_};
 ghost use lib.Dec.{eqb, ltb};
-ghost use lib.ListN.{length};
-ghost use Rattle.logic.specs.Search.{_and_, from, find};
+ghost use lib.ListN.{length, getD, take, drop};
+ghost use Rattle.logic.specs.Search.{_and_, _or_, from, find};
+ghost use Rattle.logic.specs.Query.{literals};
 ghost use Rattle.rows.specs.Bits.{bit};
 ghost use Rattle.rows.specs.Square.{square, Turned};
 ghost use Rattle.rows.specs.Answers.{foundOf};
-ghost use Rattle.facts.specs.Path.{graphOf, pathOf};
-ghost use Rattle.link_query.specs.Said.{Within};
+ghost use Rattle.facts.specs.Path.{repOf, graphOf, pathOf};
+ghost use Rattle.link_query.specs.Said.{said, Within};
 ghost use Rattle.units.specs.Rounds.{Rounds};
+ghost use Rattle.units.specs.Marks.{Marked, holdsApart, denies, gives, SaidOf, Spread, meet, oppose, barred};
 ghost use Rattle.units.specs.Proposes.{Proposes, ProposesIn, FoundIn};
 
 // The links from a term lead back to it after `steps` steps, through the terms `on`; it reaches the terms `off`, which are none of these.
@@ -116,7 +118,10 @@ fn alone(b: usize) -> u32
 }
 
 // More in row a, in place: rows that are copied for each mark cost more than all else here.
-fn mark(rows: &mut [u32; 17], a: usize, more: u32) {
+fn mark(rows: &mut [u32; 17], a: usize, more: u32)
+    requires { ⌜ length (now rows) ≡ 17 ⌝ }
+    ensures { λ _. ⌜ Marked (now (rows .exit)) (now (rows .entry)) a more × (length (now (rows .exit)) ≡ 17) ⌝ }
+{
     if a < 17 {
         rows[a] = rows[a] | more;
     }
@@ -125,6 +130,7 @@ fn mark(rows: &mut [u32; 17], a: usize, more: u32) {
 // What the negated equalities hold apart, both ways, of the terms that stand for theirs.
 fn unequal(query: &[u8], at: usize, count: usize, rep: &[u8; 17]) -> [u32; 17]
     requires { ⌜ at + 3 * count ≤ length (now query) ⌝ }
+    ensures { λ r. ⌜ SaidOf (holdsApart (repOf (now (rep .entry)))) (literals (take (3 * count) (drop at (now (query .entry))))) r ⌝ }
 {
     let mut out = [0u32; 17];
     for i in 0..count {
@@ -141,6 +147,7 @@ fn unequal(query: &[u8], at: usize, count: usize, rep: &[u8; 17]) -> [u32; 17]
 // What the negated reachability literals of link k deny, of the terms that stand for theirs.
 fn denied(query: &[u8], layout: Layout, rep: &[u8; 17], k: Link) -> [u32; 17]
     requires { ⌜ Within layout (now query) ⌝ }
+    ensures { λ r. ⌜ SaidOf (denies (repOf (now (rep .entry))) (k .0)) (said layout (now (query .entry)) .reachability) r ⌝ }
 {
     let links = layout.links;
     let at = layout.reach_at;
@@ -161,6 +168,7 @@ fn denied(query: &[u8], layout: Layout, rep: &[u8; 17], k: Link) -> [u32; 17]
 // The fields that the data literals of one sign give each term.
 fn fields(query: &[u8], at: usize, count: usize, rep: &[u8; 17], plain: bool) -> [u32; 17]
     requires { ⌜ at + 3 * count ≤ length (now query) ⌝ }
+    ensures { λ r. ⌜ SaidOf (gives (repOf (now (rep .entry))) plain) (literals (take (3 * count) (drop at (now (query .entry))))) r ⌝ }
 {
     let mut out = [0u32; 17];
     for i in 0..count {
@@ -173,7 +181,9 @@ fn fields(query: &[u8], at: usize, count: usize, rep: &[u8; 17], plain: bool) ->
 }
 
 // The terms that have one of these fields.
-fn having(some: u32, rows: &[u32; 17]) -> u32 {
+fn having(some: u32, rows: &[u32; 17]) -> u32
+    ensures { λ r. ⌜ ((b : ℕ) → bit r b ≡ (ltb b 17 and meet (getD (now (rows .entry)) b 0) some)) ⌝ }
+{
     let mut out: u32 = 0;
     for b in 0..17 {
         if rows[b] & some != 0 {
@@ -184,7 +194,9 @@ fn having(some: u32, rows: &[u32; 17]) -> u32 {
 }
 
 // The rows, each with the terms that have what the other rows give its own term.
-fn opposed(rows: [u32; 17], some: &[u32; 17], other: &[u32; 17]) -> [u32; 17] {
+fn opposed(rows: [u32; 17], some: &[u32; 17], other: &[u32; 17]) -> [u32; 17]
+    ensures { λ r. ⌜ ((a b : ℕ) → square r a b ≡ (square rows a b or oppose (now (some .entry)) (now (other .entry)) a b)) ⌝ }
+{
     let mut out = rows;
     for a in 0..17 {
         let own = some[a];
@@ -196,7 +208,10 @@ fn opposed(rows: [u32; 17], some: &[u32; 17], other: &[u32; 17]) -> [u32; 17] {
 }
 
 // More in each row of some, in place.
-fn spread(rows: &mut [u32; 17], some: u32, more: u32) {
+fn spread(rows: &mut [u32; 17], some: u32, more: u32)
+    requires { ⌜ length (now rows) ≡ 17 ⌝ }
+    ensures { λ _. ⌜ Spread (now (rows .exit)) (now (rows .entry)) some more × (length (now (rows .exit)) ≡ 17) ⌝ }
+{
     for a in 0..17 {
         if rows::has(some, a) {
             rows[a] = rows[a] | more;
@@ -205,7 +220,9 @@ fn spread(rows: &mut [u32; 17], some: u32, more: u32) {
 }
 
 // What no term can come to reach: where x is denied to reach d, no term that x reaches can reach one that reaches d.
-fn bars(reach: &[u32; 17], denied: &[u32; 17]) -> Barred {
+fn bars(reach: &[u32; 17], denied: &[u32; 17]) -> Barred
+    ensures { λ r. ⌜ ((x y : ℕ) → x ≤ 16 → y ≤ 16 → (square (r .ahead) x y ≡ barred (now (reach .entry)) (now (denied .entry)) x y) × (square (r .behind) y x ≡ barred (now (reach .entry)) (now (denied .entry)) x y)) ⌝ }
+{
     let mut ahead = [0u32; 17];
     let mut behind = [0u32; 17];
     for x in 0..17 {
@@ -221,7 +238,9 @@ fn bars(reach: &[u32; 17], denied: &[u32; 17]) -> Barred {
 }
 
 // One row each of three, together.
-fn merged(a: &[u32; 17], b: &[u32; 17], c: &[u32; 17]) -> [u32; 17] {
+fn merged(a: &[u32; 17], b: &[u32; 17], c: &[u32; 17]) -> [u32; 17]
+    ensures { λ r. ⌜ ((x y : ℕ) → square r x y ≡ (square (now (a .entry)) x y or square (now (b .entry)) x y or square (now (c .entry)) x y)) ⌝ }
+{
     let mut out = [0u32; 17];
     for x in 0..17 {
         mark(&mut out, x, a[x] | b[x] | c[x]);
@@ -331,7 +350,9 @@ fn struck(
     back: &[u32; 17],
     no_reach: &[u32; 17],
     no_back: &[u32; 17],
-) -> [u32; 17] {
+) -> [u32; 17]
+    ensures { λ r. ⌜ ((y z : ℕ) → square r y z ≡ ((square (now («no_reach» .entry)) y z or square (now («no_back» .entry)) y z) and not (square (now (reach .entry)) y z or square (now (back .entry)) y z))) ⌝ }
+{
     let mut out = [0u32; 17];
     for y in 0..17 {
         out[y] = rows::without(no_reach[y] | no_back[y], reach[y] | back[y]);

@@ -1,5 +1,5 @@
 -- The marks so far and the literals left make the whole. Assumes nothing.
-use Prim.Native.Nat.{_-_}
+use Prim.Native.Nat.{_-_, _≤_}
 use native.Mathlib.Omega.{arith}
 use borrow.Author.Needs.{needs}
 use borrow.Author.Tests.{not-true, not-false}
@@ -40,33 +40,53 @@ mark-fields-spec =
     -- loop-less
     (λ c. omega arith)
     -- loop-again
-    (λ c. (c .before .before .before .loop .inv .0, fields-skip _ _ _ _ _ (omega arith) (sym (c .before .sign .ensures) ∙ not-true _ (c .if1 .taken)) (c .before .before .before .loop .inv .1)))
+    (λ c.
+    let plain = sym (c .before .sign .ensures) ∙ not-true _ (c .if1 .taken) in
+    (c .before .before .before .loop .inv .0, fields-skip _ _ _ _ _ (omega arith) plain (c .before .before .before .loop .inv .1)))
     -- field-requires
     (λ c κs. omega arith)
     -- right-requires
     (λ c κs. omega arith)
-    -- element-copy-out-v
-    (λ c. let r = c .before .before .before .before .before .before .before .pre .1 (c .before .before .before .before .before .loop .i) (omega arith) in omega (arith, c .right .ensures))
-    -- cast-v
-    (λ c. let r = c .before .before .before .before .before .before .before .before .pre .1 (c .before .before .before .before .before .before .loop .i) (omega arith) in let e = node-in (c .before .before .before .before .before .before .before .before .args .nodes .now) _ _ (c .before .right .ensures) in omega arith)
+    -- node-of-requires
+    (λ c κs.
+    let r = c .before .before .before .before .before .before .before .pre .1 (c .before .before .before .before .before .loop .i) (omega arith) in
+    omega (arith, c .right .ensures))
     -- mul-marks
-    (λ c. let r = c .before .before .before .before .before .before .before .before .pre .1 (c .before .before .before .before .before .before .loop .i) (omega arith) in let e = node-in (c .before .before .before .before .before .before .before .before .args .nodes .now) _ _ (c .before .right .ensures) in omega arith)
+    (λ c.
+    let r = c .before .before .before .before .before .before .before .before .pre .1 (c .before .before .before .before .before .before .loop .i) (omega arith) in
+    let e = node-in _ _ _ _ (c .node-of .ensures) (c .before .right .ensures) in
+    omega arith)
     -- array-read-marks
-    (λ c. let r = c .before .before .before .before .before .before .before .before .pre .1 (c .before .before .before .before .before .before .loop .i) (omega arith) in let e = node-in (c .before .before .before .before .before .before .before .before .args .nodes .now) _ _ (c .before .right .ensures) in omega arith)
+    (λ c.
+    let r = c .before .before .before .before .before .before .before .before .pre .1 (c .before .before .before .before .before .before .loop .i) (omega arith) in
+    let e = node-in _ _ _ _ (c .node-of .ensures) (c .before .right .ensures) in
+    omega arith)
     -- only-requires
-    (λ c κs. let r = c .before .before .before .before .before .before .before .before .pre .1 (c .before .before .before .before .before .before .loop .i) (omega arith) in omega (arith, c .before .before .field .ensures))
+    (λ c κs.
+    let r = c .before .before .before .before .before .before .before .before .pre .1 (c .before .before .before .before .before .before .loop .i) (omega arith) in
+    omega (arith, c .before .before .field .ensures))
     -- mul-marks-2
-    (λ c. let r = c .before .before .before .before .before .before .before .before .before .pre .1 (c .before .before .before .before .before .before .before .loop .i) (omega arith) in let e = node-in (c .before .before .before .before .before .before .before .before .before .args .nodes .now) _ _ (c .before .before .right .ensures) in omega arith)
+    (λ c.
+    let r = c .before .before .before .before .before .before .before .before .before .pre .1 (c .before .before .before .before .before .before .before .loop .i) (omega arith) in
+    let e = node-in _ _ _ _ (c .before .node-of .ensures) (c .before .before .right .ensures) in
+    omega arith)
     -- array-write-marks
-    (λ c. let r = c .before .before .before .before .before .before .before .before .before .pre .1 (c .before .before .before .before .before .before .before .loop .i) (omega arith) in let e = node-in (c .before .before .before .before .before .before .before .before .before .args .nodes .now) _ _ (c .before .before .right .ensures) in omega arith)
+    (λ c.
+    let r = c .before .before .before .before .before .before .before .before .before .pre .1 (c .before .before .before .before .before .before .before .loop .i) (omega arith) in
+    let e = node-in _ _ _ _ (c .before .node-of .ensures) (c .before .before .right .ensures) in
+    omega arith)
     -- add-i-2
     (λ c. omega arith)
     -- loop-less-2
     (λ c. omega arith)
     -- loop-again-2
     (λ c.
-    let l = c .before .before .before .before .before .before .before .loop in let r = c .before .before .before .before .before .before .before .before .before .pre .1 (l .i) (omega arith) in let e = node-in (c .before .before .before .before .before .before .before .before .before .args .nodes .now) _ _ (c .before .before .right .ensures) in (
+    let l = c .before .before .before .before .before .before .before .loop in
+    let r = c .before .before .before .before .before .before .before .before .before .pre .1 (l .i) (omega arith) in
+    let e = node-in _ _ _ _ (c .before .node-of .ensures) (c .before .before .right .ensures) in
+    let plain = sym (c .before .before .before .before .before .sign .ensures) ∙ not-false _ (c .before .before .before .before .if1 .left) in
+    let f = c .before .before .before .field .ensures in (
       simp length-set (l .inv .0),
-      fields-here _ _ _ (l .i) (l .marks) (l .inv .0) (omega arith) (sym (c .before .before .before .before .before .sign .ensures) ∙ not-false _ (c .before .before .before .before .if1 .left)) _ _ _ (omega arith) (omega (arith, c .before .before .before .field .ensures)) (c .only .ensures) e (c .before .before .before .field .ensures) (l .inv .1),
+      fields-here _ _ _ (l .i) (l .marks) (l .inv .0) (omega arith) plain _ _ _ (omega arith) (omega (arith, f)) (c .only .ensures) e f (l .inv .1),
     ))
     returns)

@@ -28,18 +28,30 @@ heap-found-spec =
     -- most-nodes-requires
     (λ c κs. search needs)
     -- add-end
-    (λ c. let k = most-few _ (c .before .before .before .pre .few) in omega (arith, k, c .most-nodes .ensures))
+    (λ c. let k = most-few _ (c .before .before .before .pre .entered .few) in omega (arith, k, c .most-nodes .ensures))
     -- loop-holds
     (λ c. refl)
     -- size-found-requires
-    (λ c κs. (c .before .before .before .before .before .pre, let k = most-few _ (c .before .before .before .before .before .pre .few) in omega (arith, k, c .before .before .most-nodes .ensures, c .loop-test .taken)))
+    (λ c κs.
+    let p = c .before .before .before .before .before .pre in
+    let k = most-few _ (p .entered .few) in
+    (p, omega (arith, k, c .before .before .most-nodes .ensures, c .loop-test .taken)))
     -- returns
-    (λ c. keep-true _ (c .if1 .taken) ∙ sym (heap-sizes _ _ (c .before .before .before .before .most-nodes .ensures ∙ ap mostNodes (c .before .before .before .before .before .before .before .pre .laid .term-count)) ∙ c .before .before .before .loop .inv ∙ first-here _ _ _ _ (c .before .before .loop-test .taken) (sym (c .before .size-found .ensures) ∙ keep-true _ (c .if1 .taken))))
+    (λ c.
+    let p = c .before .before .before .before .before .before .before .pre in
+    let sizes = heap-sizes _ _ (c .before .before .before .before .most-nodes .ensures ∙ ap mostNodes (p .entered .laid .term-count)) in
+    let there = keep-true _ (c .if1 .taken) in
+    there ∙ sym (sizes ∙ c .before .before .before .loop .inv ∙ first-here _ _ _ _ (c .before .before .loop-test .taken) (sym (c .before .size-found .ensures) ∙ there)))
     -- add-m
-    (λ c. let k = most-few _ (c .before .before .before .before .before .before .before .pre .few) in omega (arith, k, c .before .before .before .before .most-nodes .ensures, c .before .before .loop-test .taken))
+    (λ c.
+    let k = most-few _ (c .before .before .before .before .before .before .before .pre .entered .few) in
+    omega (arith, k, c .before .before .before .before .most-nodes .ensures, c .before .before .loop-test .taken))
     -- loop-less
     (λ c. omega arith)
     -- loop-again
     (λ c. c .before .before .before .loop .inv ∙ first-next _ _ _ (c .before .before .loop-test .taken) (sym (c .before .size-found .ensures) ∙ keep-false _ (c .if1 .left)))
     -- returns-2
-    (λ c. keep-false _ refl ∙ sym (heap-sizes _ _ (c .before .before .most-nodes .ensures ∙ ap mostNodes (c .before .before .before .before .before .pre .laid .term-count)) ∙ c .before .loop .inv ∙ first-end _ _ _ (c .loop-test .left))))
+    (λ c.
+    let p = c .before .before .before .before .before .pre in
+    let sizes = heap-sizes _ _ (c .before .before .most-nodes .ensures ∙ ap mostNodes (p .entered .laid .term-count)) in
+    keep-false _ refl ∙ sym (sizes ∙ c .before .loop .inv ∙ first-end _ _ _ (c .loop-test .left))))

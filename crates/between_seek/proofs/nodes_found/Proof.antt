@@ -1,15 +1,13 @@
 -- The first list is the count alone. Assumes nothing.
-use Prim.Native.Nat.{ℕ, _+_}
 use native.Mathlib.Omega.{arith}
-use mathlib.Core.Path.{sym, ap, _∙_}
-use Rattle.between_seek.proofs.nodes_found.Statement.{statement}
-use Rattle.between_seek.proofs.nodes_found.Tie as tie
-use lib.ListN.{replicate, take}
-use mathlib.Core.List.{[], _∷_}
-use Rattle.between_search.specs.Search.{seekNodes}
+use mathlib.Core.Path.{_∙_}
+use lib.ListN.{replicate}
 use Rattle.between_tests.proofs.Laws.{small-set}
 use Rattle.between_seek.specs.Answers.{queryIn}
-use Rattle.between_seek.proofs.Laws.{nodes-begin, chosen-first, small-zeros}
+use Rattle.between_seek.proofs.Laws.{chosen-first, small-zeros}
+use Rattle.between_seek.proofs.Linking.{nodes-first}
+use Rattle.between_seek.proofs.nodes_found.Statement.{statement}
+use Rattle.between_seek.proofs.nodes_found.Tie as tie
 
 pub nodes-found-spec : {M : Type 1} → statement M
 nodes-found-spec =
@@ -18,10 +16,23 @@ nodes-found-spec =
     -- step-table-requires
     (λ c κs. c .before .before .before .pre .1)
     -- cast-nodes
-    (λ c. omega (arith, c .before .before .before .before .pre .0 .few))
+    (λ c. omega (arith, c .before .before .before .before .before .pre .0 .given .entered .few))
     -- array-write-nodes
     (λ c. omega arith)
     -- seek-nodes-requires
-    (λ c κs. let p = c .before .before .before .before .before .pre in (p .0, p .1, c .before .step-table .ensures, p .2, small-set (replicate 17 0) 0 (c .before .before .before .before .before .args .l .terms) (p .0 .few) small-zeros, omega arith, omega arith, p .3, chosen-first _))
+    (λ c κs.
+    let s = c .before .before .before .before .before in
+    let p = s .pre in (
+      p .0,
+      record {
+        small-links = p .1;
+        small-nodes = small-set (replicate 17 0) 0 (s .args .q .l .terms) (p .0 .given .entered .few) small-zeros;
+        stepped = c .before .step-table .ensures;
+      },
+      record { low = omega arith; high = omega arith; links-chosen = p .2; nodes-chosen = chosen-first _ },
+    ))
     -- returns
-    (λ c. c .seek-nodes .ensures ∙ ap (λ (k : ℕ). seekNodes (queryIn (c .before .before .before .before .before .before .args .base .now) (c .before .before .before .before .before .before .args .between .now)) (c .before .before .before .before .before .before .args .sorted) (c .before .before .before .before .before .before .args .m) (take (c .before .before .before .before .before .before .args .m + 1) (c .before .before .before .before .before .before .args .t8)) k 1 (k ∷ [])) (c .before .before .before .before .before .before .pre .0 .laid .term-count) ∙ sym (nodes-begin _ _ _ _)))
+    (λ c.
+    let s = c .before .before .before .before .before .before in
+    let a = s .args in
+    c .seek-nodes .ensures ∙ nodes-first (queryIn (a .base .now) (a .between .now)) (a .q) _ _ (s .pre .0 .given .entered .laid .term-count)))

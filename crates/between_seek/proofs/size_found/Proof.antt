@@ -11,10 +11,12 @@ size-found-spec =
     tie.close
     (tie.spec
     -- links-found-requires
-    (λ c κs. c .before .before .pre)
+    (λ c κs. record { given = c .before .before .pre .0; few-nodes = c .before .before .pre .1 })
     -- returns
-    (λ c. keep-false _ (not-true _ (c .if1 .taken)) ∙ size-none _ _ (sym (c .before .before .links-found .ensures) ∙ keep-false _ (not-true _ (c .if1 .taken))))
+    (λ c.
+    let none = keep-false _ (not-true _ (c .if1 .taken)) in
+    none ∙ size-none _ _ (sym (c .before .before .links-found .ensures) ∙ none))
     -- links-found-requires-2
-    (λ c κs. c .before .before .before .before .before .pre)
+    (λ c κs. record { given = c .before .before .before .before .before .pre .0; few-nodes = c .before .before .before .before .before .pre .1 })
     -- returns-2
     (λ c. c .links-found2 .ensures ∙ size-some _ _ _ (sym (c .before .before .before .links-found .ensures) ∙ keep-true _ (not-false _ (c .before .if1 .left)))))

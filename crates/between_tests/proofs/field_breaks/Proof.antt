@@ -13,7 +13,7 @@ use Rattle.rows.proofs.Selections.{any-end, any-here, any-next}
 use Rattle.between_search.specs.Tests.{opposed}
 use Rattle.between_search.specs.Search.{entry}
 use Rattle.between_tests.specs.Tables.{Opposed}
-use Rattle.between_tests.proofs.Laws.{breaks-begin}
+use Rattle.between_tests.proofs.Laws.{node-read, breaks-begin}
 
 abbrev Inv-loop : tie.InvT-loop
 Inv-loop table nodes t v end u₀ u =
@@ -43,7 +43,7 @@ field-breaks-spec =
     -- returns
     (λ c fields o.
     let low : c .before .before .before .before .before .before .before .loop .u ≤ 5 = omega (arith, c .before .before .before .before .before .before .before .before .before .before .pre .1, c .before .before .before .before .before .before .loop-test .taken) in
-    sym (breaks-begin fields _ _ _ (c .before .before .before .before .before .before .before .before .before .node-of .ensures) ∙ c .before .before .before .before .before .before .before .loop .inv .0 fields o ∙ any-here _ _ _ (c .before .before .before .before .before .before .loop-test .taken) (ap₂ (λ (x : ℕ) (b : Bool). eqb x (c .before .before .before .before .before .before .before .before .before .node-of .result .0) && b) (sym (c .before .before .before .before .before .node-of2 .ensures)) (ap₂ (λ (x y : Bool). x || y) (sym (c .before .before .before .before .opposed-of .ensures ∙ o _ _ low (c .before .before .before .before .before .before .before .before .before .before .pre .1))) (sym (c .before .before .before .opposed-of2 .ensures ∙ o _ _ (c .before .before .before .before .before .before .before .before .before .before .pre .1) low))) ∙ c .if1 .taken)))
+    sym (breaks-begin fields _ _ _ (node-read _ _ _ (c .before .before .before .before .before .before .before .before .before .node-of .ensures)) ∙ c .before .before .before .before .before .before .before .loop .inv .0 fields o ∙ any-here _ _ _ (c .before .before .before .before .before .before .loop-test .taken) (ap₂ (λ (x : ℕ) (b : Bool). eqb x (c .before .before .before .before .before .before .before .before .before .node-of .result .0) && b) (sym (node-read _ _ _ (c .before .before .before .before .before .node-of2 .ensures))) (ap₂ (λ (x y : Bool). x || y) (sym (c .before .before .before .before .opposed-of .ensures ∙ o _ _ low (c .before .before .before .before .before .before .before .before .before .before .pre .1))) (sym (c .before .before .before .opposed-of2 .ensures ∙ o _ _ (c .before .before .before .before .before .before .before .before .before .before .pre .1) low))) ∙ c .if1 .taken)))
     -- add-u
     (λ c. omega (arith, c .before .before .before .before .before .before .before .before .before .before .pre .1, c .before .before .before .before .before .before .loop-test .taken))
     -- loop-less
@@ -52,8 +52,8 @@ field-breaks-spec =
     (λ c. (
       λ fields o.
           let low : c .before .before .before .before .before .before .before .loop .u ≤ 5 = omega (arith, c .before .before .before .before .before .before .before .before .before .before .pre .1, c .before .before .before .before .before .before .loop-test .taken) in
-          c .before .before .before .before .before .before .before .loop .inv .0 fields o ∙ any-next _ _ _ (c .before .before .before .before .before .before .loop-test .taken) (ap₂ (λ (x : ℕ) (b : Bool). eqb x (c .before .before .before .before .before .before .before .before .before .node-of .result .0) && b) (sym (c .before .before .before .before .before .node-of2 .ensures)) (ap₂ (λ (x y : Bool). x || y) (sym (c .before .before .before .before .opposed-of .ensures ∙ o _ _ low (c .before .before .before .before .before .before .before .before .before .before .pre .1))) (sym (c .before .before .before .opposed-of2 .ensures ∙ o _ _ (c .before .before .before .before .before .before .before .before .before .before .pre .1) low))) ∙ c .if1 .left),
+          c .before .before .before .before .before .before .before .loop .inv .0 fields o ∙ any-next _ _ _ (c .before .before .before .before .before .before .loop-test .taken) (ap₂ (λ (x : ℕ) (b : Bool). eqb x (c .before .before .before .before .before .before .before .before .before .node-of .result .0) && b) (sym (node-read _ _ _ (c .before .before .before .before .before .node-of2 .ensures))) (ap₂ (λ (x y : Bool). x || y) (sym (c .before .before .before .before .opposed-of .ensures ∙ o _ _ low (c .before .before .before .before .before .before .before .before .before .before .pre .1))) (sym (c .before .before .before .opposed-of2 .ensures ∙ o _ _ (c .before .before .before .before .before .before .before .before .before .before .pre .1) low))) ∙ c .if1 .left),
       omega arith,
     ))
     -- returns-2
-    (λ c fields o. sym (breaks-begin fields _ _ _ (c .before .before .before .node-of .ensures) ∙ c .before .loop .inv .0 fields o ∙ any-end _ _ _ (c .loop-test .left))))
+    (λ c fields o. sym (breaks-begin fields _ _ _ (node-read _ _ _ (c .before .before .before .node-of .ensures)) ∙ c .before .loop .inv .0 fields o ∙ any-end _ _ _ (c .loop-test .left))))

@@ -10,7 +10,7 @@ use Rattle.between_tests.proofs.is_fresh.Tie as tie
 use Rattle.logic.specs.Search.{from, any}
 use Rattle.rows.proofs.Selections.{any-end, any-here, any-next}
 use Rattle.between_search.specs.Search.{entry}
-use Rattle.between_tests.proofs.Laws.{fresh-is}
+use Rattle.between_tests.proofs.Laws.{node-read, fresh-is}
 
 abbrev Inv-loop : tie.InvT-loop
 Inv-loop nodes v end u₀ u = any (λ x. eqb (entry nodes x) (v .0)) (from (end - 1) 1) ≡ any (λ x. eqb (entry nodes x) (v .0)) (from (end - u) u)
@@ -31,12 +31,12 @@ is-fresh-spec =
     -- node-of-requires-2
     (λ c κs. omega (arith, c .before .before .before .pre .1, c .loop-test .taken))
     -- returns
-    (λ c. fresh-is _ _ _ true (c .before .before .before .before .before .before .node-of .ensures) (c .before .before .before .before .before .loop .inv ∙ any-here _ _ _ (c .before .before .before .before .loop-test .taken) (eq-eqb _ _ (sym (c .before .before .before .node-of2 .ensures) ∙ c .if1 .taken))))
+    (λ c. fresh-is _ _ _ true (node-read _ _ _ (c .before .before .before .before .before .before .node-of .ensures)) (c .before .before .before .before .before .loop .inv ∙ any-here _ _ _ (c .before .before .before .before .loop-test .taken) (eq-eqb _ _ (sym (node-read _ _ _ (c .before .before .before .node-of2 .ensures)) ∙ c .if1 .taken))))
     -- add-u
     (λ c. omega arith)
     -- loop-less
     (λ c. omega arith)
     -- loop-again
-    (λ c. c .before .before .before .before .before .loop .inv ∙ any-next _ _ _ (c .before .before .before .before .loop-test .taken) (ne-eqb _ _ (λ e. c .if1 .left (c .before .before .before .node-of2 .ensures ∙ e))))
+    (λ c. c .before .before .before .before .before .loop .inv ∙ any-next _ _ _ (c .before .before .before .before .loop-test .taken) (ne-eqb _ _ (λ e. c .if1 .left ((node-read _ _ _ (c .before .before .before .node-of2 .ensures)) ∙ e))))
     -- returns-2
-    (λ c. fresh-is _ _ _ false (c .before .before .node-of .ensures) (c .before .loop .inv ∙ any-end _ _ _ (c .loop-test .left))))
+    (λ c. fresh-is _ _ _ false (node-read _ _ _ (c .before .before .node-of .ensures)) (c .before .loop .inv ∙ any-end _ _ _ (c .loop-test .left))))

@@ -10,7 +10,7 @@ use Rattle.logic.specs.Search.{from, any}
 use Rattle.logic.specs.Query.{decode, namesNil}
 use Rattle.rows.proofs.Selections.{any-end, any-here, any-next}
 use Rattle.between_search.specs.Search.{entry}
-use Rattle.between_tests.proofs.Laws.{any-from}
+use Rattle.between_tests.proofs.Laws.{node-read, any-from}
 
 abbrev Inv-loop : tie.InvT-loop
 Inv-loop query l nodes v end u₀ u =
@@ -36,12 +36,12 @@ other-nil-spec =
     -- node-of-requires-2
     (λ c κs. omega (arith, c .before .before .before .before .before .before .pre .2, c .before .before .before .before .before .before .pre .0 .terms-within, c .before .loop-test .taken))
     -- returns
-    (λ c. sym (any-from _ _ ∙ ap (λ (w : ℕ). any (λ x. namesNil (decode (c .before .before .before .before .before .before .before .before .before .before .args .query .now) .entries) x && not (eqb (entry (c .before .before .before .before .before .before .before .before .before .before .args .nodes .now) x) w)) (from (c .before .before .before .before .before .before .before .before .before .before .args .t .0 + 1 - 1) 1)) (sym (c .before .before .before .before .before .before .before .before .node-of .ensures)) ∙ c .before .before .before .before .before .before .loop .inv .0 ∙ any-here _ _ _ (c .before .before .before .before .before .loop-test .taken) (ap₂ (λ (a : Bool) (x : ℕ). a && not (eqb x (c .before .before .before .before .before .before .before .before .node-of .result .0))) (sym (c .before .before .before .before .is-nil .ensures)) (sym (c .before .before .before .node-of2 .ensures)) ∙ c .if1 .taken)))
+    (λ c. sym (any-from _ _ ∙ ap (λ (w : ℕ). any (λ x. namesNil (decode (c .before .before .before .before .before .before .before .before .before .before .args .query .now) .entries) x && not (eqb (entry (c .before .before .before .before .before .before .before .before .before .before .args .nodes .now) x) w)) (from (c .before .before .before .before .before .before .before .before .before .before .args .t .0 + 1 - 1) 1)) (sym (node-read _ _ _ (c .before .before .before .before .before .before .before .before .node-of .ensures))) ∙ c .before .before .before .before .before .before .loop .inv .0 ∙ any-here _ _ _ (c .before .before .before .before .before .loop-test .taken) (ap₂ (λ (a : Bool) (x : ℕ). a && not (eqb x (c .before .before .before .before .before .before .before .before .node-of .result .0))) (sym (c .before .before .before .before .is-nil .ensures)) (sym (node-read _ _ _ (c .before .before .before .node-of2 .ensures))) ∙ c .if1 .taken)))
     -- add-u
     (λ c. omega (arith, c .before .before .before .before .before .before .before .before .before .before .pre .2, c .before .before .before .before .before .before .before .before .before .before .pre .0 .terms-within, c .before .before .before .before .before .loop-test .taken))
     -- loop-less
     (λ c. omega arith)
     -- loop-again
-    (λ c. (c .before .before .before .before .before .before .loop .inv .0 ∙ any-next _ _ _ (c .before .before .before .before .before .loop-test .taken) (ap₂ (λ (a : Bool) (x : ℕ). a && not (eqb x (c .before .before .before .before .before .before .before .before .node-of .result .0))) (sym (c .before .before .before .before .is-nil .ensures)) (sym (c .before .before .before .node-of2 .ensures)) ∙ c .if1 .left), omega arith))
+    (λ c. (c .before .before .before .before .before .before .loop .inv .0 ∙ any-next _ _ _ (c .before .before .before .before .before .loop-test .taken) (ap₂ (λ (a : Bool) (x : ℕ). a && not (eqb x (c .before .before .before .before .before .before .before .before .node-of .result .0))) (sym (c .before .before .before .before .is-nil .ensures)) (sym (node-read _ _ _ (c .before .before .before .node-of2 .ensures))) ∙ c .if1 .left), omega arith))
     -- returns-2
-    (λ c. sym (any-from _ _ ∙ ap (λ (w : ℕ). any (λ x. namesNil (decode (c .before .before .before .before .before .args .query .now) .entries) x && not (eqb (entry (c .before .before .before .before .before .args .nodes .now) x) w)) (from (c .before .before .before .before .before .args .t .0 + 1 - 1) 1)) (sym (c .before .before .before .node-of .ensures)) ∙ c .before .loop .inv .0 ∙ any-end _ _ _ (c .loop-test .left))))
+    (λ c. sym (any-from _ _ ∙ ap (λ (w : ℕ). any (λ x. namesNil (decode (c .before .before .before .before .before .args .query .now) .entries) x && not (eqb (entry (c .before .before .before .before .before .args .nodes .now) x) w)) (from (c .before .before .before .before .before .args .t .0 + 1 - 1) 1)) (sym (node-read _ _ _ (c .before .before .before .node-of .ensures))) ∙ c .before .loop .inv .0 ∙ any-end _ _ _ (c .loop-test .left))))

@@ -10,7 +10,7 @@ use Rattle.between_tests.proofs.pair_breaks.Tie as tie
 use lib.Dec.{leb}
 use Rattle.between_search.specs.Search.{entry}
 use Rattle.between_search.specs.Tests.{steps, agrees, duePair}
-use Rattle.between_tests.proofs.Laws.{pair-left, pair-right, pair-not-due, pair-due}
+use Rattle.between_tests.proofs.Laws.{node-read, pair-left, pair-right, pair-not-due, pair-due}
 
 pub pair-breaks-spec : {M : Type 1} → statement M
 pair-breaks-spec =
@@ -29,7 +29,7 @@ pair-breaks-spec =
     -- node-of-requires-2
     (λ c κs. omega (arith, pair-right _ _ _ (sym (c .before .before .due-pair .ensures) ∙ not-false _ (c .before .if1 .left)), c .before .before .before .before .before .before .pre .2))
     -- step-of-requires
-    (λ c κs. (rw (c .before .node-of .ensures) (c .before .before .before .before .before .before .before .pre .1 _), rw (c .node-of2 .ensures) (c .before .before .before .before .before .before .before .pre .1 _)))
+    (λ c κs. (rw (node-read _ _ _ (c .before .node-of .ensures)) (c .before .before .before .before .before .before .before .pre .1 _), rw (node-read _ _ _ (c .node-of2 .ensures)) (c .before .before .before .before .before .before .before .pre .1 _)))
     -- sign-requires
     (λ c κs. c .before .before .before .before .before .before .before .before .pre .0)
     -- agrees-requires
@@ -38,4 +38,4 @@ pair-breaks-spec =
     (λ c link s.
     ap not (c .agrees .ensures ∙ ap (λ (b : Bool). agrees b (leb (c .before .before .step-of .result) (c .before .before .before .before .before .before .before .before .before .before .args .most))) (c .before .sign .ensures))
     ∙ pair-due link _ _ _ _ _ (ap₂ (λ (x y : ℕ). duePair x y (c .before .before .before .before .before .before .before .before .before .before .args .t .0)) (sym (c .before .before .before .before .before .before .before .before .left .ensures)) (sym (c .before .before .before .before .before .before .before .right .ensures)) ∙ sym (c .before .before .before .before .before .before .due-pair .ensures) ∙ not-false _ (c .before .before .before .before .before .if1 .left))
-    (c .before .before .step-of .ensures ∙ s _ _ (rw (c .before .before .before .before .node-of .ensures) (c .before .before .before .before .before .before .before .before .before .before .pre .1 _)) (rw (c .before .before .before .node-of2 .ensures) (c .before .before .before .before .before .before .before .before .before .before .pre .1 _)) ∙ ap₂ (λ (x y : ℕ). steps link x y) (c .before .before .before .before .node-of .ensures ∙ ap (entry (c .before .before .before .before .before .before .before .before .before .before .args .nodes .now)) (c .before .before .before .before .before .before .before .before .left .ensures)) (c .before .before .before .node-of2 .ensures ∙ ap (entry (c .before .before .before .before .before .before .before .before .before .before .args .nodes .now)) (c .before .before .before .before .before .before .before .right .ensures)))))
+    (c .before .before .step-of .ensures ∙ s _ _ (rw (node-read _ _ _ (c .before .before .before .before .node-of .ensures)) (c .before .before .before .before .before .before .before .before .before .before .pre .1 _)) (rw (node-read _ _ _ (c .before .before .before .node-of2 .ensures)) (c .before .before .before .before .before .before .before .before .before .before .pre .1 _)) ∙ ap₂ (λ (x y : ℕ). steps link x y) ((node-read _ _ _ (c .before .before .before .before .node-of .ensures)) ∙ ap (entry (c .before .before .before .before .before .before .before .before .before .before .args .nodes .now)) (c .before .before .before .before .before .before .before .before .left .ensures)) ((node-read _ _ _ (c .before .before .before .node-of2 .ensures)) ∙ ap (entry (c .before .before .before .before .before .before .before .before .before .before .args .nodes .now)) (c .before .before .before .before .before .before .before .right .ensures)))))

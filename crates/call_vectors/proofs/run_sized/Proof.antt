@@ -29,10 +29,6 @@ run-sized-spec =
     (λ c. sym (length-take-le _ _ (c .before .before .before .before .if4 .left)))
     -- run-case-requires
     (λ c κs. search needs)
-    -- slice-aggregate-print-word
-    (λ c. search needs)
-    -- print-word-requires
-    (λ c κs. search needs)
     -- same-length
     (λ c. search needs)
     -- returns-5

@@ -45,7 +45,7 @@ read-line-spec =
     -- enum-known-section
     (λ c. search needs)
     -- returns-4
-    (λ c. read-clashed _ _ _ _ _ (c .before .before .before .before .before .before .before .before .before .before .before .before .before .before .before .pre .1) (c .before .before .before .before .before .before .before .before .before .before .before .before .before .before .before .pre .2) (let l = c .before .before .before .before .before .before .before .before .before .before .before .before .if1 .left in omega arith) _ _ _ _ refl (c .before .before .before .before .before .before .before .before .before .before .byte-at .ensures) (c .before .before .before .before .before .before .before .before .before .byte-at2 .ensures) (c .before .before .before .before .before .before .before .before .byte-at3 .ensures) (c .before .before .before .before .before .before .before .if2 .left) _ (clash-in _ _ _ _ (path-clash (c .before .before .before .find-clash .result) _ _ (c .before .before .before .find-clash .ensures)) (one-said _ _ (c .before .before .before .before .before .before .before .before .before .before .before .before .before .before .before .pre .0))) _ (ap lineOf (c .before .section .given .1)))
+    (λ c. read-clashed _ _ _ _ _ (c .before .before .before .before .before .before .before .before .before .before .before .before .before .before .before .pre .1) (c .before .before .before .before .before .before .before .before .before .before .before .before .before .before .before .pre .2) (let l = c .before .before .before .before .before .before .before .before .before .before .before .before .if1 .left in omega arith) _ _ _ _ refl (c .before .before .before .before .before .before .before .before .before .before .byte-at .ensures) (c .before .before .before .before .before .before .before .before .before .byte-at2 .ensures) (c .before .before .before .before .before .before .before .before .byte-at3 .ensures) (c .before .before .before .before .before .before .before .if2 .left) _ (clash-in _ _ _ _ (path-clash (c .before .before .before .find-clash .result) _ (c .before .before .before .before .before .before .before .before .before .before .before .before .before .before .before .args .t6) (c .before .before .before .find-clash .ensures)) (one-said _ _ (c .before .before .before .before .before .before .before .before .before .before .before .before .before .before .before .pre .0))) _ (ap lineOf (c .before .section .given .1)))
     -- enum-told
     (λ c. search needs)
     -- rule-numbered-requires

@@ -4,7 +4,8 @@ use native.Mathlib.Omega.{arith}
 use borrow.Author.Needs.{needs}
 use borrow.Author.Tests.{not-true, not-false}
 use mathlib.Core.Path.{sym, ap, _∙_}
-use lib.ListN.{length, replicate, length-replicate}
+use mathlib.Core.List.{List}
+use lib.ListN.{length, replicate}
 use Rattle.drawing.proofs.Longest.{text-longest}
 use Rattle.dot.proofs.Answers.{answer-unformed, answer-short, answer-written, drawn-length, drawn-blank, drawn-size}
 use Rattle.dot.proofs.dot.Statement.{statement}
@@ -19,26 +20,44 @@ dot-spec =
     -- is-well-formed-requires
     (λ c κs. search needs)
     -- same-length
-    (λ c. ap length (c .before .before .before .before .clear .ensures) ∙ length-replicate (length (c .before .before .before .before .before .before .before .before .args .text .now)) 0)
+    (λ c. search needs)
     -- returns
-    (λ c. answer-unformed (c .before .before .before .before .before .before .before .before .args .report .now) _ (length (c .before .before .before .before .before .before .before .before .args .text .now)) (sym (c .before .is-well-formed .ensures) ∙ not-true _ (c .if1 .taken)) (c .before .before .before .before .clear .ensures))
+    (λ c.
+    let start = c .before .before .before .before .before .before .before .before in
+    let cleared = c .before .before .before .before .clear in
+    answer-unformed (start .args .report .now) _ (length (start .args .text .now)) (sym (c .before .is-well-formed .ensures) ∙ not-true _ (c .if1 .taken)) (cleared .ensures))
     -- draw-requires
     (λ c κs.
+    let start = c .before .before .before .before .before .before .before .before .before in
+    let known = c .before .before .before .before .before .before .before .before .shared-slice-known in
     let formed = sym (c .before .before .is-well-formed .ensures) ∙ not-false _ (c .before .if1 .left) in
-    omega (arith, text-longest (c .before .before .before .before .before .before .before .before .before .args .report .now) (record { formed = formed; below = λ i. omega (arith, c .before .before .before .before .before .before .before .before .shared-slice-known .given i) })))
+    omega (arith, text-longest (start .args .report .now) (record { formed = formed; below = λ i. omega (arith, known .given i) })))
     -- clear-requires-2
     (λ c κs. search needs)
     -- same-length-2
-    (λ c. ap length (c .before .before .clear2 .ensures) ∙ length-replicate (length (c .before .before .before .before .before .before .before .draw .last .1 .0)) 0 ∙ drawn-length (c .before .before .before .before .before .before .before .before .before .before .before .before .before .before .before .before .before .args .report .now) (c .before .before .before .before .before .before .before .before .before .before .before .before .before .before .before .before .before .args .text .now) _ _ _ (c .before .before .before .before .before .before .before .before .before .before .before .before .before .clear .ensures) (c .before .before .before .before .before .before .before .draw .ensures))
+    (λ c. search needs)
     -- returns-2
     (λ c.
-    let long = drawn-length (c .before .before .before .before .before .before .before .before .before .before .before .before .before .before .before .before .before .args .report .now) (c .before .before .before .before .before .before .before .before .before .before .before .before .before .before .before .before .before .args .text .now) _ _ _ (c .before .before .before .before .before .before .before .before .before .before .before .before .before .clear .ensures) (c .before .before .before .before .before .before .before .draw .ensures) in
-    let size = drawn-size (c .before .before .before .before .before .before .before .before .before .before .before .before .before .before .before .before .before .args .report .now) (c .before .before .before .before .before .before .before .before .before .before .before .before .before .before .before .before .before .args .text .now) _ _ _ (c .before .before .before .before .before .before .before .before .before .before .before .before .before .clear .ensures) (c .before .before .before .before .before .before .before .draw .ensures) in
-    answer-short (c .before .before .before .before .before .before .before .before .before .before .before .before .before .before .before .before .before .args .report .now) _ (length (c .before .before .before .before .before .before .before .before .before .before .before .before .before .before .before .before .before .args .text .now)) (sym (c .before .before .before .before .before .before .before .before .before .before .is-well-formed .ensures) ∙ not-false _ (c .before .before .before .before .before .before .before .before .before .if1 .left)) (omega (arith, long, size, c .before .before .before .before .if2 .taken)) (c .before .before .clear2 .ensures ∙ ap (λ (k : ℕ). replicate k 0) long))
+    let start = c .before .before .before .before .before .before .before .before .before .before .before .before .before .before .before .before .before in
+    let report : List ℕ = start .args .report .now in
+    let text : List ℕ = start .args .text .now in
+    let cleared = c .before .before .before .before .before .before .before .before .before .before .before .before .before .clear in
+    let tested = c .before .before .before .before .before .before .before .before .before .before .is-well-formed in
+    let formed = sym (tested .ensures) ∙ not-false _ (c .before .before .before .before .before .before .before .before .before .if1 .left) in
+    let drawn = c .before .before .before .before .before .before .before .draw in
+    let long = drawn-length report text _ _ _ (cleared .ensures) (drawn .ensures) in
+    let size = drawn-size report text _ _ _ (cleared .ensures) (drawn .ensures) in
+    answer-short report _ (length text) formed (omega (arith, long, size, c .before .before .before .before .if2 .taken)) (c .before .before .clear2 .ensures ∙ ap (λ (k : ℕ). replicate k 0) long))
     -- same-length-3
-    (λ c. drawn-length (c .before .before .before .before .before .before .before .before .before .before .before .before .before .args .report .now) (c .before .before .before .before .before .before .before .before .before .before .before .before .before .args .text .now) _ _ _ (c .before .before .before .before .before .before .before .before .before .clear .ensures) (c .before .before .before .draw .ensures))
+    (λ c. search needs)
     -- returns-3
     (λ c.
-    let long = drawn-length (c .before .before .before .before .before .before .before .before .before .before .before .before .before .args .report .now) (c .before .before .before .before .before .before .before .before .before .before .before .before .before .args .text .now) _ _ _ (c .before .before .before .before .before .before .before .before .before .clear .ensures) (c .before .before .before .draw .ensures) in
-    let size = drawn-size (c .before .before .before .before .before .before .before .before .before .before .before .before .before .args .report .now) (c .before .before .before .before .before .before .before .before .before .before .before .before .before .args .text .now) _ _ _ (c .before .before .before .before .before .before .before .before .before .clear .ensures) (c .before .before .before .draw .ensures) in
-    answer-written (c .before .before .before .before .before .before .before .before .before .before .before .before .before .args .report .now) _ (length (c .before .before .before .before .before .before .before .before .before .before .before .before .before .args .text .now)) _ (sym (c .before .before .before .before .before .before .is-well-formed .ensures) ∙ not-false _ (c .before .before .before .before .before .if1 .left)) (omega (arith, long, size, c .if2 .left)) (drawn-blank (c .before .before .before .before .before .before .before .before .before .before .before .before .before .args .report .now) (c .before .before .before .before .before .before .before .before .before .before .before .before .before .args .text .now) _ _ _ (c .before .before .before .before .before .before .before .before .before .clear .ensures) (c .before .before .before .draw .ensures))))
+    let start = c .before .before .before .before .before .before .before .before .before .before .before .before .before in
+    let report : List ℕ = start .args .report .now in
+    let text : List ℕ = start .args .text .now in
+    let cleared = c .before .before .before .before .before .before .before .before .before .clear in
+    let formed = sym (c .before .before .before .before .before .before .is-well-formed .ensures) ∙ not-false _ (c .before .before .before .before .before .if1 .left) in
+    let drawn = c .before .before .before .draw in
+    let long = drawn-length report text _ _ _ (cleared .ensures) (drawn .ensures) in
+    let size = drawn-size report text _ _ _ (cleared .ensures) (drawn .ensures) in
+    answer-written report _ (length text) _ formed (omega (arith, long, size, c .if2 .left)) (drawn-blank report text _ _ _ (cleared .ensures) (drawn .ensures))))

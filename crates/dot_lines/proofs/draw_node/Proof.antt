@@ -30,15 +30,29 @@ module _ (report : List ℕ) (v : ℕ) where
 
 -- draw-terms-requires
 draw-terms-requires : tie.Need-draw-terms-requires
-draw-terms-requires c κs = omega (arith, c .before .before .before .before .before .before .before .before .before .before .pre .1, c .before .before .before .add .ensures .ends, sizes (c .before .before .before .before .before .before .before .before .before .before .args .report .now) (c .before .before .before .before .before .before .before .before .before .before .args .v) _ (c .before .before .before .before .before .before .before .datum-in .ensures))
+draw-terms-requires c κs =
+    let start = c .before .before .before .before .before .before .before .before .before .before in
+    let read = c .before .before .before .before .before .before .before .datum-in in
+    omega (arith, start .pre .1, c .before .before .before .add .ensures .ends, sizes (start .args .report .now) (start .args .v .0) _ (read .ensures))
 
 -- add-requires-2
 add-requires-2 : tie.Need-add-requires-2
-add-requires-2 c κs = omega (arith, c .before .before .before .before .before .before .before .before .before .before .before .before .before .before .before .before .pre .1, c .before .before .before .before .before .before .before .before .before .add .ensures .ends, c .before .before .before .before .before .draw-terms .ensures .ends, sizes (c .before .before .before .before .before .before .before .before .before .before .before .before .before .before .before .before .args .report .now) (c .before .before .before .before .before .before .before .before .before .before .before .before .before .before .before .before .args .v) _ (c .before .before .before .before .before .before .before .before .before .before .before .before .before .datum-in .ensures))
+add-requires-2 c κs =
+    let start = c .before .before .before .before .before .before .before .before .before .before .before .before .before .before .before .before in
+    let first = c .before .before .before .before .before .before .before .before .before .add in
+    let terms = c .before .before .before .before .before .draw-terms in
+    let read = c .before .before .before .before .before .before .before .before .before .before .before .before .before .datum-in in
+    omega (arith, start .pre .1, first .ensures .ends, terms .ensures .ends, sizes (start .args .report .now) (start .args .v .0) _ (read .ensures))
 
 -- returns
 returns : tie.Need-returns
-returns c = writes-as (parts (c .before .before .before .before .before .before .before .before .before .before .before .before .before .before .before .before .before .before .before .args .report .now) (c .before .before .before .before .before .before .before .before .before .before .before .before .before .before .before .before .before .before .before .args .v) _ (c .before .before .before .before .before .before .before .before .before .before .before .before .before .before .before .before .datum-in .ensures)) (writes-then (c .before .before .before .before .before .before .before .before .before .before .before .before .add .ensures) (writes-then (c .before .before .before .before .before .before .before .before .draw-terms .ensures) (c .before .before .add2 .ensures)))
+returns c =
+    let start = c .before .before .before .before .before .before .before .before .before .before .before .before .before .before .before .before .before .before .before in
+    let first = c .before .before .before .before .before .before .before .before .before .before .before .before .add in
+    let terms = c .before .before .before .before .before .before .before .before .draw-terms in
+    let read = c .before .before .before .before .before .before .before .before .before .before .before .before .before .before .before .before .datum-in in
+    writes-as (parts (start .args .report .now) (start .args .v .0) _ (read .ensures))
+    (writes-then (first .ensures) (writes-then (terms .ensures) (c .before .before .add2 .ensures)))
 
 pub draw-node-spec : {M : Type 1} → statement M
 draw-node-spec =

@@ -12,11 +12,16 @@ use Rattle.dot_lines.proofs.draw_term.Tie as tie
 
 -- returns
 returns : tie.Need-returns
-returns c = rw (c .before .before .before .before .before .before .if1 .taken) (writes-as (append-nil (decimal (c .before .before .before .before .before .before .before .before .args .t))) (c .before .before .add .ensures))
+returns c =
+    let start = c .before .before .before .before .before .before .before .before in
+    rw (c .before .before .before .before .before .before .if1 .taken) (writes-as (append-nil (decimal (start .args .t .0))) (c .before .before .add .ensures))
 
 -- returns-2
 returns-2 : tie.Need-returns-2
-returns-2 c = rw (c .before .before .before .before .before .before .if1 .left) (writes-as (ap (λ (xs : List ℕ). blank false ++ xs) (append-nil (decimal (c .before .before .before .before .before .before .before .before .args .t)))) (c .before .before .add2 .ensures))
+returns-2 c =
+    let start = c .before .before .before .before .before .before .before .before in
+    let came = c .before .before .before .before .before .before .if1 in
+    rw (came .left) (writes-as (ap (λ (xs : List ℕ). blank false ++ xs) (append-nil (decimal (start .args .t .0)))) (c .before .before .add2 .ensures))
 
 pub draw-term-spec : {M : Type 1} → statement M
 draw-term-spec =

@@ -20,26 +20,30 @@ abbrev named : List ℕ → ℕ → ℕ → Bool
 named report v t = eqb (nodeIn report t) v
 
 abbrev Inv-loop : tie.InvT-loop
-Inv-loop report out₀ fill v n to₀ first₀ end t₀ out to first t =
-    Part out₀ fill (listed true (termsAt report v)) out to (terms (named report v) (countIn report) first t)
+Inv-loop out₀ fill report v n to₀ first₀ end t₀ out to first t =
+    Part out₀ fill (listed true (termsAt report (v .0))) out to (terms (named report (v .0)) (countIn report) first t)
 
 abbrev μ-loop : tie.MeasureT-loop
-μ-loop report out₀ fill v n to₀ first₀ end t₀ out to first t = n + 1 - t
+μ-loop out₀ fill report v n to₀ first₀ end t₀ out to first t = n + 1 - t
 
 -- loop-holds
 loop-holds : tie.Need-loop-holds Inv-loop μ-loop
 unfolding termsAt
-loop-holds c = part-start _ _ (terms-all (named (c .before .before .before .args .report .now) (c .before .before .before .args .v)) (countIn (c .before .before .before .args .report .now)))
+loop-holds c =
+    let start = c .before .before .before in
+    part-start _ _ (terms-all (named (start .args .report .now) (start .args .v .0)) (countIn (start .args .report .now)))
 
 -- draw-term-requires
 draw-term-requires : tie.Need-draw-term-requires Inv-loop μ-loop
 draw-term-requires c κs =
-    let q : ℕ → Bool = named (c .before .before .before .before .before .before .before .before .args .report .now) (c .before .before .before .before .before .before .before .before .args .v) in
-    let n : ℕ = countIn (c .before .before .before .before .before .before .before .before .args .report .now) in
-    let first : Bool = c .before .before .before .before .loop .first in
-    let t : ℕ = c .before .before .before .before .loop .t in
-    let here = terms-here q n first t (omega (arith, c .before .before .before .before .before .count-in .ensures .0)) (eq-eqb _ _ (sym (c .before .before .node-in .ensures) ∙ c .before .if1 .left)) in
-    omega (arith, part-room (blank first ++ decimal t) (terms q n false (t + 1)) (c .before .before .before .before .loop .inv) here (c .before .before .before .before .before .before .before .before .pre))
+    let start = c .before .before .before .before .before .before .before .before .before .before in
+    let report : List ℕ = start .args .report .now in
+    let at = c .before .before .before .before .before .before .loop in
+    let count = c .before .before .before .before .before .before .before .count-in in
+    let node = c .before .before .before .before .node-in in
+    let q : ℕ → Bool = named report (start .args .v .0) in
+    let here = terms-here q (countIn report) (at .first) (at .t) (omega (arith, count .ensures .0)) (eq-eqb _ _ (sym (node .ensures) ∙ c .before .if1 .left)) in
+    omega (arith, part-room (blank (at .first) ++ decimal (at .t)) (terms q (countIn report) false (at .t + 1)) (at .inv) here (start .pre))
 
 pub draw-terms-spec : {M : Type 1} → statement M
 draw-terms-spec =
@@ -60,8 +64,13 @@ draw-terms-spec =
     (λ c. omega arith)
     -- loop-again
     (λ c.
-    part-skip (c .before .before .before .loop .inv)
-    (terms-skip (named (c .before .before .before .before .before .before .before .args .report .now) (c .before .before .before .before .before .before .before .args .v)) (countIn (c .before .before .before .before .before .before .before .args .report .now)) (c .before .before .before .loop .first) (c .before .before .before .loop .t) (omega (arith, c .before .before .before .before .count-in .ensures .0)) (ne-eqb _ _ (λ e. c .if1 .taken (c .before .node-in .ensures ∙ e)))))
+    let start = c .before .before .before .before .before .before .before .before .before in
+    let report : List ℕ = start .args .report .now in
+    let q : ℕ → Bool = named report (start .args .v .0) in
+    let at = c .before .before .before .before .before .loop in
+    let count = c .before .before .before .before .before .before .count-in in
+    let node = c .before .before .before .node-in in
+    part-skip (at .inv) (terms-skip q (countIn report) (at .first) (at .t) (omega (arith, count .ensures .0)) (ne-eqb _ _ (λ e. c .if1 .taken (node .ensures ∙ e)))))
     draw-term-requires
     -- add-t-2
     (λ c. omega arith)
@@ -69,10 +78,19 @@ draw-terms-spec =
     (λ c. omega arith)
     -- loop-again-2
     (λ c.
-    part-more (c .before .before .before .before .before .before .before .loop .inv)
-    (terms-here (named (c .before .before .before .before .before .before .before .before .before .before .before .args .report .now) (c .before .before .before .before .before .before .before .before .before .before .before .args .v)) (countIn (c .before .before .before .before .before .before .before .before .before .before .before .args .report .now)) (c .before .before .before .before .before .before .before .loop .first) (c .before .before .before .before .before .before .before .loop .t) (omega (arith, c .before .before .before .before .before .before .before .before .count-in .ensures .0)) (eq-eqb _ _ (sym (c .before .before .before .before .before .node-in .ensures) ∙ c .before .before .before .before .if1 .left)))
-    (c .before .before .draw-term .ensures))
+    let start = c .before .before .before .before .before .before .before .before .before .before .before .before .before in
+    let at = c .before .before .before .before .before .before .before .before .before .loop in
+    let report : List ℕ = start .args .report .now in
+    let q : ℕ → Bool = named report (start .args .v .0) in
+    let count = c .before .before .before .before .before .before .before .before .before .before .count-in in
+    let node = c .before .before .before .before .before .before .before .node-in in
+    part-more (at .inv)
+    (terms-here q (countIn report) (at .first) (at .t) (omega (arith, count .ensures .0)) (eq-eqb _ _ (sym (node .ensures) ∙ c .before .before .before .before .if1 .left))) (c .before .before .draw-term .ensures))
     -- same-length
     (λ c. part-length (c .before .loop .inv))
     -- returns
-    (λ c. part-all (c .before .loop .inv) (terms-end (named (c .before .before .before .before .before .args .report .now) (c .before .before .before .before .before .args .v)) (countIn (c .before .before .before .before .before .args .report .now)) (c .before .loop .first) (c .before .loop .t) (omega (arith, c .before .before .count-in .ensures .0)))))
+    (λ c.
+    let start = c .before .before .before .before .before in
+    let report : List ℕ = start .args .report .now in
+    let q : ℕ → Bool = named report (start .args .v .0) in
+    part-all (c .before .loop .inv) (terms-end q (countIn report) (c .before .loop .first) (c .before .loop .t) (omega (arith, c .before .before .count-in .ensures .0)))))

@@ -27,10 +27,13 @@ applies-spec =
     (λ c.
     let a = c .before .before .before .before .before .before .before .before .before .before .before .before .args in
     let h = sym (c .before .before .before .before .before .is-not-cycle .ensures) ∙ c .before .before .before .before .if1 .taken in
-    applies-halves (a .n) (a .t1) _ _ (c .before .before .before .before .before .before .before .before .before .rows-of .ensures) (c .before .before .before .before .before .before .rows-of2 .ensures) (kindOf (a .rule)) _ _ _ h _ (c .is-allowed .ensures (live (a .n) (pathOf (a .t1))) (c .before .before .before .is-live .ensures) h))
+    applies-halves (a .n) (a .t1) _ _ (c .before .before .before .before .before .before .before .before .before .rows-of .ensures)
+    (c .before .before .before .before .before .before .rows-of2 .ensures) (kindOf (a .rule)) _ _ _ h _
+    (c .is-allowed .ensures (live (a .n) (pathOf (a .t1))) (c .before .before .before .is-live .ensures) h))
     -- is-round-requires
     (λ c κs. search needs)
     -- returns-2
     (λ c.
     let a = c .before .before .before .before .before .before .before .before .before .before .before .args in
-    applies-cycle (a .n) (a .t1) _ _ (c .before .before .before .before .before .before .before .before .rows-of .ensures) (c .before .before .before .before .before .rows-of2 .ensures) (kindOf (a .rule)) _ (sym (c .before .before .before .before .is-not-cycle .ensures) ∙ c .before .before .before .if1 .left) _ (c .is-round .ensures (live (a .n) (pathOf (a .t1))))))
+    applies-cycle (a .n) (a .t1) _ _ (c .before .before .before .before .before .before .before .before .rows-of .ensures) (c .before .before .before .before .before .rows-of2 .ensures)
+    (kindOf (a .rule)) _ (sym (c .before .before .before .before .is-not-cycle .ensures) ∙ c .before .before .before .if1 .left) _ (c .is-round .ensures (live (a .n) (pathOf (a .t1))))))

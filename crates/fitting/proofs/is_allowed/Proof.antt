@@ -14,75 +14,95 @@ is-allowed-spec =
     (tie.spec
     -- enum-told
     (λ c. search needs)
-    -- is-held-requires
+    -- holds-requires
     (λ c κs. search needs)
     -- enum-told-2
     (λ c. search needs)
-    -- is-held-requires-2
+    -- holds-requires-2
     (λ c κs. search needs)
-    -- is-held-requires-3
+    -- holds-requires-3
     (λ c κs. search needs)
     -- enum-told-3
     (λ c. search needs)
-    -- is-held-requires-4
+    -- holds-requires-4
     (λ c κs. search needs)
-    -- is-held-requires-5
+    -- holds-requires-5
     (λ c κs. search needs)
-    -- is-held-requires-6
+    -- holds-requires-6
     (λ c κs. search needs)
     -- enum-told-4
     (λ c. search needs)
-    -- is-held-requires-7
+    -- holds-requires-7
     (λ c κs. search needs)
-    -- is-held-requires-8
+    -- holds-requires-8
     (λ c κs. search needs)
-    -- is-held-requires-9
+    -- holds-requires-9
     (λ c κs. search needs)
     -- enum-told-5
     (λ c. search needs)
     -- enum-told-6
     (λ c. search needs)
-    -- is-held-requires-10
+    -- holds-requires-10
     (λ c κs. search needs)
-    -- is-held-requires-11
+    -- holds-requires-11
     (λ c κs. search needs)
-    -- is-held-requires-12
+    -- holds-requires-12
     (λ c κs. search needs)
-    -- is-held-requires-13
+    -- holds-requires-13
     (λ c κs. search needs)
     -- enum-told-7
     (λ c. search needs)
-    -- is-held-requires-14
+    -- holds-requires-14
     (λ c κs. search needs)
-    -- is-held-requires-15
+    -- holds-requires-15
     (λ c κs. search needs)
-    -- is-held-requires-16
+    -- holds-requires-16
     (λ c κs. search needs)
-    -- is-held-requires-17
+    -- holds-requires-17
     (λ c κs. search needs)
     -- enum-told-8
     (λ c. search needs)
-    -- is-held-requires-18
+    -- holds-requires-18
     (λ c κs. search needs)
-    -- is-held-requires-19
+    -- holds-requires-19
     (λ c κs. search needs)
-    -- is-held-requires-20
+    -- holds-requires-20
     (λ c κs. search needs)
-    -- is-held-requires-21
+    -- holds-requires-21
     (λ c κs. search needs)
     -- returns
-    (λ c lives e l. reflex-passes lives (graphOf (c .before .before .before .args .link .now) (c .before .before .before .args .reach .now)) _ _ _ _ _ _ (ap kindOf (c .before .enum-told .given .1)) (e) (c .is-held .ensures))
+    (λ c lives e l.
+    let a = c .before .before .before .before .before .args in
+    reflex-passes lives (graphOf (a .link .now) (a .reach .now)) _ _ _ _ _ _ (ap kindOf (c .before .before .before .enum-told .given .1)) (e) (c .before .before .holds .ensures))
     -- returns-2
-    (λ c lives e l. trans1-passes lives (graphOf (c .before .before .before .before .args .link .now) (c .before .before .before .before .args .reach .now)) _ _ _ _ _ _ (ap kindOf (c .before .before .enum-told2 .given .1)) (c .before .is-held2 .ensures) (c .is-held3 .ensures))
+    (λ c lives e l.
+    let a = c .before .before .before .before .before .args in
+    trans1-passes lives (graphOf (a .link .now) (a .reach .now)) _ _ _ _ _ _ (ap kindOf (c .before .before .before .enum-told2 .given .1)) (c .before .before .holds2 .ensures)
+    (c .before .holds3 .ensures))
     -- returns-3
-    (λ c lives e l. trans2-passes lives (graphOf (c .before .before .before .before .before .args .link .now) (c .before .before .before .before .before .args .reach .now)) _ _ _ _ _ _ _ (ap kindOf (c .before .before .before .enum-told3 .given .1)) (c .before .before .is-held4 .ensures) (c .before .is-held5 .ensures) (c .is-held6 .ensures))
+    (λ c lives e l.
+    let a = c .before .before .before .before .before .args in
+    trans2-passes lives (graphOf (a .link .now) (a .reach .now)) _ _ _ _ _ _ _ (ap kindOf (c .before .before .before .enum-told3 .given .1)) (c .before .before .holds4 .ensures)
+    (c .before .holds5 .ensures) (c .holds6 .ensures))
     -- returns-4
-    (λ c lives e l. func-passes lives (graphOf (c .before .before .before .before .before .args .link .now) (c .before .before .before .before .before .args .reach .now)) _ _ _ _ _ _ _ (ap kindOf (c .before .before .before .enum-told4 .given .1)) (c .before .before .is-held7 .ensures) (c .before .is-held8 .ensures) (c .is-held9 .ensures))
+    (λ c lives e l.
+    let a = c .before .before .before .before .before .before .before .args in
+    func-passes lives (graphOf (a .link .now) (a .reach .now)) _ _ _ _ _ _ _ (ap kindOf (c .before .before .before .before .before .enum-told4 .given .1))
+    (c .before .before .before .before .holds7 .ensures) (c .before .before .before .holds8 .ensures) (c .holds9 .ensures))
     -- returns-5
     (λ c lives e l. absurd (cycle-excluded _ (ap kindOf (c .enum-told5 .given .1)) l))
     -- returns-6
-    (λ c lives e l. scc-passes lives (graphOf (c .before .before .before .before .before .before .args .link .now) (c .before .before .before .before .before .before .args .reach .now)) _ _ _ _ _ _ _ _ (ap kindOf (c .before .before .before .before .enum-told6 .given .1)) (c .before .before .before .is-held10 .ensures) (c .before .before .is-held11 .ensures) (c .before .is-held12 .ensures) (c .is-held13 .ensures))
+    (λ c lives e l.
+    let a = c .before .before .before .before .before .before .before .before .args in
+    scc-passes lives (graphOf (a .link .now) (a .reach .now)) _ _ _ _ _ _ _ _ (ap kindOf (c .before .before .before .before .before .before .enum-told6 .given .1))
+    (c .before .before .before .before .before .holds10 .ensures) (c .before .before .before .before .holds11 .ensures) (c .before .holds12 .ensures) (c .holds13 .ensures))
     -- returns-7
-    (λ c lives e l. total-passes lives (graphOf (c .before .before .before .before .before .before .args .link .now) (c .before .before .before .before .before .before .args .reach .now)) _ _ _ _ _ _ _ _ (ap kindOf (c .before .before .before .before .enum-told7 .given .1)) (c .before .before .before .is-held14 .ensures) (c .before .before .is-held15 .ensures) (c .before .is-held16 .ensures) (c .is-held17 .ensures))
+    (λ c lives e l.
+    let a = c .before .before .before .before .before .before .args in
+    total-passes lives (graphOf (a .link .now) (a .reach .now)) _ _ _ _ _ _ _ _ (ap kindOf (c .before .before .before .before .enum-told7 .given .1)) (c .before .before .before .holds14 .ensures)
+    (c .before .before .holds15 .ensures) (c .before .holds16 .ensures) (c .holds17 .ensures))
     -- returns-8
-    (λ c lives e l. share-passes lives (graphOf (c .before .before .before .before .before .before .args .link .now) (c .before .before .before .before .before .before .args .reach .now)) _ _ _ _ _ _ _ _ (ap kindOf (c .before .before .before .before .enum-told8 .given .1)) (c .before .before .before .is-held18 .ensures) (c .before .before .is-held19 .ensures) (c .before .is-held20 .ensures) (c .is-held21 .ensures)))
+    (λ c lives e l.
+    let a = c .before .before .before .before .before .before .before .before .args in
+    share-passes lives (graphOf (a .link .now) (a .reach .now)) _ _ _ _ _ _ _ _ (ap kindOf (c .before .before .before .before .before .before .enum-told8 .given .1))
+    (c .before .before .before .before .before .holds18 .ensures) (c .before .before .before .before .holds19 .ensures) (c .before .holds20 .ensures) (c .holds21 .ensures)))

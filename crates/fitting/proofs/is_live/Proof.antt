@@ -18,4 +18,5 @@ is-live-spec =
     -- wide-requires
     (λ c κs. search needs)
     -- returns-3
-    (λ c. live-here _ (c .before .before .before .before .args .t1) _ (c .before .before .before .before .pre) (c .before .before .before .if1 .left) (c .before .before .if2 .left) _ (c .wide .ensures .0)))
+    (λ c. live-here _ (c .before .before .before .before .args .t1) _ (c .before .before .before .before .pre) (c .before .before .before .if1 .left) (c .before .before .if2 .left) _
+    (c .wide .ensures .0)))

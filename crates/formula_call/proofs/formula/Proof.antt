@@ -20,9 +20,16 @@ formula-spec =
     -- is-order-requires
     (λ c κs. search needs)
     -- same-length
-    (λ c. blank-long _ (length (c .before .before .before .before .before .before .before .before .before .before .args .report .now)) (c .before .before .before .before .clear .ensures))
+    (λ c.
+    let c4 = c .before .before .before .before in
+    let c10 = c4 .before .before .before .before .before .before in
+    blank-long _ (length (c10 .args .report .now)) (c4 .clear .ensures))
     -- returns
-    (λ c. formula-order (c .before .before .before .before .before .before .before .before .before .before .args .order .now) (c .before .before .before .before .before .before .before .before .before .before .args .query .now) (c .before .before .before .before .before .before .before .before .before .before .args .text .now) (c .before .before .before .before .before .before .before .before .before .before .args .report .now) _ (sym (c .before .is-order .ensures) ∙ not-true _ (c .if1 .taken)) (c .before .before .before .before .clear .ensures))
+    (λ c.
+    let c4 = c .before .before .before .before in
+    let c10 = c4 .before .before .before .before .before .before in
+    formula-order (c10 .args .order .now) (c10 .args .query .now) (c10 .args .text .now) (c10 .args .report .now) _ (sym (c .before .is-order .ensures) ∙ not-true _ (c .if1 .taken))
+    (c4 .clear .ensures))
     -- check-requires
     (λ c κs. search needs)
     -- enum-known-k
@@ -30,16 +37,62 @@ formula-spec =
     -- enum-known-layout
     (λ c. search needs)
     -- same-length-2
-    (λ c. blank-long _ (length (c .before .before .before .before .before .before .before .before .before .before .before .before .before .before .before .args .report .now)) (c .before .before .before .before .before .before .before .before .before .clear .ensures))
+    (λ c.
+    let c9 = c .before .before .before .before .before .before .before .before .before in
+    let c15 = c9 .before .before .before .before .before .before in
+    blank-long _ (length (c15 .args .report .now)) (c9 .clear .ensures))
     -- returns-2
-    (λ c. formula-room (c .before .before .before .before .before .before .before .before .before .before .before .before .before .before .before .args .order .now) (c .before .before .before .before .before .before .before .before .before .before .before .before .before .before .before .args .query .now) (c .before .before .before .before .before .before .before .before .before .before .before .before .before .before .before .args .text .now) (c .before .before .before .before .before .before .before .before .before .before .before .before .before .before .before .args .report .now) _ _ (sym (c .before .before .before .before .before .before .is-order .ensures) ∙ not-false _ (c .before .before .before .before .before .if1 .left)) (subst (λ (x : Checked). CheckedAs x (c .before .before .before .before .before .before .before .before .before .before .before .before .before .before .before .args .query .now)) (c .before .before .layout .given .1) (c .before .before .before .before .check .ensures)) (subst (λ (n : ℕ). n < 53) (blank-long _ (length (c .before .before .before .before .before .before .before .before .before .before .before .before .before .before .before .args .report .now)) (c .before .before .before .before .before .before .before .before .before .clear .ensures)) (c .if2 .taken)) (c .before .before .before .before .before .before .before .before .before .clear .ensures))
+    (λ c.
+    let c2 = c .before .before in
+    let c4 = c2 .before .before in
+    let c5 = c4 .before in
+    let c6 = c5 .before in
+    let c9 = c6 .before .before .before in
+    let c15 = c9 .before .before .before .before .before .before in
+    formula-room (c15 .args .order .now) (c15 .args .query .now) (c15 .args .text .now) (c15 .args .report .now) _ _ (sym (c6 .is-order .ensures) ∙ not-false _ (c5 .if1 .left))
+    (subst (λ (x : Checked). CheckedAs x (c15 .args .query .now)) (c2 .layout .given .1) (c4 .check .ensures))
+    (subst (λ (n : ℕ). n < 53) (blank-long _ (length (c15 .args .report .now)) (c9 .clear .ensures)) (c .if2 .taken)) (c9 .clear .ensures))
     -- decide-text-requires
-    (λ c κs. ((subst (λ (x : Checked). CheckedAs x (c .before .before .before .before .before .before .before .before .before .before .before .before .before .before .before .before .args .query .now)) (c .before .before .before .layout .given .1) (c .before .before .before .before .before .check .ensures)) .1, blank-again _ (length (c .before .before .before .before .before .before .before .before .before .before .before .before .before .before .before .before .args .report .now)) (c .before .before .before .before .before .before .before .before .before .before .clear .ensures)))
+    (λ c κs.
+    let c3 = c .before .before .before in
+    let c5 = c3 .before .before in
+    let c10 = c5 .before .before .before .before .before in
+    let c16 = c10 .before .before .before .before .before .before in
+    ((subst (λ (x : Checked). CheckedAs x (c16 .args .query .now)) (c3 .layout .given .1) (c5 .check .ensures)) .1, blank-again _ (length (c16 .args .report .now)) (c10 .clear .ensures)))
     -- same-length-3
-    (λ c. blank-long _ (length (c .before .before .before .before .before .before .before .before .before .before .before .before .before .before .args .report .now)) (c .before .before .before .before .before .before .before .before .clear .ensures))
+    (λ c.
+    let c8 = c .before .before .before .before .before .before .before .before in
+    let c14 = c8 .before .before .before .before .before .before in
+    blank-long _ (length (c14 .args .report .now)) (c8 .clear .ensures))
     -- returns-3
-    (λ c. formula-query (c .before .before .before .before .before .before .before .before .before .before .before .before .before .before .args .order .now) (c .before .before .before .before .before .before .before .before .before .before .before .before .before .before .args .query .now) (c .before .before .before .before .before .before .before .before .before .before .before .before .before .before .args .text .now) (c .before .before .before .before .before .before .before .before .before .before .before .before .before .before .args .report .now) _ _ _ (sym (c .before .before .before .before .before .is-order .ensures) ∙ not-false _ (c .before .before .before .before .if1 .left)) (subst (λ (x : Checked). CheckedAs x (c .before .before .before .before .before .before .before .before .before .before .before .before .before .before .args .query .now)) (c .before .k .given .1) (c .before .before .before .check .ensures)) (c .before .before .before .before .before .before .before .before .clear .ensures))
+    (λ c.
+    let c3 = c .before .before .before in
+    let c4 = c3 .before in
+    let c5 = c4 .before in
+    let c8 = c5 .before .before .before in
+    let c14 = c8 .before .before .before .before .before .before in
+    formula-query (c14 .args .order .now) (c14 .args .query .now) (c14 .args .text .now) (c14 .args .report .now) _ _ _ (sym (c5 .is-order .ensures) ∙ not-false _ (c4 .if1 .left))
+    (subst (λ (x : Checked). CheckedAs x (c14 .args .query .now)) (c .before .k .given .1) (c3 .check .ensures)) (c8 .clear .ensures))
     -- same-length-4
-    (λ c. c .before .before .decide-text .kept .1 .1 .1 .1 .0 ∙ blank-long _ (length (c .before .before .before .before .before .before .before .before .before .before .before .before .before .before .before .before .before .before .before .args .report .now)) (c .before .before .before .before .before .before .before .before .before .before .before .before .before .clear .ensures))
+    (λ c.
+    let c2 = c .before .before in
+    let c13 = c2 .before .before .before .before .before .before .before .before .before .before .before in
+    let c19 = c13 .before .before .before .before .before .before in
+    c2 .decide-text .kept .1 .1 .1 .1 .0 ∙ blank-long _ (length (c19 .args .report .now)) (c13 .clear .ensures))
     -- returns-4
-    (λ c. formula-text (c .before .before .before .before .before .before .before .before .before .before .before .before .before .before .before .before .before .before .before .args .order .now) (c .before .before .before .before .before .before .before .before .before .before .before .before .before .before .before .before .before .before .before .args .query .now) (c .before .before .before .before .before .before .before .before .before .before .before .before .before .before .before .before .before .before .before .args .text .now) (c .before .before .before .before .before .before .before .before .before .before .before .before .before .before .before .before .before .before .before .args .report .now) _ _ (c .before .before .decide-text .result) (sym (c .before .before .before .before .before .before .before .before .before .before .is-order .ensures) ∙ not-false _ (c .before .before .before .before .before .before .before .before .before .if1 .left)) (subst (λ (x : Checked). CheckedAs x (c .before .before .before .before .before .before .before .before .before .before .before .before .before .before .before .before .before .before .before .args .query .now)) (c .before .before .before .before .before .before .layout .given .1) (c .before .before .before .before .before .before .before .before .check .ensures)) (subst (λ (n : ℕ). 53 ≤ n) (blank-long _ (length (c .before .before .before .before .before .before .before .before .before .before .before .before .before .before .before .before .before .before .before .args .report .now)) (c .before .before .before .before .before .before .before .before .before .before .before .before .before .clear .ensures)) (c .before .before .before .before .if2 .left)) (text-room (c .before .before .before .before .before .before .before .before .before .before .before .before .before .before .before .before .before .before .before .args .order .now) (c .before .before .before .before .before .before .before .before .before .before .before .before .before .before .before .before .before .before .before .args .query .now) (c .before .before .before .before .before .before .before .before .before .before .before .before .before .before .before .before .before .before .before .args .text .now) (c .before .before .before .before .before .before .before .before .before .before .before .before .before .clear .last .0) (c .before .before .before .before .before .before .before .before .before .before .before .before .before .before .before .before .before .before .before .args .report .now) (c .before .before .decide-text .last .1 .1 .1 .1 .0) (c .before .before .decide-text .result) (blank-long _ (length (c .before .before .before .before .before .before .before .before .before .before .before .before .before .before .before .before .before .before .before .args .report .now)) (c .before .before .before .before .before .before .before .before .before .before .before .before .before .clear .ensures)) (c .before .before .decide-text .ensures))))
+    (λ c.
+    let c2 = c .before .before in
+    let c4 = c2 .before .before in
+    let c6 = c4 .before .before in
+    let c8 = c6 .before .before in
+    let c9 = c8 .before in
+    let c10 = c9 .before in
+    let c13 = c10 .before .before .before in
+    let c19 = c13 .before .before .before .before .before .before in
+    let report = c19 .args .report .now in
+    let query = c19 .args .query .now in
+    let decide-text = c2 .decide-text in
+    formula-text (c19 .args .order .now) query (c19 .args .text .now) report _ _ (decide-text .result) (sym (c10 .is-order .ensures) ∙ not-false _ (c9 .if1 .left))
+    (subst (λ (x : Checked). CheckedAs x query) (c6 .layout .given .1) (c8 .check .ensures)) (subst (λ (n : ℕ). 53 ≤ n) (blank-long _ (length report) (c13 .clear .ensures)) (c4 .if2 .left))
+    (text-room (c19 .args .order .now) query (c19 .args .text .now) (c13 .clear .last .0) report (decide-text .last .1 .1 .1 .1 .0) (decide-text .result)
+    (blank-long _ (length report) (c13 .clear .ensures)) (decide-text .ensures))))

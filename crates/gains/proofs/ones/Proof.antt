@@ -1,8 +1,9 @@
--- A word has no more bits than its width. Assumes nothing.
+-- The bits of the word are counted, of which it has no more than its width. Assumes nothing.
 use borrow.Author.Needs.{needs}
 use native.Mathlib.Omega.{arith}
 use lib.Bits.{bitAnd, and-le-l}
 use lib.Count.{ones-le}
+use Rattle.gains.proofs.Counts.{ones-up-to}
 use Rattle.gains.proofs.ones.Statement.{statement}
 use Rattle.gains.proofs.ones.Tie as tie
 
@@ -15,4 +16,4 @@ ones-spec =
     -- cast-result
     (λ c. let l = c .before .fits .row .fits in let m = and-le-l (c .before .args .row) (c .up-to .result) in record { fits = omega (arith, ones-le 32 (bitAnd (c .before .args .row) (c .up-to .result)) (omega arith)) })
     -- returns
-    (λ c. search needs))
+    (λ c. ones-up-to (c .before .args .row) (c .up-to .result) (c .before .fits .row .fits) (c .up-to .ensures)))

@@ -9,7 +9,10 @@ use Rattle.report_reader.proofs.datum_in.Tie as tie
 
 returns : tie.Need-returns
 unfolding datumIn
-returns c = c .byte-at .ensures .0 ∙ ap₂ (λ (m n : ℕ). getD (c .before .before .before .before .args .report .now) (m + n + 2 + c .before .before .before .before .args .v) 0) (c .before .before .size-in .ensures .0) (c .before .count-in .ensures .0)
+returns c =
+    let start = c .before .before .before .before .before in
+    c .byte-at .ensures .0
+    ∙ ap₂ (λ (m n : ℕ). getD (start .args .report .now) (m + n + 2 + start .args .v .0) 0) (c .before .before .before .size-in .ensures .0) (c .before .before .count-in .ensures .0)
 
 pub datum-in-spec : {M : Type 1} → statement M
 datum-in-spec =

@@ -9,7 +9,9 @@ use Rattle.report_reader.proofs.node_in.Tie as tie
 
 returns : tie.Need-returns
 unfolding nodeIn
-returns c = c .byte-at .ensures .0 ∙ ap (λ (k : ℕ). getD (c .before .before .before .args .report .now) (k + 1 + c .before .before .before .args .t) 0) (c .before .size-in .ensures .0)
+returns c =
+    let start = c .before .before .before .before in
+    c .byte-at .ensures .0 ∙ ap (λ (k : ℕ). getD (start .args .report .now) (k + 1 + start .args .t .0) 0) (c .before .before .size-in .ensures .0)
 
 pub node-in-spec : {M : Type 1} → statement M
 node-in-spec =

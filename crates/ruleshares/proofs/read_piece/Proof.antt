@@ -1,12 +1,10 @@
 -- A read that fills the space, which is not empty, reads something. Assumes nothing.
 use borrow.Author.Needs.{needs}
-use borrow.Author.Tests.{ltb-false}
 use borrow.Rule.Slice.PartMut.{take-put}
 use native.Mathlib.Omega.{arith}
 use Prim.Native.Nat.{_-_}
-use mathlib.Core.Path.{refl, sym}
-use mathlib.Core.Bool.{false≢true}
 use lib.ListN.{length}
+use Rattle.sharing.proofs.Loops.{reads-none, reads-piece}
 use Rattle.ruleshares.proofs.read_piece.Statement.{statement}
 use Rattle.ruleshares.proofs.read_piece.Tie as tie
 
@@ -15,7 +13,7 @@ read-piece-spec =
     tie.close
     (tie.spec
     -- returns
-    (λ c. (omega arith, omega arith, (λ e. absurd (false≢true (sym e))), refl))
+    (λ c. reads-none _ _ (c .before .before .pre) (c .if1 .taken))
     -- sub-space
     (λ c. search needs)
     -- sub-read-full
@@ -31,4 +29,6 @@ read-piece-spec =
     -- same-length
     (λ c. search needs)
     -- returns-2
-    (λ c. (omega arith, search needs, (λ e. omega (arith, ltb-false (c .before .before .read-full .result) (length (c .before .before .before .before .before .before .args .input .now) - c .before .before .before .before .before .before .args .kept) e)), take-put (c .before .before .before .before .before .before .args .kept) (length (c .before .before .before .before .before .before .args .input .now) - c .before .before .before .before .before .before .args .kept) (c .before .before .before .before .before .before .args .input .now) (c .before .before .read-full .last .1 .0) (omega arith))))
+    (λ c. let d = c .before .before .before .before .before .before in let bytes = d .args .input .now in let kept = d .args .kept in
+    reads-piece bytes kept (omega arith) _ (c .before .before .read-full .result) (c .before .before .before .before .if1 .left) (search needs)
+    (take-put kept (length bytes - kept) bytes (c .before .before .read-full .last .1 .0) (omega arith)) (search needs)))

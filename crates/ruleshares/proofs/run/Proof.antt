@@ -1,20 +1,21 @@
--- Where another piece is read, there is room for it. Assumes nothing.
+-- The rounds so far have gone on from the start to where the program stands. Assumes nothing.
 use borrow.Author.Needs.{needs}
-use Prim.Native.Nat.{_<_}
+use Prim.Native.Nat.{_+_, _-_, _<_, _≤_}
 use native.Mathlib.Omega.{arith}
-use mathlib.Core.Path.{_≡_, sym}
-use lib.ListN.{length, length-take}
-use lib.Seq.{length-take-le}
-use borrow.Author.Tests.{not-false}
-use Rattle.sharing.proofs.Runs.{room-left}
+use mathlib.Core.Path.{_≡_, refl, subst}
+use lib.ListN.{length, take}
+use borrow.Author.Tests.{not-true, not-false}
+use Rattle.sharing.proofs.Loops.{Gone, gone-none, gone-more, ran-last, never-more}
 use Rattle.ruleshares.proofs.run.Statement.{statement}
 use Rattle.ruleshares.proofs.run.Tie as tie
 
 abbrev Inv-loop : tie.InvT-loop
-Inv-loop input₀ text₀ tally₀ kept₀ ended₀ left₀ input text tally kept ended left = (0 < left → kept < 65536) × (length input ≡ 65536) × (length text ≡ 65536)
+Inv-loop input₀ text₀ stands₀ left₀ input text stands left =
+    (left ≤ 18446744073709551615) × (stands .kept < 65536) × (length input ≡ 65536) × (length text ≡ 65536)
+    × Gone (stands .tally .counts) (take (stands .kept) input) (stands .ended) (18446744073709551615 - left)
 
 abbrev μ-loop : tie.MeasureT-loop
-μ-loop input₀ text₀ tally₀ kept₀ ended₀ left₀ input text tally kept ended left = left
+μ-loop input₀ text₀ stands₀ left₀ input text stands left = left
 
 pub run-spec : {M : Type 1} → statement M
 run-spec =
@@ -25,21 +26,16 @@ run-spec =
     -- new-requires
     (λ c κs. search needs)
     -- loop-holds
-    (λ c. ((λ h. omega arith), c .before .before .before .pre .0, c .before .before .before .pre .1))
-    -- read-piece-requires
-    (λ c κs. omega (arith, c .before .before .loop .inv .0 (omega arith)))
-    -- slice-relend-prefix-process
+    (λ c. (omega arith, omega arith, c .before .before .before .pre .0, c .before .before .before .pre .1, gone-none (c .new .ensures) refl))
+    -- round-requires
+    (λ c κs. let at = c .before .before .before .loop .inv in (omega (arith, at .1, at .2), at .2, omega (arith, at .3)))
+    -- same-length
     (λ c. search needs)
-    -- slice-aggregate-process
-    (λ c. sym (length-take-le _ _ (omega arith)))
-    -- process-requires
-    (λ c κs. search needs)
-    -- slice-reshare-prefix-write-all
+    -- same-length-2
     (λ c. search needs)
-    -- slice-aggregate-write-all
-    (λ c. sym (length-take-le _ _ (omega arith)))
-    -- write-all-requires
-    (λ c κs. search needs)
+    -- returns
+    (λ c. let done = c .before .before .before .before .before .before .before .round in let at = c .before .before .before .before .before .before .before .before .before .before .before .loop in
+    ran-last (done .ensures .0) (at .inv .4) (not-true _ (c .before .if1 .taken)))
     -- sub-left
     (λ c. search needs)
     -- show-progress-requires
@@ -47,16 +43,13 @@ run-spec =
     -- loop-less
     (λ c. search needs)
     -- loop-again
-    (λ c. ((λ h. absurd (omega arith)), search needs, search needs))
-    -- loop-less-2
+    (λ c. let done = c .before .before .before .before .before .before .before .round in let at = c .before .before .before .before .before .before .before .before .before .before .before .loop in
+    let goes = not-false _ (c .before .if1 .left) in
+    let next : (18446744073709551615 - at .left) + 1 ≡ 18446744073709551615 - (at .left - 1) = omega (arith, at .inv .0) in
+    (omega (arith, at .inv .0), done .ensures .1 goes, search needs, search needs, subst (Gone _ _ _) next (gone-more (done .ensures .0) (at .inv .4) goes)))
+    -- same-length-3
     (λ c. search needs)
-    -- loop-again-2
-    (λ c. ((λ h. omega (arith, room-left 65536 (c .before .before .before .before .before .before .before .before .before .before .process .ensures .1) (not-false _ (c .if1 .left)) (omega (arith, length-take (c .before .before .before .before .before .before .before .before .before .before .before .before .before .before .before .read-piece .result .filled) (c .before .before .before .before .before .before .before .before .before .before .before .before .before .before .before .read-piece .last .0), c .before .before .before .before .before .before .before .before .before .before .before .before .before .before .before .read-piece .ensures .1, c .before .before .before .before .before .before .before .before .before .before .before .before .before .before .before .before .before .before .loop .inv .1)) (omega arith), length-take (c .before .before .before .before .before .before .before .before .before .before .process .result .kept) (c .before .before .before .before .before .before .before .before .before .before .process .last .1 .0))), search needs, search needs))
-    -- print-shares-requires
-    (λ c κs. search needs)
-    -- same-length
+    -- same-length-4
     (λ c. search needs)
-    -- same-length-2
-    (λ c. search needs)
-    -- returns
-    (λ c. search needs))
+    -- returns-2
+    (λ c. never-more (c .before .before .loop .inv .4) (omega arith)))

@@ -14,7 +14,7 @@ use Rattle.logic.specs.Demands.{NoneStands, numbers, Demand1, Demand2, Demand3}
 use Rattle.logic.specs.PathLimit.{PathLimit}
 use Rattle.logic.specs.Decision.{PathsDecided}
 use Rattle.logic.specs.Reordering.{JoinsAgree}
-use Rattle.logic.specs.JoinPairs.{PairsAccount}
+use Rattle.logic.specs.JoinPairs.{PairsAccount, PairsReplay}
 use Rattle.logic.specs.ThreeLinks.{linkSections, linkFault, linkCheck, linkChecks, linkedQuery, decodeLinks, threeLinkForm, LinkChecksInOrder}
 use Rattle.theory.proofs.Basics.Search.{isSome-false, not-true, all-true, map-mem, map-intro, from-mem, from-intro}
 use Rattle.theory.proofs.Query.Bytes.{layoutNumbers, LayoutNumber}
@@ -27,7 +27,7 @@ use Rattle.theory.proofs.Calls.Demands.{demand1-of, demand2-of, demand3
 use Rattle.theory.proofs.Calls.PathLimit.{path-limit-of}
 use Rattle.theory.proofs.Calls.Decision.{paths-decided-of}
 use Rattle.theory.proofs.Calls.Reordering.{joins-agree-of}
-use Rattle.theory.proofs.Calls.JoinPairs.{pairs-account-of}
+use Rattle.theory.proofs.Calls.JoinPairs.{pairs-account-of, pairs-replay-of}
 
 -- the checks, by kind
 layout-checks : List Check
@@ -148,3 +148,6 @@ links-joins-agree = joins-agree-of threeLinkForm three-link-laws
 
 pub links-pairs-account : PairsAccount threeLinkForm
 links-pairs-account = pairs-account-of threeLinkForm three-link-laws
+
+pub links-pairs-replay : PairsReplay threeLinkForm
+links-pairs-replay = pairs-replay-of threeLinkForm three-link-laws

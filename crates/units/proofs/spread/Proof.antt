@@ -1,15 +1,22 @@
--- Each turn looks at one number more. Assumes nothing.
+-- After a rows, those of some have more. Assumes nothing.
 use Prim.Native.Nat.{_-_, _≤_}
 use native.Mathlib.Omega.{arith}
-use borrow.Author.Needs.{needs}
+use mathlib.Core.Path.{_≡_, sym, ap, _∙_}
+use mathlib.Core.Logic.{⊎-elim}
+use lib.ListN.{length, length-set}
+use Rattle.rows.proofs.Fill.{filled-none}
+use Rattle.units.proofs.Marks.{Spreading, spread-more, spread-same, spread-all}
 use Rattle.units.proofs.spread.Statement.{statement}
 use Rattle.units.proofs.spread.Tie as tie
 
 abbrev Inv-loop : tie.InvT-loop
-Inv-loop some more out₀ a₀ out a = a ≤ 17
+Inv-loop rows₀ some more a₀ rows a = (a ≤ 17) × (length rows ≡ 17) × Spreading rows₀ some more a rows
 
 abbrev μ-loop : tie.MeasureT-loop
-μ-loop some more out₀ a₀ out a = 17 - a
+μ-loop rows₀ some more a₀ rows a = 17 - a
+
+whole : (c : tie.After-loop Inv-loop μ-loop) → c .before .loop .a ≡ 17
+whole c = omega arith
 
 pub spread-spec : {M : Type 1} → statement M
 spread-spec =
@@ -18,7 +25,7 @@ spread-spec =
     Inv-loop
     μ-loop
     -- loop-holds
-    (λ c. omega arith)
+    (λ c. (omega arith, c .pre, filled-none _ _))
     -- has-requires
     (λ c κs. omega arith)
     -- mul-out
@@ -34,6 +41,15 @@ spread-spec =
     -- loop-less
     (λ c. omega arith)
     -- loop-again
-    (λ c. omega arith)
+    (λ c.
+    let l = c .before .before .before .loop in
+    ⊎-elim
+    (λ w. (
+      omega arith,
+      ap length (w .2) ∙ simp length-set (l .inv .1),
+      spread-more _ _ _ (l .a) _ _ (omega arith) (l .inv .1) (sym (c .before .has .ensures) ∙ w .0 .taken) (w .2) (l .inv .2),
+    ))
+    (λ w. (omega arith, ap length (w .1) ∙ l .inv .1, spread-same _ _ _ (l .a) _ _ (omega arith) (sym (c .before .has .ensures) ∙ w .0 .left) (w .1) (l .inv .2)))
+    (c .if1 .came))
     -- returns
-    (λ c. search needs))
+    (λ c. (spread-all _ _ _ _ (rw (whole c) at (c .before .loop .inv .2)), c .before .loop .inv .1)))

@@ -1,7 +1,8 @@
 -- The call's answer, as a number. Assumes nothing.
 use borrow.Author.Needs.{needs}
 use mathlib.Core.Path.{ap, _∙_}
-use Rattle.lemitsaka.specs.VerdictPromise.{codeOf}
+use Rattle.codes.specs.Codes.{code}
+use Rattle.answer_codes.specs.Numbers.{verdictDigits}
 use Rattle.lemitsaka.proofs.between_export.lemitsaka_between.Statement.{statement}
 use Rattle.lemitsaka.proofs.between_export.lemitsaka_between.Tie as tie
 
@@ -11,9 +12,11 @@ lemitsaka-between-spec =
     (tie.spec
     -- between-requires
     (λ c κs. search needs)
-    -- coded-between-requires
+    -- between-number-requires
     (λ c κs. search needs)
     -- same-length
     (λ c. search needs)
     -- returns
-    (λ c. record { answers = c .coded-between .ensures ∙ ap codeOf (c .before .before .before .between .ensures .answers); leaves = c .before .before .before .between .ensures .leaves }))
+    (λ c.
+    let did = c .before .before .before .between .ensures in
+    record { answers = c .between-number .ensures ∙ ap (λ a. code (verdictDigits a)) (did .answers); leaves = did .leaves }))

@@ -1,7 +1,8 @@
 -- The call's answer, as a number. Assumes nothing.
 use borrow.Author.Needs.{needs}
 use mathlib.Core.Path.{ap, _∙_}
-use Rattle.lemitsaka.specs.CheckPromise.{codeOfCheck}
+use Rattle.codes.specs.Codes.{code}
+use Rattle.answer_codes.specs.Numbers.{checkDigits}
 use Rattle.lemitsaka.proofs.check_export.lemitsaka_check.Statement.{statement}
 use Rattle.lemitsaka.proofs.check_export.lemitsaka_check.Tie as tie
 
@@ -11,7 +12,7 @@ lemitsaka-check-spec =
     (tie.spec
     -- check-requires
     (λ c κs. search needs)
-    -- coded-check-requires
+    -- check-number-requires
     (λ c κs. search needs)
     -- returns
-    (λ c. c .coded-check .ensures ∙ ap codeOfCheck (c .before .check .ensures)))
+    (λ c. c .check-number .ensures ∙ ap (λ a. code (checkDigits a)) (c .before .check .ensures)))

@@ -1,7 +1,8 @@
 -- The call's answer, as a number. Assumes nothing.
 use borrow.Author.Needs.{needs}
 use mathlib.Core.Path.{ap, _∙_}
-use Rattle.lemitsaka.specs.JoinPromise.{codeOfHanded}
+use Rattle.codes.specs.Codes.{code}
+use Rattle.answer_codes.specs.Numbers.{handDigits}
 use Rattle.lemitsaka.proofs.join_export.lemitsaka_hand_back.Statement.{statement}
 use Rattle.lemitsaka.proofs.join_export.lemitsaka_hand_back.Tie as tie
 
@@ -11,7 +12,7 @@ lemitsaka-hand-back-spec =
     (tie.spec
     -- find-named-requires
     (λ c κs. search needs)
-    -- coded-part-requires
+    -- part-number-requires
     (λ c κs. search needs)
     -- returns
-    (λ c. c .coded-part .ensures ∙ ap codeOfHanded (c .before .find-named .ensures .0)))
+    (λ c. c .part-number .ensures ∙ ap (λ a. code (handDigits a)) (c .before .find-named .ensures .0)))

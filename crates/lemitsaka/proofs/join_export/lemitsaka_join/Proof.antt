@@ -1,7 +1,8 @@
 -- The call's answer, as a number. Assumes nothing.
 use borrow.Author.Needs.{needs}
 use mathlib.Core.Path.{ap, _∙_}
-use Rattle.lemitsaka.specs.JoinPromise.{codeOfJoin}
+use Rattle.codes.specs.Codes.{code}
+use Rattle.answer_codes.specs.Numbers.{joinDigits}
 use Rattle.lemitsaka.proofs.join_export.lemitsaka_join.Statement.{statement}
 use Rattle.lemitsaka.proofs.join_export.lemitsaka_join.Tie as tie
 
@@ -11,9 +12,11 @@ lemitsaka-join-spec =
     (tie.spec
     -- join-requires
     (λ c κs. search needs)
-    -- coded-join-requires
+    -- join-number-requires
     (λ c κs. search needs)
     -- same-length
     (λ c. search needs)
     -- returns
-    (λ c. record { answers = c .coded-join .ensures ∙ ap codeOfJoin (c .before .before .before .join .ensures .answers); leaves = c .before .before .before .join .ensures .leaves }))
+    (λ c.
+    let did = c .before .before .before .join .ensures in
+    record { answers = c .join-number .ensures ∙ ap (λ a. code (joinDigits a)) (did .answers); leaves = did .leaves }))

@@ -1,7 +1,8 @@
 -- The call's answer, as a number. Assumes nothing.
 use borrow.Author.Needs.{needs}
 use mathlib.Core.Path.{ap, _∙_}
-use Rattle.order_code.specs.OrderCode.{orderCode}
+use Rattle.codes.specs.Codes.{code}
+use Rattle.answer_codes.specs.Numbers.{orderDigits}
 use Rattle.lemitsaka.proofs.precedence_export.lemitsaka_order.Statement.{statement}
 use Rattle.lemitsaka.proofs.precedence_export.lemitsaka_order.Tie as tie
 
@@ -11,9 +12,11 @@ lemitsaka-order-spec =
     (tie.spec
     -- order-of-requires
     (λ c κs. search needs)
-    -- order-coded-requires
+    -- order-number-requires
     (λ c κs. search needs)
     -- same-length
     (λ c. search needs)
     -- returns
-    (λ c. record { answers = c .order-coded .ensures ∙ ap orderCode (c .before .before .before .order-of .ensures .answers); leaves = c .before .before .before .order-of .ensures .leaves }))
+    (λ c.
+    let did = c .before .before .before .order-of .ensures in
+    record { answers = c .order-number .ensures ∙ ap (λ a. code (orderDigits a)) (did .answers); leaves = did .leaves }))

@@ -1,0 +1,53 @@
+-- The entries of the row below w are made. Assumes nothing.
+use Prim.Native.Nat.{_+_, _-_, _*_, _≤_}
+use native.Mathlib.Omega.{arith}
+use borrow.Author.Needs.{needs}
+use mathlib.Core.Path.{_≡_}
+use lib.ListN.{length, length-set}
+use Rattle.between_search.specs.Tests.{steps}
+use Rattle.between_search.specs.Search.{entry}
+use Rattle.between_tests.specs.Tables.{MadeTo}
+use Rattle.between_tests.proofs.Laws.{made-next}
+use Rattle.between_tests.proofs.put_steps.Statement.{statement}
+use Rattle.between_tests.proofs.put_steps.Tie as tie
+
+abbrev Inv-loop : tie.InvT-loop
+Inv-loop table₀ links v row w₀ table w =
+    (length table ≡ 36) × (w ≤ 6) × (MadeTo (steps (entry links)) 0 table₀ (6 * v .0) → MadeTo (steps (entry links)) 0 table (6 * v .0 + w))
+
+abbrev μ-loop : tie.MeasureT-loop
+μ-loop table₀ links v row w₀ table w = 6 - w
+
+pub put-steps-spec : {M : Type 1} → statement M
+put-steps-spec =
+    tie.close
+    (tie.spec
+    Inv-loop
+    μ-loop
+    -- mul-row
+    (λ c. omega arith)
+    -- loop-holds
+    (λ c. (c .before .pre .2, omega arith, λ m j h. m j (omega arith)))
+    -- step-count-requires
+    (λ c κs. (c .before .before .before .pre .0, c .before .before .before .pre .1))
+    -- cast-table
+    (λ c. search needs)
+    -- add-table
+    (λ c. omega arith)
+    -- element-write-table
+    (λ c. omega (arith, c .before .before .before .before .pre .1, c .before .loop-test .taken))
+    -- add-w
+    (λ c. omega arith)
+    -- loop-less
+    (λ c. omega arith)
+    -- loop-again
+    (λ c.
+    let s = c .before .before .before .before in
+    let l = c .before .before .loop in
+    let t = c .before .loop-test .taken in (
+      simp length-set (l .inv .0),
+      omega (arith, t),
+      λ m. made-next (steps (entry (s .args .links .now))) 0 (l .table) (s .args .v .0) (l .w) (c .step-count .result) (l .inv .0) (s .pre .1) (omega (arith, t)) (c .step-count .ensures .0) (l .inv .2 m),
+    ))
+    -- returns
+    (λ c. (c .before .loop .inv .0, λ m j h. c .before .loop .inv .2 m j (omega (arith, c .loop-test .left)))))

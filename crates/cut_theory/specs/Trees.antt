@@ -1,0 +1,79 @@
+-- What is said of a link after some assignments, as an and/or of literals about the cut link (03, "A way"). Names are numbers here: `node` of a name is the
+-- node that it stands for.
+use Prim.Native.Nat.{ℕ, zero, suc}
+use mathlib.Core.Logic.{_⊎_}
+use mathlib.Core.Path.{_≡_}
+use mathlib.Core.Bool.{Bool, true, false, cond}
+use mathlib.Core.List.{List, [], _∷_}
+use lib.Dec.{eqb, ltb}
+use Rattle.logic.specs.Search.{from}
+use Rattle.logic.specs.Heap.{Reaches}
+use Rattle.cut_theory.specs.Jumps.{without}
+
+-- literals: two names are one node, or not; by the cut link one reaches the other, and leads to the other
+pub data Tree : Type 0 where
+  yes·tree no·tree : Tree
+  same differ far leads : ℕ → ℕ → Tree
+  both either : Tree → Tree → Tree
+
+-- all of some, one of some
+unfoldable pub every : (ℕ → Tree) → List ℕ → Tree
+every f [] = yes·tree
+every f (i ∷ is) = both (f i) (every f is)
+
+unfoldable pub some·tree : (ℕ → Tree) → List ℕ → Tree
+some·tree f [] = no·tree
+some·tree f (i ∷ is) = either (f i) (some·tree f is)
+
+-- The cuts by name: those of the assignments first; what each assignment gives; and what the link led to from each cut at first.
+pub record Cuts : Type 0 where
+  pub number : ℕ
+  pub cut : ℕ → ℕ
+  pub value : ℕ → ℕ
+  pub old : ℕ → ℕ
+
+-- cut i counts after the first j assignments: no later one of them is to its node; of those not assigned yet, no earlier cut is its node
+unfoldable pub activeTree : Cuts → ℕ → ℕ → Tree
+activeTree c j i =
+    cond (ltb i j)
+    (every (λ m. cond (ltb i m) (differ (c .cut m) (c .cut i)) yes·tree) (from j 0))
+    (every (λ m. differ (c .cut m) (c .cut i)) (from i 0))
+
+unfoldable pub targetName : Cuts → ℕ → ℕ → ℕ
+targetName c j i = cond (ltb i j) (c .value i) (c .old i)
+
+-- "by h from a to b, or by h from a to some xi .. from there by a jump .. each xi at most once"; where a name is given to be avoided, no jump is made from
+-- its node
+unfoldable pub avoiding : List ℕ → ℕ → Tree
+avoiding zs x = every (λ z. differ x z) zs
+
+unfoldable pub reachTree : Cuts → ℕ → List ℕ → ℕ → List ℕ → ℕ → ℕ → Tree
+reachTree c j zs zero left a b = far a b
+reachTree c j zs (suc m) left a b =
+    either (far a b)
+    (some·tree (λ i. both (far a (c .cut i)) (both (activeTree c j i) (both (avoiding zs (c .cut i)) (reachTree c j zs m (without i left) (targetName c j i) b)))) left)
+
+-- a reaches b after j assignments; b is between a and z; the link leads from a to r
+unfoldable pub reachesTree : Cuts → ℕ → ℕ → ℕ → Tree
+reachesTree c j a b = reachTree c j [] (c .number) (from (c .number) 0) a b
+
+unfoldable pub betweenTree : Cuts → ℕ → ℕ → ℕ → ℕ → Tree
+betweenTree c j a b z = both (reachTree c j (z ∷ []) (c .number) (from (c .number) 0) a b) (reachesTree c j a z)
+
+unfoldable pub readTree : Cuts → ℕ → ℕ → ℕ → Tree
+readTree c j a r =
+    either
+    (some·tree (λ i. both (same (c .cut i) a) (both (activeTree c j i) (same (targetName c j i) r))) (from (c .number) 0))
+    (both (every (λ i. differ (c .cut i) a) (from (c .number) 0)) (leads a r))
+
+-- a tree holds where names stand for nodes and h is the cut link
+module _ (node h : ℕ → ℕ) where
+  unfoldable pub Holds : Tree → Type 0
+  Holds yes·tree = Unit
+  Holds no·tree = ⊥
+  Holds (same a b) = node a ≡ node b
+  Holds (differ a b) = node a ≡ node b → ⊥
+  Holds (far a b) = Reaches h (node a) (node b)
+  Holds (leads a b) = h (node a) ≡ node b
+  Holds (both f g) = Holds f × Holds g
+  Holds (either f g) = Holds f ⊎ Holds g

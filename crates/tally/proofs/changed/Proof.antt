@@ -1,0 +1,23 @@
+-- Assumes nothing.
+use borrow.Author.Needs.{needs}
+use mathlib.Core.Path.{refl, sym, _∙_}
+use Rattle.tally.proofs.Counts.{adds-lines, test-true, test-false}
+use Rattle.tally.proofs.changed.Statement.{statement}
+use Rattle.tally.proofs.changed.Tie as tie
+
+pub changed-spec : {M : Type 1} → statement M
+changed-spec =
+    tie.close
+    (tie.spec
+    -- rule-lines-requires
+    (λ c κs. search needs)
+    -- sums-fit-requires
+    (λ c κs. search needs)
+    -- sums-requires
+    (λ c κs. sym (c .before .sums-fit .ensures .0) ∙ c .if1 .taken)
+    -- returns
+    (λ c. let fit = c .before .before .sums-fit in let at = c .before .if1 .taken in
+    adds-lines _ _ (fit .ensures .1) (c .before .before .before .before .rule-lines .ensures) (test-true 0 28 (fit .ensures .0) at refl, test-true _ _ (fit .ensures .0) at (c .sums .ensures)))
+    -- returns-2
+    (λ c. let fit = c .before .sums-fit in let at = c .if1 .left in
+    adds-lines _ _ (fit .ensures .1) (c .before .before .before .rule-lines .ensures) (test-false 0 28 (fit .ensures .0) at refl, test-false _ _ (fit .ensures .0) at refl)))
