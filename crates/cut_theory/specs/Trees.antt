@@ -8,11 +8,14 @@ use mathlib.Core.List.{List, [], _∷_}
 use lib.Dec.{eqb, ltb}
 use Rattle.logic.specs.Search.{from}
 use Rattle.logic.specs.Heap.{Reaches}
+use Rattle.routine_logic.specs.State.{changed}
+use Rattle.routine_logic.specs.Formulas.{sameTruth}
 use Rattle.cut_theory.specs.Jumps.{without}
 
--- literals: two names are one node, or not; by the cut link one reaches the other, and leads to the other
+-- literals: two names are one node, or not; by the cut link one reaches the other, and leads to the other; a name's flag is 1 or 0 at first
 pub data Tree : Type 0 where
   yes·tree no·tree : Tree
+  flagged : Bool → ℕ → Tree
   same differ far leads : ℕ → ℕ → Tree
   both either : Tree → Tree → Tree
 
@@ -66,9 +69,25 @@ readTree c j a r =
     (some·tree (λ i. both (same (c .cut i) a) (both (activeTree c j i) (same (targetName c j i) r))) (from (c .number) 0))
     (both (every (λ i. differ (c .cut i) a) (from (c .number) 0)) (leads a r))
 
--- a tree holds where names stand for nodes and h is the cut link
-module _ (node h : ℕ → ℕ) where
+-- An assignment to a flag: a name, and what it is given.
+pub record Mark : Type 0 where
+  pub name : ℕ
+  pub value : Bool
+
+-- the flag of a name is b after some assignments to it, the last one first
+unfoldable pub flagTree : List Mark → Bool → ℕ → Tree
+flagTree [] b a = flagged b a
+flagTree (m ∷ ms) b a = either (both (same a (m .name)) (cond (sameTruth (m .value) b) yes·tree no·tree)) (both (differ a (m .name)) (flagTree ms b a))
+
+-- a tree holds where names stand for nodes, h is the cut link, and a flag is this at first
+module _ (node h : ℕ → ℕ) (first : ℕ → Bool) where
+  -- the flag after the assignments
+  unfoldable pub flagAfter : List Mark → ℕ → Bool
+  flagAfter [] = first
+  flagAfter (m ∷ ms) = changed (flagAfter ms) (node (m .name)) (m .value)
+
   unfoldable pub Holds : Tree → Type 0
+  Holds (flagged b a) = first (node a) ≡ b
   Holds yes·tree = Unit
   Holds no·tree = ⊥
   Holds (same a b) = node a ≡ node b
