@@ -1,4 +1,4 @@
--- The samples come out as the vectors say, by computation.
+-- The samples come out as they say, by computation.
 use mathlib.Core.Path.{refl}
 use mathlib.Core.Option.{Option·elim}
 use Rattle.logic.specs.Search.{_and_, _or_, from, keep, any, orElse, isSome, firstOf, flatMap}
