@@ -2,11 +2,11 @@
 use borrow.Author.Needs.{needs}
 use Rattle.text.proofs.Writing.{writes-as}
 use Rattle.check_printing.proofs.Answers.{input-read, size-is}
-use Rattle.check_printing.proofs.put_text.Statement.{statement}
-use Rattle.check_printing.proofs.put_text.Tie as tie
+use Rattle.check_printing.proofs.put_text_in.Statement.{statement}
+use Rattle.check_printing.proofs.put_text_in.Tie as tie
 
-pub put-text-spec : {M : Type 1} → statement M
-put-text-spec =
+pub put-text-in-spec : {M : Type 1} → statement M
+put-text-in-spec =
     tie.close
     (tie.spec
     -- byte-at-requires
@@ -40,4 +40,4 @@ put-text-spec =
     -- same-length
     (λ c. search needs)
     -- returns
-    (λ c. (writes-as (input-read _ _ _ _ (size-is _ (c .before .before .before .before .before .before .before .before .before .byte-at .ensures .0) (c .before .before .before .before .before .before .before .before .byte-at2 .ensures .0)) (c .before .before .before .before .before .before .before .at-most .ensures) (c .before .before .before .before .before .before .at-most2 .ensures)) (c .before .before .put-checked .ensures .0), c .before .before .put-checked .ensures .1)))
+    (λ c. (writes-as (input-read _ _ _ _ (size-is _ (c .before .before .before .before .before .before .before .before .before .byte-at .ensures .0) (c .before .before .before .before .before .before .before .before .byte-at2 .ensures .0)) (c .before .before .before .before .before .before .before .at-most .ensures) (c .before .before .before .before .before .before .at-most2 .ensures) _) (c .before .before .put-checked .ensures .0), c .before .before .put-checked .ensures .1)))
