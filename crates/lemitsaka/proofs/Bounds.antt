@@ -10,7 +10,7 @@ use lib.ListN.{length, getD}
 use lib.Dec.{ltb}
 use Rattle.logic.specs.Search.{_and_, all, keep}
 use Rattle.logic.specs.Query.{fourSections, fiveSections, booleanSection, sections, firstByte}
-use Rattle.logic.specs.Calls.{Input, Check, layoutCheck, byteCheck, formChecks, queryChecks, roomUnder, oneLinkForm, verdictChecks, refusalOf, padded}
+use Rattle.logic.specs.Calls.{Input, Check, layoutCheck, byteCheck, formChecks, queryChecks, roomUnder, CallForm, oneLinkForm, verdictChecks, refusalOf, padded}
 use Rattle.logic.specs.Calls as calls
 use Rattle.logic.specs.Demands.{numbers}
 use Rattle.logic.specs.Shown.{wellFormed}
@@ -18,6 +18,7 @@ use Rattle.theory.proofs.Basics.Compare.{le-cases}
 use Rattle.theory.proofs.Query.Bytes.{Excesses, three-number}
 use Rattle.theory.proofs.Query.AcceptedBytes.{five-excesses, sections-excesses}
 use Rattle.theory.proofs.Query.Places.{most}
+use Rattle.theory.proofs.Calls.CallLaws.{FormLaws}
 use Rattle.theory.proofs.Calls.CheckingOrder.{first-refusal}
 use Rattle.theory.proofs.Calls.CallLaws.{Placed}
 use Rattle.theory.proofs.Calls.Refusals.{both-placed, one-link-laws, verdict-placed, verdict-early}

@@ -1,12 +1,13 @@
 -- The number gives back the answer: of every call, for whatever it is given. `r` is the number that the call answers and `bytes` what it leaves in
 -- the lent output: its contract is the hypothesis. Assumes nothing.
-use Prim.Native.Nat.{ℕ, _<_}
+use Prim.Native.Nat.{ℕ, _≤_, _<_}
 use native.Mathlib.Omega.{arith}
 use mathlib.Core.Path.{_≡_}
 use mathlib.Core.List.{List}
 use lib.ListN.{length}
 use Rattle.logic.specs.Calls.{CallForm, oneLinkForm, verdictCall, verdictCallOf, derivationCall, derivationCallOf}
 use Rattle.logic.specs.ThreeLinks.{threeLinkForm}
+use Rattle.theory.proofs.Calls.CallLaws.{FormLaws}
 use Rattle.theory.proofs.Calls.Refusals.{one-link-laws}
 use Rattle.theory.proofs.Calls.ThreeLinks.{three-link-laws}
 use Rattle.prover.specs.Promise.{inputOf}
