@@ -109,8 +109,13 @@ fn read_line(
     if let Clash::At(section, i, j) = clash::find_clash(query, layout, &s.rep, s.single, &s.reach) {
         return Reading::Wrong;
     }
-    let Choice::Apply(k, rule, x, y, z) = fitting::named(s.single, number, Term(a), Term(b), Third(c))
-    else {
+    let Choice::Apply(k, rule, x, y, z) = fitting::named(
+        s.single,
+        number,
+        Term(a),
+        Term(b),
+        Third(c),
+    ) else {
         return Reading::Wrong;
     };
     if fitting::applies(s, layout.terms, k, rule, x, y, z) {
@@ -217,7 +222,17 @@ pub fn check_goal<'a>(
         return head;
     }
     let at = head.at;
-    match read_at(query, layout, derivation, count, at, single, rep, link, reach) {
+    match read_at(
+        query,
+        layout,
+        derivation,
+        count,
+        at,
+        single,
+        rep,
+        link,
+        reach,
+    ) {
         Reading::Wrong => Judged {
             fits: false,
             at: at + 1,
