@@ -2,7 +2,6 @@
 use Prim.Native.Nat.{ℕ, zero, suc, _+_, _*_, _≤_}
 use native.Mathlib.Omega.{arith}
 use mathlib.Core.Path.{_≡_, refl, sym, ap, _∙_, subst}
-use mathlib.Core.Logic.{⊎-elim}
 use mathlib.Core.Bool.{Bool, true, false, not, true≢false, false≢true}
 use mathlib.Core.List.{List, []}
 use mathlib.Core.Option.{none}
@@ -14,7 +13,7 @@ use Rattle.logic.specs.Calls.{CallForm}
 use Rattle.theory.proofs.Query.Tied.{Accepted}
 use Rattle.query.specs.declared.Layout.{Layout}
 use Rattle.query_checks.specs.declared.Checked.the-variants as checked
-use Rattle.link_query.specs.Said.{said, Within}
+use Rattle.link_query.specs.Said.{said}
 use Rattle.link_query.specs.Answers.{CheckedBy}
 use Rattle.start.specs.Started.{started}
 use Rattle.checking.specs.Fitting.{Goal, goalOf, startGoal, wrongLine}
@@ -41,14 +40,6 @@ unfolding started limit
 start-ahead q ok j links n k e l t c =
     let most : k ≡ limit q = c ∙ ap (λ (i : ℕ). i * (n * n) + n) l ∙ ap (λ (m : ℕ). q .links * (m * m) + m) t in
     subst (λ (i : Joined). Ahead q (i .facts) k) (sym e) (ahead-start q ok k most)
-
--- the query that is read has the links that its layout says, one or three
-pub said-links : (l : Layout) (bytes : List ℕ) → l .links ≡ said l bytes .links
-unfolding said
-said-links l bytes = refl
-
-pub layout-links : (l : Layout) (bytes : List ℕ) → Within l bytes → l .links ≤ 3
-layout-links l bytes w = ⊎-elim (λ e. omega (arith, e)) (λ e. omega (arith, e)) (w .one-or-three)
 
 -- the start's goal by its path and the pairs joined there, and so the first wrong line
 module _ (q : Query) (bytes : List ℕ) (count : ℕ) (shape : Shaped bytes count) (j : Joined) (j-is : j ≡ started q) (r : Judged) (h : JudgesGoal q bytes count (goalOf j) 0 r) (k : ℕ) (found : Concludes count r k) where

@@ -38,4 +38,7 @@ answer-spec =
     -- check-in-requires-2
     (λ c κs. search needs)
     -- returns-2
-    (λ c. c .check-in2 .ensures ∙ ap (checkCallOf _ _) (c .before .before .before .read-text .ensures .1 ∙ text-there _ (c .before .before .before .before .before .before .before .begins .ensures) (not-left _ (c .before .before .before .before .before .before .if1 .left)))))
+    (λ c.
+    let c6 = c .before .before .before .before .before .before in
+    let c7 = c6 .before in
+    c .check-in2 .ensures ∙ ap (checkCallOf _ _) (c .before .before .before .read-text .ensures .1 ∙ text-there _ (c7 .begins .ensures) (not-left _ (c6 .if1 .left)))))

@@ -40,4 +40,11 @@ put-text-in-spec =
     -- same-length
     (λ c. search needs)
     -- returns
-    (λ c. (writes-as (input-read _ _ _ _ (size-is _ (c .before .before .before .before .before .before .before .before .before .byte-at .ensures .0) (c .before .before .before .before .before .before .before .before .byte-at2 .ensures .0)) (c .before .before .before .before .before .before .before .at-most .ensures) (c .before .before .before .before .before .before .at-most2 .ensures) _) (c .before .before .put-checked .ensures .0), c .before .before .put-checked .ensures .1)))
+    (λ c.
+    let c6 = c .before .before .before .before .before .before in
+    let c7 = c6 .before in
+    let c8 = c7 .before in
+    let c9 = c8 .before in
+    let size = size-is _ (c9 .byte-at .ensures .0) (c8 .byte-at2 .ensures .0) in
+    let put = c .before .before .put-checked .ensures in
+    (writes-as (input-read _ _ _ _ size (c7 .at-most .ensures) (c6 .at-most2 .ensures) _) (put .0), put .1)))

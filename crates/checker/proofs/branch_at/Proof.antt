@@ -17,4 +17,7 @@ branch-at-spec =
     -- spread-requires
     (λ c κs. search needs)
     -- returns
-    (λ c. let a = c .before .before .before .args in c .spread .ensures ∙ branch-rows _ _ (c .before .before .held .ensures) (a .n) (a .k .0) (kindOf (a .rule)) (a .x .0) (a .y .0) (a .z .0) (a .i) _ (c .before .branch .ensures)))
+    (λ c.
+    let a = c .before .before .before .args in
+    c .spread .ensures
+    ∙ branch-rows _ _ (c .before .before .held .ensures) (a .n) (a .k .0) (kindOf (a .rule)) (a .x .0) (a .y .0) (a .z .0) (a .i) _ (c .before .branch .ensures)))

@@ -29,5 +29,6 @@ named-spec =
     (λ c. named-unruled _ _ _ (sym (ap numberedOf (c .enum-told .given .1)) ∙ c .before .before .rule-numbered .ensures))
     -- returns-3
     (λ c.
+    let c6 = c .before .before .before .before .before .before in
     let h = sym (ap numberedOf (c .before .rule .given .1)) ∙ c .before .before .before .rule-numbered .ensures in
-    named-is _ _ _ _ _ (c .before .before .before .before .before .before .wide .ensures .0) (c .before .before .before .before .before .links .ensures .0) (c .before .before .before .before .if1 .left) _ h))
+    named-is _ _ _ _ _ (c6 .wide .ensures .0) (c .before .before .before .before .before .links .ensures .0) (c .before .before .before .before .if1 .left) _ h))

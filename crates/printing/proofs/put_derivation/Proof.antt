@@ -5,7 +5,7 @@ use borrow.Author.Needs.{needs}
 use lib.ListN.{length-replicate}
 use Rattle.text.proofs.Writing.{writes-none, writes-as}
 use Rattle.call_limits.specs.Forms.{formOf}
-use Rattle.prover.proofs.Answers.{laws-of}
+use Rattle.form_checks.proofs.Laws.{laws-of}
 use Rattle.printing.proofs.Calls.{lines-text, no-lines-text, no-text, lines-fit}
 use Rattle.printing.proofs.put_derivation.Statement.{statement}
 use Rattle.printing.proofs.put_derivation.Tie as tie

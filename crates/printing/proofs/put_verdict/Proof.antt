@@ -8,7 +8,7 @@ use lib.ListN.{replicate, length-replicate}
 use Rattle.logic.specs.Shown.{wellFormed}
 use Rattle.text.proofs.Writing.{writes-then, writes-as}
 use Rattle.call_limits.specs.Forms.{formOf}
-use Rattle.prover.proofs.Answers.{laws-of}
+use Rattle.form_checks.proofs.Laws.{laws-of}
 use Rattle.prover.proofs.Demands.{report-formed}
 use Rattle.printing.proofs.Calls.{sat-text, unsat-text, refused-text, some-links}
 use Rattle.printing.proofs.put_verdict.Statement.{statement}

@@ -9,7 +9,8 @@ use Rattle.link_query.proofs.Accepted.{accepted-said}
 use Rattle.call_limits.specs.Forms.{formOf}
 use Rattle.theory.proofs.Calls.DerivationCall.{derivation-whole}
 use Rattle.lent.proofs.Writing.{blank-again, blank-long}
-use Rattle.prover.proofs.Answers.{laws-of, derivation-order, derivation-query, derivation-walked}
+use Rattle.form_checks.proofs.Laws.{laws-of}
+use Rattle.prover.proofs.Answers.{derivation-order, derivation-query, derivation-walked}
 use Rattle.prover.proofs.derivation_in.Statement.{statement}
 use Rattle.prover.proofs.derivation_in.Tie as tie
 

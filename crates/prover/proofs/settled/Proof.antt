@@ -2,7 +2,7 @@
 use mathlib.Core.Path.{sym}
 use Rattle.link_query.proofs.Said.{few-links, terms-said}
 use Rattle.prover.proofs.Outcomes.{start-steps}
-use Rattle.prover.proofs.Answers.{said-links}
+use Rattle.form_checks.proofs.Laws.{said-links}
 use Rattle.prover.proofs.Endings.{start-reached, settles}
 use Rattle.prover.proofs.settled.Statement.{statement}
 use Rattle.prover.proofs.settled.Tie as tie

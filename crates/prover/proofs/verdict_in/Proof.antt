@@ -9,7 +9,8 @@ use Rattle.query_checks.specs.declared.Checked.{Checked}
 use Rattle.link_query.specs.Answers.{CheckedBy}
 use Rattle.link_query.proofs.Accepted.{accepted-said}
 use Rattle.call_limits.specs.Forms.{formOf}
-use Rattle.prover.proofs.Answers.{laws-of, room-of, verdict-order, verdict-query, verdict-room, verdict-walked}
+use Rattle.form_checks.proofs.Laws.{laws-of}
+use Rattle.prover.proofs.Answers.{room-of, verdict-order, verdict-query, verdict-room, verdict-walked}
 use Rattle.prover.proofs.Demands.{report-whole}
 use Rattle.prover.proofs.verdict_in.Statement.{statement}
 use Rattle.prover.proofs.verdict_in.Tie as tie

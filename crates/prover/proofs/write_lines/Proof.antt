@@ -10,7 +10,8 @@ use Rattle.start.proofs.Laid.{started-fits}
 use Rattle.walk.specs.Lines.{putAll}
 use Rattle.link_query.proofs.Said.{few-links, terms-said}
 use Rattle.prover.proofs.Outcomes.{our-walk, start-steps, derivation-none, derivation-over, derivation-refuted}
-use Rattle.prover.proofs.Answers.{zeros-as, said-links}
+use Rattle.form_checks.proofs.Laws.{said-links}
+use Rattle.prover.proofs.Answers.{zeros-as}
 use Rattle.prover.proofs.Endings.{refuted-lines}
 use Rattle.prover.proofs.write_lines.Statement.{statement}
 use Rattle.prover.proofs.write_lines.Tie as tie
