@@ -123,12 +123,14 @@ module _ (q : Query) (bytes : List ℕ) (count : ℕ) (s : Facts) (at k : ℕ) (
   many : length (alternatives (termCount q) (s .graph) m) ≡ countOf rule z
   many = count-is k (termCount q) (s .graph) rule x y z
 
-  same-branch : (i : ℕ) (j : Joined) → i < countOf rule z → j ≡ branch n s (alternativeAt k n (s .graph k) rule x y z i) → branch (termCount q) s (getD (alternatives (termCount q) (s .graph) m) i other) ≡ j
+  same-branch : (i : ℕ) (j : Joined) → i < countOf rule z → j ≡ branch n s (alternativeAt k n (s .graph k) rule x y z i)
+      → branch (termCount q) s (getD (alternatives (termCount q) (s .graph) m) i other) ≡ j
   same-branch i j l e =
       ap (branch (termCount q) s) (alternative-is k (termCount q) (s .graph) rule x y z i other l)
       ∙ ap (λ (l : ℕ). branch l s (alternativeAt k l (s .graph k) rule x y z i)) (sym terms-are) ∙ sym e
 
-  next-goal : (i : ℕ) (j : Joined) → i < countOf rule z → j ≡ branch n s (alternativeAt k n (s .graph k) rule x y z i) → drop i (goalsOf (termCount q) s m) ≡ goalOf j ∷ drop (i + 1) (goalsOf (termCount q) s m)
+  next-goal : (i : ℕ) (j : Joined) → i < countOf rule z → j ≡ branch n s (alternativeAt k n (s .graph k) rule x y z i)
+      → drop i (goalsOf (termCount q) s m) ≡ goalOf j ∷ drop (i + 1) (goalsOf (termCount q) s m)
   unfolding goalsOf
   next-goal i j l e =
       drop-map (λ c. goalOf (branch (termCount q) s c)) (alternatives (termCount q) (s .graph) m) i other (omega (arith, many))

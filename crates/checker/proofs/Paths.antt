@@ -16,5 +16,6 @@ module _ (s rows : Facts) (e : s ≡ rows) where
   pub link-rows : (k : ℕ) → HasLink rows k → HasLink s k
   link-rows k h = subst (λ (t : Facts). HasLink t k) (sym e) h
 
-  pub branch-rows : (n k : ℕ) (rule : Rule) (x y z i : ℕ) (j : Joined) → j ≡ branch n s (alternativeAt k n (s .graph k) rule x y z i) → j ≡ branch n rows (alternativeAt k n (rows .graph k) rule x y z i)
+  pub branch-rows : (n k : ℕ) (rule : Rule) (x y z i : ℕ) (j : Joined) → j ≡ branch n s (alternativeAt k n (s .graph k) rule x y z i)
+      → j ≡ branch n rows (alternativeAt k n (rows .graph k) rule x y z i)
   branch-rows n k rule x y z i j h = h ∙ ap (λ (t : Facts). branch n t (alternativeAt k n (t .graph k) rule x y z i)) e

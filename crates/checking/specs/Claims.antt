@@ -61,7 +61,8 @@ pub record Claims (f : CallForm) : Type 0 where
   pub wrong-placed : (query derivation : List ℕ) (k : ℕ) → checkCallOf f query derivation ≡ wrong k → (1 ≤ k) × (k ≤ countIn derivation + 1)
   -- "Checks: 2 to 8, then 20", with those that `ChecksInOrder` adds: of the query the first in checking order whose condition stands; 20 only
   -- where none of these does
-  pub refused-exactly : (query derivation : List ℕ) (k place : ℕ) → List·Memᴰ k (numbers (f .checks)) → (checkCallOf f query derivation ≡ refused k place) ↔ FirstStands (f .checks) (queryAlone query) k place
+  pub refused-exactly : (query derivation : List ℕ) (k place : ℕ) → List·Memᴰ k (numbers (f .checks))
+      → (checkCallOf f query derivation ≡ refused k place) ↔ FirstStands (f .checks) (queryAlone query) k place
   pub shape-exactly : (query derivation : List ℕ) (place : ℕ) → (checkCallOf f query derivation ≡ refused 20 place) ↔ ((place ≡ 0) × (acceptsBy f query ≡ true) × (misshapen derivation ≡ true))
   pub refusal-numbered : (query derivation : List ℕ) (k place : ℕ) → checkCallOf f query derivation ≡ refused k place → List·Memᴰ k (numbers (f .checks) ++ (20 ∷ []))
   -- "Accepted means that no finite heap meets the query", of any size
@@ -70,9 +71,11 @@ pub record Claims (f : CallForm) : Type 0 where
   pub ours-accepted : (i : Input) → derivationCallOf f i .answer ≡ calls.refuted → checkCallOf f (i .query) (unpadded (derivationCallOf f i .lent)) ≡ accepted
   -- ".. or a hand following the rules writes within 16,000 lines is accepted": after every list of picks that leaves the hand's walk refuted
   -- there are lines that the hand writes, and if they are so few, their bytes are accepted
-  pub hand-accepted : (query : List ℕ) (picks : List Pick) → acceptsBy f query ≡ true → handVerdict (f .decode query) (rowAfter f query picks) ≡ some walk.refuted → (lines : List Line) × HandAccepted f query picks lines
+  pub hand-accepted : (query : List ℕ) (picks : List Pick) → acceptsBy f query ≡ true → handVerdict (f .decode query) (rowAfter f query picks) ≡ some walk.refuted
+      → (lines : List Line) × HandAccepted f query picks lines
   -- "(any one, with any plain partner)": and so whichever clashes end its paths
-  pub hand-any-clash : (query : List ℕ) (picks : List Pick) (ends : List Line) → acceptsBy f query ≡ true → Ends (f .decode query) (rowAfter f query picks) ends → (lines : List Line) × HandAccepted f query picks lines × (select isClashLine lines ≡ ends)
+  pub hand-any-clash : (query : List ℕ) (picks : List Pick) (ends : List Line) → acceptsBy f query ≡ true → Ends (f .decode query) (rowAfter f query picks) ends
+      → (lines : List Line) × HandAccepted f query picks lines × (select isClashLine lines ≡ ends)
   -- "Any other pick is vain: the row stays."
   pub vain-stays : (q : Query) (p : Pick) (row : List Facts) → isVain q p row ≡ true → splice (picked q p) (p .position) row ≡ row
   -- "lines of four bytes": every number of a derivation fits one

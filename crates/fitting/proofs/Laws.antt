@@ -103,7 +103,8 @@ module _ (n : ℕ) (s : code.Facts) (i : ℕ) (own : HasLink (pathOf s) i) (link
       ∙ ap (λ (g : Graph). allowed n (live n (pathOf s)) g (move i r t)) own-rows ∙ sym (applies-allowed n (pathOf s) i (omega (arith, own .0), own .1) r t)
 
   -- by its two tests
-  pub applies-halves : (r : Rule) (x y z : ℕ) → isNotCycle r ≡ true → (v : Bool) → v ≡ (pairTest (live n (pathOf s)) (graphOf link reach) x y r and thirdTest (graphOf link reach) x y z r) → v ≡ applies n (pathOf s) (move i r (triple x y z))
+  pub applies-halves : (r : Rule) (x y z : ℕ) → isNotCycle r ≡ true → (v : Bool) → v ≡ (pairTest (live n (pathOf s)) (graphOf link reach) x y r and thirdTest (graphOf link reach) x y z r)
+      → v ≡ applies n (pathOf s) (move i r (triple x y z))
   applies-halves r x y z h v u = u ∙ sym (halves n (live n (pathOf s)) (graphOf link reach) x y z r h) ∙ applies-own r (triple x y z)
 
   pub applies-cycle : (r : Rule) (t : Triple) → isNotCycle r ≡ false → (v : Bool) → v ≡ allowed n (live n (pathOf s)) (graphOf link reach) (move 1 CYCLE t) → v ≡ applies n (pathOf s) (move i r t)

@@ -66,7 +66,8 @@ module _ (f : CallForm) (laws : FormLaws f) (claims : Claims f) (short : f .long
 pub lemitsaka-check : (query derivation : List ℕ) (r : ℕ) → r ≡ code (checkDigits (checkCall query derivation)) → checkRead (digitsIn r) ≡ checkCall query derivation
 lemitsaka-check = check-number oneLinkForm one-link-laws checks.claims (omega arith)
 
-pub lemitsaka-links-check : (query derivation : List ℕ) (r : ℕ) → r ≡ code (checkDigits (checkCallOf threeLinkForm query derivation)) → checkRead (digitsIn r) ≡ checkCallOf threeLinkForm query derivation
+pub lemitsaka-links-check : (query derivation : List ℕ) (r : ℕ) → r ≡ code (checkDigits (checkCallOf threeLinkForm query derivation))
+    → checkRead (digitsIn r) ≡ checkCallOf threeLinkForm query derivation
 lemitsaka-links-check = check-number threeLinkForm three-link-laws checks.links-claims (omega arith)
 
 -- the calls that take one slice and are lent so many bytes
