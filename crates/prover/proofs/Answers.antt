@@ -80,7 +80,8 @@ module _ (f : CallForm) (laws : FormLaws f) (order query before bytes : List ℕ
   verdict-room l o h r b =
       does-blank _ (length before) (answer.Refused 9 0) bytes (call-refused i f (verdictChecksOf f) _ (refused 9 0) (room-refused i f o (h .free i refl) r)) b
 
-  pub verdict-walked : (l : Layout) (r : Answer) (room : ℕ) → isOrder order ≡ true → Taken f l query → room ≡ length before → f .room ≤ room → Does (verdictOf (said l query) room (ourWalk order (said l query))) r bytes → Does (verdictCallOf f i) r bytes
+  pub verdict-walked : (l : Layout) (r : Answer) (room : ℕ) → isOrder order ≡ true → Taken f l query → room ≡ length before → f .room ≤ room →
+      Does (verdictOf (said l query) room (ourWalk order (said l query))) r bytes → Does (verdictCallOf f i) r bytes
   unfolding verdictCallOf
   verdict-walked l r room o h e k d =
       subst (λ (x : calls.Outcome). Does x r bytes)
@@ -93,12 +94,14 @@ module _ (f : CallForm) (laws : FormLaws f) (order query before bytes : List ℕ
   unfolding derivationCallOf derivationChecksOf
   derivation-order o b = does-blank _ (length before) (answer.Refused 1 0) bytes (call-refused i f (derivationChecksOf f) _ (refused 1 0) (order-refused i _ o)) b
 
-  pub derivation-query : (k place : ℕ) → isOrder order ≡ true → CheckedBy f (checked.Refused k place) query → bytes ≡ replicate (length before) 0 → Does (derivationCallOf f i) (answer.Refused k place) bytes
+  pub derivation-query : (k place : ℕ) → isOrder order ≡ true → CheckedBy f (checked.Refused k place) query → bytes ≡ replicate (length before) 0 →
+      Does (derivationCallOf f i) (answer.Refused k place) bytes
   unfolding derivationCallOf
   derivation-query k place o h b =
       does-blank _ (length before) (answer.Refused k place) bytes (call-refused i f (derivationChecksOf f) _ (refused k place) (derivation-refused i f (refused k place) o (h i refl))) b
 
-  pub derivation-walked : (l : Layout) (r : Answer) (room : ℕ) → isOrder order ≡ true → Taken f l query → room ≡ length before → Does (derivationOf room (ourWalk order (said l query))) r bytes → Does (derivationCallOf f i) r bytes
+  pub derivation-walked : (l : Layout) (r : Answer) (room : ℕ) → isOrder order ≡ true → Taken f l query → room ≡ length before →
+      Does (derivationOf room (ourWalk order (said l query))) r bytes → Does (derivationCallOf f i) r bytes
   unfolding derivationCallOf
   derivation-walked l r room o h e d =
       subst (λ (x : calls.Outcome). Does x r bytes)

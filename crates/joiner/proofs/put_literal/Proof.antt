@@ -4,6 +4,20 @@ use Rattle.text.proofs.Writing.{writes-then, writes-length}
 use Rattle.joiner.proofs.put_literal.Statement.{statement}
 use Rattle.joiner.proofs.put_literal.Tie as tie
 
+-- The places that lie behind a place.
+
+abbrev put-byte2-of-slice-known4 : tie.After-slice-known4 → tie.After-put-byte2
+put-byte2-of-slice-known4 c = c .before .before
+
+abbrev put-sign-of-put-byte-arg : tie.After-put-byte-arg → tie.After-put-sign
+put-sign-of-put-byte-arg c = c .before .before .before
+
+abbrev start-of-put-sign : tie.After-put-sign → tie.Start
+start-of-put-sign c = c .before .before .before
+
+abbrev put-byte-of-put-byte-arg2 : tie.After-put-byte-arg2 → tie.After-put-byte
+put-byte-of-put-byte-arg2 c = c .before .before .before
+
 pub put-literal-spec : {M : Type 1} → statement M
 put-literal-spec =
     tie.close
@@ -11,14 +25,22 @@ put-literal-spec =
     -- put-sign-requires
     (λ c κs. c .before .before .pre .0)
     -- cast-put-byte
-    (λ c. omega (arith, c .before .before .before .before .before .before .pre .1))
+    (λ c. omega (arith, start-of-put-sign (put-sign-of-put-byte-arg c) .pre .1))
     -- put-byte-requires
-    (λ c κs. omega (arith, c .before .before .before .put-sign .ensures .ends, c .before .before .before .before .before .before .pre .0))
+    (λ c κs.
+    let after-put-sign = put-sign-of-put-byte-arg c in
+    omega (arith, after-put-sign .put-sign .ensures .ends, start-of-put-sign after-put-sign .pre .0))
     -- cast-put-byte-2
-    (λ c. omega (arith, c .before .before .before .before .before .before .before .before .before .before .pre .2))
+    (λ c. omega (arith, start-of-put-sign (put-sign-of-put-byte-arg (put-byte-of-put-byte-arg2 c .before)) .pre .2))
     -- put-byte-requires-2
-    (λ c κs. omega (arith, c .before .before .before .before .before .before .before .put-sign .ensures .ends, c .before .before .before .put-byte .ensures .ends, c .before .before .before .before .before .before .before .before .before .before .pre .0))
+    (λ c κs.
+    let after-put-byte = put-byte-of-put-byte-arg2 c in let after-put-sign = put-sign-of-put-byte-arg (after-put-byte .before) in
+    omega (arith, after-put-sign .put-sign .ensures .ends, after-put-byte .put-byte .ensures .ends, start-of-put-sign after-put-sign .pre .0))
     -- same-length
-    (λ c. writes-length (writes-then (c .before .before .before .before .before .before .before .before .before .before .put-sign .ensures) (writes-then (c .before .before .before .before .before .before .put-byte .ensures) (c .before .before .put-byte2 .ensures))))
+    (λ c.
+    let after-put-byte2 = put-byte2-of-slice-known4 c in let after-put-byte = put-byte-of-put-byte-arg2 (after-put-byte2 .before) in
+    writes-length (writes-then (put-sign-of-put-byte-arg (after-put-byte .before) .put-sign .ensures) (writes-then (after-put-byte .put-byte .ensures) (after-put-byte2 .put-byte2 .ensures))))
     -- returns
-    (λ c. writes-then (c .before .before .before .before .before .before .before .before .before .before .put-sign .ensures) (writes-then (c .before .before .before .before .before .before .put-byte .ensures) (c .before .before .put-byte2 .ensures))))
+    (λ c.
+    let after-put-byte2 = put-byte2-of-slice-known4 c in let after-put-byte = put-byte-of-put-byte-arg2 (after-put-byte2 .before) in
+    writes-then (put-sign-of-put-byte-arg (after-put-byte .before) .put-sign .ensures) (writes-then (after-put-byte .put-byte .ensures) (after-put-byte2 .put-byte2 .ensures))))

@@ -19,4 +19,7 @@ checked-spec =
     -- check-requires
     (λ c κs. search needs)
     -- returns-2
-    (λ c. subst (λ (b : Bool). CheckedBy (formOf b) (c .check .result) (c .before .before .before .args .query .now)) (sym (c .before .if1 .left)) (one-checked (c .check .result) (c .before .before .before .args .query .now) (c .check .ensures))))
+    (λ c.
+    let start = c .before .before .before in
+    subst (λ (b : Bool). CheckedBy (formOf b) (c .check .result) (start .args .query .now)) (sym (c .before .if1 .left))
+    (one-checked (c .check .result) (start .args .query .now) (c .check .ensures))))
