@@ -58,7 +58,8 @@ start-ahead query j n k a e f g =
     (ahead-start (decode query) (acceptance.accepted query a) k (g ∙ ap (λ (m : ℕ). m * m + m) f ∙ sym (limit-one (decode query) (acceptance.decode-links query))))
 
 -- the start's goal by its path and the pairs joined there, and so the first wrong line
-module _ (q : Query) (bytes : List ℕ) (count : ℕ) (shape : Shaped bytes count) (j : Joined) (j-is : j ≡ started q) (r : Judged) (h : JudgesGoal q bytes count (goalOf j) 0 r) (k : ℕ) (found : Concludes count r k) where
+module _ (q : Query) (bytes : List ℕ) (count : ℕ) (shape : Shaped bytes count) (j : Joined) (j-is : j ≡ started q) (r : Judged)
+    (h : JudgesGoal q bytes count (goalOf j) 0 r) (k : ℕ) (found : Concludes count r k) where
   first-is : k ≡ wrongLine q (linesIn bytes)
   first-is = found .concludes q bytes shape (subst (λ (g : Goal). JudgesGoal q bytes count g 0 r) (start-goal q j j-is) h)
 

@@ -123,18 +123,21 @@ module _ (q : Query) (bytes : List ℕ) (count : ℕ) (s : Facts) (at : ℕ) (ru
   many : length (alternatives (termCount q) (s .graph) m) ≡ countOf rule z
   many = count-is 1 (termCount q) (s .graph) rule x y z
 
-  same-branch : (i : ℕ) (j : Joined) → i < countOf rule z → j ≡ branch n s (alternativeAt 1 n (s .graph 1) rule x y z i) → branch (termCount q) s (getD (alternatives (termCount q) (s .graph) m) i other) ≡ j
+  same-branch : (i : ℕ) (j : Joined) → i < countOf rule z → j ≡ branch n s (alternativeAt 1 n (s .graph 1) rule x y z i) →
+      branch (termCount q) s (getD (alternatives (termCount q) (s .graph) m) i other) ≡ j
   same-branch i j l e =
       ap (branch (termCount q) s) (alternative-is 1 (termCount q) (s .graph) rule x y z i other l)
       ∙ ap (λ (k : ℕ). branch k s (alternativeAt 1 k (s .graph 1) rule x y z i)) (sym terms-are) ∙ sym e
 
-  next-goal : (i : ℕ) (j : Joined) → i < countOf rule z → j ≡ branch n s (alternativeAt 1 n (s .graph 1) rule x y z i) → drop i (goalsOf (termCount q) s m) ≡ goalOf j ∷ drop (i + 1) (goalsOf (termCount q) s m)
+  next-goal : (i : ℕ) (j : Joined) → i < countOf rule z → j ≡ branch n s (alternativeAt 1 n (s .graph 1) rule x y z i) →
+      drop i (goalsOf (termCount q) s m) ≡ goalOf j ∷ drop (i + 1) (goalsOf (termCount q) s m)
   unfolding goalsOf
   next-goal i j l e =
       drop-map (λ c. goalOf (branch (termCount q) s c)) (alternatives (termCount q) (s .graph) m) i other (omega (arith, many))
       ∙ ap (λ (k : Joined). goalOf k ∷ drop (i + 1) (map (λ c. goalOf (branch (termCount q) s c)) (alternatives (termCount q) (s .graph) m))) (same-branch i j l e)
 
-  module _ (i to : ℕ) (b : BranchesLeft q bytes count s at m i to) (in-row : i < countOf rule z) (j : Joined) (j-is : j ≡ branch n s (alternativeAt 1 n (s .graph 1) rule x y z i)) (r : Judged) (judged : JudgesGoal q bytes count (goalOf j) to r) where
+  module _ (i to : ℕ) (b : BranchesLeft q bytes count s at m i to) (in-row : i < countOf rule z) (j : Joined)
+      (j-is : j ≡ branch n s (alternativeAt 1 n (s .graph 1) rule x y z i)) (r : Judged) (judged : JudgesGoal q bytes count (goalOf j) to r) where
     at-branch : (gs : List Goal) → wrongAt q bytes (record { heading = []; facts = s } ∷ gs) at ≡ resumed q bytes (drop (i + 1) (goalsOf (termCount q) s m) ++ gs) r
     at-branch gs = b .left gs ∙ ap (λ (hs : List Goal). wrongAt q bytes (hs ++ gs) to) (next-goal i j in-row j-is) ∙ judged .judges (drop (i + 1) (goalsOf (termCount q) s m) ++ gs)
 
@@ -149,17 +152,21 @@ module _ (q : Query) (bytes : List ℕ) (count : ℕ) (s : Facts) (at : ℕ) (ru
           numbered = judged .numbered;
         }
 
-  pub branches-end : (i to : ℕ) → BranchesLeft q bytes count s at m i to → countOf rule z ≤ i → (r : Judged) → r .fits ≡ true → r .at ≡ to → JudgesGoal q bytes count (record { heading = []; facts = s }) at r
+  pub branches-end : (i to : ℕ) → BranchesLeft q bytes count s at m i to → countOf rule z ≤ i → (r : Judged) → r .fits ≡ true → r .at ≡ to →
+      JudgesGoal q bytes count (record { heading = []; facts = s }) at r
   unfolding goalsOf
   branches-end i to b l r f g =
       record {
-        judges = λ gs. b .left gs ∙ ap (λ (hs : List Goal). wrongAt q bytes (hs ++ gs) to) (drop-all (goalsOf (termCount q) s m) i (omega (arith, many, length-map (alternatives (termCount q) (s .graph) m) (λ c. goalOf (branch (termCount q) s c))))) ∙ resumed-true q bytes gs r to f g;
+        judges = λ gs. b .left gs ∙ ap (λ (hs : List Goal). wrongAt q bytes (hs ++ gs) to)
+            (drop-all (goalsOf (termCount q) s m) i
+            (omega (arith, many, length-map (alternatives (termCount q) (s .graph) m) (λ c. goalOf (branch (termCount q) s c))))) ∙ resumed-true q bytes gs r to f g;
         within = λ t. subst (λ (k : ℕ). k ≤ count) (sym g) (b .inside);
         numbered = λ t. absurd (true≢false (sym f ∙ t));
       }
 
   -- a branch is one step deeper
-  pub branch-ahead : Accepted q → (left : ℕ) → Ahead q s left → applies (termCount q) s m ≡ true → (i : ℕ) (j : Joined) → i < countOf rule z → j ≡ branch n s (alternativeAt 1 n (s .graph 1) rule x y z i) → Ahead q (j .facts) (left - 1)
+  pub branch-ahead : Accepted q → (left : ℕ) → Ahead q s left → applies (termCount q) s m ≡ true → (i : ℕ) (j : Joined) → i < countOf rule z →
+      j ≡ branch n s (alternativeAt 1 n (s .graph 1) rule x y z i) → Ahead q (j .facts) (left - 1)
   unfolding add
   branch-ahead ok left ahead app i j l e =
       subst (λ (k : Joined). Ahead q (k .facts) (left - 1)) (same-branch i j l e)

@@ -95,7 +95,9 @@ module _ (q : Query) (bytes : List ℕ) (i : ℕ) where
 
 module _ (bytes : List ℕ) (count : ℕ) (p : Pairs) (first : ℕ) where
   pub record HeadLeft (i to : ℕ) : Type 0 where
-    pub left : (q : Query) (s : Facts) (gs : List Goal) → wrongAt q bytes (record { heading = joinLines (pairsOf p); facts = s } ∷ gs) first ≡ wrongAt q bytes (record { heading = joinLines (pairsFrom p i); facts = s } ∷ gs) to
+    pub left : (q : Query) (s : Facts) (gs : List Goal) →
+        wrongAt q bytes (record { heading = joinLines (pairsOf p); facts = s } ∷ gs) first ≡ wrongAt q bytes
+        (record { heading = joinLines (pairsFrom p i); facts = s } ∷ gs) to
     pub inside : to ≤ count
 
   pub head-begin : first ≤ count → HeadLeft 0 first
@@ -104,7 +106,9 @@ module _ (bytes : List ℕ) (count : ℕ) (p : Pairs) (first : ℕ) where
   abbrev joinOf : ℕ → Line
   joinOf i = line 10 (pairAt (p .kept) (p .replaced) i .0) (pairAt (p .kept) (p .replaced) i .1) 0
 
-  headed-at : (i to : ℕ) → i < p .count → HeadLeft i to → (q : Query) (s : Facts) (gs : List Goal) → wrongAt q bytes (record { heading = joinLines (pairsOf p); facts = s } ∷ gs) first ≡ wrongAt q bytes (record { heading = joinOf i ∷ joinLines (pairsFrom p (i + 1)); facts = s } ∷ gs) to
+  headed-at : (i to : ℕ) → i < p .count → HeadLeft i to → (q : Query) (s : Facts) (gs : List Goal) →
+      wrongAt q bytes (record { heading = joinLines (pairsOf p); facts = s } ∷ gs) first ≡ wrongAt q bytes
+      (record { heading = joinOf i ∷ joinLines (pairsFrom p (i + 1)); facts = s } ∷ gs) to
   unfolding joinLines
   headed-at i to h l q s gs = l .left q s gs ∙ ap (λ (ps : List (ℕ × ℕ)). wrongAt q bytes (record { heading = joinLines ps; facts = s } ∷ gs) to) (pairs-next p i h)
 
@@ -120,7 +124,8 @@ module _ (bytes : List ℕ) (count : ℕ) (p : Pairs) (first : ℕ) where
       read none f e = absurd (false≢true e)
       read (some m) f e = let b = line-within bytes count to m shape f in omega arith
 
-  pub head-wrong : (i to : ℕ) → i < p .count → HeadLeft i to → isLine (lineAt bytes to) (joinOf i) ≡ false → (r : Judged) → r .fits ≡ false → r .at ≡ to + 1 → JudgesHead bytes count (pairsOf p) first r
+  pub head-wrong : (i to : ℕ) → i < p .count → HeadLeft i to → isLine (lineAt bytes to) (joinOf i) ≡ false → (r : Judged) → r .fits ≡ false →
+      r .at ≡ to + 1 → JudgesHead bytes count (pairsOf p) first r
   unfolding resumed
   head-wrong i to h l e r f g =
       record {

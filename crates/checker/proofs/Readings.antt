@@ -38,7 +38,8 @@ module _ (q : Query) (s : Facts) (bytes : List ℕ) (count i : ℕ) (shape : Sha
   unfolding readAt
   read-past h = sym (rw (line-past bytes count i shape h) refl)
 
-  module _ (one : s .links ≡ 1) (there : i < count) (k x y z : ℕ) (ek : k ≡ getD bytes (4 * i + 2) 0) (ex : x ≡ getD bytes (4 * i + 2 + 1) 0) (ey : y ≡ getD bytes (4 * i + 2 + 2) 0) (ez : z ≡ getD bytes (4 * i + 2 + 3) 0) where
+  module _ (one : s .links ≡ 1) (there : i < count) (k x y z : ℕ) (ek : k ≡ getD bytes (4 * i + 2) 0) (ex : x ≡ getD bytes (4 * i + 2 + 1) 0)
+      (ey : y ≡ getD bytes (4 * i + 2 + 2) 0) (ez : z ≡ getD bytes (4 * i + 2 + 3) 0) where
     line-is : lineAt bytes i ≡ some (line k x y z)
     line-is = line-there bytes count i shape there ∙ sym (rw (ek, ex, ey, ez) refl)
 

@@ -57,7 +57,8 @@ pub first-row : (own rows later : List ℕ) → cube later ≡ (λ j. cond (eqb 
 first-row own rows later e = sym (ap (λ (f : ℕ → ℕ → ℕ → Bool). f 1) e)
 
 -- so nothing of a branch of one link is lost with its other rows
-pub rows-joined : (j : joined.Joined) (link reach : List ℕ) → pathOf (j .facts) .links ≡ 1 → square link ≡ cube (j .facts .link) 1 → square reach ≡ cube (j .facts .reach) 1 → singleOf (record { pairs = j .pairs; rep = j .facts .rep; link = link; reach = reach }) ≡ joinedOf j
+pub rows-joined : (j : joined.Joined) (link reach : List ℕ) → pathOf (j .facts) .links ≡ 1 → square link ≡ cube (j .facts .link) 1 →
+    square reach ≡ cube (j .facts .reach) 1 → singleOf (record { pairs = j .pairs; rep = j .facts .rep; link = link; reach = reach }) ≡ joinedOf j
 rows-joined j link reach e l r = ap (λ (s : Facts). record { pairs = pairsOf (j .pairs); facts = s }) (sym (rows-path (j .facts) link reach (one-single (j .facts) e) l r))
 
 -- a branch has the links of its path: joining replaces terms alone
@@ -88,5 +89,6 @@ module _ (s : Facts) (rep link reach : List ℕ) (e : s ≡ pathIn rep link reac
   pub reading-rows : (q : Query) (l : Option Line) (r : Read) → r ≡ readAt q s l → r ≡ readAt q (pathIn rep link reach) l
   reading-rows q l r h = h ∙ ap (λ (t : Facts). readAt q t l) e
 
-  pub branch-rows : (n : ℕ) (rule : Rule) (x y z i : ℕ) (j : Joined) → j ≡ branch n s (alternativeAt 1 n (s .graph 1) rule x y z i) → j ≡ branch n (pathIn rep link reach) (alternativeAt 1 n (pathIn rep link reach .graph 1) rule x y z i)
+  pub branch-rows : (n : ℕ) (rule : Rule) (x y z i : ℕ) (j : Joined) → j ≡ branch n s (alternativeAt 1 n (s .graph 1) rule x y z i) →
+      j ≡ branch n (pathIn rep link reach) (alternativeAt 1 n (pathIn rep link reach .graph 1) rule x y z i)
   branch-rows n rule x y z i j h = h ∙ ap (λ (t : Facts). branch n t (alternativeAt 1 n (t .graph 1) rule x y z i)) e

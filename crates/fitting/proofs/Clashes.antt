@@ -122,7 +122,8 @@ module _ (l : Layout) (bytes : List ℕ) (s : code.Facts) (section i j : ℕ) wh
   abbrev Clashes : Bool
   Clashes = isClash (said l bytes) (pathOf s) (line 9 section i j)
 
-  pub clash-fields : (v : Bool) → v ≡ negatedAt (literalsIn bytes (l .«field_at») (l .«field_count»)) i (λ x. plainAt (literalsIn bytes (l .«field_at») (l .«field_count»)) j (sameField (repOf (s .rep)) x)) → section ≡ 4 → v ≡ Clashes
+  pub clash-fields : (v : Bool) → v ≡ negatedAt (literalsIn bytes (l .«field_at») (l .«field_count»)) i
+      (λ x. plainAt (literalsIn bytes (l .«field_at») (l .«field_count»)) j (sameField (repOf (s .rep)) x)) → section ≡ 4 → v ≡ Clashes
   unfolding pathOf said
   clash-fields v h e = h ∙ in-fields (said l bytes) (pathOf s) section i j e
 

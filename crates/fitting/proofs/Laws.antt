@@ -105,7 +105,8 @@ module _ (n : ℕ) (s : code.Facts) (link reach : List ℕ) (e : square link ≡
   applies-own r t = ap (λ (g : Graph). allowed n (live n (pathOf s)) g (move 1 r t)) own-rows ∙ sym (applies-allowed n (pathOf s) 1 has-one r t)
 
   -- by its two tests
-  pub applies-halves : (r : Rule) (x y z : ℕ) → isNotCycle r ≡ true → (v : Bool) → v ≡ (pairTest (live n (pathOf s)) (graphOf link reach) x y r and thirdTest (graphOf link reach) x y z r) → v ≡ applies n (pathOf s) (move 1 r (triple x y z))
+  pub applies-halves : (r : Rule) (x y z : ℕ) → isNotCycle r ≡ true → (v : Bool) →
+      v ≡ (pairTest (live n (pathOf s)) (graphOf link reach) x y r and thirdTest (graphOf link reach) x y z r) → v ≡ applies n (pathOf s) (move 1 r (triple x y z))
   applies-halves r x y z h v u = u ∙ sym (halves n (live n (pathOf s)) (graphOf link reach) x y z r h) ∙ applies-own r (triple x y z)
 
   pub applies-cycle : (r : Rule) (t : Triple) → isNotCycle r ≡ false → (v : Bool) → v ≡ allowed n (live n (pathOf s)) (graphOf link reach) (move 1 CYCLE t) → v ≡ applies n (pathOf s) (move 1 r t)

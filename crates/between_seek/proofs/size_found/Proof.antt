@@ -11,12 +11,16 @@ size-found-spec =
     tie.close
     (tie.spec
     -- links-found-requires
-    (λ c κs. record { given = c .before .before .pre .0; few-nodes = c .before .before .pre .1 })
+    (λ c κs.
+    let start = c .before .before in
+    record { given = start .pre .0; few-nodes = start .pre .1 })
     -- returns
     (λ c.
     let none = keep-false _ (not-true _ (c .if1 .taken)) in
     none ∙ size-none _ _ (sym (c .before .before .links-found .ensures) ∙ none))
     -- links-found-requires-2
-    (λ c κs. record { given = c .before .before .before .before .before .pre .0; few-nodes = c .before .before .before .before .before .pre .1 })
+    (λ c κs.
+    let start = c .before .before .before .before .before in
+    record { given = start .pre .0; few-nodes = start .pre .1 })
     -- returns-2
     (λ c. c .links-found2 .ensures ∙ size-some _ _ _ (sym (c .before .before .before .links-found .ensures) ∙ keep-true _ (not-false _ (c .before .if1 .left)))))

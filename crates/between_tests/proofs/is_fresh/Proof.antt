@@ -31,12 +31,17 @@ is-fresh-spec =
     -- node-of-requires-2
     (λ c κs. omega (arith, c .before .before .before .pre .1, c .loop-test .taken))
     -- returns
-    (λ c. fresh-is _ _ _ true (node-read _ _ _ (c .before .before .before .before .before .before .node-of .ensures)) (c .before .before .before .before .before .loop .inv ∙ any-here _ _ _ (c .before .before .before .before .loop-test .taken) (eq-eqb _ _ (sym (node-read _ _ _ (c .before .before .before .node-of2 .ensures)) ∙ c .if1 .taken))))
+    (λ c.
+    let after-node-of2 = c .before .before .before in let in-loop = after-node-of2 .before in let at-loop = in-loop .before in
+    fresh-is _ _ _ true (node-read _ _ _ (at-loop .before .node-of .ensures))
+    (at-loop .loop .inv ∙ any-here _ _ _ (in-loop .loop-test .taken) (eq-eqb _ _ (sym (node-read _ _ _ (after-node-of2 .node-of2 .ensures)) ∙ c .if1 .taken))))
     -- add-u
     (λ c. omega arith)
     -- loop-less
     (λ c. omega arith)
     -- loop-again
-    (λ c. c .before .before .before .before .before .loop .inv ∙ any-next _ _ _ (c .before .before .before .before .loop-test .taken) (ne-eqb _ _ (λ e. c .if1 .left ((node-read _ _ _ (c .before .before .before .node-of2 .ensures)) ∙ e))))
+    (λ c.
+    let after-node-of2 = c .before .before .before in let in-loop = after-node-of2 .before in
+    in-loop .before .loop .inv ∙ any-next _ _ _ (in-loop .loop-test .taken) (ne-eqb _ _ (λ e. c .if1 .left ((node-read _ _ _ (after-node-of2 .node-of2 .ensures)) ∙ e))))
     -- returns-2
     (λ c. fresh-is _ _ _ false (node-read _ _ _ (c .before .before .node-of .ensures)) (c .before .loop .inv ∙ any-end _ _ _ (c .loop-test .left))))

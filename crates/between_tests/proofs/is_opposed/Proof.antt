@@ -31,12 +31,18 @@ is-opposed-spec =
     -- has-field-requires-2
     (λ c κs. c .before .before .before .before .pre)
     -- returns
-    (λ c. sym (c .before .before .before .before .loop .inv ∙ any-here _ _ _ (c .before .before .before .loop-test .taken) (ap₂ (λ (x y : Bool). x && y) (sym (c .before .before .has-field .ensures)) (sym (c .before .has-field2 .ensures)) ∙ c .if1 .taken)))
+    (λ c.
+    let in-loop = c .before .before .before in
+    sym (in-loop .before .loop .inv ∙ any-here _ _ _ (in-loop .loop-test .taken)
+    (ap₂ (λ (x y : Bool). x && y) (sym (c .before .before .has-field .ensures)) (sym (c .before .has-field2 .ensures)) ∙ c .if1 .taken)))
     -- add-j
     (λ c. omega arith)
     -- loop-less
     (λ c. omega arith)
     -- loop-again
-    (λ c. c .before .before .before .before .loop .inv ∙ any-next _ _ _ (c .before .before .before .loop-test .taken) (ap₂ (λ (x y : Bool). x && y) (sym (c .before .before .has-field .ensures)) (sym (c .before .has-field2 .ensures)) ∙ c .if1 .left))
+    (λ c.
+    let in-loop = c .before .before .before in
+    in-loop .before .loop .inv ∙ any-next _ _ _ (in-loop .loop-test .taken)
+    (ap₂ (λ (x y : Bool). x && y) (sym (c .before .before .has-field .ensures)) (sym (c .before .has-field2 .ensures)) ∙ c .if1 .left))
     -- returns-2
     (λ c. sym (c .before .loop .inv ∙ any-end _ _ _ (c .loop-test .left))))

@@ -14,7 +14,8 @@ use Rattle.between_tests.proofs.Laws.{literals-begin}
 
 abbrev Inv-loop : tie.InvT-loop
 Inv-loop query at count most table nodes t i₀ i =
-    (link : ℕ → ℕ) → Stepped table link → any (pairBreaks link (entry nodes) most (t .0)) (literalsIn query at count) ≡ any (pairBreaks link (entry nodes) most (t .0)) (listed (literalIn query at) count i)
+    (link : ℕ → ℕ) → Stepped table link → any (pairBreaks link (entry nodes) most (t .0)) (literalsIn query at count) ≡ any
+    (pairBreaks link (entry nodes) most (t .0)) (listed (literalIn query at) count i)
 
 abbrev μ-loop : tie.MeasureT-loop
 μ-loop query at count most table nodes t i₀ i = count - i
@@ -28,7 +29,9 @@ pairs-break-spec =
     -- loop-holds
     (λ c link s. literals-begin _ _ _ (c .before .pre .0) _)
     -- pair-breaks-requires
-    (λ c κs. (omega (arith, c .before .before .before .pre .0, c .loop-test .taken), c .before .before .before .pre .1, c .before .before .before .pre .2))
+    (λ c κs.
+    let start = c .before .before .before in
+    (omega (arith, start .pre .0, c .loop-test .taken), start .pre .1, start .pre .2))
     -- returns
     (λ c link s. sym (c .before .before .before .loop .inv link s ∙ any-listed-here _ _ _ _ (c .before .before .loop-test .taken) (sym (c .before .pair-breaks .ensures link s) ∙ c .if1 .taken)))
     -- add-i

@@ -22,4 +22,9 @@ says-field-spec =
     -- right-requires
     (λ c κs. search needs)
     -- returns
-    (λ c. ap₂ (λ (x y : Bool). x && y) (ap₂ (λ (x y : Bool). x && y) (c .before .before .before .before .agrees .ensures ∙ ap (agrees (c .before .before .before .before .before .before .before .args .sign)) (c .before .before .before .before .before .sign .ensures)) (ap (λ (x : ℕ). eqb x (c .before .before .before .before .before .before .before .args .j)) (c .before .before .before .field .ensures))) (ap (λ (x : ℕ). eqb x (c .before .before .before .before .before .before .before .args .t .0)) (c .before .before .right .ensures))))
+    (λ c.
+    let after-field = c .before .before .before in let after-agrees = after-field .before in let after-sign = after-agrees .before in
+    let start = after-sign .before .before in
+    ap₂ (λ (x y : Bool). x && y) (ap₂ (λ (x y : Bool). x && y)
+    (after-agrees .agrees .ensures ∙ ap (agrees (start .args .sign)) (after-sign .sign .ensures))
+    (ap (λ (x : ℕ). eqb x (start .args .j)) (after-field .field .ensures))) (ap (λ (x : ℕ). eqb x (start .args .t .0)) (c .before .before .right .ensures))))

@@ -23,7 +23,9 @@ step-count-spec =
     -- loop-holds
     (λ c. (omega arith, c .pre .1, steps-begin _ _ _))
     -- returns
-    (λ c. (sym (c .before .before .before .before .loop .inv .2 ∙ steps-here _ _ _ _ (c .before .before .before .loop-test .taken) (c .if1 .taken)), omega arith))
+    (λ c.
+    let in-loop = c .before .before .before in
+    (sym (in-loop .before .loop .inv .2 ∙ steps-here _ _ _ _ (in-loop .loop-test .taken) (c .if1 .taken)), omega arith))
     -- link-of-requires
     (λ c κs. omega (arith, c .before .before .before .before .loop .inv .1))
     -- add-k
@@ -31,6 +33,14 @@ step-count-spec =
     -- loop-less
     (λ c. omega arith)
     -- loop-again
-    (λ c. (omega arith, rw (c .link-of .ensures) (c .before .before .before .before .before .before .pre .0 (c .before .before .before .before .before .loop .at .0)), c .before .before .before .before .before .loop .inv .2 ∙ steps-next _ _ _ _ _ (c .before .before .before .before .loop-test .taken) (c .before .if1 .left) (c .link-of .ensures)))
+    (λ c.
+    let in-loop = c .before .before .before .before in let at-loop = in-loop .before in (
+      omega arith,
+      rw (c .link-of .ensures) (at-loop .before .pre .0 (at-loop .loop .at .0)),
+      at-loop .loop .inv .2
+          ∙ steps-next _ _ _ _ _ (in-loop .loop-test .taken) (c .before .if1 .left) (c .link-of .ensures),
+    ))
     -- returns-2
-    (λ c. (sym (c .before .loop .inv .2 ∙ steps-end _ _ _ _ (c .loop-test .left) (c .before .loop .inv .0)), omega arith)))
+    (λ c.
+    let at-loop = c .before in
+    (sym (at-loop .loop .inv .2 ∙ steps-end _ _ _ _ (c .loop-test .left) (at-loop .loop .inv .0)), omega arith)))

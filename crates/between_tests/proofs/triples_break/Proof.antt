@@ -28,7 +28,9 @@ triples-break-spec =
     -- loop-holds
     (λ c link s. ap (any _) (triples-are _ _ (c .before .pre .0)))
     -- triple-breaks-requires
-    (λ c κs. (omega (arith, c .before .before .before .pre .0, c .loop-test .taken), c .before .before .before .pre .1, c .before .before .before .pre .2))
+    (λ c κs.
+    let start = c .before .before .before in
+    (omega (arith, start .pre .0, c .loop-test .taken), start .pre .1, start .pre .2))
     -- returns
     (λ c link s. sym (c .before .before .before .loop .inv link s ∙ any-listed-here _ _ _ _ (c .before .before .loop-test .taken) (sym (c .before .triple-breaks .ensures link s) ∙ c .if1 .taken)))
     -- add-i

@@ -44,6 +44,22 @@ check-goal-Inv-loop query layout derivation count left rep link reach first n at
 abbrev check-goal-μ-loop : check-goal-lts.MeasureT-loop
 check-goal-μ-loop query layout derivation count left rep link reach first n at rule x y z total to₀ i₀ to i = total - i
 
+-- The places that lie behind a place.
+module _ {K : check-goal-lts.Claims} {P : In 3 check-goal-kinds.ps} where
+  abbrev read-at-of-count : check-goal-lts.After-count K P check-goal.Post check-goal-Inv-loop check-goal-μ-loop →
+      check-goal-lts.After-read-at K P check-goal.Post check-goal-Inv-loop check-goal-μ-loop
+  read-at-of-count c = c .before .before .before .before
+
+  abbrev rule-of-in-loop : check-goal-lts.In-loop K P check-goal.Post check-goal-Inv-loop check-goal-μ-loop → check-goal-lts.After-rule K P check-goal.Post check-goal-Inv-loop check-goal-μ-loop
+  rule-of-in-loop c = c .before .before .before .before
+
+  abbrev branch-at-of-check-goal-arg4 : check-goal-lts.After-check-goal-arg4 K P check-goal.Post check-goal-Inv-loop check-goal-μ-loop →
+      check-goal-lts.After-branch-at K P check-goal.Post check-goal-Inv-loop check-goal-μ-loop
+  branch-at-of-check-goal-arg4 c = c .before .before .before .before .before
+
+  abbrev start-of-else1 : check-goal-lts.Else1 K P check-goal.Post check-goal-Inv-loop check-goal-μ-loop → check-goal-lts.Start K P check-goal.Post check-goal-Inv-loop check-goal-μ-loop
+  start-of-else1 c = c .before .before .before .before .before
+
 less-left : (k t : ℕ) → 1 ≤ k → k ≡ t → k - 1 < t
 less-left k t l e = omega arith
 
@@ -66,59 +82,103 @@ unfolding goalOf
     check-goal-Inv-loop
     check-goal-μ-loop
     -- check-head-requires
-    (λ c κs. (c .before .before .pre .1 .2, c .before .before .pre .1 .4, c .before .before .pre .1 .5))
+    (λ c κs.
+    let start = c .before .before in
+    (start .pre .1 .2, start .pre .1 .4, start .pre .1 .5))
     -- returns
     (λ c. head-judged _ _ _ _ _ _ _ (c .before .before .check-head .ensures) (not-true _ (c .if1 .taken)))
     -- read-at-requires
     (λ c κs.
-    let p = c .before .before .before .before .before .pre .1 in
+    let p = start-of-else1 c .pre .1 in
     (p .0, p .2))
     -- enum-told
     (λ c. search needs)
     -- add-t26
-    (λ c. let l = c .before .before .before .before .before .check-head .ensures .within (not-false _ (c .before .before .before .if1 .left)) in let b = c .before .before .before .before .before .before .before .before .pre .1 .2 .bounded in omega arith)
+    (λ c.
+    let else1 = c .before .before .before in
+    let l = else1 .before .before .check-head .ensures .within (not-false _ (else1 .if1 .left)) in let b = start-of-else1 else1 .pre .1 .2 .bounded in omega arith)
     -- enum-told-2
     (λ c. search needs)
     -- add-t27
-    (λ c. let l = c .before .before .before .before .before .check-head .ensures .within (not-false _ (c .before .before .before .if1 .left)) in let b = c .before .before .before .before .before .before .before .before .pre .1 .2 .bounded in omega arith)
+    (λ c.
+    let else1 = c .before .before .before in
+    let l = else1 .before .before .check-head .ensures .within (not-false _ (else1 .if1 .left)) in let b = start-of-else1 else1 .pre .1 .2 .bounded in omega arith)
     -- enum-known-rule
     (λ c. search needs)
     -- count-requires
     (λ c κs. search needs)
     -- add-to
-    (λ c. let l = c .before .before .before .before .before .before .before .check-head .ensures .within (not-false _ (c .before .before .before .before .before .if1 .left)) in let b = c .before .before .before .before .before .before .before .before .before .before .pre .1 .2 .bounded in omega arith)
+    (λ c.
+    let else1 = read-at-of-count c .before in
+    let l = else1 .before .before .check-head .ensures .within (not-false _ (else1 .if1 .left)) in let b = start-of-else1 else1 .pre .1 .2 .bounded in omega arith)
     -- loop-holds
-    (λ c. branches-begin _ _ _ (c .before .before .before .before .before .before .before .before .before .before .pre .1 .2) _ _ _ (reading-is readingOf _ _ _ (c .before .before .before .before .read-at .ensures) (c .before .before .rule .given .1)))
+    (λ c.
+    let after-read-at = read-at-of-count c in
+    branches-begin _ _ _ (start-of-else1 (after-read-at .before) .pre .1 .2) _ _ _ (reading-is readingOf _ _ _ (after-read-at .read-at .ensures) (c .before .before .rule .given .1)))
     -- branch-at-requires
-    (λ c κs. let f = ahead-numbers _ (accepted _ (c .before .before .before .before .before .before .before .before .before .before .before .before .pre .1 .1)) _ _ (c .before .before .before .before .before .before .before .before .before .before .before .before .pre .1 .3) _ _ _ _ _ (ruling-applies _ _ _ _ (reading-is readingOf _ _ _ (c .before .before .before .before .before .before .read-at .ensures) (c .before .before .before .before .rule .given .1))) in (c .before .before .before .before .before .before .before .before .before .before .before .before .pre .1 .0 .terms-within, f .0, f .1, f .2))
+    (λ c κs.
+    let after-rule = rule-of-in-loop c in let after-read-at = after-rule .before .before in
+    let start = start-of-else1 (after-read-at .before) in
+    let f = ahead-numbers _ (accepted _ (start .pre .1 .1)) _ _ (start .pre .1 .3) _ _ _ _ _
+    (ruling-applies _ _ _ _ (reading-is readingOf _ _ _ (after-read-at .read-at .ensures) (after-rule .rule .given .1))) in
+    (start .pre .1 .0 .terms-within, f .0, f .1, f .2))
     -- sub-check-goal
-    (λ c. ahead-some _ (accepted _ (c .before .before .before .before .before .before .before .before .before .before .before .before .before .pre .1 .1)) _ _ (c .before .before .before .before .before .before .before .before .before .before .before .before .before .pre .1 .3) _ (ruling-applies _ _ _ _ (reading-is readingOf _ _ _ (c .before .before .before .before .before .before .before .read-at .ensures) (c .before .before .before .before .before .rule .given .1))))
+    (λ c.
+    let after-rule = rule-of-in-loop (c .before) in let after-read-at = after-rule .before .before in
+    let start = start-of-else1 (after-read-at .before) in
+    ahead-some _ (accepted _ (start .pre .1 .1)) _ _ (start .pre .1 .3) _ (ruling-applies _ _ _ _ (reading-is readingOf _ _ _ (after-read-at .read-at .ensures) (after-rule .rule .given .1))))
     -- check-goal-requires
     (λ c κs.
-    let p = c .before .before .before .before .before .before .before .before .before .before .before .before .before .before .before .before .before .before .pre .1 in
-    let app = (ruling-applies _ _ _ _ (reading-is readingOf _ _ _ (c .before .before .before .before .before .before .before .before .before .before .before .before .read-at .ensures) (c .before .before .before .before .before .before .before .before .before .before .rule .given .1))) in
+    let after-branch-at = branch-at-of-check-goal-arg4 c in let in-loop = after-branch-at .before in let at-loop = in-loop .before in
+    let after-count = at-loop .before in let after-read-at = read-at-of-count after-count in
+    let start = start-of-else1 (after-read-at .before) in
+    let p = start .pre .1 in
+    let app = (ruling-applies _ _ _ _ (reading-is readingOf _ _ _ (after-read-at .read-at .ensures) (rule-of-in-loop in-loop .rule .given .1))) in
     let some = ahead-some _ (accepted _ (p .1)) _ _ (p .3) _ app in (
-      less-left _ _ some (c .before .before .before .before .before .before .before .before .before .before .before .before .before .before .before .before .before .before .pre .0),
+      less-left _ _ some (start .pre .0),
       (
         p .0,
         p .1,
         p .2,
-        branch-ahead _ [] 0 _ 0 _ _ _ _ _ (p .0 .term-count) (accepted _ (p .1)) _ (p .3) app _ _ (subst (λ (j : ℕ). c .before .before .before .before .before .before .before .loop .i < j) (c .before .before .before .before .before .before .before .before .count .ensures) (c .before .before .before .before .before .before .loop-test .taken)) (c .before .before .before .before .before .branch-at .ensures),
-        subst Fits (sym (c .before .before .before .before .before .branch-at .ensures)) (branch-fits _ _ _ (p .0 .terms-within)),
-        c .before .before .before .before .before .before .before .loop .inv .inside,
+        branch-ahead _ [] 0 _ 0 _ _ _ _ _ (p .0 .term-count) (accepted _ (p .1)) _ (p .3) app _ _
+            (subst (λ (j : ℕ). c .before .before .before .before .before .before .before .loop .i < j) (after-count .count .ensures)
+            (in-loop .loop-test .taken)) (after-branch-at .branch-at .ensures),
+        subst Fits (sym (after-branch-at .branch-at .ensures)) (branch-fits _ _ _ (p .0 .terms-within)),
+        at-loop .loop .inv .inside,
       ),
     ))
     -- returns-2
-    (λ c. after-head _ _ _ _ _ _ _ (c .before .before .before .before .before .before .before .before .before .before .before .before .before .before .before .before .before .before .check-head .ensures) (not-false _ (c .before .before .before .before .before .before .before .before .before .before .before .before .before .before .before .before .if1 .left)) _ (branches-wrong _ _ _ _ _ _ _ _ _ _ (c .before .before .before .before .before .before .before .before .before .before .before .before .before .before .before .before .before .before .before .before .before .pre .1 .0 .term-count) _ _ (c .before .before .before .before .before .before .before .before .before .before .loop .inv) (subst (λ (j : ℕ). c .before .before .before .before .before .before .before .before .before .before .loop .i < j) (c .before .before .before .before .before .before .before .before .before .before .before .count .ensures) (c .before .before .before .before .before .before .before .before .before .loop-test .taken)) _ (c .before .before .before .before .before .before .before .before .branch-at .ensures) _ (c .before .before .check-goal .ensures) (not-true _ (c .if2 .taken))))
+    (λ c.
+    let after-branch-at = branch-at-of-check-goal-arg4 (c .before .before .before) in let in-loop = after-branch-at .before in
+    let at-loop = in-loop .before in let after-count = at-loop .before in let else1 = read-at-of-count after-count .before in
+    after-head _ _ _ _ _ _ _ (else1 .before .before .check-head .ensures) (not-false _ (else1 .if1 .left)) _
+    (branches-wrong _ _ _ _ _ _ _ _ _ _ (start-of-else1 else1 .pre .1 .0 .term-count) _ _ (at-loop .loop .inv)
+    (subst (λ (j : ℕ). c .before .before .before .before .before .before .before .before .before .before .loop .i < j) (after-count .count .ensures)
+    (in-loop .loop-test .taken)) _ (after-branch-at .branch-at .ensures) _ (c .before .before .check-goal .ensures) (not-true _ (c .if2 .taken))))
     -- add-i
     (λ c. search needs)
     -- loop-less
-    (λ c. let l = c .before .before .before .before .before .before .before .before .before .loop-test .taken in omega arith)
+    (λ c. let l = branch-at-of-check-goal-arg4 (c .before .before .before) .before .loop-test .taken in omega arith)
     -- loop-again
-    (λ c. branches-next _ _ _ _ _ _ _ _ _ _ (c .before .before .before .before .before .before .before .before .before .before .before .before .before .before .before .before .before .before .before .before .before .pre .1 .0 .term-count) _ _ (c .before .before .before .before .before .before .before .before .before .before .loop .inv) (subst (λ (j : ℕ). c .before .before .before .before .before .before .before .before .before .before .loop .i < j) (c .before .before .before .before .before .before .before .before .before .before .before .count .ensures) (c .before .before .before .before .before .before .before .before .before .loop-test .taken)) _ (c .before .before .before .before .before .before .before .before .branch-at .ensures) _ (c .before .before .check-goal .ensures) (not-false _ (c .if2 .left)))
+    (λ c.
+    let after-branch-at = branch-at-of-check-goal-arg4 (c .before .before .before) in let in-loop = after-branch-at .before in
+    let at-loop = in-loop .before in let after-count = at-loop .before in
+    branches-next _ _ _ _ _ _ _ _ _ _ (start-of-else1 (read-at-of-count after-count .before) .pre .1 .0 .term-count) _ _ (at-loop .loop .inv)
+    (subst (λ (j : ℕ). c .before .before .before .before .before .before .before .before .before .before .loop .i < j) (after-count .count .ensures)
+    (in-loop .loop-test .taken)) _ (after-branch-at .branch-at .ensures) _ (c .before .before .check-goal .ensures) (not-false _ (c .if2 .left)))
     -- returns-3
-    (λ c. after-head _ _ _ _ _ _ _ (c .before .before .before .before .before .check-head .ensures) (not-false _ (c .before .before .before .if1 .left)) _ (goal-wrong _ _ _ (c .before .before .before .before .before .before .before .before .pre .1 .2) _ _ (reading-is readingOf _ _ _ (c .before .before .read-at .ensures) (c .enum-told .given .1)) _ refl refl))
+    (λ c.
+    let else1 = c .before .before .before in
+    after-head _ _ _ _ _ _ _ (else1 .before .before .check-head .ensures) (not-false _ (else1 .if1 .left)) _
+    (goal-wrong _ _ _ (start-of-else1 else1 .pre .1 .2) _ _ (reading-is readingOf _ _ _ (c .before .before .read-at .ensures) (c .enum-told .given .1)) _ refl refl))
     -- returns-4
-    (λ c. after-head _ _ _ _ _ _ _ (c .before .before .before .before .before .check-head .ensures) (not-false _ (c .before .before .before .if1 .left)) _ (goal-ends _ _ _ (c .before .before .before .before .before .before .before .before .pre .1 .2) _ _ (reading-is readingOf _ _ _ (c .before .before .read-at .ensures) (c .enum-told2 .given .1)) _ refl refl))
+    (λ c.
+    let else1 = c .before .before .before in
+    after-head _ _ _ _ _ _ _ (else1 .before .before .check-head .ensures) (not-false _ (else1 .if1 .left)) _
+    (goal-ends _ _ _ (start-of-else1 else1 .pre .1 .2) _ _ (reading-is readingOf _ _ _ (c .before .before .read-at .ensures) (c .enum-told2 .given .1)) _ refl refl))
     -- returns-5
-    (λ c. after-head _ _ _ _ _ _ _ (c .before .before .before .before .before .before .before .before .before .check-head .ensures) (not-false _ (c .before .before .before .before .before .before .before .if1 .left)) _ (branches-end _ _ _ _ _ _ _ _ _ _ (c .before .before .before .before .before .before .before .before .before .before .before .before .pre .1 .0 .term-count) _ _ (c .before .loop .inv) (subst (λ (j : ℕ). j ≤ c .before .loop .i) (c .before .before .count .ensures) (c .loop-test .left)) _ refl refl))
+    (λ c.
+    let at-loop = c .before in let else1 = read-at-of-count (at-loop .before) .before in
+    after-head _ _ _ _ _ _ _ (else1 .before .before .check-head .ensures) (not-false _ (else1 .if1 .left)) _
+    (branches-end _ _ _ _ _ _ _ _ _ _ (start-of-else1 else1 .pre .1 .0 .term-count) _ _ (at-loop .loop .inv)
+    (subst (λ (j : ℕ). j ≤ at-loop .loop .i) (at-loop .before .count .ensures) (c .loop-test .left)) _ refl refl))

@@ -19,4 +19,6 @@ branch-at-spec =
     -- rows-of-requires
     (λ c κs. branch-one _ _ _ _ (c .before .held .ensures) _ _ (joinedOf (c .branch .result)) (c .branch .ensures))
     -- returns
-    (λ c. let a = c .before .before .before .args in c .rows-of .ensures ∙ branch-rows _ _ _ _ (c .before .before .held .ensures) (a .n) (kindOf (a .rule)) (a .x .0) (a .y .0) (a .z .0) (a .i) _ (c .before .branch .ensures)))
+    (λ c. let a = c .before .before .before .args in
+    c .rows-of .ensures ∙ branch-rows _ _ _ _ (c .before .before .held .ensures) (a .n) (kindOf (a .rule)) (a .x .0) (a .y .0) (a .z .0) (a .i) _
+    (c .before .branch .ensures)))

@@ -9,6 +9,17 @@ use Rattle.checker.proofs.Answered.{call-refused, call-misshapen, call-
 use Rattle.checker.proofs.check.Statement.{statement}
 use Rattle.checker.proofs.check.Tie as tie
 
+-- The places that lie behind a place.
+
+abbrev check-of-layout : tie.After-layout → tie.After-check
+check-of-layout c = c .before .before
+
+abbrev layout-of-is-shaped : tie.After-is-shaped → tie.After-layout
+layout-of-is-shaped c = c .before .before
+
+abbrev start-of-check : tie.After-check → tie.Start
+start-of-check c = c .before .before .before
+
 pub check-spec : {M : Type 1} → statement M
 check-spec =
     tie.close
@@ -22,10 +33,21 @@ check-spec =
     -- is-shaped-requires
     (λ c κs. search needs)
     -- returns
-    (λ c. call-misshapen _ _ _ (subst (λ (x : Checked). CheckedAs x (c .before .before .before .before .before .before .before .before .args .query .now)) (c .before .before .before .layout .given .1) (c .before .before .before .before .before .check .ensures)) (sym (c .before .is-shaped .ensures) ∙ not-true _ (c .if1 .taken)))
+    (λ c.
+    let after-layout = layout-of-is-shaped (c .before) in let after-check = check-of-layout after-layout in
+    call-misshapen _ _ _ (subst (λ (x : Checked). CheckedAs x (start-of-check after-check .args .query .now)) (after-layout .layout .given .1)
+    (after-check .check .ensures)) (sym (c .before .is-shaped .ensures) ∙ not-true _ (c .if1 .taken)))
     -- judge-requires
-    (λ c κs. let h = (subst (λ (x : Checked). CheckedAs x (c .before .before .before .before .before .before .before .before .args .query .now)) (c .before .before .before .layout .given .1) (c .before .before .before .before .before .check .ensures)) in (h .1, checked-accepts _ _ h, sym (c .before .is-shaped .ensures) ∙ not-false _ (c .if1 .left)))
+    (λ c κs.
+    let after-layout = layout-of-is-shaped (c .before) in let after-check = check-of-layout after-layout in
+    let h = (subst (λ (x : Checked). CheckedAs x (start-of-check after-check .args .query .now)) (after-layout .layout .given .1) (after-check .check .ensures)) in
+    (h .1, checked-accepts _ _ h, sym (c .before .is-shaped .ensures) ∙ not-false _ (c .if1 .left)))
     -- returns-2
-    (λ c. call-refused _ _ _ _ (subst (λ (x : Checked). CheckedAs x (c .before .before .before .before .before .before .args .query .now)) (c .before .k .given .1) (c .before .before .before .check .ensures)))
+    (λ c.
+    let after-check = c .before .before .before in
+    call-refused _ _ _ _ (subst (λ (x : Checked). CheckedAs x (start-of-check after-check .args .query .now)) (c .before .k .given .1) (after-check .check .ensures)))
     -- returns-3
-    (λ c. call-judged _ _ _ (subst (λ (x : Checked). CheckedAs x (c .before .before .before .before .before .before .before .before .before .args .query .now)) (c .before .before .before .before .layout .given .1) (c .before .before .before .before .before .before .check .ensures)) (sym (c .before .before .is-shaped .ensures) ∙ not-false _ (c .before .if1 .left)) _ (c .judge .ensures)))
+    (λ c.
+    let after-layout = layout-of-is-shaped (c .before .before) in let after-check = check-of-layout after-layout in
+    call-judged _ _ _ (subst (λ (x : Checked). CheckedAs x (start-of-check after-check .args .query .now)) (after-layout .layout .given .1)
+    (after-check .check .ensures)) (sym (c .before .before .is-shaped .ensures) ∙ not-false _ (c .before .if1 .left)) _ (c .judge .ensures)))

@@ -14,6 +14,14 @@ Inv-loop derivation count first pairs total at₀ i₀ at i = HeadLeft derivatio
 abbrev μ-loop : tie.MeasureT-loop
 μ-loop derivation count first pairs total at₀ i₀ at i = total - i
 
+-- The places that lie behind a place.
+
+abbrev start-of-at-loop : tie.At-loop Inv-loop μ-loop → tie.Start Inv-loop μ-loop
+start-of-at-loop c = c .before .before
+
+abbrev in-loop-of-is-join : tie.After-is-join Inv-loop μ-loop → tie.In-loop Inv-loop μ-loop
+in-loop-of-is-join c = c .before .before .before
+
 pub check-head-spec : {M : Type 1} → statement M
 check-head-spec =
     tie.close
@@ -23,22 +31,36 @@ check-head-spec =
     -- loop-holds
     (λ c. head-begin _ _ _ _ (c .before .pre .2))
     -- element-copy-out-kept
-    (λ c. let l = c .loop-test .taken in omega (arith, c .before .before .before .pre .1, pairs-count (c .before .before .before .args .t3)))
+    (λ c.
+    let start = start-of-at-loop (c .before) in
+    let l = c .loop-test .taken in omega (arith, start .pre .1, pairs-count (start .args .t3)))
     -- element-copy-out-replaced
-    (λ c. let l = c .before .loop-test .taken in omega (arith, c .before .before .before .before .pre .1, pairs-count (c .before .before .before .before .args .t3)))
+    (λ c.
+    let start = start-of-at-loop (c .before .before) in
+    let l = c .before .loop-test .taken in omega (arith, start .pre .1, pairs-count (start .args .t3)))
     -- is-join-requires
-    (λ c κs. c .before .before .before .before .before .pre .0)
+    (λ c κs. start-of-at-loop (c .before .before .before) .pre .0)
     -- add-t18
-    (λ c. let b = c .before .before .before .before .before .loop .inv .inside in let p = c .before .before .before .before .before .before .before .pre .0 .bounded in omega arith)
+    (λ c.
+    let at-loop = in-loop-of-is-join (c .before) .before in
+    let b = at-loop .loop .inv .inside in let p = start-of-at-loop at-loop .pre .0 .bounded in omega arith)
     -- returns
-    (λ c. head-wrong _ _ (c .before .before .before .before .before .before .before .args .t3) _ _ _ (c .before .before .before .before .loop-test .taken) (c .before .before .before .before .before .loop .inv) (sym (c .before .is-join .ensures) ∙ not-true _ (c .if1 .taken)) _ refl refl)
+    (λ c.
+    let in-loop = in-loop-of-is-join (c .before) in let at-loop = in-loop .before in
+    head-wrong _ _ (start-of-at-loop at-loop .args .t3) _ _ _ (in-loop .loop-test .taken) (at-loop .loop .inv) (sym (c .before .is-join .ensures) ∙ not-true _ (c .if1 .taken)) _ refl refl)
     -- add-at
-    (λ c. let b = c .before .before .before .before .before .loop .inv .inside in let p = c .before .before .before .before .before .before .before .pre .0 .bounded in omega arith)
+    (λ c.
+    let at-loop = in-loop-of-is-join (c .before) .before in
+    let b = at-loop .loop .inv .inside in let p = start-of-at-loop at-loop .pre .0 .bounded in omega arith)
     -- add-i
-    (λ c. let l = c .before .before .before .before .loop-test .taken in omega (arith, c .before .before .before .before .before .before .before .pre .1, pairs-count (c .before .before .before .before .before .before .before .args .t3)))
+    (λ c.
+    let in-loop = in-loop-of-is-join (c .before) in let start = start-of-at-loop (in-loop .before) in
+    let l = in-loop .loop-test .taken in omega (arith, start .pre .1, pairs-count (start .args .t3)))
     -- loop-less
-    (λ c. let l = c .before .before .before .before .loop-test .taken in omega arith)
+    (λ c. let l = in-loop-of-is-join (c .before) .loop-test .taken in omega arith)
     -- loop-again
-    (λ c. head-next _ _ (c .before .before .before .before .before .before .before .args .t3) _ (c .before .before .before .before .before .before .before .pre .0) _ _ (c .before .before .before .before .loop-test .taken) (c .before .before .before .before .before .loop .inv) (sym (c .before .is-join .ensures) ∙ not-false _ (c .if1 .left)))
+    (λ c.
+    let in-loop = in-loop-of-is-join (c .before) in let at-loop = in-loop .before in let start = start-of-at-loop at-loop in
+    head-next _ _ (start .args .t3) _ (start .pre .0) _ _ (in-loop .loop-test .taken) (at-loop .loop .inv) (sym (c .before .is-join .ensures) ∙ not-false _ (c .if1 .left)))
     -- returns-2
-    (λ c. head-end _ _ (c .before .before .before .args .t3) _ _ _ (c .loop-test .left) (c .before .loop .inv) _ refl refl))
+    (λ c. head-end _ _ (start-of-at-loop (c .before) .args .t3) _ _ _ (c .loop-test .left) (c .before .loop .inv) _ refl refl))

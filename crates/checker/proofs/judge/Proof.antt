@@ -10,6 +10,20 @@ use Rattle.checker.proofs.Answered.{accepted-in, started-in, start-one,
 use Rattle.checker.proofs.judge.Statement.{statement}
 use Rattle.checker.proofs.judge.Tie as tie
 
+-- The places that lie behind a place.
+
+abbrev count-of-of-rows-of : tie.After-rows-of → tie.After-count-of
+count-of-of-rows-of c = c .before .before
+
+abbrev start-of-count-of : tie.After-count-of → tie.Start
+start-of-count-of c = c .before .before .before
+
+abbrev limit-of-check-goal-arg4 : tie.After-check-goal-arg4 → tie.After-limit
+limit-of-check-goal-arg4 c = c .before .before .before .before .before
+
+abbrev rows-of-of-check-goal : tie.After-check-goal → tie.After-rows-of
+rows-of-of-check-goal c = limit-of-check-goal-arg4 (c .before) .before
+
 pub judge-spec : {M : Type 1} → statement M
 judge-spec =
     tie.close
@@ -17,25 +31,39 @@ judge-spec =
     -- count-of-requires
     (λ c κs. shaped-long _ (c .before .before .pre .2))
     -- start-requires
-    (λ c κs. let p = c .before .before .before .pre in (one-within _ _ (p .0), accepted-in _ _ (p .0) (p .1)))
+    (λ c κs. let p = start-of-count-of c .pre in (one-within _ _ (p .0), accepted-in _ _ (p .0) (p .1)))
     -- rows-of-requires
-    (λ c κs. let p = c .before .before .before .before .pre in start-one _ (p .1) (joinedOf (c .start .result)) (started-in _ _ (p .0) _ (c .start .ensures)))
+    (λ c κs. let p = start-of-count-of (c .before) .pre in start-one _ (p .1) (joinedOf (c .start .result)) (started-in _ _ (p .0) _ (c .start .ensures)))
     -- limit-requires
-    (λ c κs. (omega arith, c .before .before .before .before .before .pre .0 .terms-within))
+    (λ c κs. (omega arith, start-of-count-of (count-of-of-rows-of c) .pre .0 .terms-within))
     -- check-goal-requires
     (λ c κs.
-    let p = c .before .before .before .before .before .before .before .before .before .before .before .pre in
-    let made = c .before .before .before .before .before .before .rows-of .ensures ∙ c .before .before .before .before .before .before .before .start .ensures in (
+    let after-limit = limit-of-check-goal-arg4 c in let after-rows-of = after-limit .before in
+    let after-count-of = count-of-of-rows-of after-rows-of in
+    let p = start-of-count-of after-count-of .pre in
+    let made = after-rows-of .rows-of .ensures ∙ after-rows-of .before .start .ensures in (
       p .0,
       p .1,
-      shaped _ (p .2) _ (c .before .before .before .before .before .before .before .before .count-of .ensures .0),
-      start-ahead _ (singleOf (c .before .before .before .before .before .before .rows-of .result)) _ _ (p .1) (started-in _ _ (p .0) _ made) (p .0 .term-count) (omega (arith, c .before .before .before .before .before .limit .ensures)),
+      shaped _ (p .2) _ (after-count-of .count-of .ensures .0),
+      start-ahead _ (singleOf (after-rows-of .rows-of .result)) _ _ (p .1) (started-in _ _ (p .0) _ made) (p .0 .term-count) (omega (arith, after-limit .limit .ensures)),
       subst Fits (sym made) (started-fits (one-within _ _ (p .0)) (accepted-in _ _ (p .0) (p .1))),
       omega arith,
     ))
     -- first-wrong-requires
-    (λ c κs. shaped _ (c .before .before .before .before .before .before .before .before .before .before .before .before .pre .2) _ (c .before .before .before .before .before .before .before .before .before .count-of .ensures .0) .bounded)
+    (λ c κs.
+    let after-count-of = count-of-of-rows-of (rows-of-of-check-goal c) in
+    shaped _ (start-of-count-of after-count-of .pre .2) _ (after-count-of .count-of .ensures .0) .bounded)
     -- returns
-    (λ c. let p = c .before .before .before .before .before .before .before .before .before .before .before .before .before .before .pre in answer-none _ _ _ (shaped _ (p .2) _ (c .before .before .before .before .before .before .before .before .before .before .before .count-of .ensures .0)) (singleOf (c .before .before .before .before .before .before .before .before .before .rows-of .result)) (started-in _ _ (p .0) _ (c .before .before .before .before .before .before .before .before .before .rows-of .ensures ∙ c .before .before .before .before .before .before .before .before .before .before .start .ensures)) _ (c .before .before .check-goal .ensures) _ (c .before .first-wrong .ensures) (c .if1 .taken))
+    (λ c.
+    let after-rows-of = rows-of-of-check-goal (c .before .before) in let after-count-of = count-of-of-rows-of after-rows-of in
+    let p = start-of-count-of after-count-of .pre in
+    answer-none _ _ _ (shaped _ (p .2) _ (after-count-of .count-of .ensures .0)) (singleOf (after-rows-of .rows-of .result))
+    (started-in _ _ (p .0) _ (after-rows-of .rows-of .ensures ∙ after-rows-of .before .start .ensures)) _ (c .before .before .check-goal .ensures) _
+    (c .before .first-wrong .ensures) (c .if1 .taken))
     -- returns-2
-    (λ c. let p = c .before .before .before .before .before .before .before .before .before .before .before .before .before .before .pre in answer-some _ _ _ (shaped _ (p .2) _ (c .before .before .before .before .before .before .before .before .before .before .before .count-of .ensures .0)) (singleOf (c .before .before .before .before .before .before .before .before .before .rows-of .result)) (started-in _ _ (p .0) _ (c .before .before .before .before .before .before .before .before .before .rows-of .ensures ∙ c .before .before .before .before .before .before .before .before .before .before .start .ensures)) _ (c .before .before .check-goal .ensures) _ (c .before .first-wrong .ensures) (c .if1 .left)))
+    (λ c.
+    let after-rows-of = rows-of-of-check-goal (c .before .before) in let after-count-of = count-of-of-rows-of after-rows-of in
+    let p = start-of-count-of after-count-of .pre in
+    answer-some _ _ _ (shaped _ (p .2) _ (after-count-of .count-of .ensures .0)) (singleOf (after-rows-of .rows-of .result))
+    (started-in _ _ (p .0) _ (after-rows-of .rows-of .ensures ∙ after-rows-of .before .start .ensures)) _ (c .before .before .check-goal .ensures) _
+    (c .before .first-wrong .ensures) (c .if1 .left)))

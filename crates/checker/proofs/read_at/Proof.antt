@@ -11,6 +11,8 @@ read-at-spec =
     -- held-requires
     (λ c κs. search needs)
     -- read-line-requires
-    (λ c κs. (c .before .before .before .pre .0, c .before .before .before .pre .1, one-link _ _ _ _ (c .held .ensures)))
+    (λ c κs.
+    let start = c .before .before .before in
+    (start .pre .0, start .pre .1, one-link _ _ _ _ (c .held .ensures)))
     -- returns
     (λ c. reading-rows _ _ _ _ (c .before .held .ensures) _ _ _ (c .read-line .ensures)))

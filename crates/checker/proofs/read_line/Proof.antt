@@ -10,6 +10,29 @@ use Rattle.checker.proofs.Readings.{clash-in, is-clash-in, read-past, r
 use Rattle.checker.proofs.read_line.Statement.{statement}
 use Rattle.checker.proofs.read_line.Tie as tie
 
+-- The places that lie behind a place.
+
+abbrev rule-numbered-of-rule : tie.After-rule → tie.After-rule-numbered
+rule-numbered-of-rule c = c .before .before
+
+abbrev byte-at-of-byte-at3 : tie.After-byte-at3 → tie.After-byte-at
+byte-at-of-byte-at3 c = c .before .before
+
+abbrev find-clash-of-enum-told : tie.After-enum-told → tie.After-find-clash
+find-clash-of-enum-told c = c .before .before
+
+abbrev else1-of-byte-at : tie.After-byte-at → tie.Else1
+else1-of-byte-at c = c .before .before
+
+abbrev start-of-else1 : tie.Else1 → tie.Start
+start-of-else1 c = c .before .before .before
+
+abbrev else2-of-find-clash : tie.After-find-clash → tie.Else2
+else2-of-find-clash c = c .before .before .before .before
+
+abbrev byte-at3-of-find-clash : tie.After-find-clash → tie.After-byte-at3
+byte-at3-of-find-clash c = else2-of-find-clash c .before
+
 pub read-line-spec : {M : Type 1} → statement M
 read-line-spec =
     tie.close
@@ -17,35 +40,60 @@ read-line-spec =
     -- returns
     (λ c. read-past _ _ _ _ _ (c .before .before .before .pre .1) (c .if1 .taken))
     -- mul-place
-    (λ c. let p = c .before .before .before .pre .1 in let l = c .if1 .left in omega (arith, p .long, p .bounded))
+    (λ c. let p = start-of-else1 c .pre .1 in let l = c .if1 .left in omega (arith, p .long, p .bounded))
     -- add-place
-    (λ c. let p = c .before .before .before .pre .1 in let l = c .if1 .left in omega (arith, p .long, p .bounded))
+    (λ c. let p = start-of-else1 c .pre .1 in let l = c .if1 .left in omega (arith, p .long, p .bounded))
     -- shared-slice-read-k
-    (λ c. let p = c .before .before .before .before .pre .1 in let l = c .before .if1 .left in omega (arith, p .long, p .bounded))
+    (λ c. let p = start-of-else1 (c .before) .pre .1 in let l = c .before .if1 .left in omega (arith, p .long, p .bounded))
     -- add-byte-at
-    (λ c. let p = c .before .before .before .before .pre .1 in let l = c .before .if1 .left in omega (arith, p .long, p .bounded))
+    (λ c. let p = start-of-else1 (c .before) .pre .1 in let l = c .before .if1 .left in omega (arith, p .long, p .bounded))
     -- byte-at-requires
-    (λ c κs. let p = c .before .before .before .before .pre .1 in let l = c .before .if1 .left in omega (arith, p .long, p .bounded))
+    (λ c κs. let p = start-of-else1 (c .before) .pre .1 in let l = c .before .if1 .left in omega (arith, p .long, p .bounded))
     -- add-byte-at-2
-    (λ c. let p = c .before .before .before .before .before .pre .1 in let l = c .before .before .if1 .left in omega (arith, p .long, p .bounded))
+    (λ c.
+    let else1 = else1-of-byte-at c in
+    let p = start-of-else1 else1 .pre .1 in let l = else1 .if1 .left in omega (arith, p .long, p .bounded))
     -- byte-at-requires-2
-    (λ c κs. let p = c .before .before .before .before .before .pre .1 in let l = c .before .before .if1 .left in omega (arith, p .long, p .bounded))
+    (λ c κs.
+    let else1 = else1-of-byte-at c in
+    let p = start-of-else1 else1 .pre .1 in let l = else1 .if1 .left in omega (arith, p .long, p .bounded))
     -- add-byte-at-3
-    (λ c. let p = c .before .before .before .before .before .before .pre .1 in let l = c .before .before .before .if1 .left in omega (arith, p .long, p .bounded))
+    (λ c.
+    let else1 = else1-of-byte-at (c .before) in
+    let p = start-of-else1 else1 .pre .1 in let l = else1 .if1 .left in omega (arith, p .long, p .bounded))
     -- byte-at-requires-3
-    (λ c κs. let p = c .before .before .before .before .before .before .pre .1 in let l = c .before .before .before .if1 .left in omega (arith, p .long, p .bounded))
+    (λ c κs.
+    let else1 = else1-of-byte-at (c .before) in
+    let p = start-of-else1 else1 .pre .1 in let l = else1 .if1 .left in omega (arith, p .long, p .bounded))
     -- is-clash-requires
-    (λ c κs. one-within _ _ (c .before .before .before .before .before .before .before .before .pre .0))
+    (λ c κs. one-within _ _ (start-of-else1 (else1-of-byte-at (byte-at-of-byte-at3 (c .before))) .pre .0))
     -- returns-2
-    (λ c. read-clash _ _ _ _ _ (c .before .before .before .before .before .before .before .before .before .before .pre .1) (c .before .before .before .before .before .before .before .before .before .before .pre .2) (let l = c .before .before .before .before .before .before .before .if1 .left in omega arith) _ _ _ _ refl (c .before .before .before .before .before .byte-at .ensures) (c .before .before .before .before .byte-at2 .ensures) (c .before .before .before .byte-at3 .ensures) _ (c .before .before .if2 .taken) (is-clash-in _ _ _ _ _ (c .before .is-clash .ensures) (one-said _ _ (c .before .before .before .before .before .before .before .before .before .before .pre .0))) (c .if3 .taken))
+    (λ c.
+    let after-byte-at3 = c .before .before .before in let after-byte-at = byte-at-of-byte-at3 after-byte-at3 in
+    let else1 = else1-of-byte-at after-byte-at in let start = start-of-else1 else1 in
+    read-clash _ _ _ _ _ (start .pre .1) (start .pre .2) (let l = else1 .if1 .left in
+    omega arith) _ _ _ _ refl (after-byte-at .byte-at .ensures) (after-byte-at3 .before .byte-at2 .ensures) (after-byte-at3 .byte-at3 .ensures) _
+    (c .before .before .if2 .taken) (is-clash-in _ _ _ _ _ (c .before .is-clash .ensures) (one-said _ _ (start .pre .0))) (c .if3 .taken))
     -- returns-3
-    (λ c. read-false _ _ _ _ _ (c .before .before .before .before .before .before .before .before .before .before .pre .1) (c .before .before .before .before .before .before .before .before .before .before .pre .2) (let l = c .before .before .before .before .before .before .before .if1 .left in omega arith) _ _ _ _ refl (c .before .before .before .before .before .byte-at .ensures) (c .before .before .before .before .byte-at2 .ensures) (c .before .before .before .byte-at3 .ensures) _ (c .before .before .if2 .taken) (is-clash-in _ _ _ _ _ (c .before .is-clash .ensures) (one-said _ _ (c .before .before .before .before .before .before .before .before .before .before .pre .0))) (c .if3 .left))
+    (λ c.
+    let after-byte-at3 = c .before .before .before in let after-byte-at = byte-at-of-byte-at3 after-byte-at3 in
+    let else1 = else1-of-byte-at after-byte-at in let start = start-of-else1 else1 in
+    read-false _ _ _ _ _ (start .pre .1) (start .pre .2) (let l = else1 .if1 .left in
+    omega arith) _ _ _ _ refl (after-byte-at .byte-at .ensures) (after-byte-at3 .before .byte-at2 .ensures) (after-byte-at3 .byte-at3 .ensures) _
+    (c .before .before .if2 .taken) (is-clash-in _ _ _ _ _ (c .before .is-clash .ensures) (one-said _ _ (start .pre .0))) (c .if3 .left))
     -- find-clash-requires
-    (λ c κs. one-within _ _ (c .before .before .before .before .before .before .before .before .before .before .before .pre .0))
+    (λ c κs. one-within _ _ (start-of-else1 (else1-of-byte-at (byte-at-of-byte-at3 (c .before .before .before .before))) .pre .0))
     -- enum-known-section
     (λ c. search needs)
     -- returns-4
-    (λ c. read-clashed _ _ _ _ _ (c .before .before .before .before .before .before .before .before .before .before .before .before .before .before .before .pre .1) (c .before .before .before .before .before .before .before .before .before .before .before .before .before .before .before .pre .2) (let l = c .before .before .before .before .before .before .before .before .before .before .before .before .if1 .left in omega arith) _ _ _ _ refl (c .before .before .before .before .before .before .before .before .before .before .byte-at .ensures) (c .before .before .before .before .before .before .before .before .before .byte-at2 .ensures) (c .before .before .before .before .before .before .before .before .byte-at3 .ensures) (c .before .before .before .before .before .before .before .if2 .left) _ (clash-in _ _ _ _ (path-clash (c .before .before .before .find-clash .result) _ (c .before .before .before .before .before .before .before .before .before .before .before .before .before .before .before .args .t6) (c .before .before .before .find-clash .ensures)) (one-said _ _ (c .before .before .before .before .before .before .before .before .before .before .before .before .before .before .before .pre .0))) _ (ap lineOf (c .before .section .given .1)))
+    (λ c.
+    let after-find-clash = c .before .before .before in let after-byte-at3 = byte-at3-of-find-clash after-find-clash in
+    let after-byte-at = byte-at-of-byte-at3 after-byte-at3 in let else1 = else1-of-byte-at after-byte-at in let start = start-of-else1 else1 in
+    read-clashed _ _ _ _ _ (start .pre .1) (start .pre .2) (let l = else1 .if1 .left in
+    omega arith) _ _ _ _ refl (after-byte-at .byte-at .ensures) (after-byte-at3 .before .byte-at2 .ensures) (after-byte-at3 .byte-at3 .ensures)
+    (else2-of-find-clash after-find-clash .if2 .left) _
+    (clash-in _ _ _ _ (path-clash (after-find-clash .find-clash .result) _ (start .args .t6) (after-find-clash .find-clash .ensures))
+    (one-said _ _ (start .pre .0))) _ (ap lineOf (c .before .section .given .1)))
     -- enum-told
     (λ c. search needs)
     -- rule-numbered-requires
@@ -55,10 +103,40 @@ read-line-spec =
     -- enum-told-2
     (λ c. search needs)
     -- returns-5
-    (λ c. read-unruled _ _ _ _ _ (c .before .before .before .before .before .before .before .before .before .before .before .before .before .before .before .before .before .pre .1) (c .before .before .before .before .before .before .before .before .before .before .before .before .before .before .before .before .before .pre .2) (let l = c .before .before .before .before .before .before .before .before .before .before .before .before .before .before .if1 .left in omega arith) _ _ _ _ refl (c .before .before .before .before .before .before .before .before .before .before .before .before .byte-at .ensures) (c .before .before .before .before .before .before .before .before .before .before .before .byte-at2 .ensures) (c .before .before .before .before .before .before .before .before .before .before .byte-at3 .ensures) (c .before .before .before .before .before .before .before .before .before .if2 .left) _ (clash-in _ _ _ _ (path-clash (c .before .before .before .before .before .find-clash .result) _ _ (c .before .before .before .before .before .find-clash .ensures)) (one-said _ _ (c .before .before .before .before .before .before .before .before .before .before .before .before .before .before .before .before .before .pre .0))) (ap lineOf (c .before .before .before .enum-told .given .1)) (sym (ap numberedOf (c .enum-told2 .given .1)) ∙ c .before .before .rule-numbered .ensures))
+    (λ c.
+    let after-enum-told = c .before .before .before in let after-find-clash = find-clash-of-enum-told after-enum-told in
+    let after-byte-at3 = byte-at3-of-find-clash after-find-clash in let after-byte-at = byte-at-of-byte-at3 after-byte-at3 in
+    let else1 = else1-of-byte-at after-byte-at in let start = start-of-else1 else1 in
+    read-unruled _ _ _ _ _ (start .pre .1) (start .pre .2) (let l = else1 .if1 .left in
+    omega arith) _ _ _ _ refl (after-byte-at .byte-at .ensures) (after-byte-at3 .before .byte-at2 .ensures) (after-byte-at3 .byte-at3 .ensures)
+    (else2-of-find-clash after-find-clash .if2 .left) _
+    (clash-in _ _ _ _ (path-clash (after-find-clash .find-clash .result) _ _ (after-find-clash .find-clash .ensures)) (one-said _ _ (start .pre .0)))
+    (ap lineOf (after-enum-told .enum-told .given .1)) (sym (ap numberedOf (c .enum-told2 .given .1)) ∙ c .before .before .rule-numbered .ensures))
     -- applies-requires
-    (λ c κs. c .before .before .before .before .before .before .before .before .before .before .before .before .before .before .before .before .before .before .pre .0 .terms-within)
+    (λ c κs. start-of-else1 (else1-of-byte-at (byte-at-of-byte-at3 (byte-at3-of-find-clash (find-clash-of-enum-told (rule-numbered-of-rule (c .before) .before))))) .pre .0 .terms-within)
     -- returns-6
-    (λ c. read-rule _ _ _ _ _ (c .before .before .before .before .before .before .before .before .before .before .before .before .before .before .before .before .before .before .before .before .pre .1) (c .before .before .before .before .before .before .before .before .before .before .before .before .before .before .before .before .before .before .before .before .pre .2) (let l = c .before .before .before .before .before .before .before .before .before .before .before .before .before .before .before .before .before .if1 .left in omega arith) _ _ _ _ refl (c .before .before .before .before .before .before .before .before .before .before .before .before .before .before .before .byte-at .ensures) (c .before .before .before .before .before .before .before .before .before .before .before .before .before .before .byte-at2 .ensures) (c .before .before .before .before .before .before .before .before .before .before .before .before .before .byte-at3 .ensures) (c .before .before .before .before .before .before .before .before .before .before .before .before .if2 .left) _ (clash-in _ _ _ _ (path-clash (c .before .before .before .before .before .before .before .before .find-clash .result) _ _ (c .before .before .before .before .before .before .before .before .find-clash .ensures)) (one-said _ _ (c .before .before .before .before .before .before .before .before .before .before .before .before .before .before .before .before .before .before .before .before .pre .0))) _ _ _ (ap lineOf (c .before .before .before .before .before .before .enum-told .given .1)) (sym (ap numberedOf (c .before .before .before .rule .given .1)) ∙ c .before .before .before .before .before .rule-numbered .ensures) (c .before .before .before .before .before .before .before .before .before .before .before .before .before .before .before .before .before .before .before .before .pre .0 .term-count) (c .before .applies .ensures) (c .if4 .taken))
+    (λ c.
+    let after-rule = c .before .before .before in let after-rule-numbered = rule-numbered-of-rule after-rule in
+    let after-enum-told = after-rule-numbered .before in let after-find-clash = find-clash-of-enum-told after-enum-told in
+    let after-byte-at3 = byte-at3-of-find-clash after-find-clash in let after-byte-at = byte-at-of-byte-at3 after-byte-at3 in
+    let else1 = else1-of-byte-at after-byte-at in let start = start-of-else1 else1 in
+    read-rule _ _ _ _ _ (start .pre .1) (start .pre .2) (let l = else1 .if1 .left in
+    omega arith) _ _ _ _ refl (after-byte-at .byte-at .ensures) (after-byte-at3 .before .byte-at2 .ensures) (after-byte-at3 .byte-at3 .ensures)
+    (else2-of-find-clash after-find-clash .if2 .left) _
+    (clash-in _ _ _ _ (path-clash (after-find-clash .find-clash .result) _ _ (after-find-clash .find-clash .ensures)) (one-said _ _ (start .pre .0)))
+    _ _ _ (ap lineOf (after-enum-told .enum-told .given .1))
+    (sym (ap numberedOf (after-rule .rule .given .1)) ∙ after-rule-numbered .rule-numbered .ensures) (start .pre .0 .term-count)
+    (c .before .applies .ensures) (c .if4 .taken))
     -- returns-7
-    (λ c. read-idle _ _ _ _ _ (c .before .before .before .before .before .before .before .before .before .before .before .before .before .before .before .before .before .before .before .before .pre .1) (c .before .before .before .before .before .before .before .before .before .before .before .before .before .before .before .before .before .before .before .before .pre .2) (let l = c .before .before .before .before .before .before .before .before .before .before .before .before .before .before .before .before .before .if1 .left in omega arith) _ _ _ _ refl (c .before .before .before .before .before .before .before .before .before .before .before .before .before .before .before .byte-at .ensures) (c .before .before .before .before .before .before .before .before .before .before .before .before .before .before .byte-at2 .ensures) (c .before .before .before .before .before .before .before .before .before .before .before .before .before .byte-at3 .ensures) (c .before .before .before .before .before .before .before .before .before .before .before .before .if2 .left) _ (clash-in _ _ _ _ (path-clash (c .before .before .before .before .before .before .before .before .find-clash .result) _ _ (c .before .before .before .before .before .before .before .before .find-clash .ensures)) (one-said _ _ (c .before .before .before .before .before .before .before .before .before .before .before .before .before .before .before .before .before .before .before .before .pre .0))) _ _ _ (ap lineOf (c .before .before .before .before .before .before .enum-told .given .1)) (sym (ap numberedOf (c .before .before .before .rule .given .1)) ∙ c .before .before .before .before .before .rule-numbered .ensures) (c .before .before .before .before .before .before .before .before .before .before .before .before .before .before .before .before .before .before .before .before .pre .0 .term-count) (c .before .applies .ensures) (c .if4 .left)))
+    (λ c.
+    let after-rule = c .before .before .before in let after-rule-numbered = rule-numbered-of-rule after-rule in
+    let after-enum-told = after-rule-numbered .before in let after-find-clash = find-clash-of-enum-told after-enum-told in
+    let after-byte-at3 = byte-at3-of-find-clash after-find-clash in let after-byte-at = byte-at-of-byte-at3 after-byte-at3 in
+    let else1 = else1-of-byte-at after-byte-at in let start = start-of-else1 else1 in
+    read-idle _ _ _ _ _ (start .pre .1) (start .pre .2) (let l = else1 .if1 .left in
+    omega arith) _ _ _ _ refl (after-byte-at .byte-at .ensures) (after-byte-at3 .before .byte-at2 .ensures) (after-byte-at3 .byte-at3 .ensures)
+    (else2-of-find-clash after-find-clash .if2 .left) _
+    (clash-in _ _ _ _ (path-clash (after-find-clash .find-clash .result) _ _ (after-find-clash .find-clash .ensures)) (one-said _ _ (start .pre .0)))
+    _ _ _ (ap lineOf (after-enum-told .enum-told .given .1))
+    (sym (ap numberedOf (after-rule .rule .given .1)) ∙ after-rule-numbered .rule-numbered .ensures) (start .pre .0 .term-count)
+    (c .before .applies .ensures) (c .if4 .left)))

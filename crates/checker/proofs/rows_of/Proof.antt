@@ -13,4 +13,6 @@ rows-of-spec =
     -- rows-of-requires-2
     (λ c κs. search needs)
     -- returns
-    (λ c. rows-joined _ _ _ (c .before .before .before .before .before .before .before .before .before .pre) (c .before .before .before .rows-of .ensures) (c .rows-of2 .ensures)))
+    (λ c.
+    let after-rows-of = c .before .before .before in
+    rows-joined _ _ _ (after-rows-of .before .before .before .before .before .before .pre) (after-rows-of .rows-of .ensures) (c .rows-of2 .ensures)))

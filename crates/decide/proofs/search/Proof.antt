@@ -21,6 +21,8 @@ search-spec =
     tie.close
     (tie.spec
     -- search-in-requires
-    (λ c κs. let p = c .before .before .before .before .before .before .before .pre in (p .0, p .1, p .2, whole (c .before .before .before .before .before .before .before .κs) (lts.dens (search-in-reads.Asked, search-in-reads.Learnt) reads.Pre reads.Post (c .before .before .before .before .before .before .before .κs) (c .before .before .before .before .before .before .before .args)) (c .before .before .before .before .before .before .before .good)))
+    (λ c κs.
+    let start = c .before .before .before .before .before .before .before in
+    let p = start .pre in (p .0, p .1, p .2, whole (start .κs) (lts.dens (search-in-reads.Asked, search-in-reads.Learnt) reads.Pre reads.Post (start .κs) (start .args)) (start .good)))
     -- returns
     (λ c. c .search-in .ensures .0))

@@ -25,7 +25,9 @@ past-blanks-spec =
     -- shared-slice-read-b
     (λ c. omega arith)
     -- returns
-    (λ c. (c .before .before .before .loop .inv .0, c .before .before .before .loop .inv .1, sym (blank-not _ _ (c .before .before .loop-test .taken) (c .if1 .taken)) ∙ c .before .before .before .loop .inv .2))
+    (λ c.
+    let at-loop = c .before .before .before in
+    (at-loop .loop .inv .0, at-loop .loop .inv .1, sym (blank-not _ _ (c .before .before .loop-test .taken) (c .if1 .taken)) ∙ at-loop .loop .inv .2))
     -- add-i
     (λ c. omega arith)
     -- loop-less
@@ -33,4 +35,6 @@ past-blanks-spec =
     -- loop-again
     (λ c. (omega arith, omega arith, sym (blank-here _ _ (c .before .before .loop-test .taken) (c .if1 .left)) ∙ c .before .before .before .loop .inv .2))
     -- returns-2
-    (λ c. (c .before .loop .inv .0, c .before .loop .inv .1, sym (blank-end _ _ (c .loop-test .left)) ∙ c .before .loop .inv .2)))
+    (λ c.
+    let at-loop = c .before in
+    (at-loop .loop .inv .0, at-loop .loop .inv .1, sym (blank-end _ _ (c .loop-test .left)) ∙ at-loop .loop .inv .2)))

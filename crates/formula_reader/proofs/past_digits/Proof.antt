@@ -25,14 +25,22 @@ past-digits-spec =
     -- shared-slice-read-b
     (λ c. omega arith)
     -- returns
-    (λ c. (c .before .before .before .loop .inv .0, c .before .before .before .loop .inv .1, sym (digit-not _ _ (c .before .before .loop-test .taken) (digit-low _ (c .if1 .taken))) ∙ c .before .before .before .loop .inv .2))
+    (λ c.
+    let at-loop = c .before .before .before in
+    (at-loop .loop .inv .0, at-loop .loop .inv .1, sym (digit-not _ _ (c .before .before .loop-test .taken) (digit-low _ (c .if1 .taken))) ∙ at-loop .loop .inv .2))
     -- returns-2
-    (λ c. (c .before .before .before .before .loop .inv .0, c .before .before .before .before .loop .inv .1, sym (digit-not _ _ (c .before .before .before .loop-test .taken) (digit-high _ (c .if2 .taken))) ∙ c .before .before .before .before .loop .inv .2))
+    (λ c.
+    let in-loop = c .before .before .before in let at-loop = in-loop .before in
+    (at-loop .loop .inv .0, at-loop .loop .inv .1, sym (digit-not _ _ (in-loop .loop-test .taken) (digit-high _ (c .if2 .taken))) ∙ at-loop .loop .inv .2))
     -- add-i
     (λ c. omega arith)
     -- loop-less
     (λ c. omega arith)
     -- loop-again
-    (λ c. (omega arith, omega arith, sym (digit-here _ _ (c .before .before .before .loop-test .taken) (digit-in _ (c .before .if1 .left) (c .if2 .left))) ∙ c .before .before .before .before .loop .inv .2))
+    (λ c.
+    let in-loop = c .before .before .before in
+    (omega arith, omega arith, sym (digit-here _ _ (in-loop .loop-test .taken) (digit-in _ (c .before .if1 .left) (c .if2 .left))) ∙ in-loop .before .loop .inv .2))
     -- returns-3
-    (λ c. (c .before .loop .inv .0, c .before .loop .inv .1, sym (digit-end _ _ (c .loop-test .left)) ∙ c .before .loop .inv .2)))
+    (λ c.
+    let at-loop = c .before in
+    (at-loop .loop .inv .0, at-loop .loop .inv .1, sym (digit-end _ _ (c .loop-test .left)) ∙ at-loop .loop .inv .2)))

@@ -17,4 +17,6 @@ put-field-spec =
     -- same-length
     (λ c. search needs)
     -- returns
-    (λ c. writes-then (c .before .before .before .before .before .before .before .before .before .before .put-byte .ensures) (writes-then (c .before .before .before .before .before .before .put-byte2 .ensures) (c .before .before .put-byte3 .ensures))))
+    (λ c.
+    let after-put-byte2 = c .before .before .before .before .before .before in
+    writes-then (after-put-byte2 .before .before .before .before .put-byte .ensures) (writes-then (after-put-byte2 .put-byte2 .ensures) (c .before .before .put-byte3 .ensures))))

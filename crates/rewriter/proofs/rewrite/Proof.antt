@@ -10,6 +10,17 @@ use Rattle.rewriter.proofs.Answers as law
 use Rattle.rewriter.proofs.rewrite.Statement.{statement}
 use Rattle.rewriter.proofs.rewrite.Tie as tie
 
+-- The places that lie behind a place.
+
+abbrev full-of-rewrite-checked-arg : tie.After-rewrite-checked-arg → tie.After-full
+full-of-rewrite-checked-arg c = c .before .before
+
+abbrev clear-of-check-with : tie.After-check-with → tie.After-clear
+clear-of-check-with c = c .before .before .before
+
+abbrev start-of-clear : tie.After-clear → tie.Start
+start-of-clear c = c .before .before .before .before
+
 pub rewrite-spec : {M : Type 1} → statement M
 rewrite-spec =
     tie.close
@@ -23,15 +34,27 @@ rewrite-spec =
     -- enum-known-full
     (λ c. search needs)
     -- rewrite-checked-requires
-    (λ c κs. (
-      law.passing _ _ (subst (λ (x : FullChecked). FullCheckedAs x (c .before .before .before .before .before .before .before .before .before .before .before .args .query .now) 60 3) (c .before .before .full .given .1) (c .before .before .before .before .check-with .ensures)),
-      blank-again _ (length (c .before .before .before .before .before .before .before .before .before .before .before .args .out .now)) (c .before .before .before .before .before .before .before .clear .ensures),
+    (λ c κs.
+    let after-full = full-of-rewrite-checked-arg c in let after-check-with = after-full .before .before in
+    let after-clear = clear-of-check-with after-check-with in let start = start-of-clear after-clear in (
+      law.passing _ _ (subst (λ (x : FullChecked). FullCheckedAs x (start .args .query .now) 60 3) (after-full .full .given .1) (after-check-with .check-with .ensures)),
+      blank-again _ (length (start .args .out .now)) (after-clear .clear .ensures),
     ))
     -- same-length
-    (λ c. blank-long _ (length (c .before .before .before .before .before .before .before .before .before .before .args .out .now)) (c .before .before .before .before .before .before .clear .ensures))
+    (λ c.
+    let after-clear = clear-of-check-with (c .before .before .before) in
+    blank-long _ (length (start-of-clear after-clear .args .out .now)) (after-clear .clear .ensures))
     -- returns
-    (λ c. law.refuses (c .before .before .before .before .before .before .before .before .before .before .args .query .now) (length (c .before .before .before .before .before .before .before .before .before .before .args .out .now)) (subst (λ (x : FullChecked). FullCheckedAs x (c .before .before .before .before .before .before .before .before .before .before .args .query .now) 60 3) (c .before .k .given .1) (c .before .before .before .check-with .ensures)) _ (c .before .before .before .before .before .before .clear .ensures))
+    (λ c.
+    let after-check-with = c .before .before .before in let after-clear = clear-of-check-with after-check-with in
+    let start = start-of-clear after-clear in
+    law.refuses (start .args .query .now) (length (start .args .out .now))
+    (subst (λ (x : FullChecked). FullCheckedAs x (start .args .query .now) 60 3) (c .before .k .given .1) (after-check-with .check-with .ensures)) _
+    (after-clear .clear .ensures))
     -- same-length-2
     (λ c. search needs)
     -- returns-2
-    (λ c. law.moved (rewriteCall (c .before .before .before .before .before .before .before .before .before .before .before .before .before .before .args .query .now)) (blank-long _ (length (c .before .before .before .before .before .before .before .before .before .before .before .before .before .before .args .out .now)) (c .before .before .before .before .before .before .before .before .before .before .clear .ensures)) (c .before .before .rewrite-checked .ensures)))
+    (λ c.
+    let after-clear = clear-of-check-with (full-of-rewrite-checked-arg (c .before .before .before) .before .before) in
+    let start = start-of-clear after-clear in
+    law.moved (rewriteCall (start .args .query .now)) (blank-long _ (length (start .args .out .now)) (after-clear .clear .ensures)) (c .before .before .rewrite-checked .ensures)))
