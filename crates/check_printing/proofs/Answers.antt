@@ -85,7 +85,10 @@ numbers-length (c ∷ cs) ns place value begun l h =
     (λ ms place value begun. numbers-length cs ms place value begun)
     (isDigit c) refl h
   where
-    at-digit : ((ms : List ℕ) (place value : ℕ) (begun : Bool) → place ≤ 3 → numbersFrom place value begun cs ≡ some ms → length ms + place ≡ 4 * newlines cs) → (b : Bool) → isDigit c ≡ b → cond b (cond (ltb 255 (10 * value + (c - 48))) none (numbersFrom place (10 * value + (c - 48)) true cs)) (cond (endsNumber place begun c) (prepend (value ∷ []) (numbersFrom (nextPlace place) 0 false cs)) none) ≡ some ns → length ns + place ≡ 4 * newlines (c ∷ cs)
+    at-digit : ((ms : List ℕ) (place value : ℕ) (begun : Bool) → place ≤ 3 → numbersFrom place value begun cs ≡ some ms →
+        length ms + place ≡ 4 * newlines cs) → (b : Bool) → isDigit c ≡ b →
+        cond b (cond (ltb 255 (10 * value + (c - 48))) none (numbersFrom place (10 * value + (c - 48)) true cs))
+        (cond (endsNumber place begun c) (prepend (value ∷ []) (numbersFrom (nextPlace place) 0 false cs)) none) ≡ some ns → length ns + place ≡ 4 * newlines (c ∷ cs)
     at-digit ih true d k =
         digit-counted c cs ns place value begun l d (ih ns place (10 * value + (c - 48)) true l (kept-unless (ltb 255 (10 * value + (c - 48))) k))
     at-digit ih false d k =
@@ -108,7 +111,8 @@ module _ (text : List ℕ) where
     unfolding textBytes
     text-shown h = rw (le-ltb 256000 (length text) fits, le-ltb 16000 (newlines text) (omega arith), e) refl
 
-    pub text-read : {a b c : List ℕ} (d : List ℕ) {low first : ℕ} (r : ℕ) → count ≤ 16000 → length a ≡ 64002 → Writes a 0 (count / 256 ∷ []) b low → Writes b low (count % 256 ∷ []) c first → Puts c first (numbersFrom 0 0 false text) d r → (r ≤ 64002) × (take r d ≡ textBytes text)
+    pub text-read : {a b c : List ℕ} (d : List ℕ) {low first : ℕ} (r : ℕ) → count ≤ 16000 → length a ≡ 64002 → Writes a 0 (count / 256 ∷ []) b low →
+        Writes b low (count % 256 ∷ []) c first → Puts c first (numbersFrom 0 0 false text) d r → (r ≤ 64002) × (take r d ≡ textBytes text)
     unfolding Option·elim
     text-read {a} {b} {c} d {low} {first} r h room w v p = go (numbersFrom 0 0 false text) refl p
       where

@@ -2,8 +2,12 @@
 use mathlib.Core.Path.{refl}
 use mathlib.Core.Option.{Option·elim}
 use Rattle.logic.specs.Search.{_and_, _or_, from, keep, any, all, select, at, holdsOf, isSome, orElse, firstOf, flatMap, find}
-use Rattle.logic.specs.Query.{termCount, entryOf, namesNil, argumentOf, linkOf, entryRole, signRole, termRole, numberRole, countRole, fourSections, booleanSection, fiveSections, sections, withPart, layout, rolesOf, firstByte, layoutBy, layoutOf, faultIn, layoutFault, roleFault, byteFault, literals, section, queryOf, decode}
-use Rattle.logic.specs.Facts.{linkNumbers, terms, live, became, replaceIn, replace, successors, firstTwo, doubled, unjoined, joinPair, andThen, settle, join, addReach, linksOf, joinEach, reachEach, nilTerms, addLinks, equalTo, addNilLinks, joinNil, startJoins, start, joinLines, negatedAt, plainAt, isClash, clashLines, clash}
+use Rattle.logic.specs.Query.{termCount, entryOf, namesNil, argumentOf, linkOf, entryRole, signRole, termRole, numberRole, countRole}
+use Rattle.logic.specs.Query.{fourSections, booleanSection, fiveSections, sections, withPart, layout, rolesOf, firstByte, layoutBy}
+use Rattle.logic.specs.Query.{layoutOf, faultIn, layoutFault, roleFault, byteFault, literals, section, queryOf, decode}
+use Rattle.logic.specs.Facts.{linkNumbers, terms, live, became, replaceIn, replace, successors, firstTwo, doubled, unjoined, joinPair}
+use Rattle.logic.specs.Facts.{andThen, settle, join, addReach, linksOf, joinEach, reachEach, nilTerms, addLinks, equalTo, addNilLinks}
+use Rattle.logic.specs.Facts.{joinNil, startJoins, start, joinLines, negatedAt, plainAt, isClash, clashLines, clash}
 use Rattle.logic.specs.Rules.{ruleNumber, rules, ruleOf, next, returns, round, conditions, alternatives, held, hasLink, applies, branch, moveNumber, moveOf}
 use Rattle.logic.specs.Walk.{isClashed}
 use Rattle.logic.specs.Derivation.{linesFrom, linesIn}
@@ -17,5 +21,12 @@ use Rattle.check_printing.specs.CheckText.{textBytes, derivationIn, chec
 use Rattle.check_printing.specs.Examples.{PrintsHold, example4, prints}
 
 pub prints-hold : PrintsHold
-unfolding Option·elim _and_ _or_ from keep any all select at holdsOf isSome orElse firstOf flatMap find termCount entryOf namesNil argumentOf linkOf entryRole signRole termRole numberRole countRole fourSections booleanSection fiveSections sections withPart layout rolesOf firstByte layoutBy layoutOf faultIn layoutFault roleFault byteFault literals section queryOf decode linkNumbers terms live became replaceIn replace successors firstTwo doubled unjoined joinPair andThen settle join addReach linksOf joinEach reachEach nilTerms addLinks equalTo addNilLinks joinNil startJoins start joinLines negatedAt plainAt isClash clashLines clash ruleNumber rules ruleOf next returns round conditions alternatives held hasLink applies branch moveNumber moveOf isClashed linesFrom linesIn layoutCheck byteCheck formChecks queryChecks refusalOf goalOf sameLine moveIn goalsOf afterRule atPath atGoal step startGoal shortOf wrongFrom wrongLine countIn misshapen byWrong refusedQuery queryRefusal checkCall decimal decimalWithin isDigit refusedText begins endsNumber nextPlace isBetween prepend numbersFrom newlineIn newlines textBytes derivationIn checkedText checkderivationText example4 prints
+unfolding Option·elim _and_ _or_ from keep any all select at holdsOf isSome orElse firstOf flatMap find termCount entryOf namesNil argumentOf linkOf
+    entryRole signRole termRole numberRole countRole fourSections booleanSection fiveSections sections withPart layout rolesOf firstByte layoutBy layoutOf
+    faultIn layoutFault roleFault byteFault literals section queryOf decode linkNumbers terms live became replaceIn replace successors firstTwo doubled
+    unjoined joinPair andThen settle join addReach linksOf joinEach reachEach nilTerms addLinks equalTo addNilLinks joinNil startJoins start joinLines
+    negatedAt plainAt isClash clashLines clash ruleNumber rules ruleOf next returns round conditions alternatives held hasLink applies branch moveNumber
+    moveOf isClashed linesFrom linesIn layoutCheck byteCheck formChecks queryChecks refusalOf goalOf sameLine moveIn goalsOf afterRule atPath atGoal step
+    startGoal shortOf wrongFrom wrongLine countIn misshapen byWrong refusedQuery queryRefusal checkCall decimal decimalWithin isDigit refusedText begins
+    endsNumber nextPlace isBetween prepend numbersFrom newlineIn newlines textBytes derivationIn checkedText checkderivationText example4 prints
 prints-hold = refl

@@ -17,4 +17,6 @@ put-checked-spec =
     -- same-length
     (λ c. search needs)
     -- returns
-    (λ c. (writes-as (ap checkedText (c .before .before .before .answer .ensures)) (c .before .before .put-answer .ensures .0), c .before .before .put-answer .ensures .1)))
+    (λ c.
+    let after-put-answer = c .before .before in
+    (writes-as (ap checkedText (after-put-answer .before .answer .ensures)) (after-put-answer .put-answer .ensures .0), after-put-answer .put-answer .ensures .1)))

@@ -40,4 +40,10 @@ put-text-spec =
     -- same-length
     (λ c. search needs)
     -- returns
-    (λ c. (writes-as (input-read _ _ _ _ (size-is _ (c .before .before .before .before .before .before .before .before .before .byte-at .ensures .0) (c .before .before .before .before .before .before .before .before .byte-at2 .ensures .0)) (c .before .before .before .before .before .before .before .at-most .ensures) (c .before .before .before .before .before .before .at-most2 .ensures)) (c .before .before .put-checked .ensures .0), c .before .before .put-checked .ensures .1)))
+    (λ c.
+    let after-put-checked = c .before .before in let after-at-most2 = after-put-checked .before .before .before .before in
+    let after-at-most = after-at-most2 .before in let after-byte-at2 = after-at-most .before in (
+      writes-as (input-read _ _ _ _ (size-is _ (after-byte-at2 .before .byte-at .ensures .0) (after-byte-at2 .byte-at2 .ensures .0))
+          (after-at-most .at-most .ensures) (after-at-most2 .at-most2 .ensures)) (after-put-checked .put-checked .ensures .0),
+      after-put-checked .put-checked .ensures .1,
+    )))
