@@ -9,11 +9,14 @@ use Rattle.joiner.proofs.find_named.Tie as tie
 
 -- The places that lie behind a place.
 
+abbrev f-of-check2 : tie.After-check2 → tie.After-f
+f-of-check2 c = c .before .before
+
 abbrev check-of-f : tie.After-f → tie.After-check
 check-of-f c = c .before .before
 
-abbrev f-of-check2 : tie.After-check2 → tie.After-f
-f-of-check2 c = c .before .before
+abbrev check2-of-known-told4 : tie.After-known-told4 → tie.After-check2
+check2-of-known-told4 c = c .before .before .before
 
 abbrev start-of-check : tie.After-check → tie.Start
 start-of-check c = c .before .before .before .before
@@ -36,7 +39,7 @@ find-named-spec =
     (λ c. search needs)
     -- find-literal-requires
     (λ c κs.
-    let after-check2 = c .before .before .before in let after-f = f-of-check2 after-check2 in let after-check = check-of-f after-f in
+    let after-check2 = check2-of-known-told4 c in let after-f = f-of-check2 after-check2 in let after-check = check-of-f after-f in
     let start = start-of-check after-check in (
       law.passing _ _ (subst (λ (x : Checked). CheckedAs x (start .args .first .now)) (after-f .f .given .1) (after-check .check .ensures)),
       law.passing _ _ (subst (λ (x : Checked). CheckedAs x (start .args .second .now)) (c .before .s .given .1) (after-check2 .check2 .ensures)),
@@ -59,7 +62,7 @@ find-named-spec =
     ))
     -- returns-3
     (λ c.
-    let after-check2 = c .before .before .before .before in let after-f = f-of-check2 after-check2 in let after-check = check-of-f after-f in
+    let after-check2 = check2-of-known-told4 (c .before) in let after-f = f-of-check2 after-check2 in let after-check = check-of-f after-f in
     let start = start-of-check after-check in (
       law.named-found (start .args .first .now) (start .args .second .now) (start .args .line .now)
           (subst (λ (x : Checked). CheckedAs x (start .args .first .now)) (after-f .f .given .1) (after-check .check .ensures))

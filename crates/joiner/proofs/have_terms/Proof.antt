@@ -20,11 +20,26 @@ abbrev μ-loop : tie.MeasureT-loop
 
 -- The places that lie behind a place.
 
+abbrev byte-at2-of-then1 : tie.Then1 Inv-loop μ-loop → tie.After-byte-at2 Inv-loop μ-loop
+byte-at2-of-then1 c = c .before .before
+
+abbrev shared-slice-known-of-in-loop : tie.In-loop Inv-loop μ-loop → tie.After-shared-slice-known Inv-loop μ-loop
+shared-slice-known-of-in-loop c = c .before .before
+
 abbrev byte-at2-of-else1 : tie.Else1 Inv-loop μ-loop → tie.After-byte-at2 Inv-loop μ-loop
 byte-at2-of-else1 c = c .before .before
 
+abbrev byte-at-of-else1 : tie.Else1 Inv-loop μ-loop → tie.After-byte-at Inv-loop μ-loop
+byte-at-of-else1 c = byte-at2-of-else1 c .before
+
 abbrev start-of-in-loop : tie.In-loop Inv-loop μ-loop → tie.Start Inv-loop μ-loop
-start-of-in-loop c = c .before .before .before
+start-of-in-loop c = shared-slice-known-of-in-loop c .before
+
+abbrev start-of-byte-at : tie.After-byte-at Inv-loop μ-loop → tie.Start Inv-loop μ-loop
+start-of-byte-at c = start-of-in-loop (c .before)
+
+abbrev in-loop-of-else1 : tie.Else1 Inv-loop μ-loop → tie.In-loop Inv-loop μ-loop
+in-loop-of-else1 c = byte-at-of-else1 c .before
 
 pub have-terms-spec : {M : Type 1} → statement M
 have-terms-spec =
@@ -37,40 +52,39 @@ have-terms-spec =
     let start = c .before in
     ap (all (hasTerms (start .args .n) (start .args .m))) (sym (pairs-are (start .args .pairs .now) (start .args .count) (start .pre))))
     -- mul-byte-at
-    (λ c. omega (arith, start-of-in-loop c .pre, c .loop-test .taken, c .before .before .shared-slice-known .given 0))
+    (λ c. omega (arith, start-of-in-loop c .pre, c .loop-test .taken, shared-slice-known-of-in-loop c .shared-slice-known .given 0))
     -- add-byte-at
     (λ c. omega (arith, start-of-in-loop c .pre, c .loop-test .taken))
     -- byte-at-requires
     (λ c κs. omega (arith, start-of-in-loop c .pre, c .loop-test .taken))
     -- mul-byte-at-2
-    (λ c. omega (arith, start-of-in-loop (c .before) .pre, c .before .loop-test .taken))
+    (λ c. omega (arith, start-of-byte-at c .pre, c .before .loop-test .taken))
     -- add-byte-at-2
-    (λ c. omega (arith, start-of-in-loop (c .before) .pre, c .before .loop-test .taken))
+    (λ c. omega (arith, start-of-byte-at c .pre, c .before .loop-test .taken))
     -- byte-at-requires-2
-    (λ c κs. omega (arith, start-of-in-loop (c .before) .pre, c .before .loop-test .taken))
+    (λ c κs. omega (arith, start-of-byte-at c .pre, c .before .loop-test .taken))
     -- has-terms-requires
     (λ c κs. search needs)
     -- returns
     (λ c.
-    let after-byte-at = c .before .before .before in let in-loop = after-byte-at .before in let at-loop = in-loop .before in
-    let start = start-of-in-loop in-loop in
+    let after-byte-at2 = byte-at2-of-then1 c in let after-byte-at = after-byte-at2 .before in let in-loop = after-byte-at .before in
+    let at-loop = in-loop .before in let start = start-of-in-loop in-loop in
     sym (test-fails (hasTerms (start .args .n) (start .args .m)) (pairIn (start .args .pairs .now)) (start .args .count) (at-loop .loop .k)
     (in-loop .loop-test .taken) (sym (c .before .has-terms .ensures
-    ∙ ap (hasTerms (start .args .n) (start .args .m)) (pair-is (after-byte-at .byte-at .ensures) (c .before .before .byte-at2 .ensures)))
+    ∙ ap (hasTerms (start .args .n) (start .args .m)) (pair-is (after-byte-at .byte-at .ensures) (after-byte-at2 .byte-at2 .ensures)))
     ∙ not-true _ (c .if1 .taken))) ∙ at-loop .loop .inv)
     -- add-k
     (λ c.
-    let in-loop = byte-at2-of-else1 c .before .before in
+    let in-loop = in-loop-of-else1 c in
     omega (arith, start-of-in-loop in-loop .pre, in-loop .loop-test .taken))
     -- loop-less
-    (λ c. omega (arith, byte-at2-of-else1 c .before .before .loop-test .taken))
+    (λ c. omega (arith, in-loop-of-else1 c .loop-test .taken))
     -- loop-again
     (λ c.
-    let after-byte-at2 = byte-at2-of-else1 c in let after-byte-at = after-byte-at2 .before in let in-loop = after-byte-at .before in
-    let at-loop = in-loop .before in let start = start-of-in-loop in-loop in
+    let in-loop = in-loop-of-else1 c in let at-loop = in-loop .before in let start = start-of-in-loop in-loop in
     sym (test-next (hasTerms (start .args .n) (start .args .m)) (pairIn (start .args .pairs .now)) (start .args .count) (at-loop .loop .k)
     (in-loop .loop-test .taken) (sym (c .before .has-terms .ensures
-    ∙ ap (hasTerms (start .args .n) (start .args .m)) (pair-is (after-byte-at .byte-at .ensures) (after-byte-at2 .byte-at2 .ensures)))
+    ∙ ap (hasTerms (start .args .n) (start .args .m)) (pair-is (byte-at-of-else1 c .byte-at .ensures) (byte-at2-of-else1 c .byte-at2 .ensures)))
     ∙ not-false _ (c .if1 .left))) ∙ at-loop .loop .inv)
     -- returns-2
     (λ c.

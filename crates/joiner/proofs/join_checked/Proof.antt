@@ -12,14 +12,35 @@ use Rattle.joiner.proofs.join_checked.Tie as tie
 
 -- The places that lie behind a place.
 
-abbrev clear-of-slice-known3 : tie.After-slice-known3 → tie.After-clear
-clear-of-slice-known3 c = c .before .before
-
 abbrev is-pair-list-of-byte-at : tie.After-byte-at → tie.After-is-pair-list
 is-pair-list-of-byte-at c = c .before .before
 
+abbrev clear-of-slice-known3 : tie.After-slice-known3 → tie.After-clear
+clear-of-slice-known3 c = c .before .before
+
+abbrev put-query-of-slice-known2 : tie.After-slice-known2 → tie.After-put-query
+put-query-of-slice-known2 c = c .before .before
+
+abbrev else2-of-put-query : tie.After-put-query → tie.Else2
+else2-of-put-query c = c .before .before
+
+abbrev byte-at-of-else2 : tie.Else2 → tie.After-byte-at
+byte-at-of-else2 c = c .before .before
+
+abbrev byte-at-of-then2 : tie.Then2 → tie.After-byte-at
+byte-at-of-then2 c = c .before .before
+
+abbrev put-query-of-else3 : tie.Else3 → tie.After-put-query
+put-query-of-else3 c = put-query-of-slice-known2 (c .before)
+
+abbrev then3-of-slice-known3 : tie.After-slice-known3 → tie.Then3
+then3-of-slice-known3 c = clear-of-slice-known3 c .before .before
+
 abbrev start-of-is-pair-list : tie.After-is-pair-list → tie.Start
 start-of-is-pair-list c = c .before .before .before .before .before
+
+abbrev put-query-of-slice-known3 : tie.After-slice-known3 → tie.After-put-query
+put-query-of-slice-known3 c = put-query-of-slice-known2 (then3-of-slice-known3 c .before)
 
 pub join-checked-spec : {M : Type 1} → statement M
 join-checked-spec =
@@ -56,15 +77,16 @@ join-checked-spec =
     ))
     -- returns-2
     (λ c.
-    let else1 = c .before .before .before in let after-is-pair-list = else1 .before in let start = start-of-is-pair-list after-is-pair-list in
+    let after-byte-at = byte-at-of-then2 c in let else1 = after-byte-at .before in
+    let after-is-pair-list = is-pair-list-of-byte-at after-byte-at in let start = start-of-is-pair-list after-is-pair-list in
     call.limit-passed (start .args .first .now) (start .args .second .now) (start .args .pairs .now) (start .args .f) (start .args .s) (start .pre .0) (start .pre .1)
     (sym (after-is-pair-list .is-pair-list .ensures) ∙ not-false _ (else1 .if1 .left)) _ _
     (sym (made.limits-same (start .args .first .now) (start .args .second .now) (start .args .pairs .now) (start .args .f) (start .args .s) (start .pre .0) (start .pre .1)
-    (sym (after-is-pair-list .is-pair-list .ensures) ∙ not-false _ (else1 .if1 .left)) _ (c .before .before .byte-at .ensures))
+    (sym (after-is-pair-list .is-pair-list .ensures) ∙ not-false _ (else1 .if1 .left)) _ (after-byte-at .byte-at .ensures))
     ∙ (sym (c .before .keeps-limits .ensures) ∙ not-true _ (c .if2 .taken))) (start .pre .2))
     -- put-query-requires
     (λ c κs.
-    let after-byte-at = c .before .before .before in let else1 = after-byte-at .before in
+    let after-byte-at = byte-at-of-else2 (c .before) in let else1 = after-byte-at .before in
     let after-is-pair-list = is-pair-list-of-byte-at after-byte-at in let start = start-of-is-pair-list after-is-pair-list in (
       start .pre .0,
       start .pre .1,
@@ -77,30 +99,28 @@ join-checked-spec =
     (λ c κs. search needs)
     -- same-length
     (λ c.
-    let after-clear = clear-of-slice-known3 c in
-    blank-long _ _ (after-clear .clear .ensures) ∙ writes-length (after-clear .before .before .before .before .before .put-query .ensures))
+    blank-long _ _ (clear-of-slice-known3 c .clear .ensures) ∙ writes-length (put-query-of-slice-known3 c .put-query .ensures))
     -- returns-3
     (λ c.
-    let after-clear = clear-of-slice-known3 c in let then3 = after-clear .before .before in
-    let after-put-query = then3 .before .before .before in let else2 = after-put-query .before .before in
-    let after-keeps-limits = else2 .before in let after-byte-at = after-keeps-limits .before in let else1 = after-byte-at .before in
+    let after-put-query = put-query-of-slice-known3 c in let else2 = else2-of-put-query after-put-query in
+    let after-byte-at = byte-at-of-else2 else2 in let else1 = after-byte-at .before in
     let after-is-pair-list = is-pair-list-of-byte-at after-byte-at in let start = start-of-is-pair-list after-is-pair-list in
     call.too-short (start .args .first .now) (start .args .second .now) (start .args .pairs .now) (start .args .f) (start .args .s) (start .pre .0) (start .pre .1)
     (sym (after-is-pair-list .is-pair-list .ensures) ∙ not-false _ (else1 .if1 .left))
     (sym (made.limits-same (start .args .first .now) (start .args .second .now) (start .args .pairs .now) (start .args .f) (start .args .s) (start .pre .0) (start .pre .1)
     (sym (after-is-pair-list .is-pair-list .ensures) ∙ not-false _ (else1 .if1 .left)) _ (after-byte-at .byte-at .ensures))
-    ∙ (sym (after-keeps-limits .keeps-limits .ensures) ∙ not-false _ (else2 .if2 .left))) _ _ _ (start .pre .2)
-    (after-put-query .put-query .ensures) _ (then3 .if3 .taken) (after-clear .clear .ensures))
+    ∙ (sym (else2 .before .keeps-limits .ensures) ∙ not-false _ (else2 .if2 .left))) _ _ _ (start .pre .2)
+    (after-put-query .put-query .ensures) _ (then3-of-slice-known3 c .if3 .taken) (clear-of-slice-known3 c .clear .ensures))
     -- same-length-2
-    (λ c. writes-length (c .before .before .before .put-query .ensures))
+    (λ c. writes-length (put-query-of-else3 c .put-query .ensures))
     -- returns-4
     (λ c.
-    let after-put-query = c .before .before .before in let else2 = after-put-query .before .before in let after-keeps-limits = else2 .before in
-    let after-byte-at = after-keeps-limits .before in let else1 = after-byte-at .before in
+    let after-put-query = put-query-of-else3 c in let else2 = else2-of-put-query after-put-query in
+    let after-byte-at = byte-at-of-else2 else2 in let else1 = after-byte-at .before in
     let after-is-pair-list = is-pair-list-of-byte-at after-byte-at in let start = start-of-is-pair-list after-is-pair-list in
     call.fits (start .args .first .now) (start .args .second .now) (start .args .pairs .now) (start .args .f) (start .args .s) (start .pre .0) (start .pre .1)
     (sym (after-is-pair-list .is-pair-list .ensures) ∙ not-false _ (else1 .if1 .left))
     (sym (made.limits-same (start .args .first .now) (start .args .second .now) (start .args .pairs .now) (start .args .f) (start .args .s) (start .pre .0) (start .pre .1)
     (sym (after-is-pair-list .is-pair-list .ensures) ∙ not-false _ (else1 .if1 .left)) _ (after-byte-at .byte-at .ensures))
-    ∙ (sym (after-keeps-limits .keeps-limits .ensures) ∙ not-false _ (else2 .if2 .left))) _ _ _ (start .pre .2)
+    ∙ (sym (else2 .before .keeps-limits .ensures) ∙ not-false _ (else2 .if2 .left))) _ _ _ (start .pre .2)
     (after-put-query .put-query .ensures) (c .if3 .left)))

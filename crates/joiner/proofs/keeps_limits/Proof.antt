@@ -7,8 +7,14 @@ use Rattle.joiner.proofs.keeps_limits.Tie as tie
 
 -- The places that lie behind a place.
 
+abbrev start-of-struct-known2 : tie.After-struct-known2 → tie.Start
+start-of-struct-known2 c = c .before .before
+
 abbrev start-of-struct-known4 : tie.After-struct-known4 → tie.Start
-start-of-struct-known4 c = c .before .before .before .before
+start-of-struct-known4 c = start-of-struct-known2 (c .before .before)
+
+abbrev start-of-struct-known6 : tie.After-struct-known6 → tie.Start
+start-of-struct-known6 c = start-of-struct-known4 (c .before .before)
 
 -- returns
 returns : tie.Need-returns
@@ -21,7 +27,7 @@ keeps-limits-spec =
     (tie.spec
     -- add-terms
     (λ c.
-    let start = c .before .before in
+    let start = start-of-struct-known2 c in
     omega (arith, start .pre .0 .terms-within, start .pre .1 .terms-within))
     -- add-equal
     (λ c.
@@ -33,10 +39,10 @@ keeps-limits-spec =
     omega (arith, start .pre .0 .equal-within, start .pre .1 .equal-within, start .pre .2))
     -- add-reach
     (λ c.
-    let start = start-of-struct-known4 (c .before .before) in
+    let start = start-of-struct-known6 c in
     omega (arith, start .pre .0 .reach-within, start .pre .1 .reach-within))
     -- add-field
     (λ c.
-    let start = start-of-struct-known4 (c .before .before .before .before) in
+    let start = start-of-struct-known6 (c .before .before) in
     omega (arith, start .pre .0 .field-within, start .pre .1 .field-within))
     returns)

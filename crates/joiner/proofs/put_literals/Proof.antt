@@ -34,11 +34,26 @@ right-of-struct-known c = c .before .before
 abbrev start-of-slice-known : tie.After-slice-known Inv-loop μ-loop → tie.Start Inv-loop μ-loop
 start-of-slice-known c = c .before .before
 
+abbrev put-literal-of-slice-known2 : tie.After-slice-known2 Inv-loop μ-loop → tie.After-put-literal Inv-loop μ-loop
+put-literal-of-slice-known2 c = c .before .before
+
+abbrev field-of-put-literal-arg : tie.After-put-literal-arg Inv-loop μ-loop → tie.After-field Inv-loop μ-loop
+field-of-put-literal-arg c = c .before .before
+
+abbrev start-of-at-loop : tie.At-loop Inv-loop μ-loop → tie.Start Inv-loop μ-loop
+start-of-at-loop c = start-of-slice-known (c .before)
+
+abbrev at-loop-of-field : tie.After-field Inv-loop μ-loop → tie.At-loop Inv-loop μ-loop
+at-loop-of-field c = in-loop-of-field c .before
+
 abbrev start-of-in-loop : tie.In-loop Inv-loop μ-loop → tie.Start Inv-loop μ-loop
-start-of-in-loop c = start-of-slice-known (c .before .before)
+start-of-in-loop c = start-of-at-loop (c .before)
+
+abbrev in-loop-of-struct-known : tie.After-struct-known Inv-loop μ-loop → tie.In-loop Inv-loop μ-loop
+in-loop-of-struct-known c = in-loop-of-field (field-of-put-literal-arg (c .before))
 
 abbrev in-loop-of-slice-known2 : tie.After-slice-known2 Inv-loop μ-loop → tie.In-loop Inv-loop μ-loop
-in-loop-of-slice-known2 c = in-loop-of-field (right-of-struct-known (c .before .before .before) .before)
+in-loop-of-slice-known2 c = in-loop-of-struct-known (put-literal-of-slice-known2 c .before)
 
 pub put-literals-spec : {M : Type 1} → statement M
 put-literals-spec =
@@ -60,26 +75,26 @@ put-literals-spec =
     omega (arith, start-of-in-loop in-loop .pre .0, in-loop .loop-test .taken))
     -- add-put-literal
     (λ c.
-    let in-loop = in-loop-of-field (c .before .before) in let start = start-of-in-loop in-loop in
+    let after-field = field-of-put-literal-arg c in let in-loop = in-loop-of-field after-field in let start = start-of-in-loop in-loop in
     omega (
       arith,
-      c .before .before .field .ensures,
+      after-field .field .ensures,
       literal-small (start .args .query .now) (start .args .at) (start .args .count) (start .args .i)
-          (start .args .j) (start .pre .0) (start .pre .2) (in-loop .before .loop .k) (in-loop .loop-test .taken) .0,
+          (start .args .j) (start .pre .0) (start .pre .2) (at-loop-of-field after-field .loop .k) (in-loop .loop-test .taken) .0,
     ))
     -- add-put-literal-2
     (λ c.
-    let after-right = right-of-struct-known c in let in-loop = in-loop-of-field (after-right .before) in let start = start-of-in-loop in-loop in
+    let in-loop = in-loop-of-struct-known c in let start = start-of-in-loop in-loop in
     omega (
       arith,
-      after-right .right .ensures,
-      literal-small (start .args .query .now) (start .args .at) (start .args .count) (start .args .i)
-          (start .args .j) (start .pre .0) (start .pre .2) (in-loop .before .loop .k) (in-loop .loop-test .taken) .1,
+      right-of-struct-known c .right .ensures,
+      literal-small (start .args .query .now) (start .args .at) (start .args .count) (start .args .i) (start .args .j) (start .pre .0) (start .pre .2)
+          (in-loop .before .loop .k) (in-loop .loop-test .taken) .1,
     ))
     -- put-literal-requires
     (λ c κs.
-    let after-right = right-of-struct-known c in let after-field = after-right .before in let in-loop = in-loop-of-field after-field in
-    let at-loop = in-loop .before in let start = start-of-in-loop in-loop in let loop-test-taken = in-loop .loop-test .taken in (
+    let after-field = field-of-put-literal-arg (c .before) in let in-loop = in-loop-of-struct-known c in
+    let at-loop = at-loop-of-field after-field in let start = start-of-in-loop in-loop in let loop-test-taken = in-loop .loop-test .taken in (
       omega (arith, at-loop .loop .inv .1, start .pre .1, loop-test-taken),
       omega (
         arith,
@@ -89,9 +104,9 @@ put-literals-spec =
       ),
       omega (
         arith,
-        after-right .right .ensures,
-        literal-small (start .args .query .now) (start .args .at) (start .args .count) (start .args .i)
-            (start .args .j) (start .pre .0) (start .pre .2) (at-loop .loop .k) loop-test-taken .1,
+        right-of-struct-known c .right .ensures,
+        literal-small (start .args .query .now) (start .args .at) (start .args .count) (start .args .i) (start .args .j) (start .pre .0) (start .pre .2)
+            (at-loop .loop .k) loop-test-taken .1,
       ),
     ))
     -- add-k
@@ -102,8 +117,8 @@ put-literals-spec =
     (λ c. omega (arith, in-loop-of-slice-known2 c .loop-test .taken))
     -- loop-again
     (λ c.
-    let after-put-literal = c .before .before in let after-right = right-of-struct-known (after-put-literal .before) in
-    let after-field = after-right .before in let in-loop = in-loop-of-slice-known2 c in let at-loop = in-loop .before in
+    let after-put-literal = put-literal-of-slice-known2 c in let after-right = right-of-struct-known (after-put-literal .before) in
+    let after-field = after-right .before in let in-loop = in-loop-of-slice-known2 c in let at-loop = at-loop-of-field after-field in
     let start = start-of-in-loop in-loop in (
       part-more (at-loop .loop .inv .0)
           (rest-next literalBytes (raisedAt (start .args .query .now) (start .args .at) (start .args .i) (start .args .j)) (start .args .count)
@@ -117,7 +132,7 @@ put-literals-spec =
     (λ c. part-length (c .before .loop .inv .0))
     -- returns
     (λ c.
-    let at-loop = c .before in let start = start-of-slice-known (at-loop .before) in
+    let at-loop = c .before in let start = start-of-at-loop at-loop in
     part-all (at-loop .loop .inv .0)
     (rest-end literalBytes (raisedAt (start .args .query .now) (start .args .at) (start .args .i) (start .args .j)) (start .args .count)
     (at-loop .loop .k) (c .loop-test .left))))

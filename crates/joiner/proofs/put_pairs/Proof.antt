@@ -26,14 +26,26 @@ abbrev μ-loop : tie.MeasureT-loop
 abbrev start-of-slice-known : tie.After-slice-known Inv-loop μ-loop → tie.Start Inv-loop μ-loop
 start-of-slice-known c = c .before .before
 
+abbrev put-literal-of-slice-known2 : tie.After-slice-known2 Inv-loop μ-loop → tie.After-put-literal Inv-loop μ-loop
+put-literal-of-slice-known2 c = c .before .before
+
+abbrev byte-at-of-put-literal-arg : tie.After-put-literal-arg Inv-loop μ-loop → tie.After-byte-at Inv-loop μ-loop
+byte-at-of-put-literal-arg c = c .before .before
+
 abbrev in-loop-of-put-literal-arg : tie.After-put-literal-arg Inv-loop μ-loop → tie.In-loop Inv-loop μ-loop
-in-loop-of-put-literal-arg c = c .before .before .before
+in-loop-of-put-literal-arg c = byte-at-of-put-literal-arg c .before
+
+abbrev start-of-at-loop : tie.At-loop Inv-loop μ-loop → tie.Start Inv-loop μ-loop
+start-of-at-loop c = start-of-slice-known (c .before)
 
 abbrev start-of-in-loop : tie.In-loop Inv-loop μ-loop → tie.Start Inv-loop μ-loop
-start-of-in-loop c = start-of-slice-known (c .before .before)
+start-of-in-loop c = start-of-at-loop (c .before)
+
+abbrev start-of-byte-at : tie.After-byte-at Inv-loop μ-loop → tie.Start Inv-loop μ-loop
+start-of-byte-at c = start-of-in-loop (c .before)
 
 abbrev in-loop-of-slice-known2 : tie.After-slice-known2 Inv-loop μ-loop → tie.In-loop Inv-loop μ-loop
-in-loop-of-slice-known2 c = in-loop-of-put-literal-arg (c .before .before .before)
+in-loop-of-slice-known2 c = in-loop-of-put-literal-arg (put-literal-of-slice-known2 c .before)
 
 pub put-pairs-spec : {M : Type 1} → statement M
 put-pairs-spec =
@@ -52,11 +64,11 @@ put-pairs-spec =
     -- byte-at-requires
     (λ c κs. omega (arith, start-of-in-loop c .pre .0, c .loop-test .taken))
     -- mul-byte-at-2
-    (λ c. omega (arith, start-of-in-loop (c .before) .pre .2, c .before .loop-test .taken))
+    (λ c. omega (arith, start-of-byte-at c .pre .2, c .before .loop-test .taken))
     -- add-byte-at-2
-    (λ c. omega (arith, start-of-in-loop (c .before) .pre .2, c .before .loop-test .taken))
+    (λ c. omega (arith, start-of-byte-at c .pre .2, c .before .loop-test .taken))
     -- byte-at-requires-2
-    (λ c κs. omega (arith, start-of-in-loop (c .before) .pre .0, c .before .loop-test .taken))
+    (λ c κs. omega (arith, start-of-byte-at c .pre .0, c .before .loop-test .taken))
     -- add-put-literal
     (λ c.
     let in-loop = in-loop-of-put-literal-arg c in let start = start-of-in-loop in-loop in
@@ -73,9 +85,8 @@ put-pairs-spec =
       omega (arith, at-loop .loop .inv .1, start .pre .2, loop-test-taken),
       omega (
         arith,
-        c .before .before .byte-at .ensures,
-        pair-small (start .args .pairs .now) (start .args .count) (start .pre .0) (start .args .n)
-            (start .pre .3) (at-loop .loop .k) loop-test-taken .0,
+        byte-at-of-put-literal-arg c .byte-at .ensures,
+        pair-small (start .args .pairs .now) (start .args .count) (start .pre .0) (start .args .n) (start .pre .3) (at-loop .loop .k) loop-test-taken .0,
       ),
       omega (arith, c .before .byte-at2 .ensures, pair-small (start .args .pairs .now) (start .args .count) (start .pre .0) (start .args .n) (start .pre .3) (at-loop .loop .k) loop-test-taken .1),
     ))
@@ -87,7 +98,7 @@ put-pairs-spec =
     (λ c. omega (arith, in-loop-of-slice-known2 c .loop-test .taken))
     -- loop-again
     (λ c.
-    let after-put-literal = c .before .before in let after-byte-at2 = after-put-literal .before .before in
+    let after-put-literal = put-literal-of-slice-known2 c in let after-byte-at2 = after-put-literal .before .before in
     let in-loop = in-loop-of-slice-known2 c in let at-loop = in-loop .before in let start = start-of-in-loop in-loop in (
       part-more (at-loop .loop .inv .0)
           (rest-next literalBytes (λ i. pairLiteral (start .args .n) (pairIn (start .args .pairs .now) i)) (start .args .count) (at-loop .loop .k)
@@ -101,5 +112,5 @@ put-pairs-spec =
     (λ c. part-length (c .before .loop .inv .0))
     -- returns
     (λ c.
-    let at-loop = c .before in let start = start-of-slice-known (at-loop .before) in
+    let at-loop = c .before in let start = start-of-at-loop at-loop in
     part-all (at-loop .loop .inv .0) (rest-end literalBytes (λ i. pairLiteral (start .args .n) (pairIn (start .args .pairs .now) i)) (start .args .count) (at-loop .loop .k) (c .loop-test .left))))

@@ -9,32 +9,47 @@ use Rattle.joiner.proofs.put_query.Tie as tie
 
 -- The places that lie behind a place.
 
-abbrev put-byte-of-slice-known7 : tie.After-slice-known7 → tie.After-put-byte
-put-byte-of-slice-known7 c = c .before .before
-
 abbrev byte-at-of-put-terms : tie.After-put-terms → tie.After-byte-at
 byte-at-of-put-terms c = c .before .before
+
+abbrev put-byte-of-slice-known7 : tie.After-slice-known7 → tie.After-put-byte
+put-byte-of-slice-known7 c = c .before .before
 
 abbrev put-section2-of-put-section-arg3 : tie.After-put-section-arg3 → tie.After-put-section2
 put-section2-of-put-section-arg3 c = c .before .before .before
 
+abbrev put-section-of-put-pairs-arg : tie.After-put-pairs-arg → tie.After-put-section
+put-section-of-put-pairs-arg c = c .before .before .before
+
+abbrev put-terms-of-put-section-arg : tie.After-put-section-arg → tie.After-put-terms
+put-terms-of-put-section-arg c = c .before .before .before
+
+abbrev put-pairs-of-put-section-arg2 : tie.After-put-section-arg2 → tie.After-put-pairs
+put-pairs-of-put-section-arg2 c = c .before .before .before
+
+abbrev put-section3-of-put-byte-arg : tie.After-put-byte-arg → tie.After-put-section3
+put-section3-of-put-byte-arg c = c .before .before .before
+
 abbrev put-pairs-of-put-section2 : tie.After-put-section2 → tie.After-put-pairs
-put-pairs-of-put-section2 c = c .before .before .before .before
+put-pairs-of-put-section2 c = put-pairs-of-put-section-arg2 (c .before)
+
+abbrev put-terms-of-put-section : tie.After-put-section → tie.After-put-terms
+put-terms-of-put-section c = put-terms-of-put-section-arg (c .before)
+
+abbrev put-section2-of-put-section3 : tie.After-put-section3 → tie.After-put-section2
+put-section2-of-put-section3 c = put-section2-of-put-section-arg3 (c .before)
 
 abbrev put-section-of-put-pairs : tie.After-put-pairs → tie.After-put-section
-put-section-of-put-pairs c = c .before .before .before .before
+put-section-of-put-pairs c = put-section-of-put-pairs-arg (c .before)
 
 abbrev start-of-slice-known : tie.After-slice-known → tie.Start
 start-of-slice-known c = c .before .before .before .before
-
-abbrev put-terms-of-put-section : tie.After-put-section → tie.After-put-terms
-put-terms-of-put-section c = c .before .before .before .before
 
 abbrev start-of-byte-at : tie.After-byte-at → tie.Start
 start-of-byte-at c = start-of-slice-known (c .before)
 
 abbrev put-section3-of-slice-known7 : tie.After-slice-known7 → tie.After-put-section3
-put-section3-of-slice-known7 c = put-byte-of-slice-known7 c .before .before .before .before
+put-section3-of-slice-known7 c = put-section3-of-put-byte-arg (put-byte-of-slice-known7 c .before)
 
 pub put-query-spec : {M : Type 1} → statement M
 put-query-spec =
@@ -61,7 +76,7 @@ put-query-spec =
     ))
     -- put-section-requires
     (λ c κs.
-    let after-put-terms = c .before .before .before in let after-byte-at = byte-at-of-put-terms after-put-terms in
+    let after-put-terms = put-terms-of-put-section-arg c in let after-byte-at = byte-at-of-put-terms after-put-terms in
     let start = start-of-byte-at after-byte-at in
     let second = start .args .second .now in
     let first = start .args .first .now in
@@ -91,7 +106,7 @@ put-query-spec =
     ))
     -- put-pairs-requires
     (λ c κs.
-    let after-put-section = c .before .before .before in let after-put-terms = put-terms-of-put-section after-put-section in
+    let after-put-section = put-section-of-put-pairs-arg c in let after-put-terms = put-terms-of-put-section after-put-section in
     let after-byte-at = byte-at-of-put-terms after-put-terms in let start = start-of-byte-at after-byte-at in
     let second = start .args .second .now in
     let first = start .args .first .now in
@@ -120,7 +135,7 @@ put-query-spec =
     ))
     -- put-section-requires-2
     (λ c κs.
-    let after-put-pairs = c .before .before .before in let after-put-section = put-section-of-put-pairs after-put-pairs in
+    let after-put-pairs = put-pairs-of-put-section-arg2 c in let after-put-section = put-section-of-put-pairs after-put-pairs in
     let after-put-terms = put-terms-of-put-section after-put-section in let after-byte-at = byte-at-of-put-terms after-put-terms in
     let start = start-of-byte-at after-byte-at in
     let second = start .args .second .now in
@@ -192,8 +207,7 @@ put-query-spec =
     ))
     -- put-byte-requires
     (λ c κs.
-    let after-put-section3 = c .before .before .before in
-    let after-put-section2 = put-section2-of-put-section-arg3 (after-put-section3 .before) in
+    let after-put-section3 = put-section3-of-put-byte-arg c in let after-put-section2 = put-section2-of-put-section3 after-put-section3 in
     let after-put-pairs = put-pairs-of-put-section2 after-put-section2 in let after-put-section = put-section-of-put-pairs after-put-pairs in
     let after-put-terms = put-terms-of-put-section after-put-section in let after-byte-at = byte-at-of-put-terms after-put-terms in
     let start = start-of-byte-at after-byte-at in
@@ -226,8 +240,7 @@ put-query-spec =
     ))
     -- same-length
     (λ c.
-    let after-put-section3 = put-section3-of-slice-known7 c in
-    let after-put-section2 = put-section2-of-put-section-arg3 (after-put-section3 .before) in
+    let after-put-section3 = put-section3-of-slice-known7 c in let after-put-section2 = put-section2-of-put-section3 after-put-section3 in
     let after-put-pairs = put-pairs-of-put-section2 after-put-section2 in let after-put-section = put-section-of-put-pairs after-put-pairs in
     writes-length (writes-then (put-terms-of-put-section after-put-section .put-terms .ensures) (writes-then (after-put-section .put-section .ensures)
     (writes-then (after-put-pairs .put-pairs .ensures)
@@ -235,8 +248,7 @@ put-query-spec =
     (writes-then (after-put-section3 .put-section3 .ensures) (put-byte-of-slice-known7 c .put-byte .ensures)))))))
     -- returns
     (λ c.
-    let after-put-section3 = put-section3-of-slice-known7 c in
-    let after-put-section2 = put-section2-of-put-section-arg3 (after-put-section3 .before) in
+    let after-put-section3 = put-section3-of-slice-known7 c in let after-put-section2 = put-section2-of-put-section3 after-put-section3 in
     let after-put-pairs = put-pairs-of-put-section2 after-put-section2 in let after-put-section = put-section-of-put-pairs after-put-pairs in
     let after-put-terms = put-terms-of-put-section after-put-section in let after-byte-at = byte-at-of-put-terms after-put-terms in
     let start = start-of-byte-at after-byte-at in

@@ -16,8 +16,17 @@ put-byte-of-put-literals-arg c = c .before .before .before
 abbrev put-literals-of-put-literals-arg2 : tie.After-put-literals-arg2 → tie.After-put-literals
 put-literals-of-put-literals-arg2 c = c .before .before .before
 
+abbrev put-byte-of-put-literals : tie.After-put-literals → tie.After-put-byte
+put-byte-of-put-literals c = put-byte-of-put-literals-arg (c .before)
+
 abbrev start-of-put-byte-arg : tie.After-put-byte-arg → tie.Start
 start-of-put-byte-arg c = c .before .before .before .before
+
+abbrev start-of-put-byte : tie.After-put-byte → tie.Start
+start-of-put-byte c = start-of-put-byte-arg (c .before)
+
+abbrev put-literals-of-slice-known4 : tie.After-slice-known4 → tie.After-put-literals
+put-literals-of-slice-known4 c = put-literals-of-put-literals-arg2 (put-literals2-of-slice-known4 c .before)
 
 pub put-section-spec : {M : Type 1} → statement M
 put-section-spec =
@@ -33,13 +42,12 @@ put-section-spec =
     (λ c κs. omega (arith, start-of-put-byte-arg c .pre .0 .3))
     -- put-literals-requires
     (λ c κs.
-    let after-put-byte = put-byte-of-put-literals-arg c in let start = start-of-put-byte-arg (after-put-byte .before) in
+    let after-put-byte = put-byte-of-put-literals-arg c in let start = start-of-put-byte after-put-byte in
     (start .pre .0 .0, omega (arith, after-put-byte .put-byte .ensures .ends, start .pre .0 .2, start .pre .0 .3), start .pre .1 .0))
     -- put-literals-requires-2
     (λ c κs.
-    let after-put-literals = put-literals-of-put-literals-arg2 c in
-    let after-put-byte = put-byte-of-put-literals-arg (after-put-literals .before) in
-    let start = start-of-put-byte-arg (after-put-byte .before) in (
+    let after-put-literals = put-literals-of-put-literals-arg2 c in let after-put-byte = put-byte-of-put-literals after-put-literals in
+    let start = start-of-put-byte after-put-byte in (
       start .pre .0 .1,
       omega (
         arith,
@@ -53,12 +61,10 @@ put-section-spec =
     ))
     -- same-length
     (λ c.
-    let after-put-literals2 = put-literals2-of-slice-known4 c in
-    let after-put-literals = put-literals-of-put-literals-arg2 (after-put-literals2 .before) in
-    writes-length (writes-then (put-byte-of-put-literals-arg (after-put-literals .before) .put-byte .ensures)
-    (writes-then (after-put-literals .put-literals .ensures) (after-put-literals2 .put-literals2 .ensures))))
+    let after-put-literals = put-literals-of-slice-known4 c in
+    writes-length (writes-then (put-byte-of-put-literals after-put-literals .put-byte .ensures)
+    (writes-then (after-put-literals .put-literals .ensures) (put-literals2-of-slice-known4 c .put-literals2 .ensures))))
     -- returns
     (λ c.
-    let after-put-literals2 = put-literals2-of-slice-known4 c in
-    let after-put-literals = put-literals-of-put-literals-arg2 (after-put-literals2 .before) in
-    writes-then (put-byte-of-put-literals-arg (after-put-literals .before) .put-byte .ensures) (writes-then (after-put-literals .put-literals .ensures) (after-put-literals2 .put-literals2 .ensures))))
+    let after-put-literals = put-literals-of-slice-known4 c in
+    writes-then (put-byte-of-put-literals after-put-literals .put-byte .ensures) (writes-then (after-put-literals .put-literals .ensures) (put-literals2-of-slice-known4 c .put-literals2 .ensures))))

@@ -20,6 +20,15 @@ put-byte-of-put-entries-arg c = c .before .before .before
 abbrev start-of-put-byte-arg : tie.After-put-byte-arg → tie.Start
 start-of-put-byte-arg c = c .before .before .before .before
 
+abbrev put-byte-of-put-entries : tie.After-put-entries → tie.After-put-byte
+put-byte-of-put-entries c = put-byte-of-put-entries-arg (c .before)
+
+abbrev start-of-put-byte : tie.After-put-byte → tie.Start
+start-of-put-byte c = start-of-put-byte-arg (c .before)
+
+abbrev put-entries-of-slice-known4 : tie.After-slice-known4 → tie.After-put-entries
+put-entries-of-slice-known4 c = put-entries-of-put-entries-arg2 (put-entries2-of-slice-known4 c .before)
+
 pub put-terms-spec : {M : Type 1} → statement M
 put-terms-spec =
     tie.close
@@ -32,12 +41,12 @@ put-terms-spec =
     (λ c κs. omega arith)
     -- put-entries-requires
     (λ c κs.
-    let after-put-byte = put-byte-of-put-entries-arg c in let start = start-of-put-byte-arg (after-put-byte .before) in
+    let after-put-byte = put-byte-of-put-entries-arg c in let start = start-of-put-byte after-put-byte in
     (start .pre .0, omega arith, omega (arith, after-put-byte .put-byte .ensures .ends, start .pre .2), start .pre .3))
     -- put-entries-requires-2
     (λ c κs.
-    let after-put-entries = put-entries-of-put-entries-arg2 c in let after-put-byte = put-byte-of-put-entries-arg (after-put-entries .before) in
-    let start = start-of-put-byte-arg (after-put-byte .before) in (
+    let after-put-entries = put-entries-of-put-entries-arg2 c in let after-put-byte = put-byte-of-put-entries after-put-entries in
+    let start = start-of-put-byte after-put-byte in (
       start .pre .1,
       omega (arith, start .pre .2),
       omega (
@@ -51,12 +60,10 @@ put-terms-spec =
     ))
     -- same-length
     (λ c.
-    let after-put-entries2 = put-entries2-of-slice-known4 c in
-    let after-put-entries = put-entries-of-put-entries-arg2 (after-put-entries2 .before) in
-    writes-length (writes-then (put-byte-of-put-entries-arg (after-put-entries .before) .put-byte .ensures)
-    (writes-then (after-put-entries .put-entries .ensures) (after-put-entries2 .put-entries2 .ensures))))
+    let after-put-entries = put-entries-of-slice-known4 c in
+    writes-length (writes-then (put-byte-of-put-entries after-put-entries .put-byte .ensures)
+    (writes-then (after-put-entries .put-entries .ensures) (put-entries2-of-slice-known4 c .put-entries2 .ensures))))
     -- returns
     (λ c.
-    let after-put-entries2 = put-entries2-of-slice-known4 c in
-    let after-put-entries = put-entries-of-put-entries-arg2 (after-put-entries2 .before) in
-    writes-then (put-byte-of-put-entries-arg (after-put-entries .before) .put-byte .ensures) (writes-then (after-put-entries .put-entries .ensures) (after-put-entries2 .put-entries2 .ensures))))
+    let after-put-entries = put-entries-of-slice-known4 c in
+    writes-then (put-byte-of-put-entries after-put-entries .put-byte .ensures) (writes-then (after-put-entries .put-entries .ensures) (put-entries2-of-slice-known4 c .put-entries2 .ensures))))

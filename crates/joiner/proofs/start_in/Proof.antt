@@ -9,6 +9,9 @@ use Rattle.joiner.proofs.start_in.Tie as tie
 abbrev start-of-struct-known2 : tie.After-struct-known2 → tie.Start
 start-of-struct-known2 c = c .before .before
 
+abbrev start-of-then1 : tie.Then1 → tie.Start
+start-of-then1 c = start-of-struct-known2 (c .before)
+
 abbrev start-of-else2 : tie.Else2 → tie.Start
 start-of-else2 c = start-of-struct-known2 (c .before .before)
 
@@ -29,11 +32,11 @@ start-in-spec =
     omega (arith, start .pre .terms-within, start .pre .equal-within, start .pre .reach-within))
     -- add-result
     (λ c.
-    let start = start-of-struct-known2 (c .before) in
+    let start = start-of-then1 c in
     omega (arith, start .pre .terms-within, start .pre .equal-within, start .pre .reach-within))
     -- returns
     (λ c.
-    let start = start-of-struct-known2 (c .before) in
+    let start = start-of-then1 c in
     law.start-second (start .args .l) (start .args .query .now) (start .pre) (start .args .s) (c .if1 .taken))
     -- add-result-2
     (λ c.
