@@ -39,8 +39,12 @@ module _ {K : seek-links-lts.Claims} {P : In 3 seek-links-kinds.ps} where
   abbrev else1-of-in-loop : seek-links-lts.In-loop K P seek-links.Post seek-links-Inv-loop seek-links-μ-loop → seek-links-lts.Else1 K P seek-links.Post seek-links-Inv-loop seek-links-μ-loop
   else1-of-in-loop c = c .before .before .before
 
+  abbrev start-of-struct-known2 : seek-links-lts.After-struct-known2 K P seek-links.Post seek-links-Inv-loop seek-links-μ-loop →
+      seek-links-lts.Start K P seek-links.Post seek-links-Inv-loop seek-links-μ-loop
+  start-of-struct-known2 c = c .before .before .before .before
+
   abbrev start-of-else1 : seek-links-lts.Else1 K P seek-links.Post seek-links-Inv-loop seek-links-μ-loop → seek-links-lts.Start K P seek-links.Post seek-links-Inv-loop seek-links-μ-loop
-  start-of-else1 c = c .before .before .before .before .before
+  start-of-else1 c = start-of-struct-known2 (c .before)
 
 pub +seek-links-spec : {M : Type 1} → statement M
 unfolding linkedFrom
@@ -58,11 +62,11 @@ unfolding linkedFrom
     seek-links-μ-loop
     -- nodes-found-requires
     (λ c κs.
-    let p = c .before .before .before .before .before .pre .1 in
+    let p = start-of-struct-known2 (c .before) .pre .1 in
     (p .0, p .1, chosen-all _ _ _ _ _ _ (p .0) (p .3) (p .4) (c .if1 .taken)))
     -- returns
     (λ c.
-    let p = c .before .before .before .before .before .before .pre .1 in
+    let p = start-of-struct-known2 (c .before .before) .pre .1 in
     c .nodes-found .ensures ∙ all-linked _ _ _ _ _ _ (p .0) (p .3) (p .4) (c .before .if1 .taken))
     -- add-end
     (λ c. omega (arith, start-of-else1 (c .before) .pre .1 .0 .few-nodes))

@@ -21,6 +21,12 @@ abbrev μ-loop : tie.MeasureT-loop
 
 -- The places that lie behind a place.
 
+abbrev in-loop-of-then1 : tie.Then1 Inv-loop μ-loop → tie.In-loop Inv-loop μ-loop
+in-loop-of-then1 c = c .before .before
+
+abbrev most-nodes-of-loop : tie.After-loop Inv-loop μ-loop → tie.After-most-nodes Inv-loop μ-loop
+most-nodes-of-loop c = c .before .before
+
 abbrev most-nodes-of-in-loop : tie.In-loop Inv-loop μ-loop → tie.After-most-nodes Inv-loop μ-loop
 most-nodes-of-in-loop c = c .before .before
 
@@ -50,11 +56,11 @@ heap-found-spec =
     (p, omega (arith, k, after-most-nodes .most-nodes .ensures, c .loop-test .taken)))
     -- returns
     (λ c.
-    let at-loop = c .before .before .before in let after-most-nodes = at-loop .before in
+    let in-loop = in-loop-of-then1 c in let after-most-nodes = most-nodes-of-in-loop in-loop in
     let p = start-of-most-nodes after-most-nodes .pre in
     let sizes = heap-sizes _ _ (after-most-nodes .most-nodes .ensures ∙ ap mostNodes (p .entered .laid .term-count)) in
     let there = keep-true _ (c .if1 .taken) in
-    there ∙ sym (sizes ∙ at-loop .loop .inv ∙ first-here _ _ _ _ (c .before .before .loop-test .taken) (sym (c .before .size-found .ensures) ∙ there)))
+    there ∙ sym (sizes ∙ in-loop .before .loop .inv ∙ first-here _ _ _ _ (in-loop .loop-test .taken) (sym (c .before .size-found .ensures) ∙ there)))
     -- add-m
     (λ c.
     let in-loop = in-loop-of-else1 c in let after-most-nodes = most-nodes-of-in-loop in-loop in
@@ -68,6 +74,7 @@ heap-found-spec =
     in-loop .before .loop .inv ∙ first-next _ _ _ (in-loop .loop-test .taken) (sym (c .before .size-found .ensures) ∙ keep-false _ (c .if1 .left)))
     -- returns-2
     (λ c.
-    let p = start-of-most-nodes (c .before .before) .pre in
-    let sizes = heap-sizes _ _ (c .before .before .most-nodes .ensures ∙ ap mostNodes (p .entered .laid .term-count)) in
+    let after-most-nodes = most-nodes-of-loop c in
+    let p = start-of-most-nodes after-most-nodes .pre in
+    let sizes = heap-sizes _ _ (after-most-nodes .most-nodes .ensures ∙ ap mostNodes (p .entered .laid .term-count)) in
     keep-false _ refl ∙ sym (sizes ∙ c .before .loop .inv ∙ first-end _ _ _ (c .loop-test .left))))

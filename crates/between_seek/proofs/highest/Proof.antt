@@ -10,24 +10,36 @@ use Rattle.between_seek.proofs.highest.Tie as tie
 
 -- The places that lie behind a place.
 
-abbrev node-of-of-link-of-arg : tie.After-link-of-arg → tie.After-node-of
-node-of-of-link-of-arg c = c .before .before
-
 abbrev argument-of-then1 : tie.Then1 → tie.After-argument
 argument-of-then1 c = c .before .before
 
 abbrev argument-of-else1 : tie.Else1 → tie.After-argument
 argument-of-else1 c = c .before .before
 
+abbrev used-of-struct-known4 : tie.After-struct-known4 → tie.After-used
+used-of-struct-known4 c = c .before .before
+
+abbrev else1-of-used : tie.After-used → tie.Else1
+else1-of-used c = c .before .before
+
+abbrev node-of-of-link-of-arg : tie.After-link-of-arg → tie.After-node-of
+node-of-of-link-of-arg c = c .before .before
+
+abbrev start-of-q : tie.After-q → tie.Start
+start-of-q c = c .before .before
+
 abbrev start-of-argument : tie.After-argument → tie.Start
-start-of-argument c = c .before .before .before
+start-of-argument c = start-of-q (c .before)
+
+abbrev start-of-struct-known2 : tie.After-struct-known2 → tie.Start
+start-of-struct-known2 c = start-of-argument (argument-of-else1 (c .before))
 
 pub highest-spec : {M : Type 1} → statement M
 highest-spec =
     tie.close
     (tie.spec
     -- argument-requires
-    (λ c κs. let p = c .before .before .pre in (p .0 .laid, p .3, p .4))
+    (λ c κs. let p = start-of-q c .pre in (p .0 .laid, p .3, p .4))
     -- node-of-requires
     (λ c κs.
     let after-argument = argument-of-then1 c in
@@ -49,15 +61,15 @@ highest-spec =
       omega (arith, s, c .link-of .ensures),
     ))
     -- sub-t14
-    (λ c. omega (arith, start-of-argument (argument-of-else1 (c .before)) .pre .3))
+    (λ c. omega (arith, start-of-struct-known2 c .pre .3))
     -- used-requires
-    (λ c κs. let p = start-of-argument (argument-of-else1 (c .before)) .pre in omega (arith, p .4, p .0 .few))
+    (λ c κs. let p = start-of-struct-known2 c .pre in omega (arith, p .4, p .0 .few))
     -- add-next
     (λ c. omega (arith, c .used .ensures .1))
     -- returns-2
     (λ c.
-    let after-used = c .before .before .before in let else1 = after-used .before .before in let after-argument = argument-of-else1 else1 in
-    let start = start-of-argument after-argument in
+    let after-used = used-of-struct-known4 (c .before) in let else1 = else1-of-used after-used in
+    let after-argument = argument-of-else1 else1 in let start = start-of-argument after-argument in
     let a = sym (after-argument .argument .ensures) ∙ else1 .if1 .left in
     let u = after-used .used in (
       λ between. highest-any _ _ _ _ _ _ _ true a (u .ensures .0) (c .if2 .taken),
@@ -65,6 +77,7 @@ highest-spec =
     ))
     -- returns-3
     (λ c.
-    let after-used = c .before .before .before in let else1 = after-used .before .before in let after-argument = argument-of-else1 else1 in
+    let after-used = used-of-struct-known4 (c .before) in let else1 = else1-of-used after-used in
+    let after-argument = argument-of-else1 else1 in
     let a = sym (after-argument .argument .ensures) ∙ else1 .if1 .left in
     (λ between. highest-any _ _ _ _ _ _ _ false a (after-used .used .ensures .0) (c .if2 .left), start-of-argument after-argument .pre .2)))

@@ -8,21 +8,24 @@ use Rattle.between_seek.proofs.lowest.Tie as tie
 
 -- The places that lie behind a place.
 
-abbrev node-of-of-link-of-arg : tie.After-link-of-arg → tie.After-node-of
-node-of-of-link-of-arg c = c .before .before
-
 abbrev argument-of-else1 : tie.Else1 → tie.After-argument
 argument-of-else1 c = c .before .before
 
+abbrev node-of-of-link-of-arg : tie.After-link-of-arg → tie.After-node-of
+node-of-of-link-of-arg c = c .before .before
+
+abbrev start-of-q : tie.After-q → tie.Start
+start-of-q c = c .before .before
+
 abbrev start-of-argument : tie.After-argument → tie.Start
-start-of-argument c = c .before .before .before
+start-of-argument c = start-of-q (c .before)
 
 pub lowest-spec : {M : Type 1} → statement M
 lowest-spec =
     tie.close
     (tie.spec
     -- argument-requires
-    (λ c κs. let p = c .before .before .pre in (p .0 .laid, p .2, p .3))
+    (λ c κs. let p = start-of-q c .pre in (p .0 .laid, p .2, p .3))
     -- returns
     (λ c. (λ between. lowest-any _ _ _ _ (sym (c .before .before .argument .ensures) ∙ c .if1 .taken), omega arith))
     -- node-of-requires

@@ -11,15 +11,18 @@ use Rattle.between_seek.proofs.nodes_found.Tie as tie
 
 -- The places that lie behind a place.
 
+abbrev start-of-links : tie.After-links → tie.Start
+start-of-links c = c .before .before .before
+
 abbrev start-of-struct-known : tie.After-struct-known → tie.Start
-start-of-struct-known c = c .before .before .before .before .before
+start-of-struct-known c = start-of-links (c .before .before)
 
 pub nodes-found-spec : {M : Type 1} → statement M
 nodes-found-spec =
     tie.close
     (tie.spec
     -- step-table-requires
-    (λ c κs. c .before .before .before .pre .1)
+    (λ c κs. start-of-links c .pre .1)
     -- cast-nodes
     (λ c. omega (arith, start-of-struct-known c .pre .0 .given .entered .few))
     -- array-write-nodes

@@ -7,6 +7,9 @@ use Rattle.between_tests.proofs.Laws.{argument-nil, argument-is}
 
 -- The places that lie behind a place.
 
+abbrev is-nil-of-byte-at : tie.After-byte-at → tie.After-is-nil
+is-nil-of-byte-at c = c .before .before
+
 abbrev start-of-is-nil : tie.After-is-nil → tie.Start
 start-of-is-nil c = c .before .before
 
@@ -26,5 +29,5 @@ argument-spec =
     omega (arith, start .pre .0 .entries-fit, start .pre .2))
     -- returns-2
     (λ c.
-    let start = start-of-is-nil (c .before .before) in
-    c .byte-at .ensures ∙ argument-is _ _ (start .pre .0) _ (start .pre .1) (start .pre .2) (sym (c .before .before .is-nil .ensures) ∙ c .before .if1 .left)))
+    let after-is-nil = is-nil-of-byte-at c in let start = start-of-is-nil after-is-nil in
+    c .byte-at .ensures ∙ argument-is _ _ (start .pre .0) _ (start .pre .1) (start .pre .2) (sym (after-is-nil .is-nil .ensures) ∙ c .before .if1 .left)))

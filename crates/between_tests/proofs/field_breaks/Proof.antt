@@ -25,11 +25,17 @@ abbrev μ-loop : tie.MeasureT-loop
 
 -- The places that lie behind a place.
 
+abbrev in-loop-of-opposed-of : tie.After-opposed-of Inv-loop μ-loop → tie.In-loop Inv-loop μ-loop
+in-loop-of-opposed-of c = c .before .before
+
 abbrev node-of-of-at-loop : tie.At-loop Inv-loop μ-loop → tie.After-node-of Inv-loop μ-loop
 node-of-of-at-loop c = c .before .before
 
-abbrev in-loop-of-opposed-of : tie.After-opposed-of Inv-loop μ-loop → tie.In-loop Inv-loop μ-loop
-in-loop-of-opposed-of c = c .before .before
+abbrev opposed-of2-of-struct-known3 : tie.After-struct-known3 Inv-loop μ-loop → tie.After-opposed-of2 Inv-loop μ-loop
+opposed-of2-of-struct-known3 c = c .before .before
+
+abbrev opposed-of2-of-else1 : tie.Else1 Inv-loop μ-loop → tie.After-opposed-of2 Inv-loop μ-loop
+opposed-of2-of-else1 c = opposed-of2-of-struct-known3 (c .before)
 
 abbrev start-of-in-loop : tie.In-loop Inv-loop μ-loop → tie.Start Inv-loop μ-loop
 start-of-in-loop c = node-of-of-at-loop (c .before) .before
@@ -58,7 +64,7 @@ field-breaks-spec =
     (start .pre .1, omega (arith, start .pre .1, in-loop .loop-test .taken)))
     -- returns
     (λ c fields o.
-    let after-opposed-of2 = c .before .before .before in let after-opposed-of = after-opposed-of2 .before in
+    let after-opposed-of2 = opposed-of2-of-struct-known3 (c .before) in let after-opposed-of = after-opposed-of2 .before in
     let in-loop = in-loop-of-opposed-of after-opposed-of in let at-loop = in-loop .before in let after-node-of = node-of-of-at-loop at-loop in
     let pre-1 = start-of-in-loop in-loop .pre .1 in
     let low : at-loop .loop .u ≤ 5 = omega (arith, pre-1, in-loop .loop-test .taken) in
@@ -69,13 +75,13 @@ field-breaks-spec =
     (sym (after-opposed-of2 .opposed-of2 .ensures ∙ o _ _ pre-1 low))) ∙ c .if1 .taken)))
     -- add-u
     (λ c.
-    let in-loop = in-loop-of-opposed-of (c .before .before .before .before) in
+    let in-loop = in-loop-of-opposed-of (opposed-of2-of-else1 c .before) in
     omega (arith, start-of-in-loop in-loop .pre .1, in-loop .loop-test .taken))
     -- loop-less
     (λ c. omega arith)
     -- loop-again
     (λ c.
-    let after-opposed-of2 = c .before .before .before in let after-opposed-of = after-opposed-of2 .before in
+    let after-opposed-of2 = opposed-of2-of-else1 c in let after-opposed-of = after-opposed-of2 .before in
     let in-loop = in-loop-of-opposed-of after-opposed-of in let at-loop = in-loop .before in let pre-1 = start-of-in-loop in-loop .pre .1 in (
       λ fields o.
           let low : at-loop .loop .u ≤ 5 = omega (arith, pre-1, in-loop .loop-test .taken) in

@@ -18,6 +18,9 @@ abbrev μ-loop : tie.MeasureT-loop
 
 -- The places that lie behind a place.
 
+abbrev start-of-at-loop : tie.At-loop Inv-loop μ-loop → tie.Start Inv-loop μ-loop
+start-of-at-loop c = c .before .before
+
 abbrev at-loop-of-table : tie.After-table Inv-loop μ-loop → tie.At-loop Inv-loop μ-loop
 at-loop-of-table c = c .before .before
 
@@ -32,7 +35,7 @@ opposed-table-spec =
     -- put-opposed-requires
     (λ c κs.
     let at-loop = at-loop-of-table c in
-    (at-loop .before .before .pre, omega (arith, c .before .loop-test .taken), at-loop .loop .inv .0))
+    (start-of-at-loop at-loop .pre, omega (arith, c .before .loop-test .taken), at-loop .loop .inv .0))
     -- add-a
     (λ c. omega arith)
     -- loop-less
@@ -41,5 +44,5 @@ opposed-table-spec =
     (λ c. (c .put-opposed .ensures .0, λ j h. c .put-opposed .ensures .1 (at-loop-of-table (c .before) .loop .inv .1) j (omega arith)))
     -- returns
     (λ c.
-    let at-loop = c .before in let start = at-loop .before .before in
+    let at-loop = c .before in let start = start-of-at-loop at-loop in
     made-all (opposed (literalsIn (start .args .query .now) (start .args .at) (start .args .count))) false (at-loop .loop .table) (at-loop .loop .a) (c .loop-test .left) (at-loop .loop .inv .1)))

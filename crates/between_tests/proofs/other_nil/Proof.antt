@@ -25,8 +25,20 @@ abbrev μ-loop : tie.MeasureT-loop
 abbrev node-of-of-at-loop : tie.At-loop Inv-loop μ-loop → tie.After-node-of Inv-loop μ-loop
 node-of-of-at-loop c = c .before .before
 
+abbrev node-of2-of-struct-known3 : tie.After-struct-known3 Inv-loop μ-loop → tie.After-node-of2 Inv-loop μ-loop
+node-of2-of-struct-known3 c = c .before .before
+
 abbrev start-of-node-of : tie.After-node-of Inv-loop μ-loop → tie.Start Inv-loop μ-loop
 start-of-node-of c = c .before .before
+
+abbrev in-loop-of-node-of2 : tie.After-node-of2 Inv-loop μ-loop → tie.In-loop Inv-loop μ-loop
+in-loop-of-node-of2 c = c .before .before
+
+abbrev node-of2-of-else1 : tie.Else1 Inv-loop μ-loop → tie.After-node-of2 Inv-loop μ-loop
+node-of2-of-else1 c = node-of2-of-struct-known3 (c .before)
+
+abbrev start-of-in-loop : tie.In-loop Inv-loop μ-loop → tie.Start Inv-loop μ-loop
+start-of-in-loop c = start-of-node-of (node-of-of-at-loop (c .before))
 
 pub other-nil-spec : {M : Type 1} → statement M
 other-nil-spec =
@@ -46,34 +58,33 @@ other-nil-spec =
     (λ c. (refl, omega arith))
     -- is-nil-requires
     (λ c κs.
-    let start = start-of-node-of (node-of-of-at-loop (c .before)) in
+    let start = start-of-in-loop c in
     (start .pre .0, c .before .loop .inv .1, omega (arith, start .pre .2, c .loop-test .taken)))
     -- node-of-requires-2
     (λ c κs.
-    let start = start-of-node-of (node-of-of-at-loop (c .before .before)) in
+    let start = start-of-in-loop (c .before) in
     omega (arith, start .pre .2, start .pre .0 .terms-within, c .before .loop-test .taken))
     -- returns
     (λ c.
-    let after-node-of2 = c .before .before .before in let after-is-nil = after-node-of2 .before in let in-loop = after-is-nil .before in
-    let at-loop = in-loop .before in let after-node-of = node-of-of-at-loop at-loop in let start = start-of-node-of after-node-of in
+    let after-node-of2 = node-of2-of-struct-known3 (c .before) in let in-loop = in-loop-of-node-of2 after-node-of2 in
+    let at-loop = in-loop .before in let after-node-of = node-of-of-at-loop at-loop in let start = start-of-in-loop in-loop in
     sym (any-from _ _ ∙ ap (λ (w : ℕ). any
     (λ x. namesNil (decode (start .args .query .now) .entries) x && not (eqb (entry (start .args .nodes .now) x) w))
     (from (start .args .t .0 + 1 - 1) 1)) (sym (node-read _ _ _ (after-node-of .node-of .ensures))) ∙ at-loop .loop .inv .0
     ∙ any-here _ _ _ (in-loop .loop-test .taken)
-    (ap₂ (λ (a : Bool) (x : ℕ). a && not (eqb x (after-node-of .node-of .result .0))) (sym (after-is-nil .is-nil .ensures))
+    (ap₂ (λ (a : Bool) (x : ℕ). a && not (eqb x (after-node-of .node-of .result .0))) (sym (after-node-of2 .before .is-nil .ensures))
     (sym (node-read _ _ _ (after-node-of2 .node-of2 .ensures))) ∙ c .if1 .taken)))
     -- add-u
     (λ c.
-    let in-loop = c .before .before .before .before .before in let start = start-of-node-of (node-of-of-at-loop (in-loop .before)) in
+    let in-loop = in-loop-of-node-of2 (node-of2-of-else1 c) in let start = start-of-in-loop in-loop in
     omega (arith, start .pre .2, start .pre .0 .terms-within, in-loop .loop-test .taken))
     -- loop-less
     (λ c. omega arith)
     -- loop-again
     (λ c.
-    let after-node-of2 = c .before .before .before in let after-is-nil = after-node-of2 .before in let in-loop = after-is-nil .before in
-    let at-loop = in-loop .before in (
+    let after-node-of2 = node-of2-of-else1 c in let in-loop = in-loop-of-node-of2 after-node-of2 in let at-loop = in-loop .before in (
       at-loop .loop .inv .0 ∙ any-next _ _ _ (in-loop .loop-test .taken)
-          (ap₂ (λ (a : Bool) (x : ℕ). a && not (eqb x (node-of-of-at-loop at-loop .node-of .result .0))) (sym (after-is-nil .is-nil .ensures))
+          (ap₂ (λ (a : Bool) (x : ℕ). a && not (eqb x (node-of-of-at-loop at-loop .node-of .result .0))) (sym (after-node-of2 .before .is-nil .ensures))
           (sym (node-read _ _ _ (after-node-of2 .node-of2 .ensures))) ∙ c .if1 .left),
       omega arith,
     ))

@@ -14,11 +14,32 @@ use Rattle.between_tests.proofs.Laws.{node-read, pair-left, pair-right,
 
 -- The places that lie behind a place.
 
+abbrev step-of-of-agrees : tie.After-agrees → tie.After-step-of
+step-of-of-agrees c = c .before .before
+
+abbrev right-of-else1 : tie.Else1 → tie.After-right
+right-of-else1 c = c .before .before
+
+abbrev right-of-then1 : tie.Then1 → tie.After-right
+right-of-then1 c = c .before .before
+
 abbrev start-of-left : tie.After-left → tie.Start
 start-of-left c = c .before .before
 
+abbrev else1-of-node-of2 : tie.After-node-of2 → tie.Else1
+else1-of-node-of2 c = c .before .before
+
+abbrev left-of-else1 : tie.Else1 → tie.After-left
+left-of-else1 c = right-of-else1 c .before
+
+abbrev node-of2-of-agrees : tie.After-agrees → tie.After-node-of2
+node-of2-of-agrees c = step-of-of-agrees c .before
+
+abbrev else1-of-agrees : tie.After-agrees → tie.Else1
+else1-of-agrees c = else1-of-node-of2 (node-of2-of-agrees c)
+
 abbrev start-of-else1 : tie.Else1 → tie.Start
-start-of-else1 c = start-of-left (c .before .before .before)
+start-of-else1 c = start-of-left (left-of-else1 c)
 
 pub pair-breaks-spec : {M : Type 1} → statement M
 pair-breaks-spec =
@@ -32,31 +53,33 @@ pair-breaks-spec =
     (λ c κs. search needs)
     -- returns
     (λ c link s.
-    let after-left = c .before .before .before in
+    let after-right = right-of-then1 c in let after-left = after-right .before in
     pair-not-due link _ _ _ _ (ap₂ (λ (x y : ℕ). duePair x y (start-of-left after-left .args .t .0)) (sym (after-left .left .ensures))
-    (sym (c .before .before .right .ensures)) ∙ sym (c .before .due-pair .ensures) ∙ not-true _ (c .if1 .taken)))
+    (sym (after-right .right .ensures)) ∙ sym (c .before .due-pair .ensures) ∙ not-true _ (c .if1 .taken)))
     -- node-of-requires
     (λ c κs. omega (arith, pair-left _ _ _ (sym (c .before .due-pair .ensures) ∙ not-false _ (c .if1 .left)), start-of-else1 c .pre .2))
     -- node-of-requires-2
     (λ c κs. omega (arith, pair-right _ _ _ (sym (c .before .before .due-pair .ensures) ∙ not-false _ (c .before .if1 .left)), start-of-else1 (c .before) .pre .2))
     -- step-of-requires
-    (λ c κs.
-    let start = start-of-else1 (c .before .before) in
-    (rw (node-read _ _ _ (c .before .node-of .ensures)) (start .pre .1 _), rw (node-read _ _ _ (c .node-of2 .ensures)) (start .pre .1 _)))
+    (λ c κs. (
+      rw (node-read _ _ _ (c .before .node-of .ensures)) (start-of-else1 (else1-of-node-of2 c) .pre .1 _),
+      rw (node-read _ _ _ (c .node-of2 .ensures)) (start-of-else1 (else1-of-node-of2 c) .pre .1 _),
+    ))
     -- sign-requires
-    (λ c κs. start-of-else1 (c .before .before .before) .pre .0)
+    (λ c κs. start-of-else1 (else1-of-node-of2 (c .before)) .pre .0)
     -- agrees-requires
     (λ c κs. search needs)
     -- returns-2
     (λ c link s.
-    let after-step-of = c .before .before in let after-node-of2 = after-step-of .before in let after-node-of = after-node-of2 .before in
-    let else1 = after-node-of .before in let after-due-pair = else1 .before in let after-right = after-due-pair .before in
-    let after-left = after-right .before in let start = start-of-else1 else1 in
-    ap not (c .agrees .ensures ∙ ap (λ (b : Bool). agrees b (leb (after-step-of .step-of .result) (start .args .most))) (c .before .sign .ensures))
-    ∙ pair-due link _ _ _ _ _ (ap₂ (λ (x y : ℕ). duePair x y (start .args .t .0)) (sym (after-left .left .ensures))
-    (sym (after-right .right .ensures)) ∙ sym (after-due-pair .due-pair .ensures) ∙ not-false _ (else1 .if1 .left))
-    (after-step-of .step-of .ensures ∙ s _ _ (rw (node-read _ _ _ (after-node-of .node-of .ensures)) (start .pre .1 _))
-    (rw (node-read _ _ _ (after-node-of2 .node-of2 .ensures)) (start .pre .1 _))
+    ap not (c .agrees .ensures ∙ ap (λ (b : Bool). agrees b (leb (step-of-of-agrees c .step-of .result) (start-of-else1 (else1-of-agrees c) .args .most))) (c .before .sign .ensures))
+    ∙ pair-due link _ _ _ _ _ (ap₂ (λ (x y : ℕ). duePair x y (start-of-else1 (else1-of-agrees c) .args .t .0))
+    (sym (left-of-else1 (else1-of-agrees c) .left .ensures)) (sym (right-of-else1 (else1-of-agrees c) .right .ensures))
+    ∙ sym (else1-of-agrees c .before .due-pair .ensures) ∙ not-false _ (else1-of-agrees c .if1 .left))
+    (step-of-of-agrees c .step-of .ensures
+    ∙ s _ _ (rw (node-read _ _ _ (node-of2-of-agrees c .before .node-of .ensures)) (start-of-else1 (else1-of-agrees c) .pre .1 _))
+    (rw (node-read _ _ _ (node-of2-of-agrees c .node-of2 .ensures)) (start-of-else1 (else1-of-agrees c) .pre .1 _))
     ∙ ap₂ (λ (x y : ℕ). steps link x y)
-    ((node-read _ _ _ (after-node-of .node-of .ensures)) ∙ ap (entry (start .args .nodes .now)) (after-left .left .ensures))
-    ((node-read _ _ _ (after-node-of2 .node-of2 .ensures)) ∙ ap (entry (start .args .nodes .now)) (after-right .right .ensures)))))
+    ((node-read _ _ _ (node-of2-of-agrees c .before .node-of .ensures))
+    ∙ ap (entry (start-of-else1 (else1-of-agrees c) .args .nodes .now)) (left-of-else1 (else1-of-agrees c) .left .ensures))
+    ((node-read _ _ _ (node-of2-of-agrees c .node-of2 .ensures))
+    ∙ ap (entry (start-of-else1 (else1-of-agrees c) .args .nodes .now)) (right-of-else1 (else1-of-agrees c) .right .ensures)))))

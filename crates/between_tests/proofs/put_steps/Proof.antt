@@ -23,6 +23,9 @@ abbrev μ-loop : tie.MeasureT-loop
 abbrev start-of-in-loop : tie.In-loop Inv-loop μ-loop → tie.Start Inv-loop μ-loop
 start-of-in-loop c = c .before .before .before
 
+abbrev start-of-step-count : tie.After-step-count Inv-loop μ-loop → tie.Start Inv-loop μ-loop
+start-of-step-count c = start-of-in-loop (c .before)
+
 pub put-steps-spec : {M : Type 1} → statement M
 put-steps-spec =
     tie.close
@@ -42,20 +45,19 @@ put-steps-spec =
     -- add-table
     (λ c. omega arith)
     -- element-write-table
-    (λ c. omega (arith, start-of-in-loop (c .before) .pre .1, c .before .loop-test .taken))
+    (λ c. omega (arith, start-of-step-count c .pre .1, c .before .loop-test .taken))
     -- add-w
     (λ c. omega arith)
     -- loop-less
     (λ c. omega arith)
     -- loop-again
     (λ c.
-    let start = start-of-in-loop (c .before) in
     let l = c .before .before .loop in
     let t = c .before .loop-test .taken in (
       simp length-set (l .inv .0),
       omega (arith, t),
-      λ m. made-next (steps (entry (start .args .links .now))) 0 (l .table) (start .args .v .0) (l .w) (c .step-count .result) (l .inv .0)
-          (start .pre .1) (omega (arith, t)) (c .step-count .ensures .0) (l .inv .2 m),
+      λ m. made-next (steps (entry (start-of-step-count c .args .links .now))) 0 (l .table) (start-of-step-count c .args .v .0) (l .w)
+          (c .step-count .result) (l .inv .0) (start-of-step-count c .pre .1) (omega (arith, t)) (c .step-count .ensures .0) (l .inv .2 m),
     ))
     -- returns
     (λ c.

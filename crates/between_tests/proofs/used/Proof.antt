@@ -21,6 +21,9 @@ abbrev μ-loop : tie.MeasureT-loop
 abbrev in-loop-of-one : tie.After-one Inv-loop μ-loop → tie.In-loop Inv-loop μ-loop
 in-loop-of-one c = c .before .before
 
+abbrev at-loop-of-one : tie.After-one Inv-loop μ-loop → tie.At-loop Inv-loop μ-loop
+at-loop-of-one c = in-loop-of-one c .before
+
 pub used-spec : {M : Type 1} → statement M
 used-spec =
     tie.close
@@ -37,14 +40,14 @@ used-spec =
     (λ c κs. search needs)
     -- add-count
     (λ c.
-    let at-loop = in-loop-of-one c .before in
+    let at-loop = at-loop-of-one c in
     omega (arith, c .one .ensures .1, at-loop .loop .inv .1, at-loop .loop .inv .0, at-loop .before .pre))
     -- loop-less
     (λ c. omega (arith, in-loop-of-one c .loop-test .taken))
     -- loop-again
     (λ c.
-    let in-loop = in-loop-of-one c in let at-loop = in-loop .before in (
-      omega (arith, in-loop .loop-test .taken),
+    let at-loop = at-loop-of-one c in (
+      omega (arith, in-loop-of-one c .loop-test .taken),
       omega (arith, c .one .ensures .1, at-loop .loop .inv .1),
       used-more _ _ _ _ (at-loop .loop .inv .2) (c .one .ensures .0 ∙ ap (λ (b : Bool). cond b 1 0) (c .before .is-fresh .ensures)),
     ))

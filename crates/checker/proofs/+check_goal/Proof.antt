@@ -46,19 +46,22 @@ check-goal-μ-loop query layout derivation count left rep link reach first n at 
 
 -- The places that lie behind a place.
 module _ {K : check-goal-lts.Claims} {P : In 3 check-goal-kinds.ps} where
+  abbrev rule-of-in-loop : check-goal-lts.In-loop K P check-goal.Post check-goal-Inv-loop check-goal-μ-loop → check-goal-lts.After-rule K P check-goal.Post check-goal-Inv-loop check-goal-μ-loop
+  rule-of-in-loop c = c .before .before .before .before
+
   abbrev read-at-of-count : check-goal-lts.After-count K P check-goal.Post check-goal-Inv-loop check-goal-μ-loop →
       check-goal-lts.After-read-at K P check-goal.Post check-goal-Inv-loop check-goal-μ-loop
   read-at-of-count c = c .before .before .before .before
 
-  abbrev rule-of-in-loop : check-goal-lts.In-loop K P check-goal.Post check-goal-Inv-loop check-goal-μ-loop → check-goal-lts.After-rule K P check-goal.Post check-goal-Inv-loop check-goal-μ-loop
-  rule-of-in-loop c = c .before .before .before .before
+  abbrev start-of-else1 : check-goal-lts.Else1 K P check-goal.Post check-goal-Inv-loop check-goal-μ-loop → check-goal-lts.Start K P check-goal.Post check-goal-Inv-loop check-goal-μ-loop
+  start-of-else1 c = c .before .before .before .before .before
+
+  abbrev else1-of-count : check-goal-lts.After-count K P check-goal.Post check-goal-Inv-loop check-goal-μ-loop → check-goal-lts.Else1 K P check-goal.Post check-goal-Inv-loop check-goal-μ-loop
+  else1-of-count c = read-at-of-count c .before
 
   abbrev branch-at-of-check-goal-arg4 : check-goal-lts.After-check-goal-arg4 K P check-goal.Post check-goal-Inv-loop check-goal-μ-loop →
       check-goal-lts.After-branch-at K P check-goal.Post check-goal-Inv-loop check-goal-μ-loop
   branch-at-of-check-goal-arg4 c = c .before .before .before .before .before
-
-  abbrev start-of-else1 : check-goal-lts.Else1 K P check-goal.Post check-goal-Inv-loop check-goal-μ-loop → check-goal-lts.Start K P check-goal.Post check-goal-Inv-loop check-goal-μ-loop
-  start-of-else1 c = c .before .before .before .before .before
 
 less-left : (k t : ℕ) → 1 ≤ k → k ≡ t → k - 1 < t
 less-left k t l e = omega arith
@@ -109,12 +112,10 @@ unfolding goalOf
     (λ c κs. search needs)
     -- add-to
     (λ c.
-    let else1 = read-at-of-count c .before in
+    let else1 = else1-of-count c in
     let l = else1 .before .before .check-head .ensures .within (not-false _ (else1 .if1 .left)) in let b = start-of-else1 else1 .pre .1 .2 .bounded in omega arith)
     -- loop-holds
-    (λ c.
-    let after-read-at = read-at-of-count c in
-    branches-begin _ _ _ (start-of-else1 (after-read-at .before) .pre .1 .2) _ _ _ (reading-is readingOf _ _ _ (after-read-at .read-at .ensures) (c .before .before .rule .given .1)))
+    (λ c. branches-begin _ _ _ (start-of-else1 (else1-of-count c) .pre .1 .2) _ _ _ (reading-is readingOf _ _ _ (read-at-of-count c .read-at .ensures) (c .before .before .rule .given .1)))
     -- branch-at-requires
     (λ c κs.
     let after-rule = rule-of-in-loop c in let after-read-at = after-rule .before .before in
@@ -130,10 +131,9 @@ unfolding goalOf
     -- check-goal-requires
     (λ c κs.
     let after-branch-at = branch-at-of-check-goal-arg4 c in let in-loop = after-branch-at .before in let at-loop = in-loop .before in
-    let after-count = at-loop .before in let after-read-at = read-at-of-count after-count in
-    let start = start-of-else1 (after-read-at .before) in
+    let after-count = at-loop .before in let start = start-of-else1 (else1-of-count after-count) in
     let p = start .pre .1 in
-    let app = (ruling-applies _ _ _ _ (reading-is readingOf _ _ _ (after-read-at .read-at .ensures) (rule-of-in-loop in-loop .rule .given .1))) in
+    let app = (ruling-applies _ _ _ _ (reading-is readingOf _ _ _ (read-at-of-count after-count .read-at .ensures) (rule-of-in-loop in-loop .rule .given .1))) in
     let some = ahead-some _ (accepted _ (p .1)) _ _ (p .3) _ app in (
       less-left _ _ some (start .pre .0),
       (
@@ -141,8 +141,7 @@ unfolding goalOf
         p .1,
         p .2,
         branch-ahead _ [] 0 _ 0 _ _ _ _ _ (p .0 .term-count) (accepted _ (p .1)) _ (p .3) app _ _
-            (subst (λ (j : ℕ). c .before .before .before .before .before .before .before .loop .i < j) (after-count .count .ensures)
-            (in-loop .loop-test .taken)) (after-branch-at .branch-at .ensures),
+            (subst (λ (j : ℕ). at-loop .loop .i < j) (after-count .count .ensures) (in-loop .loop-test .taken)) (after-branch-at .branch-at .ensures),
         subst Fits (sym (after-branch-at .branch-at .ensures)) (branch-fits _ _ _ (p .0 .terms-within)),
         at-loop .loop .inv .inside,
       ),
@@ -150,11 +149,11 @@ unfolding goalOf
     -- returns-2
     (λ c.
     let after-branch-at = branch-at-of-check-goal-arg4 (c .before .before .before) in let in-loop = after-branch-at .before in
-    let at-loop = in-loop .before in let after-count = at-loop .before in let else1 = read-at-of-count after-count .before in
+    let at-loop = in-loop .before in let after-count = at-loop .before in let else1 = else1-of-count after-count in
     after-head _ _ _ _ _ _ _ (else1 .before .before .check-head .ensures) (not-false _ (else1 .if1 .left)) _
     (branches-wrong _ _ _ _ _ _ _ _ _ _ (start-of-else1 else1 .pre .1 .0 .term-count) _ _ (at-loop .loop .inv)
-    (subst (λ (j : ℕ). c .before .before .before .before .before .before .before .before .before .before .loop .i < j) (after-count .count .ensures)
-    (in-loop .loop-test .taken)) _ (after-branch-at .branch-at .ensures) _ (c .before .before .check-goal .ensures) (not-true _ (c .if2 .taken))))
+    (subst (λ (j : ℕ). at-loop .loop .i < j) (after-count .count .ensures) (in-loop .loop-test .taken)) _ (after-branch-at .branch-at .ensures) _
+    (c .before .before .check-goal .ensures) (not-true _ (c .if2 .taken))))
     -- add-i
     (λ c. search needs)
     -- loop-less
@@ -163,9 +162,9 @@ unfolding goalOf
     (λ c.
     let after-branch-at = branch-at-of-check-goal-arg4 (c .before .before .before) in let in-loop = after-branch-at .before in
     let at-loop = in-loop .before in let after-count = at-loop .before in
-    branches-next _ _ _ _ _ _ _ _ _ _ (start-of-else1 (read-at-of-count after-count .before) .pre .1 .0 .term-count) _ _ (at-loop .loop .inv)
-    (subst (λ (j : ℕ). c .before .before .before .before .before .before .before .before .before .before .loop .i < j) (after-count .count .ensures)
-    (in-loop .loop-test .taken)) _ (after-branch-at .branch-at .ensures) _ (c .before .before .check-goal .ensures) (not-false _ (c .if2 .left)))
+    branches-next _ _ _ _ _ _ _ _ _ _ (start-of-else1 (else1-of-count after-count) .pre .1 .0 .term-count) _ _ (at-loop .loop .inv)
+    (subst (λ (j : ℕ). at-loop .loop .i < j) (after-count .count .ensures) (in-loop .loop-test .taken)) _ (after-branch-at .branch-at .ensures) _
+    (c .before .before .check-goal .ensures) (not-false _ (c .if2 .left)))
     -- returns-3
     (λ c.
     let else1 = c .before .before .before in
@@ -178,7 +177,7 @@ unfolding goalOf
     (goal-ends _ _ _ (start-of-else1 else1 .pre .1 .2) _ _ (reading-is readingOf _ _ _ (c .before .before .read-at .ensures) (c .enum-told2 .given .1)) _ refl refl))
     -- returns-5
     (λ c.
-    let at-loop = c .before in let else1 = read-at-of-count (at-loop .before) .before in
+    let at-loop = c .before in let else1 = else1-of-count (at-loop .before) in
     after-head _ _ _ _ _ _ _ (else1 .before .before .check-head .ensures) (not-false _ (else1 .if1 .left)) _
     (branches-end _ _ _ _ _ _ _ _ _ _ (start-of-else1 else1 .pre .1 .0 .term-count) _ _ (at-loop .loop .inv)
     (subst (λ (j : ℕ). j ≤ at-loop .loop .i) (at-loop .before .count .ensures) (c .loop-test .left)) _ refl refl))

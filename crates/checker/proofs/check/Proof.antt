@@ -11,6 +11,9 @@ use Rattle.checker.proofs.check.Tie as tie
 
 -- The places that lie behind a place.
 
+abbrev is-shaped-of-judge : tie.After-judge → tie.After-is-shaped
+is-shaped-of-judge c = c .before .before
+
 abbrev check-of-layout : tie.After-layout → tie.After-check
 check-of-layout c = c .before .before
 
@@ -48,6 +51,7 @@ check-spec =
     call-refused _ _ _ _ (subst (λ (x : Checked). CheckedAs x (start-of-check after-check .args .query .now)) (c .before .k .given .1) (after-check .check .ensures)))
     -- returns-3
     (λ c.
-    let after-layout = layout-of-is-shaped (c .before .before) in let after-check = check-of-layout after-layout in
+    let after-is-shaped = is-shaped-of-judge c in let after-layout = layout-of-is-shaped after-is-shaped in
+    let after-check = check-of-layout after-layout in
     call-judged _ _ _ (subst (λ (x : Checked). CheckedAs x (start-of-check after-check .args .query .now)) (after-layout .layout .given .1)
-    (after-check .check .ensures)) (sym (c .before .before .is-shaped .ensures) ∙ not-false _ (c .before .if1 .left)) _ (c .judge .ensures)))
+    (after-check .check .ensures)) (sym (after-is-shaped .is-shaped .ensures) ∙ not-false _ (c .before .if1 .left)) _ (c .judge .ensures)))

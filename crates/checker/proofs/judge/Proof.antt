@@ -12,11 +12,20 @@ use Rattle.checker.proofs.judge.Tie as tie
 
 -- The places that lie behind a place.
 
+abbrev check-goal-of-then1 : tie.Then1 → tie.After-check-goal
+check-goal-of-then1 c = c .before .before
+
 abbrev count-of-of-rows-of : tie.After-rows-of → tie.After-count-of
 count-of-of-rows-of c = c .before .before
 
+abbrev check-goal-of-else1 : tie.Else1 → tie.After-check-goal
+check-goal-of-else1 c = c .before .before
+
+abbrev start-of-shared-slice-known2 : tie.After-shared-slice-known2 → tie.Start
+start-of-shared-slice-known2 c = c .before .before
+
 abbrev start-of-count-of : tie.After-count-of → tie.Start
-start-of-count-of c = c .before .before .before
+start-of-count-of c = start-of-shared-slice-known2 (c .before)
 
 abbrev limit-of-check-goal-arg4 : tie.After-check-goal-arg4 → tie.After-limit
 limit-of-check-goal-arg4 c = c .before .before .before .before .before
@@ -29,7 +38,7 @@ judge-spec =
     tie.close
     (tie.spec
     -- count-of-requires
-    (λ c κs. shaped-long _ (c .before .before .pre .2))
+    (λ c κs. shaped-long _ (start-of-shared-slice-known2 c .pre .2))
     -- start-requires
     (λ c κs. let p = start-of-count-of c .pre in (one-within _ _ (p .0), accepted-in _ _ (p .0) (p .1)))
     -- rows-of-requires
@@ -55,15 +64,17 @@ judge-spec =
     shaped _ (start-of-count-of after-count-of .pre .2) _ (after-count-of .count-of .ensures .0) .bounded)
     -- returns
     (λ c.
-    let after-rows-of = rows-of-of-check-goal (c .before .before) in let after-count-of = count-of-of-rows-of after-rows-of in
+    let after-check-goal = check-goal-of-then1 c in let after-rows-of = rows-of-of-check-goal after-check-goal in
+    let after-count-of = count-of-of-rows-of after-rows-of in
     let p = start-of-count-of after-count-of .pre in
     answer-none _ _ _ (shaped _ (p .2) _ (after-count-of .count-of .ensures .0)) (singleOf (after-rows-of .rows-of .result))
-    (started-in _ _ (p .0) _ (after-rows-of .rows-of .ensures ∙ after-rows-of .before .start .ensures)) _ (c .before .before .check-goal .ensures) _
+    (started-in _ _ (p .0) _ (after-rows-of .rows-of .ensures ∙ after-rows-of .before .start .ensures)) _ (after-check-goal .check-goal .ensures) _
     (c .before .first-wrong .ensures) (c .if1 .taken))
     -- returns-2
     (λ c.
-    let after-rows-of = rows-of-of-check-goal (c .before .before) in let after-count-of = count-of-of-rows-of after-rows-of in
+    let after-check-goal = check-goal-of-else1 c in let after-rows-of = rows-of-of-check-goal after-check-goal in
+    let after-count-of = count-of-of-rows-of after-rows-of in
     let p = start-of-count-of after-count-of .pre in
     answer-some _ _ _ (shaped _ (p .2) _ (after-count-of .count-of .ensures .0)) (singleOf (after-rows-of .rows-of .result))
-    (started-in _ _ (p .0) _ (after-rows-of .rows-of .ensures ∙ after-rows-of .before .start .ensures)) _ (c .before .before .check-goal .ensures) _
+    (started-in _ _ (p .0) _ (after-rows-of .rows-of .ensures ∙ after-rows-of .before .start .ensures)) _ (after-check-goal .check-goal .ensures) _
     (c .before .first-wrong .ensures) (c .if1 .left)))

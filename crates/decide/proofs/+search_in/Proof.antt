@@ -58,14 +58,17 @@ module _ {K : search-in-lts.Claims} {P : In 4 search-in-kinds.ps} where
   abbrev take-of-search-in : search-in-lts.After-search-in K P search-in.Post search-in-Inv-loop search-in-μ-loop → search-in-lts.After-take K P search-in.Post search-in-Inv-loop search-in-μ-loop
   take-of-search-in c = c .before .before .before .before
 
-  abbrev sees-of-count : search-in-lts.After-count K P search-in.Post search-in-Inv-loop search-in-μ-loop → search-in-lts.After-sees K P search-in.Post search-in-Inv-loop search-in-μ-loop
-  sees-of-count c = k-of-count c .before .before
-
   abbrev start-of-sees : search-in-lts.After-sees K P search-in.Post search-in-Inv-loop search-in-μ-loop → search-in-lts.Start K P search-in.Post search-in-Inv-loop search-in-μ-loop
   start-of-sees c = c .before .before .before .before .before
 
+  abbrev sees-of-count : search-in-lts.After-count K P search-in.Post search-in-Inv-loop search-in-μ-loop → search-in-lts.After-sees K P search-in.Post search-in-Inv-loop search-in-μ-loop
+  sees-of-count c = k-of-count c .before .before
+
   abbrev in-loop-of-own-reach2 : search-in-lts.After-own-reach2 K P search-in.Post search-in-Inv-loop search-in-μ-loop → search-in-lts.In-loop K P search-in.Post search-in-Inv-loop search-in-μ-loop
   in-loop-of-own-reach2 c = c .before .before .before .before .before .before .before
+
+  abbrev in-loop-of-take : search-in-lts.After-take K P search-in.Post search-in-Inv-loop search-in-μ-loop → search-in-lts.In-loop K P search-in.Post search-in-Inv-loop search-in-μ-loop
+  in-loop-of-take c = in-loop-of-own-reach2 (c .before)
 
 pub +search-in-spec : {M : Type 1} → statement M
 +search-in-spec = close μ-search-in λ t. search-in-lts.spec (
@@ -172,12 +175,11 @@ pub +search-in-spec : {M : Type 1} → statement M
       o .inv .3,
     ))
     -- sub-search-in
-    (λ c. let b = count-of-in-loop (in-loop-of-own-reach2 (c .before)) .before .if1 .left in omega arith)
+    (λ c. let b = count-of-in-loop (in-loop-of-take c) .before .if1 .left in omega arith)
     -- search-in-requires
     (λ c κs.
-    let after-take = c .before .before .before in let in-loop = in-loop-of-own-reach2 (after-take .before) in
-    let after-count = count-of-in-loop in-loop in let after-k = k-of-count after-count in let after-sees = sees-of-count after-count in
-    let start = start-of-sees after-sees in
+    let after-take = c .before .before .before in let in-loop = in-loop-of-take after-take in let after-count = count-of-in-loop in-loop in
+    let after-k = k-of-count after-count in let after-sees = sees-of-count after-count in let start = start-of-sees after-sees in
     let a = start .args in
     let p = start .pre .1 in
     let q = said (a .layout) (a .query .now) in
@@ -204,9 +206,9 @@ pub +search-in-spec : {M : Type 1} → statement M
     (λ c κs. search needs)
     -- returns-5
     (λ c.
-    let after-search-in = c .before .before in let after-take = take-of-search-in after-search-in in
-    let in-loop = in-loop-of-own-reach2 (after-take .before) in let after-count = count-of-in-loop in-loop in
-    let after-k = k-of-count after-count in let after-sees = sees-of-count after-count in let start = start-of-sees after-sees in
+    let after-search-in = c .before .before in let after-take = take-of-search-in after-search-in in let in-loop = in-loop-of-take after-take in
+    let after-count = count-of-in-loop in-loop in let after-k = k-of-count after-count in let after-sees = sees-of-count after-count in
+    let start = start-of-sees after-sees in
     let a = start .args in
     let p = start .pre .1 in
     let q = said (a .layout) (a .query .now) in
@@ -230,7 +232,7 @@ pub +search-in-spec : {M : Type 1} → statement M
     ))
     -- add-at
     (λ c.
-    let in-loop = in-loop-of-own-reach2 (take-of-search-in (c .before .before) .before) in let after-count = count-of-in-loop in-loop in
+    let in-loop = in-loop-of-take (take-of-search-in (c .before .before)) in let after-count = count-of-in-loop in-loop in
     let after-k = k-of-count after-count in let after-sees = sees-of-count after-count in let start = start-of-sees after-sees in
     let a = start .args in
     let p = start .pre .1 in
@@ -243,12 +245,12 @@ pub +search-in-spec : {M : Type 1} → statement M
     let b = in-loop .loop-test .taken in
     omega (arith, b, after-count .count .ensures, count-few (kindOf (m .1 .0)) (m .1 .1 .1 .1 .0 .0) (v .3)))
     -- loop-less
-    (λ c. let b = in-loop-of-own-reach2 (take-of-search-in (c .before .before) .before) .loop-test .taken in omega arith)
+    (λ c. let b = in-loop-of-take (take-of-search-in (c .before .before)) .loop-test .taken in omega arith)
     -- loop-again
     (λ c.
-    let after-search-in = c .before .before in let after-take = take-of-search-in after-search-in in
-    let in-loop = in-loop-of-own-reach2 (after-take .before) in let after-count = count-of-in-loop in-loop in
-    let after-k = k-of-count after-count in let after-sees = sees-of-count after-count in let start = start-of-sees after-sees in
+    let after-search-in = c .before .before in let after-take = take-of-search-in after-search-in in let in-loop = in-loop-of-take after-take in
+    let after-count = count-of-in-loop in-loop in let after-k = k-of-count after-count in let after-sees = sees-of-count after-count in
+    let start = start-of-sees after-sees in
     let a = start .args in
     let p = start .pre .1 in
     let q = said (a .layout) (a .query .now) in

@@ -7,8 +7,11 @@ use Rattle.decide.proofs.has_heap.Tie as tie
 
 -- The places that lie behind a place.
 
+abbrev start-of-shared-slice-known2 : tie.After-shared-slice-known2 → tie.Start
+start-of-shared-slice-known2 c = c .before .before
+
 abbrev start-of-enum-told3 : tie.After-enum-told3 → tie.Start
-start-of-enum-told3 c = c .before .before .before .before .before .before
+start-of-enum-told3 c = start-of-shared-slice-known2 (c .before .before .before .before)
 
 pub has-heap-spec : {M : Type 1} → statement M
 has-heap-spec =
@@ -16,7 +19,7 @@ has-heap-spec =
     (tie.spec
     -- in-turn-requires
     (λ c κs.
-    let start = c .before .before in
+    let start = start-of-shared-slice-known2 c in
     (start .pre .0, start .pre .1, reachable-known _ (start .pre .1) _ (start .pre .3)))
     -- enum-told
     (λ c. search needs)

@@ -9,21 +9,27 @@ use Rattle.decide.proofs.sees.Tie as tie
 
 -- The places that lie behind a place.
 
+abbrev enum-told2-of-held : tie.After-held → tie.After-enum-told2
+enum-told2-of-held c = c .before .before
+
 abbrev close-rows-of-find-clash : tie.After-find-clash → tie.After-close-rows
 close-rows-of-find-clash c = c .before .before
 
+abbrev start-of-close-rows-arg : tie.After-close-rows-arg → tie.Start
+start-of-close-rows-arg c = c .before .before
+
 abbrev start-of-close-rows : tie.After-close-rows → tie.Start
-start-of-close-rows c = c .before .before .before
+start-of-close-rows c = start-of-close-rows-arg (c .before)
 
 abbrev find-clash-of-held : tie.After-held → tie.After-find-clash
-find-clash-of-held c = c .before .before .before .before
+find-clash-of-held c = enum-told2-of-held c .before .before
 
 pub sees-spec : {M : Type 1} → statement M
 sees-spec =
     tie.close
     (tie.spec
     -- close-rows-requires
-    (λ c κs. let p = c .before .before .pre in (p .0 .terms-within, p .1))
+    (λ c κs. let p = start-of-close-rows-arg c .pre in (p .0 .terms-within, p .1))
     -- find-clash-requires
     (λ c κs. start-of-close-rows (c .before) .pre .0)
     -- enum-told
@@ -53,7 +59,7 @@ sees-spec =
       r .0,
       sees-none _ _ _ (sym (terms-said _ _ (start .pre .0))) (after-find-clash .find-clash .result) found (after-pick .pick .result)
           (picks-held (start .args .layout .terms) _ _ (after-pick .pick .result) (after-held .held .ensures) (after-pick .pick .ensures))
-          (after-held .before .before .enum-told2 .given .1) (c .enum-told3 .given .1),
+          (enum-told2-of-held after-held .enum-told2 .given .1) (c .enum-told3 .given .1),
       r .2,
     ))
     -- returns-3

@@ -33,11 +33,11 @@ abbrev μ-loop : tie.MeasureT-loop
 abbrev in-loop-of-decide-one : tie.After-decide-one Inv-loop μ-loop → tie.In-loop Inv-loop μ-loop
 in-loop-of-decide-one c = c .before .before
 
-abbrev at-loop-of-decide-one : tie.After-decide-one Inv-loop μ-loop → tie.At-loop Inv-loop μ-loop
-at-loop-of-decide-one c = in-loop-of-decide-one c .before
-
 abbrev decide-one-of-is-satisfiable : tie.After-is-satisfiable Inv-loop μ-loop → tie.After-decide-one Inv-loop μ-loop
 decide-one-of-is-satisfiable c = c .before .before .before
+
+abbrev at-loop-of-decide-one : tie.After-decide-one Inv-loop μ-loop → tie.At-loop Inv-loop μ-loop
+at-loop-of-decide-one c = in-loop-of-decide-one c .before
 
 abbrev start-of-slice-known : tie.After-slice-known Inv-loop μ-loop → tie.Start Inv-loop μ-loop
 start-of-slice-known c = c .before .before .before
@@ -71,18 +71,16 @@ decide-first-spec =
     -- returns
     (λ c.
     let after-decide-one = decide-one-of-then1 c in let in-loop = in-loop-of-decide-one after-decide-one in
-    let at-loop = at-loop-of-decide-one after-decide-one in let start = start-of-at-loop at-loop in
-    λ f text g. turn-taken (start .args .order .now) (start .args .query .now) text (start .args .report .now) f (at-loop .loop .k)
-    (subst (λ (n : ℕ). c .before .before .before .before .before .before .before .loop .k < n) (g .counted) (in-loop .loop-test .taken))
-    (after-decide-one .decide-one .result) (after-decide-one .decide-one .last .1 .1 .1 .1 .1 .1 .0)
+    let at-loop = at-loop-of-decide-one after-decide-one in let start = start-of-at-loop at-loop in let loop-k = at-loop .loop .k in
+    λ f text g. turn-taken (start .args .order .now) (start .args .query .now) text (start .args .report .now) f loop-k
+    (subst (λ (n : ℕ). loop-k < n) (g .counted) (in-loop .loop-test .taken)) (after-decide-one .decide-one .result)
+    (after-decide-one .decide-one .last .1 .1 .1 .1 .1 .1 .0)
     (subst (λ (n : ℕ). Does (verdictCall
     (record {
       order = (start .args .order .now);
-      query = encode
-          (restricted (decode (start .args .query .now)) (getD (expand f) (at-loop .loop .k) []));
+      query = encode (restricted (decode (start .args .query .now)) (getD (expand f) loop-k []));
       room = n;
-    })) (after-decide-one .decide-one .result)
-    (after-decide-one .decide-one .last .1 .1 .1 .1 .1 .1 .0))
+    })) (after-decide-one .decide-one .result) (after-decide-one .decide-one .last .1 .1 .1 .1 .1 .1 .0))
     (ap length (at-loop .loop .inv .1) ∙ length-replicate (length (start .args .report .now)) 0)
     (after-decide-one .decide-one .ensures f (picks-at g (in-loop .loop-test .taken)))) (sym (c .before .is-satisfiable .ensures) ∙ c .if1 .taken)
     (at-loop .loop .inv .2 f text g))
@@ -108,10 +106,9 @@ decide-first-spec =
           decide-one-last-1-1-1-1-1-1-0) (ap length (at-loop .loop .inv .1) ∙ length-replicate (length args-report-now) 0)
           (after-decide-one .decide-one .ensures f (picks-at g loop-test-taken))) (sym (after-is-satisfiable .is-satisfiable .ensures) ∙ c .if1 .left)),
       λ f text g. at-loop .loop .inv .2 f text g ∙ turn-passed args-order-now args-query-now text args-report-now f loop-k
-          (subst (λ (n : ℕ). c .before .before .before .before .before .before .before .loop .k < n) (g .counted) loop-test-taken) decide-one-result
-          decide-one-last-1-1-1-1-1-1-0 (subst
-          (λ (n : ℕ). Does (verdictCall (record
-          { order = args-order-now; query = encode (restricted (decode args-query-now) (getD (expand f) loop-k [])); room = n })) decide-one-result
+          (subst (λ (n : ℕ). loop-k < n) (g .counted) loop-test-taken) decide-one-result decide-one-last-1-1-1-1-1-1-0
+          (subst (λ (n : ℕ). Does (verdictCall
+          (record { order = args-order-now; query = encode (restricted (decode args-query-now) (getD (expand f) loop-k [])); room = n })) decide-one-result
           decide-one-last-1-1-1-1-1-1-0) (ap length (at-loop .loop .inv .1) ∙ length-replicate (length args-report-now) 0)
           (after-decide-one .decide-one .ensures f (picks-at g loop-test-taken))) (sym (after-is-satisfiable .is-satisfiable .ensures) ∙ c .if1 .left),
     ))

@@ -19,17 +19,17 @@ use Rattle.formula_call.proofs.decide_text.Tie as tie
 
 -- The places that lie behind a place.
 
-abbrev next-of-nodes2 : tie.After-nodes2 → tie.After-next
-next-of-nodes2 c = c .before .before
+abbrev else1-of-nodes : tie.After-nodes → tie.Else1
+else1-of-nodes c = c .before .before
 
 abbrev decide-first-of-slice-known2 : tie.After-slice-known2 → tie.After-decide-first
 decide-first-of-slice-known2 c = c .before .before
 
+abbrev next-of-nodes2 : tie.After-nodes2 → tie.After-next
+next-of-nodes2 c = c .before .before
+
 abbrev read-text-of-next : tie.After-next → tie.After-read-text
 read-text-of-next c = c .before .before
-
-abbrev else1-of-nodes : tie.After-nodes → tie.Else1
-else1-of-nodes c = c .before .before
 
 abbrev else2-of-decide-first-arg : tie.After-decide-first-arg → tie.Else2
 else2-of-decide-first-arg c = c .before .before
@@ -40,8 +40,11 @@ else1-of-read-text c = else1-of-nodes (c .before)
 abbrev next-of-count-at : tie.After-count-at → tie.After-next
 next-of-count-at c = next-of-nodes2 (c .before)
 
+abbrev start-of-slice-known : tie.After-slice-known → tie.Start
+start-of-slice-known c = c .before .before .before .before
+
 abbrev start-of-else1 : tie.Else1 → tie.Start
-start-of-else1 c = c .before .before .before .before .before
+start-of-else1 c = start-of-slice-known (c .before)
 
 pub decide-text-spec : {M : Type 1} → statement M
 decide-text-spec =
@@ -49,7 +52,7 @@ decide-text-spec =
     (tie.spec
     -- returns
     (λ c.
-    let start = c .before .before .before .before .before in
+    let start = start-of-slice-known (c .before) in
     text-long (start .args .order .now) (start .args .query .now) (start .args .text .now) (start .args .report .now) (start .args .report .now) (c .if1 .taken) (start .pre .1))
     -- read-text-requires
     (λ c κs.

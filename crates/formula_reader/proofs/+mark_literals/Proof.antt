@@ -70,9 +70,7 @@ pub +mark-literals-spec : {M : Type 1} → statement M
     -- mark-literals-element-write-marks
     (λ c. let q = leaf-inside (start-of-then1 c .pre .1 .0 .1) (c .if1 .taken) in omega arith)
     -- mark-literals-returns
-    (λ c.
-    let start = start-of-then1 c in
-    (simp length-set, λ f p. leaf-marks p (c .if1 .taken) (start .args .marks .now) (start .pre .1 .1)))
+    (λ c. (simp length-set, λ f p. leaf-marks p (c .if1 .taken) (start-of-then1 c .args .marks .now) (start-of-then1 c .pre .1 .1)))
     -- mark-literals-mul-b
     (λ c. let q = start-of-else1 c .pre .1 .0 .1 .placed in omega arith)
     -- mark-literals-add-b

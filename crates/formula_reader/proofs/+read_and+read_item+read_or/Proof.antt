@@ -37,11 +37,11 @@ use Rattle.formula_reader.proofs.+read_and+read_item+read_or.Tie.{close
 
 -- The places that lie behind a place of read_and.
 module _ {K : read-and-lts.Claims} {P : In 3 read-and-kinds.ps} where
-  abbrev read-and-start-of-read-item : read-and-lts.After-read-item K P read-and.Post → read-and-lts.Start K P read-and.Post
-  read-and-start-of-read-item c = c .before .before .before
-
   abbrev read-and-next-of-else1 : read-and-lts.Else1 K P read-and.Post → read-and-lts.After-next K P read-and.Post
   read-and-next-of-else1 c = c .before .before .before
+
+  abbrev read-and-start-of-read-item : read-and-lts.After-read-item K P read-and.Post → read-and-lts.Start K P read-and.Post
+  read-and-start-of-read-item c = c .before .before .before
 
   abbrev read-and-read-and-of-put-both-arg : read-and-lts.After-put-both-arg K P read-and.Post → read-and-lts.After-read-and K P read-and.Post
   read-and-read-and-of-put-both-arg c = c .before .before .before .before
@@ -59,11 +59,11 @@ module _ {K : read-item-lts.Claims} {P : In 3 read-item-kinds.ps} where
 
 -- The places that lie behind a place of read_or.
 module _ {K : read-or-lts.Claims} {P : In 3 read-or-kinds.ps} where
-  abbrev read-or-next-of-else1 : read-or-lts.Else1 K P read-or.Post → read-or-lts.After-next K P read-or.Post
-  read-or-next-of-else1 c = c .before .before .before
-
   abbrev read-or-start-of-read-and : read-or-lts.After-read-and K P read-or.Post → read-or-lts.Start K P read-or.Post
   read-or-start-of-read-and c = c .before .before .before
+
+  abbrev read-or-next-of-else1 : read-or-lts.Else1 K P read-or.Post → read-or-lts.After-next K P read-or.Post
+  read-or-next-of-else1 c = c .before .before .before
 
   abbrev read-or-read-or-of-put-either-arg : read-or-lts.After-put-either-arg K P read-or.Post → read-or-lts.After-read-or K P read-or.Post
   read-or-read-or-of-put-either-arg c = c .before .before .before .before

@@ -10,8 +10,11 @@ use Rattle.formula_reader.proofs.close_item.Tie as tie
 
 -- The places that lie behind a place.
 
+abbrev start-of-stands : tie.After-stands → tie.Start
+start-of-stands c = c .before .before
+
 abbrev start-of-else1 : tie.Else1 → tie.Start
-start-of-else1 c = c .before .before .before
+start-of-else1 c = start-of-stands (c .before)
 
 pub close-item-spec : {M : Type 1} → statement M
 close-item-spec =
@@ -21,7 +24,7 @@ close-item-spec =
     (λ c κs. search needs)
     -- returns
     (λ c.
-    let start = c .before .before .before in
+    let start = start-of-stands (c .before) in
     (start .pre, λ f. closed-not f (start .args .text .now) (start .args .at) (sym (c .before .stands .ensures) ∙ not-true _ (c .if1 .taken))))
     -- add-past-blanks
     (λ c.

@@ -22,6 +22,12 @@ abbrev μ-loop : tie.MeasureT-loop
 abbrev in-loop-of-else1 : tie.Else1 Inv-loop μ-loop → tie.In-loop Inv-loop μ-loop
 in-loop-of-else1 c = c .before .before
 
+abbrev in-loop-of-then1 : tie.Then1 Inv-loop μ-loop → tie.In-loop Inv-loop μ-loop
+in-loop-of-then1 c = c .before .before
+
+abbrev else1-of-with-digit : tie.After-with-digit Inv-loop μ-loop → tie.Else1 Inv-loop μ-loop
+else1-of-with-digit c = c .before .before
+
 abbrev start-of-at-loop : tie.At-loop Inv-loop μ-loop → tie.Start Inv-loop μ-loop
 start-of-at-loop c = c .before .before
 
@@ -37,10 +43,10 @@ place-at-spec =
     (λ c. omega arith)
     -- returns
     (λ c.
-    let at-loop = c .before .before .before in let start = start-of-at-loop at-loop in
+    let in-loop = in-loop-of-then1 c in let at-loop = in-loop .before in let start = start-of-at-loop at-loop in
     sym (shown-end (start .args .text .now) (at-loop .loop .i) (at-loop .loop .v)
-    (digits-not (start .args .text .now) (at-loop .loop .i) (c .before .before .loop-test .taken) (digit-low _ (c .if1 .taken)))
-    (at-loop .loop .inv .0)) ∙ at-loop .loop .inv .3)
+    (digits-not (start .args .text .now) (at-loop .loop .i) (in-loop .loop-test .taken) (digit-low _ (c .if1 .taken))) (at-loop .loop .inv .0))
+    ∙ at-loop .loop .inv .3)
     -- returns-2
     (λ c.
     let in-loop = in-loop-of-else1 (c .before) in let at-loop = in-loop .before in let start = start-of-at-loop at-loop in
@@ -55,13 +61,14 @@ place-at-spec =
     (λ c. omega arith)
     -- loop-again
     (λ c.
-    let in-loop = in-loop-of-else1 (c .before .before) in let at-loop = in-loop .before in let start = start-of-at-loop at-loop in (
+    let else1 = else1-of-with-digit c in let in-loop = in-loop-of-else1 else1 in let at-loop = in-loop .before in
+    let start = start-of-at-loop at-loop in (
       saturated-bound _ (c .with-digit .ensures),
       omega arith,
       omega arith,
       ap (λ (v : ℕ). saturated (shown v (digitsAt (drop (at-loop .loop .i + 1) (start .args .text .now))))) (c .with-digit .ensures)
           ∙ sym (shown-next (start .args .text .now) (at-loop .loop .i) (at-loop .loop .v) (in-loop .loop-test .taken)
-          (digit-in _ (c .before .before .if1 .left) (c .before .if2 .left))) ∙ at-loop .loop .inv .3,
+          (digit-in _ (else1 .if1 .left) (c .before .if2 .left))) ∙ at-loop .loop .inv .3,
     ))
     -- returns-3
     (λ c.

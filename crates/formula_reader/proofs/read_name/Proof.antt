@@ -15,6 +15,14 @@ use Rattle.formula_reader.proofs.Trees.{putNode-node, putNode-kept, put
 use Rattle.formula_reader.proofs.read_name.Statement.{statement}
 use Rattle.formula_reader.proofs.read_name.Tie as tie
 
+-- The places that lie behind a place.
+
+abbrev place-at-of-then2 : tie.Then2 → tie.After-place-at
+place-at-of-then2 c = c .before .before
+
+abbrev start-of-is-place : tie.After-is-place → tie.Start
+start-of-is-place c = c .before .before
+
 written : (before after : List ℕ) (used : ℕ) (l : Letter) (code n place : ℕ) → code ≡ letterCode l → n ≡ place → used < 512 → length before ≡ 2048 →
     after ≡ putNode before used code n 0 1 → Tree after (used + 1 - 1) (literal l place)
 written before after used l code n place e p h k w =
@@ -43,11 +51,12 @@ read-name-spec =
     (λ c. omega arith)
     -- returns-2
     (λ c.
-    let else1 = c .before .before .before in let after-is-place = else1 .before in let start = after-is-place .before .before in (
+    let after-place-at = place-at-of-then2 c in let else1 = after-place-at .before in let after-is-place = else1 .before in
+    let start = start-of-is-place after-is-place in (
       omega arith,
       λ l e. named-absent _ l _ _ (start .args .code) (start .pre .4) e
           (sym (after-is-place .is-place .ensures) ∙ not-false _ (else1 .if1 .left))
-          (subst (λ (n : ℕ). getD (start .args .counts .now) (start .args .code) 0 < n) (c .before .before .place-at .ensures) (c .if2 .taken)),
+          (subst (λ (n : ℕ). getD (start .args .counts .now) (start .args .code) 0 < n) (after-place-at .place-at .ensures) (c .if2 .taken)),
     ))
     -- past-digits-requires
     (λ c κs. omega arith)
@@ -61,7 +70,7 @@ read-name-spec =
     (λ c.
     let after-past-blanks = c .before .before in let after-past-digits = after-past-blanks .before in let else2 = after-past-digits .before in
     let after-place-at = else2 .before .before in let else1 = after-place-at .before in let after-is-place = else1 .before in
-    let start = after-is-place .before .before in let args-code = start .args .code in let counts = start .args .counts .now in
+    let start = start-of-is-place after-is-place in let args-code = start .args .code in let counts = start .args .counts .now in
     let put-node-ensures = c .put-node .ensures in
     let text = start .args .text .now in
     let at = start .args .at in

@@ -14,6 +14,12 @@ use Rattle.formula_reader.proofs.read_text.Tie as tie
 abbrev start-of-read-or-arg : tie.After-read-or-arg → tie.Start
 start-of-read-or-arg c = c .before .before
 
+abbrev read-or-of-next : tie.After-next → tie.After-read-or
+read-or-of-next c = c .before .before
+
+abbrev start-of-read-or : tie.After-read-or → tie.Start
+start-of-read-or c = start-of-read-or-arg (c .before)
+
 pub read-text-spec : {M : Type 1} → statement M
 read-text-spec =
     tie.close
@@ -28,8 +34,7 @@ read-text-spec =
     (λ c. search needs)
     -- returns
     (λ c.
-    let after-next = c .before .before in let after-read-or = after-next .before .before in
-    let start = start-of-read-or-arg (after-read-or .before) in (
+    let after-next = c .before .before in let after-read-or = read-or-of-next after-next in let start = start-of-read-or after-read-or in (
       omega arith,
       whole-more (start .args .text .now) (start .args .counts .now) (after-read-or .read-or .last .1 .1 .1 .1 .0)
           (after-next .next .given .0 .0) (after-next .next .given .0 .1 .0) (c .if1 .taken)
@@ -38,7 +43,7 @@ read-text-spec =
     ))
     -- returns-2
     (λ c.
-    let after-k = c .before in let after-read-or = after-k .before .before in let start = start-of-read-or-arg (after-read-or .before) in
+    let after-k = c .before in let after-read-or = after-k .before .before in let start = start-of-read-or after-read-or in
     let text = start .args .text .now in let read-or-last-1-1-1-1-0 = after-read-or .read-or .last .1 .1 .1 .1 .0 in (
       subst (λ (r : Found). Ranged r text 0 0 (start .args .nodes .now) read-or-last-1-1-1-1-0) (after-k .k .given .1)
           (after-read-or .read-or .ensures .0),
@@ -48,9 +53,8 @@ read-text-spec =
     ))
     -- returns-3
     (λ c.
-    let after-next = c .before .before in let after-read-or = after-next .before .before in
-    let start = start-of-read-or-arg (after-read-or .before) in let text = start .args .text .now in
-    let read-or-last-1-1-1-1-0 = after-read-or .read-or .last .1 .1 .1 .1 .0 in (
+    let after-next = c .before .before in let after-read-or = read-or-of-next after-next in let start = start-of-read-or after-read-or in
+    let text = start .args .text .now in let read-or-last-1-1-1-1-0 = after-read-or .read-or .last .1 .1 .1 .1 .0 in (
       subst (λ (r : Found). Ranged r text 0 0 (start .args .nodes .now) read-or-last-1-1-1-1-0) (after-next .next .given .1)
           (after-read-or .read-or .ensures .0),
       whole-read text (start .args .counts .now) read-or-last-1-1-1-1-0 (after-next .next .given .0 .0)

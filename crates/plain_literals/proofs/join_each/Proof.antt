@@ -28,17 +28,32 @@ abbrev μ-loop : tie.MeasureT-loop
 
 -- The places that lie behind a place.
 
-abbrev in-loop-of-else1 : tie.Else1 Inv-loop μ-loop → tie.In-loop Inv-loop μ-loop
-in-loop-of-else1 c = c .before .before
-
 abbrev start-of-at-loop : tie.At-loop Inv-loop μ-loop → tie.Start Inv-loop μ-loop
 start-of-at-loop c = c .before .before
 
 abbrev else1-of-right : tie.After-right Inv-loop μ-loop → tie.Else1 Inv-loop μ-loop
 else1-of-right c = c .before .before
 
+abbrev in-loop-of-then1 : tie.Then1 Inv-loop μ-loop → tie.In-loop Inv-loop μ-loop
+in-loop-of-then1 c = c .before .before
+
+abbrev in-loop-of-else1 : tie.Else1 Inv-loop μ-loop → tie.In-loop Inv-loop μ-loop
+in-loop-of-else1 c = c .before .before
+
+abbrev start-of-in-loop : tie.In-loop Inv-loop μ-loop → tie.Start Inv-loop μ-loop
+start-of-in-loop c = start-of-at-loop (c .before)
+
+abbrev at-loop-of-left : tie.After-left Inv-loop μ-loop → tie.At-loop Inv-loop μ-loop
+at-loop-of-left c = in-loop-of-else1 (c .before) .before
+
 abbrev right-of-join-terms-arg5 : tie.After-join-terms-arg5 Inv-loop μ-loop → tie.After-right Inv-loop μ-loop
 right-of-join-terms-arg5 c = c .before .before .before .before .before
+
+abbrev right-of-join-terms : tie.After-join-terms Inv-loop μ-loop → tie.After-right Inv-loop μ-loop
+right-of-join-terms c = right-of-join-terms-arg5 (c .before)
+
+abbrev in-loop-of-join-terms : tie.After-join-terms Inv-loop μ-loop → tie.In-loop Inv-loop μ-loop
+in-loop-of-join-terms c = in-loop-of-else1 (else1-of-right (right-of-join-terms c))
 
 pub join-each-spec : {M : Type 1} → statement M
 join-each-spec =
@@ -49,34 +64,34 @@ join-each-spec =
     -- loop-holds
     (λ c. let p = c .before .pre in ((p .0 .3, p .1 .0, p .1 .1, p .1 .2), each-begin (joins _) _ _ _ (literals-are _ _ _ (p .0 .1)) _))
     -- sign-requires
-    (λ c κs. let p = start-of-at-loop (c .before) .pre .0 .1 in omega arith)
+    (λ c κs. let p = start-of-in-loop c .pre .0 .1 in omega arith)
     -- add-i
     (λ c. omega arith)
     -- loop-less
     (λ c. omega arith)
     -- loop-again
     (λ c.
-    let at-loop = c .before .before .before in let start = start-of-at-loop at-loop in
+    let in-loop = in-loop-of-then1 c in let at-loop = in-loop .before in let start = start-of-at-loop at-loop in
     let l = at-loop .loop in (
       l .inv .0,
       subst (Left (joinBehind (start .args .n)) _ _ _ _ (l .i + 1))
           (sym (join-negated (literalIn (start .args .query .now) (start .args .at) (l .i)) (sym (c .before .sign .ensures) ∙ not-true _ (c .if1 .taken))
           (start .args .n) (joinedIn (start .args .single) (l .rep) (l .link) (l .reach) (l .kept) (l .replaced) (l .total))))
           (each-next (joins _) _ _ _ (literals-are _ _ _ (start .pre .0 .1)) _ (l .i)
-          (joinedIn (start .args .single) (l .rep) (l .link) (l .reach) (l .kept) (l .replaced) (l .total)) (c .before .before .loop-test .taken) (l .inv .1)),
+          (joinedIn (start .args .single) (l .rep) (l .link) (l .reach) (l .kept) (l .replaced) (l .total)) (in-loop .loop-test .taken) (l .inv .1)),
     ))
     -- left-requires
-    (λ c κs. let p = start-of-at-loop (in-loop-of-else1 c .before) .pre .0 .1 in omega arith)
+    (λ c κs. let p = start-of-in-loop (in-loop-of-else1 c) .pre .0 .1 in omega arith)
     -- right-requires
-    (λ c κs. let p = start-of-at-loop (in-loop-of-else1 (c .before) .before) .pre .0 .1 in omega arith)
+    (λ c κs. let p = start-of-at-loop (at-loop-of-left c) .pre .0 .1 in omega arith)
     -- join-terms-requires
     (λ c κs.
-    let after-right = right-of-join-terms-arg5 c in let else1 = else1-of-right after-right in let in-loop = in-loop-of-else1 else1 in
-    let at-loop = in-loop .before in let start = start-of-at-loop at-loop in
+    let after-right = right-of-join-terms-arg5 c in let after-left = after-right .before in let else1 = else1-of-right after-right in
+    let in-loop = in-loop-of-else1 else1 in let start = start-of-in-loop in-loop in
     let p = start .pre .0 in
-    let l = at-loop .loop in
+    let l = at-loop-of-left after-left .loop in
     let is = plain-is (literalIn (start .args .query .now) (start .args .at) (l .i)) _ _ refl
-    (sym (else1 .before .sign .ensures) ∙ not-false _ (else1 .if1 .left)) (after-right .before .left .ensures) (after-right .right .ensures) in
+    (sym (else1 .before .sign .ensures) ∙ not-false _ (else1 .if1 .left)) (after-left .left .ensures) (after-right .right .ensures) in
     let step = each-next (joins _) _ _ _ (literals-are _ _ _ (start .pre .0 .1)) _ (l .i)
     (joinedIn (start .args .single) (l .rep) (l .link) (l .reach) (l .kept) (l .replaced) (l .total)) (in-loop .loop-test .taken) (l .inv .1) in (
       (
@@ -90,17 +105,17 @@ join-each-spec =
     ))
     -- add-i-2
     (λ c.
-    let in-loop = in-loop-of-else1 (else1-of-right (right-of-join-terms-arg5 (c .before))) in
-    omega (arith, in-loop .loop-test .taken, start-of-at-loop (in-loop .before) .fits .number))
+    let in-loop = in-loop-of-join-terms c in
+    omega (arith, in-loop .loop-test .taken, start-of-in-loop in-loop .fits .number))
     -- loop-less-2
-    (λ c. omega (arith, in-loop-of-else1 (else1-of-right (right-of-join-terms-arg5 (c .before))) .loop-test .taken))
+    (λ c. omega (arith, in-loop-of-join-terms c .loop-test .taken))
     -- loop-again-2
     (λ c.
-    let after-right = right-of-join-terms-arg5 (c .before) in let else1 = else1-of-right after-right in let in-loop = in-loop-of-else1 else1 in
-    let at-loop = in-loop .before in let start = start-of-at-loop at-loop in
-    let l = at-loop .loop in
+    let after-right = right-of-join-terms c in let after-left = after-right .before in let else1 = else1-of-right after-right in
+    let in-loop = in-loop-of-else1 else1 in let start = start-of-in-loop in-loop in
+    let l = at-loop-of-left after-left .loop in
     let is = plain-is (literalIn (start .args .query .now) (start .args .at) (l .i)) _ _ refl
-    (sym (else1 .before .sign .ensures) ∙ not-false _ (else1 .if1 .left)) (after-right .before .left .ensures) (after-right .right .ensures) in (
+    (sym (else1 .before .sign .ensures) ∙ not-false _ (else1 .if1 .left)) (after-left .left .ensures) (after-right .right .ensures) in (
       c .join-terms .ensures .1,
       subst (Left (joinBehind (start .args .n)) _ _ _ _ (l .i + 1))
           (ap (λ (m : Literal). andThen (joinedIn (start .args .single) (l .rep) (l .link) (l .reach) (l .kept) (l .replaced) (l .total))

@@ -12,6 +12,12 @@ use Rattle.plain_literals.proofs.join_terms.Tie as tie
 
 -- The places that lie behind a place.
 
+abbrev read-rep-of-read-rep2 : tie.After-read-rep2 → tie.After-read-rep
+read-rep-of-read-rep2 c = c .before .before
+
+abbrev start-of-read-rep : tie.After-read-rep → tie.Start
+start-of-read-rep c = c .before .before
+
 abbrev read-rep2-of-join-arg5 : tie.After-join-arg5 → tie.After-read-rep2
 read-rep2-of-join-arg5 c = c .before .before .before .before .before
 
@@ -25,8 +31,8 @@ join-terms-spec =
     (λ c κs. search needs)
     -- join-requires
     (λ c κs.
-    let after-read-rep2 = read-rep2-of-join-arg5 c in let after-read-rep = after-read-rep2 .before .before in
-    let start = after-read-rep .before .before in
+    let after-read-rep2 = read-rep2-of-join-arg5 c in let after-read-rep = read-rep-of-read-rep2 after-read-rep2 in
+    let start = start-of-read-rep after-read-rep in
     let a = start .args in
     let p = start .pre .0 in
     let e = after-read-rep .read-rep .ensures in
@@ -41,8 +47,8 @@ join-terms-spec =
     ))
     -- returns
     (λ c.
-    let after-read-rep2 = read-rep2-of-join-arg5 (c .before) in let after-read-rep = after-read-rep2 .before .before in
-    let start = after-read-rep .before .before in
+    let after-read-rep2 = read-rep2-of-join-arg5 (c .before) in let after-read-rep = read-rep-of-read-rep2 after-read-rep2 in
+    let start = start-of-read-rep after-read-rep in
     let a = start .args in
     let p = start .pre .0 in
     let l = same (a .left .0) (a .right .0) in

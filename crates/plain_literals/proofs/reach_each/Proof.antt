@@ -29,11 +29,11 @@ abbrev μ-loop : tie.MeasureT-loop
 
 -- The places that lie behind a place.
 
+abbrev start-of-at-loop : tie.At-loop Inv-loop μ-loop → tie.Start Inv-loop μ-loop
+start-of-at-loop c = c .before .before
+
 abbrev then1-of-then2 : tie.Then2 Inv-loop μ-loop → tie.Then1 Inv-loop μ-loop
 then1-of-then2 c = c .before .before
-
-abbrev then1-of-else2 : tie.Else2 Inv-loop μ-loop → tie.Then1 Inv-loop μ-loop
-then1-of-else2 c = c .before .before
 
 abbrev read-rep2-of-add-arg : tie.After-add-arg Inv-loop μ-loop → tie.After-read-rep2 Inv-loop μ-loop
 read-rep2-of-add-arg c = c .before .before
@@ -41,14 +41,20 @@ read-rep2-of-add-arg c = c .before .before
 abbrev at-loop-of-then1 : tie.Then1 Inv-loop μ-loop → tie.At-loop Inv-loop μ-loop
 at-loop-of-then1 c = c .before .before
 
-abbrev start-of-at-loop : tie.At-loop Inv-loop μ-loop → tie.Start Inv-loop μ-loop
-start-of-at-loop c = c .before .before
+abbrev then1-of-else2 : tie.Else2 Inv-loop μ-loop → tie.Then1 Inv-loop μ-loop
+then1-of-else2 c = c .before .before
 
 abbrev read-rep-of-read-rep2 : tie.After-read-rep2 Inv-loop μ-loop → tie.After-read-rep Inv-loop μ-loop
 read-rep-of-read-rep2 c = c .before .before
 
+abbrev start-of-then1 : tie.Then1 Inv-loop μ-loop → tie.Start Inv-loop μ-loop
+start-of-then1 c = start-of-at-loop (at-loop-of-then1 c)
+
 abbrev then1-of-read-rep : tie.After-read-rep Inv-loop μ-loop → tie.Then1 Inv-loop μ-loop
 then1-of-read-rep c = then1-of-else2 (c .before .before)
+
+abbrev then1-of-add : tie.After-add Inv-loop μ-loop → tie.Then1 Inv-loop μ-loop
+then1-of-add c = then1-of-read-rep (read-rep-of-read-rep2 (read-rep2-of-add-arg (c .before)))
 
 pub reach-each-spec : {M : Type 1} → statement M
 reach-each-spec =
@@ -63,12 +69,13 @@ reach-each-spec =
     (p .3, λ single link h. each-begin reaches _ _ _ (reachability-said (start .args .layout) (start .args .query .now) (p .0)) _))
     -- reach-sign-requires
     (λ c κs.
-    let at-loop = at-loop-of-then1 c in let start = start-of-at-loop at-loop in
-    literal-fits (reachWidth (start .args .layout .links)) (start .args .layout .«reach_at») (at-loop .loop .i) (start .args .layout .«reach_count») _ (c .if1 .taken) (start .pre .0 .reach-fit))
+    let start = start-of-then1 c in
+    literal-fits (reachWidth (start .args .layout .links)) (start .args .layout .«reach_at») (at-loop-of-then1 c .loop .i)
+    (start .args .layout .«reach_count») _ (c .if1 .taken) (start .pre .0 .reach-fit))
     -- add-i
     (λ c.
     let then1 = then1-of-then2 c in
-    omega (arith, then1 .if1 .taken, start-of-at-loop (at-loop-of-then1 then1) .pre .0 .reach-within))
+    omega (arith, then1 .if1 .taken, start-of-then1 then1 .pre .0 .reach-within))
     -- loop-less
     (λ c. omega (arith, then1-of-then2 c .if1 .taken))
     -- loop-again
@@ -90,21 +97,22 @@ reach-each-spec =
     (λ c κs. search needs)
     -- reach-right-requires
     (λ c κs.
-    let then1 = then1-of-read-rep c in let at-loop = at-loop-of-then1 then1 in let start = start-of-at-loop at-loop in
-    literal-fits (reachWidth (start .args .layout .links)) (start .args .layout .«reach_at») (at-loop .loop .i) (start .args .layout .«reach_count») _ (then1 .if1 .taken) (start .pre .0 .reach-fit))
+    let then1 = then1-of-read-rep c in let start = start-of-then1 then1 in
+    literal-fits (reachWidth (start .args .layout .links)) (start .args .layout .«reach_at») (at-loop-of-then1 then1 .loop .i)
+    (start .args .layout .«reach_count») _ (then1 .if1 .taken) (start .pre .0 .reach-fit))
     -- read-rep-requires-2
     (λ c κs. search needs)
     -- reach-link-requires
     (λ c κs.
-    let then1 = then1-of-read-rep (read-rep-of-read-rep2 c) in let at-loop = at-loop-of-then1 then1 in let start = start-of-at-loop at-loop in
-    literal-fits (reachWidth (start .args .layout .links)) (start .args .layout .«reach_at») (at-loop .loop .i) (start .args .layout .«reach_count») _ (then1 .if1 .taken) (start .pre .0 .reach-fit))
+    let then1 = then1-of-read-rep (read-rep-of-read-rep2 c) in let start = start-of-then1 then1 in
+    literal-fits (reachWidth (start .args .layout .links)) (start .args .layout .«reach_at») (at-loop-of-then1 then1 .loop .i)
+    (start .args .layout .«reach_count») _ (then1 .if1 .taken) (start .pre .0 .reach-fit))
     -- add-requires
     (λ c κs.
     let after-read-rep2 = read-rep2-of-add-arg c in let after-read-rep = read-rep-of-read-rep2 after-read-rep2 in
-    let then1 = then1-of-read-rep after-read-rep in let at-loop = at-loop-of-then1 then1 in let start = start-of-at-loop at-loop in
-    let args-rep-now = start .args .rep .now in
+    let then1 = then1-of-read-rep after-read-rep in let start = start-of-then1 then1 in let args-rep-now = start .args .rep .now in
     let p = start .pre in
-    let l = at-loop .loop in
+    let l = at-loop-of-then1 then1 .loop in
     let by = linked-rows (p .0) (p .1) (l .i) (then1 .if1 .taken) _ (c .before .reach-link .ensures) in
     let t = reach-terms (p .0) (p .1) (l .i) (then1 .if1 .taken) in (
       omega (arith, by),
@@ -117,18 +125,18 @@ reach-each-spec =
     ))
     -- add-i-2
     (λ c.
-    let then1 = then1-of-read-rep (read-rep-of-read-rep2 (read-rep2-of-add-arg (c .before))) in
-    omega (arith, then1 .if1 .taken, start-of-at-loop (at-loop-of-then1 then1) .pre .0 .reach-within))
+    let then1 = then1-of-add c in
+    omega (arith, then1 .if1 .taken, start-of-then1 then1 .pre .0 .reach-within))
     -- loop-less-2
-    (λ c. omega (arith, then1-of-read-rep (read-rep-of-read-rep2 (read-rep2-of-add-arg (c .before))) .if1 .taken))
+    (λ c. omega (arith, then1-of-add c .if1 .taken))
     -- loop-again-2
     (λ c.
     let after-reach-link = c .before .before in let after-read-rep2 = after-reach-link .before in
     let after-read-rep = read-rep-of-read-rep2 after-read-rep2 in let after-reach-left = after-read-rep .before in
-    let else2 = after-reach-left .before in let then1 = then1-of-else2 else2 in let at-loop = at-loop-of-then1 then1 in
-    let start = start-of-at-loop at-loop in let args-rep-now = start .args .rep .now in
+    let else2 = after-reach-left .before in let then1 = then1-of-add c in let start = start-of-then1 then1 in
+    let args-rep-now = start .args .rep .now in
     let p = start .pre in
-    let l = at-loop .loop in (
+    let l = at-loop-of-then1 then1 .loop in (
       c .add .ensures .1,
       λ single link h. subst (Left reachEach _ _ _ _ (l .i + 1))
           (sym (reach-plain single args-rep-now link (l .reach)

@@ -63,17 +63,20 @@ module _ {K : plain-in-lts.Claims} {P : In 5 plain-in-kinds.ps} where
   abbrev take-of-plain-in : plain-in-lts.After-plain-in K P plain-in.Post plain-in-Inv-loop plain-in-μ-loop → plain-in-lts.After-take K P plain-in.Post plain-in-Inv-loop plain-in-μ-loop
   take-of-plain-in c = c .before .before .before .before
 
+  abbrev look-ahead-of-count : plain-in-lts.After-count K P plain-in.Post plain-in-Inv-loop plain-in-μ-loop → plain-in-lts.After-look-ahead K P plain-in.Post plain-in-Inv-loop plain-in-μ-loop
+  look-ahead-of-count c = c .before .before .before .before
+
   abbrev k-of-at-loop : plain-in-lts.At-loop K P plain-in.Post plain-in-Inv-loop plain-in-μ-loop → plain-in-lts.After-k K P plain-in.Post plain-in-Inv-loop plain-in-μ-loop
   k-of-at-loop c = c .before .before .before .before
 
   abbrev start-of-close-ahead : plain-in-lts.After-close-ahead K P plain-in.Post plain-in-Inv-loop plain-in-μ-loop → plain-in-lts.Start K P plain-in.Post plain-in-Inv-loop plain-in-μ-loop
   start-of-close-ahead c = c .before .before .before .before .before .before
 
-  abbrev look-ahead-of-at-loop : plain-in-lts.At-loop K P plain-in.Post plain-in-Inv-loop plain-in-μ-loop → plain-in-lts.After-look-ahead K P plain-in.Post plain-in-Inv-loop plain-in-μ-loop
-  look-ahead-of-at-loop c = k-of-at-loop c .before .before
-
   abbrev in-loop-of-own-reach2 : plain-in-lts.After-own-reach2 K P plain-in.Post plain-in-Inv-loop plain-in-μ-loop → plain-in-lts.In-loop K P plain-in.Post plain-in-Inv-loop plain-in-μ-loop
   in-loop-of-own-reach2 c = c .before .before .before .before .before .before .before
+
+  abbrev in-loop-of-take : plain-in-lts.After-take K P plain-in.Post plain-in-Inv-loop plain-in-μ-loop → plain-in-lts.In-loop K P plain-in.Post plain-in-Inv-loop plain-in-μ-loop
+  in-loop-of-take c = in-loop-of-own-reach2 (c .before)
 
 pub +plain-in-spec : {M : Type 1} → statement M
 +plain-in-spec = close μ-plain-in λ t. plain-in-lts.spec (
@@ -151,12 +154,12 @@ pub +plain-in-spec : {M : Type 1} → statement M
     (λ c κs. search needs)
     -- loop-holds
     (λ c.
-    let after-close-ahead = close-ahead-of-look-ahead (c .before .before .before .before .before) in
+    let after-close-ahead = close-ahead-of-look-ahead (look-ahead-of-count (c .before)) in
     let p = start-of-close-ahead after-close-ahead .pre .1 in
     (omega arith, struck-none _ _ _ _ refl, refl, record { of-rep = p .5 .of-rep; of-link = p .5 .of-link; of-reach = after-close-ahead .close-ahead .ensures .1 }))
     -- returns-3
     (λ c.
-    let start = start-of-close-ahead (close-ahead-of-look-ahead (look-ahead-of-at-loop (c .before .before))) in
+    let start = start-of-close-ahead (close-ahead-of-look-ahead (look-ahead-of-count (count-of-in-loop (c .before)))) in
     let a = start .args in
     let p = start .pre .1 in
     let o = c .before .before .loop in (
@@ -167,9 +170,9 @@ pub +plain-in-spec : {M : Type 1} → statement M
     ))
     -- take-requires
     (λ c κs.
-    let at-loop = in-loop-of-own-reach2 c .before in let after-k = k-of-at-loop at-loop in
-    let after-look-ahead = look-ahead-of-at-loop at-loop in let after-close-ahead = close-ahead-of-look-ahead after-look-ahead in
-    let start = start-of-close-ahead after-close-ahead in
+    let in-loop = in-loop-of-own-reach2 c in let at-loop = in-loop .before in let after-k = k-of-at-loop at-loop in
+    let after-look-ahead = look-ahead-of-count (count-of-in-loop in-loop) in
+    let after-close-ahead = close-ahead-of-look-ahead after-look-ahead in let start = start-of-close-ahead after-close-ahead in
     let a = start .args in
     let p = start .pre .1 in
     let q = said (a .layout) (a .query .now) in
@@ -192,7 +195,8 @@ pub +plain-in-spec : {M : Type 1} → statement M
     ))
     -- sub-plain-in
     (λ c.
-    let after-k = k-of-at-loop (in-loop-of-own-reach2 (c .before) .before) in let after-look-ahead = after-k .before .before in
+    let in-loop = in-loop-of-take c in let after-k = k-of-at-loop (in-loop .before) in
+    let after-look-ahead = look-ahead-of-count (count-of-in-loop in-loop) in
     let after-close-ahead = close-ahead-of-look-ahead after-look-ahead in let start = start-of-close-ahead after-close-ahead in
     let a = start .args in
     let p = start .pre .1 in
@@ -209,34 +213,9 @@ pub +plain-in-spec : {M : Type 1} → statement M
     (m .1 .1 .1 .0 .0) (m .1 .1 .1 .1 .0 .0) h)
     -- plain-in-requires
     (λ c κs.
-    let after-take = c .before .before .before in let in-loop = in-loop-of-own-reach2 (after-take .before) in let at-loop = in-loop .before in
-    let after-k = k-of-at-loop at-loop in let after-look-ahead = look-ahead-of-at-loop at-loop in
-    let after-close-ahead = close-ahead-of-look-ahead after-look-ahead in let start = start-of-close-ahead after-close-ahead in
-    let a = start .args in
-    let p = start .pre .1 in
-    let q = said (a .layout) (a .query .now) in
-    let s = pathAs (a .single) (a .rep .now) (a .link .now) (a .reach .now) in
-    let r = after-close-ahead .close-ahead .last in
-    let t = pathAs (a .single) (a .rep .now) (a .link .now) (r .1 .1 .1 .1 .0) in
-    let l = look q (orderOf (a .order .now)) t in
-    let m = after-k .k .given .0 in
-    let h = look-is (after-look-ahead .look-ahead .result) (seen.Applying (m .0) (m .1 .0) (m .1 .1 .0) (m .1 .1 .1 .0) (m .1 .1 .1 .1 .0)) l
-    (after-look-ahead .look-ahead .ensures) (after-k .k .given .1) in
-    let o = at-loop .loop in
-    let here = subst (λ (j : ℕ). o .i < j) (count-of-in-loop in-loop .count .ensures) (in-loop .loop-test .taken) in
-    let e = after-take .take .last in
-    let u = pathAs (a .single) (e .1 .0) (e .1 .1 .0) (e .1 .1 .1 .0) in
-    let g = front-next {q = q} (a .order .now) (p .1) (p .2) (a .left) s t (p .3) (p .4) (a .layout .terms)
-    (sym (terms-said (a .layout) (a .query .now) (p .0))) (after-close-ahead .close-ahead .ensures .0) (m .0 .0) (kindOf (m .1 .0)) (m .1 .1 .0 .0)
-    (m .1 .1 .1 .0 .0) (m .1 .1 .1 .1 .0 .0) h (pathAs (a .single) (o .rep) (o .link) (o .reach)) (o .inv .2) (o .i) here u (after-take .take .ensures .0) in
-    (less-left (a .left) _ (g .0) (start .pre .0), (p .0, p .1, p .2, g .1, g .2, after-take .take .ensures .1)))
-    -- is-refuted-requires
-    (λ c κs. search needs)
-    -- returns-4
-    (λ c.
-    let after-plain-in = c .before .before in let after-take = take-of-plain-in after-plain-in in
-    let in-loop = in-loop-of-own-reach2 (after-take .before) in let at-loop = in-loop .before in let after-k = k-of-at-loop at-loop in
-    let after-look-ahead = look-ahead-of-at-loop at-loop in let after-close-ahead = close-ahead-of-look-ahead after-look-ahead in
+    let after-take = c .before .before .before in let in-loop = in-loop-of-take after-take in let at-loop = in-loop .before in
+    let after-count = count-of-in-loop in-loop in let after-k = k-of-at-loop at-loop in
+    let after-look-ahead = look-ahead-of-count after-count in let after-close-ahead = close-ahead-of-look-ahead after-look-ahead in
     let start = start-of-close-ahead after-close-ahead in
     let a = start .args in
     let p = start .pre .1 in
@@ -249,7 +228,33 @@ pub +plain-in-spec : {M : Type 1} → statement M
     let h = look-is (after-look-ahead .look-ahead .result) (seen.Applying (m .0) (m .1 .0) (m .1 .1 .0) (m .1 .1 .1 .0) (m .1 .1 .1 .1 .0)) l
     (after-look-ahead .look-ahead .ensures) (after-k .k .given .1) in
     let o = at-loop .loop in
-    let here = subst (λ (j : ℕ). o .i < j) (count-of-in-loop in-loop .count .ensures) (in-loop .loop-test .taken) in
+    let here = subst (λ (j : ℕ). o .i < j) (after-count .count .ensures) (in-loop .loop-test .taken) in
+    let e = after-take .take .last in
+    let u = pathAs (a .single) (e .1 .0) (e .1 .1 .0) (e .1 .1 .1 .0) in
+    let g = front-next {q = q} (a .order .now) (p .1) (p .2) (a .left) s t (p .3) (p .4) (a .layout .terms)
+    (sym (terms-said (a .layout) (a .query .now) (p .0))) (after-close-ahead .close-ahead .ensures .0) (m .0 .0) (kindOf (m .1 .0)) (m .1 .1 .0 .0)
+    (m .1 .1 .1 .0 .0) (m .1 .1 .1 .1 .0 .0) h (pathAs (a .single) (o .rep) (o .link) (o .reach)) (o .inv .2) (o .i) here u (after-take .take .ensures .0) in
+    (less-left (a .left) _ (g .0) (start .pre .0), (p .0, p .1, p .2, g .1, g .2, after-take .take .ensures .1)))
+    -- is-refuted-requires
+    (λ c κs. search needs)
+    -- returns-4
+    (λ c.
+    let after-plain-in = c .before .before in let after-take = take-of-plain-in after-plain-in in let in-loop = in-loop-of-take after-take in
+    let at-loop = in-loop .before in let after-count = count-of-in-loop in-loop in let after-k = k-of-at-loop at-loop in
+    let after-look-ahead = look-ahead-of-count after-count in let after-close-ahead = close-ahead-of-look-ahead after-look-ahead in
+    let start = start-of-close-ahead after-close-ahead in
+    let a = start .args in
+    let p = start .pre .1 in
+    let q = said (a .layout) (a .query .now) in
+    let s = pathAs (a .single) (a .rep .now) (a .link .now) (a .reach .now) in
+    let r = after-close-ahead .close-ahead .last in
+    let t = pathAs (a .single) (a .rep .now) (a .link .now) (r .1 .1 .1 .1 .0) in
+    let l = look q (orderOf (a .order .now)) t in
+    let m = after-k .k .given .0 in
+    let h = look-is (after-look-ahead .look-ahead .result) (seen.Applying (m .0) (m .1 .0) (m .1 .1 .0) (m .1 .1 .1 .0) (m .1 .1 .1 .1 .0)) l
+    (after-look-ahead .look-ahead .ensures) (after-k .k .given .1) in
+    let o = at-loop .loop in
+    let here = subst (λ (j : ℕ). o .i < j) (after-count .count .ensures) (in-loop .loop-test .taken) in
     let e = after-take .take .last in
     let u = pathAs (a .single) (e .1 .0) (e .1 .1 .0) (e .1 .1 .1 .0) in
     let f = after-plain-in .plain-in .last in
@@ -263,9 +268,9 @@ pub +plain-in-spec : {M : Type 1} → statement M
     ))
     -- add-i
     (λ c.
-    let in-loop = in-loop-of-own-reach2 (take-of-plain-in (c .before .before) .before) in let after-k = k-of-at-loop (in-loop .before) in
-    let after-look-ahead = look-ahead-of-at-loop (in-loop .before) in let after-close-ahead = close-ahead-of-look-ahead after-look-ahead in
-    let start = start-of-close-ahead after-close-ahead in
+    let in-loop = in-loop-of-take (take-of-plain-in (c .before .before)) in let after-count = count-of-in-loop in-loop in
+    let after-k = k-of-at-loop (in-loop .before) in let after-look-ahead = look-ahead-of-count after-count in
+    let after-close-ahead = close-ahead-of-look-ahead after-look-ahead in let start = start-of-close-ahead after-close-ahead in
     let a = start .args in
     let p = start .pre .1 in
     let q = said (a .layout) (a .query .now) in
@@ -278,14 +283,14 @@ pub +plain-in-spec : {M : Type 1} → statement M
     (after-look-ahead .look-ahead .ensures) (after-k .k .given .1) in
     let b = in-loop .loop-test .taken in
     let f = move-fits (a .query .now) (a .layout) (p .0) (orderOf (a .order .now)) t (m .0 .0) (kindOf (m .1 .0)) (m .1 .1 .0 .0) (m .1 .1 .1 .0 .0) (m .1 .1 .1 .1 .0 .0) h in
-    omega (arith, b, count-of-in-loop in-loop .count .ensures, count-few (kindOf (m .1 .0)) (m .1 .1 .1 .1 .0 .0) (f .2)))
+    omega (arith, b, after-count .count .ensures, count-few (kindOf (m .1 .0)) (m .1 .1 .1 .1 .0 .0) (f .2)))
     -- loop-less
-    (λ c. let b = in-loop-of-own-reach2 (take-of-plain-in (c .before .before) .before) .loop-test .taken in omega arith)
+    (λ c. let b = in-loop-of-take (take-of-plain-in (c .before .before)) .loop-test .taken in omega arith)
     -- loop-again
     (λ c.
-    let after-plain-in = c .before .before in let after-take = take-of-plain-in after-plain-in in
-    let in-loop = in-loop-of-own-reach2 (after-take .before) in let at-loop = in-loop .before in let after-k = k-of-at-loop at-loop in
-    let after-look-ahead = look-ahead-of-at-loop at-loop in let after-close-ahead = close-ahead-of-look-ahead after-look-ahead in
+    let after-plain-in = c .before .before in let after-take = take-of-plain-in after-plain-in in let in-loop = in-loop-of-take after-take in
+    let at-loop = in-loop .before in let after-count = count-of-in-loop in-loop in let after-k = k-of-at-loop at-loop in
+    let after-look-ahead = look-ahead-of-count after-count in let after-close-ahead = close-ahead-of-look-ahead after-look-ahead in
     let start = start-of-close-ahead after-close-ahead in
     let a = start .args in
     let p = start .pre .1 in
@@ -298,7 +303,7 @@ pub +plain-in-spec : {M : Type 1} → statement M
     let h = look-is (after-look-ahead .look-ahead .result) (seen.Applying (m .0) (m .1 .0) (m .1 .1 .0) (m .1 .1 .1 .0) (m .1 .1 .1 .1 .0)) l
     (after-look-ahead .look-ahead .ensures) (after-k .k .given .1) in
     let o = at-loop .loop in
-    let here = subst (λ (j : ℕ). o .i < j) (count-of-in-loop in-loop .count .ensures) (in-loop .loop-test .taken) in
+    let here = subst (λ (j : ℕ). o .i < j) (after-count .count .ensures) (in-loop .loop-test .taken) in
     let e = after-take .take .last in
     let u = pathAs (a .single) (e .1 .0) (e .1 .1 .0) (e .1 .1 .1 .0) in
     let f = after-plain-in .plain-in .last in
@@ -315,8 +320,9 @@ pub +plain-in-spec : {M : Type 1} → statement M
     ))
     -- returns-5
     (λ c.
-    let after-k = k-of-at-loop (c .before) in let after-look-ahead = look-ahead-of-at-loop (c .before) in
-    let after-close-ahead = close-ahead-of-look-ahead after-look-ahead in let start = start-of-close-ahead after-close-ahead in
+    let after-count = c .before .before .before in let after-k = k-of-at-loop (c .before) in
+    let after-look-ahead = look-ahead-of-count after-count in let after-close-ahead = close-ahead-of-look-ahead after-look-ahead in
+    let start = start-of-close-ahead after-close-ahead in
     let a = start .args in
     let p = start .pre .1 in
     let q = said (a .layout) (a .query .now) in
@@ -330,8 +336,7 @@ pub +plain-in-spec : {M : Type 1} → statement M
     let o = c .before .loop in (
       front-all {q = q} (a .order .now) (p .1) (p .2) (a .left) s t (p .3) (p .4) (a .layout .terms)
           (sym (terms-said (a .layout) (a .query .now) (p .0))) (after-close-ahead .close-ahead .ensures .0) (m .0 .0) (kindOf (m .1 .0)) (m .1 .1 .0 .0)
-          (m .1 .1 .1 .0 .0) (m .1 .1 .1 .1 .0 .0) h (o .i) (o .inv .1)
-          (subst (λ (j : ℕ). j ≤ o .i) (c .before .before .before .count .ensures) (c .loop-test .left)) (a .limited)
-          (pathAs (a .single) (o .rep) (o .link) (o .reach)),
+          (m .1 .1 .1 .0 .0) (m .1 .1 .1 .1 .0 .0) h (o .i) (o .inv .1) (subst (λ (j : ℕ). j ≤ o .i) (after-count .count .ensures) (c .loop-test .left))
+          (a .limited) (pathAs (a .single) (o .rep) (o .link) (o .reach)),
       o .inv .3,
     ))

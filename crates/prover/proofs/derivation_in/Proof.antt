@@ -15,23 +15,35 @@ use Rattle.prover.proofs.derivation_in.Tie as tie
 
 -- The places that lie behind a place.
 
-abbrev checked-of-layout : tie.After-layout → tie.After-checked
-checked-of-layout c = c .before .before
-
 abbrev is-order-of-checked : tie.After-checked → tie.After-is-order
 is-order-of-checked c = c .before .before
-
-abbrev layout-of-derive-arg : tie.After-derive-arg → tie.After-layout
-layout-of-derive-arg c = c .before .before
 
 abbrev derive-of-slice-known3 : tie.After-slice-known3 → tie.After-derive
 derive-of-slice-known3 c = c .before .before
 
+abbrev layout-of-derive-arg : tie.After-derive-arg → tie.After-layout
+layout-of-derive-arg c = c .before .before
+
 abbrev clear-of-is-order : tie.After-is-order → tie.After-clear
 clear-of-is-order c = c .before .before .before
 
+abbrev derive-arg-of-slice-known3 : tie.After-slice-known3 → tie.After-derive-arg
+derive-arg-of-slice-known3 c = derive-of-slice-known3 c .before
+
+abbrev checked-of-known-told : tie.After-known-told → tie.After-checked
+checked-of-known-told c = c .before .before .before
+
+abbrev clear-of-then1 : tie.Then1 → tie.After-clear
+clear-of-then1 c = clear-of-is-order (c .before)
+
+abbrev checked-of-derive-arg : tie.After-derive-arg → tie.After-checked
+checked-of-derive-arg c = layout-of-derive-arg c .before .before
+
 abbrev start-of-clear : tie.After-clear → tie.Start
 start-of-clear c = c .before .before .before .before .before
+
+abbrev clear-of-slice-known3 : tie.After-slice-known3 → tie.After-clear
+clear-of-slice-known3 c = clear-of-is-order (is-order-of-checked (checked-of-derive-arg (derive-arg-of-slice-known3 c)))
 
 pub derivation-in-spec : {M : Type 1} → statement M
 derivation-in-spec =
@@ -43,11 +55,11 @@ derivation-in-spec =
     (λ c κs. search needs)
     -- same-length
     (λ c.
-    let after-clear = clear-of-is-order (c .before) in
+    let after-clear = clear-of-then1 c in
     (blank-long _ (length (start-of-clear after-clear .args .buffer .now)) (after-clear .clear .ensures)))
     -- returns
     (λ c.
-    let after-clear = clear-of-is-order (c .before) in let start = start-of-clear after-clear in
+    let after-clear = clear-of-then1 c in let start = start-of-clear after-clear in
     derivation-order (formOf (start .args .three)) (laws-of (start .args .three)) (start .args .order .now) (start .args .query .now)
     (start .args .buffer .now) _ (sym (c .before .is-order .ensures) ∙ not-true _ (c .if1 .taken)) (after-clear .clear .ensures))
     -- checked-requires
@@ -58,10 +70,9 @@ derivation-in-spec =
     (λ c. search needs)
     -- derive-requires
     (λ c κs.
-    let after-layout = layout-of-derive-arg c in let after-checked = checked-of-layout after-layout in
-    let after-is-order = is-order-of-checked after-checked in let after-clear = clear-of-is-order after-is-order in
-    let start = start-of-clear after-clear in let three = start .args .three in
-    let h = (subst (λ (x : Checked). CheckedBy (formOf three) x (start .args .query .now)) (after-layout .layout .given .1) (after-checked .checked .ensures)) in (
+    let after-checked = checked-of-derive-arg c in let after-is-order = is-order-of-checked after-checked in
+    let after-clear = clear-of-is-order after-is-order in let start = start-of-clear after-clear in let three = start .args .three in
+    let h = (subst (λ (x : Checked). CheckedBy (formOf three) x (start .args .query .now)) (layout-of-derive-arg c .layout .given .1) (after-checked .checked .ensures)) in (
       h .within,
       accepted-said (formOf three) (laws-of three) _ _ h,
       (sym (after-is-order .is-order .ensures) ∙ not-false _ (after-checked .before .if1 .left)),
@@ -69,11 +80,11 @@ derivation-in-spec =
     ))
     -- same-length-2
     (λ c.
-    let after-clear = clear-of-is-order (is-order-of-checked (c .before .before .before)) in
+    let after-clear = clear-of-is-order (is-order-of-checked (checked-of-known-told c)) in
     (blank-long _ (length (start-of-clear after-clear .args .buffer .now)) (after-clear .clear .ensures)))
     -- returns-2
     (λ c.
-    let after-checked = c .before .before .before in let after-is-order = is-order-of-checked after-checked in
+    let after-checked = checked-of-known-told c in let after-is-order = is-order-of-checked after-checked in
     let after-clear = clear-of-is-order after-is-order in let start = start-of-clear after-clear in let three = start .args .three in
     derivation-query (formOf three) (laws-of three) (start .args .order .now) (start .args .query .now) (start .args .buffer .now) _ _ _
     (sym (after-is-order .is-order .ensures) ∙ not-false _ (after-checked .before .if1 .left))
@@ -81,15 +92,13 @@ derivation-in-spec =
     (after-clear .clear .ensures))
     -- same-length-3
     (λ c.
-    let after-derive = derive-of-slice-known3 c in
-    let after-clear = clear-of-is-order (is-order-of-checked (checked-of-layout (layout-of-derive-arg (after-derive .before)))) in
-    ap length (after-derive .derive .ensures .leaves) ∙ derivation-whole _ _ ∙ (blank-long _ (length (start-of-clear after-clear .args .buffer .now)) (after-clear .clear .ensures)))
+    let after-clear = clear-of-slice-known3 c in
+    ap length (derive-of-slice-known3 c .derive .ensures .leaves) ∙ derivation-whole _ _ ∙ (blank-long _ (length (start-of-clear after-clear .args .buffer .now)) (after-clear .clear .ensures)))
     -- returns-3
     (λ c.
-    let after-derive = derive-of-slice-known3 c in let after-layout = layout-of-derive-arg (after-derive .before) in
-    let after-checked = checked-of-layout after-layout in let after-is-order = is-order-of-checked after-checked in
-    let after-clear = clear-of-is-order after-is-order in let start = start-of-clear after-clear in let three = start .args .three in
+    let after-derive-arg = derive-arg-of-slice-known3 c in let after-checked = checked-of-derive-arg after-derive-arg in
+    let after-clear = clear-of-slice-known3 c in let start = start-of-clear after-clear in let three = start .args .three in
     derivation-walked (formOf three) (laws-of three) (start .args .order .now) (start .args .query .now) (start .args .buffer .now) _ _ _ _
-    (sym (after-is-order .is-order .ensures) ∙ not-false _ (after-checked .before .if1 .left))
-    (subst (λ (x : Checked). CheckedBy (formOf three) x (start .args .query .now)) (after-layout .layout .given .1) (after-checked .checked .ensures))
-    (blank-long _ (length (start .args .buffer .now)) (after-clear .clear .ensures)) (after-derive .derive .ensures)))
+    (sym (is-order-of-checked after-checked .is-order .ensures) ∙ not-false _ (after-checked .before .if1 .left))
+    (subst (λ (x : Checked). CheckedBy (formOf three) x (start .args .query .now)) (layout-of-derive-arg after-derive-arg .layout .given .1)
+    (after-checked .checked .ensures)) (blank-long _ (length (start .args .buffer .now)) (after-clear .clear .ensures)) (derive-of-slice-known3 c .derive .ensures)))

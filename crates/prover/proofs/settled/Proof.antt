@@ -12,8 +12,17 @@ use Rattle.prover.proofs.settled.Tie as tie
 abbrev start-of-shared-slice-known2 : tie.After-shared-slice-known2 → tie.Start
 start-of-shared-slice-known2 c = c .before .before
 
+abbrev start-in-of-settle-arg3 : tie.After-settle-arg3 → tie.After-start-in
+start-in-of-settle-arg3 c = c .before .before .before
+
+abbrev start-of-limit : tie.After-limit → tie.Start
+start-of-limit c = start-of-shared-slice-known2 (c .before)
+
 abbrev limit-of-replaced : tie.After-replaced → tie.After-limit
 limit-of-replaced c = c .before .before .before .before .before .before
+
+abbrev limit-of-start-in : tie.After-start-in → tie.After-limit
+limit-of-start-in c = limit-of-replaced (c .before)
 
 pub settled-spec : {M : Type 1} → statement M
 settled-spec =
@@ -22,11 +31,11 @@ settled-spec =
     -- limit-requires
     (λ c κs. let p = start-of-shared-slice-known2 c .pre in (few-links _ _ (p .0), p .0 .terms-within))
     -- start-in-requires
-    (λ c κs. let p = start-of-shared-slice-known2 (limit-of-replaced c .before) .pre in (p .0, p .1))
+    (λ c κs. let p = start-of-limit (limit-of-replaced c) .pre in (p .0, p .1))
     -- settle-requires
     (λ c κs.
-    let after-start-in = c .before .before .before in let after-limit = limit-of-replaced (after-start-in .before) in
-    let p = start-of-shared-slice-known2 (after-limit .before) .pre in (
+    let after-start-in = start-in-of-settle-arg3 c in let after-limit = limit-of-start-in after-start-in in
+    let p = start-of-limit after-limit .pre in (
       p .0,
       p .1,
       p .2,
@@ -36,6 +45,6 @@ settled-spec =
     ))
     -- returns
     (λ c.
-    let after-start-in = c .before .before .before .before in let after-limit = limit-of-replaced (after-start-in .before) in
-    let p = start-of-shared-slice-known2 (after-limit .before) .pre in
+    let after-start-in = start-in-of-settle-arg3 (c .before) in let after-limit = limit-of-start-in after-start-in in
+    let p = start-of-limit after-limit .pre in
     settles _ (p .1) _ (p .2) _ _ _ _ (said-links _ _) (sym (terms-said _ _ (p .0))) (after-limit .limit .ensures) (after-start-in .start-in .ensures .0) _ _ (c .settle .ensures)))

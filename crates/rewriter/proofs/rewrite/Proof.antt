@@ -15,8 +15,17 @@ use Rattle.rewriter.proofs.rewrite.Tie as tie
 abbrev full-of-rewrite-checked-arg : tie.After-rewrite-checked-arg → tie.After-full
 full-of-rewrite-checked-arg c = c .before .before
 
+abbrev rewrite-checked-of-slice-known3 : tie.After-slice-known3 → tie.After-rewrite-checked
+rewrite-checked-of-slice-known3 c = c .before .before
+
+abbrev check-with-of-known-told : tie.After-known-told → tie.After-check-with
+check-with-of-known-told c = c .before .before .before
+
 abbrev clear-of-check-with : tie.After-check-with → tie.After-clear
 clear-of-check-with c = c .before .before .before
+
+abbrev check-with-of-rewrite-checked-arg : tie.After-rewrite-checked-arg → tie.After-check-with
+check-with-of-rewrite-checked-arg c = full-of-rewrite-checked-arg c .before .before
 
 abbrev start-of-clear : tie.After-clear → tie.Start
 start-of-clear c = c .before .before .before .before
@@ -35,18 +44,18 @@ rewrite-spec =
     (λ c. search needs)
     -- rewrite-checked-requires
     (λ c κs.
-    let after-full = full-of-rewrite-checked-arg c in let after-check-with = after-full .before .before in
-    let after-clear = clear-of-check-with after-check-with in let start = start-of-clear after-clear in (
-      law.passing _ _ (subst (λ (x : FullChecked). FullCheckedAs x (start .args .query .now) 60 3) (after-full .full .given .1) (after-check-with .check-with .ensures)),
+    let after-check-with = check-with-of-rewrite-checked-arg c in let after-clear = clear-of-check-with after-check-with in
+    let start = start-of-clear after-clear in (
+      law.passing _ _ (subst (λ (x : FullChecked). FullCheckedAs x (start .args .query .now) 60 3) (full-of-rewrite-checked-arg c .full .given .1) (after-check-with .check-with .ensures)),
       blank-again _ (length (start .args .out .now)) (after-clear .clear .ensures),
     ))
     -- same-length
     (λ c.
-    let after-clear = clear-of-check-with (c .before .before .before) in
+    let after-clear = clear-of-check-with (check-with-of-known-told c) in
     blank-long _ (length (start-of-clear after-clear .args .out .now)) (after-clear .clear .ensures))
     -- returns
     (λ c.
-    let after-check-with = c .before .before .before in let after-clear = clear-of-check-with after-check-with in
+    let after-check-with = check-with-of-known-told c in let after-clear = clear-of-check-with after-check-with in
     let start = start-of-clear after-clear in
     law.refuses (start .args .query .now) (length (start .args .out .now))
     (subst (λ (x : FullChecked). FullCheckedAs x (start .args .query .now) 60 3) (c .before .k .given .1) (after-check-with .check-with .ensures)) _
@@ -55,6 +64,7 @@ rewrite-spec =
     (λ c. search needs)
     -- returns-2
     (λ c.
-    let after-clear = clear-of-check-with (full-of-rewrite-checked-arg (c .before .before .before) .before .before) in
+    let after-rewrite-checked = rewrite-checked-of-slice-known3 c in
+    let after-clear = clear-of-check-with (check-with-of-rewrite-checked-arg (after-rewrite-checked .before)) in
     let start = start-of-clear after-clear in
-    law.moved (rewriteCall (start .args .query .now)) (blank-long _ (length (start .args .out .now)) (after-clear .clear .ensures)) (c .before .before .rewrite-checked .ensures)))
+    law.moved (rewriteCall (start .args .query .now)) (blank-long _ (length (start .args .out .now)) (after-clear .clear .ensures)) (after-rewrite-checked .rewrite-checked .ensures)))
