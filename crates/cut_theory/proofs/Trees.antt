@@ -16,7 +16,8 @@ use Rattle.between.proofs.Until.{Nothing}
 use Rattle.routine_logic.specs.Formulas.{sameTruth}
 use Rattle.cut_theory.specs.Versions.{version, cut, target, active}
 use Rattle.cut_theory.specs.Jumps.{without, Jumps}
-use Rattle.cut_theory.specs.Trees.{Tree, yes·tree, no·tree, same, differ, far, leads, both, either, every, some·tree, Cuts, activeTree, targetName, avoiding, reachTree, reachesTree, betweenTree, readTree, Mark, flagTree, flagAfter, Holds}
+use Rattle.cut_theory.specs.Trees.{Tree, yes·tree, no·tree, same, differ, far, leads, both, either, every, some·tree, Cuts, activeTree}
+use Rattle.cut_theory.specs.Trees.{targetName, avoiding, reachTree, reachesTree, betweenTree, readTree, Mark, flagTree, flagAfter, Holds}
 use Rattle.cut_theory.proofs.Jumps.{IsCut}
 use Rattle.cut_theory.proofs.Versions.{Ways, ReadAtCut, ReadElsewhere, changed-here, changed-else, active-last, active-first, not-below, reaches-version, between-version, read-version}
 
