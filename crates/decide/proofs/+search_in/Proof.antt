@@ -6,7 +6,8 @@ use mathlib.Core.Path.{_≡_, refl, sym, _∙_, subst}
 use borrow.Fn.Kinds.{In}
 use borrow.Fn.PlainCycle.{Measures, is, falls, and}
 use borrow.Author.Tests.{not-true, not-false}
-use Rattle.logic.specs.Query.{termCount}
+use Rattle.logic.specs.Query.{Query, termCount}
+use Rattle.logic.specs.Facts.{Facts}
 use Rattle.logic.specs.Rules.{triple, move}
 use Rattle.logic.specs.Decision.{Struck}
 use Rattle.facts.specs.Path.{pathAs, Whole}
@@ -70,6 +71,18 @@ module _ {K : search-in-lts.Claims} {P : In 4 search-in-kinds.ps} where
   abbrev in-loop-of-take : search-in-lts.After-take K P search-in.Post search-in-Inv-loop search-in-μ-loop → search-in-lts.In-loop K P search-in.Post search-in-Inv-loop search-in-μ-loop
   in-loop-of-take c = in-loop-of-own-reach2 (c .before)
 
+  -- the query that is asked, the path that was handed in, and that path with what was seen of it
+  abbrev asked-of : search-in-lts.Start K P search-in.Post search-in-Inv-loop search-in-μ-loop → Query
+  asked-of c = said (c .args .layout) (c .args .query .now)
+
+  abbrev path-of : search-in-lts.Start K P search-in.Post search-in-Inv-loop search-in-μ-loop → Facts
+  path-of c = pathAs (c .args .single) (c .args .rep .now) (c .args .link .now) (c .args .reach .now)
+
+  abbrev seen-of : search-in-lts.After-sees K P search-in.Post search-in-Inv-loop search-in-μ-loop → Facts
+  seen-of c =
+      let a = start-of-sees c .args in
+      pathAs (a .single) (a .rep .now) (a .link .now) (c .sees .last .1 .1 .1 .1 .1 .1 .0)
+
 pub +search-in-spec : {M : Type 1} → statement M
 +search-in-spec = close μ-search-in λ t. search-in-lts.spec (
   sees-reads.Asked,
@@ -100,10 +113,9 @@ pub +search-in-spec : {M : Type 1} → statement M
     let after-sees = c .before .before .before in let start = start-of-sees after-sees in
     let a = start .args in
     let p = start .pre .1 in
-    let q = said (a .layout) (a .query .now) in
-    let s = pathAs (a .single) (a .rep .now) (a .link .now) (a .reach .now) in
-    let r = after-sees .sees .last in
-    let t = pathAs (a .single) (a .rep .now) (a .link .now) (r .1 .1 .1 .1 .1 .1 .0) in
+    let q = asked-of start in
+    let s = path-of start in
+    let t = seen-of after-sees in
     let v = seen-as q t (after-sees .sees .result) seen.Saturated (after-sees .sees .ensures .1) (c .before .enum-told .given .1) in (
       ends-saturated {q = q} (p .1) s t (p .2) (a .layout .terms) (sym (terms-said (a .layout) (a .query .now) (p .0))) (after-sees .sees .ensures .0)
           (v .0) (v .1),
@@ -118,10 +130,9 @@ pub +search-in-spec : {M : Type 1} → statement M
     let after-sees = c .before .before .before in let start = start-of-sees after-sees in
     let a = start .args in
     let p = start .pre .1 in
-    let q = said (a .layout) (a .query .now) in
-    let s = pathAs (a .single) (a .rep .now) (a .link .now) (a .reach .now) in
-    let r = after-sees .sees .last in
-    let t = pathAs (a .single) (a .rep .now) (a .link .now) (r .1 .1 .1 .1 .1 .1 .0) in
+    let q = asked-of start in
+    let s = path-of start in
+    let t = seen-of after-sees in
     let v = seen-as q t (after-sees .sees .result) seen.Clashing (after-sees .sees .ensures .1) (c .before .enum-told2 .given .1) in (
       ends-refuted q s t (tells-clash {q = q} (p .1) s t (p .2) (a .layout .terms) (sym (terms-said (a .layout) (a .query .now) (p .0)))
           (after-sees .sees .ensures .0) (v .0) (v .1)),
@@ -134,10 +145,9 @@ pub +search-in-spec : {M : Type 1} → statement M
     let after-sees = c .before .before .before .before in let start = start-of-sees after-sees in
     let a = start .args in
     let p = start .pre .1 in
-    let q = said (a .layout) (a .query .now) in
-    let s = pathAs (a .single) (a .rep .now) (a .link .now) (a .reach .now) in
-    let r = after-sees .sees .last in
-    let t = pathAs (a .single) (a .rep .now) (a .link .now) (r .1 .1 .1 .1 .1 .1 .0) in
+    let q = asked-of start in
+    let s = path-of start in
+    let t = seen-of after-sees in
     (ends-nothing q s t, record { of-rep = p .3 .of-rep; of-link = p .3 .of-link; of-reach = after-sees .sees .ensures .2 }))
     -- count-requires
     (λ c κs. search needs)
@@ -159,10 +169,9 @@ pub +search-in-spec : {M : Type 1} → statement M
     let after-sees = sees-of-count after-count in let start = start-of-sees after-sees in
     let a = start .args in
     let p = start .pre .1 in
-    let q = said (a .layout) (a .query .now) in
-    let s = pathAs (a .single) (a .rep .now) (a .link .now) (a .reach .now) in
-    let r = after-sees .sees .last in
-    let t = pathAs (a .single) (a .rep .now) (a .link .now) (r .1 .1 .1 .1 .1 .1 .0) in
+    let q = asked-of start in
+    let s = path-of start in
+    let t = seen-of after-sees in
     let m = after-k .k .given .0 in
     let v = seen-as q t (after-sees .sees .result) (seen.Applying (m .0) (m .1 .0) (m .1 .1 .0) (m .1 .1 .1 .0) (m .1 .1 .1 .1 .0)) (after-sees .sees .ensures .1) (after-k .k .given .1) in
     let o = in-loop .before .loop in (
@@ -182,10 +191,9 @@ pub +search-in-spec : {M : Type 1} → statement M
     let after-k = k-of-count after-count in let after-sees = sees-of-count after-count in let start = start-of-sees after-sees in
     let a = start .args in
     let p = start .pre .1 in
-    let q = said (a .layout) (a .query .now) in
-    let s = pathAs (a .single) (a .rep .now) (a .link .now) (a .reach .now) in
-    let r = after-sees .sees .last in
-    let t = pathAs (a .single) (a .rep .now) (a .link .now) (r .1 .1 .1 .1 .1 .1 .0) in
+    let q = asked-of start in
+    let s = path-of start in
+    let t = seen-of after-sees in
     let m = after-k .k .given .0 in
     let v = seen-as q t (after-sees .sees .result) (seen.Applying (m .0) (m .1 .0) (m .1 .1 .0) (m .1 .1 .1 .0) (m .1 .1 .1 .1 .0)) (after-sees .sees .ensures .1) (after-k .k .given .1) in
     let o = in-loop .before .loop in
@@ -211,10 +219,9 @@ pub +search-in-spec : {M : Type 1} → statement M
     let start = start-of-sees after-sees in
     let a = start .args in
     let p = start .pre .1 in
-    let q = said (a .layout) (a .query .now) in
-    let s = pathAs (a .single) (a .rep .now) (a .link .now) (a .reach .now) in
-    let r = after-sees .sees .last in
-    let t = pathAs (a .single) (a .rep .now) (a .link .now) (r .1 .1 .1 .1 .1 .1 .0) in
+    let q = asked-of start in
+    let s = path-of start in
+    let t = seen-of after-sees in
     let m = after-k .k .given .0 in
     let v = seen-as q t (after-sees .sees .result) (seen.Applying (m .0) (m .1 .0) (m .1 .1 .0) (m .1 .1 .1 .0) (m .1 .1 .1 .1 .0)) (after-sees .sees .ensures .1) (after-k .k .given .1) in
     let o = in-loop .before .loop in
@@ -236,10 +243,9 @@ pub +search-in-spec : {M : Type 1} → statement M
     let after-k = k-of-count after-count in let after-sees = sees-of-count after-count in let start = start-of-sees after-sees in
     let a = start .args in
     let p = start .pre .1 in
-    let q = said (a .layout) (a .query .now) in
-    let s = pathAs (a .single) (a .rep .now) (a .link .now) (a .reach .now) in
-    let r = after-sees .sees .last in
-    let t = pathAs (a .single) (a .rep .now) (a .link .now) (r .1 .1 .1 .1 .1 .1 .0) in
+    let q = asked-of start in
+    let s = path-of start in
+    let t = seen-of after-sees in
     let m = after-k .k .given .0 in
     let v = seen-as q t (after-sees .sees .result) (seen.Applying (m .0) (m .1 .0) (m .1 .1 .0) (m .1 .1 .1 .0) (m .1 .1 .1 .1 .0)) (after-sees .sees .ensures .1) (after-k .k .given .1) in
     let b = in-loop .loop-test .taken in
@@ -253,10 +259,9 @@ pub +search-in-spec : {M : Type 1} → statement M
     let start = start-of-sees after-sees in
     let a = start .args in
     let p = start .pre .1 in
-    let q = said (a .layout) (a .query .now) in
-    let s = pathAs (a .single) (a .rep .now) (a .link .now) (a .reach .now) in
-    let r = after-sees .sees .last in
-    let t = pathAs (a .single) (a .rep .now) (a .link .now) (r .1 .1 .1 .1 .1 .1 .0) in
+    let q = asked-of start in
+    let s = path-of start in
+    let t = seen-of after-sees in
     let m = after-k .k .given .0 in
     let v = seen-as q t (after-sees .sees .result) (seen.Applying (m .0) (m .1 .0) (m .1 .1 .0) (m .1 .1 .1 .0) (m .1 .1 .1 .1 .0)) (after-sees .sees .ensures .1) (after-k .k .given .1) in
     let o = in-loop .before .loop in
@@ -279,10 +284,9 @@ pub +search-in-spec : {M : Type 1} → statement M
     let start = start-of-sees after-sees in
     let a = start .args in
     let p = start .pre .1 in
-    let q = said (a .layout) (a .query .now) in
-    let s = pathAs (a .single) (a .rep .now) (a .link .now) (a .reach .now) in
-    let r = after-sees .sees .last in
-    let t = pathAs (a .single) (a .rep .now) (a .link .now) (r .1 .1 .1 .1 .1 .1 .0) in
+    let q = asked-of start in
+    let s = path-of start in
+    let t = seen-of after-sees in
     let m = after-k .k .given .0 in
     let v = seen-as q t (after-sees .sees .result) (seen.Applying (m .0) (m .1 .0) (m .1 .1 .0) (m .1 .1 .1 .0) (m .1 .1 .1 .1 .0)) (after-sees .sees .ensures .1) (after-k .k .given .1) in
     let o = c .before .loop in (
