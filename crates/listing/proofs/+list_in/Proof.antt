@@ -8,6 +8,8 @@ use lib.Dec.{lit<}
 use borrow.Author.Needs.{needs}
 use borrow.Fn.Kinds.{In}
 use borrow.Fn.PlainCycle.{Measures, is, falls, and}
+use Rattle.logic.specs.Query.{Query}
+use Rattle.logic.specs.Facts.{Facts}
 use Rattle.logic.specs.Rules.{triple, move}
 use Rattle.logic.specs.Walk.{look, walk, orderOf}
 use Rattle.theory.proofs.Walks.OurWalk.{look-some}
@@ -87,6 +89,13 @@ module _ {K : list-in-lts.Claims} {P : In 4 list-in-kinds.ps} where
   abbrev in-loop-of-else2 : list-in-lts.Else2 K P list-in.Post list-in-Inv-loop list-in-μ-loop → list-in-lts.In-loop K P list-in.Post list-in-Inv-loop list-in-μ-loop
   in-loop-of-else2 c = in-loop-of-replaced (make-of-list-in-arg (c .before .before .before .before) .before)
 
+  -- the query that is asked, and the path that was handed in
+  abbrev asked-of : list-in-lts.Start K P list-in.Post list-in-Inv-loop list-in-μ-loop → Query
+  asked-of c = said (c .args .layout) (c .args .query .now)
+
+  abbrev path-of : list-in-lts.Start K P list-in.Post list-in-Inv-loop list-in-μ-loop → Facts
+  path-of c = pathAs (c .args .single) (c .args .rep .now) (c .args .link .now) (c .args .reach .now)
+
 pub +list-in-spec : {M : Type 1} → statement M
 unfolding pairsOf
 +list-in-spec = close μ-list-in λ t. list-in-lts.spec (
@@ -120,9 +129,9 @@ unfolding pairsOf
     let after-put-joins = c .before .before .before in let start = start-of-put-joins-arg (after-put-joins .before) in
     let a = start .args in
     let p = start .pre .1 in
-    let q = said (a .layout) (a .query .now) in
+    let q = asked-of start in
     let g = orderOf (a .order .now) in
-    let s = pathAs (a .single) (a .rep .now) (a .link .now) (a .reach .now) in
+    let s = path-of start in
     lists-early (walk q g (a .left)) (joinedWith (a .pairs) s) _ (a .lines .now) (after-put-joins .put-joins .last .0) (a .first)
     (after-put-joins .put-joins .result) (a .most) (after-put-joins .put-joins .ensures .0) (after-put-joins .put-joins .ensures .1) (c .if1 .taken) (p .2) refl refl)
     -- look-requires
@@ -137,9 +146,9 @@ unfolding pairsOf
     let after-put-joins = put-joins-of-look after-look in let start = start-of-look after-look in
     let a = start .args in
     let p = start .pre .1 in
-    let q = said (a .layout) (a .query .now) in
+    let q = asked-of start in
     let g = orderOf (a .order .now) in
-    let s = pathAs (a .single) (a .rep .now) (a .link .now) (a .reach .now) in
+    let s = path-of start in
     let m = after-section .section .given .0 in
     let h = look-is (after-look .look .result) (seen.Clashing (m .0) (m .1 .0) (m .1 .1 .0)) (look q g s) (after-look .look .ensures) (after-section .section .given .1) in
     let f = clash-fits (a .query .now) (a .layout) (p .0) g s (m .0) (m .1 .0) (m .1 .1 .0) h in
@@ -153,9 +162,9 @@ unfolding pairsOf
     let after-k = c .before .before in let after-look = after-k .before .before in let start = start-of-look after-look in
     let a = start .args in
     let p = start .pre .1 in
-    let q = said (a .layout) (a .query .now) in
+    let q = asked-of start in
     let g = orderOf (a .order .now) in
-    let s = pathAs (a .single) (a .rep .now) (a .link .now) (a .reach .now) in
+    let s = path-of start in
     let m = after-k .k .given .0 in
     let h = look-is (after-look .look .result) (seen.Applying (m .0) (m .1 .0) (m .1 .1 .0) (m .1 .1 .1 .0) (m .1 .1 .1 .1 .0)) (look q g s) (after-look .look .ensures) (after-k .k .given .1) in
     let l = move-linked q g s (m .0 .0) (kindOf (m .1 .0)) (m .1 .1 .0 .0) (m .1 .1 .1 .0 .0) (m .1 .1 .1 .1 .0 .0) h in
@@ -166,9 +175,9 @@ unfolding pairsOf
     let start = start-of-look after-look in
     let a = start .args in
     let p = start .pre .1 in
-    let q = said (a .layout) (a .query .now) in
+    let q = asked-of start in
     let g = orderOf (a .order .now) in
-    let s = pathAs (a .single) (a .rep .now) (a .link .now) (a .reach .now) in
+    let s = path-of start in
     let m = after-k .k .given .0 in
     let h = look-is (after-look .look .result) (seen.Applying (m .0) (m .1 .0) (m .1 .1 .0) (m .1 .1 .1 .0) (m .1 .1 .1 .1 .0)) (look q g s) (after-look .look .ensures) (after-k .k .given .1) in
     let f = move-fits (a .query .now) (a .layout) (p .0) g s (m .0 .0) (kindOf (m .1 .0)) (m .1 .1 .0 .0) (m .1 .1 .1 .0 .0) (m .1 .1 .1 .1 .0 .0) h in (
@@ -188,9 +197,9 @@ unfolding pairsOf
     let after-put-joins = put-joins-of-look after-look in let start = start-of-look after-look in
     let a = start .args in
     let p = start .pre .1 in
-    let q = said (a .layout) (a .query .now) in
+    let q = asked-of start in
     let g = orderOf (a .order .now) in
-    let s = pathAs (a .single) (a .rep .now) (a .link .now) (a .reach .now) in
+    let s = path-of start in
     let m = k-of-number (after-put-line2 .before) .k .given .0 in (
       going-first q g (a .left) s (m .0 .0) (kindOf (m .1 .0)) (m .1 .1 .0 .0) (m .1 .1 .1 .0 .0) (m .1 .1 .1 .1 .0 .0)
           (after-put-line2 .put-line2 .last .0) (c .counted2 .result),
@@ -205,9 +214,9 @@ unfolding pairsOf
     let start = start-of-look after-look in
     let a = start .args in
     let p = start .pre .1 in
-    let q = said (a .layout) (a .query .now) in
+    let q = asked-of start in
     let g = orderOf (a .order .now) in
-    let s = pathAs (a .single) (a .rep .now) (a .link .now) (a .reach .now) in
+    let s = path-of start in
     let m = after-k .k .given .0 in
     let h = look-is (after-look .look .result) (seen.Applying (m .0) (m .1 .0) (m .1 .1 .0) (m .1 .1 .1 .0) (m .1 .1 .1 .1 .0)) (look q g s) (after-look .look .ensures) (after-k .k .given .1) in
     let f = move-fits (a .query .now) (a .layout) (p .0) g s (m .0 .0) (kindOf (m .1 .0)) (m .1 .1 .0 .0) (m .1 .1 .1 .0 .0) (m .1 .1 .1 .1 .0 .0) h in
@@ -218,9 +227,9 @@ unfolding pairsOf
     let start = start-of-look after-look in
     let a = start .args in
     let p = start .pre .1 in
-    let q = said (a .layout) (a .query .now) in
+    let q = asked-of start in
     let g = orderOf (a .order .now) in
-    let s = pathAs (a .single) (a .rep .now) (a .link .now) (a .reach .now) in
+    let s = path-of start in
     let m = after-k .k .given .0 in
     let h = look-is (after-look .look .result) (seen.Applying (m .0) (m .1 .0) (m .1 .1 .0) (m .1 .1 .1 .0) (m .1 .1 .1 .1 .0)) (look q g s) (after-look .look .ensures) (after-k .k .given .1) in
     look-some q g (a .left) s (move (m .0 .0) (kindOf (m .1 .0)) (triple (m .1 .1 .0 .0) (m .1 .1 .1 .0 .0) (m .1 .1 .1 .1 .0 .0))) (p .3) h)
@@ -231,9 +240,9 @@ unfolding pairsOf
     let start = start-of-look after-look in
     let a = start .args in
     let p = start .pre .1 in
-    let q = said (a .layout) (a .query .now) in
+    let q = asked-of start in
     let g = orderOf (a .order .now) in
-    let s = pathAs (a .single) (a .rep .now) (a .link .now) (a .reach .now) in
+    let s = path-of start in
     let m = after-k .k .given .0 in
     let h = look-is (after-look .look .result) (seen.Applying (m .0) (m .1 .0) (m .1 .1 .0) (m .1 .1 .1 .0) (m .1 .1 .1 .1 .0)) (look q g s) (after-look .look .ensures) (after-k .k .given .1) in
     let some-left = look-some q g (a .left) s (move (m .0 .0) (kindOf (m .1 .0)) (triple (m .1 .1 .0 .0) (m .1 .1 .1 .0 .0) (m .1 .1 .1 .1 .0 .0))) (p .3) h in
@@ -269,9 +278,9 @@ unfolding pairsOf
     let start = start-of-look after-look in
     let a = start .args in
     let p = start .pre .1 in
-    let q = said (a .layout) (a .query .now) in
+    let q = asked-of start in
     let g = orderOf (a .order .now) in
-    let s = pathAs (a .single) (a .rep .now) (a .link .now) (a .reach .now) in
+    let s = path-of start in
     let m = after-k .k .given .0 in
     let h = look-is (after-look .look .result) (seen.Applying (m .0) (m .1 .0) (m .1 .1 .0) (m .1 .1 .1 .0) (m .1 .1 .1 .1 .0)) (look q g s) (after-look .look .ensures) (after-k .k .given .1) in
     let some-left = look-some q g (a .left) s (move (m .0 .0) (kindOf (m .1 .0)) (triple (m .1 .1 .0 .0) (m .1 .1 .1 .0 .0) (m .1 .1 .1 .1 .0 .0))) (p .3) h in
@@ -294,9 +303,9 @@ unfolding pairsOf
     let start = start-of-look after-look in
     let a = start .args in
     let p = start .pre .1 in
-    let q = said (a .layout) (a .query .now) in
+    let q = asked-of start in
     let g = orderOf (a .order .now) in
-    let s = pathAs (a .single) (a .rep .now) (a .link .now) (a .reach .now) in
+    let s = path-of start in
     let m = after-k .k .given .0 in
     let h = look-is (after-look .look .result) (seen.Applying (m .0) (m .1 .0) (m .1 .1 .0) (m .1 .1 .1 .0) (m .1 .1 .1 .1 .0)) (look q g s) (after-look .look .ensures) (after-k .k .given .1) in
     let b = in-loop .loop-test .taken in
@@ -311,9 +320,9 @@ unfolding pairsOf
     let after-put-line2 = put-line2-of-counted2 after-counted2 in let start = start-of-look (look-of-put-line2 after-put-line2) in
     let a = start .args in
     let p = start .pre .1 in
-    let q = said (a .layout) (a .query .now) in
+    let q = asked-of start in
     let g = orderOf (a .order .now) in
-    let s = pathAs (a .single) (a .rep .now) (a .link .now) (a .reach .now) in
+    let s = path-of start in
     let m = k-of-at-loop at-loop .k .given .0 in
     let o = at-loop .loop in
     let here = subst (λ (j : ℕ). o .i < j) (after-counted2 .before .count .ensures) (in-loop .loop-test .taken) in
@@ -334,9 +343,9 @@ unfolding pairsOf
     let put-joins-last-0 = after-put-joins .put-joins .last .0 in let put-joins-result = after-put-joins .put-joins .result in
     let a = start .args in
     let p = start .pre .1 in
-    let q = said (a .layout) (a .query .now) in
+    let q = asked-of start in
     let g = orderOf (a .order .now) in
-    let s = pathAs (a .single) (a .rep .now) (a .link .now) (a .reach .now) in
+    let s = path-of start in
     let h = look-is (after-look .look .result) seen.Saturated (look q g s) (after-look .look .ensures) (c .enum-told .given .1) in
     lists-after (walk q g (a .left)) (joinedWith (a .pairs) s) _ (a .lines .now) put-joins-last-0 (a .first) put-joins-result (a .most)
     (after-put-joins .put-joins .ensures .0) (after-put-joins .put-joins .ensures .1) put-joins-last-0
@@ -353,9 +362,9 @@ unfolding pairsOf
     let start = start-of-look after-look in let put-joins-result = after-put-joins .put-joins .result in
     let a = start .args in
     let p = start .pre .1 in
-    let q = said (a .layout) (a .query .now) in
+    let q = asked-of start in
     let g = orderOf (a .order .now) in
-    let s = pathAs (a .single) (a .rep .now) (a .link .now) (a .reach .now) in
+    let s = path-of start in
     let m = after-section .section .given .0 in
     let h = look-is (after-look .look .result) (seen.Clashing (m .0) (m .1 .0) (m .1 .1 .0)) (look q g s) (after-look .look .ensures) (after-section .section .given .1) in
     lists-after (walk q g (a .left)) (joinedWith (a .pairs) s) _ (a .lines .now) (after-put-joins .put-joins .last .0) (a .first) put-joins-result
@@ -374,9 +383,9 @@ unfolding pairsOf
     let start = start-of-look after-look in
     let a = start .args in
     let p = start .pre .1 in
-    let q = said (a .layout) (a .query .now) in
+    let q = asked-of start in
     let g = orderOf (a .order .now) in
-    let s = pathAs (a .single) (a .rep .now) (a .link .now) (a .reach .now) in
+    let s = path-of start in
     let m = after-k .k .given .0 in
     let h = look-is (after-look .look .result) (seen.Applying (m .0) (m .1 .0) (m .1 .1 .0) (m .1 .1 .1 .0) (m .1 .1 .1 .1 .0)) (look q g s) (after-look .look .ensures) (after-k .k .given .1) in
     let some-left = look-some q g (a .left) s (move (m .0 .0) (kindOf (m .1 .0)) (triple (m .1 .1 .0 .0) (m .1 .1 .1 .0 .0) (m .1 .1 .1 .1 .0 .0))) (p .3) h in
