@@ -7,6 +7,8 @@ use borrow.Fn.Kinds.{In}
 use borrow.Fn.PlainCycle.{Measures, is, falls, and}
 use borrow.Author.Tests.{not-true, not-false}
 use Rattle.logic.specs.Rules.{triple, move}
+use Rattle.logic.specs.Query.{Query}
+use Rattle.logic.specs.Facts.{Facts}
 use Rattle.logic.specs.Walk.{look, orderOf}
 use Rattle.logic.specs.Decision.{Struck}
 use Rattle.facts.specs.Path.{pathAs, Whole}
@@ -78,6 +80,18 @@ module _ {K : plain-in-lts.Claims} {P : In 5 plain-in-kinds.ps} where
   abbrev in-loop-of-take : plain-in-lts.After-take K P plain-in.Post plain-in-Inv-loop plain-in-μ-loop → plain-in-lts.In-loop K P plain-in.Post plain-in-Inv-loop plain-in-μ-loop
   in-loop-of-take c = in-loop-of-own-reach2 (c .before)
 
+  -- the query that is asked, the path that was handed in, and that path with what was seen of it
+  abbrev asked-of : plain-in-lts.Start K P plain-in.Post plain-in-Inv-loop plain-in-μ-loop → Query
+  asked-of c = said (c .args .layout) (c .args .query .now)
+
+  abbrev path-of : plain-in-lts.Start K P plain-in.Post plain-in-Inv-loop plain-in-μ-loop → Facts
+  path-of c = pathAs (c .args .single) (c .args .rep .now) (c .args .link .now) (c .args .reach .now)
+
+  abbrev seen-of : plain-in-lts.After-close-ahead K P plain-in.Post plain-in-Inv-loop plain-in-μ-loop → Facts
+  seen-of c =
+      let a = start-of-close-ahead c .args in
+      pathAs (a .single) (a .rep .now) (a .link .now) (c .close-ahead .last .1 .1 .1 .1 .0)
+
 pub +plain-in-spec : {M : Type 1} → statement M
 +plain-in-spec = close μ-plain-in λ t. plain-in-lts.spec (
   close-ahead-reads.Asked,
@@ -115,10 +129,9 @@ pub +plain-in-spec : {M : Type 1} → statement M
     let start = start-of-close-ahead after-close-ahead in
     let a = start .args in
     let p = start .pre .1 in
-    let q = said (a .layout) (a .query .now) in
-    let s = pathAs (a .single) (a .rep .now) (a .link .now) (a .reach .now) in
-    let r = after-close-ahead .close-ahead .last in
-    let t = pathAs (a .single) (a .rep .now) (a .link .now) (r .1 .1 .1 .1 .0) in
+    let q = asked-of start in
+    let s = path-of start in
+    let t = seen-of after-close-ahead in
     let l = look q (orderOf (a .order .now)) t in (
       front-saturated {q = q} (a .order .now) (p .1) (p .2) (a .left) s t (p .3) (p .4) (a .layout .terms)
           (sym (terms-said (a .layout) (a .query .now) (p .0))) (after-close-ahead .close-ahead .ensures .0)
@@ -136,10 +149,9 @@ pub +plain-in-spec : {M : Type 1} → statement M
     let start = start-of-close-ahead after-close-ahead in
     let a = start .args in
     let p = start .pre .1 in
-    let q = said (a .layout) (a .query .now) in
-    let s = pathAs (a .single) (a .rep .now) (a .link .now) (a .reach .now) in
-    let r = after-close-ahead .close-ahead .last in
-    let t = pathAs (a .single) (a .rep .now) (a .link .now) (r .1 .1 .1 .1 .0) in
+    let q = asked-of start in
+    let s = path-of start in
+    let t = seen-of after-close-ahead in
     let l = look q (orderOf (a .order .now)) t in (
       front-clash {q = q} (a .order .now) (p .1) (p .2) (a .left) s t (p .3) (p .4) (a .layout .terms)
           (sym (terms-said (a .layout) (a .query .now) (p .0))) (after-close-ahead .close-ahead .ensures .0) _
@@ -175,10 +187,9 @@ pub +plain-in-spec : {M : Type 1} → statement M
     let after-close-ahead = close-ahead-of-look-ahead after-look-ahead in let start = start-of-close-ahead after-close-ahead in
     let a = start .args in
     let p = start .pre .1 in
-    let q = said (a .layout) (a .query .now) in
-    let s = pathAs (a .single) (a .rep .now) (a .link .now) (a .reach .now) in
-    let r = after-close-ahead .close-ahead .last in
-    let t = pathAs (a .single) (a .rep .now) (a .link .now) (r .1 .1 .1 .1 .0) in
+    let q = asked-of start in
+    let s = path-of start in
+    let t = seen-of after-close-ahead in
     let l = look q (orderOf (a .order .now)) t in
     let m = after-k .k .given .0 in
     let h = look-is (after-look-ahead .look-ahead .result) (seen.Applying (m .0) (m .1 .0) (m .1 .1 .0) (m .1 .1 .1 .0) (m .1 .1 .1 .1 .0)) l
@@ -200,10 +211,9 @@ pub +plain-in-spec : {M : Type 1} → statement M
     let after-close-ahead = close-ahead-of-look-ahead after-look-ahead in let start = start-of-close-ahead after-close-ahead in
     let a = start .args in
     let p = start .pre .1 in
-    let q = said (a .layout) (a .query .now) in
-    let s = pathAs (a .single) (a .rep .now) (a .link .now) (a .reach .now) in
-    let r = after-close-ahead .close-ahead .last in
-    let t = pathAs (a .single) (a .rep .now) (a .link .now) (r .1 .1 .1 .1 .0) in
+    let q = asked-of start in
+    let s = path-of start in
+    let t = seen-of after-close-ahead in
     let l = look q (orderOf (a .order .now)) t in
     let m = after-k .k .given .0 in
     let h = look-is (after-look-ahead .look-ahead .result) (seen.Applying (m .0) (m .1 .0) (m .1 .1 .0) (m .1 .1 .1 .0) (m .1 .1 .1 .1 .0)) l
@@ -219,10 +229,9 @@ pub +plain-in-spec : {M : Type 1} → statement M
     let start = start-of-close-ahead after-close-ahead in
     let a = start .args in
     let p = start .pre .1 in
-    let q = said (a .layout) (a .query .now) in
-    let s = pathAs (a .single) (a .rep .now) (a .link .now) (a .reach .now) in
-    let r = after-close-ahead .close-ahead .last in
-    let t = pathAs (a .single) (a .rep .now) (a .link .now) (r .1 .1 .1 .1 .0) in
+    let q = asked-of start in
+    let s = path-of start in
+    let t = seen-of after-close-ahead in
     let l = look q (orderOf (a .order .now)) t in
     let m = after-k .k .given .0 in
     let h = look-is (after-look-ahead .look-ahead .result) (seen.Applying (m .0) (m .1 .0) (m .1 .1 .0) (m .1 .1 .1 .0) (m .1 .1 .1 .1 .0)) l
@@ -245,10 +254,9 @@ pub +plain-in-spec : {M : Type 1} → statement M
     let start = start-of-close-ahead after-close-ahead in
     let a = start .args in
     let p = start .pre .1 in
-    let q = said (a .layout) (a .query .now) in
-    let s = pathAs (a .single) (a .rep .now) (a .link .now) (a .reach .now) in
-    let r = after-close-ahead .close-ahead .last in
-    let t = pathAs (a .single) (a .rep .now) (a .link .now) (r .1 .1 .1 .1 .0) in
+    let q = asked-of start in
+    let s = path-of start in
+    let t = seen-of after-close-ahead in
     let l = look q (orderOf (a .order .now)) t in
     let m = after-k .k .given .0 in
     let h = look-is (after-look-ahead .look-ahead .result) (seen.Applying (m .0) (m .1 .0) (m .1 .1 .0) (m .1 .1 .1 .0) (m .1 .1 .1 .1 .0)) l
@@ -273,10 +281,9 @@ pub +plain-in-spec : {M : Type 1} → statement M
     let after-close-ahead = close-ahead-of-look-ahead after-look-ahead in let start = start-of-close-ahead after-close-ahead in
     let a = start .args in
     let p = start .pre .1 in
-    let q = said (a .layout) (a .query .now) in
-    let s = pathAs (a .single) (a .rep .now) (a .link .now) (a .reach .now) in
-    let r = after-close-ahead .close-ahead .last in
-    let t = pathAs (a .single) (a .rep .now) (a .link .now) (r .1 .1 .1 .1 .0) in
+    let q = asked-of start in
+    let s = path-of start in
+    let t = seen-of after-close-ahead in
     let l = look q (orderOf (a .order .now)) t in
     let m = after-k .k .given .0 in
     let h = look-is (after-look-ahead .look-ahead .result) (seen.Applying (m .0) (m .1 .0) (m .1 .1 .0) (m .1 .1 .1 .0) (m .1 .1 .1 .1 .0)) l
@@ -294,10 +301,9 @@ pub +plain-in-spec : {M : Type 1} → statement M
     let start = start-of-close-ahead after-close-ahead in
     let a = start .args in
     let p = start .pre .1 in
-    let q = said (a .layout) (a .query .now) in
-    let s = pathAs (a .single) (a .rep .now) (a .link .now) (a .reach .now) in
-    let r = after-close-ahead .close-ahead .last in
-    let t = pathAs (a .single) (a .rep .now) (a .link .now) (r .1 .1 .1 .1 .0) in
+    let q = asked-of start in
+    let s = path-of start in
+    let t = seen-of after-close-ahead in
     let l = look q (orderOf (a .order .now)) t in
     let m = after-k .k .given .0 in
     let h = look-is (after-look-ahead .look-ahead .result) (seen.Applying (m .0) (m .1 .0) (m .1 .1 .0) (m .1 .1 .1 .0) (m .1 .1 .1 .1 .0)) l
@@ -325,10 +331,9 @@ pub +plain-in-spec : {M : Type 1} → statement M
     let start = start-of-close-ahead after-close-ahead in
     let a = start .args in
     let p = start .pre .1 in
-    let q = said (a .layout) (a .query .now) in
-    let s = pathAs (a .single) (a .rep .now) (a .link .now) (a .reach .now) in
-    let r = after-close-ahead .close-ahead .last in
-    let t = pathAs (a .single) (a .rep .now) (a .link .now) (r .1 .1 .1 .1 .0) in
+    let q = asked-of start in
+    let s = path-of start in
+    let t = seen-of after-close-ahead in
     let l = look q (orderOf (a .order .now)) t in
     let m = after-k .k .given .0 in
     let h = look-is (after-look-ahead .look-ahead .result) (seen.Applying (m .0) (m .1 .0) (m .1 .1 .0) (m .1 .1 .1 .0) (m .1 .1 .1 .1 .0)) l
