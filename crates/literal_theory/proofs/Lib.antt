@@ -1,0 +1,7 @@
+-- Theorems about the literals of a path, from their leaves up.
+pub mod Nodes
+pub mod Literals
+pub mod Witnesses
+pub mod Atoms
+pub mod Translation
+pub mod Restoring

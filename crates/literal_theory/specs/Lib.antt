@@ -1,0 +1,5 @@
+-- What a path of a segment says, down to literals of a query, in reading order.
+pub mod Labels
+pub mod Forms
+pub mod Heaps
+pub mod Translation

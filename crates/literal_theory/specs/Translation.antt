@@ -1,0 +1,120 @@
+-- What a path says, as a formula over literals.
+use Prim.Native.Nat.{ℕ, zero, suc}
+use mathlib.Core.Bool.{Bool, true, false, not, cond}
+use mathlib.Core.List.{List, [], _∷_, _++_, map}
+use lib.Dec.{eqb}
+use Rattle.logic.specs.Search.{from, select, flatMap}
+use Rattle.routine_logic.specs.Syntax.{Formula, always, never, equal, unequal, reaches, between, flag, negation, both, either, implies, same, forall}
+use Rattle.cut_theory.specs.Trees.{reachesTree, betweenTree, readTree, flagTree}
+use Rattle.path_theory.specs.Points.{Name, nil, initial, given, read, Stores, none, Point}
+use Rattle.path_theory.specs.Assignments.{count}
+use Rattle.path_theory.specs.Paths.{Fact, says, gives, Trail, Case}
+use Rattle.literal_theory.specs.Labels.{Label, named, chosen, after, termLabel, labelsIn, Plan, cutNames, marksOf}
+use Rattle.literal_theory.specs.Forms.{Form, truth, equals, next, kept, meet, join, junction, literals, conjunction, namesOf}
+
+-- labels by place in a formula: on the left or below, on the right
+abbrev pub Places : Type 0
+Places = List Bool → Label
+
+abbrev pub left : Places → Places
+left name d = name (false ∷ d)
+
+abbrev pub right : Places → Places
+right name d = name (true ∷ d)
+
+-- A formula at a point, plain or denied, with labels for the `forall`s around it. An assumed `forall` is kept; one that is denied fails at a node that has
+-- a label of its own.
+module _ (P : Plan) where
+  unfoldable pub translate : Bool → Point → Places → List Label → Formula → Form Label
+  translate b p name e always = truth b
+  translate b p name e never = truth (not b)
+  translate b p name e (equal t u) = equals b (termLabel p e t) (termLabel p e u)
+  translate b p name e (unequal t u) = equals (not b) (termLabel p e t) (termLabel p e u)
+  translate b p name e (reaches i t u) = literals b i 0 (reachesTree (cutNames P i) (count (p .stores i)) (termLabel p e t) (termLabel p e u))
+  translate b p name e (between i t u v) =
+      literals b i 0 (betweenTree (cutNames P i) (count (p .stores i)) (termLabel p e t) (termLabel p e u) (termLabel p e v))
+  translate b p name e (flag j t) = literals true 0 j (flagTree (marksOf (p .marks j)) b (termLabel p e t))
+  translate b p name e (negation f) = translate (not b) p name e f
+  translate b p name e (both f g) = junction b (translate b p (left name) e f) (translate b p (right name) e g)
+  translate b p name e (either f g) = junction (not b) (translate b p (left name) e f) (translate b p (right name) e g)
+  translate b p name e (implies f g) = junction (not b) (translate (not b) p (left name) e f) (translate b p (right name) e g)
+  translate b p name e (same f g) =
+      join
+      (meet (translate true p (left name) e f) (translate b p (right name) e g))
+      (meet (translate false p (left name) e f) (translate (not b) p (right name) e g))
+  translate b p name e (forall f) = cond b (kept p e f) (translate false p (left name) (name [] ∷ e) f)
+
+  -- what a label that is read stands for: "`t->f` before and after an assignment"
+  unfoldable pub reading : Label → Form Label
+  reading (named nil) = truth true
+  reading (named (initial x)) = truth true
+  reading (named (given k)) = truth true
+  reading (named (read i w a)) = literals true i 0 (readTree (cutNames P i) (count w) (named a) (named (read i w a)))
+  reading (chosen k d) = truth true
+  reading (after i w l) = literals true i 0 (readTree (cutNames P i) (count w) l (after i w l))
+
+  -- "with each xi leading to itself"; what stands at a cut that is NULL is NULL
+  unfoldable pub cutForm : ℕ → ℕ → Form Label
+  cutForm i k =
+      let c : Label = cutNames P i .cut k in
+      meet (next true i c c) (join (equals false c (named nil)) (equals true (cutNames P i .old k) (named nil)))
+
+  unfoldable pub cutForms : ℕ → List (Form Label)
+  cutForms i = map (cutForm i) (from (cutNames P i .number) 0)
+
+  unfoldable pub cutLabels : ℕ → List Label
+  cutLabels i = flatMap (λ k. cutNames P i .cut k ∷ cutNames P i .value k ∷ cutNames P i .old k ∷ []) (from (cutNames P i .number) 0)
+
+  -- the facts of a path, numbered from k
+  unfoldable pub factForm : ℕ → Fact → Form Label
+  factForm k (says b p f) = translate b p (chosen k) [] f
+  factForm k (gives n) = truth true
+
+  unfoldable pub factForms : ℕ → List Fact → Form Label
+  factForms k [] = truth true
+  factForms k (f ∷ fs) = meet (factForm k f) (factForms (suc k) fs)
+
+  -- the labels that some formula asks for, where these links are cut, and all that they are made of
+  unfoldable pub asked : List ℕ → Form Label → List Label
+  asked links f = flatMap labelsIn (namesOf f ++ flatMap cutLabels links)
+
+  unfoldable pub whole : List ℕ → Form Label → Form Label
+  whole links f = meet f (meet (conjunction (map reading (asked links f))) (conjunction (flatMap cutForms links)))
+
+-- The cuts that betweens ask for
+pub record Cut : Type 0 where
+  pub link : ℕ
+  pub label : Label
+
+unfoldable pub betweens : Bool → Point → Places → List Label → Formula → List Cut
+betweens b p name e (between i t u v) = record { link = i; label = termLabel p e v } ∷ []
+betweens b p name e (negation f) = betweens (not b) p name e f
+betweens b p name e (both f g) = betweens b p (left name) e f ++ betweens b p (right name) e g
+betweens b p name e (either f g) = betweens b p (left name) e f ++ betweens b p (right name) e g
+betweens b p name e (implies f g) = betweens (not b) p (left name) e f ++ betweens b p (right name) e g
+betweens b p name e (same f g) =
+    (betweens true p (left name) e f ++ betweens b p (right name) e g) ++ (betweens false p (left name) e f ++ betweens (not b) p (right name) e g)
+betweens b p name e (forall f) = cond b [] (betweens false p (left name) (name [] ∷ e) f)
+betweens b p name e always = []
+betweens b p name e never = []
+betweens b p name e (equal t u) = []
+betweens b p name e (unequal t u) = []
+betweens b p name e (reaches i t u) = []
+betweens b p name e (flag j t) = []
+
+unfoldable pub factBetweens : ℕ → List Fact → List Cut
+factBetweens k [] = []
+factBetweens k (says b p f ∷ fs) = betweens b p (chosen k) [] f ++ factBetweens (suc k) fs
+factBetweens k (gives n ∷ fs) = factBetweens (suc k) fs
+
+-- The formula of a case that a path comes to, where these links are cut.
+unfoldable pub planOf : Case → Plan
+planOf x =
+    record {
+      stores = x .trail .point .stores;
+      further = λ i. map (λ (c : Cut). c .label) (select (λ c. eqb (c .link) i) (factBetweens 0 (x .trail .facts)));
+      havocs = x .trail .point .havocs;
+    }
+
+unfoldable pub caseForm : List ℕ → Case → Form Label
+caseForm links x = whole (planOf x) links (factForms (planOf x) 0 (x .trail .facts))
