@@ -20,7 +20,7 @@ use Rattle.cut_theory.specs.Trees.{Tree, yes·tree, no·tree, same, diff
 use Rattle.cut_theory.proofs.Jumps.{IsCut}
 use Rattle.cut_theory.proofs.Versions.{Ways, ReadAtCut, ReadElsewhere, changed-here, changed-else, active-last, active-first, not-below, reaches-version, between-version, read-version}
 
-without-mem : (i k : ℕ) (left : List ℕ) → List·Memᴰ k (without i left) → List·Memᴰ k left
+pub without-mem : (i k : ℕ) (left : List ℕ) → List·Memᴰ k (without i left) → List·Memᴰ k left
 unfolding without
 without-mem i k left mem = select-mem (λ j. not (eqb j i)) k left mem .0
 

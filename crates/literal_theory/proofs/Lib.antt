@@ -5,3 +5,5 @@ pub mod Witnesses
 pub mod Atoms
 pub mod Translation
 pub mod Restoring
+pub mod Names
+pub mod OnPath

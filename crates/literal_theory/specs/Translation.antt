@@ -4,7 +4,7 @@ use mathlib.Core.Bool.{Bool, true, false, not, cond}
 use mathlib.Core.List.{List, [], _∷_, _++_, map}
 use lib.Dec.{eqb}
 use Rattle.logic.specs.Search.{from, select, flatMap}
-use Rattle.routine_logic.specs.Syntax.{Formula, always, never, equal, unequal, reaches, between, flag, negation, both, either, implies, same, forall}
+use Rattle.routine_logic.specs.Syntax.{Term, Formula, always, never, equal, unequal, reaches, between, flag, negation, both, either, implies, same, forall}
 use Rattle.cut_theory.specs.Trees.{reachesTree, betweenTree, readTree, flagTree}
 use Rattle.path_theory.specs.Points.{Name, nil, initial, given, read, Stores, none, Point}
 use Rattle.path_theory.specs.Assignments.{count}
@@ -21,6 +21,22 @@ left name d = name (false ∷ d)
 
 abbrev pub right : Places → Places
 right name d = name (true ∷ d)
+
+-- the terms of a formula's atoms
+unfoldable pub termsIn : Formula → List Term
+termsIn always = []
+termsIn never = []
+termsIn (equal t u) = t ∷ u ∷ []
+termsIn (unequal t u) = t ∷ u ∷ []
+termsIn (reaches i t u) = t ∷ u ∷ []
+termsIn (between i t u v) = t ∷ u ∷ v ∷ []
+termsIn (flag j t) = t ∷ []
+termsIn (negation f) = termsIn f
+termsIn (both f g) = termsIn f ++ termsIn g
+termsIn (either f g) = termsIn f ++ termsIn g
+termsIn (implies f g) = termsIn f ++ termsIn g
+termsIn (same f g) = termsIn f ++ termsIn g
+termsIn (forall f) = termsIn f
 
 -- A formula at a point, plain or denied, with labels for the `forall`s around it. An assumed `forall` is kept; one that is denied fails at a node that has
 -- a label of its own.
