@@ -7,3 +7,7 @@ pub mod Translation
 pub mod Restoring
 pub mod Names
 pub mod OnPath
+pub mod Readings
+pub mod Facts
+pub mod Alike
+pub mod Cases

@@ -3,3 +3,4 @@ pub mod Labels
 pub mod Forms
 pub mod Heaps
 pub mod Translation
+pub mod Claims

@@ -1,0 +1,105 @@
+-- The formula of the facts of a path, with its readings and cuts: the heaps that meet it are the cut heaps of the states where the facts hold.
+use Prim.Native.Nat.{ℕ, zero, suc, _+_, _≤_, _<_}
+use native.Mathlib.Omega.{arith}
+use mathlib.Core.Path.{_≡_, refl, sym, ap, _∙_, subst, fun-ext}
+use mathlib.Core.Logic.{_⊎_, ⊎-elim, inl, inr}
+use mathlib.Core.Bool.{Bool, true, false, not}
+use mathlib.Core.List.{List, [], _∷_, _++_, map, List·Memᴰ, List·Memᴰ·head, List·Memᴰ·tail, Memᴰ·append-left, Memᴰ·append-right}
+use lib.Dec.{eqb}
+use lib.ListN.{length, getD}
+use Rattle.logic.specs.Search.{from, all, flatMap, _and_, _or_}
+use Rattle.logic.specs.Heap.{Node, IsHeap}
+use Rattle.theory.proofs.Basics.Search.{and-left, and-right, and-intro, or-cases, not-true, true-false, from-mem, from-intro, flatMap-mem, flatMap-intro, map-mem, map-intro}
+use Rattle.theory.proofs.Basics.Compare.{eqb-true, eqb-intro}
+use Rattle.routine_logic.specs.State.{State, nullNode, IsState}
+use Rattle.routine_logic.specs.Formulas.{holds, sameTruth}
+use Rattle.cut_theory.specs.Versions.{version, cut}
+use Rattle.cut_theory.specs.Trees.{readTree, Holds}
+use Rattle.path_theory.specs.Points.{Name, nil, initial, given, Stores, none, Point, nodeOf, stateAt}
+use Rattle.path_theory.specs.Assignments.{count}
+use Rattle.path_theory.specs.Paths.{Fact, says, gives, factHolds}
+use Rattle.literal_theory.specs.Labels.{Label, named, chosen, after, readLabel, labelsIn, labelNode, Plan, cutLabel, cutNames}
+use Rattle.literal_theory.specs.Forms.{Form, literals, conjunction, namesOf, meetsForm}
+use Rattle.literal_theory.specs.Heaps.{cutNode, oldNode, cutHeap, startState, givenNodes}
+use Rattle.literal_theory.specs.Translation.{reading, cutForm, cutForms, cutLabels, factForms, asked, whole}
+use Rattle.literal_theory.proofs.Nodes.{AllNodes}
+use Rattle.literal_theory.proofs.Literals.{literals-plain, conjunction-met, conjunction-intro}
+use Rattle.literal_theory.proofs.Restoring.{Restorable, cut-restored, olds-agree}
+use Rattle.literal_theory.proofs.Atoms.{Ground, label-node, olds}
+use Rattle.literal_theory.proofs.Names.{Each, Only, only-each, each-only, meets-alike}
+use Rattle.literal_theory.proofs.OnPath.{OwnLabel, OwnPlan}
+use Rattle.literal_theory.proofs.Readings.{cut-alike, Drawn, start, gave, picked, start-is-state, gave-nodes, cut-again, Met, label-right}
+use Rattle.literal_theory.proofs.Facts.{Planned, facts-own, asked-own, picksOf, picks-nodes, facts-sound, facts-complete, reading-sound, cut-sound}
+
+-- the three parts of a whole formula
+module _ (g s : State) (nodes : List ℕ) (node : Label → ℕ) (P : Plan) (links : List ℕ) (f : Form Label) where
+  abbrev met : Form Label → Type 0
+  met h = meetsForm g s nodes node h ≡ true
+
+  abbrev AllMet : Type 0
+  AllMet = met f × ((l : Label) → List·Memᴰ l (asked P links f) → met (reading P l)) × ((i k : ℕ) → List·Memᴰ i links → k < cutNames P i .number → met (cutForm P i k))
+
+  whole-parts : met (whole P links f) → AllMet
+  unfolding whole meetsForm cutForms
+  whole-parts h =
+      let rest = and-right (meetsForm g s nodes node f) _ h in (
+        and-left _ _ h,
+        λ l m. conjunction-met g s nodes node (map (reading P) (asked P links f)) (and-left _ _ rest) (reading P l) (map-intro (reading P) l m),
+        λ i k m l. conjunction-met g s nodes node (flatMap (cutForms P) links) (and-right (meetsForm g s nodes node (conjunction (map (reading P) (asked P links f)))) _ rest) (cutForm P i k)
+            (flatMap-intro (cutForms P) i (cutForm P i k) m (map-intro (cutForm P i) k (from-intro (cutNames P i .number) 0 k (omega arith) (omega (arith, l))))),
+      )
+
+  whole-intro : AllMet → met (whole P links f)
+  unfolding whole meetsForm cutForms
+  whole-intro h =
+      and-intro (h .0)
+      (and-intro
+      (conjunction-intro g s nodes node (map (reading P) (asked P links f)) (λ x m. let r = map-mem (reading P) x (asked P links f) m in ap (meetsForm g s nodes node) (r .2) ∙ h .1 (r .0) (r .1)))
+      (conjunction-intro g s nodes node (flatMap (cutForms P) links) (λ x m.
+      let r = flatMap-mem (cutForms P) x links m in
+      let q = map-mem (cutForm P (r .0)) x (from (cutNames P (r .0) .number) 0) (r .2) in
+      let l = from-mem (cutNames P (r .0) .number) 0 (q .0) (q .1) in
+      ap (meetsForm g s nodes node) (q .2) ∙ h .2 (r .0) (q .0) (r .1) (omega (arith, l .1)))))
+
+module _ (P : Plan) (plan : OwnPlan P) (links : List ℕ) (fs : List Fact) (planned : Planned P 0 fs) where
+  abbrev factsForm : Form Label
+  factsForm = factForms P 0 fs
+
+  -- From a state: its cut heap meets the formula.
+  module _ (s : State) (is : IsState s) (nodes : List ℕ) (all-nodes : AllNodes s nodes) (hold : all (factHolds s nodes) fs ≡ true) where
+    abbrev pub ownNode : Label → ℕ
+    ownNode = labelNode s nodes (picksOf s nodes fs)
+
+    pub own-ground : Ground s nodes (picksOf s nodes fs)
+    own-ground = record { is-state = is; all-nodes = all-nodes; chosen-nodes = picks-nodes s nodes is all-nodes fs }
+
+    pub whole-sound : (names : ℕ → ℕ) (name-nodes : (n : ℕ) → Node s (names n)) →
+        meetsForm (cutHeap P ownNode s names) s nodes ownNode (whole P links factsForm) ≡ true
+    whole-sound names name-nodes =
+        whole-intro (cutHeap P ownNode s names) s nodes ownNode P links factsForm (
+          facts-sound s nodes (picksOf s nodes fs) own-ground P names name-nodes 0 fs planned
+              (λ n d. ap (λ (m : ℕ). picksOf s nodes fs m d) (let e : 0 + n ≡ n = omega arith in e)) hold,
+          λ l m. reading-sound s nodes (picksOf s nodes fs) own-ground P names name-nodes l (asked-own P plan links factsForm (facts-own P plan 0 fs planned) l m),
+          λ i k m l. cut-sound s nodes (picksOf s nodes fs) own-ground P names name-nodes i k l,
+        )
+
+  -- From a heap: the facts hold in the state that it gives back.
+  module _ (quiet : (i : ℕ) → List·Memᴰ i links ⊎ (cutNames P i .number ≡ 0)) (g : State) (node : Label → ℕ) (is : IsState g) (are-nodes : (l : Label) → Node g (node l))
+      (null : node (named nil) ≡ nullNode) (h : meetsForm g (start P g node) (gave P g node) node (whole P links factsForm) ≡ true) where
+    parts : AllMet g (start P g node) (gave P g node) node P links factsForm
+    parts = whole-parts g (start P g node) (gave P g node) node P links factsForm h
+
+    -- of each cut
+    cut-met : (i k : ℕ) → k < cutNames P i .number → meetsForm g (start P g node) (gave P g node) node (cutForm P i k) ≡ true
+    cut-met i k l = ⊎-elim (λ m. parts .2 i k m l) (λ e. absurd (omega (arith, l, e))) (quiet i)
+
+    cut-asked : (i k : ℕ) (l : Label) → k < cutNames P i .number → List·Memᴰ l (cutNames P i .cut k ∷ cutNames P i .value k ∷ cutNames P i .old k ∷ []) →
+        Each (λ x. meetsForm g (start P g node) (gave P g node) node (reading P x) ≡ true) (labelsIn l)
+    unfolding asked cutLabels
+    cut-asked i k l low m x m′ =
+        ⊎-elim
+        (λ mem. parts .1 x (flatMap-intro labelsIn l x
+        (Memᴰ·append-right (namesOf factsForm) (flatMap-intro (cutLabels P) i l mem
+        (flatMap-intro (λ n. cutNames P i .cut n ∷ cutNames P i .value n ∷ cutNames P i .old n ∷ []) k l (from-intro (cutNames P i .number) 0 k (omega arith) (omega (arith, low))) m))) m′))
+        (λ e. absurd (omega (arith, low, e)))
+        (quiet i)
