@@ -15,10 +15,10 @@ use Rattle.routine_logic.specs.State.{State, nullNode, IsState}
 use Rattle.routine_logic.specs.Formulas.{holds, sameTruth}
 use Rattle.cut_theory.specs.Versions.{version, cut}
 use Rattle.cut_theory.specs.Trees.{readTree, Holds}
-use Rattle.path_theory.specs.Points.{Name, nil, initial, given, Stores, none, Point, nodeOf, stateAt}
+use Rattle.path_theory.specs.Points.{nil, initial, given, read, Stores, none}
 use Rattle.path_theory.specs.Assignments.{count}
 use Rattle.path_theory.specs.Paths.{Fact, says, gives, factHolds}
-use Rattle.literal_theory.specs.Labels.{Label, named, chosen, after, readLabel, labelsIn, labelNode, Plan, cutLabel, cutNames}
+use Rattle.literal_theory.specs.Labels.{Label, named, chosen, after, readLabel, namesIn, labelsIn, labelNode, Plan, cutLabel, cutNames}
 use Rattle.literal_theory.specs.Forms.{Form, literals, conjunction, namesOf, meetsForm}
 use Rattle.literal_theory.specs.Heaps.{cutNode, oldNode, cutHeap, startState, givenNodes}
 use Rattle.literal_theory.specs.Translation.{reading, cutForm, cutForms, cutLabels, factForms, asked, whole}
@@ -27,9 +27,30 @@ use Rattle.literal_theory.proofs.Literals.{literals-plain, conjunction-
 use Rattle.literal_theory.proofs.Restoring.{Restorable, cut-restored, olds-agree}
 use Rattle.literal_theory.proofs.Atoms.{Ground, label-node, olds}
 use Rattle.literal_theory.proofs.Names.{Each, Only, only-each, each-only, meets-alike}
-use Rattle.literal_theory.proofs.OnPath.{OwnLabel, OwnPlan}
+use Rattle.literal_theory.proofs.OnPath.{OwnLabel, OwnPlan, cuts-own}
 use Rattle.literal_theory.proofs.Readings.{cut-alike, Drawn, start, gave, picked, start-is-state, gave-nodes, cut-again, Met, label-right}
 use Rattle.literal_theory.proofs.Facts.{Planned, facts-own, asked-own, picksOf, picks-nodes, facts-sound, facts-complete, reading-sound, cut-sound}
+
+-- a label is a part of itself
+self-part : (l : Label) → List·Memᴰ l (labelsIn l)
+unfolding labelsIn namesIn
+self-part (named nil) = List·Memᴰ·head refl
+self-part (named (initial x)) = List·Memᴰ·head refl
+self-part (named (given k)) = List·Memᴰ·head refl
+self-part (named (read i w a)) = List·Memᴰ·head refl
+self-part (chosen k d) = List·Memᴰ·head refl
+self-part (after i w l) = List·Memᴰ·head refl
+
+reading-read : (P : Plan) (i : ℕ) (w : Stores) (l : Label) → reading P (readLabel i w l) ≡ literals true i 0 (readTree (cutNames P i) (count w) l (readLabel i w l))
+unfolding reading readLabel
+reading-read P i w (named a) = refl
+reading-read P i w (chosen k d) = refl
+reading-read P i w (after j v l) = refl
+
+map-length : (f : ℕ → ℕ) (n i : ℕ) → length (map f (from n i)) ≡ n
+unfolding from
+map-length f zero i = refl
+map-length f (suc n) i = ap suc (map-length f n (suc i))
 
 -- the three parts of a whole formula
 module _ (g s : State) (nodes : List ℕ) (node : Label → ℕ) (P : Plan) (links : List ℕ) (f : Form Label) where
@@ -103,3 +124,71 @@ module _ (P : Plan) (plan : OwnPlan P) (links : List ℕ) (fs : List Fact) (plan
         (flatMap-intro (λ n. cutNames P i .cut n ∷ cutNames P i .value n ∷ cutNames P i .old n ∷ []) k l (from-intro (cutNames P i .number) 0 k (omega arith) (omega (arith, low))) m))) m′))
         (λ e. absurd (omega (arith, low, e)))
         (quiet i)
+
+    old-read : (i k : ℕ) → k < cutNames P i .number → Holds node (g .link i) (g .field 0) (readTree (cutNames P i) 0 (cutNames P i .cut k) (cutNames P i .old k))
+    unfolding cutNames count
+    old-read i k l =
+        literals-plain g (start P g node) (gave P g node) node (is .is-heap) are-nodes i 0 _ .0
+        (sym (ap (meetsForm g (start P g node) (gave P g node) node) (reading-read P i none (cutLabel P i k)))
+        ∙ cut-asked i k (readLabel i none (cutLabel P i k)) l (List·Memᴰ·tail (List·Memᴰ·tail (List·Memᴰ·head refl))) _ (self-part (readLabel i none (cutLabel P i k))))
+
+    drawn : Drawn P g node
+    unfolding cutForm meetsForm sameTruth
+    drawn =
+        record {
+          is-state = is;
+          nodes = are-nodes;
+          null = null;
+          restorable = λ i.
+              record {
+                loop = λ k l. eqb-true _ _ (and-left _ _ (cut-met i k l));
+                agree = olds-agree node (g .link i) (g .field 0) (cutNames P i) (old-read i);
+              };
+          nulls = λ i k l e.
+              ⊎-elim
+              (λ x. absurd (true-false (eqb-intro (e ∙ sym null)) (not-true x)))
+              (λ x. eqb-true _ _ x ∙ null)
+              (or-cases _ _ (and-right (eqb (g .link i (cutNode P node i k)) (cutNode P node i k)) _ (cut-met i k l)));
+        }
+
+    abbrev ownLabels : Label → ℕ
+    ownLabels = labelNode (start P g node) (gave P g node) (picked P g node)
+
+    -- labels stand for their own nodes in that state
+    names-right : Only (λ l. node l ≡ ownLabels l) factsForm
+    unfolding asked
+    names-right =
+        each-only (λ l. node l ≡ ownLabels l) factsForm (λ l m.
+        label-right P g node drawn l (only-each (OwnLabel P) factsForm (facts-own P plan 0 fs planned) l m)
+        (λ x m′. parts .1 x (flatMap-intro labelsIn l x (Memᴰ·append-left (flatMap (cutLabels P) links) m) m′)))
+
+    cut-right : (i k : ℕ) → k < cutNames P i .number → cutNode P ownLabels i k ≡ cutNode P node i k
+    cut-right i k l =
+        sym (label-right P g node drawn (cutNames P i .cut k) (cuts-own P plan i k l .0) (cut-asked i k (cutNames P i .cut k) l (List·Memᴰ·head refl)))
+
+    same-heap : cutHeap P ownLabels (start P g node) (g .variable) ≡ g
+    unfolding cutHeap startState
+    same-heap =
+        ap (λ (f : ℕ → ℕ → ℕ). record { size = g .size; link = f; field = g .field; variable = g .variable })
+        (fun-ext (λ i. cut-alike (start P g node .link i) _ _ (cutNames P i .number) (cut-right i) ∙ cut-again P g node drawn i))
+
+    ground : Ground (start P g node) (gave P g node) (picked P g node)
+    unfolding startState
+    ground = record { is-state = start-is-state P g node drawn; all-nodes = gave-nodes P g node drawn; chosen-nodes = λ k d. are-nodes (chosen k d) }
+
+    enough : P .havocs ≤ length (gave P g node)
+    unfolding givenNodes
+    enough = let e = map-length (λ k. node (named (given k))) (P .havocs) 0 in omega (arith, e)
+
+    pub whole-complete : all (factHolds (start P g node) (gave P g node)) fs ≡ true
+    unfolding startState
+    whole-complete =
+        facts-complete (start P g node) (gave P g node) (picked P g node) ground P (g .variable) (is .is-heap .variable-node) 0 fs planned enough
+        (ap (λ (x : State). meetsForm x (start P g node) (gave P g node) ownLabels factsForm) same-heap
+        ∙ sym (meets-alike g (start P g node) (gave P g node) node ownLabels factsForm names-right) ∙ parts .0)
+
+    pub whole-state : IsState (start P g node)
+    whole-state = start-is-state P g node drawn
+
+    pub whole-nodes : AllNodes (start P g node) (gave P g node)
+    whole-nodes = gave-nodes P g node drawn

@@ -11,3 +11,4 @@ pub mod Readings
 pub mod Facts
 pub mod Alike
 pub mod Cases
+pub mod Ordered
