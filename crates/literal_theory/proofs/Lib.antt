@@ -12,3 +12,4 @@ pub mod Facts
 pub mod Alike
 pub mod Cases
 pub mod Ordered
+pub mod Claims
