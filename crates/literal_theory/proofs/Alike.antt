@@ -13,6 +13,7 @@ use Rattle.literal_theory.proofs.OnPath.{OnPath, OwnStores, OwnMarks, O
 module _ (P : Plan) (s : State) (nodes nodes′ : List ℕ) (same-given : (k : ℕ) → k < P .havocs → getD nodes k nullNode ≡ getD nodes′ k nullNode) where
   mutual
     unfolding nodeOf linkOf OnPath OwnStores
+
     name-alike : (a : Name) → OnPath P a → nodeOf s nodes a ≡ nodeOf s nodes′ a
     name-alike nil h = refl
     name-alike (initial x) h = refl

@@ -75,9 +75,10 @@ module _ (s : State) (nodes : List ℕ) (picks : ℕ → List Bool → ℕ) (gro
     pub between-holds : (a b z : Label) → IsCut (cutNode P label i) (cutNames P i .number) (label z) →
         Holds label (cutLink i) first (betweenTree (cutNames P i) (count w) a b z) ↔ Between (linkOf s nodes i w) (label a) (label b) (label z)
     between-holds a b z k =
-        let r = between-tree label (s .link i) first (cutNames P i) (λ k l. olds i k) (count w) below a b z k in
-        (λ x. subst (λ (f : ℕ → ℕ). Between f (label a) (label b) (label z)) (sym same-link) (r .0 x),
-        λ x. r .1 (subst (λ (f : ℕ → ℕ). Between f (label a) (label b) (label z)) same-link x))
+        let r = between-tree label (s .link i) first (cutNames P i) (λ k l. olds i k) (count w) below a b z k in (
+          λ x. subst (λ (f : ℕ → ℕ). Between f (label a) (label b) (label z)) (sym same-link) (r .0 x),
+          λ x. r .1 (subst (λ (f : ℕ → ℕ). Between f (label a) (label b) (label z)) same-link x),
+        )
 
     pub read-holds : (a r : Label) → Holds label (cutLink i) first (readTree (cutNames P i) (count w) a r) ↔ (linkOf s nodes i w (label a) ≡ label r)
     read-holds a r =

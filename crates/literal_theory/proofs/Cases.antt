@@ -47,7 +47,7 @@ reading-read P i w (named a) = refl
 reading-read P i w (chosen k d) = refl
 reading-read P i w (after j v l) = refl
 
-map-length : (f : ℕ → ℕ) (n i : ℕ) → length (map f (from n i)) ≡ n
+pub map-length : (f : ℕ → ℕ) (n i : ℕ) → length (map f (from n i)) ≡ n
 unfolding from
 map-length f zero i = refl
 map-length f (suc n) i = ap suc (map-length f n (suc i))

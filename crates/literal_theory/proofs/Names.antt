@@ -150,9 +150,16 @@ module _ {A : Type 0} (Q : A → Type 0) where
     reach-only zs avoid (suc m) is a b low h k = (
       (h, k),
       some-only _ is (λ i mem.
-          let l : i < c .number = low i mem in
-          ((h, own i l .0), (active-only i l, (avoiding-only zs (c .cut i) avoid (own i l .0),
-          reach-only zs avoid m (without i is) (trees.targetName c j i) b (λ n mem′. low n (without-mem i n is mem′)) (target-only i l) k)))),
+          let l : i < c .number = low i mem in (
+            (h, own i l .0),
+            (
+              active-only i l,
+              (
+                avoiding-only zs (c .cut i) avoid (own i l .0),
+                reach-only zs avoid m (without i is) (trees.targetName c j i) b (λ n mem′. low n (without-mem i n is mem′)) (target-only i l) k,
+              ),
+            ),
+          )),
     )
 
     numbers : (i : ℕ) → List·Memᴰ i (from (c .number) 0) → i < c .number
@@ -235,8 +242,9 @@ module _ (Q : Label → Type 0) (P : Plan) (p : Point) (cuts : (i : ℕ) → Own
       (translate-only b (right name) e g (each-right Fits (termsIn f) (termsIn g) h) (λ d. n (true ∷ d)) k)
   translate-only b name e (same f g) h n k =
       let hf = each-left Fits (termsIn f) (termsIn g) h in
-      let hg = each-right Fits (termsIn f) (termsIn g) h in
-      ((translate-only true (left name) e f hf (λ d. n (false ∷ d)) k, translate-only b (right name) e g hg (λ d. n (true ∷ d)) k),
-      (translate-only false (left name) e f hf (λ d. n (false ∷ d)) k, translate-only (not b) (right name) e g hg (λ d. n (true ∷ d)) k))
+      let hg = each-right Fits (termsIn f) (termsIn g) h in (
+        (translate-only true (left name) e f hf (λ d. n (false ∷ d)) k, translate-only b (right name) e g hg (λ d. n (true ∷ d)) k),
+        (translate-only false (left name) e f hf (λ d. n (false ∷ d)) k, translate-only (not b) (right name) e g hg (λ d. n (true ∷ d)) k),
+      )
   translate-only true name e (forall f) h n k = k
   translate-only false name e (forall f) h n k = translate-only false (left name) (name [] ∷ e) f h (λ d. n (false ∷ d)) (each-cons Q (name []) e (n []) k)

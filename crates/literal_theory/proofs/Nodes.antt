@@ -38,13 +38,14 @@ abbrev pub AllNodes : State → List ℕ → Type 0
 AllNodes s vs = (v : ℕ) → List·Memᴰ v vs → Node s v
 
 module _ (s : State) (is : IsState s) (nodes : List ℕ) (all-nodes : AllNodes s nodes) where
-  given-node : (vs : List ℕ) → AllNodes s vs → (k : ℕ) → Node s (getD vs k nullNode)
+  pub given-node : (vs : List ℕ) → AllNodes s vs → (k : ℕ) → Node s (getD vs k nullNode)
   given-node [] h k = null-node s is
   given-node (v ∷ vs) h zero = h v (List·Memᴰ·head refl)
   given-node (v ∷ vs) h (suc k) = given-node vs (λ u m. h u (List·Memᴰ·tail m)) k
 
   mutual
     unfolding nodeOf linkOf
+
     pub name-is-node : (a : Name) → Node s (nodeOf s nodes a)
     name-is-node nil = null-node s is
     name-is-node (initial x) = is .is-heap .variable-node x

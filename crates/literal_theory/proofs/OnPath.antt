@@ -3,15 +3,16 @@ use Prim.Native.Nat.{ℕ, zero, suc, _-_, _+_, _≤_, _<_}
 use native.Mathlib.Omega.{arith}
 use mathlib.Core.Path.{_≡_, refl, sym, ap, _∙_, subst}
 use mathlib.Core.Logic.{⊎-elim}
-use mathlib.Core.Bool.{Bool, true, false, cond}
+use mathlib.Core.Bool.{Bool, true, false, not, cond}
 use mathlib.Core.List.{List, [], _∷_, _++_, List·Memᴰ, List·Memᴰ·head, List·Memᴰ·tail, List·Memᴰ·not-nil}
 use lib.Dec.{eqb, ltb}
 use lib.ListN.{length, getD}
-use Rattle.routine_logic.specs.Syntax.{Base, null, variable, bound, Term}
+use Rattle.routine_logic.specs.Syntax.{Base, null, variable, bound, Term, Formula, always, never, equal, unequal, reaches, between, flag, negation, both, either, implies, same, forall}
 use Rattle.cut_theory.specs.Trees.{Mark}
 use Rattle.path_theory.specs.Points.{Name, nil, initial, given, read, Stores, none, store, Marks, unmarked, mark, Point}
 use Rattle.path_theory.specs.Assignments.{count, assignedAt, valueAt, Begins, whole, longer}
 use Rattle.literal_theory.specs.Labels.{Label, named, chosen, after, readLabel, baseLabel, alongLabel, termLabel, namesIn, storesIn, labelsIn, Plan, cutLabel, cutNames, marksOf}
+use Rattle.literal_theory.specs.Translation.{Places, left, right, Cut, betweens}
 use Rattle.literal_theory.proofs.Names.{Each, each-cons, each-append, OwnCut}
 
 module _ (P : Plan) where
@@ -56,6 +57,7 @@ module _ (P : Plan) where
   -- what a label is made of
   mutual
     unfolding namesIn storesIn OnPath OwnStores OwnLabel
+
     name-parts : (a : Name) → OnPath a → Each OwnLabel (namesIn a)
     name-parts nil h = each-cons OwnLabel (named nil) [] h (λ x m. absurd (List·Memᴰ·not-nil m))
     name-parts (initial x) h = each-cons OwnLabel (named (initial x)) [] h (λ x m. absurd (List·Memᴰ·not-nil m))
@@ -143,3 +145,31 @@ module _ (P : Plan) where
 
     pub marks-own : (j : ℕ) (n : Mark Label) → List·Memᴰ n (marksOf (p .marks j)) → OwnLabel (n .name)
     marks-own j n mem = mark-own (p .marks j) (own .marks j) n mem
+
+    -- the cuts that betweens ask for
+    pub betweens-own : (b : Bool) (name : Places) (e : List Label) (f : Formula) → ((d : List Bool) → OwnLabel (name d)) → Each OwnLabel e →
+        Each (λ (c : Cut). OwnLabel (c .label)) (betweens b p name e f)
+    unfolding betweens
+    betweens-own b name e (between i t u v) n h = each-cons (λ (c : Cut). OwnLabel (c .label)) _ [] (term-own v e h) (λ x m. absurd (List·Memᴰ·not-nil m))
+    betweens-own b name e (negation f) n h = betweens-own (not b) name e f n h
+    betweens-own b name e (both f g) n h =
+        each-append (λ (c : Cut). OwnLabel (c .label)) (betweens b p (left name) e f) _ (betweens-own b (left name) e f (λ d. n (false ∷ d)) h) (betweens-own b (right name) e g (λ d. n (true ∷ d)) h)
+    betweens-own b name e (either f g) n h =
+        each-append (λ (c : Cut). OwnLabel (c .label)) (betweens b p (left name) e f) _ (betweens-own b (left name) e f (λ d. n (false ∷ d)) h) (betweens-own b (right name) e g (λ d. n (true ∷ d)) h)
+    betweens-own b name e (implies f g) n h =
+        each-append (λ (c : Cut). OwnLabel (c .label)) (betweens (not b) p (left name) e f) _
+        (betweens-own (not b) (left name) e f (λ d. n (false ∷ d)) h) (betweens-own b (right name) e g (λ d. n (true ∷ d)) h)
+    betweens-own b name e (same f g) n h =
+        each-append (λ (c : Cut). OwnLabel (c .label)) (betweens true p (left name) e f ++ betweens b p (right name) e g) _
+        (each-append (λ (c : Cut). OwnLabel (c .label)) (betweens true p (left name) e f) _
+        (betweens-own true (left name) e f (λ d. n (false ∷ d)) h) (betweens-own b (right name) e g (λ d. n (true ∷ d)) h))
+        (each-append (λ (c : Cut). OwnLabel (c .label)) (betweens false p (left name) e f) _
+        (betweens-own false (left name) e f (λ d. n (false ∷ d)) h) (betweens-own (not b) (right name) e g (λ d. n (true ∷ d)) h))
+    betweens-own true name e (forall f) n h = λ x m. absurd (List·Memᴰ·not-nil m)
+    betweens-own false name e (forall f) n h = betweens-own false (left name) (name [] ∷ e) f (λ d. n (false ∷ d)) (each-cons OwnLabel (name []) e (n []) h)
+    betweens-own b name e always n h = λ x m. absurd (List·Memᴰ·not-nil m)
+    betweens-own b name e never n h = λ x m. absurd (List·Memᴰ·not-nil m)
+    betweens-own b name e (equal t u) n h = λ x m. absurd (List·Memᴰ·not-nil m)
+    betweens-own b name e (unequal t u) n h = λ x m. absurd (List·Memᴰ·not-nil m)
+    betweens-own b name e (reaches i t u) n h = λ x m. absurd (List·Memᴰ·not-nil m)
+    betweens-own b name e (flag j t) n h = λ x m. absurd (List·Memᴰ·not-nil m)

@@ -27,6 +27,7 @@ pub record Longer (P Q : Plan) : Type 0 where
 module _ (P Q : Plan) (more : Longer P Q) where
   mutual
     unfolding OnPath OwnStores
+
     pub name-longer : (a : Name) → OnPath P a → OnPath Q a
     name-longer nil h = tt
     name-longer (initial x) h = tt
@@ -59,7 +60,7 @@ unfoldable pub OwnFact : Plan → Fact → Type 0
 OwnFact P (says b p f) = OwnPoint P p
 OwnFact P (gives n) = n < P .havocs
 
-fact-longer : (P Q : Plan) → Longer P Q → (f : Fact) → OwnFact P f → OwnFact Q f
+pub fact-longer : (P Q : Plan) → Longer P Q → (f : Fact) → OwnFact P f → OwnFact Q f
 unfolding OwnFact
 fact-longer P Q more (says b p f) h = point-longer P Q more p h
 fact-longer P Q more (gives n) h = let l = more .havocs in omega (arith, h, l)

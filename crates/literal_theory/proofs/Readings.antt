@@ -37,7 +37,7 @@ cut-alike f c c′ n h =
     (any-alike (λ i. eqb (c i) v) (λ i. eqb (c′ i) v) (from n 0) (λ i m. let l = from-mem n 0 i m in ap (λ (u : ℕ). eqb u v) (h i (omega (arith, l .1))))))
 
 -- what is given, by number
-getD-from : (f : ℕ → ℕ) (n i k : ℕ) (d : ℕ) → k < n → getD (map f (from n i)) k d ≡ f (i + k)
+pub getD-from : (f : ℕ → ℕ) (n i k : ℕ) (d : ℕ) → k < n → getD (map f (from n i)) k d ≡ f (i + k)
 unfolding from
 getD-from f zero i k d l = absurd (omega (arith, l))
 getD-from f (suc n) i zero d l = ap f (let e : i ≡ i + 0 = omega arith in e)
@@ -142,6 +142,7 @@ module _ (P : Plan) (g : State) (node : Label → ℕ) where
 
     mutual
       unfolding nodeOf namesIn storesIn OnPath OwnStores reading startState givenNodes assignedAt valueAt count
+
       name-right : (a : Name) → OnPath P a → Each Met (namesIn a) → node (named a) ≡ nodeOf start gave a
       name-right nil own met = drawn .null
       name-right (initial x) own met = refl
