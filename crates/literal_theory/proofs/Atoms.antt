@@ -1,30 +1,28 @@
 -- In a state, labels standing for their own nodes, and its heap with cut links: atoms at a point are their trees.
-use Prim.Native.Nat.{ℕ, _+_, _≤_, _<_}
+use Prim.Native.Nat.{ℕ, _≤_, _<_}
 use native.Mathlib.Omega.{arith}
-use mathlib.Core.Path.{_≡_, refl, sym, ap, _∙_, subst}
+use mathlib.Core.Path.{_≡_, sym, ap, _∙_, subst}
 use mathlib.Core.Logic.{_↔_}
 use mathlib.Core.Bool.{Bool, true, false, not, cond}
 use mathlib.Core.List.{List, map}
 use lib.Dec.{eqb}
-use lib.ListN.{length}
 use Rattle.logic.specs.Heap.{Node, IsHeap, Reaches}
 use Rattle.theory.proofs.Basics.Compare.{ltb-intro, cond-true}
 use Rattle.between.specs.Meaning.{Between}
-use Rattle.routine_logic.specs.Syntax.{Term, Formula, equal, unequal, reaches, between, flag}
+use Rattle.routine_logic.specs.Syntax.{Term, equal, unequal, reaches, between, flag}
 use Rattle.routine_logic.specs.State.{State, IsState}
 use Rattle.routine_logic.specs.Formulas.{node, reachesBy, betweenBy, holds, sameTruth}
 use Rattle.routine_theory.proofs.Means.{reaches-means, between-means}
 use Rattle.cut_theory.specs.Versions.{version, cut, isCut}
-use Rattle.cut_theory.specs.Trees.{Tree, reachesTree, betweenTree, readTree, flagTree, flagAfter, Holds}
+use Rattle.cut_theory.specs.Trees.{Tree, reachesTree, betweenTree, readTree, flagTree, Holds}
 use Rattle.cut_theory.proofs.Jumps.{IsCut}
 use Rattle.cut_theory.proofs.Trees.{reaches-tree, between-tree, read-tree, flag-tree}
 use Rattle.path_theory.specs.Points.{Stores, none, Point, nodeOf, linkOf, flagOf, stateAt}
-use Rattle.path_theory.specs.Assignments.{count, assignedAt, valueAt, Begins}
-use Rattle.path_theory.proofs.Assignments.{cutsOf, cut-version, along-below}
-use Rattle.literal_theory.specs.Labels.{Label, named, readLabel, termLabel, labelNode, Plan, cutLabel, cutNames, marksOf}
+use Rattle.path_theory.specs.Assignments.{count, assignedAt, Begins}
+use Rattle.path_theory.proofs.Assignments.{cut-version, along-below}
+use Rattle.literal_theory.specs.Labels.{Label, termLabel, labelNode, Plan, cutLabel, cutNames, marksOf}
 use Rattle.literal_theory.specs.Forms.{Form, equals, literals, meetsForm}
 use Rattle.literal_theory.specs.Heaps.{cutNode, cutHeap}
-use Rattle.literal_theory.specs.Translation.{Places, translate}
 use Rattle.literal_theory.proofs.Nodes.{AllNodes, point-heap, label-is-node, read-node, term-node, flag-after}
 use Rattle.literal_theory.proofs.Literals.{same-truth, truth-not, literals-test}
 

@@ -1,34 +1,34 @@
 -- The formula of the facts of a path, with its readings and cuts: the heaps that meet it are the cut heaps of the states where the facts hold.
 use Prim.Native.Nat.{ℕ, zero, suc, _+_, _≤_, _<_}
 use native.Mathlib.Omega.{arith}
-use mathlib.Core.Path.{_≡_, refl, sym, ap, _∙_, subst, fun-ext}
-use mathlib.Core.Logic.{_⊎_, ⊎-elim, inl, inr}
-use mathlib.Core.Bool.{Bool, true, false, not}
-use mathlib.Core.List.{List, [], _∷_, _++_, map, List·Memᴰ, List·Memᴰ·head, List·Memᴰ·tail, Memᴰ·append-left, Memᴰ·append-right}
+use mathlib.Core.Path.{_≡_, refl, sym, ap, _∙_, fun-ext}
+use mathlib.Core.Logic.{_⊎_, ⊎-elim}
+use mathlib.Core.Bool.{true}
+use mathlib.Core.List.{List, [], _∷_, map, List·Memᴰ, List·Memᴰ·head, List·Memᴰ·tail, Memᴰ·append-left, Memᴰ·append-right}
 use lib.Dec.{eqb}
-use lib.ListN.{length, getD}
+use lib.ListN.{length}
 use Rattle.logic.specs.Search.{from, all, flatMap, _and_, _or_}
-use Rattle.logic.specs.Heap.{Node, IsHeap}
+use Rattle.logic.specs.Heap.{Node}
 use Rattle.theory.proofs.Basics.Search.{and-left, and-right, and-intro, or-cases, not-true, true-false, from-mem, from-intro, flatMap-mem, flatMap-intro, map-mem, map-intro}
 use Rattle.theory.proofs.Basics.Compare.{eqb-true, eqb-intro}
 use Rattle.routine_logic.specs.State.{State, nullNode, IsState}
-use Rattle.routine_logic.specs.Formulas.{holds, sameTruth}
-use Rattle.cut_theory.specs.Versions.{version, cut}
+use Rattle.routine_logic.specs.Formulas.{sameTruth}
+use Rattle.cut_theory.specs.Versions.{cut}
 use Rattle.cut_theory.specs.Trees.{readTree, Holds}
 use Rattle.path_theory.specs.Points.{nil, initial, given, read, Stores, none}
 use Rattle.path_theory.specs.Assignments.{count}
-use Rattle.path_theory.specs.Paths.{Fact, says, gives, factHolds}
+use Rattle.path_theory.specs.Paths.{Fact, factHolds}
 use Rattle.literal_theory.specs.Labels.{Label, named, chosen, after, readLabel, namesIn, labelsIn, labelNode, Plan, cutLabel, cutNames}
 use Rattle.literal_theory.specs.Forms.{Form, literals, conjunction, namesOf, meetsForm}
-use Rattle.literal_theory.specs.Heaps.{cutNode, oldNode, cutHeap, startState, givenNodes}
+use Rattle.literal_theory.specs.Heaps.{cutNode, cutHeap, startState, givenNodes}
 use Rattle.literal_theory.specs.Translation.{reading, cutForm, cutForms, cutLabels, factForms, asked, whole}
 use Rattle.literal_theory.proofs.Nodes.{AllNodes}
 use Rattle.literal_theory.proofs.Literals.{literals-plain, conjunction-met, conjunction-intro}
-use Rattle.literal_theory.proofs.Restoring.{Restorable, cut-restored, olds-agree}
-use Rattle.literal_theory.proofs.Atoms.{Ground, label-node, olds}
+use Rattle.literal_theory.proofs.Restoring.{olds-agree}
+use Rattle.literal_theory.proofs.Atoms.{Ground}
 use Rattle.literal_theory.proofs.Names.{Each, Only, only-each, each-only, meets-alike}
 use Rattle.literal_theory.proofs.OnPath.{OwnLabel, OwnPlan, cuts-own}
-use Rattle.literal_theory.proofs.Readings.{cut-alike, Drawn, start, gave, picked, start-is-state, gave-nodes, cut-again, Met, label-right}
+use Rattle.literal_theory.proofs.Readings.{cut-alike, Drawn, start, gave, picked, start-is-state, gave-nodes, cut-again, label-right}
 use Rattle.literal_theory.proofs.Facts.{Planned, facts-own, asked-own, picksOf, picks-nodes, facts-sound, facts-complete, reading-sound, cut-sound}
 
 -- a label is a part of itself

@@ -1,30 +1,30 @@
 -- Every run that comes to a check gives a heap for the formula of a case, and every heap of such a formula gives such a run.
-use Prim.Native.Nat.{ℕ, zero, suc, _+_, _<_}
+use Prim.Native.Nat.{ℕ, suc, _+_, _<_}
 use native.Mathlib.Omega.{arith}
 use mathlib.Core.Path.{_≡_, refl, sym, ap, _∙_, subst, fun-ext}
 use mathlib.Core.Logic.{_⊎_, ⊎-elim}
-use mathlib.Core.Bool.{Bool, true, false}
-use mathlib.Core.List.{List, [], _∷_, _++_, map, List·Memᴰ, List·Memᴰ·head, List·Memᴰ·tail, List·Memᴰ·not-nil, List·Memᴰ·cases-cons, Memᴰ·append-left, Memᴰ·append-right}
+use mathlib.Core.Bool.{Bool, true}
+use mathlib.Core.List.{List, [], _∷_, map, List·Memᴰ, List·Memᴰ·head, List·Memᴰ·tail, List·Memᴰ·not-nil}
 use lib.Dec.{eqb}
 use lib.ListN.{length, getD}
-use Rattle.logic.specs.Search.{from, select, all, _and_}
+use Rattle.logic.specs.Search.{from, select, all}
 use Rattle.logic.specs.Heap.{Node}
 use Rattle.theory.proofs.Basics.Search.{all-true, all-intro, from-mem, select-mem, select-intro, map-mem, map-intro}
-use Rattle.theory.proofs.Basics.Compare.{eqb-true, eqb-self, ltb-intro}
-use Rattle.routine_logic.specs.Syntax.{Routine, Formula}
+use Rattle.theory.proofs.Basics.Compare.{eqb-self, ltb-intro}
+use Rattle.routine_logic.specs.Syntax.{Routine}
 use Rattle.routine_logic.specs.State.{State, nullNode, IsState}
 use Rattle.routine_logic.specs.Formulas.{holds, sameTruth}
-use Rattle.routine_logic.specs.Runs.{Check, Segment, segments, checked, Now}
+use Rattle.routine_logic.specs.Runs.{Check, Segment, segments}
 use Rattle.routine_logic.specs.Answers.{Starts, Run, events, Happens}
 use Rattle.cut_theory.specs.Versions.{version, cut}
 use Rattle.cut_theory.proofs.Versions.{cut-decided, cut-stays, uncut-goes}
-use Rattle.path_theory.specs.Points.{Name, nil, initial, given, Point, nodeOf, stateAt}
-use Rattle.path_theory.specs.Paths.{Fact, says, gives, factHolds, Case, SegmentPaths, segmentPaths, startTrail}
-use Rattle.path_theory.specs.Claims.{RunComes, Tells, PathComes, SameSegment, Paired, none, one-more, PathsExact}
+use Rattle.path_theory.specs.Points.{nodeOf, stateAt}
+use Rattle.path_theory.specs.Paths.{Fact, says, gives, factHolds, Case, SegmentPaths, segmentPaths}
+use Rattle.path_theory.specs.Claims.{PathComes, SameSegment, Paired, one-more}
 use Rattle.path_theory.proofs.Claims.{paths-exact}
-use Rattle.literal_theory.specs.Labels.{Label, named, chosen, labelNode, Plan, cutNames}
+use Rattle.literal_theory.specs.Labels.{Label, chosen, labelNode, Plan, cutNames}
 use Rattle.literal_theory.specs.Forms.{meetsForm}
-use Rattle.literal_theory.specs.Heaps.{cutNode, oldNode, cutHeap, startState, givenNodes}
+use Rattle.literal_theory.specs.Heaps.{cutNode, cutHeap, startState, givenNodes}
 use Rattle.literal_theory.specs.Translation.{Cut, betweens, factBetweens, factForms, whole, planOf, caseForm}
 use Rattle.literal_theory.specs.Claims.{CutWithin, MeetsCase, CaseOf, LiteralsExact}
 use Rattle.literal_theory.proofs.Nodes.{AllNodes, given-node}

@@ -2,37 +2,34 @@
 use Prim.Native.Nat.{ℕ, zero, suc, _+_, _-_, _≤_, _<_}
 use native.Mathlib.Omega.{arith}
 use mathlib.Core.Path.{_≡_, refl, sym, ap, _∙_, subst}
-use mathlib.Core.Logic.{_⊎_, ⊎-elim, inl, inr}
-use mathlib.Core.Bool.{Bool, true, false, cond}
-use mathlib.Core.List.{List, [], _∷_, _++_, map, List·Memᴰ, List·Memᴰ·head, List·Memᴰ·tail, List·Memᴰ·not-nil, List·Memᴰ·cases-cons, Memᴰ·append-left, Memᴰ·append-right}
+use mathlib.Core.Logic.{_⊎_, ⊎-elim}
+use mathlib.Core.Bool.{Bool, true, false}
+use mathlib.Core.List.{List, [], _∷_, _++_, List·Memᴰ, List·Memᴰ·head, List·Memᴰ·tail, List·Memᴰ·not-nil, List·Memᴰ·cases-cons}
 use lib.Dec.{eqb, ltb}
 use lib.ListN.{length, getD}
 use Rattle.logic.specs.Search.{from, all, flatMap, _and_, _or_}
 use Rattle.logic.specs.Heap.{Node}
-use Rattle.theory.proofs.Basics.Search.{bool-cases, and-left, and-right, and-intro, or-cases, or-left, or-right, not-true, not-intro, true-false, from-mem, from-intro, flatMap-mem, flatMap-intro, map-mem, map-intro}
-use Rattle.theory.proofs.Basics.Compare.{eqb-true, eqb-intro, eqb-false, ltb-true, ltb-intro, cond-false}
-use Rattle.routine_logic.specs.Syntax.{Term, Formula}
+use Rattle.theory.proofs.Basics.Search.{bool-cases, and-left, and-right, and-intro, or-left, or-right, not-intro, from-mem, flatMap-mem}
+use Rattle.theory.proofs.Basics.Compare.{eqb-true, eqb-intro, ltb-true, ltb-intro, cond-false}
 use Rattle.routine_logic.specs.State.{State, nullNode, IsState}
-use Rattle.routine_logic.specs.Formulas.{holds, sameTruth}
+use Rattle.routine_logic.specs.Formulas.{sameTruth}
 use Rattle.cut_theory.specs.Versions.{cut}
 use Rattle.cut_theory.specs.Trees.{readTree}
 use Rattle.cut_theory.proofs.Jumps.{IsCut}
 use Rattle.cut_theory.proofs.Versions.{cut-stays}
-use Rattle.path_theory.specs.Points.{Name, nil, initial, given, read, Stores, none, Point, nodeOf, linkOf, stateAt}
+use Rattle.path_theory.specs.Points.{nil, initial, given, read, Stores, Point, nodeOf, linkOf, stateAt}
 use Rattle.path_theory.specs.Assignments.{count, Begins}
 use Rattle.path_theory.specs.Paths.{Fact, says, gives, factHolds}
 use Rattle.path_theory.proofs.Assignments.{begins-count}
 use Rattle.literal_theory.specs.Labels.{Label, named, chosen, after, labelsIn, labelNode, Plan, cutLabel, cutNames}
-use Rattle.literal_theory.specs.Forms.{Form, truth, meet, literals, conjunction, namesOf, meetsForm}
-use Rattle.literal_theory.specs.Heaps.{cutNode, oldNode, cutHeap}
-use Rattle.literal_theory.specs.Translation.{translate, reading, cutForm, cutForms, cutLabels, factForm, factForms, asked, Cut, betweens}
-use Rattle.literal_theory.specs.Translation as form
+use Rattle.literal_theory.specs.Forms.{Form, literals, namesOf, meetsForm}
+use Rattle.literal_theory.specs.Heaps.{cutNode, cutHeap}
+use Rattle.literal_theory.specs.Translation.{translate, reading, cutForm, cutLabels, factForm, factForms, asked, Cut, betweens}
 use Rattle.literal_theory.proofs.Nodes.{AllNodes, point-heap}
-use Rattle.literal_theory.proofs.Literals.{conjunction-met, conjunction-intro}
 use Rattle.literal_theory.proofs.Witnesses.{witness, witness-node}
-use Rattle.literal_theory.proofs.Atoms.{Ground, label-node, olds, read-holds, tree-test}
+use Rattle.literal_theory.proofs.Atoms.{Ground, olds, read-holds, tree-test}
 use Rattle.literal_theory.proofs.Translation.{translate-sound, translate-complete}
-use Rattle.literal_theory.proofs.Names.{Each, each-append, Only, only-each, each-only, meets-alike, translate-only}
+use Rattle.literal_theory.proofs.Names.{Each, each-append, Only, only-each, translate-only}
 use Rattle.literal_theory.proofs.OnPath.{OnPath, OwnLabel, OwnPoint, OwnPlan, label-parts, cuts-own, term-own, marks-own}
 
 -- a member by its number

@@ -1,19 +1,19 @@
 -- Literals say what their trees say, and denied the contrary.
 use Prim.Native.Nat.{ℕ}
-use mathlib.Core.Path.{_≡_, refl, sym, ap, _∙_, subst}
+use mathlib.Core.Path.{_≡_, refl, sym, ap, _∙_}
 use mathlib.Core.Logic.{_⊎_, _↔_, ⊎-elim, inl, inr}
-use mathlib.Core.Bool.{Bool, true, false, not, cond, false≢true}
-use mathlib.Core.List.{List, [], _∷_, _++_, map, List·Memᴰ, List·Memᴰ·head, List·Memᴰ·tail}
+use mathlib.Core.Bool.{Bool, true, false, not, false≢true}
+use mathlib.Core.List.{List, [], _∷_, List·Memᴰ, List·Memᴰ·head, List·Memᴰ·tail}
 use lib.Dec.{eqb}
 use Rattle.logic.specs.Search.{_and_, _or_}
-use Rattle.logic.specs.Heap.{Node, IsHeap, Reaches, Signed}
+use Rattle.logic.specs.Heap.{Node, IsHeap}
 use Rattle.theory.proofs.Basics.Search.{and-left, and-right, and-intro, or-cases, or-left, or-right, true-false, not-true, not-intro, not-of}
 use Rattle.theory.proofs.Basics.Compare.{eqb-true, eqb-intro}
 use Rattle.routine_logic.specs.State.{State}
-use Rattle.routine_logic.specs.Formulas.{reachesBy, sameTruth}
+use Rattle.routine_logic.specs.Formulas.{sameTruth}
 use Rattle.routine_theory.proofs.Means.{reaches-means}
 use Rattle.cut_theory.specs.Trees.{Tree, yes·tree, no·tree, flagged, same, differ, far, leads, both, either, Holds}
-use Rattle.literal_theory.specs.Forms.{Form, truth, equals, reach, next, bit, kept, meet, join, junction, literals, conjunction, meetsForm}
+use Rattle.literal_theory.specs.Forms.{Form, junction, literals, conjunction, meetsForm}
 
 not-and : (a b : Bool) → not (a and b) ≡ not a or not b
 unfolding _and_ _or_

@@ -1,6 +1,6 @@
 -- Labels stand for nodes, and for those of their terms.
 use Prim.Native.Nat.{ℕ, zero, suc}
-use mathlib.Core.Path.{_≡_, refl, sym, ap, _∙_, subst}
+use mathlib.Core.Path.{_≡_, refl, sym, ap, _∙_}
 use mathlib.Core.Bool.{Bool, true, false, cond}
 use mathlib.Core.List.{List, [], _∷_, map, List·Memᴰ, List·Memᴰ·head, List·Memᴰ·tail}
 use lib.Dec.{eqb}
@@ -11,7 +11,7 @@ use Rattle.routine_logic.specs.State.{State, nullNode, IsState, changed}
 use Rattle.routine_logic.specs.Formulas.{baseNode, follow}
 use Rattle.routine_logic.specs.Formulas.{node}
 use Rattle.routine_theory.proofs.States.{null-node}
-use Rattle.cut_theory.specs.Trees.{Mark, flagAfter}
+use Rattle.cut_theory.specs.Trees.{flagAfter}
 use Rattle.path_theory.specs.Points.{Name, nil, initial, given, read, Stores, none, store, Marks, unmarked, mark, Point, nodeOf, linkOf, flagOf, stateAt}
 use Rattle.literal_theory.specs.Labels.{Label, named, chosen, after, readLabel, baseLabel, alongLabel, termLabel, labelNode, marksOf}
 

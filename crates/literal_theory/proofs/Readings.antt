@@ -3,13 +3,12 @@
 use Prim.Native.Nat.{ℕ, zero, suc, _+_, _≤_, _<_}
 use native.Mathlib.Omega.{arith}
 use mathlib.Core.Path.{_≡_, refl, sym, ap, _∙_, subst, fun-ext}
-use mathlib.Core.Logic.{_↔_, ⊎-elim}
 use mathlib.Core.Bool.{Bool, true, false, cond}
-use mathlib.Core.List.{List, [], _∷_, _++_, map, List·Memᴰ, List·Memᴰ·head, List·Memᴰ·tail}
-use lib.Dec.{eqb, ltb}
-use lib.ListN.{length, getD}
-use Rattle.logic.specs.Search.{from, any}
-use Rattle.logic.specs.Heap.{Node, IsHeap}
+use mathlib.Core.List.{List, _++_, map, List·Memᴰ·head, List·Memᴰ·tail}
+use lib.Dec.{eqb}
+use lib.ListN.{getD}
+use Rattle.logic.specs.Search.{from}
+use Rattle.logic.specs.Heap.{Node}
 use Rattle.theory.proofs.Basics.Search.{true-false, any-alike, from-mem, map-mem}
 use Rattle.theory.proofs.Basics.Compare.{eqb-intro, ltb-intro, cond-true}
 use Rattle.routine_logic.specs.State.{State, nullNode, IsState}
@@ -18,10 +17,10 @@ use Rattle.cut_theory.specs.Trees.{readTree, Holds}
 use Rattle.cut_theory.proofs.Trees.{read-tree}
 use Rattle.path_theory.specs.Points.{Name, nil, initial, given, read, Stores, none, store, nodeOf, linkOf}
 use Rattle.path_theory.specs.Assignments.{count, assignedAt, valueAt, Begins, whole}
-use Rattle.path_theory.proofs.Assignments.{version-alike, begins-count, begins-assigned, begins-value, link-version, cutsOf, valuesOf}
+use Rattle.path_theory.proofs.Assignments.{version-alike, begins-count, begins-assigned, begins-value, link-version}
 use Rattle.literal_theory.specs.Labels.{Label, named, chosen, after, namesIn, storesIn, labelsIn, labelNode, Plan, cutLabel, cutNames}
 use Rattle.literal_theory.specs.Forms.{literals, meetsForm}
-use Rattle.literal_theory.specs.Heaps.{cutNode, oldNode, cutHeap, startState, givenNodes}
+use Rattle.literal_theory.specs.Heaps.{cutNode, oldNode, startState, givenNodes}
 use Rattle.literal_theory.specs.Translation.{reading}
 use Rattle.literal_theory.proofs.Nodes.{AllNodes}
 use Rattle.literal_theory.proofs.Literals.{literals-plain}

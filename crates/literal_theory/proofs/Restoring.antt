@@ -1,11 +1,10 @@
 -- From a heap with cut links back to the link at the start: each cut leads to what it led to, as its old name says.
-use Prim.Native.Nat.{ℕ, suc, _≤_, _<_}
+use Prim.Native.Nat.{ℕ, _<_}
 use native.Mathlib.Omega.{arith}
 use native.Mathlib.Decide.{ℕ-discrete}
 use mathlib.Core.Path.{_≡_, refl, sym, ap, _∙_, subst, fun-ext}
 use mathlib.Core.Logic.{_⊎_, ⊎-elim, inl, inr}
 use mathlib.Core.Bool.{Bool}
-use mathlib.Core.List.{List}
 use Rattle.logic.specs.Search.{from}
 use Rattle.theory.proofs.Basics.Search.{from-intro}
 use Rattle.theory.proofs.Basics.Compare.{cond-false, le-cases}

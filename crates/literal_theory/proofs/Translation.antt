@@ -1,22 +1,22 @@
 -- What a formula says at a point of the path, its translation says in the heap with cut links: if the nodes at which `forall`s fail are chosen so; and
 -- whatever is chosen for them, the formula says what the translation does.
-use Prim.Native.Nat.{ℕ, _<_}
-use mathlib.Core.Path.{_≡_, refl, sym, ap, _∙_, subst}
-use mathlib.Core.Logic.{_⊎_, _↔_, ⊎-elim, inl, inr}
+use Prim.Native.Nat.{ℕ}
+use mathlib.Core.Path.{_≡_, refl, sym, ap, _∙_}
+use mathlib.Core.Logic.{_⊎_, ⊎-elim}
 use mathlib.Core.Bool.{Bool, true, false, not, cond}
 use mathlib.Core.List.{List, [], _∷_, _++_, map, List·Memᴰ, List·Memᴰ·head, Memᴰ·append-left, Memᴰ·append-right}
 use Rattle.logic.specs.Search.{_and_, _or_}
 use Rattle.logic.specs.Heap.{Node}
-use Rattle.theory.proofs.Basics.Search.{bool-cases, and-left, and-right, and-intro, and-false-cases, or-cases, or-left, or-right, neither, true-false, not-true, not-intro, not-of}
-use Rattle.routine_logic.specs.Syntax.{Term, Formula, always, never, equal, unequal, reaches, between, flag, negation, both, either, implies, same, forall}
-use Rattle.routine_logic.specs.State.{State, IsState}
+use Rattle.theory.proofs.Basics.Search.{and-left, and-right, and-intro, and-false-cases, or-cases, or-left, or-right, neither, true-false, not-true, not-intro, not-of}
+use Rattle.routine_logic.specs.Syntax.{Formula, always, never, equal, unequal, reaches, between, flag, negation, both, either, implies, same, forall}
+use Rattle.routine_logic.specs.State.{State}
 use Rattle.routine_logic.specs.Formulas.{Bound, holds, sameTruth}
 use Rattle.routine_theory.proofs.Means.{forall-means}
 use Rattle.cut_theory.proofs.Jumps.{IsCut}
 use Rattle.path_theory.specs.Points.{Point, stateAt}
 use Rattle.path_theory.specs.Assignments.{Begins}
 use Rattle.literal_theory.specs.Labels.{Label, labelNode, Plan, cutNames}
-use Rattle.literal_theory.specs.Forms.{Form, truth, kept, meet, join, junction, meetsForm}
+use Rattle.literal_theory.specs.Forms.{Form, junction, meetsForm}
 use Rattle.literal_theory.specs.Heaps.{cutNode, cutHeap}
 use Rattle.literal_theory.specs.Translation.{Places, left, right, translate, Cut, betweens}
 use Rattle.literal_theory.proofs.Literals.{truth-not, same-truth, not-not}

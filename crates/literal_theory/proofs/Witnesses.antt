@@ -1,11 +1,11 @@
 -- The nodes at which `forall`s fail that are denied, by the places where they stand in a formula.
 use Prim.Native.Nat.{ℕ}
 use native.Mathlib.Omega.{arith}
-use mathlib.Core.Path.{_≡_, refl, sym, ap, _∙_}
+use mathlib.Core.Path.{_≡_, refl}
 use mathlib.Core.Bool.{Bool, true, false, not}
-use mathlib.Core.List.{List, [], _∷_, List·Memᴰ}
+use mathlib.Core.List.{List, [], _∷_}
 use mathlib.Core.Option.{Option, none, some}
-use Rattle.logic.specs.Search.{from, all, find}
+use Rattle.logic.specs.Search.{from, find}
 use Rattle.logic.specs.Heap.{Node, IsHeap}
 use Rattle.theory.proofs.Basics.Search.{all-false, find-some, find-none, from-mem, true-false, not-true, not-intro}
 use Rattle.routine_logic.specs.Syntax.{Formula, always, never, equal, unequal, reaches, between, flag, negation, both, either, implies, same, forall}

@@ -1,6 +1,6 @@
 -- Formulas over literals of a query, names of any kind standing for nodes (03, "A way": "an and/or of literals about one link h").
 use Prim.Native.Nat.{ℕ}
-use mathlib.Core.Bool.{Bool, true, false, not, cond}
+use mathlib.Core.Bool.{Bool, true, not, cond}
 use mathlib.Core.List.{List, [], _∷_, _++_, map}
 use lib.Dec.{eqb}
 use Rattle.logic.specs.Search.{_and_, _or_}

@@ -1,14 +1,14 @@
 -- What a path says, as a formula over literals.
-use Prim.Native.Nat.{ℕ, zero, suc}
+use Prim.Native.Nat.{ℕ, suc}
 use mathlib.Core.Bool.{Bool, true, false, not, cond}
 use mathlib.Core.List.{List, [], _∷_, _++_, map}
 use lib.Dec.{eqb}
 use Rattle.logic.specs.Search.{from, select, flatMap}
 use Rattle.routine_logic.specs.Syntax.{Term, Formula, always, never, equal, unequal, reaches, between, flag, negation, both, either, implies, same, forall}
 use Rattle.cut_theory.specs.Trees.{reachesTree, betweenTree, readTree, flagTree}
-use Rattle.path_theory.specs.Points.{Name, nil, initial, given, read, Stores, none, Point}
+use Rattle.path_theory.specs.Points.{nil, initial, given, read, Point}
 use Rattle.path_theory.specs.Assignments.{count}
-use Rattle.path_theory.specs.Paths.{Fact, says, gives, Trail, Case}
+use Rattle.path_theory.specs.Paths.{Fact, says, gives, Case}
 use Rattle.literal_theory.specs.Labels.{Label, named, chosen, after, termLabel, labelsIn, Plan, cutNames, marksOf}
 use Rattle.literal_theory.specs.Forms.{Form, truth, equals, next, kept, meet, join, junction, literals, conjunction, namesOf}
 
