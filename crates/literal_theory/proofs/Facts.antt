@@ -28,8 +28,8 @@ use Rattle.literal_theory.specs.Translation.{translate, reading, cutForm
 use Rattle.literal_theory.proofs.Nodes.{AllNodes, point-heap}
 use Rattle.literal_theory.proofs.Witnesses.{witness, witness-node}
 use Rattle.literal_theory.proofs.Atoms.{Ground, olds, read-holds, tree-test}
-use Rattle.literal_theory.proofs.Translation.{translate-sound, translate-complete}
-use Rattle.literal_theory.proofs.Names.{Each, each-append, Only, only-each, translate-only}
+use Rattle.literal_theory.proofs.Translation.{chosen-suits, translate-sound, translate-complete}
+use Rattle.literal_theory.proofs.Names.{Each, each-append, Only, only-each, choices-each, translate-only}
 use Rattle.literal_theory.proofs.OnPath.{OnPath, OwnLabel, OwnPoint, OwnPlan, label-parts, cuts-own, term-own, marks-own}
 
 -- a member by its number
@@ -73,7 +73,7 @@ module _ (P : Plan) where
   unfolding factForms factForm Planned Only OwnLabel
   facts-own plan k [] h = tt
   facts-own plan k (says b p f ∷ fs) h = (
-    translate-only (OwnLabel P) P p (cuts-own P plan) (point-below p (h .0)) (marks-own P p (h .0)) b (chosen k) [] f (λ t m. term-own P p (h .0) t) (λ d. tt)
+    translate-only (OwnLabel P) P p (cuts-own P plan) (point-below p (h .0)) (marks-own P p (h .0)) b (chosen k) [] f (λ t m. term-own P p (h .0) t) (choices-each (OwnLabel P) b (chosen k) f (λ d. tt))
         (λ x m. absurd (List·Memᴰ·not-nil m)),
     facts-own plan (suc k) fs (h .2),
   )
@@ -139,7 +139,8 @@ module _ (s : State) (nodes : List ℕ) (picks : ℕ → List Bool → ℕ) (gro
   facts-sound k (says b p f ∷ fs) planned chose h =
       and-intro
       (translate-sound s nodes picks ground P names name-nodes p (planned .0 .begins) b (chosen k) [] [] f refl (λ c m. cut-here P label c (planned .1 c m))
-      (λ d. ap (λ (n : ℕ). picks n d) (let e : k ≡ k + 0 = omega arith in e) ∙ chose 0 d) (and-left _ _ h))
+      (chosen-suits s nodes picks ground P names name-nodes p (planned .0 .begins) b (chosen k) [] f
+      (λ d. ap (λ (n : ℕ). picks n d) (let e : k ≡ k + 0 = omega arith in e) ∙ chose 0 d)) (and-left _ _ h))
       (facts-sound (suc k) fs (planned .2) (λ n d. ap (λ (m : ℕ). picks m d) (let e : suc k + n ≡ k + suc n = omega arith in e) ∙ chose (suc n) d)
       (and-right (factHolds s nodes (says b p f)) _ h))
   facts-sound k (gives n ∷ fs) planned chose h =

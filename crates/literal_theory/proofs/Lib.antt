@@ -13,3 +13,4 @@ pub mod Alike
 pub mod Cases
 pub mod Ordered
 pub mod Claims
+pub mod Instances

@@ -3,11 +3,11 @@ use Prim.Native.Nat.{ℕ, zero, suc, _≤_, _<_}
 use native.Mathlib.Omega.{arith}
 use mathlib.Core.Path.{_≡_, refl, sym, ap, _∙_, subst}
 use mathlib.Core.Logic.{_⊎_, ⊎-elim}
-use mathlib.Core.Bool.{Bool, true, false, not, cond}
+use mathlib.Core.Bool.{Bool, true, false, not, cond, false≢true}
 use mathlib.Core.List.{List, [], _∷_, _++_, map, List·Memᴰ, List·Memᴰ·head, List·Memᴰ·tail, List·Memᴰ·not-nil, Memᴰ·append-left, Memᴰ·append-right, List·Memᴰ·append-cases, List·Memᴰ·cases-cons}
 use lib.Dec.{eqb, ltb}
 use Rattle.logic.specs.Search.{from, _and_, _or_}
-use Rattle.theory.proofs.Basics.Search.{from-mem}
+use Rattle.theory.proofs.Basics.Search.{and-left, and-right, from-mem}
 use Rattle.routine_logic.specs.Syntax.{Term, Formula, always, never, equal, unequal, reaches, between, flag, negation, both, either, implies, same, forall}
 use Rattle.routine_logic.specs.State.{State}
 use Rattle.routine_logic.specs.Formulas.{reachesBy, holds, sameTruth}
@@ -18,7 +18,7 @@ use Rattle.path_theory.specs.Points.{Point, stateAt}
 use Rattle.path_theory.specs.Assignments.{count}
 use Rattle.literal_theory.specs.Labels.{Label, termLabel, Plan, cutNames, marksOf}
 use Rattle.literal_theory.specs.Forms.{Form, truth, equals, reach, next, bit, kept, meet, join, junction, literals, namesOf, meetsForm}
-use Rattle.literal_theory.specs.Translation.{Places, left, right, termsIn, translate}
+use Rattle.literal_theory.specs.Translation.{Places, left, right, termsIn, plainly, choices, translate}
 
 -- each of some is such
 abbrev pub Each : {A : Type 0} → (A → Type 0) → List A → Type 0
@@ -205,6 +205,55 @@ meets-alike g start nodes node node′ (join f k) h =
     ap (λ (v : Bool). v or meetsForm g start nodes node k) (meets-alike g start nodes node node′ f (h .0))
     ∙ ap (meetsForm g start nodes node′ f or_) (meets-alike g start nodes node node′ k (h .1))
 
+-- Labels by place
+module _ (Q : Label → Type 0) where
+  pub choices-each : (b : Bool) (name : Places) (f : Formula) → ((d : List Bool) → Q (name d)) → Each Q (choices b name f)
+  unfolding choices
+  choices-each b name (negation f) n = choices-each (not b) name f n
+  choices-each b name (both f g) n = each-append Q (choices b (left name) f) _ (choices-each b (left name) f (λ d. n (false ∷ d))) (choices-each b (right name) g (λ d. n (true ∷ d)))
+  choices-each b name (either f g) n = each-append Q (choices b (left name) f) _ (choices-each b (left name) f (λ d. n (false ∷ d))) (choices-each b (right name) g (λ d. n (true ∷ d)))
+  choices-each b name (implies f g) n =
+      each-append Q (choices (not b) (left name) f) _ (choices-each (not b) (left name) f (λ d. n (false ∷ d))) (choices-each b (right name) g (λ d. n (true ∷ d)))
+  choices-each b name (same f g) n =
+      each-append Q (choices true (left name) f ++ choices b (right name) g) _
+      (each-append Q (choices true (left name) f) _ (choices-each true (left name) f (λ d. n (false ∷ d))) (choices-each b (right name) g (λ d. n (true ∷ d))))
+      (each-append Q (choices false (left name) f) _ (choices-each false (left name) f (λ d. n (false ∷ d))) (choices-each (not b) (right name) g (λ d. n (true ∷ d))))
+  choices-each true name (forall f) n = λ l m. absurd (List·Memᴰ·not-nil m)
+  choices-each false name (forall f) n = each-cons Q (name []) _ (n []) (choices-each false (left name) f (λ d. n (false ∷ d)))
+  choices-each b name always n = λ l m. absurd (List·Memᴰ·not-nil m)
+  choices-each b name never n = λ l m. absurd (List·Memᴰ·not-nil m)
+  choices-each b name (equal t u) n = λ l m. absurd (List·Memᴰ·not-nil m)
+  choices-each b name (unequal t u) n = λ l m. absurd (List·Memᴰ·not-nil m)
+  choices-each b name (reaches i t u) n = λ l m. absurd (List·Memᴰ·not-nil m)
+  choices-each b name (between i t u v) n = λ l m. absurd (List·Memᴰ·not-nil m)
+  choices-each b name (flag j t) n = λ l m. absurd (List·Memᴰ·not-nil m)
+
+  -- where no `forall` is denied there are none
+  pub plain-choices : (b : Bool) (name : Places) (f : Formula) → plainly b f ≡ true → Each Q (choices b name f)
+  unfolding choices plainly
+  plain-choices b name (negation f) h = plain-choices (not b) name f h
+  plain-choices b name (both f g) h =
+      each-append Q (choices b (left name) f) _ (plain-choices b (left name) f (and-left _ _ h)) (plain-choices b (right name) g (and-right (plainly b f) _ h))
+  plain-choices b name (either f g) h =
+      each-append Q (choices b (left name) f) _ (plain-choices b (left name) f (and-left _ _ h)) (plain-choices b (right name) g (and-right (plainly b f) _ h))
+  plain-choices b name (implies f g) h =
+      each-append Q (choices (not b) (left name) f) _ (plain-choices (not b) (left name) f (and-left _ _ h)) (plain-choices b (right name) g (and-right (plainly (not b) f) _ h))
+  plain-choices b name (same f g) h =
+      let hf = and-left (plainly true f and plainly false f) _ h in
+      let hg = and-right (plainly true f and plainly false f) (plainly b g and plainly (not b) g) h in
+      each-append Q (choices true (left name) f ++ choices b (right name) g) _
+      (each-append Q (choices true (left name) f) _ (plain-choices true (left name) f (and-left _ _ hf)) (plain-choices b (right name) g (and-left _ _ hg)))
+      (each-append Q (choices false (left name) f) _ (plain-choices false (left name) f (and-right (plainly true f) _ hf)) (plain-choices (not b) (right name) g (and-right (plainly b g) _ hg)))
+  plain-choices true name (forall f) h = λ l m. absurd (List·Memᴰ·not-nil m)
+  plain-choices false name (forall f) h = absurd (false≢true (and-left _ _ h))
+  plain-choices b name always h = λ l m. absurd (List·Memᴰ·not-nil m)
+  plain-choices b name never h = λ l m. absurd (List·Memᴰ·not-nil m)
+  plain-choices b name (equal t u) h = λ l m. absurd (List·Memᴰ·not-nil m)
+  plain-choices b name (unequal t u) h = λ l m. absurd (List·Memᴰ·not-nil m)
+  plain-choices b name (reaches i t u) h = λ l m. absurd (List·Memᴰ·not-nil m)
+  plain-choices b name (between i t u v) h = λ l m. absurd (List·Memᴰ·not-nil m)
+  plain-choices b name (flag j t) h = λ l m. absurd (List·Memᴰ·not-nil m)
+
 -- The names of a translation: those of its terms, of cuts and of what is assigned, and those by place.
 module _ (Q : Label → Type 0) (P : Plan) (p : Point) (cuts : (i : ℕ) → OwnCut Q (cutNames P i)) (below : (i : ℕ) → count (p .stores i) ≤ cutNames P i .number)
     (marks : (j : ℕ) (m : trees.Mark Label) → List·Memᴰ m (marksOf (p .marks j)) → Q (m .name)) where
@@ -212,9 +261,9 @@ module _ (Q : Label → Type 0) (P : Plan) (p : Point) (cuts : (i : ℕ) → Own
   abbrev pub Fits : Term → Type 0
   Fits t = (e : List Label) → Each Q e → Q (termLabel p e t)
 
-  pub translate-only : (b : Bool) (name : Places) (e : List Label) (f : Formula) → Each Fits (termsIn f) → ((d : List Bool) → Q (name d)) → Each Q e →
+  pub translate-only : (b : Bool) (name : Places) (e : List Label) (f : Formula) → Each Fits (termsIn f) → Each Q (choices b name f) → Each Q e →
       Only Q (translate P b p name e f)
-  unfolding translate termsIn Only
+  unfolding translate termsIn choices Only
   translate-only b name e always h n k = tt
   translate-only b name e never h n k = tt
   translate-only b name e (equal t u) h n k = (h t (List·Memᴰ·head refl) e k, h u (List·Memᴰ·tail (List·Memᴰ·head refl)) e k)
@@ -230,21 +279,30 @@ module _ (Q : Label → Type 0) (P : Plan) (p : Point) (cuts : (i : ℕ) → Own
   translate-only b name e (negation f) h n k = translate-only (not b) name e f h n k
   translate-only b name e (both f g) h n k =
       junction-only Q b _ _
-      (translate-only b (left name) e f (each-left Fits (termsIn f) (termsIn g) h) (λ d. n (false ∷ d)) k)
-      (translate-only b (right name) e g (each-right Fits (termsIn f) (termsIn g) h) (λ d. n (true ∷ d)) k)
+      (translate-only b (left name) e f (each-left Fits (termsIn f) (termsIn g) h) (each-left Q (choices b (left name) f) _ n) k)
+      (translate-only b (right name) e g (each-right Fits (termsIn f) (termsIn g) h) (each-right Q (choices b (left name) f) _ n) k)
   translate-only b name e (either f g) h n k =
       junction-only Q (not b) _ _
-      (translate-only b (left name) e f (each-left Fits (termsIn f) (termsIn g) h) (λ d. n (false ∷ d)) k)
-      (translate-only b (right name) e g (each-right Fits (termsIn f) (termsIn g) h) (λ d. n (true ∷ d)) k)
+      (translate-only b (left name) e f (each-left Fits (termsIn f) (termsIn g) h) (each-left Q (choices b (left name) f) _ n) k)
+      (translate-only b (right name) e g (each-right Fits (termsIn f) (termsIn g) h) (each-right Q (choices b (left name) f) _ n) k)
   translate-only b name e (implies f g) h n k =
       junction-only Q (not b) _ _
-      (translate-only (not b) (left name) e f (each-left Fits (termsIn f) (termsIn g) h) (λ d. n (false ∷ d)) k)
-      (translate-only b (right name) e g (each-right Fits (termsIn f) (termsIn g) h) (λ d. n (true ∷ d)) k)
+      (translate-only (not b) (left name) e f (each-left Fits (termsIn f) (termsIn g) h) (each-left Q (choices (not b) (left name) f) _ n) k)
+      (translate-only b (right name) e g (each-right Fits (termsIn f) (termsIn g) h) (each-right Q (choices (not b) (left name) f) _ n) k)
   translate-only b name e (same f g) h n k =
       let hf = each-left Fits (termsIn f) (termsIn g) h in
-      let hg = each-right Fits (termsIn f) (termsIn g) h in (
-        (translate-only true (left name) e f hf (λ d. n (false ∷ d)) k, translate-only b (right name) e g hg (λ d. n (true ∷ d)) k),
-        (translate-only false (left name) e f hf (λ d. n (false ∷ d)) k, translate-only (not b) (right name) e g hg (λ d. n (true ∷ d)) k),
+      let hg = each-right Fits (termsIn f) (termsIn g) h in
+      let yes·part = each-left Q (choices true (left name) f ++ choices b (right name) g) _ n in
+      let no·part = each-right Q (choices true (left name) f ++ choices b (right name) g) _ n in (
+        (
+          translate-only true (left name) e f hf (each-left Q (choices true (left name) f) _ yes·part) k,
+          translate-only b (right name) e g hg (each-right Q (choices true (left name) f) _ yes·part) k,
+        ),
+        (
+          translate-only false (left name) e f hf (each-left Q (choices false (left name) f) _ no·part) k,
+          translate-only (not b) (right name) e g hg (each-right Q (choices false (left name) f) _ no·part) k,
+        ),
       )
   translate-only true name e (forall f) h n k = k
-  translate-only false name e (forall f) h n k = translate-only false (left name) (name [] ∷ e) f h (λ d. n (false ∷ d)) (each-cons Q (name []) e (n []) k)
+  translate-only false name e (forall f) h n k =
+      translate-only false (left name) (name [] ∷ e) f h (λ l m. n l (List·Memᴰ·tail m)) (each-cons Q (name []) e (n (name []) (List·Memᴰ·head refl)) k)

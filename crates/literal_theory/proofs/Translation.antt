@@ -3,7 +3,7 @@
 use Prim.Native.Nat.{ℕ}
 use mathlib.Core.Path.{_≡_, refl, sym, ap, _∙_}
 use mathlib.Core.Logic.{_⊎_, ⊎-elim}
-use mathlib.Core.Bool.{Bool, true, false, not, cond}
+use mathlib.Core.Bool.{Bool, true, false, not, cond, false≢true}
 use mathlib.Core.List.{List, [], _∷_, _++_, map, List·Memᴰ, List·Memᴰ·head, Memᴰ·append-left, Memᴰ·append-right}
 use Rattle.logic.specs.Search.{_and_, _or_}
 use Rattle.logic.specs.Heap.{Node}
@@ -18,7 +18,7 @@ use Rattle.path_theory.specs.Assignments.{Begins}
 use Rattle.literal_theory.specs.Labels.{Label, labelNode, Plan, cutNames}
 use Rattle.literal_theory.specs.Forms.{Form, junction, meetsForm}
 use Rattle.literal_theory.specs.Heaps.{cutNode, cutHeap}
-use Rattle.literal_theory.specs.Translation.{Places, left, right, translate, Cut, betweens}
+use Rattle.literal_theory.specs.Translation.{Places, left, right, translate, Cut, betweens, plainly}
 use Rattle.literal_theory.proofs.Literals.{truth-not, same-truth, not-not}
 use Rattle.literal_theory.proofs.Witnesses.{failing, witness, failing-fails}
 use Rattle.literal_theory.proofs.Atoms.{Ground, label-node, equal-atom, unequal-atom, reaches-atom, between-atom, flag-atom}
@@ -88,13 +88,72 @@ module _ (s : State) (nodes : List ℕ) (picks : ℕ → List Bool → ℕ) (gro
     abbrev here : State
     here = stateAt s nodes p
 
-    -- labels by place stand for the nodes at which `forall`s fail
+    -- Labels by place suit a formula: where a `forall` is denied, its label stands for the node at which it fails.
+    unfoldable pub Suits : Bool → Places → Bound → Formula → Type 0
+    Suits b name v always = Unit
+    Suits b name v never = Unit
+    Suits b name v (equal t u) = Unit
+    Suits b name v (unequal t u) = Unit
+    Suits b name v (reaches i t u) = Unit
+    Suits b name v (between i t u z) = Unit
+    Suits b name v (flag j t) = Unit
+    Suits b name v (negation f) = Suits (not b) name v f
+    Suits b name v (both f g) = Suits b (left name) v f × Suits b (right name) v g
+    Suits b name v (either f g) = Suits b (left name) v f × Suits b (right name) v g
+    Suits b name v (implies f g) = Suits (not b) (left name) v f × Suits b (right name) v g
+    Suits b name v (same f g) = (Suits true (left name) v f × Suits b (right name) v g) × (Suits false (left name) v f × Suits (not b) (right name) v g)
+    Suits true name v (forall f) = Unit
+    Suits false name v (forall f) = (label (name []) ≡ failing here v f) × Suits false (left name) (failing here v f ∷ v) f
+
+    -- the nodes at which `forall`s fail suit
     abbrev pub Chosen : Places → Bound → Formula → Type 0
     Chosen name v f = (d : List Bool) → label (name d) ≡ witness here v f d
 
+    pub chosen-suits : (b : Bool) (name : Places) (v : Bound) (f : Formula) → Chosen name v f → Suits b name v f
+    unfolding Suits witness
+    chosen-suits b name v always w = tt
+    chosen-suits b name v never w = tt
+    chosen-suits b name v (equal t u) w = tt
+    chosen-suits b name v (unequal t u) w = tt
+    chosen-suits b name v (reaches i t u) w = tt
+    chosen-suits b name v (between i t u z) w = tt
+    chosen-suits b name v (flag j t) w = tt
+    chosen-suits b name v (negation f) w = chosen-suits (not b) name v f w
+    chosen-suits b name v (both f g) w = (chosen-suits b (left name) v f (λ d. w (false ∷ d)), chosen-suits b (right name) v g (λ d. w (true ∷ d)))
+    chosen-suits b name v (either f g) w = (chosen-suits b (left name) v f (λ d. w (false ∷ d)), chosen-suits b (right name) v g (λ d. w (true ∷ d)))
+    chosen-suits b name v (implies f g) w = (chosen-suits (not b) (left name) v f (λ d. w (false ∷ d)), chosen-suits b (right name) v g (λ d. w (true ∷ d)))
+    chosen-suits b name v (same f g) w = (
+      (chosen-suits true (left name) v f (λ d. w (false ∷ d)), chosen-suits b (right name) v g (λ d. w (true ∷ d))),
+      (chosen-suits false (left name) v f (λ d. w (false ∷ d)), chosen-suits (not b) (right name) v g (λ d. w (true ∷ d))),
+    )
+    chosen-suits true name v (forall f) w = tt
+    chosen-suits false name v (forall f) w = (w [], chosen-suits false (left name) (failing here v f ∷ v) f (λ d. w (false ∷ d)))
+
+    -- where no `forall` is denied, any labels suit
+    pub plain-suits : (b : Bool) (name : Places) (v : Bound) (f : Formula) → plainly b f ≡ true → Suits b name v f
+    unfolding Suits plainly
+    plain-suits b name v always h = tt
+    plain-suits b name v never h = tt
+    plain-suits b name v (equal t u) h = tt
+    plain-suits b name v (unequal t u) h = tt
+    plain-suits b name v (reaches i t u) h = tt
+    plain-suits b name v (between i t u z) h = tt
+    plain-suits b name v (flag j t) h = tt
+    plain-suits b name v (negation f) h = plain-suits (not b) name v f h
+    plain-suits b name v (both f g) h = (plain-suits b (left name) v f (and-left _ _ h), plain-suits b (right name) v g (and-right (plainly b f) _ h))
+    plain-suits b name v (either f g) h = (plain-suits b (left name) v f (and-left _ _ h), plain-suits b (right name) v g (and-right (plainly b f) _ h))
+    plain-suits b name v (implies f g) h = (plain-suits (not b) (left name) v f (and-left _ _ h), plain-suits b (right name) v g (and-right (plainly (not b) f) _ h))
+    plain-suits b name v (same f g) h =
+        let hf = and-left (plainly true f and plainly false f) _ h in
+        let hg = and-right (plainly true f and plainly false f) (plainly b g and plainly (not b) g) h in
+        ((plain-suits true (left name) v f (and-left _ _ hf), plain-suits b (right name) v g (and-left _ _ hg)),
+        (plain-suits false (left name) v f (and-right (plainly true f) _ hf), plain-suits (not b) (right name) v g (and-right (plainly b g) _ hg)))
+    plain-suits true name v (forall f) h = tt
+    plain-suits false name v (forall f) h = absurd (false≢true (and-left _ _ h))
+
     pub translate-sound : (b : Bool) (name : Places) (e : List Label) (v : Bound) (f : Formula) → map label e ≡ v → Covered (betweens b p name e f) →
-        Chosen name v f → sameTruth b (holds here v f) ≡ true → says (translate P b p name e f) ≡ true
-    unfolding translate betweens holds meetsForm witness
+        Suits b name v f → sameTruth b (holds here v f) ≡ true → says (translate P b p name e f) ≡ true
+    unfolding translate betweens holds meetsForm Suits
     translate-sound b name e v always q c w h = sym (same-truth b true .0 h)
     translate-sound b name e v never q c w h = ap not (sym (same-truth b false .0 h))
     translate-sound b name e v (equal t u) q c w h = equal-atom s nodes picks ground P names name-nodes p on-path e b t u ∙ ap (λ (z : Bound). sameTruth b (holds here z (equal t u))) q ∙ h
@@ -110,30 +169,30 @@ module _ (s : State) (nodes : List ℕ) (picks : ℕ → List Bool → ℕ) (gro
     translate-sound b name e v (both f g) q c w h =
         junction-says b (translate P b p (left name) e f) (translate P b p (right name) e g)
         ∙ both-parts b (holds here v f) (holds here v g) _ _
-        (translate-sound b (left name) e v f q (first-part (betweens b p (left name) e f) _ c) (λ d. w (false ∷ d)))
-        (translate-sound b (right name) e v g q (second-part (betweens b p (left name) e f) _ c) (λ d. w (true ∷ d))) h
+        (translate-sound b (left name) e v f q (first-part (betweens b p (left name) e f) _ c) (w .0))
+        (translate-sound b (right name) e v g q (second-part (betweens b p (left name) e f) _ c) (w .1)) h
     translate-sound b name e v (either f g) q c w h =
         junction-says (not b) (translate P b p (left name) e f) (translate P b p (right name) e g)
         ∙ either-parts b (holds here v f) (holds here v g) _ _
-        (translate-sound b (left name) e v f q (first-part (betweens b p (left name) e f) _ c) (λ d. w (false ∷ d)))
-        (translate-sound b (right name) e v g q (second-part (betweens b p (left name) e f) _ c) (λ d. w (true ∷ d))) h
+        (translate-sound b (left name) e v f q (first-part (betweens b p (left name) e f) _ c) (w .0))
+        (translate-sound b (right name) e v g q (second-part (betweens b p (left name) e f) _ c) (w .1)) h
     translate-sound b name e v (implies f g) q c w h =
         junction-says (not b) (translate P (not b) p (left name) e f) (translate P b p (right name) e g)
         ∙ either-parts b (not (holds here v f)) (holds here v g) _ _
-        (λ k. translate-sound (not b) (left name) e v f q (first-part (betweens (not b) p (left name) e f) _ c) (λ d. w (false ∷ d)) (truth-not b (holds here v f) ∙ k))
-        (translate-sound b (right name) e v g q (second-part (betweens (not b) p (left name) e f) _ c) (λ d. w (true ∷ d))) h
+        (λ k. translate-sound (not b) (left name) e v f q (first-part (betweens (not b) p (left name) e f) _ c) (w .0) (truth-not b (holds here v f) ∙ k))
+        (translate-sound b (right name) e v g q (second-part (betweens (not b) p (left name) e f) _ c) (w .1)) h
     translate-sound b name e v (same f g) q c w h =
         let yes·part = first-part (betweens true p (left name) e f ++ betweens b p (right name) e g) _ c in
         let no·part = second-part (betweens true p (left name) e f ++ betweens b p (right name) e g) _ c in
         same-parts b (holds here v f) (holds here v g) _ _ _ _
-        (translate-sound true (left name) e v f q (first-part (betweens true p (left name) e f) _ yes·part) (λ d. w (false ∷ d)))
-        (translate-sound b (right name) e v g q (second-part (betweens true p (left name) e f) _ yes·part) (λ d. w (true ∷ d)))
-        (translate-sound false (left name) e v f q (first-part (betweens false p (left name) e f) _ no·part) (λ d. w (false ∷ d)))
-        (translate-sound (not b) (right name) e v g q (second-part (betweens false p (left name) e f) _ no·part) (λ d. w (true ∷ d))) h
+        (translate-sound true (left name) e v f q (first-part (betweens true p (left name) e f) _ yes·part) (w .0 .0))
+        (translate-sound b (right name) e v g q (second-part (betweens true p (left name) e f) _ yes·part) (w .0 .1))
+        (translate-sound false (left name) e v f q (first-part (betweens false p (left name) e f) _ no·part) (w .1 .0))
+        (translate-sound (not b) (right name) e v g q (second-part (betweens false p (left name) e f) _ no·part) (w .1 .1)) h
     translate-sound true name e v (forall f) q c w h = ap (λ (z : Bound). holds here z (forall f)) q ∙ same-truth true _ .0 h
     translate-sound false name e v (forall f) q c w h =
         translate-sound false (left name) (name [] ∷ e) (failing here v f ∷ v) f
-        (ap (λ (x : ℕ). x ∷ map label e) (w []) ∙ ap (λ (z : Bound). failing here v f ∷ z) q) c (λ d. w (false ∷ d))
+        (ap (λ (x : ℕ). x ∷ map label e) (w .0) ∙ ap (λ (z : Bound). failing here v f ∷ z) q) c (w .1)
         (same-truth false _ .1 (failing-fails here v f (same-truth false _ .0 h)))
 
     pub translate-complete : (b : Bool) (name : Places) (e : List Label) (f : Formula) → Covered (betweens b p name e f) →

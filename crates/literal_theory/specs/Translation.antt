@@ -3,8 +3,8 @@ use Prim.Native.Nat.{ℕ, suc}
 use mathlib.Core.Bool.{Bool, true, false, not, cond}
 use mathlib.Core.List.{List, [], _∷_, _++_, map}
 use lib.Dec.{eqb}
-use Rattle.logic.specs.Search.{from, select, flatMap}
-use Rattle.routine_logic.specs.Syntax.{Term, Formula, always, never, equal, unequal, reaches, between, flag, negation, both, either, implies, same, forall}
+use Rattle.logic.specs.Search.{_and_, from, all, select, flatMap}
+use Rattle.routine_logic.specs.Syntax.{Base, null, variable, bound, Term, Formula, always, never, equal, unequal, reaches, between, flag, negation, both, either, implies, same, forall}
 use Rattle.cut_theory.specs.Trees.{reachesTree, betweenTree, readTree, flagTree}
 use Rattle.path_theory.specs.Points.{nil, initial, given, read, Point}
 use Rattle.path_theory.specs.Assignments.{count}
@@ -37,6 +37,55 @@ termsIn (either f g) = termsIn f ++ termsIn g
 termsIn (implies f g) = termsIn f ++ termsIn g
 termsIn (same f g) = termsIn f ++ termsIn g
 termsIn (forall f) = termsIn f
+
+-- "No alternation: within the body of a `forall` another may stand only plainly": no `forall` is denied
+unfoldable pub plainly : Bool → Formula → Bool
+plainly b always = true
+plainly b never = true
+plainly b (equal t u) = true
+plainly b (unequal t u) = true
+plainly b (reaches i t u) = true
+plainly b (between i t u v) = true
+plainly b (flag j t) = true
+plainly b (negation f) = plainly (not b) f
+plainly b (both f g) = plainly b f and plainly b g
+plainly b (either f g) = plainly b f and plainly b g
+plainly b (implies f g) = plainly (not b) f and plainly b g
+plainly b (same f g) = plainly true f and plainly false f and (plainly b g and plainly (not b) g)
+plainly b (forall f) = b and plainly b f
+
+-- no name of a `forall` bears a link (03, claim 5)
+unfoldable pub bareBase : Base → List ℕ → Bool
+bareBase null is = true
+bareBase (variable x) is = true
+bareBase (bound i) [] = true
+bareBase (bound i) (j ∷ is) = false
+
+unfoldable pub bare : Term → Bool
+bare t = bareBase (t .base) (t .links)
+
+unfoldable pub unlinked : Formula → Bool
+unlinked f = all bare (termsIn f)
+
+-- the labels of a formula's terms, those of a `forall` aside, which stand for NULL here
+unfoldable pub fixedLabels : Point → Formula → List Label
+fixedLabels p f = map (termLabel p []) (termsIn f)
+
+-- the labels by place that a formula uses: those of the `forall`s that are denied
+unfoldable pub choices : Bool → Places → Formula → List Label
+choices b name (negation f) = choices (not b) name f
+choices b name (both f g) = choices b (left name) f ++ choices b (right name) g
+choices b name (either f g) = choices b (left name) f ++ choices b (right name) g
+choices b name (implies f g) = choices (not b) (left name) f ++ choices b (right name) g
+choices b name (same f g) = (choices true (left name) f ++ choices b (right name) g) ++ (choices false (left name) f ++ choices (not b) (right name) g)
+choices b name (forall f) = cond b [] (name [] ∷ choices false (left name) f)
+choices b name always = []
+choices b name never = []
+choices b name (equal t u) = []
+choices b name (unequal t u) = []
+choices b name (reaches i t u) = []
+choices b name (between i t u v) = []
+choices b name (flag j t) = []
 
 -- A formula at a point, plain or denied, with labels for the `forall`s around it. An assumed `forall` is kept; one that is denied fails at a node that has
 -- a label of its own.
