@@ -14,3 +14,4 @@ pub mod Cases
 pub mod Ordered
 pub mod Claims
 pub mod Instances
+pub mod Examples

@@ -145,9 +145,10 @@ module _ (s : State) (nodes : List ℕ) (picks : ℕ → List Bool → ℕ) (gro
     plain-suits b name v (implies f g) h = (plain-suits (not b) (left name) v f (and-left _ _ h), plain-suits b (right name) v g (and-right (plainly (not b) f) _ h))
     plain-suits b name v (same f g) h =
         let hf = and-left (plainly true f and plainly false f) _ h in
-        let hg = and-right (plainly true f and plainly false f) (plainly b g and plainly (not b) g) h in
-        ((plain-suits true (left name) v f (and-left _ _ hf), plain-suits b (right name) v g (and-left _ _ hg)),
-        (plain-suits false (left name) v f (and-right (plainly true f) _ hf), plain-suits (not b) (right name) v g (and-right (plainly b g) _ hg)))
+        let hg = and-right (plainly true f and plainly false f) (plainly b g and plainly (not b) g) h in (
+          (plain-suits true (left name) v f (and-left _ _ hf), plain-suits b (right name) v g (and-left _ _ hg)),
+          (plain-suits false (left name) v f (and-right (plainly true f) _ hf), plain-suits (not b) (right name) v g (and-right (plainly b g) _ hg)),
+        )
     plain-suits true name v (forall f) h = tt
     plain-suits false name v (forall f) h = absurd (false≢true (and-left _ _ h))
 

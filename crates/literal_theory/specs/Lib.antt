@@ -4,3 +4,4 @@ pub mod Forms
 pub mod Heaps
 pub mod Translation
 pub mod Claims
+pub mod Examples
