@@ -44,7 +44,7 @@ same-plan : (x : Case) → Longer (planAt (x .trail .point)) (planOf x)
 unfolding planOf
 same-plan x = record { stores = λ i w h. h; havocs = omega arith }
 
-fact-own : (x : Case) (f : Fact) → OwnFact (planAt (x .trail .point)) f → OwnFact (planOf x) f
+pub fact-own : (x : Case) (f : Fact) → OwnFact (planAt (x .trail .point)) f → OwnFact (planOf x) f
 fact-own x f h = fact-longer (planAt (x .trail .point)) (planOf x) (same-plan x) f h
 
 abbrev CutOwn : Plan → Cut → Type 0

@@ -64,7 +64,7 @@ module _ (P : Plan) where
       behind : (n k : ℕ) → (n + k) - n ≡ k
       behind n k = omega arith
 
-  point-below : (p : Point) → OwnPoint P p → (i : ℕ) → count (p .stores i) ≤ cutNames P i .number
+  pub point-below : (p : Point) → OwnPoint P p → (i : ℕ) → count (p .stores i) ≤ cutNames P i .number
   unfolding cutNames
   point-below p own i = let l = begins-count (own .begins i) in omega (arith, l)
 

@@ -72,7 +72,7 @@ base-fits Q p e (variable x) is h n k q = q
 base-fits Q p e (bound i) [] h n k q = getD-each Q e i n k
 base-fits Q p e (bound i) (j ∷ is) h n k q = absurd (false≢true h)
 
-term-fits : (Q : Label → Type 0) (p : Point) (e : List Label) (t : Term) → bare t ≡ true → Q (named nil) → Each Q e → Q (termLabel p [] t) → Q (termLabel p e t)
+pub term-fits : (Q : Label → Type 0) (p : Point) (e : List Label) (t : Term) → bare t ≡ true → Q (named nil) → Each Q e → Q (termLabel p [] t) → Q (termLabel p e t)
 unfolding termLabel bare
 term-fits Q p e t h n k q = base-fits Q p e (t .base) (t .links) h n k q
 

@@ -14,4 +14,5 @@ pub mod Cases
 pub mod Ordered
 pub mod Claims
 pub mod Instances
+pub mod Finite
 pub mod Examples

@@ -5,12 +5,12 @@ use mathlib.Core.List.{List, [], _∷_, _++_, map}
 use lib.Dec.{eqb}
 use Rattle.logic.specs.Search.{_and_, from, all, select, flatMap}
 use Rattle.routine_logic.specs.Syntax.{Base, null, variable, bound, Term, Formula, always, never, equal, unequal, reaches, between, flag, negation, both, either, implies, same, forall}
-use Rattle.cut_theory.specs.Trees.{reachesTree, betweenTree, readTree, flagTree}
+use Rattle.cut_theory.specs.Trees.{reachesTree, betweenTree, readTree, flagTree, Mark}
 use Rattle.path_theory.specs.Points.{nil, initial, given, read, Point}
 use Rattle.path_theory.specs.Assignments.{count}
 use Rattle.path_theory.specs.Paths.{Fact, says, gives, Case}
 use Rattle.literal_theory.specs.Labels.{Label, named, chosen, after, termLabel, labelsIn, Plan, cutNames, marksOf}
-use Rattle.literal_theory.specs.Forms.{Form, truth, equals, next, kept, meet, join, junction, literals, conjunction, namesOf}
+use Rattle.literal_theory.specs.Forms.{Form, truth, equals, reach, next, bit, kept, meet, join, junction, literals, conjunction, namesOf}
 
 -- labels by place in a formula: on the left or below, on the right
 abbrev pub Places : Type 0
@@ -183,3 +183,47 @@ planOf x =
 
 unfoldable pub caseForm : List ℕ → Case → Form Label
 caseForm links x = whole (planOf x) links (factForms (planOf x) 0 (x .trail .facts))
+
+-- The labels that a case and all instances of its `forall`s ask for, where no bound name bears a link (03, claim 5), these flags are assigned and these links are cut
+unfoldable pub markLabels : List ℕ → Point → List Label
+markLabels flags p = flatMap (λ j. map (λ (m : Mark Label). m .name) (marksOf (p .marks j))) flags
+
+unfoldable pub factLabels : List ℕ → ℕ → List Fact → List Label
+factLabels flags k [] = []
+factLabels flags k (says b p f ∷ fs) = (fixedLabels p f ++ (choices b (chosen k) f ++ markLabels flags p)) ++ factLabels flags (suc k) fs
+factLabels flags k (gives n ∷ fs) = factLabels flags (suc k) fs
+
+unfoldable pub caseLabels : List ℕ → List ℕ → Case → List Label
+caseLabels flags links x = named nil ∷ (flatMap (cutLabels (planOf x)) links ++ factLabels flags 0 (x .trail .facts))
+
+-- "No alternation", and no bound name bears a link: of a formula that is plain or denied
+unfoldable pub tidy : Bool → Formula → Bool
+tidy b always = true
+tidy b never = true
+tidy b (equal t u) = true
+tidy b (unequal t u) = true
+tidy b (reaches i t u) = true
+tidy b (between i t u v) = true
+tidy b (flag j t) = true
+tidy b (negation f) = tidy (not b) f
+tidy b (both f g) = tidy b f and tidy b g
+tidy b (either f g) = tidy b f and tidy b g
+tidy b (implies f g) = tidy (not b) f and tidy b g
+tidy b (same f g) = tidy true f and tidy b g and (tidy false f and tidy (not b) g)
+tidy b (forall f) = cond b (plainly true f) (tidy false f)
+
+-- a `forall` that is kept
+pub record Kept : Type 0 where
+  pub point : Point
+  pub names : List Label
+  pub body : Formula
+
+unfoldable pub keptIn : Form Label → List Kept
+keptIn (truth b) = []
+keptIn (equals b x y) = []
+keptIn (reach b i x y) = []
+keptIn (next b i x y) = []
+keptIn (bit b j x) = []
+keptIn (kept p e f) = record { point = p; names = e; body = f } ∷ []
+keptIn (meet f g) = keptIn f ++ keptIn g
+keptIn (join f g) = keptIn f ++ keptIn g
