@@ -1,28 +1,26 @@
 -- Instances of a `forall` that is assumed: they hold at every name; where every node has a name, that is enough; and where no bound name bears a link they bring
 -- no new names.
-use Prim.Native.Nat.{ℕ, zero, suc, _≤_}
-use mathlib.Core.Path.{_≡_, refl, sym, ap, _∙_, subst}
-use mathlib.Core.Bool.{Bool, true, false, not, false≢true}
-use mathlib.Core.List.{List, [], _∷_, _++_, map, List·Memᴰ, List·Memᴰ·head, List·Memᴰ·tail}
+use Prim.Native.Nat.{ℕ, zero, suc}
+use mathlib.Core.Path.{_≡_, refl, sym, subst}
+use mathlib.Core.Bool.{Bool, true, false≢true}
+use mathlib.Core.List.{List, [], _∷_, map, List·Memᴰ, List·Memᴰ·head, List·Memᴰ·tail}
 use lib.ListN.{getD}
-use Rattle.logic.specs.Search.{all, _and_}
 use Rattle.logic.specs.Heap.{Node}
-use Rattle.theory.proofs.Basics.Search.{all-true, all-intro, map-mem, map-intro}
-use Rattle.routine_logic.specs.Syntax.{Base, null, variable, bound, Term, Formula, always, never, equal, unequal, reaches, between, flag, negation, both, either, implies, same, forall}
+use Rattle.theory.proofs.Basics.Search.{all-intro, map-mem}
+use Rattle.routine_logic.specs.Syntax.{Base, null, variable, bound, Term, Formula}
 use Rattle.routine_logic.specs.State.{State}
-use Rattle.routine_logic.specs.Formulas.{holds, sameTruth}
+use Rattle.routine_logic.specs.Formulas.{holds}
 use Rattle.routine_theory.proofs.Means.{forall-means, forall-named}
-use Rattle.cut_theory.specs.Trees.{Mark}
 use Rattle.path_theory.specs.Points.{nil, Point, stateAt}
-use Rattle.path_theory.specs.Assignments.{count, Begins}
-use Rattle.literal_theory.specs.Labels.{Label, named, baseLabel, alongLabel, termLabel, labelNode, Plan, cutNames, marksOf}
-use Rattle.literal_theory.specs.Forms.{Form, truth, equals, reach, next, bit, kept, meet, join, junction, literals, meetsForm}
+use Rattle.path_theory.specs.Assignments.{Begins}
+use Rattle.literal_theory.specs.Labels.{Label, named, baseLabel, alongLabel, termLabel, labelNode, Plan}
+use Rattle.literal_theory.specs.Forms.{Form, kept, meetsForm}
 use Rattle.literal_theory.specs.Heaps.{cutHeap}
-use Rattle.literal_theory.specs.Translation.{Places, left, right, termsIn, plainly, bareBase, bare, unlinked, fixedLabels, choices, translate, betweens}
+use Rattle.literal_theory.specs.Translation.{Places, plainly, bareBase, bare, translate, betweens}
 use Rattle.literal_theory.proofs.Literals.{same-truth}
 use Rattle.literal_theory.proofs.Atoms.{Ground, label-node}
 use Rattle.literal_theory.proofs.Translation.{Covered, plain-suits, translate-sound, translate-complete}
-use Rattle.literal_theory.proofs.Names.{Each, each-cons, each-left, each-right, Only, OwnCut, translate-only}
+use Rattle.literal_theory.proofs.Names.{Each}
 
 module _ (s : State) (nodes : List ℕ) (picks : ℕ → List Bool → ℕ) (ground : Ground s nodes picks) (P : Plan) (names : ℕ → ℕ) (name-nodes : (n : ℕ) → Node s (names n))
     (p : Point) (on-path : (i : ℕ) → Begins (p .stores i) (P .stores i)) (e : List Label) (f : Formula) where
@@ -75,19 +73,3 @@ base-fits Q p e (bound i) (j ∷ is) h n k q = absurd (false≢true h)
 pub term-fits : (Q : Label → Type 0) (p : Point) (e : List Label) (t : Term) → bare t ≡ true → Q (named nil) → Each Q e → Q (termLabel p [] t) → Q (termLabel p e t)
 unfolding termLabel bare
 term-fits Q p e t h n k q = base-fits Q p e (t .base) (t .links) h n k q
-
--- Some names: NULL, the cuts of the plan and what they led to, what is marked at a point, and the terms of a formula there.
-pub record Closed (P : Plan) (N : List Label) (p : Point) (f : Formula) : Type 0 where
-  pub null : List·Memᴰ (named nil) N
-  pub cuts : (i : ℕ) → OwnCut (λ l. List·Memᴰ l N) (cutNames P i)
-  pub below : (i : ℕ) → count (p .stores i) ≤ cutNames P i .number
-  pub marks : (j : ℕ) (m : Mark Label) → List·Memᴰ m (marksOf (p .marks j)) → List·Memᴰ (m .name) N
-  pub terms : Each (λ l. List·Memᴰ l N) (fixedLabels p f)
-
--- at bound names among them a formula speaks of no other
-pub instance-names : (P : Plan) (N : List Label) (p : Point) (f : Formula) → Closed P N p f → unlinked f ≡ true → (b : Bool) (name : Places) →
-    Each (λ l. List·Memᴰ l N) (choices b name f) → (e : List Label) → Each (λ l. List·Memᴰ l N) e → Only (λ l. List·Memᴰ l N) (translate P b p name e f)
-unfolding unlinked fixedLabels
-instance-names P N p f c h b name n e k =
-    translate-only (λ l. List·Memᴰ l N) P p (c .cuts) (c .below) (c .marks) b name e f
-    (λ t m e′ k′. term-fits (λ l. List·Memᴰ l N) p e′ t (all-true bare t h m) (c .null) k′ (c .terms (termLabel p [] t) (map-intro (termLabel p []) t m))) n k

@@ -15,4 +15,5 @@ pub mod Ordered
 pub mod Claims
 pub mod Instances
 pub mod Finite
+pub mod Numbers
 pub mod Examples

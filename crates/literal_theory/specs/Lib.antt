@@ -3,5 +3,6 @@ pub mod Labels
 pub mod Forms
 pub mod Heaps
 pub mod Translation
+pub mod Numbers
 pub mod Claims
 pub mod Examples
