@@ -73,7 +73,8 @@ module _ (P : Plan) where
   unfolding factForms factForm Planned Only OwnLabel
   facts-own plan k [] h = tt
   facts-own plan k (says b p f ∷ fs) h = (
-    translate-only (OwnLabel P) P p (cuts-own P plan) (point-below p (h .0)) (marks-own P p (h .0)) b (chosen k) [] f (λ t m. term-own P p (h .0) t) (choices-each (OwnLabel P) b (chosen k) f (λ d. tt))
+    translate-only (OwnLabel P) P p (cuts-own P plan) (point-below p (h .0)) (marks-own P p (h .0)) b (chosen k) [] f (λ t m. term-own P p (h .0) t)
+        (choices-each (OwnLabel P) b (chosen k) f (λ d. tt))
         (λ x m. absurd (List·Memᴰ·not-nil m)),
     facts-own plan (suc k) fs (h .2),
   )

@@ -16,4 +16,5 @@ pub mod Claims
 pub mod Instances
 pub mod Finite
 pub mod Numbers
+pub mod Queries
 pub mod Examples

@@ -1,5 +1,6 @@
 -- A formula over numbers says what the formula over labels says, numbers standing for the nodes of their labels.
-use Prim.Native.Nat.{ℕ, suc}
+use Prim.Native.Nat.{ℕ, suc, _-_}
+use native.Mathlib.Omega.{arith}
 use mathlib.Core.Path.{_≡_, refl, sym, ap, _∙_}
 use mathlib.Core.Bool.{Bool, true, false, cond, false≢true}
 use mathlib.Core.List.{List, [], _∷_, map, List·Memᴰ, List·Memᴰ·head, List·Memᴰ·tail}
@@ -16,7 +17,7 @@ use Rattle.literal_theory.specs.Labels.{Label, named, chosen, after}
 use Rattle.literal_theory.specs.Forms.{Form, truth, equals, reach, next, bit, kept, meet, join, renamed, meetsForm}
 use Rattle.literal_theory.specs.Heaps.{startState, givenNodes}
 use Rattle.literal_theory.specs.Translation.{planOf, caseForm}
-use Rattle.literal_theory.specs.Numbers.{sameName, sameStores, samePlace, sameLabel, numberOf, tableOf, numbered, labelAt}
+use Rattle.literal_theory.specs.Numbers.{sameName, sameStores, samePlace, sameLabel, numberOf, termOf, tableOf, numbered, labelAt}
 use Rattle.literal_theory.specs.Claims.{NumbersExact}
 use Rattle.literal_theory.proofs.Names.{each-only, meets-alike}
 
@@ -116,14 +117,20 @@ label-self (chosen k d) = and-intro (eqb-self k) (place-self d)
 label-self (after i w l) = and-intro (and-intro (eqb-self i) (stores-self w)) (label-self l)
 
 -- a label of a table stands at its number
-pub label-at : (table : List Label) (l : Label) → List·Memᴰ l table → labelAt table (numberOf table l) ≡ l
-unfolding labelAt numberOf
-label-at (m ∷ ms) l (List·Memᴰ·head e) = ap (λ (n : ℕ). getD (m ∷ ms) n (named nil)) (cond-true _ _ (ap (λ (z : Label). sameLabel z m) e ∙ label-self m)) ∙ sym e
-label-at (m ∷ ms) l (List·Memᴰ·tail mem) = found (sameLabel l m) refl (label-at ms l mem)
+number-at : (table : List Label) (l : Label) → List·Memᴰ l table → getD table (numberOf table l) (named nil) ≡ l
+unfolding numberOf
+number-at (m ∷ ms) l (List·Memᴰ·head e) = ap (λ (n : ℕ). getD (m ∷ ms) n (named nil)) (cond-true _ _ (ap (λ (z : Label). sameLabel z m) e ∙ label-self m)) ∙ sym e
+number-at (m ∷ ms) l (List·Memᴰ·tail mem) = found (sameLabel l m) refl (number-at ms l mem)
   where
     found : (b : Bool) → sameLabel l m ≡ b → getD ms (numberOf ms l) (named nil) ≡ l → getD (m ∷ ms) (cond b 0 (suc (numberOf ms l))) (named nil) ≡ l
     found true e h = sym (label-same l m e)
     found false e h = h
+
+pub label-at : (table : List Label) (l : Label) → List·Memᴰ l table → labelAt table (termOf table l) ≡ l
+unfolding labelAt termOf
+label-at table l mem =
+    let n : ℕ = numberOf table l in
+    ap (λ (k : ℕ). getD table k (named nil)) (let e : suc n - 1 ≡ n = omega arith in e) ∙ number-at table l mem
 
 -- other names for the same nodes
 map-map : {A B C : Type 0} (f : B → C) (g : A → B) (xs : List A) → map f (map g xs) ≡ map (λ x. f (g x)) xs
@@ -146,12 +153,12 @@ meets-renamed g s nodes node r (join f h) =
 
 -- by the table of a formula
 table-meets : (g s : State) (nodes : List ℕ) (node : Label → ℕ) (f : Form Label) →
-    meetsForm g s nodes (λ n. node (labelAt (tableOf f) n)) (renamed (numberOf (tableOf f)) f) ≡ meetsForm g s nodes node f
+    meetsForm g s nodes (λ n. node (labelAt (tableOf f) n)) (renamed (termOf (tableOf f)) f) ≡ meetsForm g s nodes node f
 unfolding tableOf
 table-meets g s nodes node f =
-    meets-renamed g s nodes (λ n. node (labelAt (tableOf f) n)) (numberOf (tableOf f)) f
-    ∙ meets-alike g s nodes (λ l. node (labelAt (tableOf f) (numberOf (tableOf f) l))) node f
-    (each-only (λ l. node (labelAt (tableOf f) (numberOf (tableOf f) l)) ≡ node l) f (λ l m. ap node (label-at (tableOf f) l (List·Memᴰ·tail m))))
+    meets-renamed g s nodes (λ n. node (labelAt (tableOf f) n)) (termOf (tableOf f)) f
+    ∙ meets-alike g s nodes (λ l. node (labelAt (tableOf f) (termOf (tableOf f) l))) node f
+    (each-only (λ l. node (labelAt (tableOf f) (termOf (tableOf f) l)) ≡ node l) f (λ l m. ap node (label-at (tableOf f) l (List·Memᴰ·tail m))))
 
 pub numbers-exact : NumbersExact
 unfolding numbered
@@ -163,9 +170,9 @@ numbers-exact =
             is-state = is;
             nodes = λ l. is .is-heap .variable-node _;
             null = ap (g .variable) (nil-number (caseForm links x)) ∙ null;
-            met = sym (meets-renamed g _ _ (g .variable) (numberOf (tableOf (caseForm links x))) (caseForm links x)) ∙ h;
+            met = sym (meets-renamed g _ _ (g .variable) (termOf (tableOf (caseForm links x))) (caseForm links x)) ∙ h;
           };
     }
   where
-    nil-number : (f : Form Label) → numberOf (tableOf f) (named nil) ≡ 0
-    nil-number f = unfold tableOf numberOf sameLabel sameName in refl
+    nil-number : (f : Form Label) → termOf (tableOf f) (named nil) ≡ 1
+    nil-number f = unfold termOf tableOf numberOf sameLabel sameName in refl

@@ -13,7 +13,7 @@ use Rattle.path_theory.specs.Points.{nil, unmarked, Point}
 use Rattle.path_theory.specs.Paths.{Fact, says, Case, SegmentPaths, segmentPaths, startTrail}
 use Rattle.literal_theory.specs.Labels.{Label, named, chosen, cutNames}
 use Rattle.literal_theory.specs.Forms.{Form, namesOf, meetsForm}
-use Rattle.literal_theory.specs.Numbers.{numberOf, tableOf, numbered, labelAt}
+use Rattle.literal_theory.specs.Numbers.{termOf, tableOf, numbered, labelAt}
 use Rattle.literal_theory.specs.Heaps.{startState, givenNodes}
 use Rattle.literal_theory.specs.Translation.{Places, unlinked, translate, planOf, caseForm, caseLabels, tidy, Kept, keptIn}
 
@@ -66,10 +66,10 @@ pub record NamesFinite : Type 0 where
   pub closed : (r : Routine) (x : Case) → CaseOf r x → (flags links : List ℕ) → CutWithin links x → MarkedWithin flags (x .trail .facts) → Unlinked (x .trail .facts) →
       (f : Form Label) → Arises x (caseLabels flags links x) f → (l : Label) → List·Memᴰ l (namesOf f) → List·Memᴰ l (caseLabels flags links x)
 
--- names as numbers: a heap's variables are the names by number, NULL being 0
+-- names as numbers: a heap's variables are the names by term number, NULL being term 1
 pub record NumbersExact : Type 0 where
   pub sound : (links : List ℕ) (x : Case) (g : State) (node : Label → ℕ) → MeetsCase links x g node →
       meetsForm g (startState (planOf x) node g) (givenNodes (planOf x) node) (λ n. node (labelAt (tableOf (caseForm links x)) n)) (numbered links x) ≡ true
-  pub complete : (links : List ℕ) (x : Case) (g : State) → IsState g → g .variable 0 ≡ nullNode →
-      let node : Label → ℕ = λ l. g .variable (numberOf (tableOf (caseForm links x)) l) in
+  pub complete : (links : List ℕ) (x : Case) (g : State) → IsState g → g .variable 1 ≡ nullNode →
+      let node : Label → ℕ = λ l. g .variable (termOf (tableOf (caseForm links x)) l) in
       meetsForm g (startState (planOf x) node g) (givenNodes (planOf x) node) (g .variable) (numbered links x) ≡ true → MeetsCase links x g node

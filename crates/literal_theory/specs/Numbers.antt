@@ -1,5 +1,5 @@
 -- Names by number (03, "A way": "a query", whose terms are numbered): the label at a place of a table.
-use Prim.Native.Nat.{ℕ, suc}
+use Prim.Native.Nat.{ℕ, suc, _-_}
 use mathlib.Core.Bool.{Bool, true, false, cond}
 use mathlib.Core.List.{List, [], _∷_}
 use lib.Dec.{eqb}
@@ -60,14 +60,18 @@ unfoldable pub numberOf : List Label → Label → ℕ
 numberOf [] l = 0
 numberOf (m ∷ ms) l = cond (sameLabel l m) 0 (suc (numberOf ms l))
 
--- the table of a formula: NULL is 0
+-- "Terms are numbered from 1" (01)
+unfoldable pub termOf : List Label → Label → ℕ
+termOf table l = suc (numberOf table l)
+
+-- the table of a formula: NULL is term 1
 unfoldable pub tableOf : Form Label → List Label
 tableOf f = named nil ∷ namesOf f
 
--- the formula of a case over numbers
+-- the formula of a case over terms by number
 unfoldable pub numbered : List ℕ → Case → Form ℕ
-numbered links x = renamed (numberOf (tableOf (caseForm links x))) (caseForm links x)
+numbered links x = renamed (termOf (tableOf (caseForm links x))) (caseForm links x)
 
--- what a number stands for
+-- what a term stands for
 unfoldable pub labelAt : List Label → ℕ → Label
-labelAt table n = getD table n (named nil)
+labelAt table n = getD table (n - 1) (named nil)
