@@ -17,4 +17,5 @@ pub mod Instances
 pub mod Finite
 pub mod Numbers
 pub mod Queries
+pub mod Steps
 pub mod Examples

@@ -107,7 +107,8 @@ module _ (P : Plan) (g : State) (node : Label → ℕ) where
         let few = begins-count h in
         link-version start gave i (whole {w = w})
         ∙ version-alike (start .link i) _ _ _ _ (count w)
-        (λ k l. sym (right k l .0) ∙ ap (λ (a : Name). node (named a)) (begins-assigned start gave i h k l) ∙ sym (ap node (cond-true _ _ (ltb-intro (let m : k < count (P .stores i) = omega (arith, l, few) in m)))))
+        (λ k l. sym (right k l .0) ∙ ap (λ (a : Name). node (named a)) (begins-assigned start gave i h k l)
+        ∙ sym (ap node (cond-true _ _ (ltb-intro (let m : k < count (P .stores i) = omega (arith, l, few) in m)))))
         (λ k l. sym (right k l .1) ∙ ap (λ (a : Name). node (named a)) (begins-value start gave i h k l))
 
     below : (i : ℕ) (w : Stores) → Begins w (P .stores i) → count w ≤ cutNames P i .number

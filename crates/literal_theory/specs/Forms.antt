@@ -1,6 +1,6 @@
 -- Formulas over literals of a query, names of any kind standing for nodes (03, "A way": "an and/or of literals about one link h").
 use Prim.Native.Nat.{ℕ}
-use mathlib.Core.Bool.{Bool, true, not, cond}
+use mathlib.Core.Bool.{Bool, true, false, not, cond}
 use mathlib.Core.List.{List, [], _∷_, _++_, map}
 use lib.Dec.{eqb}
 use Rattle.logic.specs.Search.{_and_, _or_}
@@ -75,3 +75,26 @@ module _ {A : Type 0} (g start : State) (nodes : List ℕ) (node : A → ℕ) wh
   meetsForm (kept p e f) = holds (stateAt start nodes p) (map node e) (forall f)
   meetsForm (meet f h) = let rest : Bool = meetsForm h in meetsForm f and rest
   meetsForm (join f h) = let rest : Bool = meetsForm h in meetsForm f or rest
+
+-- The alternatives of a step ("one formula that is false in it is taken apart, a branch for each alternative"): each is some formulas; behind an alternative that
+-- is a literal the other ones have its negation.
+unfoldable pub negations : {A : Type 0} → Form A → List (Form A)
+negations (truth b) = truth (not b) ∷ []
+negations (equals b x y) = equals (not b) x y ∷ []
+negations (reach b i x y) = reach (not b) i x y ∷ []
+negations (next b i x y) = next (not b) i x y ∷ []
+negations (bit b j x) = bit (not b) j x ∷ []
+negations (kept p e f) = []
+negations (meet f g) = []
+negations (join f g) = []
+
+unfoldable pub alternatives : {A : Type 0} → Form A → List (List (Form A))
+alternatives (truth true) = [] ∷ []
+alternatives (truth false) = []
+alternatives (equals b x y) = (equals b x y ∷ []) ∷ []
+alternatives (reach b i x y) = (reach b i x y ∷ []) ∷ []
+alternatives (next b i x y) = (next b i x y ∷ []) ∷ []
+alternatives (bit b j x) = (bit b j x ∷ []) ∷ []
+alternatives (kept p e f) = (kept p e f ∷ []) ∷ []
+alternatives (meet f g) = (f ∷ g ∷ []) ∷ []
+alternatives (join f g) = (f ∷ []) ∷ (g ∷ negations f) ∷ []
