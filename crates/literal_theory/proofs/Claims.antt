@@ -2,14 +2,14 @@
 use Prim.Native.Nat.{ℕ, suc, _+_, _<_}
 use native.Mathlib.Omega.{arith}
 use mathlib.Core.Path.{_≡_, refl, sym, ap, _∙_, subst, fun-ext}
-use mathlib.Core.Logic.{_⊎_, ⊎-elim}
-use mathlib.Core.Bool.{Bool, true}
+use mathlib.Core.Logic.{⊎-elim, inr}
+use mathlib.Core.Bool.{Bool, true, false}
 use mathlib.Core.List.{List, [], _∷_, map, List·Memᴰ, List·Memᴰ·head, List·Memᴰ·tail, List·Memᴰ·not-nil}
 use lib.Dec.{eqb}
 use lib.ListN.{length, getD}
 use Rattle.logic.specs.Search.{from, select, all}
 use Rattle.logic.specs.Heap.{Node}
-use Rattle.theory.proofs.Basics.Search.{all-true, all-intro, from-mem, select-mem, select-intro, map-mem, map-intro}
+use Rattle.theory.proofs.Basics.Search.{and-left, and-right, and-intro, all-true, all-intro, from-mem, select-mem, select-intro, map-mem, map-intro}
 use Rattle.theory.proofs.Basics.Compare.{eqb-self, ltb-intro}
 use Rattle.routine_logic.specs.Syntax.{Routine}
 use Rattle.routine_logic.specs.State.{State, nullNode, IsState}
@@ -18,16 +18,17 @@ use Rattle.routine_logic.specs.Runs.{Check, Segment, segments}
 use Rattle.routine_logic.specs.Answers.{Starts, Run, events, Happens}
 use Rattle.cut_theory.specs.Versions.{version, cut}
 use Rattle.cut_theory.proofs.Versions.{cut-decided, cut-stays, uncut-goes}
-use Rattle.path_theory.specs.Points.{nodeOf, stateAt}
+use Rattle.path_theory.specs.Points.{nil, nodeOf, stateAt}
 use Rattle.path_theory.specs.Paths.{Fact, says, gives, factHolds, Case, SegmentPaths, segmentPaths}
 use Rattle.path_theory.specs.Claims.{PathComes, SameSegment, Paired, one-more}
 use Rattle.path_theory.proofs.Claims.{paths-exact}
-use Rattle.literal_theory.specs.Labels.{Label, chosen, labelNode, Plan, cutNames}
-use Rattle.literal_theory.specs.Forms.{meetsForm}
+use Rattle.literal_theory.specs.Labels.{Label, named, chosen, labelNode, Plan, cutNames}
+use Rattle.literal_theory.specs.Forms.{conjunction, meetsForm}
 use Rattle.literal_theory.specs.Heaps.{cutNode, cutHeap, startState, givenNodes}
-use Rattle.literal_theory.specs.Translation.{Cut, betweens, factBetweens, factForms, whole, planOf, caseForm}
+use Rattle.literal_theory.specs.Translation.{Cut, betweens, factBetweens, factForms, whole, planOf, nullFlag, caseForm}
 use Rattle.literal_theory.specs.Claims.{CutWithin, MeetsCase, CaseOf, LiteralsExact}
 use Rattle.literal_theory.proofs.Nodes.{AllNodes, given-node}
+use Rattle.literal_theory.proofs.Literals.{same-truth, conjunction-met, conjunction-intro}
 use Rattle.literal_theory.proofs.Restoring.{cut-restored}
 use Rattle.literal_theory.proofs.Atoms.{Ground, label-node, olds, cut-is-heap}
 use Rattle.literal_theory.proofs.Names.{Each, each-append, each-left, each-right, map-alike}
@@ -112,7 +113,7 @@ module _ (P : Plan) (s : State) (nodes : List ℕ) where
   needed-nodes is h v m = let r = map-mem (λ k. getD nodes k nullNode) v (from (P .havocs) 0) m in subst (Node s) (sym (r .2)) (given-node s is nodes h nodes h (r .0))
 
 -- From a state at which the facts of a case hold
-module _ (x : Case) (o : Ordered (x .trail)) (links : List ℕ) (s : State) (is : IsState s) (nodes : List ℕ) (all-nodes : AllNodes s nodes)
+module _ (x : Case) (o : Ordered (x .trail)) (flags links : List ℕ) (s : State) (is : IsState s) (nodes : List ℕ) (all-nodes : AllNodes s nodes)
     (hold : all (factHolds s nodes) (x .trail .facts) ≡ true) where
   abbrev P : Plan
   P = planOf x
@@ -161,21 +162,51 @@ module _ (x : Case) (o : Ordered (x .trail)) (links : List ℕ) (s : State) (is 
         null-flag = is .null-flag;
       }
 
-  case-sound : MeetsCase links x heap label
+  -- NULL's flags are 0
+  flags-sound : (g t : State) (vs : List ℕ) (node : Label → ℕ) → node (named nil) ≡ nullNode → ((j : ℕ) → g .field j nullNode ≡ false) →
+      meetsForm g t vs node (conjunction (map nullFlag flags)) ≡ true
+  flags-sound g t vs node null zero =
+      conjunction-intro g t vs node (map nullFlag flags) (λ f m.
+      let r = map-mem nullFlag f flags m in
+      ap (meetsForm g t vs node) (r .2) ∙ flag-zero (r .0))
+    where
+      flag-zero : (j : ℕ) → meetsForm g t vs node (nullFlag j) ≡ true
+      flag-zero j = unfold nullFlag meetsForm in same-truth false _ .1 (ap (g .field j) null ∙ zero j)
+
+  case-sound : MeetsCase flags links x heap label
   case-sound =
       record {
-        is-state = heap-is-state;
+        is-heap = heap-is-state .is-heap;
+        null-link = heap-is-state .null-link;
+        other-flag = λ j. inr (heap-is-state .null-flag j);
         nodes = λ l. unfold heap cutHeap label in label-node s vs (picksOf s vs (x .trail .facts)) ground P l;
-        null = unfold label labelNode nodeOf in refl;
+        null = own-null;
         met =
-            ap (λ (z : State). meetsForm heap z (givenNodes P label) label (caseForm links x)) same-start
-            ∙ ap (λ (z : List ℕ). meetsForm heap s z label (caseForm links x)) same-given
-            ∙ (unfold heap label caseForm in whole-sound P (plan-own x o) links (x .trail .facts) (planned x o) s is vs nodes′ hold′ (s .variable) (is .is-heap .variable-node));
+            ap (λ (z : State). meetsForm heap z (givenNodes P label) label (caseForm flags links x)) same-start
+            ∙ ap (λ (z : List ℕ). meetsForm heap s z label (caseForm flags links x)) same-given
+            ∙ (unfold caseForm meetsForm in and-intro (flags-sound heap s vs label own-null (heap-is-state .null-flag)) whole-met);
       }
+    where
+      own-null : label (named nil) ≡ nullNode
+      own-null = unfold label labelNode nodeOf in refl
 
-case-form : (links : List ℕ) (x : Case) → caseForm links x ≡ whole (planOf x) links (factForms (planOf x) 0 (x .trail .facts))
-unfolding caseForm
-case-form links x = refl
+      whole-met : meetsForm heap s vs label (whole P links (factForms P 0 (x .trail .facts))) ≡ true
+      whole-met =
+          unfold heap label in whole-sound P (plan-own x o) links (x .trail .facts) (planned x o) s is vs nodes′ hold′ (s .variable) (is .is-heap .variable-node)
+
+-- A heap that meets the formula of a case: NULL's flags are 0 in it, and it meets the facts' part
+module _ (flags links : List ℕ) (x : Case) (g : State) (node : Label → ℕ) (m : MeetsCase flags links x g node) where
+  case-met : meetsForm g (startState (planOf x) node g) (givenNodes (planOf x) node) node (whole (planOf x) links (factForms (planOf x) 0 (x .trail .facts))) ≡ true
+  case-met = and-right (meetsForm g (startState (planOf x) node g) (givenNodes (planOf x) node) node (conjunction (map nullFlag flags))) _ (unfold caseForm meetsForm in m .met)
+
+  case-is-state : IsState g
+  case-is-state = record { is-heap = m .is-heap; null-link = m .null-link; null-flag = λ j. ⊎-elim (said j) (λ e. e) (m .other-flag j) }
+    where
+      said : (j : ℕ) → List·Memᴰ j flags → g .field j nullNode ≡ false
+      said j mem =
+          unfold caseForm meetsForm nullFlag in
+          ap (g .field j) (sym (m .null))
+          ∙ same-truth false _ .0 (conjunction-met g (startState (planOf x) node g) (givenNodes (planOf x) node) node (map nullFlag flags) (and-left _ _ (m .met)) (nullFlag j) (map-intro nullFlag j mem))
 
 -- Segments and their paths
 paired-left : (gs : List Segment) (hs : List SegmentPaths) → Paired gs hs → (g : Segment) → List·Memᴰ g gs → (h : SegmentPaths) × List·Memᴰ h hs × SameSegment g h
@@ -191,7 +222,7 @@ literals-exact = record { sound = sound; complete = complete }
   where
     sound : (r : Routine) (run : Run r) (c : Check) (passes : Bool) → Happens (events run) c passes →
         (x : Case) × CaseOf r x × (x .check ≡ c) × (x .passes ≡ passes) ×
-        ((links : List ℕ) → CutWithin links x → (g : State) × (node : Label → ℕ) × MeetsCase links x g node)
+        ((flags links : List ℕ) → CutWithin links x → (g : State) × (node : Label → ℕ) × MeetsCase flags links x g node)
     sound r run c passes h =
         let p = paired-left (segments r) (segmentPaths r) (paths-exact r) (run .segment) (run .of-routine) in
         let y = p .2 .exact (run .now .state) (run .now .nodes) (run .starts .met) c passes (h .state) .0 (h .line, h .among) in
@@ -200,19 +231,20 @@ literals-exact = record { sound = sound; complete = complete }
           record { paths = p .0; of-routine = p .1; comes = y .1 },
           y .2 .same-check,
           y .2 .same-value,
-          λ links w. (_, _, case-sound (y .0) o links (run .now .state) (run .starts .is-state) (run .now .nodes) (run .starts .nodes) (y .2 .facts-hold)),
+          λ flags links w. (_, _, case-sound (y .0) o flags links (run .now .state) (run .starts .is-state) (run .now .nodes) (run .starts .nodes) (y .2 .facts-hold)),
         )
 
-    complete : (r : Routine) (x : Case) → CaseOf r x → (links : List ℕ) → CutWithin links x → (g : State) (node : Label → ℕ) → MeetsCase links x g node →
+    complete : (r : Routine) (x : Case) → CaseOf r x → (flags links : List ℕ) → CutWithin links x → (g : State) (node : Label → ℕ) → MeetsCase flags links x g node →
         (run : Run r) × Happens (events run) (x .check) (x .passes) × (run .now .state ≡ startState (planOf x) node g)
-    complete r x of links within g node m =
+    complete r x of flags links within g node m =
         let P : Plan = planOf x in
         let fs : List Fact = x .trail .facts in
         let o = cases-ordered r (of .paths) (of .of-routine) x (of .comes) in
         let s : State = startState P node g in
         let vs : List ℕ = givenNodes P node in
-        let met = ap (meetsForm g s vs node) (sym (case-form links x)) ∙ m .met in
-        let holds = whole-complete P (plan-own x o) links fs (planned x o) within g node (m .is-state) (m .nodes) (m .null) met in
+        let met = case-met flags links x g node m in
+        let is = case-is-state flags links x g node m in
+        let holds = whole-complete P (plan-own x o) links fs (planned x o) within g node is (m .nodes) (m .null) met in
         let p = paired-right (segments r) (segmentPaths r) (paths-exact r) (of .paths) (of .of-routine) in
         let comes : PathComes s vs (x .check) (x .passes) (stateAt s vs (x .trail .point)) (of .paths) =
         (x, of .comes, record { same-check = refl; same-value = refl; facts-hold = holds; same-state = refl }) in
@@ -220,9 +252,9 @@ literals-exact = record { sound = sound; complete = complete }
         let e = p .2 .exact s vs assumed (x .check) (x .passes) _ .1 comes in
         let starts : Starts (p .0 .assumes) (record { state = s; nodes = vs }) =
         record {
-          is-state = whole-state P (plan-own x o) links fs (planned x o) within g node (m .is-state) (m .nodes) (m .null) met;
+          is-state = whole-state P (plan-own x o) links fs (planned x o) within g node is (m .nodes) (m .null) met;
           met = assumed;
-          nodes = whole-nodes P (plan-own x o) links fs (planned x o) within g node (m .is-state) (m .nodes) (m .null) met;
+          nodes = whole-nodes P (plan-own x o) links fs (planned x o) within g node is (m .nodes) (m .null) met;
         } in
         let run : Run r = record { segment = p .0; of-routine = p .1; now = record { state = s; nodes = vs }; starts = starts } in
         (run, record { line = e .0; state = _; among = e .1 }, refl)

@@ -18,12 +18,12 @@ use Rattle.path_theory.specs.Paths.{asking, readingPaths, deciding, testingPath
 use Rattle.literal_theory.specs.Labels.{readLabel, baseLabel, alongLabel, termLabel, namesIn, storesIn, labelsIn, labelNode, cutLabel, cutNames, marksOf}
 use Rattle.literal_theory.specs.Forms.{junction, literals, conjunction, namesOf, renamed, meetsForm, alternatives, negations}
 use Rattle.literal_theory.specs.Heaps.{cutHeap}
-use Rattle.literal_theory.specs.Translation.{termsIn, plainly, bareBase, bare, unlinked, fixedLabels, choices, translate, reading, cutForm, cutForms, cutLabels, factForm, factForms, asked, whole, betweens, factBetweens, planOf, caseForm, markLabels, factLabels, caseLabels, tidy}
-use Rattle.literal_theory.specs.Numbers.{sameName, sameStores, samePlace, sameLabel, numberOf, termOf, tableOf, numbered}
+use Rattle.literal_theory.specs.Translation.{termsIn, plainly, bareBase, bare, unlinked, fixedLabels, choices, translate, reading, cutForm, cutForms, cutLabels, factForm, factForms, asked, whole, betweens, factBetweens, planOf, nullFlag, caseForm, markLabels, factLabels, caseLabels, tidy}
+use Rattle.literal_theory.specs.Numbers.{sameName, sameStores, samePlace, sameLabel, numberOf, termOf, distinct, tableOf, numbered}
 use Rattle.literal_theory.specs.Examples.{ExamplesHold, casesOf, metBy, allMet, twice, elsewhere, marked, oneOfTwo, apart, alike, ordered, readAs}
 
 pub examples-hold : ExamplesHold
-unfolding Option·elim _and_ _or_ from any all select at flatMap stepCount changed baseNode follow node reachesBy betweenBy sameTruth holds canFail prefixes dereferenced dereferencedIn sameBase sameLinks sameTerm kindNumber clauseNumber termIn sameKind sameCheck stateOf remove bent without isCut cut every some·tree activeTree targetName avoiding reachTree reachesTree betweenTree readTree flagTree points.nodeOf points.linkOf points.flagOf points.stateAt points.atStart points.baseName points.along points.nameOf points.named points.linked points.marked points.havocked count assignedAt valueAt asking readingPaths deciding testingPaths clausesPaths paths finishingPaths loopPaths segmentPaths startTrail readLabel baseLabel alongLabel termLabel namesIn storesIn labelsIn labelNode cutLabel cutNames marksOf junction literals conjunction namesOf meetsForm cutHeap translate reading cutForm cutForms cutLabels factForm factForms asked whole betweens factBetweens planOf caseForm casesOf metBy allMet twice elsewhere marked oneOfTwo apart alike ordered readAs renamed alternatives negations termsIn plainly bareBase bare unlinked fixedLabels choices markLabels factLabels caseLabels tidy sameName sameStores samePlace sameLabel numberOf termOf tableOf numbered
+unfolding Option·elim _and_ _or_ from any all select at flatMap stepCount changed baseNode follow node reachesBy betweenBy sameTruth holds canFail prefixes dereferenced dereferencedIn sameBase sameLinks sameTerm kindNumber clauseNumber termIn sameKind sameCheck stateOf remove bent without isCut cut every some·tree activeTree targetName avoiding reachTree reachesTree betweenTree readTree flagTree points.nodeOf points.linkOf points.flagOf points.stateAt points.atStart points.baseName points.along points.nameOf points.named points.linked points.marked points.havocked count assignedAt valueAt asking readingPaths deciding testingPaths clausesPaths paths finishingPaths loopPaths segmentPaths startTrail readLabel baseLabel alongLabel termLabel namesIn storesIn labelsIn labelNode cutLabel cutNames marksOf junction literals conjunction namesOf meetsForm cutHeap translate reading cutForm cutForms cutLabels factForm factForms asked whole betweens factBetweens planOf nullFlag caseForm casesOf metBy allMet twice elsewhere marked oneOfTwo apart alike ordered readAs renamed alternatives negations termsIn plainly bareBase bare unlinked fixedLabels choices markLabels factLabels caseLabels tidy sameName sameStores samePlace sameLabel numberOf termOf distinct tableOf numbered
 examples-hold =
     record {
       bent-fails = refl;

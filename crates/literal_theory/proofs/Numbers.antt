@@ -2,22 +2,23 @@
 use Prim.Native.Nat.{ℕ, suc, _-_}
 use native.Mathlib.Omega.{arith}
 use mathlib.Core.Path.{_≡_, refl, sym, ap, _∙_}
-use mathlib.Core.Bool.{Bool, true, false, cond, false≢true}
+use mathlib.Core.Logic.{_⊎_, ⊎-elim}
+use mathlib.Core.Bool.{Bool, true, false, not, cond, false≢true}
 use mathlib.Core.List.{List, [], _∷_, map, List·Memᴰ, List·Memᴰ·head, List·Memᴰ·tail}
 use lib.Dec.{eqb}
 use lib.ListN.{getD}
-use Rattle.logic.specs.Search.{_and_, _or_}
-use Rattle.theory.proofs.Basics.Search.{and-left, and-right, and-intro}
+use Rattle.logic.specs.Search.{_and_, _or_, select}
+use Rattle.theory.proofs.Basics.Search.{bool-cases, and-left, and-right, and-intro, not-intro, select-intro}
 use Rattle.theory.proofs.Basics.Compare.{eqb-true, eqb-self, cond-true}
 use Rattle.routine_logic.specs.Syntax.{forall}
 use Rattle.routine_logic.specs.State.{State}
 use Rattle.routine_logic.specs.Formulas.{holds, sameTruth}
 use Rattle.path_theory.specs.Points.{Name, nil, initial, given, read, Stores, none, store, stateAt}
 use Rattle.literal_theory.specs.Labels.{Label, named, chosen, after}
-use Rattle.literal_theory.specs.Forms.{Form, truth, equals, reach, next, bit, kept, meet, join, renamed, meetsForm}
+use Rattle.literal_theory.specs.Forms.{Form, truth, equals, reach, next, bit, kept, meet, join, namesOf, renamed, meetsForm}
 use Rattle.literal_theory.specs.Heaps.{startState, givenNodes}
 use Rattle.literal_theory.specs.Translation.{planOf, caseForm}
-use Rattle.literal_theory.specs.Numbers.{sameName, sameStores, samePlace, sameLabel, numberOf, termOf, tableOf, numbered, labelAt}
+use Rattle.literal_theory.specs.Numbers.{sameName, sameStores, samePlace, sameLabel, numberOf, termOf, distinct, tableOf, numbered, labelAt}
 use Rattle.literal_theory.specs.Claims.{NumbersExact}
 use Rattle.literal_theory.proofs.Names.{each-only, meets-alike}
 
@@ -132,6 +133,14 @@ label-at table l mem =
     let n : ℕ = numberOf table l in
     ap (λ (k : ℕ). getD table k (named nil)) (let e : suc n - 1 ≡ n = omega arith in e) ∙ number-at table l mem
 
+distinct-mem : (ls : List Label) (l : Label) → List·Memᴰ l ls → List·Memᴰ l (distinct ls)
+unfolding distinct
+distinct-mem (m ∷ ms) l (List·Memᴰ·head e) = List·Memᴰ·head e
+distinct-mem (m ∷ ms) l (List·Memᴰ·tail mem) = found (distinct-mem ms l mem) (bool-cases (sameLabel m l))
+  where
+    found : List·Memᴰ l (distinct ms) → (sameLabel m l ≡ true) ⊎ (sameLabel m l ≡ false) → List·Memᴰ l (m ∷ select (λ n. not (sameLabel m n)) (distinct ms))
+    found at = ⊎-elim (λ e. List·Memᴰ·head (sym (label-same m l e))) (λ e. List·Memᴰ·tail (select-intro (λ n. not (sameLabel m n)) l at (not-intro e)))
+
 -- other names for the same nodes
 map-map : {A B C : Type 0} (f : B → C) (g : A → B) (xs : List A) → map f (map g xs) ≡ map (λ x. f (g x)) xs
 map-map f g [] = refl
@@ -158,21 +167,23 @@ unfolding tableOf
 table-meets g s nodes node f =
     meets-renamed g s nodes (λ n. node (labelAt (tableOf f) n)) (termOf (tableOf f)) f
     ∙ meets-alike g s nodes (λ l. node (labelAt (tableOf f) (termOf (tableOf f) l))) node f
-    (each-only (λ l. node (labelAt (tableOf f) (termOf (tableOf f) l)) ≡ node l) f (λ l m. ap node (label-at (tableOf f) l (List·Memᴰ·tail m))))
+    (each-only (λ l. node (labelAt (tableOf f) (termOf (tableOf f) l)) ≡ node l) f (λ l m. ap node (label-at (tableOf f) l (distinct-mem (named nil ∷ namesOf f) l (List·Memᴰ·tail m)))))
 
 pub numbers-exact : NumbersExact
 unfolding numbered
 numbers-exact =
     record {
-      sound = λ links x g node m. table-meets g (startState (planOf x) node g) (givenNodes (planOf x) node) node (caseForm links x) ∙ m .met;
-      complete = λ links x g is null h.
+      sound = λ flags links x g node m. table-meets g (startState (planOf x) node g) (givenNodes (planOf x) node) node (caseForm flags links x) ∙ m .met;
+      complete = λ flags links x g is loop other null h.
           record {
-            is-state = is;
-            nodes = λ l. is .is-heap .variable-node _;
-            null = ap (g .variable) (nil-number (caseForm links x)) ∙ null;
-            met = sym (meets-renamed g _ _ (g .variable) (termOf (tableOf (caseForm links x))) (caseForm links x)) ∙ h;
+            is-heap = is;
+            null-link = loop;
+            other-flag = other;
+            nodes = λ l. is .variable-node _;
+            null = ap (g .variable) (nil-number (caseForm flags links x)) ∙ null;
+            met = sym (meets-renamed g _ _ (g .variable) (termOf (tableOf (caseForm flags links x))) (caseForm flags links x)) ∙ h;
           };
     }
   where
     nil-number : (f : Form Label) → termOf (tableOf f) (named nil) ≡ 1
-    nil-number f = unfold termOf tableOf numberOf sameLabel sameName in refl
+    nil-number f = unfold termOf tableOf distinct numberOf sameLabel sameName in refl

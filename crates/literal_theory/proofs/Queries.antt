@@ -1,17 +1,16 @@
 -- A literal over terms by number means in a heap what the query's literal means.
-use Prim.Native.Nat.{ℕ, zero, suc, _<_}
+use Prim.Native.Nat.{ℕ, zero, suc}
 use native.Mathlib.Omega.{arith}
 use mathlib.Core.Path.{_≡_, refl, sym, ap, _∙_, subst}
 use mathlib.Core.Logic.{_↔_}
-use mathlib.Core.Bool.{Bool, true, false, not}
+use mathlib.Core.Bool.{Bool, true, false}
 use mathlib.Core.List.{List}
-use lib.Dec.{eqb}
-use Rattle.logic.specs.Query.{Literal, Entries, argumentOf, linkOf}
-use Rattle.logic.specs.Heap.{Node, IsHeap, Signed, Reaches, valueWithin, value, MeansEqual, MeansReach, MeansField}
+use Rattle.logic.specs.Query.{Entries, argumentOf, linkOf}
+use Rattle.logic.specs.Heap.{IsHeap, Signed, Reaches, valueWithin, value, MeansEqual, MeansReach, MeansField}
 use Rattle.theory.proofs.Basics.Search.{true-false, not-true, not-intro, not-of}
 use Rattle.theory.proofs.Basics.Compare.{eqb-true, eqb-intro, eqb-false, cond-true, cond-false}
 use Rattle.routine_logic.specs.State.{State}
-use Rattle.routine_logic.specs.Formulas.{reachesBy, sameTruth}
+use Rattle.routine_logic.specs.Formulas.{sameTruth}
 use Rattle.routine_theory.proofs.Means.{reaches-means}
 use Rattle.literal_theory.specs.Forms.{equals, reach, next, bit, meetsForm}
 

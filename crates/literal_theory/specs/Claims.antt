@@ -2,11 +2,11 @@
 use Prim.Native.Nat.{ℕ, suc}
 use mathlib.Core.Path.{_≡_}
 use mathlib.Core.Logic.{_⊎_}
-use mathlib.Core.Bool.{Bool, true}
+use mathlib.Core.Bool.{Bool, true, false}
 use mathlib.Core.List.{List, [], _∷_, List·Memᴰ}
-use Rattle.logic.specs.Heap.{Node}
+use Rattle.logic.specs.Heap.{Node, IsHeap}
 use Rattle.routine_logic.specs.Syntax.{Formula, Routine}
-use Rattle.routine_logic.specs.State.{State, nullNode, IsState}
+use Rattle.routine_logic.specs.State.{State, nullNode}
 use Rattle.routine_logic.specs.Runs.{Check}
 use Rattle.routine_logic.specs.Answers.{Run, events, Happens}
 use Rattle.path_theory.specs.Points.{nil, unmarked, Point}
@@ -22,11 +22,14 @@ abbrev pub CutWithin : List ℕ → Case → Type 0
 CutWithin links x = (i : ℕ) → List·Memᴰ i links ⊎ (cutNames (planOf x) i .number ≡ 0)
 
 -- a heap, with nodes for labels, that meets the formula of a case; what is kept is looked up in the state that it gives back
-pub record MeetsCase (links : List ℕ) (x : Case) (g : State) (node : Label → ℕ) : Type 0 where
-  pub is-state : IsState g
+pub record MeetsCase (flags links : List ℕ) (x : Case) (g : State) (node : Label → ℕ) : Type 0 where
+  pub is-heap : IsHeap g
+  pub null-link : (i : ℕ) → g .link i nullNode ≡ nullNode
+  -- of a flag that no literal speaks of
+  pub other-flag : (j : ℕ) → List·Memᴰ j flags ⊎ (g .field j nullNode ≡ false)
   pub nodes : (l : Label) → Node g (node l)
   pub null : node (named nil) ≡ nullNode
-  pub met : meetsForm g (startState (planOf x) node g) (givenNodes (planOf x) node) node (caseForm links x) ≡ true
+  pub met : meetsForm g (startState (planOf x) node g) (givenNodes (planOf x) node) node (caseForm flags links x) ≡ true
 
 -- a case that a path of some segment of the routine comes to
 pub record CaseOf (r : Routine) (x : Case) : Type 0 where
@@ -38,9 +41,9 @@ pub record LiteralsExact : Type 0 where
   -- every run that comes to a check gives a heap for the formula of a case of it
   pub sound : (r : Routine) (run : Run r) (c : Check) (passes : Bool) → Happens (events run) c passes →
       (x : Case) × CaseOf r x × (x .check ≡ c) × (x .passes ≡ passes) ×
-      ((links : List ℕ) → CutWithin links x → (g : State) × (node : Label → ℕ) × MeetsCase links x g node)
+      ((flags links : List ℕ) → CutWithin links x → (g : State) × (node : Label → ℕ) × MeetsCase flags links x g node)
   -- every heap for the formula of a case gives a run that comes to its check, from the state that the heap gives back
-  pub complete : (r : Routine) (x : Case) → CaseOf r x → (links : List ℕ) → CutWithin links x → (g : State) (node : Label → ℕ) → MeetsCase links x g node →
+  pub complete : (r : Routine) (x : Case) → CaseOf r x → (flags links : List ℕ) → CutWithin links x → (g : State) (node : Label → ℕ) → MeetsCase flags links x g node →
       (run : Run r) × Happens (events run) (x .check) (x .passes) × (run .now .state ≡ startState (planOf x) node g)
 
 -- What a search comes to from the facts of a case, taking names from a list: the facts' formulas, and instances of the `forall`s that are kept
@@ -68,8 +71,9 @@ pub record NamesFinite : Type 0 where
 
 -- names as numbers: a heap's variables are the names by term number, NULL being term 1
 pub record NumbersExact : Type 0 where
-  pub sound : (links : List ℕ) (x : Case) (g : State) (node : Label → ℕ) → MeetsCase links x g node →
-      meetsForm g (startState (planOf x) node g) (givenNodes (planOf x) node) (λ n. node (labelAt (tableOf (caseForm links x)) n)) (numbered links x) ≡ true
-  pub complete : (links : List ℕ) (x : Case) (g : State) → IsState g → g .variable 1 ≡ nullNode →
-      let node : Label → ℕ = λ l. g .variable (termOf (tableOf (caseForm links x)) l) in
-      meetsForm g (startState (planOf x) node g) (givenNodes (planOf x) node) (g .variable) (numbered links x) ≡ true → MeetsCase links x g node
+  pub sound : (flags links : List ℕ) (x : Case) (g : State) (node : Label → ℕ) → MeetsCase flags links x g node →
+      meetsForm g (startState (planOf x) node g) (givenNodes (planOf x) node) (λ n. node (labelAt (tableOf (caseForm flags links x)) n)) (numbered flags links x) ≡ true
+  pub complete : (flags links : List ℕ) (x : Case) (g : State) → IsHeap g → ((i : ℕ) → g .link i nullNode ≡ nullNode) →
+      ((j : ℕ) → List·Memᴰ j flags ⊎ (g .field j nullNode ≡ false)) → g .variable 1 ≡ nullNode →
+      let node : Label → ℕ = λ l. g .variable (termOf (tableOf (caseForm flags links x)) l) in
+      meetsForm g (startState (planOf x) node g) (givenNodes (planOf x) node) (g .variable) (numbered flags links x) ≡ true → MeetsCase flags links x g node

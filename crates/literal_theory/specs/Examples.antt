@@ -14,7 +14,7 @@ use Rattle.routine_logic.specs.Examples.{NULL, name, each, via, place, plainly,
 use Rattle.path_theory.specs.Points.{Name, nil, initial, read, Stores, none, store}
 use Rattle.path_theory.specs.Paths.{Case, segmentPaths, startTrail}
 use Rattle.literal_theory.specs.Labels.{Label, named, chosen, labelNode, Plan}
-use Rattle.literal_theory.specs.Forms.{Form, truth, equals, reach, next, meet, join, meetsForm, alternatives}
+use Rattle.literal_theory.specs.Forms.{Form, truth, equals, reach, next, bit, meet, join, meetsForm, alternatives}
 use Rattle.literal_theory.specs.Heaps.{cutHeap}
 use Rattle.literal_theory.specs.Translation.{unlinked, tidy, reading, planOf, caseForm, caseLabels}
 use Rattle.literal_theory.specs.Translation as form
@@ -31,7 +31,7 @@ ofKind number kind = record { statement = number; kind = kind }
 unfoldable pub metBy : State → List ℕ → (List Bool → ℕ) → Case → Bool
 metBy s nodes pick x =
     let node : Label → ℕ = labelNode s nodes (λ k d. pick d) in
-    meetsForm (cutHeap (planOf x) node s (s .variable)) s nodes node (caseForm (1 ∷ []) x)
+    meetsForm (cutHeap (planOf x) node s (s .variable)) s nodes node (caseForm (1 ∷ []) (1 ∷ []) x)
 
 unfoldable pub allMet : Routine → Check → Bool → State → List ℕ → (List Bool → ℕ) → List Bool
 allMet r c b s nodes pick = map (metBy s nodes pick) (casesOf r c b)
@@ -137,8 +137,8 @@ pub record ExamplesHold : Type 0 where
   pub two-foralls : allMet oneOfTwo (ofKind 0 asserted) false bothLacking [] apart ≡ true ∷ []
   pub two-foralls-once : allMet oneOfTwo (ofKind 0 asserted) false bothLacking [] (λ d. 2) ≡ false ∷ []
   -- over terms by number: NULL is 1, a is 2 and b is 3
-  pub by-number : map (numbered (1 ∷ [])) (casesOf alike (ofKind 0 asserted) false) ≡
-      meet (meet (equals false 2 3) (truth true)) (meet (meet (truth true) (meet (truth true) (truth true))) (truth true)) ∷ []
+  pub by-number : map (numbered (1 ∷ []) (1 ∷ [])) (casesOf alike (ofKind 0 asserted) false) ≡
+      meet (meet (bit false 1 1) (truth true)) (meet (meet (equals false 2 3) (truth true)) (meet (meet (truth true) (meet (truth true) (truth true))) (truth true))) ∷ []
   -- the labels of a case, with the node at which its `forall` fails
   pub labels-of-case : map (caseLabels (1 ∷ []) []) (casesOf marked (ofKind 1 asserted) false) ≡
       (named nil ∷ named nil ∷ named nil ∷ named nil ∷ chosen 0 [] ∷ named a ∷ named a ∷ named nil ∷ []) ∷ []

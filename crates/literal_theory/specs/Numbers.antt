@@ -1,10 +1,10 @@
 -- Names by number (03, "A way": "a query", whose terms are numbered): the label at a place of a table.
 use Prim.Native.Nat.{ℕ, suc, _-_}
-use mathlib.Core.Bool.{Bool, true, false, cond}
+use mathlib.Core.Bool.{Bool, true, false, not, cond}
 use mathlib.Core.List.{List, [], _∷_}
 use lib.Dec.{eqb}
 use lib.ListN.{getD}
-use Rattle.logic.specs.Search.{_and_}
+use Rattle.logic.specs.Search.{_and_, select}
 use Rattle.routine_logic.specs.Formulas.{sameTruth}
 use Rattle.path_theory.specs.Points.{Name, nil, initial, given, read, Stores, none, store}
 use Rattle.path_theory.specs.Paths.{Case}
@@ -64,13 +64,18 @@ numberOf (m ∷ ms) l = cond (sameLabel l m) 0 (suc (numberOf ms l))
 unfoldable pub termOf : List Label → Label → ℕ
 termOf table l = suc (numberOf table l)
 
+-- each label where it comes first
+unfoldable pub distinct : List Label → List Label
+distinct [] = []
+distinct (l ∷ ls) = l ∷ select (λ m. not (sameLabel l m)) (distinct ls)
+
 -- the table of a formula: NULL is term 1
 unfoldable pub tableOf : Form Label → List Label
-tableOf f = named nil ∷ namesOf f
+tableOf f = distinct (named nil ∷ namesOf f)
 
 -- the formula of a case over terms by number
-unfoldable pub numbered : List ℕ → Case → Form ℕ
-numbered links x = renamed (termOf (tableOf (caseForm links x))) (caseForm links x)
+unfoldable pub numbered : List ℕ → List ℕ → Case → Form ℕ
+numbered flags links x = renamed (termOf (tableOf (caseForm flags links x))) (caseForm flags links x)
 
 -- what a term stands for
 unfoldable pub labelAt : List Label → ℕ → Label

@@ -172,7 +172,11 @@ factBetweens k [] = []
 factBetweens k (says b p f ∷ fs) = betweens b p (chosen k) [] f ++ factBetweens (suc k) fs
 factBetweens k (gives n ∷ fs) = factBetweens (suc k) fs
 
--- The formula of a case that a path comes to, where these links are cut.
+-- "One node is NULL; .. its flags are 0"
+unfoldable pub nullFlag : ℕ → Form Label
+nullFlag j = bit false j (named nil)
+
+-- The formula of a case that a path comes to, where these flags are spoken of and these links are cut.
 unfoldable pub planOf : Case → Plan
 planOf x =
     record {
@@ -181,8 +185,8 @@ planOf x =
       havocs = x .trail .point .havocs;
     }
 
-unfoldable pub caseForm : List ℕ → Case → Form Label
-caseForm links x = whole (planOf x) links (factForms (planOf x) 0 (x .trail .facts))
+unfoldable pub caseForm : List ℕ → List ℕ → Case → Form Label
+caseForm flags links x = meet (conjunction (map nullFlag flags)) (whole (planOf x) links (factForms (planOf x) 0 (x .trail .facts)))
 
 -- The labels that a case and all instances of its `forall`s ask for, where no bound name bears a link (03, claim 5), these flags are assigned and these links are cut
 unfoldable pub markLabels : List ℕ → Point → List Label
