@@ -206,7 +206,8 @@ module _ (flags links : List ℕ) (x : Case) (g : State) (node : Label → ℕ) 
       said j mem =
           unfold caseForm meetsForm nullFlag in
           ap (g .field j) (sym (m .null))
-          ∙ same-truth false _ .0 (conjunction-met g (startState (planOf x) node g) (givenNodes (planOf x) node) node (map nullFlag flags) (and-left _ _ (m .met)) (nullFlag j) (map-intro nullFlag j mem))
+          ∙ same-truth false _ .0
+          (conjunction-met g (startState (planOf x) node g) (givenNodes (planOf x) node) node (map nullFlag flags) (and-left _ _ (m .met)) (nullFlag j) (map-intro nullFlag j mem))
 
 -- Segments and their paths
 paired-left : (gs : List Segment) (hs : List SegmentPaths) → Paired gs hs → (g : Segment) → List·Memᴰ g gs → (h : SegmentPaths) × List·Memᴰ h hs × SameSegment g h
@@ -222,7 +223,7 @@ literals-exact = record { sound = sound; complete = complete }
   where
     sound : (r : Routine) (run : Run r) (c : Check) (passes : Bool) → Happens (events run) c passes →
         (x : Case) × CaseOf r x × (x .check ≡ c) × (x .passes ≡ passes) ×
-        ((flags links : List ℕ) → CutWithin links x → (g : State) × (node : Label → ℕ) × MeetsCase flags links x g node)
+        ((flags links : List ℕ) → CutWithin links x → (g : State) × (node : Label → ℕ) × MeetsCase flags links x g node × (startState (planOf x) node g ≡ run .now .state))
     sound r run c passes h =
         let p = paired-left (segments r) (segmentPaths r) (paths-exact r) (run .segment) (run .of-routine) in
         let y = p .2 .exact (run .now .state) (run .now .nodes) (run .starts .met) c passes (h .state) .0 (h .line, h .among) in
@@ -231,7 +232,12 @@ literals-exact = record { sound = sound; complete = complete }
           record { paths = p .0; of-routine = p .1; comes = y .1 },
           y .2 .same-check,
           y .2 .same-value,
-          λ flags links w. (_, _, case-sound (y .0) o flags links (run .now .state) (run .starts .is-state) (run .now .nodes) (run .starts .nodes) (y .2 .facts-hold)),
+          λ flags links w. (
+            _,
+            _,
+            case-sound (y .0) o flags links (run .now .state) (run .starts .is-state) (run .now .nodes) (run .starts .nodes) (y .2 .facts-hold),
+            same-start (y .0) o flags links (run .now .state) (run .starts .is-state) (run .now .nodes) (run .starts .nodes) (y .2 .facts-hold),
+          ),
         )
 
     complete : (r : Routine) (x : Case) → CaseOf r x → (flags links : List ℕ) → CutWithin links x → (g : State) (node : Label → ℕ) → MeetsCase flags links x g node →

@@ -38,10 +38,10 @@ pub record CaseOf (r : Routine) (x : Case) : Type 0 where
   pub comes : List·Memᴰ x (paths .follow (startTrail (paths .assumes)))
 
 pub record LiteralsExact : Type 0 where
-  -- every run that comes to a check gives a heap for the formula of a case of it
+  -- every run that comes to a check gives a heap for the formula of a case of it, which gives the run's state back
   pub sound : (r : Routine) (run : Run r) (c : Check) (passes : Bool) → Happens (events run) c passes →
       (x : Case) × CaseOf r x × (x .check ≡ c) × (x .passes ≡ passes) ×
-      ((flags links : List ℕ) → CutWithin links x → (g : State) × (node : Label → ℕ) × MeetsCase flags links x g node)
+      ((flags links : List ℕ) → CutWithin links x → (g : State) × (node : Label → ℕ) × MeetsCase flags links x g node × (startState (planOf x) node g ≡ run .now .state))
   -- every heap for the formula of a case gives a run that comes to its check, from the state that the heap gives back
   pub complete : (r : Routine) (x : Case) → CaseOf r x → (flags links : List ℕ) → CutWithin links x → (g : State) (node : Label → ℕ) → MeetsCase flags links x g node →
       (run : Run r) × Happens (events run) (x .check) (x .passes) × (run .now .state ≡ startState (planOf x) node g)
