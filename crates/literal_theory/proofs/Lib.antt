@@ -11,6 +11,7 @@ pub mod Readings
 pub mod Facts
 pub mod Alike
 pub mod Cases
+pub mod Invariants
 pub mod Ordered
 pub mod Claims
 pub mod Instances

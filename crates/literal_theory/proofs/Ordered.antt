@@ -1,21 +1,20 @@
 -- On a path the assignments only grow, and every name on it was read after some of them.
-use Prim.Native.Nat.{ℕ, suc, _≤_, _<_}
+use Prim.Native.Nat.{ℕ, _≤_, _<_}
 use native.Mathlib.Omega.{arith}
 use mathlib.Core.Path.{_≡_, refl, sym, subst}
-use mathlib.Core.Bool.{Bool, true, false, not, cond}
-use mathlib.Core.List.{List, [], _∷_, _++_, List·Memᴰ, List·Memᴰ·not-nil}
+use mathlib.Core.Bool.{Bool, true, false, cond}
+use mathlib.Core.List.{List, [], _∷_, List·Memᴰ}
 use lib.Dec.{eqb}
 use Rattle.theory.proofs.Basics.Compare.{eqb-true}
 use Rattle.theory.proofs.Basics.Search.{map-mem}
-use Rattle.routine_logic.specs.Syntax.{Base, null, variable, bound, Term, Formula, always, never, equal, unequal, reaches, between, flag, negation, both, either, implies, same, forall, Place, Clause, Code, end, assign, assignLink, assignFlag, havoc, assume, assert, cover, branch, loop, leave, breakOut, Routine}
+use Rattle.routine_logic.specs.Syntax.{Base, null, variable, bound, Term, Formula, Clause, Routine}
 use Rattle.routine_logic.specs.State.{changed}
-use Rattle.routine_logic.specs.Formulas.{sameTruth}
-use Rattle.routine_logic.specs.Runs.{Kind, nullOf, asserted, covered, entry, kept, ensured, canFail, dereferenced, dereferencedIn}
 use Rattle.path_theory.specs.Points.{Name, nil, initial, given, read, Stores, none, store, Marks, unmarked, mark, Point, atStart, baseName, along, nameOf, named, linked, marked, havocked}
 use Rattle.path_theory.specs.Assignments.{Begins, whole, longer}
-use Rattle.path_theory.specs.Paths.{Fact, says, gives, Trail, further, saying, Case, Cases, Follow, asking, notNull, readingPaths, deciding, testingPaths, clausesPaths, paths, SegmentPaths, finishingPaths, returningPaths, headPaths, loopPaths, segmentPaths, startTrail}
+use Rattle.path_theory.specs.Paths.{Fact, says, gives, Trail, further, saying, Case, SegmentPaths, segmentPaths, startTrail}
 use Rattle.literal_theory.specs.Labels.{Plan}
-use Rattle.literal_theory.proofs.Names.{Each, each-cons, each-append}
+use Rattle.literal_theory.proofs.Names.{Each, each-cons}
+use Rattle.literal_theory.proofs.Invariants.{Invariant, cases-keep, routine-any}
 use Rattle.literal_theory.proofs.OnPath.{OnPath, OwnStores, OwnMarks, OwnPoint}
 
 -- One plan has all that another has
@@ -179,140 +178,7 @@ havocked-ordered t x o =
       facts = each-cons (OwnFact Q) (gives (p .havocs)) (t .facts) (omega arith) (facts-longer P Q more (t .facts) (o .facts));
     }
 
--- Paths from a point that is in order
-
-abbrev pub OrderedCase : Case → Type 0
-OrderedCase x = Ordered (x .trail)
-
-abbrev pub Keeps : Follow → Type 0
-Keeps g = (t : Trail) → Ordered t → Each OrderedCase (g t)
-
-none-kept : Each OrderedCase []
-none-kept x m = absurd (List·Memᴰ·not-nil m)
-
-cond-kept : (b : Bool) (xs ys : Cases) → Each OrderedCase xs → Each OrderedCase ys → Each OrderedCase (cond b xs ys)
-cond-kept true xs ys h k = h
-cond-kept false xs ys h k = k
-
-cond-follow : (b : Bool) (g h : Follow) → Keeps g → Keeps h → Keeps (cond b g h)
-cond-follow true g h k l = k
-cond-follow false g h k l = l
-
-asking-kept : (number : ℕ) (kind : Kind) (f : Formula) (next : Follow) → Keeps next → Keeps (λ t. asking number kind f t next)
-unfolding asking
-asking-kept number kind f next keeps t o =
-    let yes·facts = saying-ordered t true f o in
-    let no·facts = saying-ordered t false f o in
-    each-cons OrderedCase _ _ yes·facts (each-cons OrderedCase _ _ no·facts
-    (each-append OrderedCase (next (saying t true f)) (cond (canFail kind) [] (next (saying t false f))) (keeps (saying t true f) yes·facts)
-    (cond-kept (canFail kind) [] (next (saying t false f)) none-kept (keeps (saying t false f) no·facts))))
-
-reading-kept : (p : Place) (us : List Term) (next : Follow) → Keeps next → Keeps (λ t. readingPaths p us t next)
-unfolding readingPaths
-reading-kept p [] next keeps = keeps
-reading-kept p (u ∷ us) next keeps = asking-kept (p .number) (nullOf u) (notNull u) (λ t. readingPaths p us t next) (reading-kept p us next keeps)
-
-either-kept : (f : Formula) (next : Bool → Follow) → ((b : Bool) → Keeps (next b)) → Keeps (λ t. next true (saying t true f) ++ next false (saying t false f))
-either-kept f next keeps t o =
-    each-append OrderedCase (next true (saying t true f)) (next false (saying t false f))
-    (keeps true (saying t true f) (saying-ordered t true f o)) (keeps false (saying t false f) (saying-ordered t false f o))
-
-deciding-kept : (p : Place) (f : Formula) (next : Bool → Follow) → ((b : Bool) → Keeps (next b)) → Keeps (λ t. deciding p f t next)
-unfolding deciding
-deciding-kept p f next keeps = reading-kept p (dereferencedIn f) _ (either-kept f next keeps)
-
-testing-kept : (p : Place) (f : Formula) (next : Bool → Follow) → ((b : Bool) → Keeps (next b)) → Keeps (λ t. testingPaths p f t next)
-unfolding testingPaths
-testing-kept p (negation f) next keeps = testing-kept p f (λ b. next (not b)) (λ b. keeps (not b))
-testing-kept p (both f g) next keeps =
-    testing-kept p f _ (λ b t o. cond-kept b (testingPaths p g t next) (next false t) (testing-kept p g next keeps t o) (keeps false t o))
-testing-kept p (either f g) next keeps =
-    testing-kept p f _ (λ b t o. cond-kept b (next true t) (testingPaths p g t next) (keeps true t o) (testing-kept p g next keeps t o))
-testing-kept p (implies f g) next keeps =
-    testing-kept p f _ (λ b t o. cond-kept b (testingPaths p g t next) (next true t) (testing-kept p g next keeps t o) (keeps true t o))
-testing-kept p (same f g) next keeps =
-    testing-kept p f _ (λ b. testing-kept p g (λ c. next (sameTruth b c)) (λ c. keeps (sameTruth b c)))
-testing-kept p always next keeps = keeps true
-testing-kept p never next keeps = keeps false
-testing-kept p (equal u v) next keeps = deciding-kept p (equal u v) next keeps
-testing-kept p (unequal u v) next keeps = deciding-kept p (unequal u v) next keeps
-testing-kept p (reaches i u v) next keeps = deciding-kept p (reaches i u v) next keeps
-testing-kept p (between i u v w) next keeps = deciding-kept p (between i u v w) next keeps
-testing-kept p (flag j u) next keeps = deciding-kept p (flag j u) next keeps
-testing-kept p (forall f) next keeps = either-kept (forall f) next keeps
-
-clauses-kept : (number : ℕ) (kind : ℕ → Kind) (i : ℕ) (cs : List Clause) (next : Follow) → Keeps next → Keeps (λ t. clausesPaths number kind i cs t next)
-unfolding clausesPaths
-clauses-kept number kind i [] next keeps = keeps
-clauses-kept number kind i (c ∷ cs) next keeps =
-    asking-kept number (kind i) (c .formula) (λ t. clausesPaths number kind (suc i) cs t next) (clauses-kept number kind (suc i) cs next keeps)
-
-no-more : Keeps (λ t. [])
-no-more t o = none-kept
-
-module _ (final : Follow) (final-keeps : Keeps final) where
-  paths-kept : (c : Code) (next out : Follow) → Keeps next → Keeps out → Keeps (paths final c next out)
-  unfolding paths
-  paths-kept end next out k l = k
-  paths-kept (assign p x u rest) next out k l =
-      reading-kept p (dereferenced u) _ (λ t o. paths-kept rest next out k l _ (named-ordered t x (nameOf (t .point) u) o (name-own (t .point) (o .point) u)))
-  paths-kept (assignLink p u i v rest) next out k l =
-      reading-kept p (dereferenced u ++ (u ∷ []) ++ dereferenced v) _ (λ t o.
-      paths-kept rest next out k l _ (linked-ordered t i (nameOf (t .point) u) (nameOf (t .point) v) o (name-own (t .point) (o .point) u) (name-own (t .point) (o .point) v)))
-  paths-kept (assignFlag p u j b rest) next out k l =
-      reading-kept p (dereferenced u ++ (u ∷ [])) _ (λ t o. paths-kept rest next out k l _ (marked-ordered t j (nameOf (t .point) u) b o (name-own (t .point) (o .point) u)))
-  paths-kept (havoc p x rest) next out k l = λ t o. paths-kept rest next out k l _ (havocked-ordered t x o)
-  paths-kept (assume p f rest) next out k l = λ t o. paths-kept rest next out k l (saying t true f) (saying-ordered t true f o)
-  paths-kept (assert p f rest) next out k l = asking-kept (p .number) asserted f (paths final rest next out) (paths-kept rest next out k l)
-  paths-kept (cover p f rest) next out k l = asking-kept (p .number) covered f (paths final rest next out) (paths-kept rest next out k l)
-  paths-kept (branch p f yes·code no·code rest) next out k l =
-      let behind : Keeps (paths final rest next out) = paths-kept rest next out k l in
-      testing-kept p f _ (λ b. cond-follow b (paths final yes·code (paths final rest next out) out) (paths final no·code (paths final rest next out) out)
-      (paths-kept yes·code (paths final rest next out) out behind l) (paths-kept no·code (paths final rest next out) out behind l))
-  paths-kept (loop p f invariants body rest) next out k l = clauses-kept (p .number) entry 0 invariants (λ t. []) no-more
-  paths-kept (leave p rest) next out k l = final-keeps
-  paths-kept (breakOut p rest) next out k l = l
-
-  abbrev KeepsAll : List SegmentPaths → Type 0
-  KeepsAll hs = Each (λ h. Keeps (h .follow)) hs
-
-  returning-kept : (p : Place) (invariants : List Clause) → Keeps (returningPaths p invariants)
-  unfolding returningPaths
-  returning-kept p invariants = clauses-kept (p .number) kept 0 invariants (λ t. []) no-more
-
-  head-kept : (p : Place) (f : Formula) (invariants : List Clause) (body : Code) (behind : Follow) → Keeps behind → Keeps (headPaths p f invariants (paths final body) behind)
-  unfolding headPaths
-  head-kept p f invariants body behind k =
-      testing-kept p f _ (λ b. cond-follow b (paths final body (returningPaths p invariants) behind) behind
-      (paths-kept body (returningPaths p invariants) behind (returning-kept p invariants) k) k)
-
-  loops-kept : (c : Code) (next out : Follow) → Keeps next → Keeps out → KeepsAll (loopPaths final c next out)
-  unfolding loopPaths
-  loops-kept end next out k l = λ h m. absurd (List·Memᴰ·not-nil m)
-  loops-kept (assign p x u rest) next out k l = loops-kept rest next out k l
-  loops-kept (assignLink p u i v rest) next out k l = loops-kept rest next out k l
-  loops-kept (assignFlag p u j b rest) next out k l = loops-kept rest next out k l
-  loops-kept (havoc p x rest) next out k l = loops-kept rest next out k l
-  loops-kept (assume p f rest) next out k l = loops-kept rest next out k l
-  loops-kept (assert p f rest) next out k l = loops-kept rest next out k l
-  loops-kept (cover p f rest) next out k l = loops-kept rest next out k l
-  loops-kept (branch p f yes·code no·code rest) next out k l =
-      let behind : Keeps (paths final rest next out) = paths-kept rest next out k l in
-      each-append (λ h. Keeps (h .follow)) _ (loopPaths final rest next out)
-      (each-append (λ h. Keeps (h .follow)) (loopPaths final yes·code (paths final rest next out) out) (loopPaths final no·code (paths final rest next out) out)
-      (loops-kept yes·code (paths final rest next out) out behind l) (loops-kept no·code (paths final rest next out) out behind l))
-      (loops-kept rest next out k l)
-  loops-kept (loop p f invariants body rest) next out k l =
-      let behind : Keeps (paths final rest next out) = paths-kept rest next out k l in
-      each-cons (λ h. Keeps (h .follow)) _ _ (head-kept p f invariants body (paths final rest next out) behind)
-      (each-append (λ h. Keeps (h .follow)) (loopPaths final body (returningPaths p invariants) (paths final rest next out)) (loopPaths final rest next out)
-      (loops-kept body (returningPaths p invariants) (paths final rest next out) (returning-kept p invariants) behind) (loops-kept rest next out k l))
-  loops-kept (leave p rest) next out k l = loops-kept rest next out k l
-  loops-kept (breakOut p rest) next out k l = loops-kept rest next out k l
-
-finishing-kept : (r : Routine) → Keeps (finishingPaths r)
-unfolding finishingPaths
-finishing-kept r = clauses-kept 0 ensured 0 (r .ensures) (λ t. []) no-more
+-- every case that a path of a routine comes to is in order
 
 start-own : OwnPoint (planAt atStart) atStart
 unfolding atStart OwnStores OwnMarks OnPath
@@ -323,14 +189,18 @@ unfolding startTrail OwnFact
 start-ordered cs =
     record { point = start-own; facts = λ f m. let r = map-mem (λ (c : Clause). says true atStart (c .formula)) f cs m in subst (OwnFact (planAt atStart)) (sym (r .2)) start-own }
 
--- every case that a path of a routine comes to is in order
+ordered-kept : Invariant Ordered (λ f. Unit) (λ i. Unit)
+ordered-kept =
+    record {
+      at-start = λ cs q. start-ordered cs;
+      not-null = λ u. tt;
+      says = λ t b f q o. saying-ordered t b f o;
+      names = λ t x u o. named-ordered t x (nameOf (t .point) u) o (name-own (t .point) (o .point) u);
+      links = λ t i u v q o.
+          linked-ordered t i (nameOf (t .point) u) (nameOf (t .point) v) o (name-own (t .point) (o .point) u) (name-own (t .point) (o .point) v);
+      marks = λ t j u b o. marked-ordered t j (nameOf (t .point) u) b o (name-own (t .point) (o .point) u);
+      havocs = λ t x o. havocked-ordered t x o;
+    }
+
 pub cases-ordered : (r : Routine) (h : SegmentPaths) → List·Memᴰ h (segmentPaths r) → (x : Case) → List·Memᴰ x (h .follow (startTrail (h .assumes))) → Ordered (x .trail)
-unfolding segmentPaths
-cases-ordered r h m x m′ = all-kept h m (startTrail (h .assumes)) (start-ordered (h .assumes)) x m′
-  where
-    all-kept : Each (λ (g : SegmentPaths). Keeps (g .follow)) (segmentPaths r)
-    all-kept =
-        unfold segmentPaths in
-        each-cons (λ (g : SegmentPaths). Keeps (g .follow)) _ _
-        (paths-kept (finishingPaths r) (finishing-kept r) (r .body) (finishingPaths r) (λ t. []) (finishing-kept r) no-more)
-        (loops-kept (finishingPaths r) (finishing-kept r) (r .body) (finishingPaths r) (λ t. []) (finishing-kept r) no-more)
+cases-ordered r = cases-keep Ordered (λ f. Unit) (λ i. Unit) ordered-kept r (routine-any r)
