@@ -14,6 +14,7 @@ pub mod Cases
 pub mod Invariants
 pub mod Ordered
 pub mod Claims
+pub mod Within
 pub mod Instances
 pub mod Finite
 pub mod Numbers

@@ -68,7 +68,7 @@ pub record Ordered (t : Trail) : Type 0 where
   pub facts : Each (OwnFact (planAt (t .point))) (t .facts)
 
 -- a value that is changed
-changed-each : {A : Type 0} (Q : ℕ → A → Type 0) (f : ℕ → A) (x : ℕ) (a : A) → Q x a → ((y : ℕ) → Q y (f y)) → (y : ℕ) → Q y (changed f x a y)
+pub changed-each : {A : Type 0} (Q : ℕ → A → Type 0) (f : ℕ → A) (x : ℕ) (a : A) → Q x a → ((y : ℕ) → Q y (f y)) → (y : ℕ) → Q y (changed f x a y)
 unfolding changed
 changed-each Q f x a h k y = go (eqb y x) refl
   where
