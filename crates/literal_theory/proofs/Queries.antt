@@ -21,9 +21,6 @@ signed-test true t A h = h
 signed-test false t A h = (λ e a. true-false (h .1 a) (not-true e), λ k. not-intro (not-of (λ e. k (h .0 e))))
 
 module _ (g : State) (is : IsHeap g) (start : State) (nodes : List ℕ) (entries : Entries) where
-  abbrev says : (b : Bool) → Bool → Bool
-  says b t = sameTruth b t
-
   -- a term that is a variable, or nil
   within-variable : (k t : ℕ) → argumentOf entries t ≡ 0 → valueWithin g entries k t ≡ g .variable t
   unfolding valueWithin

@@ -200,7 +200,7 @@ factLabels flags k (gives n ∷ fs) = factLabels flags (suc k) fs
 unfoldable pub caseLabels : List ℕ → List ℕ → Case → List Label
 caseLabels flags links x = named nil ∷ (flatMap (cutLabels (planOf x)) links ++ factLabels flags 0 (x .trail .facts))
 
--- "No alternation", and no bound name bears a link: of a formula that is plain or denied
+-- "No alternation": of a formula that is plain or denied, the bodies of its assumed `forall`s have no denied one
 unfoldable pub tidy : Bool → Formula → Bool
 tidy b always = true
 tidy b never = true
