@@ -1,0 +1,1 @@
+-- Theorems about LL(1) grammars, from their leaves up.

@@ -1,0 +1,3 @@
+-- LL(1) grammars with actions, in reading order.
+pub mod Grammar
+pub mod Machine
