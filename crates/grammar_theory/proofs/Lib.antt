@@ -1,1 +1,3 @@
 -- Theorems about LL(1) grammars, from their leaves up.
+pub mod Derivations
+pub mod Passed

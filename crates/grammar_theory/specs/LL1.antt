@@ -131,6 +131,7 @@ module _ (g : Grammar) (t : Table) (c : Facts) where
   -- the grammar whose texts are derived from rule r is LL(1)
   unfoldable pub ll1 : ℕ → Bool
   ll1 r =
+      ltb 0 (c .kinds) and
       known (rule r ∷ []) and
       follow c 0 r and
       each fits 0 g and
