@@ -1,3 +1,4 @@
 -- Theorems about LL(1) grammars, from their leaves up.
 pub mod Derivations
 pub mod Passed
+pub mod Prediction
