@@ -2,3 +2,4 @@
 pub mod Derivations
 pub mod Passed
 pub mod Prediction
+pub mod Leaves

@@ -2,3 +2,4 @@
 pub mod Grammar
 pub mod Machine
 pub mod LL1
+pub mod Claims
