@@ -1,11 +1,11 @@
 -- Two machines that do the same steps to different things: what they make is related, if each step keeps it so.
 use Prim.Native.Nat.{ℕ, zero, suc}
-use mathlib.Core.Path.{_≡_, refl, sym, ap, _∙_, subst}
+use mathlib.Core.Path.{refl}
 use mathlib.Core.Bool.{Bool, true, false, cond}
-use mathlib.Core.List.{List, [], _∷_, _++_, tail}
+use mathlib.Core.List.{[], _∷_, _++_, tail}
 use lib.ListN.{length}
 use Rattle.grammar_theory.specs.Grammar.{Symbols, Kinds, Grammar, Step, shift, act, Steps}
-use Rattle.grammar_theory.specs.Machine.{Table, next, Move, finish, read, perform, expand, refuse, move, State, Ending, accepted, stuck, unfinished, afterRead, afterPerform, afterExpand, moved, run, start, after}
+use Rattle.grammar_theory.specs.Machine.{Table, next, Move, finish, read, perform, expand, refuse, move, State, afterRead, afterPerform, afterExpand, moved, run, start, after}
 use Rattle.grammar_theory.specs.LL1.{Facts, moves, parse}
 use Rattle.grammar_theory.specs.Claims.{Alike}
 

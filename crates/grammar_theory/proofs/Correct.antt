@@ -1,26 +1,24 @@
 -- The claims, of every grammar that passes the test.
-use Prim.Native.Nat.{ℕ, zero, suc, _+_, _*_, _≤_, _<_, max}
-use native.Mathlib.Omega.{arith}
-use native.Mathlib.Nat.{mul-le-mul-left}
+use Prim.Native.Nat.{ℕ, _+_}
 use mathlib.Core.Path.{_≡_, refl, sym, ap, _∙_, subst}
 use mathlib.Core.Logic.{_⊎_, ⊎-elim, inl, inr}
-use mathlib.Core.Bool.{Bool, true, false, cond, false≢true}
-use mathlib.Core.List.{List, [], _∷_, _++_, append-nil, append-assoc, cons-ne-nil, head-eq-of-cons-eq, tail-eq-of-cons-eq}
+use mathlib.Core.Bool.{true, false≢true}
+use mathlib.Core.List.{List, [], _∷_, _++_, append-nil, append-assoc, head-eq-of-cons-eq, tail-eq-of-cons-eq}
 use lib.Dec.{ltb}
 use lib.ListN.{length}
 use Rattle.logic.specs.Search.{_and_, all}
 use Rattle.theory.proofs.Basics.Search.{and-left, and-right, and-intro}
-use Rattle.grammar_theory.specs.Grammar.{rule, Symbols, Kinds, Grammar, Step, Steps, Derives, Text, Begins}
+use Rattle.grammar_theory.specs.Grammar.{rule, Kinds, Grammar, Step, Steps, Text, Begins}
 use Rattle.grammar_theory.specs.Machine.{Table, next, State, Ending, accepted, stuck, unfinished, run, start, after}
-use Rattle.grammar_theory.specs.LL1.{Facts, ll1, moves, parse}
-use Rattle.grammar_theory.specs.Claims.{plain, Any, Next, Leaves, waiting, ended, leaving, Refused, Certain, Fault, Correct, LL1Correct}
+use Rattle.grammar_theory.specs.LL1.{Facts, moves, parse}
+use Rattle.grammar_theory.specs.Claims.{plain, Any, Next, ended, leaving, Refused, Fault, LL1Correct}
 use Rattle.grammar_theory.proofs.Passed.{Passed, ll1-passed}
-use Rattle.grammar_theory.proofs.Prediction.{Fitting, fitting-start, derives-kinds, derives-unique}
+use Rattle.grammar_theory.proofs.Prediction.{fitting-start, derives-kinds, derives-unique}
 use Rattle.grammar_theory.proofs.Leaves.{leaves-refl}
 use Rattle.grammar_theory.proofs.Productive.{known-derivable}
 use Rattle.grammar_theory.proofs.Bounds.{start-enough, ends-at}
-use Rattle.grammar_theory.proofs.Runs.{Mode, Reached, Refusal, Said, said-run}
-use Rattle.grammar_theory.proofs.Prefixes.{Leads, derives-leads}
+use Rattle.grammar_theory.proofs.Runs.{Mode, Refusal, Said, said-run}
+use Rattle.grammar_theory.proofs.Prefixes.{derives-leads}
 
 -- two ways to split a list: one front is the other one and more
 pub split-cases : {A : Type 0} (xs ys xs′ ys′ : List A) → xs ++ ys ≡ xs′ ++ ys′ →

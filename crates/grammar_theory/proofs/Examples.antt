@@ -1,6 +1,6 @@
 -- The examples come out, by computation.
 use mathlib.Core.Path.{refl}
-use mathlib.Core.List.{[], _∷_, List·Memᴰ·head, List·Memᴰ·tail}
+use mathlib.Core.List.{List·Memᴰ·head, List·Memᴰ·tail}
 use Rattle.logic.specs.Search.{_and_, _or_, from, any, all}
 use Rattle.grammar_theory.specs.Grammar.{alternatives, empty, reading, acting, expanding, symbolOf, grammarOf}
 use Rattle.grammar_theory.specs.Machine.{predicted, next, expandBy, move, afterRead, afterPerform, afterExpand, moved, run, start}
@@ -21,8 +21,8 @@ examples-hold =
       table-exchanged = refl;
       accepted-sum = refl;
       derived-number =
-        expanding _ (List·Memᴰ·head refl)
-            (expanding _ (List·Memᴰ·head refl) (reading (acting (expanding _ (List·Memᴰ·tail (List·Memᴰ·head refl)) (acting empty)))));
+          expanding _ (List·Memᴰ·head refl)
+          (expanding _ (List·Memᴰ·head refl) (reading (acting (expanding _ (List·Memᴰ·tail (List·Memᴰ·head refl)) (acting empty)))));
       stuck-number = refl;
       stuck-plus = refl;
       stuck-open = refl;

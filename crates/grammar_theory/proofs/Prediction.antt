@@ -1,11 +1,10 @@
 -- Of a grammar that passes the test: what is derived begins as claimed, so that the table has the alternative of every derivation.
-use Prim.Native.Nat.{ℕ, zero, suc, _≤_, _<_}
-use native.Mathlib.Omega.{arith}
+use Prim.Native.Nat.{ℕ, _<_}
 use mathlib.Core.Path.{_≡_, refl, sym, ap, _∙_, subst}
 use mathlib.Core.Logic.{_⊎_, ⊎-elim, inl, inr}
-use mathlib.Core.Bool.{Bool, true, false, not, cond, false≢true}
-use mathlib.Core.List.{List, [], _∷_, _++_, tail-eq-of-cons-eq, List·Memᴰ}
-use mathlib.Core.Option.{Option, none, some, Option·some-inj}
+use mathlib.Core.Bool.{Bool, true, false}
+use mathlib.Core.List.{[], _∷_, _++_, tail-eq-of-cons-eq, List·Memᴰ}
+use mathlib.Core.Option.{some, Option·some-inj}
 use lib.Dec.{eqb, ltb}
 use lib.ListN.{getElem?, length}
 use Rattle.logic.specs.Search.{_and_, _or_, all}
@@ -15,7 +14,7 @@ use Rattle.grammar_theory.specs.Grammar.{token, rule, action, Symbols, K
 use Rattle.grammar_theory.specs.Machine.{Table, predicted, next}
 use Rattle.grammar_theory.specs.LL1.{Facts, nullable, first, follow, rank, vanish, begin, known, followed}
 use Rattle.grammar_theory.proofs.Derivations.{derives-nil, derives-token, derives-action, derives-rule}
-use Rattle.grammar_theory.proofs.Passed.{implies-true, mem-getElem, getElem-mem, FitsRule, FitsKind, Passed}
+use Rattle.grammar_theory.proofs.Passed.{implies-true, mem-getElem, getElem-mem, Passed}
 
 module _ (c : Facts) (k : ℕ) where
   pub begin-append : (xs ys : Symbols) (b : Bool) → begin c k (xs ++ ys) b ≡ begin c k xs (begin c k ys b)
@@ -71,12 +70,11 @@ module _ (g : Grammar) (t : Table) (c : Facts) where
   unfolding followed Followed Behind
   followed-append r [] ss h b f = f
   followed-append r (token j ∷ xs) ss h b f = followed-append r xs ss h b f
-  followed-append r (rule s ∷ xs) ss h b f =
-      (
-        λ k l e. implies-true _ _ (and-left _ _ (h k l))
-            (begin-mono c k xs (begin c k ss (eqb k 0)) (follow c k r) (b k l) (sym (begin-append c k xs ss (eqb k 0)) ∙ e)),
-        followed-append r xs ss (λ k l. and-right _ _ (h k l)) b f,
-      )
+  followed-append r (rule s ∷ xs) ss h b f = (
+    λ k l e. implies-true _ _ (and-left _ _ (h k l))
+        (begin-mono c k xs (begin c k ss (eqb k 0)) (follow c k r) (b k l) (sym (begin-append c k xs ss (eqb k 0)) ∙ e)),
+    followed-append r xs ss (λ k l. and-right _ _ (h k l)) b f,
+  )
   followed-append r (action a ∷ xs) ss h b f = followed-append r xs ss h b f
 
 -- a stack of the machine: its symbols are known, and its rules are followed by what can stand behind them
@@ -98,8 +96,7 @@ module _ {g : Grammar} {t : Table} {c : Facts} where
   pub fitting-rule : {r : ℕ} {ss : Symbols} → Fitting g t c (rule r ∷ ss) → (r < length g) × (rank c r < c .top) × Behind g t c r ss × Fitting g t c ss
   unfolding known Followed
   fitting-rule f =
-      let front = and-left _ _ (f .are-known) in
-      (
+      let front = and-left _ _ (f .are-known) in (
         ltb-true _ _ (and-left _ _ front),
         ltb-true _ _ (and-right _ _ front),
         f .are-followed .0,
@@ -176,8 +173,7 @@ module _ {g : Grammar} {t : Table} {c : Facts} {start : ℕ} (p : Passed g t c s
       (alternative : Symbols) × (getElem? (alternatives g r) (predicted t r (next ks)) ≡ some alternative) × Derives g (alternative ++ ss) ks steps
   derives-taken r ss d f =
       let parts = derives-rule d in
-      let i = mem-getElem (parts .1) in
-      (
+      let i = mem-getElem (parts .1) in (
         parts .0,
         ap (getElem? (alternatives g r)) (derives-predicted r (i .0) (parts .0) ss (i .1) (parts .2) f) ∙ i .1,
         parts .2,

@@ -3,13 +3,12 @@ use Prim.Native.Nat.{ℕ, zero, suc, _+_}
 use native.Mathlib.Omega.{arith}
 use mathlib.Core.Path.{_≡_, refl, sym, ap, _∙_, subst}
 use mathlib.Core.Bool.{Bool, true, false, cond, false≢true}
-use mathlib.Core.List.{List, [], _∷_, _++_, cons-ne-nil, head-eq-of-cons-eq, tail-eq-of-cons-eq}
-use mathlib.Core.Option.{Option, none, some}
-use lib.Dec.{eqb}
+use mathlib.Core.List.{[], _∷_, _++_, cons-ne-nil, head-eq-of-cons-eq, tail-eq-of-cons-eq}
+use mathlib.Core.Option.{Option, some}
 use lib.ListN.{getElem?}
 use Rattle.theory.proofs.Basics.Compare.{eqb-intro}
 use Rattle.grammar_theory.specs.Grammar.{token, rule, action, Symbols, Kinds, Grammar, alternatives, Step, shift, act, Steps, Derives, empty, reading, acting, expanding}
-use Rattle.grammar_theory.specs.Machine.{Table, predicted, next, Move, finish, read, perform, expand, refuse, expandBy, move, State, Ending, accepted, stuck, unfinished, afterRead, afterPerform, afterExpand, moved, run}
+use Rattle.grammar_theory.specs.Machine.{Table, predicted, next, Move, finish, read, perform, expand, refuse, expandBy, move, State, afterRead, afterPerform, afterExpand, moved, run}
 use Rattle.grammar_theory.specs.LL1.{Facts}
 use Rattle.grammar_theory.specs.Claims.{ended, leaving}
 use Rattle.grammar_theory.proofs.Passed.{mem-getElem, Passed}
@@ -84,7 +83,7 @@ module _ {B : Type 0} (does : Step → B → B) (g : Grammar) (t : Table) where
         let i = mem-getElem m in
         let at-next = ap next q in
         let taken : getElem? (alternatives g r) (predicted t r k) ≡ some alternative =
-            ap (λ (x : ℕ). getElem? (alternatives g r) (predicted t r x)) (sym at-next) ∙ ap (getElem? (alternatives g r)) (derives-predicted p r (i .0) alternative ss (i .1) d f) ∙ i .1 in
+        ap (λ (x : ℕ). getElem? (alternatives g r) (predicted t r x)) (sym at-next) ∙ ap (getElem? (alternatives g r)) (derives-predicted p r (i .0) alternative ss (i .1) d f) ∙ i .1 in
         let on = derives-leads d (fitting-expand p r alternative ss m f) (k ∷ front) rest₀ now certain false q in
         leads-move (rule r ∷ ss) (alternative ++ ss) (k ∷ front) (k ∷ front) now certain now certain e false
         (λ rest n. run-expand n r alternative ss (k ∷ (front ++ rest)) now certain e taken) on

@@ -12,10 +12,10 @@ use Rattle.grammar_theory.specs.LL1.{Facts, ll1, moves, parse}
 unfoldable pub sums : Grammar
 sums =
     grammarOf (
-      ((66 ∷ 65 ∷ 130 ∷ []) ∷ [])
-      ∷ ((2 ∷ 66 ∷ 129 ∷ 65 ∷ []) ∷ [] ∷ [])
-      ∷ ((1 ∷ 128 ∷ []) ∷ (3 ∷ 64 ∷ 4 ∷ []) ∷ [])
-      ∷ []
+    ((66 ∷ 65 ∷ 130 ∷ []) ∷ [])
+    ∷ ((2 ∷ 66 ∷ 129 ∷ 65 ∷ []) ∷ [] ∷ [])
+    ∷ ((1 ∷ 128 ∷ []) ∷ (3 ∷ 64 ∷ 4 ∷ []) ∷ [])
+    ∷ []
     )
 
 unfoldable pub sumTable : Table
