@@ -14,6 +14,7 @@ use Rattle.theory.proofs.Basics.Compare.{eqb-true, eqb-intro, ltb-true}
 use Rattle.grammar_theory.specs.Grammar.{token, rule, action, Symbols, Kinds, Grammar, alternatives, Step, shift, act, Steps, Derives, empty}
 use Rattle.grammar_theory.specs.Machine.{Table, predicted, next, finish, read, refuse, expandBy, move, State, Ending, accepted, stuck, unfinished, afterRead, afterPerform, afterExpand, moved, run, after}
 use Rattle.grammar_theory.specs.LL1.{Facts}
+use Rattle.grammar_theory.proofs.States.{at}
 use Rattle.grammar_theory.specs.Claims.{plain, Any, Next, Leaves, waiting}
 use Rattle.grammar_theory.proofs.Derivations.{derives-nil, derives-token}
 use Rattle.grammar_theory.proofs.Passed.{option-cases, getElem-mem, Passed}
@@ -83,9 +84,6 @@ module _ (g : Grammar) (t : Table) (c : Facts) {B : Type 0} (does : Step → B �
   Said (accepted b) = (steps : Steps) × Derives g from-symbols from-kinds steps × (b ≡ after does steps b₀)
   Said (stuck left b) = Refusal left b
   Said unfinished = Unit
-
-  abbrev at : Symbols → Kinds → B → B → Bool → State B
-  at ss left now certain e = record { stack = ss; left = left; now = now; certain = certain; eager = e }
 
   -- a state where nothing that comes can be derived
   said-stuck : (s : State B) → Reached s → waiting (s .stack) ≡ true → Blocked g (s .stack) (next (s .left)) → Refusal (s .left) (s .certain)
