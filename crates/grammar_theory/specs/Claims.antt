@@ -2,11 +2,11 @@
 use Prim.Native.Nat.{ℕ, _+_, _≤_}
 use mathlib.Core.Path.{_≡_}
 use mathlib.Core.Bool.{Bool, true, false}
-use mathlib.Core.List.{[], _∷_, _++_}
+use mathlib.Core.List.{[], _∷_, _++_, List·Memᴰ}
 use lib.Dec.{ltb}
 use lib.ListN.{length}
 use Rattle.logic.specs.Search.{all}
-use Rattle.grammar_theory.specs.Grammar.{token, rule, action, Symbols, Kinds, Grammar, Step, Steps, Derives, Text, Begins}
+use Rattle.grammar_theory.specs.Grammar.{token, rule, action, Symbols, Kinds, Grammar, alternatives, Step, shift, act, Steps, Derives, Text, Begins}
 use Rattle.grammar_theory.specs.Machine.{Table, next, State, Ending, accepted, stuck, unfinished, run, start, after}
 use Rattle.grammar_theory.specs.LL1.{Facts, ll1, moves, parse}
 
@@ -44,13 +44,20 @@ ended (accepted b) = true
 ended (stuck left b) = true
 ended unfinished = false
 
--- endings alike: what was made is related by R
-unfoldable pub Alike : {A B : Type 0} → (A → B → Type 0) → Ending A → Ending B → Type 0
-Alike R (accepted a) (accepted b) = R a b
+-- Two machines that do the same steps to different things: a relation between them, at each stack, is kept by every move.
+pub record Keeps (g : Grammar) {A B : Type 0} (R : Symbols → A → B → Type 0) (does : Step → A → A) (does′ : Step → B → B) : Type 0 where
+  pub keeps-shift : (k : ℕ) (ss : Symbols) (a : A) (b : B) → R (token k ∷ ss) a b → R ss (does (shift k) a) (does′ (shift k) b)
+  pub keeps-act : (x : ℕ) (ss : Symbols) (a : A) (b : B) → R (action x ∷ ss) a b → R ss (does (act x) a) (does′ (act x) b)
+  pub keeps-expand : (r : ℕ) (alternative ss : Symbols) (a : A) (b : B) → List·Memᴰ alternative (alternatives g r) → R (rule r ∷ ss) a b →
+      R (alternative ++ ss) a b
+
+-- endings alike: what was made is related, where it is stuck at some stack
+unfoldable pub Alike : {A B : Type 0} → (Symbols → A → B → Type 0) → Ending A → Ending B → Type 0
+Alike R (accepted a) (accepted b) = R [] a b
 Alike R (accepted a) (stuck left b) = ⊥
 Alike R (accepted a) unfinished = ⊥
 Alike R (stuck left a) (accepted b) = ⊥
-Alike R (stuck left a) (stuck left′ b) = (left ≡ left′) × R a b
+Alike R (stuck left a) (stuck left′ b) = (left ≡ left′) × ((ss : Symbols) × R ss a b)
 Alike R (stuck left a) unfinished = ⊥
 Alike R unfinished (accepted b) = ⊥
 Alike R unfinished (stuck left b) = ⊥
