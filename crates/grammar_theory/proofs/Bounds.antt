@@ -14,7 +14,7 @@ use Rattle.logic.specs.Search.{_and_}
 use Rattle.theory.proofs.Basics.Search.{bool-cases}
 use Rattle.grammar_theory.specs.Grammar.{token, rule, action, Symbols, Kinds, Grammar, alternatives, Step, shift, act}
 use Rattle.grammar_theory.specs.Machine.{Table, predicted, next, finish, read, refuse, expandBy, move, State, afterRead, afterPerform, afterExpand, moved, run}
-use Rattle.grammar_theory.specs.LL1.{Facts, nullable, rank, weight, vanish, leading, weigh, moves}
+use Rattle.grammar_theory.specs.LL1.{Facts, nullable, rank, weight, vanish, highest, leading, weigh, moves}
 use Rattle.grammar_theory.proofs.States.{at}
 use Rattle.grammar_theory.specs.Claims.{ended}
 use Rattle.grammar_theory.proofs.Passed.{option-cases, getElem-mem, FitsRule, Passed}
@@ -28,30 +28,37 @@ module _ (c : Facts) where
   weigh-append (rule r ∷ xs) ys = let e = weigh-append xs ys in omega (arith, e)
   weigh-append (action a ∷ xs) ys = let e = weigh-append xs ys in omega (arith, e)
 
-  -- in front of others: they lead only where the first ones vanish
-  pub leading-vanish : (xs ys : Symbols) → leading c (xs ++ ys) ≤ max (leading c xs) (leading c ys)
-  unfolding leading
-  leading-vanish [] ys = omega arith
-  leading-vanish (token j ∷ xs) ys = omega arith
-  leading-vanish (rule r ∷ xs) ys = go (nullable c r) (leading-vanish xs ys)
+  -- in front of others: those count only where the first ones vanish
+  pub highest-append : (f : ℕ → ℕ) (xs ys : Symbols) → highest c f (xs ++ ys) ≤ max (highest c f xs) (highest c f ys)
+  highest-append f [] ys = omega arith
+  highest-append f (token j ∷ xs) ys = omega arith
+  highest-append f (rule r ∷ xs) ys = go (nullable c r) (highest-append f xs ys)
     where
-      go : (b : Bool) → leading c (xs ++ ys) ≤ max (leading c xs) (leading c ys) →
-          max (suc (rank c r)) (cond b (leading c (xs ++ ys)) 0) ≤ max (max (suc (rank c r)) (cond b (leading c xs) 0)) (leading c ys)
+      go : (b : Bool) → highest c f (xs ++ ys) ≤ max (highest c f xs) (highest c f ys) →
+          max (f r) (cond b (highest c f (xs ++ ys)) 0) ≤ max (max (f r) (cond b (highest c f xs) 0)) (highest c f ys)
       go true h = omega (arith, h)
       go false h = omega (arith, h)
-  leading-vanish (action a ∷ xs) ys = leading-vanish xs ys
+  highest-append f (action a ∷ xs) ys = highest-append f xs ys
+
+  pub highest-stays : (f : ℕ → ℕ) (xs ys : Symbols) → vanish c xs ≡ false → highest c f (xs ++ ys) ≡ highest c f xs
+  unfolding vanish _and_
+  highest-stays f [] ys h = absurd (true≢false h)
+  highest-stays f (token j ∷ xs) ys h = refl
+  highest-stays f (rule r ∷ xs) ys h = go (nullable c r) h (highest-stays f xs ys)
+    where
+      go : (b : Bool) → b and vanish c xs ≡ false → (vanish c xs ≡ false → highest c f (xs ++ ys) ≡ highest c f xs) →
+          max (f r) (cond b (highest c f (xs ++ ys)) 0) ≡ max (f r) (cond b (highest c f xs) 0)
+      go true h k = ap (max (f r)) (k h)
+      go false h k = refl
+  highest-stays f (action a ∷ xs) ys h = highest-stays f xs ys h
+
+  pub leading-append : (xs ys : Symbols) → leading c (xs ++ ys) ≤ max (leading c xs) (leading c ys)
+  unfolding leading
+  leading-append xs ys = highest-append (λ r. suc (rank c r)) xs ys
 
   pub leading-stays : (xs ys : Symbols) → vanish c xs ≡ false → leading c (xs ++ ys) ≡ leading c xs
-  unfolding leading vanish _and_
-  leading-stays [] ys h = absurd (true≢false h)
-  leading-stays (token j ∷ xs) ys h = refl
-  leading-stays (rule r ∷ xs) ys h = go (nullable c r) h (leading-stays xs ys)
-    where
-      go : (b : Bool) → b and vanish c xs ≡ false → (vanish c xs ≡ false → leading c (xs ++ ys) ≡ leading c xs) →
-          max (suc (rank c r)) (cond b (leading c (xs ++ ys)) 0) ≡ max (suc (rank c r)) (cond b (leading c xs) 0)
-      go true h f = ap (max (suc (rank c r))) (f h)
-      go false h f = refl
-  leading-stays (action a ∷ xs) ys h = leading-stays xs ys h
+  unfolding leading
+  leading-stays xs ys h = highest-stays (λ r. suc (rank c r)) xs ys h
 
 -- of a stack: how many moves there are at most before the next token is read, and what those to come may add to it
 unfoldable pub potential : Facts → Symbols → ℕ
@@ -73,7 +80,7 @@ module _ (c : Facts) where
   potential-null r alternative ss n w l =
       rw n (
       let over : ℕ = max (suc (rank c r)) (leading c ss) in
-      let low : leading c (alternative ++ ss) ≤ over = let h = leading-vanish c alternative ss in omega (arith, h, l) in
+      let low : leading c (alternative ++ ss) ≤ over = let h = leading-append c alternative ss in omega (arith, h, l) in
       let h = mul-le-mul-left (suc (c .heaviest)) low in
       let e = weigh-append c alternative ss in
       omega (arith, h, e, w))

@@ -11,3 +11,4 @@ pub mod Runs
 pub mod Prefixes
 pub mod Alike
 pub mod Correct
+pub mod Room

@@ -61,12 +61,16 @@ module _ (c : Facts) where
   begin k (rule r ∷ ss) behind = let rest : Bool = begin k ss behind in first k r or (nullable r and rest)
   begin k (action a ∷ ss) behind = begin k ss behind
 
-  -- one more than the highest rank of the rules that these symbols can begin with
+  -- the highest of the numbers of the rules that these symbols can begin with
+  abbrev pub highest : (ℕ → ℕ) → Symbols → ℕ
+  highest f [] = 0
+  highest f (token j ∷ ss) = 0
+  highest f (rule r ∷ ss) = let rest : ℕ = highest f ss in max (f r) (cond (nullable r) rest 0)
+  highest f (action a ∷ ss) = highest f ss
+
+  -- one more than the highest rank of those rules
   unfoldable pub leading : Symbols → ℕ
-  leading [] = 0
-  leading (token j ∷ ss) = 0
-  leading (rule r ∷ ss) = let rest : ℕ = leading ss in max (suc (rank r)) (cond (nullable r) rest 0)
-  leading (action a ∷ ss) = leading ss
+  leading ss = highest (λ r. suc (rank r)) ss
 
   unfoldable pub weigh : Symbols → ℕ
   weigh [] = 0

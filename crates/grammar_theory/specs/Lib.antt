@@ -3,4 +3,5 @@ pub mod Grammar
 pub mod Machine
 pub mod LL1
 pub mod Claims
+pub mod Room
 pub mod Examples
