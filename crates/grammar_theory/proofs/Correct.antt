@@ -11,7 +11,7 @@ use Rattle.logic.specs.Search.{_and_, all}
 use Rattle.theory.proofs.Basics.Search.{and-left, and-right, and-intro}
 use Rattle.grammar_theory.specs.Grammar.{rule, Kinds, Grammar, Step, Steps, Text, Begins}
 use Rattle.grammar_theory.specs.Machine.{Table, next, State, Ending, accepted, stuck, unfinished, run, start, after}
-use Rattle.grammar_theory.specs.LL1.{Facts, ll1, moves, parse}
+use Rattle.grammar_theory.specs.LL1.{Facts, moves, parse}
 use Rattle.grammar_theory.specs.Claims.{plain, Any, Next, ended, leaving, Refused, Fault, LL1Correct}
 use Rattle.grammar_theory.proofs.Passed.{Passed, ll1-passed}
 use Rattle.grammar_theory.proofs.Prediction.{fitting-start, derives-kinds, derives-unique}

@@ -5,10 +5,11 @@ use Rattle.logic.specs.Search.{_and_, _or_, from, any, all}
 use Rattle.grammar_theory.specs.Grammar.{alternatives, empty, reading, acting, expanding, symbolOf, grammarOf}
 use Rattle.grammar_theory.specs.Machine.{predicted, next, expandBy, move, afterRead, afterPerform, afterExpand, moved, run, start}
 use Rattle.grammar_theory.specs.LL1.{has, nullable, first, follow, rank, weight, height, vanish, begin, leading, weigh, lower, _implies_, each, known, followed, fitsKind, fitsRule, fits, ll1, moves, parse}
-use Rattle.grammar_theory.specs.Examples.{ExamplesHold, sums, sumTable, factsWith, sumFollows, sumRanks, sumFacts, choices, choiceTable, choiceFacts, collect, reads}
+use Rattle.grammar_theory.specs.Room.{space, growth, spaceOf, growthOf, fitsSize, sized, room, peakBehind, peak}
+use Rattle.grammar_theory.specs.Examples.{ExamplesHold, sums, sumTable, factsWith, sumFollows, sumRanks, sumFacts, choices, choiceTable, choiceFacts, collect, reads, sizesWith, sumSizes}
 
 pub examples-hold : ExamplesHold
-unfolding _and_ _or_ from any all alternatives symbolOf grammarOf predicted next expandBy move afterRead afterPerform afterExpand moved run start has nullable first follow rank weight height vanish begin leading weigh lower _implies_ each known followed fitsKind fitsRule fits ll1 moves parse sums sumTable factsWith sumFollows sumRanks sumFacts choices choiceTable choiceFacts collect reads
+unfolding _and_ _or_ from any all alternatives symbolOf grammarOf predicted next expandBy move afterRead afterPerform afterExpand moved run start has nullable first follow rank weight height vanish begin leading weigh lower _implies_ each known followed fitsKind fitsRule fits ll1 moves parse sums sumTable factsWith sumFollows sumRanks sumFacts choices choiceTable choiceFacts collect reads space growth spaceOf growthOf fitsSize sized room peakBehind peak sizesWith sumSizes
 examples-hold =
     record {
       last-token = refl;
@@ -30,4 +31,8 @@ examples-hold =
       too-few-moves = refl;
       enough-moves = refl;
       moves-of-two = refl;
+      sums-sized = refl;
+      growth-too-low = refl;
+      peak-of-three = refl;
+      room-of-three = refl;
     }

@@ -1,19 +1,19 @@
 -- The stack is never higher than its room.
 use Prim.Native.Nat.{ℕ, zero, suc, _+_, _*_, _≤_, max}
 use native.Mathlib.Omega.{arith}
-use mathlib.Core.Path.{_≡_, refl, sym, subst}
+use mathlib.Core.Path.{_≡_, sym, subst}
 use mathlib.Core.Logic.{⊎-elim}
 use mathlib.Core.Bool.{Bool, true, false, cond}
 use mathlib.Core.List.{List, [], _∷_, _++_, tail, List·Memᴰ}
 use mathlib.Core.Option.{Option}
 use lib.Dec.{eqb, leb}
 use lib.ListN.{getElem?, getD, length}
-use Rattle.logic.specs.Search.{_and_, all}
+use Rattle.logic.specs.Search.{all}
 use Rattle.theory.proofs.Basics.Search.{bool-cases, and-left, and-right, all-true}
 use Rattle.theory.proofs.Basics.Compare.{eqb-true, leb-true}
 use Rattle.grammar_theory.specs.Grammar.{token, rule, action, Symbols, Kinds, Grammar, alternatives}
 use Rattle.grammar_theory.specs.Machine.{Table, predicted, next, finish, read, refuse, expandBy, move}
-use Rattle.grammar_theory.specs.LL1.{Facts, nullable, vanish, highest, each}
+use Rattle.grammar_theory.specs.LL1.{Facts, nullable, vanish, highest}
 use Rattle.grammar_theory.specs.Room.{Sizes, space, growth, spaceOf, growthOf, fitsSize, sized, room, peakBehind, peak, PeakBounded}
 use Rattle.grammar_theory.proofs.Passed.{option-cases, implies-true, each-true, mem-getElem, getElem-mem, getElem-getD, Passed, ll1-passed}
 use Rattle.grammar_theory.proofs.Prediction.{Fitting, fitting-token, fitting-action, fitting-expand, fitting-start}

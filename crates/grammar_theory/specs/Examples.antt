@@ -7,6 +7,7 @@ use mathlib.Core.List.{List, [], _∷_, _++_}
 use Rattle.grammar_theory.specs.Grammar.{token, rule, action, Kinds, Grammar, Step, shift, act, Steps, Text, symbolOf, grammarOf}
 use Rattle.grammar_theory.specs.Machine.{Table, Ending, accepted, stuck, unfinished, run, start}
 use Rattle.grammar_theory.specs.LL1.{Facts, ll1, moves, parse}
+use Rattle.grammar_theory.specs.Room.{Sizes, sized, room, peak}
 
 -- sum = item more, more = "+" item more | nothing, item = number | "(" sum ")"
 unfoldable pub sums : Grammar
@@ -73,6 +74,13 @@ collect s steps = steps ++ (s ∷ [])
 unfoldable pub reads : Kinds → Ending Steps
 reads ks = parse collect sums sumTable sumFacts 0 ks []
 
+-- of each rule: it counts for itself; with these growths
+unfoldable pub sizesWith : List ℕ → Sizes
+sizesWith growths = record { spaces = []; growths = growths; most = 4 }
+
+unfoldable pub sumSizes : Sizes
+sumSizes = sizesWith (4 ∷ 3 ∷ 2 ∷ [])
+
 pub record ExamplesHold : Type 0 where
   pub last-token : symbolOf 63 ≡ token 63
   pub last-rule : symbolOf 127 ≡ rule 63
@@ -96,3 +104,9 @@ pub record ExamplesHold : Type 0 where
   pub too-few-moves : run collect sums sumTable 6 (start 0 (1 ∷ []) []) ≡ unfinished
   pub enough-moves : run collect sums sumTable 7 (start 0 (1 ∷ []) []) ≡ accepted (shift 1 ∷ act 0 ∷ act 2 ∷ [])
   pub moves-of-two : moves sumFacts 0 2 ≡ 21
+  -- a sum grows by the two symbols beside an item and by what the item grows by
+  pub sums-sized : sized sumSizes sumFacts sums ≡ true
+  pub growth-too-low : sized (sizesWith (3 ∷ 3 ∷ 2 ∷ [])) sumFacts sums ≡ false
+  -- ((1: each of the two parentheses leaves what is to be read behind it
+  pub peak-of-three : peak sums sumTable 50 (rule 0 ∷ []) (3 ∷ 3 ∷ 1 ∷ []) ≡ 10
+  pub room-of-three : room sumSizes 0 3 ≡ 17
