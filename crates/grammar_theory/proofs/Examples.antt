@@ -20,6 +20,7 @@ examples-hold =
       follow-forgotten = refl;
       rank-too-low = refl;
       table-exchanged = refl;
+      led-behind = refl;
       accepted-sum = refl;
       derived-number =
           expanding _ (List·Memᴰ·head refl)

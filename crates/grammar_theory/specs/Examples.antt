@@ -6,7 +6,7 @@ use mathlib.Core.Bool.{true, false}
 use mathlib.Core.List.{List, [], _∷_, _++_}
 use Rattle.grammar_theory.specs.Grammar.{token, rule, action, Kinds, Grammar, Step, shift, act, Steps, Text, symbolOf, grammarOf}
 use Rattle.grammar_theory.specs.Machine.{Table, Ending, accepted, stuck, unfinished, run, start}
-use Rattle.grammar_theory.specs.LL1.{Facts, ll1, moves, parse}
+use Rattle.grammar_theory.specs.LL1.{Facts, leading, ll1, moves, parse}
 use Rattle.grammar_theory.specs.Room.{Sizes, sized, room, peak}
 
 -- sum = item more, more = "+" item more | nothing, item = number | "(" sum ")"
@@ -91,6 +91,8 @@ pub record ExamplesHold : Type 0 where
   pub follow-forgotten : ll1 sums sumTable (factsWith (0b111 ∷ 0 ∷ 0b100 ∷ 0 ∷ 0 ∷ []) sumRanks) 0 ≡ false
   pub rank-too-low : ll1 sums sumTable (factsWith sumFollows (0 ∷ 0 ∷ 0 ∷ [])) 0 ≡ false
   pub table-exchanged : ll1 sums ((0 ∷ 0 ∷ 0 ∷ 0 ∷ 0 ∷ []) ∷ (1 ∷ 1 ∷ 0 ∷ 1 ∷ 0 ∷ []) ∷ (2 ∷ 0 ∷ 2 ∷ 1 ∷ 2 ∷ []) ∷ []) sumFacts 0 ≡ false
+  -- a rule behind one that can vanish is led to
+  pub led-behind : leading sumFacts (rule 1 ∷ rule 0 ∷ []) ≡ 2
   -- 1 + (1)
   pub accepted-sum : reads (1 ∷ 2 ∷ 3 ∷ 1 ∷ 4 ∷ []) ≡
       accepted (shift 1 ∷ act 0 ∷ shift 2 ∷ shift 3 ∷ shift 1 ∷ act 0 ∷ act 2 ∷ shift 4 ∷ act 1 ∷ act 2 ∷ [])
