@@ -1,5 +1,5 @@
 -- The words and signs of a routine's text (03, "The text" and "Answers"). A text is a list of bytes; a place is the number of bytes before it.
-use Prim.Native.Nat.{ℕ, zero, suc, _+_, _-_}
+use Prim.Native.Nat.{ℕ, zero, suc, _+_, _*_, _-_}
 use mathlib.Core.Bool.{Bool, true, false, not, cond}
 use mathlib.Core.List.{List, [], _∷_}
 use lib.ListN.{length, take, drop}
@@ -30,11 +30,21 @@ opensComment [] = false
 opensComment (b ∷ []) = false
 opensComment (b ∷ c ∷ bs) = eqb b 47 and eqb c 47
 
--- How many bytes in front separate: outside a comment, and within one. "a byte above 127 is a fault even in a comment", so a comment stops there.
+-- The first of these bytes separates, outside a comment or within one: "a byte above 127 is a fault even in a comment".
+unfoldable pub separates : Bool → List ℕ → Bool
+separates comment [] = false
+separates true (b ∷ bs) = leb b 127
+separates false (b ∷ bs) = isBlank b or opensComment (b ∷ bs)
+
+-- Behind a byte that separates there is a comment: it goes on to the line's end, or has begun.
+unfoldable pub inComment : Bool → ℕ → Bool
+inComment true b = not (eqb b 10)
+inComment false b = eqb b 47
+
+-- how many bytes in front separate
 unfoldable pub separators : Bool → List ℕ → ℕ
 separators comment [] = 0
-separators true (b ∷ bs) = cond (ltb 127 b) 0 (suc (separators (not (eqb b 10)) bs))
-separators false (b ∷ bs) = cond (isBlank b) (suc (separators false bs)) (cond (opensComment (b ∷ bs)) (suc (separators true bs)) 0)
+separators comment (b ∷ bs) = cond (separates comment (b ∷ bs)) (suc (separators (inComment comment b) bs)) 0
 
 -- The reserved words and the signs of the grammar, ten bytes each; the signs in an order in which a longer one stands before those that begin it.
 abbrev pub wordTable : List ℕ
@@ -70,28 +80,26 @@ unfoldable pub wordKind : List ℕ → ℕ
 wordKind [] = 2
 wordKind (b ∷ bs) = cond (isDigit b) (digitKind (b ∷ bs)) (reservedKind (rowOf 23 true (b ∷ bs) wordTable))
 
-unfoldable pub signKind : ℕ → ℕ
-signKind row = cond (ltb row 16) (29 + row) 1
+-- how many bytes the row in front has
+unfoldable pub rowLength : List ℕ → ℕ
+rowLength [] = 0
+rowLength (r ∷ row) = cond (eqb r 32) 0 (suc (rowLength row))
 
--- how many bytes a sign of this kind has, and a byte that begins none
-unfoldable pub signLength : ℕ → ℕ
-signLength kind = cond (eqb kind 31) 3 (cond (leb 29 kind and leb kind 35) 2 1)
-
--- a word or sign of this kind from a place on, so many bytes long
+-- a token of this kind from a place on, so many bytes long
 unfoldable pub tokenOf : ℕ → ℕ → ℕ → Token
 tokenOf place size kind = record { kind = kind; start = place; end = place + size }
 
 unfoldable pub wordOf : ℕ → ℕ → List ℕ → Token
 wordOf place size bytes = tokenOf place size (wordKind (take size bytes))
 
-unfoldable pub signOf : ℕ → ℕ → Token
-signOf place kind = tokenOf place (signLength kind) kind
+unfoldable pub signOf : ℕ → ℕ → List ℕ → Token
+signOf place row table = cond (ltb row 16) (tokenOf place (rowLength (drop (10 * row) table)) (29 + row)) (tokenOf place 1 1)
 
 -- The token that these bytes, which stand from a place on, begin with. "the end of the text counts as a sign"
 unfoldable pub tokenAt : ℕ → List ℕ → Token
 tokenAt place [] = tokenOf place 0 0
 tokenAt place (b ∷ bs) =
-    cond (isWordByte b) (wordOf place (wordLength (b ∷ bs)) (b ∷ bs)) (signOf place (signKind (rowOf 16 false (b ∷ bs) signTable)))
+    cond (isWordByte b) (wordOf place (wordLength (b ∷ bs)) (b ∷ bs)) (signOf place (rowOf 16 false (b ∷ bs) signTable) signTable)
 
 -- the same behind so many separators
 unfoldable pub tokenBehind : ℕ → ℕ → List ℕ → Token
