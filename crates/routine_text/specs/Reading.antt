@@ -1,0 +1,121 @@
+-- What a text says, and its first fault (03, "The text" and "Answers").
+use Prim.Native.Nat.{ℕ, _*_, suc}
+use mathlib.Core.Bool.{Bool, true, false, not, cond}
+use mathlib.Core.List.{List, [], _∷_, _++_, map}
+use mathlib.Core.Option.{Option, none, some, Option·elim}
+use lib.Dec.{eqb, ltb}
+use lib.ListN.{length, getD}
+use Rattle.logic.specs.Search.{_and_, _or_, select}
+use Rattle.grammar_theory.specs.Grammar.{Step, shift, act}
+use Rattle.grammar_theory.specs.Machine.{Ending, accepted, stuck, unfinished, run, start}
+use Rattle.routine_logic.specs.Syntax.{never}
+use Rattle.routine_tokens.specs.declared.Token.{Token}
+use Rattle.routine_tokens.specs.Tokens.{tokens, lineOf, columnOf}
+use Rattle.routine_text.specs.Grammar.{grammar, predictions}
+use Rattle.routine_text.specs.Builder.{Word, wordOf, noWord, Fault, textFault, nameFault, forallFault, limitFault, Mark, Named, Builder, accept, endDeclarations, declareLink, declareFlag, beginRoutine, nameRoutine, endRoutine, declareVariable, beginClause, addRequires, addEnsures, beginStatement, openThen, closeThen, endIf, openBlock, closeBlock, openLoop, closeLoop, addBreak, beginCondition, endCondition, addInvariant, nameBase, nullBase, nameMember, addHavoc, addAssume, addAssert, addCover, addReturn, addAssign, takeLink, writeFlag, addClear, addSet, writeLink, addAssignLink, followLink, judgeForalls, closeFormula, negate, openParenthesis, closeParenthesis, addTrue, addFalse, openForall, openBody, closeForall, countPart, addBetween, declareBound, readFlag, addEqual, addUnequal, addReaches, byLink, byFirst, joinAnd, joinOr, joinImplies, joinIff}
+
+-- what the actions of the grammar do, in the order of their numbers
+unfoldable pub actions : List (Builder → Builder)
+actions =
+    endDeclarations ∷ declareLink ∷ declareFlag ∷ beginRoutine ∷ nameRoutine ∷ endRoutine ∷ declareVariable ∷ beginClause ∷ addRequires
+    ∷ addEnsures ∷ beginStatement ∷ openThen ∷ closeThen ∷ endIf ∷ openBlock ∷ closeBlock ∷ openLoop ∷ closeLoop ∷ addBreak ∷ beginCondition
+    ∷ endCondition ∷ addInvariant ∷ nameBase ∷ nullBase ∷ nameMember ∷ addHavoc ∷ addAssume ∷ addAssert ∷ addCover ∷ addReturn ∷ addAssign ∷ takeLink
+    ∷ writeFlag ∷ addClear ∷ addSet ∷ writeLink ∷ addAssignLink ∷ followLink ∷ judgeForalls ∷ closeFormula ∷ negate ∷ openParenthesis
+    ∷ closeParenthesis ∷ addTrue ∷ addFalse ∷ openForall ∷ openBody ∷ closeForall ∷ countPart ∷ addBetween ∷ declareBound ∷ readFlag ∷ addEqual
+    ∷ addUnequal ∷ addReaches ∷ byLink ∷ byFirst ∷ joinAnd ∷ joinOr ∷ joinImplies ∷ joinIff
+    ∷ []
+
+unfoldable pub perform : ℕ → Builder → Builder
+perform k b = getD actions k (λ c. c) b
+
+unfoldable pub does : Step → Builder → Builder
+does (shift k) b = accept (b .coming) b
+does (act a) b = perform a b
+
+-- nothing is built yet; these words come
+unfoldable pub empty : List Word → Builder
+empty words =
+    record {
+      coming = words;
+      word = noWord;
+      names = record { links = []; flags = []; routines = []; variables = []; bound = []; fresh = [] };
+      counts = record { statements = 0; parts = 0; nesting = 0 };
+      terms = record { read = []; member = noWord; assigned = 0; by = 0 };
+      formulas = record { opened = []; finished = never; foralls = []; lastForall = 0; conditional = false };
+      codes = record { here = record { number = 0; line = 0 }; test = never; invariants = []; statements = []; levels = [] };
+      routines = record { line = 0; clauseLine = 0; requires = []; ensures = []; done = [] };
+      marks = [];
+    }
+
+-- the kinds of the tokens before the end of the text
+unfoldable pub kindsOf : List Token → List ℕ
+kindsOf ts = select (λ k. not (eqb k 0)) (map (λ t. t .kind) ts)
+
+-- how many moves are enough for so many tokens
+unfoldable pub enough : ℕ → ℕ
+enough n = 64 * suc n
+
+unfoldable pub ending : List ℕ → Ending Builder
+ending text =
+    let ts : List Token = tokens text in
+    let ks : List ℕ = kindsOf ts in
+    run does grammar predictions (enough (length ks)) (start 0 ks (empty (map (wordOf text) ts)))
+
+-- "at one place `text` goes before `name`, `name` before `forall`, `forall` before `limit`"
+unfoldable pub rank : Fault → ℕ
+rank textFault = 0
+rank nameFault = 1
+rank forallFault = 2
+rank limitFault = 3
+
+unfoldable pub before : Mark → Mark → Bool
+before m n = ltb (m .place) (n .place) or (eqb (m .place) (n .place) and ltb (rank (m .fault)) (rank (n .fault)))
+
+-- "The fault is the one at the smallest place"
+unfoldable pub earlier : Mark → Mark → Mark
+earlier m n = cond (before n m) n m
+
+unfoldable pub first : List Mark → Option Mark
+first [] = none
+first (m ∷ ms) = some (Option·elim (first ms) m (earlier m))
+
+-- "at the first byte of the first word or sign that no text of the grammar could have there"
+unfoldable pub placeOf : List Word → ℕ
+placeOf [] = 0
+placeOf (w ∷ ws) = w .place
+
+unfoldable pub marksOf : Ending Builder → List Mark
+marksOf (accepted b) = b .marks
+marksOf (stuck left b) = record { place = placeOf (b .coming); fault = textFault } ∷ b .marks
+marksOf unfinished = record { place = 0; fault = textFault } ∷ []
+
+-- "Limits: 8,192 bytes": "at the first byte past a limit"
+unfoldable pub lengthMarks : ℕ → List Mark
+lengthMarks n = cond (ltb 8192 n) (record { place = 8192; fault = limitFault } ∷ []) []
+
+unfoldable pub faults : List ℕ → List Mark
+faults text = lengthMarks (length text) ++ marksOf (ending text)
+
+-- what a text says: its links and flags, and its routines with their names and variables
+pub record Contents : Type 0 where
+  pub links : List Word
+  pub flags : List Word
+  pub routines : List Named
+
+unfoldable pub contentsOf : Builder → Contents
+contentsOf b = record { links = b .names .links; flags = b .names .flags; routines = b .routines .done }
+
+-- "A text outside the grammar or past a limit gives one line, `fault L:C WORD`, line and column from 1."
+pub data Reading : Type 0 where
+  read : Contents → Reading
+  faulty : ℕ → ℕ → Fault → Reading
+
+unfoldable pub contents : Ending Builder → Contents
+contents (accepted b) = contentsOf b
+contents (stuck left b) = contentsOf b
+contents unfinished = record { links = []; flags = []; routines = [] }
+
+unfoldable pub readText : List ℕ → Reading
+readText text =
+    let said : Reading = read (contents (ending text)) in
+    Option·elim (first (faults text)) said (λ m. faulty (lineOf text (m .place)) (columnOf text (m .place)) (m .fault))
