@@ -6,6 +6,7 @@ use mathlib.Core.List.{List, [], _∷_, map}
 use Rattle.text.specs.Text.{ascii}
 use Rattle.grammar_theory.specs.Grammar.{Symbol, token, rule, action, Symbols, Grammar}
 use Rattle.grammar_theory.specs.Machine.{Table}
+use Rattle.grammar_theory.specs.LL1.{Facts}
 use Rattle.routine_tokens.specs.Tokens.{tokenIn}
 
 -- a word or sign as it is quoted in the paper; a name
@@ -333,87 +334,87 @@ grammar =
     ((declarations ∷ routine ∷ routines ∷ []) ∷ [])
     -- "{ "links" names ";" | "flags" names ";" }"; what is declared is known where the first routine begins
     ∷ ((q "links" ∷ linkNames ∷ q ";" ∷ declarations ∷ [])
-    ∷ (q "flags" ∷ flagNames ∷ q ";" ∷ declarations ∷ [])
-    ∷ (on·endDeclarations ∷ []) ∷ [])
+      ∷ (q "flags" ∷ flagNames ∷ q ";" ∷ declarations ∷ [])
+      ∷ (on·endDeclarations ∷ []) ∷ [])
     -- "names = name { "," name }", of links and of flags
     ∷ ((name ∷ on·declareLink ∷ moreLinks ∷ []) ∷ [])
     ∷ ((q "," ∷ name ∷ on·declareLink ∷ moreLinks ∷ [])
-    ∷ [] ∷ [])
+      ∷ [] ∷ [])
     ∷ ((name ∷ on·declareFlag ∷ moreFlags ∷ []) ∷ [])
     ∷ ((q "," ∷ name ∷ on·declareFlag ∷ moreFlags ∷ [])
-    ∷ [] ∷ [])
+      ∷ [] ∷ [])
     -- "{ routine }"
     ∷ ((routine ∷ routines ∷ [])
-    ∷ [] ∷ [])
+      ∷ [] ∷ [])
     -- "routine = "routine" name "(" [ names ] ")" { ( "requires" | "ensures" ) formula } "{" { "var" names ";" } { statement } "}""
     ∷ ((q "routine" ∷ on·beginRoutine ∷ name ∷ on·nameRoutine ∷ q "("
-    ∷ parameters ∷ q ")" ∷ clauses ∷ q "{" ∷ variables ∷ statements ∷ q "}" ∷ on·endRoutine ∷ []) ∷ [])
+      ∷ parameters ∷ q ")" ∷ clauses ∷ q "{" ∷ variables ∷ statements ∷ q "}" ∷ on·endRoutine ∷ []) ∷ [])
     -- "[ names ]", of variables
     ∷ ((variableNames ∷ [])
-    ∷ [] ∷ [])
+      ∷ [] ∷ [])
     ∷ ((name ∷ on·declareVariable ∷ moreVariables ∷ []) ∷ [])
     ∷ ((q "," ∷ name ∷ on·declareVariable ∷ moreVariables ∷ [])
-    ∷ [] ∷ [])
+      ∷ [] ∷ [])
     -- "{ ( "requires" | "ensures" ) formula }"
     ∷ ((q "requires" ∷ on·beginClause ∷ sentence ∷ on·addRequires ∷ clauses ∷ [])
-    ∷ (q "ensures" ∷ on·beginClause ∷ sentence ∷ on·addEnsures ∷ clauses ∷ [])
-    ∷ [] ∷ [])
+      ∷ (q "ensures" ∷ on·beginClause ∷ sentence ∷ on·addEnsures ∷ clauses ∷ [])
+      ∷ [] ∷ [])
     -- "{ "var" names ";" }"
     ∷ ((q "var" ∷ variableNames ∷ q ";" ∷ variables ∷ [])
-    ∷ [] ∷ [])
+      ∷ [] ∷ [])
     -- "{ statement }" outside of loops
     ∷ ((statement ∷ statements ∷ [])
-    ∷ [] ∷ [])
+      ∷ [] ∷ [])
     ∷ ((simple ∷ [])
-    ∷ (ifStatement ∷ [])
-    ∷ (whileStatement ∷ []) ∷ [])
+      ∷ (ifStatement ∷ [])
+      ∷ (whileStatement ∷ []) ∷ [])
     -- ""if" "(" formula ")" block [ "else" ( block | if-statement ) ]", "block = "{" { statement } "}""
     ∷ ((q "if" ∷ on·beginStatement ∷ condition ∷ q "{" ∷ on·openThen ∷ statements ∷ q "}" ∷ on·closeThen ∷ elsePart ∷ []) ∷ [])
     ∷ ((q "else" ∷ elseBlock ∷ [])
-    ∷ (on·endIf ∷ []) ∷ [])
+      ∷ (on·endIf ∷ []) ∷ [])
     ∷ ((q "{" ∷ on·openBlock ∷ statements ∷ q "}" ∷ on·closeBlock ∷ on·endIf ∷ [])
-    ∷ (ifStatement ∷ on·endIf ∷ []) ∷ [])
+      ∷ (ifStatement ∷ on·endIf ∷ []) ∷ [])
     -- ""while" "(" formula ")" { "invariant" formula } block"
     ∷ ((q "while" ∷ on·beginStatement ∷ condition ∷ invariants ∷ q "{" ∷ on·openLoop ∷ innerStatements ∷ q "}" ∷ on·closeLoop ∷ []) ∷ [])
     -- "break only within a loop": the same for statements within one
     ∷ ((innerStatement ∷ innerStatements ∷ [])
-    ∷ [] ∷ [])
+      ∷ [] ∷ [])
     ∷ ((simple ∷ [])
-    ∷ (innerIf ∷ [])
-    ∷ (whileStatement ∷ [])
-    ∷ (q "break" ∷ on·beginStatement ∷ q ";" ∷ on·addBreak ∷ []) ∷ [])
+      ∷ (innerIf ∷ [])
+      ∷ (whileStatement ∷ [])
+      ∷ (q "break" ∷ on·beginStatement ∷ q ";" ∷ on·addBreak ∷ []) ∷ [])
     ∷ ((q "if" ∷ on·beginStatement ∷ condition ∷ q "{" ∷ on·openThen ∷ innerStatements ∷ q "}" ∷ on·closeThen ∷ innerElse ∷ []) ∷ [])
     ∷ ((q "else" ∷ innerElseBlock ∷ [])
-    ∷ (on·endIf ∷ []) ∷ [])
+      ∷ (on·endIf ∷ []) ∷ [])
     ∷ ((q "{" ∷ on·openBlock ∷ innerStatements ∷ q "}" ∷ on·closeBlock ∷ on·endIf ∷ [])
-    ∷ (innerIf ∷ on·endIf ∷ []) ∷ [])
+      ∷ (innerIf ∷ on·endIf ∷ []) ∷ [])
     -- ""(" formula ")", behind `if` and `while`
     ∷ ((q "(" ∷ on·beginCondition ∷ sentence ∷ q ")" ∷ on·endCondition ∷ []) ∷ [])
     -- "{ "invariant" formula }"
     ∷ ((q "invariant" ∷ on·beginClause ∷ sentence ∷ on·addInvariant ∷ invariants ∷ [])
-    ∷ [] ∷ [])
+      ∷ [] ∷ [])
     -- "name "=" term ";"", "term "->" link "=" term ";"", "term "->" flag "=" ( "0" | "1" ) ";"", ""havoc" name ";"",
     -- "( "assume" | "assert" | "cover" ) formula ";"", ""return" ";""
     ∷ ((name ∷ on·beginStatement ∷ on·nameBase ∷ assignment ∷ [])
-    ∷ (q "NULL" ∷ on·beginStatement ∷ on·nullBase ∷ q "->" ∷ name ∷ on·nameMember ∷ memberAssignment ∷ [])
-    ∷ (q "havoc" ∷ on·beginStatement ∷ name ∷ on·nameBase ∷ q ";" ∷ on·addHavoc ∷ [])
-    ∷ (q "assume" ∷ on·beginStatement ∷ sentence ∷ q ";" ∷ on·addAssume ∷ [])
-    ∷ (q "assert" ∷ on·beginStatement ∷ sentence ∷ q ";" ∷ on·addAssert ∷ [])
-    ∷ (q "cover" ∷ on·beginStatement ∷ sentence ∷ q ";" ∷ on·addCover ∷ [])
-    ∷ (q "return" ∷ on·beginStatement ∷ q ";" ∷ on·addReturn ∷ []) ∷ [])
+      ∷ (q "NULL" ∷ on·beginStatement ∷ on·nullBase ∷ q "->" ∷ name ∷ on·nameMember ∷ memberAssignment ∷ [])
+      ∷ (q "havoc" ∷ on·beginStatement ∷ name ∷ on·nameBase ∷ q ";" ∷ on·addHavoc ∷ [])
+      ∷ (q "assume" ∷ on·beginStatement ∷ sentence ∷ q ";" ∷ on·addAssume ∷ [])
+      ∷ (q "assert" ∷ on·beginStatement ∷ sentence ∷ q ";" ∷ on·addAssert ∷ [])
+      ∷ (q "cover" ∷ on·beginStatement ∷ sentence ∷ q ";" ∷ on·addCover ∷ [])
+      ∷ (q "return" ∷ on·beginStatement ∷ q ";" ∷ on·addReturn ∷ []) ∷ [])
     -- what stands behind the first name of an assignment; behind a name that stands behind `->`; behind `=`
     ∷ ((q "=" ∷ term ∷ q ";" ∷ on·addAssign ∷ [])
-    ∷ (q "->" ∷ name ∷ on·nameMember ∷ memberAssignment ∷ []) ∷ [])
+      ∷ (q "->" ∷ name ∷ on·nameMember ∷ memberAssignment ∷ []) ∷ [])
     ∷ ((q "->" ∷ on·takeLink ∷ name ∷ on·nameMember ∷ memberAssignment ∷ [])
-    ∷ (q "=" ∷ assigned ∷ []) ∷ [])
+      ∷ (q "=" ∷ assigned ∷ []) ∷ [])
     ∷ ((q "0" ∷ on·writeFlag ∷ q ";" ∷ on·addClear ∷ [])
-    ∷ (q "1" ∷ on·writeFlag ∷ q ";" ∷ on·addSet ∷ [])
-    ∷ (on·writeLink ∷ term ∷ q ";" ∷ on·addAssignLink ∷ []) ∷ [])
+      ∷ (q "1" ∷ on·writeFlag ∷ q ";" ∷ on·addSet ∷ [])
+      ∷ (on·writeLink ∷ term ∷ q ";" ∷ on·addAssignLink ∷ []) ∷ [])
     -- "term = ( name | "NULL" ) { "->" link }"
     ∷ ((name ∷ on·nameBase ∷ path ∷ [])
-    ∷ (q "NULL" ∷ on·nullBase ∷ path ∷ []) ∷ [])
+      ∷ (q "NULL" ∷ on·nullBase ∷ path ∷ []) ∷ [])
     ∷ ((q "->" ∷ name ∷ on·followLink ∷ path ∷ [])
-    ∷ [] ∷ [])
+      ∷ [] ∷ [])
     -- a formula that stands in no other
     ∷ ((formula ∷ on·judgeForalls ∷ []) ∷ [])
     -- "formula = implies { "<=>" implies }", "implies = or [ "=>" implies ]", "or = and { "||" and }", "and = item { "&&" item }": items with
@@ -422,35 +423,35 @@ grammar =
     ∷ ((operand ∷ on·closeFormula ∷ []) ∷ [])
     -- "item = "!" item | "(" formula ")" | "true" | "false" | "forall" names ":" formula" ..
     ∷ ((q "!" ∷ on·negate ∷ operand ∷ [])
-    ∷ (q "(" ∷ on·openParenthesis ∷ formula ∷ q ")" ∷ on·closeParenthesis ∷ joined ∷ [])
-    ∷ (q "true" ∷ on·addTrue ∷ joined ∷ [])
-    ∷ (q "false" ∷ on·addFalse ∷ joined ∷ [])
-    ∷ (q "forall" ∷ on·openForall ∷ boundNames ∷ q ":" ∷ on·openBody ∷ formula ∷ on·closeForall ∷ [])
-    ∷ (name ∷ on·countPart ∷ on·nameBase ∷ compared ∷ joined ∷ [])
-    ∷ (q "NULL" ∷ on·countPart ∷ on·nullBase ∷ compared ∷ joined ∷ [])
-    ∷ (q "between" ∷ on·countPart ∷ q "(" ∷ term ∷ q "," ∷ term ∷ q "," ∷ term ∷ q ")" ∷ by ∷ on·addBetween ∷ joined ∷ []) ∷ [])
+      ∷ (q "(" ∷ on·openParenthesis ∷ formula ∷ q ")" ∷ on·closeParenthesis ∷ joined ∷ [])
+      ∷ (q "true" ∷ on·addTrue ∷ joined ∷ [])
+      ∷ (q "false" ∷ on·addFalse ∷ joined ∷ [])
+      ∷ (q "forall" ∷ on·openForall ∷ boundNames ∷ q ":" ∷ on·openBody ∷ formula ∷ on·closeForall ∷ [])
+      ∷ (name ∷ on·countPart ∷ on·nameBase ∷ compared ∷ joined ∷ [])
+      ∷ (q "NULL" ∷ on·countPart ∷ on·nullBase ∷ compared ∷ joined ∷ [])
+      ∷ (q "between" ∷ on·countPart ∷ q "(" ∷ term ∷ q "," ∷ term ∷ q "," ∷ term ∷ q ")" ∷ by ∷ on·addBetween ∷ joined ∷ []) ∷ [])
     -- "names = name { "," name }", of a `forall`
     ∷ ((name ∷ on·declareBound ∷ moreBound ∷ []) ∷ [])
     ∷ ((q "," ∷ name ∷ on·declareBound ∷ moreBound ∷ [])
-    ∷ [] ∷ [])
+      ∷ [] ∷ [])
     -- "term ( "==" | "!=" ) term", "term "reaches" term [ "by" link ]", "term "->" flag": behind the first name; behind a name that stands behind `->`
     ∷ ((comparison ∷ [])
-    ∷ (q "->" ∷ name ∷ on·nameMember ∷ member ∷ []) ∷ [])
+      ∷ (q "->" ∷ name ∷ on·nameMember ∷ member ∷ []) ∷ [])
     ∷ ((q "->" ∷ on·takeLink ∷ name ∷ on·nameMember ∷ member ∷ [])
-    ∷ (on·takeLink ∷ comparison ∷ [])
-    ∷ (on·readFlag ∷ []) ∷ [])
+      ∷ (on·takeLink ∷ comparison ∷ [])
+      ∷ (on·readFlag ∷ []) ∷ [])
     ∷ ((q "==" ∷ term ∷ on·addEqual ∷ [])
-    ∷ (q "!=" ∷ term ∷ on·addUnequal ∷ [])
-    ∷ (q "reaches" ∷ term ∷ by ∷ on·addReaches ∷ []) ∷ [])
+      ∷ (q "!=" ∷ term ∷ on·addUnequal ∷ [])
+      ∷ (q "reaches" ∷ term ∷ by ∷ on·addReaches ∷ []) ∷ [])
     -- "[ "by" link ]"
     ∷ ((q "by" ∷ name ∷ on·byLink ∷ [])
-    ∷ (on·byFirst ∷ []) ∷ [])
+      ∷ (on·byFirst ∷ []) ∷ [])
     -- the signs between items
     ∷ ((q "&&" ∷ on·joinAnd ∷ operand ∷ [])
-    ∷ (q "||" ∷ on·joinOr ∷ operand ∷ [])
-    ∷ (q "=>" ∷ on·joinImplies ∷ operand ∷ [])
-    ∷ (q "<=>" ∷ on·joinIff ∷ operand ∷ [])
-    ∷ [] ∷ [])
+      ∷ (q "||" ∷ on·joinOr ∷ operand ∷ [])
+      ∷ (q "=>" ∷ on·joinImplies ∷ operand ∷ [])
+      ∷ (q "<=>" ∷ on·joinIff ∷ operand ∷ [])
+      ∷ [] ∷ [])
     ∷ []
 
 -- For each rule: the number of the alternative that is read before a token of each kind, from kind 0 on; of none, how many there are.
@@ -503,3 +504,26 @@ predictions =
     ∷ digits "222222222112222222212222220222112211211212222"
     ∷ digits "555555555445555555545555555555235501544545555"
     ∷ []
+
+-- What the LL(1) test wants to know of the grammar; the test sees that it is so. Sets of rules are numbers, rule r being bit r.
+unfoldable pub facts : Facts
+facts =
+    record {
+      kinds = 45;
+      top = 3;
+      heaviest = 7;
+      nullables = 3644318104938;
+      firsts = 0 ∷ 0 ∷ 66103829268 ∷ 536870912 ∷ 536870912 ∷ 0 ∷ 3 ∷ 3 ∷ 193 ∷ 2048 ∷ 2048 ∷ 4096 ∷ 68706304 ∷ 68706304 ∷ 68706304 ∷ 68706304 ∷ 12247040 ∷ 4259840
+          ∷ 1859584 ∷ 33554432 ∷ 68706304 ∷ 1572864 ∷ 30064771072 ∷ 30064771072 ∷ 30064771072 ∷ 962072674304 ∷ 1099511627776 ∷ 30064771072 ∷ 31744090112
+          ∷ 414866997248 ∷ 2199023255552 ∷ 2199023255552 ∷ 962072674304 ∷ 962072674304 ∷ 2199023255552 ∷ 2199023255552 ∷ 30081548288 ∷ 0 ∷ 8519680 ∷ 0 ∷ 0 ∷ 0
+          ∷ 68719477800 ∷ 402653184 ∷ 30064771072 ∷ [];
+      follows = 193 ∷ 0 ∷ 1022873600 ∷ 0 ∷ 0 ∷ 0 ∷ 0 ∷ 0 ∷ 130 ∷ 4293893554176 ∷ 4293893554176 ∷ 0 ∷ 1022873600 ∷ 1022873600 ∷ 1022873600 ∷ 1022873600 ∷ 1022873600 ∷ 0
+          ∷ 1022873600 ∷ 4293910331392 ∷ 1022873600 ∷ 1022623744 ∷ 0 ∷ 0 ∷ 0 ∷ 0 ∷ 3221225472 ∷ 0 ∷ 1022873600 ∷ 0 ∷ 2064805527552 ∷ 2064805527552 ∷ 0 ∷ 0
+          ∷ 2064805527552 ∷ 2064805527552 ∷ 0 ∷ 4293893555968 ∷ 4293943887872 ∷ 1023406080 ∷ 4293893555772 ∷ 103079215104 ∷ 3221225472 ∷ 0 ∷ 0 ∷ [];
+      ranks = 1 ∷ 0 ∷ 0 ∷ 0 ∷ 0 ∷ 0 ∷ 1 ∷ 0 ∷ 1 ∷ 0 ∷ 0 ∷ 0 ∷ 0 ∷ 2 ∷ 1 ∷ 0 ∷ 0 ∷ 1 ∷ 0 ∷ 2 ∷ 1 ∷ 0 ∷ 0 ∷ 1 ∷ 0 ∷ 0 ∷ 0 ∷ 0 ∷ 0 ∷ 1 ∷ 0 ∷ 0 ∷ 2 ∷ 1 ∷ 0 ∷ 0 ∷ 0 ∷ 1 ∷ 1
+          ∷ 0 ∷ 0 ∷ 0 ∷ [];
+      weights = 0 ∷ 2 ∷ 0 ∷ 1 ∷ 0 ∷ 1 ∷ 1 ∷ 0 ∷ 1 ∷ 0 ∷ 1 ∷ 1 ∷ 1 ∷ 1 ∷ 0 ∷ 0 ∷ 2 ∷ 0 ∷ 0 ∷ 1 ∷ 0 ∷ 0 ∷ 2 ∷ 0 ∷ 0 ∷ 1 ∷ 0 ∷ 0 ∷ 0 ∷ 0 ∷ 0 ∷ 1 ∷ 0 ∷ 0 ∷ 0 ∷ 0 ∷ 1 ∷ 0 ∷ 2
+          ∷ 0 ∷ 2 ∷ 1 ∷ [];
+      heights = 2 ∷ 0 ∷ 1 ∷ 0 ∷ 1 ∷ 0 ∷ 0 ∷ 1 ∷ 0 ∷ 1 ∷ 0 ∷ 0 ∷ 0 ∷ 0 ∷ 1 ∷ 5 ∷ 0 ∷ 1 ∷ 5 ∷ 0 ∷ 0 ∷ 5 ∷ 0 ∷ 1 ∷ 4 ∷ 0 ∷ 0 ∷ 2 ∷ 1 ∷ 0 ∷ 1 ∷ 0 ∷ 3 ∷ 2 ∷ 1 ∷ 1 ∷ 0 ∷ 1 ∷ 0
+          ∷ 2 ∷ 0 ∷ 0 ∷ [];
+    }

@@ -1,5 +1,5 @@
 -- What a text says, and its first fault (03, "The text" and "Answers").
-use Prim.Native.Nat.{ℕ, _*_, suc}
+use Prim.Native.Nat.{ℕ}
 use mathlib.Core.Bool.{Bool, true, false, not, cond}
 use mathlib.Core.List.{List, [], _∷_, _++_, map}
 use mathlib.Core.Option.{Option, none, some, Option·elim}
@@ -8,10 +8,11 @@ use lib.ListN.{length, getD}
 use Rattle.logic.specs.Search.{_and_, _or_, select}
 use Rattle.grammar_theory.specs.Grammar.{Step, shift, act}
 use Rattle.grammar_theory.specs.Machine.{Ending, accepted, stuck, unfinished, run, start}
+use Rattle.grammar_theory.specs.LL1.{moves}
 use Rattle.routine_logic.specs.Syntax.{never}
 use Rattle.routine_tokens.specs.declared.Token.{Token}
 use Rattle.routine_tokens.specs.Tokens.{tokens, lineOf, columnOf}
-use Rattle.routine_text.specs.Grammar.{grammar, predictions}
+use Rattle.routine_text.specs.Grammar.{grammar, predictions, facts}
 use Rattle.routine_text.specs.Builder.{Word, wordOf, noWord, Fault, textFault, nameFault, forallFault, limitFault, Mark, Named, Builder, accept, endDeclarations, declareLink, declareFlag, beginRoutine, nameRoutine, endRoutine, declareVariable, beginClause, addRequires, addEnsures, beginStatement, openThen, closeThen, endIf, openBlock, closeBlock, openLoop, closeLoop, addBreak, beginCondition, endCondition, addInvariant, nameBase, nullBase, nameMember, addHavoc, addAssume, addAssert, addCover, addReturn, addAssign, takeLink, writeFlag, addClear, addSet, writeLink, addAssignLink, followLink, judgeForalls, closeFormula, negate, openParenthesis, closeParenthesis, addTrue, addFalse, openForall, openBody, closeForall, countPart, addBetween, declareBound, readFlag, addEqual, addUnequal, addReaches, byLink, byFirst, joinAnd, joinOr, joinImplies, joinIff}
 
 -- what the actions of the grammar do, in the order of their numbers
@@ -51,15 +52,15 @@ empty words =
 unfoldable pub kindsOf : List Token → List ℕ
 kindsOf ts = select (λ k. not (eqb k 0)) (map (λ t. t .kind) ts)
 
--- how many moves are enough for so many tokens
-unfoldable pub enough : ℕ → ℕ
-enough n = 64 * suc n
+-- the words, and how the machine ends on them
+unfoldable pub wordsOf : List ℕ → List Token → List Word
+wordsOf text ts = map (wordOf text) ts
+
+unfoldable pub endingOn : List ℕ → List Word → Ending Builder
+endingOn ks words = run does grammar predictions (moves facts 0 (length ks)) (start 0 ks (empty words))
 
 unfoldable pub ending : List ℕ → Ending Builder
-ending text =
-    let ts : List Token = tokens text in
-    let ks : List ℕ = kindsOf ts in
-    run does grammar predictions (enough (length ks)) (start 0 ks (empty (map (wordOf text) ts)))
+ending text = let ts : List Token = tokens text in endingOn (kindsOf ts) (wordsOf text ts)
 
 -- "at one place `text` goes before `name`, `name` before `forall`, `forall` before `limit`"
 unfoldable pub rank : Fault → ℕ
@@ -93,8 +94,11 @@ marksOf unfinished = record { place = 0; fault = textFault } ∷ []
 unfoldable pub lengthMarks : ℕ → List Mark
 lengthMarks n = cond (ltb 8192 n) (record { place = 8192; fault = limitFault } ∷ []) []
 
+unfoldable pub faultsOf : List ℕ → Ending Builder → List Mark
+faultsOf text e = lengthMarks (length text) ++ marksOf e
+
 unfoldable pub faults : List ℕ → List Mark
-faults text = lengthMarks (length text) ++ marksOf (ending text)
+faults text = faultsOf text (ending text)
 
 -- what a text says: its links and flags, and its routines with their names and variables
 pub record Contents : Type 0 where
@@ -115,7 +119,15 @@ contents (accepted b) = contentsOf b
 contents (stuck left b) = contentsOf b
 contents unfinished = record { links = []; flags = []; routines = [] }
 
+-- what is said of the least of the faults; without one, what the text says
+unfoldable pub judged : List ℕ → Contents → Option Mark → Reading
+judged text c none = read c
+judged text c (some m) = faulty (lineOf text (m .place)) (columnOf text (m .place)) (m .fault)
+
+unfoldable pub readTokens : List ℕ → List Token → Reading
+readTokens text ts =
+    let e : Ending Builder = endingOn (kindsOf ts) (wordsOf text ts) in
+    judged text (contents e) (first (faultsOf text e))
+
 unfoldable pub readText : List ℕ → Reading
-readText text =
-    let said : Reading = read (contents (ending text)) in
-    Option·elim (first (faults text)) said (λ m. faulty (lineOf text (m .place)) (columnOf text (m .place)) (m .fault))
+readText text = readTokens text (tokens text)
