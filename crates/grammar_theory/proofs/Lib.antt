@@ -1,1 +1,5 @@
 -- Theorems about LL(1) grammars, from their leaves up.
+pub mod Derivations
+pub mod Passed
+pub mod Prediction
+pub mod Leaves

@@ -2,7 +2,7 @@
 -- each step makes of it. What is done because of the next token (behind a rule that was expanded for it) is certain once that token is read.
 use Prim.Native.Nat.{ℕ, zero, suc}
 use mathlib.Core.Bool.{Bool, true, false, cond}
-use mathlib.Core.List.{List, [], _∷_, _++_, tail, headD}
+use mathlib.Core.List.{List, [], _∷_, _++_, tail}
 use mathlib.Core.Option.{Option, none, some, Option·elim}
 use lib.Dec.{eqb}
 use lib.ListN.{getD, getElem?}
@@ -17,7 +17,8 @@ predicted t r k = getD (getD t r []) k 0
 
 -- the kind of the next token: 0 at the end
 unfoldable pub next : Kinds → ℕ
-next ks = headD ks 0
+next [] = 0
+next (k ∷ ks) = k
 
 -- What the machine does at a stack before a token of a kind.
 pub data Move : Type 0 where
