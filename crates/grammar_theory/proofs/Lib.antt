@@ -3,3 +3,5 @@ pub mod Derivations
 pub mod Passed
 pub mod Prediction
 pub mod Leaves
+pub mod Productive
+pub mod Bounds

@@ -2,6 +2,7 @@
 use Prim.Native.Nat.{ℕ, zero, suc, _+_, _≤_, _<_}
 use native.Mathlib.Omega.{arith}
 use mathlib.Core.Path.{_≡_, refl, sym, ap, _∙_, subst}
+use mathlib.Core.Logic.{_⊎_, inl, inr}
 use mathlib.Core.Bool.{Bool, true, false, not, cond, false≢true}
 use mathlib.Core.List.{List, [], _∷_, _++_, List·Memᴰ, List·Memᴰ·head, List·Memᴰ·tail}
 use mathlib.Core.Option.{Option, none, some, Option·some-inj}
@@ -13,6 +14,10 @@ use Rattle.theory.proofs.Basics.Compare.{eqb-true, ltb-true, leb-true}
 use Rattle.grammar_theory.specs.Grammar.{rule, Symbols, Grammar, alternatives}
 use Rattle.grammar_theory.specs.Machine.{Table, predicted}
 use Rattle.grammar_theory.specs.LL1.{Facts, nullable, first, follow, rank, weight, height, vanish, begin, leading, weigh, lower, _implies_, each, known, followed, fitsKind, fitsRule, fits, ll1}
+
+pub option-cases : {A : Type 0} (o : Option A) → (o ≡ none) ⊎ ((a : A) × (o ≡ some a))
+option-cases none = inl refl
+option-cases (some a) = inr (a, refl)
 
 pub implies-true : (a b : Bool) → a implies b ≡ true → a ≡ true → b ≡ true
 unfolding _implies_

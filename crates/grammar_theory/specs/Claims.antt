@@ -26,3 +26,9 @@ Next k rest = next rest ≡ k
 pub record Leaves (g : Grammar) (P : Kinds → Type 0) (ss : Symbols) (read : Kinds) (done : Steps) (left : Symbols) : Type 0 where
   pub forth : (rest : Kinds) (steps : Steps) → P rest → Derives g ss (read ++ rest) steps → (more : Steps) × (steps ≡ done ++ more) × Derives g left rest more
   pub back : (rest : Kinds) (more : Steps) → P rest → Derives g left rest more → Derives g ss (read ++ rest) (done ++ more)
+
+-- the machine was given enough moves
+unfoldable pub ended : {B : Type 0} → Ending B → Bool
+ended (accepted b) = true
+ended (stuck left b) = true
+ended unfinished = false
