@@ -107,9 +107,8 @@ pub record Routines : Type 0 where
   pub ensures : List Clause
   pub done : List Named
 
--- All of it, with the words that come, the last one that was accepted, and the faults found so far.
+-- All of it, with the last word that was accepted, and the faults found so far.
 pub record Builder : Type 0 where
-  pub coming : List Word
   pub word : Word
   pub names : Names
   pub counts : Counts
@@ -122,37 +121,36 @@ pub record Builder : Type 0 where
 -- the builder with another part
 unfoldable pub withNames : Names → Builder → Builder
 withNames x b =
-    record { coming = b .coming; word = b .word; names = x; counts = b .counts; terms = b .terms; formulas = b .formulas; codes = b .codes; routines = b .routines; marks = b .marks }
+    record { word = b .word; names = x; counts = b .counts; terms = b .terms; formulas = b .formulas; codes = b .codes; routines = b .routines; marks = b .marks }
 
 unfoldable pub withCounts : Counts → Builder → Builder
 withCounts x b =
-    record { coming = b .coming; word = b .word; names = b .names; counts = x; terms = b .terms; formulas = b .formulas; codes = b .codes; routines = b .routines; marks = b .marks }
+    record { word = b .word; names = b .names; counts = x; terms = b .terms; formulas = b .formulas; codes = b .codes; routines = b .routines; marks = b .marks }
 
 unfoldable pub withTerms : Terms → Builder → Builder
 withTerms x b =
-    record { coming = b .coming; word = b .word; names = b .names; counts = b .counts; terms = x; formulas = b .formulas; codes = b .codes; routines = b .routines; marks = b .marks }
+    record { word = b .word; names = b .names; counts = b .counts; terms = x; formulas = b .formulas; codes = b .codes; routines = b .routines; marks = b .marks }
 
 unfoldable pub withFormulas : Formulas → Builder → Builder
 withFormulas x b =
-    record { coming = b .coming; word = b .word; names = b .names; counts = b .counts; terms = b .terms; formulas = x; codes = b .codes; routines = b .routines; marks = b .marks }
+    record { word = b .word; names = b .names; counts = b .counts; terms = b .terms; formulas = x; codes = b .codes; routines = b .routines; marks = b .marks }
 
 unfoldable pub withCodes : Codes → Builder → Builder
 withCodes x b =
-    record { coming = b .coming; word = b .word; names = b .names; counts = b .counts; terms = b .terms; formulas = b .formulas; codes = x; routines = b .routines; marks = b .marks }
+    record { word = b .word; names = b .names; counts = b .counts; terms = b .terms; formulas = b .formulas; codes = x; routines = b .routines; marks = b .marks }
 
 unfoldable pub withRoutines : Routines → Builder → Builder
 withRoutines x b =
-    record { coming = b .coming; word = b .word; names = b .names; counts = b .counts; terms = b .terms; formulas = b .formulas; codes = b .codes; routines = x; marks = b .marks }
+    record { word = b .word; names = b .names; counts = b .counts; terms = b .terms; formulas = b .formulas; codes = b .codes; routines = x; marks = b .marks }
 
 unfoldable pub withMarks : List Mark → Builder → Builder
 withMarks x b =
-    record { coming = b .coming; word = b .word; names = b .names; counts = b .counts; terms = b .terms; formulas = b .formulas; codes = b .codes; routines = b .routines; marks = x }
+    record { word = b .word; names = b .names; counts = b .counts; terms = b .terms; formulas = b .formulas; codes = b .codes; routines = b .routines; marks = x }
 
--- the next word is accepted
-unfoldable pub accept : List Word → Builder → Builder
-accept [] b = b
-accept (w ∷ ws) b =
-    record { coming = ws; word = w; names = b .names; counts = b .counts; terms = b .terms; formulas = b .formulas; codes = b .codes; routines = b .routines; marks = b .marks }
+-- a word is accepted
+unfoldable pub accept : Word → Builder → Builder
+accept w b =
+    record { word = w; names = b .names; counts = b .counts; terms = b .terms; formulas = b .formulas; codes = b .codes; routines = b .routines; marks = b .marks }
 
 -- a fault, where there is one: at a place, or at the word that was accepted
 unfoldable pub markAt : Bool → ℕ → Fault → Builder → Builder

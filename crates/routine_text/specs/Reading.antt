@@ -29,15 +29,23 @@ actions =
 unfoldable pub perform : ℕ → Builder → Builder
 perform k b = getD actions k (λ c. c) b
 
-unfoldable pub does : Step → Builder → Builder
-does (shift k) b = accept (b .coming) b
-does (act a) b = perform a b
+-- where the reading is: the words that come, and what is built
+pub record Reader : Type 0 where
+  pub coming : List Word
+  pub built : Builder
 
--- nothing is built yet; these words come
-unfoldable pub empty : List Word → Builder
-empty words =
+unfoldable pub accepting : List Word → Builder → Reader
+accepting [] b = record { coming = []; built = b }
+accepting (w ∷ ws) b = record { coming = ws; built = accept w b }
+
+unfoldable pub does : Step → Reader → Reader
+does (shift k) r = accepting (r .coming) (r .built)
+does (act a) r = record { coming = r .coming; built = perform a (r .built) }
+
+-- nothing is built yet
+unfoldable pub empty : Builder
+empty =
     record {
-      coming = words;
       word = noWord;
       names = record { links = []; flags = []; routines = []; variables = []; bound = []; fresh = [] };
       counts = record { statements = 0; parts = 0; nesting = 0 };
@@ -56,10 +64,10 @@ kindsOf ts = select (λ k. not (eqb k 0)) (map (λ t. t .kind) ts)
 unfoldable pub wordsOf : List ℕ → List Token → List Word
 wordsOf text ts = map (wordOf text) ts
 
-unfoldable pub endingOn : List ℕ → List Word → Ending Builder
-endingOn ks words = run does grammar predictions (moves facts 0 (length ks)) (start 0 ks (empty words))
+unfoldable pub endingOn : List ℕ → List Word → Ending Reader
+endingOn ks words = run does grammar predictions (moves facts 0 (length ks)) (start 0 ks (record { coming = words; built = empty }))
 
-unfoldable pub ending : List ℕ → Ending Builder
+unfoldable pub ending : List ℕ → Ending Reader
 ending text = let ts : List Token = tokens text in endingOn (kindsOf ts) (wordsOf text ts)
 
 -- "at one place `text` goes before `name`, `name` before `forall`, `forall` before `limit`"
@@ -85,16 +93,16 @@ unfoldable pub placeOf : List Word → ℕ
 placeOf [] = 0
 placeOf (w ∷ ws) = w .place
 
-unfoldable pub marksOf : Ending Builder → List Mark
-marksOf (accepted b) = b .marks
-marksOf (stuck left b) = record { place = placeOf (b .coming); fault = textFault } ∷ b .marks
+unfoldable pub marksOf : Ending Reader → List Mark
+marksOf (accepted r) = r .built .marks
+marksOf (stuck left r) = record { place = placeOf (r .coming); fault = textFault } ∷ r .built .marks
 marksOf unfinished = record { place = 0; fault = textFault } ∷ []
 
 -- "Limits: 8,192 bytes": "at the first byte past a limit"
 unfoldable pub lengthMarks : ℕ → List Mark
 lengthMarks n = cond (ltb 8192 n) (record { place = 8192; fault = limitFault } ∷ []) []
 
-unfoldable pub faultsOf : List ℕ → Ending Builder → List Mark
+unfoldable pub faultsOf : List ℕ → Ending Reader → List Mark
 faultsOf text e = lengthMarks (length text) ++ marksOf e
 
 unfoldable pub faults : List ℕ → List Mark
@@ -114,9 +122,9 @@ pub data Reading : Type 0 where
   read : Contents → Reading
   faulty : ℕ → ℕ → Fault → Reading
 
-unfoldable pub contents : Ending Builder → Contents
-contents (accepted b) = contentsOf b
-contents (stuck left b) = contentsOf b
+unfoldable pub contents : Ending Reader → Contents
+contents (accepted r) = contentsOf (r .built)
+contents (stuck left r) = contentsOf (r .built)
 contents unfinished = record { links = []; flags = []; routines = [] }
 
 -- what is said of the least of the faults; without one, what the text says
@@ -126,7 +134,7 @@ judged text c (some m) = faulty (lineOf text (m .place)) (columnOf text (m .plac
 
 unfoldable pub readTokens : List ℕ → List Token → Reading
 readTokens text ts =
-    let e : Ending Builder = endingOn (kindsOf ts) (wordsOf text ts) in
+    let e : Ending Reader = endingOn (kindsOf ts) (wordsOf text ts) in
     judged text (contents e) (first (faultsOf text e))
 
 unfoldable pub readText : List ℕ → Reading
