@@ -5,3 +5,4 @@ pub mod Prediction
 pub mod Leaves
 pub mod Productive
 pub mod Bounds
+pub mod Runs

@@ -27,6 +27,13 @@ pub record Leaves (g : Grammar) (P : Kinds → Type 0) (ss : Symbols) (read : Ki
   pub forth : (rest : Kinds) (steps : Steps) → P rest → Derives g ss (read ++ rest) steps → (more : Steps) × (steps ≡ done ++ more) × Derives g left rest more
   pub back : (rest : Kinds) (more : Steps) → P rest → Derives g left rest more → Derives g ss (read ++ rest) (done ++ more)
 
+-- no action stands on top
+unfoldable pub waiting : Symbols → Bool
+waiting [] = true
+waiting (token k ∷ ss) = true
+waiting (rule r ∷ ss) = true
+waiting (action a ∷ ss) = false
+
 -- the machine was given enough moves
 unfoldable pub ended : {B : Type 0} → Ending B → Bool
 ended (accepted b) = true
