@@ -16,8 +16,8 @@ pub record Word : Type 0 where
   pub line : ℕ
   pub bytes : List ℕ
 
-unfoldable pub wordOf : List ℕ → Token → Word
-wordOf text t = record { place = t .start; line = lineOf text (t .start); bytes = take (t .end - t .start) (drop (t .start) text) }
+unfoldable pub wordIn : List ℕ → Token → Word
+wordIn text t = record { place = t .start; line = lineOf text (t .start); bytes = take (t .end - t .start) (drop (t .start) text) }
 
 abbrev pub noWord : Word
 noWord = record { place = 0; line = 1; bytes = [] }

@@ -1,11 +1,11 @@
 -- What a text says, and its first fault (03, "The text" and "Answers").
-use Prim.Native.Nat.{ℕ}
+use Prim.Native.Nat.{ℕ, _+_, _*_}
 use mathlib.Core.Bool.{Bool, true, false, not, cond}
 use mathlib.Core.List.{List, [], _∷_, _++_, map}
 use mathlib.Core.Option.{Option, none, some, Option·elim}
 use lib.Dec.{eqb, ltb}
 use lib.ListN.{length, getD}
-use Rattle.logic.specs.Search.{_and_, _or_, select}
+use Rattle.logic.specs.Search.{select}
 use Rattle.grammar_theory.specs.Grammar.{Step, shift, act}
 use Rattle.grammar_theory.specs.Machine.{Ending, accepted, stuck, unfinished, run, start}
 use Rattle.grammar_theory.specs.LL1.{moves}
@@ -13,7 +13,7 @@ use Rattle.routine_logic.specs.Syntax.{never}
 use Rattle.routine_tokens.specs.declared.Token.{Token}
 use Rattle.routine_tokens.specs.Tokens.{tokens, lineOf, columnOf}
 use Rattle.routine_text.specs.Grammar.{grammar, predictions, facts}
-use Rattle.routine_text.specs.Builder.{Word, wordOf, noWord, Fault, textFault, nameFault, forallFault, limitFault, Mark, Named, Builder, accept, endDeclarations, declareLink, declareFlag, beginRoutine, nameRoutine, endRoutine, declareVariable, beginClause, addRequires, addEnsures, beginStatement, openThen, closeThen, endIf, openBlock, closeBlock, openLoop, closeLoop, addBreak, beginCondition, endCondition, addInvariant, nameBase, nullBase, nameMember, addHavoc, addAssume, addAssert, addCover, addReturn, addAssign, takeLink, writeFlag, addClear, addSet, writeLink, addAssignLink, followLink, judgeForalls, closeFormula, negate, openParenthesis, closeParenthesis, addTrue, addFalse, openForall, openBody, closeForall, countPart, addBetween, declareBound, readFlag, addEqual, addUnequal, addReaches, byLink, byFirst, joinAnd, joinOr, joinImplies, joinIff}
+use Rattle.routine_text.specs.Builder.{Word, wordIn, noWord, Fault, textFault, nameFault, forallFault, limitFault, Mark, Named, Builder, accept, endDeclarations, declareLink, declareFlag, beginRoutine, nameRoutine, endRoutine, declareVariable, beginClause, addRequires, addEnsures, beginStatement, openThen, closeThen, endIf, openBlock, closeBlock, openLoop, closeLoop, addBreak, beginCondition, endCondition, addInvariant, nameBase, nullBase, nameMember, addHavoc, addAssume, addAssert, addCover, addReturn, addAssign, takeLink, writeFlag, addClear, addSet, writeLink, addAssignLink, followLink, judgeForalls, closeFormula, negate, openParenthesis, closeParenthesis, addTrue, addFalse, openForall, openBody, closeForall, countPart, addBetween, declareBound, readFlag, addEqual, addUnequal, addReaches, byLink, byFirst, joinAnd, joinOr, joinImplies, joinIff}
 
 -- what the actions of the grammar do, in the order of their numbers
 unfoldable pub actions : List (Builder → Builder)
@@ -62,7 +62,7 @@ kindsOf ts = select (λ k. not (eqb k 0)) (map (λ t. t .kind) ts)
 
 -- the words, and how the machine ends on them
 unfoldable pub wordsOf : List ℕ → List Token → List Word
-wordsOf text ts = map (wordOf text) ts
+wordsOf text ts = map (wordIn text) ts
 
 unfoldable pub endingOn : List ℕ → List Word → Ending Reader
 endingOn ks words = run does grammar predictions (moves facts 0 (length ks)) (start 0 ks (record { coming = words; built = empty }))
@@ -77,8 +77,11 @@ rank nameFault = 1
 rank forallFault = 2
 rank limitFault = 3
 
+unfoldable pub order : Mark → ℕ
+order m = 4 * m .place + rank (m .fault)
+
 unfoldable pub before : Mark → Mark → Bool
-before m n = ltb (m .place) (n .place) or (eqb (m .place) (n .place) and ltb (rank (m .fault)) (rank (n .fault)))
+before m n = ltb (order m) (order n)
 
 -- "The fault is the one at the smallest place"
 unfoldable pub earlier : Mark → Mark → Mark

@@ -1,0 +1,2 @@
+-- What holds of reading, and that the examples come out.
+pub mod Examples
