@@ -14,7 +14,7 @@ use Rattle.logic.specs.Search.{_and_}
 use Rattle.theory.proofs.Basics.Search.{bool-cases, and-left, and-right, and-intro, and-false-cases}
 use Rattle.grammar_theory.specs.Grammar.{token, rule, action, Symbols, Kinds, Grammar, alternatives, Step, shift, act}
 use Rattle.grammar_theory.specs.Machine.{Table, predicted, next, Move, finish, read, perform, expand, refuse, expandBy, move, State, Ending, accepted, stuck, unfinished, afterRead, afterPerform, afterExpand, moved, run}
-use Rattle.grammar_theory.specs.LL1.{Facts, nullable, rank, weight, vanish, leading, weigh}
+use Rattle.grammar_theory.specs.LL1.{Facts, nullable, rank, weight, vanish, leading, weigh, moves}
 use Rattle.grammar_theory.specs.Claims.{ended}
 use Rattle.grammar_theory.proofs.Passed.{option-cases, getElem-mem, FitsRule, Passed}
 use Rattle.grammar_theory.proofs.Prediction.{Fitting, fitting-token, fitting-action, fitting-rule, fitting-expand}
@@ -124,6 +124,10 @@ module _ {g : Grammar} {t : Table} {c : Facts} where
       (λ v. potential-full c r alternative ss v (f .weigh-most) (f .rank-above))
       (bool-cases (vanish c alternative))
 
+  pub start-enough : (r : ℕ) (ks : Kinds) → Fitting g t c (rule r ∷ []) → enough c (rule r ∷ []) ks ≤ moves c r (length ks)
+  unfolding enough moves potential gain weigh
+  start-enough r ks f = let h = mul-le-mul-left (suc (c .heaviest)) (leading-top (rule r ∷ []) f) in omega (arith, h)
+
 module _ {g : Grammar} {t : Table} {c : Facts} {start : ℕ} (p : Passed g t c start) {B : Type 0} (does : Step → B → B) where
   abbrev at : Symbols → Kinds → B → B → Bool → State B
   at ss left now certain e = record { stack = ss; left = left; now = now; certain = certain; eager = e }
@@ -134,7 +138,7 @@ module _ {g : Grammar} {t : Table} {c : Facts} {start : ℕ} (p : Passed g t c s
   ends-read n j ss [] l e f m = absurd (omega (arith, l, e))
   ends-read n j ss (k ∷ left) l e f m = let h = potential-token j ss f in omega (arith, h, m)
 
-  ends-at : (n : ℕ) (ss : Symbols) (left : Kinds) (now certain : B) (e : Bool) → Fitting g t c ss → enough c ss left ≤ n →
+  pub ends-at : (n : ℕ) (ss : Symbols) (left : Kinds) (now certain : B) (e : Bool) → Fitting g t c ss → enough c ss left ≤ n →
       ended (run does g t n (at ss left now certain e)) ≡ true
   unfolding run move moved ended afterRead afterPerform afterExpand expandBy
   ends-at zero ss left now certain e f m = absurd (enough-some c ss left m)

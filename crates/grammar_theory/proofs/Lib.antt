@@ -6,3 +6,6 @@ pub mod Leaves
 pub mod Productive
 pub mod Bounds
 pub mod Runs
+pub mod Prefixes
+pub mod Alike
+pub mod Correct

@@ -57,6 +57,7 @@ module _ (g : Grammar) (t : Table) (c : Facts) {B : Type 0} (does : Step → B �
     pub split : read-kinds ++ s .left ≡ from-kinds
     pub is-plain : plain (s .left) ≡ true
     pub settled : Symbols
+    pub settled-fitting : Fitting g t c settled
     pub sure : Steps
     pub sure-leaves : Leaves g Any from-symbols read-kinds sure settled
     pub sure-made : s .certain ≡ after does sure b₀
@@ -71,6 +72,7 @@ module _ (g : Grammar) (t : Table) (c : Facts) {B : Type 0} (does : Step → B �
     pub read-kinds : Kinds
     pub split : read-kinds ++ left ≡ from-kinds
     pub settled : Symbols
+    pub settled-fitting : Fitting g t c settled
     pub waits : waiting settled ≡ true
     pub sure : Steps
     pub leaves : Leaves g Any from-symbols read-kinds sure settled
@@ -92,6 +94,7 @@ module _ (g : Grammar) (t : Table) (c : Facts) {B : Type 0} (does : Step → B �
         read-kinds = h .read-kinds;
         split = h .split;
         settled = h .settled;
+        settled-fitting = h .settled-fitting;
         waits = mode-waiting (s .eager) (h .settled) (s .stack) (h .tried) (h .mode) w;
         sure = h .sure;
         leaves = h .sure-leaves;
@@ -134,6 +137,7 @@ module _ (g : Grammar) (t : Table) (c : Facts) {B : Type 0} (does : Step → B �
         split = append-assoc (h .read-kinds) (k ∷ []) left ∙ h .split;
         is-plain = and-right _ _ (h .is-plain);
         settled = ss;
+        settled-fitting = fitting-token (h .fitting) .2;
         sure = h .sure ++ (h .tried ++ (shift k ∷ []));
         sure-leaves =
             leaves-trans {P = Any} {Q = Any} (λ rest q. tt) (h .sure-leaves)
@@ -155,6 +159,7 @@ module _ (g : Grammar) (t : Table) (c : Facts) {B : Type 0} (does : Step → B �
         split = ap (λ (x : Kinds). x ++ left) (append-nil (h .read-kinds)) ∙ h .split;
         is-plain = h .is-plain;
         settled = ss;
+        settled-fitting = fitting-action (h .fitting);
         sure = h .sure ++ ([] ++ (act a ∷ []));
         sure-leaves =
             leaves-trans {P = Any} {Q = Any} (λ rest q. tt)
@@ -174,6 +179,7 @@ module _ (g : Grammar) (t : Table) (c : Facts) {B : Type 0} (does : Step → B �
         split = h .split;
         is-plain = h .is-plain;
         settled = h .settled;
+        settled-fitting = h .settled-fitting;
         sure = h .sure;
         sure-leaves = h .sure-leaves;
         sure-made = h .sure-made;
@@ -196,6 +202,7 @@ module _ (g : Grammar) (t : Table) (c : Facts) {B : Type 0} (does : Step → B �
           split = h .split;
           is-plain = h .is-plain;
           settled = h .settled;
+        settled-fitting = h .settled-fitting;
           sure = h .sure;
           sure-leaves = h .sure-leaves;
           sure-made = h .sure-made;

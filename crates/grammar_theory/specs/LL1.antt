@@ -5,8 +5,8 @@ use mathlib.Core.List.{List, [], _∷_}
 use lib.Dec.{eqb, ltb, leb}
 use lib.ListN.{getD, length}
 use Rattle.logic.specs.Search.{_and_, _or_, from, any, all}
-use Rattle.grammar_theory.specs.Grammar.{Symbol, token, rule, action, Symbols, Grammar}
-use Rattle.grammar_theory.specs.Machine.{Table, predicted}
+use Rattle.grammar_theory.specs.Grammar.{Symbol, token, rule, action, Symbols, Kinds, Grammar, Step}
+use Rattle.grammar_theory.specs.Machine.{Table, predicted, Ending, run, start}
 
 -- What is claimed. A set of rules is a number, bit r of which is 1 for a rule r in it.
 pub record Facts : Type 0 where
@@ -140,3 +140,7 @@ module _ (g : Grammar) (t : Table) (c : Facts) where
 -- how many moves are enough for a text of n tokens
 unfoldable pub moves : Facts → ℕ → ℕ → ℕ
 moves c r n = let most : ℕ = suc (c .heaviest) * c .top in suc (weight c r + most + n * suc most)
+
+-- the machine on a text whose tokens have these kinds
+unfoldable pub parse : {B : Type 0} → (Step → B → B) → Grammar → Table → Facts → ℕ → Kinds → B → Ending B
+parse does g t c r ks b = run does g t (moves c r (length ks)) (start r ks b)
