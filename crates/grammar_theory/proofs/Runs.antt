@@ -202,7 +202,7 @@ module _ (g : Grammar) (t : Table) (c : Facts) {B : Type 0} (does : Step â†’ B â
           split = h .split;
           is-plain = h .is-plain;
           settled = h .settled;
-        settled-fitting = h .settled-fitting;
+          settled-fitting = h .settled-fitting;
           sure = h .sure;
           sure-leaves = h .sure-leaves;
           sure-made = h .sure-made;

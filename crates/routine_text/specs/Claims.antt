@@ -2,12 +2,12 @@
 -- fault given is the first."
 use Prim.Native.Nat.{ℕ, _≤_}
 use mathlib.Core.Path.{_≡_}
-use mathlib.Core.Bool.{Bool, true, false}
+use mathlib.Core.Bool.{false}
 use mathlib.Core.List.{List, [], _∷_, _++_, List·Memᴰ}
 use lib.ListN.{length, drop}
-use Rattle.grammar_theory.specs.Grammar.{rule, Symbols, Kinds, Steps, Text, Begins}
+use Rattle.grammar_theory.specs.Grammar.{Kinds, Steps, Text, Begins}
 use Rattle.grammar_theory.specs.Machine.{after}
-use Rattle.grammar_theory.specs.Claims.{Any, Leaves, waiting}
+use Rattle.grammar_theory.specs.Claims.{Refused, Certain}
 use Rattle.routine_tokens.specs.Tokens.{tokens, lineOf, columnOf}
 use Rattle.routine_text.specs.Builder.{Word, Fault, textFault, Mark}
 use Rattle.routine_text.specs.Grammar.{grammar}
@@ -28,23 +28,16 @@ Grammatical text steps = Text grammar 0 (kinds text) steps
 unfoldable pub made : List ℕ → Steps → Reader
 made text steps = after does steps (record { coming = words text; built = empty })
 
--- no text of the grammar begins with these words and signs and the next one; at the end: they are no text
-abbrev pub NoneWith : Kinds → Kinds → Type 0
-NoneWith passed [] = (steps : Steps) → Text grammar 0 passed steps → ⊥
-NoneWith passed (k ∷ left) = Begins grammar 0 (passed ++ (k ∷ [])) → ⊥
-
--- A text outside the grammar: "the first word or sign that no text of the grammar could have there". The words and signs before it begin some text; to
--- read any text that begins with them is to do the steps `sure`, with all actions behind the last of them, and then to read what `settled` derives.
+-- A text outside the grammar: "the first word or sign that no text of the grammar could have there" (the end of the text counts as one). Those before it
+-- begin some text, and with it none; every text that begins with them has the steps `sure` at its beginning.
 pub record Outside (text : List ℕ) : Type 0 where
   pub passed : Kinds
   pub left : Kinds
   pub split : passed ++ left ≡ kinds text
   pub begins : Begins grammar 0 passed
-  pub none-with : NoneWith passed left
+  pub refused : Refused grammar 0 passed left
   pub sure : Steps
-  pub settled : Symbols
-  pub waits : waiting settled ≡ true
-  pub leaves : Leaves grammar Any (rule 0 ∷ []) passed sure settled
+  pub certain : Certain grammar 0 passed sure
 
 -- the faults of a text: those that its steps mark; outside the grammar also `text`, "at the first byte" of that word or sign
 pub data Faults (text : List ℕ) : List Mark → Type 0 where

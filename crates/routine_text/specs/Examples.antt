@@ -16,8 +16,8 @@ unfoldable pub routinesOf : Reading → List Routine
 routinesOf (read c) = map (λ (n : Named). n .routine) (c .routines)
 routinesOf (faulty line column fault) = []
 
-unfoldable pub said : String → List Routine
-said s = routinesOf (readText (ascii s))
+unfoldable pub routinesIn : String → List Routine
+routinesIn s = routinesOf (readText (ascii s))
 
 -- what is said of a routine with this body (line 2), of parameter `p` and flag `d`
 unfoldable pub within : List ℕ → Reading
@@ -70,10 +70,10 @@ limitAt place = record { place = place; fault = limitFault } ∷ []
 -- What the examples of 03 say.
 pub record PaperHolds : Type 0 where
   pub first-example :
-      said "links next;\nflags old;\n\n// q, the node behind p, is taken out of the list.\nroutine remove(head, p, q)\n  requires head reaches NULL && head reaches p && p != NULL\n  requires forall v: v->old <=> (v != NULL && head reaches v)\n  ensures head reaches NULL\n  ensures q == NULL || !(head reaches q)\n  ensures forall v: v->old => (head reaches v || v == q)\n{\n  var r;\n  q = p->next;\n  if (q == NULL) { return; }\n  r = q->next;\n  p->next = r;\n}\n"
+      routinesIn "links next;\nflags old;\n\n// q, the node behind p, is taken out of the list.\nroutine remove(head, p, q)\n  requires head reaches NULL && head reaches p && p != NULL\n  requires forall v: v->old <=> (v != NULL && head reaches v)\n  ensures head reaches NULL\n  ensures q == NULL || !(head reaches q)\n  ensures forall v: v->old => (head reaches v || v == q)\n{\n  var r;\n  q = p->next;\n  if (q == NULL) { return; }\n  r = q->next;\n  p->next = r;\n}\n"
       ≡ remove end ∷ []
   pub second-example :
-      said "routine palletiser(a, b) {\n  assume a->next == b->next && a != b && a reaches b;\n  cover true;\n  assume b reaches a;\n  cover true;\n}\n" ≡ palletiser ∷ []
+      routinesIn "routine palletiser(a, b) {\n  assume a->next == b->next && a != b && a reaches b;\n  cover true;\n  assume b reaches a;\n  cover true;\n}\n" ≡ palletiser ∷ []
 
 -- Which items belong together.
 pub record JoiningHolds : Type 0 where
@@ -87,7 +87,7 @@ pub record JoiningHolds : Type 0 where
 -- "an `else if` is no deeper than its `if`", and belongs to it
 pub record BranchHolds : Type 0 where
   pub else-if :
-      said "routine f() { if (true) { } else if (false) { } else { } }"
+      routinesIn "routine f() { if (true) { } else if (false) { } else { } }"
       ≡ record { line = 1; requires = []; ensures = []; body = branch (place 0 1) always end (branch (place 1 1) never end end end) end } ∷ []
 
 -- Each fault, at its place.

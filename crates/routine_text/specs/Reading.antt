@@ -7,8 +7,8 @@ use lib.Dec.{eqb, ltb}
 use lib.ListN.{length, getD}
 use Rattle.logic.specs.Search.{select}
 use Rattle.grammar_theory.specs.Grammar.{Step, shift, act}
-use Rattle.grammar_theory.specs.Machine.{Ending, accepted, stuck, unfinished, run, start}
-use Rattle.grammar_theory.specs.LL1.{moves}
+use Rattle.grammar_theory.specs.Machine.{Ending, accepted, stuck, unfinished}
+use Rattle.grammar_theory.specs.LL1.{parse}
 use Rattle.routine_logic.specs.Syntax.{never}
 use Rattle.routine_tokens.specs.declared.Token.{Token}
 use Rattle.routine_tokens.specs.Tokens.{tokens, lineOf, columnOf}
@@ -65,7 +65,7 @@ unfoldable pub wordsOf : List ℕ → List Token → List Word
 wordsOf text ts = map (wordIn text) ts
 
 unfoldable pub endingOn : List ℕ → List Word → Ending Reader
-endingOn ks words = run does grammar predictions (moves facts 0 (length ks)) (start 0 ks (record { coming = words; built = empty }))
+endingOn ks words = parse does grammar predictions facts 0 ks (record { coming = words; built = empty })
 
 unfoldable pub ending : List ℕ → Ending Reader
 ending text = let ts : List Token = tokens text in endingOn (kindsOf ts) (wordsOf text ts)
@@ -135,10 +135,11 @@ unfoldable pub judged : List ℕ → Contents → Option Mark → Reading
 judged text c none = read c
 judged text c (some m) = faulty (lineOf text (m .place)) (columnOf text (m .place)) (m .fault)
 
+unfoldable pub said : List ℕ → Ending Reader → Reading
+said text e = judged text (contents e) (first (faultsOf text e))
+
 unfoldable pub readTokens : List ℕ → List Token → Reading
-readTokens text ts =
-    let e : Ending Reader = endingOn (kindsOf ts) (wordsOf text ts) in
-    judged text (contents e) (first (faultsOf text e))
+readTokens text ts = said text (endingOn (kindsOf ts) (wordsOf text ts))
 
 unfoldable pub readText : List ℕ → Reading
 readText text = readTokens text (tokens text)
