@@ -67,13 +67,42 @@ counted action statements parts = action (withCounts (record { statements = stat
 abbrev pub limitAt : ℕ → List Mark
 limitAt place = record { place = place; fault = limitFault } ∷ []
 
--- What the examples of 03 say.
+-- the examples of 03: lines, each with its line feed; the second one without the comment in front
+unfoldable pub linesOf : List String → List ℕ
+linesOf ls = flatMap (λ (s : String). ascii s ++ (10 ∷ [])) ls
+
+unfoldable pub removeLines : List String
+removeLines =
+    "links next;"
+    ∷ "flags old;"
+    ∷ ""
+    ∷ "// q, the node behind p, is taken out of the list."
+    ∷ "routine remove(head, p, q)"
+    ∷ "  requires head reaches NULL && head reaches p && p != NULL"
+    ∷ "  requires forall v: v->old <=> (v != NULL && head reaches v)"
+    ∷ "  ensures head reaches NULL"
+    ∷ "  ensures q == NULL || !(head reaches q)"
+    ∷ "  ensures forall v: v->old => (head reaches v || v == q)"
+    ∷ "{"
+    ∷ "  var r;"
+    ∷ "  q = p->next;"
+    ∷ "  if (q == NULL) { return; }"
+    ∷ "  r = q->next;"
+    ∷ "  p->next = r;"
+    ∷ "}" ∷ []
+
+unfoldable pub palletiserLines : List String
+palletiserLines =
+    "routine palletiser(a, b) {"
+    ∷ "  assume a->next == b->next && a != b && a reaches b;"
+    ∷ "  cover true;"
+    ∷ "  assume b reaches a;"
+    ∷ "  cover true;"
+    ∷ "}" ∷ []
+
 pub record PaperHolds : Type 0 where
-  pub first-example :
-      routinesIn "links next;\nflags old;\n\n// q, the node behind p, is taken out of the list.\nroutine remove(head, p, q)\n  requires head reaches NULL && head reaches p && p != NULL\n  requires forall v: v->old <=> (v != NULL && head reaches v)\n  ensures head reaches NULL\n  ensures q == NULL || !(head reaches q)\n  ensures forall v: v->old => (head reaches v || v == q)\n{\n  var r;\n  q = p->next;\n  if (q == NULL) { return; }\n  r = q->next;\n  p->next = r;\n}\n"
-      ≡ remove end ∷ []
-  pub second-example :
-      routinesIn "routine palletiser(a, b) {\n  assume a->next == b->next && a != b && a reaches b;\n  cover true;\n  assume b reaches a;\n  cover true;\n}\n" ≡ palletiser ∷ []
+  pub first-example : routinesOf (readText (linesOf removeLines)) ≡ remove end ∷ []
+  pub second-example : routinesOf (readText (linesOf palletiserLines)) ≡ palletiser ∷ []
 
 -- Which items belong together.
 pub record JoiningHolds : Type 0 where
@@ -129,6 +158,7 @@ pub record LimitsHold : Type 0 where
   pub nesting-33 : answer (within (times 33 "assume " "!" "true;")) ≡ fault 2 40 limitFault
   pub blocks-32 : answer (within (times 32 "" "if(true){" "" ++ times 32 "" "}" "")) ≡ good
   pub blocks-33 : answer (within (times 33 "" "if(true){" "" ++ times 33 "" "}" "")) ≡ fault 2 297 limitFault
+  pub else-ifs : answer (within (times 40 "if(true){}" "else if(true){}" "")) ≡ good
   pub statements-256 : counted beginStatement 255 0 ≡ []
   pub statements-257 : counted beginStatement 256 0 ≡ limitAt 0
   pub parts-1024 : counted countPart 0 1023 ≡ []
