@@ -1,12 +1,12 @@
 -- Examples that the definitions are held to: those of 03, a case at and past each limit, each fault, and which of two is given.
-use Prim.Native.Nat.{ℕ}
+use Prim.Native.Nat.{ℕ, _-_}
 use mathlib.Core.Path.{_≡_}
 use mathlib.Core.List.{List, [], _∷_, _++_, map}
 use Prim.Native.String.{String}
 use Rattle.text.specs.Text.{ascii}
 use Rattle.logic.specs.Search.{flatMap}
 use lib.ListN.{replicate}
-use Rattle.routine_logic.specs.Syntax.{Formula, forall, negation, both, either, implies, same, always, never, Code, end, branch, Routine}
+use Rattle.routine_logic.specs.Syntax.{Formula, forall, negation, both, either, implies, same, always, never, Place, Clause, Code, end, assign, assignLink, assignFlag, havoc, assume, assert, cover, branch, loop, leave, breakOut, Routine}
 use Rattle.routine_logic.specs.Examples.{remove, palletiser, place}
 use Rattle.routine_text.specs.Builder.{Fault, textFault, nameFault, forallFault, limitFault, Mark, Named, Builder, withCounts, beginStatement, countPart}
 use Rattle.routine_text.specs.Reading.{empty, lengthMarks, Reading, read, faulty, readText}
@@ -42,23 +42,33 @@ in·body s = answer (within (ascii s))
 unfoldable pub of·text : String → Answer
 of·text s = answer (readText (ascii s))
 
--- the formula of `assume F;`
-unfoldable pub formulasOf : Code → List Formula
-formulasOf (Code.assume p f rest) = f ∷ []
-formulasOf (Code.end) = []
-formulasOf (Code.assign p x t rest) = []
-formulasOf (Code.assignLink p t i u rest) = []
-formulasOf (Code.assignFlag p t j b rest) = []
-formulasOf (Code.havoc p x rest) = []
-formulasOf (Code.assert p f rest) = []
-formulasOf (Code.cover p f rest) = []
-formulasOf (Code.branch p f yes·code no·code rest) = []
-formulasOf (Code.loop p f invariants body rest) = []
-formulasOf (Code.leave p rest) = []
-formulasOf (Code.breakOut p rest) = []
+-- the statements numbered from 0 on, as in the examples of what routines mean
+unfoldable pub earlierPlace : Place → Place
+earlierPlace p = place (p .number - 1) (p .line)
+
+unfoldable pub renumbered : Code → Code
+renumbered end = end
+renumbered (assign p x t rest) = assign (earlierPlace p) x t (renumbered rest)
+renumbered (assignLink p t i u rest) = assignLink (earlierPlace p) t i u (renumbered rest)
+renumbered (assignFlag p t j b rest) = assignFlag (earlierPlace p) t j b (renumbered rest)
+renumbered (havoc p x rest) = havoc (earlierPlace p) x (renumbered rest)
+renumbered (assume p f rest) = assume (earlierPlace p) f (renumbered rest)
+renumbered (assert p f rest) = assert (earlierPlace p) f (renumbered rest)
+renumbered (cover p f rest) = cover (earlierPlace p) f (renumbered rest)
+renumbered (branch p f first second rest) = branch (earlierPlace p) f (renumbered first) (renumbered second) (renumbered rest)
+renumbered (loop p f invariants body rest) = loop (earlierPlace p) f invariants (renumbered body) (renumbered rest)
+renumbered (leave p rest) = leave (earlierPlace p) (renumbered rest)
+renumbered (breakOut p rest) = breakOut (earlierPlace p) (renumbered rest)
+
+unfoldable pub fromZero : List Routine → List Routine
+fromZero rs = map (λ (r : Routine). record { line = r .line; requires = r .requires; ensures = r .ensures; body = renumbered (r .body) }) rs
+
+-- the formula of a routine's `requires`
+unfoldable pub requiredOf : Routine → List Formula
+requiredOf r = map (λ (c : Clause). c .formula) (r .requires)
 
 unfoldable pub assumed : String → List Formula
-assumed s = flatMap (λ (r : Routine). formulasOf (r .body)) (routinesOf (readText (ascii "routine f() { assume " ++ (ascii s ++ ascii "; }"))))
+assumed s = flatMap requiredOf (routinesOf (readText (ascii "routine f() requires " ++ (ascii s ++ ascii " { }"))))
 
 -- the faults that an action marks where so many statements and parts were counted before
 unfoldable pub counted : (Builder → Builder) → ℕ → ℕ → List Mark
@@ -101,8 +111,8 @@ palletiserLines =
     ∷ "}" ∷ []
 
 pub record PaperHolds : Type 0 where
-  pub first-example : routinesOf (readText (linesOf removeLines)) ≡ remove end ∷ []
-  pub second-example : routinesOf (readText (linesOf palletiserLines)) ≡ palletiser ∷ []
+  pub first-example : fromZero (routinesOf (readText (linesOf removeLines))) ≡ remove end ∷ []
+  pub second-example : fromZero (routinesOf (readText (linesOf palletiserLines))) ≡ palletiser ∷ []
 
 -- Which items belong together.
 pub record JoiningHolds : Type 0 where
@@ -117,7 +127,7 @@ pub record JoiningHolds : Type 0 where
 pub record BranchHolds : Type 0 where
   pub else-if :
       routinesIn "routine f() { if (true) { } else if (false) { } else { } }"
-      ≡ record { line = 1; requires = []; ensures = []; body = branch (place 0 1) always end (branch (place 1 1) never end end end) end } ∷ []
+      ≡ record { line = 1; requires = []; ensures = []; body = branch (place 1 1) always end (branch (place 2 1) never end end end) end } ∷ []
 
 -- Each fault, at its place.
 pub record FaultsHold : Type 0 where
