@@ -124,15 +124,21 @@ unfoldable pub tokens : List ℕ → List Token
 tokens text = tokensIn (suc (length text)) 0 text
 
 -- "line and column from 1": one more than the line feeds before a place, and than the bytes between it and the last of these
+unfoldable pub lineBehind : ℕ → ℕ → ℕ
+lineBehind line b = cond (eqb b 10) (line + 1) line
+
+unfoldable pub columnBehind : ℕ → ℕ → ℕ
+columnBehind column b = cond (eqb b 10) 1 (column + 1)
+
 unfoldable pub lineFrom : ℕ → ℕ → List ℕ → ℕ
 lineFrom line zero text = line
 lineFrom line (suc place) [] = line
-lineFrom line (suc place) (b ∷ bs) = lineFrom (cond (eqb b 10) (line + 1) line) place bs
+lineFrom line (suc place) (b ∷ bs) = lineFrom (lineBehind line b) place bs
 
 unfoldable pub columnFrom : ℕ → ℕ → List ℕ → ℕ
 columnFrom column zero text = column
 columnFrom column (suc place) [] = column
-columnFrom column (suc place) (b ∷ bs) = columnFrom (cond (eqb b 10) 1 (column + 1)) place bs
+columnFrom column (suc place) (b ∷ bs) = columnFrom (columnBehind column b) place bs
 
 unfoldable pub lineOf : List ℕ → ℕ → ℕ
 lineOf text place = lineFrom 1 place text
