@@ -11,7 +11,8 @@ use borrow.Author.Tests.{eq-eqb, ne-eqb}
 use Rattle.logic.specs.Search.{_and_, _or_}
 use Rattle.text.specs.Text.{isDigit}
 use Rattle.text.proofs.Writing.{left-first}
-use Rattle.routine_tokens.specs.Tokens.{isBlank, isLetter, isWordByte, wordLength, opensComment, separates, inComment, separators, lineBehind, columnBehind, lineFrom, columnFrom, lineOf, columnOf}
+use Rattle.routine_tokens.specs.Tokens.{isBlank, isWordByte, wordLength, opensComment, separates, inComment, separators}
+use Rattle.routine_tokens.specs.Tokens.{lineBehind, columnBehind, lineFrom, columnFrom, lineOf, columnOf}
 
 -- the code's tests of bytes
 
@@ -46,7 +47,8 @@ module _ (text : List ℕ) (i : ℕ) where
     unfolding wordLength
     word-not e = ap wordLength (left-first text i h) ∙ rw e refl
 
-    pub separator-here : (c : Bool) → separates c (drop i text) ≡ true → separators c (drop i text) ≡ separators (inComment c (getD text i 0)) (drop (i + 1) text) + 1
+    pub separator-here : (c : Bool) → separates c (drop i text) ≡ true →
+        separators c (drop i text) ≡ separators (inComment c (getD text i 0)) (drop (i + 1) text) + 1
     unfolding separators
     separator-here c e = ap (separators c) (left-first text i h) ∙ (rw (ap (separates c) (sym (left-first text i h)) ∙ e) refl) ∙ sym (add-one _)
 
@@ -109,9 +111,11 @@ pub line-done : (text : List ℕ) (i n line : ℕ) → n ≤ i → line ≡ line
 unfolding lineFrom
 line-done text i n line h = sym (ap (λ (k : ℕ). lineFrom line k (drop i text)) (no-more h))
 
-pub line-step : (text : List ℕ) (i n line next : ℕ) → i < length text → i < n → next ≡ lineBehind line (getD text i 0) → lineFrom next (n - (i + 1)) (drop (i + 1) text) ≡ lineFrom line (n - i) (drop i text)
+pub line-step : (text : List ℕ) (i n line next : ℕ) → i < length text → i < n → next ≡ lineBehind line (getD text i 0) →
+    lineFrom next (n - (i + 1)) (drop (i + 1) text) ≡ lineFrom line (n - i) (drop i text)
 line-step text i n line next h l e =
-    ap (λ (k : ℕ). lineFrom k (n - (i + 1)) (drop (i + 1) text)) e ∙ sym (ap (λ (k : ℕ). lineFrom line k (drop i text)) (one-more l) ∙ line-next text i h line (n - (i + 1)))
+    ap (λ (k : ℕ). lineFrom k (n - (i + 1)) (drop (i + 1) text)) e
+    ∙ sym (ap (λ (k : ℕ). lineFrom line k (drop i text)) (one-more l) ∙ line-next text i h line (n - (i + 1)))
 
 pub line-start : (text : List ℕ) (n : ℕ) → lineFrom 1 (n - 0) (drop 0 text) ≡ lineOf text n
 unfolding lineOf
@@ -124,9 +128,11 @@ pub column-done : (text : List ℕ) (i n column : ℕ) → n ≤ i → column �
 unfolding columnFrom
 column-done text i n column h = sym (ap (λ (k : ℕ). columnFrom column k (drop i text)) (no-more h))
 
-pub column-step : (text : List ℕ) (i n column next : ℕ) → i < length text → i < n → next ≡ columnBehind column (getD text i 0) → columnFrom next (n - (i + 1)) (drop (i + 1) text) ≡ columnFrom column (n - i) (drop i text)
+pub column-step : (text : List ℕ) (i n column next : ℕ) → i < length text → i < n → next ≡ columnBehind column (getD text i 0) →
+    columnFrom next (n - (i + 1)) (drop (i + 1) text) ≡ columnFrom column (n - i) (drop i text)
 column-step text i n column next h l e =
-    ap (λ (k : ℕ). columnFrom k (n - (i + 1)) (drop (i + 1) text)) e ∙ sym (ap (λ (k : ℕ). columnFrom column k (drop i text)) (one-more l) ∙ column-next text i h column (n - (i + 1)))
+    ap (λ (k : ℕ). columnFrom k (n - (i + 1)) (drop (i + 1) text)) e
+    ∙ sym (ap (λ (k : ℕ). columnFrom column k (drop i text)) (one-more l) ∙ column-next text i h column (n - (i + 1)))
 
 pub column-start : (text : List ℕ) (n : ℕ) → columnFrom 1 (n - 0) (drop 0 text) ≡ columnOf text n
 unfolding columnOf

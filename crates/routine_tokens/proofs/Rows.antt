@@ -15,7 +15,8 @@ use Rattle.theory.proofs.Basics.Search.{bool-cases, true-false, and-right}
 use Rattle.text.specs.Text.{isDigit}
 use Rattle.text.proofs.Writing.{left-first}
 use Rattle.routine_tokens.specs.declared.Token.{Token}
-use Rattle.routine_tokens.specs.Tokens.{isWordByte, wordLength, fits, rowOf, rowLength, reservedKind, digitKind, wordKind, wordTable, signTable, tokenOf, wordOf, signOf, tokenAt, tokenBehind, tokenIn, tokenFrom, separators}
+use Rattle.routine_tokens.specs.Tokens.{isWordByte, wordLength, fits, rowOf, rowLength, reservedKind, digitKind, wordKind, wordTable, signTable}
+use Rattle.routine_tokens.specs.Tokens.{tokenOf, wordOf, signOf, tokenAt, tokenBehind, tokenIn, tokenFrom, separators}
 
 -- A row against bytes
 
@@ -80,7 +81,8 @@ module _ (whole : Bool) (bytes table : List ℕ) where
   unfolding rowOf
   row-first m k e = rw e refl
 
-  row-later : (m k : ℕ) → fits whole bytes (drop (10 * k) table) ≡ false → rowOf (suc m) whole bytes (drop (10 * k) table) ≡ suc (rowOf m whole bytes (drop (10 * (k + 1)) table))
+  row-later : (m k : ℕ) → fits whole bytes (drop (10 * k) table) ≡ false →
+      rowOf (suc m) whole bytes (drop (10 * k) table) ≡ suc (rowOf m whole bytes (drop (10 * (k + 1)) table))
   unfolding rowOf
   row-later m k e = (rw e refl) ∙ ap (λ (t : List ℕ). suc (rowOf m whole bytes t)) (drop-drop 10 (10 * k) table ∙ ap (λ (n : ℕ). drop n table) next)
     where
@@ -94,7 +96,8 @@ module _ (whole : Bool) (bytes table : List ℕ) where
     pub row-here : k < count → fits whole bytes (drop (10 * k) table) ≡ true → rowOf (count - k) whole bytes (drop (10 * k) table) ≡ 0
     row-here h e = ap (λ (m : ℕ). rowOf m whole bytes (drop (10 * k) table)) (left h) ∙ row-first (count - (k + 1)) k e
 
-    pub row-next : k < count → fits whole bytes (drop (10 * k) table) ≡ false → rowOf (count - k) whole bytes (drop (10 * k) table) ≡ rowOf (count - (k + 1)) whole bytes (drop (10 * (k + 1)) table) + 1
+    pub row-next : k < count → fits whole bytes (drop (10 * k) table) ≡ false →
+        rowOf (count - k) whole bytes (drop (10 * k) table) ≡ rowOf (count - (k + 1)) whole bytes (drop (10 * (k + 1)) table) + 1
     row-next h e = ap (λ (m : ℕ). rowOf m whole bytes (drop (10 * k) table)) (left h) ∙ row-later (count - (k + 1)) k e ∙ sym (add-one _)
 
     pub row-start : 0 + rowOf (count - 0) whole bytes (drop (10 * 0) table) ≡ rowOf count whole bytes table
@@ -111,16 +114,17 @@ module _ (whole : Bool) (bytes table : List ℕ) where
         none = omega arith
 
 -- the row that is found fits
-pub row-fits : (whole : Bool) (bytes : List ℕ) (m : ℕ) (table : List ℕ) → rowOf m whole bytes table < m → fits whole bytes (drop (10 * rowOf m whole bytes table) table) ≡ true
+pub row-fits : (whole : Bool) (bytes : List ℕ) (m : ℕ) (table : List ℕ) →
+    rowOf m whole bytes table < m → fits whole bytes (drop (10 * rowOf m whole bytes table) table) ≡ true
 unfolding rowOf
 row-fits whole bytes zero table h = absurd (omega arith)
 row-fits whole bytes (suc m) table h =
     ⊎-elim
     (λ (k : fits whole bytes table ≡ true). rw k k)
     (λ k. rw k (
-      let r : ℕ = rowOf m whole bytes (drop 10 table) in
-      let l : r < m = omega (arith, rw k at h) in
-      ap (fits whole bytes) (ap (λ (n : ℕ). drop n table) (more r) ∙ sym (drop-drop (10 * r) 10 table)) ∙ row-fits whole bytes m (drop 10 table) l))
+    let r : ℕ = rowOf m whole bytes (drop 10 table) in
+    let l : r < m = omega (arith, rw k at h) in
+    ap (fits whole bytes) (ap (λ (n : ℕ). drop n table) (more r) ∙ sym (drop-drop (10 * r) 10 table)) ∙ row-fits whole bytes m (drop 10 table) l))
     (bool-cases (fits whole bytes table))
   where
     more : (r : ℕ) → 10 * suc r ≡ 10 + 10 * r
@@ -178,7 +182,8 @@ pub token-of : (kind start end size : ℕ) → end ≡ start + size → _≡_ {A
 unfolding tokenOf
 token-of kind start end size e = rw e refl
 
-pub token-word : (kind at end size : ℕ) (bytes : List ℕ) → end ≡ at + size → kind ≡ wordKind (take (end - at) bytes) → _≡_ {A = Token} (record { kind = kind; start = at; end = end }) (wordOf at size bytes)
+pub token-word : (kind at end size : ℕ) (bytes : List ℕ) → end ≡ at + size → kind ≡ wordKind (take (end - at) bytes) →
+    _≡_ {A = Token} (record { kind = kind; start = at; end = end }) (wordOf at size bytes)
 unfolding wordOf
 token-word kind at end size bytes e k =
     token-of kind at end size e ∙ ap (tokenOf at size) (k ∙ ap (λ (n : ℕ). wordKind (take n bytes)) same)
@@ -187,7 +192,8 @@ token-word kind at end size bytes e k =
     same = omega arith
 
 module _ (at row : ℕ) (table : List ℕ) where
-  pub token-sign : (size : ℕ) → row < 16 → size ≡ rowLength (drop (10 * row) table) → _≡_ {A = Token} (record { kind = 29 + row; start = at; end = at + size }) (signOf at row table)
+  pub token-sign : (size : ℕ) → row < 16 → size ≡ rowLength (drop (10 * row) table) →
+      _≡_ {A = Token} (record { kind = 29 + row; start = at; end = at + size }) (signOf at row table)
   unfolding signOf
   token-sign size h e = rw (lt-ltb row 16 h) (token-of (29 + row) at (at + size) _ (ap (λ (n : ℕ). at + n) e))
 
@@ -222,7 +228,8 @@ pub part-holds : (text : List ℕ) (at end : ℕ) → at < end → end ≤ lengt
 part-holds text at end h l = omega (arith, length-take-le (end - at) (drop at text) (omega (arith, length-drop at text)))
 
 -- a sign ends within the text
-pub sign-inside : (text table : List ℕ) (at row size : ℕ) → at < length text → row < 16 → row ≡ rowOf 16 false (take (length text - at) (drop at text)) table → size ≡ rowLength (take (length table - 10 * row) (drop (10 * row) table)) → at + size ≤ length text
+pub sign-inside : (text table : List ℕ) (at row size : ℕ) → at < length text → row < 16 → row ≡ rowOf 16 false (take (length text - at) (drop at text)) table →
+    size ≡ rowLength (take (length table - 10 * row) (drop (10 * row) table)) → at + size ≤ length text
 sign-inside text table at row size h l e f =
     let bytes : List ℕ = take (length text - at) (drop at text) in
     let same : drop (10 * row) table ≡ drop (10 * rowOf 16 false bytes table) table = ap (λ (r : ℕ). drop (10 * r) table) e in

@@ -1,7 +1,7 @@
 -- The words and signs of a routine's text (03, "The text" and "Answers"). A text is a list of bytes; a place is the number of bytes before it.
 use Prim.Native.Nat.{ℕ, zero, suc, _+_, _*_, _-_}
 use mathlib.Core.Bool.{Bool, true, false, not, cond}
-use mathlib.Core.List.{List, [], _∷_}
+use mathlib.Core.List.{List, [], _∷_, _++_}
 use lib.ListN.{length, take, drop}
 use lib.Dec.{eqb, ltb, leb}
 use Rattle.logic.specs.Search.{_and_, _or_}
@@ -49,7 +49,8 @@ separators comment (b ∷ bs) = cond (separates comment (b ∷ bs)) (suc (separa
 -- The reserved words and the signs of the grammar, ten bytes each; the signs in an order in which a longer one stands before those that begin it.
 abbrev pub wordTable : List ℕ
 wordTable =
-    ascii "links     flags     routine   requires  ensures   var       havoc     assume    assert    cover     if        else      while     invariant return    break     true      false     forall    reaches   by        between   NULL      "
+    ascii "links     flags     routine   requires  ensures   var       havoc     assume    assert    cover     "
+    ++ ascii "if        else      while     invariant return    break     true      false     forall    reaches   by        between   NULL      "
 
 abbrev pub signTable : List ℕ
 signTable =

@@ -4,7 +4,9 @@ ghost use mathlib.Core.Bool.{false};
 ghost use Prim.Native.Nat.{_+_, _*_, _-_, _≤_, _<_};
 ghost use lib.ListN.{length, drop};
 ghost use Rattle.text.specs.Text.{isDigit};
-ghost use Rattle.routine_tokens.specs.Tokens.{isBlank, isLetter, isWordByte, wordLength, opensComment, separates, inComment, separators, fits, rowOf, rowLength, digitKind, wordKind, wordOf, signOf, signTable, tokenAt, tokenFrom, lineFrom, lineOf, columnOf, lineBehind, columnBehind};
+ghost use Rattle.routine_tokens.specs.Tokens.{isBlank, isLetter, isWordByte, wordLength, opensComment, separates, inComment, separators};
+ghost use Rattle.routine_tokens.specs.Tokens.{fits, rowOf, rowLength, digitKind, wordKind, wordOf, signOf, tokenAt, tokenFrom};
+ghost use Rattle.routine_tokens.specs.Tokens.{lineBehind, columnBehind, lineFrom, lineOf, columnOf};
 
 // A token: its kind, the place of its first byte and the one behind its last.
 pub struct Token {
@@ -176,7 +178,8 @@ fn word_kind(word: &[u8]) -> usize
     }
     let row = row_of(
         word,
-        b"links     flags     routine   requires  ensures   var       havoc     assume    assert    cover     if        else      while     invariant return    break     true      false     forall    reaches   by        between   NULL      ",
+        b"links     flags     routine   requires  ensures   var       havoc     assume    assert    cover     \
+if        else      while     invariant return    break     true      false     forall    reaches   by        between   NULL      ",
         23,
         true,
     );

@@ -30,18 +30,25 @@ fits-spec =
     -- shared-slice-read-if2
     (λ c. omega arith)
     -- returns-2
-    (λ c. fits-blank _ _ _ (c .before .before .before .before .loop .i) (c .before .before .before .loop-test .taken) (c .before .before .if1 .left) (c .if2 .taken) ∙ c .before .before .before .before .loop .inv)
+    (λ c. let i = c .before .before .before .before .loop .i in
+    fits-blank _ _ _ i (c .before .before .before .loop-test .taken) (c .before .before .if1 .left) (c .if2 .taken) ∙ c .before .before .before .before .loop .inv)
     -- shared-slice-read-if3
     (λ c. omega (arith, c .before .before .before .if1 .left))
     -- shared-slice-read-if3-2
     (λ c. omega arith)
     -- returns-3
-    (λ c. fits-other _ _ _ (c .before .before .before .before .before .before .before .loop .i) (c .before .before .before .before .before .before .loop-test .taken) (c .before .before .before .before .before .if1 .left) (c .before .before .before .if2 .left) (c .if3 .taken) ∙ c .before .before .before .before .before .before .before .loop .inv)
+    (λ c. let i = c .before .before .before .before .before .before .before .loop .i in
+    let l = c .before .before .before .before .before .before .loop-test .taken in
+    let h = fits-other _ _ _ i l (c .before .before .before .before .before .if1 .left) (c .before .before .before .if2 .left) (c .if3 .taken) in
+    h ∙ c .before .before .before .before .before .before .before .loop .inv)
     -- add-i
     (λ c. omega arith)
     -- loop-less
     (λ c. omega arith)
     -- loop-again
-    (λ c. fits-next _ _ _ (c .before .before .before .before .before .before .before .loop .i) (c .before .before .before .before .before .before .loop-test .taken) (c .before .before .before .before .before .if1 .left) (c .before .before .before .if2 .left) (c .if3 .left) ∙ c .before .before .before .before .before .before .before .loop .inv)
+    (λ c. let i = c .before .before .before .before .before .before .before .loop .i in
+    let l = c .before .before .before .before .before .before .loop-test .taken in
+    let h = fits-next _ _ _ i l (c .before .before .before .before .before .if1 .left) (c .before .before .before .if2 .left) (c .if3 .left) in
+    h ∙ c .before .before .before .before .before .before .before .loop .inv)
     -- returns-4
     (λ c. fits-end _ _ _ (c .before .loop .i) (c .loop-test .left) ∙ c .before .loop .inv))

@@ -33,6 +33,9 @@ line-from-spec =
     -- loop-less
     (λ c. omega arith)
     -- loop-again
-    (λ c. (omega arith, omega (arith, c .line-behind .ensures .1), line-step (c .before .before .before .before .before .args .text .now) (c .before .before .before .loop .i) _ (c .before .before .before .loop .l) _ (omega arith) (c .before .before .loop-test .taken) (c .line-behind .ensures .0) ∙ c .before .before .before .loop .inv .2))
+    (λ c. let text = c .before .before .before .before .before .args .text .now in
+    let i = c .before .before .before .loop .i in
+    let s = line-step text i _ (c .before .before .before .loop .l) _ (omega arith) (c .before .before .loop-test .taken) (c .line-behind .ensures .0) in
+    (omega arith, omega (arith, c .line-behind .ensures .1), s ∙ c .before .before .before .loop .inv .2))
     -- returns
     (λ c. (line-done (c .before .before .before .args .text .now) (c .before .loop .i) _ _ (c .loop-test .left) ∙ c .before .loop .inv .2, omega (arith, c .before .loop .inv))))

@@ -38,6 +38,10 @@ past-separators-spec =
     -- loop-less
     (λ c. omega arith)
     -- loop-again
-    (λ c. rw (c .in-comment .ensures) (omega (arith, separator-here _ _ (c .before .before .before .before .loop-test .taken) _ (sym (c .before .before .before .separates .ensures) ∙ not-false _ (c .before .before .if1 .left)), c .before .before .before .before .before .loop .inv)))
+    (λ c. let text = c .before .before .before .before .before .before .before .args .text .now in
+    let l = c .before .before .before .before .before .loop in
+    let e = sym (c .before .before .before .separates .ensures) ∙ not-false _ (c .before .before .if1 .left) in
+    let s = separator-here text (l .i) (c .before .before .before .before .loop-test .taken) (l .comment) e in
+    rw (c .in-comment .ensures) (omega (arith, s, l .inv)))
     -- returns-2
     (λ c. omega (arith, separators-end (c .before .before .before .args .text .now) (c .before .loop .i) (c .before .loop .comment) (c .loop-test .left), c .before .loop .inv)))

@@ -29,12 +29,20 @@ past-word-spec =
     -- is-word-byte-requires
     (λ c κs. search needs)
     -- returns
-    (λ c. (omega (arith, word-not (c .before .before .before .before .before .before .args .text .now) (c .before .before .before .before .loop .i) (c .before .before .before .loop-test .taken) (sym (c .before .is-word-byte .ensures) ∙ not-true _ (c .if1 .taken)), c .before .before .before .before .loop .inv), c .before .before .before .before .loop .inv .0))
+    (λ c. let text = c .before .before .before .before .before .before .args .text .now in
+    let i = c .before .before .before .before .loop .i in
+    let e = sym (c .before .is-word-byte .ensures) ∙ not-true _ (c .if1 .taken) in
+    let w = word-not text i (c .before .before .before .loop-test .taken) e in
+    (omega (arith, w, c .before .before .before .before .loop .inv), c .before .before .before .before .loop .inv .0))
     -- add-i
     (λ c. omega arith)
     -- loop-less
     (λ c. omega arith)
     -- loop-again
-    (λ c. (omega arith, omega (arith, word-here (c .before .before .before .before .before .before .args .text .now) (c .before .before .before .before .loop .i) (c .before .before .before .loop-test .taken) (sym (c .before .is-word-byte .ensures) ∙ not-false _ (c .if1 .left)), c .before .before .before .before .loop .inv)))
+    (λ c. let text = c .before .before .before .before .before .before .args .text .now in
+    let i = c .before .before .before .before .loop .i in
+    let e = sym (c .before .is-word-byte .ensures) ∙ not-false _ (c .if1 .left) in
+    let w = word-here text i (c .before .before .before .loop-test .taken) e in
+    (omega arith, omega (arith, w, c .before .before .before .before .loop .inv)))
     -- returns-2
     (λ c. (omega (arith, word-end (c .before .before .before .args .text .now) (c .before .loop .i) (c .loop-test .left), c .before .loop .inv), c .before .loop .inv .0)))

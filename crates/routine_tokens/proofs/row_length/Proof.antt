@@ -26,12 +26,16 @@ row-length-spec =
     -- shared-slice-read-if1
     (λ c. omega arith)
     -- returns
-    (λ c. omega (arith, length-blank (c .before .before .before .before .args .row .now) (c .before .before .before .loop .i) (c .before .before .loop-test .taken) (c .if1 .taken), c .before .before .before .loop .inv))
+    (λ c. let row = c .before .before .before .before .args .row .now in
+    let h = length-blank row (c .before .before .before .loop .i) (c .before .before .loop-test .taken) (c .if1 .taken) in
+    omega (arith, h, c .before .before .before .loop .inv))
     -- add-i
     (λ c. omega arith)
     -- loop-less
     (λ c. omega arith)
     -- loop-again
-    (λ c. omega (arith, length-next (c .before .before .before .before .args .row .now) (c .before .before .before .loop .i) (c .before .before .loop-test .taken) (c .if1 .left), c .before .before .before .loop .inv))
+    (λ c. let row = c .before .before .before .before .args .row .now in
+    let h = length-next row (c .before .before .before .loop .i) (c .before .before .loop-test .taken) (c .if1 .left) in
+    omega (arith, h, c .before .before .before .loop .inv))
     -- returns-2
     (λ c. omega (arith, length-end (c .before .before .args .row .now) (c .before .loop .i) (c .loop-test .left), c .before .loop .inv)))

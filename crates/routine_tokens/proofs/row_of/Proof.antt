@@ -35,12 +35,26 @@ row-of-spec =
     -- fits-requires
     (λ c κs. search needs)
     -- returns
-    (λ c. omega (arith, row-here (c .before .before .before .before .before .before .before .args .whole) (c .before .before .before .before .before .before .before .args .bytes .now) (c .before .before .before .before .before .before .before .args .table .now) (c .before .before .before .before .before .before .before .args .count) (c .before .before .before .before .loop .k) (c .before .before .before .loop-test .taken) (sym (c .before .fits2 .ensures ∙ ap (fits _ _) (suffix (c .before .before .before .before .before .before .before .args .table .now) _)) ∙ c .if1 .taken), c .before .before .before .before .loop .inv))
+    (λ c. let s = c .before .before .before .before .before .before .before .args in
+    let table = s .table .now in
+    let k = c .before .before .before .before .loop .k in
+    let e = sym (c .before .fits2 .ensures ∙ ap (fits _ _) (suffix table _)) ∙ c .if1 .taken in
+    let h = row-here (s .whole) (s .bytes .now) table (s .count) k (c .before .before .before .loop-test .taken) e in
+    omega (arith, h, c .before .before .before .before .loop .inv))
     -- add-k
     (λ c. omega arith)
     -- loop-less
     (λ c. omega arith)
     -- loop-again
-    (λ c. (omega arith, omega (arith, row-next (c .before .before .before .before .before .before .before .args .whole) (c .before .before .before .before .before .before .before .args .bytes .now) (c .before .before .before .before .before .before .before .args .table .now) (c .before .before .before .before .before .before .before .args .count) (c .before .before .before .before .loop .k) (c .before .before .before .loop-test .taken) (sym (c .before .fits2 .ensures ∙ ap (fits _ _) (suffix (c .before .before .before .before .before .before .before .args .table .now) _)) ∙ c .if1 .left), c .before .before .before .before .loop .inv)))
+    (λ c. let s = c .before .before .before .before .before .before .before .args in
+    let table = s .table .now in
+    let k = c .before .before .before .before .loop .k in
+    let e = sym (c .before .fits2 .ensures ∙ ap (fits _ _) (suffix table _)) ∙ c .if1 .left in
+    let h = row-next (s .whole) (s .bytes .now) table (s .count) k (c .before .before .before .loop-test .taken) e in
+    (omega arith, omega (arith, h, c .before .before .before .before .loop .inv)))
     -- returns-2
-    (λ c. omega (arith, row-end (c .before .before .before .before .args .whole) (c .before .before .before .before .args .bytes .now) (c .before .before .before .before .args .table .now) (c .before .before .before .before .args .count) (c .before .loop .k) (c .loop-test .left), c .before .loop .inv)))
+    (λ c. let s = c .before .before .before .before .args in
+    let table = s .table .now in
+    let k = c .before .loop .k in
+    let h = row-end (s .whole) (s .bytes .now) table (s .count) k (c .loop-test .left) in
+    omega (arith, h, c .before .loop .inv)))

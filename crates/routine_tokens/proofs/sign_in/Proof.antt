@@ -36,10 +36,21 @@ sign-in-spec =
     -- row-length-requires
     (λ c κs. search needs)
     -- add-t17
-    (λ c. omega (arith, sign-inside (c .before .before .before .before .before .before .before .args .text .now) (c .before .before .before .before .before .before .before .args .table .now) _ _ _ (c .before .before .before .before .before .before .before .pre .0) (c .before .before .if1 .taken) (c .before .before .before .row-of .ensures) (c .row-length .ensures)))
+    (λ c. let s = c .before .before .before .before .before .before .before .args in
+    let e = c .before .before .before .row-of .ensures in
+    let f = c .row-length .ensures in
+    let h = sign-inside (s .text .now) (s .table .now) _ _ _ (c .before .before .before .before .before .before .before .pre .0) (c .before .before .if1 .taken) e f in
+    omega (arith, h))
     -- returns
-    (λ c. token-sign _ _ _ _ (c .before .before .if1 .taken) (c .row-length .ensures ∙ ap rowLength (suffix (c .before .before .before .before .before .before .before .args .table .now) _)) ∙ ap (λ (r : ℕ). signOf (c .before .before .before .before .before .before .before .args .at) r (c .before .before .before .before .before .before .before .args .table .now)) (c .before .before .before .row-of .ensures ∙ ap (λ (bytes : List ℕ). rowOf 16 false bytes (c .before .before .before .before .before .before .before .args .table .now)) (suffix (c .before .before .before .before .before .before .before .args .text .now) (c .before .before .before .before .before .before .before .args .at))))
+    (λ c. let s = c .before .before .before .before .before .before .before .args in
+    let table = s .table .now in
+    let row = c .before .before .before .row-of .ensures ∙ ap (λ (bytes : List ℕ). rowOf 16 false bytes table) (suffix (s .text .now) (s .at)) in
+    let size = c .row-length .ensures ∙ ap rowLength (suffix table _) in
+    token-sign _ _ _ _ (c .before .before .if1 .taken) size ∙ ap (λ (r : ℕ). signOf (s .at) r table) row)
     -- add-t7
     (λ c. omega arith)
     -- returns-2
-    (λ c. token-none _ _ _ (c .if1 .left) ∙ ap (λ (r : ℕ). signOf (c .before .before .before .before .before .args .at) r (c .before .before .before .before .before .args .table .now)) (c .before .row-of .ensures ∙ ap (λ (bytes : List ℕ). rowOf 16 false bytes (c .before .before .before .before .before .args .table .now)) (suffix (c .before .before .before .before .before .args .text .now) (c .before .before .before .before .before .args .at)))))
+    (λ c. let s = c .before .before .before .before .before .args in
+    let table = s .table .now in
+    let row = c .before .row-of .ensures ∙ ap (λ (bytes : List ℕ). rowOf 16 false bytes table) (suffix (s .text .now) (s .at)) in
+    token-none _ _ _ (c .if1 .left) ∙ ap (λ (r : ℕ). signOf (s .at) r table) row))

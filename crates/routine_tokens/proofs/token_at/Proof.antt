@@ -21,7 +21,9 @@ token-at-spec =
     -- is-word-byte-requires
     (λ c κs. search needs)
     -- word-at-requires
-    (λ c κs. (c .before .before .before .if1 .left, omega (arith, word-here (c .before .before .before .before .before .args .text .now) (c .before .before .before .before .before .args .at) (c .before .before .before .if1 .left) (sym (c .before .is-word-byte .ensures) ∙ c .if2 .taken))))
+    (λ c κs. let e = sym (c .before .is-word-byte .ensures) ∙ c .if2 .taken in
+    let w = word-here (c .before .before .before .before .before .args .text .now) (c .before .before .before .before .before .args .at) (c .before .before .before .if1 .left) e in
+    (c .before .before .before .if1 .left, omega (arith, w)))
     -- returns-2
     (λ c. c .word-at .ensures ∙ token-is-word _ _ (c .before .before .before .before .if1 .left) (sym (c .before .before .is-word-byte .ensures) ∙ c .before .if2 .taken))
     -- slice-aggregate-sign-in

@@ -28,6 +28,8 @@ word-kind-spec =
     -- add-result
     (λ c. omega arith)
     -- returns-2
-    (λ c. kind-reserved (c .if2 .taken) ∙ ap reservedKind (c .before .row-of .ensures) ∙ kind-row _ (c .before .before .before .before .before .before .before .pre) (sym (c .before .before .before .before .is-digit .ensures) ∙ c .before .before .before .if1 .left))
+    (λ c. let e = sym (c .before .before .before .before .is-digit .ensures) ∙ c .before .before .before .if1 .left in
+    kind-reserved (c .if2 .taken) ∙ ap reservedKind (c .before .row-of .ensures) ∙ kind-row _ (c .before .before .before .before .before .before .before .pre) e)
     -- returns-3
-    (λ c. kind-name (c .if2 .left) ∙ ap reservedKind (c .before .row-of .ensures) ∙ kind-row _ (c .before .before .before .before .before .before .before .pre) (sym (c .before .before .before .before .is-digit .ensures) ∙ c .before .before .before .if1 .left)))
+    (λ c. let e = sym (c .before .before .before .before .is-digit .ensures) ∙ c .before .before .before .if1 .left in
+    kind-name (c .if2 .left) ∙ ap reservedKind (c .before .row-of .ensures) ∙ kind-row _ (c .before .before .before .before .before .before .before .pre) e))
