@@ -1,7 +1,7 @@
 -- The words and signs of a routine's text (03, "The text" and "Answers"). A text is a list of bytes; a place is the number of bytes before it.
 use Prim.Native.Nat.{ℕ, zero, suc, _+_, _*_, _-_}
 use mathlib.Core.Bool.{Bool, true, false, not, cond}
-use mathlib.Core.List.{List, [], _∷_}
+use mathlib.Core.List.{List, [], _∷_, _++_}
 use lib.ListN.{length, take, drop}
 use lib.Dec.{eqb, ltb, leb}
 use Rattle.logic.specs.Search.{_and_, _or_}
@@ -49,7 +49,8 @@ separators comment (b ∷ bs) = cond (separates comment (b ∷ bs)) (suc (separa
 -- The reserved words and the signs of the grammar, ten bytes each; the signs in an order in which a longer one stands before those that begin it.
 abbrev pub wordTable : List ℕ
 wordTable =
-    ascii "links     flags     routine   requires  ensures   var       havoc     assume    assert    cover     if        else      while     invariant return    break     true      false     forall    reaches   by        between   NULL      "
+    ascii "links     flags     routine   requires  ensures   var       havoc     assume    assert    cover     "
+    ++ ascii "if        else      while     invariant return    break     true      false     forall    reaches   by        between   NULL      "
 
 abbrev pub signTable : List ℕ
 signTable =
@@ -124,15 +125,21 @@ unfoldable pub tokens : List ℕ → List Token
 tokens text = tokensIn (suc (length text)) 0 text
 
 -- "line and column from 1": one more than the line feeds before a place, and than the bytes between it and the last of these
+unfoldable pub lineBehind : ℕ → ℕ → ℕ
+lineBehind line b = cond (eqb b 10) (line + 1) line
+
+unfoldable pub columnBehind : ℕ → ℕ → ℕ
+columnBehind column b = cond (eqb b 10) 1 (column + 1)
+
 unfoldable pub lineFrom : ℕ → ℕ → List ℕ → ℕ
 lineFrom line zero text = line
 lineFrom line (suc place) [] = line
-lineFrom line (suc place) (b ∷ bs) = lineFrom (cond (eqb b 10) (line + 1) line) place bs
+lineFrom line (suc place) (b ∷ bs) = lineFrom (lineBehind line b) place bs
 
 unfoldable pub columnFrom : ℕ → ℕ → List ℕ → ℕ
 columnFrom column zero text = column
 columnFrom column (suc place) [] = column
-columnFrom column (suc place) (b ∷ bs) = columnFrom (cond (eqb b 10) 1 (column + 1)) place bs
+columnFrom column (suc place) (b ∷ bs) = columnFrom (columnBehind column b) place bs
 
 unfoldable pub lineOf : List ℕ → ℕ → ℕ
 lineOf text place = lineFrom 1 place text
