@@ -1,14 +1,15 @@
 -- Examples that the definitions are held to: those of 03, a case at and past each limit, each fault, and which of two is given.
 use Prim.Native.Nat.{ℕ, _-_}
 use mathlib.Core.Path.{_≡_}
+use mathlib.Core.Bool.{true, false}
 use mathlib.Core.List.{List, [], _∷_, _++_, map}
 use Prim.Native.String.{String}
 use Rattle.text.specs.Text.{ascii}
 use Rattle.logic.specs.Search.{flatMap}
 use lib.ListN.{replicate}
-use Rattle.routine_logic.specs.Syntax.{Formula, forall, negation, both, either, implies, same, always, never, Place, Clause, Code, end, assign, assignLink, assignFlag, havoc, assume, assert, cover, branch, loop, leave, breakOut, Routine}
-use Rattle.routine_logic.specs.Examples.{remove, palletiser, place}
-use Rattle.routine_text.specs.Builder.{Fault, textFault, nameFault, forallFault, limitFault, Mark, Named, Builder, withCounts, beginStatement, countPart}
+use Rattle.routine_logic.specs.Syntax.{bound, Term, Formula, equal, unequal, reaches, between, flag, forall, negation, both, either, implies, same, always, never, Place, Clause, Code, end, assign, assignLink, assignFlag, havoc, assume, assert, cover, branch, loop, leave, breakOut, Routine}
+use Rattle.routine_logic.specs.Examples.{remove, palletiser, NULL, name, each, via, place, clause}
+use Rattle.routine_text.specs.Builder.{Fault, textFault, nameFault, forallFault, limitFault, Word, Mark, Named, Builder, withCounts, beginStatement, countPart}
 use Rattle.routine_text.specs.Reading.{empty, lengthMarks, Reading, read, faulty, readText}
 
 -- the routines that are read
@@ -114,6 +115,56 @@ pub record PaperHolds : Type 0 where
   pub first-example : fromZero (routinesOf (readText (linesOf removeLines))) ≡ remove end ∷ []
   pub second-example : fromZero (routinesOf (readText (linesOf palletiserLines))) ≡ palletiser ∷ []
 
+-- A text with every kind of statement, clause and atom; the parameter `p` is hidden by a `forall`.
+unfoldable pub walkLines : List String
+walkLines =
+    "links next, prev; flags mark, old;"
+    ∷ "routine f() { }"
+    ∷ "routine walk(p, q)"
+    ∷ "  requires forall u, v: p reaches u by prev => between(u, v, NULL) by prev && v->old"
+    ∷ "  ensures p == NULL"
+    ∷ "{"
+    ∷ "  var r;"
+    ∷ "  while (p != q->next)"
+    ∷ "    invariant r->mark"
+    ∷ "  { if (p->mark) { break; } p->next->prev = NULL; }"
+    ∷ "  p->mark = 1; r->old = 0; havoc q; assert p reaches r; cover forall p: p == r; return;"
+    ∷ "}" ∷ []
+
+abbrev pub outer : Term
+outer = record { base = bound 1; links = [] }
+
+unfoldable pub walked : Routine
+walked =
+    record {
+      line = 3;
+      requires = clause 4 (forall (forall (implies (reaches 2 (name 0) outer) (both (between 2 outer each NULL) (flag 2 each))))) ∷ [];
+      ensures = clause 5 (equal (name 0) NULL) ∷ [];
+      body =
+          loop (place 1 8) (unequal (name 0) (via (name 1) 1)) (clause 9 (flag 1 (name 2)) ∷ [])
+          (branch (place 2 10) (flag 1 (name 0)) (breakOut (place 3 10) end) end (assignLink (place 4 10) (via (name 0) 1) 2 NULL end))
+          (assignFlag (place 5 11) (name 0) 1 true
+          (assignFlag (place 6 11) (name 2) 2 false
+          (havoc (place 7 11) 1
+          (assert (place 8 11) (reaches 1 (name 0) (name 2))
+          (cover (place 9 11) (forall (equal each (name 2))) (leave (place 10 11) end))))));
+    }
+
+-- the names of links, of flags, and of each routine and its variables
+unfoldable pub spelled : List Word → List (List ℕ)
+spelled ws = map (λ (w : Word). w .bytes) ws
+
+unfoldable pub namesIn : Reading → List (List (List ℕ))
+namesIn (read c) = spelled (c .links) ∷ spelled (c .flags) ∷ map (λ (n : Named). spelled (n .name ∷ n .variables)) (c .routines)
+namesIn (faulty line column f) = []
+
+pub record WholeHolds : Type 0 where
+  pub every-kind :
+      routinesOf (readText (linesOf walkLines)) ≡ record { line = 2; requires = []; ensures = []; body = end } ∷ walked ∷ []
+  pub names-told :
+      namesIn (readText (ascii "flags d; routine f(p) { var q, r; }"))
+      ≡ (ascii "next" ∷ []) ∷ (ascii "d" ∷ []) ∷ (ascii "f" ∷ ascii "p" ∷ ascii "q" ∷ ascii "r" ∷ []) ∷ []
+
 -- Which items belong together.
 pub record JoiningHolds : Type 0 where
   pub tighter-first : assumed "true && false || true => false <=> true" ≡ same (implies (either (both always never) always) never) always ∷ []
@@ -178,6 +229,7 @@ pub record LimitsHold : Type 0 where
 
 pub record ExamplesHold : Type 0 where
   pub paper : PaperHolds
+  pub whole : WholeHolds
   pub joining : JoiningHolds
   pub branches : BranchHolds
   pub faults : FaultsHold
