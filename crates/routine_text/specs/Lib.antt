@@ -3,4 +3,5 @@ pub mod Builder
 pub mod Grammar
 pub mod Reading
 pub mod Claims
+pub mod Joining
 pub mod Examples
