@@ -146,9 +146,54 @@ end-met : (b : Builder) → closeFormula b .formulas ≡ closeAt 1 (b .formulas)
 unfolding closeFormula joinBy withFormulas closeAt
 end-met b = refl
 
+-- A chain with one more item in front: at the level of the sign behind that item, and at the levels above.
+module _ (f h : Formula) where
+  alone : Or f [] f
+  alone = one-and one-item
+
+  front-and : {k : Formula} {ys : List Signed} → And h ys k → (g : Formula) × And f (signed andSign h ∷ ys) g
+  front-and one-item = (both f h, and-item h one-item)
+  front-and (and-item i a) = let (g, b) = front-and a in (both g i, and-item i b)
+
+  front-or-and : {k : Formula} {ys : List Signed} → Or h ys k → (g : Formula) × Or f (signed andSign h ∷ ys) g
+  front-or-and (one-and a) = let (g, b) = front-and a in (g, one-and b)
+  front-or-and (or-and {k} r a) = let (g, b) = front-or-and r in (either g k, or-and b a)
+
+  front-or : {k : Formula} {ys : List Signed} → Or h ys k → (g : Formula) × Or f (signed orSign h ∷ ys) g
+  front-or (one-and {g} a) = (either f g, or-and alone a)
+  front-or (or-and {k} r a) = let (g, b) = front-or r in (either g k, or-and b a)
+
+  module _ (s : Sign) (front : (k : Formula) (ys : List Signed) → Or h ys k → (g : Formula) × Or f (signed s h ∷ ys) g) where
+    front-implies : {k : Formula} {ys : List Signed} → Implies h ys k → (g : Formula) × Implies f (signed s h ∷ ys) g
+    front-implies (one-or r) = let (g, b) = front _ _ r in (g, one-or b)
+    front-implies (or-implies {k} r i) = let (g, b) = front _ _ r in (implies g k, or-implies b i)
+
+  module _ (s : Sign) (front : (k : Formula) (ys : List Signed) → Implies h ys k → (g : Formula) × Implies f (signed s h ∷ ys) g) where
+    front-iff : {k : Formula} {ys : List Signed} → Iff h ys k → (g : Formula) × Iff f (signed s h ∷ ys) g
+    front-iff (one-implies i) = let (g, b) = front _ _ i in (g, one-implies b)
+    front-iff (iff-implies {k} r i) = let (g, b) = front-iff r in (same g k, iff-implies b i)
+
+  front-same : {k : Formula} {ys : List Signed} → Iff h ys k → (g : Formula) × Iff f (signed iffSign h ∷ ys) g
+  front-same (one-implies {g} i) = (same f g, iff-implies (one-implies (one-or alone)) i)
+  front-same (iff-implies {k} r i) = let (g, b) = front-same r in (same g k, iff-implies b i)
+
+  front-far : {k : Formula} {ys : List Signed} → Implies h ys k → (g : Formula) × Implies f (signed impliesSign h ∷ ys) g
+  front-far {k} i = (implies f k, or-implies alone i)
+
+  front-of : (s : Sign) {k : Formula} {ys : List Signed} → Iff h ys k → (g : Formula) × Iff f (signed s h ∷ ys) g
+  front-of andSign r = front-iff andSign (λ k ys i. front-implies andSign (λ k ys o. front-or-and o) i) r
+  front-of orSign r = front-iff orSign (λ k ys i. front-implies orSign (λ k ys o. front-or o) i) r
+  front-of impliesSign r = front-iff impliesSign (λ k ys i. front-far i) r
+  front-of iffSign r = front-same r
+
+has-reading : (x : Formula) (xs : List Signed) → (g : Formula) × Iff x xs g
+has-reading x [] = (x, one-implies (one-or (one-and one-item)))
+has-reading x (y ∷ ys) = let (g, r) = has-reading (y .item) ys in front-of x (y .item) (y .sign) r
+
 pub joining-claims : JoiningClaims
 joining-claims =
     record {
+      has-reading = has-reading;
       sign-met = sign-met;
       end-met = end-met;
       read-so = λ os f i b. read-iff f os i b;

@@ -76,8 +76,9 @@ unfoldable pub below : ℕ → List Open → Bool
 below most [] = true
 below most (o ∷ os) = ltb (tightness o) most
 
--- At the beginning of a formula, what is open is a parenthesis or a `forall`, or nothing.
+-- Every chain has a reading, and it is the one that the actions make. At the beginning of a formula, what is open is a parenthesis or a `forall`, or nothing.
 pub record JoiningClaims : Type 0 where
+  pub has-reading : (x : Formula) (xs : List Signed) → (g : Formula) × Iff x xs g
   pub sign-met : (s : Sign) (b : Builder) → atSign s b .formulas ≡ meetSign s (b .formulas)
   pub end-met : (b : Builder) → closeFormula b .formulas ≡ closeAt 1 (b .formulas)
   pub read-so : {x g : Formula} {xs : List Signed} (os : List Open) (f : Formulas) → Iff x xs g → below 1 os ≡ true →
