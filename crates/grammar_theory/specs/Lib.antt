@@ -1,0 +1,5 @@
+-- LL(1) grammars with actions, in reading order.
+pub mod Grammar
+pub mod Machine
+pub mod LL1
+pub mod Claims
