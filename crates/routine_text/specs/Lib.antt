@@ -1,0 +1,4 @@
+-- What a routine's text says, in reading order.
+pub mod Builder
+pub mod Grammar
+pub mod Reading
