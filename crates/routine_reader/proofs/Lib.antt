@@ -1,3 +1,5 @@
 pub mod Stack
 pub mod Choices
 pub mod Coming
+pub mod Moves
+pub mod Going

@@ -6,8 +6,6 @@ ghost use Rattle.routine_reader.specs.Rows.{rows, choices, row, choice};
 ghost use Rattle.routine_reader.specs.Stack.{stackOf, pushed};
 ghost use Rattle.routine_reader.specs.Answers.{EndsAs};
 
-use routine_tokens::Token;
-
 const ROWS: [u8; 1504] = [
     70, 71, 65, 0, 0, 0, 0, 0, 0, 0, 0, 0, 0, 0, 0, 0,
     65, 40, 66, 6, 0, 0, 0, 0, 0, 0, 0, 0, 0, 0, 0, 0,
