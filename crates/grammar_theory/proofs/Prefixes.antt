@@ -84,7 +84,7 @@ module _ {B : Type 0} (does : Step → B → B) (g : Grammar) (t : Table) where
         let i = mem-getElem m in
         let at-next = ap next q in
         let taken : getElem? (alternatives g r) (predicted t r k) ≡ some alternative =
-            ap (λ (x : ℕ). getElem? (alternatives g r) (predicted t r x)) (sym at-next) ∙ ap (getElem? (alternatives g r)) (derives-predicted p r (i .0) alternative ss (i .1) d f) ∙ i .1 in
+        ap (λ (x : ℕ). getElem? (alternatives g r) (predicted t r x)) (sym at-next) ∙ ap (getElem? (alternatives g r)) (derives-predicted p r (i .0) alternative ss (i .1) d f) ∙ i .1 in
         let on = derives-leads d (fitting-expand p r alternative ss m f) (k ∷ front) rest₀ now certain false q in
         leads-move (rule r ∷ ss) (alternative ++ ss) (k ∷ front) (k ∷ front) now certain now certain e false
         (λ rest n. run-expand n r alternative ss (k ∷ (front ++ rest)) now certain e taken) on

@@ -114,8 +114,7 @@ module _ (g : Grammar) (t : Table) (c : Facts) {B : Type 0} (does : Step → B �
       let nothing : left ≡ [] = plain-nil left (h .is-plain) z in
       let tried′ = h .tried-leaves .back [] [] (sym (ap next nothing)) empty in
       let all-steps = h .sure-leaves .back [] (h .tried ++ []) tt tried′ in
-      let kinds : h .read-kinds ++ [] ≡ from-kinds = ap (λ (x : Kinds). h .read-kinds ++ x) (sym nothing) ∙ h .split in
-      (
+      let kinds : h .read-kinds ++ [] ≡ from-kinds = ap (λ (x : Kinds). h .read-kinds ++ x) (sym nothing) ∙ h .split in (
         h .sure ++ (h .tried ++ []),
         subst (λ (x : Kinds). Derives g from-symbols x (h .sure ++ (h .tried ++ []))) kinds all-steps,
         h .tried-made ∙ ap (after does (h .tried)) (h .sure-made) ∙ sym (after-append does (h .sure) (h .tried) b₀)
@@ -141,8 +140,8 @@ module _ (g : Grammar) (t : Table) (c : Facts) {B : Type 0} (does : Step → B �
         settled-fitting = fitting-token (h .fitting) .2;
         sure = h .sure ++ (h .tried ++ (shift k ∷ []));
         sure-leaves =
-          leaves-trans {P = Any} {Q = Any} (λ rest q. tt) (h .sure-leaves)
-              (leaves-trans {P = Next k} {Q = Any} (λ rest q. refl) (h .tried-leaves) (leaves-token k ss));
+            leaves-trans {P = Any} {Q = Any} (λ rest q. tt) (h .sure-leaves)
+            (leaves-trans {P = Next k} {Q = Any} (λ rest q. refl) (h .tried-leaves) (leaves-token k ss));
         sure-made = made-more (h .sure) (h .tried) (shift k) now certain (h .sure-made) (h .tried-made);
         tried = [];
         tried-leaves = leaves-refl (Next (next left)) ss;
@@ -163,11 +162,11 @@ module _ (g : Grammar) (t : Table) (c : Facts) {B : Type 0} (does : Step → B �
         settled-fitting = fitting-action (h .fitting);
         sure = h .sure ++ ([] ++ (act a ∷ []));
         sure-leaves =
-          leaves-trans {P = Any} {Q = Any} (λ rest q. tt)
-              (subst (λ (x : Symbols). Leaves g Any from-symbols (h .read-kinds) (h .sure) x) (h .mode .0) (h .sure-leaves))
-              (leaves-action Any a ss);
+            leaves-trans {P = Any} {Q = Any} (λ rest q. tt)
+            (subst (λ (x : Symbols). Leaves g Any from-symbols (h .read-kinds) (h .sure) x) (h .mode .0) (h .sure-leaves))
+            (leaves-action Any a ss);
         sure-made =
-          made-more (h .sure) [] (act a) now certain (h .sure-made) (h .tried-made ∙ ap (λ (x : Steps). after does x certain) (h .mode .1));
+            made-more (h .sure) [] (act a) now certain (h .sure-made) (h .tried-made ∙ ap (λ (x : Steps). after does x certain) (h .mode .1));
         tried = [];
         tried-leaves = leaves-refl (Next (next left)) ss;
         tried-made = refl;
@@ -186,7 +185,7 @@ module _ (g : Grammar) (t : Table) (c : Facts) {B : Type 0} (does : Step → B �
         sure-made = h .sure-made;
         tried = h .tried ++ (act a ∷ []);
         tried-leaves =
-          leaves-trans {P = Next (next left)} {Q = Next (next left)} (λ rest q. q) (h .tried-leaves) (leaves-action (Next (next left)) a ss);
+            leaves-trans {P = Next (next left)} {Q = Next (next left)} (λ rest q. q) (h .tried-leaves) (leaves-action (Next (next left)) a ss);
         tried-made = ap (does (act a)) (h .tried-made) ∙ sym (after-append does (h .tried) (act a ∷ []) certain);
         fitting = fitting-action (h .fitting);
         mode = h .mode;
@@ -203,14 +202,14 @@ module _ (g : Grammar) (t : Table) (c : Facts) {B : Type 0} (does : Step → B �
           split = h .split;
           is-plain = h .is-plain;
           settled = h .settled;
-        settled-fitting = h .settled-fitting;
+          settled-fitting = h .settled-fitting;
           sure = h .sure;
           sure-leaves = h .sure-leaves;
           sure-made = h .sure-made;
           tried = h .tried ++ [];
           tried-leaves =
-            leaves-trans {P = Next (next left)} {Q = Next (next left)} (λ rest q. q) (h .tried-leaves)
-                (leaves-rule p (next left) r alternative ss taken (h .fitting));
+              leaves-trans {P = Next (next left)} {Q = Next (next left)} (λ rest q. q) (h .tried-leaves)
+              (leaves-rule p (next left) r alternative ss taken (h .fitting));
           tried-made = h .tried-made ∙ ap (λ (x : Steps). after does x certain) (sym (append-nil (h .tried)));
           fitting = fitting-expand p r alternative ss (getElem-mem (alternatives g r) _ taken) (h .fitting);
           mode = mode-waiting e (h .settled) (rule r ∷ ss) (h .tried) (h .mode) refl;

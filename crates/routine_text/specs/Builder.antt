@@ -16,8 +16,8 @@ pub record Word : Type 0 where
   pub line : ℕ
   pub bytes : List ℕ
 
-unfoldable pub wordOf : List ℕ → Token → Word
-wordOf text t = record { place = t .start; line = lineOf text (t .start); bytes = take (t .end - t .start) (drop (t .start) text) }
+unfoldable pub wordIn : List ℕ → Token → Word
+wordIn text t = record { place = t .start; line = lineOf text (t .start); bytes = take (t .end - t .start) (drop (t .start) text) }
 
 abbrev pub noWord : Word
 noWord = record { place = 0; line = 1; bytes = [] }
@@ -539,12 +539,12 @@ judgeForalls b =
 unfoldable pub setConditional : Bool → Formulas → Formulas
 setConditional x f = record { opened = f .opened; finished = f .finished; foralls = f .foralls; lastForall = f .lastForall; conditional = x }
 
--- STATEMENTS. "256 statements a text", numbered in text order; "A line number is that of the first byte of a statement"
+-- STATEMENTS. "256 statements a text", numbered in text order from 1 on, since an `ensures` has 0; "A line number is that of the first byte of a statement"
 unfoldable pub beginStatement : Builder → Builder
 beginStatement b =
     let c : Counts = b .counts in
     let d : Codes = b .codes in
-    let at : Place = record { number = c .statements; line = b .word .line } in
+    let at : Place = record { number = suc (c .statements); line = b .word .line } in
     withCodes (record { here = at; test = d .test; invariants = []; statements = d .statements; levels = d .levels })
     (withTerms (setTerms [] (b .terms))
     (withCounts (record { statements = suc (c .statements); parts = c .parts; nesting = c .nesting }) (mark (leb 256 (c .statements)) limitFault b)))

@@ -328,131 +328,262 @@ on·joinImplies = action 59
 abbrev pub on·joinIff : Symbol
 on·joinIff = action 60
 
-unfoldable pub grammar : Grammar
-grammar =
-    -- "text = { "links" names ";" | "flags" names ";" } routine { routine }"
-    ((declarations ∷ routine ∷ routines ∷ []) ∷ [])
-    -- "{ "links" names ";" | "flags" names ";" }"; what is declared is known where the first routine begins
-    ∷ ((q "links" ∷ linkNames ∷ q ";" ∷ declarations ∷ [])
+-- THE RULES. What each of them can be read as.
+-- "text = { "links" names ";" | "flags" names ";" } routine { routine }"
+abbrev pub of·text : List Symbols
+of·text =
+    (declarations ∷ routine ∷ routines ∷ []) ∷ []
+
+-- "{ "links" names ";" | "flags" names ";" }"; what is declared is known where the first routine begins
+abbrev pub of·declarations : List Symbols
+of·declarations =
+    (q "links" ∷ linkNames ∷ q ";" ∷ declarations ∷ [])
     ∷ (q "flags" ∷ flagNames ∷ q ";" ∷ declarations ∷ [])
-    ∷ (on·endDeclarations ∷ []) ∷ [])
-    -- "names = name { "," name }", of links and of flags
-    ∷ ((name ∷ on·declareLink ∷ moreLinks ∷ []) ∷ [])
-    ∷ ((q "," ∷ name ∷ on·declareLink ∷ moreLinks ∷ [])
-    ∷ [] ∷ [])
-    ∷ ((name ∷ on·declareFlag ∷ moreFlags ∷ []) ∷ [])
-    ∷ ((q "," ∷ name ∷ on·declareFlag ∷ moreFlags ∷ [])
-    ∷ [] ∷ [])
-    -- "{ routine }"
-    ∷ ((routine ∷ routines ∷ [])
-    ∷ [] ∷ [])
-    -- "routine = "routine" name "(" [ names ] ")" { ( "requires" | "ensures" ) formula } "{" { "var" names ";" } { statement } "}""
-    ∷ ((q "routine" ∷ on·beginRoutine ∷ name ∷ on·nameRoutine ∷ q "("
-    ∷ parameters ∷ q ")" ∷ clauses ∷ q "{" ∷ variables ∷ statements ∷ q "}" ∷ on·endRoutine ∷ []) ∷ [])
-    -- "[ names ]", of variables
-    ∷ ((variableNames ∷ [])
-    ∷ [] ∷ [])
-    ∷ ((name ∷ on·declareVariable ∷ moreVariables ∷ []) ∷ [])
-    ∷ ((q "," ∷ name ∷ on·declareVariable ∷ moreVariables ∷ [])
-    ∷ [] ∷ [])
-    -- "{ ( "requires" | "ensures" ) formula }"
-    ∷ ((q "requires" ∷ on·beginClause ∷ sentence ∷ on·addRequires ∷ clauses ∷ [])
+    ∷ (on·endDeclarations ∷ []) ∷ []
+
+-- "names = name { "," name }", of links and of flags
+abbrev pub of·linkNames : List Symbols
+of·linkNames =
+    (name ∷ on·declareLink ∷ moreLinks ∷ []) ∷ []
+
+abbrev pub of·moreLinks : List Symbols
+of·moreLinks =
+    (q "," ∷ name ∷ on·declareLink ∷ moreLinks ∷ [])
+    ∷ [] ∷ []
+
+abbrev pub of·flagNames : List Symbols
+of·flagNames =
+    (name ∷ on·declareFlag ∷ moreFlags ∷ []) ∷ []
+
+abbrev pub of·moreFlags : List Symbols
+of·moreFlags =
+    (q "," ∷ name ∷ on·declareFlag ∷ moreFlags ∷ [])
+    ∷ [] ∷ []
+
+-- "{ routine }"
+abbrev pub of·routines : List Symbols
+of·routines =
+    (routine ∷ routines ∷ [])
+    ∷ [] ∷ []
+
+-- "routine = "routine" name "(" [ names ] ")" { ( "requires" | "ensures" ) formula } "{" { "var" names ";" } { statement } "}""
+abbrev pub of·routine : List Symbols
+of·routine =
+    (q "routine" ∷ on·beginRoutine ∷ name ∷ on·nameRoutine ∷ q "("
+    ∷ parameters ∷ q ")" ∷ clauses ∷ q "{" ∷ variables ∷ statements ∷ q "}" ∷ on·endRoutine ∷ []) ∷ []
+
+-- "[ names ]", of variables
+abbrev pub of·parameters : List Symbols
+of·parameters =
+    (variableNames ∷ [])
+    ∷ [] ∷ []
+
+abbrev pub of·variableNames : List Symbols
+of·variableNames =
+    (name ∷ on·declareVariable ∷ moreVariables ∷ []) ∷ []
+
+abbrev pub of·moreVariables : List Symbols
+of·moreVariables =
+    (q "," ∷ name ∷ on·declareVariable ∷ moreVariables ∷ [])
+    ∷ [] ∷ []
+
+-- "{ ( "requires" | "ensures" ) formula }"
+abbrev pub of·clauses : List Symbols
+of·clauses =
+    (q "requires" ∷ on·beginClause ∷ sentence ∷ on·addRequires ∷ clauses ∷ [])
     ∷ (q "ensures" ∷ on·beginClause ∷ sentence ∷ on·addEnsures ∷ clauses ∷ [])
-    ∷ [] ∷ [])
-    -- "{ "var" names ";" }"
-    ∷ ((q "var" ∷ variableNames ∷ q ";" ∷ variables ∷ [])
-    ∷ [] ∷ [])
-    -- "{ statement }" outside of loops
-    ∷ ((statement ∷ statements ∷ [])
-    ∷ [] ∷ [])
-    ∷ ((simple ∷ [])
+    ∷ [] ∷ []
+
+-- "{ "var" names ";" }"
+abbrev pub of·variables : List Symbols
+of·variables =
+    (q "var" ∷ variableNames ∷ q ";" ∷ variables ∷ [])
+    ∷ [] ∷ []
+
+-- "{ statement }" outside of loops
+abbrev pub of·statements : List Symbols
+of·statements =
+    (statement ∷ statements ∷ [])
+    ∷ [] ∷ []
+
+abbrev pub of·statement : List Symbols
+of·statement =
+    (simple ∷ [])
     ∷ (ifStatement ∷ [])
-    ∷ (whileStatement ∷ []) ∷ [])
-    -- ""if" "(" formula ")" block [ "else" ( block | if-statement ) ]", "block = "{" { statement } "}""
-    ∷ ((q "if" ∷ on·beginStatement ∷ condition ∷ q "{" ∷ on·openThen ∷ statements ∷ q "}" ∷ on·closeThen ∷ elsePart ∷ []) ∷ [])
-    ∷ ((q "else" ∷ elseBlock ∷ [])
-    ∷ (on·endIf ∷ []) ∷ [])
-    ∷ ((q "{" ∷ on·openBlock ∷ statements ∷ q "}" ∷ on·closeBlock ∷ on·endIf ∷ [])
-    ∷ (ifStatement ∷ on·endIf ∷ []) ∷ [])
-    -- ""while" "(" formula ")" { "invariant" formula } block"
-    ∷ ((q "while" ∷ on·beginStatement ∷ condition ∷ invariants ∷ q "{" ∷ on·openLoop ∷ innerStatements ∷ q "}" ∷ on·closeLoop ∷ []) ∷ [])
-    -- "break only within a loop": the same for statements within one
-    ∷ ((innerStatement ∷ innerStatements ∷ [])
-    ∷ [] ∷ [])
-    ∷ ((simple ∷ [])
+    ∷ (whileStatement ∷ []) ∷ []
+
+-- ""if" "(" formula ")" block [ "else" ( block | if-statement ) ]", "block = "{" { statement } "}""
+abbrev pub of·ifStatement : List Symbols
+of·ifStatement =
+    (q "if" ∷ on·beginStatement ∷ condition ∷ q "{" ∷ on·openThen ∷ statements ∷ q "}" ∷ on·closeThen ∷ elsePart ∷ []) ∷ []
+
+abbrev pub of·elsePart : List Symbols
+of·elsePart =
+    (q "else" ∷ elseBlock ∷ [])
+    ∷ (on·endIf ∷ []) ∷ []
+
+abbrev pub of·elseBlock : List Symbols
+of·elseBlock =
+    (q "{" ∷ on·openBlock ∷ statements ∷ q "}" ∷ on·closeBlock ∷ on·endIf ∷ [])
+    ∷ (ifStatement ∷ on·endIf ∷ []) ∷ []
+
+-- ""while" "(" formula ")" { "invariant" formula } block"
+abbrev pub of·whileStatement : List Symbols
+of·whileStatement =
+    (q "while" ∷ on·beginStatement ∷ condition ∷ invariants ∷ q "{" ∷ on·openLoop ∷ innerStatements ∷ q "}" ∷ on·closeLoop ∷ []) ∷ []
+
+-- "break only within a loop": the same for statements within one
+abbrev pub of·innerStatements : List Symbols
+of·innerStatements =
+    (innerStatement ∷ innerStatements ∷ [])
+    ∷ [] ∷ []
+
+abbrev pub of·innerStatement : List Symbols
+of·innerStatement =
+    (simple ∷ [])
     ∷ (innerIf ∷ [])
     ∷ (whileStatement ∷ [])
-    ∷ (q "break" ∷ on·beginStatement ∷ q ";" ∷ on·addBreak ∷ []) ∷ [])
-    ∷ ((q "if" ∷ on·beginStatement ∷ condition ∷ q "{" ∷ on·openThen ∷ innerStatements ∷ q "}" ∷ on·closeThen ∷ innerElse ∷ []) ∷ [])
-    ∷ ((q "else" ∷ innerElseBlock ∷ [])
-    ∷ (on·endIf ∷ []) ∷ [])
-    ∷ ((q "{" ∷ on·openBlock ∷ innerStatements ∷ q "}" ∷ on·closeBlock ∷ on·endIf ∷ [])
-    ∷ (innerIf ∷ on·endIf ∷ []) ∷ [])
-    -- ""(" formula ")", behind `if` and `while`
-    ∷ ((q "(" ∷ on·beginCondition ∷ sentence ∷ q ")" ∷ on·endCondition ∷ []) ∷ [])
-    -- "{ "invariant" formula }"
-    ∷ ((q "invariant" ∷ on·beginClause ∷ sentence ∷ on·addInvariant ∷ invariants ∷ [])
-    ∷ [] ∷ [])
-    -- "name "=" term ";"", "term "->" link "=" term ";"", "term "->" flag "=" ( "0" | "1" ) ";"", ""havoc" name ";"",
-    -- "( "assume" | "assert" | "cover" ) formula ";"", ""return" ";""
-    ∷ ((name ∷ on·beginStatement ∷ on·nameBase ∷ assignment ∷ [])
+    ∷ (q "break" ∷ on·beginStatement ∷ q ";" ∷ on·addBreak ∷ []) ∷ []
+
+abbrev pub of·innerIf : List Symbols
+of·innerIf =
+    (q "if" ∷ on·beginStatement ∷ condition ∷ q "{" ∷ on·openThen ∷ innerStatements ∷ q "}" ∷ on·closeThen ∷ innerElse ∷ []) ∷ []
+
+abbrev pub of·innerElse : List Symbols
+of·innerElse =
+    (q "else" ∷ innerElseBlock ∷ [])
+    ∷ (on·endIf ∷ []) ∷ []
+
+abbrev pub of·innerElseBlock : List Symbols
+of·innerElseBlock =
+    (q "{" ∷ on·openBlock ∷ innerStatements ∷ q "}" ∷ on·closeBlock ∷ on·endIf ∷ [])
+    ∷ (innerIf ∷ on·endIf ∷ []) ∷ []
+
+-- ""(" formula ")", behind `if` and `while`
+abbrev pub of·condition : List Symbols
+of·condition =
+    (q "(" ∷ on·beginCondition ∷ sentence ∷ q ")" ∷ on·endCondition ∷ []) ∷ []
+
+-- "{ "invariant" formula }"
+abbrev pub of·invariants : List Symbols
+of·invariants =
+    (q "invariant" ∷ on·beginClause ∷ sentence ∷ on·addInvariant ∷ invariants ∷ [])
+    ∷ [] ∷ []
+
+-- "name "=" term ";"", "term "->" link "=" term ";"", "term "->" flag "=" ( "0" | "1" ) ";"", ""havoc" name ";"",
+-- "( "assume" | "assert" | "cover" ) formula ";"", ""return" ";""
+abbrev pub of·simple : List Symbols
+of·simple =
+    (name ∷ on·beginStatement ∷ on·nameBase ∷ assignment ∷ [])
     ∷ (q "NULL" ∷ on·beginStatement ∷ on·nullBase ∷ q "->" ∷ name ∷ on·nameMember ∷ memberAssignment ∷ [])
     ∷ (q "havoc" ∷ on·beginStatement ∷ name ∷ on·nameBase ∷ q ";" ∷ on·addHavoc ∷ [])
     ∷ (q "assume" ∷ on·beginStatement ∷ sentence ∷ q ";" ∷ on·addAssume ∷ [])
     ∷ (q "assert" ∷ on·beginStatement ∷ sentence ∷ q ";" ∷ on·addAssert ∷ [])
     ∷ (q "cover" ∷ on·beginStatement ∷ sentence ∷ q ";" ∷ on·addCover ∷ [])
-    ∷ (q "return" ∷ on·beginStatement ∷ q ";" ∷ on·addReturn ∷ []) ∷ [])
-    -- what stands behind the first name of an assignment; behind a name that stands behind `->`; behind `=`
-    ∷ ((q "=" ∷ term ∷ q ";" ∷ on·addAssign ∷ [])
-    ∷ (q "->" ∷ name ∷ on·nameMember ∷ memberAssignment ∷ []) ∷ [])
-    ∷ ((q "->" ∷ on·takeLink ∷ name ∷ on·nameMember ∷ memberAssignment ∷ [])
-    ∷ (q "=" ∷ assigned ∷ []) ∷ [])
-    ∷ ((q "0" ∷ on·writeFlag ∷ q ";" ∷ on·addClear ∷ [])
+    ∷ (q "return" ∷ on·beginStatement ∷ q ";" ∷ on·addReturn ∷ []) ∷ []
+
+-- what stands behind the first name of an assignment; behind a name that stands behind `->`; behind `=`
+abbrev pub of·assignment : List Symbols
+of·assignment =
+    (q "=" ∷ term ∷ q ";" ∷ on·addAssign ∷ [])
+    ∷ (q "->" ∷ name ∷ on·nameMember ∷ memberAssignment ∷ []) ∷ []
+
+abbrev pub of·memberAssignment : List Symbols
+of·memberAssignment =
+    (q "->" ∷ on·takeLink ∷ name ∷ on·nameMember ∷ memberAssignment ∷ [])
+    ∷ (q "=" ∷ assigned ∷ []) ∷ []
+
+abbrev pub of·assigned : List Symbols
+of·assigned =
+    (q "0" ∷ on·writeFlag ∷ q ";" ∷ on·addClear ∷ [])
     ∷ (q "1" ∷ on·writeFlag ∷ q ";" ∷ on·addSet ∷ [])
-    ∷ (on·writeLink ∷ term ∷ q ";" ∷ on·addAssignLink ∷ []) ∷ [])
-    -- "term = ( name | "NULL" ) { "->" link }"
-    ∷ ((name ∷ on·nameBase ∷ path ∷ [])
-    ∷ (q "NULL" ∷ on·nullBase ∷ path ∷ []) ∷ [])
-    ∷ ((q "->" ∷ name ∷ on·followLink ∷ path ∷ [])
-    ∷ [] ∷ [])
-    -- a formula that stands in no other
-    ∷ ((formula ∷ on·judgeForalls ∷ []) ∷ [])
-    -- "formula = implies { "<=>" implies }", "implies = or [ "=>" implies ]", "or = and { "||" and }", "and = item { "&&" item }": items with
-    -- signs between them. Which of them belong together the actions at the signs say; behind the body of a `forall` no sign is left for what is around it,
-    -- since "A `forall` reaches as far to the right as it can".
-    ∷ ((operand ∷ on·closeFormula ∷ []) ∷ [])
-    -- "item = "!" item | "(" formula ")" | "true" | "false" | "forall" names ":" formula" ..
-    ∷ ((q "!" ∷ on·negate ∷ operand ∷ [])
+    ∷ (on·writeLink ∷ term ∷ q ";" ∷ on·addAssignLink ∷ []) ∷ []
+
+-- "term = ( name | "NULL" ) { "->" link }"
+abbrev pub of·term : List Symbols
+of·term =
+    (name ∷ on·nameBase ∷ path ∷ [])
+    ∷ (q "NULL" ∷ on·nullBase ∷ path ∷ []) ∷ []
+
+abbrev pub of·path : List Symbols
+of·path =
+    (q "->" ∷ name ∷ on·followLink ∷ path ∷ [])
+    ∷ [] ∷ []
+
+-- a formula that stands in no other
+abbrev pub of·sentence : List Symbols
+of·sentence =
+    (formula ∷ on·judgeForalls ∷ []) ∷ []
+
+-- "formula = implies { "<=>" implies }", "implies = or [ "=>" implies ]", "or = and { "||" and }", "and = item { "&&" item }": items with
+-- signs between them. Which of them belong together the actions at the signs say; behind the body of a `forall` no sign is left for what is around it,
+-- since "A `forall` reaches as far to the right as it can".
+abbrev pub of·formula : List Symbols
+of·formula =
+    (operand ∷ on·closeFormula ∷ []) ∷ []
+
+-- "item = "!" item | "(" formula ")" | "true" | "false" | "forall" names ":" formula" ..
+abbrev pub of·operand : List Symbols
+of·operand =
+    (q "!" ∷ on·negate ∷ operand ∷ [])
     ∷ (q "(" ∷ on·openParenthesis ∷ formula ∷ q ")" ∷ on·closeParenthesis ∷ joined ∷ [])
     ∷ (q "true" ∷ on·addTrue ∷ joined ∷ [])
     ∷ (q "false" ∷ on·addFalse ∷ joined ∷ [])
     ∷ (q "forall" ∷ on·openForall ∷ boundNames ∷ q ":" ∷ on·openBody ∷ formula ∷ on·closeForall ∷ [])
     ∷ (name ∷ on·countPart ∷ on·nameBase ∷ compared ∷ joined ∷ [])
     ∷ (q "NULL" ∷ on·countPart ∷ on·nullBase ∷ compared ∷ joined ∷ [])
-    ∷ (q "between" ∷ on·countPart ∷ q "(" ∷ term ∷ q "," ∷ term ∷ q "," ∷ term ∷ q ")" ∷ by ∷ on·addBetween ∷ joined ∷ []) ∷ [])
-    -- "names = name { "," name }", of a `forall`
-    ∷ ((name ∷ on·declareBound ∷ moreBound ∷ []) ∷ [])
-    ∷ ((q "," ∷ name ∷ on·declareBound ∷ moreBound ∷ [])
-    ∷ [] ∷ [])
-    -- "term ( "==" | "!=" ) term", "term "reaches" term [ "by" link ]", "term "->" flag": behind the first name; behind a name that stands behind `->`
-    ∷ ((comparison ∷ [])
-    ∷ (q "->" ∷ name ∷ on·nameMember ∷ member ∷ []) ∷ [])
-    ∷ ((q "->" ∷ on·takeLink ∷ name ∷ on·nameMember ∷ member ∷ [])
+    ∷ (q "between" ∷ on·countPart ∷ q "(" ∷ term ∷ q "," ∷ term ∷ q "," ∷ term ∷ q ")" ∷ by ∷ on·addBetween ∷ joined ∷ []) ∷ []
+
+-- "names = name { "," name }", of a `forall`
+abbrev pub of·boundNames : List Symbols
+of·boundNames =
+    (name ∷ on·declareBound ∷ moreBound ∷ []) ∷ []
+
+abbrev pub of·moreBound : List Symbols
+of·moreBound =
+    (q "," ∷ name ∷ on·declareBound ∷ moreBound ∷ [])
+    ∷ [] ∷ []
+
+-- "term ( "==" | "!=" ) term", "term "reaches" term [ "by" link ]", "term "->" flag": behind the first name; behind a name that stands behind `->`
+abbrev pub of·compared : List Symbols
+of·compared =
+    (comparison ∷ [])
+    ∷ (q "->" ∷ name ∷ on·nameMember ∷ member ∷ []) ∷ []
+
+abbrev pub of·member : List Symbols
+of·member =
+    (q "->" ∷ on·takeLink ∷ name ∷ on·nameMember ∷ member ∷ [])
     ∷ (on·takeLink ∷ comparison ∷ [])
-    ∷ (on·readFlag ∷ []) ∷ [])
-    ∷ ((q "==" ∷ term ∷ on·addEqual ∷ [])
+    ∷ (on·readFlag ∷ []) ∷ []
+
+abbrev pub of·comparison : List Symbols
+of·comparison =
+    (q "==" ∷ term ∷ on·addEqual ∷ [])
     ∷ (q "!=" ∷ term ∷ on·addUnequal ∷ [])
-    ∷ (q "reaches" ∷ term ∷ by ∷ on·addReaches ∷ []) ∷ [])
-    -- "[ "by" link ]"
-    ∷ ((q "by" ∷ name ∷ on·byLink ∷ [])
-    ∷ (on·byFirst ∷ []) ∷ [])
-    -- the signs between items
-    ∷ ((q "&&" ∷ on·joinAnd ∷ operand ∷ [])
+    ∷ (q "reaches" ∷ term ∷ by ∷ on·addReaches ∷ []) ∷ []
+
+-- "[ "by" link ]"
+abbrev pub of·by : List Symbols
+of·by =
+    (q "by" ∷ name ∷ on·byLink ∷ [])
+    ∷ (on·byFirst ∷ []) ∷ []
+
+-- the signs between items
+abbrev pub of·joined : List Symbols
+of·joined =
+    (q "&&" ∷ on·joinAnd ∷ operand ∷ [])
     ∷ (q "||" ∷ on·joinOr ∷ operand ∷ [])
     ∷ (q "=>" ∷ on·joinImplies ∷ operand ∷ [])
     ∷ (q "<=>" ∷ on·joinIff ∷ operand ∷ [])
-    ∷ [] ∷ [])
-    ∷ []
+    ∷ [] ∷ []
+
+unfoldable pub grammar : Grammar
+grammar =
+    of·text ∷ of·declarations ∷ of·linkNames ∷ of·moreLinks ∷ of·flagNames ∷ of·moreFlags ∷ of·routines ∷ of·routine ∷ of·parameters ∷ of·variableNames
+    ∷ of·moreVariables ∷ of·clauses ∷ of·variables ∷ of·statements ∷ of·statement ∷ of·ifStatement ∷ of·elsePart ∷ of·elseBlock ∷ of·whileStatement
+    ∷ of·innerStatements ∷ of·innerStatement ∷ of·innerIf ∷ of·innerElse ∷ of·innerElseBlock ∷ of·condition ∷ of·invariants ∷ of·simple ∷ of·assignment
+    ∷ of·memberAssignment ∷ of·assigned ∷ of·term ∷ of·path ∷ of·sentence ∷ of·formula ∷ of·operand ∷ of·boundNames ∷ of·moreBound ∷ of·compared
+    ∷ of·member ∷ of·comparison ∷ of·by ∷ of·joined ∷ []
 
 -- For each rule: the number of the alternative that is read before a token of each kind, from kind 0 on; of none, how many there are.
 -- Written in digits.

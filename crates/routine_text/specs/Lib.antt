@@ -2,3 +2,5 @@
 pub mod Builder
 pub mod Grammar
 pub mod Reading
+pub mod Claims
+pub mod Examples

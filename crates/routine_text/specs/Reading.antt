@@ -1,19 +1,19 @@
 -- What a text says, and its first fault (03, "The text" and "Answers").
-use Prim.Native.Nat.{ℕ}
+use Prim.Native.Nat.{ℕ, _+_, _*_}
 use mathlib.Core.Bool.{Bool, true, false, not, cond}
 use mathlib.Core.List.{List, [], _∷_, _++_, map}
 use mathlib.Core.Option.{Option, none, some, Option·elim}
 use lib.Dec.{eqb, ltb}
 use lib.ListN.{length, getD}
-use Rattle.logic.specs.Search.{_and_, _or_, select}
+use Rattle.logic.specs.Search.{select}
 use Rattle.grammar_theory.specs.Grammar.{Step, shift, act}
-use Rattle.grammar_theory.specs.Machine.{Ending, accepted, stuck, unfinished, run, start}
-use Rattle.grammar_theory.specs.LL1.{moves}
+use Rattle.grammar_theory.specs.Machine.{Ending, accepted, stuck, unfinished}
+use Rattle.grammar_theory.specs.LL1.{parse}
 use Rattle.routine_logic.specs.Syntax.{never}
 use Rattle.routine_tokens.specs.declared.Token.{Token}
 use Rattle.routine_tokens.specs.Tokens.{tokens, lineOf, columnOf}
 use Rattle.routine_text.specs.Grammar.{grammar, predictions, facts}
-use Rattle.routine_text.specs.Builder.{Word, wordOf, noWord, Fault, textFault, nameFault, forallFault, limitFault, Mark, Named, Builder, accept, endDeclarations, declareLink, declareFlag, beginRoutine, nameRoutine, endRoutine, declareVariable, beginClause, addRequires, addEnsures, beginStatement, openThen, closeThen, endIf, openBlock, closeBlock, openLoop, closeLoop, addBreak, beginCondition, endCondition, addInvariant, nameBase, nullBase, nameMember, addHavoc, addAssume, addAssert, addCover, addReturn, addAssign, takeLink, writeFlag, addClear, addSet, writeLink, addAssignLink, followLink, judgeForalls, closeFormula, negate, openParenthesis, closeParenthesis, addTrue, addFalse, openForall, openBody, closeForall, countPart, addBetween, declareBound, readFlag, addEqual, addUnequal, addReaches, byLink, byFirst, joinAnd, joinOr, joinImplies, joinIff}
+use Rattle.routine_text.specs.Builder.{Word, wordIn, noWord, Fault, textFault, nameFault, forallFault, limitFault, Mark, Named, Builder, accept, endDeclarations, declareLink, declareFlag, beginRoutine, nameRoutine, endRoutine, declareVariable, beginClause, addRequires, addEnsures, beginStatement, openThen, closeThen, endIf, openBlock, closeBlock, openLoop, closeLoop, addBreak, beginCondition, endCondition, addInvariant, nameBase, nullBase, nameMember, addHavoc, addAssume, addAssert, addCover, addReturn, addAssign, takeLink, writeFlag, addClear, addSet, writeLink, addAssignLink, followLink, judgeForalls, closeFormula, negate, openParenthesis, closeParenthesis, addTrue, addFalse, openForall, openBody, closeForall, countPart, addBetween, declareBound, readFlag, addEqual, addUnequal, addReaches, byLink, byFirst, joinAnd, joinOr, joinImplies, joinIff}
 
 -- what the actions of the grammar do, in the order of their numbers
 unfoldable pub actions : List (Builder → Builder)
@@ -62,10 +62,10 @@ kindsOf ts = select (λ k. not (eqb k 0)) (map (λ t. t .kind) ts)
 
 -- the words, and how the machine ends on them
 unfoldable pub wordsOf : List ℕ → List Token → List Word
-wordsOf text ts = map (wordOf text) ts
+wordsOf text ts = map (wordIn text) ts
 
 unfoldable pub endingOn : List ℕ → List Word → Ending Reader
-endingOn ks words = run does grammar predictions (moves facts 0 (length ks)) (start 0 ks (record { coming = words; built = empty }))
+endingOn ks words = parse does grammar predictions facts 0 ks (record { coming = words; built = empty })
 
 unfoldable pub ending : List ℕ → Ending Reader
 ending text = let ts : List Token = tokens text in endingOn (kindsOf ts) (wordsOf text ts)
@@ -77,8 +77,11 @@ rank nameFault = 1
 rank forallFault = 2
 rank limitFault = 3
 
+unfoldable pub order : Mark → ℕ
+order m = 4 * m .place + rank (m .fault)
+
 unfoldable pub before : Mark → Mark → Bool
-before m n = ltb (m .place) (n .place) or (eqb (m .place) (n .place) and ltb (rank (m .fault)) (rank (n .fault)))
+before m n = ltb (order m) (order n)
 
 -- "The fault is the one at the smallest place"
 unfoldable pub earlier : Mark → Mark → Mark
@@ -132,10 +135,11 @@ unfoldable pub judged : List ℕ → Contents → Option Mark → Reading
 judged text c none = read c
 judged text c (some m) = faulty (lineOf text (m .place)) (columnOf text (m .place)) (m .fault)
 
+unfoldable pub said : List ℕ → Ending Reader → Reading
+said text e = judged text (contents e) (first (faultsOf text e))
+
 unfoldable pub readTokens : List ℕ → List Token → Reading
-readTokens text ts =
-    let e : Ending Reader = endingOn (kindsOf ts) (wordsOf text ts) in
-    judged text (contents e) (first (faultsOf text e))
+readTokens text ts = said text (endingOn (kindsOf ts) (wordsOf text ts))
 
 unfoldable pub readText : List ℕ → Reading
 readText text = readTokens text (tokens text)
