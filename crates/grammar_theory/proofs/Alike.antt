@@ -1,12 +1,13 @@
 -- Two machines that do the same steps to different things: what they make is related, if each step keeps it so.
 use Prim.Native.Nat.{ℕ, zero, suc}
-use mathlib.Core.Path.{_≡_, refl, sym, ap, _∙_, subst}
+use mathlib.Core.Path.{refl}
 use mathlib.Core.Bool.{Bool, true, false, cond}
-use mathlib.Core.List.{List, [], _∷_, _++_, tail}
+use mathlib.Core.List.{[], _∷_, _++_, tail}
 use lib.ListN.{length}
 use Rattle.grammar_theory.specs.Grammar.{Symbols, Kinds, Grammar, Step, shift, act, Steps}
-use Rattle.grammar_theory.specs.Machine.{Table, next, Move, finish, read, perform, expand, refuse, move, State, Ending, accepted, stuck, unfinished, afterRead, afterPerform, afterExpand, moved, run, start, after}
+use Rattle.grammar_theory.specs.Machine.{Table, next, Move, finish, read, perform, expand, refuse, move, afterRead, afterPerform, afterExpand, moved, run, start, after}
 use Rattle.grammar_theory.specs.LL1.{Facts, moves, parse}
+use Rattle.grammar_theory.proofs.States.{at}
 use Rattle.grammar_theory.specs.Claims.{Alike}
 
 module _ {A B : Type 0} (R : A → B → Type 0) (does : Step → A → A) (does′ : Step → B → B) (keeps : (s : Step) (a : A) (b : B) → R a b → R (does s a) (does′ s b)) where
@@ -14,9 +15,6 @@ module _ {A B : Type 0} (R : A → B → Type 0) (does : Step → A → A) (does
   unfolding after
   after-alike [] a b r = r
   after-alike (s ∷ steps) a b r = after-alike steps (does s a) (does′ s b) (keeps s a b r)
-
-  abbrev at : {C : Type 0} → Symbols → Kinds → C → C → Bool → State C
-  at ss left now certain e = record { stack = ss; left = left; now = now; certain = certain; eager = e }
 
   pub run-alike : (g : Grammar) (t : Table) (n : ℕ) (ss : Symbols) (left : Kinds) (e : Bool) (now certain : A) (now′ certain′ : B) → R now now′ → R certain certain′ →
       Alike R (run does g t n (at ss left now certain e)) (run does′ g t n (at ss left now′ certain′ e))

@@ -2,19 +2,20 @@
 use Prim.Native.Nat.{ℕ, zero, suc, _+_, _*_, _≤_, _<_, max}
 use native.Mathlib.Omega.{arith}
 use native.Mathlib.Nat.{mul-le-mul-left}
-use mathlib.Core.Path.{_≡_, refl, sym, ap, _∙_, subst}
-use mathlib.Core.Logic.{_⊎_, ⊎-elim, inl, inr}
+use mathlib.Core.Path.{_≡_, refl, sym, ap, subst}
+use mathlib.Core.Logic.{⊎-elim}
 use mathlib.Core.Bool.{Bool, true, false, cond, true≢false}
-use mathlib.Core.List.{List, [], _∷_, _++_, tail}
-use mathlib.Core.Option.{Option, none, some}
+use mathlib.Core.List.{[], _∷_, _++_, tail}
+use mathlib.Core.Option.{Option}
 use lib.Dec.{eqb}
 use Rattle.theory.proofs.Basics.Compare.{eqb-true}
 use lib.ListN.{getElem?, length}
 use Rattle.logic.specs.Search.{_and_}
-use Rattle.theory.proofs.Basics.Search.{bool-cases, and-left, and-right, and-intro, and-false-cases}
+use Rattle.theory.proofs.Basics.Search.{bool-cases}
 use Rattle.grammar_theory.specs.Grammar.{token, rule, action, Symbols, Kinds, Grammar, alternatives, Step, shift, act}
-use Rattle.grammar_theory.specs.Machine.{Table, predicted, next, Move, finish, read, perform, expand, refuse, expandBy, move, State, Ending, accepted, stuck, unfinished, afterRead, afterPerform, afterExpand, moved, run}
+use Rattle.grammar_theory.specs.Machine.{Table, predicted, next, finish, read, refuse, expandBy, move, State, afterRead, afterPerform, afterExpand, moved, run}
 use Rattle.grammar_theory.specs.LL1.{Facts, nullable, rank, weight, vanish, leading, weigh, moves}
+use Rattle.grammar_theory.proofs.States.{at}
 use Rattle.grammar_theory.specs.Claims.{ended}
 use Rattle.grammar_theory.proofs.Passed.{option-cases, getElem-mem, FitsRule, Passed}
 use Rattle.grammar_theory.proofs.Prediction.{Fitting, fitting-token, fitting-action, fitting-rule, fitting-expand}
@@ -129,9 +130,6 @@ module _ {g : Grammar} {t : Table} {c : Facts} where
   start-enough r ks f = let h = mul-le-mul-left (suc (c .heaviest)) (leading-top (rule r ∷ []) f) in omega (arith, h)
 
 module _ {g : Grammar} {t : Table} {c : Facts} {start : ℕ} (p : Passed g t c start) {B : Type 0} (does : Step → B → B) where
-  abbrev at : Symbols → Kinds → B → B → Bool → State B
-  at ss left now certain e = record { stack = ss; left = left; now = now; certain = certain; eager = e }
-
   ends-read : (n j : ℕ) (ss : Symbols) (left : Kinds) → 0 < j → j ≡ next left → Fitting g t c ss → enough c (token j ∷ ss) left ≤ suc n →
       enough c ss (tail left) ≤ n
   unfolding enough next

@@ -1,26 +1,25 @@
 -- The claims, of every grammar that passes the test.
-use Prim.Native.Nat.{ℕ, zero, suc, _+_, _*_, _≤_, _<_, max}
+use Prim.Native.Nat.{ℕ, suc, _+_, _*_, _-_, _≤_}
 use native.Mathlib.Omega.{arith}
-use native.Mathlib.Nat.{mul-le-mul-left}
 use mathlib.Core.Path.{_≡_, refl, sym, ap, _∙_, subst}
 use mathlib.Core.Logic.{_⊎_, ⊎-elim, inl, inr}
-use mathlib.Core.Bool.{Bool, true, false, cond, false≢true}
-use mathlib.Core.List.{List, [], _∷_, _++_, append-nil, append-assoc, cons-ne-nil, head-eq-of-cons-eq, tail-eq-of-cons-eq}
+use mathlib.Core.Bool.{true, false≢true}
+use mathlib.Core.List.{List, [], _∷_, _++_, append-nil, append-assoc, head-eq-of-cons-eq, tail-eq-of-cons-eq}
 use lib.Dec.{ltb}
 use lib.ListN.{length}
 use Rattle.logic.specs.Search.{_and_, all}
 use Rattle.theory.proofs.Basics.Search.{and-left, and-right, and-intro}
-use Rattle.grammar_theory.specs.Grammar.{rule, Symbols, Kinds, Grammar, Step, Steps, Derives, Text, Begins}
+use Rattle.grammar_theory.specs.Grammar.{rule, Kinds, Grammar, Step, Steps, Text, Begins}
 use Rattle.grammar_theory.specs.Machine.{Table, next, State, Ending, accepted, stuck, unfinished, run, start, after}
 use Rattle.grammar_theory.specs.LL1.{Facts, ll1, moves, parse}
-use Rattle.grammar_theory.specs.Claims.{plain, Any, Next, Leaves, waiting, ended, leaving, Refused, Certain, Fault, Correct, LL1Correct}
+use Rattle.grammar_theory.specs.Claims.{plain, Any, Next, ended, leaving, Refused, Fault, LL1Correct}
 use Rattle.grammar_theory.proofs.Passed.{Passed, ll1-passed}
-use Rattle.grammar_theory.proofs.Prediction.{Fitting, fitting-start, derives-kinds, derives-unique}
+use Rattle.grammar_theory.proofs.Prediction.{fitting-start, derives-kinds, derives-unique}
 use Rattle.grammar_theory.proofs.Leaves.{leaves-refl}
 use Rattle.grammar_theory.proofs.Productive.{known-derivable}
 use Rattle.grammar_theory.proofs.Bounds.{start-enough, ends-at}
-use Rattle.grammar_theory.proofs.Runs.{Mode, Reached, Refusal, Said, said-run}
-use Rattle.grammar_theory.proofs.Prefixes.{Leads, derives-leads}
+use Rattle.grammar_theory.proofs.Runs.{Mode, Refusal, Said, said-run}
+use Rattle.grammar_theory.proofs.Prefixes.{derives-leads, run-more}
 
 -- two ways to split a list: one front is the other one and more
 pub split-cases : {A : Type 0} (xs ys xs′ ys′ : List A) → xs ++ ys ≡ xs′ ++ ys′ →
@@ -171,6 +170,21 @@ module _ {g : Grammar} {t : Table} {c : Facts} {r : ℕ} (p : Passed g t c r) {B
       let l = derives-leads does g t p (begun .2) (fitting-start p) read (begun .0) b b true refl in
       (l .moves, l .state, l .same)
 
+-- the moves for more tokens change nothing
+moves-more : (c : Facts) (r m n : ℕ) → moves c r (m + n) ≡ moves c r m + n * suc (suc (c .heaviest) * c .top)
+unfolding moves
+moves-more c r m n = omega arith
+
+parse-longer : {g : Grammar} {t : Table} {c : Facts} {r : ℕ} → Passed g t c r → {B : Type 0} (does : Step → B → B) (ks : Kinds) (b : B) (n : ℕ) → length ks ≤ n →
+    run does g t (moves c r n) (start r ks b) ≡ parse does g t c r ks b
+unfolding parse
+parse-longer {g} {t} {c} {r} p does ks b n l =
+    let m : ℕ = n - length ks in
+    let z : n ≡ length ks + m = omega (arith, l) in
+    let more : ℕ = m * suc (suc (c .heaviest) * c .top) in
+    ap (λ (x : ℕ). run does g t x (start r ks b)) (ap (moves c r) z ∙ moves-more c r (length ks) m)
+    ∙ run-more does g t (moves c r (length ks)) more (start r ks b) (parse-ends p does ks b)
+
 pub ll1-correct : LL1Correct
 unfolding LL1Correct
 ll1-correct g t c r passes =
@@ -182,5 +196,6 @@ ll1-correct g t c r passes =
       stuck-fault = λ does ks left b b′ pl e. refusal-fault p does ks left b b′ (said-stuck p does ks left b b′ pl e);
       fault-stuck = λ does. parse-sticks p does;
       parse-ended = λ does. parse-ends p does;
+      parse-more = λ does. parse-longer p does;
       run-prefix = λ does. parse-prefix p does;
     }

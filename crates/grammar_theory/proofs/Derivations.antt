@@ -1,7 +1,7 @@
 -- What a derivation is at each symbol; derivations one behind the other.
 use Prim.Native.Nat.{ℕ}
-use mathlib.Core.Path.{_≡_, refl, sym, ap, ap₂, _∙_, subst}
-use mathlib.Core.List.{List, [], _∷_, _++_, append-assoc, List·Memᴰ}
+use mathlib.Core.Path.{_≡_, refl, subst}
+use mathlib.Core.List.{[], _∷_, _++_, append-assoc, List·Memᴰ}
 use Rattle.grammar_theory.specs.Grammar.{token, rule, action, Symbols, Kinds, Grammar, alternatives, shift, act, Steps, Derives, empty, reading, acting, expanding}
 
 -- what it is to derive kinds by steps, by the first symbol

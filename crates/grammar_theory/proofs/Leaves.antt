@@ -1,13 +1,11 @@
 -- What is left of a stack when kinds are read: the laws for each move of the machine.
-use Prim.Native.Nat.{ℕ, zero, suc, _<_}
-use native.Mathlib.Omega.{arith}
+use Prim.Native.Nat.{ℕ}
 use mathlib.Core.Path.{_≡_, refl, sym, ap, _∙_, subst}
-use mathlib.Core.Bool.{Bool, true, false, cond}
-use mathlib.Core.List.{List, [], _∷_, _++_, append-assoc, tail-eq-of-cons-eq}
-use mathlib.Core.Option.{Option, none, some, Option·some-inj}
+use mathlib.Core.List.{[], _∷_, _++_, append-assoc, tail-eq-of-cons-eq}
+use mathlib.Core.Option.{some, Option·some-inj}
 use lib.ListN.{getElem?}
-use Rattle.grammar_theory.specs.Grammar.{token, rule, action, Symbols, Kinds, Grammar, alternatives, Step, shift, act, Steps, Derives, empty, reading, acting, expanding}
-use Rattle.grammar_theory.specs.Machine.{Table, predicted, next, after}
+use Rattle.grammar_theory.specs.Grammar.{token, rule, action, Symbols, Kinds, Grammar, alternatives, Step, shift, act, Steps, Derives, reading, acting, expanding}
+use Rattle.grammar_theory.specs.Machine.{Table, predicted, after}
 use Rattle.grammar_theory.specs.LL1.{Facts}
 use Rattle.grammar_theory.specs.Claims.{Leaves, Any, Next}
 use Rattle.grammar_theory.proofs.Derivations.{derives-token, derives-action}

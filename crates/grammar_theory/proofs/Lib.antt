@@ -1,4 +1,6 @@
--- Theorems about LL(1) grammars, from their leaves up.
+-- Theorems about LL(1) grammars, from their leaves up; the examples first.
+pub mod Examples
+pub mod States
 pub mod Derivations
 pub mod Passed
 pub mod Prediction

@@ -3,12 +3,11 @@ use Prim.Native.Nat.{ℕ, zero, suc, _+_, _≤_, _<_}
 use native.Mathlib.Omega.{arith}
 use mathlib.Core.Path.{_≡_, refl, sym, ap, _∙_, subst}
 use mathlib.Core.Logic.{_⊎_, inl, inr}
-use mathlib.Core.Bool.{Bool, true, false, not, cond, false≢true}
-use mathlib.Core.List.{List, [], _∷_, _++_, List·Memᴰ, List·Memᴰ·head, List·Memᴰ·tail}
+use mathlib.Core.Bool.{Bool, true, false, false≢true}
+use mathlib.Core.List.{List, [], _∷_, List·Memᴰ, List·Memᴰ·head, List·Memᴰ·tail}
 use mathlib.Core.Option.{Option, none, some, Option·some-inj}
-use lib.Dec.{eqb, ltb, leb}
 use lib.ListN.{getD, getElem?, length}
-use Rattle.logic.specs.Search.{_and_, _or_, from, any, all}
+use Rattle.logic.specs.Search.{any}
 use Rattle.theory.proofs.Basics.Search.{and-left, and-right, none-some, all-true, from-intro}
 use Rattle.theory.proofs.Basics.Compare.{eqb-true, ltb-true, leb-true}
 use Rattle.grammar_theory.specs.Grammar.{rule, Symbols, Grammar, alternatives}

@@ -1,11 +1,10 @@
 -- Of a grammar that passes the test: what is derived begins as claimed, so that the table has the alternative of every derivation.
-use Prim.Native.Nat.{ℕ, zero, suc, _≤_, _<_}
-use native.Mathlib.Omega.{arith}
+use Prim.Native.Nat.{ℕ, _<_}
 use mathlib.Core.Path.{_≡_, refl, sym, ap, _∙_, subst}
 use mathlib.Core.Logic.{_⊎_, ⊎-elim, inl, inr}
-use mathlib.Core.Bool.{Bool, true, false, not, cond, false≢true}
-use mathlib.Core.List.{List, [], _∷_, _++_, tail-eq-of-cons-eq, List·Memᴰ}
-use mathlib.Core.Option.{Option, none, some, Option·some-inj}
+use mathlib.Core.Bool.{Bool, true, false}
+use mathlib.Core.List.{[], _∷_, _++_, tail-eq-of-cons-eq, List·Memᴰ}
+use mathlib.Core.Option.{some, Option·some-inj}
 use lib.Dec.{eqb, ltb}
 use lib.ListN.{getElem?, length}
 use Rattle.logic.specs.Search.{_and_, _or_, all}
@@ -15,7 +14,7 @@ use Rattle.grammar_theory.specs.Grammar.{token, rule, action, Symbols, K
 use Rattle.grammar_theory.specs.Machine.{Table, predicted, next}
 use Rattle.grammar_theory.specs.LL1.{Facts, nullable, first, follow, rank, vanish, begin, known, followed}
 use Rattle.grammar_theory.proofs.Derivations.{derives-nil, derives-token, derives-action, derives-rule}
-use Rattle.grammar_theory.proofs.Passed.{implies-true, mem-getElem, getElem-mem, FitsRule, FitsKind, Passed}
+use Rattle.grammar_theory.proofs.Passed.{implies-true, mem-getElem, getElem-mem, Passed}
 
 module _ (c : Facts) (k : ℕ) where
   pub begin-append : (xs ys : Symbols) (b : Bool) → begin c k (xs ++ ys) b ≡ begin c k xs (begin c k ys b)

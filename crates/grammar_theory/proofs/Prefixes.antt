@@ -3,22 +3,18 @@ use Prim.Native.Nat.{ℕ, zero, suc, _+_}
 use native.Mathlib.Omega.{arith}
 use mathlib.Core.Path.{_≡_, refl, sym, ap, _∙_, subst}
 use mathlib.Core.Bool.{Bool, true, false, cond, false≢true}
-use mathlib.Core.List.{List, [], _∷_, _++_, cons-ne-nil, head-eq-of-cons-eq, tail-eq-of-cons-eq}
-use mathlib.Core.Option.{Option, none, some}
-use lib.Dec.{eqb}
+use mathlib.Core.List.{[], _∷_, _++_, cons-ne-nil, head-eq-of-cons-eq, tail-eq-of-cons-eq}
+use mathlib.Core.Option.{some}
 use lib.ListN.{getElem?}
-use Rattle.theory.proofs.Basics.Compare.{eqb-intro}
 use Rattle.grammar_theory.specs.Grammar.{token, rule, action, Symbols, Kinds, Grammar, alternatives, Step, shift, act, Steps, Derives, empty, reading, acting, expanding}
-use Rattle.grammar_theory.specs.Machine.{Table, predicted, next, Move, finish, read, perform, expand, refuse, expandBy, move, State, Ending, accepted, stuck, unfinished, afterRead, afterPerform, afterExpand, moved, run}
+use Rattle.grammar_theory.specs.Machine.{Table, predicted, next, Move, finish, read, perform, expand, refuse, move, State, afterRead, afterPerform, afterExpand, moved, run}
 use Rattle.grammar_theory.specs.LL1.{Facts}
+use Rattle.grammar_theory.proofs.States.{at, run-read, run-perform, run-expand}
 use Rattle.grammar_theory.specs.Claims.{ended, leaving}
 use Rattle.grammar_theory.proofs.Passed.{mem-getElem, Passed}
 use Rattle.grammar_theory.proofs.Prediction.{Fitting, fitting-token, fitting-action, fitting-expand, derives-predicted}
 
 module _ {B : Type 0} (does : Step → B → B) (g : Grammar) (t : Table) where
-  abbrev at : Symbols → Kinds → B → B → Bool → State B
-  at ss left now certain e = record { stack = ss; left = left; now = now; certain = certain; eager = e }
-
   -- from a state with these kinds to be read, some moves lead to another one, whatever comes behind them
   pub record Leads (ss : Symbols) (read : Kinds) (now certain : B) (e : Bool) : Type 0 where
     pub moves : ℕ
@@ -47,23 +43,6 @@ module _ {B : Type 0} (does : Step → B → B) (g : Grammar) (t : Table) where
             ap (λ (x : ℕ). run does g t x (at ss (front ++ rest) now certain e)) z ∙ one rest (l .moves + m) ∙ l .same rest m;
       }
 
-  run-read : (n k : ℕ) (ss : Symbols) (left : Kinds) (now certain : B) (e : Bool) →
-      run does g t (suc n) (at (token k ∷ ss) (k ∷ left) now certain e) ≡ run does g t n (at ss left (does (shift k) now) (does (shift k) now) true)
-  unfolding run move moved afterRead next
-  run-read n k ss left now certain e = rw (eqb-intro {m = k} {n = k} refl) refl
-
-  run-perform : (n a : ℕ) (ss : Symbols) (left : Kinds) (now certain : B) (e : Bool) →
-      run does g t (suc n) (at (action a ∷ ss) left now certain e) ≡ run does g t n (at ss left (does (act a) now) (cond e (does (act a) now) certain) e)
-  unfolding run move moved afterPerform
-  run-perform n a ss left now certain e = refl
-
-  run-expand : (n r : ℕ) (alternative ss : Symbols) (left : Kinds) (now certain : B) (e : Bool) →
-      getElem? (alternatives g r) (predicted t r (next left)) ≡ some alternative →
-      run does g t (suc n) (at (rule r ∷ ss) left now certain e) ≡ run does g t n (at (alternative ++ ss) left now certain false)
-  unfolding run move moved afterExpand expandBy
-  run-expand n r alternative ss left now certain e q =
-      ap (λ (o : Option Symbols). moved does (run does g t n) (at (rule r ∷ ss) left now certain e) (expandBy o)) q
-
   module _ {c : Facts} {start : ℕ} (p : Passed g t c start) where
     pub derives-leads : {ss : Symbols} {ks : Kinds} {steps : Steps} → Derives g ss ks steps → Fitting g t c ss →
         (front rest₀ : Kinds) (now certain : B) (e : Bool) → ks ≡ front ++ rest₀ → Leads ss front now certain e
@@ -74,12 +53,12 @@ module _ {B : Type 0} (does : Step → B → B) (g : Grammar) (t : Table) where
         let b : B = does (shift k) now in
         let on = derives-leads d (fitting-token f .2) front rest₀ b b true (tail-eq-of-cons-eq q) in
         subst (λ (x : ℕ). Leads (token x ∷ ss) (k ∷ front) now certain e) (sym (head-eq-of-cons-eq q))
-        (leads-move (token k ∷ ss) ss (k ∷ front) front now certain b b e true (λ rest n. run-read n k ss (front ++ rest) now certain e) on)
+        (leads-move (token k ∷ ss) ss (k ∷ front) front now certain b b e true (λ rest n. run-read does g t n k ss (front ++ rest) now certain e) on)
     derives-leads (acting {a = a} {ss = ss} d) f (k ∷ front) rest₀ now certain e q =
         let b : B = does (act a) now in
         let on = derives-leads d (fitting-action f) (k ∷ front) rest₀ b (cond e b certain) e q in
         leads-move (action a ∷ ss) ss (k ∷ front) (k ∷ front) now certain b (cond e b certain) e e
-        (λ rest n. run-perform n a ss (k ∷ front ++ rest) now certain e) on
+        (λ rest n. run-perform does g t n a ss (k ∷ front ++ rest) now certain e) on
     derives-leads (expanding {r = r} {ss = ss} alternative m d) f (k ∷ front) rest₀ now certain e q =
         let i = mem-getElem m in
         let at-next = ap next q in
@@ -87,7 +66,7 @@ module _ {B : Type 0} (does : Step → B → B) (g : Grammar) (t : Table) where
         ap (λ (x : ℕ). getElem? (alternatives g r) (predicted t r x)) (sym at-next) ∙ ap (getElem? (alternatives g r)) (derives-predicted p r (i .0) alternative ss (i .1) d f) ∙ i .1 in
         let on = derives-leads d (fitting-expand p r alternative ss m f) (k ∷ front) rest₀ now certain false q in
         leads-move (rule r ∷ ss) (alternative ++ ss) (k ∷ front) (k ∷ front) now certain now certain e false
-        (λ rest n. run-expand n r alternative ss (k ∷ (front ++ rest)) now certain e taken) on
+        (λ rest n. run-expand does g t n r alternative ss (k ∷ (front ++ rest)) now certain e taken) on
 
   -- more moves change nothing
   pub run-more : (n m : ℕ) (s : State B) → ended (run does g t n s) ≡ true → run does g t (n + m) s ≡ run does g t n s

@@ -1,10 +1,9 @@
 -- From every known symbol of a grammar that passes the test something is derived.
-use Prim.Native.Nat.{ℕ, zero, suc, _+_, _≤_, _<_}
+use Prim.Native.Nat.{ℕ, zero, suc, _<_}
 use native.Mathlib.Omega.{arith}
-use mathlib.Core.Path.{_≡_, refl, sym, ap, _∙_, subst}
-use mathlib.Core.Bool.{Bool, true, false}
-use mathlib.Core.List.{List, [], _∷_, _++_, append-nil}
-use Rattle.logic.specs.Search.{_and_, any}
+use mathlib.Core.Path.{_≡_, sym, subst}
+use mathlib.Core.Bool.{true}
+use mathlib.Core.List.{[], _∷_, _++_, append-nil}
 use Rattle.theory.proofs.Basics.Search.{and-left, and-right, any-true}
 use Rattle.theory.proofs.Basics.Compare.{ltb-true}
 use Rattle.grammar_theory.specs.Grammar.{token, rule, action, Symbols, Kinds, Grammar, alternatives, shift, act, Steps, Derives, empty, reading, acting, expanding}

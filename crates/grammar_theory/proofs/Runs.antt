@@ -1,23 +1,24 @@
 -- What a run of the machine says of the symbols and the kinds that it began with.
-use Prim.Native.Nat.{ℕ, zero, suc, _<_}
+use Prim.Native.Nat.{ℕ, zero, suc}
 use native.Mathlib.Omega.{arith}
 use mathlib.Core.Path.{_≡_, refl, sym, ap, _∙_, subst}
-use mathlib.Core.Logic.{_⊎_, ⊎-elim, inl, inr}
+use mathlib.Core.Logic.{⊎-elim}
 use mathlib.Core.Bool.{Bool, true, false, cond}
-use mathlib.Core.List.{List, [], _∷_, _++_, tail, append-nil, append-assoc}
+use mathlib.Core.List.{[], _∷_, _++_, append-nil, append-assoc}
 use mathlib.Core.Option.{Option, none, some}
-use lib.Dec.{eqb, ltb}
+use lib.Dec.{eqb}
 use lib.ListN.{getElem?}
-use Rattle.logic.specs.Search.{_and_, all}
+use Rattle.logic.specs.Search.{all}
 use Rattle.theory.proofs.Basics.Search.{bool-cases, and-left, and-right, true-false, none-some}
 use Rattle.theory.proofs.Basics.Compare.{eqb-true, eqb-intro, ltb-true}
 use Rattle.grammar_theory.specs.Grammar.{token, rule, action, Symbols, Kinds, Grammar, alternatives, Step, shift, act, Steps, Derives, empty}
-use Rattle.grammar_theory.specs.Machine.{Table, predicted, next, Move, finish, read, perform, expand, refuse, expandBy, move, State, Ending, accepted, stuck, unfinished, afterRead, afterPerform, afterExpand, moved, run, after}
+use Rattle.grammar_theory.specs.Machine.{Table, predicted, next, finish, read, refuse, expandBy, move, State, Ending, accepted, stuck, unfinished, afterRead, afterPerform, afterExpand, moved, run, after}
 use Rattle.grammar_theory.specs.LL1.{Facts}
+use Rattle.grammar_theory.proofs.States.{at}
 use Rattle.grammar_theory.specs.Claims.{plain, Any, Next, Leaves, waiting}
 use Rattle.grammar_theory.proofs.Derivations.{derives-nil, derives-token}
 use Rattle.grammar_theory.proofs.Passed.{option-cases, getElem-mem, Passed}
-use Rattle.grammar_theory.proofs.Prediction.{Fitting, fitting-token, fitting-action, fitting-rule, fitting-expand, derives-taken}
+use Rattle.grammar_theory.proofs.Prediction.{Fitting, fitting-token, fitting-action, fitting-expand, derives-taken}
 use Rattle.grammar_theory.proofs.Leaves.{leaves-refl, leaves-trans, leaves-token, leaves-action, leaves-rule, after-append}
 
 -- nothing that begins with kind k is derived from these symbols
@@ -83,9 +84,6 @@ module _ (g : Grammar) (t : Table) (c : Facts) {B : Type 0} (does : Step → B �
   Said (accepted b) = (steps : Steps) × Derives g from-symbols from-kinds steps × (b ≡ after does steps b₀)
   Said (stuck left b) = Refusal left b
   Said unfinished = Unit
-
-  abbrev at : Symbols → Kinds → B → B → Bool → State B
-  at ss left now certain e = record { stack = ss; left = left; now = now; certain = certain; eager = e }
 
   -- a state where nothing that comes can be derived
   said-stuck : (s : State B) → Reached s → waiting (s .stack) ≡ true → Blocked g (s .stack) (next (s .left)) → Refusal (s .left) (s .certain)

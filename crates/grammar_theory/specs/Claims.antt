@@ -1,14 +1,14 @@
 -- What is claimed of the machine and a grammar that passes the LL(1) test.
-use Prim.Native.Nat.{ℕ, _+_}
+use Prim.Native.Nat.{ℕ, _+_, _≤_}
 use mathlib.Core.Path.{_≡_}
 use mathlib.Core.Bool.{Bool, true, false}
-use mathlib.Core.List.{List, [], _∷_, _++_}
+use mathlib.Core.List.{[], _∷_, _++_}
 use lib.Dec.{ltb}
 use lib.ListN.{length}
 use Rattle.logic.specs.Search.{all}
 use Rattle.grammar_theory.specs.Grammar.{token, rule, action, Symbols, Kinds, Grammar, Step, Steps, Derives, Text, Begins}
 use Rattle.grammar_theory.specs.Machine.{Table, next, State, Ending, accepted, stuck, unfinished, run, start, after}
-use Rattle.grammar_theory.specs.LL1.{Facts, ll1, parse}
+use Rattle.grammar_theory.specs.LL1.{Facts, ll1, moves, parse}
 
 -- no token is the end of the text
 unfoldable pub plain : Kinds → Bool
@@ -94,6 +94,9 @@ pub record Correct (g : Grammar) (t : Table) (c : Facts) (r : ℕ) : Type 1 wher
       (b′ : B) × (parse does g t c r (read ++ left) b ≡ stuck left b′)
   -- the machine ends
   pub parse-ended : {B : Type 0} (does : Step → B → B) (ks : Kinds) (b : B) → ended (parse does g t c r ks b) ≡ true
+  -- with the moves that are enough for more tokens it ends as it does
+  pub parse-more : {B : Type 0} (does : Step → B → B) (ks : Kinds) (b : B) (n : ℕ) → length ks ≤ n →
+      run does g t (moves c r n) (start r ks b) ≡ parse does g t c r ks b
   -- its moves up to the last of some tokens that begin a text are the same, whatever comes behind them
   pub run-prefix : {B : Type 0} (does : Step → B → B) (read : Kinds) (b : B) → Begins g r read →
       (n : ℕ) × (s : State B) × ((rest : Kinds) (m : ℕ) → run does g t (n + m) (start r (read ++ rest) b) ≡ run does g t m (leaving rest s))

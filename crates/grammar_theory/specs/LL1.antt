@@ -1,11 +1,11 @@
 -- The LL(1) test: a finite computation on a grammar, a table and claimed facts about the rules. The facts need not be the least ones.
-use Prim.Native.Nat.{ℕ, zero, suc, _+_, _*_, _^_, _/_, _%_, max}
-use mathlib.Core.Bool.{Bool, true, false, not, cond}
+use Prim.Native.Nat.{ℕ, suc, _+_, _*_, _^_, _/_, _%_, max}
+use mathlib.Core.Bool.{Bool, true, false, cond}
 use mathlib.Core.List.{List, [], _∷_}
 use lib.Dec.{eqb, ltb, leb}
 use lib.ListN.{getD, length}
 use Rattle.logic.specs.Search.{_and_, _or_, from, any, all}
-use Rattle.grammar_theory.specs.Grammar.{Symbol, token, rule, action, Symbols, Kinds, Grammar, Step}
+use Rattle.grammar_theory.specs.Grammar.{token, rule, action, Symbols, Kinds, Grammar, Step}
 use Rattle.grammar_theory.specs.Machine.{Table, predicted, Ending, run, start}
 
 -- What is claimed. A set of rules is a number, bit r of which is 1 for a rule r in it.

@@ -3,3 +3,4 @@ pub mod Grammar
 pub mod Machine
 pub mod LL1
 pub mod Claims
+pub mod Examples

@@ -3,10 +3,10 @@
 use Prim.Native.Nat.{ℕ, zero, suc}
 use mathlib.Core.Bool.{Bool, true, false, cond}
 use mathlib.Core.List.{List, [], _∷_, _++_, tail}
-use mathlib.Core.Option.{Option, none, some, Option·elim}
+use mathlib.Core.Option.{Option, none, some}
 use lib.Dec.{eqb}
 use lib.ListN.{getD, getElem?}
-use Rattle.grammar_theory.specs.Grammar.{Symbol, token, rule, action, Symbols, Kinds, Grammar, alternatives, Step, shift, act, Steps}
+use Rattle.grammar_theory.specs.Grammar.{token, rule, action, Symbols, Kinds, Grammar, alternatives, Step, shift, act, Steps}
 
 -- For each rule, and each kind: the number of the alternative that is taken before a token of that kind, counted from 0.
 abbrev pub Table : Type 0
