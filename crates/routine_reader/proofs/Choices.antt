@@ -77,7 +77,7 @@ all-agree = refl
 agree : (r k : ℕ) → r < 42 → k < 45 → agreesAt r k ≡ true
 agree r k h l =
     let of-rule : all (agreesAt r) (from 45 0) ≡ true =
-      all-true (λ (r : ℕ). all (agreesAt r) (from 45 0)) r all-agree (from-intro 42 0 r (omega arith) (omega arith)) in
+    all-true (λ (r : ℕ). all (agreesAt r) (from 45 0)) r all-agree (from-intro 42 0 r (omega arith) (omega arith)) in
     all-true (agreesAt r) k of-rule (from-intro 45 0 k (omega arith) (omega arith))
 
 agrees-none : (o : Option Symbols) → agrees o 0 ≡ true → o ≡ none

@@ -16,11 +16,11 @@ use Rattle.routine_tokens.specs.declared.Token.{Token}
 use Rattle.routine_tokens.specs.Tokens.{isWordByte, wordLength, separators, rowOf, rowLength, reservedKind, digitKind, wordKind, signTable}
 use Rattle.routine_tokens.specs.Tokens.{tokenOf, wordOf, signOf, tokenAt, tokenBehind, tokenIn, tokenFrom, tokensBehind, tokensIn}
 
--- A token has a kind below 45; one that is no end and no odd byte is not empty and stands among the bytes.
+-- A token has a kind below 45; one that is not the end stands among the bytes, and one that is a word or a sign ends behind the place.
 pub record Sound (t : Token) (at room : ℕ) : Type 0 where
   pub below : t .kind < 45
   pub behind : 2 ≤ t .kind → at < t .end
-  pub inside : 2 ≤ t .kind → 0 < room
+  pub inside : 1 ≤ t .kind → 0 < room
 
 reserved-below : (row : ℕ) → reservedKind row < 45
 unfolding reservedKind
@@ -61,7 +61,7 @@ sign-sound at row b bs =
       behind = λ k. omega (arith, sign-holds row l);
       inside = λ k. omega arith;
     }))
-    (λ h. rw h (record { below = omega arith; behind = λ k. absurd (omega arith); inside = λ k. absurd (omega arith) }))
+    (λ h. rw h (record { below = omega arith; behind = λ k. absurd (omega arith); inside = λ k. omega arith }))
     (bool-cases (ltb row 16))
 
 word-sound : (at size b : ℕ) (bs : List ℕ) → 0 < size → Sound (wordOf at size (b ∷ bs)) at (length (b ∷ bs))

@@ -107,16 +107,18 @@ module _ {text codes : List ℕ} {t : Token} {n : ℕ} where
   -- the machine is stuck before the next token
   halted : (g : Going text codes t (suc n)) → recognised text ≡ stuck (kindsOf (tokenFrom text (g .place) ∷ restOf text (g .place) (g .count))) 0 →
       (left : Kinds) × (recognised text ≡ stuck left 0) × Left text (t .start) left
-  halted g h =
-      (kindsOf (tokenFrom text (g .place) ∷ restOf text (g .place) (g .count)), h,
-      record {
-        read = g .read;
-        first = tokenFrom text (g .place);
-        rest = restOf text (g .place) (g .count);
-        split = g .split;
-        kinds = refl;
-        starts = ap (λ (u : Token). u .start) (sym (g .here));
-      })
+  halted g h = (
+    kindsOf (tokenFrom text (g .place) ∷ restOf text (g .place) (g .count)),
+    h,
+    record {
+      read = g .read;
+      first = tokenFrom text (g .place);
+      rest = restOf text (g .place) (g .count);
+      split = g .split;
+      kinds = refl;
+      starts = ap (λ (u : Token). u .start) (sym (g .here));
+    },
+  )
 
   kind-here : (g : Going text codes t (suc n)) → t .kind ≡ tokenFrom text (g .place) .kind
   kind-here g = ap (λ (u : Token). u .kind) (g .here)
@@ -144,7 +146,7 @@ module _ {text codes : List ℕ} {t : Token} {n c : ℕ} (g : Going text (c ∷ 
     more = omega (arith, no-end, kind-here g)
 
     counted : g .count ≡ suc (g .count - 1)
-    counted = omega (arith, g .enough, from-sound text (g .place) .inside more)
+    counted = omega (arith, g .enough, from-sound text (g .place) .inside (omega (arith, more)))
 
     next-rest : restOf text (g .place) (g .count) ≡ tokenFrom text (t .end) ∷ restOf text (t .end) (g .count - 1)
     next-rest =

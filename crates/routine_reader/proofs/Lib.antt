@@ -3,3 +3,4 @@ pub mod Choices
 pub mod Coming
 pub mod Moves
 pub mod Going
+pub mod Claims

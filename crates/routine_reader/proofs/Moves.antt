@@ -88,11 +88,11 @@ module _ (t : Token) (rest : List Token) where
   next-kind z =
       ⊎-elim
       (λ (h : eqb (t .kind) 0 ≡ true). let k : t .kind ≡ 0 = eqb-true _ _ h in
-        ap (λ (ts : List Token). next (kindsOf (t ∷ ts))) (z (omega arith)) ∙ (rw h (sym k)))
+      ap (λ (ts : List Token). next (kindsOf (t ∷ ts))) (z (omega arith)) ∙ (rw h (sym k)))
       (λ h. rw h refl)
       (bool-cases (eqb (t .kind) 0))
 
-  kinds-more : 2 ≤ t .kind → kindsOf (t ∷ rest) ≡ t .kind ∷ kindsOf rest
+  pub kinds-more : 2 ≤ t .kind → kindsOf (t ∷ rest) ≡ t .kind ∷ kindsOf rest
   unfolding kindsOf select
   kinds-more h = rw (ne-eqb (t .kind) 0 (λ (k : t .kind ≡ 0). omega arith)) refl
 
@@ -120,7 +120,9 @@ module _ (n : ℕ) (codes : List ℕ) (t : Token) (rest : List Token) (e : Bool)
     unfolding moved move symbolsOf afterPerform nothing reading
     move-action h = by-move n (c ∷ codes) t rest e (perform (c - 128)) (rw (is-action h) refl) ∙ plain e
       where
-        plain : (b : Bool) → run nothing grammar predictions n (record { stack = symbolsOf codes; left = kindsOf (t ∷ rest); now = 0; certain = cond b 0 0; eager = b }) ≡ run nothing grammar predictions n (state codes (t ∷ rest) b)
+        plain : (b : Bool) →
+            run nothing grammar predictions n (record { stack = symbolsOf codes; left = kindsOf (t ∷ rest); now = 0; certain = cond b 0 0; eager = b })
+            ≡ run nothing grammar predictions n (state codes (t ∷ rest) b)
         plain true = refl
         plain false = refl
 

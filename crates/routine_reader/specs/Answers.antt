@@ -4,7 +4,7 @@ use mathlib.Core.Path.{_≡_}
 use mathlib.Core.List.{List, [], _∷_, _++_}
 use lib.ListN.{length}
 use Rattle.grammar_theory.specs.Grammar.{Step, Kinds}
-use Rattle.grammar_theory.specs.Machine.{Ending, accepted, stuck, unfinished, run, start}
+use Rattle.grammar_theory.specs.Machine.{Ending, accepted, stuck, run, start}
 use Rattle.grammar_theory.specs.LL1.{moves}
 use Rattle.routine_tokens.specs.declared.Token.{Token}
 use Rattle.routine_tokens.specs.Tokens.{tokens}
@@ -30,9 +30,10 @@ pub record Left (text : List ℕ) (place : ℕ) (left : Kinds) : Type 0 where
   pub kinds : kindsOf (first ∷ rest) ≡ left
   pub starts : first .start ≡ place
 
--- The text is read; or its token at this place is the first that no text has there; or the array, that long, is too short for the stack.
+-- The text is read; or its token at this place is the first that no text has there; or the array, that long, is too short for the stack. The moves are
+-- always enough.
 abbrev pub EndsAs : Ended → List ℕ → ℕ → Type 0
 EndsAs ended.Accepted text room = recognised text ≡ accepted 0
 EndsAs (ended.Stuck place) text room = (left : Kinds) × (recognised text ≡ stuck left 0) × Left text place left
-EndsAs ended.Unfinished text room = recognised text ≡ unfinished
+EndsAs ended.Unfinished text room = ⊥
 EndsAs ended.Full text room = room < 15 * moves facts 0 (length text) + 17

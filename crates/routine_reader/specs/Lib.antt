@@ -2,3 +2,4 @@
 pub mod Rows
 pub mod Stack
 pub mod Answers
+pub mod Claims

@@ -37,11 +37,11 @@ push-row-spec =
     (λ c. c .before .before .before .loop .inv .2)
     -- returns
     (λ c. let l = c .before .before .before .loop in
-         let j = c .before .before .before .before .before .args .j in
-         let e = row-number j (l .i) (c .before .before .loop-test .taken) ∙ sym (c .before .row-number .ensures) in
-         let w = row-length j (c .before .before .before .before .before .pre .0) in
-         let h = pushed-zero (row j) (stackOf (l .stack) (l .to)) (l .i) _ (omega (arith, w, c .before .before .loop-test .taken)) e (c .if1 .taken) in
-         (h ∙ l .inv .3, omega (arith, l .inv), l .inv .2))
+    let j = c .before .before .before .before .before .args .j in
+    let e = row-number j (l .i) (c .before .before .loop-test .taken) ∙ sym (c .before .row-number .ensures) in
+    let w = row-length j (c .before .before .before .before .before .pre .0) in
+    let h = pushed-zero (row j) (stackOf (l .stack) (l .to)) (l .i) _ (omega (arith, w, c .before .before .loop-test .taken)) e (c .if1 .taken) in
+    (h ∙ l .inv .3, omega (arith, l .inv), l .inv .2))
     -- slice-write-stack
     (λ c. omega (arith, c .before .before .before .loop .inv, c .before .before .before .before .before .pre))
     -- add-to
@@ -52,17 +52,17 @@ push-row-spec =
     (λ c. omega arith)
     -- loop-again
     (λ c. let l = c .before .before .before .loop in
-         let j = c .before .before .before .before .before .args .j in
-         let e = row-number j (l .i) (c .before .before .loop-test .taken) ∙ sym (c .before .row-number .ensures) in
-         let w = row-length j (c .before .before .before .before .before .pre .0) in
-         let h = pushed-next (row j) (stackOf (l .stack) (l .to)) (l .i) _ (omega (arith, w, c .before .before .loop-test .taken)) e (c .if1 .left) in
-         let p = stack-push (l .stack) (l .to) (c .before .row-number .result) (omega (arith, l .inv, c .before .before .before .before .before .pre)) in
-         (omega arith, omega arith, simp length-set (l .inv .2), ap (pushed (drop (l .i + 1) (row j))) p ∙ h ∙ l .inv .3))
+    let j = c .before .before .before .before .before .args .j in
+    let e = row-number j (l .i) (c .before .before .loop-test .taken) ∙ sym (c .before .row-number .ensures) in
+    let w = row-length j (c .before .before .before .before .before .pre .0) in
+    let h = pushed-next (row j) (stackOf (l .stack) (l .to)) (l .i) _ (omega (arith, w, c .before .before .loop-test .taken)) e (c .if1 .left) in
+    let p = stack-push (l .stack) (l .to) (c .before .row-number .result) (omega (arith, l .inv, c .before .before .before .before .before .pre)) in
+    (omega arith, omega arith, simp length-set (l .inv .2), ap (pushed (drop (l .i + 1) (row j))) p ∙ h ∙ l .inv .3))
     -- same-length-2
     (λ c. c .before .loop .inv .2)
     -- returns-2
     (λ c. let l = c .before .loop in
-         let j = c .before .before .before .args .j in
-         let w = row-length j (c .before .before .before .pre .0) in
-         let h = pushed-end (row j) (stackOf (l .stack) (l .to)) (l .i) (omega (arith, w, c .loop-test .left)) in
-         (h ∙ l .inv .3, omega (arith, l .inv), l .inv .2)))
+    let j = c .before .before .before .args .j in
+    let w = row-length j (c .before .before .before .pre .0) in
+    let h = pushed-end (row j) (stackOf (l .stack) (l .to)) (l .i) (omega (arith, w, c .loop-test .left)) in
+    (h ∙ l .inv .3, omega (arith, l .inv), l .inv .2)))
