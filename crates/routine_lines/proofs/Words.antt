@@ -7,7 +7,7 @@ use Rattle.routine_text.specs.Builder.{Fault}
 use Rattle.routine_lines.specs.declared.FaultWord.{FaultWord}
 use Rattle.routine_lines.specs.declared.FaultWord.the-variants as word
 use Rattle.routine_lines.specs.Words.{wordOf}
-use Rattle.routine_lines.specs.Lines.{faultWord, faultText}
+use Rattle.routine_lines.specs.Lines.{faultWord, placeText, faultText}
 
 module _ {w : FaultWord} where
   pub word-text : w ≡ word.Text → ascii "text" ≡ faultWord (wordOf w)
@@ -26,7 +26,11 @@ module _ {w : FaultWord} where
   unfolding faultWord wordOf
   word-limit e = rw e refl
 
+pub place-words : (line column : ℕ) → decimal line ++ (ascii ":" ++ decimal column) ≡ placeText line column
+unfolding placeText
+place-words line column = refl
+
 pub fault-words : (line column : ℕ) (f : Fault) →
-    ascii "fault " ++ (decimal line ++ (ascii ":" ++ (decimal column ++ (ascii " " ++ (faultWord f ++ ascii "\n"))))) ≡ faultText line column f
+    ascii "fault " ++ (placeText line column ++ (ascii " " ++ (faultWord f ++ ascii "\n"))) ≡ faultText line column f
 unfolding faultText
 fault-words line column f = refl

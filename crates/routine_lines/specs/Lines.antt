@@ -52,9 +52,11 @@ faultWord forallFault = ascii "forall"
 faultWord limitFault = ascii "limit"
 
 -- "one line, `fault L:C WORD`"
+unfoldable pub placeText : ℕ → ℕ → List ℕ
+placeText line column = decimal line ++ (ascii ":" ++ decimal column)
+
 unfoldable pub faultText : ℕ → ℕ → Fault → List ℕ
-faultText line column f =
-    ascii "fault " ++ (decimal line ++ (ascii ":" ++ (decimal column ++ (ascii " " ++ (faultWord f ++ ascii "\n")))))
+faultText line column f = ascii "fault " ++ (placeText line column ++ (ascii " " ++ (faultWord f ++ ascii "\n")))
 
 -- "Nothing stands between routines."
 unfoldable pub checksText : Reading → List ℕ

@@ -2,7 +2,7 @@
 ghost use Prim.Native.Nat.{_+_, _≤_};
 ghost use Rattle.text.specs.Text.{Writes};
 ghost use Rattle.routine_lines.specs.Words.{wordOf};
-ghost use Rattle.routine_lines.specs.Lines.{faultWord, faultText};
+ghost use Rattle.routine_lines.specs.Lines.{faultWord, placeText, faultText};
 
 // The word of a fault.
 pub enum FaultWord {
@@ -24,15 +24,23 @@ fn put_word(buffer: &mut [u8], at: usize, word: FaultWord) -> usize
     }
 }
 
+// A line and a column, counted from 1.
+fn put_place(buffer: &mut [u8], at: usize, line: usize, column: usize) -> usize
+    requires { ⌜ at ≤ 2000 ⌝ }
+    ensures { λ r. ⌜ Writes (now (buffer .entry)) at (placeText line column) (now (buffer .exit)) r × (r ≤ at + 41) ⌝ }
+{
+    let mut to = text::put_decimal(buffer, at, line);
+    to = text::put_byte(buffer, to, b':');
+    text::put_decimal(buffer, to, column)
+}
+
 // "one line, `fault L:C WORD`"
 pub fn put_fault(buffer: &mut [u8], at: usize, line: usize, column: usize, word: FaultWord) -> usize
-    requires { ⌜ (at ≤ 1000) × (line ≤ 10000) × (column ≤ 10000) ⌝ }
+    requires { ⌜ at ≤ 1000 ⌝ }
     ensures { λ r. ⌜ Writes (now (buffer .entry)) at (faultText line column (wordOf word)) (now (buffer .exit)) r × (r ≤ at + 60) ⌝ }
 {
     let mut to = text::put_bytes(buffer, at, b"fault ");
-    to = text::put_decimal(buffer, to, line);
-    to = text::put_byte(buffer, to, b':');
-    to = text::put_decimal(buffer, to, column);
+    to = put_place(buffer, to, line, column);
     to = text::put_byte(buffer, to, b' ');
     to = put_word(buffer, to, word);
     text::put_byte(buffer, to, b'\n')

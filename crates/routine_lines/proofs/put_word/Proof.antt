@@ -38,19 +38,19 @@ put-word-spec =
     (λ c. writes-length (c .before .before .put-bytes .ensures))
     -- returns
     (λ c. let w = c .before .before .put-bytes .ensures in
-         (writes-as (word-text (c .before .before .before .before .before .enum-told .given .1)) w, omega (arith, w .ends)))
+    (writes-as (word-text (c .before .before .before .before .before .enum-told .given .1)) w, omega (arith, w .ends)))
     -- same-length-2
     (λ c. writes-length (c .before .before .put-bytes2 .ensures))
     -- returns-2
     (λ c. let w = c .before .before .put-bytes2 .ensures in
-         (writes-as (word-name (c .before .before .before .before .before .enum-told2 .given .1)) w, omega (arith, w .ends)))
+    (writes-as (word-name (c .before .before .before .before .before .enum-told2 .given .1)) w, omega (arith, w .ends)))
     -- same-length-3
     (λ c. writes-length (c .before .before .put-bytes3 .ensures))
     -- returns-3
     (λ c. let w = c .before .before .put-bytes3 .ensures in
-         (writes-as (word-forall (c .before .before .before .before .before .enum-told3 .given .1)) w, omega (arith, w .ends)))
+    (writes-as (word-forall (c .before .before .before .before .before .enum-told3 .given .1)) w, omega (arith, w .ends)))
     -- same-length-4
     (λ c. writes-length (c .before .before .put-bytes4 .ensures))
     -- returns-4
     (λ c. let w = c .before .before .put-bytes4 .ensures in
-         (writes-as (word-limit (c .before .before .before .before .before .enum-told4 .given .1)) w, omega (arith, w .ends))))
+    (writes-as (word-limit (c .before .before .before .before .before .enum-told4 .given .1)) w, omega (arith, w .ends))))
