@@ -1,7 +1,7 @@
 // The machine that reads a routine's text: a stack of symbols in a lent array, and the grammar as numbers.
 ghost use mathlib.Core.Path.{_≡_};
 ghost use Prim.Native.Nat.{_+_, _*_, _≤_, _<_};
-ghost use lib.ListN.{length, getD};
+ghost use lib.ListN.{length};
 ghost use Rattle.routine_reader.specs.Rows.{rows, choices, row, choice};
 ghost use Rattle.routine_reader.specs.Stack.{stackOf, pushed};
 ghost use Rattle.routine_reader.specs.Answers.{EndsAs};
@@ -3420,40 +3420,26 @@ fn wide(x: u8) -> usize
     x as usize
 }
 
-fn row_number(i: usize) -> u8
-    requires { ⌜ i < 1504 ⌝ }
-    ensures { λ r. ⌜ r ≡ getD rows i 0 ⌝ }
-{
-    ROWS[i]
-}
-
-fn choice_number(i: usize) -> u8
-    requires { ⌜ i < 1890 ⌝ }
-    ensures { λ r. ⌜ r ≡ getD choices i 0 ⌝ }
-{
-    CHOICES[i]
-}
-
 // One more than the number of the alternative that a rule has before a token of this kind, or 0.
-fn choice(rule: usize, kind: usize) -> usize
-    requires { ⌜ kind < 45 ⌝ }
+fn choice(table: &[u8; 1890], rule: usize, kind: usize) -> usize
+    requires { ⌜ (kind < 45) × (now table ≡ choices) ⌝ }
     ensures { λ r. ⌜ r ≡ choice rule kind ⌝ }
 {
     if rule < 42 {
-        return wide(choice_number(45 * rule + kind));
+        return wide(table[45 * rule + kind]);
     }
     0
 }
 
 // The symbols of an alternative are pushed, the last one first.
-fn push_row(stack: &mut [u8], height: usize, j: usize) -> usize
-    requires { ⌜ (j < 94) × (height + 16 ≤ length (now stack)) ⌝ }
+fn push_row(stack: &mut [u8], height: usize, table: &[u8; 1504], j: usize) -> usize
+    requires { ⌜ (j < 94) × (height + 16 ≤ length (now stack)) × (now table ≡ rows) ⌝ }
     ensures { λ r. ⌜ (stackOf (now (stack .exit)) r ≡ pushed (row j) (stackOf (now (stack .entry)) height)) × (r ≤ height + 16) × (length (now (stack .exit)) ≡ length (now (stack .entry))) ⌝ }
 {
     let mut to = height;
     let mut i: usize = 0;
     while i < 16 {
-        let c = row_number(16 * j + i);
+        let c = table[16 * j + i];
         if c < 2 {
             return to;
         }
@@ -3472,6 +3458,8 @@ pub fn recognise(text: &[u8], stack: &mut [u8]) -> Ended
     if stack.len() < 17 {
         return Ended::Full;
     }
+    let rows = ROWS;
+    let choices = CHOICES;
     stack[0] = 64;
     let mut height: usize = 1;
     let mut t = routine_tokens::next_token(text, 0);
@@ -3496,14 +3484,14 @@ pub fn recognise(text: &[u8], stack: &mut [u8]) -> Ended
         if 128 <= top {
             continue;
         }
-        let j = choice(top - 64, t.kind);
+        let j = choice(&choices, top - 64, t.kind);
         if j == 0 {
             return Ended::Stuck(t.start);
         }
         if stack.len() < height + 16 {
             return Ended::Full;
         }
-        height = push_row(stack, height, j - 1);
+        height = push_row(stack, height, &rows, j - 1);
     }
     Ended::Unfinished
 }

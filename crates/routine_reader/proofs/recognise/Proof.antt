@@ -3,9 +3,8 @@ use Prim.Native.Nat.{ℕ, _+_, _*_, _-_, _≤_}
 use native.Mathlib.Omega.{arith}
 use borrow.Author.Needs.{needs}
 use mathlib.Core.Path.{_≡_, refl, sym, ap, _∙_}
-use lib.ListN.{length, drop}
-use lib.ListN.{length-set}
-use mathlib.Core.List.{List}
+use lib.ListN.{length, length-set}
+use Rattle.routine_reader.specs.Rows.{rows, choices}
 use Rattle.routine_reader.specs.Stack.{stackOf}
 use Rattle.routine_reader.proofs.Claims.{recogniser-claims}
 use Rattle.routine_reader.proofs.Going.{Going, moves-are, one-more, going-same, going-first, going-empty, going-top, going-suc, going-out, going-below, going-accepted}
@@ -14,11 +13,11 @@ use Rattle.routine_reader.proofs.recognise.Statement.{statement}
 use Rattle.routine_reader.proofs.recognise.Tie as tie
 
 abbrev Inv-loop : tie.InvT-loop
-Inv-loop text stack₀ height₀ t₀ left₀ stack height t left =
+Inv-loop text stack₀ rows choices height₀ t₀ left₀ stack height t left =
     (height ≤ length stack) × (height + 15 * left ≤ 15 * (25 + 25 * length text) + 1) × (length stack ≡ length stack₀) × Going text (stackOf stack height) t left
 
 abbrev μ-loop : tie.MeasureT-loop
-μ-loop text stack₀ height₀ t₀ left₀ stack height t left = left
+μ-loop text stack₀ rows choices height₀ t₀ left₀ stack height t left = left
 
 pub recognise-spec : {M : Type 1} → statement M
 recognise-spec =
@@ -101,56 +100,57 @@ recognise-spec =
     let top = going-top (p .stack) (p .height) g above (c .before .before .wide .ensures) in
     (omega (arith, l .0), omega (arith, l .1, left, above), l .2, going-action top (c .if6 .taken)))
     -- choice-requires
-    (λ c κs. let l = c .before .before .before .before .before .before .loop .inv in going-below (going-suc (l .3) (c .before .before .before .before .before .loop-test .taken)))
+    (λ c κs. let l = c .before .before .before .before .before .before .before .loop .inv in
+    (going-below (going-suc (l .3) (c .before .before .before .before .before .before .loop-test .taken)), unfold choices in refl))
     -- same-length-4
-    (λ c. let s = c .before .before .before .before .before .before .before .before .before .before .before .before .before .args .stack .now in
-    c .before .before .before .before .before .before .before .before .loop .inv .2 ∙ length-set s 0 64)
-    -- returns-5
-    (λ c. let p = c .before .before .before .before .before .before .before .before .loop in
-    let l = p .inv in
-    let left = c .before .before .before .before .before .before .before .loop-test .taken in
-    let g = going-suc (l .3) left in
-    let above = c .before .before .before .before .before .before .if2 .left in
-    let top = going-top (p .stack) (p .height) g above (c .before .before .before .before .wide .ensures) in
-    let o = sym (c .before .choice .ensures) ∙ c .if7 .taken in
-    going-none top (c .before .before .before .if4 .left) (c .before .before .if6 .left) o)
-    -- add-if8
-    (λ c. let l = c .before .before .before .before .before .before .before .before .loop .inv .1 in
-    omega (arith, l, c .before .before .before .before .before .before .before .before .before .before .before .before .before .pre))
-    -- same-length-5
     (λ c. let s = c .before .before .before .before .before .before .before .before .before .before .before .before .before .before .args .stack .now in
     c .before .before .before .before .before .before .before .before .before .loop .inv .2 ∙ length-set s 0 64)
+    -- returns-5
+    (λ c. let p = c .before .before .before .before .before .before .before .before .before .loop in
+    let l = p .inv in
+    let left = c .before .before .before .before .before .before .before .before .loop-test .taken in
+    let g = going-suc (l .3) left in
+    let above = c .before .before .before .before .before .before .before .if2 .left in
+    let top = going-top (p .stack) (p .height) g above (c .before .before .before .before .before .wide .ensures) in
+    let o = sym (c .before .choice .ensures) ∙ c .if7 .taken in
+    going-none top (c .before .before .before .before .if4 .left) (c .before .before .before .if6 .left) o)
+    -- add-if8
+    (λ c. let l = c .before .before .before .before .before .before .before .before .before .loop .inv .1 in
+    omega (arith, l, c .before .before .before .before .before .before .before .before .before .before .before .before .before .before .pre))
+    -- same-length-5
+    (λ c. let s = c .before .before .before .before .before .before .before .before .before .before .before .before .before .before .before .args .stack .now in
+    c .before .before .before .before .before .before .before .before .before .before .loop .inv .2 ∙ length-set s 0 64)
     -- returns-6
-    (λ c. let s = c .before .before .before .before .before .before .before .before .before .before .before .before .before .before .args in
-    let l = c .before .before .before .before .before .before .before .before .before .loop .inv in
+    (λ c. let s = c .before .before .before .before .before .before .before .before .before .before .before .before .before .before .before .args in
+    let l = c .before .before .before .before .before .before .before .before .before .before .loop .inv in
     let e = length-set (s .stack .now) 0 64 in
     let short = c .if8 .taken in
-    omega (arith, short, l .1, l .2, e, c .before .before .before .before .before .before .before .if2 .left, moves-are (length (s .text .now))))
+    omega (arith, short, l .1, l .2, e, c .before .before .before .before .before .before .before .before .if2 .left, moves-are (length (s .text .now))))
     -- sub-push-row
-    (λ c. omega (arith, c .before .before .if7 .left))
+    (λ c. omega (arith, c .before .before .before .if7 .left))
     -- push-row-requires
-    (λ c κs. let p = c .before .before .before .before .before .before .before .before .before .before .loop in
+    (λ c κs. let p = c .before .before .before .before .before .before .before .before .before .before .before .before .loop in
     let l = p .inv in
-    let left = c .before .before .before .before .before .before .before .before .before .loop-test .taken in
+    let left = c .before .before .before .before .before .before .before .before .before .before .before .loop-test .taken in
     let g = going-suc (l .3) left in
-    let above = c .before .before .before .before .before .before .before .before .if2 .left in
-    let top = going-top (p .stack) (p .height) g above (c .before .before .before .before .before .before .wide .ensures) in
-    let o = sym (c .before .before .before .choice .ensures) ∙ one-more (c .before .before .if7 .left) in
-    let j = going-below-94 top (c .before .before .before .before .before .if4 .left) (c .before .before .before .before .if6 .left) _ o in
-    (j, omega (arith, c .before .if8 .left)))
+    let above = c .before .before .before .before .before .before .before .before .before .before .if2 .left in
+    let top = going-top (p .stack) (p .height) g above (c .before .before .before .before .before .before .before .before .wide .ensures) in
+    let o = sym (c .before .before .before .before .choice .ensures) ∙ one-more (c .before .before .before .if7 .left) in
+    let j = going-below-94 top (c .before .before .before .before .before .before .before .if4 .left) (c .before .before .before .before .before .before .if6 .left) _ o in
+    (j, omega (arith, c .before .before .if8 .left), unfold rows in refl))
     -- loop-less-3
     (λ c. omega arith)
     -- loop-again-3
-    (λ c. let p = c .before .before .before .before .before .before .before .before .before .before .before .before .before .loop in
+    (λ c. let p = c .before .before .before .before .before .before .before .before .before .before .before .before .before .before .before .loop in
     let l = p .inv in
-    let left = c .before .before .before .before .before .before .before .before .before .before .before .before .loop-test .taken in
+    let left = c .before .before .before .before .before .before .before .before .before .before .before .before .before .before .loop-test .taken in
     let g = going-suc (l .3) left in
-    let above = c .before .before .before .before .before .before .before .before .before .before .before .if2 .left in
-    let top = going-top (p .stack) (p .height) g above (c .before .before .before .before .before .before .before .before .before .wide .ensures) in
-    let o = sym (c .before .before .before .before .before .before .choice .ensures) ∙ one-more (c .before .before .before .before .before .if7 .left) in
+    let above = c .before .before .before .before .before .before .before .before .before .before .before .before .before .if2 .left in
+    let top = going-top (p .stack) (p .height) g above (c .before .before .before .before .before .before .before .before .before .before .before .wide .ensures) in
+    let o = sym (c .before .before .before .before .before .before .before .choice .ensures) ∙ one-more (c .before .before .before .before .before .before .if7 .left) in
     let q = c .before .before .push-row .ensures in
-    let on = going-row top (c .before .before .before .before .before .before .before .before .if4 .left) (c .before .before .before .before .before .before .before .if6 .left) _ o in
-    (omega (arith, q .1, q .2, c .before .before .before .before .if8 .left), omega (arith, q .1, l .1, left, above), q .2 ∙ l .2, going-same on (q .0) refl))
+    let on = going-row top (c .before .before .before .before .before .before .before .before .before .before .if4 .left) (c .before .before .before .before .before .before .before .before .before .if6 .left) _ o in
+    (omega (arith, q .1, q .2, c .before .before .before .before .before .if8 .left), omega (arith, q .1, l .1, left, above), q .2 ∙ l .2, going-same on (q .0) refl))
     -- same-length-6
     (λ c. let s = c .before .before .before .before .before .before .args .stack .now in
     c .before .loop .inv .2 ∙ length-set s 0 64)
