@@ -3,8 +3,7 @@ use Prim.Native.Nat.{ℕ, _+_, _*_, _-_, _≤_}
 use native.Mathlib.Omega.{arith}
 use borrow.Author.Needs.{needs}
 use mathlib.Core.Path.{_≡_, refl, sym, ap, _∙_}
-use lib.ListN.{length, drop}
-use lib.ListN.{getD, length-set}
+use lib.ListN.{length, getD, drop, length-set}
 use mathlib.Core.List.{List}
 use Rattle.routine_reader.specs.Rows.{row}
 use Rattle.routine_reader.specs.Stack.{stackOf, pushed}

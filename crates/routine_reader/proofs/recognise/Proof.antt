@@ -149,7 +149,9 @@ recognise-spec =
     let top = going-top (p .stack) (p .height) g above (c .before .before .before .before .before .before .before .before .before .before .before .wide .ensures) in
     let o = sym (c .before .before .before .before .before .before .before .choice .ensures) ∙ one-more (c .before .before .before .before .before .before .if7 .left) in
     let q = c .before .before .push-row .ensures in
-    let on = going-row top (c .before .before .before .before .before .before .before .before .before .before .if4 .left) (c .before .before .before .before .before .before .before .before .before .if6 .left) _ o in
+    let low = c .before .before .before .before .before .before .before .before .before .before .if4 .left in
+    let high = c .before .before .before .before .before .before .before .before .before .if6 .left in
+    let on = going-row top low high _ o in
     (omega (arith, q .1, q .2, c .before .before .before .before .before .if8 .left), omega (arith, q .1, l .1, left, above), q .2 ∙ l .2, going-same on (q .0) refl))
     -- same-length-6
     (λ c. let s = c .before .before .before .before .before .before .args .stack .now in
