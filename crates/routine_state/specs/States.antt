@@ -31,3 +31,7 @@ variableIn bytes x = cond (ltb 31 x) nullNode (nodeIn bytes (416 + x))
 
 abbrev pub stateIn : List ℕ → State
 stateIn bytes = record { size = nodeIn bytes 448; link = linkIn bytes; field = flagIn bytes; variable = variableIn bytes }
+
+-- the byte of a flag
+abbrev pub flagByte : Bool → ℕ
+flagByte b = cond b 1 0

@@ -1,10 +1,11 @@
 // A state as bytes: its nodes, links, flags and variables, and what is reached in it.
 ghost use mathlib.Core.Path.{_≡_};
 ghost use Prim.Native.Nat.{_+_, _*_, _≤_, _<_};
-ghost use lib.ListN.{getD};
+ghost use lib.ListN.{length, getD};
 ghost use Rattle.between_search.specs.Tests.{stepCount};
+ghost use Rattle.routine_logic.specs.State.{withVariable, withLink, withFlag};
 ghost use Rattle.routine_logic.specs.Formulas.{reachesBy, betweenBy};
-ghost use Rattle.routine_state.specs.States.{nodeIn, linkIn, flagIn, variableIn, stateIn};
+ghost use Rattle.routine_state.specs.States.{nodeIn, linkIn, flagIn, variableIn, stateIn, flagByte};
 
 fn wide(byte: u8) -> usize
     ensures { λ r. ⌜ (r ≡ byte) × (r ≤ 255) ⌝ }
@@ -105,4 +106,37 @@ pub fn between(state: &[u8], i: usize, x: usize, y: usize, z: usize) -> bool
     let middle = step_count(state, i, x, y);
     let last = step_count(state, i, x, z);
     ((middle < n) & (last < n)) & (middle <= last)
+}
+
+// Variable x is given node v.
+pub fn set_variable(state: &mut [u8], x: usize, v: usize)
+    requires { ⌜ (x ≤ 31) × (v ≤ 31) × (449 ≤ length (now state)) ⌝ }
+    ensures { λ _. ⌜ (length (now (state .exit)) ≡ length (now (state .entry))) × (stateIn (now (state .exit)) ≡ withVariable (stateIn (now (state .entry))) x v) ⌝ }
+{
+    state[416 + x] = v as u8;
+}
+
+// Link i of node v is made to lead to node w.
+pub fn set_link(state: &mut [u8], i: usize, v: usize, w: usize)
+    requires { ⌜ (i ≤ 3) × (v ≤ 31) × (w ≤ 31) × (449 ≤ length (now state)) ⌝ }
+    ensures { λ _. ⌜ (length (now (state .exit)) ≡ length (now (state .entry))) × (stateIn (now (state .exit)) ≡ withLink (stateIn (now (state .entry))) i v w) ⌝ }
+{
+    state[32 * i + v] = w as u8;
+}
+
+fn flag_byte(b: bool) -> u8
+    ensures { λ r. ⌜ r ≡ flagByte b ⌝ }
+{
+    if b {
+        return 1;
+    }
+    0
+}
+
+// Flag j of node v is set, or not.
+pub fn set_flag(state: &mut [u8], j: usize, v: usize, b: bool)
+    requires { ⌜ (j ≤ 8) × (v ≤ 31) × (449 ≤ length (now state)) ⌝ }
+    ensures { λ _. ⌜ (length (now (state .exit)) ≡ length (now (state .entry))) × (stateIn (now (state .exit)) ≡ withFlag (stateIn (now (state .entry))) j v b) ⌝ }
+{
+    state[128 + 32 * j + v] = flag_byte(b);
 }

@@ -10,7 +10,7 @@ use Rattle.routine_table.specs.Cells.{Table, mostParts, partCell}
 use Rattle.routine_table.specs.Formulas.{joinOf, formulaWithin, formulaAt, formulaBelow, formulaOf}
 
 -- what is asked only where a test holds
-cond-same : {A : Type 0} (b : Bool) (x y z : A) → (b ≡ true → x ≡ y) → cond b x z ≡ cond b y z
+pub cond-same : {A : Type 0} (b : Bool) (x y z : A) → (b ≡ true → x ≡ y) → cond b x z ≡ cond b y z
 cond-same true x y z h = h refl
 cond-same false x y z h = refl
 

@@ -1,2 +1,3 @@
 pub mod Formulas
+pub mod Codes
 pub mod Examples

@@ -38,16 +38,36 @@ simpleOf t s rest =
     (cond (eqb (statementCell t s 0) 9) (breakOut (placeOf t s) rest)
     end))))))))
 
--- The statements from s on and before e, a block or its end, followed at most so many times. 10 is `if`: its part, and the first statement of its
--- `else`; 11 is `while`: its part, its first invariant and how many it has. Blocks lie in each other: where they do not, the block ends.
+-- 10 is `if`: its part, the first statement of its `else`, and the one behind; 11 is `while`: its part, its first invariant and how many it has, and
+-- the one behind. Their blocks lie in the block around them, which ends at e: where they do not, that block ends.
+abbrev pub secondOf : Table → ℕ → ℕ
+secondOf t s = statementCell t s 3
+
+abbrev pub behind : Table → ℕ → ℕ
+behind t s = statementCell t s 5
+
+unfoldable pub splits : Table → ℕ → ℕ → Bool
+splits t s e = ltb s (secondOf t s) and leb (secondOf t s) (behind t s) and leb (behind t s) e
+
+unfoldable pub encloses : Table → ℕ → ℕ → Bool
+encloses t s e = ltb s (behind t s) and leb (behind t s) e
+
+unfoldable pub branchOf : Table → ℕ → Code → Code → Code → Code
+branchOf t s yes·code no·code rest = branch (placeOf t s) (formulaOf t (statementCell t s 2)) yes·code no·code rest
+
+unfoldable pub loopOf : Table → ℕ → Code → Code → Code
+loopOf t s body rest = loop (placeOf t s) (formulaOf t (statementCell t s 2)) (clausesOf t 3 (statementCell t s 4) (secondOf t s)) body rest
+
+-- the statements from s on and before e, followed at most so many times
 unfoldable pub codeWithin : Table → ℕ → ℕ → ℕ → Code
 codeWithin t zero s e = end
 codeWithin t (suc n) s e =
-    let branched : Code = branch (placeOf t s) (formulaOf t (statementCell t s 2)) (codeWithin t n (suc s) (statementCell t s 3)) (codeWithin t n (statementCell t s 3) (statementCell t s 5)) (codeWithin t n (statementCell t s 5) e) in
-    let looped : Code = loop (placeOf t s) (formulaOf t (statementCell t s 2)) (clausesOf t 3 (statementCell t s 4) (statementCell t s 3)) (codeWithin t n (suc s) (statementCell t s 5)) (codeWithin t n (statementCell t s 5) e) in
-    let split : Code = cond (ltb s (statementCell t s 3) and leb (statementCell t s 3) (statementCell t s 5) and leb (statementCell t s 5) e) branched end in
-    let round : Code = cond (ltb s (statementCell t s 5) and leb (statementCell t s 5) e) looped end in
+    let rest : Code = codeWithin t n (behind t s) e in
+    let branched : Code = branchOf t s (codeWithin t n (suc s) (secondOf t s)) (codeWithin t n (secondOf t s) (behind t s)) rest in
+    let looped : Code = loopOf t s (codeWithin t n (suc s) (behind t s)) rest in
     let simple : Code = simpleOf t s (codeWithin t n (suc s) e) in
+    let split : Code = cond (splits t s e) branched end in
+    let round : Code = cond (encloses t s e) looped end in
     cond (ltb s e) (cond (eqb (statementCell t s 0) 10) split (cond (eqb (statementCell t s 0) 11) round simple)) end
 
 -- each block is shorter than the one around it, so that its length is enough
@@ -56,6 +76,9 @@ codeOf t s e = codeWithin t (e - s) s e
 
 -- A routine: the line of that word, the place of its name in the text, its first statement and the one behind its last, its first clause and how many
 -- it has, its first variable and how many it has.
+abbrev pub clausesIn : Table → ℕ → ℕ → List Clause
+clausesIn t kind r = clausesOf t kind (routineCell t r 5) (routineCell t r 4)
+
 unfoldable pub routineOf : Table → ℕ → Routine
 routineOf t r =
-    record { line = routineCell t r 0; requires = clausesOf t 1 (routineCell t r 5) (routineCell t r 4); ensures = clausesOf t 2 (routineCell t r 5) (routineCell t r 4); body = codeOf t (routineCell t r 2) (routineCell t r 3) }
+    record { line = routineCell t r 0; requires = clausesIn t 1 r; ensures = clausesIn t 2 r; body = codeOf t (routineCell t r 2) (routineCell t r 3) }
