@@ -45,7 +45,8 @@ module _ (s : State) (e : Bound) (t : Table) (i k : ℕ) (kind : k ≡ partCell 
   unfolding holds atomOf
   atom-reaches n v w r h m a b q = q ∙ rw (is 4 h, m, a, b)
 
-  pub atom-between : (n v w u : ℕ) (r : Bool) → k ≡ 5 → n ≡ partCell t i 4 → v ≡ node s e (partTerm t i 1) → w ≡ node s e (partTerm t i 2) → u ≡ node s e (partTerm t i 3) → r ≡ betweenBy s n v w u → r ≡ holds s e (atomOf t i)
+  pub atom-between : (n v w u : ℕ) (r : Bool) → k ≡ 5 → n ≡ partCell t i 4 → v ≡ node s e (partTerm t i 1) → w ≡ node s e (partTerm t i 2) → u ≡ node s e (partTerm t i 3) → r ≡
+      betweenBy s n v w u → r ≡ holds s e (atomOf t i)
   unfolding holds atomOf
   atom-between n v w u r h m a b c q = q ∙ rw (is 5 h, m, a, b, c)
 
@@ -72,7 +73,15 @@ module _ (s : State) (e : Bound) (t : Table) (i k : ℕ) (kind : k ≡ partCell 
       other n a b = not-is n (λ m. ⊎-elim (λ l. absurd (omega (arith, m, l, a))) (λ l. absurd (omega (arith, m, l, b))) h)
 
       atom : joinOf t i first second ≡ atomOf t i
-      atom = rw (other 7 (omega arith) (omega arith), other 8 (omega arith) (omega arith), other 9 (omega arith) (omega arith), other 10 (omega arith) (omega arith), other 11 (omega arith) (omega arith), other 12 (omega arith) (omega arith))
+      atom = rw (
+        other 7 (omega arith) (omega arith),
+        other 8 (omega arith) (omega arith),
+        other 9 (omega arith) (omega arith),
+        other 10 (omega arith) (omega arith),
+        other 11
+            (omega arith) (omega arith),
+        other 12 (omega arith) (omega arith),
+      )
 
   pub part-negation : (a : Bool) → k ≡ 7 → a ≡ holds s e first → not a ≡ holds s e (formulaAt t i)
   unfolding holds joinOf

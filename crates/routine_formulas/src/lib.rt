@@ -21,7 +21,7 @@ fn bound_node(bound: &[u8], d: usize, i: usize) -> usize
 }
 
 // "( name | "NULL" )"
-fn base_node(base: usize, state: &[u8], bound: &[u8], d: usize) -> usize
+pub fn base_node(base: usize, state: &[u8], bound: &[u8], d: usize) -> usize
     ensures { λ r. ⌜ (r ≡ baseNode (stateIn (now (state .entry))) (boundIn (now (bound .entry)) d) (baseOf base)) × (r ≤ 31) ⌝ }
 {
     if base == 0 {

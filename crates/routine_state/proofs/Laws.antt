@@ -70,7 +70,8 @@ module _ (bytes : List ℕ) where
   unfolding reachesBy
   reaches-is i v w k n e h = rw (e, h)
 
-  pub between-is : (i x y z k m n : ℕ) → n ≡ nodeIn bytes 448 → k ≡ stepCount (linkIn bytes i) (nodeIn bytes 448) x y → m ≡ stepCount (linkIn bytes i) (nodeIn bytes 448) x z → (ltb k n && ltb m n) && leb k m ≡ betweenBy (stateIn bytes) i x y z
+  pub between-is : (i x y z k m n : ℕ) → n ≡ nodeIn bytes 448 → k ≡ stepCount (linkIn bytes i) (nodeIn bytes 448) x y → m ≡ stepCount (linkIn bytes i) (nodeIn bytes 448) x z →
+      (ltb k n && ltb m n) && leb k m ≡ betweenBy (stateIn bytes) i x y z
   unfolding betweenBy reachesBy
   between-is i x y z k m n e h l = rw (e, h, l) (ands _ _ _)
 

@@ -24,7 +24,8 @@ unfolding inRows
 rows-same most i v other a b h =
     cond-same (ltb most i) other _ _ (λ e. cond-same (ltb 31 v) other a b (λ f. h (ltb-false most i e) (ltb-false 31 v f)))
 
-state-same : (m n : ℕ) (k l : ℕ → ℕ → ℕ) (f g : ℕ → ℕ → Bool) (x y : ℕ → ℕ) → m ≡ n → k ≡ l → f ≡ g → x ≡ y → _≡_ {A = State} (record { size = m; link = k; field = f; variable = x }) (record { size = n; link = l; field = g; variable = y })
+state-same : (m n : ℕ) (k l : ℕ → ℕ → ℕ) (f g : ℕ → ℕ → Bool) (x y : ℕ → ℕ) → m ≡ n → k ≡ l → f ≡ g → x ≡ y → _≡_ {A = State} (record { size = m; link = k; field = f; variable = x })
+    (record { size = n; link = l; field = g; variable = y })
 state-same m n k l f g x y p q r s = λ i. record { size = p i; link = q i; field = r i; variable = s i }
 
 -- a place of a pair of numbers: it is the pair that is changed, or another place
@@ -74,7 +75,8 @@ module _ (bytes : List ℕ) where
     link-change : (i v w : ℕ) → i ≤ 3 → v ≤ 31 → w ≤ 31 → (j y : ℕ) → linkIn (set bytes (32 * i + v) w) j y ≡ changedAt (linkIn bytes) i v w j y
     unfolding linkIn
     link-change i v w a b c j y = at-other (linkIn bytes) i v j y w _
-        (λ h. row-here 3 j y 1 _ (omega (arith, a, h .0)) (omega (arith, b, h .1)) ∙ ap (nodeIn (set bytes (32 * i + v) w)) (place (h .0) (h .1)) ∙ stored-node (32 * i + v) w (omega (arith, a, b, long)) c)
+        (λ h. row-here 3 j y 1 _ (omega (arith, a, h .0)) (omega (arith, b, h .1)) ∙ ap (nodeIn (set bytes (32 * i + v) w)) (place (h .0) (h .1)) ∙ stored-node (32 * i + v) w
+        (omega (arith, a, b, long)) c)
         (λ n. rows-same 3 j y 1 _ _ (λ l k. ap (λ (x : ℕ). x % 32) (getD-set-other bytes (32 * i + v) (32 * j + y) w 0 (λ e. n (omega (arith, e, k, b), omega (arith, e, k, b))))))
       where
         place : j ≡ i → y ≡ v → 32 * j + y ≡ 32 * i + v
@@ -83,8 +85,10 @@ module _ (bytes : List ℕ) where
     flag-change : (i v : ℕ) (f : Bool) → i ≤ 8 → v ≤ 31 → (j y : ℕ) → flagIn (set bytes (128 + 32 * i + v) (flagByte f)) j y ≡ changedAt (flagIn bytes) i v f j y
     unfolding flagIn
     flag-change i v f a b j y = at-other (flagIn bytes) i v j y f _
-        (λ h. row-here 8 j y false _ (omega (arith, a, h .0)) (omega (arith, b, h .1)) ∙ ap (λ (p : ℕ). eqb (getD (set bytes (128 + 32 * i + v) (flagByte f)) p 0) 1) (place (h .0) (h .1)) ∙ ap (λ (x : ℕ). eqb x 1) (getD-set-same bytes (128 + 32 * i + v) (flagByte f) 0 (omega (arith, a, b, long))) ∙ flag-back f)
-        (λ n. rows-same 8 j y false _ _ (λ l k. ap (λ (x : ℕ). eqb x 1) (getD-set-other bytes (128 + 32 * i + v) (128 + 32 * j + y) (flagByte f) 0 (λ e. n (omega (arith, e, k, b), omega (arith, e, k, b))))))
+        (λ h. row-here 8 j y false _ (omega (arith, a, h .0)) (omega (arith, b, h .1)) ∙ ap (λ (p : ℕ). eqb (getD (set bytes (128 + 32 * i + v) (flagByte f)) p 0) 1)
+        (place (h .0) (h .1)) ∙ ap (λ (x : ℕ). eqb x 1) (getD-set-same bytes (128 + 32 * i + v) (flagByte f) 0 (omega (arith, a, b, long))) ∙ flag-back f)
+        (λ n. rows-same 8 j y false _ _ (λ l k. ap (λ (x : ℕ). eqb x 1)
+        (getD-set-other bytes (128 + 32 * i + v) (128 + 32 * j + y) (flagByte f) 0 (λ e. n (omega (arith, e, k, b), omega (arith, e, k, b))))))
       where
         place : j ≡ i → y ≡ v → 128 + 32 * j + y ≡ 128 + 32 * i + v
         place p q = omega (arith, p, q)

@@ -55,7 +55,8 @@ module _ (t : Table) where
     same-simple : s < e → simpleOf t s (codeWithin t m (suc s) e) ≡ simpleOf t s (codeWithin t n (suc s) e)
     same-simple l = ap (simpleOf t s) (alike (suc s) e (omega (arith, h, l)) (omega (arith, k, l)))
 
-    same-branch : splits t s e ≡ true → branchOf t s (codeWithin t m (suc s) (secondOf t s)) (codeWithin t m (secondOf t s) (behind t s)) (codeWithin t m (behind t s) e) ≡ branchOf t s (codeWithin t n (suc s) (secondOf t s)) (codeWithin t n (secondOf t s) (behind t s)) (codeWithin t n (behind t s) e)
+    same-branch : splits t s e ≡ true → branchOf t s (codeWithin t m (suc s) (secondOf t s)) (codeWithin t m (secondOf t s) (behind t s)) (codeWithin t m (behind t s) e) ≡ branchOf t s
+        (codeWithin t n (suc s) (secondOf t s)) (codeWithin t n (secondOf t s) (behind t s)) (codeWithin t n (behind t s) e)
     same-branch l =
         let a = splits-first t s e l in
         let b = splits-middle t s e l in
@@ -65,7 +66,8 @@ module _ (t : Table) where
         let rest = alike (behind t s) e (omega (arith, a, b, c, h)) (omega (arith, a, b, c, k)) in
         λ i. branchOf t s (first i) (second i) (rest i)
 
-    same-loop : encloses t s e ≡ true → loopOf t s (codeWithin t m (suc s) (behind t s)) (codeWithin t m (behind t s) e) ≡ loopOf t s (codeWithin t n (suc s) (behind t s)) (codeWithin t n (behind t s) e)
+    same-loop : encloses t s e ≡ true → loopOf t s (codeWithin t m (suc s) (behind t s)) (codeWithin t m (behind t s) e) ≡ loopOf t s (codeWithin t n (suc s) (behind t s))
+        (codeWithin t n (behind t s) e)
     same-loop l =
         let a = encloses-first t s e l in
         let b = encloses-last t s e l in

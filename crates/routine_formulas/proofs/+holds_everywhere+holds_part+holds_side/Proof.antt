@@ -13,7 +13,8 @@ use Rattle.routine_table.specs.Cells.{partCell}
 use Rattle.routine_table.specs.Formulas.{formulaBelow}
 use Rattle.routine_state.specs.States.{stateIn}
 use Rattle.routine_formulas.specs.Names.{boundIn, Kept}
-use Rattle.routine_formulas.proofs.Parts.{part-atom, part-negation, part-everywhere, part-joined, side-here, side-none, kept-refl, kept-trans, kept-truth, turn-truth, turn-kept, room-inside, room-more, all-nodes}
+use Rattle.routine_formulas.proofs.Parts.{part-atom, part-negation, part-everywhere, part-joined, side-here, side-none, kept-refl}
+use Rattle.routine_formulas.proofs.Parts.{kept-trans, kept-truth, turn-truth, turn-kept, room-inside, room-more, all-nodes}
 use borrow.Fn.Kinds.{In}
 use borrow.Fn.PlainCycle.{Measures, is, falls, and}
 use Rattle.routine_formulas.proofs.holds_everywhere.Reads as holds-everywhere
@@ -77,7 +78,8 @@ abbrev holds-everywhere-Inv-loop : holds-everywhere-lts.InvT-loop
 holds-everywhere-Inv-loop table state bound₀ d i end v₀ bound v =
     (1 ≤ v)
     × Kept bound₀ bound d
-    × (all (λ x. holds (stateIn state) (x ∷ boundIn bound₀ d) (formulaBelow table i (partCell table i 1))) (from (end - 1) 1) ≡ all (λ x. holds (stateIn state) (x ∷ boundIn bound₀ d) (formulaBelow table i (partCell table i 1))) (from (end - v) v))
+    × (all (λ x. holds (stateIn state) (x ∷ boundIn bound₀ d) (formulaBelow table i (partCell table i 1))) (from (end - 1) 1) ≡ all
+    (λ x. holds (stateIn state) (x ∷ boundIn bound₀ d) (formulaBelow table i (partCell table i 1))) (from (end - v) v))
 
 abbrev holds-everywhere-μ-loop : holds-everywhere-lts.MeasureT-loop
 holds-everywhere-μ-loop table state bound₀ d i end v₀ bound v = end - v
@@ -104,31 +106,63 @@ pub +holds-everywhere+holds-part+holds-side-spec : {M : Type 1} → statement M
     -- holds-everywhere-cast-bound
     (λ c. omega (arith, c .before .before .size-of .ensures .1, c .loop-test .taken))
     -- holds-everywhere-slice-write-bound
-    (λ c. room-inside (c .before .before .before .before .before .before .args .bound .now) (c .before .loop .bound) _ (c .before .before .before .before .before .before .args .i) (c .before .loop .inv .1 .same-length) (c .before .before .before .before .before .before .pre .1 .0))
+    (λ c.
+    let c6 = c .before .before .before .before .before .before in
+    room-inside (c6 .args .bound .now) (c .before .loop .bound) _ (c6 .args .i) (c .before .loop .inv .1 .same-length) (c6 .pre .1 .0))
     -- holds-everywhere-add-holds-side
-    (λ c. omega (arith, c .before .before .before .before .before .before .before .pre .1 .0))
+    (λ c.
+    let c7 = c .before .before .before .before .before .before .before in
+    omega (arith, c7 .pre .1 .0))
     -- holds-everywhere-holds-side-requires
-    (λ c κs. (omega arith, (room-more (c .before .before .before .before .before .before .before .args .bound .now) (c .before .before .loop .bound) _ (c .before .before .before .before .before .before .before .args .i) (c .before .before .loop .v) (c .before .before .loop .inv .1 .same-length) (c .before .before .before .before .before .before .before .pre .1 .0), c .before .before .before .before .before .before .before .pre .1 .1, omega arith)))
+    (λ c κs.
+    let c7 = c .before .before .before .before .before .before .before in (
+      omega arith,
+      (
+        room-more (c7 .args .bound .now) (c .before .before .loop .bound) _ (c7 .args .i) (c .before .before .loop .v) (c .before .before .loop .inv .1 .same-length)
+            (c7 .pre .1 .0),
+        c7 .pre .1 .1,
+        omega arith,
+      ),
+    ))
     -- holds-everywhere-same-length
-    (λ c. let small : c .before .before .before .before .before .before .loop .v ≤ 31 = omega (arith, c .before .before .before .before .before .before .before .size-of .ensures .1, c .before .before .before .before .before .loop-test .taken) in turn-kept _ _ _ (c .before .before .before .before .before .before .loop .inv .1) _ (room-inside (c .before .before .before .before .before .before .before .before .before .before .before .args .bound .now) (c .before .before .before .before .before .before .loop .bound) _ (c .before .before .before .before .before .before .before .before .before .before .before .args .i) (c .before .before .before .before .before .before .loop .inv .1 .same-length) (c .before .before .before .before .before .before .before .before .before .before .before .pre .1 .0)) small _ (c .before .before .before .holds-side .ensures .0) .same-length)
+    (λ c.
+    let c6 = c .before .before .before .before .before .before in
+    let c7 = c6 .before in
+    let c11 = c7 .before .before .before .before in
+    let small : c6 .loop .v ≤ 31 = omega (arith, c7 .size-of .ensures .1, c .before .before .before .before .before .loop-test .taken) in turn-kept _ _ _ (c6 .loop .inv .1) _
+    (room-inside (c11 .args .bound .now) (c6 .loop .bound) _ (c11 .args .i) (c6 .loop .inv .1 .same-length) (c11 .pre .1 .0)) small _
+    (c .before .before .before .holds-side .ensures .0) .same-length)
     -- holds-everywhere-returns
     (λ c.
-    let small : c .before .before .before .before .before .before .loop .v ≤ 31 = omega (arith, c .before .before .before .before .before .before .before .size-of .ensures .1, c .before .before .before .before .before .loop-test .taken) in
-    let inside = room-inside (c .before .before .before .before .before .before .before .before .before .before .before .args .bound .now) (c .before .before .before .before .before .before .loop .bound) _ (c .before .before .before .before .before .before .before .before .before .before .before .args .i) (c .before .before .before .before .before .before .loop .inv .1 .same-length) (c .before .before .before .before .before .before .before .before .before .before .before .pre .1 .0) in (
-      turn-kept _ _ _ (c .before .before .before .before .before .before .loop .inv .1) _ inside small _ (c .before .before .before .holds-side .ensures .0),
-      all-nodes _ _ _ _ (c .before .before .before .before .before .before .before .size-of .ensures .0) (c .before .before .before .before .before .before .loop .inv .2 ∙ all-fails _ _ _ (c .before .before .before .before .before .loop-test .taken) (sym (turn-truth _ _ _ (c .before .before .before .before .before .before .loop .inv .1) _ inside small _ _ _ (c .before .before .before .holds-side .ensures .1)) ∙ not-true _ (c .if1 .taken))),
+    let c3 = c .before .before .before in
+    let c5 = c3 .before .before in
+    let c6 = c5 .before in
+    let c7 = c6 .before in
+    let c11 = c7 .before .before .before .before in
+    let small : c6 .loop .v ≤ 31 = omega (arith, c7 .size-of .ensures .1, c5 .loop-test .taken) in
+    let inside = room-inside (c11 .args .bound .now) (c6 .loop .bound) _ (c11 .args .i) (c6 .loop .inv .1 .same-length) (c11 .pre .1 .0) in (
+      turn-kept _ _ _ (c6 .loop .inv .1) _ inside small _ (c3 .holds-side .ensures .0),
+      all-nodes _ _ _ _ (c7 .size-of .ensures .0) (c6 .loop .inv .2 ∙ all-fails _ _ _ (c5 .loop-test .taken)
+          (sym (turn-truth _ _ _ (c6 .loop .inv .1) _ inside small _ _ _ (c3 .holds-side .ensures .1)) ∙ not-true _ (c .if1 .taken))),
     ))
     -- holds-everywhere-add-v
-    (λ c. omega (arith, c .before .before .before .before .before .before .before .size-of .ensures .1, c .before .before .before .before .before .loop-test .taken))
+    (λ c.
+    let c7 = c .before .before .before .before .before .before .before in
+    omega (arith, c7 .size-of .ensures .1, c .before .before .before .before .before .loop-test .taken))
     -- holds-everywhere-loop-less
     (λ c. omega arith)
     -- holds-everywhere-loop-again
     (λ c.
-    let small : c .before .before .before .before .before .before .loop .v ≤ 31 = omega (arith, c .before .before .before .before .before .before .before .size-of .ensures .1, c .before .before .before .before .before .loop-test .taken) in
-    let inside = room-inside (c .before .before .before .before .before .before .before .before .before .before .before .args .bound .now) (c .before .before .before .before .before .before .loop .bound) _ (c .before .before .before .before .before .before .before .before .before .before .before .args .i) (c .before .before .before .before .before .before .loop .inv .1 .same-length) (c .before .before .before .before .before .before .before .before .before .before .before .pre .1 .0) in (
+    let c3 = c .before .before .before in
+    let c5 = c3 .before .before in
+    let c6 = c5 .before in
+    let c7 = c6 .before in
+    let c11 = c7 .before .before .before .before in
+    let small : c6 .loop .v ≤ 31 = omega (arith, c7 .size-of .ensures .1, c5 .loop-test .taken) in
+    let inside = room-inside (c11 .args .bound .now) (c6 .loop .bound) _ (c11 .args .i) (c6 .loop .inv .1 .same-length) (c11 .pre .1 .0) in (
       omega arith,
-      turn-kept _ _ _ (c .before .before .before .before .before .before .loop .inv .1) _ inside small _ (c .before .before .before .holds-side .ensures .0),
-      c .before .before .before .before .before .before .loop .inv .2 ∙ all-next _ _ _ (c .before .before .before .before .before .loop-test .taken) (sym (turn-truth _ _ _ (c .before .before .before .before .before .before .loop .inv .1) _ inside small _ _ _ (c .before .before .before .holds-side .ensures .1)) ∙ not-false _ (c .if1 .left)),
+      turn-kept _ _ _ (c6 .loop .inv .1) _ inside small _ (c3 .holds-side .ensures .0),
+      c6 .loop .inv .2 ∙ all-next _ _ _ (c5 .loop-test .taken) (sym (turn-truth _ _ _ (c6 .loop .inv .1) _ inside small _ _ _ (c3 .holds-side .ensures .1)) ∙ not-false _ (c .if1 .left)),
     ))
     -- holds-everywhere-same-length-2
     (λ c. c .before .loop .inv .1 .same-length)
@@ -152,40 +186,65 @@ pub +holds-everywhere+holds-part+holds-side-spec : {M : Type 1} → statement M
     -- holds-part-part-cell-requires
     (λ c κs. (omega (arith, c .before .before .before .pre .1 .1), omega arith))
     -- holds-part-holds-everywhere-requires
-    (λ c κs. (omega arith, c .before .before .before .before .before .before .pre .1))
+    (λ c κs.
+    let c6 = c .before .before .before .before .before .before in
+    (omega arith, c6 .pre .1))
     -- holds-part-same-length
     (λ c. c .before .before .holds-everywhere .ensures .0 .same-length)
     -- holds-part-returns
-    (λ c. (c .before .before .holds-everywhere .ensures .0, part-everywhere _ _ _ _ _ (c .before .before .before .before .before .part-cell .ensures .0) _ (c .before .before .before .before .if1 .taken) (c .before .before .holds-everywhere .ensures .1)))
+    (λ c. (
+      c .before .before .holds-everywhere .ensures .0,
+      part-everywhere _ _ _ _ _ (c .before .before .before .before .before .part-cell .ensures .0) _
+          (c .before .before .before .before .if1 .taken) (c .before .before .holds-everywhere .ensures .1),
+    ))
     -- holds-part-holds-atom-requires
-    (λ c κs. c .before .before .before .before .before .before .before .pre .1 .1)
+    (λ c κs.
+    let c7 = c .before .before .before .before .before .before .before in
+    c7 .pre .1 .1)
     -- holds-part-same-length-2
     (λ c. refl)
     -- holds-part-returns-2
     (λ c. (kept-refl _ _, part-atom _ _ _ _ _ (c .before .before .before .before .part-cell .ensures .0) _ (inl (c .before .before .if2 .taken)) (c .holds-atom .ensures)))
     -- holds-part-holds-atom-requires-2
-    (λ c κs. c .before .before .before .before .before .before .before .before .pre .1 .1)
+    (λ c κs.
+    let c8 = c .before .before .before .before .before .before .before .before in
+    c8 .pre .1 .1)
     -- holds-part-same-length-3
     (λ c. refl)
     -- holds-part-returns-3
     (λ c. (kept-refl _ _, part-atom _ _ _ _ _ (c .before .before .before .before .before .part-cell .ensures .0) _ (inr (c .before .before .if3 .taken)) (c .holds-atom2 .ensures)))
     -- holds-part-holds-side-requires
-    (λ c κs. (omega arith, (omega (arith, c .before .before .before .before .before .before .before .before .pre .1 .0), c .before .before .before .before .before .before .before .before .pre .1 .1, omega arith)))
+    (λ c κs.
+    let c8 = c .before .before .before .before .before .before .before .before in
+    (omega arith, (omega (arith, c8 .pre .1 .0), c8 .pre .1 .1, omega arith)))
     -- holds-part-same-length-4
     (λ c. c .before .before .before .holds-side .ensures .0 .same-length)
     -- holds-part-returns-4
-    (λ c. (c .before .before .before .holds-side .ensures .0, part-negation _ _ _ _ _ (c .before .before .before .before .before .before .before .before .part-cell .ensures .0) _ (c .if4 .taken) (c .before .before .before .holds-side .ensures .1)))
+    (λ c.
+    let c3 = c .before .before .before in
+    let c8 = c3 .before .before .before .before .before in
+    (c3 .holds-side .ensures .0, part-negation _ _ _ _ _ (c8 .part-cell .ensures .0) _ (c .if4 .taken) (c3 .holds-side .ensures .1)))
     -- holds-part-holds-side-requires-2
-    (λ c κs. (omega arith, (omega (arith, c .before .before .before .before .before .before .before .before .before .before .before .before .before .pre .1 .0, c .before .before .before .before .holds-side .ensures .0 .same-length), c .before .before .before .before .before .before .before .before .before .before .before .before .before .pre .1 .1, omega arith)))
+    (λ c κs.
+    let c13 = c .before .before .before .before .before .before .before .before .before .before .before .before .before in
+    (omega arith, (omega (arith, c13 .pre .1 .0, c .before .before .before .before .holds-side .ensures .0 .same-length), c13 .pre .1 .1, omega arith)))
     -- holds-part-joined-requires
     (λ c κs. search needs)
     -- holds-part-same-length-5
-    (λ c. c .before .before .before .holds-side2 .ensures .0 .same-length ∙ c .before .before .before .before .before .before .before .before .holds-side .ensures .0 .same-length)
+    (λ c.
+    let c8 = c .before .before .before .before .before .before .before .before in
+    c .before .before .before .holds-side2 .ensures .0 .same-length ∙ c8 .holds-side .ensures .0 .same-length)
     -- holds-part-returns-5
-    (λ c. (
-      kept-trans (c .before .before .before .before .before .before .before .before .holds-side .ensures .0) (c .before .before .before .holds-side2 .ensures .0),
-      part-joined _ _ _ _ _ (c .before .before .before .before .before .before .before .before .before .before .before .before .before .part-cell .ensures .0) _ _ _ (c .before .before .before .before .before .before .before .before .before .before .before .if2 .left) (c .before .before .before .before .before .before .before .before .before .before .if3 .left) (c .before .before .before .before .before .if4 .left) (c .before .before .before .before .before .before .before .before .before .before .before .before .if1 .left)
-          (c .before .before .before .before .before .before .before .before .holds-side .ensures .1) (kept-truth _ _ _ (c .before .before .before .before .before .before .before .before .holds-side .ensures .0) _ _ _ (c .before .before .before .holds-side2 .ensures .1)) (c .joined .ensures),
+    (λ c.
+    let c3 = c .before .before .before in
+    let c8 = c3 .before .before .before .before .before in
+    let c10 = c8 .before .before in
+    let c11 = c10 .before in
+    let c12 = c11 .before in
+    let c13 = c12 .before in (
+      kept-trans (c8 .holds-side .ensures .0) (c3 .holds-side2 .ensures .0),
+      part-joined _ _ _ _ _ (c13 .part-cell .ensures .0) _ _ _ (c11 .if2 .left) (c10 .if3 .left) (c .before .before .before .before .before .if4 .left) (c12 .if1 .left)
+          (c8 .holds-side .ensures .1) (kept-truth _ _ _ (c8 .holds-side .ensures .0) _ _ _ (c3 .holds-side2 .ensures .1)) (c .joined .ensures),
     ))
     )
     (λ t. holds-side-lts.spec (
@@ -197,13 +256,21 @@ pub +holds-everywhere+holds-part+holds-side-spec : {M : Type 1} → statement M
     (holds-side-at t)
     holds-side.Post
     -- holds-side-part-cell-requires
-    (λ c κs. (omega (arith, c .before .before .before .pre .1 .1), omega (arith, c .before .before .before .pre .1 .2)))
+    (λ c κs.
+    let c3 = c .before .before .before in
+    (omega (arith, c3 .pre .1 .1), omega (arith, c3 .pre .1 .2)))
     -- holds-side-holds-part-requires
-    (λ c κs. (omega (arith, c .before .if1 .taken), (omega (arith, c .before .before .before .before .before .before .pre .1 .0, c .before .if1 .taken), omega (arith, c .before .before .before .before .before .before .pre .1 .1, c .before .if1 .taken))))
+    (λ c κs.
+    let c6 = c .before .before .before .before .before .before in
+    (omega (arith, c .before .if1 .taken), (omega (arith, c6 .pre .1 .0, c .before .if1 .taken), omega (arith, c6 .pre .1 .1, c .before .if1 .taken))))
     -- holds-side-same-length
     (λ c. c .before .before .holds-part .ensures .0 .same-length)
     -- holds-side-returns
-    (λ c. (c .before .before .holds-part .ensures .0, side-here _ _ _ _ _ _ _ (c .before .before .before .before .before .part-cell .ensures .0) (c .before .before .before .before .if1 .taken) (c .before .before .holds-part .ensures .1)))
+    (λ c. (
+      c .before .before .holds-part .ensures .0,
+      side-here _ _ _ _ _ _ _ (c .before .before .before .before .before .part-cell .ensures .0)
+          (c .before .before .before .before .if1 .taken) (c .before .before .holds-part .ensures .1),
+    ))
     -- holds-side-returns-2
     (λ c. (kept-refl _ _, side-none _ _ _ _ _ _ (c .before .part-cell .ensures .0) (c .if1 .left)))
     )

@@ -16,26 +16,52 @@ holds-atom-spec =
     -- part-cell-requires-2
     (λ c κs. (omega (arith, c .before .before .before .before .before .pre), omega arith))
     -- part-node-requires
-    (λ c κs. (c .before .before .before .before .before .before .pre, omega arith))
+    (λ c κs.
+    let c6 = c .before .before .before .before .before .before in
+    (c6 .pre, omega arith))
     -- flag-of-requires
     (λ c κs. search needs)
     -- returns-2
-    (λ c. atom-flag _ _ _ _ _ (c .before .before .before .before .before .part-cell .ensures .0) _ _ _ (c .before .if2 .taken) (c .before .before .before .part-cell2 .ensures .0) (c .before .before .part-node .ensures .0) (c .flag-of .ensures))
+    (λ c. atom-flag _ _ _ _ _ (c .before .before .before .before .before .part-cell .ensures .0) _ _ _ (c .before .if2 .taken) (c .before .before .before .part-cell2 .ensures .0)
+    (c .before .before .part-node .ensures .0) (c .flag-of .ensures))
     -- part-node-requires-2
-    (λ c κs. (c .before .before .before .before .before .before .before .before .pre, omega arith))
+    (λ c κs.
+    let c8 = c .before .before .before .before .before .before .before .before in
+    (c8 .pre, omega arith))
     -- returns-3
-    (λ c. atom-equal _ _ _ _ _ (c .before .before .before .before .before .before .part-cell .ensures .0) _ _ (c .if3 .taken) (c .before .before .before .part-node .ensures .0) (c .before .part-node2 .ensures .0))
+    (λ c.
+    let c6 = c .before .before .before .before .before .before in
+    atom-equal _ _ _ _ _ (c6 .part-cell .ensures .0) _ _ (c .if3 .taken) (c .before .before .before .part-node .ensures .0) (c .before .part-node2 .ensures .0))
     -- returns-4
-    (λ c. atom-unequal _ _ _ _ _ (c .before .before .before .before .before .before .before .part-cell .ensures .0) _ _ (c .if4 .taken) (c .before .before .before .before .part-node .ensures .0) (c .before .before .part-node2 .ensures .0))
+    (λ c.
+    let c7 = c .before .before .before .before .before .before .before in
+    atom-unequal _ _ _ _ _ (c7 .part-cell .ensures .0) _ _ (c .if4 .taken) (c .before .before .before .before .part-node .ensures .0) (c .before .before .part-node2 .ensures .0))
     -- reaches-requires
     (λ c κs. search needs)
     -- returns-5
-    (λ c. atom-reaches _ _ _ _ _ (c .before .before .before .before .before .before .before .before .before .part-cell .ensures .0) _ _ _ _ (c .before .if5 .taken) (c .before .before .before .before .before .before .before .part-cell2 .ensures .0) (c .before .before .before .before .before .before .part-node .ensures .0) (c .before .before .before .before .part-node2 .ensures .0) (c .reaches .ensures))
+    (λ c.
+    let c6 = c .before .before .before .before .before .before in
+    let c7 = c6 .before in
+    let c9 = c7 .before .before in
+    atom-reaches _ _ _ _ _ (c9 .part-cell .ensures .0) _ _ _ _ (c .before .if5 .taken) (c7 .part-cell2 .ensures .0) (c6 .part-node .ensures .0)
+    (c .before .before .before .before .part-node2 .ensures .0) (c .reaches .ensures))
     -- part-node-requires-3
-    (λ c κs. (c .before .before .before .before .before .before .before .before .before .before .before .before .before .pre, omega arith))
+    (λ c κs.
+    let c13 = c .before .before .before .before .before .before .before .before .before .before .before .before .before in
+    (c13 .pre, omega arith))
     -- between-requires
     (λ c κs. search needs)
     -- returns-6
-    (λ c. atom-between _ _ _ _ _ (c .before .before .before .before .before .before .before .before .before .before .before .part-cell .ensures .0) _ _ _ _ _ (c .before .before .if6 .taken) (c .before .before .before .before .before .before .before .before .before .part-cell2 .ensures .0) (c .before .before .before .before .before .before .before .before .part-node .ensures .0) (c .before .before .before .before .before .before .part-node2 .ensures .0) (c .before .part-node3 .ensures .0) (c .between .ensures))
+    (λ c.
+    let c6 = c .before .before .before .before .before .before in
+    let c8 = c6 .before .before in
+    let c9 = c8 .before in
+    let c11 = c9 .before .before in
+    atom-between _ _ _ _ _ (c11 .part-cell .ensures .0) _ _ _ _ _ (c .before .before .if6 .taken) (c9 .part-cell2 .ensures .0) (c8 .part-node .ensures .0) (c6 .part-node2 .ensures .0)
+    (c .before .part-node3 .ensures .0) (c .between .ensures))
     -- returns-7
-    (λ c. atom-never _ _ _ _ _ (c .before .before .before .before .before .before .before .before .before .part-cell .ensures .0) (c .before .before .before .before .before .before .before .before .if1 .left) (c .before .before .before .before .before .if2 .left) (c .before .before .before .if3 .left) (c .before .before .if4 .left) (c .before .if5 .left) (c .if6 .left)))
+    (λ c.
+    let c8 = c .before .before .before .before .before .before .before .before in
+    let c9 = c8 .before in
+    atom-never _ _ _ _ _ (c9 .part-cell .ensures .0) (c8 .if1 .left) (c .before .before .before .before .before .if2 .left) (c .before .before .before .if3 .left)
+    (c .before .before .if4 .left) (c .before .if5 .left) (c .if6 .left)))

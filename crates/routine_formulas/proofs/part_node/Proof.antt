@@ -14,7 +14,9 @@ part-node-spec =
     tie.close
     (tie.spec
     -- part-cell-requires
-    (λ c κs. (omega (arith, c .before .before .before .pre .0), omega (arith, c .before .before .before .pre .1)))
+    (λ c κs.
+    let c3 = c .before .before .before in
+    (omega (arith, c3 .pre .0), omega (arith, c3 .pre .1)))
     -- term-node-requires
     (λ c κs. c .part-cell .ensures .1)
     -- returns

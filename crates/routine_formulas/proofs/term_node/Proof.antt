@@ -36,7 +36,9 @@ term-node-spec =
     -- cell-requires-2
     (λ c κs. search needs)
     -- returns
-    (λ c. (sym (c .before .before .before .loop .inv .1 ∙ follow-done _ _ _ _ _ (c .before .before .loop-test .taken) (c .before .cell2 .ensures .0) (c .if1 .taken)), c .before .before .before .loop .inv .0))
+    (λ c.
+    let c3 = c .before .before .before in
+    (sym (c3 .loop .inv .1 ∙ follow-done _ _ _ _ _ (c .before .before .loop-test .taken) (c .before .cell2 .ensures .0) (c .if1 .taken)), c3 .loop .inv .0))
     -- link-of-requires
     (λ c κs. search needs)
     -- add-at-2
@@ -44,6 +46,10 @@ term-node-spec =
     -- loop-less
     (λ c. omega arith)
     -- loop-again
-    (λ c. (c .link-of .ensures .1, c .before .before .before .before .loop .inv .1 ∙ follow-next _ _ _ _ _ _ (c .before .before .before .loop-test .taken) (c .before .before .cell2 .ensures .0) (c .before .if1 .left) (c .link-of .ensures .0)))
+    (λ c. (
+      c .link-of .ensures .1,
+      c .before .before .before .before .loop .inv .1 ∙ follow-next _ _ _ _ _ _ (c .before .before .before .loop-test .taken)
+          (c .before .before .cell2 .ensures .0) (c .before .if1 .left) (c .link-of .ensures .0),
+    ))
     -- returns-2
     (λ c. (sym (c .before .loop .inv .1 ∙ follow-end _ _ _ _ (c .loop-test .left)), c .before .loop .inv .0)))

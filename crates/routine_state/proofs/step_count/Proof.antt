@@ -26,7 +26,11 @@ step-count-spec =
     -- loop-holds
     (λ c. (omega arith, steps-begin _ _ _ _))
     -- returns
-    (λ c. (steps-whole _ _ _ _ _ _ (c .before .before .before .size-of .ensures .0) (c .before .before .loop .inv .1 ∙ steps-here _ _ _ _ _ (c .before .loop-test .taken) (c .if1 .taken)), omega (arith, c .before .before .before .size-of .ensures .1, c .before .loop-test .taken)))
+    (λ c.
+    let c3 = c .before .before .before in (
+      steps-whole _ _ _ _ _ _ (c3 .size-of .ensures .0) (c .before .before .loop .inv .1 ∙ steps-here _ _ _ _ _ (c .before .loop-test .taken) (c .if1 .taken)),
+      omega (arith, c3 .size-of .ensures .1, c .before .loop-test .taken),
+    ))
     -- link-of-requires
     (λ c κs. search needs)
     -- add-k
@@ -34,6 +38,13 @@ step-count-spec =
     -- loop-less
     (λ c. omega arith)
     -- loop-again
-    (λ c. (omega (arith, c .before .before .loop-test .taken), c .before .before .before .loop .inv .1 ∙ steps-next _ _ _ _ _ _ (c .before .before .loop-test .taken) (c .before .if1 .left) (c .link-of .ensures .0)))
+    (λ c. (
+      omega (arith, c .before .before .loop-test .taken),
+      c .before .before .before .loop .inv .1 ∙ steps-next _ _ _ _ _ _ (c .before .before .loop-test .taken)
+          (c .before .if1 .left) (c .link-of .ensures .0),
+    ))
     -- returns-2
-    (λ c. (steps-whole _ _ _ _ _ _ (c .before .before .size-of .ensures .0) (c .before .loop .inv .1 ∙ steps-end _ _ _ _ _ (c .loop-test .left) (c .before .loop .inv .0)), c .before .before .size-of .ensures .1)))
+    (λ c. (
+      steps-whole _ _ _ _ _ _ (c .before .before .size-of .ensures .0) (c .before .loop .inv .1 ∙ steps-end _ _ _ _ _ (c .loop-test .left) (c .before .loop .inv .0)),
+      c .before .before .size-of .ensures .1,
+    )))
