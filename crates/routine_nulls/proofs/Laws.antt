@@ -3,20 +3,34 @@ use Prim.Native.Nat.{ℕ, zero, suc, _+_, _≤_, _<_}
 use native.Mathlib.Numerals.{add-one}
 use borrow.Author.Tests.{eq-eqb, ne-eqb}
 use mathlib.Core.Path.{_≡_, refl, ap, sym, _∙_}
-use mathlib.Core.Bool.{Bool, cond}
+use mathlib.Core.Bool.{Bool, true, false, cond}
 use mathlib.Core.List.{List, [], _∷_, _++_}
 use mathlib.Core.Option.{Option, none, some}
 use lib.ListN.{length, take, drop, drop-of-length-le}
 use lib.Seq.{drop-cons}
 use lib.Dec.{eqb}
+use Rattle.logic.specs.Search.{orElse}
 use Rattle.routine_logic.specs.Syntax.{Base, Term}
-use Rattle.routine_logic.specs.State.{State}
+use Rattle.routine_logic.specs.State.{State, nullNode}
 use Rattle.routine_logic.specs.Formulas.{baseNode, follow, node}
 use Rattle.routine_logic.specs.Runs.{prefixes, dereferenced}
 use Rattle.routine_table.specs.Cells.{Table, cell, baseOf, linksOf, termOf}
 use Rattle.routine_formulas.specs.Names.{boundIn}
 use Rattle.routine_nulls.specs.declared.Null.{Null}
 use Rattle.routine_nulls.specs.Nulls.{firstNull, prefixOf, nullOf}
+
+cond-or : (b : Bool) (t : Term) (o q : Option Term) → cond b (some t) (orElse o q) ≡ orElse (cond b (some t) o) q
+unfolding orElse
+cond-or true t o q = refl
+cond-or false t o q = refl
+
+-- the first of some terms, or else of others: "an atom's terms from left to right"
+pub first-null-append : (s : State) (ts us : List Term) → firstNull s (ts ++ us) ≡ orElse (firstNull s ts) (firstNull s us)
+unfolding firstNull orElse
+first-null-append s [] us = refl
+first-null-append s (t ∷ ts) us =
+    ap (λ (o : Option Term). cond (eqb (node s [] t) nullNode) (some t) o) (first-null-append s ts us)
+    ∙ cond-or (eqb (node s [] t) nullNode) t (firstNull s ts) (firstNull s us)
 
 take-more : (xs : List ℕ) (k i : ℕ) (rest : List ℕ) → drop k xs ≡ i ∷ rest → take (suc k) xs ≡ take k xs ++ (i ∷ [])
 take-more [] zero i rest h = ap (take 1) h

@@ -34,7 +34,9 @@ null-in-spec =
     -- returns
     (λ c. null-done _ _ _ _ _ _ _ (c .before .before .before .loop .inv .0) (c .before .before .loop-test .taken) (c .before .cell2 .ensures .0) (c .if1 .taken))
     -- returns-2
-    (λ c. null-here _ _ _ _ _ _ _ (c .before .before .before .before .loop .inv .0) (c .before .before .before .loop-test .taken) (c .before .before .cell2 .ensures .0) (c .before .if1 .left) (c .if2 .taken))
+    (λ c.
+    let c2 = c .before .before in
+    null-here _ _ _ _ _ _ _ (c2 .before .before .loop .inv .0) (c2 .before .loop-test .taken) (c2 .cell2 .ensures .0) (c .before .if1 .left) (c .if2 .taken))
     -- link-of-requires
     (λ c κs. search needs)
     -- add-at-2
@@ -46,6 +48,9 @@ null-in-spec =
     -- loop-again
     (λ c.
     let c5 = c .before .before .before .before .before in
-    (at-next _ _ _ _ _ _ _ (c5 .loop .inv .0) (c .before .before .before .before .loop-test .taken) (c .before .before .before .cell2 .ensures .0) (c .before .before .if1 .left) _ (c .before .if2 .left) (c .link-of .ensures .0), omega (arith, c5 .loop .inv .1)))
+    let c3 = c .before .before .before in (
+      at-next _ _ _ _ _ _ _ (c5 .loop .inv .0) (c3 .before .loop-test .taken) (c3 .cell2 .ensures .0) (c .before .before .if1 .left) _ (c .before .if2 .left) (c .link-of .ensures .0),
+      omega (arith, c5 .loop .inv .1),
+    ))
     -- returns-3
     (λ c. null-end _ _ _ _ _ _ (c .before .loop .inv .0) (c .loop-test .left)))
