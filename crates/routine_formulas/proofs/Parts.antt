@@ -3,22 +3,21 @@ use Prim.Native.Nat.{ℕ, zero, suc, _+_, _-_, _%_, _≤_, _<_}
 use native.Mathlib.Numerals.{add-one}
 use native.Mathlib.Omega.{arith}
 use native.Mathlib.Decide.{ℕ-discrete}
-use borrow.Author.Tests.{eq-eqb, ne-eqb, lt-ltb, le-ltb}
-use mathlib.Core.Path.{_≡_, refl, ap, ap₂, sym, subst, _∙_}
+use borrow.Author.Tests.{ne-eqb}
+use mathlib.Core.Path.{_≡_, refl, ap, ap₂, sym, _∙_}
 use mathlib.Core.Logic.{_⊎_, ⊎-elim}
-use mathlib.Core.Bool.{Bool, true, false, not, cond, _&&_, _||_}
+use mathlib.Core.Bool.{Bool, true, false, not, _&&_, _||_}
 use mathlib.Core.List.{List, [], _∷_}
-use lib.ListN.{length, getD, set, drop, length-set}
+use lib.ListN.{length, set, drop, length-set}
 use lib.Seq.{getD-set-same, getD-set-other}
 use lib.Dec.{eqb}
 use Rattle.logic.specs.Search.{_and_, _or_, all, from}
-use Rattle.routine_logic.specs.Syntax.{Formula, always, never, forall}
+use Rattle.routine_logic.specs.Syntax.{Formula}
 use Rattle.routine_logic.specs.State.{State}
 use Rattle.routine_logic.specs.Formulas.{Bound, node, reachesBy, betweenBy, sameTruth, holds}
 use Rattle.routine_table.specs.Cells.{Table, partCell}
 use Rattle.routine_table.specs.Formulas.{partTerm, atomOf, joinOf, formulaAt, formulaBelow, formulaOf}
 use Rattle.routine_table.proofs.Formulas.{formula-at, below-here, below-none, formula-of}
-use Rattle.routine_state.specs.States.{nodeIn}
 use Rattle.routine_formulas.specs.Names.{boundIn, Kept, truthOf}
 
 module _ (s : State) (e : Bound) (t : Table) (i k : ℕ) (kind : k ≡ partCell t i 0) where

@@ -4,11 +4,9 @@ use native.Mathlib.Numerals.{add-one}
 use native.Mathlib.Omega.{arith}
 use borrow.Author.Tests.{eq-eqb, ne-eqb, lt-ltb, le-ltb}
 use mathlib.Core.Path.{_≡_, refl, ap, sym, _∙_}
-use mathlib.Core.Bool.{Bool, cond}
-use mathlib.Core.List.{List, [], _∷_}
+use mathlib.Core.List.{List}
 use lib.ListN.{length, getD, drop, drop-of-length-le, List·getD-eq-default}
 use lib.Seq.{drop-cons}
-use lib.Dec.{eqb}
 use Rattle.routine_logic.specs.State.{State}
 use Rattle.routine_logic.specs.Formulas.{Bound, baseNode, follow, node}
 use Rattle.routine_table.specs.Cells.{Table, cell, baseOf, linksOf, termOf}

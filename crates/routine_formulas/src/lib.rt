@@ -1,7 +1,7 @@
 // A formula of a table in a state.
 ghost use mathlib.Core.Path.{_≡_};
 ghost use mathlib.Core.List.{[], _∷_};
-ghost use Prim.Native.Nat.{ℕ, _+_, _*_, _≤_, _<_};
+ghost use Prim.Native.Nat.{_+_, _≤_, _<_};
 ghost use lib.ListN.{length, getD};
 ghost use Rattle.logic.specs.Search.{all, from};
 ghost use Rattle.routine_logic.specs.Formulas.{baseNode, node, holds};

@@ -5,12 +5,12 @@ use borrow.Author.Tests.{eq-eqb, ne-eqb}
 use mathlib.Core.Path.{_≡_, refl, ap, sym, _∙_}
 use mathlib.Core.Bool.{Bool, true, false, cond}
 use mathlib.Core.List.{List, [], _∷_, _++_}
-use mathlib.Core.Option.{Option, none, some}
+use mathlib.Core.Option.{Option, some}
 use lib.ListN.{length, take, drop, drop-of-length-le}
 use lib.Seq.{drop-cons}
 use lib.Dec.{eqb}
 use Rattle.logic.specs.Search.{orElse}
-use Rattle.routine_logic.specs.Syntax.{Base, Term}
+use Rattle.routine_logic.specs.Syntax.{Term}
 use Rattle.routine_logic.specs.State.{State, nullNode}
 use Rattle.routine_logic.specs.Formulas.{baseNode, follow, node}
 use Rattle.routine_logic.specs.Runs.{prefixes, dereferenced}

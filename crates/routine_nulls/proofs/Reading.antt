@@ -10,7 +10,7 @@ use Rattle.routine_logic.specs.Syntax.{Term, Place}
 use Rattle.routine_logic.specs.State.{State, nullNode}
 use Rattle.routine_logic.specs.Formulas.{node, sameTruth}
 use Rattle.routine_logic.specs.Runs.{Kind, Check, Events, canFail, checking, reading}
-use Rattle.routine_logic.specs.Shown.{sameCheck, ownLine, Given, Shown, shownIn}
+use Rattle.routine_logic.specs.Shown.{ownLine, Given, Shown, shownIn}
 use Rattle.routine_nulls.specs.Nulls.{firstNull, failedAt}
 
 and-true : (a : Bool) → a and true ≡ a

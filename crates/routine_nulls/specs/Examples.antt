@@ -2,7 +2,7 @@
 use Prim.Native.Nat.{ℕ}
 use mathlib.Core.Path.{_≡_}
 use mathlib.Core.List.{List, [], _∷_}
-use mathlib.Core.Option.{Option, none, some}
+use mathlib.Core.Option.{none, some}
 use Rattle.routine_logic.specs.Syntax.{Term, variable}
 use Rattle.routine_logic.specs.Runs.{dereferenced}
 use Rattle.routine_table.specs.Cells.{Table, termOf}

@@ -1,7 +1,7 @@
 -- A state worked by hand: NULL is node 1, and the list of nodes 2, 3, 4 ends in it.
 use Prim.Native.Nat.{ℕ}
 use mathlib.Core.Path.{_≡_}
-use mathlib.Core.Bool.{Bool, true, false}
+use mathlib.Core.Bool.{true, false}
 use mathlib.Core.List.{List, [], _∷_, _++_, map}
 use lib.ListN.{replicate}
 use Rattle.logic.specs.Search.{from}

@@ -9,7 +9,7 @@
 -- from 26,656   24,576 numbers   parts of formulas, 8 each: at most 3,072, since a `forall` of three names is three parts
 --
 -- What no text fills is 0, and so is what lies behind the end.
-use Prim.Native.Nat.{ℕ, suc, _+_, _*_, _-_}
+use Prim.Native.Nat.{ℕ, _+_, _*_, _-_}
 use mathlib.Core.Bool.{cond}
 use mathlib.Core.List.{List, [], _∷_}
 use lib.ListN.{getD, drop}

@@ -3,9 +3,8 @@ use Prim.Native.Nat.{ℕ, zero, suc, _-_}
 use mathlib.Core.Path.{_≡_}
 use mathlib.Core.Bool.{true}
 use mathlib.Core.List.{List, [], _∷_, _++_}
-use lib.ListN.{length, replicate}
-use Rattle.routine_logic.specs.Syntax.{Base, null, variable, bound, Term, Formula, always, never, equal, unequal, reaches, between, flag, negation, both, either, implies, same, forall, Place, Clause, Code, end, assign, assignLink, assignFlag, havoc, assume, branch, loop, leave, breakOut, Routine}
-use Rattle.routine_table.specs.Cells.{Table, termOf}
+use Rattle.routine_logic.specs.Syntax.{Base, null, variable, bound, Term, always, never, equal, unequal, reaches, between, flag, negation, both, either, implies, same, forall, Place, end, assign, assignLink, assignFlag, havoc, assume, branch, loop, leave, breakOut, Routine}
+use Rattle.routine_table.specs.Cells.{Table}
 use Rattle.routine_table.specs.Formulas.{formulaOf}
 use Rattle.routine_table.specs.Routines.{routineOf}
 

@@ -1,6 +1,4 @@
 -- By its kind. Assumes nothing.
-use native.Mathlib.Omega.{arith}
-use borrow.Author.Needs.{needs}
 use Rattle.routine_formulas.proofs.Parts.{truth-and, truth-or, truth-implies, truth-same}
 use Rattle.routine_formulas.proofs.joined.Statement.{statement}
 use Rattle.routine_formulas.proofs.joined.Tie as tie

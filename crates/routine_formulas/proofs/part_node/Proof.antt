@@ -1,10 +1,5 @@
 -- A term of the part. Assumes nothing.
 use native.Mathlib.Omega.{arith}
-use borrow.Author.Needs.{needs}
-use mathlib.Core.Path.{ap, _∙_}
-use Prim.Native.Nat.{ℕ}
-use Rattle.routine_logic.specs.Formulas.{node}
-use Rattle.routine_table.specs.Cells.{termOf}
 use Rattle.routine_formulas.proofs.Terms.{node-at-same}
 use Rattle.routine_formulas.proofs.part_node.Statement.{statement}
 use Rattle.routine_formulas.proofs.part_node.Tie as tie

@@ -1,8 +1,7 @@
 -- The walk is behind k links of the term. Assumes nothing.
-use Prim.Native.Nat.{_+_, _-_, _≤_}
+use Prim.Native.Nat.{_-_, _≤_}
 use native.Mathlib.Omega.{arith}
 use borrow.Author.Needs.{needs}
-use mathlib.Core.Path.{_≡_}
 use lib.ListN.{length}
 use Rattle.routine_state.specs.States.{stateIn}
 use Rattle.routine_nulls.proofs.Laws.{At, at-begin, at-next, null-done, null-here, null-end}

@@ -1,6 +1,5 @@
 -- One byte is stored. Assumes nothing.
 use native.Mathlib.Omega.{arith}
-use borrow.Author.Needs.{needs}
 use lib.ListN.{length-set}
 use Rattle.routine_state.proofs.Stores.{variable-stored}
 use Rattle.routine_state.proofs.set_variable.Statement.{statement}
