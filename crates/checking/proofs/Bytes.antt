@@ -29,7 +29,7 @@ use Rattle.theory.proofs.Paths.Invariant.{Invariant, start-invariant, branch-in
 use Rattle.checking.specs.Claims.{Bytes, AllBytes}
 use Rattle.checking.proofs.Numbers.{move-numbers}
 use Rattle.checking.proofs.Pairs.{InPairs, start-in, branch-in}
-use Rattle.checking.proofs.Trees.{rule-below}
+use Rattle.checking.proofs.Moves.{rule-below}
 
 bytes-append : {ls ms : List Line} → AllBytes ls → AllBytes ms → AllBytes (ls ++ ms)
 bytes-append {ls} b c l m = ⊎-elim (b l) (c l) (List·Memᴰ·append-cases ls m)

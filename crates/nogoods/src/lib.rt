@@ -232,17 +232,38 @@ pub fn of_clash(query: &[u8], layout: Layout, s: Facts, section: usize, i: usize
     Tried { found, facts: s }
 }
 
-// The facts of link k that lead from a to each number, over facts of a path: what was come from, by breadth-first search; 0 where nothing leads there.
-fn came_from(near: [u32; 17], a: usize) -> [u8; 17] {
-    let mut from = [0u8; 17];
-    let mut seen: u32 = 0;
-    let mut ahead: u32 = 0;
-    if a <= 16 {
-        ahead = rows::only(a);
-        seen = ahead;
+// A fact of link k is among the rows of all links.
+fn is_fact(rows: [u32; 51], k: usize, a: usize, b: usize) -> bool {
+    let at = row_place(k, a);
+    if at == 51 {
+        return false;
     }
-    let mut turn: usize = 0;
-    while turn < 17 {
+    if 16 < b {
+        return false;
+    }
+    rows::has(rows[at], b)
+}
+
+// Every number of a row is come to from a.
+fn come_from(from: [u8; 17], new: u32, a: u8) -> [u8; 17] {
+    let mut more = from;
+    for b in 0..17 {
+        if rows::has(new, b) {
+            more[b] = a;
+        }
+    }
+    more
+}
+
+// From where each number is come to on the shortest way from a, by facts of one link; 0 where nothing leads there.
+fn ways(near: [u32; 17], a: usize) -> [u8; 17] {
+    let mut from = [0u8; 17];
+    if 16 < a {
+        return from;
+    }
+    let mut ahead = rows::only(a);
+    let mut seen = ahead;
+    for turn in 0..17 {
         let Found::At(t) = rows::first(ahead) else {
             return from;
         };
@@ -250,56 +271,200 @@ fn came_from(near: [u32; 17], a: usize) -> [u8; 17] {
         if 16 < at {
             return from;
         }
-        ahead = rows::rest(ahead);
         let new = rows::without(near[at], seen);
         seen = seen | new;
-        ahead = ahead | new;
-        from = mark_from(from, new, at);
-        turn += 1;
+        ahead = rows::without(ahead, rows::only(at)) | new;
+        let more = come_from(from, new, at as u8);
+        from = more;
     }
     from
 }
 
-// Every number of a row was come to from `at`.
-fn mark_from(from: [u8; 17], new: u32, at: usize) -> [u8; 17] {
-    let mut more = from;
-    let mut b: usize = 0;
-    while b < 17 {
-        if rows::has(new, b) {
-            more[b] = (at & 31) as u8;
+// One fact of a path on a way: a reachability fact, or where there is none a link.
+fn with_step(small: Facts, path: Facts, k: usize, a: usize, b: usize) -> Facts {
+    let far = path.reach;
+    let rep = small.rep;
+    let link = small.link;
+    let reach = small.reach;
+    if is_fact(far, k, a, b) {
+        let more = with_fact(reach, k, a, b);
+        return Facts {
+            rep,
+            single: small.single,
+            link,
+            reach: more,
+        };
+    }
+    let more = with_fact(link, k, a, b);
+    Facts {
+        rep,
+        single: small.single,
+        link: more,
+        reach,
+    }
+}
+
+// The facts of a path on the way from a to b.
+fn with_way(small: Facts, path: Facts, from: [u8; 17], k: usize, a: usize, b: usize) -> Facts {
+    let mut more = small;
+    let mut to = b;
+    for turn in 0..17 {
+        if to == a {
+            return more;
         }
-        b += 1;
+        if 16 < to {
+            return more;
+        }
+        let near = rows::wide(from[to]);
+        let next = with_step(more, path, k, near, to);
+        more = next;
+        to = near;
     }
     more
 }
 
-// The facts of a path on the way to b, back to a: its reachability facts, and where there is none its links.
-fn way_back(small: Facts, path: Facts, from: [u8; 17], k: usize, a: usize, b: usize) -> Facts {
-    let mut link = small.link;
-    let mut reach = small.reach;
-    let far = path.reach;
-    let mut to = b;
-    let mut turn: usize = 0;
-    while turn < 17 {
-        if to == a {
-            turn = 16;
+// The facts of a path that lead from a to every number of a row, by link k.
+fn with_ways(small: Facts, path: Facts, k: usize, a: usize, row: u32) -> Facts {
+    let near = near_rows(path, k);
+    let from = ways(near, a);
+    let mut more = small;
+    for b in 0..17 {
+        if rows::has(row, b) {
+            let next = with_way(more, path, from, k, a, b);
+            more = next;
         }
-        if (to != a) & (to <= 16) {
-            let near = rows::wide(from[to]);
-            if is_fact(far, k, near, to) {
-                reach = with_fact(reach, k, near, to);
-            }
-            if !is_fact(far, k, near, to) {
-                link = with_fact(link, k, near, to);
-            }
-            to = near;
-        }
-        turn += 1;
     }
-    Facts {
-        rep: small.rep,
-        single: small.single,
+    more
+}
+
+// The facts of link k, links and reachability in one.
+fn near_rows(path: Facts, k: usize) -> [u32; 17] {
+    let mut near = [0u32; 17];
+    for a in 0..17 {
+        let at = row_place(k, a);
+        if at < 51 {
+            near[a] = path.link[at] | path.reach[at];
+        }
+    }
+    near
+}
+
+// The facts of a path whose closure has those of a nogood about link k.
+fn traced_link(small: Facts, path: Facts, nogood: Facts, k: usize) -> Facts {
+    let mut more = small;
+    for a in 0..17 {
+        let at = row_place(k, a);
+        if at < 51 {
+            let missing = rows::without(nogood.reach[at], path.reach[at] | rows::only(a));
+            if missing != 0 {
+                let next = with_ways(more, path, k, a, missing);
+                more = next;
+            }
+        }
+    }
+    more
+}
+
+// The facts of a path whose closure has those of a nogood.
+fn traced(path: Facts, nogood: Facts) -> Facts {
+    let wanted = nogood.reach;
+    let held = path.reach;
+    let reach = common(wanted, held);
+    let rep = nogood.rep;
+    let link = nogood.link;
+    let small = Facts {
+        rep,
+        single: path.single,
         link,
         reach,
+    };
+    let one = traced_link(small, path, nogood, 1);
+    if path.single {
+        return one;
     }
+    let two = traced_link(one, path, nogood, 2);
+    traced_link(two, path, nogood, 3)
+}
+
+// These facts, closed, hold the nogood, and the path holds them.
+fn explains(n: usize, small: Facts, path: Facts, nogood: Facts) -> bool
+    requires { ⌜ n ≤ 16 ⌝ }
+    ensures { λ r. ⌜ (r ≡ true → Covers (pathOf path) (pathOf small) × ((q : Query) → Nogood q (pathOf nogood) → Nogood q (pathOf small))) ⌝ }
+{
+    let closed = closing::close(small, n);
+    if !covering::covers(closed, nogood) {
+        return false;
+    }
+    covering::covers(path, small)
+}
+
+// A nogood of the closure of a path as one of the path.
+pub fn before_closing(n: usize, path: Facts, nogood: Facts) -> Tried
+    requires { ⌜ n ≤ 16 ⌝ }
+    ensures { λ r. ⌜ (r .found ≡ true → Covers (pathOf path) (pathOf (r .facts)) × ((q : Query) → Nogood q (pathOf nogood) → Nogood q (pathOf (r .facts)))) ⌝ }
+{
+    let small = traced(path, nogood);
+    if explains(n, small, path, nogood) {
+        return Tried {
+            found: true,
+            facts: small,
+        };
+    }
+    let found = explains(n, path, path, nogood);
+    Tried { found, facts: path }
+}
+
+// The numbers that t stands for.
+fn class_of(names: [u8; 17], t: usize) -> u32 {
+    let mut row: u32 = 0;
+    for a in 0..17 {
+        if rows::wide(names[a]) == t {
+            row = row | rows::only(a);
+        }
+    }
+    row
+}
+
+// A fact of a path about numbers that a and b stand for after a join, by link k.
+fn with_source(reach: [u32; 51], path: Facts, names: [u8; 17], k: usize, a: usize, b: usize) -> [u32; 51] {
+    let left = class_of(names, a);
+    let right = class_of(names, b);
+    for c in 0..17 {
+        let at = row_place(k, c);
+        if (at < 51) & rows::has(left, c) {
+            let row = path.reach[at] & right;
+            if let Found::At(d) = rows::first(row) {
+                return with_fact(reach, k, c, d.0);
+            }
+        }
+    }
+    reach
+}
+
+// The same of every number of a row.
+fn with_sources(reach: [u32; 51], path: Facts, names: [u8; 17], k: usize, a: usize, row: u32) -> [u32; 51] {
+    let mut more = reach;
+    for b in 0..17 {
+        if rows::has(row, b) {
+            let next = with_source(more, path, names, k, a, b);
+            more = next;
+        }
+    }
+    more
+}
+
+// The facts of link k of a path that a join makes those of a nogood.
+fn sources_of(reach: [u32; 51], path: Facts, names: [u8; 17], nogood: Facts, k: usize) -> [u32; 51] {
+    let mut more = reach;
+    for a in 0..17 {
+        let at = row_place(k, a);
+        if at < 51 {
+            let missing = rows::without(nogood.reach[at], path.reach[at]);
+            if missing != 0 {
+                let next = with_sources(more, path, names, k, a, missing);
+                more = next;
+            }
+        }
+    }
+    more
 }
