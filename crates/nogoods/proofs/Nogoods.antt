@@ -10,7 +10,9 @@ use Rattle.logic.specs.Heap.{Heap, Reaches, Meets, value}
 use Rattle.logic.specs.Facts.{Facts, Line, live, isClash}
 use Rattle.logic.specs.Rules.{Move, Fact, conditions, alternatives, add}
 use Rattle.logic.specs.Decision.{NoHeap, Follows, is-held, itself, by-link, onward, Closes}
-use Rattle.theory.proofs.Basics.Compare.{le-cases}
+use lib.Dec.{ltb}
+use Rattle.theory.proofs.Basics.Search.{not-of}
+use Rattle.theory.proofs.Basics.Compare.{le-cases, ltb-true}
 use Rattle.theory.proofs.Basics.Iterate.{reaches-refl, reaches-trans, reaches-next}
 use Rattle.theory.proofs.Query.Tied.{Accepted}
 use Rattle.theory.proofs.Soundness.Truth.{Between, between, Same, Linked, Reached, TrueGraph, True, Holds, between-same}
@@ -19,6 +21,8 @@ use Rattle.theory.proofs.Soundness.RuleSound.{rule-sound}
 use Rattle.theory.proofs.Soundness.FactsSound.{holds-add}
 use Rattle.theory.proofs.Soundness.ClashSound.{clash-sound}
 use Rattle.theory.proofs.Calls.Decision.{Known, holds-of}
+use Rattle.facts.specs.Path.{repOf, pathOf}
+use Rattle.facts.specs.declared.Facts as code
 use Rattle.covering.specs.Covers.{Covers}
 use Rattle.nogoods.specs.Nogoods.{Held, Nogood, Excludes}
 
@@ -76,7 +80,7 @@ module _ {q : Query} {h : Heap} (w s : Facts) (c : Covers w s) (held : Held q h 
       }
 
 -- no number above 16 is a term that was replaced
-abbrev Bounded : Facts → Type 0
+abbrev pub Bounded : Facts → Type 0
 Bounded s = (t : ℕ) → 16 < t → s .rep t ≡ t
 
 module _ (q : Query) where
@@ -140,3 +144,17 @@ module _ (q : Query) where
   -- a path whose facts are a nogood has no heap
   pub nogood-path : Accepted q → (s : Facts) → Known q s → s .rep 0 ≡ 0 → Nogood q s → NoHeap q s
   nogood-path ok s known e none (h, m) = none h (m .meets) (record { holds = holds-of q ok s known h m; zero-kept = e })
+
+-- Of paths that arrays hold
+
+rep-beyond : (rep : List ℕ) (t : ℕ) → 16 < t → repOf rep t ≡ t
+unfolding repOf
+rep-beyond rep t l = rw (not-of {b = ltb t 17} (λ e. let l′ = ltb-true t 17 e in omega arith)) refl
+
+pub bounded : (s : code.Facts) → Bounded (pathOf s)
+unfolding pathOf
+bounded s = rep-beyond (s .rep)
+
+-- a nogood that the closure of a path holds
+pub nogood-explained : (n : ℕ) (s : Facts) (t d : code.Facts) → Closes n s (pathOf t) → Covers (pathOf t) (pathOf d) → (q : Query) → Nogood q (pathOf d) → Nogood q s
+nogood-explained n s t d cl c q none = nogood-closed q n s (pathOf t) cl (nogood-covered q (pathOf t) (pathOf d) (bounded d) c none)

@@ -1,11 +1,12 @@
 -- Nogoods: facts that no finite heap which meets the query has. They are held as a path of their own, which need not be one that a walk can
 -- reach.
-use Prim.Native.Nat.{ℕ}
+use Prim.Native.Nat.{ℕ, _<_}
 use mathlib.Core.Path.{_≡_}
 use Rattle.logic.specs.Query.{Query}
 use Rattle.logic.specs.Heap.{Heap, Meets, value}
-use Rattle.logic.specs.Facts.{Facts}
-use Rattle.logic.specs.Rules.{Fact}
+use Rattle.logic.specs.Facts.{Graph, Facts}
+use Rattle.logic.specs.Rules.{Rule, Fact}
+use Rattle.alternatives.specs.Alternatives.{countOf, alternativeAt}
 use Rattle.theory.proofs.Soundness.Truth.{Holds, True}
 
 -- the facts are true of the heap; 0, which is no term, is not replaced
@@ -20,3 +21,7 @@ Nogood q s = (h : Heap) → Meets h q → Held q h s → ⊥
 -- none has these facts and this one
 abbrev pub Excludes : Query → Facts → Fact → Type 0
 Excludes q s c = (h : Heap) → Meets h q → Held q h s → True (h .link) (value h (q .entries)) c → ⊥
+
+-- nor any alternative of a rule, one by one, over this graph
+abbrev pub ExcludesAll : Query → Facts → ℕ → ℕ → Graph → Rule → ℕ → ℕ → ℕ → Type 0
+ExcludesAll q s k n g r x y z = (i : ℕ) → i < countOf r z → Excludes q s (alternativeAt k n g r x y z i)

@@ -1,6 +1,7 @@
 // Nogoods of a query: facts that no finite heap which meets it has, held as a path of their own. Which facts are kept is a guess, and nothing is
 // proved of it; each guess is tried by what is proved (the clash of a path, its closure, a branch, subsumption), and where it fails all facts
 // of the path are taken.
+use alternatives::Fact;
 use facts::Facts;
 use link_rows::Link;
 use query::Layout;
@@ -9,17 +10,18 @@ use rows::Term;
 use rules::Rule;
 use rules::Third;
 ghost use mathlib.Core.Path.{_≡_};
-ghost use mathlib.Core.Bool.{true};
+ghost use mathlib.Core.Bool.{true, false};
 ghost use Prim.Native.Nat.{ℕ, _+_, _*_, _≤_, _<_};
 ghost use lib.ListN.{length};
 ghost use Rattle.logic.specs.Query.{Query};
 ghost use Rattle.theory.proofs.Query.Tied.{Accepted};
 ghost use Rattle.facts.specs.Path.{pathOf, linksBy, HasLink};
 ghost use Rattle.rules.specs.Answers.{kindOf};
+ghost use Rattle.rules.specs.Tests.{isNotCycle};
 ghost use Rattle.alternatives.specs.Alternatives.{countOf, alternativeAt};
 ghost use Rattle.link_query.specs.Said.{said, Within};
 ghost use Rattle.covering.specs.Covers.{Covers};
-ghost use Rattle.nogoods.specs.Nogoods.{Nogood, Excludes};
+ghost use Rattle.nogoods.specs.Nogoods.{Nogood, Excludes, ExcludesAll};
 
 // A rule by a link at a triple.
 pub struct Move {
@@ -34,6 +36,12 @@ pub struct Move {
 pub struct Tried {
     pub found: bool,
     pub facts: Facts,
+}
+
+// What stands for the terms on a branch, and a nogood of it.
+pub struct Branched {
+    pub names: [u8; 17],
+    pub nogood: Facts,
 }
 
 // No facts, and no term replaced.
@@ -263,7 +271,7 @@ fn ways(near: [u32; 17], a: usize) -> [u8; 17] {
     }
     let mut ahead = rows::only(a);
     let mut seen = ahead;
-    for turn in 0..17 {
+    for turn in 0..17usize {
         let Found::At(t) = rows::first(ahead) else {
             return from;
         };
@@ -308,7 +316,7 @@ fn with_step(small: Facts, path: Facts, k: usize, a: usize, b: usize) -> Facts {
 fn with_way(small: Facts, path: Facts, from: [u8; 17], k: usize, a: usize, b: usize) -> Facts {
     let mut more = small;
     let mut to = b;
-    for turn in 0..17 {
+    for turn in 0..17usize {
         if to == a {
             return more;
         }
@@ -426,15 +434,24 @@ fn class_of(names: [u8; 17], t: usize) -> u32 {
 }
 
 // A fact of a path about numbers that a and b stand for after a join, by link k.
-fn with_source(reach: [u32; 51], path: Facts, names: [u8; 17], k: usize, a: usize, b: usize) -> [u32; 51] {
+fn with_source(
+    reach: [u32; 51],
+    path: Facts,
+    names: [u8; 17],
+    k: usize,
+    a: usize,
+    b: usize,
+) -> [u32; 51] {
     let left = class_of(names, a);
     let right = class_of(names, b);
     for c in 0..17 {
         let at = row_place(k, c);
-        if (at < 51) & rows::has(left, c) {
+        if at < 51 {
             let row = path.reach[at] & right;
             if let Found::At(d) = rows::first(row) {
-                return with_fact(reach, k, c, d.0);
+                if rows::has(left, c) {
+                    return with_fact(reach, k, c, d.0);
+                }
             }
         }
     }
@@ -442,7 +459,14 @@ fn with_source(reach: [u32; 51], path: Facts, names: [u8; 17], k: usize, a: usiz
 }
 
 // The same of every number of a row.
-fn with_sources(reach: [u32; 51], path: Facts, names: [u8; 17], k: usize, a: usize, row: u32) -> [u32; 51] {
+fn with_sources(
+    reach: [u32; 51],
+    path: Facts,
+    names: [u8; 17],
+    k: usize,
+    a: usize,
+    row: u32,
+) -> [u32; 51] {
     let mut more = reach;
     for b in 0..17 {
         if rows::has(row, b) {
@@ -454,7 +478,13 @@ fn with_sources(reach: [u32; 51], path: Facts, names: [u8; 17], k: usize, a: usi
 }
 
 // The facts of link k of a path that a join makes those of a nogood.
-fn sources_of(reach: [u32; 51], path: Facts, names: [u8; 17], nogood: Facts, k: usize) -> [u32; 51] {
+fn sources_of(
+    reach: [u32; 51],
+    path: Facts,
+    names: [u8; 17],
+    nogood: Facts,
+    k: usize,
+) -> [u32; 51] {
     let mut more = reach;
     for a in 0..17 {
         let at = row_place(k, a);
@@ -467,4 +497,222 @@ fn sources_of(reach: [u32; 51], path: Facts, names: [u8; 17], nogood: Facts, k: 
         }
     }
     more
+}
+
+// The facts of a path that a join makes those of a nogood.
+fn sources(path: Facts, names: [u8; 17], nogood: Facts) -> [u32; 51] {
+    let wanted = nogood.reach;
+    let held = path.reach;
+    let direct = common(wanted, held);
+    let one = sources_of(direct, path, names, nogood, 1);
+    if path.single {
+        return one;
+    }
+    let two = sources_of(one, path, names, nogood, 2);
+    sources_of(two, path, names, nogood, 3)
+}
+
+// Rows without a fact of link k.
+fn without_fact(rows: [u32; 51], k: usize, a: usize, b: usize) -> [u32; 51] {
+    let at = row_place(k, a);
+    if at == 51 {
+        return rows;
+    }
+    if 16 < b {
+        return rows;
+    }
+    let mut fewer = rows;
+    fewer[at] = rows::without(fewer[at], rows::only(b));
+    fewer
+}
+
+// Facts of a path, and those of which an alternative by link k makes the nogood of its branch, where `names` stand for the terms.
+fn pulled_back(
+    need: Facts,
+    path: Facts,
+    names: [u8; 17],
+    nogood: Facts,
+    k: usize,
+    fact: Fact,
+) -> Facts {
+    let own = need.rep;
+    let there = path.rep;
+    let replaced = nogood.rep;
+    let rep = with_names(own, there, replaced);
+    let links = need.link;
+    let facts = need.reach;
+    match fact {
+        Fact::Equal(_, _) => {
+            let all = path.link;
+            let link = union(links, all);
+            let more = sources(path, names, nogood);
+            let reach = union(facts, more);
+            Facts {
+                rep,
+                single: path.single,
+                link,
+                reach,
+            }
+        }
+        Fact::Reaches(a, b) => {
+            let more_links = nogood.link;
+            let link = union(links, more_links);
+            let more = nogood.reach;
+            let added = without_fact(more, k, a.0, b.0);
+            let reach = union(facts, added);
+            Facts {
+                rep,
+                single: path.single,
+                link,
+                reach,
+            }
+        }
+    }
+}
+
+// With these facts no heap has the alternative at i of a rule, since the branch that it makes holds a nogood; and they hold others.
+fn excludes(n: usize, grown: Facts, need: Facts, nogood: Facts, m: Move, i: usize) -> bool
+    requires { ⌜ (n ≤ 16) × HasLink (pathOf grown) (m .link .0) × (m .x .0 ≤ 16) × (m .y .0 ≤ 16) × (m .z .0 ≤ 16) ⌝ }
+    ensures { λ r. ⌜ (r ≡ true → Covers (pathOf grown) (pathOf need) × ((q : Query) → Nogood q (pathOf nogood) → Excludes q (pathOf grown) (alternativeAt (m .link .0) n (pathOf grown .graph (m .link .0)) (kindOf (m .rule)) (m .x .0) (m .y .0) (m .z .0) i))) ⌝ }
+{
+    if !covering::covers(grown, need) {
+        return false;
+    }
+    let rule = m.rule;
+    let joined = branch::branch(grown, n, m.link, rule, m.x, m.y, m.z, i);
+    let path = joined.facts;
+    if path.rep[0] != 0 {
+        return false;
+    }
+    covering::covers(path, nogood)
+}
+
+// The facts, and where the rule asks how links go round, all links of a path.
+fn with_round(grown: Facts, path: Facts, rule: Rule) -> Facts
+    ensures { λ r. ⌜ (r .single ≡ path .single) × (isNotCycle (kindOf rule) ≡ false → r .link ≡ path .link) ⌝ }
+{
+    let rep = grown.rep;
+    let reach = grown.reach;
+    if rules::is_not_cycle(rule) {
+        let link = grown.link;
+        return Facts {
+            rep,
+            single: path.single,
+            link,
+            reach,
+        };
+    }
+    let link = path.link;
+    Facts {
+        rep,
+        single: path.single,
+        link,
+        reach,
+    }
+}
+
+// Facts of a path that hold others, and with which no heap has the alternative at i of a rule, by a nogood of its branch, where `names` stand for
+// the terms.
+pub fn excluding(n: usize, need: Facts, path: Facts, branched: Branched, m: Move, i: usize) -> Tried
+    requires { ⌜ (n ≤ 16) × HasLink (pathOf path) (m .link .0) × (m .x .0 ≤ 16) × (m .y .0 ≤ 16) × (m .z .0 ≤ 16) ⌝ }
+    ensures { λ r. ⌜ (r .found ≡ true → Covers (pathOf (r .facts)) (pathOf need) × ((q : Query) → Nogood q (pathOf (branched .nogood)) → Excludes q (pathOf (r .facts)) (alternativeAt (m .link .0) n (pathOf path .graph (m .link .0)) (kindOf (m .rule)) (m .x .0) (m .y .0) (m .z .0) i))) ⌝ }
+{
+    let names = branched.names;
+    let nogood = branched.nogood;
+    let rule = m.rule;
+    let all = path.link;
+    let fact = alternatives::alternative(&all, n, m.link, rule, m.x, m.y, m.z, i);
+    let small = pulled_back(need, path, names, nogood, m.link.0, fact);
+    let grown = with_round(small, path, rule);
+    if excludes(n, grown, need, nogood, m, i) {
+        return Tried {
+            found: true,
+            facts: grown,
+        };
+    }
+    let found = excludes(n, path, need, nogood, m, i);
+    Tried { found, facts: path }
+}
+
+// Facts with the conditions of a rule, but for how links go round.
+fn with_conditions(need: Facts, m: Move) -> Facts {
+    let k = m.link.0;
+    let x = m.x.0;
+    let y = m.y.0;
+    let z = m.z.0;
+    let rep = need.rep;
+    let mut link = need.link;
+    let mut reach = need.reach;
+    let rule = m.rule;
+    match rule {
+        Rule::Reflex => {}
+        Rule::Trans1 => {
+            let more = with_fact(link, k, x, y);
+            link = more;
+        }
+        Rule::Trans2 => {
+            let more = with_fact(with_fact(reach, k, x, y), k, y, z);
+            reach = more;
+        }
+        Rule::Func => {
+            let more = with_fact(link, k, x, y);
+            link = more;
+            let also = with_fact(reach, k, x, z);
+            reach = also;
+        }
+        Rule::Cycle => {
+            let more = with_fact(reach, k, x, y);
+            reach = more;
+        }
+        Rule::Scc => {
+            let more = with_fact(with_fact(with_fact(reach, k, x, y), k, y, x), k, x, z);
+            reach = more;
+        }
+        Rule::Total => {
+            let more = with_fact(with_fact(reach, k, x, y), k, x, z);
+            reach = more;
+        }
+        Rule::Share => {
+            let more = with_fact(with_fact(link, k, x, z), k, y, z);
+            link = more;
+            let also = with_fact(with_fact(reach, k, x, y), k, y, x);
+            reach = also;
+        }
+    }
+    Facts {
+        rep,
+        single: need.single,
+        link,
+        reach,
+    }
+}
+
+// A rule applies to these facts, and they hold those which exclude all its alternatives.
+fn refutes(n: usize, whole: Facts, need: Facts, m: Move) -> bool
+    requires { ⌜ (n ≤ 16) × HasLink (pathOf whole) (m .link .0) ⌝ }
+    ensures { λ r. ⌜ (r ≡ true → (q : Query) → ExcludesAll q (pathOf need) (m .link .0) n (pathOf whole .graph (m .link .0)) (kindOf (m .rule)) (m .x .0) (m .y .0) (m .z .0) → Nogood q (pathOf whole)) ⌝ }
+{
+    if !covering::covers(whole, need) {
+        return false;
+    }
+    let rule = m.rule;
+    fitting::applies(whole, n, m.link, rule, m.x, m.y, m.z)
+}
+
+// A nogood of a path, from facts of it which exclude all alternatives of a rule.
+pub fn of_rule(n: usize, need: Facts, path: Facts, m: Move) -> Tried
+    requires { ⌜ (n ≤ 16) × HasLink (pathOf path) (m .link .0) ⌝ }
+    ensures { λ r. ⌜ (r .found ≡ true → (q : Query) → ExcludesAll q (pathOf need) (m .link .0) n (pathOf path .graph (m .link .0)) (kindOf (m .rule)) (m .x .0) (m .y .0) (m .z .0) → Nogood q (pathOf (r .facts))) ⌝ }
+{
+    let rule = m.rule;
+    let small = with_conditions(need, m);
+    let whole = with_round(small, path, rule);
+    if refutes(n, whole, need, m) {
+        return Tried {
+            found: true,
+            facts: whole,
+        };
+    }
+    let found = refutes(n, path, need, m);
+    Tried { found, facts: path }
 }
