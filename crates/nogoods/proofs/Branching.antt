@@ -23,7 +23,7 @@ use Rattle.nogoods.specs.Nogoods.{Nogood, Excludes, ExcludesAll}
 use Rattle.nogoods.proofs.Nogoods.{bounded, nogood-covered, excludes-covered, excludes-branch, nogood-rule}
 
 -- the first byte of the names is what stands for 0
-path-zero : (p : code.Facts) → getD (p .rep) 0 0 ≡ 0 → pathOf p .rep 0 ≡ 0
+pub path-zero : (p : code.Facts) → getD (p .rep) 0 0 ≡ 0 → pathOf p .rep 0 ≡ 0
 unfolding pathOf repOf
 path-zero p e = e
 
