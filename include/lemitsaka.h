@@ -10,8 +10,8 @@
  *
  *   order    the order in which the rules are tried: eight bytes, each of 1 to 8 once
  *   query    the statements, at most 561 bytes; the term byte 255 names null, one node whose link goes to itself. Queries of
- *            lemitsaka_between have a section more, at most 791 bytes, and those of lemitsaka_links_verdict and
- *            lemitsaka_links_derivation a layout of their own for three links, at most 637 bytes
+ *            lemitsaka_between have a section more, at most 791 bytes, and those of lemitsaka_links_verdict,
+ *            lemitsaka_links_derivation and lemitsaka_links_check a layout of their own for three links, at most 637 bytes
  *   report, buffer, and all others that are not const    lent to the call, which writes every byte, whatever it answers
  *
  * Any bytes and any lengths will do: what is no order list, no query and so on is refused. What the library cannot see for
@@ -165,6 +165,12 @@ uint64_t lemitsaka_formula(const uint8_t *order, size_t order_len,
  *   refused    2 to 8 and 26 of the query, then 20, at 0 */
 uint64_t lemitsaka_check(const uint8_t *query, size_t query_len,
                          const uint8_t *derivation, size_t derivation_len);
+
+/* The same of a query with three links. A rule line's first byte is the rule's number and 16 times (link minus 1).
+ *
+ *   refused    22 too, between 4 and 5 */
+uint64_t lemitsaka_links_check(const uint8_t *query, size_t query_len,
+                               const uint8_t *derivation, size_t derivation_len);
 
 /* Is there a heap that meets every literal of a small query, between literals too?
  *

@@ -8,7 +8,7 @@ names the call, three parts, each after its length in two bytes, high byte first
 program must print, and behind each every byte that was lent.
 
 buffers.txt, edge-calls.txt, limits.txt and texts.txt are written by hand from 01 and 02: before the parts the call, behind the answer the bytes that it leaves at
-the front of the room. base and rewritten have inputs of heapverdict and what it prints of them: order and query are asked again with the
+the front of the room. link-checks.txt is made by tests/derivation_vectors.py, by a reading of its own. base and rewritten have inputs of heapverdict and what it prints of them: order and query are asked again with the
 equalities in other orders. long has derivations of 16,000 lines, which the checking call must accept (02, R-8).
 """
 import pathlib
@@ -19,9 +19,9 @@ ROOT = pathlib.Path(__file__).resolve().parent.parent
 VERDICT, DERIVATION, LINKS_VERDICT, LINKS_DERIVATION = b'vdVD'
 CALLS = {'verdict': VERDICT, 'derivation': DERIVATION, 'links-verdict': LINKS_VERDICT, 'links-derivation': LINKS_DERIVATION, 'dot': 2,
          'order': 6, 'formula': 7, 'between': 10, 'links-rewrite': 11, 'join': 12, 'rewrite': 13}
-CHECK, HAND_BACK = 8, 0
-PROGRAMS = {'formulaverdict': b'f', 'betweenverdict': b'b', 'checkderivation': b'c', 'joinqueries': b'j', 'rewritequery': b'r',
-            'rewritelinks': b'l'}
+CHECK, LINKS_CHECK, HAND_BACK = 8, ord('C'), 0
+PROGRAMS = {'formulaverdict': b'f', 'betweenverdict': b'b', 'checkderivation': b'c', 'checklinks': b'k', 'joinqueries': b'j',
+            'rewritequery': b'r', 'rewritelinks': b'l'}
 
 
 def two_bytes(number):
@@ -140,8 +140,8 @@ def hand_back():
 def by_hand(name):
     """Lines that name their call, and the bytes that it leaves in the room."""
     for (call, *words), answer in lines(name):
-        if call == 'check':
-            yield case(CHECK, parts_of(words)), answer
+        if call in ('check', 'links-check'):
+            yield case(CHECK if call == 'check' else LINKS_CHECK, parts_of(words)), answer
         elif call == 'hand-back':
             yield handed(parts_of(words), answer)
         else:
@@ -204,6 +204,7 @@ CASES = [
     *roomless(6, 'R-6.txt', 8),
     *with_room(7, 'R-7.txt'),
     *((case(CHECK, parts_of(words)), answer) for words, answer in lines('R-8.txt')),
+    *((case(LINKS_CHECK, parts_of(words)), answer) for words, answer in lines('link-checks.txt')),
     *with_room(10, 'R-10.txt'),
     *joined(),
     *hand_back(),

@@ -61,7 +61,9 @@ module _ (k n : ℕ) (g : ℕ → Graph) where
   at-two f e d (suc (suc i)) h = absurd (omega arith)
 
   in-round : (x y z i : ℕ) (d : Fact) → i < z → getD (map (equal y) (round n (g k) z x)) i d ≡ equal y (iterate (next n (g k)) i x)
-  in-round x y z i d h = getD-other (map (equal y) (round n (g k) z x)) i d (equal y 0) (omega (arith, length-map (round n (g k) z x) (equal y), round-length n (g k) z x)) ∙ List·getD-map (equal y) (round n (g k) z x) i 0 ∙ ap (equal y) (round-at n (g k) z x i 0 h)
+  in-round x y z i d h = getD-other (map (equal y) (round n (g k) z x)) i d (equal y 0)
+      (omega (arith, length-map (round n (g k) z x) (equal y), round-length n (g k) z x)) ∙ List·getD-map (equal y) (round n (g k) z x) i 0
+      ∙ ap (equal y) (round-at n (g k) z x i 0 h)
 
   pub alternative-is : (r : Rule) (x y z i : ℕ) (d : Fact) → i < countOf r z → getD (alternatives n g (move k r (triple x y z))) i d ≡ alternativeAt k n (g k) r x y z i
   unfolding alternatives

@@ -53,10 +53,12 @@ pub alternative-own : (k n : ℕ) (link own : List ℕ) → square own ≡ cube 
 unfolding linksIn linksBy
 alternative-own k n link own e = alternative-links k n (linksIn own) (linksBy link k) e
 
-pub alternative-path : (k n : ℕ) (single : Bool) (link reach : List ℕ) → k ≤ cond single 1 3 → (r : Rule) (x y z i : ℕ) → alternativeAt k n (linksBy link k) r x y z i ≡ alternativeAt k n (graphs single link reach k) r x y z i
+pub alternative-path : (k n : ℕ) (single : Bool) (link reach : List ℕ) → k ≤ cond single 1 3 → (r : Rule) (x y z i : ℕ) →
+    alternativeAt k n (linksBy link k) r x y z i ≡ alternativeAt k n (graphs single link reach k) r x y z i
 unfolding linksBy graphIn
 alternative-path k n single link reach h = alternative-links k n (linksBy link k) (graphs single link reach k) (ap (λ (g : Graph). g .link) (sym (graph-at single link reach k h)))
 
-pub alternative-record : (k n : ℕ) (s : code.Facts) → HasLink (pathOf s) k → (r : Rule) (x y z i : ℕ) → alternativeAt k n (linksBy (s .link) k) r x y z i ≡ alternativeAt k n (pathOf s .graph k) r x y z i
+pub alternative-record : (k n : ℕ) (s : code.Facts) → HasLink (pathOf s) k → (r : Rule) (x y z i : ℕ) →
+    alternativeAt k n (linksBy (s .link) k) r x y z i ≡ alternativeAt k n (pathOf s .graph k) r x y z i
 unfolding linksBy
 alternative-record k n s h = alternative-links k n (linksBy (s .link) k) (pathOf s .graph k) (link-at s k h)

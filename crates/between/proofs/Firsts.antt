@@ -120,7 +120,9 @@ module _ (f : ℕ → ℕ) where
           (λ k.
           let last : j ≡ length (firsts t) = omega (arith, h, size, k) in
           let same : getD (firsts t) i 0 ≡ f (suc t) = sym front ∙ e′ ∙ ap (λ (x : ℕ). getD (firsts t ++ (f (suc t) ∷ [])) x 0) last ∙ getD-at (firsts t) (f (suc t)) [] 0 (length (firsts t)) refl in
-          firsts-all (λ x. x ≡ f (suc t) → ⊥) t (λ u a b p. true-false (eqb-intro p) (any-false (λ w. eqb (f w) (f (suc t))) u s (from-intro t 1 u a (omega arith)))) (getD (firsts t) i 0) (getD-mem (firsts t) i 0 (omega (arith, l, last))) same)
+          firsts-all (λ x. x ≡ f (suc t) → ⊥) t
+          (λ u a b p. true-false (eqb-intro p) (any-false (λ w. eqb (f w) (f (suc t))) u s (from-intro t 1 u a (omega arith)))) (getD (firsts t) i 0)
+          (getD-mem (firsts t) i 0 (omega (arith, l, last))) same)
           (le-cases (suc j) (length (firsts t)))
 
   -- values among 1 to m are at most m
@@ -145,7 +147,8 @@ module _ (f : ℕ → ℕ) where
       let m = firsts-has (suc u) (suc u) (omega arith) (omega arith) in
       let p = place-front (firsts (suc u)) (r .0) (f (suc u)) m in
       let grown : firsts n ≡ firsts (suc u) ++ r .0 = ap firsts q ∙ r .1 in
-      let size : length (firsts (suc u)) ≤ suc (length (firsts u)) = ⊎-elim (λ e. omega (arith, ap length (firsts-seen u e))) (λ e. omega (arith, ap length (firsts-new u e), length-append (firsts u) (f (suc u) ∷ []))) (bool-cases (seenBefore u)) in
+      let size : length (firsts (suc u)) ≤ suc (length (firsts u)) = ⊎-elim (λ e. omega (arith, ap length (firsts-seen u e)))
+      (λ e. omega (arith, ap length (firsts-new u e), length-append (firsts u) (f (suc u) ∷ []))) (bool-cases (seenBefore u)) in
       omega (arith, ap (placeOf (f (suc u))) grown, p, size)
 
 -- what keeps values apart changes nothing
@@ -157,7 +160,8 @@ firsts-length f g (suc t) h =
     let s : seenBefore f t ≡ seenBefore g t = same t (omega arith) in
     ⊎-elim
     (λ e. ap length (firsts-seen f t e) ∙ ih ∙ sym (ap length (firsts-seen g t (sym s ∙ e))))
-    (λ e. ap length (firsts-new f t e) ∙ length-append (firsts f t) (f (suc t) ∷ []) ∙ ap (λ (k : ℕ). k + 1) ih ∙ sym (ap length (firsts-new g t (sym s ∙ e)) ∙ length-append (firsts g t) (g (suc t) ∷ [])))
+    (λ e. ap length (firsts-new f t e) ∙ length-append (firsts f t) (f (suc t) ∷ []) ∙ ap (λ (k : ℕ). k + 1) ih
+    ∙ sym (ap length (firsts-new g t (sym s ∙ e)) ∙ length-append (firsts g t) (g (suc t) ∷ [])))
     (bool-cases (seenBefore f t))
   where
     anys : (k i : ℕ) → 1 ≤ i → i + k ≤ suc t → any (λ u. eqb (f u) (f (suc t))) (from k i) ≡ any (λ u. eqb (g u) (g (suc t))) (from k i)

@@ -59,7 +59,8 @@ orOne-some (x ∷ xs) = omega arith
 -- what the theory needs to know of a query with between literals
 pub record AcceptedBetween (q : BetweenQuery) : Type 0 where
   pub base : Accepted (q .base)
-  pub between-terms : (l : BetweenLiteral) → List·Memᴰ l (q .betweens) → ((1 ≤ l .from) × (l .from ≤ termCount (q .base))) × ((1 ≤ l .middle) × (l .middle ≤ termCount (q .base))) × ((1 ≤ l .to) × (l .to ≤ termCount (q .base)))
+  pub between-terms : (l : BetweenLiteral) → List·Memᴰ l (q .betweens) → ((1 ≤ l .from) × (l .from ≤ termCount (q .base)))
+      × ((1 ≤ l .middle) × (l .middle ≤ termCount (q .base))) × ((1 ≤ l .to) × (l .to ≤ termCount (q .base)))
 
 module _ (q : Query) (ok : Accepted q) (h : Heap) (is : IsHeap h) where
   abbrev val : ℕ → ℕ
@@ -140,7 +141,8 @@ module _ (q : Query) (ok : Accepted q) (h : Heap) (is : IsHeap h) where
   variable-place t r = cond-true (place (val t)) 1 (mem-chosen (val t) (term-named t r))
 
   -- f of a term: the hop from what the term names is its own link
-  linked : (t : ℕ) → (1 ≤ t) × (t ≤ termCount q) → 1 ≤ argumentOf (q .entries) t → value small (q .entries) (argumentOf (q .entries) t) ≡ place (val (argumentOf (q .entries) t)) → value small (q .entries) t ≡ place (val t)
+  linked : (t : ℕ) → (1 ≤ t) × (t ≤ termCount q) → 1 ≤ argumentOf (q .entries) t →
+      value small (q .entries) (argumentOf (q .entries) t) ≡ place (val (argumentOf (q .entries) t)) → value small (q .entries) t ≡ place (val t)
   linked t r one ih =
       let below = accepted-below q ok in
       let e : ℕ = argumentOf (q .entries) t in
@@ -198,7 +200,8 @@ module _ (q : Query) (ok : Accepted q) (h : Heap) (is : IsHeap h) where
       }
 
   -- Until in the heap and in the small one, by link i
-  module _ (i : ℕ) (Avoid Avoid′ : ℕ → Type 0) (only : (v : ℕ) → Avoid v → List·Memᴰ v named) (forth : (v : ℕ) → List·Memᴰ v named → Avoid v → Avoid′ (place v)) (back : (v : ℕ) → List·Memᴰ v named → Avoid′ (place v) → Avoid v) where
+  module _ (i : ℕ) (Avoid Avoid′ : ℕ → Type 0) (only : (v : ℕ) → Avoid v → List·Memᴰ v named)
+      (forth : (v : ℕ) → List·Memᴰ v named → Avoid v → Avoid′ (place v)) (back : (v : ℕ) → List·Memᴰ v named → Avoid′ (place v) → Avoid v) where
     small-until : (v y : ℕ) → List·Memᴰ v named → List·Memᴰ y named → Until (h .link i) Avoid v y ↔ Until (small .link i) Avoid′ (place v) (place y)
     small-until v y m k = (
       λ u. carried (hops i) (small .link i) place (λ w. List·Memᴰ w named) (hops-named i) (link-place i) Avoid Avoid′ back v y m
@@ -220,7 +223,9 @@ module _ (q : Query) (ok : Accepted q) (h : Heap) (is : IsHeap h) where
     )
 
     -- until, between the nodes that terms name
-    term-until : (i : ℕ) (Avoid Avoid′ : ℕ → Type 0) → ((v : ℕ) → Avoid v → List·Memᴰ v named) → ((v : ℕ) → List·Memᴰ v named → Avoid v → Avoid′ (place v)) → ((v : ℕ) → List·Memᴰ v named → Avoid′ (place v) → Avoid v) → Until (h .link i) Avoid (val a) (val b) ↔ Until (small .link i) Avoid′ (sval a) (sval b)
+    term-until : (i : ℕ) (Avoid Avoid′ : ℕ → Type 0) → ((v : ℕ) → Avoid v → List·Memᴰ v named) →
+        ((v : ℕ) → List·Memᴰ v named → Avoid v → Avoid′ (place v)) → ((v : ℕ) → List·Memᴰ v named → Avoid′ (place v) → Avoid v) →
+        Until (h .link i) Avoid (val a) (val b) ↔ Until (small .link i) Avoid′ (sval a) (sval b)
     term-until i Avoid Avoid′ only forth back =
         let u = small-until i Avoid Avoid′ only forth back (val a) (val b) (term-named a ra) (term-named b rb) in
         let p = small-value a ra in
@@ -244,7 +249,8 @@ module _ (q : Query) (ok : Accepted q) (h : Heap) (is : IsHeap h) where
           (λ v m e. ap place e ∙ sym (small-value c rc))
           (λ v m e. placeOf-injective v (val c) m (term-named c rc) (e ∙ small-value c rc))
 
-  same-between : (i a b c : ℕ) → (1 ≤ a) × (a ≤ termCount q) → (1 ≤ b) × (b ≤ termCount q) → (1 ≤ c) × (c ≤ termCount q) → Between (h .link i) (val a) (val b) (val c) ↔ Between (small .link i) (value small (q .entries) a) (value small (q .entries) b) (value small (q .entries) c)
+  same-between : (i a b c : ℕ) → (1 ≤ a) × (a ≤ termCount q) → (1 ≤ b) × (b ≤ termCount q) → (1 ≤ c) × (c ≤ termCount q) →
+      Between (h .link i) (val a) (val b) (val c) ↔ Between (small .link i) (value small (q .entries) a) (value small (q .entries) b) (value small (q .entries) c)
   same-between i a b c ra rb rc =
       let u = before-until a b ra rb c rc i in
       let r = any-until a c ra rc i in
@@ -298,5 +304,9 @@ orOne-short (x ∷ xs) (suc n) h = omega (arith, length-from n 2)
 
 pub small-model : (q : BetweenQuery) → AcceptedBetween q → (h : Heap) → MeetsBetween h q → (h′ : Heap) × MeetsBetween h′ q × (h′ .size ≤ nodesFor (termCount (q .base)))
 small-model q ok h m =
-    let s : Heap = small (q .base) (ok .base) h (m .meets .is-heap) in
-    (s, small-meets q ok h m, subst (λ (k : ℕ). k ≤ nodesFor (termCount (q .base))) (sym (small-size (q .base) (ok .base) h (m .meets .is-heap))) (orOne-short (firsts (value h (q .base .entries)) (termCount (q .base))) (termCount (q .base)) (firsts-short (value h (q .base .entries)) (termCount (q .base)))))
+    let s : Heap = small (q .base) (ok .base) h (m .meets .is-heap) in (
+      s,
+      small-meets q ok h m,
+      subst (λ (k : ℕ). k ≤ nodesFor (termCount (q .base))) (sym (small-size (q .base) (ok .base) h (m .meets .is-heap)))
+          (orOne-short (firsts (value h (q .base .entries)) (termCount (q .base))) (termCount (q .base)) (firsts-short (value h (q .base .entries)) (termCount (q .base)))),
+    )

@@ -145,5 +145,6 @@ module _ (query : List ℕ) (s : SixLayout) (six : SixSections s query) where
       terms-same : s .base .terms ≡ termCount (decodeSix query .base)
       terms-same = six .laid .term-count ∙ ap (λ (q : BetweenQuery). termCount (q .base)) (sym (six .says))
 
-  pub answer-does : (room : ℕ) (r : BetweenAnswer) (bytes : List ℕ) → refusalOf betweenChecks (given query room) ≡ none → Does (searched (queryIn (take (s .at) query) (tail query (s .at + 1))) room) r bytes → Does (betweenCall query room) r bytes
+  pub answer-does : (room : ℕ) (r : BetweenAnswer) (bytes : List ℕ) → refusalOf betweenChecks (given query room) ≡ none →
+      Does (searched (queryIn (take (s .at) query) (tail query (s .at + 1))) room) r bytes → Does (betweenCall query room) r bytes
   answer-does room r bytes passed d = searched-does query room r bytes passed (subst (λ (q : BetweenQuery). Does (searched q room) r bytes) (sym says) d)

@@ -51,7 +51,9 @@ module _ (l : Layout) (base links nodes : List ℕ) (ready : Reportable l base l
   unfolding entry
   few-successors = ready .few-links
 
-  module _ (marks fields : List ℕ) (m : ℕ) (counted : m ≡ getD links 0 0) (held : (v j : ℕ) → v ≤ 16 → j ≤ 16 → square marks v j ≡ fieldHeld (entry nodes) (literalsAt base (l .«field_at») (l .«field_count»)) v j) (rows : (v : ℕ) → v ≤ m → getD fields v 0 ≡ byteOf (square marks v) 1 8) where
+  module _ (marks fields : List ℕ) (m : ℕ) (counted : m ≡ getD links 0 0)
+      (held : (v j : ℕ) → v ≤ 16 → j ≤ 16 → square marks v j ≡ fieldHeld (entry nodes) (literalsAt base (l .«field_at») (l .«field_count»)) v j)
+      (rows : (v : ℕ) → v ≤ m → getD fields v 0 ≡ byteOf (square marks v) 1 8) where
     datum : (v : ℕ) → List·Memᴰ v (terms m) → getD fields v 0 ≡ dataByte (decode base .fields) (entry nodes) v
     unfolding terms dataByte fieldHeld literalsAt listed
     datum v h =
@@ -62,7 +64,8 @@ module _ (l : Layout) (base links nodes : List ℕ) (ready : Reportable l base l
         ∙ ap (λ (ls : List Literal). byteOf (fieldHeld (entry nodes) ls v) 1 8) (sym (fields-listed l base (ready .laid)))
         ∙ byte-alike _ _ 1 8 (λ j a b. any-alike _ _ (decode base .fields) (λ k i. and-are (k .plain) (eqb (k .left) j) (eqb (entry nodes (k .right)) v)))
 
-    pub report-is : (between : List ℕ) → sections (l .terms) (terms m) (map (λ t. getD links t 0) (terms m)) (λ t. getD nodes t 0) (λ t. getD fields t 0) ≡ reportOf (queryIn base between) (record { links = links; nodes = nodes })
+    pub report-is : (between : List ℕ) → sections (l .terms) (terms m) (map (λ t. getD links t 0) (terms m)) (λ t. getD nodes t 0)
+        (λ t. getD fields t 0) ≡ reportOf (queryIn base between) (record { links = links; nodes = nodes })
     unfolding reportOf entry
     report-is between =
         rw (length-map (terms m) (λ t. getD links t 0), terms-length m, map-alike _ _ (terms m) datum, ready .laid .term-count, counted)

@@ -39,7 +39,8 @@ module _ (k n count : ℕ) (bytes : List ℕ) (i at : ℕ) where
   pub sixth-here : (p : ℕ) → i < count → roleFault k at (tripleRoles n (i + 1)) (drop at bytes) ≡ some p → roleFault k at (entriesLeft (tripleRoles n) count i) (drop at bytes) ≡ some p
   sixth-here p h e = next-triple h ∙ append-here k at 4 (tripleRoles n (i + 1)) (entriesLeft (tripleRoles n) count (i + 1)) bytes refl e
 
-  pub sixth-next : i < count → roleFault k at (tripleRoles n (i + 1)) (drop at bytes) ≡ none → roleFault k at (entriesLeft (tripleRoles n) count i) (drop at bytes) ≡ roleFault k (at + 4) (entriesLeft (tripleRoles n) count (i + 1)) (drop (at + 4) bytes)
+  pub sixth-next : i < count → roleFault k at (tripleRoles n (i + 1)) (drop at bytes) ≡ none →
+      roleFault k at (entriesLeft (tripleRoles n) count i) (drop at bytes) ≡ roleFault k (at + 4) (entriesLeft (tripleRoles n) count (i + 1)) (drop (at + 4) bytes)
   sixth-next h e = next-triple h ∙ append-next k at 4 (tripleRoles n (i + 1)) (entriesLeft (tripleRoles n) count (i + 1)) bytes refl e
 
 pub sixth-whole : (k n at count : ℕ) (bytes : List ℕ) → sixthFault k n at count bytes ≡ roleFault k at (entriesLeft (tripleRoles n) count 0) (drop at bytes)
@@ -96,7 +97,8 @@ module _ (bytes : List ℕ) (at count n : ℕ) (sixth : Sixth bytes at count) (f
       (nat-cases 5 j a)
 
   -- the sixth meets a refusal below the first that the five meet
-  pub sixth-met : (limit k place : ℕ) → ((j : ℕ) → 5 ≤ j → j < limit → byteFault sections j (take at bytes) ≡ none) → SixthBelow (met.Refused k place) n (at + 1) count bytes limit → SixCheckedAs (checked.Refused k place) bytes
+  pub sixth-met : (limit k place : ℕ) → ((j : ℕ) → 5 ≤ j → j < limit → byteFault sections j (take at bytes) ≡ none) →
+      SixthBelow (met.Refused k place) n (at + 1) count bytes limit → SixCheckedAs (checked.Refused k place) bytes
   sixth-met limit k place before s i q =
       six-bytes bytes six-parts laid i q
       ∙ first-is (faults sixSections bytes) 4 5 k place
@@ -128,7 +130,8 @@ module _ (bytes : List ℕ) (at count n : ℕ) (sixth : Sixth bytes at count) (f
   pub five-accepted : (l : code.Layout) → CheckedAs (five-checked.Accepted l) (take at bytes) → (j : ℕ) → 5 ≤ j → j < 9 → byteFault sections j (take at bytes) ≡ none
   five-accepted l h = told-accepted (take at bytes) (h .0) .2
 
-  pub all-passed : (l : code.Layout) → CheckedAs (five-checked.Accepted l) (take at bytes) → SixthBelow met.Nothing n (at + 1) count bytes 9 → SixCheckedAs (checked.Accepted (record { base = l; at = at; count = count })) bytes
+  pub all-passed : (l : code.Layout) → CheckedAs (five-checked.Accepted l) (take at bytes) → SixthBelow met.Nothing n (at + 1) count bytes 9 →
+      SixCheckedAs (checked.Accepted (record { base = l; at = at; count = count })) bytes
   all-passed l h s = (
     λ i q. six-bytes bytes six-parts laid i q ∙ none-is (faults sixSections bytes) 4 5 (λ j a b. no-fault j (five-accepted l h j a b) (sixth-none 9 s j a b b)),
     record {
@@ -156,7 +159,8 @@ module _ (bytes : List ℕ) where
   unfolding layoutOf layoutBy
   refused-ends k place l d h =
       ⊎-elim
-      (λ e. let numbered : Numbered (faulty k place) = rw e at (layout-numbered (sections (firstByte bytes)) 0 bytes (sections-excesses (firstByte bytes))) in absurd (⊎-elim (λ u. omega arith) d (number-cases k numbered)))
+      (λ e. let numbered : Numbered (faulty k place) = rw e at (layout-numbered (sections (firstByte bytes)) 0 bytes (sections-excesses (firstByte bytes))) in
+      absurd (⊎-elim (λ u. omega arith) d (number-cases k numbered)))
       (λ r. six-refused bytes 2 (length bytes) (ended bytes (r .0) (r .1)))
       (told-refused bytes k place h)
 

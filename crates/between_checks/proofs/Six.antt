@@ -12,7 +12,8 @@ use lib.Seq.{take-length, length-take-le, take-at, drop-length, drop-append-le}
 use lib.Dec.{eqb, leb}
 use borrow.Author.Tests.{leb-true}
 use Rattle.logic.specs.Search.{_and_, from, flatMap, keep, orElse}
-use Rattle.logic.specs.Query.{Role, Section, countRole, signRole, termRole, fourSections, booleanSection, fiveSections, sections, faulty, parts, withPart, layout, rolesOf, firstByte, layoutBy, layoutOf, roleFault, byteFault, section, queryOf, decode, termCount}
+use Rattle.logic.specs.Query.{Role, Section, countRole, signRole, termRole, fourSections, booleanSection, fiveSections, sections, faulty, parts}
+use Rattle.logic.specs.Query.{withPart, layout, rolesOf, firstByte, layoutBy, layoutOf, roleFault, byteFault, section, queryOf, decode, termCount}
 use Rattle.theory.proofs.Query.Bytes.{Regular, first-sized, faulty-parts, withPart-parts, flatMap-length}
 use Rattle.query.proofs.Reading.{above, short, passed}
 use Rattle.entries.proofs.Loops.{drop-next}
@@ -99,7 +100,8 @@ and-never true = refl
 and-never false = refl
 
 -- as many roles as bytes, and those of what follows behind them
-roles-append : (ss ts : List Section) (place : ℕ) (front back : List ℕ) (ps : List (List ℕ)) → Regular ss → layout ss place front ≡ parts ps → (rolesOf (ss ++ ts) (front ++ back) ≡ rolesOf ss front ++ rolesOf ts back) × (length (rolesOf ss front) ≡ length front)
+roles-append : (ss ts : List Section) (place : ℕ) (front back : List ℕ) (ps : List (List ℕ)) → Regular ss → layout ss place front ≡ parts ps →
+    (rolesOf (ss ++ ts) (front ++ back) ≡ rolesOf ss front ++ rolesOf ts back) × (length (rolesOf ss front) ≡ length front)
 unfolding layout rolesOf
 roles-append [] ts place [] back ps r h = (refl, refl)
 roles-append [] ts place (c ∷ more) back ps r h = absurd (faulty-parts h)
@@ -114,7 +116,8 @@ roles-append (s ∷ ss) ts place (c ∷ more) back ps r h =
           (ap (λ (xs : List ℕ). flatMap (s .roles) (from c 1) ++ rolesOf (ss ++ ts) xs) (drop-append-le (c * s .width) more back fits)
           ∙ ap (λ (rs : List Role). flatMap (s .roles) (from c 1) ++ rs) (ih .0)
           ∙ sym (append-assoc (flatMap (s .roles) (from c 1)) (rolesOf ss (drop (c * s .width) more)) (rolesOf ts back))),
-      ap suc (length-append (flatMap (s .roles) (from c 1)) (rolesOf ss (drop (c * s .width) more)) ∙ omega (arith, flatMap-length (s .roles) (s .width) (r .0) c 1, ih .1, length-drop (c * s .width) more, fits)),
+      ap suc (length-append (flatMap (s .roles) (from c 1)) (rolesOf ss (drop (c * s .width) more))
+          ∙ omega (arith, flatMap-length (s .roles) (s .width) (r .0) c 1, ih .1, length-drop (c * s .width) more, fits)),
     )
 
 five-regular : (n : ℕ) → Regular (sections n)
@@ -226,5 +229,7 @@ module _ (bytes : List ℕ) (at : ℕ) (f : Five bytes at) where
         sixth-bytes : roleFault k at (rolesOf (betweenSection n ∷ []) (drop at bytes)) (drop at bytes) ≡ sixthFault k n (at + 1) count bytes
         sixth-bytes =
             rw (drop-next bytes at (sixth .counted), sixth .count-is)
-            (ap (λ (b : Bool). orElse (keep b at) (roleFault k (suc at) (flatMap (tripleRoles n) (from count 1) ++ rolesOf [] (drop (count * 4) (drop (at + 1) bytes))) (drop (at + 1) bytes))) (and-never (eqb 0 k))
+            (ap (λ (b : Bool). orElse (keep b at)
+            (roleFault k (suc at) (flatMap (tripleRoles n) (from count 1) ++ rolesOf [] (drop (count * 4) (drop (at + 1) bytes)))
+            (drop (at + 1) bytes))) (and-never (eqb 0 k))
             ∙ ap₂ (λ (p : ℕ) (rs : List Role). roleFault k p rs (drop (at + 1) bytes)) (sym (add-one at)) (append-nil (flatMap (tripleRoles n) (from count 1))))

@@ -92,7 +92,8 @@ module _ (f : ℕ → Option ℕ) where
 abbrev pub faults : Form → List ℕ → ℕ → Option ℕ
 faults form bytes k = byteFault form k bytes
 
-pub form-bytes : (form : Form) (bytes : List ℕ) (ps : List (List ℕ)) → layoutBy form bytes ≡ parts ps → (i : Input) → i .query ≡ bytes → refusalOf (formChecks form) i ≡ firstOf (answerAt (faults form bytes)) (from 4 5)
+pub form-bytes : (form : Form) (bytes : List ℕ) (ps : List (List ℕ)) → layoutBy form bytes ≡ parts ps → (i : Input) → i .query ≡ bytes →
+    refusalOf (formChecks form) i ≡ firstOf (answerAt (faults form bytes)) (from 4 5)
 unfolding refusalOf formChecks layoutCheck byteCheck layoutFault faultIn firstOf orElse Option·elim answerAt from
 form-bytes form bytes ps e i q = rw (q, e)
 
@@ -110,7 +111,8 @@ unfolding queryChecks layoutOf
 five-layout bytes k place e = layout-refused sections bytes k place (sections-excesses (firstByte bytes)) e (ask bytes) refl
 
 -- refused by the walk from the front, or for a byte of sections that are laid out
-pub told-refused : (bytes : List ℕ) (k place : ℕ) → ((i : Input) → i .query ≡ bytes → refusalOf queryChecks i ≡ some (refused k place)) → (layoutOf bytes ≡ faulty k place) ⊎ ((ps : List (List ℕ)) × (layoutOf bytes ≡ parts ps) × First (faults sections bytes) 5 9 k place)
+pub told-refused : (bytes : List ℕ) (k place : ℕ) → ((i : Input) → i .query ≡ bytes → refusalOf queryChecks i ≡ some (refused k place)) →
+    (layoutOf bytes ≡ faulty k place) ⊎ ((ps : List (List ℕ)) × (layoutOf bytes ≡ parts ps) × First (faults sections bytes) 5 9 k place)
 told-refused bytes k place h = go (layoutOf bytes) refl
   where
     go : (l : Layout) → layoutOf bytes ≡ l → (layoutOf bytes ≡ faulty k place) ⊎ ((ps : List (List ℕ)) × (layoutOf bytes ≡ parts ps) × First (faults sections bytes) 5 9 k place)
@@ -119,7 +121,8 @@ told-refused bytes k place h = go (layoutOf bytes) refl
         inl (e ∙ ap₂ faulty (s .0) (s .1))
     go (parts ps) e = inr (ps, e, first-told (faults sections bytes) 4 5 k place (sym (five-bytes bytes ps e) ∙ h (ask bytes) refl))
 
-pub told-accepted : (bytes : List ℕ) → ((i : Input) → i .query ≡ bytes → refusalOf queryChecks i ≡ none) → (ps : List (List ℕ)) × (layoutOf bytes ≡ parts ps) × ((j : ℕ) → 5 ≤ j → j < 9 → byteFault sections j bytes ≡ none)
+pub told-accepted : (bytes : List ℕ) → ((i : Input) → i .query ≡ bytes → refusalOf queryChecks i ≡ none) → (ps : List (List ℕ))
+    × (layoutOf bytes ≡ parts ps) × ((j : ℕ) → 5 ≤ j → j < 9 → byteFault sections j bytes ≡ none)
 told-accepted bytes h = go (layoutOf bytes) refl
   where
     go : (l : Layout) → layoutOf bytes ≡ l → (ps : List (List ℕ)) × (layoutOf bytes ≡ parts ps) × ((j : ℕ) → 5 ≤ j → j < 9 → byteFault sections j bytes ≡ none)

@@ -14,7 +14,9 @@ use Rattle.between.specs.Meaning.{BetweenLiteral}
 use Rattle.between_search.specs.Bytes.{betweenSection, sixSections, sixLayout, triples, betweensOf, decodeSix}
 use Rattle.between_search.proofs.OneLink.{AcceptedSix}
 
-triples-allowed : (sign x y z : Role) (c i : ℕ) (bytes : List ℕ) → length bytes ≡ c * 4 → Allowed (flatMap (λ j. sign ∷ x ∷ y ∷ z ∷ []) (from c i)) bytes → (l : BetweenLiteral) → List·Memᴰ l (triples bytes) → Allows x (l .from) × Allows y (l .middle) × Allows z (l .to)
+triples-allowed : (sign x y z : Role) (c i : ℕ) (bytes : List ℕ) → length bytes ≡ c * 4 →
+    Allowed (flatMap (λ j. sign ∷ x ∷ y ∷ z ∷ []) (from c i)) bytes → (l : BetweenLiteral) → List·Memᴰ l (triples bytes) → Allows x (l .from)
+    × Allows y (l .middle) × Allows z (l .to)
 unfolding flatMap from triples
 triples-allowed sign x y z zero i [] e h l m = absurd (List·Memᴰ·not-nil m)
 triples-allowed sign x y z zero i (s ∷ bytes) e h l m = absurd (omega arith)
@@ -55,7 +57,8 @@ module _ (bytes : List ℕ) (passes : Passes sixSections bytes) where
   in-terms : (b : ℕ) → Allows (termRole (firstByte bytes)) b → InTerms (decodeSix bytes .base) b
   in-terms b h = subst (λ (n : ℕ). (1 ≤ b) × (b ≤ n)) (sym terms-first) (term-allows (firstByte bytes) b h)
 
-  between-terms : (l : BetweenLiteral) → List·Memᴰ l (decodeSix bytes .betweens) → InTerms (decodeSix bytes .base) (l .from) × InTerms (decodeSix bytes .base) (l .middle) × InTerms (decodeSix bytes .base) (l .to)
+  between-terms : (l : BetweenLiteral) → List·Memᴰ l (decodeSix bytes .betweens) → InTerms (decodeSix bytes .base) (l .from)
+      × InTerms (decodeSix bytes .base) (l .middle) × InTerms (decodeSix bytes .base) (l .to)
   unfolding decodeSix betweensOf fourSections betweenSection at
   between-terms l m =
       let p = laid .part 5 _ refl in

@@ -22,7 +22,9 @@ used-alike node node′ (suc t) h =
     ap₂ (λ (a : ℕ) (b : Bool). a + cond (not b) 1 0) (used-alike node node′ t (λ u l k. h u l (omega arith)))
     (any-alike _ _ (from (suc t - 1) 1) (λ u m. let r = from-mem (suc t - 1) 1 u m in ap₂ (λ (a b : ℕ). eqb a b) (h u (r .0) (omega (arith, r .1))) (h (suc t) (omega arith) (omega arith))))
 
-module _ (q : BetweenQuery) (ok : AcceptedBetween q) (m : ℕ) (f g : ℕ → ℕ) (inside : (v : ℕ) → (1 ≤ v) × (v ≤ m) → (1 ≤ f v) × (f v ≤ m)) (same : (v : ℕ) → (1 ≤ v) × (v ≤ m) → f v ≡ g v) (t : ℕ) (one : 1 ≤ t) (node node′ : ℕ → ℕ) (agree : (u : ℕ) → 1 ≤ u → u ≤ t → node u ≡ node′ u) (named : (u : ℕ) → 1 ≤ u → u ≤ t → (1 ≤ node u) × (node u ≤ m)) where
+module _ (q : BetweenQuery) (ok : AcceptedBetween q) (m : ℕ) (f g : ℕ → ℕ) (inside : (v : ℕ) → (1 ≤ v) × (v ≤ m) → (1 ≤ f v) × (f v ≤ m))
+    (same : (v : ℕ) → (1 ≤ v) × (v ≤ m) → f v ≡ g v) (t : ℕ) (one : 1 ≤ t) (node node′ : ℕ → ℕ) (agree : (u : ℕ) → 1 ≤ u → u ≤ t → node u ≡ node′ u)
+    (named : (u : ℕ) → 1 ≤ u → u ≤ t → (1 ≤ node u) × (node u ≤ m)) where
   step-alike : (a b : ℕ) → 1 ≤ a → a ≤ t → 1 ≤ b → b ≤ t → steps f (node a) (node b) ≡ steps g (node′ a) (node′ b)
   step-alike a b l h k i = steps-alike f g m inside same (node a) (node b) (named a l h) ∙ ap₂ (λ (x y : ℕ). steps g x y) (agree a l h) (agree b k i)
 
@@ -30,7 +32,8 @@ module _ (q : BetweenQuery) (ok : AcceptedBetween q) (m : ℕ) (f g : ℕ → �
   unfolding pairBreaks
   pair-alike most l a b =
       ⊎-elim
-      (λ d. ap (λ (x : ℕ). duePair (l .left) (l .right) t && not (agrees (l .plain) (leb x most))) (step-alike (l .left) (l .right) a (due-left (l .left) (l .right) t d) b (due-right (l .left) (l .right) t d)))
+      (λ d. ap (λ (x : ℕ). duePair (l .left) (l .right) t && not (agrees (l .plain) (leb x most)))
+      (step-alike (l .left) (l .right) a (due-left (l .left) (l .right) t d) b (due-right (l .left) (l .right) t d)))
       (λ d. rw d)
       (bool-cases (duePair (l .left) (l .right) t))
 

@@ -110,17 +110,27 @@ module _ (q : BetweenQuery) (ok : AcceptedSix q) (h : Heap) (met : MeetsBetween 
       (or-no (nil-holds h is small (q .base .entries) (met .meets .nil-node) t)
       (or-no (fields-hold (q .base .fields) (ok .accepted .base .field-number) val (h .field) (met .meets .fields) t)
       (or-no (any-none _ (q .base .equalities) (λ l k. let r = ok .accepted .base .equal-terms l k in equal-met h is small (q .base .entries) n l (r .0) (r .1) .0 (met .meets .equalities l k) t a b))
-      (or-no (any-none _ (q .base .reachability) (λ l k. let r = ok .accepted .base .reach-terms l k in reach-met h is small (q .base .entries) n l (reach-one q ok l k) (r .0) (r .1) .0 (met .meets .reachability l k) t a b))
+      (or-no (any-none _ (q .base .reachability) (λ l k. let r = ok .accepted .base .reach-terms l k in
+      reach-met h is small (q .base .entries) n l (reach-one q ok l k) (r .0) (r .1) .0 (met .meets .reachability l k) t a b))
       (any-none _ (q .betweens) (λ l k. let r = ok .accepted .between-terms l k in between-met h is small (q .base .entries) n l (r .0) (r .1) (r .2) .0 (met .betweens l k) t a b))))))
 
   link-entry : (v : ℕ) → (1 ≤ v) × (v ≤ m) → h .link 1 v ≡ entry (linksOf h) v
   link-entry v r = sym (list-entry (h .link 1) m v (r .0) (r .1))
 
-  pub nodes-grown : (sorted : Bool) → (1 ≤ n → m ≤ used val n) → (sorted ≡ true → (u : ℕ) → u < n → val (suc u) ≤ used val u + 1) → Grown (λ t xs. lowestNode q (entry (linksOf h)) t (entry xs)) (λ t xs. highestNode q sorted m (entry (linksOf h)) t (entry xs)) (λ t xs. not (breaks q m (entry (linksOf h)) (entry xs) n t)) n 1 (n ∷ []) (nodesOf q h)
+  pub nodes-grown : (sorted : Bool) → (1 ≤ n → m ≤ used val n) → (sorted ≡ true → (u : ℕ) → u < n → val (suc u) ≤ used val u + 1) →
+      Grown (λ t xs. lowestNode q (entry (linksOf h)) t (entry xs)) (λ t xs. highestNode q sorted m (entry (linksOf h)) t (entry xs))
+      (λ t xs. not (breaks q m (entry (linksOf h)) (entry xs) n t)) n 1 (n ∷ []) (nodesOf q h)
   nodes-grown sorted all order = grow-by _ _ _ val (n + 1) good n 1 (n ∷ []) (omega arith) (omega arith) (first-prefix val n)
     where
-      good : (t : ℕ) (ys : List ℕ) → 1 ≤ t → t < n + 1 → Prefix val ys t → (lowestNode q (entry (linksOf h)) t (entry ys) ≤ val t) × (val t ≤ highestNode q sorted m (entry (linksOf h)) t (entry ys)) × (not (breaks q m (entry (linksOf h)) (entry (ys ++ (val t ∷ []))) n t) ≡ true)
-      good t ys a b p = (bounds .0, bounds .1, not-intro (sym (breaks-alike q (ok .accepted) m (h .link 1) (entry (linksOf h)) (is .link-node 1) link-entry t a val (entry (ys ++ (val t ∷ []))) (λ u x y. sym (prefix-next val ys t p .each u x (omega arith))) (λ u x y. value-node h (q .base .entries) is u) n) ∙ unbroken all t a (omega arith)))
+      good : (t : ℕ) (ys : List ℕ) → 1 ≤ t → t < n + 1 → Prefix val ys t → (lowestNode q (entry (linksOf h)) t (entry ys) ≤ val t)
+          × (val t ≤ highestNode q sorted m (entry (linksOf h)) t (entry ys)) × (not (breaks q m (entry (linksOf h)) (entry (ys ++ (val t ∷ []))) n t) ≡ true)
+      good t ys a b p = (
+        bounds .0,
+        bounds .1,
+        not-intro (sym (breaks-alike q (ok .accepted) m (h .link 1) (entry (linksOf h)) (is .link-node 1) link-entry t a val
+            (entry (ys ++ (val t ∷ []))) (λ u x y. sym (prefix-next val ys t p .each u x (omega arith))) (λ u x y. value-node h (q .base .entries) is u) n)
+            ∙ unbroken all t a (omega arith)),
+      )
         where
           r : Node h (val t)
           r = value-node h (q .base .entries) is t
@@ -144,7 +154,10 @@ module _ (q : BetweenQuery) (ok : AcceptedSix q) (h : Heap) (met : MeetsBetween 
               let arg : ℕ = argumentOf (q .base .entries) t in
               let below = accepted-below (q .base) (ok .accepted .base) in
               let s = below t l in
-              let e : entry (linksOf h) (entry ys (argumentOf (q .base .entries) t)) ≡ val t = ap (entry (linksOf h)) (p .each (argumentOf (q .base .entries) t) l s) ∙ sym (link-entry (val (argumentOf (q .base .entries) t)) (value-node h (q .base .entries) is (argumentOf (q .base .entries) t))) ∙ sym (value-one q ok h t l) in
+              let e : entry (linksOf h) (entry ys (argumentOf (q .base .entries) t)) ≡ val t = ap (entry (linksOf h))
+              (p .each (argumentOf (q .base .entries) t) l s)
+              ∙ sym (link-entry (val (argumentOf (q .base .entries) t)) (value-node h (q .base .entries) is (argumentOf (q .base .entries) t)))
+              ∙ sym (value-one q ok h t l) in
               (omega (arith, low-link q (entry (linksOf h)) t (entry ys) l, e), omega (arith, high-link q (entry (linksOf h)) t (entry ys) sorted m l, e)))
               (λ z.
               let o : argumentOf (q .base .entries) t ≡ 0 = omega arith in

@@ -37,7 +37,9 @@ prefix-next f xs t p =
 
 module _ (lowest highest : ℕ → List ℕ → ℕ) (fits : ℕ → List ℕ → Bool) where
   -- the list of f's values grows
-  pub grow-by : (f : ℕ → ℕ) (end : ℕ) → ((t : ℕ) (ys : List ℕ) → 1 ≤ t → t < end → Prefix f ys t → (lowest t ys ≤ f t) × (f t ≤ highest t ys) × (fits t (ys ++ (f t ∷ [])) ≡ true)) → (k t : ℕ) (ys : List ℕ) → 1 ≤ t → t + k ≡ end → Prefix f ys t → Grown lowest highest fits k t ys (ys ++ map f (from k t))
+  pub grow-by : (f : ℕ → ℕ) (end : ℕ) →
+      ((t : ℕ) (ys : List ℕ) → 1 ≤ t → t < end → Prefix f ys t → (lowest t ys ≤ f t) × (f t ≤ highest t ys) × (fits t (ys ++ (f t ∷ [])) ≡ true)) →
+      (k t : ℕ) (ys : List ℕ) → 1 ≤ t → t + k ≡ end → Prefix f ys t → Grown lowest highest fits k t ys (ys ++ map f (from k t))
   unfolding from
   grow-by f end good zero t ys l e p = subst (λ (zs : List ℕ). Grown lowest highest fits zero t ys zs) (sym (append-nil ys)) whole
   grow-by f end good (suc k) t ys l e p =
@@ -64,7 +66,8 @@ module _ (lowest highest : ℕ → List ℕ → ℕ) (fits : ℕ → List ℕ �
 
   pub grown-met : {k i : ℕ} {xs zs : List ℕ} → Grown lowest highest fits k i xs zs → length xs ≡ i → (t : ℕ) → i ≤ t → t < i + k → Met zs t
   grown-met whole e t l h = absurd (omega arith)
-  grown-met {k = suc k} {i = i} {xs = xs} {zs = zs} (more v l h f g) e t a b = ⊎-elim (λ p. now p) (λ d. grown-met g (length-append xs (v ∷ []) ∙ omega (arith, e)) t (omega (arith, a, d .0)) (omega arith)) (eq-cases i t)
+  grown-met {k = suc k} {i = i} {xs = xs} {zs = zs} (more v l h f g) e t a b = ⊎-elim (λ p. now p)
+      (λ d. grown-met g (length-append xs (v ∷ []) ∙ omega (arith, e)) t (omega (arith, a, d .0)) (omega arith)) (eq-cases i t)
     where
       now : i ≡ t → Met zs t
       now p =

@@ -21,7 +21,8 @@ pub cond-parts : (b : Bool) (l : Layout) (k place : ℕ) (ps : List (List ℕ)) 
 cond-parts true l k place ps h = (refl, h)
 cond-parts false l k place ps h = absurd (faulty-parts h)
 
-pub layout-append : (ss ts : List Section) (place : ℕ) (front back : List ℕ) (ps : List (List ℕ)) → layout ss place front ≡ parts ps → layout (ss ++ ts) place (front ++ back) ≡ prepend ps (layout ts (place + length front) back)
+pub layout-append : (ss ts : List Section) (place : ℕ) (front back : List ℕ) (ps : List (List ℕ)) → layout ss place front ≡ parts ps →
+    layout (ss ++ ts) place (front ++ back) ≡ prepend ps (layout ts (place + length front) back)
 unfolding layout prepend
 layout-append [] ts place [] back ps h = let e : place ≡ place + 0 = omega arith in ap (λ (p : ℕ). layout ts p back) e ∙ ap (λ (xs : List (List ℕ)). prepend xs (layout ts (place + 0) back)) none
   where

@@ -97,7 +97,8 @@ module _ (query : List ℕ) (room place : ℕ) where
   pub many-terms-only : Refuses 21 → (place ≡ 0) × NoneStands (sixChecks ++ (roomCheck ∷ [])) (given query room) × (5 < termCount (decodeSix query .base))
   unfolding fiveTermsCheck
   many-terms-only e =
-      let o = own-only earlier fiveTermsCheck [] (given query room) place (apart 21 earlier twenty-one-apart) none-behind (ap (λ (cs : List Check). refusalOf cs (given query room)) (sym checks-split) ∙ e) in
+      let o = own-only earlier fiveTermsCheck [] (given query room) place (apart 21 earlier twenty-one-apart) none-behind
+      (ap (λ (cs : List Check). refusalOf cs (given query room)) (sym checks-split) ∙ e) in
       let k = keep-some (ltb 5 (firstByte query)) (o .1) in
       (sym (k .1), o .0, subst (λ (x : ℕ). 5 < x) (sym (counted (o .0))) (ltb-true 5 (firstByte query) (k .0)))
 
@@ -116,7 +117,8 @@ module _ (query : List ℕ) (room place : ℕ) where
   pub little-room-only : Refuses 9 → (place ≡ 0) × NoneStands sixChecks (given query room) × (room < 53)
   unfolding roomUnder
   little-room-only e =
-      let o = own-only sixChecks roomCheck (fiveTermsCheck ∷ []) (given query room) place (apart 9 sixChecks nine-apart) (apart 9 (fiveTermsCheck ∷ []) nine-behind) (ap (λ (cs : List Check). refusalOf cs (given query room)) (sym room-split) ∙ e) in
+      let o = own-only sixChecks roomCheck (fiveTermsCheck ∷ []) (given query room) place (apart 9 sixChecks nine-apart)
+      (apart 9 (fiveTermsCheck ∷ []) nine-behind) (ap (λ (cs : List Check). refusalOf cs (given query room)) (sym room-split) ∙ e) in
       let k = keep-some (ltb room 53) (o .1) in
       (sym (k .1), o .0, ltb-true room 53 (k .0))
 
@@ -124,4 +126,5 @@ module _ (query : List ℕ) (room place : ℕ) where
   unfolding roomUnder
   little-room-stands h =
       ap (λ (cs : List Check). refusalOf cs (given query room)) room-split
-      ∙ own-stands sixChecks roomCheck (fiveTermsCheck ∷ []) (given query room) place (apart 9 sixChecks nine-apart) (apart 9 (fiveTermsCheck ∷ []) nine-behind) (h .1, keep-true 0 (lt-ltb room 53 (h .2)) ∙ ap some (sym (h .0)))
+      ∙ own-stands sixChecks roomCheck (fiveTermsCheck ∷ []) (given query room) place (apart 9 sixChecks nine-apart)
+      (apart 9 (fiveTermsCheck ∷ []) nine-behind) (h .1, keep-true 0 (lt-ltb room 53 (h .2)) ∙ ap some (sym (h .0)))

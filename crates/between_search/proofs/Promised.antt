@@ -15,7 +15,8 @@ use Rattle.logic.specs.Query.{sections, parts, firstByte, layoutOf, decode, ter
 use Rattle.logic.specs.Facts.{terms}
 use Rattle.logic.specs.Heap.{Heap, IsHeap, Meets, Satisfiable, value}
 use Rattle.logic.specs.Shown.{heapIn, wellFormed}
-use Rattle.logic.specs.Calls.{Input, Check, layoutCheck, byteCheck, formChecks, roomUnder, roomCheck, oneLinkForm, Answer, refused, satisfiable, refuted, Outcome, refusalOf, accepts, padded, blank, verdictCall}
+use Rattle.logic.specs.Calls.{Input, Check, layoutCheck, byteCheck, formChecks, roomUnder, roomCheck, oneLinkForm, Answer}
+use Rattle.logic.specs.Calls.{refused, satisfiable, refuted, Outcome, refusalOf, accepts, padded, blank, verdictCall}
 use Rattle.logic.specs.Demands.{NotRefused, FirstStands, numbers}
 use Rattle.theory.proofs.Basics.Search.{none-some, keep-none, any-alike}
 use Rattle.theory.proofs.Completeness.Placed.{length-from}
@@ -54,7 +55,8 @@ heap-none e = let z : _≡_ {A = ℕ} 0 1 = cc in omega arith
 -- What the call does: a refusal, or what the search says
 data Done (query : List ℕ) (room : ℕ) : Type 0 where
   is-refused : (a : Answer) → refusalOf betweenChecks (given query room) ≡ some a → betweenCall query room ≡ blank room a → Done query room
-  is-heap : (c : Found) → refusalOf betweenChecks (given query room) ≡ none → heapFound (decodeSix query) ≡ some c → betweenCall query room ≡ record { answer = satisfiable; lent = padded room (reportOf (decodeSix query) c) } → Done query room
+  is-heap : (c : Found) → refusalOf betweenChecks (given query room) ≡ none → heapFound (decodeSix query) ≡ some c →
+      betweenCall query room ≡ record { answer = satisfiable; lent = padded room (reportOf (decodeSix query) c) } → Done query room
   is-none : refusalOf betweenChecks (given query room) ≡ none → heapFound (decodeSix query) ≡ none → betweenCall query room ≡ blank room refuted → Done query room
 
 done : (query : List ℕ) (room : ℕ) → Done query room
@@ -168,14 +170,17 @@ module _ (query : List ℕ) (room : ℕ) (passed : refusalOf betweenChecks (give
     named t a b = shown-variable (decodeSix query) c room m size-is t a b ∙ node-is t
 
     value-shown : (t : ℕ) → 1 ≤ t → t ≤ n → value shown (decodeSix query .base .entries) t ≡ entry (f .search .nodes) t
-    value-shown = value-is (decodeSix query) ok false m (f .search .links) (f .search .nodes) (f .search .links-grown) (f .search .nodes-grown) (f .some-node) few-nodes shown is (shown-size (decodeSix query) c room m size-is) linked loops named
+    value-shown = value-is (decodeSix query) ok false m (f .search .links) (f .search .nodes) (f .search .links-grown) (f .search .nodes-grown)
+        (f .some-node) few-nodes shown is (shown-size (decodeSix query) c room m size-is) linked loops named
 
     meets : MeetsBetween shown (decodeSix query)
     meets =
-        found-meets (decodeSix query) ok false m (f .search .links) (f .search .nodes) (f .search .links-grown) (f .search .nodes-grown) (f .some-node) few-nodes shown is (shown-size (decodeSix query) c room m size-is) linked loops named
+        found-meets (decodeSix query) ok false m (f .search .links) (f .search .nodes) (f .search .links-grown) (f .search .nodes-grown)
+        (f .some-node) few-nodes shown is (shown-size (decodeSix query) c room m size-is) linked loops named
         (λ j v r s. shown-field (decodeSix query) c room m size-is j v r s ∙ fields-same j v)
       where
-        fields-same : (j v : ℕ) → any (λ k. k .plain && eqb (k .left) j && eqb (entry (c .nodes) (k .right)) v) (decodeSix query .base .fields) ≡ any (λ k. k .plain && eqb (k .left) j && eqb (entry (f .search .nodes) (k .right)) v) (decodeSix query .base .fields)
+        fields-same : (j v : ℕ) → any (λ k. k .plain && eqb (k .left) j && eqb (entry (c .nodes) (k .right)) v) (decodeSix query .base .fields) ≡ any
+            (λ k. k .plain && eqb (k .left) j && eqb (entry (f .search .nodes) (k .right)) v) (decodeSix query .base .fields)
         fields-same j v = any-alike _ _ (decodeSix query .base .fields) (λ k i. ap (λ (x : ℕ). k .plain && eqb (k .left) j && eqb x v) (node-is (k .right)))
 
     -- the lists found, as the numbers of the heap shown
@@ -190,11 +195,13 @@ module _ (query : List ℕ) (room : ℕ) (passed : refusalOf betweenChecks (give
 
     links-are : f .search .links ≡ m ∷ map (shown .link 1) (from m 1)
     unfolding entry
-    links-are = listed (shown .link 1) m (f .search .links) (grown-size _ _ _ (f .search .links-grown) ∙ omega arith) (grown-entry _ _ _ (f .search .links-grown) 0 (omega arith)) (λ u a b. sym (linked u (a, b)))
+    links-are = listed (shown .link 1) m (f .search .links) (grown-size _ _ _ (f .search .links-grown) ∙ omega arith)
+        (grown-entry _ _ _ (f .search .links-grown) 0 (omega arith)) (λ u a b. sym (linked u (a, b)))
 
     nodes-are : f .search .nodes ≡ n ∷ map (value shown (decodeSix query .base .entries)) (from n 1)
     unfolding entry
-    nodes-are = listed (value shown (decodeSix query .base .entries)) n (f .search .nodes) (grown-size _ _ _ (f .search .nodes-grown) ∙ omega arith) (grown-entry _ _ _ (f .search .nodes-grown) 0 (omega arith)) (λ u a b. sym (value-shown u a b))
+    nodes-are = listed (value shown (decodeSix query .base .entries)) n (f .search .nodes) (grown-size _ _ _ (f .search .nodes-grown) ∙ omega arith)
+        (grown-entry _ _ _ (f .search .nodes-grown) 0 (omega arith)) (λ u a b. sym (value-shown u a b))
 
     rank-is : rank (decodeSix query) shown ≡ (m ∷ map (shown .link 1) (from m 1)) ++ map (value shown (decodeSix query .base .entries)) (from n 1)
     unfolding rank terms
@@ -206,7 +213,8 @@ module _ (query : List ℕ) (room : ℕ) (passed : refusalOf betweenChecks (give
           meets = meets;
           listed = λ t a b. value-shown t a b ∙ sym (shown-node (decodeSix query) c room m size-is t a b ∙ node-is t);
           small = subst (λ (k : ℕ). k ≤ mostNodes n) (sym (shown-size (decodeSix query) c room m size-is)) (f .within);
-          first = λ h met b. first-right (decodeSix query) ok few c f h met (map (value shown (decodeSix query .base .entries)) (from n 1)) nodes-are (map (shown .link 1) (from m 1)) links-are (length-map (from m 1) (shown .link 1) ∙ length-from m 1) (subst (Before (rank (decodeSix query) h)) rank-is b);
+          first = λ h met b. first-right (decodeSix query) ok few c f h met (map (value shown (decodeSix query .base .entries)) (from n 1)) nodes-are
+              (map (shown .link 1) (from m 1)) links-are (length-map (from m 1) (shown .link 1) ∙ length-from m 1) (subst (Before (rank (decodeSix query) h)) rank-is b);
         }
 
 -- The fields of the promise
@@ -313,19 +321,24 @@ five-laid i five = laid-out sections (i .query) (sections-excesses (firstByte (i
     accepted (by-lines ls w e n) = verdict-passed oneLinkForm one-link-laws i n .0 .query
     accepted (by-model s w e n) = verdict-passed oneLinkForm one-link-laws i n .0 .query
 
-shares-verdict : (i : Input) (room : ℕ) → NotRefused (verdictCall i .answer) → NotRefused (betweenCall (i .query ++ (0 ∷ [])) room .answer) → betweenCall (i .query ++ (0 ∷ [])) room .answer ≡ verdictCall i .answer
+shares-verdict : (i : Input) (room : ℕ) → NotRefused (verdictCall i .answer) → NotRefused (betweenCall (i .query ++ (0 ∷ [])) room .answer) →
+    betweenCall (i .query ++ (0 ∷ [])) room .answer ≡ verdictCall i .answer
 shares-verdict i room five six =
     let p = five-laid i five in
     let base = base-same (i .query) (p .0) (p .1) in
     let none-between = betweens-none (i .query) (p .0) (p .1) in
     let to : SatisfiableBetween (decodeSix (i .query ++ (0 ∷ []))) → Satisfiable (decode (i .query)) = λ s. (s .0, subst (Meets (s .0)) base (s .1 .meets)) in
-    let from-five : Satisfiable (decode (i .query)) → SatisfiableBetween (decodeSix (i .query ++ (0 ∷ []))) = λ s. base-only (decodeSix (i .query ++ (0 ∷ []))) none-between (s .0, subst (Meets (s .0)) (sym base) (s .1)) in
+    let from-five : Satisfiable (decode (i .query)) → SatisfiableBetween (decodeSix (i .query ++ (0 ∷ []))) = λ s. base-only
+    (decodeSix (i .query ++ (0 ∷ []))) none-between (s .0, subst (Meets (s .0)) (sym base) (s .1)) in
     go (done (i .query ++ (0 ∷ [])) room) to from-five
   where
-    go : Done (i .query ++ (0 ∷ [])) room → (SatisfiableBetween (decodeSix (i .query ++ (0 ∷ []))) → Satisfiable (decode (i .query))) → (Satisfiable (decode (i .query)) → SatisfiableBetween (decodeSix (i .query ++ (0 ∷ [])))) → betweenCall (i .query ++ (0 ∷ [])) room .answer ≡ verdictCall i .answer
+    go : Done (i .query ++ (0 ∷ [])) room → (SatisfiableBetween (decodeSix (i .query ++ (0 ∷ []))) → Satisfiable (decode (i .query))) →
+        (Satisfiable (decode (i .query)) → SatisfiableBetween (decodeSix (i .query ++ (0 ∷ [])))) →
+        betweenCall (i .query ++ (0 ∷ [])) room .answer ≡ verdictCall i .answer
     go (is-refused a e o) to back = let r = refusal-is (i .query ++ (0 ∷ [])) room a e in absurd (six (r .0) (r .1) (answer-of o ∙ blank-answer room a ∙ r .2))
     go (is-heap c e f o) to back = answer-of o ∙ sym (demand2 .satisfiable-exactly i five .1 (to (heap-exactly (i .query ++ (0 ∷ [])) room six .0 (answer-of o))))
-    go (is-none e f o) to back = answer-of o ∙ blank-answer room refuted ∙ sym (demand2 .refuted-exactly i five .1 (λ s. none-exactly (i .query ++ (0 ∷ [])) room six .0 (answer-of o ∙ blank-answer room refuted) (back s)))
+    go (is-none e f o) to back = answer-of o ∙ blank-answer room refuted
+        ∙ sym (demand2 .refuted-exactly i five .1 (λ s. none-exactly (i .query ++ (0 ∷ [])) room six .0 (answer-of o ∙ blank-answer room refuted) (back s)))
 
 pub between-promised : BetweenPromised
 between-promised =
@@ -334,7 +347,8 @@ between-promised =
       refusal-blank = refusal-blank;
       checks-in-order = checks-in-order;
       many-terms-exactly = λ query room place. (λ h. many-terms-only query room place (by-checks query room 21 place h), λ h. checks-refuse query room 21 place (many-terms-stand query room place h));
-      little-room-exactly = λ query room place. (λ h. little-room-only query room place (by-checks query room 9 place h), λ h. checks-refuse query room 9 place (little-room-stands query room place h));
+      little-room-exactly = λ query room place.
+          (λ h. little-room-only query room place (by-checks query room 9 place h), λ h. checks-refuse query room 9 place (little-room-stands query room place h));
       heap-exactly = heap-exactly;
       heap-first = heap-first;
       report-formed = report-formed;

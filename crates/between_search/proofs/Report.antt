@@ -107,7 +107,8 @@ module _ (q : BetweenQuery) (c : Found) (room m : ℕ) (size : entry (c .links) 
   unfolding reportOf padded
   report-laid =
       subst (λ (k : ℕ). Laid shown 1 k n (λ j i. link (suc i)) (λ i. node (suc i)) (λ i. datum (suc i)) 0 rest) size
-      (rw (regroup (entry (c .links) 0 ∷ map link (terms (entry (c .links) 0))) (n ∷ map node (terms n)) (entry (c .links) 0 ∷ map datum (terms (entry (c .links) 0))) (1 ∷ 0 ∷ []) (replicate (room - length (reportOf q c)) 0))
+      (rw (regroup (entry (c .links) 0 ∷ map link (terms (entry (c .links) 0))) (n ∷ map node (terms n))
+      (entry (c .links) 0 ∷ map datum (terms (entry (c .links) 0))) (1 ∷ 0 ∷ []) (replicate (room - length (reportOf q c)) 0))
       (laid (entry (c .links) 0) n 0 link node datum (replicate (room - length (reportOf q c)) 0)))
 
   pub shown-size : heapIn 1 shown .size ≡ m
@@ -139,4 +140,5 @@ module _ (q : BetweenQuery) (c : Found) (room m : ℕ) (size : entry (c .links) 
   pub shown-field : (j v : ℕ) → (1 ≤ j) × (j ≤ 8) → (1 ≤ v) × (v ≤ m) → heapIn 1 shown .field j v ≡ any (λ k. k .plain && eqb (k .left) j && eqb (node (k .right)) v) (q .base .fields)
   unfolding dataByte
   shown-field j zero r s = absurd (omega (arith, s .0))
-  shown-field j (suc i) r s = heap-field report-laid (omega arith) i j (s .1) ∙ byte-bit (λ x. any (λ k. k .plain && eqb (k .left) x && eqb (node (k .right)) (suc i)) (q .base .fields)) j (r .0) (r .1)
+  shown-field j (suc i) r s = heap-field report-laid (omega arith) i j (s .1)
+      ∙ byte-bit (λ x. any (λ k. k .plain && eqb (k .left) x && eqb (node (k .right)) (suc i)) (q .base .fields)) j (r .0) (r .1)

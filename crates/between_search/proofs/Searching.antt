@@ -20,7 +20,8 @@ use Rattle.between_search.proofs.Growing.{grown-size}
 use Rattle.between_search.proofs.Sound.{high-any, high-link}
 
 -- higher bounds let more grow
-pub grown-weaken : (lowest high high′ : ℕ → List ℕ → ℕ) (fits : ℕ → List ℕ → Bool) → ((t : ℕ) (xs : List ℕ) → high t xs ≤ high′ t xs) → {k i : ℕ} {xs ys : List ℕ} → Grown lowest high fits k i xs ys → Grown lowest high′ fits k i xs ys
+pub grown-weaken : (lowest high high′ : ℕ → List ℕ → ℕ) (fits : ℕ → List ℕ → Bool) → ((t : ℕ) (xs : List ℕ) → high t xs ≤ high′ t xs) →
+    {k i : ℕ} {xs ys : List ℕ} → Grown lowest high fits k i xs ys → Grown lowest high′ fits k i xs ys
 grown-weaken lowest high high′ fits h whole = whole
 grown-weaken lowest high high′ fits h {k = suc k} {i = i} {xs = xs} (more v l u f g) = let b = h i xs in more v l (omega arith) f (grown-weaken lowest high high′ fits h g)
 
@@ -56,7 +57,9 @@ module _ (q : BetweenQuery) (sorted : Bool) (m : ℕ) where
   some-same : {A : Type 0} {a b : A} → some a ≡ some b → b ≡ a
   some-same e = cc
 
-  nodes-first : (ls : List ℕ) (c : Found) → nodesFound q sorted m ls ≡ some c → First (λ t xs. lowestNode q (entry ls) t (entry xs)) (λ t xs. highestNode q sorted m (entry ls) t (entry xs)) (λ t xs. not (breaks q m (entry ls) (entry xs) n t)) (λ xs. foundAs ls xs) n 1 (n ∷ []) c
+  nodes-first : (ls : List ℕ) (c : Found) → nodesFound q sorted m ls ≡ some c →
+      First (λ t xs. lowestNode q (entry ls) t (entry xs)) (λ t xs. highestNode q sorted m (entry ls) t (entry xs))
+      (λ t xs. not (breaks q m (entry ls) (entry xs) n t)) (λ xs. foundAs ls xs) n 1 (n ∷ []) c
   unfolding nodesFound seekNodes
   nodes-first ls c h = seek-first _ _ _ (λ xs. foundAs ls xs) n 1 (n ∷ []) c h
 

@@ -44,7 +44,9 @@ unfolding firstOf from
 firstOf-lowest f zero i b h = absurd (none-some h)
 firstOf-lowest f (suc k) i b h = go (orElse-cases (f i) (firstOf f (from k (suc i))) b h) (λ e. firstOf-lowest f k (suc i) b e)
   where
-    go : (f i ≡ some b) ⊎ ((f i ≡ none) × (firstOf f (from k (suc i)) ≡ some b)) → (firstOf f (from k (suc i)) ≡ some b → (v : ℕ) × (suc i ≤ v) × (v < suc i + k) × (f v ≡ some b) × ((j : ℕ) → suc i ≤ j → j < v → f j ≡ none)) → (v : ℕ) × (i ≤ v) × (v < i + suc k) × (f v ≡ some b) × ((j : ℕ) → i ≤ j → j < v → f j ≡ none)
+    go : (f i ≡ some b) ⊎ ((f i ≡ none) × (firstOf f (from k (suc i)) ≡ some b)) →
+        (firstOf f (from k (suc i)) ≡ some b → (v : ℕ) × (suc i ≤ v) × (v < suc i + k) × (f v ≡ some b) × ((j : ℕ) → suc i ≤ j → j < v → f j ≡ none)) →
+        (v : ℕ) × (i ≤ v) × (v < i + suc k) × (f v ≡ some b) × ((j : ℕ) → i ≤ j → j < v → f j ≡ none)
     go (inl e) ih = (i, omega arith, omega arith, e, λ j l u. absurd (omega arith))
     go (inr e) ih =
         let r = ih (e .1) in
@@ -104,7 +106,8 @@ module _ (lowest highest : ℕ → List ℕ → ℕ) (fits : ℕ → List ℕ �
         let w = fitted (r .3) in
         go (r .0) (r .1) (omega (arith, r .1, r .2)) (w .0) (r .4) (seek-first k (suc i) (xs ++ (r .0 ∷ [])) a (w .1))
       where
-        go : (v : ℕ) → lowest i xs ≤ v → v ≤ highest i xs → fits i (xs ++ (v ∷ [])) ≡ true → ((j : ℕ) → lowest i xs ≤ j → j < v → with-next k i xs j ≡ none) → First k (suc i) (xs ++ (v ∷ [])) a → First (suc k) i xs a
+        go : (v : ℕ) → lowest i xs ≤ v → v ≤ highest i xs → fits i (xs ++ (v ∷ [])) ≡ true →
+            ((j : ℕ) → lowest i xs ≤ j → j < v → with-next k i xs j ≡ none) → First k (suc i) (xs ++ (v ∷ [])) a → First (suc k) i xs a
         go v l u f before ih = record { list = ih .list; grown = more v l u f (ih .grown); answered = ih .answered; first = λ zs g b. none-before g b }
           where
             none-before : {zs : List ℕ} → Grown (suc k) i xs zs → Before zs (ih .list) → found zs ≡ none

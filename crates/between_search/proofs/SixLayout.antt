@@ -33,13 +33,19 @@ early-fault (s ∷ ss) ts place [] k at d h = h
 early-fault (s ∷ ss) ts place (c ∷ more) k at d h =
     first (leb c (s .limit)) (leb (c * s .width) (length more)) h (λ e. early-fault ss ts (suc place + c * s .width) (drop (c * s .width) more) k at d e)
   where
-    first : (a b : Bool) → cond a (cond b (withPart (take (c * s .width) more) (layout ss (suc place + c * s .width) (drop (c * s .width) more))) (faulty 2 (suc place + length more))) (faulty (s .excess) place) ≡ faulty k at → (layout ss (suc place + c * s .width) (drop (c * s .width) more) ≡ faulty k at → layout (ss ++ ts) (suc place + c * s .width) (drop (c * s .width) more) ≡ faulty k at) → cond a (cond b (withPart (take (c * s .width) more) (layout (ss ++ ts) (suc place + c * s .width) (drop (c * s .width) more))) (faulty 2 (suc place + length more))) (faulty (s .excess) place) ≡ faulty k at
+    first : (a b : Bool) → cond a (cond b (withPart (take (c * s .width) more) (layout ss (suc place + c * s .width) (drop (c * s .width) more)))
+        (faulty 2 (suc place + length more))) (faulty (s .excess) place) ≡ faulty k at →
+        (layout ss (suc place + c * s .width) (drop (c * s .width) more) ≡ faulty k at →
+        layout (ss ++ ts) (suc place + c * s .width) (drop (c * s .width) more) ≡ faulty k at) →
+        cond a (cond b (withPart (take (c * s .width) more) (layout (ss ++ ts) (suc place + c * s .width) (drop (c * s .width) more)))
+        (faulty 2 (suc place + length more))) (faulty (s .excess) place) ≡ faulty k at
     first true true h ih = ap (withPart (take (c * s .width) more)) (ih (withPart-faulty _ _ k at h))
     first true false h ih = h
     first false b h ih = h
 
 -- where no bytes are left for the sixth, the query ends before its count
-pub ends-early : (ss ts : List Section) (s : Section) (place : ℕ) (bytes : List ℕ) (ps : List (List ℕ)) → layout ss place bytes ≡ parts ps → layout (ss ++ (s ∷ ts)) place bytes ≡ faulty 2 (place + length bytes)
+pub ends-early : (ss ts : List Section) (s : Section) (place : ℕ) (bytes : List ℕ) (ps : List (List ℕ)) → layout ss place bytes ≡ parts ps →
+    layout (ss ++ (s ∷ ts)) place bytes ≡ faulty 2 (place + length bytes)
 unfolding layout prepend withPart
 ends-early ss ts s place bytes ps h = ap (layout (ss ++ (s ∷ ts)) place) (sym (append-nil bytes)) ∙ layout-append ss (s ∷ ts) place bytes [] ps h ∙ through ps
   where
@@ -80,12 +86,17 @@ followed (s ∷ ss) d place (c ∷ more) at h = first (leb c (s .limit)) refl (l
     size : ℕ
     size = c * s .width
 
-    again : (front : List ℕ) (ps : List (List ℕ)) → length (take (c * s .width) more) ≡ c * s .width → leb c (s .limit) ≡ true → layout ss (suc place + c * s .width) front ≡ parts ps → layout (s ∷ ss) place (c ∷ (take (c * s .width) more ++ front)) ≡ parts (take (c * s .width) more ∷ ps)
+    again : (front : List ℕ) (ps : List (List ℕ)) → length (take (c * s .width) more) ≡ c * s .width → leb c (s .limit) ≡ true →
+        layout ss (suc place + c * s .width) front ≡ parts ps → layout (s ∷ ss) place (c ∷ (take (c * s .width) more ++ front)) ≡ parts (take (c * s .width) more ∷ ps)
     again front ps sized ea h =
         let longer : leb (c * s .width) (length (take (c * s .width) more ++ front)) ≡ true = le-leb (c * s .width) _ (omega (arith, length-append (take (c * s .width) more) front, sized)) in
         rw (ea, longer, take-at (take (c * s .width) more) front (c * s .width) sized, drop-at (take (c * s .width) more) front (c * s .width) sized, h)
 
-    first : (a : Bool) → leb c (s .limit) ≡ a → (b : Bool) → leb (c * s .width) (length more) ≡ b → cond a (cond b (withPart (take (c * s .width) more) (layout ss (suc place + c * s .width) (drop (c * s .width) more))) (faulty 2 (suc place + length more))) (faulty (s .excess) place) ≡ faulty 4 at → (layout ss (suc place + c * s .width) (drop (c * s .width) more) ≡ faulty 4 at → Followed ss (suc place + c * s .width) (drop (c * s .width) more) at) → Followed (s ∷ ss) place (c ∷ more) at
+    first : (a : Bool) → leb c (s .limit) ≡ a → (b : Bool) → leb (c * s .width) (length more) ≡ b →
+        cond a (cond b (withPart (take (c * s .width) more) (layout ss (suc place + c * s .width) (drop (c * s .width) more)))
+        (faulty 2 (suc place + length more))) (faulty (s .excess) place) ≡ faulty 4 at →
+        (layout ss (suc place + c * s .width) (drop (c * s .width) more) ≡ faulty 4 at →
+        Followed ss (suc place + c * s .width) (drop (c * s .width) more) at) → Followed (s ∷ ss) place (c ∷ more) at
     first false ea b eb h ih = absurd (d .0 (faulty-same h .0))
     first true ea false eb h ih = absurd (let e = faulty-same h .0 in omega (arith, e))
     first true ea true eb h ih =
@@ -95,7 +106,9 @@ followed (s ∷ ss) d place (c ∷ more) at h = first (leb c (s .limit)) refl (l
         record {
           front = c ∷ (take (c * s .width) more ++ r .front);
           back = r .back;
-          whole = ap (λ (xs : List ℕ). c ∷ xs) (sym (take-append-drop (c * s .width) more) ∙ ap (λ (xs : List ℕ). take (c * s .width) more ++ xs) (r .whole) ∙ sym (append-assoc (take (c * s .width) more) (r .front) (r .back)));
+          whole = ap (λ (xs : List ℕ). c ∷ xs)
+              (sym (take-append-drop (c * s .width) more) ∙ ap (λ (xs : List ℕ). take (c * s .width) more ++ xs) (r .whole)
+              ∙ sym (append-assoc (take (c * s .width) more) (r .front) (r .back)));
           placed = omega (arith, r .placed, length-append (take (c * s .width) more) (r .front), sized);
           more-left = r .more-left;
           laid-parts = take (c * s .width) more ∷ r .laid-parts;
@@ -103,14 +116,16 @@ followed (s ∷ ss) d place (c ∷ more) at h = first (leb c (s .limit)) refl (l
         }
 
 -- single bytes: first in the five, then in the sixth
-pub role-append : (k place : ℕ) (roles roles′ : List Role) (bytes bytes′ : List ℕ) → length roles ≡ length bytes → roleFault k place (roles ++ roles′) (bytes ++ bytes′) ≡ orElse (roleFault k place roles bytes) (roleFault k (place + length bytes) roles′ bytes′)
+pub role-append : (k place : ℕ) (roles roles′ : List Role) (bytes bytes′ : List ℕ) → length roles ≡ length bytes →
+    roleFault k place (roles ++ roles′) (bytes ++ bytes′) ≡ orElse (roleFault k place roles bytes) (roleFault k (place + length bytes) roles′ bytes′)
 unfolding roleFault orElse
 role-append k place [] roles′ [] bytes′ e = let p : place ≡ place + 0 = omega arith in ap (λ (x : ℕ). roleFault k x roles′ bytes′) p
 role-append k place [] roles′ (b ∷ bytes) bytes′ e = absurd (omega arith)
 role-append k place (r ∷ roles) roles′ [] bytes′ e = absurd (omega arith)
 role-append k place (r ∷ roles) roles′ (b ∷ bytes) bytes′ e =
     let p : suc place + length bytes ≡ place + suc (length bytes) = omega arith in
-    ap (orElse (keep (eqb (r .refusal) k and not (r .allows b)) place)) (role-append k (suc place) roles roles′ bytes bytes′ (omega arith) ∙ ap (λ (x : ℕ). orElse (roleFault k (suc place) roles bytes) (roleFault k x roles′ bytes′)) p)
+    ap (orElse (keep (eqb (r .refusal) k and not (r .allows b)) place))
+    (role-append k (suc place) roles roles′ bytes bytes′ (omega arith) ∙ ap (λ (x : ℕ). orElse (roleFault k (suc place) roles bytes) (roleFault k x roles′ bytes′)) p)
     ∙ sym (assoc (keep (eqb (r .refusal) k and not (r .allows b)) place) (roleFault k (suc place) roles bytes) (roleFault k (place + suc (length bytes)) roles′ bytes′))
   where
     assoc : (a b c : Option ℕ) → orElse (orElse a b) c ≡ orElse a (orElse b c)

@@ -106,7 +106,8 @@ module _ (q : BetweenQuery) (ok : AcceptedSix q) (few : termCount (q .base) ≤ 
     size-is l = small-size (q .base) (ok .accepted .base) h is ∙ ap length (orOne-is (firsts val n) (some-first l))
 
     place-is : (t : ℕ) → 1 ≤ t → t ≤ n → sval t ≡ placeOf (val t) (firsts val n)
-    place-is t a b = small-value (q .base) (ok .accepted .base) h is t (a, b) ∙ ap (placeOf (val t)) (small-named (q .base) (ok .accepted .base) h is ∙ orOne-is (firsts val n) (some-first (omega arith)))
+    place-is t a b = small-value (q .base) (ok .accepted .base) h is t (a, b)
+        ∙ ap (placeOf (val t)) (small-named (q .base) (ok .accepted .base) h is ∙ orOne-is (firsts val n) (some-first (omega arith)))
 
     -- places are apart as the nodes are
     apart : (u w : ℕ) → 1 ≤ u → u ≤ n → 1 ≤ w → w ≤ n → eqb (sval u) (sval w) ≡ eqb (val u) (val w)
@@ -125,7 +126,8 @@ module _ (q : BetweenQuery) (ok : AcceptedSix q) (few : termCount (q .base) ≤ 
           size = s .size;
           some-node = small-is (q .base) (ok .accepted .base) h is .nonempty;
           within = ⊎-elim (λ z. omega (arith, none-size (z .0), z .1)) (λ l. omega (arith, size-is (l .0), firsts-short val n, l .1)) (most-cases n);
-          no-larger = ⊎-elim (λ z. omega (arith, none-size (z .0), is .nonempty)) (λ l. omega (arith, size-is (l .0), firsts-within val (h .size) n (λ u a b. value-node h (q .base .entries) is u))) (most-cases n);
+          no-larger = ⊎-elim (λ z. omega (arith, none-size (z .0), is .nonempty))
+              (λ l. omega (arith, size-is (l .0), firsts-within val (h .size) n (λ u a b. value-node h (q .base .entries) is u))) (most-cases n);
           named-all = λ l. size-is l ∙ sym (used-firsts val n);
           found = λ e. search-none q true (s .size) e (linksOf s) (nodesOf q s) (links-grown q ok s met-small five) (nodes-grown q ok s met-small five true (λ l. full l) (λ t u l. order u l));
         }
@@ -183,7 +185,8 @@ module _ (q : BetweenQuery) (ok : AcceptedSix q) (few : termCount (q .base) ≤ 
 
   -- no heap that meets the query comes before what is found
   module _ (c : Found) (f : FoundFirst c) where
-    pub first-right : (h : Heap) → MeetsBetween h q → (ns : List ℕ) → f .search .nodes ≡ n ∷ ns → (ls : List ℕ) → f .search .links ≡ f .size ∷ ls → length ls ≡ f .size → Before (rank q h) ((f .size ∷ ls) ++ ns) → ⊥
+    pub first-right : (h : Heap) → MeetsBetween h q → (ns : List ℕ) → f .search .nodes ≡ n ∷ ns → (ls : List ℕ) → f .search .links ≡ f .size ∷ ls →
+        length ls ≡ f .size → Before (rank q h) ((f .size ∷ ls) ++ ns) → ⊥
     unfolding rank terms
     first-right h met ns en ls el sl b = at (eq-cases (h .size) (f .size)) b
       where

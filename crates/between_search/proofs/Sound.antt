@@ -76,7 +76,8 @@ module _ (q : BetweenQuery) (ok : AcceptedSix q) (sorted : Bool) (m : ℕ) (ls n
         let k = accepted-below (q .base) (ok .accepted .base) t l in
         let p = low-link q (entry ls) t (entry (e .before)) l in
         let h = high-link q (entry ls) t (entry (e .before)) sorted m l in
-        let w : entry ls (entry (e .before) (argumentOf (q .base .entries) t)) ≡ entry ls (entry ns (argumentOf (q .base .entries) t)) = ap (entry ls) (e .prefix .each (argumentOf (q .base .entries) t) l k) in
+        let w : entry ls (entry (e .before) (argumentOf (q .base .entries) t)) ≡ entry ls (entry ns (argumentOf (q .base .entries) t)) = ap (entry ls)
+        (e .prefix .each (argumentOf (q .base .entries) t) l k) in
         omega (arith, e .low, e .high, p, h, w)
 
     pub nodes-in : (t : ℕ) → 1 ≤ t → t ≤ n → (1 ≤ entry ns t) × (entry ns t ≤ m)
@@ -100,11 +101,14 @@ module _ (q : BetweenQuery) (ok : AcceptedSix q) (sorted : Bool) (m : ℕ) (ls n
     passes t a b =
         let e = node-met t a b in
         let p = prefix-next (entry ns) (e .before) t (e .prefix) in
-        breaks-alike q (ok .accepted) m (entry ls) (entry ls) links-in (λ v r. refl) t a (entry ns) (entry (e .before ++ (entry ns t ∷ []))) (λ u x y. sym (p .each u x (omega arith))) (λ u x y. nodes-in u x (omega arith)) n
+        breaks-alike q (ok .accepted) m (entry ls) (entry ls) links-in (λ v r. refl) t a (entry ns) (entry (e .before ++ (entry ns t ∷ [])))
+        (λ u x y. sym (p .each u x (omega arith))) (λ u x y. nodes-in u x (omega arith)) n
         ∙ not-true (e .fitted)
 
     -- a heap that is so
-    module _ (nonempty : 1 ≤ m) (few : m ≤ 5) (h : Heap) (is : IsHeap h) (size : h .size ≡ m) (linked : (v : ℕ) → (1 ≤ v) × (v ≤ m) → h .link 1 v ≡ entry ls v) (loops : (i v : ℕ) → (i ≡ 1 → ⊥) → h .link i v ≡ v) (named : (t : ℕ) → 1 ≤ t → t ≤ n → h .variable t ≡ entry ns t) where
+    module _ (nonempty : 1 ≤ m) (few : m ≤ 5) (h : Heap) (is : IsHeap h) (size : h .size ≡ m)
+        (linked : (v : ℕ) → (1 ≤ v) × (v ≤ m) → h .link 1 v ≡ entry ls v) (loops : (i v : ℕ) → (i ≡ 1 → ⊥) → h .link i v ≡ v)
+        (named : (t : ℕ) → 1 ≤ t → t ≤ n → h .variable t ≡ entry ns t) where
       abbrev val : ℕ → ℕ
       val = value h (q .base .entries)
 
@@ -125,7 +129,8 @@ module _ (q : BetweenQuery) (ok : AcceptedSix q) (sorted : Bool) (m : ℕ) (ls n
       -- the tests pass in the heap
       passed : (t : ℕ) → 1 ≤ t → t ≤ n → breaks q m (h .link 1) val n t ≡ false
       passed t a b =
-          sym (breaks-alike q (ok .accepted) m (entry ls) (h .link 1) links-in (λ v r. sym (linked v r)) t a (entry ns) val (λ u x y. sym (value-is u x (omega arith))) (λ u x y. nodes-in u x (omega arith)) n)
+          sym (breaks-alike q (ok .accepted) m (entry ls) (h .link 1) links-in (λ v r. sym (linked v r)) t a (entry ns) val
+          (λ u x y. sym (value-is u x (omega arith))) (λ u x y. nodes-in u x (omega arith)) n)
           ∙ passes t a b
 
       record Apart (t : ℕ) : Type 0 where
@@ -156,7 +161,8 @@ module _ (q : BetweenQuery) (ok : AcceptedSix q) (sorted : Bool) (m : ℕ) (ls n
               is-heap = is;
               nil-node = nil-rule h is small (q .base .entries) n loops (λ t e. nil-range (q .base .entries) t e) (λ t a b. apart t a b .nil);
               equalities = λ l k. let r = ok .accepted .base .equal-terms l k in equal-met h is small (q .base .entries) n l (r .0) (r .1) .1 (λ t a b. any-false _ l (apart t a b .equal) k);
-              reachability = λ l k. let r = ok .accepted .base .reach-terms l k in reach-met h is small (q .base .entries) n l (reach-one q ok l k) (r .0) (r .1) .1 (λ t a b. any-false _ l (apart t a b .reach) k);
+              reachability = λ l k. let r = ok .accepted .base .reach-terms l k in
+                  reach-met h is small (q .base .entries) n l (reach-one q ok l k) (r .0) (r .1) .1 (λ t a b. any-false _ l (apart t a b .reach) k);
               fields = λ l k. field-met l k;
             };
             betweens = λ l k. let r = ok .accepted .between-terms l k in between-met h is small (q .base .entries) n l (r .0) (r .1) (r .2) .1 (λ t a b. any-false _ l (apart t a b .between) k);
@@ -167,5 +173,6 @@ module _ (q : BetweenQuery) (ok : AcceptedSix q) (sorted : Bool) (m : ℕ) (ls n
               let r = ok .accepted .base .field-term l k in
               let e = value-is (l .right) (r .0) (r .1) in
               let breaking : (t : ℕ) → 1 ≤ t → t ≤ n → fieldBreaks (q .base .fields) (entry ns) t ≡ false = λ t a b. neither _ _ (neither _ _ (neither _ _ (passes t a b) .1) .1) .0 in
-              subst (λ (b : Bool). Signed (l .plain) (b ≡ true)) (sym (ap (h .field (l .left)) e ∙ fields (l .left) (entry ns (l .right)) (ok .accepted .base .field-number l k) (nodes-in (l .right) (r .0) (r .1))))
+              subst (λ (b : Bool). Signed (l .plain) (b ≡ true))
+              (sym (ap (h .field (l .left)) e ∙ fields (l .left) (entry ns (l .right)) (ok .accepted .base .field-number l k) (nodes-in (l .right) (r .0) (r .1))))
               (fields-met (q .base .fields) (ok .accepted .base .field-number) (entry ns) n (λ b i. ok .accepted .base .field-term b i) breaking l k)

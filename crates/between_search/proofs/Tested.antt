@@ -29,7 +29,9 @@ module _ (h : Heap) (is : IsHeap h) (few : h .size ≤ 5) (entries : Entries) wh
   here : (t : ℕ) → Stays (h .link 1) (h .size) (val t)
   here t = stays (h .link 1) (h .size) (is .link-node 1) (val t) (value-node h entries is t)
 
-  pair-met : (P : Type 0) (n most : ℕ) (l : Literal) → (1 ≤ l .left) × (l .left ≤ n) → (1 ≤ l .right) × (l .right ≤ n) → P ↔ (leb (steps (h .link 1) (val (l .left)) (val (l .right))) most ≡ true) → Signed (l .plain) P ↔ ((t : ℕ) → 1 ≤ t → t ≤ n → pairBreaks (h .link 1) val most t l ≡ false)
+  pair-met : (P : Type 0) (n most : ℕ) (l : Literal) → (1 ≤ l .left) × (l .left ≤ n) → (1 ≤ l .right) × (l .right ≤ n) →
+      P ↔ (leb (steps (h .link 1) (val (l .left)) (val (l .right))) most ≡ true) →
+      Signed (l .plain) P ↔ ((t : ℕ) → 1 ≤ t → t ≤ n → pairBreaks (h .link 1) val most t l ≡ false)
   unfolding pairBreaks
   pair-met P n most l ra rb e =
       let s = signed-agrees (l .plain) (leb (steps (h .link 1) (val (l .left)) (val (l .right))) most) e in (
@@ -37,14 +39,17 @@ module _ (h : Heap) (is : IsHeap h) (few : h .size ≤ 5) (entries : Entries) wh
         λ r. let d = pair-due-somewhere (l .left) (l .right) n ra rb in s .1 (not-not (not-both (r (d .0) (d .1) (d .2)) (d .3))),
       )
 
-  pub equal-met : (n : ℕ) (l : Literal) → (1 ≤ l .left) × (l .left ≤ n) → (1 ≤ l .right) × (l .right ≤ n) → MeansEqual h entries l ↔ ((t : ℕ) → 1 ≤ t → t ≤ n → pairBreaks (h .link 1) val 0 t l ≡ false)
+  pub equal-met : (n : ℕ) (l : Literal) → (1 ≤ l .left) × (l .left ≤ n) → (1 ≤ l .right) × (l .right ≤ n) →
+      MeansEqual h entries l ↔ ((t : ℕ) → 1 ≤ t → t ≤ n → pairBreaks (h .link 1) val 0 t l ≡ false)
   equal-met n l ra rb = pair-met _ n 0 l ra rb (equal-steps (h .link 1) (h .size) few (val (l .left)) (here (l .left)) (val (l .right)))
 
-  pub reach-met : (n : ℕ) (l : Literal) → l .link ≡ 1 → (1 ≤ l .left) × (l .left ≤ n) → (1 ≤ l .right) × (l .right ≤ n) → MeansReach h entries l ↔ ((t : ℕ) → 1 ≤ t → t ≤ n → pairBreaks (h .link 1) val 5 t l ≡ false)
+  pub reach-met : (n : ℕ) (l : Literal) → l .link ≡ 1 → (1 ≤ l .left) × (l .left ≤ n) → (1 ≤ l .right) × (l .right ≤ n) →
+      MeansReach h entries l ↔ ((t : ℕ) → 1 ≤ t → t ≤ n → pairBreaks (h .link 1) val 5 t l ≡ false)
   unfolding pairBreaks
   reach-met n l one ra rb = rw one (pair-met _ n 5 l ra rb (reach-steps (h .link 1) (h .size) few (val (l .left)) (here (l .left)) (val (l .right))))
 
-  pub between-met : (n : ℕ) (l : BetweenLiteral) → (1 ≤ l .from) × (l .from ≤ n) → (1 ≤ l .middle) × (l .middle ≤ n) → (1 ≤ l .to) × (l .to ≤ n) → MeansBetween h entries l ↔ ((t : ℕ) → 1 ≤ t → t ≤ n → tripleBreaks (h .link 1) val t l ≡ false)
+  pub between-met : (n : ℕ) (l : BetweenLiteral) → (1 ≤ l .from) × (l .from ≤ n) → (1 ≤ l .middle) × (l .middle ≤ n) → (1 ≤ l .to) × (l .to ≤ n) →
+      MeansBetween h entries l ↔ ((t : ℕ) → 1 ≤ t → t ≤ n → tripleBreaks (h .link 1) val t l ≡ false)
   unfolding tripleBreaks
   between-met n l rx ry rz =
       let y : ℕ = steps (h .link 1) (val (l .from)) (val (l .middle)) in
@@ -70,7 +75,8 @@ module _ (h : Heap) (is : IsHeap h) (few : h .size ≤ 5) (entries : Entries) wh
           other u true k = rw (eqb-intro (nil .one-node u t k e))
 
   -- where every other link leads from each node to itself
-  pub nil-rule : (n : ℕ) → ((i v : ℕ) → (i ≡ 1 → ⊥) → h .link i v ≡ v) → ((t : ℕ) → namesNil entries t ≡ true → (1 ≤ t) × (t ≤ n)) → ((t : ℕ) → 1 ≤ t → t ≤ n → nilBreaks entries (h .link 1) val t ≡ false) → NilNode h entries
+  pub nil-rule : (n : ℕ) → ((i v : ℕ) → (i ≡ 1 → ⊥) → h .link i v ≡ v) → ((t : ℕ) → namesNil entries t ≡ true → (1 ≤ t) × (t ≤ n)) →
+      ((t : ℕ) → 1 ≤ t → t ≤ n → nilBreaks entries (h .link 1) val t ≡ false) → NilNode h entries
   unfolding nilBreaks
   nil-rule n loops range r =
       record {
@@ -85,7 +91,8 @@ module _ (h : Heap) (is : IsHeap h) (few : h .size ≤ 5) (entries : Entries) wh
           go true k = refl
           go false k = absurd (false≢true (sym k))
 
-      rest : (t : ℕ) → not (eqb (h .link 1 (val t)) (val t)) || any (λ u. namesNil entries u && not (eqb (val u) (val t))) (from t 1) ≡ false → any (λ u. namesNil entries u && not (eqb (val u) (val t))) (from t 1) ≡ false
+      rest : (t : ℕ) → not (eqb (h .link 1 (val t)) (val t)) || any (λ u. namesNil entries u && not (eqb (val u) (val t))) (from t 1) ≡ false →
+          any (λ u. namesNil entries u && not (eqb (val u) (val t))) (from t 1) ≡ false
       rest t e = go (not (eqb (h .link 1 (val t)) (val t))) e
         where
           go : (b : Bool) → b || any (λ u. namesNil entries u && not (eqb (val u) (val t))) (from t 1) ≡ false → any (λ u. namesNil entries u && not (eqb (val u) (val t))) (from t 1) ≡ false
@@ -103,8 +110,11 @@ module _ (h : Heap) (is : IsHeap h) (few : h .size ≤ 5) (entries : Entries) wh
 says-is : (sign : Bool) (j t : ℕ) (l : Literal) → saysField sign j t l ≡ true → (agrees sign (l .plain) ≡ true) × (l .left ≡ j) × (l .right ≡ t)
 unfolding saysField
 says-is sign j t l h =
-    let a = first-of (agrees sign (l .plain) && eqb (l .left) j) (eqb (l .right) t) h in
-    (first-of (agrees sign (l .plain)) (eqb (l .left) j) a, eqb-true _ _ (second-of (agrees sign (l .plain)) (eqb (l .left) j) a), eqb-true _ _ (second-of (agrees sign (l .plain) && eqb (l .left) j) (eqb (l .right) t) h))
+    let a = first-of (agrees sign (l .plain) && eqb (l .left) j) (eqb (l .right) t) h in (
+      first-of (agrees sign (l .plain)) (eqb (l .left) j) a,
+      eqb-true _ _ (second-of (agrees sign (l .plain)) (eqb (l .left) j) a),
+      eqb-true _ _ (second-of (agrees sign (l .plain) && eqb (l .left) j) (eqb (l .right) t) h),
+    )
 
 agrees-is : (sign b : Bool) → agrees sign b ≡ true → b ≡ sign
 unfolding agrees
@@ -129,7 +139,8 @@ module _ (fields : List Literal) (number : (l : Literal) → List·Memᴰ l fiel
       none a b e =
           any-none _ (from 8 1) (λ j m. apart j (bool-cases (hasField fields true j a)) (bool-cases (hasField fields false j b)))
         where
-          apart : (j : ℕ) → (hasField fields true j a ≡ true) ⊎ (hasField fields true j a ≡ false) → (hasField fields false j b ≡ true) ⊎ (hasField fields false j b ≡ false) → hasField fields true j a && hasField fields false j b ≡ false
+          apart : (j : ℕ) → (hasField fields true j a ≡ true) ⊎ (hasField fields true j a ≡ false) →
+              (hasField fields false j b ≡ true) ⊎ (hasField fields false j b ≡ false) → hasField fields true j a && hasField fields false j b ≡ false
           apart j (inr p) n = rw p
           apart j (inl p) (inr n) = and-false (hasField fields true j a) n
           apart j (inl p) (inl n) =
@@ -146,7 +157,9 @@ module _ (fields : List Literal) (number : (l : Literal) → List·Memᴰ l fiel
       go u (inl e) = let p = eqb-true _ _ e in and-false (eqb (node u) (node t)) (rw (none u t p, none t u (sym p)))
 
   -- where opposed terms are apart, a field is set at a node exactly by plain literals, and all literals are met
-  pub fields-met : (n : ℕ) → ((l : Literal) → List·Memᴰ l fields → (1 ≤ l .right) × (l .right ≤ n)) → ((t : ℕ) → 1 ≤ t → t ≤ n → fieldBreaks fields node t ≡ false) → (l : Literal) → List·Memᴰ l fields → Signed (l .plain) (any (λ k. k .plain && eqb (k .left) (l .left) && eqb (node (k .right)) (node (l .right))) fields ≡ true)
+  pub fields-met : (n : ℕ) → ((l : Literal) → List·Memᴰ l fields → (1 ≤ l .right) × (l .right ≤ n)) →
+      ((t : ℕ) → 1 ≤ t → t ≤ n → fieldBreaks fields node t ≡ false) → (l : Literal) → List·Memᴰ l fields →
+      Signed (l .plain) (any (λ k. k .plain && eqb (k .left) (l .left) && eqb (node (k .right)) (node (l .right))) fields ≡ true)
   unfolding fieldBreaks opposed hasField saysField
   fields-met n range r l m = go (l .plain) refl
     where
@@ -166,7 +179,8 @@ module _ (fields : List Literal) (number : (l : Literal) → List·Memᴰ l fiel
           let o = opposite k i e f g in
           ⊎-elim
           (λ c. true-false (both (eqb-intro p) (either-left _ o)) (any-false _ (k .right) (r (l .right) (b .0) (b .1)) (from-intro (l .right) 1 (k .right) (a .0) (omega arith))))
-          (λ c. true-false (both (eqb-intro (sym p)) (either-right (opposed fields (l .right) (k .right)) o)) (any-false _ (l .right) (r (k .right) (a .0) (a .1)) (from-intro (k .right) 1 (l .right) (b .0) (omega arith))))
+          (λ c. true-false (both (eqb-intro (sym p)) (either-right (opposed fields (l .right) (k .right)) o))
+          (any-false _ (l .right) (r (k .right) (a .0) (a .1)) (from-intro (k .right) 1 (l .right) (b .0) (omega arith))))
           (le-cases (k .right) (l .right))
 
       go : (b : Bool) → l .plain ≡ b → Signed b (any (λ k. k .plain && eqb (k .left) (l .left) && eqb (node (k .right)) (node (l .right))) fields ≡ true)
@@ -174,4 +188,6 @@ module _ (fields : List Literal) (number : (l : Literal) → List·Memᴰ l fiel
       go false e = λ h.
           let x = any-true _ fields h in
           let a = first-of (x .0 .plain && eqb (x .0 .left) (l .left)) (eqb (node (x .0 .right)) (node (l .right))) (x .2) in
-          clash (x .0) (x .1) (first-of (x .0 .plain) (eqb (x .0 .left) (l .left)) a) (eqb-true _ _ (second-of (x .0 .plain) (eqb (x .0 .left) (l .left)) a)) (eqb-true _ _ (second-of (x .0 .plain && eqb (x .0 .left) (l .left)) (eqb (node (x .0 .right)) (node (l .right))) (x .2))) e
+          clash (x .0) (x .1) (first-of (x .0 .plain) (eqb (x .0 .left) (l .left)) a)
+          (eqb-true _ _ (second-of (x .0 .plain) (eqb (x .0 .left) (l .left)) a))
+          (eqb-true _ _ (second-of (x .0 .plain && eqb (x .0 .left) (l .left)) (eqb (node (x .0 .right)) (node (l .right))) (x .2))) e

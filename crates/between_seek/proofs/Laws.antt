@@ -242,7 +242,9 @@ module _ (q : BetweenQuery) (sorted : Bool) (m : ℕ) (ls : List ℕ) (j : ℕ) 
 
   pub link-tried : (k v : ℕ) → j < 17 → linkTried q sorted m ls j k v ≡ seekLinks q sorted m k (j + 1) (take (j + 1) (set ls j v))
   unfolding linkTried
-  link-tried k v room = rw add-one (ap (seekLinks q sorted m k (suc j)) (sym (taken-next ls j v (chosen-size ls j cl (omega arith)) room)) ∙ ap (λ (i : ℕ). seekLinks q sorted m k (suc j) (take i (set ls j v))) (add-one j))
+  link-tried k v room = rw add-one
+      (ap (seekLinks q sorted m k (suc j)) (sym (taken-next ls j v (chosen-size ls j cl (omega arith)) room))
+      ∙ ap (λ (i : ℕ). seekLinks q sorted m k (suc j) (take i (set ls j v))) (add-one j))
 
 pub small-zeros : Small (replicate 17 0)
 unfolding entry

@@ -74,7 +74,8 @@ column-of v w h = omega arith
 module _ {A : Type 0} (g : ℕ → ℕ → A) (d : A) where
   pub made-next : (table : List A) (v w : ℕ) (a : A) → length table ≡ 36 → v ≤ 5 → w ≤ 5 → a ≡ g v w → MadeTo g d table (6 * v + w) → MadeTo g d (set table (6 * v + w) a) (6 * v + (w + 1))
   made-next table v w a l x y e m j h = elim (ℕ-discrete j (6 * v + w)) [
-    | yes q ↦ ap (λ (x : ℕ). getD (set table (6 * v + w) a) x d) q ∙ getD-set-same table (6 * v + w) a d (omega arith) ∙ e ∙ ap₂ (λ (x y : ℕ). g x y) (sym (row-of v w y)) (sym (column-of v w y)) ∙ ap (λ (x : ℕ). g (x / 6) (x % 6)) (sym q)
+    | yes q ↦ ap (λ (x : ℕ). getD (set table (6 * v + w) a) x d) q ∙ getD-set-same table (6 * v + w) a d (omega arith) ∙ e
+        ∙ ap₂ (λ (x y : ℕ). g x y) (sym (row-of v w y)) (sym (column-of v w y)) ∙ ap (λ (x : ℕ). g (x / 6) (x % 6)) (sym q)
     | no n ↦ getD-set-other table (6 * v + w) j a d n ∙ m j (omega arith)
   ]
 
@@ -119,7 +120,8 @@ module _ (link node : ℕ → ℕ) (t : ℕ) (l : BetweenLiteral) where
   unfolding tripleBreaks
   triple-not-due h = rw h
 
-  pub triple-due : (y z : ℕ) → dueTriple (l .from) (l .middle) (l .to) t ≡ true → y ≡ steps link (node (l .from)) (node (l .middle)) → z ≡ steps link (node (l .from)) (node (l .to)) → not (agrees (l .plain) (leb y z && leb z 5)) ≡ tripleBreaks link node t l
+  pub triple-due : (y z : ℕ) → dueTriple (l .from) (l .middle) (l .to) t ≡ true → y ≡ steps link (node (l .from)) (node (l .middle)) →
+      z ≡ steps link (node (l .from)) (node (l .to)) → not (agrees (l .plain) (leb y z && leb z 5)) ≡ tripleBreaks link node t l
   unfolding tripleBreaks
   triple-due y z h e k = rw (h, e, k)
 
@@ -199,6 +201,7 @@ module _ (fields : List Literal) where
 pub small-set : (xs : List ℕ) (i v : ℕ) → v ≤ 5 → Small xs → Small (set xs i v)
 unfolding entry
 small-set xs i v h s j = elim (ℕ-discrete j i) [
-  | yes q ↦ ⊎-elim (λ l. subst (λ (x : ℕ). x ≤ 5) (sym (ap (λ (ys : List ℕ). getD ys j 0) (set-out xs i v l))) (s j)) (λ l. subst (λ (x : ℕ). x ≤ 5) (sym (ap (λ (x : ℕ). getD (set xs i v) x 0) q ∙ getD-set-same xs i v 0 l)) h) (le-cases (length xs) i)
+  | yes q ↦ ⊎-elim (λ l. subst (λ (x : ℕ). x ≤ 5) (sym (ap (λ (ys : List ℕ). getD ys j 0) (set-out xs i v l))) (s j))
+      (λ l. subst (λ (x : ℕ). x ≤ 5) (sym (ap (λ (x : ℕ). getD (set xs i v) x 0) q ∙ getD-set-same xs i v 0 l)) h) (le-cases (length xs) i)
   | no n ↦ subst (λ (x : ℕ). x ≤ 5) (sym (getD-set-other xs i j v 0 n)) (s j)
 ]

@@ -12,7 +12,8 @@ use Rattle.between.specs.Meaning.{BetweenLiteral}
 use Rattle.between_search.specs.Bytes.{triples}
 use Rattle.between_tests.specs.Tables.{tripleIn}
 
-drop-four : (bytes : List ℕ) (place : ℕ) → place + 4 ≤ length bytes → drop place bytes ≡ getD bytes place 0 ∷ getD bytes (place + 1) 0 ∷ getD bytes (place + 2) 0 ∷ getD bytes (place + 3) 0 ∷ drop (place + 4) bytes
+drop-four : (bytes : List ℕ) (place : ℕ) → place + 4 ≤ length bytes →
+    drop place bytes ≡ getD bytes place 0 ∷ getD bytes (place + 1) 0 ∷ getD bytes (place + 2) 0 ∷ getD bytes (place + 3) 0 ∷ drop (place + 4) bytes
 drop-four bytes place h =
     drop-next bytes place (omega arith)
     ∙ ap (λ (xs : List ℕ). getD bytes place 0 ∷ xs) (drop-next bytes (place + 1) (omega arith) ∙ rw add-assoc

@@ -26,7 +26,8 @@ pub added-equal : (k n : ℕ) (f : code.Fact) (a b : Term) (s : Facts) (j : Join
 unfolding branch
 added-equal k n f a b s j e h = h ∙ ap (λ (x : code.Fact). branch n s (factOf k x)) (sym e)
 
-pub added-reaches : (k n : ℕ) (f : code.Fact) (a b : Term) (s p : Facts) (ps : List (ℕ × ℕ)) → f ≡ fact.Reaches a b → ps ≡ [] → p ≡ addReach k (a .0) (b .0) s → record { pairs = ps; facts = p } ≡ branch n s (factOf k f)
+pub added-reaches : (k n : ℕ) (f : code.Fact) (a b : Term) (s p : Facts) (ps : List (ℕ × ℕ)) → f ≡ fact.Reaches a b → ps ≡ [] →
+    p ≡ addReach k (a .0) (b .0) s → record { pairs = ps; facts = p } ≡ branch n s (factOf k f)
 unfolding branch unjoined
 added-reaches k n f a b s p ps e q h = ap₂ (λ (qs : List (ℕ × ℕ)) (t : Facts). record { pairs = qs; facts = t }) q h ∙ ap (λ (x : code.Fact). branch n s (factOf k x)) (sym e)
 

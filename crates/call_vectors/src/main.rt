@@ -118,8 +118,8 @@ fn run_formula(order: &[u8], query: &[u8], formula: &[u8], out: &mut [u8]) {
 }
 
 // R-8
-fn print_check(query: &[u8], derivation: &[u8]) {
-    match checker::check(query, derivation) {
+fn print_check(answer: CheckAnswer) {
+    match answer {
         CheckAnswer::Accepted => print_word(b"accepted"),
         CheckAnswer::Wrong(line) => print_written(b"wrong ", line),
         CheckAnswer::Refused(k, place) => print_refusal(k, place),
@@ -198,8 +198,8 @@ fn run_call(call: u8, a: &[u8], b: &[u8], c: &[u8], out: &mut [u8]) {
     print_word(b"\n");
 }
 
-fn run_check(query: &[u8], derivation: &[u8]) {
-    print_check(query, derivation);
+fn run_check(answer: CheckAnswer) {
+    print_check(answer);
     print_word(b"\n");
 }
 
@@ -216,6 +216,7 @@ fn program_text(program: u8, input: &[u8], out: &mut [u8]) -> usize {
         b'f' => formula_printing::put_text(out, input),
         b'b' => between_printing::put_text(out, input),
         b'c' => check_printing::put_text(out, input),
+        b'k' => check_printing::put_links_text(out, input),
         b'j' => join_printing::put_text(out, input),
         b'r' => rewrite_printing::put_text(out, input),
         _ => link_printing::put_text(out, input),
@@ -234,8 +235,9 @@ fn run_program(program: u8, input: &[u8], out: &mut [u8]) {
 fn run_case<'a>(call: u8, a: &'a [u8], b: &'a [u8], c: &[u8], out: &mut [u8]) {
     match call {
         0 => run_hand_back(a, b, c),
-        8 => run_check(a, b),
-        b'b' | b'c' | b'f' | b'j' | b'l' | b'r' => run_program(call, a, out),
+        8 => run_check(checker::check(a, b)),
+        b'C' => run_check(checker::links_check(a, b)),
+        b'b' | b'c' | b'f' | b'j' | b'k' | b'l' | b'r' => run_program(call, a, out),
         _ => run_call(call, a, b, c, out),
     }
 }

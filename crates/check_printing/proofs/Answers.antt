@@ -10,17 +10,18 @@ use lib.ListN.{length, getD, take, drop, length-drop, drop-of-length-le}
 use lib.Seq.{take-all, take-nil}
 use lib.Dec.{eqb, ltb}
 use borrow.Author.Tests.{lt-ltb, le-ltb, eqb-true}
+use Rattle.logic.specs.Calls.{CallForm}
 use Rattle.theory.proofs.Basics.Search.{and-right, none-some, keep-some}
 use Rattle.theory.proofs.Basics.Compare.{le-cases}
 use Rattle.text.specs.Text.{Writes, ascii, decimal, isDigit}
 use Rattle.text.proofs.Writing.{writes-then, writes-taken}
 use Rattle.wording.specs.Words.{refusedText}
-use Rattle.checking.specs.CheckCall.{countIn, checkCall}
+use Rattle.checking.specs.CheckCall.{countIn, checkCallOf}
 use Rattle.checker.specs.Promise.{meaning}
 use Rattle.checker.specs.declared.CheckAnswer.{CheckAnswer}
 use Rattle.checker.specs.declared.CheckAnswer.the-variants as answer
 use Rattle.decimal_lines.specs.DecimalLines.{begins, endsNumber, nextPlace, isBetween, prepend, numbersFrom, newlineIn, newlines}
-use Rattle.check_printing.specs.CheckText.{textBytes, derivationIn, checkedText, checkderivationText}
+use Rattle.check_printing.specs.CheckText.{textBytes, derivationIn, checkedText, checkTextOf}
 use Rattle.decimal_lines.specs.Puts.{Puts}
 use Rattle.decimal_lines.proofs.Reading.{digit-range, place-on, place-back, newline-is, newline-not}
 
@@ -181,9 +182,9 @@ module _ (bytes : List ℕ) (size from to : ℕ) (s : size ≡ countIn bytes) (f
   pub rest-whole : take (length bytes - to) (drop to bytes) ≡ drop (2 + size) bytes
   rest-whole = take-all (length bytes - to) (drop to bytes) (omega (arith, length-drop to bytes)) ∙ rest-read
 
-  pub input-read : checkedText (checkCall (take (to - from) (drop from bytes)) (derivationIn (take (length bytes - to) (drop to bytes)))) ≡ checkderivationText bytes
-  unfolding checkderivationText
-  input-read =
-      ap (λ (q : List ℕ). checkedText (checkCall q (derivationIn (take (length bytes - to) (drop to bytes))))) query-read
-      ∙ ap (λ (r : List ℕ). checkedText (checkCall (take size (drop 2 bytes)) (derivationIn r))) rest-whole
-      ∙ ap (λ (n : ℕ). checkedText (checkCall (take n (drop 2 bytes)) (derivationIn (drop (2 + n) bytes)))) s
+  pub input-read : (form : CallForm) → checkedText (checkCallOf form (take (to - from) (drop from bytes)) (derivationIn (take (length bytes - to) (drop to bytes)))) ≡ checkTextOf form bytes
+  unfolding checkTextOf
+  input-read form =
+      ap (λ (q : List ℕ). checkedText (checkCallOf form q (derivationIn (take (length bytes - to) (drop to bytes))))) query-read
+      ∙ ap (λ (r : List ℕ). checkedText (checkCallOf form (take size (drop 2 bytes)) (derivationIn r))) rest-whole
+      ∙ ap (λ (n : ℕ). checkedText (checkCallOf form (take n (drop 2 bytes)) (derivationIn (drop (2 + n) bytes)))) s

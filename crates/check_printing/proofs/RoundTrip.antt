@@ -1,4 +1,4 @@
--- What heapverdict prints of a derivation is read back as its bytes. Assumes nothing.
+-- What heapverdict and linksverdict print of a derivation is read back as its bytes. Assumes nothing.
 use Prim.Native.Nat.{ℕ, _+_, _-_, _*_, _/_, _%_, _≤_, _<_}
 use native.Mathlib.Omega.{arith}
 use mathlib.Core.Path.{_≡_, refl, sym, ap, _∙_}
@@ -10,19 +10,19 @@ use lib.ListN.{length, length-append}
 use borrow.Author.Tests.{lt-ltb, le-ltb}
 use Rattle.logic.specs.Search.{_and_, all, flatMap, keep}
 use Rattle.logic.specs.Facts.{Line, line}
-use Rattle.logic.specs.Query.{decode}
 use Rattle.logic.specs.Derivation.{Derivation, lineBytes, derivationBytes}
-use Rattle.logic.specs.Calls.{accepts}
+use Rattle.logic.specs.Calls.{CallForm, acceptsBy}
 use Rattle.theory.proofs.Basics.Search.{and-left, and-right}
 use Rattle.theory.proofs.Basics.Compare.{le-cases}
+use Rattle.theory.proofs.Calls.CallLaws.{FormLaws}
 use Rattle.text.specs.Text.{ascii, decimal, numberFrom, numberIn, isDigit}
 use Rattle.text.proofs.Digits.{decimal-small, decimal-more, decimal-byte}
 use Rattle.text.proofs.Pinned.{decimal-reads, decimal-digits}
 use Rattle.wording.specs.Words.{lineText}
 use Rattle.wording.proofs.Texts.{line-words}
-use Rattle.checking.specs.CheckCall.{accepted, checkCall}
+use Rattle.checking.specs.CheckCall.{accepted, checkCallOf}
 use Rattle.checking.specs.Claims.{Bytes, AllBytes}
-use Rattle.checking.proofs.Bytes.{derivation-bytes}
+use Rattle.checking.proofs.Bytes.{FormBytes, derivation-bytes}
 use Rattle.checking.proofs.Claims.{derivation-accepted}
 use Rattle.decimal_lines.specs.DecimalLines.{endsNumber, nextPlace, isBetween, prepend, numbersFrom, newlineIn, newlines}
 use Rattle.check_printing.specs.CheckText.{textBytes}
@@ -181,10 +181,12 @@ unfolding textBytes derivationBytes Option·elim
 text-lines ls b h =
     rw (le-ltb 256000 (length (flatMap lineText ls)) (omega (arith, lines-short ls b)), lines-counted ls, le-ltb 16000 (length ls) h, lines-read ls b) refl
 
--- the lines of a derivation as heapverdict prints them are read back as its bytes
-pub printed-read : (query : List ℕ) (ls : List Line) → accepts query ≡ true → Derivation (decode query) ls → length ls ≤ 16000 → textBytes (flatMap lineText ls) ≡ derivationBytes ls
-printed-read query ls a d h = text-lines ls (derivation-bytes query a d) h
+-- of a query in either form
+module _ (f : CallForm) (laws : FormLaws f) (bytes : FormBytes f) (query : List ℕ) (ls : List Line) (a : acceptsBy f query ≡ true) (d : Derivation (f .decode query) ls) (few : length ls ≤ 16000) where
+  -- the lines of a derivation as heapverdict and linksverdict print them are read back as its bytes
+  pub printed-read : textBytes (flatMap lineText ls) ≡ derivationBytes ls
+  printed-read = text-lines ls (derivation-bytes f laws bytes query a d) few
 
--- so that what refutes a query is accepted as heapverdict would print it
-pub printed-accepted : (query : List ℕ) (ls : List Line) → accepts query ≡ true → Derivation (decode query) ls → length ls ≤ 16000 → checkCall query (textBytes (flatMap lineText ls)) ≡ accepted
-printed-accepted query ls a d h = ap (checkCall query) (printed-read query ls a d h) ∙ derivation-accepted query ls a d h
+  -- so that what refutes a query is accepted as they would print it
+  pub printed-accepted : checkCallOf f query (textBytes (flatMap lineText ls)) ≡ accepted
+  printed-accepted = ap (checkCallOf f query) printed-read ∙ derivation-accepted f query ls a d few

@@ -5,23 +5,19 @@ use mathlib.Core.Path.{_≡_, refl, sym, ap, _∙_, subst}
 use mathlib.Core.Bool.{Bool, true, false, not, true≢false, false≢true}
 use mathlib.Core.List.{List, []}
 use mathlib.Core.Option.{none}
-use Rattle.logic.specs.Query.{Query, decode, termCount}
+use Rattle.logic.specs.Query.{Query, termCount}
 use Rattle.logic.specs.Facts.{Joined}
 use Rattle.logic.specs.Derivation.{linesIn}
-use Rattle.logic.specs.Calls.{accepts}
+use Rattle.logic.specs.Walk.{limit}
+use Rattle.logic.specs.Calls.{CallForm}
 use Rattle.theory.proofs.Query.Tied.{Accepted}
-use Rattle.theory.proofs.Query.AcceptedBytes as acceptance
-use Rattle.theory.proofs.Paths.Start.{start-tied}
-use Rattle.theory.proofs.Calls.OneLink.{limit-one}
-use Rattle.query.specs.LaysOut.{LaysOut}
-use Rattle.query_checks.specs.Answers.{CheckedAs}
 use Rattle.query.specs.declared.Layout.{Layout}
 use Rattle.query_checks.specs.declared.Checked.the-variants as checked
 use Rattle.link_query.specs.Said.{said}
-use Rattle.link_query.proofs.Said.{one-said}
+use Rattle.link_query.specs.Answers.{CheckedBy}
 use Rattle.start.specs.Started.{started}
 use Rattle.checking.specs.Fitting.{Goal, goalOf, startGoal, wrongLine}
-use Rattle.checking.specs.CheckCall.{Checked, accepted, wrong, refused, misshapen, byWrong, queryRefusal, checkCall}
+use Rattle.checking.specs.CheckCall.{Checked, accepted, wrong, refused, misshapen, byWrong, queryRefusal, checkCallOf}
 use Rattle.checking.proofs.Claims.{check-refused, check-misshapen, check-judged}
 use Rattle.derivation_lines.specs.declared.Judged.{Judged}
 use Rattle.derivation_lines.specs.Lines.{Shaped, shapely}
@@ -34,28 +30,16 @@ unfolding byWrong
 by-some zero h = absurd (omega arith)
 by-some (suc k) h = refl
 
--- a query in the form of 01, read by where its sections stand
-module _ (l : Layout) (bytes : List ℕ) (laid : LaysOut l bytes) where
-  pub accepted-in : accepts bytes ≡ true → Accepted (said l bytes)
-  accepted-in ok = subst Accepted (sym (one-said l bytes laid)) (acceptance.accepted bytes ok)
-
-  pub started-in : (j : Joined) → j ≡ started (said l bytes) → j ≡ started (decode bytes)
-  started-in j e = e ∙ ap started (one-said l bytes laid)
-
--- the start has the one link of its query
-pub start-one : (bytes : List ℕ) → accepts bytes ≡ true → (j : Joined) → j ≡ started (decode bytes) → j .facts .links ≡ 1
-unfolding started
-start-one bytes ok j e = ap (λ (i : Joined). i .facts .links) e ∙ start-tied (decode bytes) (acceptance.accepted bytes ok) .same-links ∙ acceptance.decode-links bytes
-
 pub start-goal : (q : Query) (j : Joined) → j ≡ started q → goalOf j ≡ startGoal q
 unfolding goalOf startGoal started
 start-goal q j e = ap goalOf e
 
-pub start-ahead : (query : List ℕ) (j : Joined) (n k : ℕ) → accepts query ≡ true → j ≡ started (decode query) → n ≡ termCount (decode query) → k ≡ n * n + n → Ahead (decode query) (j .facts) k
-unfolding started
-start-ahead query j n k a e f g =
-    subst (λ (i : Joined). Ahead (decode query) (i .facts) k) (sym e)
-    (ahead-start (decode query) (acceptance.accepted query a) k (g ∙ ap (λ (m : ℕ). m * m + m) f ∙ sym (limit-one (decode query) (acceptance.decode-links query))))
+-- all the steps that a path can have are left at the start, by the numbers that the code reads
+pub start-ahead : (q : Query) → Accepted q → (j : Joined) (links n k : ℕ) → j ≡ started q → links ≡ q .links → n ≡ termCount q → k ≡ links * (n * n) + n → Ahead q (j .facts) k
+unfolding started limit
+start-ahead q ok j links n k e l t c =
+    let most : k ≡ limit q = c ∙ ap (λ (i : ℕ). i * (n * n) + n) l ∙ ap (λ (m : ℕ). q .links * (m * m) + m) t in
+    subst (λ (i : Joined). Ahead q (i .facts) k) (sym e) (ahead-start q ok k most)
 
 -- the start's goal by its path and the pairs joined there, and so the first wrong line
 module _ (q : Query) (bytes : List ℕ) (count : ℕ) (shape : Shaped bytes count) (j : Joined) (j-is : j ≡ started q) (r : Judged) (h : JudgesGoal q bytes count (goalOf j) 0 r) (k : ℕ) (found : Concludes count r k) where
@@ -84,18 +68,20 @@ misshapen-not bytes b e = go (misshapen bytes) b e
     go false true e = absurd (true≢false e)
     go false false e = refl
 
-module _ (query derivation : List ℕ) where
-  pub call-refused : (k p : ℕ) → CheckedAs (checked.Refused k p) query → refused k p ≡ checkCall query derivation
+module _ (f : CallForm) (query derivation : List ℕ) where
+  pub call-refused : (k p : ℕ) → CheckedBy f (checked.Refused k p) query → refused k p ≡ checkCallOf f query derivation
   unfolding queryRefusal
-  call-refused k p h = sym (check-refused query derivation k p (h (record { order = []; query = query; room = 0 }) refl))
+  call-refused k p h = sym (check-refused f query derivation k p (h (record { order = []; query = query; room = 0 }) refl))
 
-  module _ (l : Layout) (h : CheckedAs (checked.Accepted l) query) where
-    clear : queryRefusal query ≡ none
+  module _ (l : Layout) (h : CheckedBy f (checked.Accepted l) query) where
+    clear : queryRefusal f query ≡ none
     unfolding queryRefusal
-    clear = h .0 (record { order = []; query = query; room = 0 }) refl
+    clear = h .free (record { order = []; query = query; room = 0 }) refl
 
-    pub call-misshapen : shapely derivation ≡ false → refused 20 0 ≡ checkCall query derivation
-    call-misshapen e = sym (check-misshapen query derivation clear (misshapen-not derivation true e))
+    pub call-misshapen : shapely derivation ≡ false → refused 20 0 ≡ checkCallOf f query derivation
+    call-misshapen e = sym (check-misshapen f query derivation clear (misshapen-not derivation true e))
 
-    pub call-judged : shapely derivation ≡ true → (a : Checked) → a ≡ byWrong (wrongLine (decode query) (linesIn derivation)) → a ≡ checkCall query derivation
-    call-judged e a f = f ∙ sym (check-judged query derivation clear (misshapen-not derivation false e))
+    pub call-judged : shapely derivation ≡ true → (a : Checked) → a ≡ byWrong (wrongLine (said l query) (linesIn derivation)) → a ≡ checkCallOf f query derivation
+    call-judged e a g =
+        g ∙ ap (λ (q : Query). byWrong (wrongLine q (linesIn derivation))) (h .says)
+        ∙ sym (check-judged f query derivation clear (misshapen-not derivation false e))

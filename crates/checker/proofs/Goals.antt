@@ -112,29 +112,31 @@ module _ (q : Query) (bytes : List ℕ) (count : ℕ) (pairs : List (ℕ × ℕ)
       }
 
 -- a rule line, and its branches from i on
-module _ (q : Query) (bytes : List ℕ) (count : ℕ) (s : Facts) (at : ℕ) (rule : Rule) (x y z n : ℕ) (terms-are : n ≡ termCount q) where
+module _ (q : Query) (bytes : List ℕ) (count : ℕ) (s : Facts) (at k : ℕ) (rule : Rule) (x y z n : ℕ) (terms-are : n ≡ termCount q) where
   abbrev m : Move
-  m = move 1 rule (triple x y z)
+  m = move k rule (triple x y z)
 
   -- which alternative stands past the end does not matter
   abbrev other : Fact
   other = equal 0 0
 
   many : length (alternatives (termCount q) (s .graph) m) ≡ countOf rule z
-  many = count-is 1 (termCount q) (s .graph) rule x y z
+  many = count-is k (termCount q) (s .graph) rule x y z
 
-  same-branch : (i : ℕ) (j : Joined) → i < countOf rule z → j ≡ branch n s (alternativeAt 1 n (s .graph 1) rule x y z i) → branch (termCount q) s (getD (alternatives (termCount q) (s .graph) m) i other) ≡ j
+  same-branch : (i : ℕ) (j : Joined) → i < countOf rule z → j ≡ branch n s (alternativeAt k n (s .graph k) rule x y z i)
+      → branch (termCount q) s (getD (alternatives (termCount q) (s .graph) m) i other) ≡ j
   same-branch i j l e =
-      ap (branch (termCount q) s) (alternative-is 1 (termCount q) (s .graph) rule x y z i other l)
-      ∙ ap (λ (k : ℕ). branch k s (alternativeAt 1 k (s .graph 1) rule x y z i)) (sym terms-are) ∙ sym e
+      ap (branch (termCount q) s) (alternative-is k (termCount q) (s .graph) rule x y z i other l)
+      ∙ ap (λ (l : ℕ). branch l s (alternativeAt k l (s .graph k) rule x y z i)) (sym terms-are) ∙ sym e
 
-  next-goal : (i : ℕ) (j : Joined) → i < countOf rule z → j ≡ branch n s (alternativeAt 1 n (s .graph 1) rule x y z i) → drop i (goalsOf (termCount q) s m) ≡ goalOf j ∷ drop (i + 1) (goalsOf (termCount q) s m)
+  next-goal : (i : ℕ) (j : Joined) → i < countOf rule z → j ≡ branch n s (alternativeAt k n (s .graph k) rule x y z i)
+      → drop i (goalsOf (termCount q) s m) ≡ goalOf j ∷ drop (i + 1) (goalsOf (termCount q) s m)
   unfolding goalsOf
   next-goal i j l e =
       drop-map (λ c. goalOf (branch (termCount q) s c)) (alternatives (termCount q) (s .graph) m) i other (omega (arith, many))
-      ∙ ap (λ (k : Joined). goalOf k ∷ drop (i + 1) (map (λ c. goalOf (branch (termCount q) s c)) (alternatives (termCount q) (s .graph) m))) (same-branch i j l e)
+      ∙ ap (λ (b : Joined). goalOf b ∷ drop (i + 1) (map (λ c. goalOf (branch (termCount q) s c)) (alternatives (termCount q) (s .graph) m))) (same-branch i j l e)
 
-  module _ (i to : ℕ) (b : BranchesLeft q bytes count s at m i to) (in-row : i < countOf rule z) (j : Joined) (j-is : j ≡ branch n s (alternativeAt 1 n (s .graph 1) rule x y z i)) (r : Judged) (judged : JudgesGoal q bytes count (goalOf j) to r) where
+  module _ (i to : ℕ) (b : BranchesLeft q bytes count s at m i to) (in-row : i < countOf rule z) (j : Joined) (j-is : j ≡ branch n s (alternativeAt k n (s .graph k) rule x y z i)) (r : Judged) (judged : JudgesGoal q bytes count (goalOf j) to r) where
     at-branch : (gs : List Goal) → wrongAt q bytes (record { heading = []; facts = s } ∷ gs) at ≡ resumed q bytes (drop (i + 1) (goalsOf (termCount q) s m) ++ gs) r
     at-branch gs = b .left gs ∙ ap (λ (hs : List Goal). wrongAt q bytes (hs ++ gs) to) (next-goal i j in-row j-is) ∙ judged .judges (drop (i + 1) (goalsOf (termCount q) s m) ++ gs)
 
@@ -154,15 +156,15 @@ module _ (q : Query) (bytes : List ℕ) (count : ℕ) (s : Facts) (at : ℕ) (ru
   branches-end i to b l r f g =
       record {
         judges = λ gs. b .left gs ∙ ap (λ (hs : List Goal). wrongAt q bytes (hs ++ gs) to) (drop-all (goalsOf (termCount q) s m) i (omega (arith, many, length-map (alternatives (termCount q) (s .graph) m) (λ c. goalOf (branch (termCount q) s c))))) ∙ resumed-true q bytes gs r to f g;
-        within = λ t. subst (λ (k : ℕ). k ≤ count) (sym g) (b .inside);
+        within = λ t. subst (λ (l : ℕ). l ≤ count) (sym g) (b .inside);
         numbered = λ t. absurd (true≢false (sym f ∙ t));
       }
 
   -- a branch is one step deeper
-  pub branch-ahead : Accepted q → (left : ℕ) → Ahead q s left → applies (termCount q) s m ≡ true → (i : ℕ) (j : Joined) → i < countOf rule z → j ≡ branch n s (alternativeAt 1 n (s .graph 1) rule x y z i) → Ahead q (j .facts) (left - 1)
+  pub branch-ahead : Accepted q → (left : ℕ) → Ahead q s left → applies (termCount q) s m ≡ true → (i : ℕ) (j : Joined) → i < countOf rule z → j ≡ branch n s (alternativeAt k n (s .graph k) rule x y z i) → Ahead q (j .facts) (left - 1)
   unfolding add
   branch-ahead ok left ahead app i j l e =
-      subst (λ (k : Joined). Ahead q (k .facts) (left - 1)) (same-branch i j l e)
+      subst (λ (b : Joined). Ahead q (b .facts) (left - 1)) (same-branch i j l e)
       (ahead-next q ok s left ahead m app (getD (alternatives (termCount q) (s .graph) m) i other) (getD-mem (alternatives (termCount q) (s .graph) m) i other (omega (arith, many))))
 
 -- what is read, once the code's answer is known

@@ -2,5 +2,5 @@ pub mod Judging
 pub mod Readings
 pub mod Range
 pub mod Goals
-pub mod Rows
+pub mod Paths
 pub mod Answered

@@ -1,4 +1,5 @@
--- Rule steps from the start: how many are left at a path, and that the numbers of a rule that applies there are terms.
+-- Rule steps from the start: how many are left at a path, and that the numbers of a rule that applies there are terms, and its link one of the
+-- path's.
 use Prim.Native.Nat.{ℕ, suc, _-_, _≤_}
 use native.Mathlib.Omega.{arith}
 use mathlib.Core.Path.{_≡_, subst}
@@ -6,14 +7,16 @@ use mathlib.Core.Bool.{true}
 use mathlib.Core.List.{List·Memᴰ}
 use Rattle.logic.specs.Query.{Query, termCount}
 use Rattle.logic.specs.Facts.{Facts, start}
-use Rattle.logic.specs.Rules.{Rule, triple, Move, move, Fact, alternatives, applies, add, branches}
+use Rattle.logic.specs.Rules.{Rule, Triple, triple, Move, move, Fact, alternatives, applies, add, branches}
 use Rattle.logic.specs.Walk.{limit}
 use Rattle.logic.specs.Steps.{Step, Steps, at-first, one-more}
 use Rattle.theory.proofs.Basics.Search.{map-intro}
 use Rattle.theory.proofs.Query.Tied.{Accepted}
 use Rattle.theory.proofs.Paths.Invariant.{Invariant, start-invariant, branch-invariant}
+use Rattle.theory.proofs.Paths.Applies.{hasLink-range, applies-linked}
 use Rattle.theory.proofs.Walks.Gains.{applies-step}
 use Rattle.theory.proofs.Walks.Limit.{start-atMost}
+use Rattle.facts.specs.Path.{HasLink}
 use Rattle.checking.proofs.Numbers.{move-numbers}
 use Rattle.checker.specs.Ahead.{Ahead}
 
@@ -46,6 +49,11 @@ module _ (q : Query) (ok : Accepted q) where
       let l = move-numbers (termCount q) s (steps-invariant (ahead .led) .sane) i r x y z app in
       let t = ok .term-count in
       (omega arith, omega arith, omega arith)
+
+  pub ahead-linked : (s : Facts) (i : ℕ) (r : Rule) (t : Triple) → applies (termCount q) s (move i r t) ≡ true → HasLink s i
+  ahead-linked s i r t app =
+      let l = hasLink-range (s .links) i r t (applies-linked (termCount q) s (move i r t) app) in
+      (omega (arith, l .0), l .1)
 
   pub ahead-start : (k : ℕ) → k ≡ limit q → Ahead q (start q) k
   ahead-start k e =

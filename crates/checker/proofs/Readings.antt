@@ -4,31 +4,34 @@ use native.Mathlib.Omega.{arith}
 use mathlib.Core.Path.{_≡_, refl, sym, ap, _∙_}
 use mathlib.Core.Bool.{Bool, true, false, cond}
 use mathlib.Core.List.{List}
-use mathlib.Core.Option.{Option, none, some, Option·elim}
+use mathlib.Core.Option.{Option, none, some}
 use lib.ListN.{getD}
 use borrow.Author.Tests.{ne-eqb}
 use Rattle.logic.specs.Search.{_and_, isSome, keep, orElse, firstOf, find}
 use Rattle.logic.specs.Query.{Query, termCount}
 use Rattle.logic.specs.Facts.{Facts, Line, line, isClash, clash}
-use Rattle.logic.specs.Rules.{Rule, rules, ruleNumber, ruleOf, triple, Move, move, applies}
+use Rattle.logic.specs.Rules.{Rule, rules, ruleNumber, ruleOf, Triple, triple, Move, move, applies, moveOf}
 use Rattle.logic.specs.Walk.{isClashed}
-use Rattle.theory.proofs.Calls.OneLink.{moveOf-one}
+use Rattle.facts.specs.Path.{pathOf, HasLink}
+use Rattle.facts.specs.declared.Facts as code
 use Rattle.checking.specs.Fitting.{moveIn}
+use Rattle.checking.proofs.Moves.{moveOf-unruled, in-linked}
 use Rattle.derivation_lines.specs.Lines.{Shaped, lineAt}
 use Rattle.derivation_lines.proofs.Lines.{line-there, line-past}
 use Rattle.checker.specs.Reading.{Read, ending, ruling, unfit, readRule, readLine, readAt}
 
--- what the code finds in a query that is read by where its sections stand
-pub clash-in : (o : Option Line) (p q : Query) (s : Facts) → o ≡ clash p s → p ≡ q → o ≡ clash q s
-clash-in o p q s h e = h ∙ ap (λ (r : Query). clash r s) e
+-- a clash line names no rule, by whichever link
+clash-unruled : (links x y z : ℕ) → moveIn links (line 9 x y z) ≡ none
+unfolding moveIn ruleOf rules ruleNumber find firstOf orElse keep
+clash-unruled links x y z = moveOf-unruled links 9 (triple x y z) refl
 
-pub is-clash-in : (v : Bool) (p q : Query) (s : Facts) (l : Line) → v ≡ isClash p s l → p ≡ q → v ≡ isClash q s l
-is-clash-in v p q s l h e = h ∙ ap (λ (r : Query). isClash r s l) e
+-- the move that the code names, and that it is by a link of the path
+pub named-in : (s : code.Facts) (k x y z : ℕ) (o : Option Move) → o ≡ moveOf (cond (s .single) 1 3) k (triple x y z) → o ≡ moveIn (pathOf s .links) (line k x y z)
+unfolding moveIn pathOf
+named-in s k x y z o h = h
 
--- a rule is by the one link
-move-read : (links : ℕ) → links ≡ 1 → (k x y z : ℕ) → moveIn links (line k x y z) ≡ Option·elim (ruleOf k) none (λ r. some (move 1 r (triple x y z)))
-unfolding moveIn
-move-read links one k x y z = rw one (moveOf-one k (triple x y z))
+pub named-linked : (s : Facts) (l : Line) (i : ℕ) (r : Rule) (t : Triple) → some (move i r t) ≡ moveIn (s .links) l → HasLink s i
+named-linked s l i r t h = let w = in-linked (s .links) i l r t (sym h) in (omega (arith, w .0), w .1)
 
 module _ (q : Query) (s : Facts) (bytes : List ℕ) (count i : ℕ) (shape : Shaped bytes count) where
   abbrev Reads : Read → Type 0
@@ -38,7 +41,7 @@ module _ (q : Query) (s : Facts) (bytes : List ℕ) (count i : ℕ) (shape : Sha
   unfolding readAt
   read-past h = sym (rw (line-past bytes count i shape h) refl)
 
-  module _ (one : s .links ≡ 1) (there : i < count) (k x y z : ℕ) (ek : k ≡ getD bytes (4 * i + 2) 0) (ex : x ≡ getD bytes (4 * i + 2 + 1) 0) (ey : y ≡ getD bytes (4 * i + 2 + 2) 0) (ez : z ≡ getD bytes (4 * i + 2 + 3) 0) where
+  module _ (there : i < count) (k x y z : ℕ) (ek : k ≡ getD bytes (4 * i + 2) 0) (ex : x ≡ getD bytes (4 * i + 2 + 1) 0) (ey : y ≡ getD bytes (4 * i + 2 + 2) 0) (ez : z ≡ getD bytes (4 * i + 2 + 3) 0) where
     line-is : lineAt bytes i ≡ some (line k x y z)
     line-is = line-there bytes count i shape there ∙ sym (rw (ek, ex, ey, ez) refl)
 
@@ -52,8 +55,8 @@ module _ (q : Query) (s : Facts) (bytes : List ℕ) (count i : ℕ) (shape : Sha
     read-clash v e f t = read-is ending (sym (rw (e, sym f ∙ t) refl))
 
     pub read-false : (v : Bool) → k ≡ 9 → v ≡ isClash q s (line 9 x y z) → v ≡ false → Reads unfit
-    unfolding readLine readRule ruleOf rules ruleNumber find firstOf orElse keep Option·elim
-    read-false v e f t = read-is unfit (sym (rw (e, sym f ∙ t, move-read (s .links) one 9 x y z) (either (isClashed q s))))
+    unfolding readLine readRule
+    read-false v e f t = read-is unfit (sym (rw (e, sym f ∙ t, clash-unruled (s .links) x y z) (either (isClashed q s))))
       where
         either : (b : Bool) → cond b unfit unfit ≡ unfit
         either true = refl
@@ -73,17 +76,18 @@ module _ (q : Query) (s : Facts) (bytes : List ℕ) (count i : ℕ) (shape : Sha
       unfolding readLine isClashed isSome
       read-free r e f = read-is r (f ∙ sym (rw (no-clash, sym stands ∙ e) refl))
 
-      pub read-unruled : o ≡ none → none ≡ ruleOf k → Reads unfit
-      unfolding readRule Option·elim
-      read-unruled e f = read-free unfit e (sym (rw (move-read (s .links) one k x y z, sym f) refl))
+      pub read-unruled : o ≡ none → none ≡ moveIn (s .links) (line k x y z) → Reads unfit
+      unfolding readRule
+      read-unruled e f = read-free unfit e (sym (rw (sym f) refl))
 
-      pub read-rule : (r : Rule) (n : ℕ) (v : Bool) → o ≡ none → some r ≡ ruleOf k → n ≡ termCount q → v ≡ applies n s (move 1 r (triple x y z)) → v ≡ true → Reads (ruling (move 1 r (triple x y z)))
-      unfolding readRule Option·elim
-      read-rule r n v e f m g t = read-free (ruling (move 1 r (triple x y z))) e (sym (rw (move-read (s .links) one k x y z, sym f, sym m, sym g ∙ t) refl))
+      module _ (m : Move) (n : ℕ) (v : Bool) (e : o ≡ none) (f : some m ≡ moveIn (s .links) (line k x y z)) (terms-are : n ≡ termCount q) (g : v ≡ applies n s m) where
+        pub read-rule : v ≡ true → Reads (ruling m)
+        unfolding readRule
+        read-rule t = read-free (ruling m) e (sym (rw (sym f, sym terms-are, sym g ∙ t) refl))
 
-      pub read-idle : (r : Rule) (n : ℕ) (v : Bool) → o ≡ none → some r ≡ ruleOf k → n ≡ termCount q → v ≡ applies n s (move 1 r (triple x y z)) → v ≡ false → Reads unfit
-      unfolding readRule Option·elim
-      read-idle r n v e f m g t = read-free unfit e (sym (rw (move-read (s .links) one k x y z, sym f, sym m, sym g ∙ t) refl))
+        pub read-idle : v ≡ false → Reads unfit
+        unfolding readRule
+        read-idle t = read-free unfit e (sym (rw (sym f, sym terms-are, sym g ∙ t) refl))
 
 -- a rule line that is read as one applies
 told : Read → ℕ

@@ -1,28 +1,21 @@
 -- What a line of a derivation is at a path.
-use Prim.Native.Nat.{ℕ}
 use mathlib.Core.Bool.{cond}
-use mathlib.Core.List.{List}
 use mathlib.Core.Option.{Option, none, some}
-use lib.Dec.{eqb}
 use Rattle.logic.specs.Query.{Query, termCount}
 use Rattle.logic.specs.Facts.{Facts, Joined, Line, isClash}
 use Rattle.logic.specs.Rules.{triple, Move, move, applies}
 use Rattle.logic.specs.Walk.{isClashed}
-use Rattle.facts.specs.Path.{repOf, graphOf, noFacts}
+use Rattle.facts.specs.Path.{pathAs}
 use Rattle.joins.specs.Pairs.{pairsOf}
 use Rattle.rules.specs.Answers.{kindOf}
 use Rattle.checking.specs.Fitting.{moveIn}
-use Rattle.checker.specs.declared.Single.{Single}
+use Rattle.checker.specs.declared.Branch.{Branch}
 use Rattle.checker.specs.declared.Reading.{Reading}
 use Rattle.checker.specs.declared.Reading.the-variants as reading
 
--- the path of one link that has these rows
-unfoldable pub pathIn : List ℕ → List ℕ → List ℕ → Facts
-pathIn rep link reach = record { rep = repOf rep; links = 1; graph = λ i. cond (eqb i 1) (graphOf link reach) noFacts }
-
 -- pairs that were joined, and the path then
-abbrev pub singleOf : Single → Joined
-singleOf j = record { pairs = pairsOf (j .pairs); facts = pathIn (j .rep) (j .link) (j .reach) }
+abbrev pub branchOf : Branch → Joined
+branchOf j = record { pairs = pairsOf (j .pairs); facts = pathAs (j .single) (j .rep) (j .link) (j .reach) }
 
 -- What a line is at a path: its end, a rule that applies there, or wrong.
 pub data Read : Type 0 where
@@ -43,5 +36,5 @@ readAt q s (some l) = readLine q s l
 
 abbrev pub readingOf : Reading → Read
 readingOf reading.Ends = ending
-readingOf (reading.Applies r x y z) = ruling (move 1 (kindOf r) (triple (x .0) (y .0) (z .0)))
+readingOf (reading.Applies k r x y z) = ruling (move (k .0) (kindOf r) (triple (x .0) (y .0) (z .0)))
 readingOf reading.Wrong = unfit

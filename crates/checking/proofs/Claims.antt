@@ -9,29 +9,29 @@ use mathlib.Core.List.{List, [], _∷_, _++_, append-nil, List·Memᴰ, List·Me
 use mathlib.Core.Option.{Option, none, some, Option·elim}
 use lib.ListN.{length, take, replicate}
 use Rattle.logic.specs.Search.{_or_, select, isSome}
-use Rattle.logic.specs.Query.{decode}
 use Rattle.logic.specs.Heap.{Satisfiable}
 use Rattle.logic.specs.Facts.{Line}
 use Rattle.logic.specs.Walk.{Pick, handVerdict}
 use Rattle.logic.specs.Walk as walk
 use Rattle.logic.specs.Derivation.{Derivation, derivationBytes, linesFrom, linesIn}
-use Rattle.logic.specs.Calls.{Input, layoutCheck, byteCheck, formChecks, queryChecks, Answer, accepts, padded, derivationCall, acceptsBy}
+use Rattle.logic.specs.Calls.{Input, layoutCheck, byteCheck, formChecks, queryChecks, CallForm, oneLinkForm, Answer, padded, derivationCallOf, acceptsBy}
 use Rattle.logic.specs.Calls as calls
+use Rattle.logic.specs.ThreeLinks.{linkCheck, linkChecks, threeLinkForm}
 use Rattle.logic.specs.Demands.{FirstStands, numbers}
 use Rattle.theory.proofs.Basics.Search.{not-true, isSome-false}
 use Rattle.theory.proofs.Basics.Compare.{eqb-self}
-use Rattle.theory.proofs.Query.AcceptedBytes as acceptance
 use Rattle.theory.proofs.Soundness.Refuted.{derivation-sound}
-use Rattle.theory.proofs.Calls.CheckingOrder.{refusal-first, first-unique, first-numbered, first-stands, query-early}
-use Rattle.theory.proofs.Calls.CallLaws.{derivation-passed, refusalOf-none}
+use Rattle.theory.proofs.Calls.CheckingOrder.{refusal-first, first-unique, first-numbered, first-stands}
+use Rattle.theory.proofs.Calls.CallLaws.{FormLaws, derivation-passed, refusalOf-none}
 use Rattle.theory.proofs.Calls.Refusals.{one-link-laws}
 use Rattle.theory.proofs.Calls.DerivationBytes.{derivation-length, lines-read}
-use Rattle.theory.proofs.Calls.Demands.{demand1, demand2}
+use Rattle.theory.proofs.Calls.Demands.{demand1-of, demand2-of}
+use Rattle.theory.proofs.Calls.ThreeLinks.{three-link-laws}
 use Rattle.checking.specs.Fitting.{FirstWrong, wrongLine}
-use Rattle.checking.specs.CheckCall.{accepted, wrong, refused, countIn, misshapen, byWrong, refusedQuery, queryRefusal, checkCall}
+use Rattle.checking.specs.CheckCall.{accepted, wrong, refused, countIn, misshapen, byWrong, refusedQuery, queryRefusal, checkCallOf}
 use Rattle.checking.specs.Hand.{isClashLine, Ends}
-use Rattle.checking.specs.Claims.{queryAlone, unpadded, Taken, WithinAccepted, rowAfter, HandAccepted, Claims}
-use Rattle.checking.proofs.Bytes.{derivation-bytes}
+use Rattle.checking.specs.Claims.{queryAlone, unpadded, Taken, WithinAccepted, rowAfter, HandAccepted, Claims, ChecksInOrder}
+use Rattle.checking.proofs.Bytes.{FormBytes, one-link-bytes, three-link-bytes, derivation-bytes}
 use Rattle.checking.proofs.Hand.{hand-writes, refuted-ends, vain-stays}
 use Rattle.checking.proofs.Judged.{zero-exactly, wrong-number, first-placed}
 
@@ -54,140 +54,141 @@ wrong-same e = cc
 
 -- The checks of the query
 
-query-checks : numbers queryChecks ≡ 2 ∷ 3 ∷ 26 ∷ 4 ∷ 5 ∷ 6 ∷ 7 ∷ 8 ∷ []
-unfolding queryChecks formChecks layoutCheck byteCheck
-query-checks = refl
+pub checks-in-order : ChecksInOrder
+unfolding queryChecks formChecks linkChecks linkCheck layoutCheck byteCheck
+checks-in-order = record { query-checks = refl; link-query-checks = refl }
 
--- 20 is none of them
-not-twenty : {k : ℕ} → List·Memᴰ k (numbers queryChecks) → k ≡ 20 → ⊥
-not-twenty {k} m e = ⊎-elim (λ u. omega (arith, u, e)) (λ q. omega (arith, q, e)) (query-early k m .1)
+module _ (form : CallForm) where
+  -- 20 is none of them
+  not-twenty : FormLaws form → {k : ℕ} → List·Memᴰ k (numbers (form .checks)) → k ≡ 20 → ⊥
+  not-twenty laws {k} m e = ⊎-elim (λ u. omega (arith, u, e)) (λ q. omega (arith, q, e)) (laws .early k m .0 .1)
 
--- a query is accepted exactly where none of them stands
-accepts-none : (query : List ℕ) → accepts query ≡ true → queryRefusal query ≡ none
-unfolding acceptsBy queryRefusal
-accepts-none query h = isSome-false _ (not-true h)
+  -- a query is accepted exactly where none of them stands
+  accepts-none : (query : List ℕ) → acceptsBy form query ≡ true → queryRefusal form query ≡ none
+  unfolding acceptsBy queryRefusal
+  accepts-none query h = isSome-false _ (not-true h)
 
-none-accepts : (query : List ℕ) → queryRefusal query ≡ none → accepts query ≡ true
-unfolding acceptsBy queryRefusal isSome
-none-accepts query h = rw h
+  none-accepts : (query : List ℕ) → queryRefusal form query ≡ none → acceptsBy form query ≡ true
+  unfolding acceptsBy queryRefusal isSome
+  none-accepts query h = rw h
 
--- a refusal is that of the first that stands
-refusal-by : (query : List ℕ) (a : Answer) → queryRefusal query ≡ some a → (k : ℕ) × (p : ℕ) × FirstStands queryChecks (queryAlone query) k p × (a ≡ calls.refused k p)
-unfolding queryRefusal
-refusal-by query a h = refusal-first queryChecks (queryAlone query) a h
+  -- a refusal is that of the first that stands
+  refusal-by : (query : List ℕ) (a : Answer) → queryRefusal form query ≡ some a → (k : ℕ) × (p : ℕ) × FirstStands (form .checks) (queryAlone query) k p × (a ≡ calls.refused k p)
+  unfolding queryRefusal
+  refusal-by query a h = refusal-first (form .checks) (queryAlone query) a h
 
-none-stands : (query : List ℕ) → queryRefusal query ≡ none → (k p : ℕ) → FirstStands queryChecks (queryAlone query) k p → ⊥
-unfolding queryRefusal
-none-stands query h k p f = first-stands queryChecks (queryAlone query) k p (refusalOf-none queryChecks (queryAlone query) h) f
+  none-stands : (query : List ℕ) → queryRefusal form query ≡ none → (k p : ℕ) → FirstStands (form .checks) (queryAlone query) k p → ⊥
+  unfolding queryRefusal
+  none-stands query h k p f = first-stands (form .checks) (queryAlone query) k p (refusalOf-none (form .checks) (queryAlone query) h) f
 
 -- What the call answers, by cases
 
-module _ (query derivation : List ℕ) where
+module _ (form : CallForm) (query derivation : List ℕ) where
   abbrev number : ℕ
-  number = wrongLine (decode query) (linesIn derivation)
+  number = wrongLine (form .decode query) (linesIn derivation)
 
-  pub check-refused : (k p : ℕ) → queryRefusal query ≡ some (calls.refused k p) → checkCall query derivation ≡ refused k p
-  unfolding checkCall Option·elim refusedQuery
+  pub check-refused : (k p : ℕ) → queryRefusal form query ≡ some (calls.refused k p) → checkCallOf form query derivation ≡ refused k p
+  unfolding checkCallOf Option·elim refusedQuery
   check-refused k p h = rw h
 
-  pub check-misshapen : queryRefusal query ≡ none → misshapen derivation ≡ true → checkCall query derivation ≡ refused 20 0
-  unfolding checkCall Option·elim
+  pub check-misshapen : queryRefusal form query ≡ none → misshapen derivation ≡ true → checkCallOf form query derivation ≡ refused 20 0
+  unfolding checkCallOf Option·elim
   check-misshapen h m = rw (h, m)
 
-  pub check-judged : queryRefusal query ≡ none → misshapen derivation ≡ false → checkCall query derivation ≡ byWrong number
-  unfolding checkCall Option·elim
+  pub check-judged : queryRefusal form query ≡ none → misshapen derivation ≡ false → checkCallOf form query derivation ≡ byWrong number
+  unfolding checkCallOf Option·elim
   check-judged h m = rw (h, m)
 
   data Case : Type 0 where
-    by-query : (k p : ℕ) → FirstStands queryChecks (queryAlone query) k p → checkCall query derivation ≡ refused k p → Case
-    by-shape : accepts query ≡ true → misshapen derivation ≡ true → checkCall query derivation ≡ refused 20 0 → Case
-    by-lines : Taken query derivation → number ≡ 0 → checkCall query derivation ≡ accepted → Case
-    by-line : Taken query derivation → (k : ℕ) → number ≡ suc k → checkCall query derivation ≡ wrong (suc k) → Case
+    by-query : (k p : ℕ) → FirstStands (form .checks) (queryAlone query) k p → checkCallOf form query derivation ≡ refused k p → Case
+    by-shape : acceptsBy form query ≡ true → misshapen derivation ≡ true → checkCallOf form query derivation ≡ refused 20 0 → Case
+    by-lines : Taken form query derivation → number ≡ 0 → checkCallOf form query derivation ≡ accepted → Case
+    by-line : Taken form query derivation → (k : ℕ) → number ≡ suc k → checkCallOf form query derivation ≡ wrong (suc k) → Case
 
   cases : Case
   unfolding byWrong
-  cases = at-query (queryRefusal query) refl
+  cases = at-query (queryRefusal form query) refl
     where
-      at-number : queryRefusal query ≡ none → misshapen derivation ≡ false → (k : ℕ) → number ≡ k → Case
-      at-number h m zero e = by-lines (none-accepts query h, m) e (check-judged h m ∙ ap byWrong e)
-      at-number h m (suc k) e = by-line (none-accepts query h, m) k e (check-judged h m ∙ ap byWrong e)
+      at-number : queryRefusal form query ≡ none → misshapen derivation ≡ false → (k : ℕ) → number ≡ k → Case
+      at-number h m zero e = by-lines (none-accepts form query h, m) e (check-judged h m ∙ ap byWrong e)
+      at-number h m (suc k) e = by-line (none-accepts form query h, m) k e (check-judged h m ∙ ap byWrong e)
 
-      at-shape : queryRefusal query ≡ none → (b : Bool) → misshapen derivation ≡ b → Case
-      at-shape h true m = by-shape (none-accepts query h) m (check-misshapen h m)
+      at-shape : queryRefusal form query ≡ none → (b : Bool) → misshapen derivation ≡ b → Case
+      at-shape h true m = by-shape (none-accepts form query h) m (check-misshapen h m)
       at-shape h false m = at-number h m number refl
 
-      at-query : (o : Option Answer) → queryRefusal query ≡ o → Case
+      at-query : (o : Option Answer) → queryRefusal form query ≡ o → Case
       at-query none h = at-shape h (misshapen derivation) refl
-      at-query (some a) h = let (k, p, f, e) = refusal-by query a h in by-query k p f (check-refused k p (h ∙ ap some e))
+      at-query (some a) h = let (k, p, f, e) = refusal-by form query a h in by-query k p f (check-refused k p (h ∙ ap some e))
 
-  taken-judged : Taken query derivation → checkCall query derivation ≡ byWrong number
-  taken-judged t = check-judged (accepts-none query (t .0)) (t .1)
+  taken-judged : Taken form query derivation → checkCallOf form query derivation ≡ byWrong number
+  taken-judged t = check-judged (accepts-none form query (t .0)) (t .1)
 
-  accepted-exactly : (checkCall query derivation ≡ accepted) ↔ (Taken query derivation × Derivation (decode query) (linesIn derivation))
+  accepted-exactly : (checkCallOf form query derivation ≡ accepted) ↔ (Taken form query derivation × Derivation (form .decode query) (linesIn derivation))
   unfolding byWrong
-  accepted-exactly = (λ h. there h cases, λ d. taken-judged (d .0) ∙ ap byWrong (zero-exactly (decode query) (linesIn derivation) .1 (d .1)))
+  accepted-exactly = (λ h. there h cases, λ d. taken-judged (d .0) ∙ ap byWrong (zero-exactly (form .decode query) (linesIn derivation) .1 (d .1)))
     where
-      there : checkCall query derivation ≡ accepted → Case → Taken query derivation × Derivation (decode query) (linesIn derivation)
+      there : checkCallOf form query derivation ≡ accepted → Case → Taken form query derivation × Derivation (form .decode query) (linesIn derivation)
       there h (by-query k p f e) = absurd (accepted-refused (sym h ∙ e))
       there h (by-shape a m e) = absurd (accepted-refused (sym h ∙ e))
-      there h (by-lines t n e) = (t, zero-exactly (decode query) (linesIn derivation) .0 n)
+      there h (by-lines t n e) = (t, zero-exactly (form .decode query) (linesIn derivation) .0 n)
       there h (by-line t k n e) = absurd (accepted-wrong (sym h ∙ e))
 
-  wrong-exactly : (k : ℕ) → (checkCall query derivation ≡ wrong k) ↔ (Taken query derivation × FirstWrong (decode query) (linesIn derivation) k)
+  wrong-exactly : (k : ℕ) → (checkCallOf form query derivation ≡ wrong k) ↔ (Taken form query derivation × FirstWrong (form .decode query) (linesIn derivation) k)
   unfolding byWrong
   wrong-exactly k = (λ h. there h cases, λ d. back k (d .0) (d .1))
     where
-      there : checkCall query derivation ≡ wrong k → Case → Taken query derivation × FirstWrong (decode query) (linesIn derivation) k
+      there : checkCallOf form query derivation ≡ wrong k → Case → Taken form query derivation × FirstWrong (form .decode query) (linesIn derivation) k
       there h (by-query j p f e) = absurd (wrong-refused (sym h ∙ e))
       there h (by-shape a m e) = absurd (wrong-refused (sym h ∙ e))
       there h (by-lines t n e) = absurd (accepted-wrong (sym e ∙ h))
-      there h (by-line t j n e) = (t, subst (FirstWrong (decode query) (linesIn derivation)) (wrong-same (sym e ∙ h)) (wrong-number (decode query) (linesIn derivation) j .0 n))
+      there h (by-line t j n e) = (t, subst (FirstWrong (form .decode query) (linesIn derivation)) (wrong-same (sym e ∙ h)) (wrong-number (form .decode query) (linesIn derivation) j .0 n))
 
-      back : (k : ℕ) → Taken query derivation → FirstWrong (decode query) (linesIn derivation) k → checkCall query derivation ≡ wrong k
+      back : (k : ℕ) → Taken form query derivation → FirstWrong (form .decode query) (linesIn derivation) k → checkCallOf form query derivation ≡ wrong k
       back zero t w = absurd (omega (arith, w .number))
-      back (suc j) t w = taken-judged t ∙ ap byWrong (wrong-number (decode query) (linesIn derivation) j .1 w)
+      back (suc j) t w = taken-judged t ∙ ap byWrong (wrong-number (form .decode query) (linesIn derivation) j .1 w)
 
-  refused-exactly : (k place : ℕ) → List·Memᴰ k (numbers queryChecks) → (checkCall query derivation ≡ refused k place) ↔ FirstStands queryChecks (queryAlone query) k place
-  refused-exactly k place own = (λ h. there h cases, λ f. back f cases)
+  refused-exactly : FormLaws form → (k place : ℕ) → List·Memᴰ k (numbers (form .checks)) → (checkCallOf form query derivation ≡ refused k place) ↔ FirstStands (form .checks) (queryAlone query) k place
+  refused-exactly laws k place own = (λ h. there h cases, λ f. back f cases)
     where
-      there : checkCall query derivation ≡ refused k place → Case → FirstStands queryChecks (queryAlone query) k place
+      there : checkCallOf form query derivation ≡ refused k place → Case → FirstStands (form .checks) (queryAlone query) k place
       there h (by-query j p f e) =
           let (a, b) = refused-same (sym e ∙ h) in
-          subst (λ (x : ℕ). FirstStands queryChecks (queryAlone query) x place) a (subst (FirstStands queryChecks (queryAlone query) j) b f)
-      there h (by-shape a m e) = absurd (not-twenty own (sym (refused-same (sym e ∙ h) .0)))
+          subst (λ (x : ℕ). FirstStands (form .checks) (queryAlone query) x place) a (subst (FirstStands (form .checks) (queryAlone query) j) b f)
+      there h (by-shape a m e) = absurd (not-twenty form laws own (sym (refused-same (sym e ∙ h) .0)))
       there h (by-lines t n e) = absurd (accepted-refused (sym e ∙ h))
       there h (by-line t j n e) = absurd (wrong-refused (sym e ∙ h))
 
-      back : FirstStands queryChecks (queryAlone query) k place → Case → checkCall query derivation ≡ refused k place
-      back f (by-query j p g e) = let (a, b) = first-unique queryChecks (queryAlone query) j p k place g f in e ∙ ap₂ refused a b
-      back f (by-shape a m e) = absurd (none-stands query (accepts-none query a) k place f)
-      back f (by-lines t n e) = absurd (none-stands query (accepts-none query (t .0)) k place f)
-      back f (by-line t j n e) = absurd (none-stands query (accepts-none query (t .0)) k place f)
+      back : FirstStands (form .checks) (queryAlone query) k place → Case → checkCallOf form query derivation ≡ refused k place
+      back f (by-query j p g e) = let (a, b) = first-unique (form .checks) (queryAlone query) j p k place g f in e ∙ ap₂ refused a b
+      back f (by-shape a m e) = absurd (none-stands form query (accepts-none form query a) k place f)
+      back f (by-lines t n e) = absurd (none-stands form query (accepts-none form query (t .0)) k place f)
+      back f (by-line t j n e) = absurd (none-stands form query (accepts-none form query (t .0)) k place f)
 
-  shape-exactly : (place : ℕ) → (checkCall query derivation ≡ refused 20 place) ↔ ((place ≡ 0) × (accepts query ≡ true) × (misshapen derivation ≡ true))
-  shape-exactly place = (λ h. there h cases, λ d. check-misshapen (accepts-none query (d .1)) (d .2) ∙ ap (refused 20) (sym (d .0)))
+  shape-exactly : FormLaws form → (place : ℕ) → (checkCallOf form query derivation ≡ refused 20 place) ↔ ((place ≡ 0) × (acceptsBy form query ≡ true) × (misshapen derivation ≡ true))
+  shape-exactly laws place = (λ h. there h cases, λ d. check-misshapen (accepts-none form query (d .1)) (d .2) ∙ ap (refused 20) (sym (d .0)))
     where
-      there : checkCall query derivation ≡ refused 20 place → Case → (place ≡ 0) × (accepts query ≡ true) × (misshapen derivation ≡ true)
-      there h (by-query j p f e) = absurd (not-twenty (first-numbered queryChecks (queryAlone query) j p f) (refused-same (sym e ∙ h) .0))
+      there : checkCallOf form query derivation ≡ refused 20 place → Case → (place ≡ 0) × (acceptsBy form query ≡ true) × (misshapen derivation ≡ true)
+      there h (by-query j p f e) = absurd (not-twenty form laws (first-numbered (form .checks) (queryAlone query) j p f) (refused-same (sym e ∙ h) .0))
       there h (by-shape a m e) = (sym (refused-same (sym e ∙ h) .1), a, m)
       there h (by-lines t n e) = absurd (accepted-refused (sym e ∙ h))
       there h (by-line t j n e) = absurd (wrong-refused (sym e ∙ h))
 
-  refusal-numbered : (k place : ℕ) → checkCall query derivation ≡ refused k place → List·Memᴰ k (numbers queryChecks ++ (20 ∷ []))
+  refusal-numbered : (k place : ℕ) → checkCallOf form query derivation ≡ refused k place → List·Memᴰ k (numbers (form .checks) ++ (20 ∷ []))
   refusal-numbered k place h = there cases
     where
-      there : Case → List·Memᴰ k (numbers queryChecks ++ (20 ∷ []))
+      there : Case → List·Memᴰ k (numbers (form .checks) ++ (20 ∷ []))
       there (by-query j p f e) =
-          subst (λ (x : ℕ). List·Memᴰ x (numbers queryChecks ++ (20 ∷ []))) (refused-same (sym e ∙ h) .0)
-          (Memᴰ·append-left (20 ∷ []) (first-numbered queryChecks (queryAlone query) j p f))
-      there (by-shape a m e) = Memᴰ·append-right (numbers queryChecks) (List·Memᴰ·head (sym (refused-same (sym e ∙ h) .0)))
+          subst (λ (x : ℕ). List·Memᴰ x (numbers (form .checks) ++ (20 ∷ []))) (refused-same (sym e ∙ h) .0)
+          (Memᴰ·append-left (20 ∷ []) (first-numbered (form .checks) (queryAlone query) j p f))
+      there (by-shape a m e) = Memᴰ·append-right (numbers (form .checks)) (List·Memᴰ·head (sym (refused-same (sym e ∙ h) .0)))
       there (by-lines t n e) = absurd (accepted-refused (sym e ∙ h))
       there (by-line t j n e) = absurd (wrong-refused (sym e ∙ h))
 
-  accepted-sound : checkCall query derivation ≡ accepted → Satisfiable (decode query) → ⊥
-  accepted-sound h =
+  accepted-sound : FormLaws form → checkCallOf form query derivation ≡ accepted → Satisfiable (form .decode query) → ⊥
+  accepted-sound laws h =
       let (t, d) = accepted-exactly .0 h in
-      derivation-sound (decode query) (acceptance.accepted query (t .0)) d
+      derivation-sound (form .decode query) (laws .accepted-query query (t .0)) d
 
 -- The lines in the bytes, and how many
 
@@ -200,9 +201,9 @@ pub count-lines : (bytes : List ℕ) → length (linesIn bytes) ≡ countIn byte
 unfolding linesIn countIn
 count-lines bytes = lines-count _ _
 
-wrong-placed : (query derivation : List ℕ) (k : ℕ) → checkCall query derivation ≡ wrong k → (1 ≤ k) × (k ≤ countIn derivation + 1)
-wrong-placed query derivation k h =
-    let r = first-placed (decode query) (linesIn derivation) k (wrong-exactly query derivation k .0 h .1) in
+wrong-placed : (f : CallForm) (query derivation : List ℕ) (k : ℕ) → checkCallOf f query derivation ≡ wrong k → (1 ≤ k) × (k ≤ countIn derivation + 1)
+wrong-placed f query derivation k h =
+    let r = first-placed (f .decode query) (linesIn derivation) k (wrong-exactly f query derivation k .0 h .1) in
     (r .0, omega (arith, r .1, count-lines derivation))
 
 -- Derivations as they are written
@@ -221,10 +222,10 @@ written-taken lines l =
     let c : countIn (derivationBytes lines) ≡ length lines = ap countIn (sym (append-nil (derivationBytes lines))) ∙ counted lines [] in
     rw (c, derivation-length lines, eqb-self (2 + 4 * length lines)) (le-ltb 16000 (length lines) l)
 
-pub derivation-accepted : (query : List ℕ) (lines : List Line) → accepts query ≡ true → Derivation (decode query) lines → WithinAccepted query lines
-derivation-accepted query lines a d l =
+pub derivation-accepted : (f : CallForm) (query : List ℕ) (lines : List Line) → acceptsBy f query ≡ true → Derivation (f .decode query) lines → WithinAccepted f query lines
+derivation-accepted f query lines a d l =
     let e : linesIn (derivationBytes lines) ≡ lines = ap linesIn (sym (append-nil (derivationBytes lines))) ∙ lines-read lines [] in
-    accepted-exactly query (derivationBytes lines) .1 ((a, written-taken lines l), subst (Derivation (decode query)) (sym e) d)
+    accepted-exactly f query (derivationBytes lines) .1 ((a, written-taken lines l), subst (Derivation (f .decode query)) (sym e) d)
 
 -- what is left of a padded derivation without the zeros
 unpadded-written : (room : ℕ) (lines : List Line) → unpadded (padded room (derivationBytes lines)) ≡ derivationBytes lines
@@ -235,45 +236,54 @@ unpadded-written room lines =
     ∙ ap (λ (k : ℕ). take k (derivationBytes lines ++ zeros)) (sym (derivation-length lines))
     ∙ take-all (derivationBytes lines) zeros
 
-ours-accepted : (i : Input) → derivationCall i .answer ≡ calls.refuted → checkCall (i .query) (unpadded (derivationCall i .lent)) ≡ accepted
-ours-accepted i h =
-    let lent = derivationCall i .lent in
-    let passed : accepts (i .query) ≡ true = derivation-passed calls.oneLinkForm one-link-laws i (demand1 .lines-exactly i .0 h .0) .query in
-    let e : unpadded lent ≡ derivationBytes (linesIn lent) = ap unpadded (demand2 .derivation-formed i h) ∙ unpadded-written (i .room) (linesIn lent) in
-    ap (checkCall (i .query)) e
-    ∙ derivation-accepted (i .query) (linesIn lent) passed (demand2 .derivation-follows i h) (demand2 .derivation-counted i h .0)
+ours-accepted : (f : CallForm) → FormLaws f → (i : Input) → derivationCallOf f i .answer ≡ calls.refuted → checkCallOf f (i .query) (unpadded (derivationCallOf f i .lent)) ≡ accepted
+ours-accepted f laws i h =
+    let lent = derivationCallOf f i .lent in
+    let one = demand1-of f laws in
+    let two = demand2-of f laws in
+    let passed : acceptsBy f (i .query) ≡ true = derivation-passed f laws i (one .lines-exactly i .0 h .0) .query in
+    let e : unpadded lent ≡ derivationBytes (linesIn lent) = ap unpadded (two .derivation-formed i h) ∙ unpadded-written (i .room) (linesIn lent) in
+    ap (checkCallOf f (i .query)) e
+    ∙ derivation-accepted f (i .query) (linesIn lent) passed (two .derivation-follows i h) (two .derivation-counted i h .0)
 
 -- Derivations by a hand
 
-module _ (query : List ℕ) (picks : List Pick) where
+module _ (f : CallForm) (query : List ℕ) (picks : List Pick) where
   abbrev EndedBy : List Line → Type 0
-  EndedBy ends = (lines : List Line) × HandAccepted query picks lines × (select isClashLine lines ≡ ends)
+  EndedBy ends = (lines : List Line) × HandAccepted f query picks lines × (select isClashLine lines ≡ ends)
 
-  hand-any-clash : (ends : List Line) → accepts query ≡ true → Ends (decode query) (rowAfter query picks) ends → EndedBy ends
+  hand-any-clash : (ends : List Line) → acceptsBy f query ≡ true → Ends (f .decode query) (rowAfter f query picks) ends → EndedBy ends
   hand-any-clash ends a e =
-      let (lines, writes, same) = hand-writes (decode query) picks ends e in
-      (lines, (writes, derivation-accepted query lines a (writes .follows)), same)
+      let (lines, writes, same) = hand-writes (f .decode query) picks ends e in
+      (lines, (writes, derivation-accepted f query lines a (writes .follows)), same)
 
-  hand-accepted : accepts query ≡ true → handVerdict (decode query) (rowAfter query picks) ≡ some walk.refuted → (lines : List Line) × HandAccepted query picks lines
+  hand-accepted : acceptsBy f query ≡ true → handVerdict (f .decode query) (rowAfter f query picks) ≡ some walk.refuted → (lines : List Line) × HandAccepted f query picks lines
   hand-accepted a h =
-      let (ends, e) = refuted-ends (decode query) (rowAfter query picks) h in
+      let (ends, e) = refuted-ends (f .decode query) (rowAfter f query picks) h in
       let (lines, held, same) = hand-any-clash ends a e in
       (lines, held)
 
-pub claims : Claims
-claims =
+-- all of it, for every form of which a few laws hold
+pub claims-of : (f : CallForm) → FormLaws f → FormBytes f → Claims f
+claims-of f laws bytes =
     record {
-      accepted-exactly = accepted-exactly;
-      wrong-exactly = wrong-exactly;
-      wrong-placed = wrong-placed;
-      query-checks = query-checks;
-      refused-exactly = refused-exactly;
-      shape-exactly = shape-exactly;
-      refusal-numbered = refusal-numbered;
-      accepted-sound = accepted-sound;
-      ours-accepted = ours-accepted;
-      hand-accepted = hand-accepted;
-      hand-any-clash = hand-any-clash;
+      accepted-exactly = accepted-exactly f;
+      wrong-exactly = wrong-exactly f;
+      wrong-placed = wrong-placed f;
+      refused-exactly = λ query derivation. refused-exactly f query derivation laws;
+      shape-exactly = λ query derivation. shape-exactly f query derivation laws;
+      refusal-numbered = refusal-numbered f;
+      accepted-sound = λ query derivation. accepted-sound f query derivation laws;
+      ours-accepted = ours-accepted f laws;
+      hand-accepted = hand-accepted f;
+      hand-any-clash = hand-any-clash f;
       vain-stays = vain-stays;
-      lines-bytes = λ query lines a d. derivation-bytes query a d;
+      lines-bytes = λ query lines a d. derivation-bytes f laws bytes query a d;
     }
+
+-- the form of 01, and that of R-11
+pub claims : Claims oneLinkForm
+claims = claims-of oneLinkForm one-link-laws one-link-bytes
+
+pub links-claims : Claims threeLinkForm
+links-claims = claims-of threeLinkForm three-link-laws three-link-bytes

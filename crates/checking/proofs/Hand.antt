@@ -18,7 +18,7 @@ use Rattle.theory.proofs.Basics.Search.{none-some, isSome-true, isSome-false, n
 use Rattle.theory.proofs.Basics.Compare.{cond-true, cond-false, eqb-false}
 use Rattle.checking.specs.Fitting.{sameLine, moveIn}
 use Rattle.checking.specs.Hand.{isTaken, isVain, takenFrom, takenPicks, lineWith, pickLine, isClashLine, isRuleLine, occurrences, Ends, no-path, one-more, HandWrites}
-use Rattle.checking.proofs.Trees.{rule-below, in-move}
+use Rattle.checking.proofs.Moves.{rule-below, in-move}
 
 -- Lines that pass a test, and how often one stands there
 

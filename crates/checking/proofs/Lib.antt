@@ -2,6 +2,7 @@ mod Samples
 pub mod Numbers
 pub mod Pairs
 pub mod Bytes
+pub mod Moves
 pub mod Trees
 pub mod Judged
 pub mod Hand

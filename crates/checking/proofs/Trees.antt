@@ -19,6 +19,7 @@ use Rattle.theory.proofs.Paths.Applies.{hasLink-range, applies-linked}
 use Rattle.theory.proofs.Walks.Order.{moveOf-number}
 use Rattle.checking.specs.Fitting.{Goal, goalOf, sameLine, moveIn, goalsOf, afterRule, atPath, atGoal, step, startGoal, Fit}
 use Rattle.checking.specs.Fitting as fitting
+use Rattle.checking.proofs.Moves.{rule-below, move-in, in-move}
 
 -- Lines by their numbers
 
@@ -36,32 +37,6 @@ same-line (line a b c d) (line w x y z) h =
 pub line-same : (l : Line) → sameLine l l ≡ true
 unfolding sameLine
 line-same (line a b c d) = and-intro (and-intro (and-intro (eqb-self a) (eqb-self b)) (eqb-self c)) (eqb-self d)
-
--- the move in a line is the one whose line it is
-pub move-in : (links : ℕ) (m : Move) → hasLink links m ≡ true → moveIn links (moveLine m) ≡ some m
-unfolding moveIn moveLine
-move-in links (move i r (triple x y z)) h = moveOf-number links i r (triple x y z) (hasLink-range links i r (triple x y z) h)
-
-pub in-move : (links : ℕ) (l : Line) (m : Move) → moveIn links l ≡ some m → moveLine m ≡ l
-unfolding moveIn moveLine moveOf
-in-move links (line k x y z) m h =
-    let t : Triple = triple x y z in
-    let (i, mi, e) = firstOf-some (λ j. firstOf (λ r. keep (eqb (moveNumber j r) k) (move j r t)) rules) (linkNumbers links) m h in
-    let (r, mr, f) = firstOf-some (λ r. keep (eqb (moveNumber i r) k) (move i r t)) rules m e in
-    let g = keep-some (eqb (moveNumber i r) k) f in
-    ap moveLine (sym (g .1)) ∙ ap (λ (j : ℕ). line j x y z) (eqb-true (moveNumber i r) k (g .0))
-
--- a rule's number is below that of a clash line
-pub rule-below : (r : Rule) → ruleNumber r < 9
-unfolding ruleNumber
-rule-below REFLEX = omega arith
-rule-below TRANS1 = omega arith
-rule-below TRANS2 = omega arith
-rule-below FUNC = omega arith
-rule-below CYCLE = omega arith
-rule-below SCC = omega arith
-rule-below TOTAL = omega arith
-rule-below SHARE = omega arith
 
 -- Lines that fit, one row after another
 

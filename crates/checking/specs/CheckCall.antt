@@ -6,9 +6,8 @@ use mathlib.Core.Option.{Option, Option·elim}
 use lib.ListN.{length, getD}
 use lib.Dec.{eqb, ltb}
 use Rattle.logic.specs.Search.{_or_}
-use Rattle.logic.specs.Query.{decode}
 use Rattle.logic.specs.Derivation.{linesIn}
-use Rattle.logic.specs.Calls.{Answer, queryChecks, refusalOf}
+use Rattle.logic.specs.Calls.{Answer, CallForm, oneLinkForm, refusalOf}
 use Rattle.logic.specs.Calls as calls
 use Rattle.checking.specs.Fitting.{wrongLine}
 
@@ -37,13 +36,17 @@ refusedQuery (calls.refused k place) = refused k place
 refusedQuery calls.satisfiable = accepted
 refusedQuery calls.refuted = accepted
 
--- "Checks: 2 to 8", with 26 among them (02, R-13): "room plays no part", and there is no order list
-unfoldable pub queryRefusal : List ℕ → Option Answer
-queryRefusal query = refusalOf queryChecks (record { order = []; query = query; room = 0 })
+-- "Checks: 2 to 8", with 26 among them (02, R-13), and with three links 22 (02, R-11): "room plays no part", and there is no order list
+unfoldable pub queryRefusal : CallForm → List ℕ → Option Answer
+queryRefusal f query = refusalOf (f .checks) (record { order = []; query = query; room = 0 })
 
--- "Checks: 2 to 8, then 20"
-unfoldable pub checkCall : List ℕ → List ℕ → Checked
-checkCall query derivation =
-    let judged : Checked = byWrong (wrongLine (decode query) (linesIn derivation)) in
+-- "Checks: 2 to 8, then 20", of a query in any form that calls take
+unfoldable pub checkCallOf : CallForm → List ℕ → List ℕ → Checked
+checkCallOf f query derivation =
+    let judged : Checked = byWrong (wrongLine (f .decode query) (linesIn derivation)) in
     let own : Checked = cond (misshapen derivation) (refused 20 0) judged in
-    Option·elim (queryRefusal query) own refusedQuery
+    Option·elim (queryRefusal f query) own refusedQuery
+
+-- the call of R-8, for the form of 01
+abbrev pub checkCall : List ℕ → List ℕ → Checked
+checkCall = checkCallOf oneLinkForm

@@ -55,13 +55,16 @@ module _ (q : Query) (s : Facts) where
   unfolding isClash _and_ _or_
   line4 i j = refl
 
-  find-alone : (k : ℕ) (ls : List Literal) (p : Literal → Bool) → ((i : ℕ) → isClash q s (line 9 k i 0) ≡ negatedAt ls i p) → find (isClash q s) (map (λ i. line 9 k i 0) (from (length ls) 1)) ≡ alone k ls p
+  find-alone : (k : ℕ) (ls : List Literal) (p : Literal → Bool) → ((i : ℕ) → isClash q s (line 9 k i 0) ≡ negatedAt ls i p) →
+      find (isClash q s) (map (λ i. line 9 k i 0) (from (length ls) 1)) ≡ alone k ls p
   unfolding alone
   find-alone k ls p e =
       find-map (isClash q s) (λ i. line 9 k i 0) (from (length ls) 1)
       ∙ ap (λ (t : ℕ → Bool). firstOf (λ i. keep (t i) (line 9 k i 0)) (from (length ls) 1)) (fun-ext e)
 
-  find-paired : (k : ℕ) (ls : List Literal) (p : Literal → Literal → Bool) → ((i j : ℕ) → isClash q s (line 9 k i j) ≡ negatedAt ls i (λ l. plainAt ls j (p l))) → find (isClash q s) (flatMap (λ i. map (line 9 k i) (from (length ls) 1)) (from (length ls) 1)) ≡ paired k ls p
+  find-paired : (k : ℕ) (ls : List Literal) (p : Literal → Literal → Bool) →
+      ((i j : ℕ) → isClash q s (line 9 k i j) ≡ negatedAt ls i (λ l. plainAt ls j (p l))) →
+      find (isClash q s) (flatMap (λ i. map (line 9 k i) (from (length ls) 1)) (from (length ls) 1)) ≡ paired k ls p
   unfolding paired
   find-paired k ls p e =
       find-flatMap (isClash q s) (λ i. map (line 9 k i) (from (length ls) 1)) (from (length ls) 1)

@@ -77,10 +77,14 @@ module _ (a b c : ℕ) (rest : List ℕ) (e : threeOf a b c ≡ true) where
   ks = a ∷ b ∷ c ∷ []
 
   below : (a < 4) × (b < 4) × (c < 4)
-  below = let (one, two, three, la, lb, lc) = six ((eqb a 1 || eqb b 1) || eqb c 1) ((eqb a 2 || eqb b 2) || eqb c 2) ((eqb a 3 || eqb b 3) || eqb c 3) (ltb a 4) (ltb b 4) (ltb c 4) e in (ltb-true a 4 la, ltb-true b 4 lb, ltb-true c 4 lc)
+  below = let (one, two, three, la, lb, lc) = six ((eqb a 1 || eqb b 1) || eqb c 1) ((eqb a 2 || eqb b 2) || eqb c 2)
+      ((eqb a 3 || eqb b 3) || eqb c 3) (ltb a 4) (ltb b 4) (ltb c 4) e in
+      (ltb-true a 4 la, ltb-true b 4 lb, ltb-true c 4 lc)
 
   has : Among 1 a b c × Among 2 a b c × Among 3 a b c
-  has = let (one, two, three, la, lb, lc) = six ((eqb a 1 || eqb b 1) || eqb c 1) ((eqb a 2 || eqb b 2) || eqb c 2) ((eqb a 3 || eqb b 3) || eqb c 3) (ltb a 4) (ltb b 4) (ltb c 4) e in (among 1 a b c one, among 2 a b c two, among 3 a b c three)
+  has = let (one, two, three, la, lb, lc) = six ((eqb a 1 || eqb b 1) || eqb c 1) ((eqb a 2 || eqb b 2) || eqb c 2) ((eqb a 3 || eqb b 3) || eqb c 3)
+      (ltb a 4) (ltb b 4) (ltb c 4) e in
+      (among 1 a b c one, among 2 a b c two, among 3 a b c three)
 
   low : (k : ℕ) → List·Memᴰ k ks → k < 4
   low k m =

@@ -72,7 +72,8 @@ bit-square : (rows : List ℕ) (a y : ℕ) → a ≤ 16 → y ≤ 16 → bit (ge
 bit-square rows a y h l e = square-in rows a y h l ∙ e
 
 -- what a turn of each loop adds
-pub seed-follows : (alive : ℕ) (link : List ℕ) (reach : ℕ → ℕ → Bool) (a o : ℕ) → a ≤ 16 → ((i : ℕ) → bit o i ≡ eqb i a) → (y : ℕ) → y ≤ 16 → bit (bitOr (getD link a 0) (bitAnd o alive)) y ≡ true → Follows (bit alive) (square link) reach a y
+pub seed-follows : (alive : ℕ) (link : List ℕ) (reach : ℕ → ℕ → Bool) (a o : ℕ) → a ≤ 16 → ((i : ℕ) → bit o i ≡ eqb i a) → (y : ℕ) → y ≤ 16 →
+    bit (bitOr (getD link a 0) (bitAnd o alive)) y ≡ true → Follows (bit alive) (square link) reach a y
 seed-follows alive link reach a o h e y l t =
     ⊎-elim
     (λ p. by-link (bit-square link a y h l p))
@@ -89,7 +90,8 @@ SeededBelow alive link a rows = ((x b : ℕ) → x < a → square link x b ≡ t
 pub seeded-none : (alive : ℕ) (link rows : List ℕ) → SeededBelow alive link 0 rows
 seeded-none alive link rows = (λ x b l e. absurd (omega arith), λ x l e. absurd (omega arith))
 
-pub seeded-more : (alive : ℕ) (link rows : List ℕ) (a o : ℕ) → length rows ≡ 17 → a ≤ 16 → ((i : ℕ) → bit o i ≡ eqb i a) → SeededBelow alive link a rows → SeededBelow alive link (a + 1) (set rows a (bitOr (getD rows a 0) (bitOr (getD link a 0) (bitAnd o alive))))
+pub seeded-more : (alive : ℕ) (link rows : List ℕ) (a o : ℕ) → length rows ≡ 17 → a ≤ 16 → ((i : ℕ) → bit o i ≡ eqb i a) →
+    SeededBelow alive link a rows → SeededBelow alive link (a + 1) (set rows a (bitOr (getD rows a 0) (bitOr (getD link a 0) (bitAnd o alive))))
 seeded-more alive link rows a o full h e (links, own) = (
   λ x b l t.
       ⊎-elim
@@ -121,7 +123,9 @@ pub seeded-kept : (alive : ℕ → Bool) (link : ℕ → ℕ → Bool) (rows lat
 seeded-kept alive link rows later up (links, own) = (λ a b t. up a b (links a b t), λ a l t. up a a (own a l t))
 
 -- the row of a, once it has what y reaches
-pub through-row : (rows out : List ℕ) (y a w : ℕ) → length out ≡ 17 → a ≤ 16 → y ≤ 16 → ((b : ℕ) → square out a b ≡ square rows a b) → ((i : ℕ) → bit w i ≡ bit (getD out a 0) y and bit (getD rows y 0) i) → (b : ℕ) → square (set out a (bitOr (getD out a 0) w)) a b ≡ square rows a b or (square rows a y and square rows y b)
+pub through-row : (rows out : List ℕ) (y a w : ℕ) → length out ≡ 17 → a ≤ 16 → y ≤ 16 → ((b : ℕ) → square out a b ≡ square rows a b) →
+    ((i : ℕ) → bit w i ≡ bit (getD out a 0) y and bit (getD rows y 0) i) → (b : ℕ) →
+    square (set out a (bitOr (getD out a 0) w)) a b ≡ square rows a b or (square rows a y and square rows y b)
 through-row rows out y a w full la ly same e b =
     ap (λ (r : ℕ → Bool). r b) (set-same out a (bitOr (getD out a 0) w) full la)
     ∙ row-or (getD out a 0) w b
@@ -134,7 +138,10 @@ through-row rows out y a w full la ly same e b =
     outside l = row-beyond w b l ∙ sym (ap (λ (z : Bool). square rows a y and z) (square-beside rows y b l) ∙ and-false (square rows a y))
 
 -- after the rows below a
-pub through-more : (rows out : List ℕ) (y a w : ℕ) → length out ≡ 17 → a ≤ 16 → y ≤ 16 → ((x b : ℕ) → x < a → square out x b ≡ square rows x b or (square rows x y and square rows y b)) → ((x b : ℕ) → a ≤ x → square out x b ≡ square rows x b) → ((i : ℕ) → bit w i ≡ bit (getD out a 0) y and bit (getD rows y 0) i) → (x b : ℕ) → x < a + 1 → square (set out a (bitOr (getD out a 0) w)) x b ≡ square rows x b or (square rows x y and square rows y b)
+pub through-more : (rows out : List ℕ) (y a w : ℕ) → length out ≡ 17 → a ≤ 16 → y ≤ 16 →
+    ((x b : ℕ) → x < a → square out x b ≡ square rows x b or (square rows x y and square rows y b)) →
+    ((x b : ℕ) → a ≤ x → square out x b ≡ square rows x b) → ((i : ℕ) → bit w i ≡ bit (getD out a 0) y and bit (getD rows y 0) i) → (x b : ℕ) →
+    x < a + 1 → square (set out a (bitOr (getD out a 0) w)) x b ≡ square rows x b or (square rows x y and square rows y b)
 through-more rows out y a w full la ly done left e x b l =
     ⊎-elim
     (λ p. rw p (through-row rows out y a w full la ly (λ c. left a c (omega arith)) e b))
@@ -156,7 +163,8 @@ through-all rows out y done a b =
 -- where y reaches nothing
 pub through-none : (rows : List ℕ) (y : ℕ) → y ≤ 16 → getD rows y 0 ≡ 0 → Passed rows rows y
 unfolding _or_
-through-none rows y h e a b = sym (ap (λ (z : Bool). square rows a b or (square rows a y and z)) empty ∙ ap (λ (z : Bool). square rows a b or z) (and-false (square rows a y)) ∙ or-none (square rows a b))
+through-none rows y h e a b = sym (ap (λ (z : Bool). square rows a b or (square rows a y and z)) empty
+    ∙ ap (λ (z : Bool). square rows a b or z) (and-false (square rows a y)) ∙ or-none (square rows a b))
   where
     empty : square rows y b ≡ false
     empty = ap (λ (r : ℕ → Bool). r b) (square-row rows y h) ∙ ap (λ (w : ℕ). rowOf w b) e ∙ row-none b
@@ -218,7 +226,8 @@ unfolding _and_
 passed-none row y far i e = bit-none i ∙ rw e refl
 
 -- the rows of a link with all that follows
-pub link-closed : (alive : ℕ) (link reach rows : List ℕ) → Within (bit alive) (square link) (square reach) rows → Above (square reach) rows → Seeded (bit alive) (square link) rows → Onward rows → LinkClosed (bit alive) (graphOf link reach) (graphOf link rows)
+pub link-closed : (alive : ℕ) (link reach rows : List ℕ) → Within (bit alive) (square link) (square reach) rows → Above (square reach) rows →
+    Seeded (bit alive) (square link) rows → Onward rows → LinkClosed (bit alive) (graphOf link reach) (graphOf link rows)
 unfolding graphOf
 link-closed alive link reach rows inside up (links, own) on =
     record { same-link = refl; reach-kept = up; reach-follows = inside; link-held = links; itself-held = own; onward-held = on }
@@ -270,7 +279,9 @@ module _ (later rows : List ℕ) (k : ℕ) (own : ℕ → ℕ → Bool) (e : cub
   put-others j d = at j ∙ rw (ne-eqb j k d)
 
 -- a link closed in rows of its own is closed in those of all links
-pub closed-in : (alive : ℕ → Bool) (link reach later : List ℕ) (k : ℕ) (own part last : List ℕ) → square own ≡ cube link k → square part ≡ cube reach k → cube later k ≡ square last → LinkClosed alive (graphOf own part) (graphOf own last) → LinkClosed alive (graphIn link reach k) (graphIn link later k)
+pub closed-in : (alive : ℕ → Bool) (link reach later : List ℕ) (k : ℕ) (own part last : List ℕ) → square own ≡ cube link k →
+    square part ≡ cube reach k → cube later k ≡ square last → LinkClosed alive (graphOf own part) (graphOf own last) →
+    LinkClosed alive (graphIn link reach k) (graphIn link later k)
 unfolding graphOf graphIn
 closed-in alive link reach later k own part last d e f = subst₂ (LinkClosed alive) (alike-graph d e) (alike-graph d (sym f))
 
@@ -283,7 +294,8 @@ module _ (alive : ℕ → Bool) (link reach : List ℕ) where
   pub closed-none : ClosedBelow 1 reach
   closed-none = (λ j l m. absurd (omega arith), λ j l. refl)
 
-  pub closed-more : (k : ℕ) (cur later : List ℕ) → LinkClosed alive (graphIn link cur k) (graphIn link later k) → ((j : ℕ) → (j ≡ k → ⊥) → cube later j ≡ cube cur j) → ClosedBelow k cur → ClosedBelow (k + 1) later
+  pub closed-more : (k : ℕ) (cur later : List ℕ) → LinkClosed alive (graphIn link cur k) (graphIn link later k) →
+      ((j : ℕ) → (j ≡ k → ⊥) → cube later j ≡ cube cur j) → ClosedBelow k cur → ClosedBelow (k + 1) later
   unfolding graphIn
   closed-more k cur later here there (done, left) = (
     λ j l m.
@@ -295,7 +307,8 @@ module _ (alive : ℕ → Bool) (link reach : List ℕ) where
   )
 
 -- the path that arrays hold, once all its links are closed
-module _ (n : ℕ) (single : Bool) (rep link reach later : List ℕ) (alive : ℕ → Bool) (e : alive ≡ live n (replacedBy rep)) (k : ℕ) (past : cond single 1 3 < k) (below : ClosedBelow alive link reach k later) where
+module _ (n : ℕ) (single : Bool) (rep link reach later : List ℕ) (alive : ℕ → Bool) (e : alive ≡ live n (replacedBy rep)) (k : ℕ)
+    (past : cond single 1 3 < k) (below : ClosedBelow alive link reach k later) where
   abbrev was : Facts
   was = pathAs single rep link reach
 

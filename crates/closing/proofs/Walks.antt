@@ -11,12 +11,15 @@ use lib.Dec.{eqb}
 use Rattle.logic.specs.Search.{_and_, _or_, keep, orElse, any, firstOf}
 use Rattle.logic.specs.Query.{Query, termCount}
 use Rattle.logic.specs.Facts.{Facts, Line, linkNumbers, live, unjoined, addReach, clash}
-use Rattle.logic.specs.Rules.{Rule, REFLEX, TRANS1, TRANS2, FUNC, CYCLE, SCC, TOTAL, SHARE, Triple, triple, Move, move, Fact, reaches, conditions, alternatives, held, hasLink, applies, branch, add, branches, triples, choose}
+use Rattle.logic.specs.Rules.{Rule, REFLEX, TRANS1, TRANS2, FUNC, CYCLE, SCC, TOTAL, SHARE, Triple, triple, Move, move, Fact}
+use Rattle.logic.specs.Rules.{reaches, conditions, alternatives, held, hasLink, applies, branch, add, branches, triples, choose}
 use Rattle.logic.specs.Walk.{look, clashing, applying, saturated, saturation, after, walk}
 use Rattle.logic.specs.OurWalk.{Walks, goes-on, WalksEach, saturated-first}
 use Rattle.logic.specs.Steps.{Step, at-first, one-more, AtMost}
 use Rattle.logic.specs.Decision.{HasHeap, Follows, is-held, itself, by-link, onward, Closes}
-use Rattle.theory.proofs.Basics.Search.{bool-cases, true-false, not-of, and-left, and-right, and-intro, or-cases, or-left, none-some, keep-some, keep-none, any-false, firstOf-some, firstOf-none, firstOf-empty, firstOf-skip, from-mem, from-intro, map-intro}
+use Rattle.theory.proofs.Basics.Search.{bool-cases, true-false, not-of, and-left, and-right, and-intro, or-cases}
+use Rattle.theory.proofs.Basics.Search.{or-left, none-some, keep-some, keep-none, any-false, firstOf-some}
+use Rattle.theory.proofs.Basics.Search.{firstOf-none, firstOf-empty, firstOf-skip, from-mem, from-intro, map-intro}
 use Rattle.theory.proofs.Basics.Compare.{eqb-true}
 use Rattle.theory.proofs.Query.Tied.{Accepted}
 use Rattle.theory.proofs.Paths.Ranged.{InRange, Ranged, live-range}
@@ -62,7 +65,8 @@ module _ (n : ℕ) (s : Facts) where
   closed-idle c i TRANS2 k (triple x y z) =
       not-of (λ app.
       let met = applies-met n s (move i TRANS2 (triple x y z)) app in
-      true-false (c .onward-held i x y z (and-left (s .graph i .reach x y) (s .graph i .reach y z) met) (and-right (s .graph i .reach x y) (s .graph i .reach y z) met)) (step-new n s (move i TRANS2 (triple x y z)) i x z refl app))
+      true-false (c .onward-held i x y z (and-left (s .graph i .reach x y) (s .graph i .reach y z) met)
+      (and-right (s .graph i .reach x y) (s .graph i .reach y z) met)) (step-new n s (move i TRANS2 (triple x y z)) i x z refl app))
   closed-idle c i FUNC k t = absurd (true-false k refl)
   closed-idle c i CYCLE k t = absurd (true-false k refl)
   closed-idle c i SCC k t = absurd (true-false k refl)
@@ -81,16 +85,19 @@ module _ (n : ℕ) (s : Facts) where
       follows-held : {a b : ℕ} → Follows (live n s) (s .graph i .link) (s .graph i .reach) a b → s .graph i .reach a b ≡ true
       unfolding closing conditions alternatives
       follows-held (is-held e) = e
-      follows-held (itself {a = a} e) = step-held n s (move i REFLEX (triple a 0 0)) i a a refl (linked REFLEX (triple a 0 0)) (and-intro (and-intro e refl) refl) (idle i in-range REFLEX refl (triple a 0 0) (triples-full n a 0 0 (up-to a e) (omega arith) (omega arith)))
+      follows-held (itself {a = a} e) = step-held n s (move i REFLEX (triple a 0 0)) i a a refl (linked REFLEX (triple a 0 0))
+          (and-intro (and-intro e refl) refl) (idle i in-range REFLEX refl (triple a 0 0) (triples-full n a 0 0 (up-to a e) (omega arith) (omega arith)))
       follows-held (by-link {a = a} {b = b} e) =
           let (p, p′) = ranged .link-live i a b e in
-          step-held n s (move i TRANS1 (triple a b 0)) i a b refl (linked TRANS1 (triple a b 0)) (and-intro e refl) (idle i in-range TRANS1 refl (triple a b 0) (triples-full n a b 0 (up-to a p) (up-to b p′) (omega arith)))
+          step-held n s (move i TRANS1 (triple a b 0)) i a b refl (linked TRANS1 (triple a b 0)) (and-intro e refl)
+          (idle i in-range TRANS1 refl (triple a b 0) (triples-full n a b 0 (up-to a p) (up-to b p′) (omega arith)))
       follows-held (onward {a = a} {b = b} {c = c} f g) =
           let x = follows-held f in
           let y = follows-held g in
           let (p, p′) = ranged .reach-live i a b x in
           let (u, u′) = ranged .reach-live i b c y in
-          step-held n s (move i TRANS2 (triple a b c)) i a c refl (linked TRANS2 (triple a b c)) (and-intro x y) (idle i in-range TRANS2 refl (triple a b c) (triples-full n a b c (up-to a p) (up-to b p′) (up-to c u′)))
+          step-held n s (move i TRANS2 (triple a b c)) i a c refl (linked TRANS2 (triple a b c)) (and-intro x y)
+          (idle i in-range TRANS2 refl (triple a b c) (triples-full n a b c (up-to a p) (up-to b p′) (up-to c u′)))
 
     same-facts : (t : Facts) → Closes n s t → s ≡ t
     same-facts t cl =
@@ -148,7 +155,8 @@ module _ (n : ℕ) (s : Facts) (order rest : List Rule) (b : Begins order rest) 
 pub look-rest : (q : Query) (order rest : List Rule) → Begins order rest → (t : Facts) → Closed (termCount q) t → look q order t ≡ look q rest t
 unfolding look
 look-rest q order rest b t closed =
-    ap (λ (o : Option Move). Option·elim (clash q t) (Option·elim o saturated applying) clashing) (choose-rest (termCount q) t order rest b (λ i in-range r k u m. closed-idle (termCount q) t closed i r k u))
+    ap (λ (o : Option Move). Option·elim (clash q t) (Option·elim o saturated applying) clashing)
+    (choose-rest (termCount q) t order rest b (λ i in-range r k u m. closed-idle (termCount q) t closed i r k u))
 
 -- The closed path
 
@@ -164,7 +172,8 @@ module _ (q : Query) (ok : Accepted q) (order rest : List Rule) (b : Begins orde
   stays k s most e = (subst (λ (u : Facts). AtMost n u k) e most, λ has f w. subst (λ (u : Facts). Walks q order u (saturation f)) (sym e) w)
 
   -- one step of the three rules, which adds a fact of t
-  module _ (k : ℕ) (s : Facts) (known : Known q s) (most : AtMost n s k) (cl : Closes n s t) (m : Move) (h : choose n order s ≡ some m) (i x y : ℕ) (one : alternatives n (s .graph) m ≡ (reaches i x y ∷ [])) (in-t : t .graph i .reach x y ≡ true) where
+  module _ (k : ℕ) (s : Facts) (known : Known q s) (most : AtMost n s k) (cl : Closes n s t) (m : Move) (h : choose n order s ≡ some m) (i x y : ℕ)
+      (one : alternatives n (s .graph) m ≡ (reaches i x y ∷ [])) (in-t : t .graph i .reach x y ≡ true) where
     abbrev s′ : Facts
     s′ = add n s (reaches i x y)
 
@@ -246,14 +255,17 @@ module _ (q : Query) (ok : Accepted q) (order rest : List Rule) (b : Begins orde
           let app = choose-some n s order (move i REFLEX (triple x y z)) h in
           let met = applies-met n s (move i REFLEX (triple x y z)) app in
           let l = hasLink-range (s .links) i REFLEX (triple x y z) (applies-linked n s (move i REFLEX (triple x y z)) app) in
-          comes k s known most cl (move i REFLEX (triple x y z)) h i x x refl (closed .itself-held i x (l .0) (rw (cl .same-links) (l .1)) (rw (cl .same-rep) (and-left (live n s x) (eqb y 0) (and-left (live n s x and eqb y 0) (eqb z 0) met)))) next
+          comes k s known most cl (move i REFLEX (triple x y z)) h i x x refl
+          (closed .itself-held i x (l .0) (rw (cl .same-links) (l .1))
+          (rw (cl .same-rep) (and-left (live n s x) (eqb y 0) (and-left (live n s x and eqb y 0) (eqb z 0) met)))) next
       go (some (move i TRANS1 (triple x y z))) h =
           let met = applies-met n s (move i TRANS1 (triple x y z)) (choose-some n s order (move i TRANS1 (triple x y z)) h) in
           comes k s known most cl (move i TRANS1 (triple x y z)) h i x y refl (closed .link-held i x y (rw (cl .same-link i) (and-left (s .graph i .link x y) (eqb z 0) met))) next
       go (some (move i TRANS2 (triple x y z))) h =
           let met = applies-met n s (move i TRANS2 (triple x y z)) (choose-some n s order (move i TRANS2 (triple x y z)) h) in
           comes k s known most cl (move i TRANS2 (triple x y z)) h i x z refl
-          (closed .onward-held i x y z (cl .reach-kept i x y (and-left (s .graph i .reach x y) (s .graph i .reach y z) met)) (cl .reach-kept i y z (and-right (s .graph i .reach x y) (s .graph i .reach y z) met))) next
+          (closed .onward-held i x y z (cl .reach-kept i x y (and-left (s .graph i .reach x y) (s .graph i .reach y z) met))
+          (cl .reach-kept i y z (and-right (s .graph i .reach x y) (s .graph i .reach y z) met))) next
       go (some (move i FUNC u)) h = other i FUNC u h refl
       go (some (move i CYCLE u)) h = other i CYCLE u h refl
       go (some (move i SCC u)) h = other i SCC u h refl

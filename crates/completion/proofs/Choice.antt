@@ -69,7 +69,9 @@ path-end p v (suc k) b h = absurd (omega arith)
 abbrev pub above : ℕ → List ℕ → ℕ → ℕ → Bool
 above n reach v u = square reach v u && (not (eqb u v) && coversAll n (reachIn reach) v u)
 
-above-tests : (n : ℕ) (reach : List ℕ) (v : ℕ) (xs : List ℕ) → find (λ u. square reach v u && (not (eqb u v) and coversAll n (reachIn reach) v u)) xs ≡ find (λ u. square reach v u && (not (eqb u v) && coversAll n (reachIn reach) v u)) xs
+above-tests : (n : ℕ) (reach : List ℕ) (v : ℕ) (xs : List ℕ) →
+    find (λ u. square reach v u && (not (eqb u v) and coversAll n (reachIn reach) v u)) xs ≡ find
+    (λ u. square reach v u && (not (eqb u v) && coversAll n (reachIn reach) v u)) xs
 above-tests n reach v xs = simp and-both
 
 pub tree-search : (n : ℕ) (reach : List ℕ) (v : ℕ) → treeLink n (reachIn reach) v ≡ Option·getD (find (above n reach v) (from (n + 1 - 1) 1)) 0
@@ -115,17 +117,23 @@ module _ (n : ℕ) (reach : List ℕ) (p : ℕ → ℕ) (v : ℕ) where
   unfolding basinLink
   picked = ap (pick (λ b. not (onPath p v n b))) heads-selected
 
-  two-none : (a : ℕ) → find (begins n (reachIn reach) p v) (from (n + 1 - 1) 1) ≡ some a → find (begins n (reachIn reach) p v) (from (n + 1 - (a + 1)) (a + 1)) ≡ none → firstTwo (select (begins n (reachIn reach) p v) (from (n + 1 - 1) 1)) ≡ none
+  two-none : (a : ℕ) → find (begins n (reachIn reach) p v) (from (n + 1 - 1) 1) ≡ some a →
+      find (begins n (reachIn reach) p v) (from (n + 1 - (a + 1)) (a + 1)) ≡ none → firstTwo (select (begins n (reachIn reach) p v) (from (n + 1 - 1) 1)) ≡ none
   two-none a e f = rw (← terms-from n) (two-one (begins n (reachIn reach) p v) n a (ap (find (begins n (reachIn reach) p v)) (terms-from n) ∙ e) f)
 
   pub basin-none : find (begins n (reachIn reach) p v) (from (n + 1 - 1) 1) ≡ none → basinLink n p (reached n (reachIn reach) v) v ≡ 0
   basin-none e = picked ∙ pick-none (λ b. not (onPath p v n b)) (select (begins n (reachIn reach) p v) (from (n + 1 - 1) 1)) (sym (find-first _ _) ∙ e)
 
-  pub basin-one : (a : ℕ) → find (begins n (reachIn reach) p v) (from (n + 1 - 1) 1) ≡ some a → find (begins n (reachIn reach) p v) (from (n + 1 - (a + 1)) (a + 1)) ≡ none → basinLink n p (reached n (reachIn reach) v) v ≡ a
+  pub basin-one : (a : ℕ) → find (begins n (reachIn reach) p v) (from (n + 1 - 1) 1) ≡ some a →
+      find (begins n (reachIn reach) p v) (from (n + 1 - (a + 1)) (a + 1)) ≡ none → basinLink n p (reached n (reachIn reach) v) v ≡ a
   basin-one a e f = picked ∙ pick-one (λ b. not (onPath p v n b)) (select (begins n (reachIn reach) p v) (from (n + 1 - 1) 1)) a (sym (find-first _ _) ∙ e) (two-none a e f)
 
-  pub basin-several : (a b : ℕ) → find (begins n (reachIn reach) p v) (from (n + 1 - 1) 1) ≡ some a → find (begins n (reachIn reach) p v) (from (n + 1 - (a + 1)) (a + 1)) ≡ some b → basinLink n p (reached n (reachIn reach) v) v ≡ Option·getD (find (beginsWithout n (reachIn reach) p v) (from (n + 1 - 1) 1)) 0
+  pub basin-several : (a b : ℕ) → find (begins n (reachIn reach) p v) (from (n + 1 - 1) 1) ≡ some a →
+      find (begins n (reachIn reach) p v) (from (n + 1 - (a + 1)) (a + 1)) ≡ some b →
+      basinLink n p (reached n (reachIn reach) v) v ≡ Option·getD (find (beginsWithout n (reachIn reach) p v) (from (n + 1 - 1) 1)) 0
   basin-several a b e f =
       picked
-      ∙ pick-several (λ b. not (onPath p v n b)) (select (begins n (reachIn reach) p v) (from (n + 1 - 1) 1)) a b (rw (← terms-from n) (two-both (begins n (reachIn reach) p v) n a b (ap (find (begins n (reachIn reach) p v)) (terms-from n) ∙ e) f))
-      ∙ ap (λ (o : Option ℕ). Option·getD o 0) (find-selected (begins n (reachIn reach) p v) (λ b. not (onPath p v n b)) (from (n + 1 - 1) 1) ∙ without-tests n (reachIn reach) p v (from (n + 1 - 1) 1))
+      ∙ pick-several (λ b. not (onPath p v n b)) (select (begins n (reachIn reach) p v) (from (n + 1 - 1) 1)) a b
+      (rw (← terms-from n) (two-both (begins n (reachIn reach) p v) n a b (ap (find (begins n (reachIn reach) p v)) (terms-from n) ∙ e) f))
+      ∙ ap (λ (o : Option ℕ). Option·getD o 0)
+      (find-selected (begins n (reachIn reach) p v) (λ b. not (onPath p v n b)) (from (n + 1 - 1) 1) ∙ without-tests n (reachIn reach) p v (from (n + 1 - 1) 1))

@@ -83,7 +83,8 @@ unfolding linkOf
 remains rep links v stands known h e f = ap₂ (λ (r l : ℕ). eqb r v && eqb l 0) (rep-in rep v h ∙ sym e) (sym f)
 
 -- the link that such a term gets
-pub link-new : (n : ℕ) (g : Graph) (rep : ℕ → ℕ) (links : List ℕ) (v : ℕ) {r : ℕ} → (eqb (rep v) v && eqb (linkOf links v) 0) ≡ true → r ≡ newLink n g (linkOf links) v → r ≡ linkAt n g rep (linkOf links) v
+pub link-new : (n : ℕ) (g : Graph) (rep : ℕ → ℕ) (links : List ℕ) (v : ℕ) {r : ℕ} → (eqb (rep v) v && eqb (linkOf links v) 0) ≡ true →
+    r ≡ newLink n g (linkOf links) v → r ≡ linkAt n g rep (linkOf links) v
 link-new n g rep links v e f = f ∙ sym (at-new n g (linkOf links) v rep e)
 
 -- a turn of the loop over the terms
@@ -118,7 +119,10 @@ module _ (n : ℕ) (g : Graph) (rep : ℕ → ℕ) (links : List ℕ) (full : le
   turn-range h t = rw (written t) (⊎-elim (λ i. rw i (at-below n g (linkOf links) v rep room (h v))) (λ i. rw i (h t)) (bool-cases (eqb t v)))
 
 -- a turn that writes nothing
-pub link-kept : (n : ℕ) (g : Graph) (rep : ℕ → ℕ) (links : List ℕ) → length links ≡ 17 → (v : ℕ) → v ≤ n → n ≤ 16 → (eqb (rep v) v && eqb (linkOf links v) 0) ≡ false → linkEach n g (linkOf links) (select (λ t. eqb (rep t) t) (from (n + 1 - v) v)) ≡ linkEach n g (linkOf links) (select (λ t. eqb (rep t) t) (from (n + 1 - (v + 1)) (v + 1)))
+pub link-kept : (n : ℕ) (g : Graph) (rep : ℕ → ℕ) (links : List ℕ) → length links ≡ 17 → (v : ℕ) → v ≤ n → n ≤ 16 →
+    (eqb (rep v) v && eqb (linkOf links v) 0) ≡ false →
+    linkEach n g (linkOf links) (select (λ t. eqb (rep t) t) (from (n + 1 - v) v)) ≡ linkEach n g (linkOf links)
+    (select (λ t. eqb (rep t) t) (from (n + 1 - (v + 1)) (v + 1)))
 link-kept n g rep links full v within room e =
     let k = at-kept n g (linkOf links) v rep e in
     link-turn n g rep links full v within room (linkOf links v) (sym k)
@@ -153,7 +157,8 @@ module _ (n : ℕ) (s : Facts) (k : ℕ) (rep link reach : List ℕ) (stands : r
       ap (λ (f : ℕ → ℕ → Bool). linkEach n (linking (λ a b. false) f) p vs) reach-is
       ∙ same-reach n (λ a b. false) (s .graph k .link) (s .graph k .reach) p vs
 
-  pub shown : (known links : List ℕ) → linkOf known ≡ next n (linksIn link) → linkOf links ≡ linkEach n (reachIn reach) (linkOf known) (select (λ t. eqb (repOf rep t) t) (from (n + 1 - 1) 1)) → linkOf links ≡ shownLink n s k
+  pub shown : (known links : List ℕ) → linkOf known ≡ next n (linksIn link) →
+      linkOf links ≡ linkEach n (reachIn reach) (linkOf known) (select (λ t. eqb (repOf rep t) t) (from (n + 1 - 1) 1)) → linkOf links ≡ shownLink n s k
   unfolding shownLink
   shown known links e f =
       f

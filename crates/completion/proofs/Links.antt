@@ -57,7 +57,8 @@ unfolding next linksIn
 next-beyond n link t h = ap (λ (o : Option ℕ). Option·getD o 0) (find-nothing (square link t) (terms n) (λ x. square-above link t x h))
 
 pub next-all : (n : ℕ) (link : List ℕ) (links : List ℕ) → length links ≡ 17 → LinkedBelow 17 (next n (linksIn link)) (linkOf links) → linkOf links ≡ next n (linksIn link)
-next-all n link links full m = fun-ext (λ x. ⊎-elim (λ l. m x (ltb-true x 17 l)) (λ o. let h = ltb-false x 17 o in link-beyond links x (omega arith) ∙ sym (next-beyond n link x h)) (bool-cases (ltb x 17)))
+next-all n link links full m = fun-ext (λ x. ⊎-elim (λ l. m x (ltb-true x 17 l)) (λ o. let h = ltb-false x 17 o in
+    link-beyond links x (omega arith) ∙ sym (next-beyond n link x h)) (bool-cases (ltb x 17)))
 
 pub next-found : (n : ℕ) (link : List ℕ) (t : ℕ) (o : Option ℕ) → o ≡ find (square link t) (terms n) → Option·getD o 0 ≡ next n (linksIn link) t
 unfolding next linksIn

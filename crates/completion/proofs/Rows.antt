@@ -101,7 +101,9 @@ module _ (p : ℕ → Bool) (n : ℕ) (few : n ≤ 16) (w : ℕ) (e : (i : ℕ) 
       go (suc v) q = rw (one-passes (omega (arith, q))) (ne-eqb w 0 (λ z. omega (arith, q, z)))
 
 -- what v reaches, and u does not
-module _ (n : ℕ) (few : n ≤ 16) (reach : List ℕ) (v u : ℕ) (h : u ≤ 16) (row own w : ℕ) (reached-is : (i : ℕ) → bit row i ≡ square reach v i and (ltb 0 i and ltb i (n + 1))) (own-is : (i : ℕ) → bit own i ≡ eqb i v) (missed-is : (i : ℕ) → bit w i ≡ bit row i and not (bit (bitOr (getD reach u 0) own) i)) where
+module _ (n : ℕ) (few : n ≤ 16) (reach : List ℕ) (v u : ℕ) (h : u ≤ 16) (row own w : ℕ)
+    (reached-is : (i : ℕ) → bit row i ≡ square reach v i and (ltb 0 i and ltb i (n + 1))) (own-is : (i : ℕ) → bit own i ≡ eqb i v)
+    (missed-is : (i : ℕ) → bit w i ≡ bit row i and not (bit (bitOr (getD reach u 0) own) i)) where
   missed-bits : (i : ℕ) → bit w i ≡ misses reach v u i and (ltb 0 i and ltb i (n + 1))
   missed-bits i = missed-is i ∙ rw (reached-is i, bit-or (getD reach u 0) own i, own-is i) (go (ltb i (n + 1)) refl)
     where
@@ -126,7 +128,8 @@ module _ (reach links : List ℕ) (n v : ℕ) where
   eqb-swap : (a b : ℕ) → eqb a b ≡ eqb b a
   eqb-swap a b = ⊎-elim (λ e. rw e refl) (λ d. d .1 ∙ sym (ne-eqb b a (λ z. d .0 (sym z)))) (eq-cases a b)
 
-  pub led-more : (u row next to : ℕ) (inside : Bool) → u ≤ n → to ≡ linkOf links u → inside ≡ square reach v u → ((b : ℕ) → bit next b ≡ bit row b or (eqb b to and inside)) → LedBelow u row → LedBelow (u + 1) next
+  pub led-more : (u row next to : ℕ) (inside : Bool) → u ≤ n → to ≡ linkOf links u → inside ≡ square reach v u →
+      ((b : ℕ) → bit next b ≡ bit row b or (eqb b to and inside)) → LedBelow u row → LedBelow (u + 1) next
   led-more u row next to inside h e f g m b =
       m b
       ∙ ap (λ (t : Bool). bit row b or t) (any-turn (leadsTo reach (linkOf links) v b) (n + 1) u (omega arith))
@@ -136,17 +139,21 @@ module _ (reach links : List ℕ) (n v : ℕ) where
   led-all u row h m b = sym (m b ∙ ap (λ (t : Bool). bit row b or t) (any-end (leadsTo reach (linkOf links) v b) (n + 1) u (omega arith)) ∙ or-false (bit row b))
 
 -- the terms that begin a path
-module _ (n : ℕ) (reach : List ℕ) (p : ℕ → ℕ) (v row led w : ℕ) (reached-is : (b : ℕ) → bit row b ≡ square reach v b and (ltb 0 b and ltb b (n + 1))) (led-is : (b : ℕ) → bit led b ≡ any (leadsTo reach p v b) (from (n + 1 - 1) 1)) (heads-are : (b : ℕ) → bit w b ≡ bit row b and not (bit led b)) where
+module _ (n : ℕ) (reach : List ℕ) (p : ℕ → ℕ) (v row led w : ℕ) (reached-is : (b : ℕ) → bit row b ≡ square reach v b and (ltb 0 b and ltb b (n + 1)))
+    (led-is : (b : ℕ) → bit led b ≡ any (leadsTo reach p v b) (from (n + 1 - 1) 1)) (heads-are : (b : ℕ) → bit w b ≡ bit row b and not (bit led b)) where
   pub heads-row : (b : ℕ) → bit w b ≡ begins n (reachIn reach) p v b and (ltb 0 b and ltb b (n + 1))
   unfolding _and_
   heads-row b = heads-are b ∙ rw (reached-is b, led-is b) (go (square reach v b) refl)
     where
-      go : (t : Bool) → square reach v b ≡ t → (t and (ltb 0 b and ltb b (n + 1))) and not (any (leadsTo reach p v b) (from (n + 1 - 1) 1)) ≡ begins n (reachIn reach) p v b and (ltb 0 b and ltb b (n + 1))
+      go : (t : Bool) → square reach v b ≡ t → (t and (ltb 0 b and ltb b (n + 1))) and not (any (leadsTo reach p v b) (from (n + 1 - 1) 1)) ≡ begins n
+          (reachIn reach) p v b and (ltb 0 b and ltb b (n + 1))
       go true e = and-swap (ltb 0 b and ltb b (n + 1)) _ ∙ ap (λ (t : Bool). t and (ltb 0 b and ltb b (n + 1))) (sym (begins-search n reach p v b e))
       go false e = ap (λ (t : Bool). t and (ltb 0 b and ltb b (n + 1))) (sym (begins-outside n reach p v b e))
 
 -- a search among them
-pub heads-without : (n : ℕ) (reach : List ℕ) (p : ℕ → ℕ) (v w : ℕ) → ((b : ℕ) → bit w b ≡ begins n (reachIn reach) p v b and (ltb 0 b and ltb b (n + 1))) → find (beginsWithout n (reachIn reach) p v) (from (n + 1 - 1) 1) ≡ find (λ b. bit w b and not (onPath p v n b)) (from (n + 1 - 1) 1)
+pub heads-without : (n : ℕ) (reach : List ℕ) (p : ℕ → ℕ) (v w : ℕ) →
+    ((b : ℕ) → bit w b ≡ begins n (reachIn reach) p v b and (ltb 0 b and ltb b (n + 1))) →
+    find (beginsWithout n (reachIn reach) p v) (from (n + 1 - 1) 1) ≡ find (λ b. bit w b and not (onPath p v n b)) (from (n + 1 - 1) 1)
 heads-without n reach p v w e =
     find-in (beginsWithout n (reachIn reach) p v) (λ b. bit w b and not (onPath p v n b)) (n + 1 - 1) 1 (n + 1 - 1) 1 (omega arith) (omega arith) same
     (λ b h.
@@ -173,5 +180,6 @@ module _ (n : ℕ) (few : n ≤ 16) (reach : List ℕ) (p : ℕ → ℕ) (v w : 
     pub heads-one : find (bit (bitAnd w (w - 1))) (from 32 0) ≡ none → basinLink n p (reached n (reachIn reach) v) v ≡ a
     heads-one g = basin-one n reach p v a (sym lowest ∙ f) (sym next ∙ g)
 
-    pub heads-several : (b : ℕ) → find (bit (bitAnd w (w - 1))) (from 32 0) ≡ some b → basinLink n p (reached n (reachIn reach) v) v ≡ Option·getD (find (λ x. bit w x and not (onPath p v n x)) (from (n + 1 - 1) 1)) 0
+    pub heads-several : (b : ℕ) → find (bit (bitAnd w (w - 1))) (from 32 0) ≡ some b →
+        basinLink n p (reached n (reachIn reach) v) v ≡ Option·getD (find (λ x. bit w x and not (onPath p v n x)) (from (n + 1 - 1) 1)) 0
     heads-several b g = basin-several n reach p v a b (sym lowest ∙ f) (sym next ∙ g) ∙ ap (λ (o : Option ℕ). Option·getD o 0) (heads-without n reach p v w e)

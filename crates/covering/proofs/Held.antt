@@ -44,7 +44,8 @@ module _ (rows reps others : List ℕ) (a : ℕ) (l : a ≤ 16) where
   pub none-held : getD rows a 0 ≡ 0 → (b : ℕ) → square rows a b ≡ true → square others (repOf reps a) (repOf reps b) ≡ true
   none-held e b f = absurd (true-false f (ap (λ (r : ℕ → Bool). r b) (square-row rows a l) ∙ ap (λ (w : ℕ). rowOf w b) e ∙ row-none b))
 
-  pub row-held : (to : ℕ) → to ≡ repOf reps a → to ≤ 16 → RowHeld (getD rows a 0) (repOf reps) (getD others to 0) → (b : ℕ) → square rows a b ≡ true → square others (repOf reps a) (repOf reps b) ≡ true
+  pub row-held : (to : ℕ) → to ≡ repOf reps a → to ≤ 16 → RowHeld (getD rows a 0) (repOf reps) (getD others to 0) → (b : ℕ) → square rows a b ≡ true →
+      square others (repOf reps a) (repOf reps b) ≡ true
   row-held to e l′ h b f =
       let m = in-row b f in
       ap (λ (x : ℕ). square others x (repOf reps b)) (sym e)
@@ -52,7 +53,8 @@ module _ (rows reps others : List ℕ) (a : ℕ) (l : a ≤ 16) where
       ∙ h b m (sym (square-in rows a b l m) ∙ f)
 
 -- all rows
-pub rows-held : (rows reps others : List ℕ) → ((a : ℕ) → a ≤ 16 → (b : ℕ) → square rows a b ≡ true → square others (repOf reps a) (repOf reps b) ≡ true) → RowsHeld (square rows) (repOf reps) (square others)
+pub rows-held : (rows reps others : List ℕ) →
+    ((a : ℕ) → a ≤ 16 → (b : ℕ) → square rows a b ≡ true → square others (repOf reps a) (repOf reps b) ≡ true) → RowsHeld (square rows) (repOf reps) (square others)
 rows-held rows reps others h a b e =
     ⊎-elim (λ l. h a l b e) (λ l. absurd (true-false e (square-above rows a b (omega arith)))) (le-cases a 16)
 
@@ -73,7 +75,8 @@ module _ (w s : code.Facts) where
   links-none k l = no-facts k (graph-at (s .single) (s .link) (s .reach) k (omega (arith, l, links-few (s .single) .0)) ∙ graph-none (s .link) (s .reach) k (omega arith))
 
   -- a link in rows of its own
-  pub link-held : (k : ℕ) → k ≤ cond (s .single) 1 3 → k ≤ cond (w .single) 1 3 → (l r l′ r′ : List ℕ) → square l ≡ cube (s .link) k → square r ≡ cube (s .reach) k → square l′ ≡ cube (w .link) k → square r′ ≡ cube (w .reach) k → GraphHeld (graphOf l r) (repOf (w .rep)) (graphOf l′ r′) → LinkHeld k
+  pub link-held : (k : ℕ) → k ≤ cond (s .single) 1 3 → k ≤ cond (w .single) 1 3 → (l r l′ r′ : List ℕ) → square l ≡ cube (s .link) k →
+      square r ≡ cube (s .reach) k → square l′ ≡ cube (w .link) k → square r′ ≡ cube (w .reach) k → GraphHeld (graphOf l r) (repOf (w .rep)) (graphOf l′ r′) → LinkHeld k
   link-held k m m′ l r l′ r′ d e d′ e′ =
       subst₂ (λ (f g : Graph). GraphHeld f (repOf (w .rep)) g) (graph-own (s .single) (s .link) (s .reach) k m l r d e) (graph-own (w .single) (w .link) (w .reach) k m′ l′ r′ d′ e′)
 

@@ -4,24 +4,29 @@ use native.Mathlib.Omega.{arith}
 use native.Mathlib.Decide.{ℕ-discrete}
 use mathlib.Core.Path.{_≡_, refl, sym, ap, _∙_, subst}
 use mathlib.Core.Logic.{_⊎_, _↔_, ⊎-elim, inl, inr}
-use mathlib.Core.Bool.{Bool, true, false, cond, false≢true}
+use mathlib.Core.Bool.{Bool, true, false, not, cond, false≢true}
 use mathlib.Core.List.{List, [], _∷_, List·Memᴰ, List·Memᴰ·head, List·Memᴰ·tail, List·Memᴰ·not-nil, List·Memᴰ·cases-cons}
 use lib.Dec.{eqb, ltb}
 use Rattle.logic.specs.Search.{from}
 use Rattle.logic.specs.Heap.{Reaches}
-use Rattle.theory.proofs.Basics.Search.{bool-cases, from-mem, from-intro}
+use Rattle.theory.proofs.Basics.Search.{select-mem, from-mem, from-intro}
 use Rattle.theory.proofs.Basics.Compare.{ltb-true, ltb-intro, cond-true, cond-false, le-cases}
 use Rattle.between.specs.Meaning.{Between}
 use Rattle.between.proofs.Until.{Nothing}
 use Rattle.routine_logic.specs.Formulas.{sameTruth}
 use Rattle.cut_theory.specs.Versions.{version, cut, target, active}
 use Rattle.cut_theory.specs.Jumps.{without, Jumps}
-use Rattle.cut_theory.specs.Trees.{Tree, yes·tree, no·tree, same, differ, far, leads, both, either, every, some·tree, Cuts, activeTree, targetName, avoiding, reachTree, reachesTree, betweenTree, readTree, Mark, flagTree, flagAfter, Holds}
+use Rattle.cut_theory.specs.Trees.{Tree, yes·tree, no·tree, same, differ, far, leads, both, either, every, some·tree, Cuts, activeTree}
+use Rattle.cut_theory.specs.Trees.{targetName, avoiding, reachTree, reachesTree, betweenTree, readTree, Mark, flagTree, flagAfter, Holds}
 use Rattle.cut_theory.proofs.Jumps.{IsCut}
 use Rattle.cut_theory.proofs.Versions.{Ways, ReadAtCut, ReadElsewhere, changed-here, changed-else, active-last, active-first, not-below, reaches-version, between-version, read-version}
 
-module _ (node h : ℕ → ℕ) (first : ℕ → Bool) where
-  every-holds : (f : ℕ → Tree) (is : List ℕ) → Holds node h first (every f is) ↔ ((i : ℕ) → List·Memᴰ i is → Holds node h first (f i))
+pub without-mem : (i k : ℕ) (left : List ℕ) → List·Memᴰ k (without i left) → List·Memᴰ k left
+unfolding without
+without-mem i k left mem = select-mem (λ j. not (eqb j i)) k left mem .0
+
+module _ {A : Type 0} (node : A → ℕ) (h : ℕ → ℕ) (first : ℕ → Bool) where
+  pub every-holds : (f : ℕ → Tree A) (is : List ℕ) → Holds node h first (every f is) ↔ ((i : ℕ) → List·Memᴰ i is → Holds node h first (f i))
   unfolding every Holds
   every-holds f [] = (λ x i m. absurd (List·Memᴰ·not-nil m), λ x. tt)
   every-holds f (j ∷ is) =
@@ -30,7 +35,7 @@ module _ (node h : ℕ → ℕ) (first : ℕ → Bool) where
         λ x. (x j (List·Memᴰ·head refl), r .1 (λ i m. x i (List·Memᴰ·tail m))),
       )
 
-  some-holds : (f : ℕ → Tree) (is : List ℕ) → Holds node h first (some·tree f is) ↔ ((i : ℕ) × List·Memᴰ i is × Holds node h first (f i))
+  pub some-holds : (f : ℕ → Tree A) (is : List ℕ) → Holds node h first (some·tree f is) ↔ ((i : ℕ) × List·Memᴰ i is × Holds node h first (f i))
   unfolding some·tree Holds
   some-holds f [] = (λ x. absurd x, λ x. absurd (List·Memᴰ·not-nil (x .1)))
   some-holds f (j ∷ is) =
@@ -41,12 +46,12 @@ module _ (node h : ℕ → ℕ) (first : ℕ → Bool) where
 
   -- Cuts that count
 
-  module _ (c : Cuts) where
+  module _ (c : Cuts A) where
     abbrev pub cutNode : ℕ → ℕ
     cutNode i = node (c .cut i)
 
     -- a test of numbers in front of a literal
-    when : (b : Bool) (x y : ℕ) → Holds node h first (cond b (differ x y) yes·tree) ↔ (b ≡ true → node x ≡ node y → ⊥)
+    when : (b : Bool) (x y : A) → Holds node h first (cond b (differ x y) yes·tree) ↔ (b ≡ true → node x ≡ node y → ⊥)
     unfolding Holds
     when true x y = (λ k e. k, λ k. k refl)
     when false x y = (λ k e. absurd (false≢true e), λ k. tt)
@@ -55,10 +60,10 @@ module _ (node h : ℕ → ℕ) (first : ℕ → Bool) where
     unfolding activeTree
     active-holds j i = ⊎-elim earliest last (le-cases j i)
       where
-        behind : ℕ → Tree
+        behind : ℕ → Tree A
         behind m = cond (ltb i m) (differ (c .cut m) (c .cut i)) yes·tree
 
-        before : ℕ → Tree
+        before : ℕ → Tree A
         before m = differ (c .cut m) (c .cut i)
 
         last : i < j → Holds node h first (cond (ltb i j) (every behind (from j 0)) (every before (from i 0))) ↔ (active cutNode j i ≡ true)
@@ -90,25 +95,26 @@ module _ (node h : ℕ → ℕ) (first : ℕ → Bool) where
     abbrev pub valueNode : ℕ → ℕ
     valueNode i = node (c .value i)
 
-    module _ (f : ℕ → ℕ) (olds : (i : ℕ) → node (c .old i) ≡ f (cutNode i)) (j : ℕ) where
-      target-node : (i : ℕ) → node (targetName c j i) ≡ target f cutNode valueNode j i
+    module _ (f : ℕ → ℕ) (olds : (i : ℕ) → i < c .number → node (c .old i) ≡ f (cutNode i)) (j : ℕ) where
+      target-node : (i : ℕ) → i < c .number → node (targetName c j i) ≡ target f cutNode valueNode j i
       unfolding targetName target
-      target-node i = go (ltb i j)
+      target-node i l = go (ltb i j)
         where
           go : (b : Bool) → node (cond b (c .value i) (c .old i)) ≡ cond b (valueNode i) (f (cutNode i))
           go true = refl
-          go false = olds i
+          go false = olds i l
 
       -- what is to be avoided, as nodes
-      module _ (zs : List ℕ) (Avoid : ℕ → Type 0) (avoids : (x : ℕ) → Holds node h first (avoiding zs x) ↔ (Avoid (node x) → ⊥)) where
+      module _ (zs : List A) (Avoid : ℕ → Type 0) (avoids : (x : A) → Holds node h first (avoiding zs x) ↔ (Avoid (node x) → ⊥)) where
         abbrev Ways′ : ℕ → List ℕ → ℕ → ℕ → Type 0
         Ways′ = Jumps h cutNode (target f cutNode valueNode j) (active cutNode j) Avoid
 
-        pub reach-holds : (m : ℕ) (left : List ℕ) (a b : ℕ) → Holds node h first (reachTree c j zs m left a b) ↔ Ways′ m left (node a) (node b)
+        pub reach-holds : (m : ℕ) (left : List ℕ) (a b : A) → ((i : ℕ) → List·Memᴰ i left → i < c .number) → Holds node h first (reachTree c j zs m left a b) ↔ Ways′ m left (node a) (node b)
         unfolding reachTree Holds Jumps
-        reach-holds zero left a b = (λ x. x, λ x. x)
-        reach-holds (suc m) left a b =
-            let jump : ℕ → Tree = λ i. both (far a (c .cut i)) (both (activeTree c j i) (both (avoiding zs (c .cut i)) (reachTree c j zs m (without i left) (targetName c j i) b))) in
+        reach-holds zero left a b low = (λ x. x, λ x. x)
+        reach-holds (suc m) left a b low =
+            let still : (i k : ℕ) → List·Memᴰ k (without i left) → k < c .number = λ i k mem. low k (without-mem i k left mem) in
+            let jump : ℕ → Tree A = λ i. both (far a (c .cut i)) (both (activeTree c j i) (both (avoiding zs (c .cut i)) (reachTree c j zs m (without i left) (targetName c j i) b))) in
             let r = some-holds jump left in (
               ⊎-elim (λ x. inl x)
                   (λ x. let y = r .0 x in
@@ -119,7 +125,7 @@ module _ (node h : ℕ → ℕ) (first : ℕ → Bool) where
                     y .2 .0,
                     active-holds j i .0 (y .2 .1 .0),
                     avoids (c .cut i) .0 (y .2 .1 .1 .0),
-                    subst (λ (v : ℕ). Ways′ m (without i left) v (node b)) (target-node i) (reach-holds m (without i left) (targetName c j i) b .0 (y .2 .1 .1 .1)),
+                    subst (λ (v : ℕ). Ways′ m (without i left) v (node b)) (target-node i (low i (y .1))) (reach-holds m (without i left) (targetName c j i) b (still i) .0 (y .2 .1 .1 .1)),
                   )),
               ⊎-elim (λ x. inl x)
                   (λ x. let i : ℕ = x .0 in
@@ -132,7 +138,7 @@ module _ (node h : ℕ → ℕ) (first : ℕ → Bool) where
                         active-holds j i .1 (x .3),
                         (
                           avoids (c .cut i) .1 (x .4),
-                          reach-holds m (without i left) (targetName c j i) b .1 (subst (λ (v : ℕ). Ways′ m (without i left) v (node b)) (sym (target-node i)) (x .5)),
+                          reach-holds m (without i left) (targetName c j i) b (still i) .1 (subst (λ (v : ℕ). Ways′ m (without i left) v (node b)) (sym (target-node i (low i (x .1)))) (x .5)),
                         ),
                       ),
                     ),
@@ -141,7 +147,7 @@ module _ (node h : ℕ → ℕ) (first : ℕ → Bool) where
 
 -- In a heap with the link f, names standing for nodes, and the cuts' old names for what f leads to: the trees, of the link that is cut there, say what holds
 -- of f after the first j assignments.
-module _ (node f : ℕ → ℕ) (first : ℕ → Bool) (c : Cuts) (olds : (i : ℕ) → node (c .old i) ≡ f (node (c .cut i))) (j : ℕ) (below : j ≤ c .number) where
+module _ {A : Type 0} (node : A → ℕ) (f : ℕ → ℕ) (first : ℕ → Bool) (c : Cuts A) (olds : (i : ℕ) → i < c .number → node (c .old i) ≡ f (node (c .cut i))) (j : ℕ) (below : j ≤ c .number) where
   abbrev pub cuts : ℕ → ℕ
   cuts i = node (c .cut i)
 
@@ -151,47 +157,50 @@ module _ (node f : ℕ → ℕ) (first : ℕ → Bool) (c : Cuts) (olds : (i : �
   abbrev pub cutLink : ℕ → ℕ
   cutLink = cut f cuts (c .number)
 
-  avoid-none : (x : ℕ) → Holds node cutLink first (avoiding [] x) ↔ (Nothing (node x) → ⊥)
-  unfolding avoiding every Holds
+  numbers : (i : ℕ) → List·Memᴰ i (from (c .number) 0) → i < c .number
+  numbers i m = let l = from-mem (c .number) 0 i m in omega (arith, l .1)
+
+  avoid-none : (x : A) → Holds node cutLink first (avoiding [] x) ↔ (Nothing (node x) → ⊥)
+  unfolding avoiding Holds
   avoid-none x = (λ k z. z, λ k. tt)
 
-  avoid-one : (z x : ℕ) → Holds node cutLink first (avoiding (z ∷ []) x) ↔ (node x ≡ node z → ⊥)
-  unfolding avoiding every Holds
+  avoid-one : (z x : A) → Holds node cutLink first (avoiding (z ∷ []) x) ↔ (node x ≡ node z → ⊥)
+  unfolding avoiding Holds
   avoid-one z x = (λ k. k .0, λ k. (k, tt))
 
-  pub reaches-tree : (a b : ℕ) → Holds node cutLink first (reachesTree c j a b) ↔ Reaches (version f cuts values j) (node a) (node b)
+  pub reaches-tree : (a b : A) → Holds node cutLink first (reachesTree c j a b) ↔ Reaches (version f cuts values j) (node a) (node b)
   unfolding reachesTree
   reaches-tree a b =
-      let t = reach-holds node cutLink first c f olds j [] Nothing avoid-none (c .number) (from (c .number) 0) a b in
+      let t = reach-holds node cutLink first c f olds j [] Nothing avoid-none (c .number) (from (c .number) 0) a b numbers in
       let r = reaches-version f cuts values (c .number) j below (node a) (node b) in
       (λ x. r .1 (t .0 x), λ x. t .1 (r .0 x))
 
-  pub between-tree : (a b z : ℕ) → IsCut cuts (c .number) (node z) →
+  pub between-tree : (a b z : A) → IsCut cuts (c .number) (node z) →
       Holds node cutLink first (betweenTree c j a b z) ↔ Between (version f cuts values j) (node a) (node b) (node z)
   unfolding betweenTree reachesTree Holds
   between-tree a b z k =
-      let t = reach-holds node cutLink first c f olds j (z ∷ []) (λ v. v ≡ node z) (avoid-one z) (c .number) (from (c .number) 0) a b in
-      let u = reach-holds node cutLink first c f olds j [] Nothing avoid-none (c .number) (from (c .number) 0) a z in
+      let t = reach-holds node cutLink first c f olds j (z ∷ []) (λ v. v ≡ node z) (avoid-one z) (c .number) (from (c .number) 0) a b numbers in
+      let u = reach-holds node cutLink first c f olds j [] Nothing avoid-none (c .number) (from (c .number) 0) a z numbers in
       let r = between-version f cuts values (c .number) j below (node a) (node b) (node z) k in
       (λ x. r .1 (t .0 (x .0), u .0 (x .1)), λ x. let y = r .0 x in (t .1 (y .0), u .1 (y .1)))
 
-  pub read-tree : (a r : ℕ) → Holds node cutLink first (readTree c j a r) ↔ (version f cuts values j (node a) ≡ node r)
+  pub read-tree : (a r : A) → Holds node cutLink first (readTree c j a r) ↔ (version f cuts values j (node a) ≡ node r)
   unfolding readTree Holds
   read-tree a r =
       let n : ℕ = c .number in
-      let atCut : ℕ → Tree = λ i. both (same (c .cut i) a) (both (activeTree c j i) (same (targetName c j i) r)) in
-      let elsewhere : ℕ → Tree = λ i. differ (c .cut i) a in
+      let atCut : ℕ → Tree A = λ i. both (same (c .cut i) a) (both (activeTree c j i) (same (targetName c j i) r)) in
+      let elsewhere : ℕ → Tree A = λ i. differ (c .cut i) a in
       let s = some-holds node cutLink first atCut (from n 0) in
       let e = every-holds node cutLink first elsewhere (from n 0) in
       let v = read-version f cuts values n j below (node a) (node r) in
-      let t : (i : ℕ) → node (targetName c j i) ≡ target f cuts values j i = target-node node cutLink first c f olds j in (
+      let t : (i : ℕ) → i < n → node (targetName c j i) ≡ target f cuts values j i = target-node node cutLink first c f olds j in (
         λ x. v .1 (⊎-elim
             (λ y. let q = s .0 y in
             let l = from-mem n 0 (q .0) (q .1) in
-            inl (q .0, omega (arith, l .1), q .2 .0, active-holds node cutLink first c j (q .0) .0 (q .2 .1 .0), sym (t (q .0)) ∙ q .2 .1 .1))
+            inl (q .0, omega (arith, l .1), q .2 .0, active-holds node cutLink first c j (q .0) .0 (q .2 .1 .0), sym (t (q .0) (numbers (q .0) (q .1))) ∙ q .2 .1 .1))
             (λ y. inr (λ k. e .0 (y .0) (k .0) (from-intro n 0 (k .0) (omega arith) (omega (arith, k .1))) (k .2), y .1)) x),
         λ x. ⊎-elim
-            (λ y. inl (s .1 (y .0, from-intro n 0 (y .0) (omega arith) (omega (arith, y .1)), (y .2, (active-holds node cutLink first c j (y .0) .1 (y .3), t (y .0) ∙ y .4)))))
+            (λ y. inl (s .1 (y .0, from-intro n 0 (y .0) (omega arith) (omega (arith, y .1)), (y .2, (active-holds node cutLink first c j (y .0) .1 (y .3), t (y .0) (y .1) ∙ y .4)))))
             (λ y. inr (e .1 (λ i m k. let l = from-mem n 0 i m in y .0 (i, omega (arith, l .1), k)), y .1))
             (v .0 x),
       )
@@ -204,7 +213,7 @@ module _ (node f : ℕ → ℕ) (first : ℕ → Bool) (c : Cuts) (olds : (i : �
   same-truth false true = (λ x. absurd x, λ x. absurd (false≢true x))
   same-truth false false = (λ x. refl, λ x. tt)
 
-  pub flag-tree : (ms : List Mark) (b : Bool) (a : ℕ) → Holds node cutLink first (flagTree ms b a) ↔ (flagAfter node cutLink first ms (node a) ≡ b)
+  pub flag-tree : (ms : List (Mark A)) (b : Bool) (a : A) → Holds node cutLink first (flagTree ms b a) ↔ (flagAfter node cutLink first ms (node a) ≡ b)
   unfolding flagTree flagAfter Holds
   flag-tree [] b a = (λ x. x, λ x. x)
   flag-tree (m ∷ ms) b a =

@@ -36,7 +36,8 @@ module _ {q : Query} (s : Facts) where
   shows-itself : (b : Bool) → Decides q s b → Shows q s b s
   shows-itself b d = record { decides = d; shows = d .yes-right }
 
-  pub decides-walked : Accepted q → (order : List ℕ) → isOrder order ≡ true → (k : ℕ) → Reachable q s → AtMost (termCount q) s k → (w : Kind) (p : Facts) → WalksTo q order k s false w p → (b : Bool) → b ≡ isRefuted w → Shows q s (not b) s
+  pub decides-walked : Accepted q → (order : List ℕ) → isOrder order ≡ true → (k : ℕ) → Reachable q s → AtMost (termCount q) s k →
+      (w : Kind) (p : Facts) → WalksTo q order k s false w p → (b : Bool) → b ≡ isRefuted w → Shows q s (not b) s
   decides-walked ok order o k reach most w p told b e = shows-itself (not b) (go w refl e)
     where
       known : Known q s

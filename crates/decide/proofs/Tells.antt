@@ -20,6 +20,7 @@ use Rattle.kinds.specs.declared.Kind.{Kind}
 use Rattle.kinds.specs.declared.Kind.the-variants as kind
 use Rattle.plain_steps.proofs.Branches.{same-branch, row-length, row-at}
 use Rattle.plain_steps.proofs.Cases.{refuted-open, refuted-unknown, open-unknown, refuted-is}
+use Rattle.backjumping.specs.Finds as found
 use Rattle.decide.specs.Tells.{Sees, Tells, Ends}
 use Rattle.decide.specs.declared.Seen.{Seen}
 
@@ -56,6 +57,9 @@ module _ (q : Query) (s : Facts) where
 
     pub ends-nothing : Ends q s kind.Unknown w
     ends-nothing = record { tells = tells-nothing; shows = λ e. absurd (open-unknown (sym e)) }
+
+    pub ends-found : (k : Kind) → found.Tells q s k w → Ends q s k w
+    ends-found k told = record { tells = record { refuted = told .refuted; has = λ e. told .has e .0 }; shows = λ e. told .has e .1 }
 
     pub ends-as : (s′ : Facts) (k : Kind) → Ends q s′ k w → Tells q s k → Ends q s k w
     ends-as s′ k ended told = record { tells = told; shows = ended .shows }

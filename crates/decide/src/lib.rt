@@ -182,11 +182,21 @@ fn search_in(
     }
 }
 
-// The same of a path that is not changed.
+// The same of a path that is not changed. Strategy 4 is the search with backjumping.
 fn search(query: &[u8], layout: Layout, how: usize, left: usize, s: Facts, budget: usize) -> Tried
     requires { ⌜ Within layout (now query) × Accepted (said layout (now query)) × Known (said layout (now query)) (pathOf s) ⌝ }
     ensures { λ r. ⌜ Ends (said layout (now (query .entry))) (pathOf s) (r .kind) (pathOf (r .facts)) ⌝ }
 {
+    if how == 4 {
+        let found = backjumping::search(query, layout, 42, s, budget);
+        let told = found.kind;
+        let facts = found.facts;
+        return Tried {
+            kind: told,
+            budget: found.budget,
+            facts,
+        };
+    }
     let single = s.single;
     let mut rep = s.rep;
     let mut link = s.link;
@@ -215,11 +225,11 @@ fn search(query: &[u8], layout: Layout, how: usize, left: usize, s: Facts, budge
     }
 }
 
-// Four times the budget once all four strategies had theirs.
+// Four times the budget once all five strategies had theirs.
 fn grown(budget: usize, turn: usize) -> usize
     ensures { λ r. ⌜ (r ≡ budget) ⊎ ((budget ≤ 1000000000000) × (r ≡ 4 * budget)) ⌝ }
 {
-    if turn % 4 != 3 {
+    if turn % 5 != 4 {
         return budget;
     }
     if 1000000000000 < budget {
@@ -228,8 +238,16 @@ fn grown(budget: usize, turn: usize) -> usize
     4 * budget
 }
 
-// The strategies in turn, each with a budget; then all again with four times the budget, until one is done. The two that probe begin: where
-// all take long, one of them is done soonest as a rule. Before them the cheapest has a short try, and then strategy `first`: the one that was done with
+// The strategy of a turn: the one with backjumping, the two that probe, the others.
+fn strategy(turn: usize) -> usize {
+    let place = turn % 5;
+    if place == 0 {
+        return 4;
+    }
+    (place + 1) % 4
+}
+
+// The strategies in turn, each with a budget; then all again with four times the budget, until one is done. Before them the cheapest has a short try, and then strategy `first`: the one that was done with
 // a path before this is often done with this one too.
 fn in_turn(query: &[u8], layout: Layout, s: Facts, first: usize) -> Settled
     requires { ⌜ Within layout (now query) × Accepted (said layout (now query)) × Known (said layout (now query)) (pathOf s) ⌝ }
@@ -257,8 +275,8 @@ fn in_turn(query: &[u8], layout: Layout, s: Facts, first: usize) -> Settled
     }
     let mut budget: usize = 50;
     let mut turn: usize = 0;
-    while turn < 48 {
-        let how = (turn + 2) % 4;
+    while turn < 60 {
+        let how = strategy(turn);
         let tried = search(query, layout, how, 300, s, budget);
         let kind = tried.kind;
         if !kinds::is_unknown(kind) {

@@ -131,11 +131,13 @@ module _ (before : List ℕ) (at : ℕ) (text : List ℕ) where
     puts-none : (r : ℕ) (last : List ℕ) → r ≡ 0 → numbersFrom place value begun (drop i text) ≡ none → Puts before at (numbersFrom 0 0 false text) last r
     puts-none r last z e = subst (λ (o : Option (List ℕ)). Puts before at o last r) (sym (refused e)) z
 
-    pub scanned-digit : i < length text → isDigit (getD text i 0) ≡ true → 10 * value + (getD text i 0 - 48) ≤ 255 → Scanned before at text after to place (10 * value + (getD text i 0 - 48)) true (i + 1)
+    pub scanned-digit : i < length text → isDigit (getD text i 0) ≡ true → 10 * value + (getD text i 0 - 48) ≤ 255 →
+        Scanned before at text after to place (10 * value + (getD text i 0 - 48)) true (i + 1)
     scanned-digit h d l =
         record { done = s .done; wrote = s .wrote; makes = s .makes ∙ ap (prepend (s .done)) (reads-digit text i place value begun h d l); few = omega (arith, s .few) }
 
-    pub scanned-end : {last : List ℕ} {r : ℕ} → i < length text → isDigit (getD text i 0) ≡ false → endsNumber place begun (getD text i 0) ≡ true → Writes after to (value ∷ []) last r → Scanned before at text last r (nextPlace place) 0 false (i + 1)
+    pub scanned-end : {last : List ℕ} {r : ℕ} → i < length text → isDigit (getD text i 0) ≡ false → endsNumber place begun (getD text i 0) ≡ true →
+        Writes after to (value ∷ []) last r → Scanned before at text last r (nextPlace place) 0 false (i + 1)
     scanned-end h d e w =
         record {
           done = s .done ++ (value ∷ []);
@@ -147,7 +149,8 @@ module _ (before : List ℕ) (at : ℕ) (text : List ℕ) where
     pub puts-big : (r : ℕ) (last : List ℕ) → r ≡ 0 → i < length text → isDigit (getD text i 0) ≡ true → 255 < 10 * value + (getD text i 0 - 48) → Puts before at (numbersFrom 0 0 false text) last r
     puts-big r last z h d l = puts-none r last z (reads-big text i place value begun h d l)
 
-    pub puts-other : (r : ℕ) (last : List ℕ) → r ≡ 0 → i < length text → isDigit (getD text i 0) ≡ false → endsNumber place begun (getD text i 0) ≡ false → Puts before at (numbersFrom 0 0 false text) last r
+    pub puts-other : (r : ℕ) (last : List ℕ) → r ≡ 0 → i < length text → isDigit (getD text i 0) ≡ false →
+        endsNumber place begun (getD text i 0) ≡ false → Puts before at (numbersFrom 0 0 false text) last r
     puts-other r last z h d e = puts-none r last z (reads-other text i place value begun h d e)
 
     pub puts-open : (r : ℕ) (last : List ℕ) → r ≡ 0 → length text ≤ i → isBetween place begun ≡ false → Puts before at (numbersFrom 0 0 false text) last r
@@ -176,11 +179,13 @@ digit-is d e h = ap isDigit (sym e) ∙ h
 pub end-is : {b : Bool} {c d : ℕ} (place : ℕ) (begun : Bool) → c ≡ d → endsNumber place begun c ≡ b → endsNumber place begun d ≡ b
 end-is place begun e h = ap (endsNumber place begun) (sym e) ∙ h
 
-pub value-as : {before text after : List ℕ} {at to place c d i : ℕ} {begun : Bool} (value : ℕ) → c ≡ d → Scanned before at text after to place (10 * value + (d - 48)) begun i → Scanned before at text after to place (10 * value + (c - 48)) begun i
+pub value-as : {before text after : List ℕ} {at to place c d i : ℕ} {begun : Bool} (value : ℕ) → c ≡ d →
+    Scanned before at text after to place (10 * value + (d - 48)) begun i → Scanned before at text after to place (10 * value + (c - 48)) begun i
 value-as {before} {text} {after} {at} {to} {place} {c} {d} {i} {begun} value e s =
     subst (λ (x : ℕ). Scanned before at text after to place (10 * value + (x - 48)) begun i) (sym e) s
 
-pub place-as : {before text after : List ℕ} {at to place next value i : ℕ} {begun : Bool} → place ≡ next → Scanned before at text after to place value begun i → Scanned before at text after to next value begun i
+pub place-as : {before text after : List ℕ} {at to place next value i : ℕ} {begun : Bool} → place ≡ next →
+    Scanned before at text after to place value begun i → Scanned before at text after to next value begun i
 place-as {before} {text} {after} {at} {to} {place} {next} {value} {i} {begun} e s =
     subst (λ (x : ℕ). Scanned before at text after to x value begun i) e s
 

@@ -85,7 +85,8 @@ module _ (bytes : List ℕ) (count i kept replaced : ℕ) (s : Shaped bytes coun
   unfolding isLine
   join-past h = sym (rw (line-past bytes count i s h) refl)
 
-  pub join-there : i < count → ((eqb (getD bytes (4 * i + 2) 0) 10 && eqb (getD bytes (4 * i + 2 + 1) 0) kept) && eqb (getD bytes (4 * i + 2 + 2) 0) replaced) && eqb (getD bytes (4 * i + 2 + 3) 0) 0 ≡ isLine (lineAt bytes i) (line 10 kept replaced 0)
+  pub join-there : i < count → ((eqb (getD bytes (4 * i + 2) 0) 10 && eqb (getD bytes (4 * i + 2 + 1) 0) kept) && eqb (getD bytes (4 * i + 2 + 2) 0)
+      replaced) && eqb (getD bytes (4 * i + 2 + 3) 0) 0 ≡ isLine (lineAt bytes i) (line 10 kept replaced 0)
   unfolding isLine sameLine
   join-there h =
       and-four (eqb (getD bytes (4 * i + 2) 0) 10) (eqb (getD bytes (4 * i + 2 + 1) 0) kept) (eqb (getD bytes (4 * i + 2 + 2) 0) replaced) (eqb (getD bytes (4 * i + 2 + 3) 0) 0)
@@ -100,7 +101,8 @@ module _ (bytes : List ℕ) where
 
   pub shape-is : (c : ℕ) → c ≡ countIn bytes → eqb (length bytes) (2 + 4 * c) && leb c 16000 ≡ shapely bytes
   unfolding shapely misshapen _or_
-  shape-is c e = ap (λ (k : ℕ). eqb (length bytes) (2 + 4 * k) && leb k 16000) e ∙ table (eqb (length bytes) (2 + 4 * countIn bytes)) (leb (countIn bytes) 16000) (ltb 16000 (countIn bytes)) (flip (countIn bytes))
+  shape-is c e = ap (λ (k : ℕ). eqb (length bytes) (2 + 4 * k) && leb k 16000) e
+      ∙ table (eqb (length bytes) (2 + 4 * countIn bytes)) (leb (countIn bytes) 16000) (ltb 16000 (countIn bytes)) (flip (countIn bytes))
     where
       flip : (k : ℕ) → leb k 16000 ≡ not (ltb 16000 k)
       flip k = go (leb k 16000) refl

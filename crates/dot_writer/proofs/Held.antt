@@ -1,4 +1,5 @@
--- What a proof has at exit of a `Writer` that was passed by value. Each function that takes one cites this. A struct of other fields needs another list of `slots` and another choice for each field, and nothing else.
+-- What a proof has at exit of a `Writer` that was passed by value. Each function that takes one cites this. A struct of other fields needs another
+-- list of `slots` and another choice for each field, and nothing else.
 --     slots            the struct's fields, as places of a signature of one lifetime
 --     held, held-goes  of a choice for each field: what is had of the struct at exit (`Denote/Triple/Walked.antt`'s `Stay`), and the law for it, from the fields' laws
 --     writer-stay      the borrow is still owned, at its last list.        writer-goes      the law for it
@@ -31,7 +32,8 @@ abbrev pub WriterS : Slot 1
 WriterS = plain (λ κs. T.the-row (namedLft 1 0 tt κs))
 
 abbrev pub held : (k : Kept) → Fields slots k → Stay WriterS k
-held k hs = stay-declared (structAt name (named 0 ∷ []) slots) k (stay-struct-at name (named 0 ∷ []) slots k hs) Writer (λ κs. T.the-type (namedLft 1 0 tt κs) .to) (λ κs. T.the-type (namedLft 1 0 tt κs) .to-one)
+held k hs = stay-declared (structAt name (named 0 ∷ []) slots) k (stay-struct-at name (named 0 ∷ []) slots k hs) Writer
+    (λ κs. T.the-type (namedLft 1 0 tt κs) .to) (λ κs. T.the-type (namedLft 1 0 tt κs) .to-one)
 
 abbrev stays : Fields slots yes
 stays = (stay-slice (0 ∷ []) tt (plain (λ _. u8)), (stay-none (λ _. usize) yes, tt))
@@ -48,7 +50,8 @@ writer-spent = held no spends
 module _ {M : Type 1} (𝓤 : URA M) (H : Heap 𝓤) (A : Atoms 𝓤) (W : Given 𝓤 H A) where
   pub held-goes : (k : Kept) (hs : Fields slots k) → FieldsGo 𝓤 H A W 1 slots k hs → Goes 𝓤 H A W 1 WriterS k (held k hs)
   held-goes k hs gs =
-      goes-declared 𝓤 H A W 1 (structAt name (named 0 ∷ []) slots) k (stay-struct-at name (named 0 ∷ []) slots k hs) Writer (λ κs. T.the-type (namedLft 1 0 tt κs) .to) (λ κs. T.the-type (namedLft 1 0 tt κs) .to-one)
+      goes-declared 𝓤 H A W 1 (structAt name (named 0 ∷ []) slots) k (stay-struct-at name (named 0 ∷ []) slots k hs) Writer
+      (λ κs. T.the-type (namedLft 1 0 tt κs) .to) (λ κs. T.the-type (namedLft 1 0 tt κs) .to-one)
       (goes-struct-at 𝓤 H A W 1 name (named 0 ∷ []) slots k hs gs)
 
   pub writer-goes : Goes 𝓤 H A W 1 WriterS yes writer-stay
@@ -65,7 +68,8 @@ abbrev pub WriterTwo : Slot 2
 WriterTwo = plain (λ κs. T.the-row (namedLft 2 0 tt κs))
 
 abbrev held-two : (k : Kept) → Fields slots-two k → Stay WriterTwo k
-held-two k hs = stay-declared (structAt name (named 0 ∷ []) slots-two) k (stay-struct-at name (named 0 ∷ []) slots-two k hs) Writer (λ κs. T.the-type (namedLft 2 0 tt κs) .to) (λ κs. T.the-type (namedLft 2 0 tt κs) .to-one)
+held-two k hs = stay-declared (structAt name (named 0 ∷ []) slots-two) k (stay-struct-at name (named 0 ∷ []) slots-two k hs) Writer
+    (λ κs. T.the-type (namedLft 2 0 tt κs) .to) (λ κs. T.the-type (namedLft 2 0 tt κs) .to-one)
 
 abbrev spends-two : Fields slots-two no
 spends-two = (stay-dropped (mutSliceOf (0 ∷ []) tt (plain (λ _. u8))) no, (stay-none (λ _. usize) no, tt))
@@ -76,5 +80,6 @@ writer-spent-two = held-two no spends-two
 module _ {M : Type 1} (𝓤 : URA M) (H : Heap 𝓤) (A : Atoms 𝓤) (W : Given 𝓤 H A) where
   pub writer-spent-two-goes : Goes 𝓤 H A W 2 WriterTwo no writer-spent-two
   writer-spent-two-goes =
-      goes-declared 𝓤 H A W 2 (structAt name (named 0 ∷ []) slots-two) no (stay-struct-at name (named 0 ∷ []) slots-two no spends-two) Writer (λ κs. T.the-type (namedLft 2 0 tt κs) .to) (λ κs. T.the-type (namedLft 2 0 tt κs) .to-one)
+      goes-declared 𝓤 H A W 2 (structAt name (named 0 ∷ []) slots-two) no (stay-struct-at name (named 0 ∷ []) slots-two no spends-two) Writer
+      (λ κs. T.the-type (namedLft 2 0 tt κs) .to) (λ κs. T.the-type (namedLft 2 0 tt κs) .to-one)
       (goes-struct-at 𝓤 H A W 2 name (named 0 ∷ []) slots-two no spends-two (goes-spent-slice 𝓤 H A W 2 (0 ∷ []) tt (plain (λ _. u8)), (goes-none 𝓤 H A W 2 (λ _. usize) no (λ κs x f. refl), tt)))

@@ -49,7 +49,8 @@ formed bytes one =
       third = eqb-true (getD bytes (m + n + 2) 0) m (and-right _ _ h₃);
       fourth = eqb-true (getD bytes (m + n + m + 3) 0) 1 (and-right _ _ h₄);
       link-node = λ v l r. node-range m (getD bytes v 0) (all-true (λ i. isNode m (getD bytes i 0)) v (and-right _ _ h₅) (from-intro m 1 v l (omega arith)));
-      term-node = λ t l r. node-range m (getD bytes (m + 1 + t) 0) (all-true (λ i. isNode m (getD bytes i 0)) (m + 1 + t) (and-right _ _ h₆) (from-intro n (m + 2) (m + 1 + t) (omega arith) (omega arith)));
+      term-node = λ t l r. node-range m (getD bytes (m + 1 + t) 0)
+          (all-true (λ i. isNode m (getD bytes i 0)) (m + 1 + t) (and-right _ _ h₆) (from-intro n (m + 2) (m + 1 + t) (omega arith) (omega arith)));
       past = λ i l r. eqb-true (getD bytes i 0) 0 (all-true (λ j. eqb (getD bytes j 0) 0) i (and-right _ _ h) (from-intro (length bytes - (m + n + m + 5)) (m + n + m + 5) i l (omega arith)));
     }
 

@@ -13,7 +13,8 @@ use Rattle.theory.proofs.Basics.Search.{and-left, and-right, from-mem}
 use Rattle.theory.proofs.Completeness.Placed.{length-from}
 use Rattle.text.specs.Text.{decimalWithin, decimal}
 use Rattle.text.proofs.Digits.{decimal-byte}
-use Rattle.drawing.specs.Text.{countIn, linkIn, datumIn, booleansIn, reportSize, closing, newline, labelOpen, labelClose, arrow, lineEnd, slash, listed, termsAt, commentLine, nodeLine, arrowLine, text}
+use Rattle.drawing.specs.Text.{countIn, linkIn, datumIn, booleansIn, reportSize, closing, newline, labelOpen, labelClose}
+use Rattle.drawing.specs.Text.{arrow, lineEnd, slash, listed, termsAt, commentLine, nodeLine, arrowLine, text}
 use Rattle.drawing.specs.Claims.{Report, longest}
 use Rattle.drawing.proofs.Numbers.{decimal-pair}
 use Rattle.drawing.proofs.Sums.{total, total-add, total-most, total-one, total-same, partition, length-flat}
@@ -100,7 +101,9 @@ module _ (bytes : List ℕ) (below : (i : ℕ) → getD bytes i 0 < 256) (f : Fo
   blanks-most : total (λ v. length (termsAt bytes v) - 1) (from (sizeIn bytes) 1) ≤ 15
   blanks-most =
       let vs : List ℕ = from (sizeIn bytes) 1 in
-      let ones : total (λ v. length (termsAt bytes v)) vs ≡ countIn bytes = total-same (λ v. length (termsAt bytes v)) (λ v. total (λ t. 1) (termsAt bytes v)) vs (λ v. sym (total-one (termsAt bytes v))) ∙ terms-once (λ t. 1) ∙ total-one (from (countIn bytes) 1) ∙ length-from (countIn bytes) 1 in
+      let ones : total (λ v. length (termsAt bytes v)) vs ≡ countIn bytes = total-same (λ v. length (termsAt bytes v))
+      (λ v. total (λ t. 1) (termsAt bytes v)) vs (λ v. sym (total-one (termsAt bytes v))) ∙ terms-once (λ t. 1) ∙ total-one (from (countIn bytes) 1)
+      ∙ length-from (countIn bytes) 1 in
       omega (arith, total-fewer (λ v. length (termsAt bytes v)) vs, f .few-terms)
 
   nodes-most : length (flatMap (nodeLine bytes) (from (sizeIn bytes) 1)) ≤ 333

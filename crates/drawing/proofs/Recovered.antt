@@ -48,7 +48,8 @@ map-split f zero b i = ap₂ (λ (k j : ℕ). map f (from k j)) (left) (right)
 
     right : i ≡ i + 0
     right = omega arith
-map-split f (suc a) b i = ap (λ (k : ℕ). map f (from k i)) (left) ∙ ap (λ (xs : List ℕ). f i ∷ xs) (map-split f a b (suc i)) ∙ ap (λ (j : ℕ). (f i ∷ map f (from a (suc i))) ++ map f (from b j)) (right)
+map-split f (suc a) b i = ap (λ (k : ℕ). map f (from k i)) (left) ∙ ap (λ (xs : List ℕ). f i ∷ xs) (map-split f a b (suc i))
+    ∙ ap (λ (j : ℕ). (f i ∷ map f (from a (suc i))) ++ map f (from b j)) (right)
   where
     left : suc a + b ≡ suc (a + b)
     left = omega arith
@@ -183,7 +184,8 @@ module _ (bytes : List ℕ) (f : Formed bytes) where
       ∙ total-one (from n 1)
       ∙ length-from n 1
 
-  report-read : reportOf (read none [] (map (termsAt bytes) (from (sizeIn bytes) 1)) (map (datumIn bytes) (from (sizeIn bytes) 1)) (map (linkIn bytes) (from (sizeIn bytes) 1)) (booleansIn bytes)) ≡ inSections
+  report-read : reportOf (read none [] (map (termsAt bytes) (from (sizeIn bytes) 1)) (map (datumIn bytes) (from (sizeIn bytes) 1))
+      (map (linkIn bytes) (from (sizeIn bytes) 1)) (booleansIn bytes)) ≡ inSections
   unfolding reportOf
   report-read =
       let m : ℕ = sizeIn bytes in

@@ -9,5 +9,6 @@ use Rattle.drawing.specs.Call.{refusal, drawn, dotCall}
 use Rattle.drawing.specs.Samples.{SamplesHold, samples, computed}
 
 pub samples-hold : SamplesHold
-unfolding _and_ _or_ from any all select flatMap sizeIn nodeIn isNode wellFormed padded decimalWithin decimal countIn linkIn datumIn booleansIn reportSize listed termsAt commentLine nodeLine arrowLine text refusal drawn dotCall samples computed
+unfolding _and_ _or_ from any all select flatMap sizeIn nodeIn isNode wellFormed padded decimalWithin decimal countIn linkIn datumIn booleansIn
+    reportSize listed termsAt commentLine nodeLine arrowLine text refusal drawn dotCall samples computed
 samples-hold = refl

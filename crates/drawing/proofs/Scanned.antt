@@ -8,7 +8,8 @@ use lib.Seq.{append-snoc}
 use Rattle.logic.specs.Search.{_and_, _or_, from, flatMap}
 use Rattle.logic.specs.Shown.{sizeIn}
 use Rattle.text.specs.Text.{decimal, isDigit}
-use Rattle.drawing.specs.Text.{linkIn, datumIn, booleansIn, opening, closing, commentOpen, newline, labelOpen, labelClose, arrow, lineEnd, slash, listed, termsAt, commentLine, nodeLine, arrowLine, text}
+use Rattle.drawing.specs.Text.{linkIn, datumIn, booleansIn, opening, closing, commentOpen, newline, labelOpen, labelClose}
+use Rattle.drawing.specs.Text.{arrow, lineEnd, slash, listed, termsAt, commentLine, nodeLine, arrowLine, text}
 use Rattle.drawing.specs.Reader.{Read, read, atMark, step, run}
 use Rattle.drawing.proofs.Numbers.{run-append, number-read}
 
@@ -97,7 +98,8 @@ module _ (bytes : List ℕ) where
         (run-then _ _ _ arrow (decimal (linkIn bytes v) ++ lineEnd) (arrow-begins ls bs ks f v)
         (run-then _ _ _ (decimal (linkIn bytes v)) lineEnd (number-read (v ∷ []) ls bs ks f (linkIn bytes v)) (arrow-ends ls bs ks f (v ∷ []) (linkIn bytes v))))
 
-  nodes-read : (vs : List ℕ) (ls : List (List ℕ)) (bs ks : List ℕ) (f : ℕ) → run (read none [] ls bs ks f) (flatMap (nodeLine bytes) vs) ≡ read none [] (ls ++ map (termsAt bytes) vs) (bs ++ map (datumIn bytes) vs) ks f
+  nodes-read : (vs : List ℕ) (ls : List (List ℕ)) (bs ks : List ℕ) (f : ℕ) →
+      run (read none [] ls bs ks f) (flatMap (nodeLine bytes) vs) ≡ read none [] (ls ++ map (termsAt bytes) vs) (bs ++ map (datumIn bytes) vs) ks f
   unfolding flatMap run
   nodes-read [] ls bs ks f = ap₂ (λ (xs : List (List ℕ)) (ys : List ℕ). read none [] xs ys ks f) (sym (append-nil ls)) (sym (append-nil bs))
   nodes-read (v ∷ vs) ls bs ks f =
@@ -114,7 +116,8 @@ module _ (bytes : List ℕ) where
       ∙ ap (λ (xs : List ℕ). read none [] ls bs xs f) (append-snoc ks (linkIn bytes v) (map (linkIn bytes) vs))
 
   -- the whole text
-  pub text-read : run (read none [] [] [] [] 0) (text bytes) ≡ read none [] (map (termsAt bytes) (from (sizeIn bytes) 1)) (map (datumIn bytes) (from (sizeIn bytes) 1)) (map (linkIn bytes) (from (sizeIn bytes) 1)) (booleansIn bytes)
+  pub text-read : run (read none [] [] [] [] 0) (text bytes) ≡ read none [] (map (termsAt bytes) (from (sizeIn bytes) 1))
+      (map (datumIn bytes) (from (sizeIn bytes) 1)) (map (linkIn bytes) (from (sizeIn bytes) 1)) (booleansIn bytes)
   unfolding text
   text-read =
       let vs : List ℕ = from (sizeIn bytes) 1 in

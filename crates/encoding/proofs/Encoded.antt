@@ -11,7 +11,9 @@ use lib.Seq.{take-at, drop-at}
 use lib.Dec.{eqb, ltb}
 use borrow.Author.Tests.{le-leb, leb-true, eqb-true, lt-ltb}
 use Rattle.logic.specs.Search.{_and_, _or_, from, keep, orElse, flatMap}
-use Rattle.logic.specs.Query.{Literal, Query, termCount, entryOf, namesNil, argumentOf, Role, Section, entryRole, signRole, termRole, numberRole, countRole, fourSections, booleanSection, fiveSections, sections, parts, withPart, layout, rolesOf, firstByte, layoutBy, layoutOf, faultIn, layoutFault, roleFault, byteFault, literals, section, queryOf, decode}
+use Rattle.logic.specs.Query.{Literal, Query, termCount, entryOf, namesNil, argumentOf, Role, Section, entryRole, signRole, termRole}
+use Rattle.logic.specs.Query.{numberRole, countRole, fourSections, booleanSection, fiveSections, sections, parts, withPart, layout, rolesOf}
+use Rattle.logic.specs.Query.{firstByte, layoutBy, layoutOf, faultIn, layoutFault, roleFault, byteFault, literals, section, queryOf, decode}
 use Rattle.logic.specs.Calls.{Input, Check, layoutCheck, byteCheck, queryChecks, refusalOf}
 use Rattle.theory.proofs.Basics.Search.{and-left, and-right, and-intro, or-left, or-right}
 use Rattle.theory.proofs.Basics.Count.{length-from, length-flatMap}
@@ -42,16 +44,24 @@ literals-read (l ∷ ls) one =
 -- Layout
 
 -- a section's part, where the others are laid out
-pub layout-part : (s : Section) (ss : List Section) (place c : ℕ) (part rest : List ℕ) (qs : List (List ℕ)) → c ≤ s .limit → length part ≡ c * s .width → layout ss (suc place + c * s .width) rest ≡ parts qs → layout (s ∷ ss) place (c ∷ (part ++ rest)) ≡ parts (part ∷ qs)
+pub layout-part : (s : Section) (ss : List Section) (place c : ℕ) (part rest : List ℕ) (qs : List (List ℕ)) → c ≤ s .limit →
+    length part ≡ c * s .width → layout ss (suc place + c * s .width) rest ≡ parts qs → layout (s ∷ ss) place (c ∷ (part ++ rest)) ≡ parts (part ∷ qs)
 unfolding layout withPart
 layout-part s ss place c part rest qs within sized h =
-    rw (le-leb c (s .limit) within, le-leb (c * s .width) (length (part ++ rest)) (omega (arith, sized, length-append part rest)), take-at part rest (c * s .width) sized, drop-at part rest (c * s .width) sized, h)
+    rw (
+      le-leb c (s .limit) within,
+      le-leb (c * s .width) (length (part ++ rest)) (omega (arith, sized, length-append part rest)),
+      take-at part rest (c * s .width) sized,
+      drop-at part rest (c * s .width) sized,
+      h,
+    )
 
 pub layout-none : (place : ℕ) → layout [] place [] ≡ parts []
 unfolding layout
 layout-none place = refl
 
-roles-part : (s : Section) (ss : List Section) (c : ℕ) (part rest : List ℕ) → length part ≡ c * s .width → rolesOf (s ∷ ss) (c ∷ (part ++ rest)) ≡ countRole ∷ (flatMap (s .roles) (from c 1) ++ rolesOf ss rest)
+roles-part : (s : Section) (ss : List Section) (c : ℕ) (part rest : List ℕ) → length part ≡ c * s .width →
+    rolesOf (s ∷ ss) (c ∷ (part ++ rest)) ≡ countRole ∷ (flatMap (s .roles) (from c 1) ++ rolesOf ss rest)
 unfolding rolesOf
 roles-part s ss c part rest sized = rw (drop-at part rest (c * s .width) sized)
 
@@ -93,7 +103,9 @@ unfolding signRole signByte
 sign-allowed true c = refl
 sign-allowed false c = refl
 
-pub literals-allowed : (left right : Role) (i : ℕ) (ls : List Literal) → ((l : Literal) → List·Memᴰ l ls → Allows left (l .left) × Allows right (l .right)) → Allowed (flatMap (λ j. signRole ∷ left ∷ right ∷ []) (from (length ls) i)) (flatMap literalBytes ls)
+pub literals-allowed : (left right : Role) (i : ℕ) (ls : List Literal) →
+    ((l : Literal) → List·Memᴰ l ls → Allows left (l .left) × Allows right (l .right)) →
+    Allowed (flatMap (λ j. signRole ∷ left ∷ right ∷ []) (from (length ls) i)) (flatMap literalBytes ls)
 unfolding flatMap from literalBytes
 literals-allowed left right i [] h = tt
 literals-allowed left right i (l ∷ ls) h =
@@ -109,7 +121,9 @@ roles-sized : (f : ℕ → List Role) (w c : ℕ) → ((i : ℕ) → length (f i
 roles-sized f w c h = length-flatMap f w h (from c 1) ∙ ap (λ (k : ℕ). k * w) (length-from c 1)
 
 -- a section behind its count, and the sections behind it
-pub section-allowed : (s : Section) (ss : List Section) (c : ℕ) (part rest : List ℕ) → ((i : ℕ) → length (s .roles i) ≡ s .width) → length part ≡ c * s .width → Allowed (flatMap (s .roles) (from c 1)) part → Allowed (rolesOf ss rest) rest → Allowed (rolesOf (s ∷ ss) (c ∷ (part ++ rest))) (c ∷ (part ++ rest))
+pub section-allowed : (s : Section) (ss : List Section) (c : ℕ) (part rest : List ℕ) → ((i : ℕ) → length (s .roles i) ≡ s .width) →
+    length part ≡ c * s .width → Allowed (flatMap (s .roles) (from c 1)) part → Allowed (rolesOf ss rest) rest →
+    Allowed (rolesOf (s ∷ ss) (c ∷ (part ++ rest))) (c ∷ (part ++ rest))
 unfolding countRole
 section-allowed s ss c part rest regular sized h g =
     rw (roles-part s ss c part rest sized)
@@ -241,9 +255,15 @@ module _ (q : Query) (ok : Encodable q) where
   allowed =
       rw bytes-are
       (section-allowed _ _ (termCount q) (q .entries .terms) tail2 (λ i. refl) (sym (mul-one (termCount q))) (entries-allowed 1 (q .entries .terms) (entry-allowed q (ok .accepted)))
-      (section-allowed _ _ (length (q .equalities)) equal tail3 (λ i. refl) (literal-bytes (q .equalities)) (literals-allowed _ _ 1 (q .equalities) (λ l m. let t = ok .accepted .equal-terms l m in (term-allowed q (ok .accepted) (l .left) (t .0), term-allowed q (ok .accepted) (l .right) (t .1))))
-      (section-allowed _ _ (length (q .reachability)) reach tail4 (λ i. refl) (literal-bytes (q .reachability)) (literals-allowed _ _ 1 (q .reachability) (λ l m. let t = ok .accepted .reach-terms l m in (term-allowed q (ok .accepted) (l .left) (t .0), term-allowed q (ok .accepted) (l .right) (t .1))))
-      (section-allowed _ _ (length (q .fields)) field tail5 (λ i. refl) (literal-bytes (q .fields)) (literals-allowed _ _ 1 (q .fields) (λ l m. (number-allowed q (ok .accepted) (l .left) (ok .accepted .field-number l m), term-allowed q (ok .accepted) (l .right) (ok .accepted .field-term l m))))
+      (section-allowed _ _ (length (q .equalities)) equal tail3 (λ i. refl) (literal-bytes (q .equalities))
+      (literals-allowed _ _ 1 (q .equalities) (λ l m. let t = ok .accepted .equal-terms l m in
+      (term-allowed q (ok .accepted) (l .left) (t .0), term-allowed q (ok .accepted) (l .right) (t .1))))
+      (section-allowed _ _ (length (q .reachability)) reach tail4 (λ i. refl) (literal-bytes (q .reachability))
+      (literals-allowed _ _ 1 (q .reachability) (λ l m. let t = ok .accepted .reach-terms l m in
+      (term-allowed q (ok .accepted) (l .left) (t .0), term-allowed q (ok .accepted) (l .right) (t .1))))
+      (section-allowed _ _ (length (q .fields)) field tail5 (λ i. refl) (literal-bytes (q .fields))
+      (literals-allowed _ _ 1 (q .fields)
+      (λ l m. (number-allowed q (ok .accepted) (l .left) (ok .accepted .field-number l m), term-allowed q (ok .accepted) (l .right) (ok .accepted .field-term l m))))
       (section-allowed _ _ 0 [] [] (λ i. refl) refl (none-allowed _) roles-none)))))
 
   layout-passed : (k : ℕ) → layoutFault sections k (encode q) ≡ none

@@ -10,7 +10,8 @@ use lib.Seq.{length-take-le}
 use lib.Dec.{eqb, leb}
 use borrow.Author.Tests.{ltb-true, leb-true, eqb-true, eqb-false}
 use Rattle.logic.specs.Search.{from, at, flatMap}
-use Rattle.logic.specs.Query.{termCount, Role, Section, signRole, termRole, numberRole, fourSections, booleanSection, fiveSections, sections, Layout, faulty, parts, withPart, layout, firstByte, layoutBy, layoutOf, literals, section, queryOf, decode}
+use Rattle.logic.specs.Query.{termCount, Role, Section, signRole, termRole, numberRole, fourSections, booleanSection, fiveSections, sections}
+use Rattle.logic.specs.Query.{Layout, faulty, parts, withPart, layout, firstByte, layoutBy, layoutOf, literals, section, queryOf, decode}
 use Rattle.logic.specs.Calls.{accepts}
 use Rattle.theory.proofs.Query.Bytes.{Allows, Allowed, Part, cond-elim, faulty-parts}
 use Rattle.encoding.specs.QueryBytes.{signByte, literalBytes, sectionBytes, encode}
@@ -29,7 +30,8 @@ sign-allowed s h = go (eqb s 1) refl (ltb-true s 2 (h (omega arith, omega arith)
         zero-of n = omega arith
 
 -- the bytes of a section's literals
-literals-written : (left right : Role) (c i : ℕ) (bytes : List ℕ) → length bytes ≡ c * 3 → Allowed (flatMap (λ j. signRole ∷ left ∷ right ∷ []) (from c i)) bytes → (flatMap literalBytes (literals bytes) ≡ bytes) × (length (literals bytes) ≡ c)
+literals-written : (left right : Role) (c i : ℕ) (bytes : List ℕ) → length bytes ≡ c * 3 →
+    Allowed (flatMap (λ j. signRole ∷ left ∷ right ∷ []) (from c i)) bytes → (flatMap literalBytes (literals bytes) ≡ bytes) × (length (literals bytes) ≡ c)
 unfolding flatMap from literals literalBytes
 literals-written left right zero i [] e h = (refl, refl)
 literals-written left right zero i (s ∷ bytes) e h = absurd (omega arith)
@@ -52,7 +54,10 @@ laid [] place [] ps e = let q : ps ≡ [] = cc in subst (Laid [] []) (sym q) non
 laid [] place (b ∷ bytes) ps e = absurd (faulty-parts e)
 laid (s ∷ ss) place [] ps e = absurd (faulty-parts e)
 laid (s ∷ ss) place (c ∷ more) ps e =
-    cond-elim Leads (leb c (s .limit)) (λ within. cond-elim Leads (leb size (length more)) (λ fits. split (leb-true size (length more) fits) (λ qs. laid ss (suc place + size) (drop size more) qs) (layout ss (suc place + size) (drop size more)) refl) (λ f e. absurd (faulty-parts e)))
+    cond-elim Leads (leb c (s .limit))
+    (λ within. cond-elim Leads (leb size (length more))
+    (λ fits. split (leb-true size (length more) fits) (λ qs. laid ss (suc place + size) (drop size more) qs)
+    (layout ss (suc place + size) (drop size more)) refl) (λ f e. absurd (faulty-parts e)))
     (λ f e. absurd (faulty-parts e)) e
   where
     size : ℕ
@@ -61,7 +66,8 @@ laid (s ∷ ss) place (c ∷ more) ps e =
     Leads : Layout → Type 0
     Leads l = l ≡ parts ps → Laid (s ∷ ss) (c ∷ more) ps
 
-    split : size ≤ length more → ((qs : List (List ℕ)) → layout ss (suc place + size) (drop size more) ≡ parts qs → Laid ss (drop size more) qs) → (l : Layout) → layout ss (suc place + size) (drop size more) ≡ l → Leads (withPart (take size more) l)
+    split : size ≤ length more → ((qs : List (List ℕ)) → layout ss (suc place + size) (drop size more) ≡ parts qs → Laid ss (drop size more) qs) →
+        (l : Layout) → layout ss (suc place + size) (drop size more) ≡ l → Leads (withPart (take size more) l)
     split fits behind (faulty k place′) r e = absurd (faulty-parts e)
     split fits behind (parts qs) r e =
         let q : ps ≡ take size more ∷ qs = cc in
@@ -73,7 +79,8 @@ pub piece : {c c′ : ℕ} {p p′ rest rest′ : List ℕ} → c ≡ c′ → p
 piece e f g = ap₂ (λ (x : ℕ) (xs : List ℕ). x ∷ xs) e (ap₂ (λ (x : List ℕ) (y : List ℕ). x ++ y) f g)
 
 -- the count of a section's literals, and their bytes
-pub literals-of : (left right : Role) (c : ℕ) (p : List ℕ) → length p ≡ c * 3 → Part (record { limit = 60; excess = 3; width = 3; roles = λ j. signRole ∷ left ∷ right ∷ [] }) p → (length (literals p) ≡ c) × (flatMap literalBytes (literals p) ≡ p)
+pub literals-of : (left right : Role) (c : ℕ) (p : List ℕ) → length p ≡ c * 3 →
+    Part (record { limit = 60; excess = 3; width = 3; roles = λ j. signRole ∷ left ∷ right ∷ [] }) p → (length (literals p) ≡ c) × (flatMap literalBytes (literals p) ≡ p)
 literals-of left right c p e part = let r = literals-written left right (part .count) 1 p (part .sized) (part .allowed) in (omega (arith, r .1, part .sized, e), r .0)
 
 -- no bytes
@@ -82,14 +89,17 @@ none-of [] e = refl
 none-of (b ∷ p) e = absurd (omega arith)
 
 module _ (n : ℕ) where
-  written : (bytes : List ℕ) (ps : List (List ℕ)) → Laid (sections n) bytes ps → ((i : ℕ) (s : Section) → at (sections n) (suc i) ≡ some s → Part s (section ps i)) → encode (queryOf (parts ps)) ≡ bytes
+  written : (bytes : List ℕ) (ps : List (List ℕ)) → Laid (sections n) bytes ps →
+      ((i : ℕ) (s : Section) → at (sections n) (suc i) ≡ some s → Part s (section ps i)) → encode (queryOf (parts ps)) ≡ bytes
   unfolding sections fiveSections fourSections booleanSection queryOf section encode sectionBytes termCount at
   written bytes ps (one-more c₁ p₁ e₁ (one-more c₂ p₂ e₂ (one-more c₃ p₃ e₃ (one-more c₄ p₄ e₄ (one-more c₅ p₅ e₅ none-left))))) part =
       let l₂ = literals-of (termRole n) (termRole n) c₂ p₂ e₂ (part 1 _ refl) in
       let l₃ = literals-of (termRole n) (termRole n) c₃ p₃ e₃ (part 2 _ refl) in
       let l₄ = literals-of numberRole (termRole n) c₄ p₄ e₄ (part 3 _ refl) in
       let p = part 4 _ refl in
-      piece {p = p₁} {p′ = p₁} (omega (arith, e₁)) refl (piece (l₂ .0) (l₂ .1) (piece (l₃ .0) (l₃ .1) (piece (l₄ .0) (l₄ .1) (piece {p = []} {rest = []} (omega (arith, p .within, p .sized, e₅)) (none-of p₅ (omega (arith, p .within, p .sized))) refl))))
+      piece {p = p₁} {p′ = p₁} (omega (arith, e₁)) refl
+      (piece (l₂ .0) (l₂ .1) (piece (l₃ .0) (l₃ .1)
+      (piece (l₄ .0) (l₄ .1) (piece {p = []} {rest = []} (omega (arith, p .within, p .sized, e₅)) (none-of p₅ (omega (arith, p .within, p .sized))) refl))))
 
 pub recovered : (bytes : List ℕ) → accepts bytes ≡ true → encode (decode bytes) ≡ bytes
 unfolding decode layoutOf layoutBy

@@ -30,7 +30,8 @@ free-none k place [] bytes h = refl
 free-none k place (r ∷ roles) [] h = refl
 free-none k place (r ∷ roles) (b ∷ bytes) h = go (eqb (r .refusal) k) h (λ f. free-none k (suc place) roles bytes f)
   where
-    go : (t : Bool) → not t and all (λ r. not (eqb (r .refusal) k)) roles ≡ true → (Free k roles → roleFault k (suc place) roles bytes ≡ none) → orElse (keep (t and not (r .allows b)) place) (roleFault k (suc place) roles bytes) ≡ none
+    go : (t : Bool) → not t and all (λ r. not (eqb (r .refusal) k)) roles ≡ true → (Free k roles → roleFault k (suc place) roles bytes ≡ none) →
+        orElse (keep (t and not (r .allows b)) place) (roleFault k (suc place) roles bytes) ≡ none
     go true f rest = absurd (false≢true f)
     go false f rest = rest f
 
@@ -141,21 +142,24 @@ module _ (k : ℕ) (bytes : List ℕ) where
   pub flag-roles : (a b : Role) (at : ℕ) → at + 2 ≤ length bytes → roleFault k at (a ∷ b ∷ []) (drop at bytes) ≡ orElse (faultAt a k bytes at) (faultAt b k bytes (at + 1))
   flag-roles a b at h = fault-first k bytes a _ at (omega arith) ∙ ap (orElse _) (term-roles b (at + 1) (omega arith))
 
-  pub literal-roles : (a b c : Role) (at : ℕ) → at + 3 ≤ length bytes → roleFault k at (a ∷ b ∷ c ∷ []) (drop at bytes) ≡ orElse (orElse (faultAt a k bytes at) (faultAt b k bytes (at + 1))) (faultAt c k bytes (at + 1 + 1))
+  pub literal-roles : (a b c : Role) (at : ℕ) → at + 3 ≤ length bytes →
+      roleFault k at (a ∷ b ∷ c ∷ []) (drop at bytes) ≡ orElse (orElse (faultAt a k bytes at) (faultAt b k bytes (at + 1))) (faultAt c k bytes (at + 1 + 1))
   literal-roles a b c at h =
       fault-first k bytes a _ at (omega arith) ∙ ap (orElse _) (flag-roles b c (at + 1) (omega arith)) ∙ sym (orElse-assoc _ _ _)
 
   pub linked-term-roles : (r : Role) (at : ℕ) → at + 2 ≤ length bytes → roleFault k at (countRole ∷ r ∷ []) (drop at bytes) ≡ faultAt r k bytes (at + 1)
   linked-term-roles r at h = free-first k bytes _ at (omega arith) ∙ term-roles r (at + 1) (omega arith)
 
-  pub linked-pair-roles : (a b c : Role) (at : ℕ) → at + 4 ≤ length bytes → roleFault k at (a ∷ countRole ∷ b ∷ c ∷ []) (drop at bytes) ≡ orElse (orElse (faultAt a k bytes at) (faultAt b k bytes (at + 2))) (faultAt c k bytes (at + 2 + 1))
+  pub linked-pair-roles : (a b c : Role) (at : ℕ) → at + 4 ≤ length bytes →
+      roleFault k at (a ∷ countRole ∷ b ∷ c ∷ []) (drop at bytes) ≡ orElse (orElse (faultAt a k bytes at) (faultAt b k bytes (at + 2))) (faultAt c k bytes (at + 2 + 1))
   linked-pair-roles a b c at h =
       fault-first k bytes a _ at (omega arith)
       ∙ ap (orElse _) (free-first k bytes _ (at + 1) (omega arith) ∙ rw (add-assoc at 1 1) (flag-roles b c (at + 2) (omega arith)))
       ∙ sym (orElse-assoc _ _ _)
 
 -- the bytes of one list of roles, and then those of the next
-append : (k place : ℕ) (roles roles′ : List Role) (bytes : List ℕ) → roleFault k place (roles ++ roles′) bytes ≡ orElse (roleFault k place roles bytes) (roleFault k (place + length roles) roles′ (drop (length roles) bytes))
+append : (k place : ℕ) (roles roles′ : List Role) (bytes : List ℕ) →
+    roleFault k place (roles ++ roles′) bytes ≡ orElse (roleFault k place roles bytes) (roleFault k (place + length roles) roles′ (drop (length roles) bytes))
 unfolding roleFault orElse
 append k place [] roles′ bytes = rw add-zero
 append k place (r ∷ roles) roles′ [] = sym (no-bytes k (place + length (r ∷ roles)) roles′)
@@ -207,7 +211,9 @@ module _ (k : ℕ) (kind : Kind) (n count : ℕ) (bytes : List ℕ) (i at : ℕ)
   pub entry-here : (p : ℕ) → i < count → roleFault k at (rolesAt kind n (i + 1)) (drop at bytes) ≡ some p → roleFault k at (entriesLeft (rolesAt kind n) count i) (drop at bytes) ≡ some p
   entry-here p h e = next-entry h ∙ append-here k at (widthOf kind) (rolesAt kind n (i + 1)) (entriesLeft (rolesAt kind n) count (i + 1)) bytes (roles-regular kind n (i + 1)) e
 
-  pub entry-next : i < count → roleFault k at (rolesAt kind n (i + 1)) (drop at bytes) ≡ none → roleFault k at (entriesLeft (rolesAt kind n) count i) (drop at bytes) ≡ roleFault k (at + widthOf kind) (entriesLeft (rolesAt kind n) count (i + 1)) (drop (at + widthOf kind) bytes)
+  pub entry-next : i < count → roleFault k at (rolesAt kind n (i + 1)) (drop at bytes) ≡ none →
+      roleFault k at (entriesLeft (rolesAt kind n) count i) (drop at bytes) ≡ roleFault k (at + widthOf kind) (entriesLeft (rolesAt kind n) count (i + 1))
+      (drop (at + widthOf kind) bytes)
   entry-next h e = next-entry h ∙ append-next k at (widthOf kind) (rolesAt kind n (i + 1)) (entriesLeft (rolesAt kind n) count (i + 1)) bytes (roles-regular kind n (i + 1)) e
 
 pub section-whole : (k : ℕ) (kind : Kind) (n at count : ℕ) (bytes : List ℕ) → sectionFault k kind n at count bytes ≡ roleFault k at (entriesLeft (rolesAt kind n) count 0) (drop at bytes)

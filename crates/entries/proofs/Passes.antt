@@ -39,7 +39,8 @@ module _ (bytes : List ℕ) where
         let (s, l) = both (signRole .allows (getD bytes at 0)) (counted most (getD bytes left 0)) (sym test ∙ h) in
         both-none (allowed-none signRole k at s) (allowed-none (countedRole own most) k left l)
 
-    pub literal-passes : {b : Bool} (n : ℕ) → b ≡ literalAllowed most n bytes at left → Passes b (λ k. orElse (orElse (faultAt signRole k bytes at) (faultAt (countedRole own most) k bytes left)) (faultAt (termRole n) k bytes (left + 1)))
+    pub literal-passes : {b : Bool} (n : ℕ) → b ≡ literalAllowed most n bytes at left →
+        Passes b (λ k. orElse (orElse (faultAt signRole k bytes at) (faultAt (countedRole own most) k bytes left)) (faultAt (termRole n) k bytes (left + 1)))
     unfolding termRole
     literal-passes n test h k =
         let (f, r) = both (flagAllowed most bytes at left) (counted n (getD bytes (left + 1) 0)) (sym test ∙ h) in

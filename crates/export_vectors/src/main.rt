@@ -1,6 +1,7 @@
 // Every export of the library, called as a C program calls it: the number that it answers, on a line. Lent bytes are full of 255.
 use lemitsaka::between_export::lemitsaka_between;
 use lemitsaka::check_export::lemitsaka_check;
+use lemitsaka::check_export::lemitsaka_links_check;
 use lemitsaka::dot_export::lemitsaka_dot;
 use lemitsaka::formula_export::lemitsaka_formula;
 use lemitsaka::join_export::lemitsaka_hand_back;
@@ -53,6 +54,10 @@ fn formula(order: &[u8], query: &[u8], text: &[u8]) {
 
 fn check(query: &[u8], derivation: &[u8]) {
     print(lemitsaka_check(query, derivation));
+}
+
+fn links_check(query: &[u8], derivation: &[u8]) {
+    print(lemitsaka_links_check(query, derivation));
 }
 
 fn between(query: &[u8]) {
@@ -116,6 +121,13 @@ fn run_checks(query: &[u8]) {
     check(query, b"");
 }
 
+// The same with three links; a link stands before a variable: 22 at 1.
+fn run_link_checks(query: &[u8]) {
+    links_check(query, b"\0\x01\x09\x02\x01\0");
+    links_check(query, b"\0\x01\x09\x02\x02\0");
+    links_check(b"\x01\x01\0\0\0\0\0", b"");
+}
+
 // Rule 1 before 2; 1 before 2 and 2 before 1; no sheet: 15. Six sections as the first two of run_verdicts, and six terms: 21. E2's report; no
 // report: 13.
 fn run_sheets() {
@@ -160,6 +172,7 @@ fn run_all(order: &[u8]) {
     run_links(order);
     run_formulas(order, b"\x01\0\x02\0\x01\x01\x01\x01\x01\0\0\0");
     run_checks(b"\x01\0\x01\0\x01\x01\0\0\0");
+    run_link_checks(b"\x01\0\0\x01\0\x01\x01\0\0\0");
     run_sheets();
     run_rewritings();
 }

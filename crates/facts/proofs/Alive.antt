@@ -22,12 +22,14 @@ use Rattle.rows.proofs.Turning.{filled-bit}
 unfoldable pub itself : List ℕ → ℕ → Bool
 itself rep t = eqb (repOf rep t) t
 
-pub itself-more : (rep : List ℕ) (t : ℕ) → t ≤ 16 → (cur next : ℕ) (wanted : Bool) → wanted ≡ eqb (getD rep t 0) t → ((i : ℕ) → bit next i ≡ bit cur i or (eqb i t and wanted)) → Filled (itself rep) (bit 0) t (bit cur) → Filled (itself rep) (bit 0) (t + 1) (bit next)
+pub itself-more : (rep : List ℕ) (t : ℕ) → t ≤ 16 → (cur next : ℕ) (wanted : Bool) → wanted ≡ eqb (getD rep t 0) t →
+    ((i : ℕ) → bit next i ≡ bit cur i or (eqb i t and wanted)) → Filled (itself rep) (bit 0) t (bit cur) → Filled (itself rep) (bit 0) (t + 1) (bit next)
 unfolding itself
 itself-more rep t h cur next wanted w = filled-bit (itself rep) t cur next wanted (w ∙ ap (λ (r : ℕ). eqb r t) (sym (rep-in rep t h)))
 
 -- of these, the terms
-pub live-all : (n : ℕ) → n ≤ 16 → (rep : List ℕ) (cur among : ℕ) → ((i : ℕ) → bit among i ≡ ltb 0 i and ltb i (n + 1)) → Filled (itself rep) (bit 0) 17 (bit cur) → bit (bitAnd cur among) ≡ live n (replacedBy rep)
+pub live-all : (n : ℕ) → n ≤ 16 → (rep : List ℕ) (cur among : ℕ) → ((i : ℕ) → bit among i ≡ ltb 0 i and ltb i (n + 1)) →
+    Filled (itself rep) (bit 0) 17 (bit cur) → bit (bitAnd cur among) ≡ live n (replacedBy rep)
 unfolding itself live replacedBy _and_
 live-all n h rep cur among e m = fun-ext told
   where

@@ -61,7 +61,8 @@ unfolding graphOf graphIn
 graph-own single link reach k h l r e f = alike-graph e f ∙ sym (graph-at single link reach k h)
 
 -- whatever answers alike at each link, and holds nothing elsewhere, is what the rows hold
-pub by-link : (single : Bool) (link reach : List ℕ) (g : ℕ → Graph) → ((k : ℕ) → k ≤ cond single 1 3 → graphIn link reach k ≡ g k) → ((k : ℕ) → cond single 1 3 < k → noFacts ≡ g k) → (k : ℕ) → graphs single link reach k ≡ g k
+pub by-link : (single : Bool) (link reach : List ℕ) (g : ℕ → Graph) → ((k : ℕ) → k ≤ cond single 1 3 → graphIn link reach k ≡ g k) →
+    ((k : ℕ) → cond single 1 3 < k → noFacts ≡ g k) → (k : ℕ) → graphs single link reach k ≡ g k
 by-link single link reach g within beyond k =
     ⊎-elim (λ h. graph-at single link reach k h ∙ within k h) (λ h. graph-beyond single link reach k h ∙ beyond k h) (le-cases k (cond single 1 3))
 
@@ -71,12 +72,14 @@ nothing-added f p e = fun-ext (λ x. fun-ext (λ y. rw (e x y) (or-false (f x y)
 
 module _ (single : Bool) (rep link reach : List ℕ) where
   -- a reachability fact is added to a link
-  pub addReach-rows : (later : List ℕ) (k a b : ℕ) → k ≤ cond single 1 3 → cube later ≡ (λ j x y. cube reach j x y or (eqb j k and eqb x a and eqb y b)) → pathAs single rep link later ≡ addReach k a b (pathAs single rep link reach)
+  pub addReach-rows : (later : List ℕ) (k a b : ℕ) → k ≤ cond single 1 3 →
+      cube later ≡ (λ j x y. cube reach j x y or (eqb j k and eqb x a and eqb y b)) → pathAs single rep link later ≡ addReach k a b (pathAs single rep link reach)
   unfolding addReach graphIn noFacts _and_
   addReach-rows later k a b h e = alike single refl (by-link single link later _ within beyond)
     where
       within : (j : ℕ) → j ≤ cond single 1 3 → graphIn link later j ≡ linking (graphs single link reach j .link) (λ x y. graphs single link reach j .reach x y or (eqb j k and eqb x a and eqb y b))
-      within j l = alike-graph refl (ap (λ (f : ℕ → ℕ → ℕ → Bool). f j) e) ∙ ap (λ (g : Graph). linking (g .link) (λ x y. g .reach x y or (eqb j k and eqb x a and eqb y b))) (sym (graph-at single link reach j l))
+      within j l = alike-graph refl (ap (λ (f : ℕ → ℕ → ℕ → Bool). f j) e)
+          ∙ ap (λ (g : Graph). linking (g .link) (λ x y. g .reach x y or (eqb j k and eqb x a and eqb y b))) (sym (graph-at single link reach j l))
 
       beyond : (j : ℕ) → cond single 1 3 < j → noFacts ≡ linking (graphs single link reach j .link) (λ x y. graphs single link reach j .reach x y or (eqb j k and eqb x a and eqb y b))
       beyond j l =
@@ -85,7 +88,9 @@ module _ (single : Bool) (rep link reach : List ℕ) where
           ∙ alike-graph refl (nothing-added (λ x y. false) _ (λ x y. rw (ne-eqb j k (omega (arith, h, l))))))
 
   -- a link fact is added to every link
-  pub addLinks-rows : (later : List ℕ) (a b : ℕ) → ((j : ℕ) → 0 < j → j ≤ cond single 1 3 → cube later j ≡ (λ x y. cube link j x y or (eqb x a and eqb y b))) → ((j : ℕ) → j ≤ 0 → cube later j ≡ cube link j) → pathAs single rep later reach ≡ addLinks a b (pathAs single rep link reach)
+  pub addLinks-rows : (later : List ℕ) (a b : ℕ) →
+      ((j : ℕ) → 0 < j → j ≤ cond single 1 3 → cube later j ≡ (λ x y. cube link j x y or (eqb x a and eqb y b))) →
+      ((j : ℕ) → j ≤ 0 → cube later j ≡ cube link j) → pathAs single rep later reach ≡ addLinks a b (pathAs single rep link reach)
   unfolding addLinks graphIn noFacts _and_
   addLinks-rows later a b e none = alike single refl (by-link single later reach _ within beyond)
     where
@@ -104,14 +109,17 @@ module _ (single : Bool) (rep link reach : List ℕ) where
           lt-ltb-not j z = le-ltb 0 j z
 
       beyond : (j : ℕ) → cond single 1 3 < j → noFacts ≡ new j (graphs single link reach j)
-      beyond j l = sym (ap (new j) (graph-beyond single link reach j l) ∙ alike-graph (nothing-added (λ x y. false) _ (λ x y. rw (lt-leb j (cond single 1 3) l) (off (ltb 0 j) (eqb x a) (eqb y b)))) refl)
+      beyond j l = sym (ap (new j) (graph-beyond single link reach j l)
+          ∙ alike-graph (nothing-added (λ x y. false) _ (λ x y. rw (lt-leb j (cond single 1 3) l) (off (ltb 0 j) (eqb x a) (eqb y b)))) refl)
         where
           off : (t u v : Bool) → t and false and u and v ≡ false
           off true u v = refl
           off false u v = refl
 
   -- a term is replaced in every link
-  pub replace-rows : (rep′ link′ reach′ : List ℕ) (lo hi : ℕ) → repOf rep′ ≡ replaceRep lo hi (repOf rep) → ((j : ℕ) → j ≤ cond single 1 3 → cube link′ j ≡ replaceIn lo hi (cube link j)) → ((j : ℕ) → j ≤ cond single 1 3 → cube reach′ j ≡ replaceIn lo hi (cube reach j)) → pathAs single rep′ link′ reach′ ≡ replace lo hi (pathAs single rep link reach)
+  pub replace-rows : (rep′ link′ reach′ : List ℕ) (lo hi : ℕ) → repOf rep′ ≡ replaceRep lo hi (repOf rep) →
+      ((j : ℕ) → j ≤ cond single 1 3 → cube link′ j ≡ replaceIn lo hi (cube link j)) →
+      ((j : ℕ) → j ≤ cond single 1 3 → cube reach′ j ≡ replaceIn lo hi (cube reach j)) → pathAs single rep′ link′ reach′ ≡ replace lo hi (pathAs single rep link reach)
   unfolding replace replaceRep graphIn noFacts
   replace-rows rep′ link′ reach′ lo hi d e f = alike single d (by-link single link′ reach′ _ within beyond)
     where

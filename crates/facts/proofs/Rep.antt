@@ -29,7 +29,8 @@ module _ (rep : List ℕ) (t : ℕ) (v : ℕ) where
 
 -- one more term is renamed; and all are
 module _ (lo hi : ℕ) (rep : List ℕ) where
-  pub renamed-more : (t : ℕ) → t ≤ 16 → (cur : List ℕ) → length cur ≡ 17 → (v : ℕ) → v ≡ cond (eqb (getD cur t 0) hi) lo (getD cur t 0) → Filled (replaceRep lo hi (repOf rep)) (repOf rep) t (repOf cur) → Filled (replaceRep lo hi (repOf rep)) (repOf rep) (t + 1) (repOf (set cur t v))
+  pub renamed-more : (t : ℕ) → t ≤ 16 → (cur : List ℕ) → length cur ≡ 17 → (v : ℕ) → v ≡ cond (eqb (getD cur t 0) hi) lo (getD cur t 0) →
+      Filled (replaceRep lo hi (repOf rep)) (repOf rep) t (repOf cur) → Filled (replaceRep lo hi (repOf rep)) (repOf rep) (t + 1) (repOf (set cur t v))
   unfolding replaceRep
   renamed-more t h cur full v e m = filled-more _ _ t (repOf cur) _ (rep-same cur t v full h ∙ e ∙ rw old) (rep-other cur t v) m
     where

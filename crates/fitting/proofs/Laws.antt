@@ -17,11 +17,11 @@ use Rattle.rows.specs.Square.{square}
 use Rattle.link_rows.specs.Cube.{cube}
 use Rattle.facts.specs.Path.{pathOf, graphOf, linksIn, HasLink}
 use Rattle.facts.specs.declared.Facts as code
-use Rattle.facts.proofs.Path.{links-few, graph-own}
+use Rattle.facts.proofs.Path.{graph-own}
 use Rattle.rules.specs.Tests.{pairTest, thirdTest, isNotCycle}
 use Rattle.rules.specs.Allowed.{allowed}
 use Rattle.link_steps.specs.Cycle.{stepsTo}
-use Rattle.rules.proofs.Halves.{is-cycle, halves, applies-allowed}
+use Rattle.rules.proofs.Halves.{is-cycle, halves, allowed-any, applies-allowed}
 use Rattle.link_steps.proofs.Around.{steps-le, returns-not, returns-at, round-is, steps-links}
 
 -- Tests that are made one after the other
@@ -91,24 +91,23 @@ pub cycle-excluded : (r : Rule) → r ≡ CYCLE → isNotCycle r ≡ true → �
 unfolding isNotCycle
 cycle-excluded r e h = false≢true (sym (ap isNotCycle e) ∙ h)
 
--- A rule of link 1 of a path, by rows of that link's own
-module _ (n : ℕ) (s : code.Facts) (link reach : List ℕ) (e : square link ≡ cube (s .link) 1) (f : square reach ≡ cube (s .reach) 1) where
-  has-one : HasLink (pathOf s) 1
+-- A rule by a link of a path, and by rows of that link's own
+module _ (n : ℕ) (s : code.Facts) (i : ℕ) (own : HasLink (pathOf s) i) (link reach : List ℕ) (e : square link ≡ cube (s .link) i) (f : square reach ≡ cube (s .reach) i) where
+  own-rows : graphOf link reach ≡ pathOf s .graph i
   unfolding pathOf
-  has-one = (omega arith, links-few (s .single) .0)
+  own-rows = graph-own (s .single) (s .link) (s .reach) i (own .1) link reach e f
 
-  own-rows : graphOf link reach ≡ pathOf s .graph 1
-  unfolding pathOf
-  own-rows = graph-own (s .single) (s .link) (s .reach) 1 (links-few (s .single) .0) link reach e f
-
-  applies-own : (r : Rule) (t : Triple) → allowed n (live n (pathOf s)) (graphOf link reach) (move 1 r t) ≡ applies n (pathOf s) (move 1 r t)
-  applies-own r t = ap (λ (g : Graph). allowed n (live n (pathOf s)) g (move 1 r t)) own-rows ∙ sym (applies-allowed n (pathOf s) 1 has-one r t)
+  applies-own : (r : Rule) (t : Triple) → allowed n (live n (pathOf s)) (graphOf link reach) (move 1 r t) ≡ applies n (pathOf s) (move i r t)
+  applies-own r t =
+      sym (allowed-any i n (live n (pathOf s)) (graphOf link reach) r t)
+      ∙ ap (λ (g : Graph). allowed n (live n (pathOf s)) g (move i r t)) own-rows ∙ sym (applies-allowed n (pathOf s) i (omega (arith, own .0), own .1) r t)
 
   -- by its two tests
-  pub applies-halves : (r : Rule) (x y z : ℕ) → isNotCycle r ≡ true → (v : Bool) → v ≡ (pairTest (live n (pathOf s)) (graphOf link reach) x y r and thirdTest (graphOf link reach) x y z r) → v ≡ applies n (pathOf s) (move 1 r (triple x y z))
+  pub applies-halves : (r : Rule) (x y z : ℕ) → isNotCycle r ≡ true → (v : Bool) → v ≡ (pairTest (live n (pathOf s)) (graphOf link reach) x y r and thirdTest (graphOf link reach) x y z r)
+      → v ≡ applies n (pathOf s) (move i r (triple x y z))
   applies-halves r x y z h v u = u ∙ sym (halves n (live n (pathOf s)) (graphOf link reach) x y z r h) ∙ applies-own r (triple x y z)
 
-  pub applies-cycle : (r : Rule) (t : Triple) → isNotCycle r ≡ false → (v : Bool) → v ≡ allowed n (live n (pathOf s)) (graphOf link reach) (move 1 CYCLE t) → v ≡ applies n (pathOf s) (move 1 r t)
+  pub applies-cycle : (r : Rule) (t : Triple) → isNotCycle r ≡ false → (v : Bool) → v ≡ allowed n (live n (pathOf s)) (graphOf link reach) (move 1 CYCLE t) → v ≡ applies n (pathOf s) (move i r t)
   applies-cycle r t h v u = u ∙ ap (λ (k : Rule). allowed n (live n (pathOf s)) (graphOf link reach) (move 1 k t)) (sym (is-cycle r h)) ∙ applies-own r t
 
 -- CYCLE

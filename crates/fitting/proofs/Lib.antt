@@ -1,3 +1,4 @@
 pub mod Laws
 pub mod Clashes
 pub mod Lives
+pub mod Moves

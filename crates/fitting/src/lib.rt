@@ -1,21 +1,24 @@
-// One line at one path, whatever numbers it holds: whether a rule applies at a triple, and whether a clash is a true one.
+// One line at one path, whatever numbers it holds: which rule it names, by which link, whether it applies at a triple, and whether a clash is
+// a true one.
 use facts::Facts;
 use link_rows::Link;
 use query::Layout;
 use rows::Term;
+use rules::Choice;
+use rules::Numbered;
 use rules::Rule;
 use rules::Third;
 ghost use mathlib.Core.Path.{_≡_};
-ghost use mathlib.Core.Bool.{Bool, true};
+ghost use mathlib.Core.Bool.{Bool, true, cond};
 ghost use Prim.Native.Nat.{ℕ, _+_, _*_, _≤_, _<_};
 ghost use lib.ListN.{length};
 ghost use Rattle.logic.specs.Search.{_and_};
 ghost use Rattle.logic.specs.Facts.{live, line, negatedAt, plainAt, isClash};
-ghost use Rattle.logic.specs.Rules.{CYCLE, triple, move, applies};
-ghost use Rattle.facts.specs.Path.{graphOf, pathOf, repOf};
+ghost use Rattle.logic.specs.Rules.{CYCLE, triple, move, applies, moveOf};
+ghost use Rattle.facts.specs.Path.{graphOf, pathOf, repOf, HasLink};
 ghost use Rattle.rows.specs.Square.{square};
 ghost use Rattle.link_query.specs.Said.{said, Within};
-ghost use Rattle.rules.specs.Answers.{kindOf};
+ghost use Rattle.rules.specs.Answers.{kindOf, choiceOf};
 ghost use Rattle.rules.specs.Tests.{pairTest, thirdTest, isNotCycle};
 ghost use Rattle.rules.specs.Allowed.{allowed};
 ghost use Rattle.literal_tests.specs.Tests.{oneTerm, reachHeld, sameField};
@@ -104,13 +107,27 @@ fn is_round(link: &[u32; 17], reach: &[u32; 17], n: usize, x: Term, y: Term, k: 
     round.steps == k
 }
 
-// The rule applies to the path at this triple, whose third number is a term, or the steps of CYCLE.
-pub fn applies(s: Facts, n: usize, rule: Rule, x: Term, y: Term, z: Third) -> bool
-    requires { ⌜ n ≤ 16 ⌝ }
-    ensures { λ r. ⌜ r ≡ applies n (pathOf s) (move 1 (kindOf rule) (triple (x .0) (y .0) (z .0))) ⌝ }
+// The rule that the first number of a line names, and by which link of the path: it "gains 16 times (link minus 1)" (02, R-11).
+pub fn named(single: bool, number: u8, x: Term, y: Term, z: Third) -> Choice
+    ensures { λ r. ⌜ choiceOf r ≡ moveOf (cond single 1 3) number (triple (x .0) (y .0) (z .0)) ⌝ }
 {
-    let link = link_rows::rows_of(&s.link, Link(1));
-    let reach = link_rows::rows_of(&s.reach, Link(1));
+    let k = rows::wide(number) / 16 + 1;
+    if facts::links(single) < k {
+        return Choice::Nothing;
+    }
+    let Numbered::Is(rule) = rules::rule_numbered(number % 16) else {
+        return Choice::Nothing;
+    };
+    Choice::Apply(Link(k), rule, x, y, z)
+}
+
+// The rule applies by link k to the path at this triple, whose third number is a term, or the steps of CYCLE.
+pub fn applies(s: Facts, n: usize, k: Link, rule: Rule, x: Term, y: Term, z: Third) -> bool
+    requires { ⌜ (n ≤ 16) × HasLink (pathOf s) (k .0) ⌝ }
+    ensures { λ r. ⌜ r ≡ applies n (pathOf s) (move (k .0) (kindOf rule) (triple (x .0) (y .0) (z .0))) ⌝ }
+{
+    let link = link_rows::rows_of(&s.link, k);
+    let reach = link_rows::rows_of(&s.reach, k);
     if rules::is_not_cycle(rule) {
         let alive = is_live(s, n, x);
         return is_allowed(rule, alive, &link, &reach, x, y, Term(z.0));

@@ -55,7 +55,9 @@ module _ (i : Input) where
 
   -- the first that passes is at place k, counted from 0, or none does
   data Search (n : ℕ) (cs : List Conjunction) (o : Outcome) : Type 0 where
-    found : (k : ℕ) (c : Conjunction) → at cs (suc k) ≡ some c → passes c ≡ true → ((j : ℕ) (d : Conjunction) → j < k → at cs (suc j) ≡ some d → passes d ≡ false) → o ≡ record { answer = conjunction (n + k); lent = verdictOn i c .lent } → Search n cs o
+    found : (k : ℕ) (c : Conjunction) → at cs (suc k) ≡ some c → passes c ≡ true →
+        ((j : ℕ) (d : Conjunction) → j < k → at cs (suc j) ≡ some d → passes d ≡ false) →
+        o ≡ record { answer = conjunction (n + k); lent = verdictOn i c .lent } → Search n cs o
     absent : ((c : Conjunction) → List·Memᴰ c cs → passes c ≡ false) → o ≡ blank (i .room) refuted → Search n cs o
 
   search : (n : ℕ) (cs : List Conjunction) → Search n cs (firstOf i n cs)
@@ -68,7 +70,8 @@ module _ (i : Input) where
           found 0 c refl e (λ j d l. absurd (omega arith))
           (cond-true _ _ e ∙ ap (λ (m : ℕ). record { answer = conjunction m; lent = verdictOn i c .lent }) (let z : n ≡ n + 0 = omega arith in z))
 
-      before : (k : ℕ) → passes c ≡ false → ((j : ℕ) (d : Conjunction) → j < k → at cs (suc j) ≡ some d → passes d ≡ false) → (j : ℕ) (d : Conjunction) → j < suc k → at (c ∷ cs) (suc j) ≡ some d → passes d ≡ false
+      before : (k : ℕ) → passes c ≡ false → ((j : ℕ) (d : Conjunction) → j < k → at cs (suc j) ≡ some d → passes d ≡ false) →
+          (j : ℕ) (d : Conjunction) → j < suc k → at (c ∷ cs) (suc j) ≡ some d → passes d ≡ false
       before k e b zero d l a = let q : c ≡ d = cc in ap passes (sym q) ∙ e
       before k e b (suc j) d l a = b j d (omega arith) a
 
@@ -104,7 +107,9 @@ module _ (i : Input) where
 
     asked-clear : (c : Conjunction) → NoneStands verdictChecks (asked c)
     unfolding queryOf derivationChecksOf orderCheck
-    asked-clear c = verdict-clear calls.oneLinkForm one-link-laws (asked c) (λ d m. ⊎-elim (first d) (accepts-checks calls.oneLinkForm one-link-laws (asked c) (encoded-accepts (restricted query c) (encodable c)) d) (List·Memᴰ·cases-cons m)) (verdict-passed calls.oneLinkForm one-link-laws given clear .1)
+    asked-clear c = verdict-clear calls.oneLinkForm one-link-laws (asked c)
+        (λ d m. ⊎-elim (first d) (accepts-checks calls.oneLinkForm one-link-laws (asked c) (encoded-accepts (restricted query c) (encodable c)) d)
+        (List·Memᴰ·cases-cons m)) (verdict-passed calls.oneLinkForm one-link-laws given clear .1)
       where
         first : (d : Check) → d ≡ orderCheck → d .place (asked c) ≡ none
         first d e = ap (λ (x : Check). x .place (asked c)) e ∙ clear orderCheck (derivation-known calls.oneLinkForm one-link-laws orderCheck (List·Memᴰ·head refl))
@@ -152,7 +157,8 @@ module _ (i : Input) where
           let s = demand2 .heap-shown (asked c) (says-satisfiable _ h) in
           record {
             meets = meets-formula _ c own (subst (λ (q : Query). Meets (heapIn (q .links) (verdictCall (asked c) .lent)) q) (says c) (s .meets));
-            listed = subst (λ (q : Query). (t : ℕ) → 1 ≤ t → t ≤ termCount q → value (heapIn (q .links) (verdictCall (asked c) .lent)) (q .entries) t ≡ nodeIn (verdictCall (asked c) .lent) t) (says c) (s .listed);
+            listed = subst (λ (q : Query). (t : ℕ) → 1 ≤ t → t ≤ termCount q →
+                value (heapIn (q .links) (verdictCall (asked c) .lent)) (q .entries) t ≡ nodeIn (verdictCall (asked c) .lent) t) (says c) (s .listed);
           }
 
       formed : (c : Conjunction) → passes c ≡ true → wellFormed 1 (verdictOn i c .lent) ≡ true
@@ -165,7 +171,9 @@ module _ (i : Input) where
         abbrev answer-of : (a : Answer) (lent : List ℕ) → o ≡ record { answer = a; lent = lent } → o .answer ≡ a
         answer-of a lent e = ap (λ (x : Outcome). x .answer) e
 
-        module _ (k : ℕ) (c : Conjunction) (here : at (expand f) (suc k) ≡ some c) (p : passes c ≡ true) (before : (j : ℕ) (d : Conjunction) → j < k → at (expand f) (suc j) ≡ some d → passes d ≡ false) (e : o ≡ record { answer = conjunction (suc k); lent = verdictOn i c .lent }) where
+        module _ (k : ℕ) (c : Conjunction) (here : at (expand f) (suc k) ≡ some c) (p : passes c ≡ true)
+            (before : (j : ℕ) (d : Conjunction) → j < k → at (expand f) (suc j) ≡ some d → passes d ≡ false)
+            (e : o ≡ record { answer = conjunction (suc k); lent = verdictOn i c .lent }) where
           none-before : (j : ℕ) (d : Conjunction) → j < suc k → at (expand f) j ≡ some d → Satisfiable (restricted query d) → ⊥
           unfolding at
           none-before zero d l a s = none-some a

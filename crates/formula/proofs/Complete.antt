@@ -10,7 +10,8 @@ use borrow.Author.Tests.{eqb-true, eq-eqb, ne-eqb}
 use Rattle.logic.specs.Search.{_and_, all}
 use Rattle.theory.proofs.Basics.Search.{and-left, and-right}
 use Rattle.text.specs.Text.{isDigit}
-use Rattle.formula.specs.Grammar.{Letter, E, R, D, B, letterByte, Formula, literal, both, either, isBlank, isPlace, shown, Level, disjunction, conjunction, item, Reads, one-and, one-item, name, parentheses, Within}
+use Rattle.formula.specs.Grammar.{Letter, E, R, D, B, letterByte, Formula, literal, both, either, isBlank, isPlace, shown}
+use Rattle.formula.specs.Grammar.{Level, disjunction, conjunction, item, Reads, one-and, one-item, name, parentheses, Within}
 use Rattle.formula.specs.Meaning.{AllPresent}
 use Rattle.formula.specs.Places.{digitsAt, pastDigits}
 use Rattle.formula.specs.Reader.{pastBlanks, Reading, done, andThen, joined, further, closed, named, itemBy, itemAt, read, calls}
@@ -167,11 +168,13 @@ unfolding calls
 and-fewer n k h = omega arith
 
 module _ (has : Letter → ℕ → Bool) where
-  further-stops : (separator : ℕ) (join : Formula → Formula → Formula) (more : List ℕ → Reading) (f : Formula) (r : List ℕ) → ((b : ℕ) (bs : List ℕ) → r ≡ b ∷ bs → b ≡ separator → ⊥) → further separator join more f r ≡ done f r
+  further-stops : (separator : ℕ) (join : Formula → Formula → Formula) (more : List ℕ → Reading) (f : Formula) (r : List ℕ) →
+      ((b : ℕ) (bs : List ℕ) → r ≡ b ∷ bs → b ≡ separator → ⊥) → further separator join more f r ≡ done f r
   further-stops separator join more f [] n = unfold further in refl
   further-stops separator join more f (b ∷ bs) n = unfold further in rw (ne-eqb b separator (n b bs refl)) refl
 
-  further-on : (separator : ℕ) (join : Formula → Formula → Formula) (more : List ℕ → Reading) (f g : Formula) (u r : List ℕ) → more u ≡ done g r → further separator join more f (separator ∷ u) ≡ done (join f g) r
+  further-on : (separator : ℕ) (join : Formula → Formula → Formula) (more : List ℕ → Reading) (f g : Formula) (u r : List ℕ) → more u ≡ done g r →
+      further separator join more f (separator ∷ u) ≡ done (join f g) r
   further-on separator join more f g u r e = unfold further in rw (eq-eqb separator separator refl, e) (unfold andThen joined in refl)
 
   then-done : (next : Formula → List ℕ → Reading) {x : Reading} {f : Formula} {s : List ℕ} → x ≡ done f s → andThen x next ≡ next f s
@@ -183,7 +186,8 @@ module _ (has : Letter → ℕ → Bool) where
   item-name : (inner : List ℕ → Reading) (left : ℕ) (l : Letter) (s : List ℕ) → itemAt has inner left (letterByte l ∷ s) ≡ named has l (letterByte l ∷ s) s
   item-name inner left l s = unfold itemAt in rw (mark-letter l) (unfold itemBy in refl)
 
-  named-here : (l : Letter) (whole s : List ℕ) → isPlace (digitsAt s) ≡ true → has l (shown 0 (digitsAt s)) ≡ true → named has l whole s ≡ done (literal l (shown 0 (digitsAt s))) (pastBlanks (pastDigits s))
+  named-here : (l : Letter) (whole s : List ℕ) → isPlace (digitsAt s) ≡ true → has l (shown 0 (digitsAt s)) ≡ true →
+      named has l whole s ≡ done (literal l (shown 0 (digitsAt s))) (pastBlanks (pastDigits s))
   named-here l whole s p h = unfold named in rw (p, h) refl
 
   closed-here : (f : Formula) (s : List ℕ) → closed f (41 ∷ s) ≡ done f (pastBlanks s)
@@ -202,12 +206,14 @@ module _ (has : Letter → ℕ → Bool) where
   split zero h = absurd (omega arith)
   split (suc j) h = (j, refl)
 
-  pub complete : (level : Level) {t : List ℕ} {f : Formula} (x : Reads level t f) → AllPresent has f → (r : List ℕ) → Stops level r → NoDigit r → (left : ℕ) → Within left x → (k : ℕ) → calls level (length t + length r) ≤ k → read has k level left (t ++ r) ≡ done f r
+  pub complete : (level : Level) {t : List ℕ} {f : Formula} (x : Reads level t f) → AllPresent has f → (r : List ℕ) → Stops level r → NoDigit r →
+      (left : ℕ) → Within left x → (k : ℕ) → calls level (length t + length r) ≤ k → read has k level left (t ++ r) ≡ done f r
   complete disjunction {t} {f} (one-and x) a r s n left l k₀ c =
       let (k, e) = split k₀ (some-or (length t + length r) k₀ c) in
       ap (λ (m : ℕ). read has m disjunction left (t ++ r)) e
       ∙ or-step k left (t ++ r)
-      ∙ then-done (further 124 either (read has k disjunction left)) (complete conjunction x a r (conj-weaker r s) n left (unfold Within in l) k (or-fewer (length t + length r) k (subst (λ (m : ℕ). calls disjunction (length t + length r) ≤ m) e c)))
+      ∙ then-done (further 124 either (read has k disjunction left)) (complete conjunction x a r (conj-weaker r s) n left (unfold Within in
+      l) k (or-fewer (length t + length r) k (subst (λ (m : ℕ). calls disjunction (length t + length r) ≤ m) e c)))
       ∙ further-stops 124 either (read has k disjunction left) f r (no-bar r s)
   complete disjunction (Reads.or {t} {u} {f} {g} x y) a r s n left l k₀ c =
       let p : AllPresent has f × AllPresent has g = (unfold AllPresent in a) in
@@ -216,13 +222,17 @@ module _ (has : Letter → ℕ → Bool) where
       ap (λ (m : ℕ). read has m disjunction left ((t ++ (124 ∷ u)) ++ r)) e
       ∙ ap (read has (suc k) disjunction left) (append-assoc t (124 ∷ u) r)
       ∙ or-step k left (t ++ (124 ∷ (u ++ r)))
-      ∙ then-done (further 124 either (read has k disjunction left)) (complete conjunction x (p .0) (124 ∷ (u ++ r)) ((λ e. omega arith), (λ e. omega arith)) (unfold isDigit _and_ in refl) left (w .0) k (or-size t u r k (subst (λ (m : ℕ). calls disjunction (length (t ++ (124 ∷ u)) + length r) ≤ m) e c)))
-      ∙ further-on 124 either (read has k disjunction left) f g (u ++ r) r (complete disjunction y (p .1) r s n left (w .1) k (or-rest t u r k (subst (λ (m : ℕ). calls disjunction (length (t ++ (124 ∷ u)) + length r) ≤ m) e c)))
+      ∙ then-done (further 124 either (read has k disjunction left))
+      (complete conjunction x (p .0) (124 ∷ (u ++ r)) ((λ e. omega arith), (λ e. omega arith)) (unfold isDigit _and_ in
+      refl) left (w .0) k (or-size t u r k (subst (λ (m : ℕ). calls disjunction (length (t ++ (124 ∷ u)) + length r) ≤ m) e c)))
+      ∙ further-on 124 either (read has k disjunction left) f g (u ++ r) r
+      (complete disjunction y (p .1) r s n left (w .1) k (or-rest t u r k (subst (λ (m : ℕ). calls disjunction (length (t ++ (124 ∷ u)) + length r) ≤ m) e c)))
   complete conjunction {t} {f} (one-item x) a r s n left l k₀ c =
       let (k, e) = split k₀ (some-and (length t + length r) k₀ c) in
       ap (λ (m : ℕ). read has m conjunction left (t ++ r)) e
       ∙ and-step k left (t ++ r)
-      ∙ then-done (further 38 both (read has k conjunction left)) (complete item x a r (item-weaker r s) n left (unfold Within in l) k (and-fewer (length t + length r) k (subst (λ (m : ℕ). calls conjunction (length t + length r) ≤ m) e c)))
+      ∙ then-done (further 38 both (read has k conjunction left)) (complete item x a r (item-weaker r s) n left (unfold Within in
+      l) k (and-fewer (length t + length r) k (subst (λ (m : ℕ). calls conjunction (length t + length r) ≤ m) e c)))
       ∙ further-stops 38 both (read has k conjunction left) f r (no-ampersand r s)
   complete conjunction (Reads.and {t} {u} {f} {g} x y) a r s n left l k₀ c =
       let p : AllPresent has f × AllPresent has g = (unfold AllPresent in a) in
@@ -231,8 +241,10 @@ module _ (has : Letter → ℕ → Bool) where
       ap (λ (m : ℕ). read has m conjunction left ((t ++ (38 ∷ u)) ++ r)) e
       ∙ ap (read has (suc k) conjunction left) (append-assoc t (38 ∷ u) r)
       ∙ and-step k left (t ++ (38 ∷ (u ++ r)))
-      ∙ then-done (further 38 both (read has k conjunction left)) (complete item x (p .0) (38 ∷ (u ++ r)) (λ e. omega arith) (unfold isDigit _and_ in refl) left (w .0) k (and-size t u r k (subst (λ (m : ℕ). calls conjunction (length (t ++ (38 ∷ u)) + length r) ≤ m) e c)))
-      ∙ further-on 38 both (read has k conjunction left) f g (u ++ r) r (complete conjunction y (p .1) r s n left (w .1) k (and-rest t u r k (subst (λ (m : ℕ). calls conjunction (length (t ++ (38 ∷ u)) + length r) ≤ m) e c)))
+      ∙ then-done (further 38 both (read has k conjunction left)) (complete item x (p .0) (38 ∷ (u ++ r)) (λ e. omega arith) (unfold isDigit _and_ in
+      refl) left (w .0) k (and-size t u r k (subst (λ (m : ℕ). calls conjunction (length (t ++ (38 ∷ u)) + length r) ≤ m) e c)))
+      ∙ further-on 38 both (read has k conjunction left) f g (u ++ r) r
+      (complete conjunction y (p .1) r s n left (w .1) k (and-rest t u r k (subst (λ (m : ℕ). calls conjunction (length (t ++ (38 ∷ u)) + length r) ≤ m) e c)))
   complete item (name q before digits behind i p o) a r s n left l k₀ c =
       let (k, e) = split k₀ (some-item (length (before ++ (letterByte q ∷ (digits ++ behind))) + length r) k₀ c) in
       let m : NoDigit (behind ++ r) = blank-no-digit behind r o n in
@@ -240,7 +252,8 @@ module _ (has : Letter → ℕ → Bool) where
       ap (λ (m : ℕ). read has m item left ((before ++ (letterByte q ∷ (digits ++ behind))) ++ r)) e
       ∙ ap (read has (suc k) item left) (append-assoc before (letterByte q ∷ (digits ++ behind)) r ∙ ap (λ (w : List ℕ). before ++ (letterByte q ∷ w)) (append-assoc digits behind r))
       ∙ item-step k left (before ++ (letterByte q ∷ (digits ++ (behind ++ r))))
-      ∙ ap (itemAt has (read has k disjunction (left - 1)) left) (blanks-passed before (letterByte q ∷ (digits ++ (behind ++ r))) i ∙ no-blank (letterByte q) (digits ++ (behind ++ r)) (letter-no-blank q))
+      ∙ ap (itemAt has (read has k disjunction (left - 1)) left)
+      (blanks-passed before (letterByte q ∷ (digits ++ (behind ++ r))) i ∙ no-blank (letterByte q) (digits ++ (behind ++ r)) (letter-no-blank q))
       ∙ item-name (read has k disjunction (left - 1)) left q (digits ++ (behind ++ r))
       ∙ named-here q (letterByte q ∷ (digits ++ (behind ++ r))) (digits ++ (behind ++ r)) (ap isPlace d ∙ p) (ap (λ (w : List ℕ). has q (shown 0 w)) d ∙ (unfold AllPresent in a))
       ∙ ap (λ (w : List ℕ). done (literal q (shown 0 w)) (pastBlanks (pastDigits (digits ++ (behind ++ r))))) d
@@ -253,12 +266,14 @@ module _ (has : Letter → ℕ → Bool) where
       ∙ item-step k left (before ++ (40 ∷ (t ++ (41 ∷ (behind ++ r)))))
       ∙ ap (itemAt has (read has k disjunction (left - 1)) left) (blanks-passed before (40 ∷ (t ++ (41 ∷ (behind ++ r)))) i ∙ no-blank 40 (t ++ (41 ∷ (behind ++ r))) (λ e. omega arith))
       ∙ item-open (read has k disjunction (left - 1)) left (t ++ (41 ∷ (behind ++ r))) (λ e. let h : 1 ≤ left = w .0 in omega arith)
-      ∙ then-done closed (complete disjunction x a (41 ∷ (behind ++ r)) ((λ e. omega arith), (λ e. omega arith), (λ e. omega arith)) (unfold isDigit _and_ in refl) (left - 1) (w .1) k (item-size before t behind r k (subst (λ (m : ℕ). calls item (length (before ++ (40 ∷ (t ++ (41 ∷ behind)))) + length r) ≤ m) e c)))
+      ∙ then-done closed (complete disjunction x a (41 ∷ (behind ++ r)) ((λ e. omega arith), (λ e. omega arith), (λ e. omega arith)) (unfold isDigit _and_ in
+      refl) (left - 1) (w .1) k (item-size before t behind r k (subst (λ (m : ℕ). calls item (length (before ++ (40 ∷ (t ++ (41 ∷ behind)))) + length r) ≤ m) e c)))
       ∙ closed-here f (behind ++ r)
       ∙ ap (done f) (blanks-passed behind r o ∙ stops-here r s)
 
   pub whole-complete : (t : List ℕ) (f : Formula) (x : Reads disjunction t f) → AllPresent has f → (left : ℕ) → Within left x → read has (calls disjunction (length t)) disjunction left t ≡ done f []
-  whole-complete t f x a left l = ap (read has (calls disjunction (length t)) disjunction left) (sym (append-nil t)) ∙ complete disjunction x a [] tt tt left l (calls disjunction (length t)) (same (length t))
+  whole-complete t f x a left l = ap (read has (calls disjunction (length t)) disjunction left) (sym (append-nil t))
+      ∙ complete disjunction x a [] tt tt left l (calls disjunction (length t)) (same (length t))
     where
       same : (m : ℕ) → calls disjunction (m + 0) ≤ calls disjunction m
       same m = rw (add-zero m) (omega arith)
@@ -275,7 +290,8 @@ all-always (either f g) = (all-always f, all-always g)
 
 -- "Each text has at most one formula."
 pub one-formula : (t : List ℕ) (f g : Formula) → Reads disjunction t f → Reads disjunction t g → f ≡ g
-one-formula t f g x y = same (sym (whole-complete always t f x (all-always f) (length t) (short-within disjunction x (length t) (omega arith))) ∙ whole-complete always t g y (all-always g) (length t) (short-within disjunction y (length t) (omega arith)))
+one-formula t f g x y = same (sym (whole-complete always t f x (all-always f) (length t) (short-within disjunction x (length t) (omega arith)))
+    ∙ whole-complete always t g y (all-always g) (length t) (short-within disjunction y (length t) (omega arith)))
   where
     same : done f [] ≡ done g [] → f ≡ g
     same e = cc

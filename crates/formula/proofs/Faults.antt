@@ -24,7 +24,9 @@ use Rattle.formula.proofs.Contexts.{Passed, Wanting, Ended, an-and, an-
 -- A text of the grammar whose literals are there is scanned without a fault, if enough parentheses may be open
 
 pub read-clean : (has : Letter → ℕ → Bool) (t : List ℕ) (f : Formula) → Reads disjunction t f → AllPresent has f → (most : ℕ) → length t ≤ most → scan has most (wants 0) t ≡ clean
-read-clean has t f x a most l = by (read has (calls disjunction (length t)) disjunction most t) (whole-complete has t f x a most (short-within disjunction x most l)) (reads-as has most (calls disjunction (length t)) disjunction 0 most (omega arith) t (omega arith))
+read-clean has t f x a most l = by (read has (calls disjunction (length t)) disjunction most t)
+    (whole-complete has t f x a most (short-within disjunction x most l))
+    (reads-as has most (calls disjunction (length t)) disjunction 0 most (omega arith) t (omega arith))
   where
     by : (r : Reading) → r ≡ done f [] → As has most disjunction 0 t r → scan has most (wants 0) t ≡ clean
     by (refused k s) e a = absurd (let z : _≡_ {A = ℕ} 0 1 = cc in omega arith)
@@ -201,7 +203,8 @@ module _ (has : Letter → ℕ → Bool) (most : ℕ) where
       by r e o = ⊎-elim (λ (c : r ≡ clean). absurd (not-clean (sym e ∙ c))) (λ c. let d = fault-same (sym e ∙ c) in (d .0, d .1, c)) o
 
   pub went : (s : State) (bs : List ℕ) (k : ℕ) (x : List ℕ) → scan has most s bs ≡ fault k x → Went has most s bs k x
-  went s [] k x e = let d = end-fault s k x (unfold scan in e) in subst (λ (y : List ℕ). Went has most s [] k y) (sym (d .1)) (record { passed = []; splits = refl; last = s; way = stay; halts = (d .0, d .2) })
+  went s [] k x e = let d = end-fault s k x (unfold scan in e) in
+      subst (λ (y : List ℕ). Went has most s [] k y) (sym (d .1)) (record { passed = []; splits = refl; last = s; way = stay; halts = (d .0, d .2) })
   went s (b ∷ bs) k x e = by (move has most s b bs) refl (λ t h. went t bs k x h)
     where
       by : (m : Move) → move has most s b bs ≡ m → ((t : State) → scan has most t bs ≡ fault k x → Went has most t bs k x) → Went has most s (b ∷ bs) k x
@@ -216,7 +219,9 @@ module _ (has : Letter → ℕ → Bool) (most : ℕ) where
   went-whole s [] e = (s, stay, unfold scan in e)
   went-whole s (b ∷ bs) e = by (move has most s b bs) refl (λ t h. went-whole t bs h)
     where
-      by : (m : Move) → move has most s b bs ≡ m → ((u : State) → scan has most u bs ≡ clean → (t : State) × Run has most [] u bs t × (endOf has most t ≡ clean)) → (t : State) × Run has most [] s (b ∷ bs) t × (endOf has most t ≡ clean)
+      by : (m : Move) → move has most s b bs ≡ m →
+          ((u : State) → scan has most u bs ≡ clean → (t : State) × Run has most [] u bs t × (endOf has most t ≡ clean)) → (t : State)
+          × Run has most [] s (b ∷ bs) t × (endOf has most t ≡ clean)
       by (to u) q ih = let (t, w, c) = ih u (sym (scan-to has most s u b bs q) ∙ e) in (t, step (ap (move has most s b) (append-nil bs) ∙ q) w, c)
       by (stop j) q ih = absurd (not-clean (sym (scan-stop has most s j b bs q) ∙ e))
 
@@ -225,7 +230,8 @@ module _ (has : Letter → ℕ → Bool) (most : ℕ) where
   run-scans more l stay ys = refl
   run-scans more l {rest} (step {s} {t} {u} {b} {bs} q w) ys = scan-to always more s u b (bs ++ ys) (move-grows has most more l s u b (bs ++ rest) (bs ++ ys) q) ∙ run-scans more l w ys
 
-  pub run-split : {rest : List ℕ} {s t : State} (x : List ℕ) (b : ℕ) (z : List ℕ) → Run has most rest s (x ++ (b ∷ z)) t → (u : State) × (v : State) × Run has most ((b ∷ z) ++ rest) s x u × (move has most u b (z ++ rest) ≡ to v) × Run has most rest v z t
+  pub run-split : {rest : List ℕ} {s t : State} (x : List ℕ) (b : ℕ) (z : List ℕ) → Run has most rest s (x ++ (b ∷ z)) t → (u : State) × (v : State)
+      × Run has most ((b ∷ z) ++ rest) s x u × (move has most u b (z ++ rest) ≡ to v) × Run has most rest v z t
   run-split {s = s} [] b z (step {u = v} q w) = (s, v, stay, q, w)
   run-split {rest} (y ∷ x) b z (step q w) = let (u, v, r, m, e) = run-split x b z w in (u, v, step (ap (move has most _ y) (sym (append-assoc x (b ∷ z) rest)) ∙ q) r, m, e)
 
@@ -244,11 +250,15 @@ place-one b h = unfold isPlace all _and_ in rw h refl
 module _ (has : Letter → ℕ → Bool) (most : ℕ) where
   ended-on : (d : ℕ) (w : List ℕ) (t : State) (b : ℕ) (m : Mark) → Marked b m → Ended d w → afterBy has most d m ≡ to t → Passed t (w ++ (b ∷ []))
   unfolding afterBy closes
-  ended-on d w t b blank (is-blank x) h e = subst (λ (s : State). Passed s (w ++ (b ∷ []))) (to-same e) (λ r z. textual (sym (append-assoc w (b ∷ []) r)) (subst (λ (c : ℕ). Text (w ++ (c ∷ r))) (sym x) (h (32 ∷ r) (a-blank z))))
-  ended-on d w t b ampersand (is-ampersand x) h e = subst (λ (s : State). Passed s (w ++ (b ∷ []))) (to-same e) (λ u r f y z. textual (sym (append-assoc w (b ∷ []) (u ++ r))) (subst (λ (c : ℕ). Text (w ++ (c ∷ (u ++ r)))) (sym x) (h (38 ∷ (u ++ r)) (an-and y z))))
-  ended-on d w t b bar (is-bar x) h e = subst (λ (s : State). Passed s (w ++ (b ∷ []))) (to-same e) (λ u r f y z. textual (sym (append-assoc w (b ∷ []) (u ++ r))) (subst (λ (c : ℕ). Text (w ++ (c ∷ (u ++ r)))) (sym x) (h (124 ∷ (u ++ r)) (an-or y z))))
+  ended-on d w t b blank (is-blank x) h e = subst (λ (s : State). Passed s (w ++ (b ∷ []))) (to-same e)
+      (λ r z. textual (sym (append-assoc w (b ∷ []) r)) (subst (λ (c : ℕ). Text (w ++ (c ∷ r))) (sym x) (h (32 ∷ r) (a-blank z))))
+  ended-on d w t b ampersand (is-ampersand x) h e = subst (λ (s : State). Passed s (w ++ (b ∷ []))) (to-same e)
+      (λ u r f y z. textual (sym (append-assoc w (b ∷ []) (u ++ r))) (subst (λ (c : ℕ). Text (w ++ (c ∷ (u ++ r)))) (sym x) (h (38 ∷ (u ++ r)) (an-and y z))))
+  ended-on d w t b bar (is-bar x) h e = subst (λ (s : State). Passed s (w ++ (b ∷ []))) (to-same e)
+      (λ u r f y z. textual (sym (append-assoc w (b ∷ []) (u ++ r))) (subst (λ (c : ℕ). Text (w ++ (c ∷ (u ++ r)))) (sym x) (h (124 ∷ (u ++ r)) (an-or y z))))
   ended-on zero w t b closing (is-closing x) h e = absurd (not-to e)
-  ended-on (suc d) w t b closing (is-closing x) h e = subst (λ (s : State). Passed s (w ++ (b ∷ []))) (to-same e) (λ r z. textual (sym (append-assoc w (b ∷ []) r)) (subst (λ (c : ℕ). Text (w ++ (c ∷ r))) (sym x) (h (41 ∷ r) (a-close z))))
+  ended-on (suc d) w t b closing (is-closing x) h e = subst (λ (s : State). Passed s (w ++ (b ∷ []))) (to-same e)
+      (λ r z. textual (sym (append-assoc w (b ∷ []) r)) (subst (λ (c : ℕ). Text (w ++ (c ∷ r))) (sym x) (h (41 ∷ r) (a-close z))))
   ended-on d w t b opening q h e = absurd (not-to e)
   ended-on d w t b (letter l) q h e = absurd (not-to e)
   ended-on d w t b digit q h e = absurd (not-to e)
@@ -256,7 +266,9 @@ module _ (has : Letter → ℕ → Bool) (most : ℕ) where
 
   wanting-on : (d : ℕ) (w : List ℕ) (t : State) (b : ℕ) (bs : List ℕ) (m : Mark) → Marked b m → Wanting d w → wantsBy has most d m bs ≡ to t → Passed t (w ++ (b ∷ []))
   unfolding wantsBy
-  wanting-on d w t b bs blank (is-blank x) h e = subst (λ (s : State). Passed s (w ++ (b ∷ []))) (to-same e) (λ u r f y z. textual (sym (append-assoc w (b ∷ []) (u ++ r))) (subst (λ (c : ℕ). Text (w ++ (c ∷ (u ++ r)))) (sym x) (h (32 ∷ u) r f (blank-before disjunction y) z)))
+  wanting-on d w t b bs blank (is-blank x) h e = subst (λ (s : State). Passed s (w ++ (b ∷ []))) (to-same e)
+      (λ u r f y z. textual (sym (append-assoc w (b ∷ []) (u ++ r)))
+      (subst (λ (c : ℕ). Text (w ++ (c ∷ (u ++ r)))) (sym x) (h (32 ∷ u) r f (blank-before disjunction y) z)))
   wanting-on d w t b bs opening (is-opening x) h e = by (ltb d most) e
     where
       by : (y : Bool) → cond y (to (wants (suc d))) (stop 18) ≡ to t → Passed t (w ++ (b ∷ []))
@@ -284,7 +296,8 @@ module _ (has : Letter → ℕ → Bool) (most : ℕ) where
   move-passed (counted d) t w b bs (s, l, ds, q, p, h) e = by (isDigit b) refl e
     where
       by : (x : Bool) → isDigit b ≡ x → cond x (to (counted d)) (afterBy has most d (mark b)) ≡ to t → Passed t (w ++ (b ∷ []))
-      by true y z = subst (λ (u : State). Passed u (w ++ (b ∷ []))) (to-same z) (s, l, ds ++ (b ∷ []), ap (λ (v : List ℕ). v ++ (b ∷ [])) q ∙ append-assoc s (letterByte l ∷ ds) (b ∷ []), place-more ds b p y, h)
+      by true y z = subst (λ (u : State). Passed u (w ++ (b ∷ []))) (to-same z)
+          (s, l, ds ++ (b ∷ []), ap (λ (v : List ℕ). v ++ (b ∷ [])) q ∙ append-assoc s (letterByte l ∷ ds) (b ∷ []), place-more ds b p y, h)
       by false y z = subst (λ (v : List ℕ). Passed t (v ++ (b ∷ []))) (sym q) (ended-on d (s ++ (letterByte l ∷ ds)) t b (mark b) (marked b) (name-ended d s l ds p h) z)
   move-passed (after d) t w b bs h e = ended-on d w t b (mark b) (marked b) h e
 

@@ -19,7 +19,8 @@ use Rattle.formula.proofs.Marks.{Marked, marked, is-blank, is-opening, 
 use Rattle.formula.proofs.Scan.{State, wants, named, counted, after, fault, to, stop, closes, wantsBy, afterBy, move, endOf, scan, scan-stop}
 use Rattle.formula.proofs.Complete.{always}
 use Rattle.formula.proofs.Contexts.{passed-begins, wanting-start}
-use Rattle.formula.proofs.Faults.{text-clean, not-to, not-clean, to-same, end-same, Stopped, grammar, absent, too-deep, stops, Run, stay, step, Went, run-scans, run-split, move-passed, run-passed}
+use Rattle.formula.proofs.Faults.{text-clean, not-to, not-clean, to-same, end-same, Stopped, grammar, absent, too-deep}
+use Rattle.formula.proofs.Faults.{stops, Run, stay, step, Went, run-scans, run-split, move-passed, run-passed}
 
 -- How many parentheses are open
 
@@ -53,7 +54,12 @@ no-parenthesis b (letter l) (is-letter l′ e) n = rw e (letters l)
     letters R = unfold letterByte in (refl, refl)
     letters D = unfold letterByte in (refl, refl)
     letters B = unfold letterByte in (refl, refl)
-no-parenthesis b digit (is-digit e) n = (ne-eqb 40 b (λ x. true-false e (ap isDigit (sym x) ∙ (unfold isDigit _and_ in refl))), ne-eqb 41 b (λ x. true-false e (ap isDigit (sym x) ∙ (unfold isDigit _and_ in refl))))
+no-parenthesis b digit (is-digit e) n = (
+  ne-eqb 40 b (λ x. true-false e (ap isDigit (sym x) ∙ (unfold isDigit _and_ in
+      refl))),
+  ne-eqb 41 b (λ x. true-false e (ap isDigit (sym x) ∙ (unfold isDigit _and_ in
+      refl))),
+)
 no-parenthesis b other w n = absurd (true-false n refl)
 
 count-neutral : (a b : ℕ) (bs : List ℕ) → eqb a b ≡ false → occurrences a (b ∷ bs) ≡ occurrences a bs
@@ -123,7 +129,9 @@ module _ (has : Letter → ℕ → Bool) (most : ℕ) where
   run-depth {rest} {t = t} (step {s} {t = t′} {u} {b} {bs} q r) = by (turn s u b (bs ++ rest) q) (run-depth r)
     where
       by : Turn b s u → occurrences 40 bs + depth u ≡ occurrences 41 bs + depth t′ → occurrences 40 (b ∷ bs) + depth s ≡ occurrences 41 (b ∷ bs) + depth t′
-      by (level o c d) ih = let x : occurrences 40 (b ∷ bs) ≡ occurrences 40 bs = count-neutral 40 b bs o in let y : occurrences 41 (b ∷ bs) ≡ occurrences 41 bs = count-neutral 41 b bs c in omega arith
+      by (level o c d) ih = let x : occurrences 40 (b ∷ bs) ≡ occurrences 40 bs = count-neutral 40 b bs o in
+          let y : occurrences 41 (b ∷ bs) ≡ occurrences 41 bs = count-neutral 41 b bs c in
+          omega arith
       by (opens o d) ih =
           let x : occurrences 40 (b ∷ bs) ≡ suc (occurrences 40 bs) = count-here 40 b bs (eq-eqb 40 b (sym o)) in
           let y : occurrences 41 (b ∷ bs) ≡ occurrences 41 bs = count-neutral 41 b bs (ne-eqb 41 b (λ z. omega arith)) in
@@ -166,7 +174,8 @@ module _ (has : Letter → ℕ → Bool) (most : ℕ) where
   open-move (counted d) u b bs o e = absurd (after-opening d u (sym after-this ∙ e))
     where
       after-this : cond (isDigit b) (to (counted d)) (afterBy has most d (mark b)) ≡ afterBy has most d opening
-      after-this = ap (λ (m : Mark). cond (isDigit b) (to (counted d)) (afterBy has most d m)) (mark-opening o) ∙ ap (λ (x : Bool). cond x (to (counted d)) (afterBy has most d opening)) (ap isDigit o ∙ open-digit)
+      after-this = ap (λ (m : Mark). cond (isDigit b) (to (counted d)) (afterBy has most d m)) (mark-opening o)
+          ∙ ap (λ (x : Bool). cond x (to (counted d)) (afterBy has most d opening)) (ap isDigit o ∙ open-digit)
   open-move (after d) u b bs o e = absurd (after-opening d u (sym (ap (λ (m : Mark). afterBy has most d m) (mark-opening o)) ∙ e))
 
   letter-digit : (l : Letter) → isDigit (letterByte l) ≡ false
@@ -188,7 +197,8 @@ module _ (has : Letter → ℕ → Bool) (most : ℕ) where
   absent-move (counted d) u b bs l o p h e = after-letter d l u (sym after-this ∙ e)
     where
       after-this : cond (isDigit b) (to (counted d)) (afterBy has most d (mark b)) ≡ afterBy has most d (letter l)
-      after-this = ap (λ (m : Mark). cond (isDigit b) (to (counted d)) (afterBy has most d m)) (ap mark o ∙ mark-letter l) ∙ ap (λ (x : Bool). cond x (to (counted d)) (afterBy has most d (letter l))) (ap isDigit o ∙ letter-digit l)
+      after-this = ap (λ (m : Mark). cond (isDigit b) (to (counted d)) (afterBy has most d m)) (ap mark o ∙ mark-letter l)
+          ∙ ap (λ (x : Bool). cond x (to (counted d)) (afterBy has most d (letter l))) (ap isDigit o ∙ letter-digit l)
   absent-move (after d) u b bs l o p h e = after-letter d l u (sym (ap (λ (m : Mark). afterBy has most d m) (ap mark o ∙ mark-letter l)) ∙ e)
 
 -- Places
@@ -207,17 +217,23 @@ module _ (has : Letter → ℕ → Bool) (most : ℕ) (text pre rest : List ℕ)
     front-next : take (suc j) text ≡ take j pre ++ (getD pre j 0 ∷ [])
     front-next = ap (take (suc j)) e ∙ take-append-le (suc j) pre rest (omega arith) ∙ take-suc pre j 0 h
 
-    parted : (u : State) × (v : State) × Run has most ((getD pre j 0 ∷ drop (suc j) pre) ++ rest) (wants 0) (take j pre) u × (move has most u (getD pre j 0) (drop (suc j) pre ++ rest) ≡ to v) × Run has most rest v (drop (suc j) pre) t
+    parted : (u : State) × (v : State) × Run has most ((getD pre j 0 ∷ drop (suc j) pre) ++ rest) (wants 0) (take j pre) u
+        × (move has most u (getD pre j 0) (drop (suc j) pre ++ rest) ≡ to v) × Run has most rest v (drop (suc j) pre) t
     parted = run-split has most (take j pre) (getD pre j 0) (drop (suc j) pre) (subst (λ (x : List ℕ). Run has most rest (wants 0) x t) (split-at pre j 0 h) w)
 
     pub not-outside : Outside text j → ⊥
     not-outside (byte i b n) =
         let (u, v, r, m, q) = parted in
-        n (subst Begins (sym front-next) (passed-begins v (take j pre ++ (getD pre j 0 ∷ [])) (move-passed has most u v (take j pre) (getD pre j 0) (drop (suc j) pre ++ rest) (run-passed has most [] r wanting-start) m)))
+        n (subst Begins (sym front-next)
+        (passed-begins v (take j pre ++ (getD pre j 0 ∷ []))
+        (move-passed has most u v (take j pre) (getD pre j 0) (drop (suc j) pre ++ rest) (run-passed has most [] r wanting-start) m)))
     not-outside (ended i b n) = let l : length text ≡ length pre + length rest = ap length e ∙ length-append pre rest in omega arith
 
     pub not-absent : Absent has text j → ⊥
-    not-absent a = let (u, v, r, m, q) = parted in absent-move has most u v (getD pre j 0) (drop (suc j) pre ++ rest) (a .letter) (sym at ∙ a .letter-is) (subst (λ (x : List ℕ). isPlace (digitsAt x) ≡ true) behind (a .named)) (subst (λ (x : List ℕ). has (a .letter) (shown 0 (digitsAt x)) ≡ false) behind (a .absent)) m
+    not-absent a = let (u, v, r, m, q) = parted in
+        absent-move has most u v (getD pre j 0) (drop (suc j) pre ++ rest) (a .letter) (sym at ∙ a .letter-is)
+        (subst (λ (x : List ℕ). isPlace (digitsAt x) ≡ true) behind (a .named))
+        (subst (λ (x : List ℕ). has (a .letter) (shown 0 (digitsAt x)) ≡ false) behind (a .absent)) m
 
     pub not-deep : TooDeep most text j → ⊥
     not-deep a =
@@ -230,7 +246,8 @@ module _ (has : Letter → ℕ → Bool) (most : ℕ) (text pre rest : List ℕ)
 
 module _ (has : Letter → ℕ → Bool) (text pre rest : List ℕ) (e : text ≡ pre ++ rest) (t : State) (w : Run has 32 rest (wants 0) pre t) where
   pub none-before : (p : ℕ) → p ≤ length pre → NoneBefore has text p
-  none-before p l j h = let i : j < length pre = omega arith in ((λ f. ⊎-elim (not-outside has 32 text pre rest e t w j i) (not-absent has 32 text pre rest e t w j i) f), not-deep has 32 text pre rest e t w j i)
+  none-before p l j h = let i : j < length pre = omega arith in
+      ((λ f. ⊎-elim (not-outside has 32 text pre rest e t w j i) (not-absent has 32 text pre rest e t w j i) f), not-deep has 32 text pre rest e t w j i)
 
   pub prefix-begins : Begins pre
   prefix-begins = passed-begins t pre (run-passed has 32 [] w wanting-start)
@@ -240,13 +257,17 @@ module _ (has : Letter → ℕ → Bool) (text pre rest : List ℕ) (e : text �
   dead-end b g (u, x) =
       let more : ℕ = 32 + length ((pre ++ (b ∷ [])) ++ u) in
       let l : 32 ≤ 32 + length ((pre ++ (b ∷ [])) ++ u) = omega arith in
-      not-clean (sym (scan-stop always (32 + length ((pre ++ (b ∷ [])) ++ u)) t 17 b u (g (32 + length ((pre ++ (b ∷ [])) ++ u)) u l)) ∙ sym (run-scans has 32 (32 + length ((pre ++ (b ∷ [])) ++ u)) l w (b ∷ u)) ∙ ap (scan always (32 + length ((pre ++ (b ∷ [])) ++ u)) (wants 0)) (sym (append-assoc pre (b ∷ []) u)) ∙ text-clean ((pre ++ (b ∷ [])) ++ u) x (32 + length ((pre ++ (b ∷ [])) ++ u)) (omega arith))
+      not-clean (sym (scan-stop always (32 + length ((pre ++ (b ∷ [])) ++ u)) t 17 b u (g (32 + length ((pre ++ (b ∷ [])) ++ u)) u l))
+      ∙ sym (run-scans has 32 (32 + length ((pre ++ (b ∷ [])) ++ u)) l w (b ∷ u))
+      ∙ ap (scan always (32 + length ((pre ++ (b ∷ [])) ++ u)) (wants 0)) (sym (append-assoc pre (b ∷ []) u))
+      ∙ text-clean ((pre ++ (b ∷ [])) ++ u) x (32 + length ((pre ++ (b ∷ [])) ++ u)) (omega arith))
 
   -- nor ends where an end is wrong
   pub dead-stop : endOf has 32 t ≡ fault 17 [] → Text pre → ⊥
   dead-stop g x =
       let l : 32 ≤ 32 + length pre = omega arith in
-      not-clean (sym g ∙ end-same has 32 (32 + length pre) l t ∙ scan-end always (32 + length pre) t ∙ sym (run-scans has 32 (32 + length pre) l w []) ∙ ap (scan always (32 + length pre) (wants 0)) (append-nil pre) ∙ text-clean pre x (32 + length pre) (omega arith))
+      not-clean (sym g ∙ end-same has 32 (32 + length pre) l t ∙ scan-end always (32 + length pre) t ∙ sym (run-scans has 32 (32 + length pre) l w [])
+      ∙ ap (scan always (32 + length pre) (wants 0)) (append-nil pre) ∙ text-clean pre x (32 + length pre) (omega arith))
 
 -- The place where the scan stops
 
@@ -280,11 +301,24 @@ module _ (has : Letter → ℕ → Bool) (text pre : List ℕ) (b : ℕ) (y : Li
 
   stopped-first : (k : ℕ) (t : State) → Run has 32 (b ∷ y) (wants 0) pre t → Stopped has 32 k t b y → FirstFault has text k (length pre)
   stopped-first k t w (grammar g) =
-      wrong {p = length pre} (inl (byte (inside-here) (subst Begins (sym before-here) (prefix-begins has text pre (b ∷ y) e t w)) (λ x. dead-end has text pre (b ∷ y) e t w b g (subst Begins with-here x)))) (none-before has text pre (b ∷ y) e t w (length pre) (omega arith))
+      wrong {p = length pre} (inl (byte (inside-here) (subst Begins (sym before-here) (prefix-begins has text pre (b ∷ y) e t w))
+      (λ x. dead-end has text pre (b ∷ y) e t w b g (subst Begins with-here x)))) (none-before has text pre (b ∷ y) e t w (length pre) (omega arith))
   stopped-first k t w (absent l o p h) =
-      wrong {p = length pre} (inr (record { inside = inside-here; letter = l; letter-is = here ∙ o; named = ap (λ (x : List ℕ). isPlace (digitsAt x)) past-here ∙ p; absent = ap (λ (x : List ℕ). has l (shown 0 (digitsAt x))) past-here ∙ h })) (none-before has text pre (b ∷ y) e t w (length pre) (omega arith))
+      wrong {p = length pre} (inr (record {
+        inside = inside-here;
+        letter = l;
+        letter-is = here ∙ o;
+        named = ap (λ (x : List ℕ). isPlace (digitsAt x)) past-here ∙ p;
+        absent = ap (λ (x : List ℕ). has l (shown 0 (digitsAt x))) past-here ∙ h;
+      })) (none-before has text pre (b ∷ y) e t w (length pre) (omega arith))
   stopped-first k t w (too-deep {d} o l) =
-      deep {p = length pre} (record { inside = inside-here; opening = here ∙ o; still-open = subst (λ (x : List ℕ). occurrences 41 x + 32 ≤ occurrences 40 x) (sym before-here) (let r : occurrences 40 pre + 0 ≡ occurrences 41 pre + d = run-depth has 32 w in omega arith) })
+      deep {p = length pre} (record {
+        inside = inside-here;
+        opening = here ∙ o;
+        still-open = subst (λ (x : List ℕ). occurrences 41 x + 32 ≤ occurrences 40 x) (sym before-here)
+            (let r : occurrences 40 pre + 0 ≡ occurrences 41 pre + d = run-depth has 32 w in
+            omega arith);
+      })
       (λ f. ⊎-elim not-out not-gone f)
       (none-before has text pre (b ∷ y) e t w (length pre) (omega arith))
     where
@@ -292,7 +326,8 @@ module _ (has : Letter → ℕ → Bool) (text pre : List ℕ) (b : ℕ) (y : Li
       opened = unfold move wantsBy in rw (mark-opening o, lt-ltb d (suc d) (omega arith)) refl
 
       not-out : Outside text (length pre) → ⊥
-      not-out (byte i x n) = n (subst Begins (sym with-here) (passed-begins (wants (suc d)) (pre ++ (b ∷ [])) (move-passed always (suc d) (wants d) (wants (suc d)) pre b [] (run-passed has 32 [] w wanting-start) opened)))
+      not-out (byte i x n) = n (subst Begins (sym with-here)
+          (passed-begins (wants (suc d)) (pre ++ (b ∷ [])) (move-passed always (suc d) (wants d) (wants (suc d)) pre b [] (run-passed has 32 [] w wanting-start) opened)))
       not-out (ended i x n) = let z : length pre < length text = inside-here in omega arith
 
       not-gone : Absent has text (length pre) → ⊥
@@ -309,7 +344,9 @@ went-first has text k [] g =
     let l : length text ≡ length (g .passed) + 0 = ap length (g .splits) ∙ length-append (g .passed) [] in
     let s : text ≡ g .passed = g .splits ∙ append-nil (g .passed) in
     subst (λ (j : ℕ). FirstFault has text j (length text - 0)) (sym (g .halts .0))
-    (wrong {p = length text - 0} (inl (ended (whole-length) (subst Begins (sym s) (prefix-begins has text (g .passed) [] (g .splits) (g .last) (g .way))) (λ y. dead-stop has text (g .passed) [] (g .splits) (g .last) (g .way) (g .halts .1) (subst Text s y))))
+    (wrong {p = length text - 0} (inl
+    (ended (whole-length) (subst Begins (sym s) (prefix-begins has text (g .passed) [] (g .splits) (g .last) (g .way)))
+    (λ y. dead-stop has text (g .passed) [] (g .splits) (g .last) (g .way) (g .halts .1) (subst Text s y))))
     (none-before has text (g .passed) [] (g .splits) (g .last) (g .way) (length text - 0) (omega arith)))
   where
     whole-length : length text - 0 ≡ length text
@@ -326,7 +363,9 @@ pub first-unique : (has : Letter → ℕ → Bool) (text : List ℕ) (j k p q : 
 first-unique has text j k p q f g =
     ⊎-elim
     (λ (l : ltb p q ≡ true). absurd (clash j p k q (ltb-true p q l) f g))
-    (λ l. ⊎-elim (λ (m : ltb q p ≡ true). absurd (clash k q j p (ltb-true q p m) g f)) (λ m. same p q (let a : q ≤ p = ltb-false p q l in let b : p ≤ q = ltb-false q p m in omega arith) f g) (bool-cases (ltb q p)))
+    (λ l. ⊎-elim (λ (m : ltb q p ≡ true). absurd (clash k q j p (ltb-true q p m) g f)) (λ m. same p q (let a : q ≤ p = ltb-false p q l in
+    let b : p ≤ q = ltb-false q p m in
+    omega arith) f g) (bool-cases (ltb q p)))
     (bool-cases (ltb p q))
   where
     before : {a b : ℕ} → FirstFault has text a b → NoneBefore has text b

@@ -11,12 +11,15 @@ use borrow.Author.Tests.{eqb-true, eqb-false, ltb-true, ltb-false, lt-ltb, le-lt
 use Rattle.logic.specs.Search.{_and_, all}
 use Rattle.theory.proofs.Basics.Search.{bool-cases, true-false, and-left}
 use Rattle.text.specs.Text.{isDigit}
-use Rattle.formula.specs.Grammar.{Letter, letterByte, Formula, literal, both, either, isBlank, isPlace, shown, Level, disjunction, conjunction, item, Reads, one-and, one-item, name, parentheses, Within}
+use Rattle.formula.specs.Grammar.{Letter, letterByte, Formula, literal, both, either, isBlank, isPlace, shown, Level}
+use Rattle.formula.specs.Grammar.{disjunction, conjunction, item, Reads, one-and, one-item, name, parentheses, Within}
 use Rattle.formula.specs.Meaning.{AllPresent}
 use Rattle.formula.specs.Places.{digitsAt, pastDigits}
-use Rattle.formula.specs.Reader.{Mark, mark, blank, opening, closing, ampersand, bar, other, letter, digit, pastBlanks, Reading, refused, done, andThen, joined, further, closed, named, itemBy, itemAt, read, calls}
+use Rattle.formula.specs.Reader.{Mark, mark, blank, opening, closing, ampersand, bar, other, letter, digit, pastBlanks, Reading}
+use Rattle.formula.specs.Reader.{refused, done, andThen, joined, further, closed, named, itemBy, itemAt, read, calls}
 use Rattle.formula.proofs.Marks.{mark-ampersand, mark-bar, mark-closing, Marked, marked, is-blank, is-opening, is-closing, is-ampersand, is-bar, is-letter, is-digit, is-other}
-use Rattle.formula.proofs.Scan.{State, wants, counted, after, Result, fault, to, stop, closes, wantsBy, afterBy, move, endOf, scan, scan-to, scan-stop, want-move, after-move, want-blanks, after-blanks, counted-digits}
+use Rattle.formula.proofs.Scan.{State, wants, counted, after, Result, fault, to, stop, closes, wantsBy, afterBy, move, endOf}
+use Rattle.formula.proofs.Scan.{scan, scan-to, scan-stop, want-move, after-move, want-blanks, after-blanks, counted-digits}
 use Rattle.formula.proofs.Scan as scans
 
 -- what does not follow a formula of each level
@@ -176,12 +179,30 @@ module _ (has : Letter → ℕ → Bool) (most : ℕ) where
     pub joins : (r : Reading) (more : List ℕ → Reading) → As low d bs r → ((s : List ℕ) → length s < length bs → As up d s (more s)) → As up d bs (andThen r (further separator join more))
     unfolding andThen further
     joins (refused n s) more a h = a
-    joins (done f []) more a h = record { text = a .text; splits = a .splits; reads = one _ _ (a .reads); shallow = one-within (most - d) _ _ (a .reads) (a .shallow); goes = a .goes; stops = ends; there = a .there; shorter = a .shorter }
+    joins (done f []) more a h = record {
+      text = a .text;
+      splits = a .splits;
+      reads = one _ _ (a .reads);
+      shallow = one-within (most - d) _ _ (a .reads) (a .shallow);
+      goes = a .goes;
+      stops = ends;
+      there = a .there;
+      shorter = a .shorter;
+    }
     joins (done f (b ∷ s)) more a h = go (eqb b separator) refl
       where
         go : (t : Bool) → eqb b separator ≡ t → As up d bs (cond t (andThen (more s) (joined join f)) (done f (b ∷ s)))
         go true e = second f b s a (eqb-true b separator e) (more s) (h s (let p : length (b ∷ s) < length bs = a .shorter in omega arith))
-        go false e = record { text = a .text; splits = a .splits; reads = one _ _ (a .reads); shallow = one-within (most - d) _ _ (a .reads) (a .shallow); goes = a .goes; stops = stop-more b s (a .stops) (eqb-false b separator e); there = a .there; shorter = a .shorter }
+        go false e = record {
+          text = a .text;
+          splits = a .splits;
+          reads = one _ _ (a .reads);
+          shallow = one-within (most - d) _ _ (a .reads) (a .shallow);
+          goes = a .goes;
+          stops = stop-more b s (a .stops) (eqb-false b separator e);
+          there = a .there;
+          shorter = a .shorter;
+        }
 
   -- An item
 
@@ -219,11 +240,15 @@ module _ (has : Letter → ℕ → Bool) (most : ℕ) where
               splits =
                   split-here
                   ∙ ap (λ (c : ℕ). blanksAt bs ++ (c ∷ s)) e
-                  ∙ ap (λ (w : List ℕ). blanksAt bs ++ (40 ∷ w)) (a .splits ∙ ap (λ (c : ℕ). a .text ++ (c ∷ xs)) (eqb-true x 41 y) ∙ ap (λ (w : List ℕ). a .text ++ (41 ∷ w)) (blanks-split xs) ∙ sym (append-assoc (a .text) (41 ∷ blanksAt xs) (pastBlanks xs)))
+                  ∙ ap (λ (w : List ℕ). blanksAt bs ++ (40 ∷ w))
+                  (a .splits ∙ ap (λ (c : ℕ). a .text ++ (c ∷ xs)) (eqb-true x 41 y) ∙ ap (λ (w : List ℕ). a .text ++ (41 ∷ w)) (blanks-split xs)
+                  ∙ sym (append-assoc (a .text) (41 ∷ blanksAt xs) (pastBlanks xs)))
                   ∙ sym (append-assoc (blanksAt bs) (40 ∷ (a .text ++ (41 ∷ blanksAt xs))) (pastBlanks xs));
               reads = parentheses (blanksAt bs) (blanksAt xs) (blanks-are bs) (a .reads) (blanks-are xs);
               shallow = deeper (a .reads) (a .shallow);
-              goes = g ∙ a .goes ∙ scan-to has most (after (suc d)) (after d) x xs (after-move has most (suc d) x xs (mark-closing (eqb-true x 41 y)) ∙ (unfold afterBy closes in refl)) ∙ after-blanks has most d xs;
+              goes = g ∙ a .goes ∙ scan-to has most (after (suc d)) (after d) x xs
+                  (after-move has most (suc d) x xs (mark-closing (eqb-true x 41 y)) ∙ (unfold afterBy closes in
+                  refl)) ∙ after-blanks has most d xs;
               stops = past-stops xs;
               there = a .there;
               shorter = let p : length (x ∷ xs) < length s = a .shorter in let q : length (pastBlanks xs) ≤ length xs = past-shorter xs in let r : length s < length bs = shorter-here in omega arith;
@@ -256,21 +281,27 @@ module _ (has : Letter → ℕ → Bool) (most : ℕ) where
         letters : (p h : Bool) → isPlace (digitsAt s) ≡ p → has l (shown 0 (digitsAt s)) ≡ h → wantsBy has most d (letter l) s ≡ cond (p and not h) (stop 17) (to (scans.named d))
         letters p h q r = unfold wantsBy in rw (q, r) refl
 
-        go : (p : Bool) → isPlace (digitsAt s) ≡ p → (h : Bool) → has l (shown 0 (digitsAt s)) ≡ h → As item d bs (cond p (cond h (done (literal l (shown 0 (digitsAt s))) (pastBlanks (pastDigits s))) (refused 17 (b ∷ s))) (refused 17 s))
+        go : (p : Bool) → isPlace (digitsAt s) ≡ p → (h : Bool) → has l (shown 0 (digitsAt s)) ≡ h →
+            As item d bs (cond p (cond h (done (literal l (shown 0 (digitsAt s))) (pastBlanks (pastDigits s))) (refused 17 (b ∷ s))) (refused 17 s))
         go true q true r =
             record {
               text = blanksAt bs ++ (letterByte l ∷ (digitsAt s ++ blanksAt (pastDigits s)));
               splits =
                   split-here
                   ∙ ap (λ (c : ℕ). blanksAt bs ++ (c ∷ s)) e
-                  ∙ ap (λ (w : List ℕ). blanksAt bs ++ (letterByte l ∷ w)) (digits-split s ∙ ap (λ (w : List ℕ). digitsAt s ++ w) (blanks-split (pastDigits s)) ∙ sym (append-assoc (digitsAt s) (blanksAt (pastDigits s)) (pastBlanks (pastDigits s))))
+                  ∙ ap (λ (w : List ℕ). blanksAt bs ++ (letterByte l ∷ w))
+                  (digits-split s ∙ ap (λ (w : List ℕ). digitsAt s ++ w) (blanks-split (pastDigits s))
+                  ∙ sym (append-assoc (digitsAt s) (blanksAt (pastDigits s)) (pastBlanks (pastDigits s))))
                   ∙ sym (append-assoc (blanksAt bs) (letterByte l ∷ (digitsAt s ++ blanksAt (pastDigits s))) (pastBlanks (pastDigits s)));
               reads = name l (blanksAt bs) (digitsAt s) (blanksAt (pastDigits s)) (blanks-are bs) q (blanks-are (pastDigits s));
               shallow = unfold Within in tt;
               goes = moved (scans.named d) m (letters true true q r ∙ (unfold _and_ in refl)) ∙ name-right s q ∙ after-blanks has most d (pastDigits s);
               stops = past-stops (pastDigits s);
               there = unfold AllPresent in r;
-              shorter = let p : length (pastBlanks (pastDigits s)) ≤ length (pastDigits s) = past-shorter (pastDigits s) in let q : length (pastDigits s) ≤ length s = digits-shorter s in let r : length s < length bs = shorter-here in omega arith;
+              shorter = let p : length (pastBlanks (pastDigits s)) ≤ length (pastDigits s) = past-shorter (pastDigits s) in
+                  let q : length (pastDigits s) ≤ length s = digits-shorter s in
+                  let r : length s < length bs = shorter-here in
+                  omega arith;
             }
         go true q false r = stopped 17 m (letters true false q r ∙ (unfold _and_ in refl))
         go false q h r = moved (scans.named d) m (letters false h q r ∙ (unfold _and_ in refl)) ∙ name-wrong s q
@@ -295,12 +326,15 @@ module _ (has : Letter → ℕ → Bool) (most : ℕ) where
         by digit e (is-digit x) = unfold itemBy in stopped 17 e (unfold wantsBy in refl)
         by other e (is-other x) = unfold itemBy in stopped 17 e (unfold wantsBy in refl)
 
-  item-as : (d left : ℕ) → d + left ≡ most → (bs : List ℕ) (inner : List ℕ → Reading) → ((s : List ℕ) → length s < length bs → (left ≡ 0 → ⊥) → As disjunction (suc d) s (inner s)) → As item d bs (itemAt has inner left (pastBlanks bs))
+  item-as : (d left : ℕ) → d + left ≡ most → (bs : List ℕ) (inner : List ℕ → Reading) →
+      ((s : List ℕ) → length s < length bs → (left ≡ 0 → ⊥) → As disjunction (suc d) s (inner s)) → As item d bs (itemAt has inner left (pastBlanks bs))
   item-as d left sum bs inner h = go (pastBlanks bs) refl
     where
       go : (w : List ℕ) → pastBlanks bs ≡ w → As item d bs (itemAt has inner left w)
       go [] e = unfold itemAt in (want-blanks has most d bs ∙ ap (go-on (wants d)) e ∙ (unfold scan endOf in refl))
-      go (b ∷ s) e = unfold itemAt in item-from d left sum bs b s e inner (h s (let p : length (pastBlanks bs) ≤ length bs = past-shorter bs in let q : length (pastBlanks bs) ≡ suc (length s) = ap length e in omega arith))
+      go (b ∷ s) e = unfold itemAt in
+          item-from d left sum bs b s e inner
+          (h s (let p : length (pastBlanks bs) ≤ length bs = past-shorter bs in let q : length (pastBlanks bs) ≡ suc (length s) = ap length e in omega arith))
 
   -- The readers
 
@@ -316,12 +350,17 @@ module _ (has : Letter → ℕ → Bool) (most : ℕ) where
   reads-as zero conjunction d left e bs h = absurd (omega arith)
   reads-as zero item d left e bs h = absurd (omega arith)
   reads-as (suc k) disjunction d left e bs h =
-      joins 124 either conjunction disjunction (λ t f r. one-and r) (λ t u f g r q. Reads.or r q) (λ n t f x w. w) (λ n t u f g x y v w. (v, w)) or-onward tt (λ b s p q. (p .0, p .1, q)) (λ f g a b. (a, b)) d bs (read has k conjunction left bs) (read has k disjunction left) (reads-as k conjunction d left e bs (omega arith))
+      joins 124 either conjunction disjunction (λ t f r. one-and r) (λ t u f g r q. Reads.or r q) (λ n t f x w. w) (λ n t u f g x y v w. (v, w))
+      or-onward tt (λ b s p q. (p .0, p .1, q)) (λ f g a b. (a, b)) d bs (read has k conjunction left bs) (read has k disjunction left)
+      (reads-as k conjunction d left e bs (omega arith))
       (λ s l. reads-as k disjunction d left e s (omega arith))
   reads-as (suc k) conjunction d left e bs h =
-      joins 38 both item conjunction (λ t f r. one-item r) (λ t u f g r q. Reads.and r q) (λ n t f x w. w) (λ n t u f g x y v w. (v, w)) and-onward tt (λ b s p q. (p, q)) (λ f g a b. (a, b)) d bs (read has k item left bs) (read has k conjunction left) (reads-as k item d left e bs (omega arith)) (λ s l. reads-as k conjunction d left e s (omega arith))
+      joins 38 both item conjunction (λ t f r. one-item r) (λ t u f g r q. Reads.and r q) (λ n t f x w. w) (λ n t u f g x y v w. (v, w)) and-onward tt
+      (λ b s p q. (p, q)) (λ f g a b. (a, b)) d bs (read has k item left bs) (read has k conjunction left) (reads-as k item d left e bs (omega arith))
+      (λ s l. reads-as k conjunction d left e s (omega arith))
   reads-as (suc k) item d left e bs h =
       item-as d left e bs (read has k disjunction (left - 1)) (λ s l n. reads-as k disjunction (suc d) (left - 1) (less n) s (omega arith))
     where
       less : (left ≡ 0 → ⊥) → suc d + (left - 1) ≡ most
-      less n = ⊎-elim (λ (x : ltb 0 left ≡ true). let y : 0 < left = ltb-true 0 left x in omega arith) (λ x. absurd (n (let y : left ≤ 0 = ltb-false 0 left x in omega arith))) (bool-cases (ltb 0 left))
+      less n = ⊎-elim (λ (x : ltb 0 left ≡ true). let y : 0 < left = ltb-true 0 left x in
+          omega arith) (λ x. absurd (n (let y : left ≤ 0 = ltb-false 0 left x in omega arith))) (bool-cases (ltb 0 left))

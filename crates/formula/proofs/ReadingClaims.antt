@@ -132,7 +132,10 @@ module _ (has : Letter → ℕ → Bool) (text : List ℕ) where
 
 -- where every literal is there, the readers read as deep as the text may be
 depth-exactly : (text : List ℕ) (f : Formula) → (Reads disjunction text f × ((p : ℕ) → TooDeep 32 text p → ⊥)) ↔ ((x : Reads disjunction text f) × Within 32 x)
-depth-exactly text f = (λ h. there (record { reads = h .0; all-present = all-always f; not-too-deep = h .1 }) (cases always text), λ h. (h .0, accepted-exactly always text f .0 (back (h .0) (h .1)) .not-too-deep))
+depth-exactly text f = (
+  λ h. there (record { reads = h .0; all-present = all-always f; not-too-deep = h .1 }) (cases always text),
+  λ h. (h .0, accepted-exactly always text f .0 (back (h .0) (h .1)) .not-too-deep),
+)
   where
     there : Accepted always text f → Case always text → (x : Reads disjunction text f) × Within 32 x
     there a (by-grammar g e b x w) = subst (λ (h : Formula). (x : Reads disjunction text h) × Within 32 x) (complete.one-formula text g f (b .reads) (a .reads)) (x, w)

@@ -108,7 +108,8 @@ module _ (i : Input) where
     where
       at-number : Passed i → length (i .text) ≤ 512 → (f : Formula) → Accepted (presentIn i) (i .text) f → (t : Bool) → ltb 64 (length (expand f)) ≡ t → Case
       at-number h l f a true m = let n : 64 < length (expand f) = ltb-true 64 (length (expand f)) m in by-number h l f a n (checks-pass h ∙ short-enough l ∙ read-as f a ∙ too-many f n)
-      at-number h l f a false m = let n : length (expand f) ≤ 64 = ltb-false 64 (length (expand f)) m in by-search f (record { passed = h; short = l; accepted = a; few = n }) (checks-pass h ∙ short-enough l ∙ read-as f a ∙ few-enough f n)
+      at-number h l f a false m = let n : length (expand f) ≤ 64 = ltb-false 64 (length (expand f)) m in
+          by-search f (record { passed = h; short = l; accepted = a; few = n }) (checks-pass h ∙ short-enough l ∙ read-as f a ∙ few-enough f n)
 
       at-text : Passed i → length (i .text) ≤ 512 → Case
       at-text h l =
@@ -181,7 +182,8 @@ module _ (i : Input) where
       there h (by-search f t e) = absurd (not-searched f 17 p e h)
 
       back : Passed i → ((512 < length (i .text)) × (p ≡ 512)) ⊎ ((length (i .text) ≤ 512) × FirstFault (presentIn i) (i .text) 17 p) → formulaCall i .answer ≡ refused 17 p
-      back o h = ⊎-elim (λ (m : (512 < length (i .text)) × (p ≡ 512)). answer-of (refused 17 512) (checks-pass o ∙ too-long (m .0)) ∙ ap (refused 17) (sym (m .1))) (λ m. answer-of (refused 17 p) (checks-pass o ∙ short-enough (m .0) ∙ faulty 17 p (m .1))) h
+      back o h = ⊎-elim (λ (m : (512 < length (i .text)) × (p ≡ 512)). answer-of (refused 17 512) (checks-pass o ∙ too-long (m .0))
+          ∙ ap (refused 17) (sym (m .1))) (λ m. answer-of (refused 17 p) (checks-pass o ∙ short-enough (m .0) ∙ faulty 17 p (m .1))) h
 
   refused-18 : (p : ℕ) → (formulaCall i .answer ≡ refused 18 p) ↔ (Passed i × (length (i .text) ≤ 512) × FirstFault (presentIn i) (i .text) 18 p)
   refused-18 p = (λ h. there h cases, λ h. answer-of (refused 18 p) (checks-pass (h .0) ∙ short-enough (h .1) ∙ faulty 18 p (h .2)))

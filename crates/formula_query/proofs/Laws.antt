@@ -87,8 +87,10 @@ module _ (p : ℕ → Bool) where
         none : flatMap literalBytes (chosen {A = Literal} p (i + 1) []) ≡ []
         none = unfold chosen flatMap in refl
 
-    pub section-kept : (count n : ℕ) (ls : List Literal) → ls ≡ listed f count 0 → ((xs : List Literal) → length xs ≡ count → n ≡ length (chosen p 1 xs)) → (n ∷ []) ++ kept count 0 ≡ sectionBytes (chosen p 1 ls)
-    section-kept count n ls e h = ap₂ (λ (m : ℕ) (xs : List ℕ). m ∷ xs) (h (listed f count 0) (listed-length f count)) (kept-is count) ∙ whole ∙ ap (λ (xs : List Literal). sectionBytes (chosen p 1 xs)) (sym e)
+    pub section-kept : (count n : ℕ) (ls : List Literal) → ls ≡ listed f count 0 →
+        ((xs : List Literal) → length xs ≡ count → n ≡ length (chosen p 1 xs)) → (n ∷ []) ++ kept count 0 ≡ sectionBytes (chosen p 1 ls)
+    section-kept count n ls e h = ap₂ (λ (m : ℕ) (xs : List ℕ). m ∷ xs) (h (listed f count 0) (listed-length f count)) (kept-is count) ∙ whole
+        ∙ ap (λ (xs : List Literal). sectionBytes (chosen p 1 xs)) (sym e)
       where
         whole : length (chosen p 1 (listed f count 0)) ∷ flatMap literalBytes (chosen p 1 (listed f count 0)) ≡ sectionBytes (chosen p 1 (listed f count 0))
         whole = unfold sectionBytes in refl
@@ -107,7 +109,8 @@ put-none b bytes e = rw e refl
 pub put-some : (b : Bool) (bytes : List ℕ) → b ≡ true → bytes ≡ cond b bytes []
 put-some b bytes e = rw e refl
 
-pub literal-bytes : (bytes : List ℕ) (at i s : ℕ) → s ≡ signByte (eqb (getD bytes (at + 3 * i) 0) 1) → ((s ∷ []) ++ (getD bytes (at + 3 * i + 1) 0 ∷ [])) ++ (getD bytes (at + 3 * i + 2) 0 ∷ []) ≡ literalBytes (literalIn bytes at i)
+pub literal-bytes : (bytes : List ℕ) (at i s : ℕ) → s ≡ signByte (eqb (getD bytes (at + 3 * i) 0) 1) →
+    ((s ∷ []) ++ (getD bytes (at + 3 * i + 1) 0 ∷ [])) ++ (getD bytes (at + 3 * i + 2) 0 ∷ []) ≡ literalBytes (literalIn bytes at i)
 literal-bytes bytes at i s e = unfold literalBytes in ap (λ (x : ℕ). x ∷ getD bytes (at + 3 * i + 1) 0 ∷ getD bytes (at + 3 * i + 2) 0 ∷ []) e
 
 -- The whole query
@@ -121,7 +124,10 @@ module _ (query : List ℕ) (marks : List Bool) (c : Conjunction) (same : (l : L
   section-same : (l : Letter) (code : ℕ) → code ≡ letterCode l → (ls : List Literal) → length ls ≤ 60 → chosen (mark marks code) 1 ls ≡ chosen (names c l) 1 ls
   section-same l code e ls h = same-chosen (mark marks code) (names c l) 1 ls (λ m k. ap (λ (x : ℕ). mark marks x m) e ∙ same l m (omega arith))
 
-  pub query-bytes : (n : ℕ) (es : List ℕ) (equal reach field : List Literal) → n ≡ termCount (decode query) → decode query .entries .terms ≡ es → decode query .equalities ≡ equal → decode query .reachability ≡ reach → decode query .fields ≡ field → length equal ≤ 60 → length reach ≤ 60 → length field ≤ 60 → (((((n ∷ []) ++ es) ++ sectionBytes (chosen (mark marks 0) 1 equal)) ++ sectionBytes (chosen (mark marks 1) 1 reach)) ++ sectionBytes (chosen (mark marks 2) 1 field)) ++ (0 ∷ []) ≡ encode (restricted (decode query) c)
+  pub query-bytes : (n : ℕ) (es : List ℕ) (equal reach field : List Literal) → n ≡ termCount (decode query) → decode query .entries .terms ≡ es →
+      decode query .equalities ≡ equal → decode query .reachability ≡ reach → decode query .fields ≡ field → length equal ≤ 60 → length reach ≤ 60 →
+      length field ≤ 60 → (((((n ∷ []) ++ es) ++ sectionBytes (chosen (mark marks 0) 1 equal)) ++ sectionBytes
+      (chosen (mark marks 1) 1 reach)) ++ sectionBytes (chosen (mark marks 2) 1 field)) ++ (0 ∷ []) ≡ encode (restricted (decode query) c)
   query-bytes n es equal reach field e₀ e₁ e₂ e₃ e₄ l₂ l₃ l₄ =
       simp append-assoc
       (ap₂ (λ (x : List ℕ) (y : List ℕ). x ++ y) (ap₂ (λ (x : ℕ) (y : List ℕ). x ∷ y) e₀ (sym e₁))
@@ -133,7 +139,10 @@ module _ (query : List ℕ) (marks : List Bool) (c : Conjunction) (same : (l : L
       part : (l : Letter) (code : ℕ) → code ≡ letterCode l → (ls ms : List Literal) → ms ≡ ls → length ls ≤ 60 → sectionBytes (chosen (mark marks code) 1 ls) ≡ sectionBytes (chosen (names c l) 1 ms)
       part l code e ls ms d h = ap sectionBytes (section-same l code e ls h ∙ ap (chosen (names c l) 1) (sym d))
 
-      whole : (termCount (decode query) ∷ decode query .entries .terms) ++ (sectionBytes (chosen (names c E) 1 (decode query .equalities)) ++ (sectionBytes (chosen (names c R) 1 (decode query .reachability)) ++ (sectionBytes (chosen (names c D) 1 (decode query .fields)) ++ (0 ∷ [])))) ≡ encode (restricted (decode query) c)
+      whole : (termCount (decode query) ∷ decode query .entries .terms) ++ (sectionBytes
+          (chosen (names c E) 1 (decode query .equalities)) ++ (sectionBytes
+          (chosen (names c R) 1 (decode query .reachability)) ++ (sectionBytes (chosen (names c D) 1 (decode query .fields)) ++ (0 ∷ [])))) ≡ encode
+          (restricted (decode query) c)
       whole = unfold encode restricted termCount in refl
 
 pub take-bound : (n : ℕ) (xs : List ℕ) → length (take n xs) ≤ n
@@ -154,7 +163,12 @@ module _ (layout : Layout) (query : List ℕ) (laid : LaysOut layout query) (mar
   literals-count : (at count : ℕ) → at + 3 * count ≤ length query → count ≤ 60 → length (literals (take (3 * count) (drop at query))) ≤ 60
   literals-count at count h l = subst (λ (n : ℕ). n ≤ 60) (sym (ap length (literals-are query at count h) ∙ listed-length (literalIn query at) count)) l
 
-  pub whole-bytes : (((((layout .terms ∷ []) ++ take (layout .terms + 1 - 1) (drop 1 query)) ++ sectionBytes (chosen (mark marks 0) 1 (literals (take (3 * layout .«equal_count») (drop (layout .«equal_at») query))))) ++ sectionBytes (chosen (mark marks 1) 1 (literals (take (3 * layout .«reach_count») (drop (layout .«reach_at») query))))) ++ sectionBytes (chosen (mark marks 2) 1 (literals (take (3 * layout .«field_count») (drop (layout .«field_at») query))))) ++ (0 ∷ []) ≡ encode (restricted (decode query) c)
+  pub whole-bytes : (((((layout .terms ∷ []) ++ take (layout .terms + 1 - 1) (drop 1 query)) ++ sectionBytes
+      (chosen (mark marks 0) 1 (literals (take (3 * layout .«equal_count») (drop (layout .«equal_at») query))))) ++ sectionBytes
+      (chosen (mark marks 1) 1 (literals (take (3 * layout .«reach_count») (drop (layout .«reach_at») query))))) ++ sectionBytes
+      (chosen (mark marks 2) 1 (literals (take (3 * layout .«field_count») (drop (layout .«field_at») query))))) ++ (0 ∷ []) ≡ encode (restricted (decode query) c)
   whole-bytes =
-      query-bytes query marks c same (layout .terms) _ _ _ _ (laid .term-count) entries-put (laid .equal-are) (laid .reach-are) (laid .field-are) (literals-count (layout .«equal_at») (layout .«equal_count») (laid .equal-fit) (laid .equal-within))
-      (literals-count (layout .«reach_at») (layout .«reach_count») (laid .reach-fit) (laid .reach-within)) (literals-count (layout .«field_at») (layout .«field_count») (laid .field-fit) (laid .field-within))
+      query-bytes query marks c same (layout .terms) _ _ _ _ (laid .term-count) entries-put (laid .equal-are) (laid .reach-are) (laid .field-are)
+      (literals-count (layout .«equal_at») (layout .«equal_count») (laid .equal-fit) (laid .equal-within))
+      (literals-count (layout .«reach_at») (layout .«reach_count») (laid .reach-fit) (laid .reach-within))
+      (literals-count (layout .«field_at») (layout .«field_count») (laid .field-fit) (laid .field-within))

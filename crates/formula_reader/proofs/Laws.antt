@@ -83,7 +83,8 @@ module _ (text : List ℕ) (i : ℕ) (h : i < length text) where
       (bool-cases (isDigit (getD text i 0)))
     where
       zero-digit : isDigit (getD text i 0) ≡ true → getD text i 0 ≡ 48
-      zero-digit e = ⊎-elim (λ (k : ltb (getD text i 0) 48 ≡ true). absurd (true-false e (digit-low _ (ltb-true _ _ k)))) (λ k. omega (arith, ltb-false (getD text i 0) 48 k)) (bool-cases (ltb (getD text i 0) 48))
+      zero-digit e = ⊎-elim (λ (k : ltb (getD text i 0) 48 ≡ true). absurd (true-false e (digit-low _ (ltb-true _ _ k))))
+          (λ k. omega (arith, ltb-false (getD text i 0) 48 k)) (bool-cases (ltb (getD text i 0) 48))
 
   pub place-high : 57 < getD text i 0 → isPlace (digitsAt (drop i text)) ≡ false
   unfolding isPlace
@@ -136,21 +137,27 @@ unfolding saturated
 sat-high n h = rw (lt-ltb 99 n h)
 
 sat-next : (v d : ℕ) → saturated (10 * saturated v + d) ≡ saturated (10 * v + d)
-sat-next v d = ⊎-elim (λ (e : ltb 99 v ≡ true). let h : 99 < v = ltb-true 99 v e in (rw (sat-high v h) (sat-high _ (omega arith))) ∙ sym (sat-high (10 * v + d) (omega arith))) (λ e. let h : v ≤ 99 = ltb-false 99 v e in rw (sat-low v h)) (bool-cases (ltb 99 v))
+sat-next v d = ⊎-elim (λ (e : ltb 99 v ≡ true). let h : 99 < v = ltb-true 99 v e in
+    (rw (sat-high v h) (sat-high _ (omega arith))) ∙ sym (sat-high (10 * v + d) (omega arith))) (λ e. let h : v ≤ 99 = ltb-false 99 v e in
+    rw (sat-low v h)) (bool-cases (ltb 99 v))
 
 pub sat-shown : (v : ℕ) (ds : List ℕ) → saturated (shown (saturated v) ds) ≡ saturated (shown v ds)
 unfolding shown
-sat-shown v [] = ⊎-elim (λ (e : ltb 99 v ≡ true). let h : 99 < v = ltb-true 99 v e in rw (sat-high v h) (sat-high 100 (omega arith))) (λ e. let h : v ≤ 99 = ltb-false 99 v e in rw (sat-low v h) (sat-low v h)) (bool-cases (ltb 99 v))
+sat-shown v [] = ⊎-elim (λ (e : ltb 99 v ≡ true). let h : 99 < v = ltb-true 99 v e in
+    rw (sat-high v h) (sat-high 100 (omega arith))) (λ e. let h : v ≤ 99 = ltb-false 99 v e in
+    rw (sat-low v h) (sat-low v h)) (bool-cases (ltb 99 v))
 sat-shown v (d ∷ ds) = sym (sat-shown (10 * saturated v + (d - 48)) ds) ∙ ap (λ (n : ℕ). saturated (shown n ds)) (sat-next v (d - 48)) ∙ sat-shown (10 * v + (d - 48)) ds
 
 module _ (text : List ℕ) (i v : ℕ) where
-  pub shown-next : i < length text → isDigit (getD text i 0) ≡ true → saturated (shown v (digitsAt (drop i text))) ≡ saturated (shown (saturated (10 * v + (getD text i 0 - 48))) (digitsAt (drop (i + 1) text)))
+  pub shown-next : i < length text → isDigit (getD text i 0) ≡ true →
+      saturated (shown v (digitsAt (drop i text))) ≡ saturated (shown (saturated (10 * v + (getD text i 0 - 48))) (digitsAt (drop (i + 1) text)))
   unfolding shown
   shown-next h e = ap (λ (ds : List ℕ). saturated (shown v ds)) (digits-here text i h e) ∙ sym (sat-shown (10 * v + (getD text i 0 - 48)) (digitsAt (drop (i + 1) text)))
 
   pub shown-end : digitsAt (drop i text) ≡ [] → v ≤ 100 → saturated (shown v (digitsAt (drop i text))) ≡ v
   unfolding shown
-  shown-end e h = ap (λ (ds : List ℕ). saturated (shown v ds)) e ∙ ⊎-elim (λ (k : ltb 99 v ≡ true). let l : 99 < v = ltb-true 99 v k in sat-high v l ∙ omega arith) (λ k. sat-low v (ltb-false 99 v k)) (bool-cases (ltb 99 v))
+  shown-end e h = ap (λ (ds : List ℕ). saturated (shown v ds)) e ∙ ⊎-elim (λ (k : ltb 99 v ≡ true). let l : 99 < v = ltb-true 99 v k in
+      sat-high v l ∙ omega arith) (λ k. sat-low v (ltb-false 99 v k)) (bool-cases (ltb 99 v))
 
 -- What begins an item
 

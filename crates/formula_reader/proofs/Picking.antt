@@ -40,7 +40,8 @@ product-at (c ∷ cs) ds zero r h l =
     zero-plus : (x : ℕ) → 0 + x ≡ x
     zero-plus x = omega arith
 product-at (c ∷ cs) ds (suc q) r h l =
-    ap (λ (j : ℕ). getD (map (λ d. c ++ d) ds ++ products cs ds) j []) (ap (λ (x : ℕ). x + r) (suc-mul q (length ds)) ∙ swap (q * length ds) (length ds) r ∙ ap (λ (n : ℕ). n + (q * length ds + r)) (sym (length-map ds (λ d. c ++ d))))
+    ap (λ (j : ℕ). getD (map (λ d. c ++ d) ds ++ products cs ds) j [])
+    (ap (λ (x : ℕ). x + r) (suc-mul q (length ds)) ∙ swap (q * length ds) (length ds) r ∙ ap (λ (n : ℕ). n + (q * length ds + r)) (sym (length-map ds (λ d. c ++ d))))
     ∙ getD-append-add (map (λ d. c ++ d) ds) (products cs ds) (q * length ds + r) []
     ∙ product-at cs ds q r (omega arith) l
   where
@@ -63,10 +64,12 @@ or-assoc false b c = refl
 names-append : (c d : Conjunction) (l : Letter) (n : ℕ) → names (c ++ d) l n ≡ names c l n or names d l n
 unfolding names any
 names-append [] d l n = unfold _or_ in refl
-names-append (x ∷ c) d l n = ap (λ (b : Bool). (eqb (letterByte (x .letter)) (letterByte l) and eqb (x .place) n) or b) (names-append c d l n) ∙ sym (or-assoc (eqb (letterByte (x .letter)) (letterByte l) and eqb (x .place) n) (names c l n) (names d l n))
+names-append (x ∷ c) d l n = ap (λ (b : Bool). (eqb (letterByte (x .letter)) (letterByte l) and eqb (x .place) n) or b) (names-append c d l n)
+    ∙ sym (or-assoc (eqb (letterByte (x .letter)) (letterByte l) and eqb (x .place) n) (names c l n) (names d l n))
 
 pub marks-then : (before m after : List Bool) (c d : Conjunction) → Marks before c m → Marks m d after → Marks before (c ++ d) after
-marks-then before m after c d h k l n b = k l n b ∙ ap (λ (x : Bool). x or names d l n) (h l n b) ∙ or-assoc (marked before l n) (names c l n) (names d l n) ∙ ap (λ (x : Bool). marked before l n or x) (sym (names-append c d l n))
+marks-then before m after c d h k l n b = k l n b ∙ ap (λ (x : Bool). x or names d l n) (h l n b)
+    ∙ or-assoc (marked before l n) (names c l n) (names d l n) ∙ ap (λ (x : Bool). marked before l n or x) (sym (names-append c d l n))
 
 -- A literal's mark
 
@@ -132,7 +135,8 @@ marks-one marks l n e h l′ n′ h′ = go (eqb (letterByte l) (letterByte l′
     not-letter : eqb (letterByte l) (letterByte l′) ≡ false → names (record { letter = l; place = n } ∷ []) l′ n′ ≡ false
     not-letter x = unfold names any _and_ _or_ in rw x refl
 
-    go : (p : Bool) → eqb (letterByte l) (letterByte l′) ≡ p → (q : Bool) → eqb n n′ ≡ q → marked (set marks (64 * letterCode l + n) true) l′ n′ ≡ marked marks l′ n′ or names (record { letter = l; place = n } ∷ []) l′ n′
+    go : (p : Bool) → eqb (letterByte l) (letterByte l′) ≡ p → (q : Bool) → eqb n n′ ≡ q →
+        marked (set marks (64 * letterCode l + n) true) l′ n′ ≡ marked marks l′ n′ or names (record { letter = l; place = n } ∷ []) l′ n′
     go true x true y =
         let c : letterCode l ≡ letterCode l′ = code-same l l′ x in
         let d : n ≡ n′ = eqb-true n n′ y in
@@ -183,13 +187,29 @@ at-leaf (disjoined a b e la lb ta tb) h = absurd (omega (arith, e .kind-is))
 
 pub at-both : {nodes : List ℕ} {i : ℕ} {f : Formula} → Tree nodes i f → getD nodes (4 * i) 0 ≡ 4 → Joined nodes i both f
 at-both (leaf l n e) h = absurd (omega (arith, e .kind-is, code-bound l))
-at-both {nodes} {i} (conjoined {f = f} {g = g} a b e la lb ta tb) h = record { left = f; right = g; is = refl; first-below = subst (λ (x : ℕ). x < i) (sym (e .first-is)) la; second-below = subst (λ (x : ℕ). x < i) (sym (e .second-is)) lb; first-tree = subst (λ (x : ℕ). Tree nodes x f) (sym (e .first-is)) ta; second-tree = subst (λ (x : ℕ). Tree nodes x g) (sym (e .second-is)) tb }
+at-both {nodes} {i} (conjoined {f = f} {g = g} a b e la lb ta tb) h = record {
+  left = f;
+  right = g;
+  is = refl;
+  first-below = subst (λ (x : ℕ). x < i) (sym (e .first-is)) la;
+  second-below = subst (λ (x : ℕ). x < i) (sym (e .second-is)) lb;
+  first-tree = subst (λ (x : ℕ). Tree nodes x f) (sym (e .first-is)) ta;
+  second-tree = subst (λ (x : ℕ). Tree nodes x g) (sym (e .second-is)) tb;
+}
 at-both (disjoined a b e la lb ta tb) h = absurd (omega (arith, e .kind-is))
 
 pub at-either : {nodes : List ℕ} {i : ℕ} {f : Formula} → Tree nodes i f → 4 ≤ getD nodes (4 * i) 0 → (getD nodes (4 * i) 0 ≡ 4 → ⊥) → Joined nodes i either f
 at-either (leaf l n e) h k = absurd (omega (arith, e .kind-is, code-bound l))
 at-either (conjoined a b e la lb ta tb) h k = absurd (k (e .kind-is))
-at-either {nodes} {i} (disjoined {f = f} {g = g} a b e la lb ta tb) h k = record { left = f; right = g; is = refl; first-below = subst (λ (x : ℕ). x < i) (sym (e .first-is)) la; second-below = subst (λ (x : ℕ). x < i) (sym (e .second-is)) lb; first-tree = subst (λ (x : ℕ). Tree nodes x f) (sym (e .first-is)) ta; second-tree = subst (λ (x : ℕ). Tree nodes x g) (sym (e .second-is)) tb }
+at-either {nodes} {i} (disjoined {f = f} {g = g} a b e la lb ta tb) h k = record {
+  left = f;
+  right = g;
+  is = refl;
+  first-below = subst (λ (x : ℕ). x < i) (sym (e .first-is)) la;
+  second-below = subst (λ (x : ℕ). x < i) (sym (e .second-is)) lb;
+  first-tree = subst (λ (x : ℕ). Tree nodes x f) (sym (e .first-is)) ta;
+  second-tree = subst (λ (x : ℕ). Tree nodes x g) (sym (e .second-is)) tb;
+}
 
 module _ {nodes : List ℕ} {i k : ℕ} {f : Formula} (p : Picks nodes i k f) where
   abbrev a : ℕ
@@ -232,7 +252,9 @@ module _ {nodes : List ℕ} {i k : ℕ} {f : Formula} (p : Picks nodes i k f) wh
   -- an and: "varies its right side fastest"
   module _ (j : Joined nodes i both f) where
     both-few : (length (expand (j .left)) * length (expand (j .right)) ≤ 64) × (k < length (expand (j .left)) * length (expand (j .right)))
-    both-few = let e : length (expand f) ≡ length (expand (j .left)) * length (expand (j .right)) = ap (λ (g : Formula). length (expand g)) (j .is) ∙ expand-both (j .left) (j .right) in (subst (λ (n : ℕ). n ≤ 64) e (p .few), subst (λ (n : ℕ). k < n) e (p .below))
+    both-few = let e : length (expand f) ≡ length (expand (j .left)) * length (expand (j .right)) = ap (λ (g : Formula). length (expand g)) (j .is)
+        ∙ expand-both (j .left) (j .right) in
+        (subst (λ (n : ℕ). n ≤ 64) e (p .few), subst (λ (n : ℕ). k < n) e (p .below))
 
     both-present : AllPresent fits (j .left) × AllPresent fits (j .right)
     both-present = unfold AllPresent in subst (AllPresent fits) (j .is) (p .marks-fit)
@@ -257,19 +279,40 @@ module _ {nodes : List ℕ} {i k : ℕ} {f : Formula} (p : Picks nodes i k f) wh
     fast-some = subst (λ (n : ℕ). 0 < n) (sym fast-is) (expand-some (j .right))
 
     pub picks-left : Picks nodes a (k / fast) (j .left)
-    picks-left = record { tree = j .first-tree; marks-fit = both-present .0; few = left-few; below = div-lt-iff-lt-mul fast-some .1 (subst (λ (n : ℕ). k < length (expand (j .left)) * n) (sym fast-is) (both-few .1)); placed = let q : a < i = j .first-below in let r : i < 512 = p .placed in omega arith }
+    picks-left = record {
+      tree = j .first-tree;
+      marks-fit = both-present .0;
+      few = left-few;
+      below = div-lt-iff-lt-mul fast-some .1 (subst (λ (n : ℕ). k < length (expand (j .left)) * n) (sym fast-is) (both-few .1));
+      placed = let q : a < i = j .first-below in
+          let r : i < 512 = p .placed in
+          omega arith;
+    }
 
     pub picks-right : Picks nodes b (k % fast) (j .right)
-    picks-right = record { tree = j .second-tree; marks-fit = both-present .1; few = right-few; below = subst (λ (n : ℕ). k % fast < n) fast-is (mod-lt k fast-some); placed = let q : b < i = j .second-below in let r : i < 512 = p .placed in omega arith }
+    picks-right = record {
+      tree = j .second-tree;
+      marks-fit = both-present .1;
+      few = right-few;
+      below = subst (λ (n : ℕ). k % fast < n) fast-is (mod-lt k fast-some);
+      placed = let q : b < i = j .second-below in
+          let r : i < 512 = p .placed in
+          omega arith;
+    }
 
-    pub both-marks : (before m after : List Bool) → Marks before (getD (expand (j .left)) (k / fast) []) m → Marks m (getD (expand (j .right)) (k % fast) []) after → Marks before (getD (expand f) k []) after
-    both-marks before m after h l = subst (λ (c : Conjunction). Marks before c after) (sym chosen) (marks-then before m after (getD (expand (j .left)) (k / fast) []) (getD (expand (j .right)) (k % fast) []) h l)
+    pub both-marks : (before m after : List Bool) → Marks before (getD (expand (j .left)) (k / fast) []) m →
+        Marks m (getD (expand (j .right)) (k % fast) []) after → Marks before (getD (expand f) k []) after
+    both-marks before m after h l = subst (λ (c : Conjunction). Marks before c after) (sym chosen)
+        (marks-then before m after (getD (expand (j .left)) (k / fast) []) (getD (expand (j .right)) (k % fast) []) h l)
       where
         number : k ≡ k / fast * length (expand (j .right)) + k % fast
         number = sym (div-add-mod' k fast) ∙ ap (λ (n : ℕ). k / fast * n + k % fast) fast-is
 
         chosen : getD (expand f) k [] ≡ getD (expand (j .left)) (k / fast) [] ++ getD (expand (j .right)) (k % fast) []
-        chosen = ap (λ (g : Formula). getD (expand g) k []) (j .is) ∙ ap (λ (cs : List Conjunction). getD cs k []) (expand-both-is (j .left) (j .right)) ∙ ap (λ (x : ℕ). getD (products (expand (j .left)) (expand (j .right))) x []) number ∙ product-at (expand (j .left)) (expand (j .right)) (k / fast) (k % fast) (picks-left .below) (picks-right .below)
+        chosen = ap (λ (g : Formula). getD (expand g) k []) (j .is)
+            ∙ ap (λ (cs : List Conjunction). getD cs k []) (expand-both-is (j .left) (j .right))
+            ∙ ap (λ (x : ℕ). getD (products (expand (j .left)) (expand (j .right))) x []) number
+            ∙ product-at (expand (j .left)) (expand (j .right)) (k / fast) (k % fast) (picks-left .below) (picks-right .below)
 
     module _ (n : ℕ) (e : n ≡ fast) where
       pub divides : 0 < n
@@ -282,30 +325,56 @@ module _ {nodes : List ℕ} {i k : ℕ} {f : Formula} (p : Picks nodes i k f) wh
       right-at = subst (λ (x : ℕ). Picks nodes b (k % x) (j .right)) (sym e) picks-right
 
       pub both-at : (before m after : List Bool) → Picked nodes a (k / n) before m → Picked nodes b (k % n) m after → Marks before (getD (expand f) k []) after
-      both-at before m after h l = both-marks before m after (subst (λ (x : ℕ). Marks before (getD (expand (j .left)) (k / x) []) m) e (h .1 (j .left) left-at)) (subst (λ (x : ℕ). Marks m (getD (expand (j .right)) (k % x) []) after) e (l .1 (j .right) right-at))
+      both-at before m after h l = both-marks before m after
+          (subst (λ (x : ℕ). Marks before (getD (expand (j .left)) (k / x) []) m) e (h .1 (j .left) left-at))
+          (subst (λ (x : ℕ). Marks m (getD (expand (j .right)) (k % x) []) after) e (l .1 (j .right) right-at))
 
   -- an or: "Alternatives expand left first"
   module _ (j : Joined nodes i either f) where
     either-few : (length (expand (j .left)) + length (expand (j .right)) ≤ 64) × (k < length (expand (j .left)) + length (expand (j .right)))
-    either-few = let e : length (expand f) ≡ length (expand (j .left)) + length (expand (j .right)) = ap (λ (g : Formula). length (expand g)) (j .is) ∙ expand-either (j .left) (j .right) in (subst (λ (n : ℕ). n ≤ 64) e (p .few), subst (λ (n : ℕ). k < n) e (p .below))
+    either-few = let e : length (expand f) ≡ length (expand (j .left)) + length (expand (j .right)) = ap (λ (g : Formula). length (expand g)) (j .is)
+        ∙ expand-either (j .left) (j .right) in
+        (subst (λ (n : ℕ). n ≤ 64) e (p .few), subst (λ (n : ℕ). k < n) e (p .below))
 
     either-present : AllPresent fits (j .left) × AllPresent fits (j .right)
     either-present = unfold AllPresent in subst (AllPresent fits) (j .is) (p .marks-fit)
 
     first-is : first ≡ length (expand (j .left))
-    first-is = tree-count (j .first-tree) ∙ (unfold conjunctions in cap-low (length (expand (j .left))) (let h : length (expand (j .left)) + length (expand (j .right)) ≤ 64 = either-few .0 in omega arith))
+    first-is = tree-count (j .first-tree) ∙ (unfold conjunctions in
+        cap-low (length (expand (j .left))) (let h : length (expand (j .left)) + length (expand (j .right)) ≤ 64 = either-few .0 in omega arith))
 
     pub picks-first : k < first → Picks nodes a k (j .left)
-    picks-first h = record { tree = j .first-tree; marks-fit = either-present .0; few = (let q : length (expand (j .left)) + length (expand (j .right)) ≤ 64 = either-few .0 in omega arith); below = subst (λ (n : ℕ). k < n) first-is h; placed = let q : a < i = j .first-below in let r : i < 512 = p .placed in omega arith }
+    picks-first h = record {
+      tree = j .first-tree;
+      marks-fit = either-present .0;
+      few = (let q : length (expand (j .left)) + length (expand (j .right)) ≤ 64 = either-few .0 in omega arith);
+      below = subst (λ (n : ℕ). k < n) first-is h;
+      placed = let q : a < i = j .first-below in
+          let r : i < 512 = p .placed in
+          omega arith;
+    }
 
     pub picks-second : first ≤ k → Picks nodes b (k - first) (j .right)
-    picks-second h = record { tree = j .second-tree; marks-fit = either-present .1; few = (let q : length (expand (j .left)) + length (expand (j .right)) ≤ 64 = either-few .0 in omega arith); below = (let q : k < length (expand (j .left)) + length (expand (j .right)) = either-few .1 in let e : first ≡ length (expand (j .left)) = first-is in omega arith); placed = let q : b < i = j .second-below in let r : i < 512 = p .placed in omega arith }
+    picks-second h = record {
+      tree = j .second-tree;
+      marks-fit = either-present .1;
+      few = (let q : length (expand (j .left)) + length (expand (j .right)) ≤ 64 = either-few .0 in omega arith);
+      below = (let q : k < length (expand (j .left)) + length (expand (j .right)) = either-few .1 in
+          let e : first ≡ length (expand (j .left)) = first-is in omega arith);
+      placed = let q : b < i = j .second-below in
+          let r : i < 512 = p .placed in
+          omega arith;
+    }
 
     pub first-marks : (before after : List Bool) → k < first → Marks before (getD (expand (j .left)) k []) after → Marks before (getD (expand f) k []) after
-    first-marks before after h m = subst (λ (c : Conjunction). Marks before c after) (sym (ap (λ (g : Formula). getD (expand g) k []) (j .is) ∙ ap (λ (cs : List Conjunction). getD cs k []) (expand-either-is (j .left) (j .right)) ∙ List·getD-append (expand (j .left)) (expand (j .right)) [] k (subst (λ (n : ℕ). k < n) first-is h))) m
+    first-marks before after h m = subst (λ (c : Conjunction). Marks before c after)
+        (sym (ap (λ (g : Formula). getD (expand g) k []) (j .is) ∙ ap (λ (cs : List Conjunction). getD cs k []) (expand-either-is (j .left) (j .right))
+        ∙ List·getD-append (expand (j .left)) (expand (j .right)) [] k (subst (λ (n : ℕ). k < n) first-is h))) m
 
     pub second-marks : (before after : List Bool) → first ≤ k → Marks before (getD (expand (j .right)) (k - first) []) after → Marks before (getD (expand f) k []) after
-    second-marks before after h m = subst (λ (c : Conjunction). Marks before c after) (sym (ap (λ (g : Formula). getD (expand g) k []) (j .is) ∙ ap (λ (cs : List Conjunction). getD cs k []) (expand-either-is (j .left) (j .right)) ∙ ap (λ (x : ℕ). getD (expand (j .left) ++ expand (j .right)) x []) number ∙ getD-append-add (expand (j .left)) (expand (j .right)) (k - first) [])) m
+    second-marks before after h m = subst (λ (c : Conjunction). Marks before c after)
+        (sym (ap (λ (g : Formula). getD (expand g) k []) (j .is) ∙ ap (λ (cs : List Conjunction). getD cs k []) (expand-either-is (j .left) (j .right))
+        ∙ ap (λ (x : ℕ). getD (expand (j .left) ++ expand (j .right)) x []) number ∙ getD-append-add (expand (j .left)) (expand (j .right)) (k - first) [])) m
       where
         number : k ≡ length (expand (j .left)) + (k - first)
         number = let e : first ≡ length (expand (j .left)) = first-is in omega arith
@@ -321,4 +390,5 @@ module _ {nodes : List ℕ} {i k : ℕ} {f : Formula} (p : Picks nodes i k f) wh
       first-picked before after h q = first-marks before after (subst (λ (x : ℕ). k < x) e h) (q .1 (j .left) (first-at h))
 
       pub second-picked : (before after : List Bool) → n ≤ k → Picked nodes b (k - n) before after → Marks before (getD (expand f) k []) after
-      second-picked before after h q = second-marks before after (subst (λ (x : ℕ). x ≤ k) e h) (subst (λ (x : ℕ). Marks before (getD (expand (j .right)) (k - x) []) after) e (q .1 (j .right) (second-at h)))
+      second-picked before after h q = second-marks before after (subst (λ (x : ℕ). x ≤ k) e h)
+          (subst (λ (x : ℕ). Marks before (getD (expand (j .right)) (k - x) []) after) e (q .1 (j .right) (second-at h)))

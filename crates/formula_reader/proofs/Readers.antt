@@ -45,7 +45,8 @@ module _ (separator : ℕ) (join : Formula → Formula → Formula) (more : List
   unfolding further
   further-not h =
       ⊎-elim
-      (λ (k : ltb at (length text) ≡ true). let i : at < length text = ltb-true _ _ k in ap (further separator join more f) (next-byte text at i) ∙ (rw (stands-not text at separator h i) refl) ∙ ap (done f) (sym (next-byte text at i)))
+      (λ (k : ltb at (length text) ≡ true). let i : at < length text = ltb-true _ _ k in
+      ap (further separator join more f) (next-byte text at i) ∙ (rw (stands-not text at separator h i) refl) ∙ ap (done f) (sym (next-byte text at i)))
       (λ k. let e : drop at text ≡ [] = nothing-left text at (ltb-false _ _ k) in ap (further separator join more f) e ∙ ap (done f) (sym e))
       (bool-cases (ltb at (length text)))
 
@@ -58,7 +59,8 @@ module _ (f : Formula) (text : List ℕ) (at : ℕ) where
   unfolding closed
   closed-not h =
       ⊎-elim
-      (λ (k : ltb at (length text) ≡ true). let i : at < length text = ltb-true _ _ k in ap (closed f) (next-byte text at i) ∙ (rw (stands-not text at 41 h i) refl) ∙ ap (refused 17) (sym (next-byte text at i)))
+      (λ (k : ltb at (length text) ≡ true). let i : at < length text = ltb-true _ _ k in
+      ap (closed f) (next-byte text at i) ∙ (rw (stands-not text at 41 h i) refl) ∙ ap (refused 17) (sym (next-byte text at i)))
       (λ k. let e : drop at text ≡ [] = nothing-left text at (ltb-false _ _ k) in ap (closed f) e ∙ ap (refused 17) (sym e))
       (bool-cases (ltb at (length text)))
 
@@ -76,7 +78,9 @@ place-positive (d ∷ ds) h =
     let g : 10 * 0 + (d - 48) ≤ shown (10 * 0 + (d - 48)) ds = shown-grows (10 * 0 + (d - 48)) ds in
     let l : 48 ≤ d = leb-true _ _ (and-left _ _ (and-left _ _ (and-left _ _ h))) in
     let n : d ≡ 48 → ⊥ = eqb-false _ _ (not-true _ (and-right _ _ (and-left _ _ h))) in
-    ⊎-elim (λ (e : eqb d 48 ≡ true). absurd (n (eqb-true _ _ e))) (λ e. let m : d ≡ 48 → ⊥ = eqb-false _ _ e in ⊎-elim (λ (k : ltb 48 d ≡ true). omega (arith, ltb-true 48 d k)) (λ k. absurd (m (omega (arith, ltb-false 48 d k)))) (bool-cases (ltb 48 d))) (bool-cases (eqb d 48))
+    ⊎-elim (λ (e : eqb d 48 ≡ true). absurd (n (eqb-true _ _ e))) (λ e. let m : d ≡ 48 → ⊥ = eqb-false _ _ e in
+    ⊎-elim (λ (k : ltb 48 d ≡ true). omega (arith, ltb-true 48 d k)) (λ k. absurd (m (omega (arith, ltb-false 48 d k)))) (bool-cases (ltb 48 d)))
+    (bool-cases (eqb d 48))
 
 module _ (counts : List ℕ) (l : Letter) (whole bs : List ℕ) where
   pub named-not : isPlace (digitsAt bs) ≡ false → named (has counts) l whole bs ≡ refused 17 bs
@@ -102,7 +106,9 @@ module _ (counts : List ℕ) (l : Letter) (whole bs : List ℕ) where
       pub place-small : saturated (shown 0 (digitsAt bs)) ≡ shown 0 (digitsAt bs)
       place-small =
           ⊎-elim
-          (λ (k : ltb 99 (shown 0 (digitsAt bs)) ≡ true). let m : saturated (shown 0 (digitsAt bs)) ≡ 100 = sat-high _ (ltb-true _ _ k) in let d : getD counts code 0 ≤ 60 = c code in absurd (omega arith))
+          (λ (k : ltb 99 (shown 0 (digitsAt bs)) ≡ true). let m : saturated (shown 0 (digitsAt bs)) ≡ 100 = sat-high _ (ltb-true _ _ k) in
+          let d : getD counts code 0 ≤ 60 = c code in
+          absurd (omega arith))
           (λ k. sat-low _ (ltb-false _ _ k))
           (bool-cases (ltb 99 (shown 0 (digitsAt bs))))
 
@@ -136,7 +142,9 @@ module _ (counts : List ℕ) (left separator : ℕ) (join : Formula → Formula 
     (some : (n k : ℕ) → calls up n ≤ k → 1 ≤ k)
     (text : List ℕ) (at : ℕ) where
   -- at any number of calls that is enough
-  by-step : (r : Found) (nodes : List ℕ) → ((k : ℕ) → calls low (length text - at) ≤ k → FoundAs r text nodes (andThen (read (has counts) k low left (drop at text)) (further separator join (read (has counts) k up left)))) → ReadAs r up text at left counts nodes
+  by-step : (r : Found) (nodes : List ℕ) →
+      ((k : ℕ) → calls low (length text - at) ≤ k → FoundAs r text nodes
+      (andThen (read (has counts) k low left (drop at text)) (further separator join (read (has counts) k up left)))) → ReadAs r up text at left counts nodes
   by-step r nodes h zero l = absurd (no (some _ _ l))
     where
       no : 1 ≤ zero → ⊥
@@ -146,7 +154,8 @@ module _ (counts : List ℕ) (left separator : ℕ) (join : Formula → Formula 
   pub first-refused : (n place : ℕ) (nodes : List ℕ) → ReadAs (found.Refused n place) low text at left counts nodes → ReadAs (found.Refused n place) up text at left counts nodes
   first-refused n place nodes h = by-step (found.Refused n place) nodes (λ k l. then-refused _ (h k l))
 
-  pub alone : (next mid : ℕ) (nodes : List ℕ) → ReadAs (found.Read next mid) low text at left counts nodes → stands text next separator ≡ false → ReadAs (found.Read next mid) up text at left counts nodes
+  pub alone : (next mid : ℕ) (nodes : List ℕ) → ReadAs (found.Read next mid) low text at left counts nodes → stands text next separator ≡ false →
+      ReadAs (found.Read next mid) up text at left counts nodes
   alone next mid nodes h e = by-step (found.Read next mid) nodes (λ k l. let (f, d, t) = h k l in (f, then-done _ d ∙ further-not separator join _ f text next e, t))
 
   module _ (next mid : ℕ) (nodes : List ℕ) (h : ReadAs (found.Read next mid) low text at left counts nodes) (e : stands text next separator ≡ true) (a : at < next) where
@@ -154,10 +163,15 @@ module _ (counts : List ℕ) (left separator : ℕ) (join : Formula → Formula 
     room k l = let i : next < length text = stands-inside text next separator e in later _ _ k (omega arith) l
 
     pub second-refused : (n place : ℕ) (after : List ℕ) → ReadAs (found.Refused n place) up text (next + 1) left counts after → ReadAs (found.Refused n place) up text at left counts after
-    second-refused n place after g = by-step (found.Refused n place) after (λ k l. let (f, d, t) = h k l in then-done _ d ∙ further-here separator join _ f text next e ∙ then-refused _ (g k (room k l)))
+    second-refused n place after g = by-step (found.Refused n place) after (λ k l. let (f, d, t) = h k l in
+        then-done _ d ∙ further-here separator join _ f text next e ∙ then-refused _ (g k (room k l)))
 
-    pub both-read : (end last : ℕ) (after whole : List ℕ) → ReadAs (found.Read end last) up text (next + 1) left counts after → ((f g : Formula) → Tree nodes (mid - 1) f → Tree after (last - 1) g → Tree whole (last + 1 - 1) (join f g)) → ReadAs (found.Read end (last + 1)) up text at left counts whole
-    both-read end last after whole g w = by-step (found.Read end (last + 1)) whole (λ k l. let (f, d, t) = h k l in let (f′, d′, t′) = g k (room k l) in (join f f′, then-done _ d ∙ further-here separator join _ f text next e ∙ then-done _ d′ ∙ joined-is f f′ (drop end text), w f f′ t t′))
+    pub both-read : (end last : ℕ) (after whole : List ℕ) → ReadAs (found.Read end last) up text (next + 1) left counts after →
+        ((f g : Formula) → Tree nodes (mid - 1) f → Tree after (last - 1) g → Tree whole (last + 1 - 1) (join f g)) →
+        ReadAs (found.Read end (last + 1)) up text at left counts whole
+    both-read end last after whole g w = by-step (found.Read end (last + 1)) whole (λ k l. let (f, d, t) = h k l in
+        let (f′, d′, t′) = g k (room k l) in
+        (join f f′, then-done _ d ∙ further-here separator join _ f text next e ∙ then-done _ d′ ∙ joined-is f f′ (drop end text), w f f′ t t′))
       where
         joined-is : (x y : Formula) (s : List ℕ) → joined join x y s ≡ done (join x y) s
         joined-is x y s = unfold joined in refl
@@ -195,7 +209,9 @@ nothing-begins counts inner left (Mark.letter l) whole bs h = absurd (true-false
 nothing-begins counts inner left Mark.digit whole bs h = refl
 
 module _ (text : List ℕ) (at left : ℕ) (counts : List ℕ) (start : ℕ) (e : drop start text ≡ pastBlanks (drop at text)) where
-  by-item : (r : Found) (nodes : List ℕ) → ((k : ℕ) → calls item (length text - at) ≤ suc k → FoundAs r text nodes (itemAt (has counts) (read (has counts) k disjunction (left - 1)) left (drop start text))) → ReadAs r item text at left counts nodes
+  by-item : (r : Found) (nodes : List ℕ) →
+      ((k : ℕ) → calls item (length text - at) ≤ suc k → FoundAs r text nodes
+      (itemAt (has counts) (read (has counts) k disjunction (left - 1)) left (drop start text))) → ReadAs r item text at left counts nodes
   by-item r nodes h zero l = absurd (no l)
     where
       no : calls item (length text - at) ≤ zero → ⊥
@@ -206,13 +222,15 @@ module _ (text : List ℕ) (at left : ℕ) (counts : List ℕ) (start : ℕ) (e 
       step j = unfold read in ap (itemAt (has counts) (read (has counts) j disjunction (left - 1)) left) e
 
   pub item-end : (nodes : List ℕ) → start ≡ length text → ReadAs (found.Refused 17 start) item text at left counts nodes
-  item-end nodes s = by-item (found.Refused 17 start) nodes (λ k l. let d : drop start text ≡ [] = nothing-left text start (omega arith) in ap (itemAt (has counts) (read (has counts) k disjunction (left - 1)) left) d ∙ none k ∙ ap (refused 17) (sym d))
+  item-end nodes s = by-item (found.Refused 17 start) nodes (λ k l. let d : drop start text ≡ [] = nothing-left text start (omega arith) in
+      ap (itemAt (has counts) (read (has counts) k disjunction (left - 1)) left) d ∙ none k ∙ ap (refused 17) (sym d))
     where
       none : (k : ℕ) → itemAt (has counts) (read (has counts) k disjunction (left - 1)) left [] ≡ refused 17 []
       none k = unfold itemAt in refl
 
   module _ (i : start < length text) where
-    by-mark : (inner : List ℕ → Reading) {m : Mark} → mark (getD text start 0) ≡ m → itemAt (has counts) inner left (drop start text) ≡ itemBy (has counts) inner left m (drop start text) (drop (start + 1) text)
+    by-mark : (inner : List ℕ → Reading) {m : Mark} → mark (getD text start 0) ≡ m →
+        itemAt (has counts) inner left (drop start text) ≡ itemBy (has counts) inner left m (drop start text) (drop (start + 1) text)
     unfolding itemAt
     by-mark inner {m} k =
         ap (itemAt (has counts) inner left) (next-byte text start i)
@@ -222,10 +240,12 @@ module _ (text : List ℕ) (at left : ℕ) (counts : List ℕ) (start : ℕ) (e 
     pub item-nothing : (nodes : List ℕ) → beginsNone (mark (getD text start 0)) ≡ true → ReadAs (found.Refused 17 start) item text at left counts nodes
     item-nothing nodes h = by-item (found.Refused 17 start) nodes (λ k l. by-mark _ refl ∙ nothing-begins counts _ left (mark (getD text start 0)) (drop start text) (drop (start + 1) text) h)
 
-    pub item-name : (l : Letter) (r : Found) (nodes : List ℕ) → mark (getD text start 0) ≡ letter l → FoundAs r text nodes (named (has counts) l (drop start text) (drop (start + 1) text)) → ReadAs r item text at left counts nodes
+    pub item-name : (l : Letter) (r : Found) (nodes : List ℕ) → mark (getD text start 0) ≡ letter l →
+        FoundAs r text nodes (named (has counts) l (drop start text) (drop (start + 1) text)) → ReadAs r item text at left counts nodes
     item-name l r nodes m h = by-item r nodes (λ k c. subst (λ (x : Reading). FoundAs r text nodes x) (sym (by-mark (read (has counts) k disjunction (left - 1)) m ∙ letters k)) h)
       where
-        letters : (k : ℕ) → itemBy (has counts) (read (has counts) k disjunction (left - 1)) left (letter l) (drop start text) (drop (start + 1) text) ≡ named (has counts) l (drop start text) (drop (start + 1) text)
+        letters : (k : ℕ) → itemBy (has counts) (read (has counts) k disjunction (left - 1)) left (letter l) (drop start text)
+            (drop (start + 1) text) ≡ named (has counts) l (drop start text) (drop (start + 1) text)
         letters k = unfold itemBy in refl
 
     module _ (m : mark (getD text start 0) ≡ opening) where
@@ -236,22 +256,27 @@ module _ (text : List ℕ) (at left : ℕ) (counts : List ℕ) (start : ℕ) (e 
           deep k = unfold itemBy in rw (eq-eqb left 0 z) refl
 
       module _ (n : left ≡ 0 → ⊥) (a : at ≤ start) where
-        inner-is : (k : ℕ) → itemAt (has counts) (read (has counts) k disjunction (left - 1)) left (drop start text) ≡ andThen (read (has counts) k disjunction (left - 1) (drop (start + 1) text)) closed
+        inner-is : (k : ℕ) → itemAt (has counts) (read (has counts) k disjunction (left - 1)) left (drop start text) ≡ andThen
+            (read (has counts) k disjunction (left - 1) (drop (start + 1) text)) closed
         inner-is k = by-mark _ m ∙ (unfold itemBy in rw (ne-eqb left 0 n) refl)
 
         room-inside : (k : ℕ) → calls item (length text - at) ≤ suc k → calls disjunction (length text - (start + 1)) ≤ k
         room-inside k l = unfold calls in omega arith
 
-        pub inner-refused : (j place : ℕ) (nodes : List ℕ) → ReadAs (found.Refused j place) disjunction text (start + 1) (left - 1) counts nodes → ReadAs (found.Refused j place) item text at left counts nodes
+        pub inner-refused : (j place : ℕ) (nodes : List ℕ) → ReadAs (found.Refused j place) disjunction text (start + 1) (left - 1) counts nodes →
+            ReadAs (found.Refused j place) item text at left counts nodes
         inner-refused j place nodes h = by-item (found.Refused j place) nodes (λ k l. inner-is k ∙ then-refused _ (h k (room-inside k l)))
 
-        pub inner-closed : (next last : ℕ) (r : Found) (nodes : List ℕ) → ReadAs (found.Read next last) disjunction text (start + 1) (left - 1) counts nodes → ClosedAs r text next last → ReadAs r item text at left counts nodes
+        pub inner-closed : (next last : ℕ) (r : Found) (nodes : List ℕ) →
+            ReadAs (found.Read next last) disjunction text (start + 1) (left - 1) counts nodes → ClosedAs r text next last → ReadAs r item text at left counts nodes
         inner-closed next last (found.Refused j place) nodes h g = by-item (found.Refused j place) nodes (λ k l. let (f, d, t) = h k (room-inside k l) in inner-is k ∙ then-done _ d ∙ g .1 f)
-        inner-closed next last (found.Read next′ last′) nodes h g = by-item (found.Read next′ last′) nodes (λ k l. let (f, d, t) = h k (room-inside k l) in (f, inner-is k ∙ then-done _ d ∙ g .3 f, subst (λ (j : ℕ). Tree nodes (j - 1) f) (sym (g .2)) t))
+        inner-closed next last (found.Read next′ last′) nodes h g = by-item (found.Read next′ last′) nodes (λ k l. let (f, d, t) = h k (room-inside k l) in
+            (f, inner-is k ∙ then-done _ d ∙ g .3 f, subst (λ (j : ℕ). Tree nodes (j - 1) f) (sym (g .2)) t))
 
 -- Nodes of two sides, and the node of both
 
-module _ (text : List ℕ) (at used next mid end last : ℕ) (before n₁ n₂ n₃ : List ℕ) (g₁ : Grown text at used next mid before n₁) (g₂ : Grown text (next + 1) mid end last n₁ n₂) (u : used ≤ at) (t : length text ≤ 512) (l : length before ≡ 2048) where
+module _ (text : List ℕ) (at used next mid end last : ℕ) (before n₁ n₂ n₃ : List ℕ) (g₁ : Grown text at used next mid before n₁)
+    (g₂ : Grown text (next + 1) mid end last n₁ n₂) (u : used ≤ at) (t : length text ≤ 512) (l : length before ≡ 2048) where
   pub last-fits : last < 512
   last-fits = omega arith
 
@@ -269,20 +294,28 @@ module _ (text : List ℕ) (at used next mid end last : ℕ) (before n₁ n₂ n
   place : last - 1 + 1 ≡ last + 1 - 1
   place = omega arith
 
-  pub either-joined : n₃ ≡ putNode n₂ (last - 1 + 1) 5 (mid - 1) (last - 1) (capped (capped (getD n₂ (4 * (mid - 1) + 3) 0) + capped (getD n₂ (4 * (last - 1) + 3) 0))) → (f g : Formula) → Tree n₁ (mid - 1) f → Tree n₂ (last - 1) g → Tree n₃ (last + 1 - 1) (either f g)
-  either-joined w f g a b = subst (λ (i : ℕ). Tree n₃ i (either f g)) place (either-tree (tree-kept n₂ mid (g₂ .kept) (omega arith) a) b (last - 1 + 1) (omega arith) (g₂ .same-length ∙ g₁ .same-length ∙ l) (omega arith) (omega arith) w)
+  pub either-joined : n₃ ≡ putNode n₂ (last - 1 + 1) 5 (mid - 1) (last - 1)
+      (capped (capped (getD n₂ (4 * (mid - 1) + 3) 0) + capped (getD n₂ (4 * (last - 1) + 3) 0))) → (f g : Formula) → Tree n₁ (mid - 1) f →
+      Tree n₂ (last - 1) g → Tree n₃ (last + 1 - 1) (either f g)
+  either-joined w f g a b = subst (λ (i : ℕ). Tree n₃ i (either f g)) place
+      (either-tree (tree-kept n₂ mid (g₂ .kept) (omega arith) a) b (last - 1 + 1) (omega arith) (g₂ .same-length ∙ g₁ .same-length ∙ l) (omega arith) (omega arith) w)
 
-  pub both-joined : n₃ ≡ putNode n₂ (last - 1 + 1) 4 (mid - 1) (last - 1) (capped (capped (getD n₂ (4 * (mid - 1) + 3) 0) * capped (getD n₂ (4 * (last - 1) + 3) 0))) → (f g : Formula) → Tree n₁ (mid - 1) f → Tree n₂ (last - 1) g → Tree n₃ (last + 1 - 1) (both f g)
-  both-joined w f g a b = subst (λ (i : ℕ). Tree n₃ i (both f g)) place (both-tree (tree-kept n₂ mid (g₂ .kept) (omega arith) a) b (last - 1 + 1) (omega arith) (g₂ .same-length ∙ g₁ .same-length ∙ l) (omega arith) (omega arith) w)
+  pub both-joined : n₃ ≡ putNode n₂ (last - 1 + 1) 4 (mid - 1) (last - 1)
+      (capped (capped (getD n₂ (4 * (mid - 1) + 3) 0) * capped (getD n₂ (4 * (last - 1) + 3) 0))) → (f g : Formula) → Tree n₁ (mid - 1) f →
+      Tree n₂ (last - 1) g → Tree n₃ (last + 1 - 1) (both f g)
+  both-joined w f g a b = subst (λ (i : ℕ). Tree n₃ i (both f g)) place
+      (both-tree (tree-kept n₂ mid (g₂ .kept) (omega arith) a) b (last - 1 + 1) (omega arith) (g₂ .same-length ∙ g₁ .same-length ∙ l) (omega arith) (omega arith) w)
 
 -- An item in parentheses, or behind blanks
 
 pub grown-from : {text : List ℕ} {at start used next last : ℕ} {before after : List ℕ} → at ≤ start → Grown text start used next last before after → Grown text at used next last before after
 grown-from h g = record { advanced = omega arith; within = g .within; grown = g .grown; bounded = omega arith; kept = g .kept; same-length = g .same-length }
 
-pub grown-closed : (r : Found) {text : List ℕ} {at start used next last : ℕ} {before after : List ℕ} → at ≤ start → Grown text (start + 1) used next last before after → ClosedAs r text next last → Ranged r text at used before after
+pub grown-closed : (r : Found) {text : List ℕ} {at start used next last : ℕ} {before after : List ℕ} → at ≤ start →
+    Grown text (start + 1) used next last before after → ClosedAs r text next last → Ranged r text at used before after
 grown-closed (found.Refused k place) h g c = c .0
-grown-closed (found.Read next′ last′) h g c = record { advanced = omega (arith, c .0); within = c .1; grown = omega (arith, c .2); bounded = omega (arith, c .0, c .2); kept = g .kept; same-length = g .same-length }
+grown-closed (found.Read next′ last′) h g c = record
+    { advanced = omega (arith, c .0); within = c .1; grown = omega (arith, c .2); bounded = omega (arith, c .0, c .2); kept = g .kept; same-length = g .same-length }
 
 -- A whole text
 
@@ -306,7 +339,8 @@ module _ (text : List ℕ) (counts nodes : List ℕ) where
 
   pub whole-read : (next last : ℕ) → length text ≤ next → ReadAs (found.Read next last) disjunction text 0 32 counts nodes → FoundAs (found.Read next last) text nodes (readText (has counts) 32 text)
   unfolding readText
-  whole-read next last i h = let (f, d, t) = h (calls disjunction (length text)) enough in (f, then-done _ d ∙ ap (ended f) (nothing-left text next i) ∙ none f ∙ ap (done f) (sym (nothing-left text next i)), t)
+  whole-read next last i h = let (f, d, t) = h (calls disjunction (length text)) enough in
+      (f, then-done _ d ∙ ap (ended f) (nothing-left text next i) ∙ none f ∙ ap (done f) (sym (nothing-left text next i)), t)
     where
       none : (f : Formula) → ended f [] ≡ done f []
       none f = unfold ended in refl

@@ -58,12 +58,28 @@ module _ (nodes : List ℕ) (i kind a b count : ℕ) where
 
 -- A tree is made of the nodes up to its root
 pub tree-kept : {before : List ℕ} {i : ℕ} {f : Formula} (after : List ℕ) (m : ℕ) → ((j : ℕ) → j < 4 * m → getD after j 0 ≡ getD before j 0) → i < m → Tree before i f → Tree after i f
-tree-kept {before} {i} after m k h (leaf l n e) = leaf l n (record { kind-is = k (4 * i) (omega arith) ∙ e .kind-is; first-is = k (4 * i + 1) (omega arith) ∙ e .first-is; second-is = k (4 * i + 2) (omega arith) ∙ e .second-is; count-is = k (4 * i + 3) (omega arith) ∙ e .count-is })
+tree-kept {before} {i} after m k h (leaf l n e) = leaf l n
+    (record {
+      kind-is = k (4 * i) (omega arith) ∙ e .kind-is;
+      first-is = k (4 * i + 1) (omega arith) ∙ e .first-is;
+      second-is = k (4 * i + 2) (omega arith) ∙ e .second-is;
+      count-is = k (4 * i + 3) (omega arith) ∙ e .count-is;
+    })
 tree-kept {before} {i} after m k h (conjoined a b e la lb ta tb) =
-    conjoined a b (record { kind-is = k (4 * i) (omega arith) ∙ e .kind-is; first-is = k (4 * i + 1) (omega arith) ∙ e .first-is; second-is = k (4 * i + 2) (omega arith) ∙ e .second-is; count-is = k (4 * i + 3) (omega arith) ∙ e .count-is }) la lb
+    conjoined a b (record {
+      kind-is = k (4 * i) (omega arith) ∙ e .kind-is;
+      first-is = k (4 * i + 1) (omega arith) ∙ e .first-is;
+      second-is = k (4 * i + 2) (omega arith) ∙ e .second-is;
+      count-is = k (4 * i + 3) (omega arith) ∙ e .count-is;
+    }) la lb
     (tree-kept after m k (omega arith) ta) (tree-kept after m k (omega arith) tb)
 tree-kept {before} {i} after m k h (disjoined a b e la lb ta tb) =
-    disjoined a b (record { kind-is = k (4 * i) (omega arith) ∙ e .kind-is; first-is = k (4 * i + 1) (omega arith) ∙ e .first-is; second-is = k (4 * i + 2) (omega arith) ∙ e .second-is; count-is = k (4 * i + 3) (omega arith) ∙ e .count-is }) la lb
+    disjoined a b (record {
+      kind-is = k (4 * i) (omega arith) ∙ e .kind-is;
+      first-is = k (4 * i + 1) (omega arith) ∙ e .first-is;
+      second-is = k (4 * i + 2) (omega arith) ∙ e .second-is;
+      count-is = k (4 * i + 3) (omega arith) ∙ e .count-is;
+    }) la lb
     (tree-kept after m k (omega arith) ta) (tree-kept after m k (omega arith) tb)
 
 -- How many conjunctions
@@ -71,7 +87,9 @@ tree-kept {before} {i} after m k h (disjoined a b e la lb ta tb) =
 length-products : (cs ds : List Conjunction) → length (flatMap (λ c. map (λ d. c ++ d) ds) cs) ≡ length cs * length ds
 unfolding flatMap
 length-products [] ds = sym (zero-mul (length ds))
-length-products (c ∷ cs) ds = length-append (map (λ d. c ++ d) ds) (flatMap (λ c. map (λ d. c ++ d) ds) cs) ∙ ap₂ (λ (x y : ℕ). x + y) (length-map ds (λ d. c ++ d)) (length-products cs ds) ∙ add-comm (length ds) (length cs * length ds) ∙ sym (suc-mul (length cs) (length ds))
+length-products (c ∷ cs) ds = length-append (map (λ d. c ++ d) ds) (flatMap (λ c. map (λ d. c ++ d) ds) cs)
+    ∙ ap₂ (λ (x y : ℕ). x + y) (length-map ds (λ d. c ++ d)) (length-products cs ds) ∙ add-comm (length ds) (length cs * length ds)
+    ∙ sym (suc-mul (length cs) (length ds))
 
 pub expand-both : (f g : Formula) → length (expand (both f g)) ≡ length (expand f) * length (expand g)
 unfolding expand
@@ -90,7 +108,9 @@ expand-some (either f g) = let h : 1 ≤ length (expand f) = expand-some f in su
 -- counts above 64 are not told apart, before or behind a sum or a product of counts that are not 0
 
 cap-cap : (x : ℕ) → capped (capped x) ≡ capped x
-cap-cap x = ⊎-elim (λ (e : ltb 64 x ≡ true). let h : 64 < x = ltb-true 64 x e in rw (cap-high x h) (cap-high 65 (omega arith))) (λ e. let h : x ≤ 64 = ltb-false 64 x e in rw (cap-low x h) (cap-low x h)) (bool-cases (ltb 64 x))
+cap-cap x = ⊎-elim (λ (e : ltb 64 x ≡ true). let h : 64 < x = ltb-true 64 x e in
+    rw (cap-high x h) (cap-high 65 (omega arith))) (λ e. let h : x ≤ 64 = ltb-false 64 x e in
+    rw (cap-low x h) (cap-low x h)) (bool-cases (ltb 64 x))
 
 cap-sum : (x y : ℕ) → capped (capped x + capped y) ≡ capped (x + y)
 cap-sum x y =
@@ -134,15 +154,18 @@ module _ {nodes : List ℕ} {a b : ℕ} {f g : Formula} (ta : Tree nodes a f) (t
 
   products : capped (capped (getD nodes (4 * a + 3) 0) * capped (getD nodes (4 * b + 3) 0)) ≡ conjunctions (both f g)
   unfolding conjunctions
-  products = ap₂ (λ (x y : ℕ). capped (capped x * capped y)) (tree-count ta) (tree-count tb) ∙ rw (cap-cap, cap-cap) (cap-product (length (expand f)) (length (expand g)) (expand-some f) (expand-some g)) ∙ ap capped (sym (expand-both f g))
+  products = ap₂ (λ (x y : ℕ). capped (capped x * capped y)) (tree-count ta) (tree-count tb)
+      ∙ rw (cap-cap, cap-cap) (cap-product (length (expand f)) (length (expand g)) (expand-some f) (expand-some g)) ∙ ap capped (sym (expand-both f g))
 
-  pub either-tree : {after : List ℕ} (i : ℕ) → i < 512 → length nodes ≡ 2048 → a < i → b < i → after ≡ putNode nodes i 5 a b (capped (capped (getD nodes (4 * a + 3) 0) + capped (getD nodes (4 * b + 3) 0))) → Tree after i (either f g)
+  pub either-tree : {after : List ℕ} (i : ℕ) → i < 512 → length nodes ≡ 2048 → a < i → b < i →
+      after ≡ putNode nodes i 5 a b (capped (capped (getD nodes (4 * a + 3) 0) + capped (getD nodes (4 * b + 3) 0))) → Tree after i (either f g)
   either-tree i h e la lb w =
       let k : (j : ℕ) → j < 4 * i → getD (putNode nodes i 5 a b (conjunctions (either f g))) j 0 ≡ getD nodes j 0 = putNode-kept nodes i 5 a b (conjunctions (either f g)) in
       subst (λ (n : List ℕ). Tree n i (either f g)) (sym (w ∙ ap (putNode nodes i 5 a b) sums))
       (disjoined a b (putNode-node nodes i 5 a b (conjunctions (either f g)) h e) la lb (tree-kept _ i k la ta) (tree-kept _ i k lb tb))
 
-  pub both-tree : {after : List ℕ} (i : ℕ) → i < 512 → length nodes ≡ 2048 → a < i → b < i → after ≡ putNode nodes i 4 a b (capped (capped (getD nodes (4 * a + 3) 0) * capped (getD nodes (4 * b + 3) 0))) → Tree after i (both f g)
+  pub both-tree : {after : List ℕ} (i : ℕ) → i < 512 → length nodes ≡ 2048 → a < i → b < i →
+      after ≡ putNode nodes i 4 a b (capped (capped (getD nodes (4 * a + 3) 0) * capped (getD nodes (4 * b + 3) 0))) → Tree after i (both f g)
   both-tree i h e la lb w =
       let k : (j : ℕ) → j < 4 * i → getD (putNode nodes i 4 a b (conjunctions (both f g))) j 0 ≡ getD nodes j 0 = putNode-kept nodes i 4 a b (conjunctions (both f g)) in
       subst (λ (n : List ℕ). Tree n i (both f g)) (sym (w ∙ ap (putNode nodes i 4 a b) products))

@@ -1,7 +1,9 @@
 -- Greatest common divisors, lowest terms, and the sum of shares. Assumes nothing.
 use Prim.Native.Nat.{ℕ, zero, suc, _+_, _*_, _/_, _%_, _≤_, _<_, _∣_}
 use native.Mathlib.Omega.{arith}
-use native.Mathlib.Nat.{dvd-refl, dvd-zero, dvd-mod-iff, dvd-mul-left, mul-dvd-mul-left, dvd-of-mul-dvd-mul-left, pos-of-dvd-of-pos, eq-one-of-dvd-one, mul-div-cancel', eq-of-mul-eq-mul-right, add-mul, mul-assoc, mul-comm, mul-left-comm, mul-one, mul-suc, zero-mul, mod-lt}
+use native.Mathlib.Nat.{dvd-refl, dvd-zero, dvd-mod-iff, dvd-mul-left, mul-dvd-mul-left, dvd-of-mul-dvd-mul-left}
+use native.Mathlib.Nat.{pos-of-dvd-of-pos, eq-one-of-dvd-one, mul-div-cancel', eq-of-mul-eq-mul-right, add-mul}
+use native.Mathlib.Nat.{mul-assoc, mul-comm, mul-left-comm, mul-one, mul-suc, zero-mul, mod-lt}
 use mathlib.Core.Path.{_≡_, refl, sym, ap, subst, _∙_}
 use mathlib.Core.Logic.{⊎-elim}
 use mathlib.Core.List.{List, [], _∷_, _++_, map}
@@ -131,7 +133,9 @@ added-parts : (p q a s b n t : ℕ) → p * t ≡ a * q → s * t ≡ n * b → 
 added-parts p q a s b n t e f =
     add-mul (p * b) (s * q) t
     ∙ ap (λ (x : ℕ). x + s * q * t) (mul-assoc p b t ∙ ap (λ (x : ℕ). p * x) (mul-comm b t) ∙ sym (mul-assoc p t b) ∙ ap (λ (x : ℕ). x * b) e ∙ mul-assoc a q b)
-    ∙ ap (λ (x : ℕ). a * (q * b) + x) (mul-assoc s q t ∙ ap (λ (x : ℕ). s * x) (mul-comm q t) ∙ sym (mul-assoc s t q) ∙ ap (λ (x : ℕ). x * q) f ∙ mul-assoc n b q ∙ ap (λ (x : ℕ). n * x) (mul-comm b q))
+    ∙ ap (λ (x : ℕ). a * (q * b) + x)
+    (mul-assoc s q t ∙ ap (λ (x : ℕ). s * x) (mul-comm q t) ∙ sym (mul-assoc s t q) ∙ ap (λ (x : ℕ). x * q) f ∙ mul-assoc n b q
+    ∙ ap (λ (x : ℕ). n * x) (mul-comm b q))
     ∙ sym (add-mul a n (q * b))
 
 pos-mul : (a b : ℕ) → 0 < a → 0 < b → 0 < a * b
@@ -142,14 +146,17 @@ pos-mul (suc a) (suc b) h l = omega (arith, mul-suc-suc a b)
 pos-mul zero b h l = absurd (omega arith)
 pos-mul (suc a) zero h l = absurd (omega arith)
 
-sum-part : (total : ℕ) (cs : List ℕ) → totalOf cs ≤ total → (sumOf (map (λ c. share c total) cs) .top * total ≡ totalOf cs * sumOf (map (λ c. share c total) cs) .bottom) × (0 < sumOf (map (λ c. share c total) cs) .bottom)
+sum-part : (total : ℕ) (cs : List ℕ) → totalOf cs ≤ total →
+    (sumOf (map (λ c. share c total) cs) .top * total ≡ totalOf cs * sumOf (map (λ c. share c total) cs) .bottom) × (0 < sumOf (map (λ c. share c total) cs) .bottom)
 unfolding sumOf totalOf
 sum-part total [] h = (zero-mul total, omega arith)
 sum-part total (c ∷ cs) h =
     let (e, pos) = sum-part total cs (omega arith) in
     let f = share c total in
-    let s = sumOf (map (λ c. share c total) cs) in
-    (added-parts (f .top) (f .bottom) c (s .top) (s .bottom) (totalOf cs) total (part-of-total c total (omega arith)) e, pos-mul (f .bottom) (s .bottom) (lowest-terms c total (omega arith) .positive) pos)
+    let s = sumOf (map (λ c. share c total) cs) in (
+      added-parts (f .top) (f .bottom) c (s .top) (s .bottom) (totalOf cs) total (part-of-total c total (omega arith)) e,
+      pos-mul (f .bottom) (s .bottom) (lowest-terms c total (omega arith) .positive) pos,
+    )
 
 pub shares-add-up : (counts : List ℕ) → 0 < totalOf counts → ExactlyOne (sumOf (sharesOf counts))
 unfolding sharesOf

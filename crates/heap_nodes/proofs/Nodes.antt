@@ -42,7 +42,8 @@ unfolding any select orZero _or_
 zero-node q [] = refl
 zero-node q (x ∷ xs) = go (q x) (zero-node q xs)
   where
-    go : (t : Bool) → cond (not (any q xs)) (0 ∷ select q xs) (select q xs) ≡ orZero (select q xs) → cond (not (t or any q xs)) (0 ∷ cond t (x ∷ select q xs) (select q xs)) (cond t (x ∷ select q xs) (select q xs)) ≡ orZero (cond t (x ∷ select q xs) (select q xs))
+    go : (t : Bool) → cond (not (any q xs)) (0 ∷ select q xs) (select q xs) ≡ orZero (select q xs) →
+        cond (not (t or any q xs)) (0 ∷ cond t (x ∷ select q xs) (select q xs)) (cond t (x ∷ select q xs) (select q xs)) ≡ orZero (cond t (x ∷ select q xs) (select q xs))
     go true ih = refl
     go false ih = ih
 
@@ -79,7 +80,9 @@ module _ (q : ℕ → Bool) (n t : ℕ) (marks : List Bool) (none : Bool) (m : M
       others : select (λ x. getD (set marks 0 none) x false) (from (n + 1 - 1) 1) ≡ select q (from (n + 1 - 1) 1)
       others = select-alike _ q (n + 1 - 1) 1 (λ x l r. getD-set-other marks 0 x none false (omega arith) ∙ m .each x l (omega arith))
 
-      first : cond (getD (set marks 0 none) 0 false) (0 ∷ select (λ x. getD (set marks 0 none) x false) (from (n + 1 - 1) 1)) (select (λ x. getD (set marks 0 none) x false) (from (n + 1 - 1) 1)) ≡ cond (not (any q (from (n + 1 - 1) 1))) (0 ∷ select q (from (n + 1 - 1) 1)) (select q (from (n + 1 - 1) 1))
+      first : cond (getD (set marks 0 none) 0 false) (0 ∷ select (λ x. getD (set marks 0 none) x false) (from (n + 1 - 1) 1))
+          (select (λ x. getD (set marks 0 none) x false) (from (n + 1 - 1) 1)) ≡ cond (not (any q (from (n + 1 - 1) 1)))
+          (0 ∷ select q (from (n + 1 - 1) 1)) (select q (from (n + 1 - 1) 1))
       first = rw (getD-set-same marks 0 none false (omega (arith, m .full)), others, all-failed)
 
 -- Numbering

@@ -120,7 +120,8 @@ module _ (q : ℕ → Bool) (f : ℕ → ℕ) (n at : ℕ) where
     put-at-all h = put-all q f n at t (now .to) old cur (now .put) h .1
 
 -- a list of bytes that is filled from lo on
-pub filled-more : (g : ℕ → ℕ) (lo : ℕ) (bytes : List ℕ) (t : ℕ) → t < length bytes → (b : ℕ) → b ≡ g t → ((x : ℕ) → lo ≤ x → x < t → getD bytes x 0 ≡ g x) → (x : ℕ) → lo ≤ x → x < t + 1 → getD (set bytes t b) x 0 ≡ g x
+pub filled-more : (g : ℕ → ℕ) (lo : ℕ) (bytes : List ℕ) (t : ℕ) → t < length bytes → (b : ℕ) → b ≡ g t →
+    ((x : ℕ) → lo ≤ x → x < t → getD bytes x 0 ≡ g x) → (x : ℕ) → lo ≤ x → x < t + 1 → getD (set bytes t b) x 0 ≡ g x
 filled-more g lo bytes t h b e m x l r = number-set bytes t h b x ∙ ⊎-elim here there (bool-cases (eqb x t))
   where
     here : eqb x t ≡ true → cond (eqb x t) b (getD bytes x 0) ≡ g x

@@ -68,13 +68,15 @@ module _ (first second line : List ℕ) (r : HandBack) (e : handed r ≡ handBac
   handed-as {a} f =
       ap (λ (b : HandBack). partText (handed b) (partOf (handed b) first second)) (sym f) ∙ ap (λ (h : _). partText h (partOf h first second)) e
 
-  pub in-first : (at size end : ℕ) → r ≡ back.InFirst at size → end ≡ at + size → ascii "first query at " ++ (decimal at ++ (ascii ": " ++ hexLine (take (end - at) (drop at first)))) ≡ handedText first second line
+  pub in-first : (at size end : ℕ) → r ≡ back.InFirst at size → end ≡ at + size →
+      ascii "first query at " ++ (decimal at ++ (ascii ": " ++ hexLine (take (end - at) (drop at first)))) ≡ handedText first second line
   unfolding partText partOf
   in-first at size end f g =
       let n : end - at ≡ size = omega arith in
       ap (λ (k : ℕ). ascii "first query at " ++ (decimal at ++ (ascii ": " ++ hexLine (take k (drop at first))))) n ∙ handed-as f
 
-  pub in-second : (at size end : ℕ) → r ≡ back.InSecond at size → end ≡ at + size → ascii "second query at " ++ (decimal at ++ (ascii ": " ++ hexLine (take (end - at) (drop at second)))) ≡ handedText first second line
+  pub in-second : (at size end : ℕ) → r ≡ back.InSecond at size → end ≡ at + size →
+      ascii "second query at " ++ (decimal at ++ (ascii ": " ++ hexLine (take (end - at) (drop at second)))) ≡ handedText first second line
   unfolding partText partOf
   in-second at size end f g =
       let n : end - at ≡ size = omega arith in

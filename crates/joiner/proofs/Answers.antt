@@ -91,7 +91,8 @@ module _ (l : Layout) (bytes : List ℕ) (laid : LaysOut l bytes) where
     unfolding startIn
     start-third a e = rw (ne-eqb s 2 a, eq-eqb s 3 e) (omega (arith, laid .term-count, equal-counted), omega (arith, laid .terms-within, laid .equal-within))
 
-    pub start-last : (s ≡ 2 → ⊥) → (s ≡ 3 → ⊥) → (l .terms + 3 * l .«equal_count» + 3 * l .«reach_count» + 4 ≡ startIn (decode bytes) s) × (l .terms + 3 * l .«equal_count» + 3 * l .«reach_count» + 4 ≤ 1000)
+    pub start-last : (s ≡ 2 → ⊥) → (s ≡ 3 → ⊥) → (l .terms + 3 * l .«equal_count» + 3 * l .«reach_count» + 4 ≡ startIn (decode bytes) s)
+        × (l .terms + 3 * l .«equal_count» + 3 * l .«reach_count» + 4 ≤ 1000)
     unfolding startIn
     start-last a b =
         rw (ne-eqb s 2 a, ne-eqb s 3 b) (omega (arith, laid .term-count, equal-counted, reach-counted), omega (arith, laid .terms-within, laid .equal-within, laid .reach-within))
@@ -110,7 +111,10 @@ module _ (a b : Query) (line : List ℕ) where
   abbrev k : ℕ
   k = getD line 2 0
 
-  of-tests : (x y z : Bool) → eqb (getD line 0 0) 9 ≡ x → isAmong 0 (length (literalsIn a s)) k ≡ y → isAmong (length (literalsIn a s)) (length (literalsIn b s)) k ≡ z → handBackOf a b line ≡ cond x (cond y (hand.inFirst (placeIn a s k) 3) (cond z (hand.inSecond (placeIn b s (k - length (literalsIn a s))) 3) (hand.refused 25 0))) (hand.refused 25 0)
+  of-tests : (x y z : Bool) → eqb (getD line 0 0) 9 ≡ x → isAmong 0 (length (literalsIn a s)) k ≡ y →
+      isAmong (length (literalsIn a s)) (length (literalsIn b s)) k ≡ z →
+      handBackOf a b line ≡ cond x (cond y (hand.inFirst (placeIn a s k) 3)
+      (cond z (hand.inSecond (placeIn b s (k - length (literalsIn a s))) 3) (hand.refused 25 0))) (hand.refused 25 0)
   unfolding handBackOf
   of-tests x y z e f g = rw (e, f, g)
 
@@ -147,8 +151,11 @@ module _ (first second line : List ℕ) (ok₁ : accepts first ≡ true) (ok₂ 
   back-other h = (sym (of-tests (decode first) (decode second) line false _ _ (ne-eqb (getD line 0 0) 9 (λ e. h (e₀ ∙ e))) refl refl), tt)
 
   pub back-zero : nine ≡ 9 → k ≡ 0 → Answers (back.Refused 25 0)
-  back-zero h z =
-      (sym (of-tests (decode first) (decode second) line true false false (eq-eqb (getD line 0 0) 9 (sym e₀ ∙ h)) (among-low 0 _ (getD line 2 0) (omega arith)) (among-low _ _ (getD line 2 0) (omega arith))), tt)
+  back-zero h z = (
+    sym (of-tests (decode first) (decode second) line true false false (eq-eqb (getD line 0 0) 9 (sym e₀ ∙ h))
+        (among-low 0 _ (getD line 2 0) (omega arith)) (among-low _ _ (getD line 2 0) (omega arith))),
+    tt,
+  )
 
   pub back-first : nine ≡ 9 → {i p : ℕ} → i ≡ length (literalsIn (decode first) s) → (k ≡ 0 → ⊥) → k ≤ i → p ≡ placeIn (decode first) s k → Answers (back.InFirst p 3)
   back-first h {i} {p} ei one low ep =
@@ -165,22 +172,28 @@ module _ (first second line : List ℕ) (ok₁ : accepts first ≡ true) (ok₂ 
       positive : (k ≡ 0 → ⊥) → 0 < getD line 2 0
       positive n = omega (arith, positive-own n)
 
-  pub back-second : nine ≡ 9 → {i m p : ℕ} → i ≡ length (literalsIn (decode first) s) → m ≡ length (literalsIn (decode second) s) → i < k → k ≤ i + m → p ≡ placeIn (decode second) s (k - i) → Answers (back.InSecond p 3)
+  pub back-second : nine ≡ 9 → {i m p : ℕ} → i ≡ length (literalsIn (decode first) s) → m ≡ length (literalsIn (decode second) s) → i < k →
+      k ≤ i + m → p ≡ placeIn (decode second) s (k - i) → Answers (back.InSecond p 3)
   back-second h {i} {m} {p} ei em low high ep =
       let first-count = moved (decode first) ei in
       let second-count = moved (decode second) em in
       let at-place : p ≡ placeIn (decode second) (getD line 1 0) (getD line 2 0 - length (literalsIn (decode first) (getD line 1 0))) =
-      ep ∙ ap (λ (t : ℕ). placeIn (decode second) t (k - i)) e₁ ∙ ap (λ (t : ℕ). placeIn (decode second) (getD line 1 0) (t - i)) e₂ ∙ ap (λ (t : ℕ). placeIn (decode second) (getD line 1 0) (getD line 2 0 - t)) first-count in (
+      ep ∙ ap (λ (t : ℕ). placeIn (decode second) t (k - i)) e₁ ∙ ap (λ (t : ℕ). placeIn (decode second) (getD line 1 0) (t - i)) e₂
+      ∙ ap (λ (t : ℕ). placeIn (decode second) (getD line 1 0) (getD line 2 0 - t)) first-count in (
         ap (λ (t : ℕ). hand.inSecond t 3) at-place
-            ∙ sym (of-tests (decode first) (decode second) line true false true (eq-eqb (getD line 0 0) 9 (sym e₀ ∙ h)) (among-high 0 _ (getD line 2 0) (omega arith)) (among-inside _ _ (getD line 2 0) (omega arith) (omega arith))),
+            ∙ sym (of-tests (decode first) (decode second) line true false true (eq-eqb (getD line 0 0) 9 (sym e₀ ∙ h))
+            (among-high 0 _ (getD line 2 0) (omega arith)) (among-inside _ _ (getD line 2 0) (omega arith) (omega arith))),
         omega (arith, ep, literal-fits second ok₂ s (k - i) (omega arith) (omega (arith, em))),
       )
 
   pub back-past : nine ≡ 9 → {i m : ℕ} → i ≡ length (literalsIn (decode first) s) → m ≡ length (literalsIn (decode second) s) → i < k → i + m < k → Answers (back.Refused 25 0)
   back-past h {i} {m} ei em low high =
       let first-count = moved (decode first) ei in
-      let second-count = moved (decode second) em in
-      (sym (of-tests (decode first) (decode second) line true false false (eq-eqb (getD line 0 0) 9 (sym e₀ ∙ h)) (among-high 0 _ (getD line 2 0) (omega arith)) (among-high _ _ (getD line 2 0) (omega arith))), tt)
+      let second-count = moved (decode second) em in (
+        sym (of-tests (decode first) (decode second) line true false false (eq-eqb (getD line 0 0) 9 (sym e₀ ∙ h))
+            (among-high 0 _ (getD line 2 0) (omega arith)) (among-high _ _ (getD line 2 0) (omega arith))),
+        tt,
+      )
 
 -- The checks of a query
 
@@ -204,7 +217,8 @@ module _ (first second line : List ℕ) where
   unfolding handBackCall hand.ofSecond Option·elim
   named-second g h = rw (passed-query first g, refused-query second h)
 
-  pub named-found : {f s : Layout} {r : Handed} → CheckedAs (checked.Accepted f) first → CheckedAs (checked.Accepted s) second → r ≡ handBackOf (decode first) (decode second) line → r ≡ handBackCall first second line
+  pub named-found : {f s : Layout} {r : Handed} → CheckedAs (checked.Accepted f) first → CheckedAs (checked.Accepted s) second →
+      r ≡ handBackOf (decode first) (decode second) line → r ≡ handBackCall first second line
   unfolding handBackCall Option·elim
   named-found g h e = rw (passed-query first g, passed-query second h) e
 
@@ -212,14 +226,16 @@ module _ (first second line : List ℕ) where
   pub part-found : {r w : HandBack} {xs : List ℕ} → handed r ≡ handBackCall first second line → r ≡ w → xs ≡ partOf (handed w) first second → xs ≡ partOf (handBackCall first second line) first second
   part-found e q h = h ∙ ap (λ (x : HandBack). partOf (handed x) first second) (sym q) ∙ ap (λ (x : Handed). partOf x first second) e
 
-  pub part-first : {r : HandBack} {at size : ℕ} → handed r ≡ handBackCall first second line → r ≡ back.InFirst at size → take (at + size - at) (drop at first) ≡ partOf (handBackCall first second line) first second
+  pub part-first : {r : HandBack} {at size : ℕ} → handed r ≡ handBackCall first second line → r ≡ back.InFirst at size →
+      take (at + size - at) (drop at first) ≡ partOf (handBackCall first second line) first second
   unfolding partOf
   part-first {at = at} {size = size} e q = part-found e q (ap (λ (k : ℕ). take k (drop at first)) (left))
     where
       left : at + size - at ≡ size
       left = omega arith
 
-  pub part-second : {r : HandBack} {at size : ℕ} → handed r ≡ handBackCall first second line → r ≡ back.InSecond at size → take (at + size - at) (drop at second) ≡ partOf (handBackCall first second line) first second
+  pub part-second : {r : HandBack} {at size : ℕ} → handed r ≡ handBackCall first second line → r ≡ back.InSecond at size →
+      take (at + size - at) (drop at second) ≡ partOf (handBackCall first second line) first second
   unfolding partOf
   part-second {at = at} {size = size} e q = part-found e q (ap (λ (k : ℕ). take k (drop at second)) (left))
     where

@@ -30,16 +30,19 @@ module _ (first second pairs : List ℕ) (f s : Layout) (pf : Passing f first) (
   list-same : isPairList (f .terms) (s .terms) pairs ≡ isPairList (termCount (decode first)) (termCount (decode second)) pairs
   list-same = ap (λ (n : ℕ). isPairList n (s .terms) pairs) (pf .laid .term-count) ∙ ap (λ (m : ℕ). isPairList (termCount (decode first)) m pairs) (ps .laid .term-count)
 
-  pub not-listed : (room : ℕ) (bytes : List ℕ) → isPairList (f .terms) (s .terms) pairs ≡ false → bytes ≡ replicate room 0 → Does (joinOf (decode first) (decode second) pairs room) (answer.Refused 23 0) bytes
+  pub not-listed : (room : ℕ) (bytes : List ℕ) → isPairList (f .terms) (s .terms) pairs ≡ false → bytes ≡ replicate room 0 →
+      Does (joinOf (decode first) (decode second) pairs room) (answer.Refused 23 0) bytes
   unfolding joinOf blank
   not-listed room bytes h e = rw (sym list-same ∙ h) (record { answers = refl; leaves = e })
 
   module _ (listed : isPairList (f .terms) (s .terms) pairs ≡ true) where
-    pub limit-passed : (room : ℕ) (bytes : List ℕ) → withinLimits (joined (decode first) (decode second) (pairsOf pairs)) ≡ false → bytes ≡ replicate room 0 → Does (joinOf (decode first) (decode second) pairs room) (answer.Refused 24 0) bytes
+    pub limit-passed : (room : ℕ) (bytes : List ℕ) → withinLimits (joined (decode first) (decode second) (pairsOf pairs)) ≡ false →
+        bytes ≡ replicate room 0 → Does (joinOf (decode first) (decode second) pairs room) (answer.Refused 24 0) bytes
     unfolding joinOf fitted blank _and_
     limit-passed room bytes h e = rw (sym list-same ∙ listed, h) (record { answers = refl; leaves = e })
 
-    module _ (within : withinLimits (joined (decode first) (decode second) (pairsOf pairs)) ≡ true) (before after : List ℕ) (r : ℕ) (clean : before ≡ replicate (length before) 0) (w : Writes before 0 (encode (joined (decode first) (decode second) (pairsOf pairs))) after r) where
+    module _ (within : withinLimits (joined (decode first) (decode second) (pairsOf pairs)) ≡ true) (before after : List ℕ) (r : ℕ)
+        (clean : before ≡ replicate (length before) 0) (w : Writes before 0 (encode (joined (decode first) (decode second) (pairsOf pairs))) after r) where
       size : r ≡ length (encode (joined (decode first) (decode second) (pairsOf pairs)))
       size = w .ends ∙ omega arith
 
@@ -64,10 +67,12 @@ module _ (first second pairs : List ℕ) (room : ℕ) (bytes : List ℕ) where
   unfolding joinCall blank call.ofFirst Option·elim
   refused-first h e = rw (refused-query first h) (record { answers = refl; leaves = e })
 
-  pub refused-second : {k place : ℕ} {f : Layout} → CheckedAs (checked.Accepted f) first → CheckedAs (checked.Refused k place) second → bytes ≡ replicate room 0 → Does (joinCall first second pairs room) (answer.SecondRefused k place) bytes
+  pub refused-second : {k place : ℕ} {f : Layout} → CheckedAs (checked.Accepted f) first → CheckedAs (checked.Refused k place) second →
+      bytes ≡ replicate room 0 → Does (joinCall first second pairs room) (answer.SecondRefused k place) bytes
   unfolding joinCall blank call.ofSecond Option·elim
   refused-second g h e = rw (passed-query first g, refused-query second h) (record { answers = refl; leaves = e })
 
-  pub joined-does : {f s : Layout} {r : JoinAnswer} {n : ℕ} → CheckedAs (checked.Accepted f) first → CheckedAs (checked.Accepted s) second → n ≡ room → Does (joinOf (decode first) (decode second) pairs n) r bytes → Does (joinCall first second pairs room) r bytes
+  pub joined-does : {f s : Layout} {r : JoinAnswer} {n : ℕ} → CheckedAs (checked.Accepted f) first → CheckedAs (checked.Accepted s) second →
+      n ≡ room → Does (joinOf (decode first) (decode second) pairs n) r bytes → Does (joinCall first second pairs room) r bytes
   unfolding joinCall Option·elim
   joined-does {r = r} g h e d = rw (passed-query first g, passed-query second h) (subst (λ (k : ℕ). Does (joinOf (decode first) (decode second) pairs k) r bytes) e d)

@@ -60,7 +60,8 @@ module _ (bytes : List ℕ) (at count i j : ℕ) (fits : at + 3 * count ≤ leng
   pub literal-small : Small i j (literals (take (3 * count) (drop at bytes))) → (k : ℕ) → k < count → (i + getD bytes (at + 3 * k + 1) 0 < 256) × (j + getD bytes (at + 3 * k + 2) 0 < 256)
   literal-small h k l = h (literalIn bytes at k) (rw (literals-are bytes at count fits) (listed-mem (literalIn bytes at) count k l))
 
-pub literal-bytes : {plain : Bool} {left right : ℕ} (i j : ℕ) (l : Literal) → plain ≡ l .plain → left ≡ l .left → right ≡ l .right → signByte plain ∷ (i + left) ∷ (j + right) ∷ [] ≡ literalBytes (raised i j l)
+pub literal-bytes : {plain : Bool} {left right : ℕ} (i j : ℕ) (l : Literal) → plain ≡ l .plain → left ≡ l .left → right ≡ l .right →
+    signByte plain ∷ (i + left) ∷ (j + right) ∷ [] ≡ literalBytes (raised i j l)
 unfolding literalBytes raised
 literal-bytes i j l p e f = rw (p, e, f)
 
@@ -123,7 +124,10 @@ module _ (bytes : List ℕ) where
   unfolding pairs from
   pairs-from zero j h = rw (drop-of-length-le bytes {i = 2 * j + 1} (omega arith))
   pairs-from (suc count) j h =
-      ap pairs (drop-next bytes (2 * j + 1) (omega arith) ∙ ap (λ (xs : List ℕ). getD bytes (2 * j + 1) 0 ∷ xs) (ap (λ (m : ℕ). drop m bytes) one ∙ drop-next bytes (2 * j + 2) (omega arith) ∙ ap (λ (xs : List ℕ). getD bytes (2 * j + 2) 0 ∷ xs) (ap (λ (m : ℕ). drop m bytes) two)))
+      ap pairs (drop-next bytes (2 * j + 1) (omega arith)
+      ∙ ap (λ (xs : List ℕ). getD bytes (2 * j + 1) 0 ∷ xs)
+      (ap (λ (m : ℕ). drop m bytes) one ∙ drop-next bytes (2 * j + 2) (omega arith)
+      ∙ ap (λ (xs : List ℕ). getD bytes (2 * j + 2) 0 ∷ xs) (ap (λ (m : ℕ). drop m bytes) two)))
       ∙ ap (λ (ps : List Pair). pairIn bytes j ∷ ps) (pairs-from count (suc j) (omega arith))
     where
       one : 2 * j + 1 + 1 ≡ 2 * j + 2

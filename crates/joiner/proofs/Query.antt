@@ -195,7 +195,8 @@ module _ (first second pairs : List ℕ) (f s : Layout) (pf : Passing f first) (
 
     pub equal-second : Small (f .terms) (f .terms) (literals (take (3 * s .«equal_count») (drop (s .«equal_at») second)))
     equal-second =
-        subst (Small (f .terms) (f .terms)) (ps .laid .equal-are) (terms-fit (decode second) (f .terms) (f .terms) _ (second-ok .term-count) (pf .laid .terms-within) (pf .laid .terms-within) (second-ok .equal-terms))
+        subst (Small (f .terms) (f .terms)) (ps .laid .equal-are)
+        (terms-fit (decode second) (f .terms) (f .terms) _ (second-ok .term-count) (pf .laid .terms-within) (pf .laid .terms-within) (second-ok .equal-terms))
 
     pub pairs-fit : SmallPairs (f .terms) (pairsOf pairs)
     pairs-fit p m =
@@ -209,7 +210,8 @@ module _ (first second pairs : List ℕ) (f s : Layout) (pf : Passing f first) (
 
     pub reach-second : Small (f .terms) (f .terms) (literals (take (3 * s .«reach_count») (drop (s .«reach_at») second)))
     reach-second =
-        subst (Small (f .terms) (f .terms)) (ps .laid .reach-are) (terms-fit (decode second) (f .terms) (f .terms) _ (second-ok .term-count) (pf .laid .terms-within) (pf .laid .terms-within) (second-ok .reach-terms))
+        subst (Small (f .terms) (f .terms)) (ps .laid .reach-are)
+        (terms-fit (decode second) (f .terms) (f .terms) _ (second-ok .term-count) (pf .laid .terms-within) (pf .laid .terms-within) (second-ok .reach-terms))
 
     pub field-first : Small 0 0 (literals (take (3 * f .«field_count») (drop (f .«field_at») first)))
     field-first =
@@ -249,11 +251,25 @@ module _ (first second pairs : List ℕ) (f s : Layout) (pf : Passing f first) (
     -- how long the parts are
     pub term-bytes-long : length termBytes ≡ 1 + f .terms + s .terms
     term-bytes-long =
-        omega (arith, length-append (map (raisedEntry 0) (take (f .terms) (drop 1 first))) (map (raisedEntry (f .terms)) (take (s .terms) (drop 1 second))), entries-long (raisedEntry 0) (f .terms) first (pf .laid .entries-fit), entries-long (raisedEntry (f .terms)) (s .terms) second (ps .laid .entries-fit))
+        omega (
+          arith,
+          length-append (map (raisedEntry 0) (take (f .terms) (drop 1 first)))
+              (map (raisedEntry (f .terms)) (take (s .terms) (drop 1 second))),
+          entries-long (raisedEntry 0) (f .terms) first (pf .laid .entries-fit),
+          entries-long (raisedEntry (f .terms)) (s .terms) second (ps .laid .entries-fit),
+        )
 
-    section-long : (i j more at₁ count₁ at₂ count₂ : ℕ) → at₁ + 3 * count₁ ≤ length first → at₂ + 3 * count₂ ≤ length second → length ((count₁ + count₂ + more) ∷ (flatMap literalBytes (map (raised 0 0) (literals (take (3 * count₁) (drop at₁ first)))) ++ flatMap literalBytes (map (raised i j) (literals (take (3 * count₂) (drop at₂ second)))))) ≡ 1 + count₁ * 3 + count₂ * 3
+    section-long : (i j more at₁ count₁ at₂ count₂ : ℕ) → at₁ + 3 * count₁ ≤ length first → at₂ + 3 * count₂ ≤ length second →
+        length ((count₁ + count₂ + more) ∷ (flatMap literalBytes (map (raised 0 0) (literals (take (3 * count₁) (drop at₁ first)))) ++ flatMap
+        literalBytes (map (raised i j) (literals (take (3 * count₂) (drop at₂ second)))))) ≡ 1 + count₁ * 3 + count₂ * 3
     section-long i j more at₁ count₁ at₂ count₂ h g =
-        omega (arith, length-append (flatMap literalBytes (map (raised 0 0) (literals (take (3 * count₁) (drop at₁ first))))) (flatMap literalBytes (map (raised i j) (literals (take (3 * count₂) (drop at₂ second))))), literals-long first at₁ count₁ 0 0 h, literals-long second at₂ count₂ i j g)
+        omega (
+          arith,
+          length-append (flatMap literalBytes (map (raised 0 0) (literals (take (3 * count₁) (drop at₁ first)))))
+              (flatMap literalBytes (map (raised i j) (literals (take (3 * count₂) (drop at₂ second))))),
+          literals-long first at₁ count₁ 0 0 h,
+          literals-long second at₂ count₂ i j g,
+        )
 
     pub equal-bytes-long : length equalBytes ≡ 1 + f .«equal_count» * 3 + s .«equal_count» * 3
     equal-bytes-long = section-long (f .terms) (f .terms) count _ _ _ _ (pf .laid .equal-fit) (ps .laid .equal-fit)
@@ -278,7 +294,8 @@ module _ (first second pairs : List ℕ) (f s : Layout) (pf : Passing f first) (
     unfolding joined
     terms-are =
         ap (λ (k : ℕ). k ∷ (map (raisedEntry 0) (take (f .terms) (drop 1 first)) ++ map (raisedEntry (f .terms)) (take (s .terms) (drop 1 second)))) (sym terms-sum)
-        ∙ ap (λ (xs : List ℕ). termCount whole ∷ (xs ++ map (raisedEntry (f .terms)) (take (s .terms) (drop 1 second)))) (map-none (raisedEntry 0) raised-none _ ∙ sym (ap (λ (es : Entries). es .terms) (pf .laid .entries-are)))
+        ∙ ap (λ (xs : List ℕ). termCount whole ∷ (xs ++ map (raisedEntry (f .terms)) (take (s .terms) (drop 1 second))))
+        (map-none (raisedEntry 0) raised-none _ ∙ sym (ap (λ (es : Entries). es .terms) (pf .laid .entries-are)))
         ∙ ap (λ (xs : List ℕ). termCount whole ∷ (decode first .entries .terms ++ map (raisedEntry (f .terms)) xs)) (sym (ap (λ (es : Entries). es .terms) (ps .laid .entries-are)))
         ∙ ap (λ (k : ℕ). termCount whole ∷ (decode first .entries .terms ++ map (raisedEntry k) (decode second .entries .terms))) same-terms
 
@@ -292,7 +309,11 @@ module _ (first second pairs : List ℕ) (f s : Layout) (pf : Passing f first) (
         ap (λ (k : ℕ). k ∷ ((flatMap literalBytes xs ++ flatMap literalBytes ys) ++ pairBytes)) (ap (λ (k : ℕ). f .«equal_count» + s .«equal_count» + k) counts ∙ sym equal-sum)
         ∙ ap (λ (zs : List ℕ). length (whole .equalities) ∷ zs)
         (ap (λ (zs : List ℕ). zs ++ pairBytes) (sym (flatMap-append literalBytes xs ys)) ∙ sym (flatMap-append literalBytes (xs ++ ys) (map (pairLiteral (f .terms)) (pairsOf pairs)))
-        ∙ ap (flatMap literalBytes) (ap (λ (zs : List Literal). zs ++ map (pairLiteral (f .terms)) (pairsOf pairs)) (sym (both (f .terms) (f .terms) _ _ (decode first .equalities) (decode second .equalities) (pf .laid .equal-are) (ps .laid .equal-are))) ∙ append-assoc (decode first .equalities) (map (raised (f .terms) (f .terms)) (decode second .equalities)) (map (pairLiteral (f .terms)) (pairsOf pairs)) ∙ ap (λ (k : ℕ). decode first .equalities ++ (map (raised k k) (decode second .equalities) ++ map (pairLiteral k) (pairsOf pairs))) same-terms))
+        ∙ ap (flatMap literalBytes) (ap (λ (zs : List Literal). zs ++ map (pairLiteral (f .terms)) (pairsOf pairs))
+        (sym (both (f .terms) (f .terms) _ _ (decode first .equalities) (decode second .equalities) (pf .laid .equal-are) (ps .laid .equal-are)))
+        ∙ append-assoc (decode first .equalities) (map (raised (f .terms) (f .terms)) (decode second .equalities))
+        (map (pairLiteral (f .terms)) (pairsOf pairs))
+        ∙ ap (λ (k : ℕ). decode first .equalities ++ (map (raised k k) (decode second .equalities) ++ map (pairLiteral k) (pairsOf pairs))) same-terms))
       where
         xs : List Literal
         xs = map (raised 0 0) (literals (take (3 * f .«equal_count») (drop (f .«equal_at») first)))
@@ -304,13 +325,15 @@ module _ (first second pairs : List ℕ) (f s : Layout) (pf : Passing f first) (
     unfolding joined
     reach-are =
         section-is _ _ _ (whole .reachability) (omega (arith, reach-sum))
-        (ap (λ (k : ℕ). decode first .reachability ++ map (raised k k) (decode second .reachability)) (sym same-terms) ∙ both (f .terms) (f .terms) _ _ (decode first .reachability) (decode second .reachability) (pf .laid .reach-are) (ps .laid .reach-are))
+        (ap (λ (k : ℕ). decode first .reachability ++ map (raised k k) (decode second .reachability)) (sym same-terms)
+        ∙ both (f .terms) (f .terms) _ _ (decode first .reachability) (decode second .reachability) (pf .laid .reach-are) (ps .laid .reach-are))
 
     field-are : fieldBytes ≡ sectionBytes (whole .fields)
     unfolding joined
     field-are =
         section-is _ _ _ (whole .fields) (omega (arith, field-sum))
-        (ap (λ (k : ℕ). decode first .fields ++ map (raised 0 k) (decode second .fields)) (sym same-terms) ∙ both 0 (f .terms) _ _ (decode first .fields) (decode second .fields) (pf .laid .field-are) (ps .laid .field-are))
+        (ap (λ (k : ℕ). decode first .fields ++ map (raised 0 k) (decode second .fields)) (sym same-terms)
+        ∙ both 0 (f .terms) _ _ (decode first .fields) (decode second .fields) (pf .laid .field-are) (ps .laid .field-are))
 
     pub query-bytes : termBytes ++ (equalBytes ++ (pairBytes ++ (reachBytes ++ (fieldBytes ++ (0 ∷ []))))) ≡ encode whole
     unfolding encode

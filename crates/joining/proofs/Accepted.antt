@@ -58,7 +58,8 @@ module _ (a b : Query) (ps : List Pair) (first : Encodable a) (second : Encodabl
             (le-cases 1 (argumentOf (b .entries) u)))
 
     -- what a raised literal and a pair's name are terms
-    both-raised : (l : Literal) (ls : List Literal) → ((k : Literal) → List·Memᴰ k ls → InTerms b (k .left) × InTerms b (k .right)) → List·Memᴰ l (map (raised (termCount a) (termCount a)) ls) → InTerms (joined a b ps) (l .left) × InTerms (joined a b ps) (l .right)
+    both-raised : (l : Literal) (ls : List Literal) → ((k : Literal) → List·Memᴰ k ls → InTerms b (k .left) × InTerms b (k .right)) →
+        List·Memᴰ l (map (raised (termCount a) (termCount a)) ls) → InTerms (joined a b ps) (l .left) × InTerms (joined a b ps) (l .right)
     unfolding raised
     both-raised l ls h m =
         let (k, own, e) = map-mem (raised (termCount a) (termCount a)) l ls m in

@@ -93,7 +93,8 @@ module _ (a b : Query) (ps : List Pair) where
   named-first : (s k : ℕ) (l : Literal) → at (literalsIn a s) k ≡ some l → at (literalsIn (joined a b ps) s) k ≡ some l
   named-first s k l e = ap (λ (ls : List Literal). at ls k) (sectioned s .are) ∙ at-left (literalsIn a s) _ k l e
 
-  named-second : (s k : ℕ) (l : Literal) → length (literalsIn a s) < k → at (literalsIn b s) (k - length (literalsIn a s)) ≡ some l → at (literalsIn (joined a b ps) s) k ≡ some (raisedIn (termCount a) s l)
+  named-second : (s k : ℕ) (l : Literal) → length (literalsIn a s) < k → at (literalsIn b s) (k - length (literalsIn a s)) ≡ some l →
+      at (literalsIn (joined a b ps) s) k ≡ some (raisedIn (termCount a) s l)
   named-second s k l h e =
       ap (λ (ls : List Literal). at ls k) (sectioned s .are) ∙ ap (at (literalsIn a s ++ (map (raisedIn (termCount a) s) (literalsIn b s) ++ sectioned s .rest))) place
       ∙ at-right (literalsIn a s) (map (raisedIn (termCount a) s) (literalsIn b s) ++ sectioned s .rest) (k - length (literalsIn a s) - 1)

@@ -25,7 +25,8 @@ use Rattle.joining.proofs.Counts.{count-terms}
 use Rattle.joining.proofs.Accepted.{Paired, of-first, of-second, joined-accepted}
 
 -- Terms of a part of the entries have the same values among all of them, where variables are named alike.
-module _ (h : Heap) (v w : ℕ → ℕ) (g : ℕ → ℕ) (all own : Entries) (m : ℕ) (among : Among g all own m) (positive : (t : ℕ) → 1 ≤ t → 1 ≤ g t) (all-below : Below all) (own-below : Below own) (named : (t : ℕ) → 1 ≤ t → t ≤ m → v (g t) ≡ w t) where
+module _ (h : Heap) (v w : ℕ → ℕ) (g : ℕ → ℕ) (all own : Entries) (m : ℕ) (among : Among g all own m) (positive : (t : ℕ) → 1 ≤ t → 1 ≤ g t)
+    (all-below : Below all) (own-below : Below own) (named : (t : ℕ) → 1 ≤ t → t ≤ m → v (g t) ≡ w t) where
   value-within : (fuel t : ℕ) → t < fuel → 1 ≤ t → t ≤ m → value (naming h v) all (g t) ≡ value (naming h w) own t
   unfolding naming
   value-within zero t f l u = absurd (omega arith)
@@ -48,10 +49,12 @@ module _ (h : Heap) (v w : ℕ → ℕ) (g : ℕ → ℕ) (all own : Entries) (m
   value-among t r = value-within (suc t) t (omega arith) (r .0) (r .1)
 
   -- what is said of the values of two terms, in the whole and in the part
-  pub outwards : (P : ℕ → ℕ → Type 0) (b : Bool) (x y : ℕ) → (1 ≤ x) × (x ≤ m) → (1 ≤ y) × (y ≤ m) → Signed b (P (value (naming h v) all (g x)) (value (naming h v) all (g y))) → Signed b (P (value (naming h w) own x) (value (naming h w) own y))
+  pub outwards : (P : ℕ → ℕ → Type 0) (b : Bool) (x y : ℕ) → (1 ≤ x) × (x ≤ m) → (1 ≤ y) × (y ≤ m) →
+      Signed b (P (value (naming h v) all (g x)) (value (naming h v) all (g y))) → Signed b (P (value (naming h w) own x) (value (naming h w) own y))
   outwards P b x y i j = subst₂ (λ s t. Signed b (P s t)) (value-among x i) (value-among y j)
 
-  pub inwards : (P : ℕ → ℕ → Type 0) (b : Bool) (x y : ℕ) → (1 ≤ x) × (x ≤ m) → (1 ≤ y) × (y ≤ m) → Signed b (P (value (naming h w) own x) (value (naming h w) own y)) → Signed b (P (value (naming h v) all (g x)) (value (naming h v) all (g y)))
+  pub inwards : (P : ℕ → ℕ → Type 0) (b : Bool) (x y : ℕ) → (1 ≤ x) × (x ≤ m) → (1 ≤ y) × (y ≤ m) →
+      Signed b (P (value (naming h w) own x) (value (naming h w) own y)) → Signed b (P (value (naming h v) all (g x)) (value (naming h v) all (g y)))
   inwards P b x y i j = subst₂ (λ s t. Signed b (P s t)) (sym (value-among x i)) (sym (value-among y j))
 
 module _ (a b : Query) (ps : List Pair) (first : Encodable a) (second : Encodable b) (paired : (p : Pair) → List·Memᴰ p ps → Paired a b p) (small : termCount (joined a b ps) ≤ 16) where
@@ -72,16 +75,22 @@ module _ (a b : Query) (ps : List Pair) (first : Encodable a) (second : Encodabl
     value₂ : (t : ℕ) → InTerms b t → value (naming h v) whole (n + t) ≡ value (naming h w₂) (b .entries) t
     value₂ = value-among h v w₂ (λ t. n + t) whole (b .entries) (termCount b) (of-second a b ps first second paired small) (λ t l. omega arith) whole-below (accepted-below b (second .accepted)) named₂
 
-    out₁ : (P : ℕ → ℕ → Type 0) (c : Bool) (x y : ℕ) → InTerms a x → InTerms a y → Signed c (P (value (naming h v) whole x) (value (naming h v) whole y)) → Signed c (P (value (naming h w₁) (a .entries) x) (value (naming h w₁) (a .entries) y))
+    out₁ : (P : ℕ → ℕ → Type 0) (c : Bool) (x y : ℕ) → InTerms a x → InTerms a y →
+        Signed c (P (value (naming h v) whole x) (value (naming h v) whole y)) → Signed c (P (value (naming h w₁) (a .entries) x) (value (naming h w₁) (a .entries) y))
     out₁ = outwards h v w₁ (λ t. t) whole (a .entries) (termCount a) (of-first a b ps first second paired small) (λ t l. l) whole-below (accepted-below a (first .accepted)) named₁
 
-    in₁ : (P : ℕ → ℕ → Type 0) (c : Bool) (x y : ℕ) → InTerms a x → InTerms a y → Signed c (P (value (naming h w₁) (a .entries) x) (value (naming h w₁) (a .entries) y)) → Signed c (P (value (naming h v) whole x) (value (naming h v) whole y))
+    in₁ : (P : ℕ → ℕ → Type 0) (c : Bool) (x y : ℕ) → InTerms a x → InTerms a y →
+        Signed c (P (value (naming h w₁) (a .entries) x) (value (naming h w₁) (a .entries) y)) → Signed c (P (value (naming h v) whole x) (value (naming h v) whole y))
     in₁ = inwards h v w₁ (λ t. t) whole (a .entries) (termCount a) (of-first a b ps first second paired small) (λ t l. l) whole-below (accepted-below a (first .accepted)) named₁
 
-    out₂ : (P : ℕ → ℕ → Type 0) (c : Bool) (x y : ℕ) → InTerms b x → InTerms b y → Signed c (P (value (naming h v) whole (n + x)) (value (naming h v) whole (n + y))) → Signed c (P (value (naming h w₂) (b .entries) x) (value (naming h w₂) (b .entries) y))
+    out₂ : (P : ℕ → ℕ → Type 0) (c : Bool) (x y : ℕ) → InTerms b x → InTerms b y →
+        Signed c (P (value (naming h v) whole (n + x)) (value (naming h v) whole (n + y))) →
+        Signed c (P (value (naming h w₂) (b .entries) x) (value (naming h w₂) (b .entries) y))
     out₂ = outwards h v w₂ (λ t. n + t) whole (b .entries) (termCount b) (of-second a b ps first second paired small) (λ t l. omega arith) whole-below (accepted-below b (second .accepted)) named₂
 
-    in₂ : (P : ℕ → ℕ → Type 0) (c : Bool) (x y : ℕ) → InTerms b x → InTerms b y → Signed c (P (value (naming h w₂) (b .entries) x) (value (naming h w₂) (b .entries) y)) → Signed c (P (value (naming h v) whole (n + x)) (value (naming h v) whole (n + y)))
+    in₂ : (P : ℕ → ℕ → Type 0) (c : Bool) (x y : ℕ) → InTerms b x → InTerms b y →
+        Signed c (P (value (naming h w₂) (b .entries) x) (value (naming h w₂) (b .entries) y)) →
+        Signed c (P (value (naming h v) whole (n + x)) (value (naming h v) whole (n + y)))
     in₂ = inwards h v w₂ (λ t. n + t) whole (b .entries) (termCount b) (of-second a b ps first second paired small) (λ t l. omega arith) whole-below (accepted-below b (second .accepted)) named₂
 
     -- nil terms
@@ -129,11 +138,13 @@ module _ (a b : Query) (ps : List Pair) (first : Encodable a) (second : Encodabl
     unfolding raised
     equal-raised l e = e
 
-    raised-reach : (l : Literal) → MeansReach (naming h v) whole (raised n n l) → Signed (l .plain) (Reaches (h .link (l .link)) (value (naming h v) whole (n + l .left)) (value (naming h v) whole (n + l .right)))
+    raised-reach : (l : Literal) → MeansReach (naming h v) whole (raised n n l) →
+        Signed (l .plain) (Reaches (h .link (l .link)) (value (naming h v) whole (n + l .left)) (value (naming h v) whole (n + l .right)))
     unfolding raised naming
     raised-reach l e = e
 
-    reach-raised : (l : Literal) → Signed (l .plain) (Reaches (h .link (l .link)) (value (naming h v) whole (n + l .left)) (value (naming h v) whole (n + l .right))) → MeansReach (naming h v) whole (raised n n l)
+    reach-raised : (l : Literal) → Signed (l .plain)
+        (Reaches (h .link (l .link)) (value (naming h v) whole (n + l .left)) (value (naming h v) whole (n + l .right))) → MeansReach (naming h v) whole (raised n n l)
     unfolding raised naming
     reach-raised l e = e
 
@@ -187,7 +198,8 @@ module _ (a b : Query) (ps : List Pair) (first : Encodable a) (second : Encodabl
         ∙ m .equalities (pairLiteral n p) (Memᴰ·append-right (a .equalities) (Memᴰ·append-right (map (raised n n) (b .equalities)) (map-intro (pairLiteral n) p k)))
         ∙ value₂ (p .second) (r .1)
 
-    nils-out : Meets (naming h v) (joined a b ps) → (t u : ℕ) → namesNil (a .entries) t ≡ true → namesNil (b .entries) u ≡ true → value (naming h w₁) (a .entries) t ≡ value (naming h w₂) (b .entries) u
+    nils-out : Meets (naming h v) (joined a b ps) → (t u : ℕ) → namesNil (a .entries) t ≡ true → namesNil (b .entries) u ≡ true →
+        value (naming h w₁) (a .entries) t ≡ value (naming h w₂) (b .entries) u
     nils-out m t u x y =
         sym (value₁ t (in-a t x)) ∙ m .nil-node .one-node t (n + u) (nil₁ t (in-a t x) ∙ x) (nil₂ u (in-b u y) ∙ y) ∙ value₂ u (in-b u y)
 
@@ -209,7 +221,10 @@ module _ (a b : Query) (ps : List Pair) (first : Encodable a) (second : Encodabl
             let (u, e, i, j) = r in
             inr (u, sym (nil₂ u (i, j)) ∙ ap (namesNil whole) (sym e) ∙ x, ap (value (naming h v) whole) e ∙ value₂ u (i, j))
 
-    module _ (m₁ : Meets (naming h w₁) a) (m₂ : Meets (naming h w₂) b) (equal-pairs : (p : Pair) → List·Memᴰ p ps → value (naming h w₁) (a .entries) (p .first) ≡ value (naming h w₂) (b .entries) (p .second)) (equal-nils : (t u : ℕ) → namesNil (a .entries) t ≡ true → namesNil (b .entries) u ≡ true → value (naming h w₁) (a .entries) t ≡ value (naming h w₂) (b .entries) u) where
+    module _ (m₁ : Meets (naming h w₁) a) (m₂ : Meets (naming h w₂) b)
+        (equal-pairs : (p : Pair) → List·Memᴰ p ps → value (naming h w₁) (a .entries) (p .first) ≡ value (naming h w₂) (b .entries) (p .second))
+        (equal-nils : (t u : ℕ) → namesNil (a .entries) t ≡ true → namesNil (b .entries) u ≡ true →
+        value (naming h w₁) (a .entries) t ≡ value (naming h w₂) (b .entries) u) where
       one-node : (t u : ℕ) → namesNil whole t ≡ true → namesNil whole u ≡ true → value (naming h v) whole t ≡ value (naming h v) whole u
       one-node t u x y = go (nil-of t x) (nil-of u y)
         where

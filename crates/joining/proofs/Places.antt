@@ -12,7 +12,8 @@ use lib.Seq.{length-take-le, drop-append-add}
 use lib.Dec.{eqb, leb}
 use borrow.Author.Tests.{leb-true}
 use Rattle.logic.specs.Search.{at}
-use Rattle.logic.specs.Query.{Literal, Query, literal, termCount, Section, fourSections, fiveSections, sections, Layout, faulty, parts, withPart, layout, layoutBy, layoutOf, literals, section, queryOf, decode}
+use Rattle.logic.specs.Query.{Literal, Query, literal, termCount, Section, fourSections, fiveSections, sections, Layout}
+use Rattle.logic.specs.Query.{faulty, parts, withPart, layout, layoutBy, layoutOf, literals, section, queryOf, decode}
 use Rattle.logic.specs.Calls.{accepts}
 use Rattle.theory.proofs.Basics.Compare.{eq-cases}
 use Rattle.theory.proofs.Query.Bytes.{cond-elim, faulty-parts, withPart-parts, literals-count}
@@ -187,20 +188,34 @@ module _ (bytes : List ℕ) (q : Query) (d : Laid bytes q) where
   second-stands : (k : ℕ) → k < length (q .equalities) → Stands bytes q 2 k
   unfolding literalsIn startIn tail₂
   second-stands k h =
-      let (l, e, r) = literal-there k (d .equal) tail₃ (omega (arith, ap length (d .equal-are))) in
-      (l, ap (λ (ls : List Literal). at ls (suc k)) (d .equal-are) ∙ e, ap (λ (xs : List ℕ). literals (take 3 xs)) (at-second (termCount q + 2 + 3 * k) (1 + 3 * k) (omega (arith, entry-count)) ∙ one-more (3 * k) (d .count₂) (d .equal ++ tail₃)) ∙ r)
+      let (l, e, r) = literal-there k (d .equal) tail₃ (omega (arith, ap length (d .equal-are))) in (
+        l,
+        ap (λ (ls : List Literal). at ls (suc k)) (d .equal-are) ∙ e,
+        ap (λ (xs : List ℕ). literals (take 3 xs))
+            (at-second (termCount q + 2 + 3 * k) (1 + 3 * k) (omega (arith, entry-count)) ∙ one-more (3 * k) (d .count₂) (d .equal ++ tail₃)) ∙ r,
+      )
 
   third-stands : (k : ℕ) → k < length (q .reachability) → Stands bytes q 3 k
   unfolding literalsIn startIn tail₃
   third-stands k h =
-      let (l, e, r) = literal-there k (d .reach) tail₄ (omega (arith, ap length (d .reach-are))) in
-      (l, ap (λ (ls : List Literal). at ls (suc k)) (d .reach-are) ∙ e, ap (λ (xs : List ℕ). literals (take 3 xs)) (at-third (termCount q + 3 * length (q .equalities) + 3 + 3 * k) (1 + 3 * k) (omega (arith, entry-count, equal-count)) ∙ one-more (3 * k) (d .count₃) (d .reach ++ tail₄)) ∙ r)
+      let (l, e, r) = literal-there k (d .reach) tail₄ (omega (arith, ap length (d .reach-are))) in (
+        l,
+        ap (λ (ls : List Literal). at ls (suc k)) (d .reach-are) ∙ e,
+        ap (λ (xs : List ℕ). literals (take 3 xs))
+            (at-third (termCount q + 3 * length (q .equalities) + 3 + 3 * k) (1 + 3 * k) (omega (arith, entry-count, equal-count))
+            ∙ one-more (3 * k) (d .count₃) (d .reach ++ tail₄)) ∙ r,
+      )
 
   fourth-stands : (k : ℕ) → k < length (q .fields) → Stands bytes q 4 k
   unfolding literalsIn startIn tail₄
   fourth-stands k h =
-      let (l, e, r) = literal-there k (d .field) (d .rest) (omega (arith, ap length (d .field-are))) in
-      (l, ap (λ (ls : List Literal). at ls (suc k)) (d .field-are) ∙ e, ap (λ (xs : List ℕ). literals (take 3 xs)) (at-fourth (termCount q + 3 * length (q .equalities) + 3 * length (q .reachability) + 4 + 3 * k) (1 + 3 * k) (omega (arith, entry-count, equal-count, reach-count)) ∙ one-more (3 * k) (d .count₄) (d .field ++ d .rest)) ∙ r)
+      let (l, e, r) = literal-there k (d .field) (d .rest) (omega (arith, ap length (d .field-are))) in (
+        l,
+        ap (λ (ls : List Literal). at ls (suc k)) (d .field-are) ∙ e,
+        ap (λ (xs : List ℕ). literals (take 3 xs))
+            (at-fourth (termCount q + 3 * length (q .equalities) + 3 * length (q .reachability) + 4 + 3 * k) (1 + 3 * k)
+            (omega (arith, entry-count, equal-count, reach-count)) ∙ one-more (3 * k) (d .count₄) (d .field ++ d .rest)) ∙ r,
+      )
 
   stands : (s k : ℕ) → k < length (literalsIn q s) → Stands bytes q s k
   unfolding literalsIn
@@ -221,7 +236,8 @@ module _ (bytes : List ℕ) (q : Query) (d : Laid bytes q) where
           omega (arith, h, ap length e)
 
 -- "that literal's own bytes": literal k of section s of an accepted query, counted from 1, is what the bytes at its place say
-pub literal-stands : (bytes : List ℕ) → accepts bytes ≡ true → (s k : ℕ) → 1 ≤ k → k ≤ length (literalsIn (decode bytes) s) → (l : Literal) × (at (literalsIn (decode bytes) s) k ≡ some l) × (literals (take 3 (drop (placeIn (decode bytes) s k) bytes)) ≡ l ∷ [])
+pub literal-stands : (bytes : List ℕ) → accepts bytes ≡ true → (s k : ℕ) → 1 ≤ k → k ≤ length (literalsIn (decode bytes) s) → (l : Literal)
+    × (at (literalsIn (decode bytes) s) k ≡ some l) × (literals (take 3 (drop (placeIn (decode bytes) s k) bytes)) ≡ l ∷ [])
 unfolding placeIn
 literal-stands bytes h s zero one u = absurd (omega arith)
 literal-stands bytes h s (suc k) one u =

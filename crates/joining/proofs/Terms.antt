@@ -68,7 +68,8 @@ entry-second xs ys f z (suc t) l =
     (getD-append-add xs (map f (ys .terms)) t 0 ∙ ap (getD (map f (ys .terms)) t) (sym z) ∙ List·getD-map f (ys .terms) t 0)
 
 -- the entries of an accepted query: 255, or below the term
-module _ (n : ℕ) (xs : List ℕ) (ys : Entries) (none : ys .links ≡ []) (count : length xs ≡ n) (low : (t : ℕ) → (1 ≤ t) × (t ≤ length (ys .terms)) → argumentOf ys t < t) (small : n + length (ys .terms) ≤ 16) where
+module _ (n : ℕ) (xs : List ℕ) (ys : Entries) (none : ys .links ≡ []) (count : length xs ≡ n)
+    (low : (t : ℕ) → (1 ≤ t) × (t ≤ length (ys .terms)) → argumentOf ys t < t) (small : n + length (ys .terms) ≤ 16) where
   all : Entries
   all = oneLink (xs ++ map (raisedEntry n) (ys .terms))
 
@@ -116,7 +117,9 @@ module _ (n : ℕ) (xs : List ℕ) (ys : Entries) (none : ys .links ≡ []) (cou
         link = λ t. unlisted-link (oneLink (xs ++ map (raisedEntry n) (ys .terms))) refl (n + t) ∙ sym (unlisted-link ys none t);
       }
     where
-      each : (t : ℕ) → 1 ≤ t → t ≤ length (ys .terms) → (namesNil (oneLink (xs ++ map (raisedEntry n) (ys .terms))) (n + t) ≡ namesNil ys t) × (argumentOf ys t ≡ 0 → argumentOf (oneLink (xs ++ map (raisedEntry n) (ys .terms))) (n + t) ≡ 0) × (1 ≤ argumentOf ys t → argumentOf (oneLink (xs ++ map (raisedEntry n) (ys .terms))) (n + t) ≡ n + argumentOf ys t)
+      each : (t : ℕ) → 1 ≤ t → t ≤ length (ys .terms) → (namesNil (oneLink (xs ++ map (raisedEntry n) (ys .terms))) (n + t) ≡ namesNil ys t)
+          × (argumentOf ys t ≡ 0 → argumentOf (oneLink (xs ++ map (raisedEntry n) (ys .terms))) (n + t) ≡ 0)
+          × (1 ≤ argumentOf ys t → argumentOf (oneLink (xs ++ map (raisedEntry n) (ys .terms))) (n + t) ≡ n + argumentOf ys t)
       each t l u =
           ⊎-elim
           (λ z. let r = of-variable t l u z in (r .0, λ w. r .2, λ w. absurd (omega (arith, r .1))))

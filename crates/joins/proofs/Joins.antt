@@ -50,7 +50,8 @@ unfolding joinPair andThen
 pair-behind j a b f = andThen-andThen j (joinPair (a, b)) f
 
 -- the pair and the facts as a call makes them
-pub made-behind : (j : Joined) (a b : ℕ) (f : Facts → Joined) (ps : List (ℕ × ℕ)) (s : Facts) → ps ≡ j .pairs ++ ((a, b) ∷ []) → s ≡ replace a b (j .facts) → andThen (pairBehind j a b) f ≡ andThen (record { pairs = ps; facts = s }) f
+pub made-behind : (j : Joined) (a b : ℕ) (f : Facts → Joined) (ps : List (ℕ × ℕ)) (s : Facts) → ps ≡ j .pairs ++ ((a, b) ∷ []) →
+    s ≡ replace a b (j .facts) → andThen (pairBehind j a b) f ≡ andThen (record { pairs = ps; facts = s }) f
 made-behind j a b f ps s e h = ap₂ (λ (ps : List (ℕ × ℕ)) (s : Facts). andThen (record { pairs = ps; facts = s }) f) (sym e) (sym h)
 
 -- Behind joins: what is left to settle, and a further join
@@ -92,7 +93,8 @@ module _ (n : ℕ) (j : Joined) where
   fits-join a b lo hi d e f h = fits-pair j lo hi (settle n n) (subst Fits (join-pair a b lo hi d e f) h)
 
   -- the same join, of the pair and the facts as a call makes them
-  pub join-made : (a b lo hi : ℕ) → (a ≡ b → ⊥) → lo ≡ min a b → hi ≡ max a b → (ps : List (ℕ × ℕ)) (s : Facts) → ps ≡ j .pairs ++ ((lo, hi) ∷ []) → s ≡ replace lo hi (j .facts) → andThen j (join n a b) ≡ andThen (record { pairs = ps; facts = s }) (settle n n)
+  pub join-made : (a b lo hi : ℕ) → (a ≡ b → ⊥) → lo ≡ min a b → hi ≡ max a b → (ps : List (ℕ × ℕ)) (s : Facts) → ps ≡ j .pairs ++ ((lo, hi) ∷ []) →
+      s ≡ replace lo hi (j .facts) → andThen j (join n a b) ≡ andThen (record { pairs = ps; facts = s }) (settle n n)
   join-made a b lo hi d e f ps s g h = join-pair a b lo hi d e f ∙ made-behind j lo hi (settle n n) ps s g h
 
 -- settling k times makes no more than k pairs, and a join one more
@@ -101,7 +103,8 @@ unfolding settle unjoined joinPair andThen Option·elim
 settle-pairs n zero s = omega arith
 settle-pairs n (suc k) s = go (doubled n s) (λ ab. settle-pairs n k (replace (ab .0) (ab .1) s))
   where
-    go : (o : Option (ℕ × ℕ)) → ((ab : ℕ × ℕ) → length (settle n k (replace (ab .0) (ab .1) s) .pairs) ≤ k) → length (Option·elim o (unjoined s) (λ ab. andThen (joinPair ab s) (settle n k)) .pairs) ≤ suc k
+    go : (o : Option (ℕ × ℕ)) → ((ab : ℕ × ℕ) → length (settle n k (replace (ab .0) (ab .1) s) .pairs) ≤ k) →
+        length (Option·elim o (unjoined s) (λ ab. andThen (joinPair ab s) (settle n k)) .pairs) ≤ suc k
     go none ih = omega arith
     go (some ab) ih = omega (arith, ih ab)
 

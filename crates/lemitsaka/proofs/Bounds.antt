@@ -10,7 +10,7 @@ use lib.ListN.{length, getD}
 use lib.Dec.{ltb}
 use Rattle.logic.specs.Search.{_and_, all, keep}
 use Rattle.logic.specs.Query.{fourSections, fiveSections, booleanSection, sections, firstByte}
-use Rattle.logic.specs.Calls.{Input, Check, layoutCheck, byteCheck, formChecks, queryChecks, roomUnder, oneLinkForm, verdictChecks, refusalOf, padded}
+use Rattle.logic.specs.Calls.{Input, Check, layoutCheck, byteCheck, formChecks, queryChecks, roomUnder, CallForm, oneLinkForm, verdictChecks, refusalOf, padded}
 use Rattle.logic.specs.Calls as calls
 use Rattle.logic.specs.Demands.{numbers}
 use Rattle.logic.specs.Shown.{wellFormed}
@@ -18,12 +18,12 @@ use Rattle.theory.proofs.Basics.Compare.{le-cases}
 use Rattle.theory.proofs.Query.Bytes.{Excesses, three-number}
 use Rattle.theory.proofs.Query.AcceptedBytes.{five-excesses, sections-excesses}
 use Rattle.theory.proofs.Query.Places.{most}
+use Rattle.theory.proofs.Calls.CallLaws.{FormLaws}
 use Rattle.theory.proofs.Calls.CheckingOrder.{first-refusal}
 use Rattle.theory.proofs.Calls.CallLaws.{Placed}
 use Rattle.theory.proofs.Calls.Refusals.{both-placed, one-link-laws, verdict-placed, verdict-early}
 use Rattle.checking.specs.CheckCall as checking
-use Rattle.checking.specs.Claims.{queryAlone}
-use Rattle.checking.proofs.Claims as checks
+use Rattle.checking.specs.Claims.{queryAlone, Claims}
 use Rattle.checking.proofs.Header.{wrong-limit}
 use Rattle.formula.specs.Call as formula
 use Rattle.formula.specs.Places.{FirstFault}
@@ -66,22 +66,29 @@ pub query-refusal : (i : Input) (k place : ℕ) → refusalOf queryChecks i ≡ 
 unfolding queryChecks
 query-refusal i k place h = form-refusal sections 561 one-most sections-excesses (omega arith) i k place h
 
--- The checking call: a wrong line's number is 1 to 16,001
+-- The checking call of either form: a wrong line's number is 1 to 16,001
 
-pub check-counted : (query derivation : List ℕ) (n : ℕ) → checking.checkCall query derivation ≡ checking.wrong n → Counted n
-check-counted query derivation n e = (checks.claims .wrong-placed query derivation n e .0, omega (arith, wrong-limit query derivation n e))
+module _ (f : CallForm) (laws : FormLaws f) (claims : Claims f) (short : f .longest ≤ 637) (query derivation : List ℕ) where
+  pub check-counted : (n : ℕ) → checking.checkCallOf f query derivation ≡ checking.wrong n → Counted n
+  check-counted n e = (claims .wrong-placed query derivation n e .0, omega (arith, wrong-limit f claims query derivation n e))
 
-pub check-refused : (query derivation : List ℕ) (k place : ℕ) → checking.checkCall query derivation ≡ checking.refused k place → Small k place
-check-refused query derivation k place e =
-    ⊎-elim
-    (λ m. query-refusal (queryAlone query) k place (first-refusal queryChecks (queryAlone query) k place (checks.claims .refused-exactly query derivation k place m .0 e)) .small)
-    (λ m. ⊎-elim at-twenty (λ n. absurd (List·Memᴰ·not-nil n)) (List·Memᴰ·cases-cons m))
-    (List·Memᴰ·append-cases (numbers queryChecks) (checks.claims .refusal-numbered query derivation k place e))
-  where
-    at-twenty : k ≡ 20 → Small k place
-    at-twenty q =
-        let z = checks.claims .shape-exactly query derivation place .0 (e ∙ ap (λ (j : ℕ). checking.refused j place) q) .0 in
-        (omega arith, omega arith, omega arith)
+  pub check-refused : (k place : ℕ) → checking.checkCallOf f query derivation ≡ checking.refused k place → Small k place
+  check-refused k place e =
+      ⊎-elim by-query
+      (λ m. ⊎-elim at-twenty (λ n. absurd (List·Memᴰ·not-nil n)) (List·Memᴰ·cases-cons m))
+      (List·Memᴰ·append-cases (numbers (f .checks)) (claims .refusal-numbered query derivation k place e))
+    where
+      by-query : List·Memᴰ k (numbers (f .checks)) → Small k place
+      by-query m =
+          let u = laws .early k m .0 in
+          let h = first-refusal (f .checks) (queryAlone query) k place (claims .refused-exactly query derivation k place m .0 e) in
+          let p = laws .placed (queryAlone query) k place h in
+          (u .0, ⊎-elim (λ l. omega (arith, l)) (λ l. omega (arith, l)) (u .1), omega (arith, p .1, short))
+
+      at-twenty : k ≡ 20 → Small k place
+      at-twenty q =
+          let z = claims .shape-exactly query derivation place .0 (e ∙ ap (λ (j : ℕ). checking.refused j place) q) .0 in
+          (omega arith, omega arith, omega arith)
 
 -- The formula call: a conjunction's number is 1 to 64, a place in the text at most 512
 

@@ -1,18 +1,21 @@
 -- The number gives back the answer: of every call, for whatever it is given. `r` is the number that the call answers and `bytes` what it leaves in
 -- the lent output: its contract is the hypothesis. Assumes nothing.
-use Prim.Native.Nat.{ℕ, _<_}
+use Prim.Native.Nat.{ℕ, _≤_, _<_}
 use native.Mathlib.Omega.{arith}
 use mathlib.Core.Path.{_≡_}
 use mathlib.Core.List.{List}
 use lib.ListN.{length}
 use Rattle.logic.specs.Calls.{CallForm, oneLinkForm, verdictCall, verdictCallOf, derivationCall, derivationCallOf}
 use Rattle.logic.specs.ThreeLinks.{threeLinkForm}
+use Rattle.theory.proofs.Calls.CallLaws.{FormLaws}
 use Rattle.theory.proofs.Calls.Refusals.{one-link-laws}
 use Rattle.theory.proofs.Calls.ThreeLinks.{three-link-laws}
 use Rattle.prover.specs.Promise.{inputOf}
 use Rattle.formula.specs.Call.{formulaCall}
 use Rattle.formula_call.specs.FormulaPromise.{formulaInput}
-use Rattle.checking.specs.CheckCall.{checkCall}
+use Rattle.checking.specs.CheckCall.{checkCall, checkCallOf}
+use Rattle.checking.specs.Claims.{Claims}
+use Rattle.checking.proofs.Claims as checks
 use Rattle.between_search.specs.Calls.{betweenCall}
 use Rattle.ordering.specs.Calls.{orderCall}
 use Rattle.drawing.specs.Call.{dotCall}
@@ -56,8 +59,16 @@ module _ (order query before bytes : List ℕ) (r : ℕ) where
       let i = formulaInput order query text before in
       number-back formulaDigits formulaRead _ (formula-returns _ (formula-counted i) (λ k place. formula-refused i place k)) r (codes .answers)
 
+module _ (f : CallForm) (laws : FormLaws f) (claims : Claims f) (short : f .longest ≤ 637) (query derivation : List ℕ) where
+  check-number : (r : ℕ) → r ≡ code (checkDigits (checkCallOf f query derivation)) → checkRead (digitsIn r) ≡ checkCallOf f query derivation
+  check-number = number-back checkDigits checkRead _ (check-returns _ (check-counted f laws claims short query derivation) (check-refused f laws claims short query derivation))
+
 pub lemitsaka-check : (query derivation : List ℕ) (r : ℕ) → r ≡ code (checkDigits (checkCall query derivation)) → checkRead (digitsIn r) ≡ checkCall query derivation
-lemitsaka-check query derivation = number-back checkDigits checkRead _ (check-returns _ (check-counted query derivation) (check-refused query derivation))
+lemitsaka-check = check-number oneLinkForm one-link-laws checks.claims (omega arith)
+
+pub lemitsaka-links-check : (query derivation : List ℕ) (r : ℕ) → r ≡ code (checkDigits (checkCallOf threeLinkForm query derivation))
+    → checkRead (digitsIn r) ≡ checkCallOf threeLinkForm query derivation
+lemitsaka-links-check = check-number threeLinkForm three-link-laws checks.links-claims (omega arith)
 
 -- the calls that take one slice and are lent so many bytes
 module _ (given : List ℕ) (room : ℕ) (bytes : List ℕ) (r : ℕ) where

@@ -85,7 +85,8 @@ module _ (full : FullLayout) (bytes : List ℕ) (s : Sections full bytes) (few :
       let r = reach-stands in
       let first = sized (l .terms) 2 1 (omega (arith, t .fits, t .next-is)) in
       let second = sized (l .«equal_count») 3 (s .second + 1) (omega (arith, e .fits, e .next-is)) in
-      let place : length (take (l .terms * 2) (drop 1 bytes)) + length (take (l .«equal_count» * 3) (drop (s .second + 1) bytes)) + 3 ≡ s .third + 1 = omega (arith, first, second, t .next-is, e .next-is) in
+      let place : length (take (l .terms * 2) (drop 1 bytes)) + length (take (l .«equal_count» * 3) (drop (s .second + 1) bytes)) + 3 ≡ s .third + 1 =
+      omega (arith, first, second, t .next-is, e .next-is) in
       rw (links-laid, place, entry-links bytes (l .terms) 1 (omega (arith, t .fits, t .next-is)), reach-links bytes (l .«reach_count») (s .third + 1) (omega (arith, r .fits, r .next-is)), s .reach-at)
 
   pub links-within : Within l bytes
@@ -108,9 +109,17 @@ module _ (full : FullLayout) (bytes : List ℕ) (s : Sections full bytes) (few :
 
   pub links-said : said l bytes ≡ decodeLinks bytes
   unfolding said entriesBy reachBy entryWidth reachWidth entryKind reachKind decodeLinks linkedQuery section
-  links-said = rw (links-laid, three, part-at (l .terms) 2 0 1 refl, part-at (l .«equal_count») 3 (s .second) (l .«equal_at») (s .equal-at), part-at (l .«reach_count») 4 (s .third) (l .«reach_at») (s .reach-at), part-at (l .«field_count») 3 (s .fourth) (l .«field_at») (s .field-at))
+  links-said = rw (
+    links-laid,
+    three,
+    part-at (l .terms) 2 0 1 refl,
+    part-at (l .«equal_count») 3 (s .second) (l .«equal_at») (s .equal-at),
+    part-at (l .«reach_count») 4 (s .third) (l .«reach_at») (s .reach-at),
+    part-at (l .«field_count») 3 (s .fourth) (l .«field_at») (s .field-at),
+  )
 
-  answered : linkFault (layoutBy linkSections bytes) ≡ none → {o : Option Answer} → ((i : Input) → i .query ≡ bytes → refusalOf (formChecks (formBy (l .links) 0 26)) i ≡ o) → (i : Input) → i .query ≡ bytes → refusalOf linkChecks i ≡ o
+  answered : linkFault (layoutBy linkSections bytes) ≡ none → {o : Option Answer} →
+      ((i : Input) → i .query ≡ bytes → refusalOf (formChecks (formBy (l .links) 0 26)) i ≡ o) → (i : Input) → i .query ≡ bytes → refusalOf linkChecks i ≡ o
   answered free h i q = link-free bytes i q free ∙ rw (three-form, ← three) (h i q)
 
   -- where the walk from the front meets no refusal, 22 answers, and then the search of the bytes

@@ -32,13 +32,16 @@ module _ (l : Layout) (bytes : List ℕ) (laid : LaysOut l bytes) (ok : accepts 
   pub short : room < length bytes + l .terms + l .«reach_count» → (out : List ℕ) → out ≡ replicate room 0 → Does (linksRewriteCall bytes room) (answer.Refused 27 0) out
   short h out e = does-blank room (call-full rewritingLinks bytes room passed (lt-leb _ room (omega (arith, h, written-long l bytes laid ok)))) e
 
-  pub done : length bytes + l .terms + l .«reach_count» ≤ room → (before after : List ℕ) (r : ℕ) → before ≡ replicate room 0 → Writes before 0 (rewrittenBytes (l .terms) (reach-place l bytes laid ok) (l .«reach_count») bytes) after r → Does (linksRewriteCall bytes room) (answer.Written r) after
+  pub done : length bytes + l .terms + l .«reach_count» ≤ room → (before after : List ℕ) (r : ℕ) → before ≡ replicate room 0 →
+      Writes before 0 (rewrittenBytes (l .terms) (reach-place l bytes laid ok) (l .«reach_count») bytes) after r →
+      Does (linksRewriteCall bytes room) (answer.Written r) after
   done h before after r e w =
       let fits : length (linkedBytes bytes) ≤ room = omega (arith, h, written-long l bytes laid ok) in
       does-write room (call-writes rewritingLinks bytes room passed (le-leb _ room fits)) fits e (writes-as (written-is l bytes laid ok) w)
 
 -- The checks
 
-pub refuses : (bytes : List ℕ) (room : ℕ) {k place : ℕ} → CheckedAs (checked.Refused k place) bytes → (out : List ℕ) → out ≡ replicate room 0 → Does (linksRewriteCall bytes room) (answer.Refused k place) out
+pub refuses : (bytes : List ℕ) (room : ℕ) {k place : ℕ} → CheckedAs (checked.Refused k place) bytes → (out : List ℕ) → out ≡ replicate room 0 →
+    Does (linksRewriteCall bytes room) (answer.Refused k place) out
 unfolding queryChecks
 refuses bytes room {k} {place} h out e = does-blank room (call-refused rewritingLinks bytes room (calls.refused k place) (h (given bytes room) refl)) e

@@ -28,7 +28,8 @@ unfolding linkBefore _or_
 before-other b z n = rw (eqb-false b 0 z, eqb-false b 255 n)
 
 -- the terms from i on
-pub terms-next : (terms : List ℕ) (i : ℕ) → i < length terms → flatMap entryBytes (drop i terms) ≡ (linkBefore (getD terms i 0) ∷ []) ++ ((getD terms i 0 ∷ []) ++ flatMap entryBytes (drop (i + 1) terms))
+pub terms-next : (terms : List ℕ) (i : ℕ) → i < length terms →
+    flatMap entryBytes (drop i terms) ≡ (linkBefore (getD terms i 0) ∷ []) ++ ((getD terms i 0 ∷ []) ++ flatMap entryBytes (drop (i + 1) terms))
 unfolding flatMap entryBytes
 terms-next terms i h = ap (flatMap entryBytes) (left-first terms i h)
 
@@ -52,7 +53,9 @@ module _ (bytes : List ℕ) (count : ℕ) (long : length bytes ≡ 3 * count) wh
       first (3 * k) (omega arith)
       ∙ ap (λ (xs : List ℕ). getD bytes (3 * k) 0 ∷ xs)
       (first (3 * k + 1) (omega arith)
-      ∙ ap (λ (xs : List ℕ). getD bytes (3 * k + 1) 0 ∷ xs) (at (3 * k + 1 + 1) (3 * k + 2) (omega arith) ∙ first (3 * k + 2) (omega arith) ∙ ap (λ (xs : List ℕ). getD bytes (3 * k + 2) 0 ∷ xs) (at (3 * k + 2 + 1) (3 * (k + 1)) (omega arith))))
+      ∙ ap (λ (xs : List ℕ). getD bytes (3 * k + 1) 0 ∷ xs)
+      (at (3 * k + 1 + 1) (3 * k + 2) (omega arith) ∙ first (3 * k + 2) (omega arith)
+      ∙ ap (λ (xs : List ℕ). getD bytes (3 * k + 2) 0 ∷ xs) (at (3 * k + 2 + 1) (3 * (k + 1)) (omega arith))))
     where
       first : (i : ℕ) → i < length bytes → drop i bytes ≡ getD bytes i 0 ∷ drop (i + 1) bytes
       first i l = left-first bytes i l

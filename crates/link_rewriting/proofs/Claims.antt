@@ -9,7 +9,8 @@ use borrow.Author.Tests.{leb-true, leb-false, lt-leb}
 use Rattle.logic.specs.Search.{keep}
 use Rattle.logic.specs.Query.{Query, isOrder, sections, decode}
 use Rattle.logic.specs.Heap.{Heap, Meets, Satisfiable}
-use Rattle.logic.specs.Calls.{Input, Check, CallForm, oneLinkForm, orderCheck, layoutCheck, byteCheck, formChecks, queryChecks, derivationChecksOf, verdictChecksOf, Answer, refused, accepts, acceptsBy, padded, verdictCall, verdictCallOf}
+use Rattle.logic.specs.Calls.{Input, Check, CallForm, oneLinkForm, orderCheck, layoutCheck, byteCheck, formChecks, queryChecks}
+use Rattle.logic.specs.Calls.{derivationChecksOf, verdictChecksOf, Answer, refused, accepts, acceptsBy, padded, verdictCall, verdictCallOf}
 use Rattle.logic.specs.Demands.{NotRefused, NoneStands, numbers}
 use Rattle.logic.specs.ThreeLinks.{decodeLinks, threeLinkForm}
 use Rattle.theory.proofs.Calls.CheckingOrder.{first-stands}
@@ -82,7 +83,8 @@ module _ (bytes : List ℕ) (room n : ℕ) (h : linksRewriteCall bytes room .ans
   heaps : (h : Heap) → Meets h (decode bytes) ↔ Meets h (decodeLinks (taken bytes room n))
   heaps h = subst (λ (q : Query). Meets h (decode bytes) ↔ Meets h q) (sym says) (same-heaps (decode bytes) (encodable .one-linked .entries) h)
 
-  verdicts : (i j : Input) → i .query ≡ bytes → j .query ≡ taken bytes room n → isOrder (i .order) ≡ true → isOrder (j .order) ≡ true → 53 ≤ i .room → 85 ≤ j .room → verdictCall i .answer ≡ verdictCallOf threeLinkForm j .answer
+  verdicts : (i j : Input) → i .query ≡ bytes → j .query ≡ taken bytes room n → isOrder (i .order) ≡ true → isOrder (j .order) ≡ true → 53 ≤ i .room →
+      85 ≤ j .room → verdictCall i .answer ≡ verdictCallOf threeLinkForm j .answer
   verdicts i j e f x y r s =
       let a = ap accepts e ∙ accepted in
       let b = ap (acceptsBy threeLinkForm) f ∙ links-take in

@@ -11,12 +11,15 @@ use lib.Dec.{eqb}
 use Rattle.logic.specs.Search.{_and_, _or_, from, keep, isSome, orElse, firstOf, flatMap}
 use Rattle.logic.specs.Query.{Literal, Query, termCount, Role, entryRole, signRole, termRole, countRole, booleanSection, parts, rolesOf, firstByte, layoutBy, faultIn, layoutFault, byteFault, section}
 use Rattle.logic.specs.Calls.{layoutCheck, byteCheck, refusalOf, acceptsBy}
-use Rattle.logic.specs.ThreeLinks.{linkSections, isLink, mayPrecede, entryLinkFault, reachLinkFault, linkFault, linkCheck, linkChecks, firsts, seconds, linkedLiterals, linkedQuery, decodeLinks, threeLinkForm}
+use Rattle.logic.specs.ThreeLinks.{linkSections, isLink, mayPrecede, entryLinkFault, reachLinkFault, linkFault, linkCheck}
+use Rattle.logic.specs.ThreeLinks.{linkChecks, firsts, seconds, linkedLiterals, linkedQuery, decodeLinks, threeLinkForm}
 use Rattle.theory.proofs.Basics.Count.{length-flatMap}
 use Rattle.theory.proofs.Query.Tied.{InTerms}
 use Rattle.theory.proofs.Query.Bytes.{Allows, Allowed}
 use Rattle.encoding.specs.QueryBytes.{literalBytes, sectionBytes}
-use Rattle.encoding.proofs.Encoded.{sign-reads, AboutOne, literals-read, layout-part, layout-none, allowed-faultless, sign-allowed, literals-allowed, literal-bytes, section-allowed, roles-none, none-allowed, Limits, within-limits, Encodable, entry-allowed, term-allowed, number-allowed}
+use Rattle.encoding.proofs.Encoded.{sign-reads, AboutOne, literals-read, layout-part, layout-none, allowed-faultless}
+use Rattle.encoding.proofs.Encoded.{sign-allowed, literals-allowed, literal-bytes, section-allowed, roles-none, none-allowed}
+use Rattle.encoding.proofs.Encoded.{Limits, within-limits, Encodable, entry-allowed, term-allowed, number-allowed}
 use Rattle.link_rewriting.specs.LinkedQuery.{linkBefore, withLinkOne, entryBytes, reachBytes, encodeLinks}
 
 -- Entries of two bytes
@@ -50,7 +53,8 @@ entries-linked place [] = refl
 entries-linked place (b ∷ bs) = rw (may-precede b) (entries-linked (place + 2) bs)
 
 -- entry j is allowed by its roles
-entries-allowed : (i : ℕ) (bs : List ℕ) → ((j : ℕ) → j < length bs → Allows (entryRole (i + j)) (getD bs j 0)) → Allowed (flatMap (λ j. countRole ∷ entryRole j ∷ []) (from (length bs) i)) (flatMap entryBytes bs)
+entries-allowed : (i : ℕ) (bs : List ℕ) → ((j : ℕ) → j < length bs → Allows (entryRole (i + j)) (getD bs j 0)) →
+    Allowed (flatMap (λ j. countRole ∷ entryRole j ∷ []) (from (length bs) i)) (flatMap entryBytes bs)
 unfolding flatMap from entryBytes countRole
 entries-allowed i [] h = tt
 entries-allowed i (b ∷ bs) h = (
@@ -76,7 +80,8 @@ unfolding reachLinkFault flatMap reachBytes isLink _and_ keep orElse
 reach-linked place [] = refl
 reach-linked place (l ∷ ls) = reach-linked (place + 4) ls
 
-reach-allowed : (role : Role) (i : ℕ) (ls : List Literal) → ((l : Literal) → List·Memᴰ l ls → Allows role (l .left) × Allows role (l .right)) → Allowed (flatMap (λ j. signRole ∷ countRole ∷ role ∷ role ∷ []) (from (length ls) i)) (flatMap reachBytes ls)
+reach-allowed : (role : Role) (i : ℕ) (ls : List Literal) → ((l : Literal) → List·Memᴰ l ls → Allows role (l .left) × Allows role (l .right)) →
+    Allowed (flatMap (λ j. signRole ∷ countRole ∷ role ∷ role ∷ []) (from (length ls) i)) (flatMap reachBytes ls)
 unfolding flatMap from reachBytes countRole
 reach-allowed role i [] h = tt
 reach-allowed role i (l ∷ ls) h =
@@ -152,7 +157,9 @@ module _ (q : Query) (ok : Encodable q) where
       (section-allowed _ _ (termCount q) entry tail2 (λ i. refl) (entries-long (q .entries .terms)) (entries-allowed 1 (q .entries .terms) (entry-allowed q (ok .accepted)))
       (section-allowed _ _ (length (q .equalities)) equal tail3 (λ i. refl) (literal-bytes (q .equalities)) (literals-allowed _ _ 1 (q .equalities) (λ l m. both l (ok .accepted .equal-terms l m)))
       (section-allowed _ _ (length (q .reachability)) reach tail4 (λ i. refl) (reach-long (q .reachability)) (reach-allowed _ 1 (q .reachability) (λ l m. both l (ok .accepted .reach-terms l m)))
-      (section-allowed _ _ (length (q .fields)) field tail5 (λ i. refl) (literal-bytes (q .fields)) (literals-allowed _ _ 1 (q .fields) (λ l m. (number-allowed q (ok .accepted) (l .left) (ok .accepted .field-number l m), term-allowed q (ok .accepted) (l .right) (ok .accepted .field-term l m))))
+      (section-allowed _ _ (length (q .fields)) field tail5 (λ i. refl) (literal-bytes (q .fields))
+      (literals-allowed _ _ 1 (q .fields)
+      (λ l m. (number-allowed q (ok .accepted) (l .left) (ok .accepted .field-number l m), term-allowed q (ok .accepted) (l .right) (ok .accepted .field-term l m))))
       (section-allowed _ _ 0 [] [] (λ i. refl) refl (none-allowed _) roles-none)))))
 
   layout-passed : (k : ℕ) → layoutFault linkSections k (encodeLinks q) ≡ none
@@ -171,14 +178,34 @@ module _ (q : Query) (ok : Encodable q) where
   pub links-accepted : acceptsBy threeLinkForm (encodeLinks q) ≡ true
   unfolding acceptsBy refusalOf linkChecks linkCheck layoutCheck byteCheck firstOf orElse isSome Option·elim
   links-accepted =
-      rw (layout-passed 2, layout-passed 3, layout-passed 26, layout-passed 4, link-passed, byte-passed 5 (omega arith) (omega arith), byte-passed 6 (omega arith) (omega arith), byte-passed 7 (omega arith) (omega arith), byte-passed 8 (omega arith) (omega arith))
+      rw (
+        layout-passed 2,
+        layout-passed 3,
+        layout-passed 26,
+        layout-passed 4,
+        link-passed,
+        byte-passed 5 (omega arith) (omega arith),
+        byte-passed 6 (omega arith) (omega arith),
+        byte-passed 7 (omega arith) (omega arith),
+        byte-passed 8 (omega arith) (omega arith),
+      )
 
   -- each term takes a byte more than in the old layout, and each reachability literal
   pub links-length : length (encodeLinks q) ≡ 2 * termCount q + 3 * length (q .equalities) + 4 * length (q .reachability) + 3 * length (q .fields) + 5
   unfolding termCount entry equal reach field tail5 tail4 tail3 tail2
   links-length =
       ap length bytes-are
-      ∙ omega (arith, length-append entry tail2, length-append equal tail3, length-append reach tail4, length-append field tail5, entries-long (q .entries .terms), literal-bytes (q .equalities), reach-long (q .reachability), literal-bytes (q .fields))
+      ∙ omega (
+        arith,
+        length-append entry tail2,
+        length-append equal tail3,
+        length-append reach tail4,
+        length-append field tail5,
+        entries-long (q .entries .terms),
+        literal-bytes (q .equalities),
+        reach-long (q .reachability),
+        literal-bytes (q .fields),
+      )
 
   pub links-within : length (encodeLinks q) ≤ 637
   links-within = omega (arith, links-length, limits .terms, limits .equalities, limits .reachability, limits .fields)

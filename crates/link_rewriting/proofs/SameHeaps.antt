@@ -69,7 +69,9 @@ module _ (e : Entries) (none : e .links ≡ []) where
       go (within-same h k (argumentOf e t)) (eqb (argumentOf e t) 0) refl
       ∙ ap (λ (a : ℕ). cond (eqb a 0) (h .variable t) (h .link (linkOf (linked e) t) (valueWithin h (linked e) k a))) (argument-same t)
     where
-      go : valueWithin h e k (argumentOf e t) ≡ valueWithin h (linked e) k (argumentOf e t) → (c : Bool) → eqb (argumentOf e t) 0 ≡ c → cond c (h .variable t) (h .link (linkOf e t) (valueWithin h e k (argumentOf e t))) ≡ cond c (h .variable t) (h .link (linkOf (linked e) t) (valueWithin h (linked e) k (argumentOf e t)))
+      go : valueWithin h e k (argumentOf e t) ≡ valueWithin h (linked e) k (argumentOf e t) → (c : Bool) → eqb (argumentOf e t) 0 ≡ c →
+          cond c (h .variable t) (h .link (linkOf e t) (valueWithin h e k (argumentOf e t))) ≡ cond c (h .variable t)
+          (h .link (linkOf (linked e) t) (valueWithin h (linked e) k (argumentOf e t)))
       go same true z = refl
       go same false z = ap₂ (λ (i v : ℕ). h .link i v) (link-same t (above (argumentOf e t) z)) same
 
@@ -90,7 +92,9 @@ module _ (h : Heap) (e f : Entries) (names : (t : ℕ) → namesNil e t ≡ name
   moved : (P : ℕ → ℕ → Type 0) (x y : ℕ) → P (value h e x) (value h e y) → P (value h f x) (value h f y)
   moved P x y p = subst₂ P (same x) (same y) p
 
-  meets-moved : (links links′ : ℕ) (equalities reachability fields : List Literal) → Meets h (record { links = links; entries = e; equalities = equalities; reachability = reachability; fields = fields }) → Meets h (record { links = links′; entries = f; equalities = equalities; reachability = reachability; fields = fields })
+  meets-moved : (links links′ : ℕ) (equalities reachability fields : List Literal) →
+      Meets h (record { links = links; entries = e; equalities = equalities; reachability = reachability; fields = fields }) →
+      Meets h (record { links = links′; entries = f; equalities = equalities; reachability = reachability; fields = fields })
   meets-moved links links′ equalities reachability fields m =
       record {
         is-heap = m .is-heap;

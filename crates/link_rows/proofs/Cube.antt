@@ -66,7 +66,8 @@ nothing-linked n k a b = rw (getD-zeros n (17 * (k - 1) + a), row-none b) (and-f
 pub same-row : (rows later : List ℕ) (j x : ℕ) → (0 < j → x ≤ 16 → getD later (17 * (j - 1) + x) 0 ≡ getD rows (17 * (j - 1) + x) 0) → cube later j x ≡ cube rows j x
 same-row rows later j x e =
     ⊎-elim (λ h. fun-ext (λ b. cube-none later j x b h ∙ sym (cube-none rows j x b h)))
-    (λ h. ⊎-elim (λ l. fun-ext (λ b. cube-above later j x b l ∙ sym (cube-above rows j x b l))) (λ l. cube-row later j x h (omega arith) ∙ ap rowOf (e h (omega arith)) ∙ sym (cube-row rows j x h (omega arith))) (le-cases 17 x))
+    (λ h. ⊎-elim (λ l. fun-ext (λ b. cube-above later j x b l ∙ sym (cube-above rows j x b l)))
+    (λ l. cube-row later j x h (omega arith) ∙ ap rowOf (e h (omega arith)) ∙ sym (cube-row rows j x h (omega arith))) (le-cases 17 x))
     (le-cases j 0)
 
 -- where a row is written, the relation of its link is changed there alone
@@ -78,7 +79,8 @@ module _ (rows : List ℕ) (k a w : ℕ) (h : 0 < k) (l : a ≤ 16) where
   set-row j x d = same-row rows _ j x (λ i m. getD-set-other rows (17 * (k - 1) + a) (17 * (j - 1) + x) w 0 (λ e. d (omega arith) (omega arith)))
 
 -- a bit is added to a row of a link
-pub cube-add : (rows : List ℕ) → length rows ≡ 51 → (k a b w : ℕ) → 0 < k → k ≤ 3 → a ≤ 16 → b ≤ 16 → ((i : ℕ) → bit w i ≡ eqb i b) → cube (set rows (17 * (k - 1) + a) (bitOr (getD rows (17 * (k - 1) + a) 0) w)) ≡ (λ j x y. cube rows j x y or (eqb j k and eqb x a and eqb y b))
+pub cube-add : (rows : List ℕ) → length rows ≡ 51 → (k a b w : ℕ) → 0 < k → k ≤ 3 → a ≤ 16 → b ≤ 16 → ((i : ℕ) → bit w i ≡ eqb i b) →
+    cube (set rows (17 * (k - 1) + a) (bitOr (getD rows (17 * (k - 1) + a) 0) w)) ≡ (λ j x y. cube rows j x y or (eqb j k and eqb x a and eqb y b))
 unfolding _and_ _or_
 cube-add rows full k a b w h l m n e = fun-ext (λ j. fun-ext (λ x. fun-ext (λ y. go j x y (eqb j k) refl (eqb x a) refl)))
   where
@@ -96,11 +98,13 @@ cube-add rows full k a b w h l m n e = fun-ext (λ j. fun-ext (λ x. fun-ext (λ
     go j x y true f false g = ap (λ (p : ℕ → Bool). p y) (set-row rows k a new h m j x (λ i o. eqb-false x a g o)) ∙ none (cube rows j x y)
     go j x y false f t g = ap (λ (p : ℕ → Bool). p y) (set-row rows k a new h m j x (λ i o. eqb-false j k f i)) ∙ none (cube rows j x y)
 
-pub cube-added : (rows : List ℕ) → length rows ≡ 51 → (k a b w : ℕ) → 0 < k → k ≤ 3 → a ≤ 16 → b ≤ 16 → (from : ℕ) → from ≡ 17 * (k - 1) → ((i : ℕ) → bit w i ≡ eqb i b) → cube (set rows (from + a) (bitOr (getD rows (from + a) 0) w)) ≡ (λ j x y. cube rows j x y or (eqb j k and eqb x a and eqb y b))
+pub cube-added : (rows : List ℕ) → length rows ≡ 51 → (k a b w : ℕ) → 0 < k → k ≤ 3 → a ≤ 16 → b ≤ 16 → (from : ℕ) → from ≡ 17 * (k - 1) →
+    ((i : ℕ) → bit w i ≡ eqb i b) → cube (set rows (from + a) (bitOr (getD rows (from + a) 0) w)) ≡ (λ j x y. cube rows j x y or (eqb j k and eqb x a and eqb y b))
 cube-added rows full k a b w h l m n from e f = ap (λ (i : ℕ). cube (set rows (i + a) (bitOr (getD rows (i + a) 0) w))) e ∙ cube-add rows full k a b w h l m n f
 
 -- a row of a link, cut to the terms
-pub successors-at : (rows : List ℕ) (n k t : ℕ) → 0 < k → t ≤ 16 → n ≤ 16 → (from : ℕ) → from ≡ 17 * (k - 1) → (among : ℕ) → ((i : ℕ) → bit among i ≡ ltb 0 i and ltb i (n + 1)) → (i : ℕ) → bit (bitAnd (getD rows (from + t) 0) among) i ≡ cube rows k t i and (ltb 0 i and ltb i (n + 1))
+pub successors-at : (rows : List ℕ) (n k t : ℕ) → 0 < k → t ≤ 16 → n ≤ 16 → (from : ℕ) → from ≡ 17 * (k - 1) → (among : ℕ) →
+    ((i : ℕ) → bit among i ≡ ltb 0 i and ltb i (n + 1)) → (i : ℕ) → bit (bitAnd (getD rows (from + t) 0) among) i ≡ cube rows k t i and (ltb 0 i and ltb i (n + 1))
 unfolding _and_
 successors-at rows n k t h l m from e among f i = bit-and (getD rows (from + t) 0) among i ∙ rw (f i) (go (ltb i (n + 1)) refl)
   where
@@ -120,7 +124,9 @@ module _ (rows : List ℕ) (k : ℕ) (h : 0 < k) where
       fun-ext
       (λ a.
       ⊎-elim (λ l. fun-ext (λ b. square-above _ a b l ∙ sym (cube-above rows k a b l)))
-      (λ l. square-row _ a (omega arith) ∙ ap rowOf (getD-take (from + 17 - from) (drop from rows) a 0 (omega arith) ∙ getD-drop from rows a 0 ∙ ap (λ (i : ℕ). getD rows (i + a) 0) e) ∙ sym (cube-row rows k a h (omega arith)))
+      (λ l. square-row _ a (omega arith)
+      ∙ ap rowOf (getD-take (from + 17 - from) (drop from rows) a 0 (omega arith) ∙ getD-drop from rows a 0 ∙ ap (λ (i : ℕ). getD rows (i + a) 0) e)
+      ∙ sym (cube-row rows k a h (omega arith)))
       (le-cases 17 a))
 
   module _ (l : k ≤ 3) (full : length rows ≡ 51) (own : List ℕ) (long : length own ≡ 17) (from : ℕ) (e : from ≡ 17 * (k - 1)) where
@@ -160,7 +166,9 @@ module _ (rows : List ℕ) (k : ℕ) (h : 0 < k) where
         here j i = ap (cube whole) i ∙ own-link ∙ sym (rw (eq-eqb j k i))
 
         there : (j : ℕ) → (j ≡ k → ⊥) → cube whole j ≡ cube rows j
-        there j d = fun-ext (λ x. same-row rows whole j x (λ i m. ⊎-elim (λ n. before _ (omega (arith, n, e))) (λ n. let past : k < j = lt-of-le-ne (omega (arith, n)) (λ z. d (sym z)) in behind _ (omega (arith, past, e))) (le-cases (suc j) k)))
+        there j d = fun-ext (λ x. same-row rows whole j x
+            (λ i m. ⊎-elim (λ n. before _ (omega (arith, n, e))) (λ n. let past : k < j = lt-of-le-ne (omega (arith, n)) (λ z. d (sym z)) in
+            behind _ (omega (arith, past, e))) (le-cases (suc j) k)))
 
 -- the part is a link's rows; put back, as many are there as were
 module _ (rows : List ℕ) (from : ℕ) (full : length rows ≡ 51) (l : from ≤ 34) where
@@ -171,11 +179,14 @@ module _ (rows : List ℕ) (from : ℕ) (full : length rows ≡ 51) (l : from �
   back-long own e = same-len-mid from (from + 17 - from) rows own (e ∙ sym part-long)
 
 -- a relation laid down as that of a link
-pub put-as : (rows : List ℕ) (k : ℕ) → 0 < k → k ≤ 3 → length rows ≡ 51 → (own : List ℕ) → length own ≡ 17 → (from : ℕ) → from ≡ 17 * (k - 1) → (f : ℕ → ℕ → Bool) → square own ≡ f → cube (putMid from (from + 17 - from) rows own) ≡ (λ j. cond (eqb j k) f (cube rows j))
+pub put-as : (rows : List ℕ) (k : ℕ) → 0 < k → k ≤ 3 → length rows ≡ 51 → (own : List ℕ) → length own ≡ 17 → (from : ℕ) → from ≡ 17 * (k - 1) →
+    (f : ℕ → ℕ → Bool) → square own ≡ f → cube (putMid from (from + 17 - from) rows own) ≡ (λ j. cond (eqb j k) f (cube rows j))
 put-as rows k h l full own long from e f i = put-back rows k h l full own long from e ∙ ap (λ (g : ℕ → ℕ → Bool). λ j. cond (eqb j k) g (cube rows j)) i
 
 -- a replacement in the rows of a link
-pub replaced-by : (rows : List ℕ) (k : ℕ) → 0 < k → k ≤ 3 → length rows ≡ 51 → (own : List ℕ) → length own ≡ 17 → (from : ℕ) → from ≡ 17 * (k - 1) → (lo hi : ℕ) → square own ≡ replaceIn lo hi (square (take (from + 17 - from) (drop from rows))) → cube (putMid from (from + 17 - from) rows own) ≡ (λ j. cond (eqb j k) (replaceIn lo hi (cube rows j)) (cube rows j))
+pub replaced-by : (rows : List ℕ) (k : ℕ) → 0 < k → k ≤ 3 → length rows ≡ 51 → (own : List ℕ) → length own ≡ 17 → (from : ℕ) → from ≡ 17 * (k - 1) →
+    (lo hi : ℕ) → square own ≡ replaceIn lo hi (square (take (from + 17 - from) (drop from rows))) →
+    cube (putMid from (from + 17 - from) rows own) ≡ (λ j. cond (eqb j k) (replaceIn lo hi (cube rows j)) (cube rows j))
 replaced-by rows k h l full own long from e lo hi f =
     put-back rows k h l full own long from e
     ∙ fun-ext (λ j. ⊎-elim (λ i. rw (eq-eqb j k i) (f ∙ ap (replaceIn lo hi) (part-square rows k h from e ∙ ap (cube rows) (sym i)))) (λ d. rw (d .1)) (eq-cases j k))
@@ -207,8 +218,10 @@ module _ (rows : List ℕ) (lo hi : ℕ) where
       le-zero : (j : ℕ) → j ≤ 0 → j ≡ 0
       le-zero j h = omega arith
 
-  pub replaced-more : (cur later : List ℕ) (k : ℕ) → cube later ≡ (λ j. cond (eqb j k) (replaceIn lo hi (cube cur j)) (cube cur j)) → Filled new (cube rows) k (cube cur) → Filled new (cube rows) (k + 1) (cube later)
-  replaced-more cur later k e m = filled-more new (cube rows) k (cube cur) (cube later) (at k ∙ rw (eq-eqb k k refl) (ap (replaceIn lo hi) (filled-old new (cube rows) k (cube cur) m))) (λ x d. at x ∙ rw (ne-eqb x k d)) m
+  pub replaced-more : (cur later : List ℕ) (k : ℕ) → cube later ≡ (λ j. cond (eqb j k) (replaceIn lo hi (cube cur j)) (cube cur j)) →
+      Filled new (cube rows) k (cube cur) → Filled new (cube rows) (k + 1) (cube later)
+  replaced-more cur later k e m = filled-more new (cube rows) k (cube cur) (cube later)
+      (at k ∙ rw (eq-eqb k k refl) (ap (replaceIn lo hi) (filled-old new (cube rows) k (cube cur) m))) (λ x d. at x ∙ rw (ne-eqb x k d)) m
     where
       at : (j : ℕ) → cube later j ≡ cond (eqb j k) (replaceIn lo hi (cube cur j)) (cube cur j)
       at j = ap (λ (f : ℕ → ℕ → ℕ → Bool). f j) e
@@ -239,7 +252,8 @@ module _ (rows : List ℕ) (from : ℕ) where
       (le-cases 17 a))
 
 -- The same in the other direction
-pub laid-more : (own rows cur : List ℕ) → length cur ≡ 17 → (a : ℕ) → a ≤ 16 → Filled (square own) (square rows) a (square cur) → Filled (square own) (square rows) (a + 1) (square (set cur a (getD own a 0)))
+pub laid-more : (own rows cur : List ℕ) → length cur ≡ 17 → (a : ℕ) → a ≤ 16 → Filled (square own) (square rows) a (square cur) →
+    Filled (square own) (square rows) (a + 1) (square (set cur a (getD own a 0)))
 laid-more own rows cur full a h m = filled-more (square own) (square rows) a (square cur) _ (sq.set-same cur a _ full h ∙ sym (square-row own a h)) (sq.set-other cur a _) m
 
 pub laid-all : (own rows cur : List ℕ) → Filled (square own) (square rows) 17 (square cur) → square cur ≡ square own

@@ -213,7 +213,8 @@ module _ (n : ℕ) (g : Graph) (x : ℕ) where
       go false = sym (ne-eqb 0 (suc (stepsTo n g x left (next n g (next n g c)))) (λ (e : 0 ≡ suc (stepsTo n g x left (next n g (next n g c)))). omega arith))
   returns-is (suc left) (suc k) c h = go (eqb (next n g c) x) (returns-is left k (next n g c) (omega arith))
     where
-      go : (t : Bool) → returns n g x (suc k) (next n g c) ≡ eqb k (stepsTo n g x left (next n g (next n g c))) → cond t (eqb (suc k) 0) (returns n g x (suc k) (next n g c)) ≡ eqb (suc k) (cond t 0 (suc (stepsTo n g x left (next n g (next n g c)))))
+      go : (t : Bool) → returns n g x (suc k) (next n g c) ≡ eqb k (stepsTo n g x left (next n g (next n g c))) →
+          cond t (eqb (suc k) 0) (returns n g x (suc k) (next n g c)) ≡ eqb (suc k) (cond t 0 (suc (stepsTo n g x left (next n g (next n g c)))))
       go true ih = refl
       go false ih = ih ∙ sym (eqb-suc k _)
 
@@ -238,7 +239,8 @@ module _ (n : ℕ) (g : Graph) (x : ℕ) where
       here : c ≡ x → (eqb x c or any (held (λ i. g)) (map (equal x) (round n g k (next n g c)))) ≡ ltb (cond (eqb c x) 0 (suc (stepsTo n g x k (next n g c)))) (suc k)
       here e = rw (eq-eqb c x e, eq-eqb x c (sym e)) (sym (lt-ltb 0 (suc k) (omega arith)))
 
-      there : (c ≡ x → ⊥) → any (held (λ i. g)) (map (equal x) (round n g k (next n g c))) ≡ ltb (stepsTo n g x k (next n g c)) k → (eqb x c or any (held (λ i. g)) (map (equal x) (round n g k (next n g c)))) ≡ ltb (cond (eqb c x) 0 (suc (stepsTo n g x k (next n g c)))) (suc k)
+      there : (c ≡ x → ⊥) → any (held (λ i. g)) (map (equal x) (round n g k (next n g c))) ≡ ltb (stepsTo n g x k (next n g c)) k →
+          (eqb x c or any (held (λ i. g)) (map (equal x) (round n g k (next n g c)))) ≡ ltb (cond (eqb c x) 0 (suc (stepsTo n g x k (next n g c)))) (suc k)
       there e ih = rw (ne-eqb c x e, ne-eqb x c (λ q. e (sym q))) (ih ∙ sym (ltb-suc _ k))
 
 -- following reads the links alone
@@ -254,7 +256,8 @@ module _ (n : ℕ) (link reach : List ℕ) where
   back-links x c s e h = ap (λ (k : ℕ). k + 1) (h ∙ ap (stepsTo n (linksIn link) x n) e ∙ steps-links x n (next n (linksIn link) x))
 
 -- the terms passed, with one more before them; with one more after them, from which the links lead on or back
-pub passed-more : (n : ℕ) (g : Graph) (y c d s passed o : ℕ) → d ≡ next n g c → bit passed y ≡ ltb (stepsTo n g y s d) s → bit o y ≡ eqb y c → bit (bitOr passed o) y ≡ ltb (stepsTo n g y (s + 1) c) (s + 1)
+pub passed-more : (n : ℕ) (g : Graph) (y c d s passed o : ℕ) → d ≡ next n g c → bit passed y ≡ ltb (stepsTo n g y s d) s → bit o y ≡ eqb y c →
+    bit (bitOr passed o) y ≡ ltb (stepsTo n g y (s + 1) c) (s + 1)
 passed-more n g y c d s passed o q e f = bit-or passed o y ∙ ap₂ _or_ (e ∙ ap (λ (t : ℕ). ltb (stepsTo n g y s t) s) q) f ∙ passed-on n g y c s
 
 module _ (n : ℕ) (g : Graph) (c k t passed o : ℕ) (e : t ≡ iterate (next n g) k c) (f : (y : ℕ) → bit passed y ≡ ltb (stepsTo n g y k c) k) (h : (y : ℕ) → bit o y ≡ eqb y t) where

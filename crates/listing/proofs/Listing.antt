@@ -92,7 +92,9 @@ module _ (q : Query) (order : List Rule) (k : ℕ) (s : Facts) (link : ℕ) (rul
   pub going-first : (before : List ℕ) (c : ℕ) → Going before c 0 before c
   going-first before c = inr (turn-first (termCount q) w s cs before c)
 
-  module _ (n : ℕ) (terms-are : n ≡ termCount q) (before : List ℕ) (c i : ℕ) (bytes bytes′ : List ℕ) (count most : ℕ) (in-row : i < countOf rule z) (j : Joined) (j-is : j ≡ branch n s (alternativeAt link n (s .graph link) rule x y z i)) (r : Listed) (listed : Lists r (walkBranch w j) bytes count most bytes′) where
+  module _ (n : ℕ) (terms-are : n ≡ termCount q) (before : List ℕ) (c i : ℕ) (bytes bytes′ : List ℕ) (count most : ℕ) (in-row : i < countOf rule z)
+      (j : Joined) (j-is : j ≡ branch n s (alternativeAt link n (s .graph link) rule x y z i)) (r : Listed)
+      (listed : Lists r (walkBranch w j) bytes count most bytes′) where
     in-alternatives : i < length cs
     in-alternatives = omega (arith, count-is link (termCount q) (s .graph) rule x y z)
 
@@ -131,7 +133,8 @@ module _ (q : Query) (order : List Rule) (k : ℕ) (s : Facts) (link : ℕ) (rul
     unfolding after
     more-open l c₀ u ls h g = absurd (open-refuted u ls (sym (ap (after (l ∷ [])) h) ∙ g))
 
-    more-here : (l : Line) (c₀ : ℕ) → c ≡ counted c₀ → (t : Turn (termCount q) w s cs before c i bytes count) (ms ls : List Line) → walkBranch w j ≡ refutation ms → r .stopped ≡ true → after (l ∷ []) each ≡ refutation ls → most < countAll c₀ ls
+    more-here : (l : Line) (c₀ : ℕ) → c ≡ counted c₀ → (t : Turn (termCount q) w s cs before c i bytes count) (ms ls : List Line) →
+        walkBranch w j ≡ refutation ms → r .stopped ≡ true → after (l ∷ []) each ≡ refutation ls → most < countAll c₀ ls
     unfolding countAll
     more-here l c₀ ec t ms ls h f g =
         more-of (l ∷ (t .lines ++ ms)) (walkEach (termCount q) w s (drop (i + 1) cs)) ls c₀ most
@@ -146,7 +149,8 @@ module _ (q : Query) (order : List Rule) (k : ℕ) (s : Facts) (link : ℕ) (rul
         go (refutation ms) h = more-here l c₀ ec t ms ls h f g
         go (saturation u) h = more-open l c₀ u ls (open-now t u h) g
 
-    pub going-stop : look q order s ≡ applying m → 1 ≤ k → (old : List ℕ) (c₀ : ℕ) → c ≡ counted c₀ → length bytes ≡ length old → Going before c i bytes count → r .stopped ≡ true → Lists r (walk q order k s) old c₀ most bytes′
+    pub going-stop : look q order s ≡ applying m → 1 ≤ k → (old : List ℕ) (c₀ : ℕ) → c ≡ counted c₀ → length bytes ≡ length old →
+        Going before c i bytes count → r .stopped ≡ true → Lists r (walk q order k s) old c₀ most bytes′
     going-stop seen some-left old c₀ ec same g f =
         let e : walk q order k s ≡ after (moveLine m ∷ []) each = walk-applying q order k s m some-left seen in
         record {
@@ -157,7 +161,10 @@ module _ (q : Query) (order : List Rule) (k : ℕ) (s : Facts) (link : ℕ) (rul
         }
 
   -- no branch is left
-  pub going-last : look q order s ≡ applying m → 1 ≤ k → (before : List ℕ) (c i : ℕ) (bytes : List ℕ) (count most : ℕ) → Going before c i bytes count → countOf rule z ≤ i → (r : Listed) (old : List ℕ) (c₀ a : ℕ) → a ≡ moveNumber link rule → before ≡ putLine old c₀ (line a x y z) → c ≡ counted c₀ → length bytes ≡ length old → count ≤ 16001 → r .stopped ≡ false → r .count ≡ count → Lists r (walk q order k s) old c₀ most bytes
+  pub going-last : look q order s ≡ applying m → 1 ≤ k → (before : List ℕ) (c i : ℕ) (bytes : List ℕ) (count most : ℕ) →
+      Going before c i bytes count → countOf rule z ≤ i → (r : Listed) (old : List ℕ) (c₀ a : ℕ) → a ≡ moveNumber link rule →
+      before ≡ putLine old c₀ (line a x y z) → c ≡ counted c₀ → length bytes ≡ length old → count ≤ 16001 → r .stopped ≡ false → r .count ≡ count →
+      Lists r (walk q order k s) old c₀ most bytes
   unfolding after countAll putAll
   going-last seen some-left before c i bytes count most (inl o) past r old c₀ a num eb ec same b f rc =
       lists-open r (walk q order k s) (o .0) old c₀ most bytes (walk-applying q order k s m some-left seen ∙ ap (after (moveLine m ∷ [])) (o .1)) same (subst (λ (d : ℕ). d ≤ 16001) (sym rc) b)
@@ -176,7 +183,8 @@ module _ (q : Query) (order : List Rule) (k : ℕ) (s : Facts) (link : ℕ) (rul
       counts-all = rc ∙ t .counts ∙ ap (λ (d : ℕ). countAll d (t .lines)) ec
 
       writes-all : bytes ≡ putAll old c₀ (moveLine m ∷ t .lines)
-      writes-all = t .written ∙ ap (λ (b : List ℕ). putAll b c (t .lines)) (eb ∙ ap (putLine old c₀) (move-line link rule x y z a num)) ∙ ap (λ (d : ℕ). putAll (putLine old c₀ (moveLine m)) d (t .lines)) ec
+      writes-all = t .written ∙ ap (λ (b : List ℕ). putAll b c (t .lines)) (eb ∙ ap (putLine old c₀) (move-line link rule x y z a num))
+          ∙ ap (λ (d : ℕ). putAll (putLine old c₀ (moveLine m)) d (t .lines)) ec
 
 -- The lines of the joins stand in front, written and counted
 module _ (w : Facts → Ending) (j : Joined) (r : Listed) (before mid : List ℕ) (c c₁ most : ℕ) (ec : c₁ ≡ countAll c (joinLines (j .pairs))) (em : mid ≡ putAll before c (joinLines (j .pairs))) where
@@ -200,8 +208,11 @@ module _ (w : Facts → Ending) (j : Joined) (r : Listed) (before mid : List ℕ
         whole = λ ks h f.
             let (ms, e, g) = split (w (j .facts)) ks h in
             let (n, b) = p .whole ms e f in
-            subst (λ (xs : List Line). (r .count ≡ countAll c xs) × (bytes ≡ putAll before c xs)) g
-            (n ∙ ap (λ (d : ℕ). countAll d ms) ec ∙ sym (countAll-append c ls ms), b ∙ ap (λ (x : List ℕ). putAll x c₁ ms) em ∙ ap (λ (d : ℕ). putAll (putAll before c ls) d ms) ec ∙ sym (putAll-append before c ls ms));
+            subst (λ (xs : List Line). (r .count ≡ countAll c xs) × (bytes ≡ putAll before c xs)) g (
+              n ∙ ap (λ (d : ℕ). countAll d ms) ec ∙ sym (countAll-append c ls ms),
+              b ∙ ap (λ (x : List ℕ). putAll x c₁ ms) em
+                  ∙ ap (λ (d : ℕ). putAll (putAll before c ls) d ms) ec ∙ sym (putAll-append before c ls ms),
+            );
         more = λ ks h f.
             let (ms, e, g) = split (w (j .facts)) ks h in
             subst (λ (xs : List Line). most < countAll c xs) g (subst (λ (d : ℕ). most < d) (ap (λ (d : ℕ). countAll d ms) ec ∙ sym (countAll-append c ls ms)) (p .more ms e f));

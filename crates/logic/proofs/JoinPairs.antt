@@ -6,8 +6,10 @@ use mathlib.Core.List.{List, [], _∷_, _++_, map}
 use lib.ListN.{length}
 use mathlib.Core.Option.{Option, none, some, Option·elim}
 use Rattle.logic.specs.Search.{_and_, _or_, from, any, select, orElse, firstOf}
-use Rattle.logic.specs.Query.{termCount, entryOf, namesNil, argumentOf, fourSections, booleanSection, fiveSections, sections, withPart, layout, layoutBy, layoutOf, literals, section, queryOf, decode}
-use Rattle.logic.specs.Facts.{Facts, linkNumbers, terms, became, replaceIn, replace, successors, firstTwo, doubled, unjoined, joinPair, andThen, settle, join, linksOf, joinEach, reachEach, nilTerms, joinNil, startJoins, start}
+use Rattle.logic.specs.Query.{termCount, entryOf, namesNil, argumentOf, fourSections, booleanSection, fiveSections}
+use Rattle.logic.specs.Query.{sections, withPart, layout, layoutBy, layoutOf, literals, section, queryOf, decode}
+use Rattle.logic.specs.Facts.{Facts, linkNumbers, terms, became, replaceIn, replace, successors, firstTwo, doubled, unjoined}
+use Rattle.logic.specs.Facts.{joinPair, andThen, settle, join, linksOf, joinEach, reachEach, nilTerms, joinNil, startJoins, start}
 use Rattle.logic.specs.Rules.{equal}
 use Rattle.logic.specs.JoinPairs.{Given, fact, taken, Replays, doubles, takes, all-taken, plainGiven, equalGiven, nilGiven, startGiven, replaceEach, threeEqual, ReplaysThree, ReplayExample}
 
@@ -32,7 +34,8 @@ module _ (n : ℕ) where
   begins (takes {s = s} {end = end} g {given = given} {pairs = pairs} e r) = begins-taken s end (g ∷ given) (taken g s .pairs ++ pairs) e (pairs, r, refl)
   begins (all-taken {s = s} e) = begins-taken s s [] [] e (refl, refl)
 
-  pub replays-one : {s end : Facts} {given : List Given} {pairs : List (ℕ × ℕ)} → Replays n s given pairs end → (pairs′ : List (ℕ × ℕ)) (end′ : Facts) → Replays n s given pairs′ end′ → (pairs ≡ pairs′) × (end ≡ end′)
+  pub replays-one : {s end : Facts} {given : List Given} {pairs : List (ℕ × ℕ)} → Replays n s given pairs end →
+      (pairs′ : List (ℕ × ℕ)) (end′ : Facts) → Replays n s given pairs′ end′ → (pairs ≡ pairs′) × (end ≡ end′)
   unfolding Begins Taken
   replays-one (doubles {s = s} {given = given} ab e r) pairs′ end′ r′ =
       let (rest, b, p) = subst (Begins s given pairs′ end′) e (begins r′) in
@@ -47,8 +50,12 @@ module _ (n : ℕ) where
       (sym p, sym there)
 
 -- the example: its two equalities are its pairs, with no doubled successors before or behind; and what the other pairs make of its terms
-three-computed : ReplaysThree ((2, 3) ∷ (1, 2) ∷ []) (start threeEqual) × (map (replaceEach ((1, 2) ∷ (1, 3) ∷ []) (linksOf threeEqual) .rep) (1 ∷ 2 ∷ 3 ∷ []) ≡ map (start threeEqual .rep) (1 ∷ 2 ∷ 3 ∷ []))
-unfolding Option·elim _and_ _or_ from any select orElse firstOf termCount entryOf namesNil argumentOf fourSections booleanSection fiveSections sections withPart layout layoutBy layoutOf literals section queryOf decode linkNumbers terms became replaceIn replace successors firstTwo doubled unjoined joinPair andThen settle join linksOf joinEach reachEach nilTerms joinNil startJoins start taken plainGiven equalGiven nilGiven startGiven replaceEach threeEqual
+three-computed : ReplaysThree ((2, 3) ∷ (1, 2) ∷ []) (start threeEqual)
+    × (map (replaceEach ((1, 2) ∷ (1, 3) ∷ []) (linksOf threeEqual) .rep) (1 ∷ 2 ∷ 3 ∷ []) ≡ map (start threeEqual .rep) (1 ∷ 2 ∷ 3 ∷ []))
+unfolding Option·elim _and_ _or_ from any select orElse firstOf termCount entryOf namesNil argumentOf fourSections booleanSection fiveSections
+    sections withPart layout layoutBy layoutOf literals section queryOf decode linkNumbers terms became replaceIn replace successors firstTwo doubled
+    unjoined joinPair andThen settle join linksOf joinEach reachEach nilTerms joinNil startJoins start taken plainGiven equalGiven nilGiven startGiven
+    replaceEach threeEqual
 three-computed = (takes (fact (equal 2 3)) refl (takes (fact (equal 1 2)) refl (all-taken refl)), refl)
 
 -- what tells lists of pairs apart: the term kept first, and how many they are

@@ -67,7 +67,8 @@ unfolding joinNil
 nil-some n t us j = andThen-andThen j (joinEach n (equalTo t us)) (λ s. settle n n (addNilLinks t s))
 
 -- nil's link is that of what nil became
-linked-behind : (n t r : ℕ) (j : Joined) (s : Facts) → r ≡ j .facts .rep t → s ≡ addLinks r r (j .facts) → andThen (record { pairs = j .pairs; facts = s }) (settle n n) ≡ andThen j (λ s. settle n n (addNilLinks t s))
+linked-behind : (n t r : ℕ) (j : Joined) (s : Facts) → r ≡ j .facts .rep t → s ≡ addLinks r r (j .facts) →
+    andThen (record { pairs = j .pairs; facts = s }) (settle n n) ≡ andThen j (λ s. settle n n (addNilLinks t s))
 unfolding andThen addNilLinks
 linked-behind n t r j s e h = rw (h, e)
 
@@ -86,6 +87,7 @@ module _ (entries : Entries) (n first : ℕ) (found : NextNil entries n 1 first)
     nil-whole =
         linked-behind n first r joined s e h ∙ ap (λ (i : Joined). andThen i (λ s. settle n n (addNilLinks first s))) are ∙ sym nil-opened
 
-    pub nil-settled : (out : Joined) → out ≡ andThen (record { pairs = joined .pairs; facts = s }) (settle n n) → n ≤ 16 → (rep : List ℕ) → repOf rep ≡ joined .facts .rep → Bounded (replacedBy rep) → Bounded (out .facts)
+    pub nil-settled : (out : Joined) → out ≡ andThen (record { pairs = joined .pairs; facts = s }) (settle n n) → n ≤ 16 → (rep : List ℕ) →
+        repOf rep ≡ joined .facts .rep → Bounded (replacedBy rep) → Bounded (out .facts)
     nil-settled out d few rep f b =
         subst (λ (i : Joined). Bounded (i .facts)) (sym (d ∙ linked-behind n first r joined s e h)) (nil-bounded n first joined few (path-bounded rep (joined .facts) f b))

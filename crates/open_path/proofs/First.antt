@@ -29,7 +29,8 @@ mem-some [] x m = absurd (List·Memᴰ·not-nil m)
 mem-some (y ∷ ys) x m = omega arith
 
 -- each branch of a rule that applies is one that a walk can reach
-reach-branch : (q : Query) (s : Facts) (m : Move) → Reachable q s → applies (termCount q) s m ≡ true → (i : ℕ) → i < length (branches (termCount q) s m) → Reachable q (getD (branches (termCount q) s m) i s)
+reach-branch : (q : Query) (s : Facts) (m : Move) → Reachable q s → applies (termCount q) s m ≡ true → (i : ℕ) →
+    i < length (branches (termCount q) s m) → Reachable q (getD (branches (termCount q) s m) i s)
 reach-branch q s m (k, steps) app i l = (suc k, one-more steps (record { rule-move = m; applicable = app; branch = getD-mem (branches (termCount q) s m) i s l }))
 
 -- a path with a heap where our walk from s₀ goes on with k of its k₀ steps left: it ends where that one does
@@ -43,7 +44,8 @@ pub record Comes (q : Query) (order : List ℕ) (k₀ : ℕ) (s₀ : Facts) (k :
 pub never-clashes : {q : Query} (order : List ℕ) → Accepted q → (s : Facts) → Reachable q s → HasHeap q s → (l : Line) → look q (orderOf order) s ≡ clashing l → ⊥
 never-clashes {q} order ok s reach has l h = clash-none q ok s (reachable-known q ok s reach) l (seen-clashing q (orderOf order) s h) has
 
-module _ {q : Query} (order : List ℕ) (ok : Accepted q) (k : ℕ) (s : Facts) (reach : Reachable q s) (most : AtMost (termCount q) s k) (n : ℕ) (terms-are : n ≡ termCount q) (l : ℕ) (r : Rule) (x y z : ℕ) (h : look q (orderOf order) s ≡ applying (move l r (triple x y z))) where
+module _ {q : Query} (order : List ℕ) (ok : Accepted q) (k : ℕ) (s : Facts) (reach : Reachable q s) (most : AtMost (termCount q) s k) (n : ℕ)
+    (terms-are : n ≡ termCount q) (l : ℕ) (r : Rule) (x y z : ℕ) (h : look q (orderOf order) s ≡ applying (move l r (triple x y z))) where
   known : Known q s
   known = reachable-known q ok s reach
 
@@ -83,7 +85,13 @@ module _ {q : Query} (order : List ℕ) (ok : Accepted q) (k : ℕ) (s : Facts) 
         }
 
     pub open-last : Struck q s m i → countOf r z ≤ i + 1 → HasHeap q s → FirstOpen q s m (j .facts)
-    open-last st last has = record { place = i; in-row = in-row; struck = st; branch-at = at; has-heap = subst (HasHeap q) at (last-open q ok s known m app i st (omega (arith, row-length q n s l r x y z terms-are)) has) }
+    open-last st last has = record {
+      place = i;
+      in-row = in-row;
+      struck = st;
+      branch-at = at;
+      has-heap = subst (HasHeap q) at (last-open q ok s known m app i st (omega (arith, row-length q n s l r x y z terms-are)) has);
+    }
 
   -- a path with a heap has a branch
   pub some-branch : HasHeap q s → 0 < countOf r z
@@ -98,7 +106,8 @@ module _ {q : Query} (order : List ℕ) (ok : Accepted q) (k : ℕ) (s : Facts) 
     first-fewer = subst (λ (u : Facts). AtMost (termCount q) u (k - 1)) (f .branch-at) (row-fewer q (orderOf order) k s m most h (f .place) (f .in-row))
 
     first-ends : isOrder order ≡ true → (u : Facts) → walk q (orderOf order) (k - 1) t ≡ saturation u → walk q (orderOf order) k s ≡ saturation u
-    first-ends o u e = walk-first q ok (orderOf order) (order-full order o) k s known most m h (f .place) (f .in-row) (f .struck) u (subst (λ (v : Facts). walk q (orderOf order) (k - 1) v ≡ saturation u) (sym (f .branch-at)) e)
+    first-ends o u e = walk-first q ok (orderOf order) (order-full order o) k s known most m h (f .place) (f .in-row) (f .struck) u
+        (subst (λ (v : Facts). walk q (orderOf order) (k - 1) v ≡ saturation u) (sym (f .branch-at)) e)
 
     pub comes-on : isOrder order ≡ true → (k₀ : ℕ) (s₀ : Facts) → Comes q order k₀ s₀ k s → Comes q order k₀ s₀ (k - 1) t
     comes-on o k₀ s₀ c = record { reach = first-reach; most = first-fewer; has-heap = f .has-heap; ends = λ u e. c .ends u (first-ends o u e) }

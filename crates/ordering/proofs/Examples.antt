@@ -9,5 +9,6 @@ use Rattle.ordering.specs.Calls.{refusal, answered, orderCall}
 use Rattle.ordering.specs.Examples.{ExamplesHold, example, examples, computed}
 
 pub examples-hold : ExamplesHold
-unfolding Option·elim _and_ _or_ from keep any all orElse firstOf find padded pairs laidOut isRule rulesOnly paired free ready nextRule grow leads onward nextOn follow ringStart ringOf shownRing refusal answered orderCall example examples computed
+unfolding Option·elim _and_ _or_ from keep any all orElse firstOf find padded pairs laidOut isRule rulesOnly paired free ready nextRule grow leads
+    onward nextOn follow ringStart ringOf shownRing refusal answered orderCall example examples computed
 examples-hold = refl

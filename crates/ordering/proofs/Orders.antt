@@ -12,13 +12,15 @@ use lib.Dec.{eqb, ltb}
 use borrow.Author.Tests.{not-false}
 use Rattle.logic.specs.Search.{_and_, any, all, find}
 use Rattle.logic.specs.Query.{isOrder}
-use Rattle.theory.proofs.Basics.Search.{bool-cases, true-false, none-some, not-true, not-intro, not-of, and-left, and-right, and-intro, or-cases, or-left, or-right, all-true, all-intro, all-false, find-some, find-none, find-lowest, neither}
+use Rattle.theory.proofs.Basics.Search.{bool-cases, true-false, none-some, not-true, not-intro, not-of, and-left, and-right, and-intro, or-cases}
+use Rattle.theory.proofs.Basics.Search.{or-left, or-right, all-true, all-intro, all-false, find-some, find-none, find-lowest, neither}
 use Rattle.theory.proofs.Basics.Compare.{eqb-true, eqb-intro, eq-cases, le-cases, ltb-intro}
 use Rattle.theory.proofs.Graph.Pigeonhole.{pigeonhole}
 use Rattle.ordering.specs.Sheet.{Pair, isRule, paired}
 use Rattle.ordering.specs.Kept.{placeOf, keeps, smaller, eachOnce, SmallestOrder}
 use Rattle.ordering.specs.Finding.{free, ready, nextRule, grow, leads}
-use Rattle.ordering.proofs.Lists.{has, has-mem, mem-has, once-head, once-tail, once-intro, fewer, full-among, rules, is-rule, rule-mem, mem-rule, rules-once, rules-eight, order-once, order-rules}
+use Rattle.ordering.proofs.Lists.{has, has-mem, mem-has, once-head, once-tail, once-intro, fewer, full-among, rules}
+use Rattle.ordering.proofs.Lists.{is-rule, rule-mem, mem-rule, rules-once, rules-eight, order-once, order-rules}
 use Rattle.ordering.proofs.Places.{place-has, has-place, place-left, place-right, place-start, kept, smaller-prefix, smaller-nil, smaller-from-nil, smaller-greater}
 use Rattle.ordering.proofs.Rings.{Numbered, pair-paired, leads-cons, leads-none}
 
@@ -41,7 +43,8 @@ once-before : (y : ℕ) (u v : List ℕ) → eachOnce (u ++ y ∷ v) ≡ true �
 unfolding any
 once-before y [] v o = refl
 once-before y (x ∷ u) v o =
-    not-of (λ t. ⊎-elim (λ e. true-false (mem-has x (subst (λ (z : ℕ). List·Memᴰ z (u ++ y ∷ v)) e (Memᴰ·append-right u (List·Memᴰ·head refl)))) (once-head x (u ++ y ∷ v) o)) (λ m. true-false (mem-has y m) (once-before y u v (once-tail x (u ++ y ∷ v) o))) (List·Memᴰ·cases-cons (has-mem y (x ∷ u) t)))
+    not-of (λ t. ⊎-elim (λ e. true-false (mem-has x (subst (λ (z : ℕ). List·Memᴰ z (u ++ y ∷ v)) e (Memᴰ·append-right u (List·Memᴰ·head refl))))
+    (once-head x (u ++ y ∷ v) o)) (λ m. true-false (mem-has y m) (once-before y u v (once-tail x (u ++ y ∷ v) o))) (List·Memᴰ·cases-cons (has-mem y (x ∷ u) t)))
 
 module _ (ps : List Pair) (rules-of : Numbered ps) where
   -- what may stand next
@@ -77,7 +80,9 @@ module _ (ps : List Pair) (rules-of : Numbered ps) where
   grown-more placed r g (new, early) i =
       record {
         once = once-more r placed new (g .once);
-        ruled = λ s m. ⊎-elim (λ a. g .ruled s a) (λ b. ⊎-elim (λ e. subst (λ (t : ℕ). isRule t ≡ true) (sym e) i) (λ n. absurd (List·Memᴰ·not-nil n)) (List·Memᴰ·cases-cons b)) (List·Memᴰ·append-cases placed m);
+        ruled = λ s m. ⊎-elim (λ a. g .ruled s a)
+            (λ b. ⊎-elim (λ e. subst (λ (t : ℕ). isRule t ≡ true) (sym e) i) (λ n. absurd (List·Memᴰ·not-nil n)) (List·Memᴰ·cases-cons b))
+            (List·Memᴰ·append-cases placed m);
         kept-so = λ p m h. ⊎-elim (λ a. before p m a) (λ e. now-placed p m e) (has-more (p .later) r placed h);
       }
     where
@@ -100,8 +105,12 @@ module _ (ps : List Pair) (rules-of : Numbered ps) where
   next-some : (placed : List ℕ) (r : ℕ) → nextRule ps placed ≡ some r → Ready placed r × (isRule r ≡ true) × ((y : ℕ) → Ready placed y → isRule y ≡ true → r ≤ y)
   unfolding nextRule
   next-some placed r e =
-      let f = find-some (ready ps placed) rules r e in
-      (ready-is placed r (f .1), mem-rule r (f .0), λ y d i. ⊎-elim (λ l. l) (λ l. absurd (true-false (is-ready placed y d) (find-lowest (ready ps placed) 8 1 r e y (is-rule y i .0) l))) (le-cases r y))
+      let f = find-some (ready ps placed) rules r e in (
+        ready-is placed r (f .1),
+        mem-rule r (f .0),
+        λ y d i. ⊎-elim (λ l. l)
+            (λ l. absurd (true-false (is-ready placed y d) (find-lowest (ready ps placed) 8 1 r e y (is-rule y i .0) l))) (le-cases r y),
+      )
 
   next-is : (placed : List ℕ) → nextRule ps placed ≡ none → find (ready ps placed) rules ≡ none
   unfolding nextRule
@@ -116,10 +125,13 @@ module _ (ps : List Pair) (rules-of : Numbered ps) where
 
   grow-ends : (k : ℕ) (placed l : List ℕ) → Grown placed → grow ps k placed ≡ some l → Ends k placed l
   unfolding grow Option·elim
-  grow-ends zero placed l g h = let e : placed ≡ l = cc in record { grown = subst (λ (x : List ℕ). Grown x) e g; size = omega (arith, ap length e); rest = []; begins = sym e ∙ sym (append-nil placed) }
+  grow-ends zero placed l g h = let e : placed ≡ l = cc in
+      record { grown = subst (λ (x : List ℕ). Grown x) e g; size = omega (arith, ap length e); rest = []; begins = sym e ∙ sym (append-nil placed) }
   grow-ends (suc k) placed l g h = go (nextRule ps placed) refl (λ r a b. grow-ends k (placed ++ (r ∷ [])) l a b) h
     where
-      go : (o : Option ℕ) → nextRule ps placed ≡ o → ((r : ℕ) → Grown (placed ++ (r ∷ [])) → grow ps k (placed ++ (r ∷ [])) ≡ some l → Ends k (placed ++ (r ∷ [])) l) → Option·elim o none (λ r. grow ps k (placed ++ (r ∷ []))) ≡ some l → Ends (suc k) placed l
+      go : (o : Option ℕ) → nextRule ps placed ≡ o →
+          ((r : ℕ) → Grown (placed ++ (r ∷ [])) → grow ps k (placed ++ (r ∷ [])) ≡ some l → Ends k (placed ++ (r ∷ [])) l) →
+          Option·elim o none (λ r. grow ps k (placed ++ (r ∷ []))) ≡ some l → Ends (suc k) placed l
       go none e ih h = absurd (none-some h)
       go (some r) e ih h =
           let n = next-some placed r e in
@@ -142,7 +154,9 @@ module _ (ps : List Pair) (rules-of : Numbered ps) where
   unfolding keeps
   grown-keeps l g e =
       all-intro (λ p. ltb (placeOf l (p .earlier)) (placeOf l (p .later))) ps
-      (λ p m. ltb-intro (g .kept-so p m (mem-has (p .later) (full-among l rules (g .once) (λ z n. rule-mem z (g .ruled z n)) (omega (arith, rules-eight)) (p .later) (rule-mem (p .later) (rules-of .later-rule p m))))))
+      (λ p m. ltb-intro (g .kept-so p m
+      (mem-has (p .later) (full-among l rules (g .once) (λ z n. rule-mem z (g .ruled z n)) (omega (arith, rules-eight)) (p .later)
+      (rule-mem (p .later) (rules-of .later-rule p m))))))
 
   -- the number after those placed, in an order list that keeps every pair, may stand next
   next-ready : (o : List ℕ) → isOrder o ≡ true → keeps ps o ≡ true → (placed : List ℕ) (y : ℕ) (rest : List ℕ) → o ≡ placed ++ y ∷ rest → Ready placed y
@@ -167,7 +181,9 @@ module _ (ps : List Pair) (rules-of : Numbered ps) where
       ap (λ (x : List ℕ). smaller x l) e ∙ ap (smaller (placed ++ [])) (t .begins) ∙ smaller-prefix placed [] (t .rest) ∙ smaller-from-nil (t .rest)
   grow-smallest (suc k) placed l g h o (y ∷ rest) i kp e = go (nextRule ps placed) refl (λ r a b c. grow-smallest k (placed ++ (r ∷ [])) l a b o rest i kp c) h
     where
-      go : (n : Option ℕ) → nextRule ps placed ≡ n → ((r : ℕ) → Grown (placed ++ (r ∷ [])) → grow ps k (placed ++ (r ∷ [])) ≡ some l → o ≡ (placed ++ (r ∷ [])) ++ rest → smaller o l ≡ false) → Option·elim n none (λ r. grow ps k (placed ++ (r ∷ []))) ≡ some l → smaller o l ≡ false
+      go : (n : Option ℕ) → nextRule ps placed ≡ n →
+          ((r : ℕ) → Grown (placed ++ (r ∷ [])) → grow ps k (placed ++ (r ∷ [])) ≡ some l → o ≡ (placed ++ (r ∷ [])) ++ rest → smaller o l ≡ false) →
+          Option·elim n none (λ r. grow ps k (placed ++ (r ∷ []))) ≡ some l → smaller o l ≡ false
       go none q ih h = absurd (none-some h)
       go (some r) q ih h =
           let n = next-some placed r q in
@@ -175,7 +191,8 @@ module _ (ps : List Pair) (rules-of : Numbered ps) where
           let t = grow-ends k (placed ++ (r ∷ [])) l more h in
           let in-order : List·Memᴰ y o = subst (λ (x : List ℕ). List·Memᴰ y x) (sym e) (Memᴰ·append-right placed (List·Memᴰ·head refl)) in
           ⊎-elim (λ s. ih r more h (e ∙ ap (λ (z : ℕ). placed ++ z ∷ rest) (sym s) ∙ sym (append-assoc placed (r ∷ []) rest)))
-          (λ s. ap (λ (x : List ℕ). smaller x l) e ∙ ap (smaller (placed ++ y ∷ rest)) (t .begins ∙ append-assoc placed (r ∷ []) (t .rest)) ∙ smaller-prefix placed (y ∷ rest) (r ∷ t .rest) ∙ smaller-greater y r rest (t .rest) s)
+          (λ s. ap (λ (x : List ℕ). smaller x l) e ∙ ap (smaller (placed ++ y ∷ rest)) (t .begins ∙ append-assoc placed (r ∷ []) (t .rest))
+          ∙ smaller-prefix placed (y ∷ rest) (r ∷ t .rest) ∙ smaller-greater y r rest (t .rest) s)
           (eq-or-lt-of-le (n .2 y (next-ready o i kp placed y rest e) (order-rules o i y in-order)))
 
   -- "the smallest order list that keeps every pair"
@@ -196,7 +213,10 @@ module _ (ps : List Pair) (rules-of : Numbered ps) where
   stuck zero placed h = absurd (none-some (sym h))
   stuck (suc k) placed h = go (nextRule ps placed) refl (λ r a. stuck k (placed ++ (r ∷ [])) a) h
     where
-      go : (o : Option ℕ) → nextRule ps placed ≡ o → ((r : ℕ) → grow ps k (placed ++ (r ∷ [])) ≡ none → (at : List ℕ) × (nextRule ps at ≡ none) × (length at < length (placed ++ (r ∷ [])) + k)) → Path (Option (List ℕ)) (Option·elim o none (λ r. grow ps k (placed ++ (r ∷ [])))) none → (at : List ℕ) × (nextRule ps at ≡ none) × (length at < length placed + suc k)
+      go : (o : Option ℕ) → nextRule ps placed ≡ o →
+          ((r : ℕ) → grow ps k (placed ++ (r ∷ [])) ≡ none → (at : List ℕ) × (nextRule ps at ≡ none) × (length at < length (placed ++ (r ∷ [])) + k)) →
+          Path (Option (List ℕ)) (Option·elim o none (λ r. grow ps k (placed ++ (r ∷ [])))) none → (at : List ℕ) × (nextRule ps at ≡ none)
+          × (length at < length placed + suc k)
       go none e ih h = (placed, e, omega arith)
       go (some r) e ih h = let t = ih r h in (t .0, t .1, omega (arith, t .2, length-append placed (r ∷ [])))
 
@@ -215,7 +235,8 @@ module _ (ps : List Pair) (rules-of : Numbered ps) where
 
     earlier-left : (x : ℕ) → isRule x ≡ true → has placed x ≡ false → Earlier x
     unfolding ready free
-    earlier-left x i h = ⊎-elim (λ t. absurd (true-false (and-intro (not-intro h) t) (find-none (ready ps placed) x end′ (rule-mem x i)))) (λ f. go (all-false (free placed x) ps f)) (bool-cases (all (free placed x) ps))
+    earlier-left x i h = ⊎-elim (λ t. absurd (true-false (and-intro (not-intro h) t) (find-none (ready ps placed) x end′ (rule-mem x i))))
+        (λ f. go (all-false (free placed x) ps f)) (bool-cases (all (free placed x) ps))
       where
         end′ : find (ready ps placed) rules ≡ none
         end′ = next-is placed end

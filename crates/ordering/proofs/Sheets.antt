@@ -28,7 +28,10 @@ number-rule sheet n k h =
 
 pub sheet-numbered : (sheet : List ℕ) → laidOut sheet ≡ true → rulesOnly sheet ≡ true → Numbered (pairs sheet)
 unfolding pairs
-sheet-numbered sheet l n = record { earlier-rule = λ p m. go p (map-mem (pairAt sheet) p (from (countOf sheet) 0) m) .0; later-rule = λ p m. go p (map-mem (pairAt sheet) p (from (countOf sheet) 0) m) .1 }
+sheet-numbered sheet l n = record {
+  earlier-rule = λ p m. go p (map-mem (pairAt sheet) p (from (countOf sheet) 0) m) .0;
+  later-rule = λ p m. go p (map-mem (pairAt sheet) p (from (countOf sheet) 0) m) .1;
+}
   where
     at : (j k : ℕ) → j ≡ 1 + k → j < length sheet → isRule (getD sheet j 0) ≡ true
     at j k e h = subst (λ (m : ℕ). isRule (getD sheet m 0) ≡ true) (sym e) (number-rule sheet n k (omega arith))
@@ -37,7 +40,8 @@ sheet-numbered sheet l n = record { earlier-rule = λ p m. go p (map-mem (pairAt
     go p (i, m, e) =
         let b = from-mem (countOf sheet) 0 i m in
         let size = laid-length sheet l in
-        subst (λ (q : Pair). (isRule (q .earlier) ≡ true) × (isRule (q .later) ≡ true)) (sym e) (at (2 * i + 1) (2 * i) (omega arith) (omega arith), at (2 * i + 2) (2 * i + 1) (omega arith) (omega arith))
+        subst (λ (q : Pair). (isRule (q .earlier) ≡ true) × (isRule (q .later) ≡ true)) (sym e)
+        (at (2 * i + 1) (2 * i) (omega arith) (omega arith), at (2 * i + 2) (2 * i + 1) (omega arith) (omega arith))
 
 pub laid-empty : (sheet : List ℕ) → length sheet ≡ 0 → laidOut sheet ≡ false
 laid-empty sheet e = not-of (λ h. omega (arith, laid-length sheet h))

@@ -49,7 +49,8 @@ paired-pairs sheet a b =
 -- what leads in one pair more, after the first i pairs are looked at
 abbrev pub Marks : List ℕ → List Bool → ℕ → ℕ → List Bool → Type 0
 Marks sheet row end i out =
-    (a : ℕ) → a < 9 → any (λ p. eqb (p .earlier) a and getD row (p .later) false) (pairs sheet) ≡ getD out a false or any (λ j. eqb (pairAt sheet j .earlier) a and getD row (pairAt sheet j .later) false) (from (end - i) i)
+    (a : ℕ) → a < 9 → any (λ p. eqb (p .earlier) a and getD row (p .later) false) (pairs sheet) ≡ getD out a false or any
+    (λ j. eqb (pairAt sheet j .earlier) a and getD row (pairAt sheet j .later) false) (from (end - i) i)
 
 pub marks-start : (sheet : List ℕ) (row : List Bool) → Marks sheet row (countOf sheet) 0 (replicate 9 false)
 unfolding _or_
@@ -70,19 +71,23 @@ mark-set : (out : List Bool) (e a : ℕ) (v : Bool) → e < length out → getD 
 unfolding _and_
 mark-set out e a v h =
     ⊎-elim
-    (λ q. ap (λ (b : ℕ). getD (set out e (getD out e false || v)) b false) (sym q) ∙ getD-set-same out e (getD out e false || v) false h ∙ or-both (getD out e false) v ∙ ap₂ (λ (b : ℕ) (t : Bool). getD out b false or (t and v)) q (sym (eq-eqb e a q)))
+    (λ q. ap (λ (b : ℕ). getD (set out e (getD out e false || v)) b false) (sym q) ∙ getD-set-same out e (getD out e false || v) false h
+    ∙ or-both (getD out e false) v ∙ ap₂ (λ (b : ℕ) (t : Bool). getD out b false or (t and v)) q (sym (eq-eqb e a q)))
     (λ d. getD-set-other out e a (getD out e false || v) false (λ q. d .0 (sym q)) ∙ rw (d .1) (sym (or-false (getD out a false))))
     (eq-cases e a)
 
-pub marks-turn : (sheet : List ℕ) (row : List Bool) (end i : ℕ) (out : List Bool) (e l : ℕ) → i < end → length out ≡ 9 → e < 9 → e ≡ pairAt sheet i .earlier → l ≡ pairAt sheet i .later → Marks sheet row end i out → Marks sheet row end (i + 1) (set out e (getD out e false || getD row l false))
+pub marks-turn : (sheet : List ℕ) (row : List Bool) (end i : ℕ) (out : List Bool) (e l : ℕ) → i < end → length out ≡ 9 → e < 9 →
+    e ≡ pairAt sheet i .earlier → l ≡ pairAt sheet i .later → Marks sheet row end i out → Marks sheet row end (i + 1) (set out e (getD out e false || getD row l false))
 marks-turn sheet row end i out e l h size small from-pair to-pair m a k =
     m a k
     ∙ ap (λ (b : Bool). getD out a false or b) (any-turn (λ j. eqb (pairAt sheet j .earlier) a and getD row (pairAt sheet j .later) false) end i h)
-    ∙ or-assoc (getD out a false) (eqb (pairAt sheet i .earlier) a and getD row (pairAt sheet i .later) false) (any (λ j. eqb (pairAt sheet j .earlier) a and getD row (pairAt sheet j .later) false) (from (end - (i + 1)) (i + 1)))
+    ∙ or-assoc (getD out a false) (eqb (pairAt sheet i .earlier) a and getD row (pairAt sheet i .later) false)
+    (any (λ j. eqb (pairAt sheet j .earlier) a and getD row (pairAt sheet j .later) false) (from (end - (i + 1)) (i + 1)))
     ∙ ap (λ (b : Bool). b or any (λ j. eqb (pairAt sheet j .earlier) a and getD row (pairAt sheet j .later) false) (from (end - (i + 1)) (i + 1)))
     (ap₂ (λ (x y : ℕ). getD out a false or (eqb x a and getD row y false)) (sym from-pair) (sym to-pair) ∙ sym (mark-set out e a (getD row l false) (omega arith)))
 
-pub marks-end : (sheet : List ℕ) (row : List Bool) (end i : ℕ) (out : List Bool) → end ≤ i → Marks sheet row end i out → (a : ℕ) → a < 9 → getD out a false ≡ any (λ p. eqb (p .earlier) a and getD row (p .later) false) (pairs sheet)
+pub marks-end : (sheet : List ℕ) (row : List Bool) (end i : ℕ) (out : List Bool) → end ≤ i → Marks sheet row end i out → (a : ℕ) → a < 9 →
+    getD out a false ≡ any (λ p. eqb (p .earlier) a and getD row (p .later) false) (pairs sheet)
 marks-end sheet row end i out h m a k =
     sym (m a k ∙ ap (λ (b : Bool). getD out a false or b) (any-none (λ j. eqb (pairAt sheet j .earlier) a and getD row (pairAt sheet j .later) false) end i h) ∙ or-false (getD out a false))
 
@@ -98,7 +103,8 @@ row-start sheet z h a k =
     (λ d. getD-set-other (replicate 9 false) z a true false (λ q. d .0 (sym q)) ∙ getD-replicate 9 a false false k ∙ sym (ne-eqb a z (λ q. d .0 (sym q))))
     (eq-cases z a)
 
-pub row-turn : (sheet : List ℕ) (z k : ℕ) (row next : List Bool) → laidOut sheet ≡ true → rulesOnly sheet ≡ true → Row sheet z k row → ((a : ℕ) → a < 9 → getD next a false ≡ any (λ p. eqb (p .earlier) a and getD row (p .later) false) (pairs sheet)) → Row sheet z (k + 1) next
+pub row-turn : (sheet : List ℕ) (z k : ℕ) (row next : List Bool) → laidOut sheet ≡ true → rulesOnly sheet ≡ true → Row sheet z k row →
+    ((a : ℕ) → a < 9 → getD next a false ≡ any (λ p. eqb (p .earlier) a and getD row (p .later) false) (pairs sheet)) → Row sheet z (k + 1) next
 unfolding leads
 row-turn sheet z k row next l n r s a h =
     s a h

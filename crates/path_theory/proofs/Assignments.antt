@@ -18,7 +18,7 @@ use Rattle.path_theory.specs.Points.{Name, Stores, none, store, nodeOf, 
 use Rattle.path_theory.specs.Assignments.{count, assignedAt, valueAt, Begins, whole, longer}
 
 -- versions by assignments that agree
-version-alike : (f x y x′ y′ : ℕ → ℕ) (j : ℕ) → ((k : ℕ) → k < j → x k ≡ x′ k) → ((k : ℕ) → k < j → y k ≡ y′ k) → version f x y j ≡ version f x′ y′ j
+pub version-alike : (f x y x′ y′ : ℕ → ℕ) (j : ℕ) → ((k : ℕ) → k < j → x k ≡ x′ k) → ((k : ℕ) → k < j → y k ≡ y′ k) → version f x y j ≡ version f x′ y′ j
 unfolding version
 version-alike f x y x′ y′ zero h k = refl
 version-alike f x y x′ y′ (suc j) h k =
@@ -26,7 +26,7 @@ version-alike f x y x′ y′ (suc j) h k =
     ∙ ap (λ (z : ℕ). changed (version f x′ y′ j) z (y j)) (h j (omega arith))
     ∙ ap (changed (version f x′ y′ j) (x′ j)) (k j (omega arith))
 
-begins-count : {w v : Stores} → Begins w v → count w ≤ count v
+pub begins-count : {w v : Stores} → Begins w v → count w ≤ count v
 unfolding count
 begins-count whole = omega arith
 begins-count (longer b) = let l = begins-count b in omega (arith, l)
@@ -57,10 +57,10 @@ module _ (s : State) (nodes : List ℕ) (i : ℕ) where
   unfolding valueAt
   last-value w a b = cond-true b (valueAt w (count w)) (eqb-self (count w))
 
-  begins-assigned : {w v : Stores} → Begins w v → (k : ℕ) → k < count w → assignedAt w k ≡ assignedAt v k
+  pub begins-assigned : {w v : Stores} → Begins w v → (k : ℕ) → k < count w → assignedAt w k ≡ assignedAt v k
   begins-assigned h k l = begins-get assignedAt (λ a b. a) (λ w a b k. unfold assignedAt in refl) h k l
 
-  begins-value : {w v : Stores} → Begins w v → (k : ℕ) → k < count w → valueAt w k ≡ valueAt v k
+  pub begins-value : {w v : Stores} → Begins w v → (k : ℕ) → k < count w → valueAt w k ≡ valueAt v k
   begins-value h k l = begins-get valueAt (λ a b. b) (λ w a b k. unfold valueAt in refl) h k l
 
   -- by its own assignments

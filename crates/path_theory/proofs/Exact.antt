@@ -11,10 +11,13 @@ use lib.Seq.{drop-cons}
 use Rattle.logic.specs.Search.{all, _and_}
 use Rattle.theory.proofs.Basics.Search.{bool-cases, and-left, and-right, and-intro}
 use Rattle.theory.proofs.Basics.Compare.{ltb-true, ltb-intro, le-cases}
-use Rattle.routine_logic.specs.Syntax.{Term, Formula, always, never, equal, unequal, reaches, between, flag, negation, both, either, implies, same, forall, Place, Clause, Code, end, assign, assignLink, assignFlag, havoc, assume, assert, cover, branch, loop, leave, breakOut}
+use Rattle.routine_logic.specs.Syntax.{Term, Formula, always, never, equal, unequal, reaches, between, flag, negation}
+use Rattle.routine_logic.specs.Syntax.{both, either, implies, same, forall, Place, Clause, Code, end, assign, assignLink}
+use Rattle.routine_logic.specs.Syntax.{assignFlag, havoc, assume, assert, cover, branch, loop, leave, breakOut}
 use Rattle.routine_logic.specs.State.{State, nullNode, withVariable, withLink, withFlag}
 use Rattle.routine_logic.specs.Formulas.{node, baseNode, follow, holds, sameTruth}
-use Rattle.routine_logic.specs.Runs.{Kind, nullOf, asserted, covered, entry, Check, canFail, Event, met, gave, checked, Events, checking, Now, Go, dereferenced, dereferencedIn, reading, testing, clauses, giving, run, entering}
+use Rattle.routine_logic.specs.Runs.{Kind, nullOf, asserted, covered, entry, Check, canFail, Event, met, gave, checked, Events, checking}
+use Rattle.routine_logic.specs.Runs.{Now, Go, dereferenced, dereferencedIn, reading, testing, clauses, giving, run, entering}
 use Rattle.path_theory.specs.Points.{Point, nameOf, named, linked, marked, havocked, nodeOf, stateAt}
 use Rattle.path_theory.specs.Paths.{Fact, says, gives, factHolds, Trail, further, saying, Case, Cases, Follow, asking, notNull, readingPaths, deciding, testingPaths, clausesPaths, paths}
 use Rattle.path_theory.proofs.States.{name-node, named-state, havocked-state, linked-state, marked-state}

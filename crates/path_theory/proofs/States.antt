@@ -11,7 +11,8 @@ use Rattle.theory.proofs.Basics.Search.{bool-cases}
 use Rattle.routine_logic.specs.Syntax.{Base, null, variable, bound, Term}
 use Rattle.routine_logic.specs.State.{State, nullNode, changed, changedAt, withVariable, withLink, withFlag}
 use Rattle.routine_logic.specs.Formulas.{baseNode, follow, node}
-use Rattle.path_theory.specs.Points.{Name, nil, initial, given, read, Stores, none, store, Marks, unmarked, mark, Point, atStart, baseName, along, nameOf, named, linked, marked, havocked, nodeOf, linkOf, flagOf, stateAt}
+use Rattle.path_theory.specs.Points.{Name, nil, initial, given, read, Stores, none, store, Marks, unmarked, mark, Point, atStart}
+use Rattle.path_theory.specs.Points.{baseName, along, nameOf, named, linked, marked, havocked, nodeOf, linkOf, flagOf, stateAt}
 
 -- a function of a value that is changed at one place
 changed-ap : {A B : Type 0} (g : A → B) (f : ℕ → A) (x : ℕ) (a : A) (y : ℕ) → g (changed f x a y) ≡ changed (λ z. g (f z)) x (g a) y

@@ -33,7 +33,8 @@ module _ (single : Bool) (rep link reach : List ℕ) (l : Literal) where
         andThen-at (record { pairs = ps; facts = path }) (join n a b) (joinOne n l) (ap₂ (λ a b. join n a b path) e f ∙ sym (cond-true _ _ p))
 
     -- the fact is added to the rows of its link
-    pub reach-plain : (by : ℕ) → by ≡ l .link → by ≤ cond single 1 3 → (later : List ℕ) → cube later ≡ (λ j x y. cube reach j x y or (eqb j by and eqb x a and eqb y b)) → pathAs single rep link later ≡ reachOne l path
+    pub reach-plain : (by : ℕ) → by ≡ l .link → by ≤ cond single 1 3 → (later : List ℕ) →
+        cube later ≡ (λ j x y. cube reach j x y or (eqb j by and eqb x a and eqb y b)) → pathAs single rep link later ≡ reachOne l path
     unfolding reachOne
     reach-plain by d h later added = addReach-rows single rep link reach later by a b h added ∙ (λ i. addReach (d i) (e i) (f i) path) ∙ sym (cond-true _ _ p)
 

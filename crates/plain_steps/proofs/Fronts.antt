@@ -21,7 +21,8 @@ use Rattle.plain_steps.proofs.Ended.{walks-clash, walks-saturated}
 use Rattle.plain_steps.proofs.Leads.{ahead-known, ahead-most, ahead-walks}
 use Rattle.plain_steps.proofs.Turns.{some-left, walked-known, walked-fewer, walked-struck, walked-branch, walked-all}
 
-module _ {q : Query} (order : List ℕ) (ok : Accepted q) (o : isOrder order ≡ true) (k : ℕ) (s t : Facts) (known : Known q s) (most : AtMost (termCount q) s k) (n : ℕ) (terms-are : n ≡ termCount q) (a : Ahead n order s t) where
+module _ {q : Query} (order : List ℕ) (ok : Accepted q) (o : isOrder order ≡ true) (k : ℕ) (s t : Facts) (known : Known q s)
+    (most : AtMost (termCount q) s k) (n : ℕ) (terms-are : n ≡ termCount q) (a : Ahead n order s t) where
   later-known : Known q t
   later-known = ahead-known order ok o k s t known most n terms-are a
 
@@ -48,15 +49,20 @@ module _ {q : Query} (order : List ℕ) (ok : Accepted q) (o : isOrder order ≡
 
       -- what the steps of the branch ask
       pub front-next : (1 ≤ k) × Known q u × AtMost (termCount q) u (k - 1)
-      front-next =
-          (front-left, walked-known order ok o k t later-known later-most n terms-are l r x y z h i here u is-branch, walked-fewer order ok o k t later-known later-most n terms-are l r x y z h i here u is-branch)
+      front-next = (
+        front-left,
+        walked-known order ok o k t later-known later-most n terms-are l r x y z h i here u is-branch,
+        walked-fewer order ok o k t later-known later-most n terms-are l r x y z h i here u is-branch,
+      )
 
       module _ (st : Struck q t m i) (limited : Bool) (w : Kind) (v : Facts) (told : WalksTo q order (k - 1) u limited w v) where
         pub front-struck : isRefuted w ≡ true → Struck q t m (i + 1)
         front-struck = walked-struck order ok o k t later-known later-most n terms-are l r x y z h i here u is-branch st limited w v told
 
         pub front-branch : isRefuted w ≡ false → WalksTo q order k s limited w v
-        front-branch f = ahead-walks order ok o k s t known most n terms-are a limited w v (walked-branch order ok o k t later-known later-most n terms-are l r x y z h i here u is-branch st limited w v told f)
+        front-branch f = ahead-walks order ok o k s t known most n terms-are a limited w v
+            (walked-branch order ok o k t later-known later-most n terms-are l r x y z h i here u is-branch st limited w v told f)
 
     pub front-all : (i : ℕ) → Struck q t m i → countOf r z ≤ i → (limited : Bool) (w : Facts) → WalksTo q order k s limited kind.Refuted w
-    front-all i st past limited w = ahead-walks order ok o k s t known most n terms-are a limited kind.Refuted w (walked-all order ok o k t later-known later-most n terms-are l r x y z h i st past limited w)
+    front-all i st past limited w = ahead-walks order ok o k s t known most n terms-are a limited kind.Refuted w
+        (walked-all order ok o k t later-known later-most n terms-are l r x y z h i st past limited w)

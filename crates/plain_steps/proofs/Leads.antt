@@ -30,16 +30,19 @@ unfolding isOrder
 order-long order o = let e : length order ≡ 8 = eqb-true (length order) 8 (and-left (eqb (length order) 8) (all (λ k. any (eqb k) order) (from 8 1)) o) in omega arith
 
 -- the rest of the list, as the code lends it, decides what is seen
-look-behind : (q : Query) (order : List ℕ) (n : ℕ) (t : Facts) → n ≡ termCount q → 3 ≤ length order → begins order ≡ true → Closed n t → look q (orderOf order) t ≡ look q (orderOf (take (length order - 3) (drop 3 order))) t
+look-behind : (q : Query) (order : List ℕ) (n : ℕ) (t : Facts) → n ≡ termCount q → 3 ≤ length order → begins order ≡ true → Closed n t →
+    look q (orderOf order) t ≡ look q (orderOf (take (length order - 3) (drop 3 order))) t
 look-behind q order n t e long b cl =
     look-rest q (orderOf order) (orderOf (drop 3 order)) (begins-with order long b) t (subst (λ (m : ℕ). Closed m t) e cl)
     ∙ ap (λ (ks : List ℕ). look q (orderOf ks) t) (sym (ap (λ (m : ℕ). take m (drop 3 order)) (sym (length-drop 3 order)) ∙ take-length (drop 3 order)))
 
 -- and so what is seen by the rest is what is seen
-pub look-ended : (l : Look) (q : Query) (order : List ℕ) (n : ℕ) (t : Facts) → n ≡ termCount q → 3 ≤ length order → begins order ≡ true → Closed n t → l ≡ look q (orderOf (take (length order - 3) (drop 3 order))) t → l ≡ look q (orderOf order) t
+pub look-ended : (l : Look) (q : Query) (order : List ℕ) (n : ℕ) (t : Facts) → n ≡ termCount q → 3 ≤ length order → begins order ≡ true → Closed n t →
+    l ≡ look q (orderOf (take (length order - 3) (drop 3 order))) t → l ≡ look q (orderOf order) t
 look-ended l q order n t e long b cl h = h ∙ sym (look-behind q order n t e long b cl)
 
-module _ {q : Query} (order : List ℕ) (ok : Accepted q) (o : isOrder order ≡ true) (k : ℕ) (s t : Facts) (known : Known q s) (most : AtMost (termCount q) s k) (n : ℕ) (terms-are : n ≡ termCount q) (a : Ahead n order s t) where
+module _ {q : Query} (order : List ℕ) (ok : Accepted q) (o : isOrder order ≡ true) (k : ℕ) (s t : Facts) (known : Known q s)
+    (most : AtMost (termCount q) s k) (n : ℕ) (terms-are : n ≡ termCount q) (a : Ahead n order s t) where
   closes : begins order ≡ true → Closes (termCount q) s t
   closes b = subst (λ (m : ℕ). Closes m s t) terms-are (a .0 b .0)
 

@@ -27,7 +27,8 @@ use Rattle.plain_steps.proofs.Branches.{row-length, row-at}
 use Rattle.plain_steps.proofs.Cases.{refuted-open, refuted-unknown, refuted-is}
 
 -- each branch of a rule that is seen has a step fewer
-pub row-fewer : (q : Query) (order : List Rule) (k : ℕ) (s : Facts) (m : Move) → AtMost (termCount q) s k → look q order s ≡ applying m → (i : ℕ) → i < length (branches (termCount q) s m) → AtMost (termCount q) (getD (branches (termCount q) s m) i s) (k - 1)
+pub row-fewer : (q : Query) (order : List Rule) (k : ℕ) (s : Facts) (m : Move) → AtMost (termCount q) s k → look q order s ≡ applying m → (i : ℕ) →
+    i < length (branches (termCount q) s m) → AtMost (termCount q) (getD (branches (termCount q) s m) i s) (k - 1)
 unfolding branches
 row-fewer q order k s m most h i l =
     let (c, ci, e) = map-mem (add (termCount q) s) (getD (branches (termCount q) s m) i s) (alternatives (termCount q) (s .graph) m) (getD-mem (branches (termCount q) s m) i s l) in
@@ -37,7 +38,9 @@ row-fewer q order k s m most h i l =
 pub struck-none : (q : Query) (s : Facts) (m : Move) (i : ℕ) → i ≡ 0 → Struck q s m i
 struck-none q s m i e j l = absurd (omega arith)
 
-module _ {q : Query} (order : List ℕ) (ok : Accepted q) (o : isOrder order ≡ true) (k : ℕ) (s : Facts) (known : Known q s) (most : AtMost (termCount q) s k) (n : ℕ) (terms-are : n ≡ termCount q) (l : ℕ) (r : Rule) (x y z : ℕ) (h : look q (orderOf order) s ≡ applying (move l r (triple x y z))) where
+module _ {q : Query} (order : List ℕ) (ok : Accepted q) (o : isOrder order ≡ true) (k : ℕ) (s : Facts) (known : Known q s)
+    (most : AtMost (termCount q) s k) (n : ℕ) (terms-are : n ≡ termCount q) (l : ℕ) (r : Rule) (x y z : ℕ)
+    (h : look q (orderOf order) s ≡ applying (move l r (triple x y z))) where
   abbrev m : Move
   m = move l r (triple x y z)
 
@@ -68,7 +71,8 @@ module _ {q : Query} (order : List ℕ) (ok : Accepted q) (o : isOrder order ≡
       walked-branch f =
           record {
             refuted = λ g. absurd (true≢false (sym (ap isRefuted g) ∙ f));
-            ends = λ g. walk-first q ok (orderOf order) (order-full order o) k s known most m h i in-row st p (subst (λ (u : Facts). walk q (orderOf order) (k - 1) u ≡ saturation p) (sym at) (told .ends g));
+            ends = λ g. walk-first q ok (orderOf order) (order-full order o) k s known most m h i in-row st p
+                (subst (λ (u : Facts). walk q (orderOf order) (k - 1) u ≡ saturation p) (sym at) (told .ends g));
             gives-up = told .gives-up;
           }
 

@@ -45,7 +45,8 @@ padded-more room l size h =
     total : 8 - length l + (room - 8) ≡ room - length l
     total = omega (arith, size, length-append l (replicate (8 - length l) 0), length-replicate {A = ℕ} (8 - length l) 0)
 
-pub does-ring : (ps : List Pair) (room : ℕ) (list bytes : List ℕ) → grow ps 8 [] ≡ none → length list ≡ 8 → list ≡ padded 8 (shownRing ps) → 8 ≤ room → bytes ≡ list ++ replicate (room - 8) 0 → Does (answered ps room) answer.Ring bytes
+pub does-ring : (ps : List Pair) (room : ℕ) (list bytes : List ℕ) → grow ps 8 [] ≡ none → length list ≡ 8 → list ≡ padded 8 (shownRing ps) →
+    8 ≤ room → bytes ≡ list ++ replicate (room - 8) 0 → Does (answered ps room) answer.Ring bytes
 unfolding answered Option·elim
 does-ring ps room list bytes e size is h b =
     rw e (record { answers = refl; leaves = b ∙ ap (λ (l : List ℕ). l ++ replicate (room - 8) 0) is ∙ padded-more room (shownRing ps) (sym (ap length is) ∙ size) h })

@@ -89,10 +89,13 @@ module _ (ps : List Pair) where
 module _ (out list : List ℕ) where
   pub write-more : (i : ℕ) → i < length list → i < length out → set (take i list ++ drop i out) i (getD list i 0) ≡ take (i + 1) list ++ drop (i + 1) out
   write-more i h k =
-      rw (add-one i, drop-cons out i 0 k) (set-at (take i list) (getD out i 0) (drop (suc i) out) (getD list i 0) i (length-take-le i list (omega arith)) ∙ sym (append-assoc (take i list) (getD list i 0 ∷ []) (drop (suc i) out)) ∙ ap (λ (l : List ℕ). l ++ drop (suc i) out) (sym (take-suc list i 0 h)))
+      rw (add-one i, drop-cons out i 0 k)
+      (set-at (take i list) (getD out i 0) (drop (suc i) out) (getD list i 0) i (length-take-le i list (omega arith))
+      ∙ sym (append-assoc (take i list) (getD list i 0 ∷ []) (drop (suc i) out)) ∙ ap (λ (l : List ℕ). l ++ drop (suc i) out) (sym (take-suc list i 0 h)))
 
   pub write-all : (i : ℕ) → length list ≡ 8 → i ≤ 8 → 8 ≤ i → 8 ≤ length out → out ≡ replicate (length out) 0 → take i list ++ drop i out ≡ list ++ replicate (length out - 8) 0
-  write-all i size small big room blank = ap₂ (λ (u v : List ℕ). u ++ v) (take-all i list (omega arith)) (ap (λ (j : ℕ). drop j out) eight ∙ ap (drop 8) (blank ∙ ap (λ (j : ℕ). replicate j 0) split ∙ sym (replicate-append-replicate 8 (length out - 8) 0)) ∙ refl)
+  write-all i size small big room blank = ap₂ (λ (u v : List ℕ). u ++ v) (take-all i list (omega arith))
+      (ap (λ (j : ℕ). drop j out) eight ∙ ap (drop 8) (blank ∙ ap (λ (j : ℕ). replicate j 0) split ∙ sym (replicate-append-replicate 8 (length out - 8) 0)) ∙ refl)
     where
       eight : i ≡ 8
       eight = omega arith

@@ -2,7 +2,7 @@
 use Prim.Native.Nat.{ℕ, _+_, _*_, _≤_, _<_}
 use native.Mathlib.Omega.{arith}
 use mathlib.Core.Path.{_≡_, refl, sym, ap, _∙_, subst}
-use mathlib.Core.Bool.{Bool, true, false}
+use mathlib.Core.Bool.{true, false}
 use mathlib.Core.List.{List}
 use lib.ListN.{length, replicate}
 use Rattle.logic.specs.Query.{Query, isOrder, termCount}
@@ -10,8 +10,6 @@ use Rattle.logic.specs.Walk.{ourWalk, saturation}
 use Rattle.logic.specs.Calls.{CallForm, Input, refused, verdictOf, derivationOf, derivationCallOf, derivationChecksOf, verdictCallOf, verdictChecksOf}
 use Rattle.logic.specs.Calls as calls
 use Rattle.theory.proofs.Calls.CallLaws.{FormLaws}
-use Rattle.theory.proofs.Calls.Refusals.{one-link-laws}
-use Rattle.theory.proofs.Calls.ThreeLinks.{three-link-laws}
 use Rattle.theory.proofs.Query.Tied.{Accepted, Tied}
 use Rattle.theory.proofs.Paths.Ranged.{live-range}
 use Rattle.facts.specs.Path.{repOf, pathOf}
@@ -21,8 +19,8 @@ use Rattle.query_checks.specs.declared.Checked.the-variants as checked
 use Rattle.link_query.specs.Said.{said, Within}
 use Rattle.link_query.specs.Answers.{Taken, CheckedBy}
 use Rattle.link_query.proofs.Said.{terms-said}
+use Rattle.form_checks.proofs.Laws.{said-links}
 use Rattle.report.specs.Bytes.{Reportable}
-use Rattle.call_limits.specs.Forms.{formOf}
 use Rattle.prover.specs.Promise.{inputOf, Does}
 use Rattle.prover.specs.declared.Answer.{Answer}
 use Rattle.prover.specs.declared.Answer.the-variants as answer
@@ -32,11 +30,6 @@ use Rattle.prover.proofs.Outcomes.{does-blank, saturated-tied}
 -- zeros are zeros again
 pub zeros-as : (bytes : List ℕ) (n m : ℕ) → bytes ≡ replicate n 0 → n ≡ m → bytes ≡ replicate m 0
 zeros-as bytes n m e f = e ∙ ap (λ (k : ℕ). replicate k 0) f
-
--- a query of these sections has so many links
-pub said-links : (l : Layout) (bytes : List ℕ) → l .links ≡ said l bytes .links
-unfolding said
-said-links l bytes = refl
 
 -- what a report is written of
 module _ (bytes : List ℕ) (l : Layout) (s : code.Facts) (within : Within l bytes) (ok : Accepted (said l bytes)) where
@@ -80,7 +73,8 @@ module _ (f : CallForm) (laws : FormLaws f) (order query before bytes : List ℕ
   verdict-room l o h r b =
       does-blank _ (length before) (answer.Refused 9 0) bytes (call-refused i f (verdictChecksOf f) _ (refused 9 0) (room-refused i f o (h .free i refl) r)) b
 
-  pub verdict-walked : (l : Layout) (r : Answer) (room : ℕ) → isOrder order ≡ true → Taken f l query → room ≡ length before → f .room ≤ room → Does (verdictOf (said l query) room (ourWalk order (said l query))) r bytes → Does (verdictCallOf f i) r bytes
+  pub verdict-walked : (l : Layout) (r : Answer) (room : ℕ) → isOrder order ≡ true → Taken f l query → room ≡ length before → f .room ≤ room →
+      Does (verdictOf (said l query) room (ourWalk order (said l query))) r bytes → Does (verdictCallOf f i) r bytes
   unfolding verdictCallOf
   verdict-walked l r room o h e k d =
       subst (λ (x : calls.Outcome). Does x r bytes)
@@ -93,12 +87,14 @@ module _ (f : CallForm) (laws : FormLaws f) (order query before bytes : List ℕ
   unfolding derivationCallOf derivationChecksOf
   derivation-order o b = does-blank _ (length before) (answer.Refused 1 0) bytes (call-refused i f (derivationChecksOf f) _ (refused 1 0) (order-refused i _ o)) b
 
-  pub derivation-query : (k place : ℕ) → isOrder order ≡ true → CheckedBy f (checked.Refused k place) query → bytes ≡ replicate (length before) 0 → Does (derivationCallOf f i) (answer.Refused k place) bytes
+  pub derivation-query : (k place : ℕ) → isOrder order ≡ true → CheckedBy f (checked.Refused k place) query → bytes ≡ replicate (length before) 0 →
+      Does (derivationCallOf f i) (answer.Refused k place) bytes
   unfolding derivationCallOf
   derivation-query k place o h b =
       does-blank _ (length before) (answer.Refused k place) bytes (call-refused i f (derivationChecksOf f) _ (refused k place) (derivation-refused i f (refused k place) o (h i refl))) b
 
-  pub derivation-walked : (l : Layout) (r : Answer) (room : ℕ) → isOrder order ≡ true → Taken f l query → room ≡ length before → Does (derivationOf room (ourWalk order (said l query))) r bytes → Does (derivationCallOf f i) r bytes
+  pub derivation-walked : (l : Layout) (r : Answer) (room : ℕ) → isOrder order ≡ true → Taken f l query → room ≡ length before →
+      Does (derivationOf room (ourWalk order (said l query))) r bytes → Does (derivationCallOf f i) r bytes
   unfolding derivationCallOf
   derivation-walked l r room o h e d =
       subst (λ (x : calls.Outcome). Does x r bytes)
@@ -106,8 +102,3 @@ module _ (f : CallForm) (laws : FormLaws f) (order query before bytes : List ℕ
       ∙ ap (λ (n : ℕ). derivationOf n (ourWalk order (f .decode query))) e
       ∙ sym (call-walked i f (derivationChecksOf f) _ (derivation-clear i f o (h .free i refl))))
       d
-
--- the laws of either form
-pub laws-of : (three : Bool) → FormLaws (formOf three)
-laws-of true = three-link-laws
-laws-of false = one-link-laws

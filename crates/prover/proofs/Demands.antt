@@ -60,14 +60,16 @@ module _ (o : Outcome) (r : Answer) (bytes : List ℕ) (does : Does o r bytes) w
 -- then zero, and the call writes just what it was lent
 pub record Refuses (cs : List Check) (longest : ℕ) (i : Input) (r : Answer) (bytes : List ℕ) : Type 0 where
   pub first-exactly : (k place : ℕ) → List·Memᴰ k (numbers cs) → (r ≡ answer.Refused k place) ↔ FirstStands cs i k place
-  pub refusal-made : (c : Check) (before behind : List Check) (place : ℕ) → cs ≡ before ++ (c ∷ behind) → c .place i ≡ some place → (k : ℕ) × (p : ℕ) × (r ≡ answer.Refused k p) × FirstStands (before ++ (c ∷ [])) i k p
+  pub refusal-made : (c : Check) (before behind : List Check) (place : ℕ) → cs ≡ before ++ (c ∷ behind) → c .place i ≡ some place → (k : ℕ) × (p : ℕ)
+      × (r ≡ answer.Refused k p) × FirstStands (before ++ (c ∷ [])) i k p
   pub never-ten : (place : ℕ) → r ≡ answer.Refused 10 place → ⊥
   pub refusal-numbered : (k place : ℕ) → r ≡ answer.Refused k place → List·Memᴰ k (numbers cs ++ (11 ∷ 12 ∷ []))
   pub refusal-placed : (k place : ℕ) → r ≡ answer.Refused k place → (place ≤ length (i .query)) × (place ≤ longest)
   pub refusal-blank : (k place : ℕ) → r ≡ answer.Refused k place → bytes ≡ replicate (i .room) 0
   pub lent-whole : length bytes ≡ i .room
 
-refuses : (cs : List Check) (longest : ℕ) (outcome : Input → Outcome) → Refusals cs longest outcome → (i : Input) (r : Answer) (bytes : List ℕ) → Does (outcome i) r bytes → Refuses cs longest i r bytes
+refuses : (cs : List Check) (longest : ℕ) (outcome : Input → Outcome) → Refusals cs longest outcome → (i : Input) (r : Answer) (bytes : List ℕ) →
+    Does (outcome i) r bytes → Refuses cs longest i r bytes
 refuses cs longest outcome law i r bytes does =
     record {
       first-exactly = λ k place m. exactly (outcome i) r bytes does (answer.Refused k place) (FirstStands cs i k place) (law .first-exactly i k place m);
@@ -134,8 +136,11 @@ pub record DerivationDemands (f : CallForm) (order query before bytes : List ℕ
   -- DEMAND 1; 11 exactly where some finite heap meets the query, 12 where none does and the lines are too many, else "refuted"
   pub derivation-refuses : Refuses (derivationChecksOf f) (f .longest) (inputOf order query before) r bytes
   pub heap-exactly : (place : ℕ) → (r ≡ answer.Refused 11 place) ↔ ((place ≡ 0) × NoneStands (derivationChecksOf f) (inputOf order query before) × Satisfiable (f .decode query))
-  pub excess-exactly : (place : ℕ) → (r ≡ answer.Refused 12 place) ↔ ((place ≡ 0) × NoneStands (derivationChecksOf f) (inputOf order query before) × (Satisfiable (f .decode query) → ⊥) × ((ls : List Line) × (ourWalk order (f .decode query) ≡ refutation ls) × Exceeds (length before) ls))
-  pub lines-exactly : (r ≡ answer.Refuted) ↔ (NoneStands (derivationChecksOf f) (inputOf order query before) × ((ls : List Line) × (ourWalk order (f .decode query) ≡ refutation ls) × Fits (length before) ls))
+  pub excess-exactly : (place : ℕ) → (r ≡ answer.Refused 12 place) ↔
+      ((place ≡ 0) × NoneStands (derivationChecksOf f) (inputOf order query before) × (Satisfiable (f .decode query) → ⊥)
+      × ((ls : List Line) × (ourWalk order (f .decode query) ≡ refutation ls) × Exceeds (length before) ls))
+  pub lines-exactly : (r ≡ answer.Refuted) ↔
+      (NoneStands (derivationChecksOf f) (inputOf order query before) × ((ls : List Line) × (ourWalk order (f .decode query) ≡ refutation ls) × Fits (length before) ls))
   pub never-satisfiable : r ≡ answer.Satisfiable → ⊥
   -- DEMAND 2's last sentence: the lines in the bytes left follow the rules, are those of our walk, and are written as 01 says
   pub derivation-follows : r ≡ answer.Refuted → Derivation (f .decode query) (linesIn bytes)
@@ -170,15 +175,19 @@ pub record OneVerdict (f : CallForm) (before : List ℕ) (r r′ : Answer) : Typ
   pub both-one-verdict : Unrefused r → Unrefused r′ → r ≡ r′
   pub both-one-heap : f .room ≤ length before → (r ≡ answer.Satisfiable) ↔ (r′ ≡ answer.Refused 11 0)
 
-module _ (f : CallForm) (laws : FormLaws f) (order query before before′ bytes bytes′ : List ℕ) (r r′ : Answer) (does : Does (verdictCallOf f (inputOf order query before)) r bytes) (does′ : Does (derivationCallOf f (inputOf order query before′)) r′ bytes′) where
+module _ (f : CallForm) (laws : FormLaws f) (order query before before′ bytes bytes′ : List ℕ) (r r′ : Answer)
+    (does : Does (verdictCallOf f (inputOf order query before)) r bytes) (does′ : Does (derivationCallOf f (inputOf order query before′)) r′ bytes′) where
   pub one-verdict-of : OneVerdict f before r r′
   one-verdict-of =
       record {
         both-one-verdict = λ h h′.
-            meaning-one r r′ (does .answers ∙ demand1-of f laws .one-verdict (inputOf order query before) (inputOf order query before′) (refl, refl) (not-refused _ r bytes does h) (not-refused _ r′ bytes′ does′ h′) ∙ sym (does′ .answers));
+            meaning-one r r′ (does .answers ∙ demand1-of f laws .one-verdict (inputOf order query before) (inputOf order query before′) (refl, refl)
+            (not-refused _ r bytes does h) (not-refused _ r′ bytes′ does′ h′) ∙ sym (does′ .answers));
         both-one-heap = λ l.
-            let h = demand1-of f laws .one-heap (inputOf order query before) (inputOf order query before′) (refl, refl) l in
-            (λ e. back _ r′ bytes′ does′ (answer.Refused 11 0) (h .0 (same _ r bytes does answer.Satisfiable e)), λ e. back _ r bytes does answer.Satisfiable (h .1 (same _ r′ bytes′ does′ (answer.Refused 11 0) e)));
+            let h = demand1-of f laws .one-heap (inputOf order query before) (inputOf order query before′) (refl, refl) l in (
+              λ e. back _ r′ bytes′ does′ (answer.Refused 11 0) (h .0 (same _ r bytes does answer.Satisfiable e)),
+              λ e. back _ r bytes does answer.Satisfiable (h .1 (same _ r′ bytes′ does′ (answer.Refused 11 0) e)),
+            );
       }
 
 -- The calls, each of what its contract (src/lib.rt) says of what it answers and leaves: `verdict` and `derivation`, of queries in the form of 01
@@ -201,5 +210,6 @@ module _ (order query before bytes : List ℕ) (r : Answer) where
     pub calls-one-verdict : Does (verdictCall (inputOf order query before)) r bytes → Does (derivationCall (inputOf order query before′)) r′ bytes′ → OneVerdict oneLinkForm before r r′
     calls-one-verdict = one-verdict-of oneLinkForm one-link-laws order query before before′ bytes bytes′ r r′
 
-    pub links-calls-one-verdict : Does (verdictCallOf threeLinkForm (inputOf order query before)) r bytes → Does (derivationCallOf threeLinkForm (inputOf order query before′)) r′ bytes′ → OneVerdict threeLinkForm before r r′
+    pub links-calls-one-verdict : Does (verdictCallOf threeLinkForm (inputOf order query before)) r bytes →
+        Does (derivationCallOf threeLinkForm (inputOf order query before′)) r′ bytes′ → OneVerdict threeLinkForm before r r′
     links-calls-one-verdict = one-verdict-of threeLinkForm three-link-laws order query before before′ bytes bytes′ r r′

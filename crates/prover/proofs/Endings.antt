@@ -33,7 +33,9 @@ unfolding ourVerdict
 refuted-lines (refutation ls) h = (ls, refl)
 refuted-lines (saturation s) h = let z : _≡_ {A = ℕ} 0 1 = cc in absurd (omega arith)
 
-module _ (q : Query) (ok : Accepted q) (order : List ℕ) (o : isOrder order ≡ true) (links n k : ℕ) (j : Joined) (same-links : links ≡ q .links) (same-terms : n ≡ termCount q) (counted : k ≡ links * (n * n) + n) (begun : j ≡ started q) (r : Kind) (s : Facts) (told : WalksTo q order k (j .facts) false r s) where
+module _ (q : Query) (ok : Accepted q) (order : List ℕ) (o : isOrder order ≡ true) (links n k : ℕ) (j : Joined) (same-links : links ≡ q .links)
+    (same-terms : n ≡ termCount q) (counted : k ≡ links * (n * n) + n) (begun : j ≡ started q) (r : Kind) (s : Facts)
+    (told : WalksTo q order k (j .facts) false r s) where
   whole : walkBranch (walk q (orderOf order) k) j ≡ ourWalk order q
   whole = our-walk q links n k j same-links same-terms counted begun order
 

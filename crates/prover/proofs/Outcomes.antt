@@ -77,11 +77,13 @@ module _ (room : ℕ) (w : Ending) where
   derivation-satisfiable s bytes e f = rw e (record { answers = refl; leaves = f })
 
   -- "more than 16,000 lines or its buffer cannot hold it"
-  derivation-long : (ls : List Line) (count : ℕ) (bytes : List ℕ) → w ≡ refutation ls → count ≡ countAll 0 ls → 16000 < count → bytes ≡ replicate room 0 → Does (derivationOf room w) (answer.Refused 12 0) bytes
+  derivation-long : (ls : List Line) (count : ℕ) (bytes : List ℕ) → w ≡ refutation ls → count ≡ countAll 0 ls → 16000 < count →
+      bytes ≡ replicate room 0 → Does (derivationOf room w) (answer.Refused 12 0) bytes
   unfolding derivationOf blank _or_
   derivation-long ls count bytes e c l f = rw (e, lt-ltb 16000 (length ls) (count-long ls count c l)) (record { answers = refl; leaves = f })
 
-  derivation-large : (ls : List Line) (count : ℕ) (bytes : List ℕ) → w ≡ refutation ls → count ≡ countAll 0 ls → count ≤ 16000 → room < 2 + 4 * count → bytes ≡ replicate room 0 → Does (derivationOf room w) (answer.Refused 12 0) bytes
+  derivation-large : (ls : List Line) (count : ℕ) (bytes : List ℕ) → w ≡ refutation ls → count ≡ countAll 0 ls → count ≤ 16000 →
+      room < 2 + 4 * count → bytes ≡ replicate room 0 → Does (derivationOf room w) (answer.Refused 12 0) bytes
   unfolding derivationOf blank _or_
   derivation-large ls count bytes e c l h f =
       let n = count-short ls count c l in
@@ -89,7 +91,8 @@ module _ (room : ℕ) (w : Ending) where
       rw (e, le-ltb 16000 (length ls) (omega arith), lt-ltb room (2 + 4 * length ls) g) (record { answers = refl; leaves = f })
 
   -- either way: more lines than the most that may be
-  pub derivation-over : (ls : List Line) (count most : ℕ) (bytes : List ℕ) → w ≡ refutation ls → count ≡ countAll 0 ls → most < count → (most ≡ 16000) ⊎ (room < 2 + 4 * (most + 1)) → bytes ≡ replicate room 0 → Does (derivationOf room w) (answer.Refused 12 0) bytes
+  pub derivation-over : (ls : List Line) (count most : ℕ) (bytes : List ℕ) → w ≡ refutation ls → count ≡ countAll 0 ls → most < count →
+      (most ≡ 16000) ⊎ (room < 2 + 4 * (most + 1)) → bytes ≡ replicate room 0 → Does (derivationOf room w) (answer.Refused 12 0) bytes
   derivation-over ls count most bytes e c l h f =
       ⊎-elim
       (λ k.
@@ -108,7 +111,8 @@ module _ (room : ℕ) (w : Ending) where
       (λ k. derivation-long ls (countAll 0 ls) bytes e refl k f)
       (le-cases (countAll 0 ls) 16000)
 
-  pub derivation-refuted : (ls : List Line) (count : ℕ) (bytes : List ℕ) → w ≡ refutation ls → count ≡ countAll 0 ls → count ≤ 16000 → 2 + 4 * count ≤ room → bytes ≡ set (set (putAll (replicate room 0) 0 ls) 0 (count / 256)) 1 (count % 256) → Does (derivationOf room w) answer.Refuted bytes
+  pub derivation-refuted : (ls : List Line) (count : ℕ) (bytes : List ℕ) → w ≡ refutation ls → count ≡ countAll 0 ls → count ≤ 16000 →
+      2 + 4 * count ≤ room → bytes ≡ set (set (putAll (replicate room 0) 0 ls) 0 (count / 256)) 1 (count % 256) → Does (derivationOf room w) answer.Refuted bytes
   unfolding derivationOf _or_
   derivation-refuted ls count bytes e c l h f =
       let n = count-short ls count c l in

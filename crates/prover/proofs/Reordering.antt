@@ -13,7 +13,8 @@ use Rattle.prover.specs.Promise.{inputOf, Does}
 use Rattle.prover.specs.declared.Answer.{Answer}
 use Rattle.prover.proofs.Demands.{meaning-one}
 
-module _ (f : CallForm) (laws : FormLaws f) (order query query′ before before′ bytes bytes′ : List ℕ) (r r′ : Answer) (does : Does (verdictCallOf f (inputOf order query before)) r bytes) (does′ : Does (verdictCallOf f (inputOf order query′ before′)) r′ bytes′) where
+module _ (f : CallForm) (laws : FormLaws f) (order query query′ before before′ bytes bytes′ : List ℕ) (r r′ : Answer)
+    (does : Does (verdictCallOf f (inputOf order query before)) r bytes) (does′ : Does (verdictCallOf f (inputOf order query′ before′)) r′ bytes′) where
   pub same-answer-and-report : length before ≡ length before′ → acceptsBy f query ≡ true → acceptsBy f query′ ≡ true → Reordered (f .decode query) (f .decode query′) → (r ≡ r′) × (bytes ≡ bytes′)
   same-answer-and-report e a a′ h = (
     meaning-one r r′ (does .answers ∙ ap (λ (o : Outcome). o .answer) same ∙ sym (does′ .answers)),

@@ -16,7 +16,6 @@ ghost use Rattle.logic.specs.ThreeLinks.{threeLinkForm};
 ghost use Rattle.theory.proofs.Query.Tied.{Accepted};
 ghost use Rattle.facts.specs.Path.{pathAs};
 ghost use Rattle.link_query.specs.Said.{said, Within};
-ghost use Rattle.link_query.specs.Answers.{CheckedBy};
 ghost use Rattle.call_limits.specs.Forms.{formOf};
 ghost use Rattle.prover.specs.Promise.{inputOf, Does, Settles};
 
@@ -71,16 +70,6 @@ fn decide(order: &[u8], query: &[u8], layout: Layout, report: &mut [u8]) -> Answ
     Answer::Satisfiable
 }
 
-// The checks of a query's bytes: with three links, or in the form of 01.
-fn checked(three: bool, query: &[u8]) -> Checked
-    ensures { λ r. ⌜ CheckedBy (formOf three) r (now (query .entry)) ⌝ }
-{
-    if three {
-        return link_query::check_links(query);
-    }
-    query_checks::check(query)
-}
-
 // The verdict call of either form.
 pub fn verdict_in(three: bool, order: &[u8], query: &[u8], report: &mut [u8]) -> Answer
     ensures { λ r. ⌜ Does (verdictCallOf (formOf three) (inputOf (now (order .entry)) (now (query .entry)) (now (report .entry)))) r (now (report .exit)) ⌝ }
@@ -89,7 +78,7 @@ pub fn verdict_in(three: bool, order: &[u8], query: &[u8], report: &mut [u8]) ->
     if !order_list::is_order(order) {
         return Answer::Refused(1, 0);
     }
-    match checked(three, query) {
+    match form_checks::checked(three, query) {
         Checked::Refused(k, place) => Answer::Refused(k, place),
         Checked::Accepted(layout) => {
             if call_limits::lacks_room(report.len(), three) {
@@ -149,7 +138,7 @@ pub fn derivation_in(three: bool, order: &[u8], query: &[u8], buffer: &mut [u8])
     if !order_list::is_order(order) {
         return Answer::Refused(1, 0);
     }
-    match checked(three, query) {
+    match form_checks::checked(three, query) {
         Checked::Refused(k, place) => Answer::Refused(k, place),
         Checked::Accepted(layout) => derive(order, query, layout, buffer),
     }

@@ -96,7 +96,8 @@ module _ {A : Type 0} (f : ℕ → A) (p : A → Bool) (count i : ℕ) where
 -- Sections
 
 -- Bytes at `at` in entries of w bytes, of which g makes a list: it makes f j of entry j.
-module _ {A : Type 0} (w : ℕ) (g : List ℕ → List A) (f : ℕ → A) (bytes : List ℕ) (at : ℕ) (nothing : g [] ≡ []) (entry : (j m : ℕ) → at + w * j + w ≤ length bytes → g (take (w + m) (drop (at + w * j) bytes)) ≡ f j ∷ g (take m (drop (at + w * j + w) bytes))) where
+module _ {A : Type 0} (w : ℕ) (g : List ℕ → List A) (f : ℕ → A) (bytes : List ℕ) (at : ℕ) (nothing : g [] ≡ [])
+    (entry : (j m : ℕ) → at + w * j + w ≤ length bytes → g (take (w + m) (drop (at + w * j) bytes)) ≡ f j ∷ g (take m (drop (at + w * j + w) bytes))) where
   split-from : (count j : ℕ) → at + w * j + w * count ≤ length bytes → g (take (w * count) (drop (at + w * j) bytes)) ≡ map f (from count j)
   unfolding from
   split-from zero j h = rw mul-zero nothing

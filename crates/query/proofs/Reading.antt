@@ -67,10 +67,12 @@ narrow kind.LinkedTerms = omega arith
 narrow kind.LinkedPairs = omega arith
 
 -- what a section was read as, where the answer is known
-pub read-section : {r : Read} {part : Part} (bytes : List ℕ) (at limit excess width : ℕ) → r ≡ read.Section part → ReadAs r bytes at limit excess width → Stands bytes limit width at (part .count) (part .next)
+pub read-section : {r : Read} {part : Part} (bytes : List ℕ) (at limit excess width : ℕ) → r ≡ read.Section part →
+    ReadAs r bytes at limit excess width → Stands bytes limit width at (part .count) (part .next)
 read-section bytes at limit excess width e h = rw e at h
 
-pub read-refused : {r : Read} {k place : ℕ} (bytes : List ℕ) (s : Section) (ss : List Section) (at : ℕ) → r ≡ read.Refused k place → ReadAs r bytes at (s .limit) (s .excess) (s .width) → layout (s ∷ ss) at (drop at bytes) ≡ faulty k place
+pub read-refused : {r : Read} {k place : ℕ} (bytes : List ℕ) (s : Section) (ss : List Section) (at : ℕ) → r ≡ read.Refused k place →
+    ReadAs r bytes at (s .limit) (s .excess) (s .width) → layout (s ∷ ss) at (drop at bytes) ≡ faulty k place
 read-refused bytes s ss at e h = (rw e at h) s ss refl refl refl
 
 -- a section stands whatever its limit, if that is not below the count

@@ -10,7 +10,8 @@ use mathlib.Core.Option.{Option, none, some, Option·elim}
 use lib.ListN.{length, take, drop, length-drop}
 use lib.Seq.{drop-length, length-take-le}
 use Rattle.logic.specs.Search.{from, keep, isSome, orElse, firstOf}
-use Rattle.logic.specs.Query.{oneLink, termCount, Form, fourSections, booleanSection, fiveSections, faulty, parts, layout, firstByte, layoutBy, faultIn, layoutFault, byteFault, literals, section, queryOf}
+use Rattle.logic.specs.Query.{oneLink, termCount, Form, fourSections, booleanSection, fiveSections, faulty, parts}
+use Rattle.logic.specs.Query.{layout, firstByte, layoutBy, faultIn, layoutFault, byteFault, literals, section, queryOf}
 use Rattle.logic.specs.Calls.{Input, Answer, refused, layoutCheck, byteCheck, formChecks, refusalOf, accepts, acceptsBy}
 use Rattle.theory.proofs.Query.Bytes.{layoutNumbers, LayoutNumber, Excesses, Numbered, layout-numbered}
 use Rattle.theory.proofs.Query.AcceptedBytes.{five-excesses}
@@ -57,7 +58,8 @@ module _ (form : Form) (place : ℕ) (i : Input) where
       first-of h rest m = ⊎-elim (λ e. subst Refuses (sym e) h) rest (List·Memᴰ·cases-cons m)
 
 module _ (form : Form) (bytes : List ℕ) where
-  pub layout-refused : (k place : ℕ) → Excesses (form (firstByte bytes)) → layoutBy form bytes ≡ faulty k place → (i : Input) → i .query ≡ bytes → refusalOf (formChecks form) i ≡ some (refused k place)
+  pub layout-refused : (k place : ℕ) → Excesses (form (firstByte bytes)) → layoutBy form bytes ≡ faulty k place → (i : Input) → i .query ≡ bytes →
+      refusalOf (formChecks form) i ≡ some (refused k place)
   unfolding layoutBy
   layout-refused k place excesses e i q =
       let numbered : Numbered (faulty k place) = rw e at (layout-numbered (form (firstByte bytes)) 0 bytes excesses) in
@@ -91,7 +93,8 @@ unfolding fiveSections fourSections booleanSection formBy entryKind reachKind
 one-form most excess = refl
 
 -- a refusal of the walk from the front over the five sections
-pub five-refused : (bytes : List ℕ) (most excess k place : ℕ) → layoutBy (formBy 1 most excess) bytes ≡ faulty k place → List·Memᴰ excess (2 ∷ 3 ∷ 26 ∷ 4 ∷ []) → (i : Input) → i .query ≡ bytes → refusalOf (formChecks (fiveSections most excess)) i ≡ some (refused k place)
+pub five-refused : (bytes : List ℕ) (most excess k place : ℕ) → layoutBy (formBy 1 most excess) bytes ≡ faulty k place →
+    List·Memᴰ excess (2 ∷ 3 ∷ 26 ∷ 4 ∷ []) → (i : Input) → i .query ≡ bytes → refusalOf (formChecks (fiveSections most excess)) i ≡ some (refused k place)
 unfolding layoutNumbers
 five-refused bytes most excess k place e m = layout-refused (fiveSections most excess) bytes k place (five-excesses most excess m (firstByte bytes)) (rw one-form e)
 
@@ -187,7 +190,8 @@ module _ (full : FullLayout) (bytes : List ℕ) (s : Sections full bytes) (most 
         }
 
 -- what the search of the bytes answers, of a query in the form of 01
-pub five-checked : (r : FullChecked) (l : FullLayout) (bytes : List ℕ) (most excess : ℕ) → Sections l bytes → l .«boolean_count» ≤ most → l .layout .links ≡ 1 → ByteAnswer r l (formBy (l .layout .links) most excess) bytes → FullCheckedAs r bytes most excess
+pub five-checked : (r : FullChecked) (l : FullLayout) (bytes : List ℕ) (most excess : ℕ) → Sections l bytes → l .«boolean_count» ≤ most →
+    l .layout .links ≡ 1 → ByteAnswer r l (formBy (l .layout .links) most excess) bytes → FullCheckedAs r bytes most excess
 five-checked (full.Refused k place) l bytes most excess s few one h = λ m. rw (one-form, ← one) h
 five-checked (full.Accepted l′) l bytes most excess s few one h =
     (rw (one-form, ← one) (h .0), subst (λ (m : FullLayout). FullLaysOut m bytes most excess) (sym (h .1)) (lays-out l bytes s most excess few one))

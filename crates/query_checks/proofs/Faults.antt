@@ -29,20 +29,23 @@ section-length kind n (suc count) i = rw (length-append, suc-mul) (omega (arith,
 
 module _ (k : ℕ) (kind : Kind) (n limit excess : ℕ) (ss : List Section) (bytes : List ℕ) (at place count next : ℕ) {within : ℕ} (stands : Stands bytes within (widthOf kind) at count next) where
   -- the count is held to nothing
-  behind-count : roleFault k at (rolesOf (sectionOf kind n limit excess ∷ ss) (drop at bytes)) (drop at bytes) ≡ roleFault k (at + 1) (flatMap (rolesAt kind n) (from count 1) ++ rolesOf ss (drop next bytes)) (drop (at + 1) bytes)
+  behind-count : roleFault k at (rolesOf (sectionOf kind n limit excess ∷ ss) (drop at bytes)) (drop at bytes) ≡ roleFault k (at + 1)
+      (flatMap (rolesAt kind n) (from count 1) ++ rolesOf ss (drop next bytes)) (drop (at + 1) bytes)
   unfolding rolesOf
   behind-count = ap (λ (rs : List Role). roleFault k at rs (drop at bytes)) roles-here ∙ free-first k bytes _ at (stands .counted)
     where
       roles-here : rolesOf (sectionOf kind n limit excess ∷ ss) (drop at bytes) ≡ countRole ∷ (flatMap (rolesAt kind n) (from count 1) ++ rolesOf ss (drop next bytes))
       roles-here = rw (drop-next bytes at (stands .counted), stands .count-is, drop-drop, stands .next-is)
 
-  pub section-first : place ≡ at + 1 → roleFault k at (rolesOf (sectionOf kind n limit excess ∷ ss) (drop at bytes)) (drop at bytes) ≡ orElse (sectionFault k kind n place count bytes) (roleFault k next (rolesOf ss (drop next bytes)) (drop next bytes))
+  pub section-first : place ≡ at + 1 → roleFault k at (rolesOf (sectionOf kind n limit excess ∷ ss) (drop at bytes)) (drop at bytes) ≡ orElse
+      (sectionFault k kind n place count bytes) (roleFault k next (rolesOf ss (drop next bytes)) (drop next bytes))
   unfolding sectionFault
   section-first e =
       rw e
       (behind-count
       ∙ append-at k (at + 1) (count * widthOf kind) (flatMap (rolesAt kind n) (from count 1)) (rolesOf ss (drop next bytes)) bytes (section-length kind n count 1)
-      ∙ ap (λ (m : ℕ). orElse (roleFault k (at + 1) (flatMap (rolesAt kind n) (from count 1)) (drop (at + 1) bytes)) (roleFault k m (rolesOf ss (drop next bytes)) (drop m bytes))) (sym (stands .next-is)))
+      ∙ ap (λ (m : ℕ). orElse (roleFault k (at + 1) (flatMap (rolesAt kind n) (from count 1)) (drop (at + 1) bytes))
+      (roleFault k m (rolesOf ss (drop next bytes)) (drop m bytes))) (sym (stands .next-is)))
 
 behind-last : (k at : ℕ) (bytes : List ℕ) (o : Option ℕ) → orElse o (roleFault k at (rolesOf [] bytes) bytes) ≡ o
 unfolding rolesOf roleFault
@@ -90,7 +93,10 @@ module _ (full : FullLayout) (bytes : List ℕ) (s : Sections full bytes) where
   abbrev SectionPasses : Bool → Kind → ℕ → ℕ → Type 0
   SectionPasses b kind at count = Passes b (λ k. sectionFault k kind (l .terms) at count bytes)
 
-  pub sections-pass : (a b c d e : Bool) → SectionPasses a (entryKind (l .links)) 1 (l .terms) → SectionPasses b kind.Pairs (l .«equal_at») (l .«equal_count») → SectionPasses c (reachKind (l .links)) (l .«reach_at») (l .«reach_count») → SectionPasses d kind.Fields (l .«field_at») (l .«field_count») → SectionPasses e kind.Booleans (full .«boolean_at») (full .«boolean_count») → PassesIn ((((a && b) && c) && d) && e) (l .links) bytes
+  pub sections-pass : (a b c d e : Bool) → SectionPasses a (entryKind (l .links)) 1 (l .terms) →
+      SectionPasses b kind.Pairs (l .«equal_at») (l .«equal_count») → SectionPasses c (reachKind (l .links)) (l .«reach_at») (l .«reach_count») →
+      SectionPasses d kind.Fields (l .«field_at») (l .«field_count») → SectionPasses e kind.Booleans (full .«boolean_at») (full .«boolean_count») →
+      PassesIn ((((a && b) && c) && d) && e) (l .links) bytes
   sections-pass a b c d e pa pb pc pd pe most excess h k =
       let (h₄, he) = both _ e h in
       let (h₃, hd) = both _ d h₄ in

@@ -50,7 +50,8 @@ no-marks v j h k = square-in (replicate 17 0) v j h k ∙ ap (λ (w : ℕ). bit 
 abbrev pub marked-at : List ℕ → ℕ → ℕ → List ℕ
 marked-at marks a o = set marks a (bitOr (getD marks a 0) o)
 
-mark-set : (marks : List ℕ) → length marks ≡ 17 → (a b o : ℕ) → a ≤ 16 → b ≤ 16 → ((i : ℕ) → bit o i ≡ eqb i b) → (v j : ℕ) → square (marked-at marks a o) v j ≡ square marks v j or (eqb v a and eqb j b)
+mark-set : (marks : List ℕ) → length marks ≡ 17 → (a b o : ℕ) → a ≤ 16 → b ≤ 16 → ((i : ℕ) → bit o i ≡ eqb i b) → (v j : ℕ) →
+    square (marked-at marks a o) v j ≡ square marks v j or (eqb v a and eqb j b)
 mark-set marks full a b o h k e v j = ap (λ (f : ℕ → ℕ → Bool). f v j) (square-add marks full a b o h k e)
 
 module _ (rep : ℕ → ℕ) (g : ℕ → Literal) (count : ℕ) where
@@ -66,7 +67,8 @@ module _ (rep : ℕ → ℕ) (g : ℕ → Literal) (count : ℕ) where
   unfolding fieldHeld any _or_ _and_
   fields-skip i marks h e m v j l r = m v j l r ∙ ap (λ (ls : List Literal). square marks v j or fieldHeld rep ls v j) (listed-next g count i h) ∙ rw e
 
-  pub fields-here : (i : ℕ) (marks : List ℕ) → length marks ≡ 17 → i < count → g i .plain ≡ true → (a b o : ℕ) → a ≤ 16 → b ≤ 16 → ((i : ℕ) → bit o i ≡ eqb i b) → a ≡ rep (g i .right) → b ≡ g i .left → FieldMarks i marks → FieldMarks (i + 1) (marked-at marks a o)
+  pub fields-here : (i : ℕ) (marks : List ℕ) → length marks ≡ 17 → i < count → g i .plain ≡ true → (a b o : ℕ) → a ≤ 16 → b ≤ 16 →
+      ((i : ℕ) → bit o i ≡ eqb i b) → a ≡ rep (g i .right) → b ≡ g i .left → FieldMarks i marks → FieldMarks (i + 1) (marked-at marks a o)
   fields-here i marks full h e a b o x y c p q m v j l r =
       m v j l r
       ∙ ap (λ (ls : List Literal). square marks v j or fieldHeld rep ls v j) (listed-next g count i h)
@@ -77,7 +79,9 @@ module _ (rep : ℕ → ℕ) (g : ℕ → Literal) (count : ℕ) where
       test = rw (e, ← p, ← q, eqb-turned b j, eqb-turned a v) (true-and (eqb j b) (eqb v a))
 
       turn : square marks v j or fieldHeld rep (g i ∷ listed g count (i + 1)) v j ≡ square marks v j or (eqb v a and eqb j b) or fieldHeld rep (listed g count (i + 1)) v j
-      turn = ap (λ (t : Bool). square marks v j or t) (held-cons rep (g i) (listed g count (i + 1)) v j ∙ ap (λ (t : Bool). t or fieldHeld rep (listed g count (i + 1)) v j) test) ∙ or-turn (square marks v j) (eqb v a) (eqb j b) _
+      turn = ap (λ (t : Bool). square marks v j or t)
+          (held-cons rep (g i) (listed g count (i + 1)) v j ∙ ap (λ (t : Bool). t or fieldHeld rep (listed g count (i + 1)) v j) test)
+          ∙ or-turn (square marks v j) (eqb v a) (eqb j b) _
 
   pub fields-all : (i : ℕ) (marks : List ℕ) → count ≤ i → FieldMarks i marks → (v j : ℕ) → v ≤ 16 → j ≤ 16 → square marks v j ≡ fieldHeld rep (listed g count 0) v j
   unfolding fieldHeld any
@@ -102,7 +106,9 @@ byte-bits w k (suc m) =
     half = ap (λ (x : ℕ). w / x) (pow-suc 2 k) ∙ sym (div-div-eq-div-mul w (2 ^ k) 2)
 
     total : (x : ℕ) → x % 2 + 2 * (x / 2 % 2 ^ m) ≡ x % 2 ^ suc m
-    total x = let e = mod-mul x (pow-pos m) (zero-lt-suc 1) in let p = pow-suc 2 m in ap₂ _+_ refl (mul-comm 2 (x / 2 % 2 ^ m)) ∙ add-comm (x % 2) (x / 2 % 2 ^ m * 2) ∙ sym e ∙ ap (λ (y : ℕ). x % y) (sym p)
+    total x = let e = mod-mul x (pow-pos m) (zero-lt-suc 1) in
+        let p = pow-suc 2 m in
+        ap₂ _+_ refl (mul-comm 2 (x / 2 % 2 ^ m)) ∙ add-comm (x % 2) (x / 2 % 2 ^ m * 2) ∙ sym e ∙ ap (λ (y : ℕ). x % y) (sym p)
 
 -- a byte is that of its eight bits
 pub byte-alike : (f g : ℕ → Bool) (i k : ℕ) → ((j : ℕ) → i ≤ j → j < i + k → f j ≡ g j) → byteOf f i k ≡ byteOf g i k
@@ -112,7 +118,8 @@ byte-alike f g i (suc k) h = ap₂ (λ (b : Bool) (x : ℕ). cond b 1 0 + 2 * x)
 
 -- eight bits of a row, from bit 1 on
 pub row-byte-is : (marks : List ℕ) (v : ℕ) → v ≤ 16 → bitAnd (getD marks v 0 / 2 ^ 1) 255 ≡ byteOf (square marks v) 1 8
-row-byte-is marks v h = and-mask (getD marks v 0 / 2 ^ 1) 8 ∙ sym (byte-bits (getD marks v 0) 1 8) ∙ byte-alike (bit (getD marks v 0)) (square marks v) 1 8 (λ j l r. sym (square-in marks v j h (omega arith)))
+row-byte-is marks v h = and-mask (getD marks v 0 / 2 ^ 1) 8 ∙ sym (byte-bits (getD marks v 0) 1 8)
+    ∙ byte-alike (bit (getD marks v 0)) (square marks v) 1 8 (λ j l r. sym (square-in marks v j h (omega arith)))
 
 pub row-byte-small : (w : ℕ) → bitAnd w 255 < 2 ^ 8
 row-byte-small w = mask-lt w 8

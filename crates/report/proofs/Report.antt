@@ -28,7 +28,10 @@ use Rattle.report.proofs.Successors.{map-alike, successors-length, rows
 use Rattle.lent.proofs.Writing.{appends-then, appends-zeros}
 
 -- five pieces, each behind the one before
-pub sections-written : (room : ℕ) (b0 b1 b2 b3 b4 b5 : List ℕ) (n m count : ℕ) (ts rows : List ℕ) (g h : ℕ → ℕ) (p1 p2 p3 p4 : ℕ) → m ≡ length ts → count ≡ length rows → b0 ≡ replicate room 0 → length b1 ≡ length b0 → length b2 ≡ length b1 → length b3 ≡ length b2 → length b4 ≡ length b3 → (p1 ≡ 0 + 1 + count) × Appends b0 b1 0 (count ∷ rows) → (p2 ≡ p1 + 1 + n) × Appends b1 b2 p1 (n ∷ map g (terms n)) → (p3 ≡ p2 + 1 + m) × Appends b2 b3 p2 (m ∷ map h ts) → (p4 ≡ p3 + 1) × Appends b3 b4 p3 (1 ∷ []) → Appends b4 b5 p4 (0 ∷ []) → b5 ≡ padded room (sections n ts rows g h)
+pub sections-written : (room : ℕ) (b0 b1 b2 b3 b4 b5 : List ℕ) (n m count : ℕ) (ts rows : List ℕ) (g h : ℕ → ℕ) (p1 p2 p3 p4 : ℕ) → m ≡ length ts →
+    count ≡ length rows → b0 ≡ replicate room 0 → length b1 ≡ length b0 → length b2 ≡ length b1 → length b3 ≡ length b2 → length b4 ≡ length b3 →
+    (p1 ≡ 0 + 1 + count) × Appends b0 b1 0 (count ∷ rows) → (p2 ≡ p1 + 1 + n) × Appends b1 b2 p1 (n ∷ map g (terms n)) → (p3 ≡ p2 + 1 + m)
+    × Appends b2 b3 p2 (m ∷ map h ts) → (p4 ≡ p3 + 1) × Appends b3 b4 p3 (1 ∷ []) → Appends b4 b5 p4 (0 ∷ []) → b5 ≡ padded room (sections n ts rows g h)
 sections-written room b0 b1 b2 b3 b4 b5 n m count ts rows g h p1 p2 p3 p4 counted sized cleared l1 l2 l3 l4 s1 s2 s3 s4 s5 =
     let last = appends-then b3 b4 b5 p3 p4 (1 ∷ []) (0 ∷ []) l4 (s4 .0) (s4 .1) s5 in
     let third = appends-then b2 b3 b5 p2 p3 (m ∷ map h ts) (1 ∷ 0 ∷ []) l3 (omega (arith, s3 .0, length-map ts h)) (s3 .1) last in
@@ -49,7 +52,9 @@ pub sections-room : (n m links room : ℕ) → n ≤ 16 → m ≤ 16 → 37 + 16
 sections-room n m links room h k r = omega (arith, mul-le-mul (le-refl links) k)
 
 -- the report of a path of the query's links
-report-sections : (q : Query) (s : Facts) → s .links ≡ q .links → sections (termCount q) (nodes (termCount q) s) (allSuccessors (termCount q) s (nodes (termCount q) s)) (λ t. placeOf (s .rep t) (nodes (termCount q) s)) (fieldByte q s) ≡ report q s
+report-sections : (q : Query) (s : Facts) → s .links ≡ q .links →
+    sections (termCount q) (nodes (termCount q) s) (allSuccessors (termCount q) s (nodes (termCount q) s))
+    (λ t. placeOf (s .rep t) (nodes (termCount q) s)) (fieldByte q s) ≡ report q s
 unfolding report successorsShown successorsAmong
 report-sections q s e =
     let n : ℕ = termCount q in
@@ -77,7 +82,9 @@ module _ (l : Layout) (query : List ℕ) (s : code.Facts) (ready : Reportable l 
     few-nodes = omega (arith, ap length are-nodes, nodes-length (l .terms) (pathOf s) (ready .laid .terms-within) .1)
 
     -- the sections are the report's
-    module _ (list : List ℕ) (numbers : Numbers list (marked marks (l .terms))) (places fields : List ℕ) (placed : (t : ℕ) → 1 ≤ t → t ≤ l .terms → getD places t 0 ≡ nodeOf list (repOf (s .rep) t)) (held : (v : ℕ) → v ≤ l .terms → getD fields v 0 ≡ byteOf (fieldHeld (repOf (s .rep)) (literalsAt query (l .«field_at») (l .«field_count»)) v) 1 8) where
+    module _ (list : List ℕ) (numbers : Numbers list (marked marks (l .terms))) (places fields : List ℕ)
+        (placed : (t : ℕ) → 1 ≤ t → t ≤ l .terms → getD places t 0 ≡ nodeOf list (repOf (s .rep) t))
+        (held : (v : ℕ) → v ≤ l .terms → getD fields v 0 ≡ byteOf (fieldHeld (repOf (s .rep)) (literalsAt query (l .«field_at») (l .«field_count»)) v) 1 8) where
       node : (t : ℕ) → List·Memᴰ t (terms (l .terms)) → getD places t 0 ≡ placeOf (pathOf s .rep t) (marked marks (l .terms))
       unfolding terms pathOf
       node t m =
@@ -89,12 +96,16 @@ module _ (l : Layout) (query : List ℕ) (s : code.Facts) (ready : Reportable l 
       unfolding fieldByte fieldHeld literalsAt pathOf listed
       datum v m = held v (marked-below marks (l .terms) v m) ∙ ap (λ (ls : List Literal). byteOf (fieldHeld (repOf (s .rep)) ls v) 1 8) (sym (fields-said l query (ready .laid)))
 
-      pub report-is : sections (l .terms) (marked marks (l .terms)) (allSuccessors (l .terms) (pathOf s) (marked marks (l .terms))) (λ t. getD places t 0) (λ t. getD fields t 0) ≡ report (said l query) (pathOf s)
+      pub report-is : sections (l .terms) (marked marks (l .terms)) (allSuccessors (l .terms) (pathOf s) (marked marks (l .terms)))
+          (λ t. getD places t 0) (λ t. getD fields t 0) ≡ report (said l query) (pathOf s)
       report-is =
           parts
           ∙ ap (λ (ts : List ℕ). sections (l .terms) ts (allSuccessors (l .terms) (pathOf s) ts) (λ t. placeOf (pathOf s .rep t) ts) (fieldByte (said l query) (pathOf s))) are-nodes
-          ∙ ap (λ (n : ℕ). sections n (nodes n (pathOf s)) (allSuccessors n (pathOf s) (nodes n (pathOf s))) (λ t. placeOf (pathOf s .rep t) (nodes n (pathOf s))) (fieldByte (said l query) (pathOf s))) counted
+          ∙ ap (λ (n : ℕ). sections n (nodes n (pathOf s)) (allSuccessors n (pathOf s) (nodes n (pathOf s)))
+          (λ t. placeOf (pathOf s .rep t) (nodes n (pathOf s))) (fieldByte (said l query) (pathOf s))) counted
           ∙ report-sections (said l query) (pathOf s) (ready .linked)
         where
-          parts : sections (l .terms) (marked marks (l .terms)) (allSuccessors (l .terms) (pathOf s) (marked marks (l .terms))) (λ t. getD places t 0) (λ t. getD fields t 0) ≡ sections (l .terms) (marked marks (l .terms)) (allSuccessors (l .terms) (pathOf s) (marked marks (l .terms))) (λ t. placeOf (pathOf s .rep t) (marked marks (l .terms))) (fieldByte (said l query) (pathOf s))
+          parts : sections (l .terms) (marked marks (l .terms)) (allSuccessors (l .terms) (pathOf s) (marked marks (l .terms))) (λ t. getD places t 0)
+              (λ t. getD fields t 0) ≡ sections (l .terms) (marked marks (l .terms)) (allSuccessors (l .terms) (pathOf s) (marked marks (l .terms)))
+              (λ t. placeOf (pathOf s .rep t) (marked marks (l .terms))) (fieldByte (said l query) (pathOf s))
           parts = rw (map-alike _ _ (terms (l .terms)) node, map-alike _ _ (marked marks (l .terms)) datum)

@@ -23,7 +23,8 @@ map-alike f g [] h = refl
 map-alike f g (x ∷ xs) h = ap₂ (λ (y : ℕ) (ys : List ℕ). y ∷ ys) (h x (List·Memᴰ·head refl)) (map-alike f g xs (λ y m. h y (List·Memᴰ·tail m)))
 
 -- the bytes of one link are the successors along it
-pub successors-are : (n : ℕ) (s : Facts) (marks : List Bool) (list : List ℕ) (i : ℕ) (bytes : List ℕ) → n ≤ 16 → Numbers list (marked marks n) → ((t : ℕ) → t ≤ n → getD bytes t 0 ≡ nodeOf list (shownLink n s i t)) → map (λ t. getD bytes t 0) (marked marks n) ≡ successorsAmong n s (marked marks n) i
+pub successors-are : (n : ℕ) (s : Facts) (marks : List Bool) (list : List ℕ) (i : ℕ) (bytes : List ℕ) → n ≤ 16 → Numbers list (marked marks n) →
+    ((t : ℕ) → t ≤ n → getD bytes t 0 ≡ nodeOf list (shownLink n s i t)) → map (λ t. getD bytes t 0) (marked marks n) ≡ successorsAmong n s (marked marks n) i
 unfolding successorsAmong
 successors-are n s marks list i bytes h numbers linked =
     map-alike _ _ (marked marks n) (λ v m. linked v (marked-below marks n v m) ∙ numbers (shownLink n s i v) (omega (arith, shown-below n s i v)))
@@ -104,6 +105,7 @@ module _ (row : ℕ → List ℕ) (links at : ℕ) where
           (omega (arith, sizes, ap length none), λ front e o. now .appended front e o ∙ ap (λ (ys : List ℕ). padded (length old) (front ++ ys)) whole)
 
 -- a count and what it counts
-pub counted-then : (a b c : List ℕ) (at next count count′ : ℕ) (zs : List ℕ) → count ≡ count′ → length b ≡ length a → next ≡ at + 1 → Appends a b at (count ∷ []) → Appends b c next zs → Appends a c at (count′ ∷ zs)
+pub counted-then : (a b c : List ℕ) (at next count count′ : ℕ) (zs : List ℕ) → count ≡ count′ → length b ≡ length a → next ≡ at + 1 →
+    Appends a b at (count ∷ []) → Appends b c next zs → Appends a c at (count′ ∷ zs)
 counted-then a b c at next count count′ zs is l n first rest =
     λ front e o. appends-then a b c at next (count ∷ []) zs l n first rest front e o ∙ ap (λ (k : ℕ). padded (length a) (front ++ (k ∷ zs))) is

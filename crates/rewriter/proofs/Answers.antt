@@ -35,7 +35,8 @@ pub does-blank : (room : ℕ) {o : Outcome} {k place : ℕ} {out : List ℕ} →
 unfolding blank refusal
 does-blank room c e = record { answers = sym (ap (λ (x : Outcome). x .answer) c); leaves = e ∙ sym (ap (λ (x : Outcome). x .lent) c) }
 
-pub does-write : (room : ℕ) {o : Outcome} {r : ℕ} {bytes before after : List ℕ} → o ≡ writes room bytes → length bytes ≤ room → before ≡ replicate room 0 → Writes before 0 bytes after r → Does o (answer.Written r) after
+pub does-write : (room : ℕ) {o : Outcome} {r : ℕ} {bytes before after : List ℕ} → o ≡ writes room bytes → length bytes ≤ room →
+    before ≡ replicate room 0 → Writes before 0 bytes after r → Does o (answer.Written r) after
 unfolding writes
 does-write room {r = r} {bytes = bytes} {after = after} c fits e w =
     let done = writes-blank (subst (λ (xs : List ℕ). Writes xs 0 bytes after r) e w) fits in
@@ -53,7 +54,8 @@ module _ (l : FullLayout) (bytes : List ℕ) (p : Passing l bytes) (room : ℕ) 
   full : hasRoom room (rewriteOf bytes) ≡ false → (out : List ℕ) → out ≡ replicate room 0 → Does (rewriteCall bytes room) (answer.Refused 27 0) out
   full h out e = does-blank room (call-full rewritingOld bytes room (p .accepted) h) e
 
-  wrote : hasRoom room (rewriteOf bytes) ≡ true → length (encode (rewriteOf bytes)) ≤ room → (before after : List ℕ) (r : ℕ) → before ≡ replicate room 0 → Writes before 0 (encode (rewriteOf bytes)) after r → Does (rewriteCall bytes room) (answer.Written r) after
+  wrote : hasRoom room (rewriteOf bytes) ≡ true → length (encode (rewriteOf bytes)) ≤ room → (before after : List ℕ) (r : ℕ) →
+      before ≡ replicate room 0 → Writes before 0 (encode (rewriteOf bytes)) after r → Does (rewriteCall bytes room) (answer.Written r) after
   wrote h fits before after r e w = does-write room (call-writes rewritingOld bytes room (p .accepted) h) fits e w
 
   -- "others are copied"
@@ -94,7 +96,10 @@ module _ (l : FullLayout) (bytes : List ℕ) (p : Passing l bytes) (room : ℕ) 
     pub no-output : room < length bytes + l .«boolean_count» + 1 → (out : List ℕ) → out ≡ replicate room 0 → Does (rewriteCall bytes room) (answer.Refused 27 0) out
     no-output h = full (has-not bytes room (inr (inr (omega (arith, written-long l bytes p held)))))
 
-    pub done : l .layout .terms < 16 → l .layout .«field_count» + l .«boolean_count» ≤ 60 → length bytes + l .«boolean_count» + 1 ≤ room → (before after : List ℕ) (r : ℕ) → before ≡ replicate room 0 → Writes before 0 (rewrittenBytes (l .layout .terms) (fourth-at l bytes p) (l .layout .«field_count») (l .«boolean_count») bytes) after r → Does (rewriteCall bytes room) (answer.Written r) after
+    pub done : l .layout .terms < 16 → l .layout .«field_count» + l .«boolean_count» ≤ 60 → length bytes + l .«boolean_count» + 1 ≤ room →
+        (before after : List ℕ) (r : ℕ) → before ≡ replicate room 0 →
+        Writes before 0 (rewrittenBytes (l .layout .terms) (fourth-at l bytes p) (l .layout .«field_count») (l .«boolean_count») bytes) after r →
+        Does (rewriteCall bytes room) (answer.Written r) after
     done a b c before after r e w =
         let fits : length (encode (rewriteOf bytes)) ≤ room = omega (arith, written-long l bytes p held) in
         let room-there =
@@ -108,7 +113,8 @@ module _ (l : FullLayout) (bytes : List ℕ) (p : Passing l bytes) (room : ℕ) 
 
 -- The checks
 
-pub refuses : (bytes : List ℕ) (room : ℕ) {k place : ℕ} → FullCheckedAs (checked.Refused k place) bytes 60 3 → (out : List ℕ) → out ≡ replicate room 0 → Does (rewriteCall bytes room) (answer.Refused k place) out
+pub refuses : (bytes : List ℕ) (room : ℕ) {k place : ℕ} → FullCheckedAs (checked.Refused k place) bytes 60 3 → (out : List ℕ) →
+    out ≡ replicate room 0 → Does (rewriteCall bytes room) (answer.Refused k place) out
 unfolding oldSections layoutNumbers
 refuses bytes room {k} {place} h out e = does-blank room (call-refused rewritingOld bytes room (calls.refused k place) (h three-number (given bytes room) refl)) e
 

@@ -33,7 +33,8 @@ cut-at xs ys zs i j e f =
     ap (take (j - i)) (drop-at xs (ys ++ zs) i e) ∙ take-at ys zs (j - i) n
 
 -- booleans as data literals
-fields-are : (t : ℕ) (left : Role) (c i : ℕ) (bytes : List ℕ) → length bytes ≡ c * 2 → Allowed (flatMap (λ j. signRole ∷ left ∷ []) (from c i)) bytes → flatMap literalBytes (map (asField t) (flags bytes)) ≡ fieldBytes t bytes
+fields-are : (t : ℕ) (left : Role) (c i : ℕ) (bytes : List ℕ) → length bytes ≡ c * 2 →
+    Allowed (flatMap (λ j. signRole ∷ left ∷ []) (from c i)) bytes → flatMap literalBytes (map (asField t) (flags bytes)) ≡ fieldBytes t bytes
 unfolding flatMap from flags literalBytes asField fieldBytes
 fields-are t left zero i [] e h = refl
 fields-are t left zero i (s ∷ bytes) e h = absurd (omega arith)
@@ -114,7 +115,13 @@ module _ (q : Query) (booleans : List ℕ) where
   pub old-length : length (oldBytes q booleans) ≡ fourth + 1 + 3 * length (q .fields) + 1 + length booleans
   old-length =
       ap length third-cut
-      ∙ omega (arith, length-append ((termCount q ∷ q .entries .terms) ++ (middle ++ (length (q .fields) ∷ []))) (fields ++ (count ∷ booleans)), head-long, length-append fields (count ∷ booleans), fields-long)
+      ∙ omega (
+        arith,
+        length-append ((termCount q ∷ q .entries .terms) ++ (middle ++ (length (q .fields) ∷ []))) (fields ++ (count ∷ booleans)),
+        head-long,
+        length-append fields (count ∷ booleans),
+        fields-long,
+      )
 
   entries-cut : cut (oldBytes q booleans) 1 (termCount q + 1) ≡ q .entries .terms
   unfolding termCount
@@ -129,27 +136,37 @@ module _ (q : Query) (booleans : List ℕ) where
   fields-cut : cut (oldBytes q booleans) (fourth + 1) (fourth + 1 + 3 * length (q .fields)) ≡ fields
   fields-cut =
       ap (λ (xs : List ℕ). cut xs (fourth + 1) (fourth + 1 + 3 * length (q .fields))) third-cut
-      ∙ cut-at ((termCount q ∷ q .entries .terms) ++ (middle ++ (length (q .fields) ∷ []))) fields (count ∷ booleans) (fourth + 1) (fourth + 1 + 3 * length (q .fields)) head-long (omega (arith, fields-long))
+      ∙ cut-at ((termCount q ∷ q .entries .terms) ++ (middle ++ (length (q .fields) ∷ []))) fields (count ∷ booleans) (fourth + 1)
+      (fourth + 1 + 3 * length (q .fields)) head-long (omega (arith, fields-long))
 
   booleans-cut : length booleans ≡ 2 * count → cut (oldBytes q booleans) (fourth + 1 + 3 * length (q .fields) + 1) (fourth + 1 + 3 * length (q .fields) + 1 + 2 * count) ≡ booleans
   booleans-cut even =
       ap (λ (xs : List ℕ). cut xs (fourth + 1 + 3 * length (q .fields) + 1) (fourth + 1 + 3 * length (q .fields) + 1 + 2 * count)) fourth-cut
-      ∙ cut-at (((termCount q ∷ q .entries .terms) ++ (middle ++ (length (q .fields) ∷ []))) ++ (fields ++ (count ∷ []))) booleans [] (fourth + 1 + 3 * length (q .fields) + 1) (fourth + 1 + 3 * length (q .fields) + 1 + 2 * count)
+      ∙ cut-at (((termCount q ∷ q .entries .terms) ++ (middle ++ (length (q .fields) ∷ []))) ++ (fields ++ (count ∷ []))) booleans []
+      (fourth + 1 + 3 * length (q .fields) + 1) (fourth + 1 + 3 * length (q .fields) + 1 + 2 * count)
       (omega (arith, length-append ((termCount q ∷ q .entries .terms) ++ (middle ++ (length (q .fields) ∷ []))) (fields ++ (count ∷ [])), head-long, length-append fields (count ∷ []), fields-long))
       (omega (arith, even))
 
   -- the bytes of the query with the fresh variable
-  encoded : flatMap literalBytes (map (asField (suc (termCount q))) (flags booleans)) ≡ fieldBytes (suc (termCount q)) booleans → encode (withFresh q (flags booleans)) ≡ ((termCount q + 1) ∷ []) ++ ((q .entries .terms ++ (0 ∷ [])) ++ (middle ++ ((length (q .fields) + count) ∷ (fields ++ (fieldBytes (termCount q + 1) booleans ++ (0 ∷ []))))))
+  encoded : flatMap literalBytes (map (asField (suc (termCount q))) (flags booleans)) ≡ fieldBytes (suc (termCount q)) booleans →
+      encode (withFresh q (flags booleans)) ≡ ((termCount
+      q + 1) ∷ []) ++ ((q .entries .terms ++ (0 ∷ [])) ++ (middle ++ ((length (q .fields) + count) ∷ (fields ++ (fieldBytes (termCount q + 1) booleans ++ (0 ∷ []))))))
   unfolding encode withFresh termCount middle fields sectionBytes
   encoded h =
       ap₂ (λ (x : ℕ) (xs : List ℕ). x ∷ ((q .entries .terms ++ (0 ∷ [])) ++ xs)) (length-append (q .entries .terms) (0 ∷ []))
       (sym (append-assoc (sectionBytes (q .equalities)) (sectionBytes (q .reachability)) _)
       ∙ ap (λ (xs : List ℕ). (sectionBytes (q .equalities) ++ sectionBytes (q .reachability)) ++ xs)
-      (ap₂ (λ (x : ℕ) (xs : List ℕ). x ∷ xs) (length-append (q .fields) (map (asField (suc (length (q .entries .terms)))) (flags booleans)) ∙ ap (λ (k : ℕ). length (q .fields) + k) (length-map (flags booleans) (asField (suc (length (q .entries .terms))))))
-      (ap (λ (xs : List ℕ). xs ++ (0 ∷ [])) (flatMap-append literalBytes (q .fields) (map (asField (suc (length (q .entries .terms)))) (flags booleans)) ∙ ap (λ (xs : List ℕ). flatMap literalBytes (q .fields) ++ xs) (h ∙ ap (λ (t : ℕ). fieldBytes t booleans) (sym (add-one (length (q .entries .terms))))))
+      (ap₂ (λ (x : ℕ) (xs : List ℕ). x ∷ xs)
+      (length-append (q .fields) (map (asField (suc (length (q .entries .terms)))) (flags booleans))
+      ∙ ap (λ (k : ℕ). length (q .fields) + k) (length-map (flags booleans) (asField (suc (length (q .entries .terms))))))
+      (ap (λ (xs : List ℕ). xs ++ (0 ∷ []))
+      (flatMap-append literalBytes (q .fields) (map (asField (suc (length (q .entries .terms)))) (flags booleans))
+      ∙ ap (λ (xs : List ℕ). flatMap literalBytes (q .fields) ++ xs) (h ∙ ap (λ (t : ℕ). fieldBytes t booleans) (sym (add-one (length (q .entries .terms))))))
       ∙ append-assoc (flatMap literalBytes (q .fields)) (fieldBytes (length (q .entries .terms) + 1) booleans) (0 ∷ []))))
 
-  rewritten-are : length booleans ≡ 2 * count → rewrittenBytes (termCount q) fourth (length (q .fields)) count (oldBytes q booleans) ≡ ((termCount q + 1) ∷ []) ++ ((q .entries .terms ++ (0 ∷ [])) ++ (middle ++ ((length (q .fields) + count) ∷ (fields ++ (fieldBytes (termCount q + 1) booleans ++ (0 ∷ []))))))
+  rewritten-are : length booleans ≡ 2 * count → rewrittenBytes (termCount q) fourth (length (q .fields)) count
+      (oldBytes q booleans) ≡ ((termCount
+      q + 1) ∷ []) ++ ((q .entries .terms ++ (0 ∷ [])) ++ (middle ++ ((length (q .fields) + count) ∷ (fields ++ (fieldBytes (termCount q + 1) booleans ++ (0 ∷ []))))))
   unfolding rewrittenBytes termBytes dataBytes
   rewritten-are even = rw (entries-cut, middle-cut, fields-cut, booleans-cut even)
 
@@ -244,5 +261,16 @@ module _ (l : FullLayout) (bytes : List ℕ) (p : Passing l bytes) where
     pub written-long : length (encode (rewriteOf bytes)) ≡ length bytes + l .«boolean_count» + 1
     unfolding withFresh
     written-long =
-        omega
-        (arith, encode-length (rewriteOf bytes), terms-more, fields-more, ap (λ (q : Query). length (q .equalities)) with-fresh, ap (λ (q : Query). length (q .reachability)) with-fresh, equal-counted, reach-counted, bytes-long, fourth-is, terms-are)
+        omega (
+          arith,
+          encode-length (rewriteOf bytes),
+          terms-more,
+          fields-more,
+          ap (λ (q : Query). length (q .equalities)) with-fresh,
+          ap (λ (q : Query). length (q .reachability)) with-fresh,
+          equal-counted,
+          reach-counted,
+          bytes-long,
+          fourth-is,
+          terms-are,
+        )

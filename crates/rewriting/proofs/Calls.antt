@@ -52,7 +52,9 @@ layout-by P two four (s ∷ ss) place (c ∷ more) h =
 
 never-26 : (bytes : List ℕ) → layoutFault oldSections 26 bytes ≡ none
 unfolding layoutFault layoutBy faultIn oldSections fiveSections fourSections booleanSection keep
-never-26 bytes = go (layoutBy oldSections bytes) (layout-by (λ k. k ≡ 26 → ⊥) (λ e. omega arith) (λ e. omega arith) (oldSections (firstByte bytes)) 0 bytes (λ e. omega arith, (λ e. omega arith, (λ e. omega arith, (λ e. omega arith, (λ e. omega arith, tt))))))
+never-26 bytes = go (layoutBy oldSections bytes)
+    (layout-by (λ k. k ≡ 26 → ⊥) (λ e. omega arith) (λ e. omega arith) (oldSections (firstByte bytes)) 0 bytes
+    (λ e. omega arith, (λ e. omega arith, (λ e. omega arith, (λ e. omega arith, (λ e. omega arith, tt))))))
   where
     go : (l : Layout) → NumberedBy (λ k. k ≡ 26 → ⊥) l → faultIn 26 l ≡ none
     go (faulty k place) n = ap (λ (b : Bool). keep b place) (eqb-false k 26 n)
@@ -68,7 +70,8 @@ retired bytes room =
 module _ (bytes : List ℕ) (room : ℕ) where
   not-26 : (place : ℕ) (o : Outcome) → Case rewritingOld bytes room o → o .answer ≡ refused 26 place → ⊥
   not-26 place o (by-check k at f e) h =
-      none-some (sym (retired bytes room (f .check) (first-own (formChecks oldSections) (given bytes room) k at f) (f .numbered ∙ refused-same (sym (blank-answer rewritingOld bytes room e) ∙ h) .0)) ∙ f .stands)
+      none-some (sym (retired bytes room (f .check) (first-own (formChecks oldSections) (given bytes room) k at f)
+      (f .numbered ∙ refused-same (sym (blank-answer rewritingOld bytes room e) ∙ h) .0)) ∙ f .stands)
   not-26 place o (by-room a n e) h = omega (arith, refused-same (sym (blank-answer rewritingOld bytes room e) ∙ h) .0)
   not-26 place o (by-writing a n e) h = written-refused (sym (writes-answer rewritingOld bytes room e) ∙ h)
 
@@ -78,7 +81,9 @@ module _ (bytes : List ℕ) (room : ℕ) where
       ⊎-elim (λ two. ⊎-elim (λ a. inl (leb-false _ 16 a)) (λ b. inr (inl (leb-false _ 60 b))) (and-false-cases _ _ two)) (λ c. inr (inr (leb-false _ room c))) (and-false-cases _ _ h)
 
   pub has-not : NoRoom room bytes → hasRoom room (rewriteOf bytes) ≡ false
-  has-not n = ⊎-elim (λ h. let r = room-has room (rewriteOf bytes) h in absurd (⊎-elim (λ a. omega (arith, r .terms)) (⊎-elim (λ b. omega (arith, r .fields)) (λ c. omega (arith, r .output))) n)) (λ h. h) (bool-cases (hasRoom room (rewriteOf bytes)))
+  has-not n = ⊎-elim (λ h. let r = room-has room (rewriteOf bytes) h in
+      absurd (⊎-elim (λ a. omega (arith, r .terms)) (⊎-elim (λ b. omega (arith, r .fields)) (λ c. omega (arith, r .output))) n)) (λ h. h)
+      (bool-cases (hasRoom room (rewriteOf bytes)))
 
   pub refusals : Refusals bytes room
   refusals =

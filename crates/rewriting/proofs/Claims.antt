@@ -71,7 +71,14 @@ module _ (bytes : List ℕ) (room n : ℕ) (h : rewriteCall bytes room .answer �
       record {
         is-rewriting = did .taken;
         zeros-follow = did .leaves ∙ ap (padded room) (sym (did .taken));
-        within = let a = did .accepted in omega (arith, did .counted, encode-within (rewriteOf bytes) (rewrite-limits (decodeOld bytes) (base-accepted bytes a) (base-linked bytes) (booleans-linked bytes) (base-limits bytes a) (boolean-number bytes a) room room-there));
+        within = let a = did .accepted in
+            omega (
+              arith,
+              did .counted,
+              encode-within (rewriteOf bytes)
+                  (rewrite-limits (decodeOld bytes) (base-accepted bytes a) (base-linked bytes) (booleans-linked bytes) (base-limits bytes a)
+                  (boolean-number bytes a) room room-there),
+            );
         accepted = ap accepts (did .taken) ∙ encoded-accepts (rewriteOf bytes) encodable;
         says = says;
         same-verdict = verdict;

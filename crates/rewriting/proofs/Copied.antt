@@ -25,13 +25,15 @@ oldBytes q part =
     (termCount q ∷ q .entries .terms)
     ++ (sectionBytes (q .equalities) ++ (sectionBytes (q .reachability) ++ (sectionBytes (q .fields) ++ (length (flags part) ∷ part))))
 
-written : (n : ℕ) (bytes : List ℕ) (ps : List (List ℕ)) → Laid (fiveSections 60 3 n) bytes ps → ((i : ℕ) (s : Section) → at (fiveSections 60 3 n) (suc i) ≡ some s → Part s (section ps i)) → oldBytes (queryOf (parts ps)) (section ps 4) ≡ bytes
+written : (n : ℕ) (bytes : List ℕ) (ps : List (List ℕ)) → Laid (fiveSections 60 3 n) bytes ps →
+    ((i : ℕ) (s : Section) → at (fiveSections 60 3 n) (suc i) ≡ some s → Part s (section ps i)) → oldBytes (queryOf (parts ps)) (section ps 4) ≡ bytes
 unfolding fiveSections fourSections booleanSection queryOf section oldBytes sectionBytes termCount at
 written n bytes ps (one-more c₁ p₁ e₁ (one-more c₂ p₂ e₂ (one-more c₃ p₃ e₃ (one-more c₄ p₄ e₄ (one-more c₅ p₅ e₅ none-left))))) part =
     let l₂ = literals-of (termRole n) (termRole n) c₂ p₂ e₂ (part 1 _ refl) in
     let l₃ = literals-of (termRole n) (termRole n) c₃ p₃ e₃ (part 2 _ refl) in
     let l₄ = literals-of numberRole (termRole n) c₄ p₄ e₄ (part 3 _ refl) in
-    piece {p = p₁} {p′ = p₁} (omega (arith, e₁)) refl (piece (l₂ .0) (l₂ .1) (piece (l₃ .0) (l₃ .1) (piece (l₄ .0) (l₄ .1) (ap₂ (λ (x : ℕ) (xs : List ℕ). x ∷ xs) (flags-count c₅ p₅ e₅) (sym (append-nil p₅))))))
+    piece {p = p₁} {p′ = p₁} (omega (arith, e₁)) refl
+    (piece (l₂ .0) (l₂ .1) (piece (l₃ .0) (l₃ .1) (piece (l₄ .0) (l₄ .1) (ap₂ (λ (x : ℕ) (xs : List ℕ). x ∷ xs) (flags-count c₅ p₅ e₅) (sym (append-nil p₅))))))
 
 module _ (bytes : List ℕ) (h : acceptsOld bytes ≡ true) where
   pub old-written : oldBytes (decodeOld bytes .base) (section (old-parts bytes h) 4) ≡ bytes

@@ -101,7 +101,9 @@ pub room-intro : (room : ℕ) (q : Query) → Room room q → hasRoom room q ≡
 unfolding hasRoom
 room-intro room q r = and-intro (and-intro (le-leb _ 16 (r .terms)) (le-leb _ 60 (r .fields))) (le-leb _ room (r .output))
 
-rewritten-encodable : (q : Query) (booleans : List Literal) → Accepted q → OneLinked q → AboutOne booleans → Limits q → ((l : Literal) → List·Memᴰ l booleans → ToEight (l .left)) → termCount (rewritten q booleans) ≤ 16 → length (rewritten q booleans .fields) ≤ 60 → Accepted (rewritten q booleans) × OneLinked (rewritten q booleans) × Limits (rewritten q booleans)
+rewritten-encodable : (q : Query) (booleans : List Literal) → Accepted q → OneLinked q → AboutOne booleans → Limits q →
+    ((l : Literal) → List·Memᴰ l booleans → ToEight (l .left)) → termCount (rewritten q booleans) ≤ 16 → length (rewritten q booleans .fields) ≤ 60 →
+    Accepted (rewritten q booleans) × OneLinked (rewritten q booleans) × Limits (rewritten q booleans)
 unfolding rewritten withFresh
 rewritten-encodable q [] ok f one l numbered terms fields = (ok, f, l)
 rewritten-encodable q (b ∷ booleans) ok f one l numbered terms fields = (
@@ -110,7 +112,8 @@ rewritten-encodable q (b ∷ booleans) ok f one l numbered terms fields = (
   record { terms = terms; equalities = l .equalities; reachability = l .reachability; fields = fields },
 )
 
-module _ (o : OldQuery) (ok : Accepted (o .base)) (f : OneLinked (o .base)) (one : AboutOne (o .booleans)) (l : Limits (o .base)) (numbered : (l : Literal) → List·Memᴰ l (o .booleans) → ToEight (l .left)) (room : ℕ) (r : Room room (rewrite o)) where
+module _ (o : OldQuery) (ok : Accepted (o .base)) (f : OneLinked (o .base)) (one : AboutOne (o .booleans)) (l : Limits (o .base))
+    (numbered : (l : Literal) → List·Memᴰ l (o .booleans) → ToEight (l .left)) (room : ℕ) (r : Room room (rewrite o)) where
   all : Accepted (rewrite o) × OneLinked (rewrite o) × Limits (rewrite o)
   unfolding rewrite
   all = rewritten-encodable (o .base) (o .booleans) ok f one l numbered (r .terms) (r .fields)

@@ -29,7 +29,8 @@ flags-count c (s ∷ []) e = absurd (omega arith)
 flags-count zero (s ∷ a ∷ rest) e = absurd (omega arith)
 flags-count (suc c) (s ∷ a ∷ rest) e = ap suc (flags-count c rest (omega arith))
 
-flags-allowed : (sign left : Role) (c i : ℕ) (bytes : List ℕ) → length bytes ≡ c * 2 → Allowed (flatMap (λ j. sign ∷ left ∷ []) (from c i)) bytes → (l : Literal) → List·Memᴰ l (flags bytes) → Allows left (l .left)
+flags-allowed : (sign left : Role) (c i : ℕ) (bytes : List ℕ) → length bytes ≡ c * 2 → Allowed (flatMap (λ j. sign ∷ left ∷ []) (from c i)) bytes →
+    (l : Literal) → List·Memᴰ l (flags bytes) → Allows left (l .left)
 unfolding flatMap from flags
 flags-allowed sign left zero i [] e h l m = absurd (List·Memᴰ·not-nil m)
 flags-allowed sign left zero i (s ∷ bytes) e h l m = absurd (omega arith)

@@ -53,7 +53,8 @@ module _ (h : OldHeap) (t : ℕ) where
   grown-is is =
       record {
         nonempty = omega arith;
-        link-node = λ i v n. ⊎-elim (λ l. rw (le-leb v (h .heap .size) l) (let m = is .link-node i v (n .0, l) in (m .0, omega (arith, m .1)))) (λ l. rw (lt-leb v (h .heap .size) l) n) (le-cases v (h .heap .size));
+        link-node = λ i v n. ⊎-elim (λ l. rw (le-leb v (h .heap .size) l) (let m = is .link-node i v (n .0, l) in
+            (m .0, omega (arith, m .1)))) (λ l. rw (lt-leb v (h .heap .size) l) n) (le-cases v (h .heap .size));
         variable-node = λ u. go u (eqb u t);
       }
     where
@@ -109,7 +110,8 @@ module _ (h : OldHeap) (q : Query) (ok : Accepted q) (m : Meets (h .heap) q) whe
   nil-term u r = r
 
   -- so what a literal says of two terms holds there too, where it holds of their nodes in both heaps
-  keeps : (P Q : ℕ → ℕ → Type 0) → ((v w : ℕ) → Node (h .heap) v → Node (h .heap) w → P v w ↔ Q v w) → (b : Bool) (x y : ℕ) → InTerms q x → InTerms q y → Signed b (P (value (h .heap) (q .entries) x) (value (h .heap) (q .entries) y)) → Signed b (Q (value more (q .entries) x) (value more (q .entries) y))
+  keeps : (P Q : ℕ → ℕ → Type 0) → ((v w : ℕ) → Node (h .heap) v → Node (h .heap) w → P v w ↔ Q v w) → (b : Bool) (x y : ℕ) → InTerms q x →
+      InTerms q y → Signed b (P (value (h .heap) (q .entries) x) (value (h .heap) (q .entries) y)) → Signed b (Q (value more (q .entries) x) (value more (q .entries) y))
   keeps P Q same b x y i j s =
       subst₂ (λ v w. Signed b (Q v w)) (sym (value-old x i)) (sym (value-old y j)) (signed-same b (same _ _ (node x) (node y)) s)
 
@@ -128,15 +130,20 @@ module _ (h : OldHeap) (q : Query) (ok : Accepted q) (m : Meets (h .heap) q) whe
         is-heap = grown-is h fresh (m .is-heap);
         nil-node =
             record {
-              one-node = λ t u x y. keeps (λ v w. v ≡ w) (λ v w. v ≡ w) equal-same true t u (nil-term t (nil-range (q .entries) t x)) (nil-term u (nil-range (q .entries) u y)) (m .nil-node .one-node t u x y);
+              one-node = λ t u x y. keeps (λ v w. v ≡ w) (λ v w. v ≡ w) equal-same true t u (nil-term t (nil-range (q .entries) t x))
+                  (nil-term u (nil-range (q .entries) u y)) (m .nil-node .one-node t u x y);
               own-link =
                   λ i t x. let r = nil-term t (nil-range (q .entries) t x) in keeps (λ v w. h .heap .link i v ≡ w) (λ v w. more .link i v ≡ w) (link-same i) true t t r r (m .nil-node .own-link i t x);
             };
         equalities = λ l k. let r = ok .equal-terms l k in keeps (λ v w. v ≡ w) (λ v w. v ≡ w) equal-same (l .plain) (l .left) (l .right) (r .0) (r .1) (m .equalities l k);
         reachability =
-            λ l k. let r = ok .reach-terms l k in keeps (Reaches (h .heap .link (l .link))) (Reaches (more .link (l .link))) (λ v w n o. reach-old h fresh (m .is-heap) (l .link) v w n) (l .plain) (l .left) (l .right) (r .0) (r .1) (m .reachability l k);
+            λ l k. let r = ok .reach-terms l k in
+            keeps (Reaches (h .heap .link (l .link))) (Reaches (more .link (l .link))) (λ v w n o. reach-old h fresh (m .is-heap) (l .link) v w n)
+            (l .plain) (l .left) (l .right) (r .0) (r .1) (m .reachability l k);
         fields =
-            λ l k. let r = ok .field-term l k in keeps (λ v w. h .heap .field (l .left) w ≡ true) (λ v w. more .field (l .left) w ≡ true) (field-same (l .left)) (l .plain) (l .right) (l .right) r r (m .fields l k);
+            λ l k. let r = ok .field-term l k in
+            keeps (λ v w. h .heap .field (l .left) w ≡ true) (λ v w. more .field (l .left) w ≡ true) (field-same (l .left)) (l .plain) (l .right)
+            (l .right) r r (m .fields l k);
       }
 
   grown-fields : (l : Literal) → MeansBoolean h l → AsField more fresh l

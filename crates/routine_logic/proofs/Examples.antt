@@ -11,7 +11,8 @@ use Rattle.logic.specs.Search.{_and_, _or_, from, all, select, at}
 use Rattle.between_search.specs.Tests.{stepCount}
 use Rattle.routine_logic.specs.State.{State, IsState, changed, changedAt, withVariable, withLink, withFlag}
 use Rattle.routine_logic.specs.Formulas.{baseNode, follow, node, reachesBy, betweenBy, sameTruth, holds, meets}
-use Rattle.routine_logic.specs.Runs.{canFail, checking, prefixes, dereferenced, dereferencedIn, reading, testing, clauses, giving, run, finishing, entering, returning, atHead, loopSegments, segments}
+use Rattle.routine_logic.specs.Runs.{canFail, checking, prefixes, dereferenced, dereferencedIn, reading, testing, clauses}
+use Rattle.routine_logic.specs.Runs.{giving, run, finishing, entering, returning, atHead, loopSegments, segments}
 use Rattle.routine_logic.specs.Checks.{sameBase, sameLinks, sameTerm, once, termsOf, nulls, invariantChecks, ensuresChecks, codeChecks, checks}
 use Rattle.routine_logic.specs.Shown.{kindNumber, clauseNumber, termIn, sameKind, sameCheck, ownLine, shownIn, shown}
 use Rattle.routine_logic.specs.Examples.{ExamplesHold, stateOf, seen, remove, bent, unguarded, palletiser, tested, walking, rowsOf}
@@ -62,7 +63,10 @@ at-home =
     }
 
 pub examples-hold : ExamplesHold
-unfolding Option·elim _and_ _or_ from all select at changed changedAt withVariable withLink withFlag baseNode follow node stepCount reachesBy betweenBy sameTruth holds meets canFail checking prefixes dereferenced dereferencedIn reading testing clauses giving run finishing entering returning atHead loopSegments segments sameBase sameLinks sameTerm once termsOf nulls invariantChecks ensuresChecks codeChecks checks kindNumber clauseNumber termIn sameKind sameCheck ownLine shownIn shown stateOf seen remove bent unguarded palletiser tested walking rowsOf one-node
+unfolding Option·elim _and_ _or_ from all select at changed changedAt withVariable withLink withFlag baseNode follow node stepCount reachesBy
+    betweenBy sameTruth holds meets canFail checking prefixes dereferenced dereferencedIn reading testing clauses giving run finishing entering returning
+    atHead loopSegments segments sameBase sameLinks sameTerm once termsOf nulls invariantChecks ensuresChecks codeChecks checks kindNumber clauseNumber
+    termIn sameKind sameCheck ownLine shownIn shown stateOf seen remove bent unguarded palletiser tested walking rowsOf one-node
 examples-hold =
     record {
       bent-checks = refl;

@@ -7,7 +7,8 @@ use Rattle.logic.specs.Heap.{Node}
 use Rattle.routine_logic.specs.Syntax.{Term, Formula, Place, Clause, Code, end, assign, assignLink, assignFlag, havoc, assume, assert, cover, branch, loop, leave, breakOut}
 use Rattle.routine_logic.specs.State.{State, nullNode, IsState, withVariable, withLink, withFlag}
 use Rattle.routine_logic.specs.Formulas.{node, holds, meets}
-use Rattle.routine_logic.specs.Runs.{canFail, entry, kept, Events, Now, onward, Go, dereferenced, reading, testing, clauses, giving, run, entering, returning, atHead, stop, Segment, loopSegments, rounds, looping}
+use Rattle.routine_logic.specs.Runs.{canFail, entry, kept, Events, Now, onward, Go, dereferenced, reading, testing, clauses}
+use Rattle.routine_logic.specs.Runs.{giving, run, entering, returning, atHead, stop, Segment, loopSegments, rounds, looping}
 use Rattle.routine_logic.specs.Answers.{Starts}
 use Rattle.routine_theory.proofs.Passing.{Passing, Follows, checking-follows, reading-follows, testing-follows, clauses-follows}
 use Rattle.routine_theory.proofs.States.{term-node, variable-kept, link-kept, flag-kept}

@@ -5,3 +5,4 @@ pub mod States
 pub mod Chains
 pub mod Listed
 pub mod Whole
+pub mod Answers

@@ -3,15 +3,20 @@ use Prim.Native.Nat.{ℕ, suc}
 use mathlib.Core.Path.{_≡_, refl, sym, ap, _∙_, subst}
 use mathlib.Core.Logic.{⊎-elim}
 use mathlib.Core.Bool.{Bool, true, false, not, cond, false≢true}
-use mathlib.Core.List.{List, [], _∷_, _++_, map, List·Memᴰ, List·Memᴰ·head, List·Memᴰ·tail, List·Memᴰ·not-nil, List·Memᴰ·append-cases, List·Memᴰ·cases-cons, Memᴰ·append-left, Memᴰ·append-right, Memᴰ·map}
+use mathlib.Core.List.{List, [], _∷_, _++_, map, List·Memᴰ, List·Memᴰ·head, List·Memᴰ·tail, List·Memᴰ·not-nil}
+use mathlib.Core.List.{List·Memᴰ·append-cases, List·Memᴰ·cases-cons, Memᴰ·append-left, Memᴰ·append-right, Memᴰ·map}
 use lib.Dec.{eqb}
 use Rattle.logic.specs.Search.{_and_, select}
 use Rattle.theory.proofs.Basics.Search.{bool-cases, and-left, and-right, not-intro, select-intro}
 use Rattle.theory.proofs.Basics.Compare.{eqb-true}
-use Rattle.routine_logic.specs.Syntax.{Base, null, variable, bound, Term, Formula, always, never, equal, unequal, reaches, between, flag, negation, both, either, implies, same, forall, Place, Clause, Code, end, assign, assignLink, assignFlag, havoc, assume, assert, cover, branch, loop, leave, breakOut, Routine}
+use Rattle.routine_logic.specs.Syntax.{Base, null, variable, bound, Term, Formula, always, never, equal, unequal, reaches, between}
+use Rattle.routine_logic.specs.Syntax.{flag, negation, both, either, implies, same, forall, Place, Clause, Code, end, assign}
+use Rattle.routine_logic.specs.Syntax.{assignLink, assignFlag, havoc, assume, assert, cover, branch, loop, leave, breakOut, Routine}
 use Rattle.routine_logic.specs.State.{State, withVariable}
 use Rattle.routine_logic.specs.Formulas.{node, holds, sameTruth}
-use Rattle.routine_logic.specs.Runs.{Kind, nullOf, asserted, covered, entry, kept, ensured, Check, canFail, Event, met, gave, checked, Events, checking, Now, Go, stop, dereferenced, dereferencedIn, reading, testing, clauses, giving, run, finishing, entering, returning, atHead, Segment, loopSegments, segments}
+use Rattle.routine_logic.specs.Runs.{Kind, nullOf, asserted, covered, entry, kept, ensured, Check, canFail, Event, met, gave}
+use Rattle.routine_logic.specs.Runs.{checked, Events, checking, Now, Go, stop, dereferenced, dereferencedIn, reading, testing}
+use Rattle.routine_logic.specs.Runs.{clauses, giving, run, finishing, entering, returning, atHead, Segment, loopSegments, segments}
 use Rattle.routine_logic.specs.Checks.{sameBase, sameLinks, sameTerm, once, termsOf, Listed, listed, nulls, invariantChecks, ensuresChecks, codeChecks, checks}
 use Rattle.routine_logic.specs.Answers.{Run, events, Happens}
 use Rattle.routine_logic.specs.Claims.{CheckOf, ChecksListed}

@@ -7,23 +7,23 @@ use mathlib.Core.Bool.{true}
 use mathlib.Core.List.{List, _∷_, List·Memᴰ}
 use lib.Dec.{leb, ltb}
 use Rattle.logic.specs.Search.{_and_, from, all}
-use Rattle.logic.specs.Heap.{Node, Reaches}
+use Rattle.logic.specs.Heap.{Node, IsHeap, Reaches}
 use Rattle.theory.proofs.Basics.Search.{and-left, and-right, and-intro, all-true, all-intro, from-mem, from-intro}
 use Rattle.theory.proofs.Basics.Compare.{ltb-true, ltb-intro, leb-true, leb-intro}
 use Rattle.between.specs.Meaning.{MetAfter, Between}
 use Rattle.between.proofs.Until.{met-first}
 use Rattle.between_search.specs.Tests.{stepCount}
 use Rattle.between_search.proofs.StepCounts.{Stays, stays, count-met, met-count, met-soon}
-use Rattle.routine_logic.specs.State.{State, IsState}
+use Rattle.routine_logic.specs.State.{State}
 use Rattle.routine_logic.specs.Syntax.{Formula, forall}
 use Rattle.routine_logic.specs.Formulas.{Bound, reachesBy, betweenBy, holds}
 
-module _ (s : State) (is : IsState s) (i v : ℕ) (h : Node s v) where
+module _ (s : State) (is : IsHeap s) (i v : ℕ) (h : Node s v) where
   abbrev count : ℕ → ℕ
   count w = stepCount (s .link i) (s .size) v w
 
   inside : Stays (s .link i) (s .size) v
-  inside = stays (s .link i) (s .size) (is .is-heap .link-node i) v h
+  inside = stays (s .link i) (s .size) (is .link-node i) v h
 
   -- what is met is counted, and below the number of nodes
   counted : (w j : ℕ) → MetAfter (s .link i) v w j → (count w ≡ j) × (j < s .size)

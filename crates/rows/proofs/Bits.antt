@@ -214,7 +214,9 @@ unfolding _and_
 bit-rest zero w p h i = absurd (omega arith)
 bit-rest (suc k) w p h i = go (w % 2) refl (mod-lt w (zero-lt-suc 1)) (bit-rest k (w / 2)) i
   where
-    go : (d : ℕ) → w % 2 ≡ d → d < 2 → (0 < w / 2 → w / 2 < 2 ^ k → (i : ℕ) → bit (bitAnd (w / 2) (w / 2 - 1)) i ≡ bit (w / 2) i and not (eqb i (trailingZeros k (w / 2)))) → (i : ℕ) → bit (bitAnd w (w - 1)) i ≡ bit w i and not (eqb i (trailingZeros (suc k) w))
+    go : (d : ℕ) → w % 2 ≡ d → d < 2 →
+        (0 < w / 2 → w / 2 < 2 ^ k → (i : ℕ) → bit (bitAnd (w / 2) (w / 2 - 1)) i ≡ bit (w / 2) i and not (eqb i (trailingZeros k (w / 2)))) → (i : ℕ) →
+        bit (bitAnd w (w - 1)) i ≡ bit w i and not (eqb i (trailingZeros (suc k) w))
     go zero e l rest zero = rw (less-even w p e, double-low (bitAnd (w / 2) (w / 2 - 1)), bit-zero w, e)
     go zero e l rest (suc j) =
         let q = pow-suc 2 k in

@@ -38,7 +38,8 @@ module _ (p : ℕ → Bool) (m k : ℕ) where
   find-nothing h = firstOf-empty (λ a. keep (p a) a) (from m k) (λ x i. let r = from-mem m k x i in rw (h x (r .0) (r .1)))
 
 -- a search may look at more numbers, where those pass no test
-pub find-in : (p q : ℕ → Bool) (m k m′ k′ : ℕ) → k′ ≤ k → k + m ≤ k′ + m′ → ((i : ℕ) → k ≤ i → i < k + m → p i ≡ q i) → ((i : ℕ) → q i ≡ true → (k ≤ i) × (i < k + m)) → find p (from m k) ≡ find q (from m′ k′)
+pub find-in : (p q : ℕ → Bool) (m k m′ k′ : ℕ) → k′ ≤ k → k + m ≤ k′ + m′ → ((i : ℕ) → k ≤ i → i < k + m → p i ≡ q i) →
+    ((i : ℕ) → q i ≡ true → (k ≤ i) × (i < k + m)) → find p (from m k) ≡ find q (from m′ k′)
 find-in p q m k m′ k′ below above same inside = go (find q (from m′ k′)) refl
   where
     go : (o : Option ℕ) → find q (from m′ k′) ≡ o → find p (from m k) ≡ find q (from m′ k′)
@@ -93,7 +94,8 @@ module _ (p q : ℕ → Bool) (a : ℕ) (here : p a ≡ true) (gone : q a ≡ fa
       at : k ≡ a → cond (p k) (k ∷ select p (from j (suc k))) (select p (from j (suc k))) ≡ a ∷ cond (q k) (k ∷ select q (from j (suc k))) (select q (from j (suc k)))
       at e = rw (e, here, gone) (ap (λ (l : List ℕ). a ∷ l) (select-same p q j (suc a) (λ i g. same i (λ z. omega arith))))
 
-      past : k < a → select p (from j (suc k)) ≡ a ∷ select q (from j (suc k)) → cond (p k) (k ∷ select p (from j (suc k))) (select p (from j (suc k))) ≡ a ∷ cond (q k) (k ∷ select q (from j (suc k))) (select q (from j (suc k)))
+      past : k < a → select p (from j (suc k)) ≡ a ∷ select q (from j (suc k)) →
+          cond (p k) (k ∷ select p (from j (suc k))) (select p (from j (suc k))) ≡ a ∷ cond (q k) (k ∷ select q (from j (suc k))) (select q (from j (suc k)))
       past g ih = let no = before k (omega arith) g in rw (no, sym (same k (λ z. omega arith)) ∙ no) ih
 
 -- where the lowest bit of a word is found
@@ -132,11 +134,13 @@ module _ {B : Type 0} (f : ℕ → Option B) (p : ℕ → Bool) where
   first-selected zero k h = refl
   first-selected (suc j) k h = go (p k) refl (first-selected j (suc k) (λ i l m. h i (omega arith) (omega arith)))
     where
-      go : (t : Bool) → p k ≡ t → firstOf f (from j (suc k)) ≡ firstOf f (select p (from j (suc k))) → orElse (f k) (firstOf f (from j (suc k))) ≡ firstOf f (cond t (k ∷ select p (from j (suc k))) (select p (from j (suc k))))
+      go : (t : Bool) → p k ≡ t → firstOf f (from j (suc k)) ≡ firstOf f (select p (from j (suc k))) →
+          orElse (f k) (firstOf f (from j (suc k))) ≡ firstOf f (cond t (k ∷ select p (from j (suc k))) (select p (from j (suc k))))
       go true e ih = ap (orElse (f k)) ih
       go false e ih = rw (h k (omega arith) (omega arith) e) ih
 
-pub first-masked : {B : Type 0} (f : ℕ → Option B) (n w : ℕ) → n ≤ 16 → ((i : ℕ) → bit w i ≡ true → i ≤ n) → ((i : ℕ) → i ≤ n → bit w i ≡ false → f i ≡ none) → firstOf f (from (n + 1 - 0) 0) ≡ firstOf f (select (bit w) (from 32 0))
+pub first-masked : {B : Type 0} (f : ℕ → Option B) (n w : ℕ) → n ≤ 16 → ((i : ℕ) → bit w i ≡ true → i ≤ n) →
+    ((i : ℕ) → i ≤ n → bit w i ≡ false → f i ≡ none) → firstOf f (from (n + 1 - 0) 0) ≡ firstOf f (select (bit w) (from 32 0))
 first-masked f n w few inside others =
     first-selected f (bit w) (n + 1 - 0) 0 (λ i h l e. others i (omega arith) e)
     ∙ ap (firstOf f) (sym (select-up-to (bit w) (n + 1 - 0) 0 (31 - n) (λ i h. not-of (λ e. let l = inside i e in omega arith))) ∙ ap (λ (k : ℕ). select (bit w) (from k 0)) all)

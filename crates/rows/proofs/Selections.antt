@@ -81,7 +81,8 @@ module _ (q p : ℕ → Bool) where
   select-selected [] = refl
   select-selected (x ∷ xs) = go (q x) (select-selected xs)
     where
-      go : (a : Bool) → select p (select q xs) ≡ select (λ y. q y and p y) xs → select p (cond a (x ∷ select q xs) (select q xs)) ≡ cond (a and p x) (x ∷ select (λ y. q y and p y) xs) (select (λ y. q y and p y) xs)
+      go : (a : Bool) → select p (select q xs) ≡ select (λ y. q y and p y) xs →
+          select p (cond a (x ∷ select q xs) (select q xs)) ≡ cond (a and p x) (x ∷ select (λ y. q y and p y) xs) (select (λ y. q y and p y) xs)
       go true ih = ap (λ (ys : List ℕ). cond (p x) (x ∷ ys) ys) ih
       go false ih = ih
 

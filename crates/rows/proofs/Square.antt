@@ -89,7 +89,8 @@ nothing-held k a b = rw (getD-zeros k a, row-none b) (go (ltb a 17))
     go false = refl
 
 -- a bit is added to a row
-pub square-add : (rows : List ℕ) → length rows ≡ 17 → (a b w : ℕ) → a ≤ 16 → b ≤ 16 → ((i : ℕ) → bit w i ≡ eqb i b) → square (set rows a (bitOr (getD rows a 0) w)) ≡ (λ x y. square rows x y or (eqb x a and eqb y b))
+pub square-add : (rows : List ℕ) → length rows ≡ 17 → (a b w : ℕ) → a ≤ 16 → b ≤ 16 → ((i : ℕ) → bit w i ≡ eqb i b) →
+    square (set rows a (bitOr (getD rows a 0) w)) ≡ (λ x y. square rows x y or (eqb x a and eqb y b))
 unfolding _and_ _or_
 square-add rows full a b w h k e = fun-ext (λ x. fun-ext (λ y. go x y (eqb x a) refl))
   where
@@ -129,7 +130,8 @@ module _ (lo hi : ℕ) (below : lo < hi) (p : ℕ → Bool) where
       go false = refl
 
   -- whatever answers alike is the row renamed
-  pub renamed-is : (q : ℕ → Bool) → ((y : ℕ) → y ≡ hi → q y ≡ false) → ((y : ℕ) → y ≡ lo → q y ≡ p lo or p hi) → ((y : ℕ) → (y ≡ lo → ⊥) → (y ≡ hi → ⊥) → q y ≡ p y) → (y : ℕ) → q y ≡ renamedRow lo hi p y
+  pub renamed-is : (q : ℕ → Bool) → ((y : ℕ) → y ≡ hi → q y ≡ false) → ((y : ℕ) → y ≡ lo → q y ≡ p lo or p hi) →
+      ((y : ℕ) → (y ≡ lo → ⊥) → (y ≡ hi → ⊥) → q y ≡ p y) → (y : ℕ) → q y ≡ renamedRow lo hi p y
   renamed-is q high low other y = go (eqb y hi) refl (eqb y lo) refl
     where
       go : (t : Bool) → eqb y hi ≡ t → (u : Bool) → eqb y lo ≡ u → q y ≡ renamedRow lo hi p y

@@ -44,7 +44,8 @@ module _ (p : ℕ → Bool) where
   select-none zero k e = refl
   select-none (suc j) k e = go (p k) e (select-none j (suc k))
     where
-      go : (t : Bool) → orElse (keep t k) (find p (from j (suc k))) ≡ none → (find p (from j (suc k)) ≡ none → select p (from j (suc k)) ≡ []) → cond t (k ∷ select p (from j (suc k))) (select p (from j (suc k))) ≡ []
+      go : (t : Bool) → orElse (keep t k) (find p (from j (suc k))) ≡ none → (find p (from j (suc k)) ≡ none → select p (from j (suc k)) ≡ []) →
+          cond t (k ∷ select p (from j (suc k))) (select p (from j (suc k))) ≡ []
       go true e ih = absurd (none-some (sym e ∙ keep-hit k (find p (from j (suc k)))))
       go false e ih = ih (sym (keep-miss k (find p (from j (suc k)))) ∙ e)
 
@@ -59,7 +60,9 @@ module _ (p : ℕ → Bool) where
           numbers : (j ≡ m - (a + 1)) × (suc a ≡ a + 1)
           numbers = (omega arith, omega arith)
 
-      go : (t : Bool) → orElse (keep t k) (find p (from j (suc k))) ≡ some a → (find p (from j (suc k)) ≡ some a → select p (from j (suc k)) ≡ a ∷ select p (from (m - (a + 1)) (a + 1))) → cond t (k ∷ select p (from j (suc k))) (select p (from j (suc k))) ≡ a ∷ select p (from (m - (a + 1)) (a + 1))
+      go : (t : Bool) → orElse (keep t k) (find p (from j (suc k))) ≡ some a →
+          (find p (from j (suc k)) ≡ some a → select p (from j (suc k)) ≡ a ∷ select p (from (m - (a + 1)) (a + 1))) →
+          cond t (k ∷ select p (from j (suc k))) (select p (from j (suc k))) ≡ a ∷ select p (from (m - (a + 1)) (a + 1))
       go true e ih = here (keep-same k a (find p (from j (suc k))) e)
       go false e ih = ih (sym (keep-miss k (find p (from j (suc k)))) ∙ e)
 
@@ -97,7 +100,8 @@ module _ (p : ℕ → Bool) where
         first (some c) f = second c f (find p (from (n + 1 - (c + 1)) (c + 1))) refl
 
 -- the word of the successors of a term
-pub successor-bits : (link : List ℕ) (n t : ℕ) → n ≤ 16 → t ≤ 16 → (among : ℕ) → ((i : ℕ) → bit among i ≡ ltb 0 i and ltb i (n + 1)) → (i : ℕ) → bit (bitAnd (getD link t 0) among) i ≡ square link t i and (ltb 0 i and ltb i (n + 1))
+pub successor-bits : (link : List ℕ) (n t : ℕ) → n ≤ 16 → t ≤ 16 → (among : ℕ) → ((i : ℕ) → bit among i ≡ ltb 0 i and ltb i (n + 1)) → (i : ℕ) →
+    bit (bitAnd (getD link t 0) among) i ≡ square link t i and (ltb 0 i and ltb i (n + 1))
 unfolding _and_
 successor-bits link n t few h among e i = bit-and (getD link t 0) among i ∙ rw (e i) (go (ltb i (n + 1)) refl)
   where

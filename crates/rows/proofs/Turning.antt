@@ -14,7 +14,8 @@ use Rattle.rows.proofs.Fill.{Filled, filled-old, filled-more, filled-al
 use Rattle.rows.proofs.Square.{square-in, square-above, square-beside, set-same, set-other}
 
 -- bit t is told next
-pub filled-bit : (new : ℕ → Bool) (t cur next : ℕ) (wanted : Bool) → wanted ≡ new t → ((i : ℕ) → bit next i ≡ bit cur i or (eqb i t and wanted)) → Filled new (bit 0) t (bit cur) → Filled new (bit 0) (t + 1) (bit next)
+pub filled-bit : (new : ℕ → Bool) (t cur next : ℕ) (wanted : Bool) → wanted ≡ new t → ((i : ℕ) → bit next i ≡ bit cur i or (eqb i t and wanted)) →
+    Filled new (bit 0) t (bit cur) → Filled new (bit 0) (t + 1) (bit next)
 unfolding _and_ _or_
 filled-bit new t cur next wanted w e m =
     filled-more _ _ t (bit cur) (bit next)
@@ -28,7 +29,9 @@ filled-bit new t cur next wanted w e m =
 
 module _ (rows : List ℕ) where
   -- column y, bit after bit
-  pub column-more : (y : ℕ) → y ≤ 16 → (z : ℕ) → z ≤ 16 → (cur next : ℕ) (wanted : Bool) → wanted ≡ bit (getD rows z 0) y → ((i : ℕ) → bit next i ≡ bit cur i or (eqb i z and wanted)) → Filled (λ x. square rows x y) (bit 0) z (bit cur) → Filled (λ x. square rows x y) (bit 0) (z + 1) (bit next)
+  pub column-more : (y : ℕ) → y ≤ 16 → (z : ℕ) → z ≤ 16 → (cur next : ℕ) (wanted : Bool) → wanted ≡ bit (getD rows z 0) y →
+      ((i : ℕ) → bit next i ≡ bit cur i or (eqb i z and wanted)) → Filled (λ x. square rows x y) (bit 0) z (bit cur) →
+      Filled (λ x. square rows x y) (bit 0) (z + 1) (bit next)
   column-more y h z k cur next wanted w = filled-bit (λ x. square rows x y) z cur next wanted (w ∙ sym (square-in rows z y k h))
 
   pub column-all : (y cur : ℕ) → Filled (λ x. square rows x y) (bit 0) 17 (bit cur) → (z : ℕ) → bit cur z ≡ square rows z y
@@ -36,9 +39,11 @@ module _ (rows : List ℕ) where
 
   -- one column after the other
   module _ (first : List ℕ) where
-    pub turned-more : (y : ℕ) → y ≤ 16 → (cur : List ℕ) → length cur ≡ 17 → (w : ℕ) → ((z : ℕ) → bit w z ≡ square rows z y) → Filled (λ a b. square rows b a) (square first) y (square cur) → Filled (λ a b. square rows b a) (square first) (y + 1) (square (set cur y w))
+    pub turned-more : (y : ℕ) → y ≤ 16 → (cur : List ℕ) → length cur ≡ 17 → (w : ℕ) → ((z : ℕ) → bit w z ≡ square rows z y) →
+        Filled (λ a b. square rows b a) (square first) y (square cur) → Filled (λ a b. square rows b a) (square first) (y + 1) (square (set cur y w))
     unfolding rowOf _and_
-    turned-more y h cur full w e m = filled-more _ _ y (square cur) _ (set-same cur y w full h ∙ fun-ext (λ z. ap (λ (t : Bool). ltb z 17 and t) (e z) ∙ within z (ltb z 17) refl)) (set-other cur y w) m
+    turned-more y h cur full w e m = filled-more _ _ y (square cur) _
+        (set-same cur y w full h ∙ fun-ext (λ z. ap (λ (t : Bool). ltb z 17 and t) (e z) ∙ within z (ltb z 17) refl)) (set-other cur y w) m
       where
         within : (z : ℕ) (t : Bool) → ltb z 17 ≡ t → t and square rows z y ≡ square rows z y
         within z true f = refl

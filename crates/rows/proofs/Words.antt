@@ -77,9 +77,13 @@ bit-terms n m w f e i = e i ∙ rw (f i, bit-power 0 i) (go (eqb i 0) refl (ltb 
         positive (suc j) q = omega arith
 
 -- a word in which hi is moved to lo
-pub bit-renamed : (w v lo hi : ℕ) → lo < hi → hi ≤ 16 → (o : ℕ) → ((i : ℕ) → bit o i ≡ eqb i hi) → ((i : ℕ) → bit v i ≡ bit w i and not (bit o i)) → bit (bitOr v ((bitAnd (w / 2 ^ hi) 1 * 2 ^ lo) % 2 ^ 32)) ≡ renamedRow lo hi (bit w)
+pub bit-renamed : (w v lo hi : ℕ) → lo < hi → hi ≤ 16 → (o : ℕ) → ((i : ℕ) → bit o i ≡ eqb i hi) → ((i : ℕ) → bit v i ≡ bit w i and not (bit o i)) →
+    bit (bitOr v ((bitAnd (w / 2 ^ hi) 1 * 2 ^ lo) % 2 ^ 32)) ≡ renamedRow lo hi (bit w)
 unfolding _and_ _or_
-bit-renamed w v lo hi below h o f e = fun-ext (renamed-is lo hi below (bit w) _ (λ y p. at y ∙ rw (p, eq-eqb hi hi refl, ne-eqb hi lo (λ z. omega arith)) (high (bit w hi))) (λ y p. at y ∙ rw (p, ne-eqb lo hi (λ z. omega arith), eq-eqb lo lo refl) (low (bit w lo) (bit w hi))) (λ y p q. at y ∙ rw (ne-eqb y hi q, ne-eqb y lo p) (other (bit w y) (bit w hi))))
+bit-renamed w v lo hi below h o f e = fun-ext
+    (renamed-is lo hi below (bit w) _ (λ y p. at y ∙ rw (p, eq-eqb hi hi refl, ne-eqb hi lo (λ z. omega arith)) (high (bit w hi)))
+    (λ y p. at y ∙ rw (p, ne-eqb lo hi (λ z. omega arith), eq-eqb lo lo refl) (low (bit w lo) (bit w hi)))
+    (λ y p q. at y ∙ rw (ne-eqb y hi q, ne-eqb y lo p) (other (bit w y) (bit w hi))))
   where
     at : (y : ℕ) → bit (bitOr v ((bitAnd (w / 2 ^ hi) 1 * 2 ^ lo) % 2 ^ 32)) y ≡ (bit w y and not (eqb y hi)) or (bit w hi and eqb y lo)
     at y = bit-or v _ y ∙ ap₂ _or_ (e y ∙ ap (λ (t : Bool). bit w y and not t) (f y)) (bit-moved w lo hi (omega arith) y)

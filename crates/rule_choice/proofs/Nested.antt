@@ -56,7 +56,8 @@ module _ {A B : Type 0} (p : A → Bool) (h : A → B) where
   keep-through [] = refl
   keep-through (x ∷ xs) = go (p x) (keep-through xs)
     where
-      go : (t : Bool) → firstOf (λ y. keep (p y) (h y)) xs ≡ Option·elim (find p xs) none (λ y. some (h y)) → orElse (keep t (h x)) (firstOf (λ y. keep (p y) (h y)) xs) ≡ Option·elim (orElse (keep t x) (find p xs)) none (λ y. some (h y))
+      go : (t : Bool) → firstOf (λ y. keep (p y) (h y)) xs ≡ Option·elim (find p xs) none (λ y. some (h y)) →
+          orElse (keep t (h x)) (firstOf (λ y. keep (p y) (h y)) xs) ≡ Option·elim (orElse (keep t x) (find p xs)) none (λ y. some (h y))
       go true e = refl
       go false e = e
 
@@ -137,7 +138,8 @@ module _ (n : ℕ) (s : Facts) where
       ∙ ap (λ (f : ℕ → Option Move). firstOf f order) (fun-ext (λ k. firstOf-option _ (ruleOf k) ∙ inside (ruleOf k)))
 
 -- a rule is tried alike in rows of the link's own and in the rows of all links
-pub own-tried : (link reach l r : List ℕ) (i : ℕ) → square l ≡ cube link i → square r ≡ cube reach i → (n : ℕ) (alive : ℕ → Bool) (k : ℕ) → triedAt i n alive (graphOf l r) k ≡ triedAt i n alive (graphIn link reach i) k
+pub own-tried : (link reach l r : List ℕ) (i : ℕ) → square l ≡ cube link i → square r ≡ cube reach i → (n : ℕ) (alive : ℕ → Bool) (k : ℕ) →
+    triedAt i n alive (graphOf l r) k ≡ triedAt i n alive (graphIn link reach i) k
 unfolding graphIn
 own-tried link reach l r i e f n alive k = ap (λ (g : Graph). triedAt i n alive g k) (rows-are l r (graphIn link reach i) e f)
 

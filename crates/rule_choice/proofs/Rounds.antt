@@ -108,7 +108,10 @@ module _ (n : ℕ) (few : n ≤ 16) (link reach : List ℕ) (x : ℕ) (h : x ≤
   pub reach-none : bitAnd (getD reach x 0) m ≡ 0 → (y : ℕ) → y ≤ n → graphOf link reach .reach x y ≡ false
   reach-none e y l = sym (reach-bit y l) ∙ ap (λ (w : ℕ). bit w y) e ∙ bit-none y
 
-  pub round-find : (c k s passed o v : ℕ) → c ≡ next n (linksIn link) x → k ≡ s + 1 → ((y : ℕ) → bit passed y ≡ ltb (stepsTo n (linksIn link) y s c) s) → ((i : ℕ) → bit o i ≡ eqb i x) → ((i : ℕ) → bit v i ≡ bit (bitAnd (getD reach x 0) m) i and not (bit (bitOr passed o) i)) → find (bit v) (from 32 0) ≡ find (λ y. graphOf link reach .reach x y and not (ltb (stepsTo n (graphOf link reach) y k x) k)) (from (n + 1 - 0) 0)
+  pub round-find : (c k s passed o v : ℕ) → c ≡ next n (linksIn link) x → k ≡ s + 1 →
+      ((y : ℕ) → bit passed y ≡ ltb (stepsTo n (linksIn link) y s c) s) → ((i : ℕ) → bit o i ≡ eqb i x) →
+      ((i : ℕ) → bit v i ≡ bit (bitAnd (getD reach x 0) m) i and not (bit (bitOr passed o) i)) →
+      find (bit v) (from 32 0) ≡ find (λ y. graphOf link reach .reach x y and not (ltb (stepsTo n (graphOf link reach) y k x) k)) (from (n + 1 - 0) 0)
   round-find c k s passed o v q j d e g =
       sym
       (find-in (λ y. graphOf link reach .reach x y and not (ltb (stepsTo n (graphOf link reach) y k x) k)) (bit v) (n + 1 - 0) 0 32 0 (omega arith) (omega arith)

@@ -73,7 +73,8 @@ unfolding Option·elim
 looks-some k r e = looks-as k (some r) e
 
 -- once it was turned round it stays so
-pub turned-kept : (reach before back : List ℕ) (t w : Bool) → (t ≡ true → Turned before reach) → ((w && not t) ≡ true → Turned back reach) → ((w && not t) ≡ false → back ≡ before) → (t || w) ≡ true → Turned back reach
+pub turned-kept : (reach before back : List ℕ) (t w : Bool) → (t ≡ true → Turned before reach) → ((w && not t) ≡ true → Turned back reach) →
+    ((w && not t) ≡ false → back ≡ before) → (t || w) ≡ true → Turned back reach
 turned-kept reach before back true true old new same e = subst (λ (b : List ℕ). Turned b reach) (sym (same refl)) (old refl)
 turned-kept reach before back true false old new same e = subst (λ (b : List ℕ). Turned b reach) (sym (same refl)) (old refl)
 turned-kept reach before back false true old new same e = new refl
@@ -83,7 +84,8 @@ or-right : (t w : Bool) → w ≡ true → (t || w) ≡ true
 or-right true w e = refl
 or-right false w e = e
 
-pub turned-now : (reach before back : List ℕ) (t w : Bool) → (t ≡ true → Turned before reach) → ((w && not t) ≡ true → Turned back reach) → ((w && not t) ≡ false → back ≡ before) → w ≡ true → Turned back reach
+pub turned-now : (reach before back : List ℕ) (t w : Bool) → (t ≡ true → Turned before reach) → ((w && not t) ≡ true → Turned back reach) →
+    ((w && not t) ≡ false → back ≡ before) → w ≡ true → Turned back reach
 turned-now reach before back t w old new same e = turned-kept reach before back t w old new same (or-right t w e)
 
 -- TRANS2, which has its own search

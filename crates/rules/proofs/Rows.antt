@@ -44,7 +44,8 @@ module _ (link reach : List ℕ) where
     unfolding thirdTest
     third-trans2 w e = e z ∙ ap₂ (λ a b. a and not b) (far-bit y z k l) (far-bit x z h l)
 
-    pub third-func : (o v w : ℕ) → ((i : ℕ) → bit o i ≡ eqb i x) → ((i : ℕ) → bit v i ≡ bit (getD reach x 0) i and not (bit o i)) → ((i : ℕ) → bit w i ≡ bit v i and not (bit (getD reach y 0) i)) → bit w z ≡ thirdTest (graphOf link reach) x y z FUNC
+    pub third-func : (o v w : ℕ) → ((i : ℕ) → bit o i ≡ eqb i x) → ((i : ℕ) → bit v i ≡ bit (getD reach x 0) i and not (bit o i)) →
+        ((i : ℕ) → bit w i ≡ bit v i and not (bit (getD reach y 0) i)) → bit w z ≡ thirdTest (graphOf link reach) x y z FUNC
     unfolding thirdTest
     third-func o v w f d e = e z ∙ ap₂ (λ a b. a and not b) (d z ∙ ap₂ (λ a b. a and not b) (far-bit x z h l) (f z ∙ eqb-turned z x)) (far-bit y z k l)
 
@@ -58,7 +59,9 @@ module _ (link reach : List ℕ) where
     unfolding graphOf
     back-bit x y h k = sym (square-in back x y h k) ∙ t x y
 
-    pub pair-mutual : (x : ℕ) (h : x ≤ 16) (y : ℕ) (k : y ≤ 16) (o w : ℕ) → ((i : ℕ) → bit o i ≡ eqb i x) → ((i : ℕ) → bit w i ≡ bit (bitAnd (getD reach x 0) (getD back x 0)) i and not (bit o i)) → bit w y ≡ (graphOf link reach .reach x y and graphOf link reach .reach y x and not (eqb x y))
+    pub pair-mutual : (x : ℕ) (h : x ≤ 16) (y : ℕ) (k : y ≤ 16) (o w : ℕ) → ((i : ℕ) → bit o i ≡ eqb i x) →
+        ((i : ℕ) → bit w i ≡ bit (bitAnd (getD reach x 0) (getD back x 0)) i and not (bit o i)) →
+        bit w y ≡ (graphOf link reach .reach x y and graphOf link reach .reach y x and not (eqb x y))
     pair-mutual x h y k o w f e = e y ∙ ap₂ (λ a b. a and not b) (bit-and (getD reach x 0) (getD back x 0) y ∙ ap₂ _and_ (far-bit x y h k) (back-bit x y h k)) (f y ∙ eqb-turned y x)
 
     module _ (x y z : ℕ) (h : x ≤ 16) (k : y ≤ 16) (l : z ≤ 16) where
@@ -66,6 +69,7 @@ module _ (link reach : List ℕ) where
       unfolding thirdTest
       third-scc w e = e z ∙ ap₂ (λ a b. a and not b) (far-bit x z h l) (back-bit x z h l)
 
-      pub third-total : (v w : ℕ) → ((i : ℕ) → bit v i ≡ bit (getD reach x 0) i and not (bit (getD reach y 0) i)) → ((i : ℕ) → bit w i ≡ bit v i and not (bit (getD back y 0) i)) → bit w z ≡ thirdTest (graphOf link reach) x y z TOTAL
+      pub third-total : (v w : ℕ) → ((i : ℕ) → bit v i ≡ bit (getD reach x 0) i and not (bit (getD reach y 0) i)) →
+          ((i : ℕ) → bit w i ≡ bit v i and not (bit (getD back y 0) i)) → bit w z ≡ thirdTest (graphOf link reach) x y z TOTAL
       unfolding thirdTest
       third-total v w d e = e z ∙ ap₂ (λ a b. a and not b) (d z ∙ ap₂ (λ a b. a and not b) (far-bit x z h l) (far-bit y z k l)) (back-bit y z k l)

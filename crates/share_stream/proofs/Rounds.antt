@@ -51,7 +51,8 @@ module _ (bytes : List ℕ) (behind : ℕ) (b : behind ≡ min (length bytes) 2)
       sized : w ≡ wanted (take 2 bytes)
       sized = s ∙ ap wanted head-read
 
-      pub takes-first : {order counts before after left : List ℕ} {r : ℕ} {goes : Bool} → Takes (turnOf order counts (take behind bytes) (take (end - behind) (drop behind bytes))) before after r left goes
+      pub takes-first : {order counts before after left : List ℕ} {r : ℕ} {goes : Bool} →
+          Takes (turnOf order counts (take behind bytes) (take (end - behind) (drop behind bytes))) before after r left goes
           → TakesFirst order counts bytes before after r left goes end
       unfolding firstTurn firstLength
       takes-first {order} {counts} {before} {after} {left} {r} {goes} t =
@@ -109,14 +110,18 @@ taken-some {why} {ordered} {at} none h = ⊎-elim (λ (l : at ≤ ordered). absu
 module _ (held : List ℕ) (ordered : ℕ) (o : ordered ≡ min (length held) 8) where
   pub going-start : (counts text : List ℕ) (ended : Bool) → Going counts held ended (take 0 text) counts ordered
   going-start counts text ended =
-      record { prints = λ (more : List ℕ) none. ap (λ (l : List ℕ). outputFrom counts (l ++ more)) (sym (ap (λ (l : List ℕ). l ++ drop ordered held) (sym (order-lent held ordered o)) ∙ take-append-drop ordered held)) }
+      record {
+        prints = λ (more : List ℕ) none. ap (λ (l : List ℕ). outputFrom counts (l ++ more))
+            (sym (ap (λ (l : List ℕ). l ++ drop ordered held) (sym (order-lent held ordered o)) ∙ take-append-drop ordered held));
+      }
 
   module _ (at : ℕ) (b : ordered ≤ at) (a : at ≤ length held) where
     kept-length : length (take 8 held ++ drop at held) ≡ ordered + (length held - at)
     kept-length = length-append (take 8 held) (drop at held) ∙ (omega (arith, length-take 8 held, length-drop at held))
 
     -- the turns stop where the text has no room, or a turn may be cut
-    pub stops : {counts text after : List ℕ} {ended : Bool} → Going counts held ended text after at → (ordered < at) ⊎ ((ended ≡ false) × (length held - at < 683)) → Processes counts held ended text after (take 8 held ++ drop at held) true
+    pub stops : {counts text after : List ℕ} {ended : Bool} → Going counts held ended text after at →
+        (ordered < at) ⊎ ((ended ≡ false) × (length held - at < 683)) → Processes counts held ended text after (take 8 held ++ drop at held) true
     unfolding stillPrinted
     stops {ended = ended} g why =
         record {
@@ -124,13 +129,16 @@ module _ (held : List ℕ) (ordered : ℕ) (o : ordered ≡ min (length held) 8)
           shrinks = omega (arith, kept-length);
           advances = λ e. ⊎-elim
               (λ (h : ordered < at). inl (omega (arith, kept-length)))
-              (λ (h : (ended ≡ false) × (length held - at < 683)). ⊎-elim (λ (l : at ≤ ordered). inr (h .0, omega (arith, h .1))) (λ (l : ordered < at). inl (omega (arith, kept-length))) (le-cases at ordered))
+              (λ (h : (ended ≡ false) × (length held - at < 683)). ⊎-elim (λ (l : at ≤ ordered). inr (h .0, omega (arith, h .1)))
+              (λ (l : ordered < at). inl (omega (arith, kept-length))) (le-cases at ordered))
               why;
         }
 
     -- one turn more, which has come whole: its text stands behind what was made before
-    module _ {order counts part after left : List ℕ} {r taken : ℕ} {ended goes : Bool} (text : List ℕ) (made : ℕ) (g : Going counts held ended (take made text) after at) (w : (ended ≡ true) ⊎ (683 ≤ length held - at))
-        (l : order ≡ take 8 held) (t : TakesFirst order after (take (length held - at) (drop at held)) (take (length text - made) (drop made text)) part r left goes taken) (room : made + 128 ≤ length text) where
+    module _ {order counts part after left : List ℕ} {r taken : ℕ} {ended goes : Bool} (text : List ℕ) (made : ℕ)
+        (g : Going counts held ended (take made text) after at) (w : (ended ≡ true) ⊎ (683 ≤ length held - at))
+        (l : order ≡ take 8 held) (t : TakesFirst order after (take (length held - at) (drop at held)) (take (length text - made) (drop made text))
+        part r left goes taken) (room : made + 128 ≤ length text) where
       bytes : take (length held - at) (drop at held) ≡ drop at held
       bytes = all-behind at held
 
@@ -157,7 +165,8 @@ module _ (held : List ℕ) (ordered : ℕ) (o : ordered ≡ min (length held) 8)
       turn-more : (more : List ℕ) → (ended ≡ true → more ≡ []) → outputFrom counts (held ++ more) ≡ take (made + r) written ++ stillPrinted goes left (rest more)
       turn-more more none =
           g .prints more none
-          ∙ ap (λ (xs : List ℕ). take made text ++ xs) (turn-prints held at (omega arith) a after more (⊎-elim (λ (e : ended ≡ true). inl (none e)) (λ (h : 683 ≤ length held - at). inr h) w) taken passes)
+          ∙ ap (λ (xs : List ℕ). take made text ++ xs)
+          (turn-prints held at (omega arith) a after more (⊎-elim (λ (e : ended ≡ true). inl (none e)) (λ (h : 683 ≤ length held - at). inr h) w) taken passes)
           ∙ sym (append-assoc (take made text) (turn .text) (stillPrinted (turn .goes) (turn .counts) (rest more)))
           ∙ ap (λ (xs : List ℕ). xs ++ stillPrinted (turn .goes) (turn .counts) (rest more)) (sym (text-more made text made-few (takes .wrote)))
           ∙ ap (λ (b : Bool). take (made + r) written ++ stillPrinted b (turn .counts) (rest more)) (sym (takes .going))

@@ -47,7 +47,8 @@ unfolding hexWord
 word-bytes k e f g h = rw (e, f, g, h)
 
 -- the end of a line, of lines that are equal
-pub finishes-as : {before after counts left : List ℕ} {at r : ℕ} {goes : Bool} {ls ms : List Line} → ls ≡ ms → Finishes before at ls counts after r left goes → Finishes before at ms counts after r left goes
+pub finishes-as : {before after counts left : List ℕ} {at r : ℕ} {goes : Bool} {ls ms : List Line} → ls ≡ ms →
+    Finishes before at ls counts after r left goes → Finishes before at ms counts after r left goes
 finishes-as {before} {after} {counts} {left} {at} {r} {goes} e f = subst (λ (ls : List Line). Finishes before at ls counts after r left goes) e f
 
 pub count-words : {p q : ℕ} (bytes : List ℕ) → p ≡ getD bytes 0 0 → q ≡ getD bytes 1 0 → decimal (256 * p + q) ++ ascii "\n" ≡ decimal (length (linesIn bytes)) ++ ascii "\n"
@@ -66,7 +67,8 @@ module _ (order counts query : List ℕ) where
   turn-bad [] h e = absurd (omega arith)
   turn-bad (b ∷ head) h e = rw e
 
-  turn-query : (head : List ℕ) → 1 ≤ length head → isBad head ≡ false → turnOf order counts head query ≡ record { text = queryLine order query; counts = tallied counts (writtenLines order query); goes = true }
+  turn-query : (head : List ℕ) → 1 ≤ length head → isBad head ≡ false →
+      turnOf order counts head query ≡ record { text = queryLine order query; counts = tallied counts (writtenLines order query); goes = true }
   unfolding turnOf
   turn-query [] h e = absurd (omega arith)
   turn-query (b ∷ head) h e = rw e
@@ -75,10 +77,12 @@ module _ (order counts query : List ℕ) where
   takes-none head before h =
       subst (λ (t : Turn). Takes t before before 0 counts false) (sym (turn-none head h)) (record { wrote = writes-none before 0; short = omega arith; leaves = refl; going = refl })
 
-  pub takes-bad : {before after : List ℕ} {r : ℕ} {b : Bool} (head : List ℕ) → 1 ≤ length head → b ≡ isBad head → b ≡ true → Writes before 0 (ascii "bad length\n") after r → Takes (turnOf order counts head query) before after r counts false
+  pub takes-bad : {before after : List ℕ} {r : ℕ} {b : Bool} (head : List ℕ) → 1 ≤ length head → b ≡ isBad head → b ≡ true →
+      Writes before 0 (ascii "bad length\n") after r → Takes (turnOf order counts head query) before after r counts false
   takes-bad {before} {after} {r} head h e f w =
       subst (λ (t : Turn). Takes t before after r counts false) (sym (turn-bad head h (sym e ∙ f))) (record { wrote = w; short = omega (arith, w .ends); leaves = refl; going = refl })
 
-  pub takes-query : {before after left : List ℕ} {r : ℕ} {b goes : Bool} (head : List ℕ) → 1 ≤ length head → b ≡ isBad head → b ≡ false → Prints before order query counts after r left goes → Takes (turnOf order counts head query) before after r left goes
+  pub takes-query : {before after left : List ℕ} {r : ℕ} {b goes : Bool} (head : List ℕ) → 1 ≤ length head → b ≡ isBad head → b ≡ false →
+      Prints before order query counts after r left goes → Takes (turnOf order counts head query) before after r left goes
   takes-query {before} {after} {left} {r} {b} {goes} head h e f p =
       subst (λ (t : Turn). Takes t before after r left goes) (sym (turn-query head h (sym e ∙ f))) (record { wrote = p .wrote; short = p .short; leaves = p .leaves; going = p .going })

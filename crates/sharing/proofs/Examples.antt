@@ -20,5 +20,8 @@ examples :
     × (output (inOrder ++ (0 ∷ [])) ≡ ascii "bad length\n0/1\n0/1\n0/1\n0/1\n0/1\n0/1\n0/1\n0/1\n")
     × (output (inOrder ++ (2 ∷ 170 ∷ [])) ≡ ascii "bad length\n0/1\n0/1\n0/1\n0/1\n0/1\n0/1\n0/1\n0/1\n")
     × (output (1 ∷ 1 ∷ 3 ∷ 4 ∷ 5 ∷ 6 ∷ 7 ∷ 8 ∷ 0 ∷ 1 ∷ 97 ∷ []) ≡ ascii "e40c292c refused 1 at 0 0\n0/1\n0/1\n0/1\n0/1\n0/1\n0/1\n0/1\n0/1\n")
-unfolding Option·elim _and_ _or_ from keep any all select at orElse firstOf flatMap find isOrder orderCheck layoutCheck byteCheck roomUnder queryChecks verdictChecksOf derivationChecksOf refusalOf blank call verdictCallOf derivationCallOf inOrder decimal decimalWithin hexByte hexDigit answerText refusedText marked markFrom markOf kindOf ruleLines raisedFrom raised fits tallied noLines gcdWithin gcd share totalOf sharesOf fractionText sharesText hexWord linesOf answerOf writtenLines queryLine lengthIn isBad wanted turnOf firstTurn firstLength outputWithin outputFrom output
+unfolding Option·elim _and_ _or_ from keep any all select at orElse firstOf flatMap find isOrder orderCheck layoutCheck byteCheck roomUnder
+    queryChecks verdictChecksOf derivationChecksOf refusalOf blank call verdictCallOf derivationCallOf inOrder decimal decimalWithin hexByte hexDigit
+    answerText refusedText marked markFrom markOf kindOf ruleLines raisedFrom raised fits tallied noLines gcdWithin gcd share totalOf sharesOf
+    fractionText sharesText hexWord linesOf answerOf writtenLines queryLine lengthIn isBad wanted turnOf firstTurn firstLength outputWithin outputFrom output
 examples = (refl, refl, refl, refl)

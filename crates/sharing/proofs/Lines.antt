@@ -22,7 +22,8 @@ module _ (order query : List ℕ) where
   pub sat-none : answerOf order query ≡ satisfiable → linesIn (0 ∷ 0 ∷ []) ≡ writtenLines order query
   unfolding answerOf writtenLines linesOf linesIn linesFrom
   sat-none v =
-      let d : derived .answer ≡ refused 11 0 = demand1 .one-heap (record { order = order; query = query; room = 53 }) (record { order = order; query = query; room = 64002 }) (refl, refl) (omega arith) .0 v in
+      let d : derived .answer ≡ refused 11 0 = demand1 .one-heap (record { order = order; query = query; room = 53 })
+      (record { order = order; query = query; room = 64002 }) (refl, refl) (omega arith) .0 v in
       sym (ap (λ (a : Answer). linesOf a (derived .lent)) d)
 
   -- else the lines are those in the bytes that the derivation call leaves, and there are none where it is refused

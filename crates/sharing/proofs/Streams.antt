@@ -43,7 +43,10 @@ module _ (order : List ℕ) where
       let t : Turn = firstTurn order counts bytes in
       let n : ℕ = firstLength bytes in
       ap (λ (r : List ℕ). t .text ++ r)
-      (choose (sharesText (t .counts)) (t .goes) (λ (e : t .goes ≡ true). enough k m (t .counts) (drop n bytes) (omega (arith, first-two bytes, length-drop n bytes, goes-two order counts bytes e)) (omega (arith, first-two bytes, length-drop n bytes, goes-two order counts bytes e))))
+      (choose (sharesText (t .counts)) (t .goes)
+      (λ (e : t .goes ≡ true). enough k m (t .counts) (drop n bytes)
+      (omega (arith, first-two bytes, length-drop n bytes, goes-two order counts bytes e))
+      (omega (arith, first-two bytes, length-drop n bytes, goes-two order counts bytes e))))
 
 -- what is printed of the bytes behind the order list
 abbrev pub onward : List ℕ → List ℕ → List ℕ → List ℕ
@@ -56,7 +59,9 @@ onward-turn order counts bytes =
     let t : Turn = firstTurn order counts bytes in
     let n : ℕ = firstLength bytes in
     ap (λ (r : List ℕ). t .text ++ r)
-    (choose (sharesText (t .counts)) (t .goes) (λ (e : t .goes ≡ true). enough order (length bytes) (suc (length (drop n bytes))) (t .counts) (drop n bytes) (omega (arith, first-two bytes, length-drop n bytes, goes-two order counts bytes e)) (omega arith)))
+    (choose (sharesText (t .counts)) (t .goes)
+    (λ (e : t .goes ≡ true). enough order (length bytes) (suc (length (drop n bytes))) (t .counts) (drop n bytes)
+    (omega (arith, first-two bytes, length-drop n bytes, goes-two order counts bytes e)) (omega arith)))
 
 -- the order list is whole, or nothing is behind it
 pub from-order : (order counts bytes : List ℕ) → (length order ≡ 8) ⊎ ((length order ≤ 8) × (bytes ≡ [])) → outputFrom counts (order ++ bytes) ≡ onward order counts bytes
@@ -130,7 +135,8 @@ module _ (held : List ℕ) (at : ℕ) (o : min (length held) 8 ≤ at) (a : at �
   ordered k h = ⊎-elim (λ (l : 8 ≤ length held). inl (length-take-le 8 held l)) (λ (l : length held < 8). inr (omega (arith, length-take 8 held), none l)) (le-cases 8 (length held))
     where
       none : length held < 8 → drop k held ++ more ≡ []
-      none l = ⊎-elim (λ (e : more ≡ []). ap (λ (m : List ℕ). drop k held ++ m) e ∙ append-nil (drop k held) ∙ drop-of-length-le held {i = k} (omega arith)) (λ (h : 683 ≤ length held - at). absurd (omega arith)) w
+      none l = ⊎-elim (λ (e : more ≡ []). ap (λ (m : List ℕ). drop k held ++ m) e ∙ append-nil (drop k held)
+          ∙ drop-of-length-le held {i = k} (omega arith)) (λ (h : 683 ≤ length held - at). absurd (omega arith)) w
 
   pub turn-prints : (taken : ℕ) → taken ≡ min (length bytes) (firstLength bytes)
       → outputFrom counts ((order ++ bytes) ++ more) ≡ turn .text ++ stillPrinted (turn .goes) (turn .counts) ((order ++ drop (at + taken) held) ++ more)

@@ -72,7 +72,9 @@ module _ {l : Layout} {bytes : List ℕ} (w : Within l bytes) where
 
   module _ (acc : Accepted (said l bytes)) where
     -- the links that rows hold are settled behind no pair
-    pub links-laid : (single : Bool) (rep link : List ℕ) → single ≡ eqb (l .links) 1 → repOf rep ≡ (λ t. t) → ((k : ℕ) → cube link k ≡ linksOf (said l bytes) .graph k .link) → andThen (joinedIn single rep link (replicate 51 0) (replicate 17 0) (replicate 17 0) 0) (settle (l .terms) (l .terms)) ≡ links
+    pub links-laid : (single : Bool) (rep link : List ℕ) → single ≡ eqb (l .links) 1 → repOf rep ≡ (λ t. t) →
+        ((k : ℕ) → cube link k ≡ linksOf (said l bytes) .graph k .link) →
+        andThen (joinedIn single rep link (replicate 51 0) (replicate 17 0) (replicate 17 0) 0) (settle (l .terms) (l .terms)) ≡ links
     unfolding said
     links-laid single rep link e r f =
         none-before (replicate 17 0) (replicate 17 0) _ (settle (l .terms) (l .terms)) ∙ ap (settle (l .terms) (l .terms)) (linked-in-rows (said l bytes) acc single rep link e (w .one-or-three) r f)

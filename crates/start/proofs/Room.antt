@@ -36,7 +36,8 @@ below-next k (ab ∷ ps) = go _ _ _ (ltb (ab .1) (suc k)) (ltb (ab .1) k) (eqb (
         let l = ltb-true (ab .1) (suc k) h in
         ⊎-elim (λ e. inr (eqb-intro {m = ab .1} {n = k} e)) (λ d. inl (ltb-intro {m = ab .1} {n = k} (lower (ab .1) k l (d .0)))) (eq-cases (ab .1) k)
 
-    go : (xs ys zs : List (ℕ × ℕ)) (b c d : Bool) → (b ≡ true → (c ≡ true) ⊎ (d ≡ true)) → length xs ≤ length ys + length zs → length (cond b (ab ∷ xs) xs) ≤ length (cond c (ab ∷ ys) ys) + length (cond d (ab ∷ zs) zs)
+    go : (xs ys zs : List (ℕ × ℕ)) (b c d : Bool) → (b ≡ true → (c ≡ true) ⊎ (d ≡ true)) → length xs ≤ length ys + length zs →
+        length (cond b (ab ∷ xs) xs) ≤ length (cond c (ab ∷ ys) ys) + length (cond d (ab ∷ zs) zs)
     go xs ys zs true true true s h = omega (arith, h)
     go xs ys zs true true false s h = omega (arith, h)
     go xs ys zs true false true s h = omega (arith, h)

@@ -139,7 +139,8 @@ line-first bytes from k = (
   getD (drop from bytes) 1 0,
   getD (drop from bytes) 2 0,
   getD (drop from bytes) 3 0,
-  ap (λ (a : ℕ). line a (getD (drop from bytes) 1 0) (getD (drop from bytes) 2 0) (getD (drop from bytes) 3 0) ∷ linesFrom k (drop 4 (drop from bytes))) (getD-drop from bytes 0 0 ∙ ap (λ (j : ℕ). getD bytes j 0) (add-zero from))
+  ap (λ (a : ℕ). line a (getD (drop from bytes) 1 0) (getD (drop from bytes) 2 0) (getD (drop from bytes) 3 0) ∷ linesFrom k
+      (drop 4 (drop from bytes))) (getD-drop from bytes 0 0 ∙ ap (λ (j : ℕ). getD bytes j 0) (add-zero from))
       ∙ ap (λ (xs : List ℕ). line (getD bytes from 0) (getD (drop from bytes) 1 0) (getD (drop from bytes) 2 0) (getD (drop from bytes) 3 0) ∷ linesFrom k xs) (drop-drop 4 from bytes),
 )
 
@@ -148,7 +149,8 @@ module _ (count : ℕ) (bytes : List ℕ) where
   unfolding linesIn
   count-whole e = ap (λ (k : ℕ). linesFrom k (drop 2 bytes)) (sub-zero count ∙ e)
 
-  pub count-next : (cs : List ℕ) (i from kind : ℕ) → from ≡ 2 + 4 * i → kind ≡ getD bytes from 0 → i < count → raised (raised cs (line kind 0 0 0 ∷ [])) (left count bytes (i + 1)) ≡ raised cs (left count bytes i)
+  pub count-next : (cs : List ℕ) (i from kind : ℕ) → from ≡ 2 + 4 * i → kind ≡ getD bytes from 0 → i < count →
+      raised (raised cs (line kind 0 0 0 ∷ [])) (left count bytes (i + 1)) ≡ raised cs (left count bytes i)
   unfolding raised
   count-next cs i from kind e q h =
       let k : ℕ = count - (i + 1) in
@@ -258,7 +260,8 @@ count-starts {p} {q} bytes e f =
     let whole : 256 * p + q ≡ 256 * getD bytes 0 0 + getD bytes 1 0 = omega arith in
     ap (λ (cs : List ℕ). raised cs (left (256 * p + q) bytes 0)) zeros-none ∙ ap (raised noLines) (count-whole (256 * p + q) bytes whole)
 
-pub count-again : {next : List ℕ} (count : ℕ) (bytes cs : List ℕ) (i kind : ℕ) → next ≡ raised cs (line kind 0 0 0 ∷ []) → kind ≡ getD bytes (2 + 4 * i) 0 → i < count → raised next (left count bytes (i + 1)) ≡ raised cs (left count bytes i)
+pub count-again : {next : List ℕ} (count : ℕ) (bytes cs : List ℕ) (i kind : ℕ) → next ≡ raised cs (line kind 0 0 0 ∷ []) →
+    kind ≡ getD bytes (2 + 4 * i) 0 → i < count → raised next (left count bytes (i + 1)) ≡ raised cs (left count bytes i)
 count-again count bytes cs i kind e q h = ap (λ (ns : List ℕ). raised ns (left count bytes (i + 1))) e ∙ count-next count bytes cs i (2 + 4 * i) kind refl q h
 
 -- what a derivation adds, where `more` are the lines of each rule

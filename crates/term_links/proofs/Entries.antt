@@ -54,7 +54,8 @@ module _ (entries : Entries) where
   links-none cur none k a (suc b) = none k a (suc b) ∙ rw (le-ltb (suc b) 1 (omega arith))
 
   -- the link to t is held next
-  pub links-more : (t a k : ℕ) (cur later : ℕ → ℕ → ℕ → Bool) → 0 < a → argumentOf entries t ≡ a → linkOf entries t ≡ k → later ≡ (λ j x y. cur j x y or (eqb j k and eqb x a and eqb y t)) → LinksTo entries t cur → LinksTo entries (t + 1) later
+  pub links-more : (t a k : ℕ) (cur later : ℕ → ℕ → ℕ → Bool) → 0 < a → argumentOf entries t ≡ a → linkOf entries t ≡ k →
+      later ≡ (λ j x y. cur j x y or (eqb j k and eqb x a and eqb y t)) → LinksTo entries t cur → LinksTo entries (t + 1) later
   unfolding _and_ _or_
   links-more t a k cur later h e by f m j x y = ap (λ (g : ℕ → ℕ → ℕ → Bool). g j x y) f ∙ ap (λ (b : Bool). b or (eqb j k and eqb x a and eqb y t)) (m j x y) ∙ go (eqb y t) refl
     where
@@ -78,7 +79,8 @@ module _ (entries : Entries) where
   -- all links are held
   links-all : (n : ℕ) (cur : ℕ → ℕ → ℕ → Bool) → ((b : ℕ) → n < b → argumentOf entries b ≡ 0) → LinksTo entries (n + 1) cur → (k : ℕ) → cur k ≡ linkIn entries k
   unfolding _and_
-  links-all n cur beyond m k = fun-ext (λ a. fun-ext (λ b. m k a b ∙ ⊎-elim (λ t. rw t) (λ t. let l = ltb-false b (n + 1) t in rw t (sym (variable-unlinked k a b (beyond b (omega arith))))) (bool-cases (ltb b (n + 1)))))
+  links-all n cur beyond m k = fun-ext (λ a. fun-ext (λ b. m k a b ∙ ⊎-elim (λ t. rw t) (λ t. let l = ltb-false b (n + 1) t in
+      rw t (sym (variable-unlinked k a b (beyond b (omega arith))))) (bool-cases (ltb b (n + 1)))))
 
 -- what is read in place
 module _ (l : Layout) (bytes : List ℕ) (w : Within l bytes) where
@@ -91,7 +93,8 @@ module _ (l : Layout) (bytes : List ℕ) (w : Within l bytes) where
   argument-beyond : (t : ℕ) → l .terms < t → argumentOf (said l bytes .entries) t ≡ 0
   unfolding termCount
   argument-beyond t h =
-      ⊎-elim (λ one. absurd (let r = argument-range (said l bytes .entries) t one in omega (arith, h, r .1, terms-said l bytes w))) (λ none. omega (arith, none)) (le-cases 1 (argumentOf (said l bytes .entries) t))
+      ⊎-elim (λ one. absurd (let r = argument-range (said l bytes .entries) t one in
+      omega (arith, h, r .1, terms-said l bytes w))) (λ none. omega (arith, none)) (le-cases 1 (argumentOf (said l bytes .entries) t))
 
   pub links-held : (cur : ℕ → ℕ → ℕ → Bool) → LinksTo (said l bytes .entries) (l .terms + 1) cur → (k : ℕ) → cur k ≡ linksOf (said l bytes) .graph k .link
   unfolding linksOf
@@ -132,7 +135,8 @@ module _ (q : Query) (acc : Accepted q) where
   linkedBy k = linking (links k) (λ a b. false)
 
   -- rows that hold these links and no reachability hold the path
-  pub linked-in-rows : (single : Bool) (rep link : List ℕ) → single ≡ eqb (q .links) 1 → (q .links ≡ 1) ⊎ (q .links ≡ 3) → repOf rep ≡ (λ t. t) → ((k : ℕ) → cube link k ≡ links k) → pathAs single rep link (replicate 51 0) ≡ linksOf q
+  pub linked-in-rows : (single : Bool) (rep link : List ℕ) → single ≡ eqb (q .links) 1 → (q .links ≡ 1) ⊎ (q .links ≡ 3) → repOf rep ≡ (λ t. t) →
+      ((k : ℕ) → cube link k ≡ links k) → pathAs single rep link (replicate 51 0) ≡ linksOf q
   unfolding graphIn noFacts linksOf
   linked-in-rows single rep link e o r f = λ i. record { rep = r i; links = counted i; graph = fun-ext (by-link single link (replicate 51 0) linkedBy within beyond) i }
     where

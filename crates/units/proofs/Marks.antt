@@ -113,7 +113,8 @@ module _ (rep : ℕ → ℕ) (f : ℕ → Literal) (count i : ℕ) (h : i < coun
   unfolding holdsApart _and_
   plain-apart e same t = subst (Telling (holdsApart rep) f count (i + 1)) (sym same) (telling-same (holdsApart rep) f count i out h (λ a b. rw e refl) t)
 
-  pub negated-apart : f i .plain ≡ false → (p q : ℕ) → p ≡ rep (f i .left) → q ≡ rep (f i .right) → (mid later : List ℕ) → MarkedOne mid out p q → MarkedOne later mid q p → o ≡ later → Next (holdsApart rep) f count i out o
+  pub negated-apart : f i .plain ≡ false → (p q : ℕ) → p ≡ rep (f i .left) → q ≡ rep (f i .right) → (mid later : List ℕ) → MarkedOne mid out p q →
+      MarkedOne later mid q p → o ≡ later → Next (holdsApart rep) f count i out o
   unfolding holdsApart standFor _and_
   negated-apart e p q l r mid later first second same t =
       subst (Telling (holdsApart rep) f count (i + 1)) (sym same) (telling-more (holdsApart rep) f count i out later h turn t)
@@ -137,7 +138,8 @@ module _ (rep : ℕ → ℕ) (f : ℕ → Literal) (count i : ℕ) (h : i < coun
         none : (a b : ℕ) → denies rep k a b (f i) ≡ false
         none a b = rw (ne-eqb (f i .link) k n) (ap (λ (s : Bool). s and standFor rep a b (f i)) (and-false (not (f i .plain))))
 
-    pub negated-denied : f i .plain ≡ false → f i .link ≡ k → (p q : ℕ) → p ≡ rep (f i .left) → q ≡ rep (f i .right) → (later : List ℕ) → MarkedOne later out p q → o ≡ later → Next (denies rep k) f count i out o
+    pub negated-denied : f i .plain ≡ false → f i .link ≡ k → (p q : ℕ) → p ≡ rep (f i .left) → q ≡ rep (f i .right) → (later : List ℕ) →
+        MarkedOne later out p q → o ≡ later → Next (denies rep k) f count i out o
     unfolding denies standFor _and_
     negated-denied e g p q l r later first same t =
         subst (Telling (denies rep k) f count (i + 1)) (sym same) (telling-more (denies rep k) f count i out later h turn t)
@@ -151,7 +153,8 @@ module _ (rep : ℕ → ℕ) (f : ℕ → Literal) (count i : ℕ) (h : i < coun
     unfolding gives _and_
     other-given e same t = subst (Telling (gives rep plain) f count (i + 1)) (sym same) (telling-same (gives rep plain) f count i out h (λ a b. rw e refl) t)
 
-    pub field-given : Bool·beq (f i .plain) plain ≡ true → (p q : ℕ) → p ≡ rep (f i .right) → q ≡ f i .left → (later : List ℕ) → MarkedOne later out p q → o ≡ later → Next (gives rep plain) f count i out o
+    pub field-given : Bool·beq (f i .plain) plain ≡ true → (p q : ℕ) → p ≡ rep (f i .right) → q ≡ f i .left → (later : List ℕ) →
+        MarkedOne later out p q → o ≡ later → Next (gives rep plain) f count i out o
     unfolding gives _and_
     field-given e p q l r later first same t =
         subst (Telling (gives rep plain) f count (i + 1)) (sym same) (telling-more (gives rep plain) f count i out later h turn t)

@@ -108,7 +108,8 @@ module _ (n : ℕ) (link reach : List ℕ) (s : Facts) (j : Link) (rows : RowsOf
       ∙ ap (λ (g : Graph). allowed n (live n s) g (move (j .0) r t)) (rows .1)
       ∙ allowed-any (j .0) n (live n s) (graphOf link reach) r t
 
-  tested : (r : Rule) → isNotCycle r ≡ true → (x y z : ℕ) → pairTest (live n s) (graphOf link reach) x y r ≡ true → thirdTest (graphOf link reach) x y z r ≡ true → applies n s (move (j .0) r (triple x y z)) ≡ true
+  tested : (r : Rule) → isNotCycle r ≡ true → (x y z : ℕ) → pairTest (live n s) (graphOf link reach) x y r ≡ true →
+      thirdTest (graphOf link reach) x y z r ≡ true → applies n s (move (j .0) r (triple x y z)) ≡ true
   tested r l x y z p t = allowed-rows r (triple x y z) ∙ halves n (live n s) (graphOf link reach) x y z r l ∙ and-intro p t
 
   module _ (x y z : ℕ) where
@@ -116,17 +117,26 @@ module _ (n : ℕ) (link reach : List ℕ) (s : Facts) (j : Link) (rows : RowsOf
     unfolding pairTest thirdTest isNotCycle graphOf
     func-placed far h (k, p) f (l, t) = (tested FUNC refl x y z (square-in link x y h k ∙ p) (sym (f z l) ∙ t), h, k, l)
 
-    pub scc-placed : (both out : ℕ) → x ≤ 16 → ((i : ℕ) → i ≤ 16 → bit both i ≡ (square reach x i and square reach i x and not (eqb x i))) → In both y → ((i : ℕ) → i ≤ 16 → bit out i ≡ (square reach x i and not (square reach i x))) → In out z → At SCC x y z
+    pub scc-placed : (both out : ℕ) → x ≤ 16 → ((i : ℕ) → i ≤ 16 → bit both i ≡ (square reach x i and square reach i x and not (eqb x i))) →
+        In both y → ((i : ℕ) → i ≤ 16 → bit out i ≡ (square reach x i and not (square reach i x))) → In out z → At SCC x y z
     unfolding pairTest thirdTest isNotCycle graphOf
     scc-placed both out h f (k, p) g (l, t) = (tested SCC refl x y z (sym (f y k) ∙ p) (sym (g z l) ∙ t), h, k, l)
 
-    pub share-placed : (both : ℕ) → x ≤ 16 → ((i : ℕ) → i ≤ 16 → bit both i ≡ (square reach x i and square reach i x and not (eqb x i))) → In both y → In (bitAnd (getD link x 0) (getD link y 0)) z → At SHARE x y z
+    pub share-placed : (both : ℕ) → x ≤ 16 → ((i : ℕ) → i ≤ 16 → bit both i ≡ (square reach x i and square reach i x and not (eqb x i))) → In both y →
+        In (bitAnd (getD link x 0) (getD link y 0)) z → At SHARE x y z
     unfolding pairTest thirdTest isNotCycle graphOf
     share-placed both h f (k, p) (l, t) =
-        let b = sym (bit-and (getD link x 0) (getD link y 0) z) ∙ t in
-        (tested SHARE refl x y z (sym (f y k) ∙ p) (and-intro (square-in link x z h l ∙ and-left (bit (getD link x 0) z) (bit (getD link y 0) z) b) (square-in link y z k l ∙ and-right (bit (getD link x 0) z) (bit (getD link y 0) z) b)), h, k, l)
+        let b = sym (bit-and (getD link x 0) (getD link y 0) z) ∙ t in (
+          tested SHARE refl x y z (sym (f y k) ∙ p)
+              (and-intro (square-in link x z h l ∙ and-left (bit (getD link x 0) z) (bit (getD link y 0) z) b)
+              (square-in link y z k l ∙ and-right (bit (getD link x 0) z) (bit (getD link y 0) z) b)),
+          h,
+          k,
+          l,
+        )
 
-    pub total-placed : (far : ℕ) → x ≤ 16 → In (getD reach x 0) y → ((i : ℕ) → i ≤ 16 → bit far i ≡ (square reach x i and not (square reach y i) and not (square reach i y))) → In far z → At TOTAL x y z
+    pub total-placed : (far : ℕ) → x ≤ 16 → In (getD reach x 0) y →
+        ((i : ℕ) → i ≤ 16 → bit far i ≡ (square reach x i and not (square reach y i) and not (square reach i y))) → In far z → At TOTAL x y z
     unfolding pairTest thirdTest isNotCycle graphOf
     total-placed far h (k, p) f (l, t) = (tested TOTAL refl x y z (square-in reach x y h k ∙ p) (sym (f z l) ∙ t), h, k, l)
 
@@ -137,7 +147,9 @@ module _ (n : ℕ) (link reach : List ℕ) (s : Facts) (j : Link) (rows : RowsOf
         let b = sym (bit-and (getD back y 0) (getD back z 0) x) ∙ p in
         let r = sym (bit-or (getD reach y 0) (getD back y 0) z) ∙ no′ in (
           tested TOTAL refl x y z (turned y k x h ∙ and-left (bit (getD back y 0) x) (bit (getD back z 0) x) b)
-              (and-intro (and-intro (turned z l x h ∙ and-right (bit (getD back y 0) x) (bit (getD back z 0) x) b) (not-intro (square-in reach y z k l ∙ neither (bit (getD reach y 0) z) (bit (getD back y 0) z) r .0))) (not-intro (turned y k z l ∙ neither (bit (getD reach y 0) z) (bit (getD back y 0) z) r .1))),
+              (and-intro (and-intro (turned z l x h ∙ and-right (bit (getD back y 0) x) (bit (getD back z 0) x) b)
+              (not-intro (square-in reach y z k l ∙ neither (bit (getD reach y 0) z) (bit (getD back y 0) z) r .0)))
+              (not-intro (turned y k z l ∙ neither (bit (getD reach y 0) z) (bit (getD back y 0) z) r .1))),
           h,
           k,
           l,
@@ -146,5 +158,6 @@ module _ (n : ℕ) (link reach : List ℕ) (s : Facts) (j : Link) (rows : RowsOf
         turned : (a : ℕ) → a ≤ 16 → (b : ℕ) → b ≤ 16 → square reach b a ≡ bit (getD back a 0) b
         turned a h b k = sym (t a b) ∙ square-in back a b h k
 
-    pub cycle-placed : (off : ℕ) → n ≤ 16 → x ≤ 16 → z ≤ n → ((lives : ℕ → Bool) (i : ℕ) → i ≤ 16 → bit off i ≡ allowed n lives (graphOf link reach) (move 1 CYCLE (triple x i z))) → In off y → At CYCLE x y z
+    pub cycle-placed : (off : ℕ) → n ≤ 16 → x ≤ 16 → z ≤ n →
+        ((lives : ℕ → Bool) (i : ℕ) → i ≤ 16 → bit off i ≡ allowed n lives (graphOf link reach) (move 1 CYCLE (triple x i z))) → In off y → At CYCLE x y z
     cycle-placed off few h l f (k, p) = (allowed-rows CYCLE (triple x y z) ∙ sym (f (live n s) y k) ∙ p, h, k, omega arith)

@@ -37,7 +37,8 @@ module _ (n : ℕ) (link reach : List ℕ) (x : ℕ) where
   off-none lives y = bit-none y
 
   -- the links lead back after k steps: one to c, and s from there
-  module _ (c s k passed o : ℕ) (first : c ≡ next n (linksIn link) x) (steps : s ≡ stepsTo n (linksIn link) x n c) (all : k ≡ s + 1) (within : k ≤ n) (through : (y : ℕ) → bit passed y ≡ ltb (stepsTo n (linksIn link) y s c) s) (only : (i : ℕ) → bit o i ≡ eqb i x) where
+  module _ (c s k passed o : ℕ) (first : c ≡ next n (linksIn link) x) (steps : s ≡ stepsTo n (linksIn link) x n c) (all : k ≡ s + 1) (within : k ≤ n)
+      (through : (y : ℕ) → bit passed y ≡ ltb (stepsTo n (linksIn link) y s c) s) (only : (i : ℕ) → bit o i ≡ eqb i x) where
     on-steps : (y : ℕ) → bit (bitOr passed o) y ≡ ltb (stepsTo n g y k x) k
     on-steps y =
         passed-more n (linksIn link) y x c s passed o first (through y) (only y)
@@ -47,7 +48,8 @@ module _ (n : ℕ) (link reach : List ℕ) (x : ℕ) where
     pub on-bits : (y : ℕ) → bit (bitOr passed o) y ≡ any (eqb y) (round n g k x)
     on-bits y = on-steps y ∙ sym (round-is n g y k x) ∙ any-equal (λ j. g) y (round n g k x)
 
-    pub off-bits : (v : ℕ) → ((i : ℕ) → bit v i ≡ bit (getD reach x 0) i and not (bit (bitOr passed o) i)) → x ≤ 16 → (lives : ℕ → Bool) (y : ℕ) → y ≤ 16 → bit v y ≡ allowed n lives g (move 1 CYCLE (triple x y k))
+    pub off-bits : (v : ℕ) → ((i : ℕ) → bit v i ≡ bit (getD reach x 0) i and not (bit (bitOr passed o) i)) → x ≤ 16 → (lives : ℕ → Bool) (y : ℕ) →
+        y ≤ 16 → bit v y ≡ allowed n lives g (move 1 CYCLE (triple x y k))
     unfolding allowed conditions alternatives _and_ graphOf
     off-bits v e h lives y l =
         let r : returns n g x k x ≡ true = returns-at n g x n k x within (all ∙ back-links n link reach x c s first steps) in

@@ -119,13 +119,15 @@ module _ (p : Pairs) where
     left-begin = record { counts = ap (λ (ps : List (ℕ × ℕ)). countAll first (joinLines ps)) pairs-whole; writes = ap (λ (ps : List (ℕ × ℕ)). putAll before first (joinLines ps)) pairs-whole }
 
     module _ (i : ℕ) (bytes : List ℕ) (count : ℕ) (l : PairsLeft before first i bytes count) where
-      pub left-next : (bytes′ : List ℕ) (count′ a b : ℕ) → i < p .count → a ≡ getD (p .kept) i 0 → b ≡ getD (p .replaced) i 0 → bytes′ ≡ putLine bytes count (line 10 a b 0) → count′ ≡ counted count → PairsLeft before first (i + 1) bytes′ count′
+      pub left-next : (bytes′ : List ℕ) (count′ a b : ℕ) → i < p .count → a ≡ getD (p .kept) i 0 → b ≡ getD (p .replaced) i 0 →
+          bytes′ ≡ putLine bytes count (line 10 a b 0) → count′ ≡ counted count → PairsLeft before first (i + 1) bytes′ count′
       unfolding joinLines countAll putAll
       left-next bytes′ count′ a b h ea er em ec =
           let eb = em ∙ ap₂ (λ (x y : ℕ). putLine bytes count (line 10 x y 0)) ea er in
           record {
             counts = l .counts ∙ ap (λ (ps : List (ℕ × ℕ)). countAll count (joinLines ps)) (pairs-next i h) ∙ ap (λ (c : ℕ). countAll c (joinLines (pairsFrom (i + 1)))) (sym ec);
-            writes = l .writes ∙ ap (λ (ps : List (ℕ × ℕ)). putAll bytes count (joinLines ps)) (pairs-next i h) ∙ ap₂ (λ (b : List ℕ) (c : ℕ). putAll b c (joinLines (pairsFrom (i + 1)))) (sym eb) (sym ec);
+            writes = l .writes ∙ ap (λ (ps : List (ℕ × ℕ)). putAll bytes count (joinLines ps)) (pairs-next i h)
+                ∙ ap₂ (λ (b : List ℕ) (c : ℕ). putAll b c (joinLines (pairsFrom (i + 1)))) (sym eb) (sym ec);
           }
 
       pub left-end : p .count ≤ i → (count ≡ countAll first (joinLines (pairsOf p))) × (bytes ≡ putAll before first (joinLines (pairsOf p)))

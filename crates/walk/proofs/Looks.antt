@@ -48,7 +48,8 @@ module _ (q : Query) (order : List Rule) (s : Facts) where
   unfolding look
   applying-back m h = move-cases (clash q s) (choose (termCount q) order s) m h
 
-pub move-range : (q : Query) (order : List Rule) (s : Facts) (i : ℕ) (r : Rule) (x y z : ℕ) → look q order s ≡ applying (move i r (triple x y z)) → (x ≤ termCount q) × (y ≤ termCount q) × (z ≤ termCount q)
+pub move-range : (q : Query) (order : List Rule) (s : Facts) (i : ℕ) (r : Rule) (x y z : ℕ) → look q order s ≡ applying (move i r (triple x y z)) →
+    (x ≤ termCount q) × (y ≤ termCount q) × (z ≤ termCount q)
 unfolding choose
 move-range q order s i r x y z h =
     let n : ℕ = termCount q in
@@ -79,7 +80,8 @@ paired-small m k ls l h g i =
     let t = from-mem (length ls) 1 (c .0) (c .1) in
     subst (Small m) (sym (c .2)) (h, omega arith, omega arith)
 
-pub clash-range : (q : Query) (order : List Rule) (s : Facts) (m : ℕ) (l : Line) → length (q .equalities) ≤ m → length (q .reachability) ≤ m → length (q .fields) ≤ m → look q order s ≡ clashing l → Small m l
+pub clash-range : (q : Query) (order : List Rule) (s : Facts) (m : ℕ) (l : Line) → length (q .equalities) ≤ m → length (q .reachability) ≤ m →
+    length (q .fields) ≤ m → look q order s ≡ clashing l → Small m l
 unfolding clash clashLines
 clash-range q order s m l a b c h =
     let i = find-some (isClash q s) (clashLines q) l (clashing-back q order s l h) .0 in

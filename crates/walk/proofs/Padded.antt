@@ -33,7 +33,8 @@ unfolding lineBytes
 line-length p c (line w x y z) h = omega (arith, length-append p (w ∷ x ∷ y ∷ z ∷ []))
 
 -- the lines of a part, behind those that stand already, with k zeros left
-pub putAll-blank : (p : List ℕ) (c k : ℕ) (ls : List Line) → length p ≡ 4 * c + 2 → c + length ls ≤ 16001 → putAll (p ++ replicate (4 * length ls + k) 0) c ls ≡ p ++ (flatMap lineBytes ls ++ replicate k 0)
+pub putAll-blank : (p : List ℕ) (c k : ℕ) (ls : List Line) → length p ≡ 4 * c + 2 → c + length ls ≤ 16001 →
+    putAll (p ++ replicate (4 * length ls + k) 0) c ls ≡ p ++ (flatMap lineBytes ls ++ replicate k 0)
 unfolding putAll flatMap
 putAll-blank p c k [] h l = ap (λ (j : ℕ). p ++ replicate j 0) (zero-add k)
 putAll-blank p c k (x ∷ ls) h l =
@@ -48,7 +49,8 @@ putAll-blank p c k (x ∷ ls) h l =
     ∙ ap (λ (b : List ℕ). p ++ b) (sym (append-assoc (lineBytes x) (flatMap lineBytes ls) (replicate k 0)))
 
 -- a whole derivation: the lines, and the two bytes of the count in front
-pub derivation-written : (room : ℕ) (ls : List Line) → length ls ≤ 16000 → 2 + 4 * length ls ≤ room → set (set (putAll (replicate room 0) 0 ls) 0 (length ls / 256)) 1 (length ls % 256) ≡ padded room (derivationBytes ls)
+pub derivation-written : (room : ℕ) (ls : List Line) → length ls ≤ 16000 → 2 + 4 * length ls ≤ room →
+    set (set (putAll (replicate room 0) 0 ls) 0 (length ls / 256)) 1 (length ls % 256) ≡ padded room (derivationBytes ls)
 unfolding padded derivationBytes
 derivation-written room ls h l =
     let k : ℕ = room - (2 + 4 * length ls) in

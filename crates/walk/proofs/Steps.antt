@@ -57,7 +57,9 @@ move-linked q order s k r x y z h =
     (omega (arith, l), l .1)
 
 -- the walk of a branch that the code makes
-pub branch-walked : (q : Query) (order : List Rule) (k n : ℕ) (s : Facts) (j : Joined) (l : ℕ) (r : Rule) (x y z i : ℕ) (d : Fact) → n ≡ termCount q → i < countOf r z → j ≡ branch n s (alternativeAt l n (s .graph l) r x y z i) → walkBranch (walk q order k) (branch (termCount q) s (getD (alternatives (termCount q) (s .graph) (move l r (triple x y z))) i d)) ≡ walkBranch (walk q order k) j
+pub branch-walked : (q : Query) (order : List Rule) (k n : ℕ) (s : Facts) (j : Joined) (l : ℕ) (r : Rule) (x y z i : ℕ) (d : Fact) → n ≡ termCount q →
+    i < countOf r z → j ≡ branch n s (alternativeAt l n (s .graph l) r x y z i) →
+    walkBranch (walk q order k) (branch (termCount q) s (getD (alternatives (termCount q) (s .graph) (move l r (triple x y z))) i d)) ≡ walkBranch (walk q order k) j
 branch-walked q order k n s j l r x y z i d e h f =
     ap (walkBranch (walk q order k))
     (ap (branch (termCount q) s) (alternative-is l (termCount q) (s .graph) r x y z i d h) ∙ ap (λ (m : ℕ). branch m s (alternativeAt l m (s .graph l) r x y z i)) (sym e) ∙ sym f)
@@ -67,7 +69,8 @@ unfolding moveLine
 move-line l r x y z a e = ap (λ (j : ℕ). line j x y z) e
 
 -- A rule applies: its branches are walked with a step less
-module _ (q : Query) (order : List Rule) (k n : ℕ) (s : Facts) (l : ℕ) (rule : Rule) (x y z : ℕ) (seen : look q order s ≡ applying (move l rule (triple x y z))) (some-left : 1 ≤ k) (terms-are : n ≡ termCount q) where
+module _ (q : Query) (order : List Rule) (k n : ℕ) (s : Facts) (l : ℕ) (rule : Rule) (x y z : ℕ)
+    (seen : look q order s ≡ applying (move l rule (triple x y z))) (some-left : 1 ≤ k) (terms-are : n ≡ termCount q) where
   abbrev m : Move
   m = move l rule (triple x y z)
 
@@ -85,7 +88,8 @@ module _ (q : Query) (order : List Rule) (k n : ℕ) (s : Facts) (l : ℕ) (rule
       let in-cs : i < length cs = omega (arith, count-is l (termCount q) (s .graph) rule x y z) in
       let f = look-fewer q order k s m most seen (getD cs i other) (getD-mem cs i other in-cs) in
       subst (λ (b : Joined). AtMost (termCount q) (b .facts) (k - 1))
-      (ap (branch (termCount q) s) (alternative-is l (termCount q) (s .graph) rule x y z i other in-row) ∙ ap (λ (m : ℕ). branch m s (alternativeAt l m (s .graph l) rule x y z i)) (sym terms-are) ∙ sym j-is)
+      (ap (branch (termCount q) s) (alternative-is l (termCount q) (s .graph) rule x y z i other in-row)
+      ∙ ap (λ (m : ℕ). branch m s (alternativeAt l m (s .graph l) rule x y z i)) (sym terms-are) ∙ sym j-is)
       f
 
 -- the count behind them stays below its stop

@@ -24,7 +24,8 @@ module _ (q : Query) (order : List Rule) where
   walk-saturated zero s h = rw (seen-saturated q order s h .0)
   walk-saturated (suc k) s h = rw h
 
-  pub walk-applying : (k : ℕ) (s : Facts) (m : Move) → 1 ≤ k → look q order s ≡ applying m → walk q order k s ≡ after (moveLine m ∷ []) (walkEach (termCount q) (walk q order (k - 1)) s (alternatives (termCount q) (s .graph) m))
+  pub walk-applying : (k : ℕ) (s : Facts) (m : Move) → 1 ≤ k → look q order s ≡ applying m →
+      walk q order k s ≡ after (moveLine m ∷ []) (walkEach (termCount q) (walk q order (k - 1)) s (alternatives (termCount q) (s .graph) m))
   unfolding walk endAt
   walk-applying zero s m l h = absurd (omega arith)
   walk-applying (suc k) s m l h =
@@ -54,7 +55,8 @@ module _ (n : ℕ) (w : Facts → Ending) (s : Facts) (cs : List Fact) where
       ap (walkEach n w s) (drop-cons cs i d h) ∙ ap (λ (x : Ending). thenEnding x (walkEach n w s (drop (suc i) cs))) p
       ∙ ap (λ (j : ℕ). thenEnding e (walkEach n w s (drop j cs))) (sym (add-one i))
 
-  pub each-refuted : (i : ℕ) (d : Fact) (ls : List Line) → i < length cs → walkBranch w (branch n s (getD cs i d)) ≡ refutation ls → walkEach n w s (drop i cs) ≡ after ls (walkEach n w s (drop (i + 1) cs))
+  pub each-refuted : (i : ℕ) (d : Fact) (ls : List Line) → i < length cs → walkBranch w (branch n s (getD cs i d)) ≡ refutation ls →
+      walkEach n w s (drop i cs) ≡ after ls (walkEach n w s (drop (i + 1) cs))
   unfolding thenEnding
   each-refuted i d ls h p = each-at i d (refutation ls) h p
 

@@ -29,9 +29,16 @@ write-sections-spec =
     (λ c. search needs)
     -- returns
     (λ c.
-    let a = c .before .before .before .before .before .before .before .before .before .before .before .before .before .before .before .before .before .before .before .before .before .before .before .before .before .args in
-    sections-written _ (c .before .before .before .before .before .before .before .before .before .before .before .before .before .before .before .before .before .before .before .before .before .before .clear .last .0) (c .before .before .before .before .before .before .before .before .before .before .before .before .before .before .before .before .before .before .put-term-section .last .0) (c .before .before .before .before .before .before .before .before .before .before .before .before .before .before .put-term-section2 .last .0) (c .before .before .before .before .before .before .before .before .before .before .put-term-section3 .last .0) (c .before .before .before .before .before .before .put .last .0) (c .before .before .put2 .last .0)
+    let after-put2 = c .before .before in let after-put = after-put2 .before .before .before .before in
+    let after-put-term-section3 = after-put .before .before .before .before in
+    let after-put-term-section2 = after-put-term-section3 .before .before .before .before in
+    let after-put-term-section = after-put-term-section2 .before .before .before .before in
+    let after-clear = after-put-term-section .before .before .before .before in
+    let a = after-clear .before .before .before .args in
+    sections-written _ (after-clear .clear .last .0) (after-put-term-section .put-term-section .last .0)
+    (after-put-term-section2 .put-term-section2 .last .0) (after-put-term-section3 .put-term-section3 .last .0) (after-put .put .last .0) (after-put2 .put2 .last .0)
     _ _ _ (terms (a .m)) (map (λ t. getD (a .links .now) t 0) (terms (a .m))) (λ t. getD (a .nodes .now) t 0) (λ t. getD (a .fields .now) t 0) _ _ _ _
-    (sym (terms-length (a .m))) (sym (length-map (terms (a .m)) (λ t. getD (a .links .now) t 0) ∙ terms-length (a .m))) (c .before .before .before .before .before .before .before .before .before .before .before .before .before .before .before .before .before .before .before .before .before .before .clear .ensures)
-    (c .before .before .before .before .before .before .before .before .before .before .before .before .before .before .before .before .before .before .put-term-section .kept .0) (c .before .before .before .before .before .before .before .before .before .before .before .before .before .before .put-term-section2 .kept .0) (c .before .before .before .before .before .before .before .before .before .before .put-term-section3 .kept .0) (c .before .before .before .before .before .before .put .kept .0)
-    (c .before .before .before .before .before .before .before .before .before .before .before .before .before .before .before .before .before .before .put-term-section .ensures) (c .before .before .before .before .before .before .before .before .before .before .before .before .before .before .put-term-section2 .ensures) (c .before .before .before .before .before .before .before .before .before .before .put-term-section3 .ensures) (c .before .before .before .before .before .before .put .ensures) (c .before .before .put2 .ensures .1)))
+    (sym (terms-length (a .m))) (sym (length-map (terms (a .m)) (λ t. getD (a .links .now) t 0) ∙ terms-length (a .m))) (after-clear .clear .ensures)
+    (after-put-term-section .put-term-section .kept .0) (after-put-term-section2 .put-term-section2 .kept .0) (after-put-term-section3 .put-term-section3 .kept .0) (after-put .put .kept .0)
+    (after-put-term-section .put-term-section .ensures) (after-put-term-section2 .put-term-section2 .ensures)
+    (after-put-term-section3 .put-term-section3 .ensures) (after-put .put .ensures) (after-put2 .put2 .ensures .1)))

@@ -15,7 +15,14 @@ check-sixth-spec =
     -- enum-known-count
     (λ c. search needs)
     -- check-bytes-requires
-    (λ c κs. let r = rw (c .before .count .given .1) at (c .before .before .before .read-sixth .ensures) in record { follows = c .before .before .before .before .before .pre; counted = sixth-counted _ _ (c .before .before .before .before .before .pre); count-is = r .0; within = r .1; ends = r .2 })
+    (λ c κs. let r = rw (c .before .count .given .1) at (c .before .before .before .read-sixth .ensures) in
+    record {
+      follows = c .before .before .before .before .before .pre;
+      counted = sixth-counted _ _ (c .before .before .before .before .before .pre);
+      count-is = r .0;
+      within = r .1;
+      ends = r .2;
+    })
     -- returns
     (λ c. refused-sixth _ _ _ _ (c .before .before .before .before .before .pre) (rw (c .before .k .given .1) at (c .before .before .before .read-sixth .ensures)))
     -- returns-2

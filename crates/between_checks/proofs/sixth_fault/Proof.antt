@@ -20,6 +20,17 @@ Inv-loop k n query at count place₀ i₀ place i =
 abbrev μ-loop : tie.MeasureT-loop
 μ-loop k n query at count place₀ i₀ place i = count - i
 
+-- The places that lie behind a place.
+
+abbrev triple-fault-of-enum-told : tie.After-enum-told Inv-loop μ-loop → tie.After-triple-fault Inv-loop μ-loop
+triple-fault-of-enum-told c = c .before .before
+
+abbrev start-of-at-loop : tie.At-loop Inv-loop μ-loop → tie.Start Inv-loop μ-loop
+start-of-at-loop c = c .before .before
+
+abbrev in-loop-of-enum-told : tie.After-enum-told Inv-loop μ-loop → tie.In-loop Inv-loop μ-loop
+in-loop-of-enum-told c = triple-fault-of-enum-told c .before
+
 pub sixth-fault-spec : {M : Type 1} → statement M
 sixth-fault-spec =
     tie.close
@@ -33,16 +44,27 @@ sixth-fault-spec =
     -- enum-known-p
     (λ c. search needs)
     -- returns
-    (λ c. sym (c .before .before .before .before .before .loop .inv .1 ∙ sixth-here _ _ _ (c .before .before .before .before .before .before .before .args .query .now) _ _ _ (c .before .before .before .before .loop-test .taken) (sym (c .before .before .before .triple-fault .ensures) ∙ ap faultOf (c .before .p .given .1))))
+    (λ c.
+    let after-triple-fault = c .before .before .before in let in-loop = after-triple-fault .before in let at-loop = in-loop .before in
+    sym (at-loop .loop .inv .1 ∙ sixth-here _ _ _ (start-of-at-loop at-loop .args .query .now) _ _ _ (in-loop .loop-test .taken)
+    (sym (after-triple-fault .triple-fault .ensures) ∙ ap faultOf (c .before .p .given .1))))
     -- enum-told
     (λ c. search needs)
     -- add-place
-    (λ c. omega (arith, c .before .before .before .before .loop .inv .0, c .before .before .before .loop-test .taken))
+    (λ c.
+    let in-loop = in-loop-of-enum-told c in
+    omega (arith, in-loop .before .loop .inv .0, in-loop .loop-test .taken))
     -- add-i
     (λ c. omega arith)
     -- loop-less
     (λ c. omega arith)
     -- loop-again
-    (λ c. (omega (arith, c .before .before .before .before .loop .inv .0, c .before .before .before .loop-test .taken), c .before .before .before .before .loop .inv .1 ∙ sixth-next _ _ _ (c .before .before .before .before .before .before .args .query .now) _ _ (c .before .before .before .loop-test .taken) (sym (c .before .before .triple-fault .ensures) ∙ ap faultOf (c .enum-told .given .1))))
+    (λ c.
+    let in-loop = in-loop-of-enum-told c in let at-loop = in-loop .before in (
+      omega (arith, at-loop .loop .inv .0, in-loop .loop-test .taken),
+      at-loop .loop .inv .1
+          ∙ sixth-next _ _ _ (start-of-at-loop at-loop .args .query .now) _ _ (in-loop .loop-test .taken)
+          (sym (triple-fault-of-enum-told c .triple-fault .ensures) ∙ ap faultOf (c .enum-told .given .1)),
+    ))
     -- returns-2
-    (λ c. sym (c .before .loop .inv .1 ∙ sixth-end _ _ _ (c .before .before .before .args .query .now) _ _ (c .loop-test .left))))
+    (λ c. sym (c .before .loop .inv .1 ∙ sixth-end _ _ _ (start-of-at-loop (c .before) .args .query .now) _ _ (c .loop-test .left))))

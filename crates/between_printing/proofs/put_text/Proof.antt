@@ -19,10 +19,14 @@ put-text-spec =
     -- same-length
     (λ c. search needs)
     -- returns
-    (λ c. (writes-as (cut-read _) (c .before .before .put-answer .ensures .0), c .before .before .put-answer .ensures .1))
+    (λ c.
+    let after-put-answer = c .before .before in
+    (writes-as (cut-read _) (after-put-answer .put-answer .ensures .0), after-put-answer .put-answer .ensures .1))
     -- put-answer-requires-2
     (λ c κs. search needs)
     -- same-length-2
     (λ c. search needs)
     -- returns-2
-    (λ c. (writes-as (all-read _ (c .before .before .before .before .if1 .left)) (c .before .before .put-answer2 .ensures .0), c .before .before .put-answer2 .ensures .1)))
+    (λ c.
+    let after-put-answer2 = c .before .before in
+    (writes-as (all-read _ (after-put-answer2 .before .before .if1 .left)) (after-put-answer2 .put-answer2 .ensures .0), after-put-answer2 .put-answer2 .ensures .1)))

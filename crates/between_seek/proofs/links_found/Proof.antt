@@ -9,18 +9,23 @@ use Rattle.between_seek.proofs.Linking.{links-first}
 use Rattle.between_seek.proofs.links_found.Statement.{statement}
 use Rattle.between_seek.proofs.links_found.Tie as tie
 
+-- The places that lie behind a place.
+
+abbrev start-of-struct-known : tie.After-struct-known → tie.Start
+start-of-struct-known c = c .before .before .before
+
 pub links-found-spec : {M : Type 1} → statement M
 links-found-spec =
     tie.close
     (tie.spec
     -- cast-links
-    (λ c. omega (arith, c .before .before .before .pre .few-nodes))
+    (λ c. omega (arith, start-of-struct-known c .pre .few-nodes))
     -- array-write-links
     (λ c. omega arith)
     -- seek-links-requires
     (λ c κs.
-    let s = c .before .before .before in
-    let p = s .pre in
-    (p, small-set (replicate 17 0) 0 (s .args .q .m) (p .few-nodes) small-zeros, omega arith, omega arith, chosen-first _))
+    let start = start-of-struct-known c in
+    let p = start .pre in
+    (p, small-set (replicate 17 0) 0 (start .args .q .m) (p .few-nodes) small-zeros, omega arith, omega arith, chosen-first _))
     -- returns
-    (λ c. let a = c .before .before .before .before .args in c .seek-links .ensures ∙ links-first (queryIn (a .base .now) (a .between .now)) (a .q)))
+    (λ c. let a = start-of-struct-known (c .before) .args in c .seek-links .ensures ∙ links-first (queryIn (a .base .now) (a .between .now)) (a .q)))

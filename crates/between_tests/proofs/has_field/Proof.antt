@@ -17,6 +17,14 @@ Inv-loop query at count sign j t i₀ i = hasField (literalsIn query at count) s
 abbrev μ-loop : tie.MeasureT-loop
 μ-loop query at count sign j t i₀ i = count - i
 
+-- The places that lie behind a place.
+
+abbrev in-loop-of-else1 : tie.Else1 Inv-loop μ-loop → tie.In-loop Inv-loop μ-loop
+in-loop-of-else1 c = c .before .before
+
+abbrev in-loop-of-then1 : tie.Then1 Inv-loop μ-loop → tie.In-loop Inv-loop μ-loop
+in-loop-of-then1 c = c .before .before
+
 pub has-field-spec : {M : Type 1} → statement M
 has-field-spec =
     tie.close
@@ -28,12 +36,16 @@ has-field-spec =
     -- says-field-requires
     (λ c κs. omega arith)
     -- returns
-    (λ c. sym (c .before .before .before .loop .inv ∙ any-listed-here _ _ _ _ (c .before .before .loop-test .taken) (sym (c .before .says-field .ensures) ∙ c .if1 .taken)))
+    (λ c.
+    let in-loop = in-loop-of-then1 c in
+    sym (in-loop .before .loop .inv ∙ any-listed-here _ _ _ _ (in-loop .loop-test .taken) (sym (c .before .says-field .ensures) ∙ c .if1 .taken)))
     -- add-i
     (λ c. omega arith)
     -- loop-less
     (λ c. omega arith)
     -- loop-again
-    (λ c. c .before .before .before .loop .inv ∙ any-listed-next _ _ _ _ (c .before .before .loop-test .taken) (sym (c .before .says-field .ensures) ∙ c .if1 .left))
+    (λ c.
+    let in-loop = in-loop-of-else1 c in
+    in-loop .before .loop .inv ∙ any-listed-next _ _ _ _ (in-loop .loop-test .taken) (sym (c .before .says-field .ensures) ∙ c .if1 .left))
     -- returns-2
     (λ c. sym (c .before .loop .inv ∙ any-listed-end _ _ _ _ (c .loop-test .left))))

@@ -18,6 +18,11 @@ Inv-loop nodes v end u₀ u = any (λ x. eqb (entry nodes x) (v .0)) (from (end 
 abbrev μ-loop : tie.MeasureT-loop
 μ-loop nodes v end u₀ u = end - u
 
+-- The places that lie behind a place.
+
+abbrev node-of2-of-struct-known2 : tie.After-struct-known2 Inv-loop μ-loop → tie.After-node-of2 Inv-loop μ-loop
+node-of2-of-struct-known2 c = c .before .before
+
 pub is-fresh-spec : {M : Type 1} → statement M
 is-fresh-spec =
     tie.close
@@ -31,12 +36,17 @@ is-fresh-spec =
     -- node-of-requires-2
     (λ c κs. omega (arith, c .before .before .before .pre .1, c .loop-test .taken))
     -- returns
-    (λ c. fresh-is _ _ _ true (node-read _ _ _ (c .before .before .before .before .before .before .node-of .ensures)) (c .before .before .before .before .before .loop .inv ∙ any-here _ _ _ (c .before .before .before .before .loop-test .taken) (eq-eqb _ _ (sym (node-read _ _ _ (c .before .before .before .node-of2 .ensures)) ∙ c .if1 .taken))))
+    (λ c.
+    let after-node-of2 = node-of2-of-struct-known2 (c .before) in let in-loop = after-node-of2 .before in let at-loop = in-loop .before in
+    fresh-is _ _ _ true (node-read _ _ _ (at-loop .before .node-of .ensures))
+    (at-loop .loop .inv ∙ any-here _ _ _ (in-loop .loop-test .taken) (eq-eqb _ _ (sym (node-read _ _ _ (after-node-of2 .node-of2 .ensures)) ∙ c .if1 .taken))))
     -- add-u
     (λ c. omega arith)
     -- loop-less
     (λ c. omega arith)
     -- loop-again
-    (λ c. c .before .before .before .before .before .loop .inv ∙ any-next _ _ _ (c .before .before .before .before .loop-test .taken) (ne-eqb _ _ (λ e. c .if1 .left ((node-read _ _ _ (c .before .before .before .node-of2 .ensures)) ∙ e))))
+    (λ c.
+    let after-node-of2 = node-of2-of-struct-known2 (c .before) in let in-loop = after-node-of2 .before in
+    in-loop .before .loop .inv ∙ any-next _ _ _ (in-loop .loop-test .taken) (ne-eqb _ _ (λ e. c .if1 .left ((node-read _ _ _ (after-node-of2 .node-of2 .ensures)) ∙ e))))
     -- returns-2
     (λ c. fresh-is _ _ _ false (node-read _ _ _ (c .before .before .node-of .ensures)) (c .before .loop .inv ∙ any-end _ _ _ (c .loop-test .left))))

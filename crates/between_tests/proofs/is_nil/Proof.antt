@@ -12,6 +12,10 @@ is-nil-spec =
     tie.close
     (tie.spec
     -- byte-at-requires
-    (λ c κs. omega (arith, c .before .pre .0 .entries-fit, c .before .pre .2))
+    (λ c κs.
+    let start = c .before in
+    omega (arith, start .pre .0 .entries-fit, start .pre .2))
     -- returns
-    (λ c. ap (λ (x : ℕ). eqb x 255) (c .byte-at .ensures) ∙ nil-is _ _ (c .before .before .pre .0) _ (c .before .before .pre .1) (c .before .before .pre .2)))
+    (λ c.
+    let start = c .before .before in
+    ap (λ (x : ℕ). eqb x 255) (c .byte-at .ensures) ∙ nil-is _ _ (start .pre .0) _ (start .pre .1) (start .pre .2)))

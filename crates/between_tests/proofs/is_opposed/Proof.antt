@@ -18,6 +18,17 @@ Inv-loop query at count a b j₀ j =
 abbrev μ-loop : tie.MeasureT-loop
 μ-loop query at count a b j₀ j = 9 - j
 
+-- The places that lie behind a place.
+
+abbrev has-field-of-else1 : tie.Else1 Inv-loop μ-loop → tie.After-has-field Inv-loop μ-loop
+has-field-of-else1 c = c .before .before
+
+abbrev has-field-of-then1 : tie.Then1 Inv-loop μ-loop → tie.After-has-field Inv-loop μ-loop
+has-field-of-then1 c = c .before .before
+
+abbrev start-of-in-loop : tie.In-loop Inv-loop μ-loop → tie.Start Inv-loop μ-loop
+start-of-in-loop c = c .before .before .before
+
 pub is-opposed-spec : {M : Type 1} → statement M
 is-opposed-spec =
     tie.close
@@ -27,16 +38,22 @@ is-opposed-spec =
     -- loop-holds
     (λ c. opposed-begin _ _ _)
     -- has-field-requires
-    (λ c κs. c .before .before .before .pre)
+    (λ c κs. start-of-in-loop c .pre)
     -- has-field-requires-2
-    (λ c κs. c .before .before .before .before .pre)
+    (λ c κs. start-of-in-loop (c .before) .pre)
     -- returns
-    (λ c. sym (c .before .before .before .before .loop .inv ∙ any-here _ _ _ (c .before .before .before .loop-test .taken) (ap₂ (λ (x y : Bool). x && y) (sym (c .before .before .has-field .ensures)) (sym (c .before .has-field2 .ensures)) ∙ c .if1 .taken)))
+    (λ c.
+    let after-has-field = has-field-of-then1 c in let in-loop = after-has-field .before in
+    sym (in-loop .before .loop .inv ∙ any-here _ _ _ (in-loop .loop-test .taken)
+    (ap₂ (λ (x y : Bool). x && y) (sym (after-has-field .has-field .ensures)) (sym (c .before .has-field2 .ensures)) ∙ c .if1 .taken)))
     -- add-j
     (λ c. omega arith)
     -- loop-less
     (λ c. omega arith)
     -- loop-again
-    (λ c. c .before .before .before .before .loop .inv ∙ any-next _ _ _ (c .before .before .before .loop-test .taken) (ap₂ (λ (x y : Bool). x && y) (sym (c .before .before .has-field .ensures)) (sym (c .before .has-field2 .ensures)) ∙ c .if1 .left))
+    (λ c.
+    let after-has-field = has-field-of-else1 c in let in-loop = after-has-field .before in
+    in-loop .before .loop .inv ∙ any-next _ _ _ (in-loop .loop-test .taken)
+    (ap₂ (λ (x y : Bool). x && y) (sym (after-has-field .has-field .ensures)) (sym (c .before .has-field2 .ensures)) ∙ c .if1 .left))
     -- returns-2
     (λ c. sym (c .before .loop .inv ∙ any-end _ _ _ (c .loop-test .left))))

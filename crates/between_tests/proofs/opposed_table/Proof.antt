@@ -16,6 +16,14 @@ Inv-loop query at count table₀ a₀ table a = (length table ≡ 36) × MadeTo 
 abbrev μ-loop : tie.MeasureT-loop
 μ-loop query at count table₀ a₀ table a = 6 - a
 
+-- The places that lie behind a place.
+
+abbrev start-of-at-loop : tie.At-loop Inv-loop μ-loop → tie.Start Inv-loop μ-loop
+start-of-at-loop c = c .before .before
+
+abbrev at-loop-of-table : tie.After-table Inv-loop μ-loop → tie.At-loop Inv-loop μ-loop
+at-loop-of-table c = c .before .before
+
 pub opposed-table-spec : {M : Type 1} → statement M
 opposed-table-spec =
     tie.close
@@ -25,12 +33,16 @@ opposed-table-spec =
     -- loop-holds
     (λ c. (refl, λ j h. absurd (omega arith)))
     -- put-opposed-requires
-    (λ c κs. (c .before .before .before .before .pre, omega (arith, c .before .loop-test .taken), c .before .before .loop .inv .0))
+    (λ c κs.
+    let at-loop = at-loop-of-table c in
+    (start-of-at-loop at-loop .pre, omega (arith, c .before .loop-test .taken), at-loop .loop .inv .0))
     -- add-a
     (λ c. omega arith)
     -- loop-less
     (λ c. omega arith)
     -- loop-again
-    (λ c. (c .put-opposed .ensures .0, λ j h. c .put-opposed .ensures .1 (c .before .before .before .loop .inv .1) j (omega arith)))
+    (λ c. (c .put-opposed .ensures .0, λ j h. c .put-opposed .ensures .1 (at-loop-of-table (c .before) .loop .inv .1) j (omega arith)))
     -- returns
-    (λ c. let s = c .before .before .before in made-all (opposed (literalsIn (s .args .query .now) (s .args .at) (s .args .count))) false (c .before .loop .table) (c .before .loop .a) (c .loop-test .left) (c .before .loop .inv .1)))
+    (λ c.
+    let at-loop = c .before in let start = start-of-at-loop at-loop in
+    made-all (opposed (literalsIn (start .args .query .now) (start .args .at) (start .args .count))) false (at-loop .loop .table) (at-loop .loop .a) (c .loop-test .left) (at-loop .loop .inv .1)))

@@ -14,10 +14,19 @@ use Rattle.between_tests.proofs.Laws.{literals-begin}
 
 abbrev Inv-loop : tie.InvT-loop
 Inv-loop query at count most table nodes t i₀ i =
-    (link : ℕ → ℕ) → Stepped table link → any (pairBreaks link (entry nodes) most (t .0)) (literalsIn query at count) ≡ any (pairBreaks link (entry nodes) most (t .0)) (listed (literalIn query at) count i)
+    (link : ℕ → ℕ) → Stepped table link → any (pairBreaks link (entry nodes) most (t .0)) (literalsIn query at count) ≡ any
+    (pairBreaks link (entry nodes) most (t .0)) (listed (literalIn query at) count i)
 
 abbrev μ-loop : tie.MeasureT-loop
 μ-loop query at count most table nodes t i₀ i = count - i
+
+-- The places that lie behind a place.
+
+abbrev in-loop-of-else1 : tie.Else1 Inv-loop μ-loop → tie.In-loop Inv-loop μ-loop
+in-loop-of-else1 c = c .before .before
+
+abbrev in-loop-of-then1 : tie.Then1 Inv-loop μ-loop → tie.In-loop Inv-loop μ-loop
+in-loop-of-then1 c = c .before .before
 
 pub pairs-break-spec : {M : Type 1} → statement M
 pairs-break-spec =
@@ -28,14 +37,20 @@ pairs-break-spec =
     -- loop-holds
     (λ c link s. literals-begin _ _ _ (c .before .pre .0) _)
     -- pair-breaks-requires
-    (λ c κs. (omega (arith, c .before .before .before .pre .0, c .loop-test .taken), c .before .before .before .pre .1, c .before .before .before .pre .2))
+    (λ c κs.
+    let start = c .before .before .before in
+    (omega (arith, start .pre .0, c .loop-test .taken), start .pre .1, start .pre .2))
     -- returns
-    (λ c link s. sym (c .before .before .before .loop .inv link s ∙ any-listed-here _ _ _ _ (c .before .before .loop-test .taken) (sym (c .before .pair-breaks .ensures link s) ∙ c .if1 .taken)))
+    (λ c link s.
+    let in-loop = in-loop-of-then1 c in
+    sym (in-loop .before .loop .inv link s ∙ any-listed-here _ _ _ _ (in-loop .loop-test .taken) (sym (c .before .pair-breaks .ensures link s) ∙ c .if1 .taken)))
     -- add-i
     (λ c. omega arith)
     -- loop-less
     (λ c. omega arith)
     -- loop-again
-    (λ c link s. c .before .before .before .loop .inv link s ∙ any-listed-next _ _ _ _ (c .before .before .loop-test .taken) (sym (c .before .pair-breaks .ensures link s) ∙ c .if1 .left))
+    (λ c link s.
+    let in-loop = in-loop-of-else1 c in
+    in-loop .before .loop .inv link s ∙ any-listed-next _ _ _ _ (in-loop .loop-test .taken) (sym (c .before .pair-breaks .ensures link s) ∙ c .if1 .left))
     -- returns-2
     (λ c link s. sym (c .before .loop .inv link s ∙ any-listed-end _ _ _ _ (c .loop-test .left))))

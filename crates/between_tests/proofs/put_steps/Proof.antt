@@ -18,6 +18,14 @@ Inv-loop table₀ links v row w₀ table w =
 abbrev μ-loop : tie.MeasureT-loop
 μ-loop table₀ links v row w₀ table w = 6 - w
 
+-- The places that lie behind a place.
+
+abbrev start-of-in-loop : tie.In-loop Inv-loop μ-loop → tie.Start Inv-loop μ-loop
+start-of-in-loop c = c .before .before .before
+
+abbrev start-of-step-count : tie.After-step-count Inv-loop μ-loop → tie.Start Inv-loop μ-loop
+start-of-step-count c = start-of-in-loop (c .before)
+
 pub put-steps-spec : {M : Type 1} → statement M
 put-steps-spec =
     tie.close
@@ -29,25 +37,29 @@ put-steps-spec =
     -- loop-holds
     (λ c. (c .before .pre .2, omega arith, λ m j h. m j (omega arith)))
     -- step-count-requires
-    (λ c κs. (c .before .before .before .pre .0, c .before .before .before .pre .1))
+    (λ c κs.
+    let start = start-of-in-loop c in
+    (start .pre .0, start .pre .1))
     -- cast-table
     (λ c. search needs)
     -- add-table
     (λ c. omega arith)
     -- element-write-table
-    (λ c. omega (arith, c .before .before .before .before .pre .1, c .before .loop-test .taken))
+    (λ c. omega (arith, start-of-step-count c .pre .1, c .before .loop-test .taken))
     -- add-w
     (λ c. omega arith)
     -- loop-less
     (λ c. omega arith)
     -- loop-again
     (λ c.
-    let s = c .before .before .before .before in
     let l = c .before .before .loop in
     let t = c .before .loop-test .taken in (
       simp length-set (l .inv .0),
       omega (arith, t),
-      λ m. made-next (steps (entry (s .args .links .now))) 0 (l .table) (s .args .v .0) (l .w) (c .step-count .result) (l .inv .0) (s .pre .1) (omega (arith, t)) (c .step-count .ensures .0) (l .inv .2 m),
+      λ m. made-next (steps (entry (start-of-step-count c .args .links .now))) 0 (l .table) (start-of-step-count c .args .v .0) (l .w)
+          (c .step-count .result) (l .inv .0) (start-of-step-count c .pre .1) (omega (arith, t)) (c .step-count .ensures .0) (l .inv .2 m),
     ))
     -- returns
-    (λ c. (c .before .loop .inv .0, λ m j h. c .before .loop .inv .2 m j (omega (arith, c .loop-test .left)))))
+    (λ c.
+    let at-loop = c .before in
+    (at-loop .loop .inv .0, λ m j h. at-loop .loop .inv .2 m j (omega (arith, c .loop-test .left)))))

@@ -14,6 +14,20 @@ Inv-loop links w at₀ k₀ at k = (k ≤ 6) × (at .0 ≤ 5) × (steps (entry l
 abbrev μ-loop : tie.MeasureT-loop
 μ-loop links w at₀ k₀ at k = 6 - k
 
+-- The places that lie behind a place.
+
+abbrev in-loop-of-struct-known2 : tie.After-struct-known2 Inv-loop μ-loop → tie.In-loop Inv-loop μ-loop
+in-loop-of-struct-known2 c = c .before .before
+
+abbrev in-loop-of-else1 : tie.Else1 Inv-loop μ-loop → tie.In-loop Inv-loop μ-loop
+in-loop-of-else1 c = in-loop-of-struct-known2 (c .before)
+
+abbrev in-loop-of-link-of : tie.After-link-of Inv-loop μ-loop → tie.In-loop Inv-loop μ-loop
+in-loop-of-link-of c = in-loop-of-else1 (c .before)
+
+abbrev at-loop-of-link-of : tie.After-link-of Inv-loop μ-loop → tie.At-loop Inv-loop μ-loop
+at-loop-of-link-of c = in-loop-of-link-of c .before
+
 pub step-count-spec : {M : Type 1} → statement M
 step-count-spec =
     tie.close
@@ -23,14 +37,22 @@ step-count-spec =
     -- loop-holds
     (λ c. (omega arith, c .pre .1, steps-begin _ _ _))
     -- returns
-    (λ c. (sym (c .before .before .before .before .loop .inv .2 ∙ steps-here _ _ _ _ (c .before .before .before .loop-test .taken) (c .if1 .taken)), omega arith))
+    (λ c.
+    let in-loop = in-loop-of-struct-known2 (c .before) in
+    (sym (in-loop .before .loop .inv .2 ∙ steps-here _ _ _ _ (in-loop .loop-test .taken) (c .if1 .taken)), omega arith))
     -- link-of-requires
-    (λ c κs. omega (arith, c .before .before .before .before .loop .inv .1))
+    (λ c κs. omega (arith, in-loop-of-else1 c .before .loop .inv .1))
     -- add-k
     (λ c. omega arith)
     -- loop-less
     (λ c. omega arith)
     -- loop-again
-    (λ c. (omega arith, rw (c .link-of .ensures) (c .before .before .before .before .before .before .pre .0 (c .before .before .before .before .before .loop .at .0)), c .before .before .before .before .before .loop .inv .2 ∙ steps-next _ _ _ _ _ (c .before .before .before .before .loop-test .taken) (c .before .if1 .left) (c .link-of .ensures)))
+    (λ c. (
+      omega arith,
+      rw (c .link-of .ensures) (at-loop-of-link-of c .before .pre .0 (at-loop-of-link-of c .loop .at .0)),
+      at-loop-of-link-of c .loop .inv .2 ∙ steps-next _ _ _ _ _ (in-loop-of-link-of c .loop-test .taken) (c .before .if1 .left) (c .link-of .ensures),
+    ))
     -- returns-2
-    (λ c. (sym (c .before .loop .inv .2 ∙ steps-end _ _ _ _ (c .loop-test .left) (c .before .loop .inv .0)), omega arith)))
+    (λ c.
+    let at-loop = c .before in
+    (sym (at-loop .loop .inv .2 ∙ steps-end _ _ _ _ (c .loop-test .left) (at-loop .loop .inv .0)), omega arith)))

@@ -16,6 +16,11 @@ Inv-loop links table₀ v₀ table v = (length table ≡ 36) × MadeTo (steps (e
 abbrev μ-loop : tie.MeasureT-loop
 μ-loop links table₀ v₀ table v = 6 - v
 
+-- The places that lie behind a place.
+
+abbrev at-loop-of-table : tie.After-table Inv-loop μ-loop → tie.At-loop Inv-loop μ-loop
+at-loop-of-table c = c .before .before
+
 pub step-table-spec : {M : Type 1} → statement M
 step-table-spec =
     tie.close
@@ -25,12 +30,16 @@ step-table-spec =
     -- loop-holds
     (λ c. (refl, λ j h. absurd (omega arith)))
     -- put-steps-requires
-    (λ c κs. (c .before .before .before .pre, omega (arith, c .before .loop-test .taken), c .before .before .loop .inv .0))
+    (λ c κs.
+    let at-loop = at-loop-of-table c in
+    (at-loop .before .pre, omega (arith, c .before .loop-test .taken), at-loop .loop .inv .0))
     -- add-v
     (λ c. omega arith)
     -- loop-less
     (λ c. omega arith)
     -- loop-again
-    (λ c. (c .put-steps .ensures .0, λ j h. c .put-steps .ensures .1 (c .before .before .before .loop .inv .1) j (omega arith)))
+    (λ c. (c .put-steps .ensures .0, λ j h. c .put-steps .ensures .1 (at-loop-of-table (c .before) .loop .inv .1) j (omega arith)))
     -- returns
-    (λ c. made-all (steps (entry (c .before .before .args .links .now))) 0 (c .before .loop .table) (c .before .loop .v) (c .loop-test .left) (c .before .loop .inv .1)))
+    (λ c.
+    let at-loop = c .before in
+    made-all (steps (entry (at-loop .before .args .links .now))) 0 (at-loop .loop .table) (at-loop .loop .v) (c .loop-test .left) (at-loop .loop .inv .1)))

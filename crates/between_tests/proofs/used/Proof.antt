@@ -16,6 +16,14 @@ Inv-loop nodes end count₀ u₀ count u = (u ≤ end) × (count ≤ u) × (coun
 abbrev μ-loop : tie.MeasureT-loop
 μ-loop nodes end count₀ u₀ count u = end - u
 
+-- The places that lie behind a place.
+
+abbrev in-loop-of-one : tie.After-one Inv-loop μ-loop → tie.In-loop Inv-loop μ-loop
+in-loop-of-one c = c .before .before
+
+abbrev at-loop-of-one : tie.After-one Inv-loop μ-loop → tie.At-loop Inv-loop μ-loop
+at-loop-of-one c = in-loop-of-one c .before
+
 pub used-spec : {M : Type 1} → statement M
 used-spec =
     tie.close
@@ -31,10 +39,20 @@ used-spec =
     -- one-requires
     (λ c κs. search needs)
     -- add-count
-    (λ c. omega (arith, c .one .ensures .1, c .before .before .before .loop .inv .1, c .before .before .before .loop .inv .0, c .before .before .before .before .pre))
+    (λ c.
+    let at-loop = at-loop-of-one c in
+    omega (arith, c .one .ensures .1, at-loop .loop .inv .1, at-loop .loop .inv .0, at-loop .before .pre))
     -- loop-less
-    (λ c. omega (arith, c .before .before .loop-test .taken))
+    (λ c. omega (arith, in-loop-of-one c .loop-test .taken))
     -- loop-again
-    (λ c. (omega (arith, c .before .before .loop-test .taken), omega (arith, c .one .ensures .1, c .before .before .before .loop .inv .1), used-more _ _ _ _ (c .before .before .before .loop .inv .2) (c .one .ensures .0 ∙ ap (λ (b : Bool). cond b 1 0) (c .before .is-fresh .ensures))))
+    (λ c.
+    let at-loop = at-loop-of-one c in (
+      omega (arith, in-loop-of-one c .loop-test .taken),
+      omega (arith, c .one .ensures .1, at-loop .loop .inv .1),
+      used-more _ _ _ _ (at-loop .loop .inv .2) (c .one .ensures .0 ∙ ap (λ (b : Bool). cond b 1 0) (c .before .is-fresh .ensures)),
+    ))
     -- returns
-    (λ c. let e : c .before .loop .u ≡ c .before .before .args .t .0 = omega (arith, c .before .loop .inv .0, c .loop-test .left) in (c .before .loop .inv .2 ∙ ap (used (entry (c .before .before .args .nodes .now))) e, omega (arith, c .before .loop .inv .0, c .before .loop .inv .1, c .before .before .pre))))
+    (λ c.
+    let at-loop = c .before in let start = at-loop .before in
+    let e : at-loop .loop .u ≡ start .args .t .0 = omega (arith, at-loop .loop .inv .0, c .loop-test .left) in
+    (at-loop .loop .inv .2 ∙ ap (used (entry (start .args .nodes .now))) e, omega (arith, at-loop .loop .inv .0, at-loop .loop .inv .1, start .pre))))

@@ -13,11 +13,15 @@ added-spec =
     -- enum-known-fact
     (λ c. search needs)
     -- equated-requires
-    (λ c κs. let h = subst InRange (c .before .fact .given .1) (c .before .before .before .pre .2) in (c .before .before .before .pre .0, h .0, h .1))
+    (λ c κs.
+    let start = c .before .before .before in
+    let h = subst InRange (c .before .fact .given .1) (start .pre .2) in (start .pre .0, h .0, h .1))
     -- enum-known-fact-2
     (λ c. search needs)
     -- add-reach-requires
-    (λ c κs. let h = subst InRange (c .before .fact2 .given .1) (c .before .before .before .pre .2) in (c .before .before .before .pre .1, h .0, h .1))
+    (λ c κs.
+    let start = c .before .before .before in
+    let h = subst InRange (c .before .fact2 .given .1) (start .pre .2) in (start .pre .1, h .0, h .1))
     -- no-pairs-requires
     (λ c κs. search needs)
     -- returns

@@ -3,7 +3,7 @@ use borrow.Author.Needs.{needs}
 use native.Mathlib.Omega.{arith}
 use mathlib.Core.Path.{sym, ap, _∙_}
 use lib.Seq.{length-take-le}
-use Rattle.checking.specs.CheckCall.{checkCall}
+use Rattle.checking.specs.CheckCall.{checkCallOf}
 use Rattle.decimal_lines.proofs.Reading.{not-left, not-taken, begins-long}
 use Rattle.check_printing.proofs.Answers.{bytes-there, text-there}
 use Rattle.check_printing.proofs.answer.Statement.{statement}
@@ -17,10 +17,10 @@ answer-spec =
     (λ c. search needs)
     -- begins-requires
     (λ c κs. search needs)
-    -- check-requires
+    -- check-in-requires
     (λ c κs. search needs)
     -- returns
-    (λ c. c .check .ensures ∙ ap (checkCall _) (bytes-there _ (c .before .before .begins .ensures) (not-taken _ (c .before .if1 .taken))))
+    (λ c. c .check-in .ensures ∙ ap (checkCallOf _ _) (bytes-there _ (c .before .before .begins .ensures) (not-taken _ (c .before .if1 .taken))))
     -- slice-aggregate-read-text
     (λ c. search needs)
     -- sub-read-text
@@ -33,9 +33,12 @@ answer-spec =
     (λ c κs. search needs)
     -- array-share-prefix-lines
     (λ c. search needs)
-    -- slice-aggregate-check
+    -- slice-aggregate-check-in
     (λ c. sym (length-take-le _ _ (omega (arith, c .before .before .read-text .ensures .0))))
-    -- check-requires-2
+    -- check-in-requires-2
     (λ c κs. search needs)
     -- returns-2
-    (λ c. c .check2 .ensures ∙ ap (checkCall _) (c .before .before .before .read-text .ensures .1 ∙ text-there _ (c .before .before .before .before .before .before .before .begins .ensures) (not-left _ (c .before .before .before .before .before .before .if1 .left)))))
+    (λ c.
+    let c6 = c .before .before .before .before .before .before in
+    let c7 = c6 .before in
+    c .check-in2 .ensures ∙ ap (checkCallOf _ _) (c .before .before .before .read-text .ensures .1 ∙ text-there _ (c7 .begins .ensures) (not-left _ (c6 .if1 .left)))))

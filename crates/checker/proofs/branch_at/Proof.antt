@@ -1,10 +1,8 @@
--- The path is the one that has the rows, and its branch has one link too. Assumes nothing.
-use native.Mathlib.Omega.{arith}
+-- The path is the one that has the rows. Assumes nothing.
 use borrow.Author.Needs.{needs}
 use mathlib.Core.Path.{_∙_}
-use Rattle.joins.specs.Pairs.{joinedOf}
 use Rattle.rules.specs.Answers.{kindOf}
-use Rattle.checker.proofs.Rows.{one-link, branch-one, branch-rows}
+use Rattle.checker.proofs.Paths.{link-rows, branch-rows}
 use Rattle.checker.proofs.branch_at.Statement.{statement}
 use Rattle.checker.proofs.branch_at.Tie as tie
 
@@ -15,8 +13,11 @@ branch-at-spec =
     -- held-requires
     (λ c κs. search needs)
     -- branch-requires
-    (λ c κs. let p = c .before .pre in (p .0, (omega arith, omega (arith, one-link _ _ _ _ (c .held .ensures))), p .1, p .2, p .3))
-    -- rows-of-requires
-    (λ c κs. branch-one _ _ _ _ (c .before .held .ensures) _ _ (joinedOf (c .branch .result)) (c .branch .ensures))
+    (λ c κs. let p = c .before .pre in (p .0, link-rows _ _ (c .held .ensures) _ (p .1), p .2, p .3, p .4))
+    -- spread-requires
+    (λ c κs. search needs)
     -- returns
-    (λ c. let a = c .before .before .before .args in c .rows-of .ensures ∙ branch-rows _ _ _ _ (c .before .before .held .ensures) (a .n) (kindOf (a .rule)) (a .x .0) (a .y .0) (a .z .0) (a .i) _ (c .before .branch .ensures)))
+    (λ c.
+    let a = c .before .before .before .args in
+    c .spread .ensures
+    ∙ branch-rows _ _ (c .before .before .held .ensures) (a .n) (a .k .0) (kindOf (a .rule)) (a .x .0) (a .y .0) (a .z .0) (a .i) _ (c .before .branch .ensures)))

@@ -1,6 +1,6 @@
 -- The path is the one that has the rows. Assumes nothing.
 use borrow.Author.Needs.{needs}
-use Rattle.checker.proofs.Rows.{one-link, reading-rows}
+use Rattle.checker.proofs.Paths.{reading-rows}
 use Rattle.checker.proofs.read_at.Statement.{statement}
 use Rattle.checker.proofs.read_at.Tie as tie
 
@@ -11,6 +11,6 @@ read-at-spec =
     -- held-requires
     (λ c κs. search needs)
     -- read-line-requires
-    (λ c κs. (c .before .before .before .pre .0, c .before .before .before .pre .1, one-link _ _ _ _ (c .held .ensures)))
+    (λ c κs. c .before .before .before .pre)
     -- returns
-    (λ c. reading-rows _ _ _ _ (c .before .held .ensures) _ _ _ (c .read-line .ensures)))
+    (λ c. reading-rows _ _ (c .before .held .ensures) _ _ _ (c .read-line .ensures)))

@@ -18,6 +18,14 @@ Inv-loop query at count rep i₀ i = PairedLeft (literalsIn query at count) coun
 abbrev μ-loop : tie.MeasureT-loop
 μ-loop query at count rep i₀ i = count - i
 
+-- The places that lie behind a place.
+
+abbrev field-partner-of-enum-told : tie.After-enum-told Inv-loop μ-loop → tie.After-field-partner Inv-loop μ-loop
+field-partner-of-enum-told c = c .before .before
+
+abbrev start-of-at-loop : tie.At-loop Inv-loop μ-loop → tie.Start Inv-loop μ-loop
+start-of-at-loop c = c .before .before
+
 pub field-clash-spec : {M : Type 1} → statement M
 field-clash-spec =
     tie.close
@@ -27,13 +35,16 @@ field-clash-spec =
     -- loop-holds
     (λ c. paired-begin _ _ _ (literals-are _ _ _ (c .before .pre)) _ _)
     -- field-partner-requires
-    (λ c κs. (c .before .before .before .pre, c .loop-test .taken))
+    (λ c κs. (start-of-at-loop (c .before) .pre, c .loop-test .taken))
     -- enum-known-j
     (λ c. search needs)
     -- add-t9
     (λ c. omega arith)
     -- returns
-    (λ c. sym (paired-here _ _ _ (literals-are _ _ _ (c .before .before .before .before .before .before .before .pre)) _ _ _ _ (c .before .before .before .before .loop-test .taken) (sym (c .before .before .before .field-partner .ensures) ∙ ap placeOf (c .before .j .given .1)) (c .before .before .before .before .before .loop .inv)))
+    (λ c.
+    let after-field-partner = c .before .before .before in let in-loop = after-field-partner .before in let at-loop = in-loop .before in
+    sym (paired-here _ _ _ (literals-are _ _ _ (start-of-at-loop at-loop .pre)) _ _ _ _ (in-loop .loop-test .taken)
+    (sym (after-field-partner .field-partner .ensures) ∙ ap placeOf (c .before .j .given .1)) (at-loop .loop .inv)))
     -- enum-told
     (λ c. search needs)
     -- add-i
@@ -41,6 +52,9 @@ field-clash-spec =
     -- loop-less
     (λ c. omega arith)
     -- loop-again
-    (λ c. paired-next _ _ _ (literals-are _ _ _ (c .before .before .before .before .before .before .pre)) _ _ _ (c .before .before .before .loop-test .taken) (sym (c .before .before .field-partner .ensures) ∙ ap placeOf (c .enum-told .given .1)) (c .before .before .before .before .loop .inv))
+    (λ c.
+    let after-field-partner = field-partner-of-enum-told c in let in-loop = after-field-partner .before in let at-loop = in-loop .before in
+    paired-next _ _ _ (literals-are _ _ _ (start-of-at-loop at-loop .pre)) _ _ _ (in-loop .loop-test .taken)
+    (sym (after-field-partner .field-partner .ensures) ∙ ap placeOf (c .enum-told .given .1)) (at-loop .loop .inv))
     -- returns-2
-    (λ c. sym (paired-end _ _ _ (literals-are _ _ _ (c .before .before .before .pre)) _ _ _ (c .loop-test .left) (c .before .loop .inv))))
+    (λ c. sym (paired-end _ _ _ (literals-are _ _ _ (start-of-at-loop (c .before) .pre)) _ _ _ (c .loop-test .left) (c .before .loop .inv))))

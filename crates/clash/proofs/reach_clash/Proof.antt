@@ -16,6 +16,14 @@ Inv-loop query layout rep single reach count i₀ i = AloneLeft (said layout que
 abbrev μ-loop : tie.MeasureT-loop
 μ-loop query layout rep single reach count i₀ i = count - i
 
+-- The places that lie behind a place.
+
+abbrev start-of-at-loop : tie.At-loop Inv-loop μ-loop → tie.Start Inv-loop μ-loop
+start-of-at-loop c = c .before .before
+
+abbrev at-loop-of-is-held-in : tie.After-is-held-in Inv-loop μ-loop → tie.At-loop Inv-loop μ-loop
+at-loop-of-is-held-in c = c .before .before
+
 pub reach-clash-spec : {M : Type 1} → statement M
 reach-clash-spec =
     tie.close
@@ -25,16 +33,21 @@ reach-clash-spec =
     -- loop-holds
     (λ c. alone-begin _ _ _ (reachability-said _ _ (c .before .pre)) _ _)
     -- is-held-in-requires
-    (λ c κs. literal-fits _ _ _ _ _ (c .loop-test .taken) (c .before .before .before .pre .reach-fit))
+    (λ c κs. literal-fits _ _ _ _ _ (c .loop-test .taken) (start-of-at-loop (c .before) .pre .reach-fit))
     -- add-t10
-    (λ c. omega (arith, c .before .before .before .before .before .pre .reach-within))
+    (λ c. omega (arith, start-of-at-loop (at-loop-of-is-held-in (c .before)) .pre .reach-within))
     -- returns
-    (λ c. sym (alone-here _ _ _ (reachability-said _ _ (c .before .before .before .before .before .pre)) _ _ _ (c .before .before .loop-test .taken) (sym (c .before .is-held-in .ensures) ∙ c .if1 .taken) (c .before .before .before .loop .inv)))
+    (λ c.
+    let at-loop = at-loop-of-is-held-in (c .before) in
+    sym (alone-here _ _ _ (reachability-said _ _ (start-of-at-loop at-loop .pre)) _ _ _ (c .before .before .loop-test .taken)
+    (sym (c .before .is-held-in .ensures) ∙ c .if1 .taken) (at-loop .loop .inv)))
     -- add-i
-    (λ c. omega (arith, c .before .before .before .before .before .pre .reach-within))
+    (λ c. omega (arith, start-of-at-loop (at-loop-of-is-held-in (c .before)) .pre .reach-within))
     -- loop-less
     (λ c. omega arith)
     -- loop-again
-    (λ c. alone-next _ _ _ (reachability-said _ _ (c .before .before .before .before .before .pre)) _ _ _ (c .before .before .loop-test .taken) (sym (c .before .is-held-in .ensures) ∙ c .if1 .left) (c .before .before .before .loop .inv))
+    (λ c.
+    let at-loop = at-loop-of-is-held-in (c .before) in
+    alone-next _ _ _ (reachability-said _ _ (start-of-at-loop at-loop .pre)) _ _ _ (c .before .before .loop-test .taken) (sym (c .before .is-held-in .ensures) ∙ c .if1 .left) (at-loop .loop .inv))
     -- returns-2
-    (λ c. sym (alone-end _ _ _ (reachability-said _ _ (c .before .before .before .pre)) _ _ _ (c .loop-test .left) (c .before .loop .inv))))
+    (λ c. sym (alone-end _ _ _ (reachability-said _ _ (start-of-at-loop (c .before) .pre)) _ _ _ (c .loop-test .left) (c .before .loop .inv))))

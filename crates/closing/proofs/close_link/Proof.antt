@@ -5,6 +5,11 @@ use Rattle.closing.proofs.Rows.{link-closed, seeded-kept}
 use Rattle.closing.proofs.close_link.Statement.{statement}
 use Rattle.closing.proofs.close_link.Tie as tie
 
+-- The places that lie behind a place.
+
+abbrev seed-of-pass-on-arg : tie.After-pass-on-arg → tie.After-seed
+seed-of-pass-on-arg c = c .before .before .before
+
 pub close-link-spec : {M : Type 1} → statement M
 close-link-spec =
     tie.close
@@ -12,8 +17,14 @@ close-link-spec =
     -- seed-requires
     (λ c κs. search needs)
     -- pass-on-requires
-    (λ c κs. c .before .before .before .seed .ensures .3)
+    (λ c κs. seed-of-pass-on-arg c .seed .ensures .3)
     -- same-length
     (λ c. omega arith)
     -- returns
-    (λ c. (link-closed _ _ _ _ (c .before .before .pass-on .ensures .0 _ _ _ (c .before .before .before .before .before .before .seed .ensures .0)) (λ a b e. c .before .before .pass-on .ensures .1 a b (c .before .before .before .before .before .before .seed .ensures .1 a b e)) (seeded-kept _ _ _ _ (c .before .before .pass-on .ensures .1) (c .before .before .before .before .before .before .seed .ensures .2)) (c .before .before .pass-on .ensures .2), c .before .before .pass-on .ensures .3)))
+    (λ c.
+    let after-pass-on = c .before .before in let after-seed = seed-of-pass-on-arg (after-pass-on .before) in (
+      link-closed _ _ _ _ (after-pass-on .pass-on .ensures .0 _ _ _ (after-seed .seed .ensures .0))
+          (λ a b e. after-pass-on .pass-on .ensures .1 a b (after-seed .seed .ensures .1 a b e))
+          (seeded-kept _ _ _ _ (after-pass-on .pass-on .ensures .1) (after-seed .seed .ensures .2)) (after-pass-on .pass-on .ensures .2),
+      after-pass-on .pass-on .ensures .3,
+    )))

@@ -12,10 +12,16 @@ use Rattle.closing.proofs.pass_on.Statement.{statement}
 use Rattle.closing.proofs.pass_on.Tie as tie
 
 abbrev Inv-loop : tie.InvT-loop
-Inv-loop out₀ y₀ out y = (y ≤ 17) × (length out ≡ 17) × ((alive : ℕ → Bool) (link reach : ℕ → ℕ → Bool) → Within alive link reach out₀ → Within alive link reach out) × Above (square out₀) out × OnwardBelow out y
+Inv-loop out₀ y₀ out y = (y ≤ 17) × (length out ≡ 17)
+    × ((alive : ℕ → Bool) (link reach : ℕ → ℕ → Bool) → Within alive link reach out₀ → Within alive link reach out) × Above (square out₀) out × OnwardBelow out y
 
 abbrev μ-loop : tie.MeasureT-loop
 μ-loop out₀ y₀ out y = 17 - y
+
+-- The places that lie behind a place.
+
+abbrev at-loop-of-through-arg : tie.After-through-arg Inv-loop μ-loop → tie.At-loop Inv-loop μ-loop
+at-loop-of-through-arg c = c .before .before
 
 whole : (c : tie.After-loop Inv-loop μ-loop) → c .before .loop .y ≡ 17
 whole c = omega arith
@@ -29,19 +35,20 @@ pass-on-spec =
     -- loop-holds
     (λ c. (omega arith, search needs, λ alive link reach h. h, λ a b e. e, onward-none _))
     -- through-requires
-    (λ c κs. (omega arith, c .before .before .loop .inv .1))
+    (λ c κs. (omega arith, at-loop-of-through-arg c .loop .inv .1))
     -- add-y
     (λ c. omega arith)
     -- loop-less
     (λ c. omega arith)
     -- loop-again
     (λ c.
-    let l = c .before .before .before .before .before .loop in (
+    let after-through = c .before .before in let through-ensures-0 = after-through .through .ensures .0 in
+    let l = at-loop-of-through-arg (after-through .before) .loop in (
       omega arith,
-      c .before .before .through .ensures .1,
-      λ alive link reach h. passed-within _ _ _ (c .before .before .through .ensures .0) alive link reach (l .inv .2 alive link reach h),
-      λ a b e. passed-kept _ _ _ (c .before .before .through .ensures .0) a b (l .inv .3 a b e),
-      passed-onward _ _ _ (c .before .before .through .ensures .0) (l .inv .4),
+      after-through .through .ensures .1,
+      λ alive link reach h. passed-within _ _ _ through-ensures-0 alive link reach (l .inv .2 alive link reach h),
+      λ a b e. passed-kept _ _ _ through-ensures-0 a b (l .inv .3 a b e),
+      passed-onward _ _ _ through-ensures-0 (l .inv .4),
     ))
     -- same-length
     (λ c. omega arith)

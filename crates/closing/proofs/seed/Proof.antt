@@ -17,6 +17,11 @@ Inv-loop alive link reach₀ a₀ reach a = (a ≤ 17) × (length reach ≡ 17) 
 abbrev μ-loop : tie.MeasureT-loop
 μ-loop alive link reach₀ a₀ reach a = 17 - a
 
+-- The places that lie behind a place.
+
+abbrev only-of-reach : tie.After-reach Inv-loop μ-loop → tie.After-only Inv-loop μ-loop
+only-of-reach c = c .before .before
+
 whole : (c : tie.After-loop Inv-loop μ-loop) → c .before .loop .a ≡ 17
 whole c = omega arith
 
@@ -48,12 +53,12 @@ seed-spec =
     (λ c. omega arith)
     -- loop-again
     (λ c.
-    let l = c .before .before .before .before .loop in (
+    let l = only-of-reach c .before .before .loop in (
       omega arith,
       simp length-set (l .inv .1),
-      within-more _ (l .inv .1) _ _ (omega arith) _ _ _ (l .inv .2) (seed-follows _ _ _ _ _ (omega arith) (c .before .before .only .ensures)),
+      within-more _ (l .inv .1) _ _ (omega arith) _ _ _ (l .inv .2) (seed-follows _ _ _ _ _ (omega arith) (only-of-reach c .only .ensures)),
       above-more _ (l .inv .1) _ _ (omega arith) _ (l .inv .3),
-      seeded-more _ _ _ _ _ (l .inv .1) (omega arith) (c .before .before .only .ensures) (l .inv .4),
+      seeded-more _ _ _ _ _ (l .inv .1) (omega arith) (only-of-reach c .only .ensures) (l .inv .4),
     ))
     -- same-length
     (λ c. omega arith)

@@ -11,7 +11,8 @@ use Rattle.closing.proofs.through.Statement.{statement}
 use Rattle.closing.proofs.through.Tie as tie
 
 abbrev Inv-loop : tie.InvT-loop
-Inv-loop out₀ y far a₀ out a = (a ≤ 17) × (length out ≡ 17) × ((x b : ℕ) → x < a → square out x b ≡ square out₀ x b or (square out₀ x y and square out₀ y b)) × ((x b : ℕ) → a ≤ x → square out x b ≡ square out₀ x b)
+Inv-loop out₀ y far a₀ out a = (a ≤ 17) × (length out ≡ 17)
+    × ((x b : ℕ) → x < a → square out x b ≡ square out₀ x b or (square out₀ x y and square out₀ y b)) × ((x b : ℕ) → a ≤ x → square out x b ≡ square out₀ x b)
 
 abbrev μ-loop : tie.MeasureT-loop
 μ-loop out₀ y far a₀ out a = 17 - a

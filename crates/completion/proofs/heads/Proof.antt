@@ -5,6 +5,11 @@ use Rattle.completion.proofs.Rows.{heads-row}
 use Rattle.completion.proofs.heads.Statement.{statement}
 use Rattle.completion.proofs.heads.Tie as tie
 
+-- The places that lie behind a place.
+
+abbrev successor-row-of-without : tie.After-without → tie.After-successor-row
+successor-row-of-without c = c .before .before
+
 pub heads-spec : {M : Type 1} → statement M
 heads-spec =
     tie.close
@@ -17,5 +22,6 @@ heads-spec =
     (λ c κs. search needs)
     -- returns
     (λ c.
-    let a = c .before .before .before .args in
-    heads-row (a .n) (a .reach .now) (linkOf (a .links .now)) (a .v .0) _ _ _ (c .before .before .successor-row .ensures) (c .before .led-to .ensures) (c .without .ensures)))
+    let after-successor-row = successor-row-of-without c in
+    let a = after-successor-row .before .args in
+    heads-row (a .n) (a .reach .now) (linkOf (a .links .now)) (a .v .0) _ _ _ (after-successor-row .successor-row .ensures) (c .before .led-to .ensures) (c .without .ensures)))

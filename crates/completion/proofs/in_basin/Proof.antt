@@ -15,6 +15,11 @@ Inv-loop reach n v u₀ u = any (leaves reach (v .0)) (from (n + 1 - 1) 1) ≡ a
 abbrev μ-loop : tie.MeasureT-loop
 μ-loop reach n v u₀ u = n + 1 - u
 
+-- The places that lie behind a place.
+
+abbrev at-loop-of-holds2 : tie.After-holds2 Inv-loop μ-loop → tie.At-loop Inv-loop μ-loop
+at-loop-of-holds2 c = c .before .before .before
+
 pub in-basin-spec : {M : Type 1} → statement M
 in-basin-spec =
     tie.close
@@ -28,12 +33,14 @@ in-basin-spec =
     -- holds-requires-2
     (λ c κs. omega arith)
     -- returns
-    (λ c. sym (basin-search _ _ _ ∙ ap not (c .before .before .before .before .loop .inv ∙ any-here _ _ _ (omega arith) (ap₂ (λ a b. a && not b) (sym (c .before .before .holds .ensures)) (sym (c .before .holds2 .ensures)) ∙ c .if1 .taken))))
+    (λ c. sym (basin-search _ _ _ ∙ ap not
+    (at-loop-of-holds2 (c .before) .loop .inv ∙ any-here _ _ _ (omega arith)
+    (ap₂ (λ a b. a && not b) (sym (c .before .before .holds .ensures)) (sym (c .before .holds2 .ensures)) ∙ c .if1 .taken))))
     -- add-u
     (λ c. omega arith)
     -- loop-less
     (λ c. omega arith)
     -- loop-again
-    (λ c. c .before .before .before .before .loop .inv ∙ any-next _ _ _ (omega arith) (ap₂ (λ a b. a && not b) (sym (c .before .before .holds .ensures)) (sym (c .before .holds2 .ensures)) ∙ c .if1 .left))
+    (λ c. at-loop-of-holds2 (c .before) .loop .inv ∙ any-next _ _ _ (omega arith) (ap₂ (λ a b. a && not b) (sym (c .before .before .holds .ensures)) (sym (c .before .holds2 .ensures)) ∙ c .if1 .left))
     -- returns-2
     (λ c. sym (basin-search _ _ _ ∙ ap not (c .before .loop .inv ∙ any-end _ _ _ (omega arith)))))

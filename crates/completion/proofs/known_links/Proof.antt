@@ -17,6 +17,11 @@ Inv-loop link n links₀ t₀ links t = (t ≤ 17) × (length links ≡ 17) × L
 abbrev μ-loop : tie.MeasureT-loop
 μ-loop link n links₀ t₀ links t = 17 - t
 
+-- The places that lie behind a place.
+
+abbrev at-loop-of-struct-known : tie.After-struct-known Inv-loop μ-loop → tie.At-loop Inv-loop μ-loop
+at-loop-of-struct-known c = c .before .before .before
+
 whole : (c : tie.After-loop Inv-loop μ-loop) → c .before .loop .t ≡ 17
 whole c = omega arith
 
@@ -32,8 +37,8 @@ known-links-spec =
     (λ c κs. omega arith)
     -- cast-links
     (λ c.
-    let start = c .before .before .before .before in
-    omega (arith, next-below (start .args .n) (linksIn (start .args .link .now)) (c .before .before .before .loop .t), c .before .known-link .ensures))
+    let at-loop = at-loop-of-struct-known c in let the-start = at-loop .before in
+    omega (arith, next-below (the-start .args .n) (linksIn (the-start .args .link .now)) (at-loop .loop .t), c .before .known-link .ensures))
     -- array-write-links
     (λ c. omega arith)
     -- add-t
@@ -42,7 +47,7 @@ known-links-spec =
     (λ c. omega arith)
     -- loop-again
     (λ c.
-    let l = c .before .before .before .loop in (
+    let l = at-loop-of-struct-known c .loop in (
       omega arith,
       simp length-set (l .inv .1),
       linked-more _ (l .links) (l .t) (omega arith) _ (c .before .known-link .ensures) (l .inv .2),

@@ -13,6 +13,11 @@ Inv-loop links reach n v row₀ u₀ row u = LedBelow reach links n (v .0) u row
 abbrev μ-loop : tie.MeasureT-loop
 μ-loop links reach n v row₀ u₀ row u = n + 1 - u
 
+-- The places that lie behind a place.
+
+abbrev at-loop-of-holds : tie.After-holds Inv-loop μ-loop → tie.At-loop Inv-loop μ-loop
+at-loop-of-holds c = c .before .before .before .before
+
 pub led-to-spec : {M : Type 1} → statement M
 unfolding linkOf
 led-to-spec =
@@ -29,16 +34,20 @@ led-to-spec =
     -- holds-requires
     (λ c κs. omega arith)
     -- with-requires
-    (λ c κs. omega (arith, c .before .wide .ensures .0, c .before .before .before .before .before .pre .2 (c .before .before .before .before .loop .u)))
+    (λ c κs.
+    let at-loop = at-loop-of-holds c in
+    omega (arith, c .before .wide .ensures .0, at-loop .before .pre .2 (at-loop .loop .u)))
     -- add-u
     (λ c. omega arith)
     -- loop-less
     (λ c. omega arith)
     -- loop-again
     (λ c.
-    let l = c .before .before .before .before .before .loop in
-    let a = c .before .before .before .before .before .before .args in
-    led-more (a .reach .now) (a .links .now) (a .n) (a .v .0) (l .u) (l .row) _ (c .before .before .wide .result) (c .before .holds .result) (omega arith) (c .before .before .wide .ensures .0) (c .before .holds .ensures) (c .with .ensures) (l .inv))
+    let after-holds = c .before in let after-wide = after-holds .before in let at-loop = at-loop-of-holds after-holds in
+    let l = at-loop .loop in
+    let a = at-loop .before .args in
+    led-more (a .reach .now) (a .links .now) (a .n) (a .v .0) (l .u) (l .row) _ (after-wide .wide .result) (after-holds .holds .result) (omega arith)
+    (after-wide .wide .ensures .0) (after-holds .holds .ensures) (c .with .ensures) (l .inv))
     -- returns
     (λ c.
     let l = c .before .loop in

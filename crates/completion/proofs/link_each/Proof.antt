@@ -23,6 +23,17 @@ Inv-loop rep reach n out₀ v₀ out v =
 abbrev μ-loop : tie.MeasureT-loop
 μ-loop rep reach n out₀ v₀ out v = n + 1 - v
 
+-- The places that lie behind a place.
+
+abbrev wide2-of-out : tie.After-out Inv-loop μ-loop → tie.After-wide2 Inv-loop μ-loop
+wide2-of-out c = c .before .before
+
+abbrev out-of-struct-known : tie.After-struct-known Inv-loop μ-loop → tie.After-out Inv-loop μ-loop
+out-of-struct-known c = c .before .before
+
+abbrev at-loop-of-wide2 : tie.After-wide2 Inv-loop μ-loop → tie.At-loop Inv-loop μ-loop
+at-loop-of-wide2 c = c .before .before .before .before
+
 pub link-each-spec : {M : Type 1} → statement M
 link-each-spec =
     tie.close
@@ -45,14 +56,19 @@ link-each-spec =
     (λ c. omega arith)
     -- loop-again
     (λ c.
-    let l = c .before .before .before .before .before .loop in
-    (l .inv .0, l .inv .1, l .inv .2 ∙ link-kept _ _ _ (l .out) (l .inv .0) (l .v) (omega arith) (omega arith) (remains _ (l .out) (l .v) _ _ (omega arith) (c .before .before .wide .ensures .0) (c .before .wide2 .ensures .0) ∙ not-true _ (c .if1 .taken))))
+    let l = at-loop-of-wide2 (c .before) .loop in (
+      l .inv .0,
+      l .inv .1,
+      l .inv .2 ∙ link-kept _ _ _ (l .out) (l .inv .0) (l .v) (omega arith) (omega arith)
+          (remains _ (l .out) (l .v) _ _ (omega arith) (c .before .before .wide .ensures .0) (c .before .wide2 .ensures .0) ∙ not-true _ (c .if1 .taken)),
+    ))
     -- new-link-requires
-    (λ c κs. (omega arith, omega arith, c .before .before .before .before .before .before .loop .inv .1))
+    (λ c κs. (omega arith, omega arith, at-loop-of-wide2 (wide2-of-out c) .loop .inv .1))
     -- cast-out
     (λ c.
-    let a = c .before .before .before .before .before .before .before .before .before .args in
-    let l = c .before .before .before .before .before .before .before .before .loop in
+    let at-loop = at-loop-of-wide2 (wide2-of-out (out-of-struct-known c)) in
+    let a = at-loop .before .args in
+    let l = at-loop .loop in
     omega (arith, c .before .new-link .ensures, new-below (a .n) (reachIn (a .reach .now)) (linkOf (l .out)) (l .v)))
     -- array-write-out
     (λ c. omega arith)
@@ -62,10 +78,11 @@ link-each-spec =
     (λ c. omega arith)
     -- loop-again-2
     (λ c.
-    let l = c .before .before .before .before .before .before .before .before .loop in
+    let l = at-loop-of-wide2 (wide2-of-out (out-of-struct-known c)) .loop in
     let given =
     link-new _ _ _ (l .out) (l .v)
-    (remains _ (l .out) (l .v) _ _ (omega arith) (c .before .before .before .before .before .wide .ensures .0) (c .before .before .before .before .wide2 .ensures .0) ∙ not-false _ (c .before .before .before .if1 .left))
+    (remains _ (l .out) (l .v) _ _ (omega arith) (wide2-of-out (out-of-struct-known c) .before .wide .ensures .0)
+    (wide2-of-out (out-of-struct-known c) .wide2 .ensures .0) ∙ not-false _ (out-of-struct-known c .before .if1 .left))
     (c .before .new-link .ensures) in (
       simp length-set (l .inv .0),
       turn-range _ _ _ (l .out) (l .inv .0) (l .v) (omega arith) (omega arith) _ given (l .inv .1),

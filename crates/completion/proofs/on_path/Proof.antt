@@ -15,12 +15,21 @@ Inv-loop links n v at₀ left₀ at left = (at ≤ 16) × (onPath (linkOf links)
 abbrev μ-loop : tie.MeasureT-loop
 μ-loop links n v at₀ left₀ at left = left
 
+-- The places that lie behind a place.
+
+abbrev else1-of-wide : tie.After-wide Inv-loop μ-loop → tie.Else1 Inv-loop μ-loop
+else1-of-wide c = c .before .before
+
 loop-again : tie.Need-loop-again Inv-loop μ-loop
 unfolding linkOf
 loop-again c =
-    let l = c .before .before .before .before .before .loop in
-    let to = c .wide .ensures .0 in
-    (omega (arith, to, c .before .before .before .before .before .before .pre .1 (l .at)), l .inv .1 ∙ path-next _ _ _ _ (omega arith) (c .before .before .if1 .left) ∙ ap (onPath (linkOf (c .before .before .before .before .before .before .args .links .now)) (c .before .before .before .before .before .before .args .v .0) (l .left - 1)) (sym to))
+    let else1 = else1-of-wide c in let at-loop = else1 .before .before .before in let start = at-loop .before in
+    let l = at-loop .loop in
+    let to = c .wide .ensures .0 in (
+      omega (arith, to, start .pre .1 (l .at)),
+      l .inv .1 ∙ path-next _ _ _ _ (omega arith) (else1 .if1 .left)
+          ∙ ap (onPath (linkOf (start .args .links .now)) (start .args .v .0) (l .left - 1)) (sym to),
+    )
 
 pub on-path-spec : {M : Type 1} → statement M
 on-path-spec =

@@ -19,6 +19,11 @@ Inv-loop links heads n v b₀ b =
 abbrev μ-loop : tie.MeasureT-loop
 μ-loop links heads n v b₀ b = n + 1 - b
 
+-- The places that lie behind a place.
+
+abbrev at-loop-of-begins-without : tie.After-begins-without Inv-loop μ-loop → tie.At-loop Inv-loop μ-loop
+at-loop-of-begins-without c = c .before .before
+
 pub other-path-spec : {M : Type 1} → statement M
 other-path-spec =
     tie.close
@@ -30,12 +35,12 @@ other-path-spec =
     -- begins-without-requires
     (λ c κs. (omega arith, c .before .before .pre .1))
     -- returns
-    (λ c. sym (c .before .before .before .loop .inv ∙ find-here _ _ _ (omega arith) (sym (c .before .begins-without .ensures) ∙ c .if1 .taken)))
+    (λ c. sym (at-loop-of-begins-without (c .before) .loop .inv ∙ find-here _ _ _ (omega arith) (sym (c .before .begins-without .ensures) ∙ c .if1 .taken)))
     -- add-b
     (λ c. omega arith)
     -- loop-less
     (λ c. omega arith)
     -- loop-again
-    (λ c. c .before .before .before .loop .inv ∙ find-next _ _ _ (omega arith) (sym (c .before .begins-without .ensures) ∙ c .if1 .left))
+    (λ c. at-loop-of-begins-without (c .before) .loop .inv ∙ find-next _ _ _ (omega arith) (sym (c .before .begins-without .ensures) ∙ c .if1 .left))
     -- returns-2
     (λ c. sym (c .before .loop .inv ∙ find-end _ _ _ (omega arith))))

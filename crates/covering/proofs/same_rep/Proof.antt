@@ -6,6 +6,11 @@ use Rattle.facts.specs.Path.{repOf}
 use Rattle.covering.proofs.same_rep.Statement.{statement}
 use Rattle.covering.proofs.same_rep.Tie as tie
 
+-- The places that lie behind a place.
+
+abbrev read-rep3-of-struct-known2 : tie.After-struct-known2 → tie.After-read-rep3
+read-rep3-of-struct-known2 c = c .before .before
+
 pub same-rep-spec : {M : Type 1} → statement M
 same-rep-spec =
     tie.close
@@ -17,4 +22,6 @@ same-rep-spec =
     -- read-rep-requires-3
     (λ c κs. search needs)
     -- returns
-    (λ c e. ap (repOf _) (sym (c .before .before .before .before .read-rep .ensures)) ∙ sym (c .before .before .before .read-rep2 .ensures) ∙ eqb-true _ _ e ∙ c .before .before .read-rep3 .ensures))
+    (λ c e.
+    let after-read-rep3 = read-rep3-of-struct-known2 c in let after-read-rep2 = after-read-rep3 .before in
+    ap (repOf _) (sym (after-read-rep2 .before .read-rep .ensures)) ∙ sym (after-read-rep2 .read-rep2 .ensures) ∙ eqb-true _ _ e ∙ after-read-rep3 .read-rep3 .ensures))

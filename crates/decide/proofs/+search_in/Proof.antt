@@ -6,7 +6,8 @@ use mathlib.Core.Path.{_≡_, refl, sym, _∙_, subst}
 use borrow.Fn.Kinds.{In}
 use borrow.Fn.PlainCycle.{Measures, is, falls, and}
 use borrow.Author.Tests.{not-true, not-false}
-use Rattle.logic.specs.Query.{termCount}
+use Rattle.logic.specs.Query.{Query, termCount}
+use Rattle.logic.specs.Facts.{Facts}
 use Rattle.logic.specs.Rules.{triple, move}
 use Rattle.logic.specs.Decision.{Struck}
 use Rattle.facts.specs.Path.{pathAs, Whole}
@@ -41,10 +42,46 @@ search-in-below t = and 4 search-in-kinds.ps (falls 4 search-in-kinds.ps _<_ μ-
 -- the arrays are those of the closed path: where they are written, the loop is left
 abbrev search-in-Inv-loop : search-in-lts.InvT-loop
 search-in-Inv-loop query layout how left single rep₀ link₀ reach₀ budget n k rule x y z total fuel₀ at₀ rep link reach fuel at =
-    (at ≤ total) × Struck (said layout query) (pathAs single rep₀ link₀ reach₀) (move (k .0) (kindOf rule) (triple (x .0) (y .0) (z .0))) at × (pathAs single rep link reach ≡ pathAs single rep₀ link₀ reach₀) × Whole rep link reach
+    (at ≤ total) × Struck (said layout query) (pathAs single rep₀ link₀ reach₀) (move (k .0) (kindOf rule) (triple (x .0) (y .0) (z .0))) at
+    × (pathAs single rep link reach ≡ pathAs single rep₀ link₀ reach₀) × Whole rep link reach
 
 abbrev search-in-μ-loop : search-in-lts.MeasureT-loop
 search-in-μ-loop query layout how left single rep₀ link₀ reach₀ budget n k rule x y z total fuel₀ at₀ rep link reach fuel at = total - at
+
+-- The places that lie behind a place.
+module _ {K : search-in-lts.Claims} {P : In 4 search-in-kinds.ps} where
+  abbrev count-of-in-loop : search-in-lts.In-loop K P search-in.Post search-in-Inv-loop search-in-μ-loop → search-in-lts.After-count K P search-in.Post search-in-Inv-loop search-in-μ-loop
+  count-of-in-loop c = c .before .before .before
+
+  abbrev k-of-count : search-in-lts.After-count K P search-in.Post search-in-Inv-loop search-in-μ-loop → search-in-lts.After-k K P search-in.Post search-in-Inv-loop search-in-μ-loop
+  k-of-count c = c .before .before .before
+
+  abbrev take-of-search-in : search-in-lts.After-search-in K P search-in.Post search-in-Inv-loop search-in-μ-loop → search-in-lts.After-take K P search-in.Post search-in-Inv-loop search-in-μ-loop
+  take-of-search-in c = c .before .before .before .before
+
+  abbrev start-of-sees : search-in-lts.After-sees K P search-in.Post search-in-Inv-loop search-in-μ-loop → search-in-lts.Start K P search-in.Post search-in-Inv-loop search-in-μ-loop
+  start-of-sees c = c .before .before .before .before .before
+
+  abbrev sees-of-count : search-in-lts.After-count K P search-in.Post search-in-Inv-loop search-in-μ-loop → search-in-lts.After-sees K P search-in.Post search-in-Inv-loop search-in-μ-loop
+  sees-of-count c = k-of-count c .before .before
+
+  abbrev in-loop-of-own-reach2 : search-in-lts.After-own-reach2 K P search-in.Post search-in-Inv-loop search-in-μ-loop → search-in-lts.In-loop K P search-in.Post search-in-Inv-loop search-in-μ-loop
+  in-loop-of-own-reach2 c = c .before .before .before .before .before .before .before
+
+  abbrev in-loop-of-take : search-in-lts.After-take K P search-in.Post search-in-Inv-loop search-in-μ-loop → search-in-lts.In-loop K P search-in.Post search-in-Inv-loop search-in-μ-loop
+  in-loop-of-take c = in-loop-of-own-reach2 (c .before)
+
+  -- the query that is asked, the path that was handed in, and that path with what was seen of it
+  abbrev asked-of : search-in-lts.Start K P search-in.Post search-in-Inv-loop search-in-μ-loop → Query
+  asked-of c = said (c .args .layout) (c .args .query .now)
+
+  abbrev path-of : search-in-lts.Start K P search-in.Post search-in-Inv-loop search-in-μ-loop → Facts
+  path-of c = pathAs (c .args .single) (c .args .rep .now) (c .args .link .now) (c .args .reach .now)
+
+  abbrev seen-of : search-in-lts.After-sees K P search-in.Post search-in-Inv-loop search-in-μ-loop → Facts
+  seen-of c =
+      let a = start-of-sees c .args in
+      pathAs (a .single) (a .rep .now) (a .link .now) (c .sees .last .1 .1 .1 .1 .1 .1 .0)
 
 pub +search-in-spec : {M : Type 1} → statement M
 +search-in-spec = close μ-search-in λ t. search-in-lts.spec (
@@ -73,138 +110,189 @@ pub +search-in-spec : {M : Type 1} → statement M
     (λ c κs. search needs)
     -- returns
     (λ c.
-    let a = c .before .before .before .before .before .before .before .before .args in
-    let p = c .before .before .before .before .before .before .before .before .pre .1 in
-    let q = said (a .layout) (a .query .now) in
-    let s = pathAs (a .single) (a .rep .now) (a .link .now) (a .reach .now) in
-    let r = c .before .before .before .sees .last in
-    let t = pathAs (a .single) (a .rep .now) (a .link .now) (r .1 .1 .1 .1 .1 .1 .0) in
-    let v = seen-as q t (c .before .before .before .sees .result) seen.Saturated (c .before .before .before .sees .ensures .1) (c .before .enum-told .given .1) in
-    (ends-saturated {q = q} (p .1) s t (p .2) (a .layout .terms) (sym (terms-said (a .layout) (a .query .now) (p .0))) (c .before .before .before .sees .ensures .0) (v .0) (v .1), record { of-rep = p .3 .of-rep; of-link = p .3 .of-link; of-reach = c .before .before .before .sees .ensures .2 }))
+    let after-sees = c .before .before .before in let start = start-of-sees after-sees in
+    let a = start .args in
+    let p = start .pre .1 in
+    let q = asked-of start in
+    let s = path-of start in
+    let t = seen-of after-sees in
+    let v = seen-as q t (after-sees .sees .result) seen.Saturated (after-sees .sees .ensures .1) (c .before .enum-told .given .1) in (
+      ends-saturated {q = q} (p .1) s t (p .2) (a .layout .terms) (sym (terms-said (a .layout) (a .query .now) (p .0))) (after-sees .sees .ensures .0)
+          (v .0) (v .1),
+      record { of-rep = p .3 .of-rep; of-link = p .3 .of-link; of-reach = after-sees .sees .ensures .2 },
+    ))
     -- enum-told-2
     (λ c. search needs)
     -- spent-requires-2
     (λ c κs. search needs)
     -- returns-2
     (λ c.
-    let a = c .before .before .before .before .before .before .before .before .args in
-    let p = c .before .before .before .before .before .before .before .before .pre .1 in
-    let q = said (a .layout) (a .query .now) in
-    let s = pathAs (a .single) (a .rep .now) (a .link .now) (a .reach .now) in
-    let r = c .before .before .before .sees .last in
-    let t = pathAs (a .single) (a .rep .now) (a .link .now) (r .1 .1 .1 .1 .1 .1 .0) in
-    let v = seen-as q t (c .before .before .before .sees .result) seen.Clashing (c .before .before .before .sees .ensures .1) (c .before .enum-told2 .given .1) in
-    (ends-refuted q s t (tells-clash {q = q} (p .1) s t (p .2) (a .layout .terms) (sym (terms-said (a .layout) (a .query .now) (p .0))) (c .before .before .before .sees .ensures .0) (v .0) (v .1)), record { of-rep = p .3 .of-rep; of-link = p .3 .of-link; of-reach = c .before .before .before .sees .ensures .2 }))
+    let after-sees = c .before .before .before in let start = start-of-sees after-sees in
+    let a = start .args in
+    let p = start .pre .1 in
+    let q = asked-of start in
+    let s = path-of start in
+    let t = seen-of after-sees in
+    let v = seen-as q t (after-sees .sees .result) seen.Clashing (after-sees .sees .ensures .1) (c .before .enum-told2 .given .1) in (
+      ends-refuted q s t (tells-clash {q = q} (p .1) s t (p .2) (a .layout .terms) (sym (terms-said (a .layout) (a .query .now) (p .0)))
+          (after-sees .sees .ensures .0) (v .0) (v .1)),
+      record { of-rep = p .3 .of-rep; of-link = p .3 .of-link; of-reach = after-sees .sees .ensures .2 },
+    ))
     -- enum-known-k
     (λ c. search needs)
     -- returns-3
     (λ c.
-    let a = c .before .before .before .before .before .before .before .before .before .args in
-    let p = c .before .before .before .before .before .before .before .before .before .pre .1 in
-    let q = said (a .layout) (a .query .now) in
-    let s = pathAs (a .single) (a .rep .now) (a .link .now) (a .reach .now) in
-    let r = c .before .before .before .before .sees .last in
-    let t = pathAs (a .single) (a .rep .now) (a .link .now) (r .1 .1 .1 .1 .1 .1 .0) in
-    (ends-nothing q s t, record { of-rep = p .3 .of-rep; of-link = p .3 .of-link; of-reach = c .before .before .before .before .sees .ensures .2 }))
+    let after-sees = c .before .before .before .before in let start = start-of-sees after-sees in
+    let a = start .args in
+    let p = start .pre .1 in
+    let q = asked-of start in
+    let s = path-of start in
+    let t = seen-of after-sees in
+    (ends-nothing q s t, record { of-rep = p .3 .of-rep; of-link = p .3 .of-link; of-reach = after-sees .sees .ensures .2 }))
     -- count-requires
     (λ c κs. search needs)
     -- spent-requires-3
     (λ c κs. search needs)
     -- loop-holds
-    (λ c. let p = c .before .before .before .before .before .before .before .before .before .before .before .pre .1 in (omega arith, struck-none _ _ _ _ refl, refl, record { of-rep = p .3 .of-rep; of-link = p .3 .of-link; of-reach = c .before .before .before .before .before .before .sees .ensures .2 }))
+    (λ c.
+    let after-sees = sees-of-count (c .before) in
+    let p = start-of-sees after-sees .pre .1 in (omega arith, struck-none _ _ _ _ refl, refl, record { of-rep = p .3 .of-rep; of-link = p .3 .of-link; of-reach = after-sees .sees .ensures .2 }))
     -- returns-4
     (λ c.
-    let a = c .before .before .before .before .before .before .before .before .before .before .before .before .before .before .args in
+    let a = start-of-sees (sees-of-count (count-of-in-loop (c .before))) .args in
     let s = pathAs (a .single) (a .rep .now) (a .link .now) (a .reach .now) in
     let o = c .before .before .loop in
     (ends-nothing (said (a .layout) (a .query .now)) s (pathAs (a .single) (o .rep) (o .link) (o .reach)), o .inv .3))
     -- take-requires
     (λ c κs.
-    let a = c .before .before .before .before .before .before .before .before .before .before .before .before .before .before .before .before .before .before .before .before .args in
-    let p = c .before .before .before .before .before .before .before .before .before .before .before .before .before .before .before .before .before .before .before .before .pre .1 in
-    let q = said (a .layout) (a .query .now) in
-    let s = pathAs (a .single) (a .rep .now) (a .link .now) (a .reach .now) in
-    let r = c .before .before .before .before .before .before .before .before .before .before .before .before .before .before .before .sees .last in
-    let t = pathAs (a .single) (a .rep .now) (a .link .now) (r .1 .1 .1 .1 .1 .1 .0) in
-    let m = c .before .before .before .before .before .before .before .before .before .before .before .before .before .k .given .0 in
-    let v = seen-as q t (c .before .before .before .before .before .before .before .before .before .before .before .before .before .before .before .sees .result) (seen.Applying (m .0) (m .1 .0) (m .1 .1 .0) (m .1 .1 .1 .0) (m .1 .1 .1 .1 .0)) (c .before .before .before .before .before .before .before .before .before .before .before .before .before .before .before .sees .ensures .1) (c .before .before .before .before .before .before .before .before .before .before .before .before .before .k .given .1) in
-    let o = c .before .before .before .before .before .before .before .before .loop in
-    (p .0 .terms-within, same-linked (pathAs (a .single) (o .rep) (o .link) (o .reach)) t (o .inv .2) (m .0 .0) (applied-linked (termCount q) t (m .0 .0) (kindOf (m .1 .0)) (m .1 .1 .0 .0) (m .1 .1 .1 .0 .0) (m .1 .1 .1 .1 .0 .0) (v .0)), v .1, v .2, v .3, o .inv .3))
+    let in-loop = in-loop-of-own-reach2 c in let after-count = count-of-in-loop in-loop in let after-k = k-of-count after-count in
+    let after-sees = sees-of-count after-count in let start = start-of-sees after-sees in
+    let a = start .args in
+    let p = start .pre .1 in
+    let q = asked-of start in
+    let s = path-of start in
+    let t = seen-of after-sees in
+    let m = after-k .k .given .0 in
+    let v = seen-as q t (after-sees .sees .result) (seen.Applying (m .0) (m .1 .0) (m .1 .1 .0) (m .1 .1 .1 .0) (m .1 .1 .1 .1 .0)) (after-sees .sees .ensures .1) (after-k .k .given .1) in
+    let o = in-loop .before .loop in (
+      p .0 .terms-within,
+      same-linked (pathAs (a .single) (o .rep) (o .link) (o .reach)) t (o .inv .2) (m .0 .0)
+          (applied-linked (termCount q) t (m .0 .0) (kindOf (m .1 .0)) (m .1 .1 .0 .0) (m .1 .1 .1 .0 .0) (m .1 .1 .1 .1 .0 .0) (v .0)),
+      v .1,
+      v .2,
+      v .3,
+      o .inv .3,
+    ))
     -- sub-search-in
-    (λ c. let b = c .before .before .before .before .before .before .before .before .before .before .before .before .if1 .left in omega arith)
+    (λ c. let b = count-of-in-loop (in-loop-of-take c) .before .if1 .left in omega arith)
     -- search-in-requires
     (λ c κs.
-    let a = c .before .before .before .before .before .before .before .before .before .before .before .before .before .before .before .before .before .before .before .before .before .before .before .before .args in
-    let p = c .before .before .before .before .before .before .before .before .before .before .before .before .before .before .before .before .before .before .before .before .before .before .before .before .pre .1 in
-    let q = said (a .layout) (a .query .now) in
-    let s = pathAs (a .single) (a .rep .now) (a .link .now) (a .reach .now) in
-    let r = c .before .before .before .before .before .before .before .before .before .before .before .before .before .before .before .before .before .before .before .sees .last in
-    let t = pathAs (a .single) (a .rep .now) (a .link .now) (r .1 .1 .1 .1 .1 .1 .0) in
-    let m = c .before .before .before .before .before .before .before .before .before .before .before .before .before .before .before .before .before .k .given .0 in
-    let v = seen-as q t (c .before .before .before .before .before .before .before .before .before .before .before .before .before .before .before .before .before .before .before .sees .result) (seen.Applying (m .0) (m .1 .0) (m .1 .1 .0) (m .1 .1 .1 .0) (m .1 .1 .1 .1 .0)) (c .before .before .before .before .before .before .before .before .before .before .before .before .before .before .before .before .before .before .before .sees .ensures .1) (c .before .before .before .before .before .before .before .before .before .before .before .before .before .before .before .before .before .k .given .1) in
-    let o = c .before .before .before .before .before .before .before .before .before .before .before .before .loop in
-    let here = subst (λ (j : ℕ). o .at < j) (c .before .before .before .before .before .before .before .before .before .before .before .before .before .before .count .ensures) (c .before .before .before .before .before .before .before .before .before .before .before .loop-test .taken) in
-    let e = c .before .before .before .take .last in
-    let u = pathAs (a .single) (e .1 .0) (e .1 .1 .0) (e .1 .1 .1 .0) in
-    (fewer-left (a .left) _ (c .before .before .before .before .before .before .before .before .before .before .before .before .before .before .before .if1 .left) (c .before .before .before .before .before .before .before .before .before .before .before .before .before .before .before .before .before .before .before .before .before .before .before .before .pre .0), (p .0, p .1, known-branch {q = q} (p .1) s t (p .2) (a .layout .terms) (sym (terms-said (a .layout) (a .query .now) (p .0))) (c .before .before .before .before .before .before .before .before .before .before .before .before .before .before .before .before .before .before .before .sees .ensures .0) (m .0 .0) (kindOf (m .1 .0)) (m .1 .1 .0 .0) (m .1 .1 .1 .0 .0) (m .1 .1 .1 .1 .0 .0) (v .0) (pathAs (a .single) (o .rep) (o .link) (o .reach)) (o .inv .2) (o .at) here u (c .before .before .before .take .ensures .0), c .before .before .before .take .ensures .1)))
+    let after-take = c .before .before .before in let in-loop = in-loop-of-take after-take in let after-count = count-of-in-loop in-loop in
+    let after-k = k-of-count after-count in let after-sees = sees-of-count after-count in let start = start-of-sees after-sees in
+    let a = start .args in
+    let p = start .pre .1 in
+    let q = asked-of start in
+    let s = path-of start in
+    let t = seen-of after-sees in
+    let m = after-k .k .given .0 in
+    let v = seen-as q t (after-sees .sees .result) (seen.Applying (m .0) (m .1 .0) (m .1 .1 .0) (m .1 .1 .1 .0) (m .1 .1 .1 .1 .0)) (after-sees .sees .ensures .1) (after-k .k .given .1) in
+    let o = in-loop .before .loop in
+    let here = subst (λ (j : ℕ). o .at < j) (after-count .count .ensures) (in-loop .loop-test .taken) in
+    let e = after-take .take .last in
+    let u = pathAs (a .single) (e .1 .0) (e .1 .1 .0) (e .1 .1 .1 .0) in (
+      fewer-left (a .left) _ (after-count .before .if1 .left) (start .pre .0),
+      (
+        p .0,
+        p .1,
+        known-branch {q = q} (p .1) s t (p .2) (a .layout .terms) (sym (terms-said (a .layout) (a .query .now) (p .0)))
+            (after-sees .sees .ensures .0) (m .0 .0) (kindOf (m .1 .0)) (m .1 .1 .0 .0) (m .1 .1 .1 .0 .0) (m .1 .1 .1 .1 .0 .0) (v .0)
+            (pathAs (a .single) (o .rep) (o .link) (o .reach)) (o .inv .2) (o .at) here u (after-take .take .ensures .0),
+        after-take .take .ensures .1,
+      ),
+    ))
     -- is-refuted-requires
     (λ c κs. search needs)
     -- returns-5
     (λ c.
-    let a = c .before .before .before .before .before .before .before .before .before .before .before .before .before .before .before .before .before .before .before .before .before .before .before .before .before .before .before .args in
-    let p = c .before .before .before .before .before .before .before .before .before .before .before .before .before .before .before .before .before .before .before .before .before .before .before .before .before .before .before .pre .1 in
-    let q = said (a .layout) (a .query .now) in
-    let s = pathAs (a .single) (a .rep .now) (a .link .now) (a .reach .now) in
-    let r = c .before .before .before .before .before .before .before .before .before .before .before .before .before .before .before .before .before .before .before .before .before .before .sees .last in
-    let t = pathAs (a .single) (a .rep .now) (a .link .now) (r .1 .1 .1 .1 .1 .1 .0) in
-    let m = c .before .before .before .before .before .before .before .before .before .before .before .before .before .before .before .before .before .before .before .before .k .given .0 in
-    let v = seen-as q t (c .before .before .before .before .before .before .before .before .before .before .before .before .before .before .before .before .before .before .before .before .before .before .sees .result) (seen.Applying (m .0) (m .1 .0) (m .1 .1 .0) (m .1 .1 .1 .0) (m .1 .1 .1 .1 .0)) (c .before .before .before .before .before .before .before .before .before .before .before .before .before .before .before .before .before .before .before .before .before .before .sees .ensures .1) (c .before .before .before .before .before .before .before .before .before .before .before .before .before .before .before .before .before .before .before .before .k .given .1) in
-    let o = c .before .before .before .before .before .before .before .before .before .before .before .before .before .before .before .loop in
-    let here = subst (λ (j : ℕ). o .at < j) (c .before .before .before .before .before .before .before .before .before .before .before .before .before .before .before .before .before .count .ensures) (c .before .before .before .before .before .before .before .before .before .before .before .before .before .before .loop-test .taken) in
-    let e = c .before .before .before .before .before .before .take .last in
+    let after-search-in = c .before .before in let after-take = take-of-search-in after-search-in in let in-loop = in-loop-of-take after-take in
+    let after-count = count-of-in-loop in-loop in let after-k = k-of-count after-count in let after-sees = sees-of-count after-count in
+    let start = start-of-sees after-sees in
+    let a = start .args in
+    let p = start .pre .1 in
+    let q = asked-of start in
+    let s = path-of start in
+    let t = seen-of after-sees in
+    let m = after-k .k .given .0 in
+    let v = seen-as q t (after-sees .sees .result) (seen.Applying (m .0) (m .1 .0) (m .1 .1 .0) (m .1 .1 .1 .0) (m .1 .1 .1 .1 .0)) (after-sees .sees .ensures .1) (after-k .k .given .1) in
+    let o = in-loop .before .loop in
+    let here = subst (λ (j : ℕ). o .at < j) (after-count .count .ensures) (in-loop .loop-test .taken) in
+    let e = after-take .take .last in
     let u = pathAs (a .single) (e .1 .0) (e .1 .1 .0) (e .1 .1 .1 .0) in
-    let f = c .before .before .search-in .last in
-    let w = pathAs (a .single) (f .1 .1 .1 .1 .1 .0) (f .1 .1 .1 .1 .1 .1 .0) (f .1 .1 .1 .1 .1 .1 .1 .0) in
-    (ends-as q s w u (c .before .before .search-in .result .kind) (c .before .before .search-in .ensures .0) (tells-branch {q = q} (p .1) s t (p .2) (a .layout .terms) (sym (terms-said (a .layout) (a .query .now) (p .0))) (c .before .before .before .before .before .before .before .before .before .before .before .before .before .before .before .before .before .before .before .before .before .before .sees .ensures .0) (m .0 .0) (kindOf (m .1 .0)) (m .1 .1 .0 .0) (m .1 .1 .1 .0 .0) (m .1 .1 .1 .1 .0 .0) (v .0) (pathAs (a .single) (o .rep) (o .link) (o .reach)) (o .inv .2) (o .at) here u (c .before .before .before .before .before .before .take .ensures .0) (c .before .before .search-in .result .kind) (c .before .before .search-in .ensures .0 .tells) (sym (c .before .is-refuted .ensures) ∙ not-true _ (c .if3 .taken))), c .before .before .search-in .ensures .1))
+    let f = after-search-in .search-in .last in
+    let w = pathAs (a .single) (f .1 .1 .1 .1 .1 .0) (f .1 .1 .1 .1 .1 .1 .0) (f .1 .1 .1 .1 .1 .1 .1 .0) in (
+      ends-as q s w u (after-search-in .search-in .result .kind) (after-search-in .search-in .ensures .0)
+          (tells-branch {q = q} (p .1) s t (p .2) (a .layout .terms) (sym (terms-said (a .layout) (a .query .now) (p .0))) (after-sees .sees .ensures .0)
+          (m .0 .0) (kindOf (m .1 .0)) (m .1 .1 .0 .0) (m .1 .1 .1 .0 .0) (m .1 .1 .1 .1 .0 .0) (v .0) (pathAs (a .single) (o .rep) (o .link) (o .reach))
+          (o .inv .2) (o .at) here u (after-take .take .ensures .0) (after-search-in .search-in .result .kind)
+          (after-search-in .search-in .ensures .0 .tells) (sym (c .before .is-refuted .ensures) ∙ not-true _ (c .if3 .taken))),
+      after-search-in .search-in .ensures .1,
+    ))
     -- add-at
     (λ c.
-    let a = c .before .before .before .before .before .before .before .before .before .before .before .before .before .before .before .before .before .before .before .before .before .before .before .before .before .before .before .args in
-    let p = c .before .before .before .before .before .before .before .before .before .before .before .before .before .before .before .before .before .before .before .before .before .before .before .before .before .before .before .pre .1 in
-    let q = said (a .layout) (a .query .now) in
-    let s = pathAs (a .single) (a .rep .now) (a .link .now) (a .reach .now) in
-    let r = c .before .before .before .before .before .before .before .before .before .before .before .before .before .before .before .before .before .before .before .before .before .before .sees .last in
-    let t = pathAs (a .single) (a .rep .now) (a .link .now) (r .1 .1 .1 .1 .1 .1 .0) in
-    let m = c .before .before .before .before .before .before .before .before .before .before .before .before .before .before .before .before .before .before .before .before .k .given .0 in
-    let v = seen-as q t (c .before .before .before .before .before .before .before .before .before .before .before .before .before .before .before .before .before .before .before .before .before .before .sees .result) (seen.Applying (m .0) (m .1 .0) (m .1 .1 .0) (m .1 .1 .1 .0) (m .1 .1 .1 .1 .0)) (c .before .before .before .before .before .before .before .before .before .before .before .before .before .before .before .before .before .before .before .before .before .before .sees .ensures .1) (c .before .before .before .before .before .before .before .before .before .before .before .before .before .before .before .before .before .before .before .before .k .given .1) in
-    let b = c .before .before .before .before .before .before .before .before .before .before .before .before .before .before .loop-test .taken in
-    omega (arith, b, c .before .before .before .before .before .before .before .before .before .before .before .before .before .before .before .before .before .count .ensures, count-few (kindOf (m .1 .0)) (m .1 .1 .1 .1 .0 .0) (v .3)))
+    let in-loop = in-loop-of-take (take-of-search-in (c .before .before)) in let after-count = count-of-in-loop in-loop in
+    let after-k = k-of-count after-count in let after-sees = sees-of-count after-count in let start = start-of-sees after-sees in
+    let a = start .args in
+    let p = start .pre .1 in
+    let q = asked-of start in
+    let s = path-of start in
+    let t = seen-of after-sees in
+    let m = after-k .k .given .0 in
+    let v = seen-as q t (after-sees .sees .result) (seen.Applying (m .0) (m .1 .0) (m .1 .1 .0) (m .1 .1 .1 .0) (m .1 .1 .1 .1 .0)) (after-sees .sees .ensures .1) (after-k .k .given .1) in
+    let b = in-loop .loop-test .taken in
+    omega (arith, b, after-count .count .ensures, count-few (kindOf (m .1 .0)) (m .1 .1 .1 .1 .0 .0) (v .3)))
     -- loop-less
-    (λ c. let b = c .before .before .before .before .before .before .before .before .before .before .before .before .before .before .loop-test .taken in omega arith)
+    (λ c. let b = in-loop-of-take (take-of-search-in (c .before .before)) .loop-test .taken in omega arith)
     -- loop-again
     (λ c.
-    let a = c .before .before .before .before .before .before .before .before .before .before .before .before .before .before .before .before .before .before .before .before .before .before .before .before .before .before .before .args in
-    let p = c .before .before .before .before .before .before .before .before .before .before .before .before .before .before .before .before .before .before .before .before .before .before .before .before .before .before .before .pre .1 in
-    let q = said (a .layout) (a .query .now) in
-    let s = pathAs (a .single) (a .rep .now) (a .link .now) (a .reach .now) in
-    let r = c .before .before .before .before .before .before .before .before .before .before .before .before .before .before .before .before .before .before .before .before .before .before .sees .last in
-    let t = pathAs (a .single) (a .rep .now) (a .link .now) (r .1 .1 .1 .1 .1 .1 .0) in
-    let m = c .before .before .before .before .before .before .before .before .before .before .before .before .before .before .before .before .before .before .before .before .k .given .0 in
-    let v = seen-as q t (c .before .before .before .before .before .before .before .before .before .before .before .before .before .before .before .before .before .before .before .before .before .before .sees .result) (seen.Applying (m .0) (m .1 .0) (m .1 .1 .0) (m .1 .1 .1 .0) (m .1 .1 .1 .1 .0)) (c .before .before .before .before .before .before .before .before .before .before .before .before .before .before .before .before .before .before .before .before .before .before .sees .ensures .1) (c .before .before .before .before .before .before .before .before .before .before .before .before .before .before .before .before .before .before .before .before .k .given .1) in
-    let o = c .before .before .before .before .before .before .before .before .before .before .before .before .before .before .before .loop in
-    let here = subst (λ (j : ℕ). o .at < j) (c .before .before .before .before .before .before .before .before .before .before .before .before .before .before .before .before .before .count .ensures) (c .before .before .before .before .before .before .before .before .before .before .before .before .before .before .loop-test .taken) in
-    let e = c .before .before .before .before .before .before .take .last in
+    let after-search-in = c .before .before in let after-take = take-of-search-in after-search-in in let in-loop = in-loop-of-take after-take in
+    let after-count = count-of-in-loop in-loop in let after-k = k-of-count after-count in let after-sees = sees-of-count after-count in
+    let start = start-of-sees after-sees in
+    let a = start .args in
+    let p = start .pre .1 in
+    let q = asked-of start in
+    let s = path-of start in
+    let t = seen-of after-sees in
+    let m = after-k .k .given .0 in
+    let v = seen-as q t (after-sees .sees .result) (seen.Applying (m .0) (m .1 .0) (m .1 .1 .0) (m .1 .1 .1 .0) (m .1 .1 .1 .1 .0)) (after-sees .sees .ensures .1) (after-k .k .given .1) in
+    let o = in-loop .before .loop in
+    let here = subst (λ (j : ℕ). o .at < j) (after-count .count .ensures) (in-loop .loop-test .taken) in
+    let e = after-take .take .last in
     let u = pathAs (a .single) (e .1 .0) (e .1 .1 .0) (e .1 .1 .1 .0) in
-    let b = c .before .before .before .before .before .before .before .before .before .before .before .before .before .before .loop-test .taken in
-    (omega arith, struck-more {q = q} (p .1) s t (p .2) (a .layout .terms) (sym (terms-said (a .layout) (a .query .now) (p .0))) (c .before .before .before .before .before .before .before .before .before .before .before .before .before .before .before .before .before .before .before .before .before .before .sees .ensures .0) (m .0 .0) (kindOf (m .1 .0)) (m .1 .1 .0 .0) (m .1 .1 .1 .0 .0) (m .1 .1 .1 .1 .0 .0) (v .0) (pathAs (a .single) (o .rep) (o .link) (o .reach)) (o .inv .2) (o .at) here u (c .before .before .before .before .before .before .take .ensures .0) (o .inv .1) (c .before .before .search-in .result .kind) (c .before .before .search-in .ensures .0 .tells) (sym (c .before .is-refuted .ensures) ∙ not-false _ (c .if3 .left)), o .inv .2, o .inv .3))
+    let b = in-loop .loop-test .taken in (
+      omega arith,
+      struck-more {q = q} (p .1) s t (p .2) (a .layout .terms) (sym (terms-said (a .layout) (a .query .now) (p .0)))
+          (after-sees .sees .ensures .0) (m .0 .0) (kindOf (m .1 .0)) (m .1 .1 .0 .0) (m .1 .1 .1 .0 .0) (m .1 .1 .1 .1 .0 .0) (v .0)
+          (pathAs (a .single) (o .rep) (o .link) (o .reach)) (o .inv .2) (o .at) here u (after-take .take .ensures .0) (o .inv .1)
+          (after-search-in .search-in .result .kind) (after-search-in .search-in .ensures .0 .tells)
+          (sym (c .before .is-refuted .ensures) ∙ not-false _ (c .if3 .left)),
+      o .inv .2,
+      o .inv .3,
+    ))
     -- returns-6
     (λ c.
-    let a = c .before .before .before .before .before .before .before .before .before .before .before .before .before .args in
-    let p = c .before .before .before .before .before .before .before .before .before .before .before .before .before .pre .1 in
-    let q = said (a .layout) (a .query .now) in
-    let s = pathAs (a .single) (a .rep .now) (a .link .now) (a .reach .now) in
-    let r = c .before .before .before .before .before .before .before .before .sees .last in
-    let t = pathAs (a .single) (a .rep .now) (a .link .now) (r .1 .1 .1 .1 .1 .1 .0) in
-    let m = c .before .before .before .before .before .before .k .given .0 in
-    let v = seen-as q t (c .before .before .before .before .before .before .before .before .sees .result) (seen.Applying (m .0) (m .1 .0) (m .1 .1 .0) (m .1 .1 .1 .0) (m .1 .1 .1 .1 .0)) (c .before .before .before .before .before .before .before .before .sees .ensures .1) (c .before .before .before .before .before .before .k .given .1) in
-    let o = c .before .loop in
-    (ends-refuted q s (pathAs (a .single) (o .rep) (o .link) (o .reach)) (tells-struck {q = q} (p .1) s t (p .2) (a .layout .terms) (sym (terms-said (a .layout) (a .query .now) (p .0))) (c .before .before .before .before .before .before .before .before .sees .ensures .0) (m .0 .0) (kindOf (m .1 .0)) (m .1 .1 .0 .0) (m .1 .1 .1 .0 .0) (m .1 .1 .1 .1 .0 .0) (v .0) (o .at) (o .inv .1) (subst (λ (j : ℕ). j ≤ o .at) (c .before .before .before .count .ensures) (c .loop-test .left))), o .inv .3))
+    let after-count = c .before .before .before in let after-k = k-of-count after-count in let after-sees = sees-of-count after-count in
+    let start = start-of-sees after-sees in
+    let a = start .args in
+    let p = start .pre .1 in
+    let q = asked-of start in
+    let s = path-of start in
+    let t = seen-of after-sees in
+    let m = after-k .k .given .0 in
+    let v = seen-as q t (after-sees .sees .result) (seen.Applying (m .0) (m .1 .0) (m .1 .1 .0) (m .1 .1 .1 .0) (m .1 .1 .1 .1 .0)) (after-sees .sees .ensures .1) (after-k .k .given .1) in
+    let o = c .before .loop in (
+      ends-refuted q s (pathAs (a .single) (o .rep) (o .link) (o .reach))
+          (tells-struck {q = q} (p .1) s t (p .2) (a .layout .terms) (sym (terms-said (a .layout) (a .query .now) (p .0))) (after-sees .sees .ensures .0)
+          (m .0 .0) (kindOf (m .1 .0)) (m .1 .1 .0 .0) (m .1 .1 .1 .0 .0) (m .1 .1 .1 .1 .0 .0) (v .0) (o .at) (o .inv .1)
+          (subst (λ (j : ℕ). j ≤ o .at) (after-count .count .ensures) (c .loop-test .left))),
+      o .inv .3,
+    ))

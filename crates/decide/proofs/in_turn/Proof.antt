@@ -7,10 +7,10 @@ use Rattle.decide.proofs.in_turn.Statement.{statement}
 use Rattle.decide.proofs.in_turn.Tie as tie
 
 abbrev Inv-loop : tie.InvT-loop
-Inv-loop query layout s first budget₀ turn₀ budget turn = turn ≤ 48
+Inv-loop query layout s first budget₀ turn₀ budget turn = turn ≤ 60
 
 abbrev μ-loop : tie.MeasureT-loop
-μ-loop query layout s first budget₀ turn₀ budget turn = 48 - turn
+μ-loop query layout s first budget₀ turn₀ budget turn = 60 - turn
 
 pub in-turn-spec : {M : Type 1} → statement M
 in-turn-spec =
@@ -32,8 +32,8 @@ in-turn-spec =
     (λ c. c .before .before .before .search2 .ensures)
     -- loop-holds
     (λ c. omega arith)
-    -- add-how
-    (λ c. omega arith)
+    -- strategy-requires
+    (λ c κs. search needs)
     -- search-requires-3
     (λ c κs. search needs)
     -- is-unknown-requires-3

@@ -6,7 +6,9 @@ use Rattle.facts.specs.Path.{pathOf, Whole}
 use Rattle.decide.proofs.search.Kinds as kinds
 use Rattle.decide.proofs.search.Reads as reads
 use Rattle.decide.proofs.search.Lts as lts
+use Rattle.backjumping.proofs.search.Reads as searched-reads
 use Rattle.decide.proofs.search_in.Reads as search-in-reads
+use Rattle.decide.proofs.Tells.{ends-found}
 use Rattle.decide.proofs.search.Statement.{statement}
 use Rattle.decide.proofs.search.Tie as tie
 
@@ -20,7 +22,15 @@ unfolding pathOf
 search-spec =
     tie.close
     (tie.spec
-    -- search-in-requires
-    (λ c κs. let p = c .before .before .before .before .before .before .before .pre in (p .0, p .1, p .2, whole (c .before .before .before .before .before .before .before .κs) (lts.dens (search-in-reads.Asked, search-in-reads.Learnt) reads.Pre reads.Post (c .before .before .before .before .before .before .before .κs) (c .before .before .before .before .before .before .before .args)) (c .before .before .before .before .before .before .before .good)))
+    -- search-requires
+    (λ c κs. c .before .before .pre)
     -- returns
+    (λ c. ends-found _ _ _ _ (c .before .search .ensures))
+    -- search-in-requires
+    (λ c κs.
+    let begun = c .before .before .before .before .before .before .before .before in
+    let p = begun .pre in
+    let a = lts.dens (searched-reads.Asked, searched-reads.Learnt, search-in-reads.Asked, search-in-reads.Learnt) reads.Pre reads.Post (begun .κs) (begun .args) in
+    (p .0, p .1, p .2, whole (begun .κs) a (begun .good)))
+    -- returns-2
     (λ c. c .search-in .ensures .0))

@@ -23,18 +23,26 @@ begins-spec =
     -- loop-holds
     (λ c. (omega arith, refl))
     -- returns
-    (λ c. sym (begins-short _ _ (c .before .before .loop .i) (c .before .loop-test .taken) (c .if1 .taken)) ∙ c .before .before .loop .inv .1)
+    (λ c.
+    let at-loop = c .before .before in
+    sym (begins-short _ _ (at-loop .loop .i) (c .before .loop-test .taken) (c .if1 .taken)) ∙ at-loop .loop .inv .1)
     -- shared-slice-read-if2
     (λ c. omega arith)
     -- shared-slice-read-if2-2
     (λ c. omega arith)
     -- returns-2
-    (λ c. sym (begins-other _ _ (c .before .before .before .before .before .loop .i) (c .before .before .before .before .loop-test .taken) (omega (arith, c .before .before .before .if1 .left)) (c .if2 .taken)) ∙ c .before .before .before .before .before .loop .inv .1)
+    (λ c.
+    let else1 = c .before .before .before in let in-loop = else1 .before in let at-loop = in-loop .before in
+    sym (begins-other _ _ (at-loop .loop .i) (in-loop .loop-test .taken) (omega (arith, else1 .if1 .left)) (c .if2 .taken)) ∙ at-loop .loop .inv .1)
     -- add-i
     (λ c. omega arith)
     -- loop-less
     (λ c. omega arith)
     -- loop-again
-    (λ c. (omega arith, sym (begins-next _ _ (c .before .before .before .before .before .loop .i) (c .before .before .before .before .loop-test .taken) (omega (arith, c .before .before .before .if1 .left)) (c .if2 .left)) ∙ c .before .before .before .before .before .loop .inv .1))
+    (λ c.
+    let else1 = c .before .before .before in let in-loop = else1 .before in let at-loop = in-loop .before in
+    (omega arith, sym (begins-next _ _ (at-loop .loop .i) (in-loop .loop-test .taken) (omega (arith, else1 .if1 .left)) (c .if2 .left)) ∙ at-loop .loop .inv .1))
     -- returns-3
-    (λ c. sym (begins-end _ _ (c .before .loop .i) (omega arith)) ∙ c .before .loop .inv .1))
+    (λ c.
+    let at-loop = c .before in
+    sym (begins-end _ _ (at-loop .loop .i) (omega arith)) ∙ at-loop .loop .inv .1))

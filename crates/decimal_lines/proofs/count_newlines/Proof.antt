@@ -15,6 +15,11 @@ Inv-loop text count₀ i₀ count i = (i ≤ length text) × (count ≤ i) × (c
 abbrev μ-loop : tie.MeasureT-loop
 μ-loop text count₀ i₀ count i = length text - i
 
+-- The places that lie behind a place.
+
+abbrev start-of-at-loop : tie.At-loop Inv-loop μ-loop → tie.Start Inv-loop μ-loop
+start-of-at-loop c = c .before .before
+
 pub count-newlines-spec : {M : Type 1} → statement M
 count-newlines-spec =
     tie.close
@@ -34,6 +39,8 @@ count-newlines-spec =
     -- loop-less
     (λ c. omega arith)
     -- loop-again
-    (λ c. (omega arith, omega (arith, c .newline .ensures .1), omega (arith, newline-next (c .before .before .before .before .before .args .text .now) (c .before .before .before .loop .i) (omega arith), c .newline .ensures .0)))
+    (λ c.
+    let at-loop = c .before .before .before in
+    (omega arith, omega (arith, c .newline .ensures .1), omega (arith, newline-next (start-of-at-loop at-loop .args .text .now) (at-loop .loop .i) (omega arith), c .newline .ensures .0)))
     -- returns
-    (λ c. omega (arith, newline-end (c .before .before .before .args .text .now) (c .before .loop .i) (omega arith))))
+    (λ c. omega (arith, newline-end (start-of-at-loop (c .before) .args .text .now) (c .before .loop .i) (omega arith))))

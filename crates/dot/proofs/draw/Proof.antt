@@ -11,6 +11,14 @@ use Rattle.dot_text.specs.Parts.{head, nodes, arrows}
 use Rattle.dot.proofs.draw.Statement.{statement}
 use Rattle.dot.proofs.draw.Tie as tie
 
+-- The places that lie behind a place.
+
+abbrev draw-of-slice-known2 : tie.After-slice-known2 → tie.After-draw
+draw-of-slice-known2 c = c .before .before
+
+abbrev start-of-draw-arg2 : tie.After-draw-arg2 → tie.Start
+start-of-draw-arg2 c = c .before .before .before .before
+
 module _ (report : List ℕ) where
   parts : head report ++ (nodes report ++ (arrows report ++ closing)) ≡ text report
   unfolding text
@@ -32,8 +40,12 @@ draw-spec =
     -- slice-aggregate-draw
     (λ c. search needs)
     -- draw-requires
-    (λ c κs. omega (arith, c .before .before .before .before .pre, sizes (c .before .before .before .before .args .report .now)))
+    (λ c κs.
+    let start = start-of-draw-arg2 c in
+    omega (arith, start .pre, sizes (start .args .report .now)))
     -- same-length
     (λ c. search needs)
     -- returns
-    (λ c. writes-as (parts (c .before .before .before .before .before .before .before .args .report .now)) (c .before .before .draw .ensures)))
+    (λ c.
+    let after-draw = draw-of-slice-known2 c in
+    writes-as (parts (start-of-draw-arg2 (after-draw .before) .args .report .now)) (after-draw .draw .ensures)))

@@ -10,13 +10,24 @@ use Rattle.drawing.specs.Text.{arrow, lineEnd, arrowLine}
 use Rattle.dot_lines.proofs.draw_arrow.Statement.{statement}
 use Rattle.dot_lines.proofs.draw_arrow.Tie as tie
 
+-- The places that lie behind a place.
+
+abbrev add-two-of-slice-known2 : tie.After-slice-known2 → tie.After-add-two
+add-two-of-slice-known2 c = c .before .before
+
+abbrev link-in-of-add-two-arg3 : tie.After-add-two-arg3 → tie.After-link-in
+link-in-of-add-two-arg3 c = c .before .before .before
+
+abbrev start-of-link-in : tie.After-link-in → tie.Start
+start-of-link-in c = c .before .before .before
+
 -- returns
 returns : tie.Need-returns
 unfolding arrowLine
 returns c =
-    let start = c .before .before .before .before .before .before .before .before .before in
-    let link = c .before .before .before .before .before .before .link-in in
-    writes-as (ap (λ (k : ℕ). decimal (start .args .v .0) ++ (arrow ++ (decimal k ++ lineEnd))) (link .ensures)) (c .before .before .add-two .ensures)
+    let after-add-two = add-two-of-slice-known2 c in let after-link-in = link-in-of-add-two-arg3 (after-add-two .before) in
+    let link = after-link-in .link-in in
+    writes-as (ap (λ (k : ℕ). decimal (start-of-link-in after-link-in .args .v .0) ++ (arrow ++ (decimal k ++ lineEnd))) (link .ensures)) (after-add-two .add-two .ensures)
 
 pub draw-arrow-spec : {M : Type 1} → statement M
 draw-arrow-spec =
@@ -29,7 +40,7 @@ draw-arrow-spec =
     -- slice-aggregate-add-two-2
     (λ c. search needs)
     -- add-two-requires
-    (λ c κs. omega (arith, c .before .before .before .before .before .before .pre))
+    (λ c κs. omega (arith, start-of-link-in (link-in-of-add-two-arg3 c) .pre))
     -- same-length
     (λ c. search needs)
     returns)

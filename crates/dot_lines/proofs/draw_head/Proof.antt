@@ -9,10 +9,17 @@ use Rattle.drawing.specs.Text.{opening, commentOpen, newline, commentLine}
 use Rattle.dot_lines.proofs.draw_head.Statement.{statement}
 use Rattle.dot_lines.proofs.draw_head.Tie as tie
 
+-- The places that lie behind a place.
+
+abbrev add-of-slice-known2 : tie.After-slice-known2 → tie.After-add
+add-of-slice-known2 c = c .before .before
+
 -- returns
 returns : tie.Need-returns
 unfolding commentLine
-returns c = writes-as (ap (λ (k : ℕ). opening ++ (commentOpen ++ (decimal k ++ newline))) (c .before .before .before .before .booleans-in .ensures)) (c .before .before .add .ensures)
+returns c =
+    let after-add = add-of-slice-known2 c in
+    writes-as (ap (λ (k : ℕ). opening ++ (commentOpen ++ (decimal k ++ newline))) (after-add .before .before .booleans-in .ensures)) (after-add .add .ensures)
 
 pub draw-head-spec : {M : Type 1} → statement M
 draw-head-spec =

@@ -12,6 +12,23 @@ use Rattle.drawing.specs.Text.{datumIn, labelOpen, labelClose, slash, listed, t
 use Rattle.dot_lines.proofs.draw_node.Statement.{statement}
 use Rattle.dot_lines.proofs.draw_node.Tie as tie
 
+-- The places that lie behind a place.
+
+abbrev add2-of-slice-known4 : tie.After-slice-known4 → tie.After-add2
+add2-of-slice-known4 c = c .before .before
+
+abbrev start-of-datum-in : tie.After-datum-in → tie.Start
+start-of-datum-in c = c .before .before .before
+
+abbrev add-of-draw-terms-arg : tie.After-draw-terms-arg → tie.After-add
+add-of-draw-terms-arg c = c .before .before .before
+
+abbrev datum-in-of-add : tie.After-add → tie.After-datum-in
+datum-in-of-add c = c .before .before .before .before
+
+abbrev draw-terms-of-add-arg6 : tie.After-add-arg6 → tie.After-draw-terms
+draw-terms-of-add-arg6 c = c .before .before .before .before .before
+
 -- the parts of a line, and how long they are
 module _ (report : List ℕ) (v : ℕ) where
   abbrev names : List ℕ
@@ -31,28 +48,32 @@ module _ (report : List ℕ) (v : ℕ) where
 -- draw-terms-requires
 draw-terms-requires : tie.Need-draw-terms-requires
 draw-terms-requires c κs =
-    let start = c .before .before .before .before .before .before .before .before .before .before in
-    let read = c .before .before .before .before .before .before .before .datum-in in
-    omega (arith, start .pre .1, c .before .before .before .add .ensures .ends, sizes (start .args .report .now) (start .args .v .0) _ (read .ensures))
+    let after-add = add-of-draw-terms-arg c in let after-datum-in = datum-in-of-add after-add in
+    let the-start = start-of-datum-in after-datum-in in
+    let read = after-datum-in .datum-in in
+    omega (arith, the-start .pre .1, after-add .add .ensures .ends, sizes (the-start .args .report .now) (the-start .args .v .0) _ (read .ensures))
 
 -- add-requires-2
 add-requires-2 : tie.Need-add-requires-2
 add-requires-2 c κs =
-    let start = c .before .before .before .before .before .before .before .before .before .before .before .before .before .before .before .before in
-    let first = c .before .before .before .before .before .before .before .before .before .add in
-    let terms = c .before .before .before .before .before .draw-terms in
-    let read = c .before .before .before .before .before .before .before .before .before .before .before .before .before .datum-in in
-    omega (arith, start .pre .1, first .ensures .ends, terms .ensures .ends, sizes (start .args .report .now) (start .args .v .0) _ (read .ensures))
+    let after-draw-terms = draw-terms-of-add-arg6 c in let after-add = add-of-draw-terms-arg (after-draw-terms .before) in
+    let after-datum-in = datum-in-of-add after-add in let the-start = start-of-datum-in after-datum-in in
+    let first = after-add .add in
+    let terms = after-draw-terms .draw-terms in
+    let read = after-datum-in .datum-in in
+    omega (arith, the-start .pre .1, first .ensures .ends, terms .ensures .ends, sizes (the-start .args .report .now) (the-start .args .v .0) _ (read .ensures))
 
 -- returns
 returns : tie.Need-returns
 returns c =
-    let start = c .before .before .before .before .before .before .before .before .before .before .before .before .before .before .before .before .before .before .before in
-    let first = c .before .before .before .before .before .before .before .before .before .before .before .before .add in
-    let terms = c .before .before .before .before .before .before .before .before .draw-terms in
-    let read = c .before .before .before .before .before .before .before .before .before .before .before .before .before .before .before .before .datum-in in
-    writes-as (parts (start .args .report .now) (start .args .v .0) _ (read .ensures))
-    (writes-then (first .ensures) (writes-then (terms .ensures) (c .before .before .add2 .ensures)))
+    let after-add2 = add2-of-slice-known4 c in let after-draw-terms = draw-terms-of-add-arg6 (after-add2 .before) in
+    let after-add = add-of-draw-terms-arg (after-draw-terms .before) in let after-datum-in = datum-in-of-add after-add in
+    let the-start = start-of-datum-in after-datum-in in
+    let first = after-add .add in
+    let terms = after-draw-terms .draw-terms in
+    let read = after-datum-in .datum-in in
+    writes-as (parts (the-start .args .report .now) (the-start .args .v .0) _ (read .ensures))
+    (writes-then (first .ensures) (writes-then (terms .ensures) (after-add2 .add2 .ensures)))
 
 pub draw-node-spec : {M : Type 1} → statement M
 draw-node-spec =

@@ -10,18 +10,30 @@ use Rattle.drawing.specs.Text.{blank}
 use Rattle.dot_lines.proofs.draw_term.Statement.{statement}
 use Rattle.dot_lines.proofs.draw_term.Tie as tie
 
+-- The places that lie behind a place.
+
+abbrev add2-of-slice-known3 : tie.After-slice-known3 → tie.After-add2
+add2-of-slice-known3 c = c .before .before
+
+abbrev add-of-slice-known2 : tie.After-slice-known2 → tie.After-add
+add-of-slice-known2 c = c .before .before
+
+abbrev then1-of-slice-known2 : tie.After-slice-known2 → tie.Then1
+then1-of-slice-known2 c = add-of-slice-known2 c .before .before .before .before
+
+abbrev else1-of-slice-known3 : tie.After-slice-known3 → tie.Else1
+else1-of-slice-known3 c = add2-of-slice-known3 c .before .before .before .before
+
 -- returns
 returns : tie.Need-returns
 returns c =
-    let start = c .before .before .before .before .before .before .before .before in
-    rw (c .before .before .before .before .before .before .if1 .taken) (writes-as (append-nil (decimal (start .args .t .0))) (c .before .before .add .ensures))
+    rw (then1-of-slice-known2 c .if1 .taken) (writes-as (append-nil (decimal (then1-of-slice-known2 c .before .before .args .t .0))) (add-of-slice-known2 c .add .ensures))
 
 -- returns-2
 returns-2 : tie.Need-returns-2
 returns-2 c =
-    let start = c .before .before .before .before .before .before .before .before in
-    let came = c .before .before .before .before .before .before .if1 in
-    rw (came .left) (writes-as (ap (λ (xs : List ℕ). blank false ++ xs) (append-nil (decimal (start .args .t .0)))) (c .before .before .add2 .ensures))
+    let came = else1-of-slice-known3 c .if1 in
+    rw (came .left) (writes-as (ap (λ (xs : List ℕ). blank false ++ xs) (append-nil (decimal (else1-of-slice-known3 c .before .before .args .t .0)))) (add2-of-slice-known3 c .add2 .ensures))
 
 pub draw-term-spec : {M : Type 1} → statement M
 draw-term-spec =

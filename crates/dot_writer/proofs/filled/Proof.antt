@@ -1,4 +1,5 @@
--- `dot_writer::filled` meets its contract: a walk of its MIR, by hand. The struct is passed into a local, and the number is read from there. The borrow inside it is not opened, so at exit it is at the list that it was passed at.
+-- `dot_writer::filled` meets its contract: a walk of its MIR, by hand. The struct is passed into a local, and the number is read from there. The
+-- borrow inside it is not opened, so at exit it is at the list that it was passed at.
 -- Assumes nothing.
 use mathlib.Core.Path.{refl}
 use Prim.Native.Nat.{ℕ, _<_, _^_}
@@ -64,7 +65,8 @@ module _ {M : Type 1} (𝓤 : URA M) (H : Heap 𝓤) (A : Atoms 𝓤) (W : Given
   exits : n < 2 ^ 64 → ent 𝓤 (onEntry 𝓤 H A filled.signature (κ, tt) (q, tt) (h, tt) vals) (Post (vint w64 n))
   exits fits =
       qed W ((‵ (flft κ q) ⊛ ‵ ftrue) ∷ ‵ (owns (T.the-row α ∷ []) (h, tt) vals) ∷ []) ∵
-      suffices ! _ (ends-at 𝓤 H A filled.ended stayed (filled.clauses 𝓤 H A mem run) W (((κ, tt), (q, tt), tt, (h, tt), vals), tt) (vint w64 n) n ((ys, tt), tt) ((refl, (tt, tt)), tt)) $ says ! (refl, refl) $
+      suffices ! _ (ends-at 𝓤 H A filled.ended stayed (filled.clauses 𝓤 H A mem run) W (((κ, tt), (q, tt), tt, (h, tt), vals), tt) (vint w64 n) n
+      ((ys, tt), tt) ((refl, (tt, tt)), tt)) $ says ! (refl, refl) $
       frame ! $ frame ! $ owned ! usize (Is usize) (uint-makes 𝓤 H A W w64) n _ (refl, fits) $ done !
 
   module _ (C : Calls 𝓤 H) (Λ : Loops 𝓤 H) where

@@ -20,6 +20,14 @@ Inv-loop single link n t count k₀ k =
 abbrev μ-loop : tie.MeasureT-loop
 μ-loop single link n t count k₀ k = count + 1 - k
 
+-- The places that lie behind a place.
+
+abbrev at-loop-of-first-two : tie.After-first-two Inv-loop μ-loop → tie.At-loop Inv-loop μ-loop
+at-loop-of-first-two c = c .before .before
+
+abbrev first-two-of-enum-told : tie.After-enum-told Inv-loop μ-loop → tie.After-first-two Inv-loop μ-loop
+first-two-of-enum-told c = c .before .before
+
 pub first-two-of-spec : {M : Type 1} → statement M
 unfolding twoIn linkNumbers
 first-two-of-spec =
@@ -36,7 +44,9 @@ first-two-of-spec =
     -- enum-known-a
     (λ c. search needs)
     -- returns
-    (λ c. sym (c .before .before .before .before .before .loop .inv .0 ∙ first-here _ _ _ _ (omega arith) (sym (c .before .before .before .first-two .ensures) ∙ ap twoOf (c .before .a .given .1))))
+    (λ c.
+    let after-first-two = c .before .before .before in
+    sym (at-loop-of-first-two after-first-two .loop .inv .0 ∙ first-here _ _ _ _ (omega arith) (sym (after-first-two .first-two .ensures) ∙ ap twoOf (c .before .a .given .1))))
     -- enum-told
     (λ c. search needs)
     -- add-k
@@ -44,6 +54,8 @@ first-two-of-spec =
     -- loop-less
     (λ c. omega arith)
     -- loop-again
-    (λ c. (c .before .before .before .before .loop .inv .0 ∙ first-next _ _ _ (omega arith) (sym (c .before .before .first-two .ensures) ∙ ap twoOf (c .enum-told .given .1)), omega arith))
+    (λ c.
+    let after-first-two = first-two-of-enum-told c in
+    (at-loop-of-first-two after-first-two .loop .inv .0 ∙ first-next _ _ _ (omega arith) (sym (after-first-two .first-two .ensures) ∙ ap twoOf (c .enum-told .given .1)), omega arith))
     -- returns-2
     (λ c. sym (c .before .loop .inv .0 ∙ first-end _ _ _ (omega arith))))

@@ -18,6 +18,14 @@ Inv-loop single link n t₀ t = firstOf (twoIn n single link) (terms n) ≡ firs
 abbrev μ-loop : tie.MeasureT-loop
 μ-loop single link n t₀ t = n + 1 - t
 
+-- The places that lie behind a place.
+
+abbrev at-loop-of-first-two-of : tie.After-first-two-of Inv-loop μ-loop → tie.At-loop Inv-loop μ-loop
+at-loop-of-first-two-of c = c .before .before
+
+abbrev first-two-of-of-enum-told : tie.After-enum-told Inv-loop μ-loop → tie.After-first-two-of Inv-loop μ-loop
+first-two-of-of-enum-told c = c .before .before
+
 pub lowest-spec : {M : Type 1} → statement M
 unfolding doubledIn terms
 lowest-spec =
@@ -32,7 +40,9 @@ lowest-spec =
     -- enum-known-a
     (λ c. search needs)
     -- returns
-    (λ c. sym (c .before .before .before .before .before .loop .inv ∙ first-here _ _ _ _ (omega arith) (sym (c .before .before .before .first-two-of .ensures) ∙ ap twoOf (c .before .a .given .1))))
+    (λ c.
+    let after-first-two-of = c .before .before .before in
+    sym (at-loop-of-first-two-of after-first-two-of .loop .inv ∙ first-here _ _ _ _ (omega arith) (sym (after-first-two-of .first-two-of .ensures) ∙ ap twoOf (c .before .a .given .1))))
     -- enum-told
     (λ c. search needs)
     -- add-t
@@ -40,6 +50,8 @@ lowest-spec =
     -- loop-less
     (λ c. omega arith)
     -- loop-again
-    (λ c. c .before .before .before .before .loop .inv ∙ first-next _ _ _ (omega arith) (sym (c .before .before .first-two-of .ensures) ∙ ap twoOf (c .enum-told .given .1)))
+    (λ c.
+    let after-first-two-of = first-two-of-of-enum-told c in
+    at-loop-of-first-two-of after-first-two-of .loop .inv ∙ first-next _ _ _ (omega arith) (sym (after-first-two-of .first-two-of .ensures) ∙ ap twoOf (c .enum-told .given .1)))
     -- returns-2
     (λ c. sym (c .before .loop .inv ∙ first-end _ _ _ (omega arith))))

@@ -48,14 +48,26 @@ entry-fault-spec =
     -- literal-fault-requires-3
     (λ c κs. (omega arith, omega (arith, (rw (c .enum-told6 .given .1) at (c .before .before .before .pre)))))
     -- returns
-    (λ c. rw (c .before .enum-told .given .1) (c .term-fault .ensures ∙ sym (term-roles _ (c .before .before .before .before .args .query .now) _ _ (omega (arith, (rw (c .before .enum-told .given .1) at (c .before .before .before .before .pre)))))))
+    (λ c. rw (c .before .enum-told .given .1)
+    (c .term-fault .ensures ∙ sym (term-roles _ (c .before .before .before .before .args .query .now) _ _
+    (omega (arith, (rw (c .before .enum-told .given .1) at (c .before .before .before .before .pre)))))))
     -- returns-2
-    (λ c. rw (c .before .enum-told2 .given .1) (c .literal-fault .ensures ∙ sym (literal-roles _ (c .before .before .before .before .args .query .now) _ _ _ _ (omega (arith, (rw (c .before .enum-told2 .given .1) at (c .before .before .before .before .pre)))))))
+    (λ c. rw (c .before .enum-told2 .given .1)
+    (c .literal-fault .ensures ∙ sym (literal-roles _ (c .before .before .before .before .args .query .now) _ _ _ _
+    (omega (arith, (rw (c .before .enum-told2 .given .1) at (c .before .before .before .before .pre)))))))
     -- returns-3
-    (λ c. rw (c .before .enum-told3 .given .1) (c .literal-fault2 .ensures ∙ sym (literal-roles _ (c .before .before .before .before .args .query .now) _ _ _ _ (omega (arith, (rw (c .before .enum-told3 .given .1) at (c .before .before .before .before .pre)))))))
+    (λ c. rw (c .before .enum-told3 .given .1)
+    (c .literal-fault2 .ensures ∙ sym (literal-roles _ (c .before .before .before .before .args .query .now) _ _ _ _
+    (omega (arith, (rw (c .before .enum-told3 .given .1) at (c .before .before .before .before .pre)))))))
     -- returns-4
-    (λ c. rw (c .before .enum-told4 .given .1) (c .flag-fault .ensures ∙ sym (flag-roles _ (c .before .before .before .before .args .query .now) _ _ _ (omega (arith, (rw (c .before .enum-told4 .given .1) at (c .before .before .before .before .pre)))))))
+    (λ c. rw (c .before .enum-told4 .given .1)
+    (c .flag-fault .ensures ∙ sym (flag-roles _ (c .before .before .before .before .args .query .now) _ _ _
+    (omega (arith, (rw (c .before .enum-told4 .given .1) at (c .before .before .before .before .pre)))))))
     -- returns-5
-    (λ c. rw (c .before .enum-told5 .given .1) (c .term-fault2 .ensures ∙ sym (linked-term-roles _ (c .before .before .before .before .args .query .now) _ _ (omega (arith, (rw (c .before .enum-told5 .given .1) at (c .before .before .before .before .pre)))))))
+    (λ c. rw (c .before .enum-told5 .given .1)
+    (c .term-fault2 .ensures ∙ sym (linked-term-roles _ (c .before .before .before .before .args .query .now) _ _
+    (omega (arith, (rw (c .before .enum-told5 .given .1) at (c .before .before .before .before .pre)))))))
     -- returns-6
-    (λ c. rw (c .before .enum-told6 .given .1) (c .literal-fault3 .ensures ∙ sym (linked-pair-roles _ (c .before .before .before .before .args .query .now) _ _ _ _ (omega (arith, (rw (c .before .enum-told6 .given .1) at (c .before .before .before .before .pre))))))))
+    (λ c. rw (c .before .enum-told6 .given .1)
+    (c .literal-fault3 .ensures ∙ sym (linked-pair-roles _ (c .before .before .before .before .args .query .now) _ _ _ _
+    (omega (arith, (rw (c .before .enum-told6 .given .1) at (c .before .before .before .before .pre))))))))

@@ -9,6 +9,14 @@ use Rattle.entries.proofs.Passes.{byte-passes, flag-passes, literal-pas
 use Rattle.entries.proofs.entry_passes.Statement.{statement}
 use Rattle.entries.proofs.entry_passes.Tie as tie
 
+-- The places that lie behind a place.
+
+abbrev enum-told-of-entry-allowed : tie.After-entry-allowed → tie.After-enum-told
+enum-told-of-entry-allowed c = c .before .before
+
+abbrev enum-told5-of-entry-allowed2 : tie.After-entry-allowed2 → tie.After-enum-told5
+enum-told5-of-entry-allowed2 c = c .before .before
+
 pub entry-passes-spec : {M : Type 1} → statement M
 unfolding termRole numberRole countedRole
 entry-passes-spec =
@@ -53,14 +61,32 @@ entry-passes-spec =
     -- literal-passes-requires-3
     (λ c κs. (omega arith, omega (arith, (rw (c .enum-told6 .given .1) at (c .before .before .before .pre)))))
     -- returns
-    (λ c. rw (c .before .before .enum-told .given .1) (λ h k. term-roles k (c .before .before .before .before .before .args .query .now) _ _ (omega (arith, (rw (c .before .before .enum-told .given .1) at (c .before .before .before .before .before .pre)))) ∙ byte-passes (c .before .before .before .before .before .args .query .now) _ _ (c .entry-allowed .ensures) (c .before .byte-at .ensures) h k))
+    (λ c. rw (enum-told-of-entry-allowed c .enum-told .given .1)
+    (λ h k. term-roles k (enum-told-of-entry-allowed c .before .before .before .args .query .now) _ _
+    (omega (arith, (rw (c .before .before .enum-told .given .1) at (c .before .before .before .before .before .pre))))
+    ∙ byte-passes (enum-told-of-entry-allowed c .before .before .before .args .query .now) _ _ (c .entry-allowed .ensures) (c .before .byte-at .ensures) h k))
     -- returns-2
-    (λ c. rw (c .before .enum-told2 .given .1) (λ h k. literal-roles k (c .before .before .before .before .args .query .now) _ _ _ _ (omega (arith, (rw (c .before .enum-told2 .given .1) at (c .before .before .before .before .pre)))) ∙ literal-passes (c .before .before .before .before .args .query .now) 7 _ _ _ _ (c .literal-passes .ensures) h k))
+    (λ c. rw (c .before .enum-told2 .given .1)
+    (λ h k. literal-roles k (c .before .before .before .before .args .query .now) _ _ _ _
+    (omega (arith, (rw (c .before .enum-told2 .given .1) at (c .before .before .before .before .pre))))
+    ∙ literal-passes (c .before .before .before .before .args .query .now) 7 _ _ _ _ (c .literal-passes .ensures) h k))
     -- returns-3
-    (λ c. rw (c .before .enum-told3 .given .1) (λ h k. literal-roles k (c .before .before .before .before .args .query .now) _ _ _ _ (omega (arith, (rw (c .before .enum-told3 .given .1) at (c .before .before .before .before .pre)))) ∙ literal-passes (c .before .before .before .before .args .query .now) 8 _ _ _ _ (c .literal-passes2 .ensures) h k))
+    (λ c. rw (c .before .enum-told3 .given .1)
+    (λ h k. literal-roles k (c .before .before .before .before .args .query .now) _ _ _ _
+    (omega (arith, (rw (c .before .enum-told3 .given .1) at (c .before .before .before .before .pre))))
+    ∙ literal-passes (c .before .before .before .before .args .query .now) 8 _ _ _ _ (c .literal-passes2 .ensures) h k))
     -- returns-4
-    (λ c. rw (c .before .enum-told4 .given .1) (λ h k. flag-roles k (c .before .before .before .before .args .query .now) _ _ _ (omega (arith, (rw (c .before .enum-told4 .given .1) at (c .before .before .before .before .pre)))) ∙ flag-passes (c .before .before .before .before .args .query .now) 8 _ _ _ (c .flag-passes .ensures) h k))
+    (λ c. rw (c .before .enum-told4 .given .1)
+    (λ h k. flag-roles k (c .before .before .before .before .args .query .now) _ _ _
+    (omega (arith, (rw (c .before .enum-told4 .given .1) at (c .before .before .before .before .pre))))
+    ∙ flag-passes (c .before .before .before .before .args .query .now) 8 _ _ _ (c .flag-passes .ensures) h k))
     -- returns-5
-    (λ c. rw (c .before .before .enum-told5 .given .1) (λ h k. linked-term-roles k (c .before .before .before .before .before .args .query .now) _ _ (omega (arith, (rw (c .before .before .enum-told5 .given .1) at (c .before .before .before .before .before .pre)))) ∙ byte-passes (c .before .before .before .before .before .args .query .now) _ _ (c .entry-allowed2 .ensures) (c .before .byte-at2 .ensures) h k))
+    (λ c. rw (enum-told5-of-entry-allowed2 c .enum-told5 .given .1)
+    (λ h k. linked-term-roles k (enum-told5-of-entry-allowed2 c .before .before .before .args .query .now) _ _
+    (omega (arith, (rw (c .before .before .enum-told5 .given .1) at (c .before .before .before .before .before .pre))))
+    ∙ byte-passes (enum-told5-of-entry-allowed2 c .before .before .before .args .query .now) _ _ (c .entry-allowed2 .ensures) (c .before .byte-at2 .ensures) h k))
     -- returns-6
-    (λ c. rw (c .before .enum-told6 .given .1) (λ h k. linked-pair-roles k (c .before .before .before .before .args .query .now) _ _ _ _ (omega (arith, (rw (c .before .enum-told6 .given .1) at (c .before .before .before .before .pre)))) ∙ literal-passes (c .before .before .before .before .args .query .now) 7 _ _ _ _ (c .literal-passes3 .ensures) h k)))
+    (λ c. rw (c .before .enum-told6 .given .1)
+    (λ h k. linked-pair-roles k (c .before .before .before .before .args .query .now) _ _ _ _
+    (omega (arith, (rw (c .before .enum-told6 .given .1) at (c .before .before .before .before .pre))))
+    ∙ literal-passes (c .before .before .before .before .args .query .now) 7 _ _ _ _ (c .literal-passes3 .ensures) h k)))

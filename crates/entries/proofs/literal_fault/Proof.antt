@@ -9,6 +9,20 @@ use Rattle.entries.proofs.Faults.{tested, orElse-some, orElse-next, fau
 use Rattle.entries.proofs.literal_fault.Statement.{statement}
 use Rattle.entries.proofs.literal_fault.Tie as tie
 
+-- The places that lie behind a place.
+
+abbrev start-of-flag-fault : tie.After-flag-fault → tie.Start
+start-of-flag-fault c = c .before .before
+
+abbrev byte-at-of-else1 : tie.Else1 → tie.After-byte-at
+byte-at-of-else1 c = c .before .before
+
+abbrev byte-at-of-then1 : tie.Then1 → tie.After-byte-at
+byte-at-of-then1 c = c .before .before
+
+abbrev flag-fault-of-enum-told : tie.After-enum-told → tie.After-flag-fault
+flag-fault-of-enum-told c = c .before .before
+
 pub literal-fault-spec : {M : Type 1} → statement M
 unfolding termRole countedRole
 literal-fault-spec =
@@ -30,11 +44,15 @@ literal-fault-spec =
     (λ c κs. search needs)
     -- returns-2
     (λ c.
+    let after-byte-at = byte-at-of-then1 c in let after-enum-told = after-byte-at .before in
+    let after-flag-fault = flag-fault-of-enum-told after-enum-told in
     sym
-    (orElse-next _ (sym (c .before .before .before .before .before .flag-fault .ensures) ∙ ap foundOf (c .before .before .before .enum-told .given .1))
-    ∙ fault-at _ _ (c .before .before .before .before .before .before .before .args .query .now) _ (tested _ _ (c .before .number-refused .ensures) (c .before .before .byte-at .ensures) (c .if1 .taken))))
+    (orElse-next _ (sym (after-flag-fault .flag-fault .ensures) ∙ ap foundOf (after-enum-told .enum-told .given .1))
+    ∙ fault-at _ _ (start-of-flag-fault after-flag-fault .args .query .now) _ (tested _ _ (c .before .number-refused .ensures) (after-byte-at .byte-at .ensures) (c .if1 .taken))))
     -- returns-3
     (λ c.
+    let after-byte-at = byte-at-of-else1 c in let after-enum-told = after-byte-at .before in
+    let after-flag-fault = flag-fault-of-enum-told after-enum-told in
     sym
-    (orElse-next _ (sym (c .before .before .before .before .before .flag-fault .ensures) ∙ ap foundOf (c .before .before .before .enum-told .given .1))
-    ∙ no-fault-at _ _ (c .before .before .before .before .before .before .before .args .query .now) _ (tested _ _ (c .before .number-refused .ensures) (c .before .before .byte-at .ensures) (c .if1 .left)))))
+    (orElse-next _ (sym (after-flag-fault .flag-fault .ensures) ∙ ap foundOf (after-enum-told .enum-told .given .1))
+    ∙ no-fault-at _ _ (start-of-flag-fault after-flag-fault .args .query .now) _ (tested _ _ (c .before .number-refused .ensures) (after-byte-at .byte-at .ensures) (c .if1 .left)))))

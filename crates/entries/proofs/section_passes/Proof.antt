@@ -21,6 +21,20 @@ Inv-loop kind n query at count step place₀ i₀ place i =
 abbrev μ-loop : tie.MeasureT-loop
 μ-loop kind n query at count step place₀ i₀ place i = count - i
 
+-- The places that lie behind a place.
+
+abbrev start-of-width : tie.After-width Inv-loop μ-loop → tie.Start Inv-loop μ-loop
+start-of-width c = c .before .before
+
+abbrev in-loop-of-else1 : tie.Else1 Inv-loop μ-loop → tie.In-loop Inv-loop μ-loop
+in-loop-of-else1 c = c .before .before
+
+abbrev start-of-at-loop : tie.At-loop Inv-loop μ-loop → tie.Start Inv-loop μ-loop
+start-of-at-loop c = start-of-width (c .before)
+
+abbrev at-loop-of-else1 : tie.Else1 Inv-loop μ-loop → tie.At-loop Inv-loop μ-loop
+at-loop-of-else1 c = in-loop-of-else1 c .before
+
 pub section-passes-spec : {M : Type 1} → statement M
 section-passes-spec =
     tie.close
@@ -30,23 +44,36 @@ section-passes-spec =
     -- width-requires
     (λ c κs. search needs)
     -- loop-holds
-    (λ c. (rw (sub-zero (c .before .before .args .count)) (c .before .before .pre), λ k. section-whole _ _ _ _ _ _))
+    (λ c. (rw (sub-zero (start-of-width c .args .count)) (start-of-width c .pre), λ k. section-whole _ _ _ _ _ _))
     -- add-entry-passes
     (λ c. omega arith)
     -- entry-passes-requires
-    (λ c κs. omega (arith, room-next (c .before .before .before .before .args .count) (c .before .loop .i) (widthOf (c .before .before .before .before .args .kind)) (c .loop-test .taken)))
+    (λ c κs.
+    let start = start-of-at-loop (c .before) in
+    omega (arith, room-next (start .args .count) (c .before .loop .i) (widthOf (start .args .kind)) (c .loop-test .taken)))
     -- returns
     (λ c h. absurd (false≢true h))
     -- add-place
-    (λ c. omega (arith, c .before .before .before .before .width .ensures, room-next (c .before .before .before .before .before .before .args .count) (c .before .before .before .loop .i) (widthOf (c .before .before .before .before .before .before .args .kind)) (c .before .before .loop-test .taken)))
+    (λ c.
+    let at-loop = at-loop-of-else1 c in let start = start-of-at-loop at-loop in
+    omega (arith, at-loop .before .width .ensures, room-next (start .args .count) (at-loop .loop .i) (widthOf (start .args .kind)) (in-loop-of-else1 c .loop-test .taken)))
     -- add-i
     (λ c. omega arith)
     -- loop-less
     (λ c. omega arith)
     -- loop-again
-    (λ c. rw (c .before .before .before .before .width .ensures) (
-      omega (arith, c .before .before .before .loop .inv .0, room-next (c .before .before .before .before .before .before .args .count) (c .before .before .before .loop .i) (widthOf (c .before .before .before .before .before .before .args .kind)) (c .before .before .loop-test .taken)),
-      λ k. c .before .before .before .loop .inv .1 k ∙ entry-next k (c .before .before .before .before .before .before .args .kind) _ _ (c .before .before .before .before .before .before .args .query .now) _ _ (c .before .before .loop-test .taken) (c .before .entry-passes .ensures (not-false _ (c .if1 .left)) k),
+    (λ c. rw (at-loop-of-else1 c .before .width .ensures) (
+      omega (
+        arith,
+        at-loop-of-else1 c .loop .inv .0,
+        room-next (start-of-at-loop (at-loop-of-else1 c) .args .count) (at-loop-of-else1 c .loop .i)
+            (widthOf (start-of-at-loop (at-loop-of-else1 c) .args .kind)) (in-loop-of-else1 c .loop-test .taken),
+      ),
+      λ k. at-loop-of-else1 c .loop .inv .1 k ∙ entry-next k (start-of-at-loop (at-loop-of-else1 c) .args .kind) _ _
+          (start-of-at-loop (at-loop-of-else1 c) .args .query .now) _ _ (in-loop-of-else1 c .loop-test .taken)
+          (c .before .entry-passes .ensures (not-false _ (c .if1 .left)) k),
     ))
     -- returns-2
-    (λ c h k. c .before .loop .inv .1 k ∙ entry-end _ (c .before .before .before .before .args .kind) _ _ (c .before .before .before .before .args .query .now) _ _ (c .loop-test .left)))
+    (λ c h k.
+    let start = start-of-at-loop (c .before) in
+    c .before .loop .inv .1 k ∙ entry-end _ (start .args .kind) _ _ (start .args .query .now) _ _ (c .loop-test .left)))

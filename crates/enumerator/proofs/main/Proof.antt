@@ -5,7 +5,8 @@ use Rattle.enumerator.proofs.main.Statement.{statement}
 use Rattle.enumerator.proofs.main.Tie as tie
 
 abbrev Inv-loop : tie.InvT-loop
-Inv-loop seed₀ satisfiable₀ disagreements₀ failing₀ asked₀ t7 t8 t9 t10 t11 seed satisfiable disagreements failing asked = (asked ≤ 6000) × (satisfiable ≤ asked) × (disagreements ≤ asked) × (failing ≤ asked)
+Inv-loop seed₀ satisfiable₀ disagreements₀ failing₀ asked₀ t7 t8 t9 t10 t11 seed satisfiable disagreements failing asked = (asked ≤ 6000)
+    × (satisfiable ≤ asked) × (disagreements ≤ asked) × (failing ≤ asked)
 
 abbrev μ-loop : tie.MeasureT-loop
 μ-loop seed₀ satisfiable₀ disagreements₀ failing₀ asked₀ t7 t8 t9 t10 t11 seed satisfiable disagreements failing asked = 6000 - asked

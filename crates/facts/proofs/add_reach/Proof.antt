@@ -9,7 +9,9 @@ use Rattle.facts.proofs.add_reach.Tie as tie
 -- add-requires
 add-requires : tie.Need-add-requires
 unfolding pathOf
-add-requires c κs = let p = c .before .pre in (p .0 .0, omega (arith, p .0 .1, links-few (c .before .args .s .single) .1), p .1, p .2, search needs)
+add-requires c κs =
+    let start = c .before in
+    let p = start .pre in (p .0 .0, omega (arith, p .0 .1, links-few (start .args .s .single) .1), p .1, p .2, search needs)
 
 -- returns
 returns : tie.Need-returns

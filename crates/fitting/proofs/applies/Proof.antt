@@ -1,9 +1,10 @@
--- CYCLE or another rule, by the rows of link 1. Assumes nothing.
+-- CYCLE or another rule, by the rows of the link. Assumes nothing.
 use native.Mathlib.Omega.{arith}
 use borrow.Author.Needs.{needs}
 use mathlib.Core.Path.{sym, _∙_}
 use Rattle.logic.specs.Facts.{live}
 use Rattle.facts.specs.Path.{pathOf}
+use Rattle.facts.proofs.Path.{link-few}
 use Rattle.rules.specs.Answers.{kindOf}
 use Rattle.fitting.proofs.Laws.{applies-halves, applies-cycle}
 use Rattle.fitting.proofs.applies.Statement.{statement}
@@ -14,9 +15,9 @@ applies-spec =
     tie.close
     (tie.spec
     -- rows-of-requires
-    (λ c κs. (omega arith, omega arith))
+    (λ c κs. let p = c .before .before .pre .1 in (p .0, link-few (c .before .before .args .t1) _ p))
     -- rows-of-requires-2
-    (λ c κs. (omega arith, omega arith))
+    (λ c κs. let p = c .before .before .before .before .before .pre .1 in (p .0, link-few (c .before .before .before .before .before .args .t1) _ p))
     -- is-not-cycle-requires
     (λ c κs. search needs)
     -- is-live-requires
@@ -26,8 +27,9 @@ applies-spec =
     -- returns
     (λ c.
     let a = c .before .before .before .before .before .before .before .before .before .before .before .before .args in
+    let p = c .before .before .before .before .before .before .before .before .before .before .before .before .pre in
     let h = sym (c .before .before .before .before .before .is-not-cycle .ensures) ∙ c .before .before .before .before .if1 .taken in
-    applies-halves (a .n) (a .t1) _ _ (c .before .before .before .before .before .before .before .before .before .rows-of .ensures)
+    applies-halves (a .n) (a .t1) _ (p .1) _ _ (c .before .before .before .before .before .before .before .before .before .rows-of .ensures)
     (c .before .before .before .before .before .before .rows-of2 .ensures) (kindOf (a .rule)) _ _ _ h _
     (c .is-allowed .ensures (live (a .n) (pathOf (a .t1))) (c .before .before .before .is-live .ensures) h))
     -- is-round-requires
@@ -35,5 +37,6 @@ applies-spec =
     -- returns-2
     (λ c.
     let a = c .before .before .before .before .before .before .before .before .before .before .before .args in
-    applies-cycle (a .n) (a .t1) _ _ (c .before .before .before .before .before .before .before .before .rows-of .ensures) (c .before .before .before .before .before .rows-of2 .ensures)
+    let p = c .before .before .before .before .before .before .before .before .before .before .before .pre in
+    applies-cycle (a .n) (a .t1) _ (p .1) _ _ (c .before .before .before .before .before .before .before .before .rows-of .ensures) (c .before .before .before .before .before .rows-of2 .ensures)
     (kindOf (a .rule)) _ (sym (c .before .before .before .before .is-not-cycle .ensures) ∙ c .before .before .before .if1 .left) _ (c .is-round .ensures (live (a .n) (pathOf (a .t1))))))

@@ -8,6 +8,14 @@ use Rattle.formula_printing.proofs.Texts.{sat-text, unsat-text, refused
 use Rattle.formula_printing.proofs.put_answer.Statement.{statement}
 use Rattle.formula_printing.proofs.put_answer.Tie as tie
 
+-- The places that lie behind a place.
+
+abbrev formula-of-n : tie.After-n → tie.After-formula
+formula-of-n c = c .before .before .before
+
+abbrev n-of-report3 : tie.After-report3 → tie.After-n
+n-of-report3 c = c .before .before .before
+
 pub put-answer-spec : {M : Type 1} → statement M
 put-answer-spec =
     tie.close
@@ -21,7 +29,9 @@ put-answer-spec =
     -- slice-aggregate-put-sat
     (λ c. search needs)
     -- put-sat-requires
-    (λ c κs. report-formed _ _ _ (replicate 53 0) _ _ (c .before .before .before .before .before .before .formula .ensures) (length-replicate {A = ℕ} 53 0) _ (c .before .before .before .n .given .1))
+    (λ c κs.
+    let after-n = n-of-report3 c in
+    report-formed _ _ _ (replicate 53 0) _ _ (formula-of-n after-n .formula .ensures) (length-replicate {A = ℕ} 53 0) _ (after-n .n .given .1))
     -- enum-told
     (λ c. search needs)
     -- slice-aggregate-put-bytes
@@ -35,18 +45,27 @@ put-answer-spec =
     -- same-length
     (λ c. search needs)
     -- returns
-    (λ c. (writes-as (sat-text _ _ _ (replicate 53 0) _ _ (c .before .before .before .before .before .before .before .before .before .formula .ensures) (length-replicate {A = ℕ} 53 0) _ (c .before .before .before .before .before .before .n .given .1)) (c .before .before .put-sat .ensures .0), c .before .before .put-sat .ensures .1))
+    (λ c.
+    let after-put-sat = c .before .before in let after-n = n-of-report3 (after-put-sat .before) in (
+      writes-as (sat-text _ _ _ (replicate 53 0) _ _ (formula-of-n after-n .formula .ensures) (length-replicate {A = ℕ} 53 0) _ (after-n .n .given .1))
+          (after-put-sat .put-sat .ensures .0),
+      after-put-sat .put-sat .ensures .1,
+    ))
     -- same-length-2
     (λ c. search needs)
     -- returns-2
-    (λ c. (
-      writes-as (unsat-text _ _ _ (replicate 53 0) _ _ (c .before .before .before .before .before .before .before .before .formula .ensures) (length-replicate {A = ℕ} 53 0) (c .before .before .before .before .before .enum-told .given .1)) (c .before .before .put-bytes .ensures),
-      omega (arith, c .before .before .put-bytes .ensures .ends),
+    (λ c.
+    let after-put-bytes = c .before .before in let after-enum-told = after-put-bytes .before .before .before in (
+      writes-as (unsat-text _ _ _ (replicate 53 0) _ _ (after-enum-told .before .before .before .formula .ensures) (length-replicate {A = ℕ} 53 0)
+          (after-enum-told .enum-told .given .1)) (after-put-bytes .put-bytes .ensures),
+      omega (arith, after-put-bytes .put-bytes .ensures .ends),
     ))
     -- same-length-3
     (λ c. search needs)
     -- returns-3
-    (λ c. (
-      writes-as (refused-text _ _ _ (replicate 53 0) _ _ (c .before .before .before .before .before .before .before .before .formula .ensures) (length-replicate {A = ℕ} 53 0) _ _ (c .before .before .before .before .before .k .given .1)) (c .before .before .put-refusal .ensures .0),
-      omega (arith, c .before .before .put-refusal .ensures .1),
+    (λ c.
+    let after-put-refusal = c .before .before in let after-k = after-put-refusal .before .before .before in (
+      writes-as (refused-text _ _ _ (replicate 53 0) _ _ (after-k .before .before .before .formula .ensures) (length-replicate {A = ℕ} 53 0) _ _
+          (after-k .k .given .1)) (after-put-refusal .put-refusal .ensures .0),
+      omega (arith, after-put-refusal .put-refusal .ensures .1),
     )))

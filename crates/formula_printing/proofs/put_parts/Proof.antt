@@ -8,6 +8,11 @@ use Rattle.formula_printing.proofs.Texts.{length-read, parts-read}
 use Rattle.formula_printing.proofs.put_parts.Statement.{statement}
 use Rattle.formula_printing.proofs.put_parts.Tie as tie
 
+-- The places that lie behind a place.
+
+abbrev byte-at2-of-at-most2 : tie.After-at-most2 → tie.After-byte-at2
+byte-at2-of-at-most2 c = c .before .before
+
 pub put-parts-spec : {M : Type 1} → statement M
 put-parts-spec =
     tie.close
@@ -25,7 +30,9 @@ put-parts-spec =
     -- at-most-requires-2
     (λ c κs. search needs)
     -- add-at-most
-    (λ c. omega (arith, c .before .before .before .byte-at .ensures .1, c .before .before .byte-at2 .ensures .1))
+    (λ c.
+    let after-byte-at2 = byte-at2-of-at-most2 c in
+    omega (arith, after-byte-at2 .before .byte-at .ensures .1, after-byte-at2 .byte-at2 .ensures .1))
     -- at-most-requires-3
     (λ c κs. search needs)
     -- slice-aggregate-put-answer
@@ -47,4 +54,11 @@ put-parts-spec =
     -- same-length
     (λ c. search needs)
     -- returns
-    (λ c. (writes-as (parts-read _ _ _ _ (length-read _ _ _ _ refl (c .before .before .before .before .before .before .before .before .before .before .before .byte-at .ensures .0) (c .before .before .before .before .before .before .before .before .before .before .byte-at2 .ensures .0)) (c .before .before .before .before .before .before .before .before .at-most2 .ensures) (c .before .before .before .before .before .before .before .at-most3 .ensures) _ (c .before .before .before .before .before .before .before .before .before .at-most .ensures)) (c .before .before .put-answer .ensures .0), c .before .before .put-answer .ensures .1)))
+    (λ c.
+    let after-put-answer = c .before .before in let after-at-most3 = after-put-answer .before .before .before .before .before in
+    let after-at-most2 = after-at-most3 .before in let after-byte-at2 = byte-at2-of-at-most2 after-at-most2 in (
+      writes-as (parts-read _ _ _ _ (length-read _ _ _ _ refl (after-byte-at2 .before .byte-at .ensures .0) (after-byte-at2 .byte-at2 .ensures .0))
+          (after-at-most2 .at-most2 .ensures) (after-at-most3 .at-most3 .ensures) _ (after-at-most2 .before .at-most .ensures))
+          (after-put-answer .put-answer .ensures .0),
+      after-put-answer .put-answer .ensures .1,
+    )))

@@ -8,6 +8,11 @@ use Rattle.formula_printing.proofs.Texts.{whole-read}
 use Rattle.formula_printing.proofs.put_text.Statement.{statement}
 use Rattle.formula_printing.proofs.put_text.Tie as tie
 
+-- The places that lie behind a place.
+
+abbrev at-most-of-put-parts-arg2 : tie.After-put-parts-arg2 → tie.After-at-most
+at-most-of-put-parts-arg2 c = c .before .before
+
 pub put-text-spec : {M : Type 1} → statement M
 put-text-spec =
     tie.close
@@ -17,8 +22,12 @@ put-text-spec =
     -- slice-aggregate-put-parts
     (λ c. sym (length-take-le _ _ (omega arith)))
     -- put-parts-requires
-    (λ c κs. let l = length-take-le (c .before .before .at-most .result) (c .before .before .before .before .before .args .input .now) (omega arith) in omega (arith, l))
+    (λ c κs.
+    let after-at-most = at-most-of-put-parts-arg2 c in
+    let l = length-take-le (after-at-most .at-most .result) (after-at-most .before .before .before .args .input .now) (omega arith) in omega (arith, l))
     -- same-length
     (λ c. search needs)
     -- returns
-    (λ c. (writes-as (whole-read _ _ (c .before .before .before .before .before .at-most .ensures)) (c .before .before .put-parts .ensures .0), c .before .before .put-parts .ensures .1)))
+    (λ c.
+    let after-put-parts = c .before .before in
+    (writes-as (whole-read _ _ (at-most-of-put-parts-arg2 (after-put-parts .before) .at-most .ensures)) (after-put-parts .put-parts .ensures .0), after-put-parts .put-parts .ensures .1)))

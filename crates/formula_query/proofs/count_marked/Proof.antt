@@ -19,6 +19,11 @@ Inv-loop marks code count kept₀ i₀ kept i =
 abbrev μ-loop : tie.MeasureT-loop
 μ-loop marks code count kept₀ i₀ kept i = count - i
 
+-- The places that lie behind a place.
+
+abbrev in-loop-of-with-mark : tie.After-with-mark Inv-loop μ-loop → tie.In-loop Inv-loop μ-loop
+in-loop-of-with-mark c = c .before .before
+
 start : (p : ℕ → Bool) (ls : List Literal) → 0 + length (chosen p 1 ls) ≡ length (chosen p 1 ls)
 start p ls = omega arith
 
@@ -42,8 +47,19 @@ count-marked-spec =
     (λ c. omega arith)
     -- loop-again
     (λ c.
-    let p = mark (c .before .before .before .before .args .marks .now) (c .before .before .before .before .args .code) in
-    let e = c .with-mark .ensures ∙ ap (λ (b : Bool). cond b (c .before .before .before .loop .kept + 1) (c .before .before .before .loop .kept)) (c .before .is-marked .ensures) in
-    (more-bound (p (c .before .before .before .loop .i + 1)) _ (c .before .before .before .loop .kept) (c .before .before .before .loop .i) e (c .before .before .before .loop .inv .0), omega arith, λ ls l. count-next p ls (c .before .before .before .loop .i) (c .before .before .before .loop .kept) _ (subst (λ (n : ℕ). c .before .before .before .loop .i < n) (sym l) (c .before .before .loop-test .taken)) e ∙ c .before .before .before .loop .inv .2 ls l))
+    let in-loop = in-loop-of-with-mark c in let at-loop = in-loop .before in let the-start = at-loop .before in let loop-i = at-loop .loop .i in
+    let loop-kept = at-loop .loop .kept in
+    let p = mark (the-start .args .marks .now) (the-start .args .code) in
+    let e = c .with-mark .ensures ∙ ap (λ (b : Bool). cond b (loop-kept + 1) loop-kept) (c .before .is-marked .ensures) in (
+      more-bound (p (loop-i + 1)) _ loop-kept loop-i e (at-loop .loop .inv .0),
+      omega arith,
+      λ ls l. count-next p ls loop-i loop-kept _ (subst (λ (n : ℕ). c .before .before .before .loop .i < n) (sym l) (in-loop .loop-test .taken)) e
+          ∙ at-loop .loop .inv .2 ls l,
+    ))
     -- returns
-    (λ c. (omega arith, λ ls l. sym (count-end (mark (c .before .before .args .marks .now) (c .before .before .args .code)) ls (c .before .loop .i) (c .before .loop .kept) (subst (λ (n : ℕ). n ≤ c .before .loop .i) (sym l) (c .loop-test .left))) ∙ c .before .loop .inv .2 ls l)))
+    (λ c.
+    let at-loop = c .before in let the-start = at-loop .before in (
+      omega arith,
+      λ ls l. sym (count-end (mark (the-start .args .marks .now) (the-start .args .code)) ls (at-loop .loop .i) (at-loop .loop .kept)
+          (subst (λ (n : ℕ). n ≤ at-loop .loop .i) (sym l) (c .loop-test .left))) ∙ at-loop .loop .inv .2 ls l,
+    )))

@@ -13,6 +13,10 @@ with-mark-spec =
     -- add-result
     (λ c. omega arith)
     -- returns
-    (λ c. ap (λ (b : Bool). cond b (c .before .args .kept + 1) (c .before .args .kept)) (sym (c .if1 .taken)))
+    (λ c.
+    let start = c .before in
+    ap (λ (b : Bool). cond b (start .args .kept + 1) (start .args .kept)) (sym (c .if1 .taken)))
     -- returns-2
-    (λ c. ap (λ (b : Bool). cond b (c .before .args .kept + 1) (c .before .args .kept)) (sym (c .if1 .left))))
+    (λ c.
+    let start = c .before in
+    ap (λ (b : Bool). cond b (start .args .kept + 1) (start .args .kept)) (sym (c .if1 .left))))

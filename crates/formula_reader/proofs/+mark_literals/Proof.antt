@@ -14,6 +14,17 @@ use Rattle.formula_reader.proofs.count_at.Reads as count-at-reads
 use Rattle.formula_reader.proofs.+mark_literals.{statement}
 use Rattle.formula_reader.proofs.+mark_literals.Tie.{close}
 
+-- The places that lie behind a place.
+module _ {K : mark-literals-lts.Claims} {P : In 2 mark-literals-kinds.ps} where
+  abbrev start-of-then1 : mark-literals-lts.Then1 K P mark-literals.Post → mark-literals-lts.Start K P mark-literals.Post
+  start-of-then1 c = c .before .before .before
+
+  abbrev start-of-else1 : mark-literals-lts.Else1 K P mark-literals.Post → mark-literals-lts.Start K P mark-literals.Post
+  start-of-else1 c = c .before .before .before
+
+  abbrev start-of-then2 : mark-literals-lts.Then2 K P mark-literals.Post → mark-literals-lts.Start K P mark-literals.Post
+  start-of-then2 c = start-of-else1 (c .before .before)
+
 abbrev μ-mark-literals : Measures 2 mark-literals-kinds.ps ℕ
 μ-mark-literals κs a = a .1 .0
 
@@ -53,40 +64,84 @@ pub +mark-literals-spec : {M : Type 1} → statement M
     -- mark-literals-element-copy-out-a
     (λ c. let q = c .before .pre .1 .0 .1 .placed in omega arith)
     -- mark-literals-mul-marks
-    (λ c. let q = leaf-inside (c .before .before .before .pre .1 .0 .1) (c .if1 .taken) in omega arith)
+    (λ c. let q = leaf-inside (start-of-then1 c .pre .1 .0 .1) (c .if1 .taken) in omega arith)
     -- mark-literals-add-marks
-    (λ c. let q = leaf-inside (c .before .before .before .pre .1 .0 .1) (c .if1 .taken) in omega arith)
+    (λ c. let q = leaf-inside (start-of-then1 c .pre .1 .0 .1) (c .if1 .taken) in omega arith)
     -- mark-literals-element-write-marks
-    (λ c. let q = leaf-inside (c .before .before .before .pre .1 .0 .1) (c .if1 .taken) in omega arith)
+    (λ c. let q = leaf-inside (start-of-then1 c .pre .1 .0 .1) (c .if1 .taken) in omega arith)
     -- mark-literals-returns
-    (λ c. (simp length-set, λ f p. leaf-marks p (c .if1 .taken) (c .before .before .before .args .marks .now) (c .before .before .before .pre .1 .1)))
+    (λ c. (simp length-set, λ f p. leaf-marks p (c .if1 .taken) (start-of-then1 c .args .marks .now) (start-of-then1 c .pre .1 .1)))
     -- mark-literals-mul-b
-    (λ c. let q = c .before .before .before .pre .1 .0 .1 .placed in omega arith)
+    (λ c. let q = start-of-else1 c .pre .1 .0 .1 .placed in omega arith)
     -- mark-literals-add-b
-    (λ c. let q = c .before .before .before .pre .1 .0 .1 .placed in omega arith)
+    (λ c. let q = start-of-else1 c .pre .1 .0 .1 .placed in omega arith)
     -- mark-literals-mul-b-2
     (λ c. search needs)
     -- mark-literals-element-copy-out-b
-    (λ c. let q = c .before .before .before .pre .1 .0 .1 .placed in omega arith)
+    (λ c. let q = start-of-else1 c .pre .1 .0 .1 .placed in omega arith)
     -- mark-literals-count-at-requires
-    (λ c κs. let p = c .before .before .before .before .before .pre .1 .0 .1 in let j = at-both (p .tree) (c .if2 .taken) in omega (arith, j .second-below, p .placed))
+    (λ c κs. let p = start-of-then2 c .pre .1 .0 .1 in let j = at-both (p .tree) (c .if2 .taken) in omega (arith, j .second-below, p .placed))
     -- mark-literals-div-mark-literals
-    (λ c. let p = c .before .before .before .before .before .before .pre .1 .0 .1 in let j = at-both (p .tree) (c .before .if2 .taken) in divides p j _ (c .count-at .ensures))
+    (λ c. let p = start-of-then2 (c .before) .pre .1 .0 .1 in let j = at-both (p .tree) (c .before .if2 .taken) in divides p j _ (c .count-at .ensures))
     -- mark-literals-mark-literals-requires
-    (λ c κs. let p = c .before .before .before .before .before .before .before .pre .1 .0 .1 in let j = at-both (p .tree) (c .before .before .if2 .taken) in (omega (arith, j .first-below), ((j .left, left-at p j _ (c .before .count-at .ensures)), c .before .before .before .before .before .before .before .pre .1 .1)))
+    (λ c κs.
+    let start = start-of-then2 (c .before .before) in
+    let p = start .pre .1 .0 .1 in
+    let j = at-both (p .tree) (c .before .before .if2 .taken) in
+    (omega (arith, j .first-below), ((j .left, left-at p j _ (c .before .count-at .ensures)), start .pre .1 .1)))
     -- mark-literals-rem-mark-literals
-    (λ c. let p = c .before .before .before .before .before .before .before .before .pre .1 .0 .1 in let j = at-both (p .tree) (c .before .before .before .if2 .taken) in divides p j _ (c .before .before .count-at .ensures))
+    (λ c.
+    let then2 = c .before .before .before in
+    let p = start-of-then2 then2 .pre .1 .0 .1 in let j = at-both (p .tree) (then2 .if2 .taken) in divides p j _ (c .before .before .count-at .ensures))
     -- mark-literals-mark-literals-requires-2
-    (λ c κs. let p = c .before .before .before .before .before .before .before .before .before .pre .1 .0 .1 in let j = at-both (p .tree) (c .before .before .before .before .if2 .taken) in (omega (arith, j .second-below), ((j .right, right-at p j _ (c .before .before .before .count-at .ensures)), c .before .mark-literals .ensures .0 ∙ c .before .before .before .before .before .before .before .before .before .pre .1 .1)))
+    (λ c κs.
+    let after-count-at = c .before .before .before in let then2 = after-count-at .before in let start = start-of-then2 then2 in
+    let p = start .pre .1 .0 .1 in
+    let j = at-both (p .tree) (then2 .if2 .taken) in
+    (omega (arith, j .second-below), ((j .right, right-at p j _ (after-count-at .count-at .ensures)), c .before .mark-literals .ensures .0 ∙ start .pre .1 .1)))
     -- mark-literals-returns-2
-    (λ c. (c .mark-literals2 .ensures .0 ∙ c .before .before .mark-literals .ensures .0, λ f p. let j = at-both (p .tree) (c .before .before .before .before .before .if2 .taken) in both-at p j (c .before .before .before .before .count-at .result) (c .before .before .before .before .count-at .ensures) (c .before .before .before .before .before .before .before .before .before .before .args .marks .now) (c .before .before .mark-literals .last .1 .1 .1 .0) (c .mark-literals2 .last .1 .1 .1 .0) (c .before .before .mark-literals .ensures) (c .mark-literals2 .ensures)))
+    (λ c.
+    let after-mark-literals = c .before .before in let after-count-at = after-mark-literals .before .before in
+    let then2 = after-count-at .before in (
+      c .mark-literals2 .ensures .0 ∙ after-mark-literals .mark-literals .ensures .0,
+      λ f p. let j = at-both (p .tree) (then2 .if2 .taken) in
+          both-at p j (after-count-at .count-at .result) (after-count-at .count-at .ensures) (start-of-then2 then2 .args .marks .now)
+          (after-mark-literals .mark-literals .last .1 .1 .1 .0) (c .mark-literals2 .last .1 .1 .1 .0) (after-mark-literals .mark-literals .ensures)
+          (c .mark-literals2 .ensures),
+    ))
     -- mark-literals-count-at-requires-2
-    (λ c κs. let p = c .before .before .before .before .before .pre .1 .0 .1 in let j = at-either (p .tree) (c .before .before .if1 .left) (c .if2 .left) in omega (arith, j .first-below, p .placed))
+    (λ c κs. let p = start-of-else1 (c .before .before) .pre .1 .0 .1 in let j = at-either (p .tree) (c .before .before .if1 .left) (c .if2 .left) in omega (arith, j .first-below, p .placed))
     -- mark-literals-mark-literals-requires-3
-    (λ c κs. let p = c .before .before .before .before .before .before .before .before .pre .1 .0 .1 in let j = at-either (p .tree) (c .before .before .before .before .before .if1 .left) (c .before .before .before .if2 .left) in (omega (arith, j .first-below), ((j .left, first-at p j (c .before .before .count-at2 .result) (c .before .before .count-at2 .ensures) (c .before .if3 .taken)), c .before .before .before .before .before .before .before .before .pre .1 .1)))
+    (λ c κs.
+    let after-count-at2 = c .before .before in let else2 = after-count-at2 .before in let else1 = else2 .before .before in
+    let start = start-of-else1 else1 in
+    let p = start .pre .1 .0 .1 in
+    let j = at-either (p .tree) (else1 .if1 .left) (else2 .if2 .left) in (
+      omega (arith, j .first-below),
+      ((j .left, first-at p j (after-count-at2 .count-at2 .result) (after-count-at2 .count-at2 .ensures) (c .before .if3 .taken)), start .pre .1 .1),
+    ))
     -- mark-literals-returns-3
-    (λ c. (c .mark-literals3 .ensures .0, λ f p. let j = at-either (p .tree) (c .before .before .before .before .before .before .if1 .left) (c .before .before .before .before .if2 .left) in first-picked p j (c .before .before .before .count-at2 .result) (c .before .before .before .count-at2 .ensures) (c .before .before .before .before .before .before .before .before .before .args .marks .now) (c .mark-literals3 .last .1 .1 .1 .0) (c .before .before .if3 .taken) (c .mark-literals3 .ensures)))
+    (λ c.
+    let after-count-at2 = c .before .before .before in let else2 = after-count-at2 .before in let else1 = else2 .before .before in (
+      c .mark-literals3 .ensures .0,
+      λ f p. let j = at-either (p .tree) (else1 .if1 .left) (else2 .if2 .left) in
+          first-picked p j (after-count-at2 .count-at2 .result) (after-count-at2 .count-at2 .ensures) (start-of-else1 else1 .args .marks .now)
+          (c .mark-literals3 .last .1 .1 .1 .0) (c .before .before .if3 .taken) (c .mark-literals3 .ensures),
+    ))
     -- mark-literals-mark-literals-requires-4
-    (λ c κs. let p = c .before .before .before .before .before .before .before .before .pre .1 .0 .1 in let j = at-either (p .tree) (c .before .before .before .before .before .if1 .left) (c .before .before .before .if2 .left) in (omega (arith, j .second-below), ((j .right, second-at p j (c .before .before .count-at2 .result) (c .before .before .count-at2 .ensures) (c .before .if3 .left)), c .before .before .before .before .before .before .before .before .pre .1 .1)))
+    (λ c κs.
+    let after-count-at2 = c .before .before in let else2 = after-count-at2 .before in let else1 = else2 .before .before in
+    let start = start-of-else1 else1 in
+    let p = start .pre .1 .0 .1 in
+    let j = at-either (p .tree) (else1 .if1 .left) (else2 .if2 .left) in (
+      omega (arith, j .second-below),
+      ((j .right, second-at p j (after-count-at2 .count-at2 .result) (after-count-at2 .count-at2 .ensures) (c .before .if3 .left)), start .pre .1 .1),
+    ))
     -- mark-literals-returns-4
-    (λ c. (c .mark-literals4 .ensures .0, λ f p. let j = at-either (p .tree) (c .before .before .before .before .before .before .if1 .left) (c .before .before .before .before .if2 .left) in second-picked p j (c .before .before .before .count-at2 .result) (c .before .before .before .count-at2 .ensures) (c .before .before .before .before .before .before .before .before .before .args .marks .now) (c .mark-literals4 .last .1 .1 .1 .0) (c .before .before .if3 .left) (c .mark-literals4 .ensures)))
+    (λ c.
+    let after-count-at2 = c .before .before .before in let else2 = after-count-at2 .before in let else1 = else2 .before .before in (
+      c .mark-literals4 .ensures .0,
+      λ f p. let j = at-either (p .tree) (else1 .if1 .left) (else2 .if2 .left) in
+          second-picked p j (after-count-at2 .count-at2 .result) (after-count-at2 .count-at2 .ensures) (start-of-else1 else1 .args .marks .now)
+          (c .mark-literals4 .last .1 .1 .1 .0) (c .before .before .if3 .left) (c .mark-literals4 .ensures),
+    ))

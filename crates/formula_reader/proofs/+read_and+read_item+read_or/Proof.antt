@@ -10,7 +10,9 @@ use Rattle.formula.specs.Reader.{mark}
 use Rattle.formula_reader.specs.Answers.{Ranged, ReadAs, StartsAs}
 use Rattle.formula_reader.specs.declared.Found.{Found}
 use Rattle.formula_reader.specs.declared.Start.{Start}
-use Rattle.formula_reader.proofs.Readers.{stands-inside, first-refused, alone, second-refused, both-read, or-step, or-later, and-step, and-later, last-fits, grown-joined, either-joined, both-joined, item-end, item-nothing, item-name, item-deep, inner-refused, inner-closed, grown-closed, inside, positive, code-small, ranged-from}
+use Rattle.formula_reader.proofs.Readers.{stands-inside, first-refused, alone, second-refused, both-read, or-step, or-later, and-step}
+use Rattle.formula_reader.proofs.Readers.{and-later, last-fits, grown-joined, either-joined, both-joined, item-end, item-nothing, item-name}
+use Rattle.formula_reader.proofs.Readers.{item-deep, inner-refused, inner-closed, grown-closed, inside, positive, code-small, ranged-from}
 use borrow.Fn.Kinds.{In}
 use borrow.Fn.PlainCycle.{Measures, is, falls, and}
 use Rattle.formula.proofs.Complete.{or-fewer, and-fewer, some-or, some-and}
@@ -32,6 +34,42 @@ use Rattle.formula_reader.proofs.stands.Reads as stands-reads
 use Rattle.formula_reader.proofs.start_of.Reads as start-of-reads
 use Rattle.formula_reader.proofs.+read_and+read_item+read_or.{statement}
 use Rattle.formula_reader.proofs.+read_and+read_item+read_or.Tie.{close}
+
+-- The places that lie behind a place of read_and.
+module _ {K : read-and-lts.Claims} {P : In 3 read-and-kinds.ps} where
+  abbrev read-and-next-of-else1 : read-and-lts.Else1 K P read-and.Post → read-and-lts.After-next K P read-and.Post
+  read-and-next-of-else1 c = c .before .before .before
+
+  abbrev read-and-start-of-read-item : read-and-lts.After-read-item K P read-and.Post → read-and-lts.Start K P read-and.Post
+  read-and-start-of-read-item c = c .before .before .before
+
+  abbrev read-and-read-and-of-put-both-arg : read-and-lts.After-put-both-arg K P read-and.Post → read-and-lts.After-read-and K P read-and.Post
+  read-and-read-and-of-put-both-arg c = c .before .before .before .before
+
+  abbrev read-and-next-of-read-and : read-and-lts.After-read-and K P read-and.Post → read-and-lts.After-next K P read-and.Post
+  read-and-next-of-read-and c = read-and-next-of-else1 (c .before .before)
+
+-- The places that lie behind a place of read_item.
+module _ {K : read-item-lts.Claims} {P : In 3 read-item-kinds.ps} where
+  abbrev read-item-start-of-else1 : read-item-lts.Else1 K P read-item.Post → read-item-lts.Start K P read-item.Post
+  read-item-start-of-else1 c = c .before .before .before
+
+  abbrev read-item-else1-of-else2 : read-item-lts.Else2 K P read-item.Post → read-item-lts.Else1 K P read-item.Post
+  read-item-else1-of-else2 c = c .before .before .before .before .before
+
+-- The places that lie behind a place of read_or.
+module _ {K : read-or-lts.Claims} {P : In 3 read-or-kinds.ps} where
+  abbrev read-or-start-of-read-and : read-or-lts.After-read-and K P read-or.Post → read-or-lts.Start K P read-or.Post
+  read-or-start-of-read-and c = c .before .before .before
+
+  abbrev read-or-next-of-else1 : read-or-lts.Else1 K P read-or.Post → read-or-lts.After-next K P read-or.Post
+  read-or-next-of-else1 c = c .before .before .before
+
+  abbrev read-or-read-or-of-put-either-arg : read-or-lts.After-put-either-arg K P read-or.Post → read-or-lts.After-read-or K P read-or.Post
+  read-or-read-or-of-put-either-arg c = c .before .before .before .before
+
+  abbrev read-or-next-of-read-or : read-or-lts.After-read-or K P read-or.Post → read-or-lts.After-next K P read-or.Post
+  read-or-next-of-read-or c = read-or-next-of-else1 (c .before .before)
 
 abbrev μ-read-and : Measures 3 read-and-kinds.ps ℕ
 μ-read-and κs a = 3 * (length (a .0 .now) - a .1 .0) + 2
@@ -87,151 +125,135 @@ pub +read-and+read-item+read-or-spec : {M : Type 1} → statement M
     (λ c κs. search needs)
     -- read-and-returns
     (λ c.
-    let c3 = c .before .before .before in
-    let c5 = c3 .before .before in
-    let c8 = c5 .before .before .before in
-    let last-1-1-1-1-0 = c5 .read-item .last .1 .1 .1 .1 .0 in
-    let counts = c8 .args .counts .now in
-    let next-given = c3 .next .given in
-    let text-2 = c8 .args .text .now in (
-      subst (λ (r : Found). Ranged r text-2 (c8 .args .at) (c8 .args .used) (c8 .args .nodes .now) last-1-1-1-1-0) (next-given .1) (c5 .read-item .ensures .0),
+    let after-next = c .before .before .before in let after-read-item = after-next .before .before in
+    let start = read-and-start-of-read-item after-read-item in let the-at = start .args .at in let left = start .args .left in
+    let last-1-1-1-1-0 = after-read-item .read-item .last .1 .1 .1 .1 .0 in
+    let counts = start .args .counts .now in
+    let next-given = after-next .next .given in
+    let text-2 = start .args .text .now in (
+      subst (λ (r : Found). Ranged r text-2 the-at (start .args .used) (start .args .nodes .now) last-1-1-1-1-0) (next-given .1) (after-read-item .read-item .ensures .0),
       alone counts
-          (c8 .args .left) 38 both item conjunction (and-step counts (c8 .args .left)) and-fewer and-later some-and text-2 (c8 .args .at) (next-given .0 .0) (next-given .0 .1 .0) last-1-1-1-1-0
-          (subst (λ (r : Found). ReadAs r item text-2 (c8 .args .at) (c8 .args .left) counts last-1-1-1-1-0) (next-given .1) (c5 .read-item .ensures .1))
+          left 38 both item conjunction (and-step counts left) and-fewer and-later some-and text-2 the-at (next-given .0 .0) (next-given .0 .1 .0) last-1-1-1-1-0
+          (subst (λ (r : Found). ReadAs r item text-2 the-at left counts last-1-1-1-1-0) (next-given .1) (after-read-item .read-item .ensures .1))
           (sym (c .before .stands .ensures) ∙ not-true _ (c .if1 .taken)),
     ))
     -- read-and-add-read-and
     (λ c.
-    let c3 = c .before .before .before in
-    let c8 = c3 .before .before .before .before .before in
-    let i = stands-inside (c8 .args .text .now) (c3 .next .given .0 .0) 38 (sym (c .before .stands .ensures) ∙ not-false _ (c .if1 .left)) in omega arith)
+    let after-next = read-and-next-of-else1 c in
+    let i = stands-inside (read-and-start-of-read-item (after-next .before .before) .args .text .now) (after-next .next .given .0 .0) 38
+    (sym (c .before .stands .ensures) ∙ not-false _ (c .if1 .left)) in
+    omega arith)
     -- read-and-read-and-requires
     (λ c κs.
-    let c2 = c .before .before in
-    let c4 = c2 .before .before in
-    let c6 = c4 .before .before in
-    let c9 = c6 .before .before .before in
-    let g = subst (λ (r : Found). Ranged r (c9 .args .text .now) (c9 .args .at) (c9 .args .used) (c9 .args .nodes .now) (c6 .read-item .last .1 .1 .1 .1 .0)) (c4 .next .given .1)
-    (c6 .read-item .ensures .0) in
-    let i = stands-inside (c9 .args .text .now) (c4 .next .given .0 .0) 38 (sym (c2 .stands .ensures) ∙ not-false _ (c .before .if1 .left)) in
-    (omega arith, (omega arith, c9 .pre .1 .1, omega arith, c9 .pre .1 .3, g .same-length ∙ c9 .pre .1 .4)))
+    let after-next = read-and-next-of-else1 (c .before) in let after-read-item = after-next .before .before in
+    let start = read-and-start-of-read-item after-read-item in
+    let g = subst (λ (r : Found). Ranged r (start .args .text .now) (start .args .at) (start .args .used) (start .args .nodes .now)
+    (after-read-item .read-item .last .1 .1 .1 .1 .0)) (after-next .next .given .1)
+    (after-read-item .read-item .ensures .0) in
+    let i = stands-inside (start .args .text .now) (after-next .next .given .0 .0) 38 (sym (c .before .before .stands .ensures) ∙ not-false _ (c .before .if1 .left)) in
+    (omega arith, (omega arith, start .pre .1 .1, omega arith, start .pre .1 .3, g .same-length ∙ start .pre .1 .4)))
     -- read-and-enum-known-k-2
     (λ c. search needs)
     -- read-and-enum-known-end
     (λ c. search needs)
     -- read-and-sub-put-both
     (λ c.
-    let c9 = c .before .before .before .before .before .before .before .before .before in
-    let c11 = c9 .before .before in
-    let c14 = c11 .before .before .before in
-    let g = subst (λ (r : Found). Ranged r (c14 .args .text .now) (c14 .args .at) (c14 .args .used) (c14 .args .nodes .now) (c11 .read-item .last .1 .1 .1 .1 .0)) (c9 .next .given .1)
-    (c11 .read-item .ensures .0) in omega arith)
+    let after-next = read-and-next-of-read-and (read-and-read-and-of-put-both-arg c) in let after-read-item = after-next .before .before in
+    let start = read-and-start-of-read-item after-read-item in
+    let g = subst (λ (r : Found). Ranged r (start .args .text .now) (start .args .at) (start .args .used) (start .args .nodes .now)
+    (after-read-item .read-item .last .1 .1 .1 .1 .0)) (after-next .next .given .1)
+    (after-read-item .read-item .ensures .0) in omega arith)
     -- read-and-sub-put-both-2
     (λ c.
-    let c2 = c .before .before in
-    let c4 = c2 .before .before in
-    let c9 = c4 .before .before .before .before .before in
-    let c11 = c9 .before .before in
-    let c14 = c11 .before .before .before in
-    let g = subst (λ (r : Found). Ranged r (c14 .args .text .now) ((c9 .next .given .0 .0) + 1) (c9 .next .given .0 .1 .0) (c11 .read-item .last .1 .1 .1 .1 .0)
-    (c4 .read-and .last .1 .1 .1 .1 .0)) (c2 .end .given .1) (c4 .read-and .ensures .0) in omega arith)
+    let after-read-and = read-and-read-and-of-put-both-arg c in let after-next = read-and-next-of-read-and after-read-and in
+    let after-read-item = after-next .before .before in
+    let g = subst (λ (r : Found). Ranged r (read-and-start-of-read-item after-read-item .args .text .now) ((after-next .next .given .0 .0) + 1)
+    (after-next .next .given .0 .1 .0) (after-read-item .read-item .last .1 .1 .1 .1 .0)
+    (after-read-and .read-and .last .1 .1 .1 .1 .0)) (c .before .before .end .given .1) (after-read-and .read-and .ensures .0) in omega arith)
     -- read-and-put-both-requires
     (λ c κs.
-    let c2 = c .before .before in
-    let c4 = c2 .before .before in
-    let c9 = c4 .before .before .before .before .before in
-    let c11 = c9 .before .before in
-    let c14 = c11 .before .before .before in
-    let last-1-1-1-1-0 = c11 .read-item .last .1 .1 .1 .1 .0 in
-    let last-1-1-1-1-0-2 = c4 .read-and .last .1 .1 .1 .1 .0 in
-    let next-given = c9 .next .given in
-    let text-2 = c14 .args .text .now in
-    let g = subst (λ (r : Found). Ranged r text-2 (c14 .args .at) (c14 .args .used) (c14 .args .nodes .now) last-1-1-1-1-0) (next-given .1) (c11 .read-item .ensures .0) in
-    let h = subst (λ (r : Found). Ranged r text-2 ((next-given .0 .0) + 1) (next-given .0 .1 .0) last-1-1-1-1-0 last-1-1-1-1-0-2) (c2 .end .given .1) (c4 .read-and .ensures .0) in
-    let l = last-fits text-2 (c14 .args .at) (c14 .args .used) (next-given .0 .0) (next-given .0 .1 .0) (c2 .end .given .0 .0) (c2 .end .given .0 .1 .0)
-    (c14 .args .nodes .now) last-1-1-1-1-0 last-1-1-1-1-0-2 last-1-1-1-1-0-2 g h (c14 .pre .1 .2) (c14 .pre .1 .1) (c14 .pre .1 .4) in
+    let after-end = c .before .before in let after-read-and = read-and-read-and-of-put-both-arg c in
+    let after-next = read-and-next-of-read-and after-read-and in let after-read-item = after-next .before .before in
+    let start = read-and-start-of-read-item after-read-item in
+    let last-1-1-1-1-0 = after-read-item .read-item .last .1 .1 .1 .1 .0 in
+    let last-1-1-1-1-0-2 = after-read-and .read-and .last .1 .1 .1 .1 .0 in
+    let next-given = after-next .next .given in
+    let text-2 = start .args .text .now in
+    let g = subst (λ (r : Found). Ranged r text-2 (start .args .at) (start .args .used) (start .args .nodes .now) last-1-1-1-1-0) (next-given .1) (after-read-item .read-item .ensures .0) in
+    let h = subst (λ (r : Found). Ranged r text-2 ((next-given .0 .0) + 1) (next-given .0 .1 .0) last-1-1-1-1-0 last-1-1-1-1-0-2) (after-end .end .given .1) (after-read-and .read-and .ensures .0) in
+    let l = last-fits text-2 (start .args .at) (start .args .used) (next-given .0 .0) (next-given .0 .1 .0) (after-end .end .given .0 .0) (after-end .end .given .0 .1 .0)
+    (start .args .nodes .now) last-1-1-1-1-0 last-1-1-1-1-0-2 last-1-1-1-1-0-2 g h (start .pre .1 .2) (start .pre .1 .1) (start .pre .1 .4) in
     (omega arith, omega arith))
     -- read-and-add-t26
     (λ c.
-    let c3 = c .before .before .before in
-    let c5 = c3 .before .before in
-    let c10 = c5 .before .before .before .before .before in
-    let c12 = c10 .before .before in
-    let c15 = c12 .before .before .before in
-    let last-1-1-1-1-0 = c12 .read-item .last .1 .1 .1 .1 .0 in
-    let last-1-1-1-1-0-2 = c5 .read-and .last .1 .1 .1 .1 .0 in
-    let next-given = c10 .next .given in
-    let text-2 = c15 .args .text .now in
-    let g = subst (λ (r : Found). Ranged r text-2 (c15 .args .at) (c15 .args .used) (c15 .args .nodes .now) last-1-1-1-1-0) (next-given .1) (c12 .read-item .ensures .0) in
-    let h = subst (λ (r : Found). Ranged r text-2 ((next-given .0 .0) + 1) (next-given .0 .1 .0) last-1-1-1-1-0 last-1-1-1-1-0-2) (c3 .end .given .1) (c5 .read-and .ensures .0) in
-    let l = last-fits text-2 (c15 .args .at) (c15 .args .used) (next-given .0 .0) (next-given .0 .1 .0) (c3 .end .given .0 .0) (c3 .end .given .0 .1 .0)
-    (c15 .args .nodes .now) last-1-1-1-1-0 last-1-1-1-1-0-2 last-1-1-1-1-0-2 g h (c15 .pre .1 .2) (c15 .pre .1 .1) (c15 .pre .1 .4) in
+    let after-end = c .before .before .before in let after-read-and = read-and-read-and-of-put-both-arg (c .before) in
+    let after-next = read-and-next-of-read-and after-read-and in let after-read-item = after-next .before .before in
+    let start = read-and-start-of-read-item after-read-item in
+    let last-1-1-1-1-0 = after-read-item .read-item .last .1 .1 .1 .1 .0 in
+    let last-1-1-1-1-0-2 = after-read-and .read-and .last .1 .1 .1 .1 .0 in
+    let next-given = after-next .next .given in
+    let text-2 = start .args .text .now in
+    let g = subst (λ (r : Found). Ranged r text-2 (start .args .at) (start .args .used) (start .args .nodes .now) last-1-1-1-1-0) (next-given .1) (after-read-item .read-item .ensures .0) in
+    let h = subst (λ (r : Found). Ranged r text-2 ((next-given .0 .0) + 1) (next-given .0 .1 .0) last-1-1-1-1-0 last-1-1-1-1-0-2) (after-end .end .given .1) (after-read-and .read-and .ensures .0) in
+    let l = last-fits text-2 (start .args .at) (start .args .used) (next-given .0 .0) (next-given .0 .1 .0) (after-end .end .given .0 .0) (after-end .end .given .0 .1 .0)
+    (start .args .nodes .now) last-1-1-1-1-0 last-1-1-1-1-0-2 last-1-1-1-1-0-2 g h (start .pre .1 .2) (start .pre .1 .1) (start .pre .1 .4) in
     omega arith)
     -- read-and-returns-2
     (λ c.
-    let c1 = c .before in
-    let c3 = c1 .before .before in
-    let c6 = c3 .before .before .before in
-    let last-1-1-1-1-0 = c3 .read-item .last .1 .1 .1 .1 .0 in
-    let counts = c6 .args .counts .now in
-    let text-2 = c6 .args .text .now in (
-      subst (λ (r : Found). Ranged r text-2 (c6 .args .at) (c6 .args .used) (c6 .args .nodes .now) last-1-1-1-1-0) (c1 .k .given .1) (c3 .read-item .ensures .0),
+    let after-k = c .before in let after-read-item = after-k .before .before in let start = read-and-start-of-read-item after-read-item in
+    let the-at = start .args .at in let left = start .args .left in
+    let last-1-1-1-1-0 = after-read-item .read-item .last .1 .1 .1 .1 .0 in
+    let counts = start .args .counts .now in
+    let text-2 = start .args .text .now in (
+      subst (λ (r : Found). Ranged r text-2 the-at (start .args .used) (start .args .nodes .now) last-1-1-1-1-0) (after-k .k .given .1) (after-read-item .read-item .ensures .0),
       first-refused counts
-          (c6 .args .left) 38 both item conjunction (and-step counts (c6 .args .left)) and-fewer and-later some-and text-2 (c6 .args .at) (c1 .k .given .0 .0) (c1 .k .given .0 .1 .0) last-1-1-1-1-0
-          (subst (λ (r : Found). ReadAs r item text-2 (c6 .args .at) (c6 .args .left) counts last-1-1-1-1-0) (c1 .k .given .1) (c3 .read-item .ensures .1)),
+          left 38 both item conjunction (and-step counts left) and-fewer and-later some-and text-2 the-at (after-k .k .given .0 .0) (after-k .k .given .0 .1 .0) last-1-1-1-1-0
+          (subst (λ (r : Found). ReadAs r item text-2 the-at left counts last-1-1-1-1-0) (after-k .k .given .1) (after-read-item .read-item .ensures .1)),
     ))
     -- read-and-returns-3
     (λ c.
-    let c1 = c .before in
-    let c3 = c1 .before .before in
-    let c5 = c3 .before .before in
-    let c6 = c5 .before in
-    let c8 = c6 .before .before in
-    let c10 = c8 .before .before in
-    let c13 = c10 .before .before .before in
-    let last-1-1-1-1-0 = c10 .read-item .last .1 .1 .1 .1 .0 in
-    let text-2 = c13 .args .text .now in
-    let next-given = c8 .next .given in
-    let last-1-1-1-1-0-2 = c3 .read-and .last .1 .1 .1 .1 .0 in
-    let counts = c13 .args .counts .now in
-    let left-2 = c13 .args .left in (
-      subst (λ (r : Found). Ranged r text-2 ((next-given .0 .0) + 1) (next-given .0 .1 .0) last-1-1-1-1-0 last-1-1-1-1-0-2) (c1 .k2 .given .1) (c3 .read-and .ensures .0),
-      second-refused counts left-2 38 both item conjunction (and-step counts left-2) and-fewer and-later some-and text-2 (c13 .args .at) (next-given .0 .0) (next-given .0 .1 .0) last-1-1-1-1-0
-          (subst (λ (r : Found). ReadAs r item text-2 (c13 .args .at) left-2 counts last-1-1-1-1-0) (next-given .1) (c10 .read-item .ensures .1))
-          (sym (c6 .stands .ensures) ∙ not-false _ (c5 .if1 .left))
-          ((subst (λ (r : Found). Ranged r text-2 (c13 .args .at) (c13 .args .used) (c13 .args .nodes .now) last-1-1-1-1-0) (next-given .1) (c10 .read-item .ensures .0)) .advanced)
-          (c1 .k2 .given .0 .0) (c1 .k2 .given .0 .1 .0) last-1-1-1-1-0-2
-          (subst (λ (r : Found). ReadAs r conjunction text-2 ((next-given .0 .0) + 1) left-2 counts last-1-1-1-1-0-2) (c1 .k2 .given .1) (c3 .read-and .ensures .1)),
+    let after-k2 = c .before in let after-read-and = after-k2 .before .before in let else1 = after-read-and .before .before in
+    let after-next = read-and-next-of-else1 else1 in let after-read-item = after-next .before .before in
+    let start = read-and-start-of-read-item after-read-item in let the-at = start .args .at in
+    let last-1-1-1-1-0 = after-read-item .read-item .last .1 .1 .1 .1 .0 in
+    let text-2 = start .args .text .now in
+    let next-given = after-next .next .given in
+    let last-1-1-1-1-0-2 = after-read-and .read-and .last .1 .1 .1 .1 .0 in
+    let counts = start .args .counts .now in
+    let left-2 = start .args .left in (
+      subst (λ (r : Found). Ranged r text-2 ((next-given .0 .0) + 1) (next-given .0 .1 .0) last-1-1-1-1-0 last-1-1-1-1-0-2) (after-k2 .k2 .given .1) (after-read-and .read-and .ensures .0),
+      second-refused counts left-2 38 both item conjunction (and-step counts left-2) and-fewer and-later some-and text-2 the-at (next-given .0 .0) (next-given .0 .1 .0) last-1-1-1-1-0
+          (subst (λ (r : Found). ReadAs r item text-2 the-at left-2 counts last-1-1-1-1-0) (next-given .1) (after-read-item .read-item .ensures .1))
+          (sym (else1 .before .stands .ensures) ∙ not-false _ (else1 .if1 .left))
+          ((subst (λ (r : Found). Ranged r text-2 the-at (start .args .used) (start .args .nodes .now) last-1-1-1-1-0) (next-given .1) (after-read-item .read-item .ensures .0)) .advanced)
+          (after-k2 .k2 .given .0 .0) (after-k2 .k2 .given .0 .1 .0) last-1-1-1-1-0-2
+          (subst (λ (r : Found). ReadAs r conjunction text-2 ((next-given .0 .0) + 1) left-2 counts last-1-1-1-1-0-2) (after-k2 .k2 .given .1) (after-read-and .read-and .ensures .1)),
     ))
     -- read-and-returns-4
     (λ c.
-    let c3 = c .before .before .before in
-    let c5 = c3 .before .before in
-    let c7 = c5 .before .before in
-    let c8 = c7 .before in
-    let c10 = c8 .before .before in
-    let c12 = c10 .before .before in
-    let c15 = c12 .before .before .before in
-    let last-1-1-1-1-0 = c12 .read-item .last .1 .1 .1 .1 .0 in
-    let last-1-1-1-1-0-2 = c5 .read-and .last .1 .1 .1 .1 .0 in
-    let given-0 = c10 .next .given .0 in
-    let text-2 = c15 .args .text .now in
-    let end-given = c3 .end .given in
-    let counts = c15 .args .counts .now in
-    let nodes = c15 .args .nodes .now in
-    let at-2 = c15 .args .at in
+    let after-read-and = read-and-read-and-of-put-both-arg (c .before) in let else1 = after-read-and .before .before in
+    let after-next = read-and-next-of-else1 else1 in let after-read-item = after-next .before .before in
+    let start = read-and-start-of-read-item after-read-item in let used = start .args .used in
+    let last-1-1-1-1-0 = after-read-item .read-item .last .1 .1 .1 .1 .0 in
+    let last-1-1-1-1-0-2 = after-read-and .read-and .last .1 .1 .1 .1 .0 in
+    let given-0 = after-next .next .given .0 in
+    let text-2 = start .args .text .now in
+    let end-given = c .before .before .before .end .given in
+    let counts = start .args .counts .now in
+    let nodes = start .args .nodes .now in
+    let at-2 = start .args .at in
     let last-0 = c .put-both .last .0 in
-    let left-2 = c15 .args .left in
-    let pre-1 = c15 .pre .1 in
-    let g = subst (λ (r : Found). Ranged r text-2 at-2 (c15 .args .used) nodes last-1-1-1-1-0) (c10 .next .given .1) (c12 .read-item .ensures .0) in
-    let h = subst (λ (r : Found). Ranged r text-2 ((given-0 .0) + 1) (given-0 .1 .0) last-1-1-1-1-0 last-1-1-1-1-0-2) (end-given .1) (c5 .read-and .ensures .0) in (
-      grown-joined text-2 at-2 (c15 .args .used) (given-0 .0) (given-0 .1 .0) (end-given .0 .0) (end-given .0 .1 .0) nodes last-1-1-1-1-0 last-1-1-1-1-0-2 last-0 g h (pre-1 .2) (pre-1 .1)
+    let left-2 = start .args .left in
+    let pre-1 = start .pre .1 in
+    let g = subst (λ (r : Found). Ranged r text-2 at-2 used nodes last-1-1-1-1-0) (after-next .next .given .1) (after-read-item .read-item .ensures .0) in
+    let h = subst (λ (r : Found). Ranged r text-2 ((given-0 .0) + 1) (given-0 .1 .0) last-1-1-1-1-0 last-1-1-1-1-0-2) (end-given .1) (after-read-and .read-and .ensures .0) in (
+      grown-joined text-2 at-2 used (given-0 .0) (given-0 .1 .0) (end-given .0 .0) (end-given .0 .1 .0) nodes last-1-1-1-1-0 last-1-1-1-1-0-2 last-0 g h (pre-1 .2) (pre-1 .1)
           (pre-1 .4) _ _ _ _ (c .put-both .ensures),
       both-read counts left-2 38 both item conjunction (and-step counts left-2) and-fewer and-later some-and text-2 at-2 (given-0 .0)
-          (given-0 .1 .0) last-1-1-1-1-0 (subst (λ (r : Found). ReadAs r item text-2 at-2 left-2 counts last-1-1-1-1-0) (c10 .next .given .1) (c12 .read-item .ensures .1))
-          (sym (c8 .stands .ensures) ∙ not-false _ (c7 .if1 .left)) (g .advanced) (end-given .0 .0) (end-given .0 .1 .0) last-1-1-1-1-0-2 last-0
-          (subst (λ (r : Found). ReadAs r conjunction text-2 ((given-0 .0) + 1) left-2 counts last-1-1-1-1-0-2) (end-given .1) (c5 .read-and .ensures .1))
-          (both-joined text-2 at-2 (c15 .args .used) (given-0 .0) (given-0 .1 .0) (end-given .0 .0) (end-given .0 .1 .0) nodes last-1-1-1-1-0 last-1-1-1-1-0-2 last-0 g h (pre-1 .2) (pre-1 .1)
+          (given-0 .1 .0) last-1-1-1-1-0 (subst (λ (r : Found). ReadAs r item text-2 at-2 left-2 counts last-1-1-1-1-0) (after-next .next .given .1) (after-read-item .read-item .ensures .1))
+          (sym (else1 .before .stands .ensures) ∙ not-false _ (else1 .if1 .left)) (g .advanced) (end-given .0 .0) (end-given .0 .1 .0) last-1-1-1-1-0-2 last-0
+          (subst (λ (r : Found). ReadAs r conjunction text-2 ((given-0 .0) + 1) left-2 counts last-1-1-1-1-0-2) (end-given .1) (after-read-and .read-and .ensures .1))
+          (both-joined text-2 at-2 used (given-0 .0) (given-0 .1 .0) (end-given .0 .0) (end-given .0 .1 .0) nodes last-1-1-1-1-0 last-1-1-1-1-0-2 last-0 g h (pre-1 .2) (pre-1 .1)
           (pre-1 .4) (c .put-both .ensures)),
     ))
     )
@@ -253,16 +275,14 @@ pub +read-and+read-item+read-or-spec : {M : Type 1} → statement M
     (λ c κs. c .before .pre .1 .0)
     -- read-item-returns
     (λ c.
-    let c1 = c .before in
-    let c3 = c1 .before .before in (
-      c1 .past-blanks .ensures .1,
-      item-end (c3 .args .text .now) (c3 .args .at) (c3 .args .left) (c3 .args .counts .now) (c1 .past-blanks .result) (c1 .past-blanks .ensures .2)
-          (c3 .args .nodes .now) (c .if1 .taken),
+    let after-past-blanks = c .before in let start = after-past-blanks .before .before in (
+      after-past-blanks .past-blanks .ensures .1,
+      item-end (start .args .text .now) (start .args .at) (start .args .left) (start .args .counts .now) (after-past-blanks .past-blanks .result) (after-past-blanks .past-blanks .ensures .2)
+          (start .args .nodes .now) (c .if1 .taken),
     ))
     -- read-item-shared-slice-read-start-of
     (λ c.
-    let c2 = c .before .before in
-    inside (c2 .past-blanks .ensures .1) (c .before .if1 .left))
+    inside (c .before .before .past-blanks .ensures .1) (c .before .if1 .left))
     -- read-item-start-of-requires
     (λ c κs. search needs)
     -- read-item-enum-told
@@ -271,123 +291,108 @@ pub +read-and+read-item+read-or-spec : {M : Type 1} → statement M
     (λ c. search needs)
     -- read-item-read-name-requires
     (λ c κs.
-    let c2 = c .before .before in
-    let c4 = c2 .before .before in
-    let c6 = c4 .before .before in
-    let c7 = c6 .before in
-    let c9 = c7 .before .before in
-    let s = subst (λ (s : Start). StartsAs s (mark (getD (c9 .args .text .now) (c7 .past-blanks .result) 0))) (c2 .code .given .1) (c4 .start-of .ensures) in
-    (inside (c7 .past-blanks .ensures .1) (c6 .if1 .left), c9 .pre .1 .1, omega (arith, c7 .past-blanks .ensures .0), code-small _ (s .0) (s .2), c9 .pre .1 .3, c9 .pre .1 .4))
+    let after-start-of = c .before .before .before .before in let else1 = after-start-of .before .before in
+    let after-past-blanks = else1 .before in let start = read-item-start-of-else1 else1 in
+    let s = subst (λ (s : Start). StartsAs s (mark (getD (start .args .text .now) (after-past-blanks .past-blanks .result) 0)))
+    (c .before .before .code .given .1) (after-start-of .start-of .ensures) in (
+      inside (after-past-blanks .past-blanks .ensures .1) (else1 .if1 .left),
+      start .pre .1 .1,
+      omega (arith, after-past-blanks .past-blanks .ensures .0),
+      code-small _ (s .0) (s .2),
+      start .pre .1 .3,
+      start .pre .1 .4,
+    ))
     -- read-item-enum-told-2
     (λ c. search needs)
     -- read-item-returns-2
     (λ c.
-    let c3 = c .before .before .before in
-    let c5 = c3 .before .before in
-    let c6 = c5 .before in
-    let c8 = c6 .before .before in
-    let past-blanks = c6 .past-blanks in (
+    let after-start-of = c .before .before .before in let else1 = after-start-of .before .before in
+    let start = read-item-start-of-else1 else1 in
+    let past-blanks = else1 .before .past-blanks in (
       past-blanks .ensures .1,
-      item-deep (c8 .args .text .now) (c8 .args .at) (c8 .args .left) (c8 .args .counts .now) (past-blanks .result) (past-blanks .ensures .2)
-          (inside (past-blanks .ensures .1) (c5 .if1 .left)) (subst (λ (s : Start). StartsAs s (mark (getD (c8 .args .text .now) (past-blanks .result) 0))) (c .before .enum-told2 .given .1)
-          (c3 .start-of .ensures)) (c8 .args .nodes .now) (c .if2 .taken),
+      item-deep (start .args .text .now) (start .args .at) (start .args .left) (start .args .counts .now) (past-blanks .result) (past-blanks .ensures .2)
+          (inside (past-blanks .ensures .1) (else1 .if1 .left)) (subst (λ (s : Start). StartsAs s (mark (getD (start .args .text .now) (past-blanks .result) 0))) (c .before .enum-told2 .given .1)
+          (after-start-of .start-of .ensures)) (start .args .nodes .now) (c .if2 .taken),
     ))
     -- read-item-add-read-or
     (λ c.
-    let c5 = c .before .before .before .before .before in
-    let c6 = c5 .before in
-    let i = inside (c6 .past-blanks .ensures .1) (c5 .if1 .left) in omega arith)
+    let else1 = read-item-else1-of-else2 c in
+    let i = inside (else1 .before .past-blanks .ensures .1) (else1 .if1 .left) in omega arith)
     -- read-item-sub-read-or
     (λ c. positive (c .if2 .left))
     -- read-item-read-or-requires
     (λ c κs.
-    let c6 = c .before .before .before .before .before .before in
-    let c7 = c6 .before in
-    let c9 = c7 .before .before in
-    let past-blanks-ensures = c7 .past-blanks .ensures in
-    let i = inside (past-blanks-ensures .1) (c6 .if1 .left) in
-    (omega (arith, past-blanks-ensures .0), (omega arith, c9 .pre .1 .1, omega (arith, past-blanks-ensures .0), c9 .pre .1 .3, c9 .pre .1 .4)))
+    let else1 = read-item-else1-of-else2 (c .before) in let start = read-item-start-of-else1 else1 in
+    let past-blanks-ensures = else1 .before .past-blanks .ensures in
+    let i = inside (past-blanks-ensures .1) (else1 .if1 .left) in
+    (omega (arith, past-blanks-ensures .0), (omega arith, start .pre .1 .1, omega (arith, past-blanks-ensures .0), start .pre .1 .3, start .pre .1 .4)))
     -- read-item-enum-known-k
     (λ c. search needs)
     -- read-item-enum-known-next
     (λ c. search needs)
     -- read-item-close-item-requires
     (λ c κs.
-    let c3 = c .before .before .before in
-    let c11 = c3 .before .before .before .before .before .before .before .before in
-    let c13 = c11 .before .before in
-    let g = subst (λ (r : Found). Ranged r (c13 .args .text .now) ((c11 .past-blanks .result) + 1) (c13 .args .used) (c13 .args .nodes .now) (c3 .read-or .last .1 .1 .1 .1 .0))
-    (c .before .next .given .1) (c3 .read-or .ensures .0) in g .within)
+    let after-read-or = c .before .before .before in let after-past-blanks = read-item-else1-of-else2 (after-read-or .before .before) .before in
+    let start = after-past-blanks .before .before in
+    let g = subst (λ (r : Found). Ranged r (start .args .text .now) ((after-past-blanks .past-blanks .result) + 1) (start .args .used)
+    (start .args .nodes .now) (after-read-or .read-or .last .1 .1 .1 .1 .0))
+    (c .before .next .given .1) (after-read-or .read-or .ensures .0) in g .within)
     -- read-item-returns-3
     (λ c.
-    let c2 = c .before .before in
-    let c4 = c2 .before .before in
-    let c5 = c4 .before in
-    let c7 = c5 .before .before in
-    let past-blanks = c5 .past-blanks in (
+    let else1 = c .before .before .before .before in let start = read-item-start-of-else1 else1 in
+    let past-blanks = else1 .before .past-blanks in (
       past-blanks .ensures .1,
-      item-nothing (c7 .args .text .now) (c7 .args .at) (c7 .args .left) (c7 .args .counts .now) (past-blanks .result) (past-blanks .ensures .2)
-          (inside (past-blanks .ensures .1) (c4 .if1 .left)) (c7 .args .nodes .now)
-          (subst (λ (s : Start). StartsAs s (mark (getD (c7 .args .text .now) (past-blanks .result) 0))) (c .enum-told .given .1) (c2 .start-of .ensures)),
+      item-nothing (start .args .text .now) (start .args .at) (start .args .left) (start .args .counts .now) (past-blanks .result) (past-blanks .ensures .2)
+          (inside (past-blanks .ensures .1) (else1 .if1 .left)) (start .args .nodes .now)
+          (subst (λ (s : Start). StartsAs s (mark (getD (start .args .text .now) (past-blanks .result) 0))) (c .enum-told .given .1) (c .before .before .start-of .ensures)),
     ))
     -- read-item-returns-4
     (λ c.
-    let c3 = c .before .before .before in
-    let c5 = c3 .before .before in
-    let c7 = c5 .before .before in
-    let c8 = c7 .before in
-    let c10 = c8 .before .before in
-    let past-blanks = c8 .past-blanks in
+    let after-code = c .before .before .before in let after-start-of = after-code .before .before in
+    let else1 = after-start-of .before .before in let start = read-item-start-of-else1 else1 in
+    let past-blanks = else1 .before .past-blanks in
     let read-name = c .read-name in
-    let text-2 = c10 .args .text .now in
-    let s = subst (λ (s : Start). StartsAs s (mark (getD text-2 (past-blanks .result) 0))) (c3 .code .given .1) (c5 .start-of .ensures) in (
-      ranged-from (read-name .result) text-2 (c10 .args .at) (past-blanks .result) (c10 .args .used) (c10 .args .nodes .now) (read-name .last .1 .1 .1 .1 .0) (past-blanks .ensures .0)
+    let text-2 = start .args .text .now in
+    let s = subst (λ (s : Start). StartsAs s (mark (getD text-2 (past-blanks .result) 0))) (after-code .code .given .1) (after-start-of .start-of .ensures) in (
+      ranged-from (read-name .result) text-2 (start .args .at) (past-blanks .result) (start .args .used) (start .args .nodes .now) (read-name .last .1 .1 .1 .1 .0) (past-blanks .ensures .0)
           (read-name .ensures .0),
-      item-name text-2 (c10 .args .at) (c10 .args .left) (c10 .args .counts .now) (past-blanks .result) (past-blanks .ensures .2)
-          (inside (past-blanks .ensures .1) (c7 .if1 .left)) (s .0) (read-name .result) (read-name .last .1 .1 .1 .1 .0) (s .1) (read-name .ensures .1 (s .0) (s .2)),
+      item-name text-2 (start .args .at) (start .args .left) (start .args .counts .now) (past-blanks .result) (past-blanks .ensures .2)
+          (inside (past-blanks .ensures .1) (else1 .if1 .left)) (s .0) (read-name .result) (read-name .last .1 .1 .1 .1 .0) (s .1) (read-name .ensures .1 (s .0) (s .2)),
     ))
     -- read-item-returns-5
     (λ c.
-    let c1 = c .before in
-    let c3 = c1 .before .before in
-    let c5 = c3 .before .before in
-    let c6 = c5 .before in
-    let c8 = c6 .before .before in
-    let c10 = c8 .before .before in
-    let c11 = c10 .before in
-    let c13 = c11 .before .before in
-    let past-blanks = c11 .past-blanks in
-    let last-1-1-1-1-0 = c3 .read-or .last .1 .1 .1 .1 .0 in
-    let text-2 = c13 .args .text .now in (
-      subst (λ (r : Found). Ranged r text-2 ((past-blanks .result) + 1) (c13 .args .used) (c13 .args .nodes .now) last-1-1-1-1-0) (c1 .k .given .1) (c3 .read-or .ensures .0),
+    let after-k = c .before in let after-read-or = after-k .before .before in let else2 = after-read-or .before .before in
+    let after-enum-told2 = else2 .before in let else1 = read-item-else1-of-else2 else2 in let start = read-item-start-of-else1 else1 in
+    let past-blanks = else1 .before .past-blanks in
+    let last-1-1-1-1-0 = after-read-or .read-or .last .1 .1 .1 .1 .0 in
+    let text-2 = start .args .text .now in (
+      subst (λ (r : Found). Ranged r text-2 ((past-blanks .result) + 1) (start .args .used) (start .args .nodes .now) last-1-1-1-1-0) (after-k .k .given .1) (after-read-or .read-or .ensures .0),
       inner-refused text-2
-          (c13 .args .at) (c13 .args .left) (c13 .args .counts .now) (past-blanks .result) (past-blanks .ensures .2) (inside (past-blanks .ensures .1) (c10 .if1 .left))
-          (subst (λ (s : Start). StartsAs s (mark (getD text-2 (past-blanks .result) 0))) (c6 .enum-told2 .given .1) (c8 .start-of .ensures)) (c5 .if2 .left) (past-blanks .ensures .0)
-          (c1 .k .given .0 .0) (c1 .k .given .0 .1 .0) last-1-1-1-1-0
-          (subst (λ (r : Found). ReadAs r disjunction text-2 ((past-blanks .result) + 1) (c13 .args .left - 1) (c13 .args .counts .now) last-1-1-1-1-0) (c1 .k .given .1) (c3 .read-or .ensures .1)),
+          (start .args .at) (start .args .left) (start .args .counts .now) (past-blanks .result) (past-blanks .ensures .2) (inside (past-blanks .ensures .1) (else1 .if1 .left))
+          (subst (λ (s : Start). StartsAs s (mark (getD text-2 (past-blanks .result) 0))) (after-enum-told2 .enum-told2 .given .1)
+          (after-enum-told2 .before .before .start-of .ensures)) (else2 .if2 .left) (past-blanks .ensures .0)
+          (after-k .k .given .0 .0) (after-k .k .given .0 .1 .0) last-1-1-1-1-0
+          (subst (λ (r : Found). ReadAs r disjunction text-2 ((past-blanks .result) + 1) (start .args .left - 1) (start .args .counts .now)
+          last-1-1-1-1-0) (after-k .k .given .1) (after-read-or .read-or .ensures .1)),
     ))
     -- read-item-returns-6
     (λ c.
-    let c2 = c .before .before in
-    let c4 = c2 .before .before in
-    let c6 = c4 .before .before in
-    let c7 = c6 .before in
-    let c9 = c7 .before .before in
-    let c11 = c9 .before .before in
-    let c12 = c11 .before in
-    let c14 = c12 .before .before in
-    let past-blanks = c12 .past-blanks in
-    let last-1-1-1-1-0 = c4 .read-or .last .1 .1 .1 .1 .0 in
-    let text-2 = c14 .args .text .now in
-    let next-given = c2 .next .given in (
+    let after-read-or = c .before .before .before .before in let else2 = after-read-or .before .before in
+    let after-enum-told2 = else2 .before in let else1 = read-item-else1-of-else2 else2 in let start = read-item-start-of-else1 else1 in
+    let past-blanks = else1 .before .past-blanks in
+    let last-1-1-1-1-0 = after-read-or .read-or .last .1 .1 .1 .1 .0 in
+    let text-2 = start .args .text .now in
+    let next-given = c .before .before .next .given in (
       grown-closed (c .close-item .result) (past-blanks .ensures .0)
-          (subst (λ (r : Found). Ranged r text-2 ((past-blanks .result) + 1) (c14 .args .used) (c14 .args .nodes .now) last-1-1-1-1-0) (next-given .1) (c4 .read-or .ensures .0))
+          (subst (λ (r : Found). Ranged r text-2 ((past-blanks .result) + 1) (start .args .used) (start .args .nodes .now) last-1-1-1-1-0) (next-given .1) (after-read-or .read-or .ensures .0))
           (c .close-item .ensures),
-      inner-closed text-2 (c14 .args .at) (c14 .args .left) (c14 .args .counts .now) (past-blanks .result) (past-blanks .ensures .2)
-          (inside (past-blanks .ensures .1) (c11 .if1 .left)) (subst (λ (s : Start). StartsAs s (mark (getD text-2 (past-blanks .result) 0))) (c7 .enum-told2 .given .1) (c9 .start-of .ensures))
-          (c6 .if2 .left) (past-blanks .ensures .0) (next-given .0 .0) (next-given .0 .1 .0) (c .close-item .result) last-1-1-1-1-0
-          (subst (λ (r : Found). ReadAs r disjunction text-2 ((past-blanks .result) + 1) (c14 .args .left - 1) (c14 .args .counts .now) last-1-1-1-1-0) (next-given .1)
-          (c4 .read-or .ensures .1)) (c .close-item .ensures),
+      inner-closed text-2 (start .args .at) (start .args .left) (start .args .counts .now) (past-blanks .result) (past-blanks .ensures .2)
+          (inside (past-blanks .ensures .1) (else1 .if1 .left))
+          (subst (λ (s : Start). StartsAs s (mark (getD text-2 (past-blanks .result) 0))) (after-enum-told2 .enum-told2 .given .1)
+          (after-enum-told2 .before .before .start-of .ensures))
+          (else2 .if2 .left) (past-blanks .ensures .0) (next-given .0 .0) (next-given .0 .1 .0) (c .close-item .result) last-1-1-1-1-0
+          (subst (λ (r : Found). ReadAs r disjunction text-2 ((past-blanks .result) + 1) (start .args .left - 1) (start .args .counts .now) last-1-1-1-1-0) (next-given .1)
+          (after-read-or .read-or .ensures .1)) (c .close-item .ensures),
     ))
     )
     (λ t. read-or-lts.spec (
@@ -412,151 +417,136 @@ pub +read-and+read-item+read-or-spec : {M : Type 1} → statement M
     (λ c κs. search needs)
     -- read-or-returns
     (λ c.
-    let c3 = c .before .before .before in
-    let c5 = c3 .before .before in
-    let c8 = c5 .before .before .before in
-    let last-1-1-1-1-0 = c5 .read-and .last .1 .1 .1 .1 .0 in
-    let counts = c8 .args .counts .now in
-    let next-given = c3 .next .given in
-    let text-2 = c8 .args .text .now in (
-      subst (λ (r : Found). Ranged r text-2 (c8 .args .at) (c8 .args .used) (c8 .args .nodes .now) last-1-1-1-1-0) (next-given .1) (c5 .read-and .ensures .0),
+    let after-next = c .before .before .before in let after-read-and = after-next .before .before in
+    let start = read-or-start-of-read-and after-read-and in let the-at = start .args .at in let left = start .args .left in
+    let last-1-1-1-1-0 = after-read-and .read-and .last .1 .1 .1 .1 .0 in
+    let counts = start .args .counts .now in
+    let next-given = after-next .next .given in
+    let text-2 = start .args .text .now in (
+      subst (λ (r : Found). Ranged r text-2 the-at (start .args .used) (start .args .nodes .now) last-1-1-1-1-0) (next-given .1) (after-read-and .read-and .ensures .0),
       alone counts
-          (c8 .args .left) 124 either conjunction disjunction (or-step counts (c8 .args .left)) or-fewer or-later some-or text-2 (c8 .args .at) (next-given .0 .0) (next-given .0 .1 .0) last-1-1-1-1-0
-          (subst (λ (r : Found). ReadAs r conjunction text-2 (c8 .args .at) (c8 .args .left) counts last-1-1-1-1-0) (next-given .1) (c5 .read-and .ensures .1))
+          left 124 either conjunction disjunction (or-step counts left) or-fewer or-later some-or text-2 the-at (next-given .0 .0) (next-given .0 .1 .0) last-1-1-1-1-0
+          (subst (λ (r : Found). ReadAs r conjunction text-2 the-at left counts last-1-1-1-1-0) (next-given .1) (after-read-and .read-and .ensures .1))
           (sym (c .before .stands .ensures) ∙ not-true _ (c .if1 .taken)),
     ))
     -- read-or-add-read-or
     (λ c.
-    let c3 = c .before .before .before in
-    let c8 = c3 .before .before .before .before .before in
-    let i = stands-inside (c8 .args .text .now) (c3 .next .given .0 .0) 124 (sym (c .before .stands .ensures) ∙ not-false _ (c .if1 .left)) in omega arith)
+    let after-next = read-or-next-of-else1 c in
+    let i = stands-inside (read-or-start-of-read-and (after-next .before .before) .args .text .now) (after-next .next .given .0 .0) 124
+    (sym (c .before .stands .ensures) ∙ not-false _ (c .if1 .left)) in
+    omega arith)
     -- read-or-read-or-requires
     (λ c κs.
-    let c2 = c .before .before in
-    let c4 = c2 .before .before in
-    let c6 = c4 .before .before in
-    let c9 = c6 .before .before .before in
-    let g = subst (λ (r : Found). Ranged r (c9 .args .text .now) (c9 .args .at) (c9 .args .used) (c9 .args .nodes .now) (c6 .read-and .last .1 .1 .1 .1 .0)) (c4 .next .given .1)
-    (c6 .read-and .ensures .0) in
-    let i = stands-inside (c9 .args .text .now) (c4 .next .given .0 .0) 124 (sym (c2 .stands .ensures) ∙ not-false _ (c .before .if1 .left)) in
-    (omega arith, (omega arith, c9 .pre .1 .1, omega arith, c9 .pre .1 .3, g .same-length ∙ c9 .pre .1 .4)))
+    let after-next = read-or-next-of-else1 (c .before) in let after-read-and = after-next .before .before in
+    let start = read-or-start-of-read-and after-read-and in
+    let g = subst (λ (r : Found). Ranged r (start .args .text .now) (start .args .at) (start .args .used) (start .args .nodes .now)
+    (after-read-and .read-and .last .1 .1 .1 .1 .0)) (after-next .next .given .1)
+    (after-read-and .read-and .ensures .0) in
+    let i = stands-inside (start .args .text .now) (after-next .next .given .0 .0) 124 (sym (c .before .before .stands .ensures) ∙ not-false _ (c .before .if1 .left)) in
+    (omega arith, (omega arith, start .pre .1 .1, omega arith, start .pre .1 .3, g .same-length ∙ start .pre .1 .4)))
     -- read-or-enum-known-k-2
     (λ c. search needs)
     -- read-or-enum-known-end
     (λ c. search needs)
     -- read-or-sub-put-either
     (λ c.
-    let c9 = c .before .before .before .before .before .before .before .before .before in
-    let c11 = c9 .before .before in
-    let c14 = c11 .before .before .before in
-    let g = subst (λ (r : Found). Ranged r (c14 .args .text .now) (c14 .args .at) (c14 .args .used) (c14 .args .nodes .now) (c11 .read-and .last .1 .1 .1 .1 .0)) (c9 .next .given .1)
-    (c11 .read-and .ensures .0) in omega arith)
+    let after-next = read-or-next-of-read-or (read-or-read-or-of-put-either-arg c) in let after-read-and = after-next .before .before in
+    let start = read-or-start-of-read-and after-read-and in
+    let g = subst (λ (r : Found). Ranged r (start .args .text .now) (start .args .at) (start .args .used) (start .args .nodes .now)
+    (after-read-and .read-and .last .1 .1 .1 .1 .0)) (after-next .next .given .1)
+    (after-read-and .read-and .ensures .0) in omega arith)
     -- read-or-sub-put-either-2
     (λ c.
-    let c2 = c .before .before in
-    let c4 = c2 .before .before in
-    let c9 = c4 .before .before .before .before .before in
-    let c11 = c9 .before .before in
-    let c14 = c11 .before .before .before in
-    let g = subst (λ (r : Found). Ranged r (c14 .args .text .now) ((c9 .next .given .0 .0) + 1) (c9 .next .given .0 .1 .0) (c11 .read-and .last .1 .1 .1 .1 .0) (c4 .read-or .last .1 .1 .1 .1 .0))
-    (c2 .end .given .1) (c4 .read-or .ensures .0) in omega arith)
+    let after-read-or = read-or-read-or-of-put-either-arg c in let after-next = read-or-next-of-read-or after-read-or in
+    let after-read-and = after-next .before .before in
+    let g = subst (λ (r : Found). Ranged r (read-or-start-of-read-and after-read-and .args .text .now) ((after-next .next .given .0 .0) + 1)
+    (after-next .next .given .0 .1 .0) (after-read-and .read-and .last .1 .1 .1 .1 .0) (after-read-or .read-or .last .1 .1 .1 .1 .0))
+    (c .before .before .end .given .1) (after-read-or .read-or .ensures .0) in omega arith)
     -- read-or-put-either-requires
     (λ c κs.
-    let c2 = c .before .before in
-    let c4 = c2 .before .before in
-    let c9 = c4 .before .before .before .before .before in
-    let c11 = c9 .before .before in
-    let c14 = c11 .before .before .before in
-    let last-1-1-1-1-0 = c11 .read-and .last .1 .1 .1 .1 .0 in
-    let last-1-1-1-1-0-2 = c4 .read-or .last .1 .1 .1 .1 .0 in
-    let next-given = c9 .next .given in
-    let text-2 = c14 .args .text .now in
-    let g = subst (λ (r : Found). Ranged r text-2 (c14 .args .at) (c14 .args .used) (c14 .args .nodes .now) last-1-1-1-1-0) (next-given .1) (c11 .read-and .ensures .0) in
-    let h = subst (λ (r : Found). Ranged r text-2 ((next-given .0 .0) + 1) (next-given .0 .1 .0) last-1-1-1-1-0 last-1-1-1-1-0-2) (c2 .end .given .1) (c4 .read-or .ensures .0) in
-    let l = last-fits text-2 (c14 .args .at) (c14 .args .used) (next-given .0 .0) (next-given .0 .1 .0) (c2 .end .given .0 .0) (c2 .end .given .0 .1 .0)
-    (c14 .args .nodes .now) last-1-1-1-1-0 last-1-1-1-1-0-2 last-1-1-1-1-0-2 g h (c14 .pre .1 .2) (c14 .pre .1 .1) (c14 .pre .1 .4) in
+    let after-end = c .before .before in let after-read-or = read-or-read-or-of-put-either-arg c in
+    let after-next = read-or-next-of-read-or after-read-or in let after-read-and = after-next .before .before in
+    let start = read-or-start-of-read-and after-read-and in
+    let last-1-1-1-1-0 = after-read-and .read-and .last .1 .1 .1 .1 .0 in
+    let last-1-1-1-1-0-2 = after-read-or .read-or .last .1 .1 .1 .1 .0 in
+    let next-given = after-next .next .given in
+    let text-2 = start .args .text .now in
+    let g = subst (λ (r : Found). Ranged r text-2 (start .args .at) (start .args .used) (start .args .nodes .now) last-1-1-1-1-0) (next-given .1) (after-read-and .read-and .ensures .0) in
+    let h = subst (λ (r : Found). Ranged r text-2 ((next-given .0 .0) + 1) (next-given .0 .1 .0) last-1-1-1-1-0 last-1-1-1-1-0-2) (after-end .end .given .1) (after-read-or .read-or .ensures .0) in
+    let l = last-fits text-2 (start .args .at) (start .args .used) (next-given .0 .0) (next-given .0 .1 .0) (after-end .end .given .0 .0) (after-end .end .given .0 .1 .0)
+    (start .args .nodes .now) last-1-1-1-1-0 last-1-1-1-1-0-2 last-1-1-1-1-0-2 g h (start .pre .1 .2) (start .pre .1 .1) (start .pre .1 .4) in
     (omega arith, omega arith))
     -- read-or-add-t26
     (λ c.
-    let c3 = c .before .before .before in
-    let c5 = c3 .before .before in
-    let c10 = c5 .before .before .before .before .before in
-    let c12 = c10 .before .before in
-    let c15 = c12 .before .before .before in
-    let last-1-1-1-1-0 = c12 .read-and .last .1 .1 .1 .1 .0 in
-    let last-1-1-1-1-0-2 = c5 .read-or .last .1 .1 .1 .1 .0 in
-    let next-given = c10 .next .given in
-    let text-2 = c15 .args .text .now in
-    let g = subst (λ (r : Found). Ranged r text-2 (c15 .args .at) (c15 .args .used) (c15 .args .nodes .now) last-1-1-1-1-0) (next-given .1) (c12 .read-and .ensures .0) in
-    let h = subst (λ (r : Found). Ranged r text-2 ((next-given .0 .0) + 1) (next-given .0 .1 .0) last-1-1-1-1-0 last-1-1-1-1-0-2) (c3 .end .given .1) (c5 .read-or .ensures .0) in
-    let l = last-fits text-2 (c15 .args .at) (c15 .args .used) (next-given .0 .0) (next-given .0 .1 .0) (c3 .end .given .0 .0) (c3 .end .given .0 .1 .0)
-    (c15 .args .nodes .now) last-1-1-1-1-0 last-1-1-1-1-0-2 last-1-1-1-1-0-2 g h (c15 .pre .1 .2) (c15 .pre .1 .1) (c15 .pre .1 .4) in
+    let after-end = c .before .before .before in let after-read-or = read-or-read-or-of-put-either-arg (c .before) in
+    let after-next = read-or-next-of-read-or after-read-or in let after-read-and = after-next .before .before in
+    let start = read-or-start-of-read-and after-read-and in
+    let last-1-1-1-1-0 = after-read-and .read-and .last .1 .1 .1 .1 .0 in
+    let last-1-1-1-1-0-2 = after-read-or .read-or .last .1 .1 .1 .1 .0 in
+    let next-given = after-next .next .given in
+    let text-2 = start .args .text .now in
+    let g = subst (λ (r : Found). Ranged r text-2 (start .args .at) (start .args .used) (start .args .nodes .now) last-1-1-1-1-0) (next-given .1) (after-read-and .read-and .ensures .0) in
+    let h = subst (λ (r : Found). Ranged r text-2 ((next-given .0 .0) + 1) (next-given .0 .1 .0) last-1-1-1-1-0 last-1-1-1-1-0-2) (after-end .end .given .1) (after-read-or .read-or .ensures .0) in
+    let l = last-fits text-2 (start .args .at) (start .args .used) (next-given .0 .0) (next-given .0 .1 .0) (after-end .end .given .0 .0) (after-end .end .given .0 .1 .0)
+    (start .args .nodes .now) last-1-1-1-1-0 last-1-1-1-1-0-2 last-1-1-1-1-0-2 g h (start .pre .1 .2) (start .pre .1 .1) (start .pre .1 .4) in
     omega arith)
     -- read-or-returns-2
     (λ c.
-    let c1 = c .before in
-    let c3 = c1 .before .before in
-    let c6 = c3 .before .before .before in
-    let last-1-1-1-1-0 = c3 .read-and .last .1 .1 .1 .1 .0 in
-    let counts = c6 .args .counts .now in
-    let text-2 = c6 .args .text .now in (
-      subst (λ (r : Found). Ranged r text-2 (c6 .args .at) (c6 .args .used) (c6 .args .nodes .now) last-1-1-1-1-0) (c1 .k .given .1) (c3 .read-and .ensures .0),
+    let after-k = c .before in let after-read-and = after-k .before .before in let start = read-or-start-of-read-and after-read-and in
+    let the-at = start .args .at in let left = start .args .left in
+    let last-1-1-1-1-0 = after-read-and .read-and .last .1 .1 .1 .1 .0 in
+    let counts = start .args .counts .now in
+    let text-2 = start .args .text .now in (
+      subst (λ (r : Found). Ranged r text-2 the-at (start .args .used) (start .args .nodes .now) last-1-1-1-1-0) (after-k .k .given .1) (after-read-and .read-and .ensures .0),
       first-refused counts
-          (c6 .args .left) 124 either conjunction disjunction (or-step counts (c6 .args .left)) or-fewer or-later some-or text-2 (c6 .args .at) (c1 .k .given .0 .0)
-          (c1 .k .given .0 .1 .0) last-1-1-1-1-0 (subst (λ (r : Found). ReadAs r conjunction text-2 (c6 .args .at) (c6 .args .left) counts last-1-1-1-1-0) (c1 .k .given .1) (c3 .read-and .ensures .1)),
+          left 124 either conjunction disjunction (or-step counts left) or-fewer or-later some-or text-2 the-at (after-k .k .given .0 .0)
+          (after-k .k .given .0 .1 .0) last-1-1-1-1-0
+          (subst (λ (r : Found). ReadAs r conjunction text-2 the-at left counts last-1-1-1-1-0) (after-k .k .given .1) (after-read-and .read-and .ensures .1)),
     ))
     -- read-or-returns-3
     (λ c.
-    let c1 = c .before in
-    let c3 = c1 .before .before in
-    let c5 = c3 .before .before in
-    let c6 = c5 .before in
-    let c8 = c6 .before .before in
-    let c10 = c8 .before .before in
-    let c13 = c10 .before .before .before in
-    let last-1-1-1-1-0 = c10 .read-and .last .1 .1 .1 .1 .0 in
-    let text-2 = c13 .args .text .now in
-    let next-given = c8 .next .given in
-    let last-1-1-1-1-0-2 = c3 .read-or .last .1 .1 .1 .1 .0 in
-    let counts = c13 .args .counts .now in
-    let left-2 = c13 .args .left in (
-      subst (λ (r : Found). Ranged r text-2 ((next-given .0 .0) + 1) (next-given .0 .1 .0) last-1-1-1-1-0 last-1-1-1-1-0-2) (c1 .k2 .given .1) (c3 .read-or .ensures .0),
-      second-refused counts left-2 124 either conjunction disjunction (or-step counts left-2) or-fewer or-later some-or text-2 (c13 .args .at) (next-given .0 .0)
-          (next-given .0 .1 .0) last-1-1-1-1-0 (subst (λ (r : Found). ReadAs r conjunction text-2 (c13 .args .at) left-2 counts last-1-1-1-1-0) (next-given .1) (c10 .read-and .ensures .1))
-          (sym (c6 .stands .ensures) ∙ not-false _ (c5 .if1 .left))
-          ((subst (λ (r : Found). Ranged r text-2 (c13 .args .at) (c13 .args .used) (c13 .args .nodes .now) last-1-1-1-1-0) (next-given .1) (c10 .read-and .ensures .0)) .advanced)
-          (c1 .k2 .given .0 .0) (c1 .k2 .given .0 .1 .0) last-1-1-1-1-0-2
-          (subst (λ (r : Found). ReadAs r disjunction text-2 ((next-given .0 .0) + 1) left-2 counts last-1-1-1-1-0-2) (c1 .k2 .given .1) (c3 .read-or .ensures .1)),
+    let after-k2 = c .before in let after-read-or = after-k2 .before .before in let else1 = after-read-or .before .before in
+    let after-next = read-or-next-of-else1 else1 in let after-read-and = after-next .before .before in
+    let start = read-or-start-of-read-and after-read-and in let the-at = start .args .at in
+    let last-1-1-1-1-0 = after-read-and .read-and .last .1 .1 .1 .1 .0 in
+    let text-2 = start .args .text .now in
+    let next-given = after-next .next .given in
+    let last-1-1-1-1-0-2 = after-read-or .read-or .last .1 .1 .1 .1 .0 in
+    let counts = start .args .counts .now in
+    let left-2 = start .args .left in (
+      subst (λ (r : Found). Ranged r text-2 ((next-given .0 .0) + 1) (next-given .0 .1 .0) last-1-1-1-1-0 last-1-1-1-1-0-2) (after-k2 .k2 .given .1) (after-read-or .read-or .ensures .0),
+      second-refused counts left-2 124 either conjunction disjunction (or-step counts left-2) or-fewer or-later some-or text-2 the-at (next-given .0 .0)
+          (next-given .0 .1 .0) last-1-1-1-1-0 (subst (λ (r : Found). ReadAs r conjunction text-2 the-at left-2 counts last-1-1-1-1-0) (next-given .1) (after-read-and .read-and .ensures .1))
+          (sym (else1 .before .stands .ensures) ∙ not-false _ (else1 .if1 .left))
+          ((subst (λ (r : Found). Ranged r text-2 the-at (start .args .used) (start .args .nodes .now) last-1-1-1-1-0) (next-given .1) (after-read-and .read-and .ensures .0)) .advanced)
+          (after-k2 .k2 .given .0 .0) (after-k2 .k2 .given .0 .1 .0) last-1-1-1-1-0-2
+          (subst (λ (r : Found). ReadAs r disjunction text-2 ((next-given .0 .0) + 1) left-2 counts last-1-1-1-1-0-2) (after-k2 .k2 .given .1) (after-read-or .read-or .ensures .1)),
     ))
     -- read-or-returns-4
     (λ c.
-    let c3 = c .before .before .before in
-    let c5 = c3 .before .before in
-    let c7 = c5 .before .before in
-    let c8 = c7 .before in
-    let c10 = c8 .before .before in
-    let c12 = c10 .before .before in
-    let c15 = c12 .before .before .before in
-    let last-1-1-1-1-0 = c12 .read-and .last .1 .1 .1 .1 .0 in
-    let given-0 = c10 .next .given .0 in
-    let last-1-1-1-1-0-2 = c5 .read-or .last .1 .1 .1 .1 .0 in
-    let text-2 = c15 .args .text .now in
-    let end-given = c3 .end .given in
-    let counts = c15 .args .counts .now in
+    let after-read-or = read-or-read-or-of-put-either-arg (c .before) in let else1 = after-read-or .before .before in
+    let after-next = read-or-next-of-else1 else1 in let after-read-and = after-next .before .before in
+    let start = read-or-start-of-read-and after-read-and in let used = start .args .used in
+    let last-1-1-1-1-0 = after-read-and .read-and .last .1 .1 .1 .1 .0 in
+    let given-0 = after-next .next .given .0 in
+    let last-1-1-1-1-0-2 = after-read-or .read-or .last .1 .1 .1 .1 .0 in
+    let text-2 = start .args .text .now in
+    let end-given = c .before .before .before .end .given in
+    let counts = start .args .counts .now in
     let last-0 = c .put-either .last .0 in
-    let nodes = c15 .args .nodes .now in
-    let at-2 = c15 .args .at in
-    let left-2 = c15 .args .left in
-    let pre-1 = c15 .pre .1 in
-    let g = subst (λ (r : Found). Ranged r text-2 at-2 (c15 .args .used) nodes last-1-1-1-1-0) (c10 .next .given .1) (c12 .read-and .ensures .0) in
-    let h = subst (λ (r : Found). Ranged r text-2 ((given-0 .0) + 1) (given-0 .1 .0) last-1-1-1-1-0 last-1-1-1-1-0-2) (end-given .1) (c5 .read-or .ensures .0) in (
-      grown-joined text-2 at-2 (c15 .args .used) (given-0 .0) (given-0 .1 .0) (end-given .0 .0) (end-given .0 .1 .0) nodes last-1-1-1-1-0 last-1-1-1-1-0-2 last-0 g h (pre-1 .2) (pre-1 .1)
+    let nodes = start .args .nodes .now in
+    let at-2 = start .args .at in
+    let left-2 = start .args .left in
+    let pre-1 = start .pre .1 in
+    let g = subst (λ (r : Found). Ranged r text-2 at-2 used nodes last-1-1-1-1-0) (after-next .next .given .1) (after-read-and .read-and .ensures .0) in
+    let h = subst (λ (r : Found). Ranged r text-2 ((given-0 .0) + 1) (given-0 .1 .0) last-1-1-1-1-0 last-1-1-1-1-0-2) (end-given .1) (after-read-or .read-or .ensures .0) in (
+      grown-joined text-2 at-2 used (given-0 .0) (given-0 .1 .0) (end-given .0 .0) (end-given .0 .1 .0) nodes last-1-1-1-1-0 last-1-1-1-1-0-2 last-0 g h (pre-1 .2) (pre-1 .1)
           (pre-1 .4) _ _ _ _ (c .put-either .ensures),
       both-read counts left-2 124 either conjunction disjunction (or-step counts left-2) or-fewer or-later some-or text-2 at-2 (given-0 .0)
-          (given-0 .1 .0) last-1-1-1-1-0 (subst (λ (r : Found). ReadAs r conjunction text-2 at-2 left-2 counts last-1-1-1-1-0) (c10 .next .given .1) (c12 .read-and .ensures .1))
-          (sym (c8 .stands .ensures) ∙ not-false _ (c7 .if1 .left)) (g .advanced) (end-given .0 .0) (end-given .0 .1 .0) last-1-1-1-1-0-2 last-0
-          (subst (λ (r : Found). ReadAs r disjunction text-2 ((given-0 .0) + 1) left-2 counts last-1-1-1-1-0-2) (end-given .1) (c5 .read-or .ensures .1))
-          (either-joined text-2 at-2 (c15 .args .used) (given-0 .0) (given-0 .1 .0) (end-given .0 .0) (end-given .0 .1 .0) nodes last-1-1-1-1-0 last-1-1-1-1-0-2 last-0 g h (pre-1 .2)
+          (given-0 .1 .0) last-1-1-1-1-0 (subst (λ (r : Found). ReadAs r conjunction text-2 at-2 left-2 counts last-1-1-1-1-0) (after-next .next .given .1) (after-read-and .read-and .ensures .1))
+          (sym (else1 .before .stands .ensures) ∙ not-false _ (else1 .if1 .left)) (g .advanced) (end-given .0 .0) (end-given .0 .1 .0) last-1-1-1-1-0-2 last-0
+          (subst (λ (r : Found). ReadAs r disjunction text-2 ((given-0 .0) + 1) left-2 counts last-1-1-1-1-0-2) (end-given .1) (after-read-or .read-or .ensures .1))
+          (either-joined text-2 at-2 used (given-0 .0) (given-0 .1 .0) (end-given .0 .0) (end-given .0 .1 .0) nodes last-1-1-1-1-0 last-1-1-1-1-0-2 last-0 g h (pre-1 .2)
           (pre-1 .1) (pre-1 .4) (c .put-either .ensures)),
     ))
     )

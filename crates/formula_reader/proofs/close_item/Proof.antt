@@ -8,6 +8,14 @@ use Rattle.formula_reader.proofs.Readers.{closed-here, closed-not, stan
 use Rattle.formula_reader.proofs.close_item.Statement.{statement}
 use Rattle.formula_reader.proofs.close_item.Tie as tie
 
+-- The places that lie behind a place.
+
+abbrev start-of-stands : tie.After-stands → tie.Start
+start-of-stands c = c .before .before
+
+abbrev start-of-else1 : tie.Else1 → tie.Start
+start-of-else1 c = start-of-stands (c .before)
+
 pub close-item-spec : {M : Type 1} → statement M
 close-item-spec =
     tie.close
@@ -15,10 +23,23 @@ close-item-spec =
     -- stands-requires
     (λ c κs. search needs)
     -- returns
-    (λ c. (c .before .before .before .pre, λ f. closed-not f (c .before .before .before .args .text .now) (c .before .before .before .args .at) (sym (c .before .stands .ensures) ∙ not-true _ (c .if1 .taken))))
+    (λ c.
+    let start = start-of-stands (c .before) in
+    (start .pre, λ f. closed-not f (start .args .text .now) (start .args .at) (sym (c .before .stands .ensures) ∙ not-true _ (c .if1 .taken))))
     -- add-past-blanks
-    (λ c. let i = stands-inside (c .before .before .before .args .text .now) (c .before .before .before .args .at) 41 (sym (c .before .stands .ensures) ∙ not-false _ (c .if1 .left)) in omega arith)
+    (λ c.
+    let start = start-of-else1 c in
+    let i = stands-inside (start .args .text .now) (start .args .at) 41 (sym (c .before .stands .ensures) ∙ not-false _ (c .if1 .left)) in omega arith)
     -- past-blanks-requires
-    (λ c κs. let i = stands-inside (c .before .before .before .args .text .now) (c .before .before .before .args .at) 41 (sym (c .before .stands .ensures) ∙ not-false _ (c .if1 .left)) in omega arith)
+    (λ c κs.
+    let start = start-of-else1 c in
+    let i = stands-inside (start .args .text .now) (start .args .at) 41 (sym (c .before .stands .ensures) ∙ not-false _ (c .if1 .left)) in omega arith)
     -- returns-2
-    (λ c. (omega (arith, c .past-blanks .ensures .0), c .past-blanks .ensures .1, refl, λ f. closed-here f (c .before .before .before .before .args .text .now) (c .before .before .before .before .args .at) (sym (c .before .before .stands .ensures) ∙ not-false _ (c .before .if1 .left)) ∙ ap (done f) (sym (c .past-blanks .ensures .2)))))
+    (λ c.
+    let start = start-of-else1 (c .before) in (
+      omega (arith, c .past-blanks .ensures .0),
+      c .past-blanks .ensures .1,
+      refl,
+      λ f. closed-here f (start .args .text .now) (start .args .at) (sym (c .before .before .stands .ensures) ∙ not-false _ (c .before .if1 .left))
+          ∙ ap (done f) (sym (c .past-blanks .ensures .2)),
+    )))

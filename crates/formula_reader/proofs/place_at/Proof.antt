@@ -17,6 +17,20 @@ Inv-loop text at v₀ i₀ v i =
 abbrev μ-loop : tie.MeasureT-loop
 μ-loop text at v₀ i₀ v i = length text - i
 
+-- The places that lie behind a place.
+
+abbrev in-loop-of-else1 : tie.Else1 Inv-loop μ-loop → tie.In-loop Inv-loop μ-loop
+in-loop-of-else1 c = c .before .before
+
+abbrev in-loop-of-then1 : tie.Then1 Inv-loop μ-loop → tie.In-loop Inv-loop μ-loop
+in-loop-of-then1 c = c .before .before
+
+abbrev else1-of-with-digit : tie.After-with-digit Inv-loop μ-loop → tie.Else1 Inv-loop μ-loop
+else1-of-with-digit c = c .before .before
+
+abbrev start-of-at-loop : tie.At-loop Inv-loop μ-loop → tie.Start Inv-loop μ-loop
+start-of-at-loop c = c .before .before
+
 pub place-at-spec : {M : Type 1} → statement M
 place-at-spec =
     tie.close
@@ -28,16 +42,36 @@ place-at-spec =
     -- shared-slice-read-b
     (λ c. omega arith)
     -- returns
-    (λ c. sym (shown-end (c .before .before .before .before .before .args .text .now) (c .before .before .before .loop .i) (c .before .before .before .loop .v) (digits-not (c .before .before .before .before .before .args .text .now) (c .before .before .before .loop .i) (c .before .before .loop-test .taken) (digit-low _ (c .if1 .taken))) (c .before .before .before .loop .inv .0)) ∙ c .before .before .before .loop .inv .3)
+    (λ c.
+    let in-loop = in-loop-of-then1 c in let at-loop = in-loop .before in let start = start-of-at-loop at-loop in
+    sym (shown-end (start .args .text .now) (at-loop .loop .i) (at-loop .loop .v)
+    (digits-not (start .args .text .now) (at-loop .loop .i) (in-loop .loop-test .taken) (digit-low _ (c .if1 .taken))) (at-loop .loop .inv .0))
+    ∙ at-loop .loop .inv .3)
     -- returns-2
-    (λ c. sym (shown-end (c .before .before .before .before .before .before .args .text .now) (c .before .before .before .before .loop .i) (c .before .before .before .before .loop .v) (digits-not (c .before .before .before .before .before .before .args .text .now) (c .before .before .before .before .loop .i) (c .before .before .before .loop-test .taken) (digit-high _ (c .if2 .taken))) (c .before .before .before .before .loop .inv .0)) ∙ c .before .before .before .before .loop .inv .3)
+    (λ c.
+    let in-loop = in-loop-of-else1 (c .before) in let at-loop = in-loop .before in let start = start-of-at-loop at-loop in
+    sym (shown-end (start .args .text .now) (at-loop .loop .i) (at-loop .loop .v)
+    (digits-not (start .args .text .now) (at-loop .loop .i) (in-loop .loop-test .taken) (digit-high _ (c .if2 .taken))) (at-loop .loop .inv .0))
+    ∙ at-loop .loop .inv .3)
     -- with-digit-requires
-    (λ c κs. (c .before .before .before .before .loop .inv .0, c .before .if1 .left, c .if2 .left))
+    (λ c κs. (in-loop-of-else1 (c .before) .before .loop .inv .0, c .before .if1 .left, c .if2 .left))
     -- add-i
     (λ c. omega arith)
     -- loop-less
     (λ c. omega arith)
     -- loop-again
-    (λ c. (saturated-bound _ (c .with-digit .ensures), omega arith, omega arith, ap (λ (v : ℕ). saturated (shown v (digitsAt (drop (c .before .before .before .before .before .loop .i + 1) (c .before .before .before .before .before .before .before .args .text .now))))) (c .with-digit .ensures) ∙ sym (shown-next (c .before .before .before .before .before .before .before .args .text .now) (c .before .before .before .before .before .loop .i) (c .before .before .before .before .before .loop .v) (c .before .before .before .before .loop-test .taken) (digit-in _ (c .before .before .if1 .left) (c .before .if2 .left))) ∙ c .before .before .before .before .before .loop .inv .3))
+    (λ c.
+    let else1 = else1-of-with-digit c in let in-loop = in-loop-of-else1 else1 in let at-loop = in-loop .before in
+    let start = start-of-at-loop at-loop in (
+      saturated-bound _ (c .with-digit .ensures),
+      omega arith,
+      omega arith,
+      ap (λ (v : ℕ). saturated (shown v (digitsAt (drop (at-loop .loop .i + 1) (start .args .text .now))))) (c .with-digit .ensures)
+          ∙ sym (shown-next (start .args .text .now) (at-loop .loop .i) (at-loop .loop .v) (in-loop .loop-test .taken)
+          (digit-in _ (else1 .if1 .left) (c .before .if2 .left))) ∙ at-loop .loop .inv .3,
+    ))
     -- returns-3
-    (λ c. sym (shown-end (c .before .before .before .args .text .now) (c .before .loop .i) (c .before .loop .v) (digits-end (c .before .before .before .args .text .now) (c .before .loop .i) (c .loop-test .left)) (c .before .loop .inv .0)) ∙ c .before .loop .inv .3))
+    (λ c.
+    let at-loop = c .before in let start = start-of-at-loop at-loop in
+    sym (shown-end (start .args .text .now) (at-loop .loop .i) (at-loop .loop .v)
+    (digits-end (start .args .text .now) (at-loop .loop .i) (c .loop-test .left)) (at-loop .loop .inv .0)) ∙ at-loop .loop .inv .3))

@@ -9,6 +9,14 @@ use Rattle.formula_reader.specs.Tree.{putNode, capped}
 use Rattle.formula_reader.proofs.put_both.Statement.{statement}
 use Rattle.formula_reader.proofs.put_both.Tie as tie
 
+-- The places that lie behind a place.
+
+abbrev capped3-of-put-node : tie.After-put-node → tie.After-capped3
+capped3-of-put-node c = c .before .before
+
+abbrev capped-of-capped2 : tie.After-capped2 → tie.After-capped
+capped-of-capped2 c = c .before .before .before
+
 pub put-both-spec : {M : Type 1} → statement M
 put-both-spec =
     tie.close
@@ -22,7 +30,7 @@ put-both-spec =
     -- capped-requires-2
     (λ c κs. search needs)
     -- mul-capped
-    (λ c. record { fits = lt-of-le-of-lt (mul-le-mul (c .before .before .before .capped .ensures .1) (c .capped2 .ensures .1)) (lit< tt) })
+    (λ c. record { fits = lt-of-le-of-lt (mul-le-mul (capped-of-capped2 c .capped .ensures .1) (c .capped2 .ensures .1)) (lit< tt) })
     -- capped-requires-3
     (λ c κs. search needs)
     -- add-put-node
@@ -30,4 +38,11 @@ put-both-spec =
     -- put-node-requires
     (λ c κs. omega arith)
     -- returns
-    (λ c. c .put-node .ensures ∙ ap (putNode (c .before .before .before .before .before .before .before .before .before .args .nodes .now) (c .before .before .before .before .before .before .before .before .before .args .b + 1) 4 (c .before .before .before .before .before .before .before .before .before .args .a) (c .before .before .before .before .before .before .before .before .before .args .b)) (c .before .before .capped3 .ensures .0 ∙ ap capped (ap₂ (λ (x y : ℕ). x * y) (c .before .before .before .before .before .before .capped .ensures .0 ∙ ap capped (c .before .before .before .before .before .before .before .count-at .ensures)) (c .before .before .before .capped2 .ensures .0 ∙ ap capped (c .before .before .before .before .count-at2 .ensures))))))
+    (λ c.
+    let after-capped3 = capped3-of-put-node c in let after-capped2 = after-capped3 .before in
+    let after-capped = capped-of-capped2 after-capped2 in let after-count-at = after-capped .before in
+    let start = after-count-at .before .before in
+    c .put-node .ensures ∙ ap (putNode (start .args .nodes .now) (start .args .b + 1) 4 (start .args .a) (start .args .b))
+    (after-capped3 .capped3 .ensures .0
+    ∙ ap capped (ap₂ (λ (x y : ℕ). x * y) (after-capped .capped .ensures .0 ∙ ap capped (after-count-at .count-at .ensures))
+    (after-capped2 .capped2 .ensures .0 ∙ ap capped (after-capped2 .before .count-at2 .ensures))))))

@@ -15,9 +15,20 @@ use Rattle.formula_reader.proofs.Trees.{putNode-node, putNode-kept, put
 use Rattle.formula_reader.proofs.read_name.Statement.{statement}
 use Rattle.formula_reader.proofs.read_name.Tie as tie
 
-written : (before after : List ℕ) (used : ℕ) (l : Letter) (code n place : ℕ) → code ≡ letterCode l → n ≡ place → used < 512 → length before ≡ 2048 → after ≡ putNode before used code n 0 1 → Tree after (used + 1 - 1) (literal l place)
+-- The places that lie behind a place.
+
+abbrev place-at-of-then2 : tie.Then2 → tie.After-place-at
+place-at-of-then2 c = c .before .before
+
+abbrev start-of-is-place : tie.After-is-place → tie.Start
+start-of-is-place c = c .before .before
+
+written : (before after : List ℕ) (used : ℕ) (l : Letter) (code n place : ℕ) → code ≡ letterCode l → n ≡ place → used < 512 → length before ≡ 2048 →
+    after ≡ putNode before used code n 0 1 → Tree after (used + 1 - 1) (literal l place)
 written before after used l code n place e p h k w =
-    subst (λ (i : ℕ). Tree after i (literal l place)) at (subst (λ (x : List ℕ). Tree x used (literal l place)) (sym w) (leaf l place (subst (λ (x : ℕ). Node (putNode before used code n 0 1) used x place 0 1) e (subst (λ (x : ℕ). Node (putNode before used code n 0 1) used code x 0 1) p (putNode-node before used code n 0 1 h k)))))
+    subst (λ (i : ℕ). Tree after i (literal l place)) at (subst (λ (x : List ℕ). Tree x used (literal l place)) (sym w)
+    (leaf l place (subst (λ (x : ℕ). Node (putNode before used code n 0 1) used x place 0 1) e
+    (subst (λ (x : ℕ). Node (putNode before used code n 0 1) used code x 0 1) p (putNode-node before used code n 0 1 h k)))))
   where
     at : used ≡ used + 1 - 1
     at = omega arith
@@ -39,7 +50,14 @@ read-name-spec =
     -- element-copy-out-if2
     (λ c. omega arith)
     -- returns-2
-    (λ c. (omega arith, λ l e. named-absent _ l _ _ (c .before .before .before .before .before .before .args .code) (c .before .before .before .before .before .before .pre .4) e (sym (c .before .before .before .before .is-place .ensures) ∙ not-false _ (c .before .before .before .if1 .left)) (subst (λ (n : ℕ). getD (c .before .before .before .before .before .before .args .counts .now) (c .before .before .before .before .before .before .args .code) 0 < n) (c .before .before .place-at .ensures) (c .if2 .taken))))
+    (λ c.
+    let after-place-at = place-at-of-then2 c in let else1 = after-place-at .before in let after-is-place = else1 .before in
+    let start = start-of-is-place after-is-place in (
+      omega arith,
+      λ l e. named-absent _ l _ _ (start .args .code) (start .pre .4) e
+          (sym (after-is-place .is-place .ensures) ∙ not-false _ (else1 .if1 .left))
+          (subst (λ (n : ℕ). getD (start .args .counts .now) (start .args .code) 0 < n) (after-place-at .place-at .ensures) (c .if2 .taken)),
+    ))
     -- past-digits-requires
     (λ c κs. omega arith)
     -- past-blanks-requires
@@ -50,21 +68,30 @@ read-name-spec =
     (λ c. omega arith)
     -- returns-3
     (λ c.
-    let text = c .before .before .before .before .before .before .before .before .before .before .args .text .now in
-    let at = c .before .before .before .before .before .before .before .before .before .before .args .at in
-    let h = subst (λ (n : ℕ). n ≤ getD (c .before .before .before .before .before .before .before .before .before .before .args .counts .now) (c .before .before .before .before .before .before .before .before .before .before .args .code) 0) (c .before .before .before .before .before .before .place-at .ensures) (c .before .before .before .before .if2 .left) in
-    let p = sym (c .before .before .before .before .before .before .before .before .is-place .ensures) ∙ not-false _ (c .before .before .before .before .before .before .before .if1 .left) in (
+    let after-past-blanks = c .before .before in let after-past-digits = after-past-blanks .before in let else2 = after-past-digits .before in
+    let after-place-at = else2 .before .before in let else1 = after-place-at .before in let after-is-place = else1 .before in
+    let start = start-of-is-place after-is-place in let args-code = start .args .code in let counts = start .args .counts .now in
+    let put-node-ensures = c .put-node .ensures in
+    let text = start .args .text .now in
+    let at = start .args .at in
+    let h = subst (λ (n : ℕ). n ≤ getD counts args-code 0) (after-place-at .place-at .ensures) (else2 .if2 .left) in
+    let p = sym (after-is-place .is-place .ensures) ∙ not-false _ (else1 .if1 .left) in (
       record {
-        advanced = omega (arith, c .before .before .before .past-digits .ensures .0, c .before .before .past-blanks .ensures .0);
-        within = c .before .before .past-blanks .ensures .1;
+        advanced = omega (arith, after-past-digits .past-digits .ensures .0, after-past-blanks .past-blanks .ensures .0);
+        within = after-past-blanks .past-blanks .ensures .1;
         grown = omega arith;
-        bounded = omega (arith, c .before .before .before .past-digits .ensures .0, c .before .before .past-blanks .ensures .0);
-        kept = λ j l. ap (λ (x : List ℕ). getD x j 0) (c .put-node .ensures) ∙ putNode-kept _ _ _ _ _ _ j l;
-        same-length = ap length (c .put-node .ensures) ∙ putNode-length _ _ _ _ _ _;
+        bounded = omega (arith, after-past-digits .past-digits .ensures .0, after-past-blanks .past-blanks .ensures .0);
+        kept = λ j l. ap (λ (x : List ℕ). getD x j 0) put-node-ensures ∙ putNode-kept _ _ _ _ _ _ j l;
+        same-length = ap length put-node-ensures ∙ putNode-length _ _ _ _ _ _;
       },
       λ l e. (
         literal l (shown 0 (digitsAt (drop (at + 1) text))),
-        named-present (c .before .before .before .before .before .before .before .before .before .before .args .counts .now) l (drop at text) (drop (at + 1) text) (c .before .before .before .before .before .before .before .before .before .before .args .code) (c .before .before .before .before .before .before .before .before .before .before .pre .4) e p h ∙ ap (done (literal l (shown 0 (digitsAt (drop (at + 1) text))))) (ap pastBlanks (sym (c .before .before .before .past-digits .ensures .2)) ∙ sym (c .before .before .past-blanks .ensures .2)),
-        written (c .before .before .before .before .before .before .before .before .before .before .args .nodes .now) _ (c .before .before .before .before .before .before .before .before .before .before .args .used) l (c .before .before .before .before .before .before .before .before .before .before .args .code) (c .before .before .before .before .before .before .place-at .result) (shown 0 (digitsAt (drop (at + 1) text))) e (c .before .before .before .before .before .before .place-at .ensures ∙ place-small (c .before .before .before .before .before .before .before .before .before .before .args .counts .now) l (drop at text) (drop (at + 1) text) (c .before .before .before .before .before .before .before .before .before .before .args .code) (c .before .before .before .before .before .before .before .before .before .before .pre .4) e p h) (omega arith) (c .before .before .before .before .before .before .before .before .before .before .pre .5) (c .put-node .ensures),
+        named-present counts l (drop at text) (drop (at + 1) text) args-code (start .pre .4) e p h
+            ∙ ap (done (literal l (shown 0 (digitsAt (drop (at + 1) text)))))
+            (ap pastBlanks (sym (after-past-digits .past-digits .ensures .2)) ∙ sym (after-past-blanks .past-blanks .ensures .2)),
+        written (start .args .nodes .now) _ (start .args .used) l args-code (after-place-at .place-at .result)
+            (shown 0 (digitsAt (drop (at + 1) text))) e
+            (after-place-at .place-at .ensures ∙ place-small counts l (drop at text) (drop (at + 1) text) args-code (start .pre .4) e p h) (omega arith)
+            (start .pre .5) put-node-ensures,
       ),
     )))

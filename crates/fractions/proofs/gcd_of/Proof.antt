@@ -27,6 +27,10 @@ gcd-of-spec =
     -- loop-less
     (λ c. mod-lt (c .before .loop .a) (omega arith))
     -- loop-again
-    (λ c. sym (gcd-next (c .before .loop .a) (c .before .loop .b) (omega arith)) ∙ c .before .loop .inv)
+    (λ c.
+    let at-loop = c .before in
+    sym (gcd-next (at-loop .loop .a) (at-loop .loop .b) (omega arith)) ∙ at-loop .loop .inv)
     -- returns
-    (λ c. sym (gcd-zero (c .before .loop .a) (c .before .loop .b) (omega arith)) ∙ c .before .loop .inv))
+    (λ c.
+    let at-loop = c .before in
+    sym (gcd-zero (at-loop .loop .a) (at-loop .loop .b) (omega arith)) ∙ at-loop .loop .inv))

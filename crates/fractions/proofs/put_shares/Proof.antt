@@ -16,6 +16,11 @@ Inv-loop buffer₀ counts total to₀ k₀ buffer to k = (k ≤ 8) × (length co
 abbrev μ-loop : tie.MeasureT-loop
 μ-loop buffer₀ counts total to₀ k₀ buffer to k = 8 - k
 
+-- The places that lie behind a place.
+
+abbrev at-loop-of-wide : tie.After-wide Inv-loop μ-loop → tie.At-loop Inv-loop μ-loop
+at-loop-of-wide c = c .before .before .before
+
 pub put-shares-spec : {M : Type 1} → statement M
 put-shares-spec =
     tie.close
@@ -33,14 +38,26 @@ put-shares-spec =
     -- wide-requires
     (λ c κs. search needs)
     -- put-share-requires
-    (λ c κs. (omega arith, omega (arith, part-at-most (c .before .before .before .before .before .before .args .t2) (c .before .before .before .loop .k) (omega arith))))
+    (λ c κs.
+    let at-loop = at-loop-of-wide c in
+    (omega arith, omega (arith, part-at-most (at-loop .before .before .before .args .t2) (at-loop .loop .k) (omega arith))))
     -- add-k
     (λ c. omega arith)
     -- loop-less
     (λ c. omega arith)
     -- loop-again
-    (λ c. (omega arith, c .before .before .before .before .before .before .loop .inv .1, omega (arith, c .before .before .put-share .ensures .1), c .before .before .before .before .before .before .loop .inv .3, part-more (c .before .before .before .before .before .before .loop .inv .4) (shares-next _ _ (c .before .before .before .before .before .before .loop .k) (omega arith)) (writes-as (share-as _ (c .before .before .before .wide .ensures .0)) (c .before .before .put-share .ensures .0))))
+    (λ c.
+    let after-put-share = c .before .before in let after-wide = after-put-share .before in let at-loop = at-loop-of-wide after-wide in (
+      omega arith,
+      at-loop .loop .inv .1,
+      omega (arith, after-put-share .put-share .ensures .1),
+      at-loop .loop .inv .3,
+      part-more (at-loop .loop .inv .4) (shares-next _ _ (at-loop .loop .k) (omega arith))
+          (writes-as (share-as _ (after-wide .wide .ensures .0)) (after-put-share .put-share .ensures .0)),
+    ))
     -- same-length
     (λ c. part-length (c .before .loop .inv .4))
     -- returns
-    (λ c. (part-all (c .before .loop .inv .4) (shares-end _ _ (c .before .loop .k) (omega arith)), omega arith)))
+    (λ c.
+    let at-loop = c .before in
+    (part-all (at-loop .loop .inv .4) (shares-end _ _ (at-loop .loop .k) (omega arith)), omega arith)))

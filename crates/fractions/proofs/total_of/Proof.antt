@@ -15,6 +15,11 @@ Inv-loop counts sum₀ k₀ sum k = (k ≤ 8) × (length counts ≡ 8) × (sum �
 abbrev μ-loop : tie.MeasureT-loop
 μ-loop counts sum₀ k₀ sum k = 8 - k
 
+-- The places that lie behind a place.
+
+abbrev at-loop-of-wide : tie.After-wide Inv-loop μ-loop → tie.At-loop Inv-loop μ-loop
+at-loop-of-wide c = c .before .before
+
 pub total-of-spec : {M : Type 1} → statement M
 total-of-spec =
     tie.close
@@ -36,6 +41,10 @@ total-of-spec =
     -- loop-less
     (λ c. omega arith)
     -- loop-again
-    (λ c. (omega arith, omega arith, omega arith, omega (arith, total-next (c .before .before .before .args .t1) (c .before .before .loop .k) (omega arith))))
+    (λ c.
+    let at-loop = at-loop-of-wide c in
+    (omega arith, omega arith, omega arith, omega (arith, total-next (at-loop .before .args .t1) (at-loop .loop .k) (omega arith))))
     -- returns
-    (λ c. (omega (arith, total-end (c .before .before .args .t1) (c .before .loop .k) (omega arith)), c .before .loop .inv .1)))
+    (λ c.
+    let at-loop = c .before in
+    (omega (arith, total-end (at-loop .before .args .t1) (at-loop .loop .k) (omega arith)), at-loop .loop .inv .1)))

@@ -39,13 +39,16 @@ cycle-spec =
     -- loop-less
     (λ c. omega arith)
     -- loop-again
-    (λ c. (
+    (λ c.
+    let after-around = c .before .before in let at-loop = after-around .before .before in let start = at-loop .before in (
       omega arith,
       λ s e p.
-          let a = c .before .before .before .before .before .args in
-          let h = c .before .before .before .before .loop .inv .1 s e p in
+          let a = start .args in
+          let h = at-loop .loop .inv .1 s e p in
           ⊎-elim
-          (λ w. kept-better (a .n) s _ _ _ _ (w .4 ∙ w .3 .ensures) h (cycle-placed (a .n) (a .link .now) (a .reach .now) s (a .k) e _ _ _ _ (c .before .before .before .before .before .pre) (omega arith) (c .before .before .around .ensures .steps-within) (c .before .before .around .ensures .off-round) (lowest-in _ _ (w .1 .given .1) _ (c .before .lowest .ensures))))
+          (λ w. kept-better (a .n) s _ _ _ _ (w .4 ∙ w .3 .ensures) h
+          (cycle-placed (a .n) (a .link .now) (a .reach .now) s (a .k) e _ _ _ _ (start .pre) (omega arith)
+          (after-around .around .ensures .steps-within) (after-around .around .ensures .off-round) (lowest-in _ _ (w .1 .given .1) _ (c .before .lowest .ensures))))
           (λ w. kept-same (a .n) s _ _ (w .2) h)
           (c .match .came),
     ))

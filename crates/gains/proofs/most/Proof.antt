@@ -14,6 +14,20 @@ Inv-loop n s total best₀ k₀ best k = (1 ≤ k) × Proposes n (pathOf s) (bes
 abbrev μ-loop : tie.MeasureT-loop
 μ-loop n s total best₀ k₀ best k = total + 1 - k
 
+-- The places that lie behind a place.
+
+abbrev rows-of2-of-reach : tie.After-reach Inv-loop μ-loop → tie.After-rows-of2 Inv-loop μ-loop
+rows-of2-of-reach c = c .before .before
+
+abbrev rows-of-of-rows-of-arg2 : tie.After-rows-of-arg2 Inv-loop μ-loop → tie.After-rows-of Inv-loop μ-loop
+rows-of-of-rows-of-arg2 c = c .before .before
+
+abbrev at-loop-of-rows-of-arg : tie.After-rows-of-arg Inv-loop μ-loop → tie.At-loop Inv-loop μ-loop
+at-loop-of-rows-of-arg c = c .before .before .before
+
+abbrev links-of-rows-of2 : tie.After-rows-of2 Inv-loop μ-loop → tie.After-links Inv-loop μ-loop
+links-of-rows-of2 c = at-loop-of-rows-of-arg (rows-of-of-rows-of-arg2 (c .before) .before) .before
+
 pub most-spec : {M : Type 1} → statement M
 most-spec =
     tie.close
@@ -25,16 +39,27 @@ most-spec =
     -- loop-holds
     (λ c. (omega arith, tt))
     -- rows-of-requires
-    (λ c κs. (c .before .before .before .loop .inv .0, omega (arith, c .before .before .before .before .links .ensures .2)))
+    (λ c κs.
+    let at-loop = at-loop-of-rows-of-arg c in
+    (at-loop .loop .inv .0, omega (arith, at-loop .before .links .ensures .2)))
     -- rows-of-requires-2
-    (λ c κs. (c .before .before .before .before .before .before .loop .inv .0, omega (arith, c .before .before .before .before .before .before .before .links .ensures .2)))
+    (λ c κs.
+    let at-loop = at-loop-of-rows-of-arg (rows-of-of-rows-of-arg2 c .before) in
+    (at-loop .loop .inv .0, omega (arith, at-loop .before .links .ensures .2)))
     -- most-at-requires
-    (λ c κs. c .before .before .before .before .before .before .before .before .before .before .before .pre)
+    (λ c κs. links-of-rows-of2 (rows-of2-of-reach c) .before .pre)
     -- add-k
-    (λ c. omega (arith, c .before .before .before .before .before .before .before .before .before .before .before .links .ensures .2))
+    (λ c. omega (arith, links-of-rows-of2 (rows-of2-of-reach (c .before)) .links .ensures .2))
     -- loop-less
     (λ c. omega arith)
     -- loop-again
-    (λ c. (omega arith, c .most-at .ensures _ (rows-of _ _ _ _ (link-counted _ _ _ (c .before .before .before .before .before .before .before .before .before .before .before .links .ensures .0) (c .before .before .before .before .before .before .before .before .before .before .loop .inv .0) (omega arith)) (c .before .before .before .before .before .before .rows-of .ensures) (c .before .before .before .rows-of2 .ensures)) (c .before .before .before .before .before .before .before .before .before .before .loop .inv .1)))
+    (λ c.
+    let after-rows-of2 = rows-of2-of-reach (c .before) in let after-rows-of = rows-of-of-rows-of-arg2 (after-rows-of2 .before) in
+    let at-loop = at-loop-of-rows-of-arg (after-rows-of .before) in (
+      omega arith,
+      c .most-at .ensures _
+          (rows-of _ _ _ _ (link-counted _ _ _ (links-of-rows-of2 after-rows-of2 .links .ensures .0) (at-loop .loop .inv .0) (omega arith))
+          (after-rows-of .rows-of .ensures) (after-rows-of2 .rows-of2 .ensures)) (at-loop .loop .inv .1),
+    ))
     -- returns
     (λ c. c .before .loop .inv .1))

@@ -3,6 +3,11 @@ use borrow.Author.Needs.{needs}
 use Rattle.gains.proofs.most_at.Statement.{statement}
 use Rattle.gains.proofs.most_at.Tie as tie
 
+-- The places that lie behind a place.
+
+abbrev scc-of-total : tie.After-total → tie.After-scc
+scc-of-total c = c .before .before
+
 pub most-at-spec : {M : Type 1} → statement M
 most-at-spec =
     tie.close
@@ -19,5 +24,6 @@ most-at-spec =
     (λ c κs. search needs)
     -- returns
     (λ c.
-    let a = c .before .before .before .before .before .before .before .before .args in
-    λ s e p. c .total .ensures (a .n) (a .link .now) s e (c .before .before .scc .ensures (a .n) (a .link .now) s e (c .before .before .before .before .cycle .ensures s e (c .before .before .before .before .before .func .ensures (a .n) s e p)))))
+    let after-scc = scc-of-total c in let after-cycle = after-scc .before .before in let after-func = after-cycle .before in
+    let a = after-func .before .before .before .args in
+    λ s e p. c .total .ensures (a .n) (a .link .now) s e (after-scc .scc .ensures (a .n) (a .link .now) s e (after-cycle .cycle .ensures s e (after-func .func .ensures (a .n) s e p)))))

@@ -14,6 +14,12 @@ ones-spec =
     -- up-to-requires
     (λ c κs. search needs)
     -- cast-result
-    (λ c. let l = c .before .fits .row .fits in let m = and-le-l (c .before .args .row) (c .up-to .result) in record { fits = omega (arith, ones-le 32 (bitAnd (c .before .args .row) (c .up-to .result)) (omega arith)) })
+    (λ c.
+    let start = c .before in
+    let l = start .fits .row .fits in
+    let m = and-le-l (start .args .row) (c .up-to .result) in
+    record { fits = omega (arith, ones-le 32 (bitAnd (start .args .row) (c .up-to .result)) (omega arith)) })
     -- returns
-    (λ c. ones-up-to (c .before .args .row) (c .up-to .result) (c .before .fits .row .fits) (c .up-to .ensures)))
+    (λ c.
+    let start = c .before in
+    ones-up-to (start .args .row) (c .up-to .result) (start .fits .row .fits) (c .up-to .ensures)))

@@ -23,6 +23,20 @@ Inv-loop k reach back best₀ x₀ best x = (x ≤ 17) × ((n : ℕ) (link : Lis
 abbrev μ-loop : tie.MeasureT-loop
 μ-loop k reach back best₀ x₀ best x = 17 - x
 
+-- The places that lie behind a place.
+
+abbrev at-loop2-of-has : tie.After-has Inv-loop2 μ-loop2 Inv-loop μ-loop → tie.At-loop2 Inv-loop2 μ-loop2 Inv-loop μ-loop
+at-loop2-of-has c = c .before .before
+
+abbrev lowest-of-z : tie.After-z Inv-loop2 μ-loop2 Inv-loop μ-loop → tie.After-lowest Inv-loop2 μ-loop2 Inv-loop μ-loop
+lowest-of-z c = c .before .before
+
+abbrev start-of-in-loop : tie.In-loop Inv-loop2 μ-loop2 Inv-loop μ-loop → tie.Start Inv-loop2 μ-loop2 Inv-loop μ-loop
+start-of-in-loop c = c .before .before
+
+abbrev z-of-at-loop2 : tie.At-loop2 Inv-loop2 μ-loop2 Inv-loop μ-loop → tie.After-z Inv-loop2 μ-loop2 Inv-loop μ-loop
+z-of-at-loop2 c = c .before .before
+
 pub scc-spec : {M : Type 1} → statement M
 scc-spec =
     tie.close
@@ -34,9 +48,9 @@ scc-spec =
     -- loop-holds
     (λ c. (omega arith, λ n link s e p. p))
     -- both-ways-requires
-    (λ c κs. (omega arith, c .before .before .pre))
+    (λ c κs. (omega arith, start-of-in-loop c .pre))
     -- ahead-requires
-    (λ c κs. (omega arith, c .before .before .before .pre))
+    (λ c κs. (omega arith, start-of-in-loop (c .before) .pre))
     -- lowest-requires
     (λ c κs. search needs)
     -- enum-known-z
@@ -48,7 +62,9 @@ scc-spec =
     -- joined-requires
     (λ c κs. (omega arith, omega arith))
     -- added-requires
-    (λ c κs. let h = lowest-in _ _ (c .before .before .before .before .before .before .z .given .1) _ (c .before .before .before .before .before .before .before .before .lowest .ensures) in (h .0, omega arith))
+    (λ c κs.
+    let after-z = z-of-at-loop2 (at-loop2-of-has (c .before .before)) in
+    let h = lowest-in _ _ (after-z .z .given .1) _ (lowest-of-z after-z .lowest .ensures) in (h .0, omega arith))
     -- product-requires
     (λ c κs. search needs)
     -- better-requires
@@ -58,13 +74,18 @@ scc-spec =
     -- loop2-less
     (λ c. omega arith)
     -- loop2-again
-    (λ c. (
+    (λ c.
+    let at-loop2 = at-loop2-of-has (c .before) in let after-z = z-of-at-loop2 at-loop2 in let after-lowest = lowest-of-z after-z in
+    let after-ahead = after-lowest .before in let after-both-ways = after-ahead .before in (
       omega arith,
       λ n link s e p.
-          let a = c .before .before .before .before .before .before .before .before .before .before .before .before .args in
-          let h = c .before .before .before .loop2 .inv .1 n link s e p in
+          let a = start-of-in-loop (after-both-ways .before) .args in
+          let h = at-loop2 .loop2 .inv .1 n link s e p in
           ⊎-elim
-          (λ w. kept-better n s _ _ _ _ (w .5 ∙ w .4 .ensures) h (scc-placed n link (a .reach .now) s (a .k) e _ _ _ _ _ (omega arith) (c .before .before .before .before .before .before .before .before .before .both-ways .ensures) (omega arith, sym (c .before .has .ensures) ∙ w .0 .taken) (c .before .before .before .before .before .before .before .before .ahead .ensures) (lowest-in _ _ (c .before .before .before .before .before .z .given .1) _ (c .before .before .before .before .before .before .before .lowest .ensures))))
+          (λ w. kept-better n s _ _ _ _ (w .5 ∙ w .4 .ensures) h
+          (scc-placed n link (a .reach .now) s (a .k) e _ _ _ _ _ (omega arith) (after-both-ways .both-ways .ensures)
+          (omega arith, sym (c .before .has .ensures) ∙ w .0 .taken) (after-ahead .ahead .ensures)
+          (lowest-in _ _ (after-z .z .given .1) _ (after-lowest .lowest .ensures))))
           (λ w. kept-same n s _ _ (w .1) h)
           (c .if1 .came),
     ))

@@ -17,6 +17,14 @@ Inv-loop nodes links n bytes₀ t₀ bytes t =
 abbrev μ-loop : tie.MeasureT-loop
 μ-loop nodes links n bytes₀ t₀ bytes t = n + 1 - t
 
+-- The places that lie behind a place.
+
+abbrev wide-of-struct-known : tie.After-struct-known Inv-loop μ-loop → tie.After-wide Inv-loop μ-loop
+wide-of-struct-known c = c .before .before
+
+abbrev at-loop-of-wide : tie.After-wide Inv-loop μ-loop → tie.At-loop Inv-loop μ-loop
+at-loop-of-wide c = c .before .before .before
+
 pub nodes-linked-spec : {M : Type 1} → statement M
 unfolding linkOf
 nodes-linked-spec =
@@ -31,7 +39,9 @@ nodes-linked-spec =
     -- wide-requires
     (λ c κs. search needs)
     -- node-of-requires
-    (λ c κs. omega (arith, c .wide .ensures .0, c .before .before .before .before .pre .1 (c .before .before .before .loop .t) (omega arith)))
+    (λ c κs.
+    let at-loop = at-loop-of-wide c in
+    omega (arith, c .wide .ensures .0, at-loop .before .pre .1 (at-loop .loop .t) (omega arith)))
     -- cast-bytes
     (λ c. omega (arith, c .before .node-of .ensures .1))
     -- array-write-bytes
@@ -42,8 +52,11 @@ nodes-linked-spec =
     (λ c. omega arith)
     -- loop-again
     (λ c.
-    let l = c .before .before .before .before .before .loop in
-    let a = c .before .before .before .before .before .before .args in
-    (simp length-set (l .inv .0), filled-more (λ x. nodeOf (a .nodes .now) (linkOf (a .links .now) x)) 0 (l .bytes) (l .t) (omega arith) _ (c .before .node-of .ensures .0 ∙ ap (nodeOf (a .nodes .now)) (c .before .before .wide .ensures .0)) (l .inv .1)))
+    let l = at-loop-of-wide (wide-of-struct-known c) .loop in
+    let a = at-loop-of-wide (wide-of-struct-known c) .before .args in (
+      simp length-set (l .inv .0),
+      filled-more (λ x. nodeOf (a .nodes .now) (linkOf (a .links .now) x)) 0 (l .bytes) (l .t) (omega arith) _
+          (c .before .node-of .ensures .0 ∙ ap (nodeOf (a .nodes .now)) (wide-of-struct-known c .wide .ensures .0)) (l .inv .1),
+    ))
     -- returns
     (λ c. λ t h. c .before .loop .inv .1 t (omega arith) (omega arith)))

@@ -17,6 +17,14 @@ Inv-loop nodes rep n bytes₀ t₀ bytes t =
 abbrev μ-loop : tie.MeasureT-loop
 μ-loop nodes rep n bytes₀ t₀ bytes t = n + 1 - t
 
+-- The places that lie behind a place.
+
+abbrev at-loop-of-read-rep : tie.After-read-rep Inv-loop μ-loop → tie.At-loop Inv-loop μ-loop
+at-loop-of-read-rep c = c .before .before
+
+abbrev read-rep-of-struct-known : tie.After-struct-known Inv-loop μ-loop → tie.After-read-rep Inv-loop μ-loop
+read-rep-of-struct-known c = c .before .before
+
 pub nodes-of-terms-spec : {M : Type 1} → statement M
 nodes-of-terms-spec =
     tie.close
@@ -28,7 +36,9 @@ nodes-of-terms-spec =
     -- read-rep-requires
     (λ c κs. search needs)
     -- node-of-requires
-    (λ c κs. omega (arith, c .read-rep .ensures, c .before .before .before .pre .1 (c .before .before .loop .t) (c .before .before .loop .inv .0) (omega arith)))
+    (λ c κs.
+    let at-loop = at-loop-of-read-rep c in
+    omega (arith, c .read-rep .ensures, at-loop .before .pre .1 (at-loop .loop .t) (at-loop .loop .inv .0) (omega arith)))
     -- cast-bytes
     (λ c. omega (arith, c .before .node-of .ensures .1))
     -- array-write-bytes
@@ -39,11 +49,12 @@ nodes-of-terms-spec =
     (λ c. omega arith)
     -- loop-again
     (λ c.
-    let l = c .before .before .before .before .loop in
-    let a = c .before .before .before .before .before .args in (
+    let l = at-loop-of-read-rep (read-rep-of-struct-known c) .loop in
+    let a = at-loop-of-read-rep (read-rep-of-struct-known c) .before .args in (
       omega arith,
       simp length-set (l .inv .1),
-      filled-more (λ x. nodeOf (a .nodes .now) (repOf (a .rep .now) x)) 1 (l .bytes) (l .t) (omega arith) _ (c .before .node-of .ensures .0 ∙ ap (nodeOf (a .nodes .now)) (c .before .before .read-rep .ensures)) (l .inv .2),
+      filled-more (λ x. nodeOf (a .nodes .now) (repOf (a .rep .now) x)) 1 (l .bytes) (l .t) (omega arith) _
+          (c .before .node-of .ensures .0 ∙ ap (nodeOf (a .nodes .now)) (read-rep-of-struct-known c .read-rep .ensures)) (l .inv .2),
     ))
     -- returns
     (λ c. λ t l h. c .before .loop .inv .2 t l (omega arith)))

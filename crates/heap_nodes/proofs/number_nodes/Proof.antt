@@ -44,7 +44,9 @@ number-nodes-spec =
     -- loop-less
     (λ c. omega arith)
     -- loop-again
-    (λ c. (omega arith, c .before .before .before .loop .inv .1, numbered-skip _ _ _ _ _ _ (c .before .before .before .loop .inv .2) (omega arith) (omega arith) (not-true _ (c .if1 .taken))))
+    (λ c.
+    let at-loop = c .before .before .before in
+    (omega arith, at-loop .loop .inv .1, numbered-skip _ _ _ _ _ _ (at-loop .loop .inv .2) (omega arith) (omega arith) (not-true _ (c .if1 .taken))))
     -- add-k
     (λ c. omega arith)
     -- cast-nodes

@@ -17,36 +17,54 @@ Inv-loop buffer₀ at bytes marks nodes n end t₀ buffer t = PutAt (λ x. getD 
 abbrev μ-loop : tie.MeasureT-loop
 μ-loop buffer₀ at bytes marks nodes n end t₀ buffer t = n + 1 - t
 
+-- The places that lie behind a place.
+
+abbrev start-of-at-loop : tie.At-loop Inv-loop μ-loop → tie.Start Inv-loop μ-loop
+start-of-at-loop c = c .before .before
+
+abbrev else1-of-struct-known : tie.After-struct-known Inv-loop μ-loop → tie.Else1 Inv-loop μ-loop
+else1-of-struct-known c = c .before .before
+
+abbrev node-of-of-buffer : tie.After-buffer Inv-loop μ-loop → tie.After-node-of Inv-loop μ-loop
+node-of-of-buffer c = c .before .before
+
+abbrev at-loop-of-else1 : tie.Else1 Inv-loop μ-loop → tie.At-loop Inv-loop μ-loop
+at-loop-of-else1 c = c .before .before .before
+
 -- the node of t is its place, and there is room for its byte
 add-to : tie.Need-add-to Inv-loop μ-loop
 unfolding marked
 add-to c =
-    let l = c .before .before .before .before .before .loop in
-    let p = c .before .before .before .before .before .before .before .pre in
+    let else1 = else1-of-struct-known c in let at-loop = at-loop-of-else1 else1 in let start = start-of-at-loop at-loop in
+    let l = at-loop .loop in
+    let p = start .pre in
     let node = c .before .node-of .ensures .0 ∙ p .2 (l .t) (omega arith) in
-    let h = put-at-room _ _ _ _ _ _ _ (l .inv) (omega arith) (not-false _ (c .before .before .if1 .left)) _ node (p .1) in
-    omega (arith, put-at-place _ _ _ _ _ _ _ (l .inv) (omega arith) (not-false _ (c .before .before .if1 .left)) _ node, l .inv .put .same, c .before .before .before .before .before .before .before .good)
+    let h = put-at-room _ _ _ _ _ _ _ (l .inv) (omega arith) (not-false _ (else1 .if1 .left)) _ node (p .1) in
+    omega (arith, put-at-place _ _ _ _ _ _ _ (l .inv) (omega arith) (not-false _ (else1 .if1 .left)) _ node, l .inv .put .same, start .good)
 
 sub-to : tie.Need-sub-to Inv-loop μ-loop
 unfolding marked
 sub-to c =
-    let l = c .before .before .before .before .before .loop in
-    let p = c .before .before .before .before .before .before .before .pre in
-    omega (arith, put-at-place _ _ _ _ _ _ _ (l .inv) (omega arith) (not-false _ (c .before .before .if1 .left)) _ (c .before .node-of .ensures .0 ∙ p .2 (l .t) (omega arith)))
+    let else1 = else1-of-struct-known c in let at-loop = at-loop-of-else1 else1 in
+    let l = at-loop .loop in
+    let p = start-of-at-loop at-loop .pre in
+    omega (arith, put-at-place _ _ _ _ _ _ _ (l .inv) (omega arith) (not-false _ (else1 .if1 .left)) _ (c .before .node-of .ensures .0 ∙ p .2 (l .t) (omega arith)))
 
 slice-write-buffer : tie.Need-slice-write-buffer Inv-loop μ-loop
 unfolding marked
 slice-write-buffer c =
-    let l = c .before .before .before .before .before .before .loop in
-    let p = c .before .before .before .before .before .before .before .before .pre in
-    put-at-room _ _ _ _ _ _ _ (l .inv) (omega arith) (not-false _ (c .before .before .before .if1 .left)) _ (c .before .before .node-of .ensures .0 ∙ p .2 (l .t) (omega arith)) (p .1)
+    let else1 = else1-of-struct-known (c .before) in let at-loop = at-loop-of-else1 else1 in
+    let l = at-loop .loop in
+    let p = start-of-at-loop at-loop .pre in
+    put-at-room _ _ _ _ _ _ _ (l .inv) (omega arith) (not-false _ (else1 .if1 .left)) _ (node-of-of-buffer c .node-of .ensures .0 ∙ p .2 (l .t) (omega arith)) (p .1)
 
 loop-again-2 : tie.Need-loop-again-2 Inv-loop μ-loop
 unfolding marked
 loop-again-2 c =
-    let l = c .before .before .before .before .before .before .loop in
-    let p = c .before .before .before .before .before .before .before .before .pre in
-    put-at-here _ _ _ _ _ _ _ (l .inv) (omega arith) (not-false _ (c .before .before .before .if1 .left)) _ (c .before .before .node-of .ensures .0 ∙ p .2 (l .t) (omega arith)) (p .1) _ refl
+    let else1 = else1-of-struct-known (c .before) in let at-loop = at-loop-of-else1 else1 in
+    let l = at-loop .loop in
+    let p = start-of-at-loop at-loop .pre in
+    put-at-here _ _ _ _ _ _ _ (l .inv) (omega arith) (not-false _ (else1 .if1 .left)) _ (node-of-of-buffer c .node-of .ensures .0 ∙ p .2 (l .t) (omega arith)) (p .1) _ refl
 
 returns : tie.Need-returns Inv-loop μ-loop
 unfolding marked

@@ -9,6 +9,14 @@ use Rattle.join_printing.proofs.Texts.{second-read}
 use Rattle.join_printing.proofs.put_second.Statement.{statement}
 use Rattle.join_printing.proofs.put_second.Tie as tie
 
+-- The places that lie behind a place.
+
+abbrev put-told-of-slice-known2 : tie.After-slice-known2 → tie.After-put-told
+put-told-of-slice-known2 c = c .before .before
+
+abbrev at-most2-of-put-told-arg3 : tie.After-put-told-arg3 → tie.After-at-most2
+at-most2-of-put-told-arg3 c = c .before .before .before
+
 pub put-second-spec : {M : Type 1} → statement M
 put-second-spec =
     tie.close
@@ -40,8 +48,15 @@ put-second-spec =
     -- part-put-told-end-2
     (λ c. search needs)
     -- put-told-requires
-    (λ c κs. (c .before .before .before .before .before .before .before .before .before .before .pre, omega (arith, taken-few (c .before .before .before .at-most2 .result - c .before .before .before .before .at-most .result) (drop (c .before .before .before .before .at-most .result) (c .before .before .before .before .before .before .before .before .before .before .args .input .now)))))
+    (λ c κs.
+    let after-at-most2 = at-most2-of-put-told-arg3 c in let after-at-most = after-at-most2 .before in
+    let start = after-at-most .before .before .before .before .before .before in
+    (start .pre, omega (arith, taken-few (after-at-most2 .at-most2 .result - after-at-most .at-most .result) (drop (after-at-most .at-most .result) (start .args .input .now)))))
     -- same-length
     (λ c. search needs)
     -- returns
-    (λ c. writes-as (second-read _ _ _ (c .before .before .before .before .before .before .before .before .before .byte-at .ensures .0) (c .before .before .before .before .before .before .before .before .byte-at2 .ensures .0) (c .before .before .before .before .before .before .before .at-most .ensures) (c .before .before .before .before .before .before .at-most2 .ensures) _) (c .before .before .put-told .ensures)))
+    (λ c.
+    let after-put-told = put-told-of-slice-known2 c in let after-at-most2 = at-most2-of-put-told-arg3 (after-put-told .before) in
+    let after-at-most = after-at-most2 .before in let after-byte-at2 = after-at-most .before in
+    writes-as (second-read _ _ _ (after-byte-at2 .before .byte-at .ensures .0) (after-byte-at2 .byte-at2 .ensures .0)
+    (after-at-most .at-most .ensures) (after-at-most2 .at-most2 .ensures) _) (after-put-told .put-told .ensures)))

@@ -5,6 +5,11 @@ use Rattle.join_printing.proofs.Texts.{line-long, line-read}
 use Rattle.join_printing.proofs.read_line.Statement.{statement}
 use Rattle.join_printing.proofs.read_line.Tie as tie
 
+-- The places that lie behind a place.
+
+abbrev put-numbers-of-slice-known2 : tie.After-slice-known2 → tie.After-put-numbers
+put-numbers-of-slice-known2 c = c .before .before
+
 pub read-line-spec : {M : Type 1} → statement M
 read-line-spec =
     tie.close
@@ -16,4 +21,6 @@ read-line-spec =
     -- same-length
     (λ c. search needs)
     -- returns-2
-    (λ c. line-read _ _ _ _ (c .before .before .before .before .if1 .left) (c .before .before .before .before .before .before .before .pre) (c .before .before .put-numbers .ensures)))
+    (λ c.
+    let after-put-numbers = put-numbers-of-slice-known2 c in let else1 = after-put-numbers .before .before in
+    line-read _ _ _ _ (else1 .if1 .left) (else1 .before .before .before .pre) (after-put-numbers .put-numbers .ensures)))

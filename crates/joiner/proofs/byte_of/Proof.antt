@@ -6,6 +6,11 @@ use lib.ListN.{List·getD-eq-default}
 use Rattle.joiner.proofs.byte_of.Statement.{statement}
 use Rattle.joiner.proofs.byte_of.Tie as tie
 
+-- The places that lie behind a place.
+
+abbrev start-of-shared-slice-known : tie.After-shared-slice-known → tie.Start
+start-of-shared-slice-known c = c .before .before
+
 pub byte-of-spec : {M : Type 1} → statement M
 byte-of-spec =
     tie.close
@@ -13,8 +18,8 @@ byte-of-spec =
     -- shared-slice-read-result
     (λ c. search needs)
     -- cast-result
-    (λ c. omega (arith, c .shared-slice-known .given (c .before .before .args .at)))
+    (λ c. omega (arith, c .shared-slice-known .given (start-of-shared-slice-known c .args .at)))
     -- returns
-    (λ c. (refl, omega (arith, c .shared-slice-known .given (c .before .before .args .at))))
+    (λ c. (refl, omega (arith, c .shared-slice-known .given (start-of-shared-slice-known c .args .at))))
     -- returns-2
     (λ c. (sym (List·getD-eq-default (c .before .args .line .now) 0 (c .if1 .left)), omega arith)))

@@ -10,6 +10,38 @@ use Rattle.joiner.proofs.Joins as call
 use Rattle.joiner.proofs.join_checked.Statement.{statement}
 use Rattle.joiner.proofs.join_checked.Tie as tie
 
+-- The places that lie behind a place.
+
+abbrev is-pair-list-of-byte-at : tie.After-byte-at → tie.After-is-pair-list
+is-pair-list-of-byte-at c = c .before .before
+
+abbrev clear-of-slice-known3 : tie.After-slice-known3 → tie.After-clear
+clear-of-slice-known3 c = c .before .before
+
+abbrev put-query-of-slice-known2 : tie.After-slice-known2 → tie.After-put-query
+put-query-of-slice-known2 c = c .before .before
+
+abbrev else2-of-put-query : tie.After-put-query → tie.Else2
+else2-of-put-query c = c .before .before
+
+abbrev byte-at-of-else2 : tie.Else2 → tie.After-byte-at
+byte-at-of-else2 c = c .before .before
+
+abbrev byte-at-of-then2 : tie.Then2 → tie.After-byte-at
+byte-at-of-then2 c = c .before .before
+
+abbrev put-query-of-else3 : tie.Else3 → tie.After-put-query
+put-query-of-else3 c = put-query-of-slice-known2 (c .before)
+
+abbrev then3-of-slice-known3 : tie.After-slice-known3 → tie.Then3
+then3-of-slice-known3 c = clear-of-slice-known3 c .before .before
+
+abbrev start-of-is-pair-list : tie.After-is-pair-list → tie.Start
+start-of-is-pair-list c = c .before .before .before .before .before
+
+abbrev put-query-of-slice-known3 : tie.After-slice-known3 → tie.After-put-query
+put-query-of-slice-known3 c = put-query-of-slice-known2 (then3-of-slice-known3 c .before)
+
 pub join-checked-spec : {M : Type 1} → statement M
 join-checked-spec =
     tie.close
@@ -18,91 +50,77 @@ join-checked-spec =
     (λ c κs. search needs)
     -- returns
     (λ c.
-    let c6 = c .before .before .before .before .before .before in
-    call.not-listed (c6 .args .first .now) (c6 .args .second .now) (c6 .args .pairs .now) (c6 .args .f) (c6 .args .s) (c6 .pre .0) (c6 .pre .1) _ _
-    (sym (c .before .is-pair-list .ensures) ∙ not-true _ (c .if1 .taken)) (c6 .pre .2))
+    let start = start-of-is-pair-list (c .before) in
+    call.not-listed (start .args .first .now) (start .args .second .now) (start .args .pairs .now) (start .args .f) (start .args .s) (start .pre .0) (start .pre .1) _ _
+    (sym (c .before .is-pair-list .ensures) ∙ not-true _ (c .if1 .taken)) (start .pre .2))
     -- byte-at-requires
     (λ c κs.
-    let c6 = c .before .before .before .before .before .before in
+    let start = start-of-is-pair-list (c .before) in
     omega (
       arith,
-      made.pairs-long (c6 .args .first .now) (c6 .args .second .now) (c6 .args .pairs .now) (c6 .args .f) (c6 .args .s) (c6 .pre .0) (c6 .pre .1)
+      made.pairs-long (start .args .first .now) (start .args .second .now) (start .args .pairs .now) (start .args .f) (start .args .s) (start .pre .0) (start .pre .1)
           (sym (c .before .is-pair-list .ensures) ∙ not-false _ (c .if1 .left)),
     ))
     -- keeps-limits-requires
     (λ c κs.
-    let c1 = c .before in
-    let c2 = c1 .before in
-    let c7 = c2 .before .before .before .before .before in
-    let is-pair-list-ensures = c2 .is-pair-list .ensures in
-    let second = c7 .args .second .now in
-    let first = c7 .args .first .now in
-    let pairs = c7 .args .pairs .now in (
-      made.first-bounded first second pairs (c7 .args .f) (c7 .args .s) (c7 .pre .0) (c7 .pre .1) (sym is-pair-list-ensures ∙ not-false _ (c1 .if1 .left)),
+    let after-is-pair-list = is-pair-list-of-byte-at c in let start = start-of-is-pair-list after-is-pair-list in let f = start .args .f in
+    let s = start .args .s in let pre-0 = start .pre .0 in let pre-1 = start .pre .1 in let if1-left = c .before .if1 .left in
+    let is-pair-list-ensures = after-is-pair-list .is-pair-list .ensures in
+    let second = start .args .second .now in
+    let first = start .args .first .now in
+    let pairs = start .args .pairs .now in (
+      made.first-bounded first second pairs f s pre-0 pre-1 (sym is-pair-list-ensures ∙ not-false _ if1-left),
       made.second-bounded first second pairs
-          (c7 .args .f) (c7 .args .s) (c7 .pre .0) (c7 .pre .1) (sym is-pair-list-ensures ∙ not-false _ (c1 .if1 .left)),
+          f s pre-0 pre-1 (sym is-pair-list-ensures ∙ not-false _ if1-left),
       omega
-          (arith, made.pairs-few first second pairs (c7 .args .f) (c7 .args .s) (c7 .pre .0) (c7 .pre .1) (sym is-pair-list-ensures ∙ not-false _ (c1 .if1 .left)), c .byte-at .ensures),
+          (arith, made.pairs-few first second pairs f s pre-0 pre-1 (sym is-pair-list-ensures ∙ not-false _ if1-left), c .byte-at .ensures),
     ))
     -- returns-2
     (λ c.
-    let c2 = c .before .before in
-    let c3 = c2 .before in
-    let c4 = c3 .before in
-    let c9 = c4 .before .before .before .before .before in
-    call.limit-passed (c9 .args .first .now) (c9 .args .second .now) (c9 .args .pairs .now) (c9 .args .f) (c9 .args .s) (c9 .pre .0) (c9 .pre .1)
-    (sym (c4 .is-pair-list .ensures) ∙ not-false _ (c3 .if1 .left)) _ _
-    (sym (made.limits-same (c9 .args .first .now) (c9 .args .second .now) (c9 .args .pairs .now) (c9 .args .f) (c9 .args .s) (c9 .pre .0) (c9 .pre .1)
-    (sym (c4 .is-pair-list .ensures) ∙ not-false _ (c3 .if1 .left)) _ (c2 .byte-at .ensures)) ∙ (sym (c .before .keeps-limits .ensures) ∙ not-true _ (c .if2 .taken))) (c9 .pre .2))
+    let after-byte-at = byte-at-of-then2 c in let else1 = after-byte-at .before in
+    let after-is-pair-list = is-pair-list-of-byte-at after-byte-at in let start = start-of-is-pair-list after-is-pair-list in
+    call.limit-passed (start .args .first .now) (start .args .second .now) (start .args .pairs .now) (start .args .f) (start .args .s) (start .pre .0) (start .pre .1)
+    (sym (after-is-pair-list .is-pair-list .ensures) ∙ not-false _ (else1 .if1 .left)) _ _
+    (sym (made.limits-same (start .args .first .now) (start .args .second .now) (start .args .pairs .now) (start .args .f) (start .args .s) (start .pre .0) (start .pre .1)
+    (sym (after-is-pair-list .is-pair-list .ensures) ∙ not-false _ (else1 .if1 .left)) _ (after-byte-at .byte-at .ensures))
+    ∙ (sym (c .before .keeps-limits .ensures) ∙ not-true _ (c .if2 .taken))) (start .pre .2))
     -- put-query-requires
     (λ c κs.
-    let c2 = c .before .before in
-    let c3 = c2 .before in
-    let c4 = c3 .before in
-    let c5 = c4 .before in
-    let c10 = c5 .before .before .before .before .before in (
-      c10 .pre .0,
-      c10 .pre .1,
-      (sym (c5 .is-pair-list .ensures) ∙ not-false _ (c4 .if1 .left)),
-      (sym (made.limits-same (c10 .args .first .now) (c10 .args .second .now) (c10 .args .pairs .now) (c10 .args .f) (c10 .args .s) (c10 .pre .0) (c10 .pre .1)
-          (sym (c5 .is-pair-list .ensures) ∙ not-false _ (c4 .if1 .left)) _ (c3 .byte-at .ensures)) ∙ (sym (c2 .keeps-limits .ensures) ∙ not-false _ (c .before .if2 .left))),
+    let after-byte-at = byte-at-of-else2 (c .before) in let else1 = after-byte-at .before in
+    let after-is-pair-list = is-pair-list-of-byte-at after-byte-at in let start = start-of-is-pair-list after-is-pair-list in (
+      start .pre .0,
+      start .pre .1,
+      (sym (after-is-pair-list .is-pair-list .ensures) ∙ not-false _ (else1 .if1 .left)),
+      (sym (made.limits-same (start .args .first .now) (start .args .second .now) (start .args .pairs .now) (start .args .f) (start .args .s) (start .pre .0) (start .pre .1)
+          (sym (after-is-pair-list .is-pair-list .ensures) ∙ not-false _ (else1 .if1 .left)) _ (after-byte-at .byte-at .ensures))
+          ∙ (sym (c .before .before .keeps-limits .ensures) ∙ not-false _ (c .before .if2 .left))),
     ))
     -- clear-requires
     (λ c κs. search needs)
     -- same-length
     (λ c.
-    let c2 = c .before .before in
-    let c7 = c2 .before .before .before .before .before in
-    blank-long _ _ (c2 .clear .ensures) ∙ writes-length (c7 .put-query .ensures))
+    blank-long _ _ (clear-of-slice-known3 c .clear .ensures) ∙ writes-length (put-query-of-slice-known3 c .put-query .ensures))
     -- returns-3
     (λ c.
-    let c2 = c .before .before in
-    let c4 = c2 .before .before in
-    let c7 = c4 .before .before .before in
-    let c9 = c7 .before .before in
-    let c10 = c9 .before in
-    let c11 = c10 .before in
-    let c12 = c11 .before in
-    let c13 = c12 .before in
-    let c18 = c13 .before .before .before .before .before in
-    call.too-short (c18 .args .first .now) (c18 .args .second .now) (c18 .args .pairs .now) (c18 .args .f) (c18 .args .s) (c18 .pre .0) (c18 .pre .1)
-    (sym (c13 .is-pair-list .ensures) ∙ not-false _ (c12 .if1 .left))
-    (sym (made.limits-same (c18 .args .first .now) (c18 .args .second .now) (c18 .args .pairs .now) (c18 .args .f) (c18 .args .s) (c18 .pre .0) (c18 .pre .1)
-    (sym (c13 .is-pair-list .ensures) ∙ not-false _ (c12 .if1 .left)) _ (c11 .byte-at .ensures)) ∙ (sym (c10 .keeps-limits .ensures) ∙ not-false _ (c9 .if2 .left))) _ _ _ (c18 .pre .2)
-    (c7 .put-query .ensures) _ (c4 .if3 .taken) (c2 .clear .ensures))
+    let after-put-query = put-query-of-slice-known3 c in let else2 = else2-of-put-query after-put-query in
+    let after-byte-at = byte-at-of-else2 else2 in let else1 = after-byte-at .before in
+    let after-is-pair-list = is-pair-list-of-byte-at after-byte-at in let start = start-of-is-pair-list after-is-pair-list in
+    call.too-short (start .args .first .now) (start .args .second .now) (start .args .pairs .now) (start .args .f) (start .args .s) (start .pre .0) (start .pre .1)
+    (sym (after-is-pair-list .is-pair-list .ensures) ∙ not-false _ (else1 .if1 .left))
+    (sym (made.limits-same (start .args .first .now) (start .args .second .now) (start .args .pairs .now) (start .args .f) (start .args .s) (start .pre .0) (start .pre .1)
+    (sym (after-is-pair-list .is-pair-list .ensures) ∙ not-false _ (else1 .if1 .left)) _ (after-byte-at .byte-at .ensures))
+    ∙ (sym (else2 .before .keeps-limits .ensures) ∙ not-false _ (else2 .if2 .left))) _ _ _ (start .pre .2)
+    (after-put-query .put-query .ensures) _ (then3-of-slice-known3 c .if3 .taken) (clear-of-slice-known3 c .clear .ensures))
     -- same-length-2
-    (λ c. writes-length (c .before .before .before .put-query .ensures))
+    (λ c. writes-length (put-query-of-else3 c .put-query .ensures))
     -- returns-4
     (λ c.
-    let c3 = c .before .before .before in
-    let c5 = c3 .before .before in
-    let c6 = c5 .before in
-    let c7 = c6 .before in
-    let c8 = c7 .before in
-    let c9 = c8 .before in
-    let c14 = c9 .before .before .before .before .before in
-    call.fits (c14 .args .first .now) (c14 .args .second .now) (c14 .args .pairs .now) (c14 .args .f) (c14 .args .s) (c14 .pre .0) (c14 .pre .1)
-    (sym (c9 .is-pair-list .ensures) ∙ not-false _ (c8 .if1 .left))
-    (sym (made.limits-same (c14 .args .first .now) (c14 .args .second .now) (c14 .args .pairs .now) (c14 .args .f) (c14 .args .s) (c14 .pre .0) (c14 .pre .1)
-    (sym (c9 .is-pair-list .ensures) ∙ not-false _ (c8 .if1 .left)) _ (c7 .byte-at .ensures)) ∙ (sym (c6 .keeps-limits .ensures) ∙ not-false _ (c5 .if2 .left))) _ _ _ (c14 .pre .2)
-    (c3 .put-query .ensures) (c .if3 .left)))
+    let after-put-query = put-query-of-else3 c in let else2 = else2-of-put-query after-put-query in
+    let after-byte-at = byte-at-of-else2 else2 in let else1 = after-byte-at .before in
+    let after-is-pair-list = is-pair-list-of-byte-at after-byte-at in let start = start-of-is-pair-list after-is-pair-list in
+    call.fits (start .args .first .now) (start .args .second .now) (start .args .pairs .now) (start .args .f) (start .args .s) (start .pre .0) (start .pre .1)
+    (sym (after-is-pair-list .is-pair-list .ensures) ∙ not-false _ (else1 .if1 .left))
+    (sym (made.limits-same (start .args .first .now) (start .args .second .now) (start .args .pairs .now) (start .args .f) (start .args .s) (start .pre .0) (start .pre .1)
+    (sym (after-is-pair-list .is-pair-list .ensures) ∙ not-false _ (else1 .if1 .left)) _ (after-byte-at .byte-at .ensures))
+    ∙ (sym (else2 .before .keeps-limits .ensures) ∙ not-false _ (else2 .if2 .left))) _ _ _ (start .pre .2)
+    (after-put-query .put-query .ensures) (c .if3 .left)))

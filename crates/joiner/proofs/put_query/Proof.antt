@@ -7,44 +7,87 @@ use Rattle.joiner.proofs.Query as made
 use Rattle.joiner.proofs.put_query.Statement.{statement}
 use Rattle.joiner.proofs.put_query.Tie as tie
 
+-- The places that lie behind a place.
+
+abbrev byte-at-of-put-terms : tie.After-put-terms → tie.After-byte-at
+byte-at-of-put-terms c = c .before .before
+
+abbrev put-byte-of-slice-known7 : tie.After-slice-known7 → tie.After-put-byte
+put-byte-of-slice-known7 c = c .before .before
+
+abbrev put-section2-of-put-section-arg3 : tie.After-put-section-arg3 → tie.After-put-section2
+put-section2-of-put-section-arg3 c = c .before .before .before
+
+abbrev put-section-of-put-pairs-arg : tie.After-put-pairs-arg → tie.After-put-section
+put-section-of-put-pairs-arg c = c .before .before .before
+
+abbrev put-terms-of-put-section-arg : tie.After-put-section-arg → tie.After-put-terms
+put-terms-of-put-section-arg c = c .before .before .before
+
+abbrev put-pairs-of-put-section-arg2 : tie.After-put-section-arg2 → tie.After-put-pairs
+put-pairs-of-put-section-arg2 c = c .before .before .before
+
+abbrev put-section3-of-put-byte-arg : tie.After-put-byte-arg → tie.After-put-section3
+put-section3-of-put-byte-arg c = c .before .before .before
+
+abbrev put-pairs-of-put-section2 : tie.After-put-section2 → tie.After-put-pairs
+put-pairs-of-put-section2 c = put-pairs-of-put-section-arg2 (c .before)
+
+abbrev put-terms-of-put-section : tie.After-put-section → tie.After-put-terms
+put-terms-of-put-section c = put-terms-of-put-section-arg (c .before)
+
+abbrev put-section2-of-put-section3 : tie.After-put-section3 → tie.After-put-section2
+put-section2-of-put-section3 c = put-section2-of-put-section-arg3 (c .before)
+
+abbrev put-section-of-put-pairs : tie.After-put-pairs → tie.After-put-section
+put-section-of-put-pairs c = put-section-of-put-pairs-arg (c .before)
+
+abbrev start-of-slice-known : tie.After-slice-known → tie.Start
+start-of-slice-known c = c .before .before .before .before
+
+abbrev start-of-byte-at : tie.After-byte-at → tie.Start
+start-of-byte-at c = start-of-slice-known (c .before)
+
+abbrev put-section3-of-slice-known7 : tie.After-slice-known7 → tie.After-put-section3
+put-section3-of-slice-known7 c = put-section3-of-put-byte-arg (put-byte-of-slice-known7 c .before)
+
 pub put-query-spec : {M : Type 1} → statement M
 put-query-spec =
     tie.close
     (tie.spec
     -- byte-at-requires
     (λ c κs.
-    let c4 = c .before .before .before .before in
-    omega (arith, made.pairs-long (c4 .args .first .now) (c4 .args .second .now) (c4 .args .pairs .now) (c4 .args .f) (c4 .args .s) (c4 .pre .0) (c4 .pre .1) (c4 .pre .2)))
+    let start = start-of-slice-known c in
+    omega (arith, made.pairs-long (start .args .first .now) (start .args .second .now) (start .args .pairs .now) (start .args .f) (start .args .s) (start .pre .0) (start .pre .1) (start .pre .2)))
     -- put-terms-requires
     (λ c κs.
-    let c1 = c .before in
-    let c6 = c1 .before .before .before .before .before in
-    let second = c6 .args .second .now in
-    let first = c6 .args .first .now in
-    let pairs = c6 .args .pairs .now in
-    let byte-at-ensures = c1 .byte-at .ensures in (
-      c6 .pre .0 .laid .entries-fit,
-      c6 .pre .1 .laid .entries-fit,
-      made.terms-low first second pairs (c6 .args .f) (c6 .args .s) (c6 .pre .0) (c6 .pre .1) (c6 .pre .2)
-          (c6 .pre .3) _ byte-at-ensures,
-      made.entries-first first second pairs (c6 .args .f) (c6 .args .s) (c6 .pre .0) (c6 .pre .1) (c6 .pre .2) (c6 .pre .3) _ byte-at-ensures,
-      made.entries-second first second pairs (c6 .args .f) (c6 .args .s) (c6 .pre .0) (c6 .pre .1) (c6 .pre .2) (c6 .pre .3) _ byte-at-ensures,
+    let start = start-of-byte-at (c .before) in let args-f = start .args .f in let args-s = start .args .s in let start-pre-0 = start .pre .0 in
+    let start-pre-1 = start .pre .1 in let start-pre-2 = start .pre .2 in let start-pre-3 = start .pre .3 in
+    let second = start .args .second .now in
+    let first = start .args .first .now in
+    let pairs = start .args .pairs .now in
+    let byte-at-ensures = c .before .byte-at .ensures in (
+      start .pre .0 .laid .entries-fit,
+      start .pre .1 .laid .entries-fit,
+      made.terms-low first second pairs args-f args-s start-pre-0 start-pre-1 start-pre-2
+          start-pre-3 _ byte-at-ensures,
+      made.entries-first first second pairs args-f args-s start-pre-0 start-pre-1 start-pre-2 start-pre-3 _ byte-at-ensures,
+      made.entries-second first second pairs args-f args-s start-pre-0 start-pre-1 start-pre-2 start-pre-3 _ byte-at-ensures,
     ))
     -- put-section-requires
     (λ c κs.
-    let c3 = c .before .before .before in
-    let c5 = c3 .before .before in
-    let c10 = c5 .before .before .before .before .before in
-    let second = c10 .args .second .now in
-    let first = c10 .args .first .now in
-    let pairs = c10 .args .pairs .now in
-    let byte-at-ensures = c5 .byte-at .ensures in
-    let f = c10 .args .f in
-    let s = c10 .args .s in
-    let pre-0 = c10 .pre .0 in
-    let pre-1 = c10 .pre .1 in
-    let pre-2 = c10 .pre .2 in
-    let pre-3 = c10 .pre .3 in (
+    let after-put-terms = put-terms-of-put-section-arg c in let after-byte-at = byte-at-of-put-terms after-put-terms in
+    let start = start-of-byte-at after-byte-at in
+    let second = start .args .second .now in
+    let first = start .args .first .now in
+    let pairs = start .args .pairs .now in
+    let byte-at-ensures = after-byte-at .byte-at .ensures in
+    let f = start .args .f in
+    let s = start .args .s in
+    let pre-0 = start .pre .0 in
+    let pre-1 = start .pre .1 in
+    let pre-2 = start .pre .2 in
+    let pre-3 = start .pre .3 in (
       (
         pre-0 .laid .equal-fit,
         pre-1 .laid .equal-fit,
@@ -56,27 +99,25 @@ put-query-spec =
           made.reach-low first second pairs f s pre-0 pre-1 pre-2 pre-3 _ byte-at-ensures,
           made.field-low first second pairs f s pre-0 pre-1 pre-2 pre-3 _ byte-at-ensures,
           made.term-bytes-long first second pairs f s pre-0 pre-1 pre-2 pre-3 _ byte-at-ensures,
-          c3 .put-terms .ensures .ends,
+          after-put-terms .put-terms .ensures .ends,
         ),
       ),
       (made.equal-first first second pairs f s pre-0 pre-1 pre-2 pre-3 _ byte-at-ensures, made.equal-second first second pairs f s pre-0 pre-1 pre-2 pre-3 _ byte-at-ensures),
     ))
     -- put-pairs-requires
     (λ c κs.
-    let c3 = c .before .before .before in
-    let c7 = c3 .before .before .before .before in
-    let c9 = c7 .before .before in
-    let c14 = c9 .before .before .before .before .before in
-    let second = c14 .args .second .now in
-    let first = c14 .args .first .now in
-    let pairs = c14 .args .pairs .now in
-    let byte-at-ensures = c9 .byte-at .ensures in
-    let f = c14 .args .f in
-    let s = c14 .args .s in
-    let pre-0 = c14 .pre .0 in
-    let pre-1 = c14 .pre .1 in
-    let pre-2 = c14 .pre .2 in
-    let pre-3 = c14 .pre .3 in (
+    let after-put-section = put-section-of-put-pairs-arg c in let after-put-terms = put-terms-of-put-section after-put-section in
+    let after-byte-at = byte-at-of-put-terms after-put-terms in let start = start-of-byte-at after-byte-at in
+    let second = start .args .second .now in
+    let first = start .args .first .now in
+    let pairs = start .args .pairs .now in
+    let byte-at-ensures = after-byte-at .byte-at .ensures in
+    let f = start .args .f in
+    let s = start .args .s in
+    let pre-0 = start .pre .0 in
+    let pre-1 = start .pre .1 in
+    let pre-2 = start .pre .2 in
+    let pre-3 = start .pre .3 in (
       made.pairs-long first second pairs f s pre-0 pre-1 pre-2 ∙ ap (λ (k : ℕ). 1 + 2 * k) (sym byte-at-ensures),
       pre-0 .laid .terms-within,
       omega (
@@ -86,29 +127,27 @@ put-query-spec =
         made.reach-low first second pairs f s pre-0 pre-1 pre-2 pre-3 _ byte-at-ensures,
         made.field-low first second pairs f s pre-0 pre-1 pre-2 pre-3 _ byte-at-ensures,
         made.term-bytes-long first second pairs f s pre-0 pre-1 pre-2 pre-3 _ byte-at-ensures,
-        c7 .put-terms .ensures .ends,
-        c3 .put-section .ensures .ends,
+        after-put-terms .put-terms .ensures .ends,
+        after-put-section .put-section .ensures .ends,
         made.equal-bytes-long first second pairs f s pre-0 pre-1 pre-2 pre-3 _ byte-at-ensures,
       ),
       made.pairs-fit first second pairs f s pre-0 pre-1 pre-2 pre-3 _ byte-at-ensures,
     ))
     -- put-section-requires-2
     (λ c κs.
-    let c3 = c .before .before .before in
-    let c7 = c3 .before .before .before .before in
-    let c11 = c7 .before .before .before .before in
-    let c13 = c11 .before .before in
-    let c18 = c13 .before .before .before .before .before in
-    let second = c18 .args .second .now in
-    let first = c18 .args .first .now in
-    let pairs = c18 .args .pairs .now in
-    let byte-at-ensures = c13 .byte-at .ensures in
-    let f = c18 .args .f in
-    let s = c18 .args .s in
-    let pre-0 = c18 .pre .0 in
-    let pre-1 = c18 .pre .1 in
-    let pre-2 = c18 .pre .2 in
-    let pre-3 = c18 .pre .3 in (
+    let after-put-pairs = put-pairs-of-put-section-arg2 c in let after-put-section = put-section-of-put-pairs after-put-pairs in
+    let after-put-terms = put-terms-of-put-section after-put-section in let after-byte-at = byte-at-of-put-terms after-put-terms in
+    let start = start-of-byte-at after-byte-at in
+    let second = start .args .second .now in
+    let first = start .args .first .now in
+    let pairs = start .args .pairs .now in
+    let byte-at-ensures = after-byte-at .byte-at .ensures in
+    let f = start .args .f in
+    let s = start .args .s in
+    let pre-0 = start .pre .0 in
+    let pre-1 = start .pre .1 in
+    let pre-2 = start .pre .2 in
+    let pre-3 = start .pre .3 in (
       (
         pre-0 .laid .reach-fit,
         pre-1 .laid .reach-fit,
@@ -120,10 +159,10 @@ put-query-spec =
           made.reach-low first second pairs f s pre-0 pre-1 pre-2 pre-3 _ byte-at-ensures,
           made.field-low first second pairs f s pre-0 pre-1 pre-2 pre-3 _ byte-at-ensures,
           made.term-bytes-long first second pairs f s pre-0 pre-1 pre-2 pre-3 _ byte-at-ensures,
-          c11 .put-terms .ensures .ends,
-          c7 .put-section .ensures .ends,
+          after-put-terms .put-terms .ensures .ends,
+          after-put-section .put-section .ensures .ends,
           made.equal-bytes-long first second pairs f s pre-0 pre-1 pre-2 pre-3 _ byte-at-ensures,
-          c3 .put-pairs .ensures .ends,
+          after-put-pairs .put-pairs .ensures .ends,
           made.pair-bytes-long first second pairs f s pre-0 pre-1 pre-2 pre-3 _ byte-at-ensures,
         ),
       ),
@@ -131,22 +170,19 @@ put-query-spec =
     ))
     -- put-section-requires-3
     (λ c κs.
-    let c3 = c .before .before .before in
-    let c7 = c3 .before .before .before .before in
-    let c11 = c7 .before .before .before .before in
-    let c15 = c11 .before .before .before .before in
-    let c17 = c15 .before .before in
-    let c22 = c17 .before .before .before .before .before in
-    let second = c22 .args .second .now in
-    let first = c22 .args .first .now in
-    let pairs = c22 .args .pairs .now in
-    let byte-at-ensures = c17 .byte-at .ensures in
-    let f = c22 .args .f in
-    let s = c22 .args .s in
-    let pre-0 = c22 .pre .0 in
-    let pre-1 = c22 .pre .1 in
-    let pre-2 = c22 .pre .2 in
-    let pre-3 = c22 .pre .3 in (
+    let after-put-section2 = put-section2-of-put-section-arg3 c in let after-put-pairs = put-pairs-of-put-section2 after-put-section2 in
+    let after-put-section = put-section-of-put-pairs after-put-pairs in let after-put-terms = put-terms-of-put-section after-put-section in
+    let after-byte-at = byte-at-of-put-terms after-put-terms in let start = start-of-byte-at after-byte-at in
+    let second = start .args .second .now in
+    let first = start .args .first .now in
+    let pairs = start .args .pairs .now in
+    let byte-at-ensures = after-byte-at .byte-at .ensures in
+    let f = start .args .f in
+    let s = start .args .s in
+    let pre-0 = start .pre .0 in
+    let pre-1 = start .pre .1 in
+    let pre-2 = start .pre .2 in
+    let pre-3 = start .pre .3 in (
       (
         pre-0 .laid .field-fit,
         pre-1 .laid .field-fit,
@@ -158,12 +194,12 @@ put-query-spec =
           made.reach-low first second pairs f s pre-0 pre-1 pre-2 pre-3 _ byte-at-ensures,
           made.field-low first second pairs f s pre-0 pre-1 pre-2 pre-3 _ byte-at-ensures,
           made.term-bytes-long first second pairs f s pre-0 pre-1 pre-2 pre-3 _ byte-at-ensures,
-          c15 .put-terms .ensures .ends,
-          c11 .put-section .ensures .ends,
+          after-put-terms .put-terms .ensures .ends,
+          after-put-section .put-section .ensures .ends,
           made.equal-bytes-long first second pairs f s pre-0 pre-1 pre-2 pre-3 _ byte-at-ensures,
-          c7 .put-pairs .ensures .ends,
+          after-put-pairs .put-pairs .ensures .ends,
           made.pair-bytes-long first second pairs f s pre-0 pre-1 pre-2 pre-3 _ byte-at-ensures,
-          c3 .put-section2 .ensures .ends,
+          after-put-section2 .put-section2 .ensures .ends,
           made.reach-bytes-long first second pairs f s pre-0 pre-1 pre-2 pre-3 _ byte-at-ensures,
         ),
       ),
@@ -171,23 +207,20 @@ put-query-spec =
     ))
     -- put-byte-requires
     (λ c κs.
-    let c3 = c .before .before .before in
-    let c7 = c3 .before .before .before .before in
-    let c11 = c7 .before .before .before .before in
-    let c15 = c11 .before .before .before .before in
-    let c19 = c15 .before .before .before .before in
-    let c21 = c19 .before .before in
-    let c26 = c21 .before .before .before .before .before in
-    let second = c26 .args .second .now in
-    let first = c26 .args .first .now in
-    let pairs = c26 .args .pairs .now in
-    let byte-at-ensures = c21 .byte-at .ensures in
-    let f = c26 .args .f in
-    let s = c26 .args .s in
-    let pre-0 = c26 .pre .0 in
-    let pre-1 = c26 .pre .1 in
-    let pre-2 = c26 .pre .2 in
-    let pre-3 = c26 .pre .3 in
+    let after-put-section3 = put-section3-of-put-byte-arg c in let after-put-section2 = put-section2-of-put-section3 after-put-section3 in
+    let after-put-pairs = put-pairs-of-put-section2 after-put-section2 in let after-put-section = put-section-of-put-pairs after-put-pairs in
+    let after-put-terms = put-terms-of-put-section after-put-section in let after-byte-at = byte-at-of-put-terms after-put-terms in
+    let start = start-of-byte-at after-byte-at in
+    let second = start .args .second .now in
+    let first = start .args .first .now in
+    let pairs = start .args .pairs .now in
+    let byte-at-ensures = after-byte-at .byte-at .ensures in
+    let f = start .args .f in
+    let s = start .args .s in
+    let pre-0 = start .pre .0 in
+    let pre-1 = start .pre .1 in
+    let pre-2 = start .pre .2 in
+    let pre-3 = start .pre .3 in
     omega (
       arith,
       made.terms-low first second pairs f s pre-0 pre-1 pre-2 pre-3 _ byte-at-ensures,
@@ -195,37 +228,32 @@ put-query-spec =
       made.reach-low first second pairs f s pre-0 pre-1 pre-2 pre-3 _ byte-at-ensures,
       made.field-low first second pairs f s pre-0 pre-1 pre-2 pre-3 _ byte-at-ensures,
       made.term-bytes-long first second pairs f s pre-0 pre-1 pre-2 pre-3 _ byte-at-ensures,
-      c19 .put-terms .ensures .ends,
-      c15 .put-section .ensures .ends,
+      after-put-terms .put-terms .ensures .ends,
+      after-put-section .put-section .ensures .ends,
       made.equal-bytes-long first second pairs f s pre-0 pre-1 pre-2 pre-3 _ byte-at-ensures,
-      c11 .put-pairs .ensures .ends,
+      after-put-pairs .put-pairs .ensures .ends,
       made.pair-bytes-long first second pairs f s pre-0 pre-1 pre-2 pre-3 _ byte-at-ensures,
-      c7 .put-section2 .ensures .ends,
+      after-put-section2 .put-section2 .ensures .ends,
       made.reach-bytes-long first second pairs f s pre-0 pre-1 pre-2 pre-3 _ byte-at-ensures,
-      c3 .put-section3 .ensures .ends,
+      after-put-section3 .put-section3 .ensures .ends,
       made.field-bytes-long first second pairs f s pre-0 pre-1 pre-2 pre-3 _ byte-at-ensures,
     ))
     -- same-length
     (λ c.
-    let c2 = c .before .before in
-    let c6 = c2 .before .before .before .before in
-    let c10 = c6 .before .before .before .before in
-    let c14 = c10 .before .before .before .before in
-    let c18 = c14 .before .before .before .before in
-    let c22 = c18 .before .before .before .before in
-    writes-length (writes-then (c22 .put-terms .ensures) (writes-then (c18 .put-section .ensures)
-    (writes-then (c14 .put-pairs .ensures) (writes-then (c10 .put-section2 .ensures) (writes-then (c6 .put-section3 .ensures) (c2 .put-byte .ensures)))))))
+    let after-put-section3 = put-section3-of-slice-known7 c in let after-put-section2 = put-section2-of-put-section3 after-put-section3 in
+    let after-put-pairs = put-pairs-of-put-section2 after-put-section2 in let after-put-section = put-section-of-put-pairs after-put-pairs in
+    writes-length (writes-then (put-terms-of-put-section after-put-section .put-terms .ensures) (writes-then (after-put-section .put-section .ensures)
+    (writes-then (after-put-pairs .put-pairs .ensures)
+    (writes-then (after-put-section2 .put-section2 .ensures)
+    (writes-then (after-put-section3 .put-section3 .ensures) (put-byte-of-slice-known7 c .put-byte .ensures)))))))
     -- returns
     (λ c.
-    let c2 = c .before .before in
-    let c6 = c2 .before .before .before .before in
-    let c10 = c6 .before .before .before .before in
-    let c14 = c10 .before .before .before .before in
-    let c18 = c14 .before .before .before .before in
-    let c22 = c18 .before .before .before .before in
-    let c24 = c22 .before .before in
-    let c29 = c24 .before .before .before .before .before in
-    writes-as (made.query-bytes (c29 .args .first .now) (c29 .args .second .now) (c29 .args .pairs .now) (c29 .args .f) (c29 .args .s) (c29 .pre .0) (c29 .pre .1) (c29 .pre .2) (c29 .pre .3) _
-    (c24 .byte-at .ensures)) (writes-then (c22 .put-terms .ensures)
-    (writes-then (c18 .put-section .ensures) (writes-then (c14 .put-pairs .ensures)
-    (writes-then (c10 .put-section2 .ensures) (writes-then (c6 .put-section3 .ensures) (c2 .put-byte .ensures))))))))
+    let after-put-section3 = put-section3-of-slice-known7 c in let after-put-section2 = put-section2-of-put-section3 after-put-section3 in
+    let after-put-pairs = put-pairs-of-put-section2 after-put-section2 in let after-put-section = put-section-of-put-pairs after-put-pairs in
+    let after-put-terms = put-terms-of-put-section after-put-section in let after-byte-at = byte-at-of-put-terms after-put-terms in
+    let start = start-of-byte-at after-byte-at in
+    writes-as (made.query-bytes (start .args .first .now) (start .args .second .now) (start .args .pairs .now) (start .args .f) (start .args .s)
+    (start .pre .0) (start .pre .1) (start .pre .2) (start .pre .3) _
+    (after-byte-at .byte-at .ensures)) (writes-then (after-put-terms .put-terms .ensures)
+    (writes-then (after-put-section .put-section .ensures) (writes-then (after-put-pairs .put-pairs .ensures)
+    (writes-then (after-put-section2 .put-section2 .ensures) (writes-then (after-put-section3 .put-section3 .ensures) (put-byte-of-slice-known7 c .put-byte .ensures))))))))

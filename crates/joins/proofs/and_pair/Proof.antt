@@ -20,6 +20,7 @@ and-pair-spec =
     (λ c. omega arith)
     -- returns
     (λ c.
-    let a = c .before .before .args in
-    let p = c .before .before .pre in
+    let start = c .before .before in
+    let a = start .args in
+    let p = start .pre in
     (pairs-more (a .kept .now) (a .replaced .now) (a .count) _ _ (omega arith) (omega arith), simp length-set (p .3), simp length-set (p .4))))

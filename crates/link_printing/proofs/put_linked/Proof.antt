@@ -22,4 +22,5 @@ put-linked-spec =
     -- same-length
     (λ c. search needs)
     -- returns
-    (λ c. writes-as (linked-text (c .before .before .before .before .before .before .before .before .before .before .args .query .now) _ (c .before .before .before .before .before .before .rewrite .ensures) (length-replicate {A = ℕ} 637 0)) (c .before .before .put-answer .ensures)))
+    (λ c. writes-as (linked-text (c .before .before .before .before .before .before .before .before .before .before .args .query .now) _
+    (c .before .before .before .before .before .before .rewrite .ensures) (length-replicate {A = ℕ} 637 0)) (c .before .before .put-answer .ensures)))

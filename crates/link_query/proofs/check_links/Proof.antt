@@ -26,4 +26,5 @@ check-links-spec =
     (λ c.
     let laid = rw (c .before .before .before .before .full .given .1) at (c .before .before .before .before .before .before .lay-out .ensures) in
     rw (c .first-refusal .ensures)
-    (first-checked _ _ (laid .0) (laid .1) (laid .2) (c .before .before .check-link-bytes .result) (c .before .check-bytes .result) (c .before .before .check-link-bytes .ensures) (c .before .check-bytes .ensures 0 26 (laid .1)))))
+    (first-checked _ _ (laid .0) (laid .1) (laid .2) (c .before .before .check-link-bytes .result) (c .before .check-bytes .result)
+    (c .before .before .check-link-bytes .ensures) (c .before .check-bytes .ensures 0 26 (laid .1)))))

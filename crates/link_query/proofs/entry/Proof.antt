@@ -6,6 +6,11 @@ use Rattle.link_query.proofs.Said.{one-entry, more-entry}
 use Rattle.link_query.proofs.entry.Statement.{statement}
 use Rattle.link_query.proofs.entry.Tie as tie
 
+-- The places that lie behind a place.
+
+abbrev start-of-struct-known : tie.After-struct-known → tie.Start
+start-of-struct-known c = c .before .before .before
+
 pub entry-spec : {M : Type 1} → statement M
 unfolding entryIn
 entry-spec =
@@ -16,8 +21,8 @@ entry-spec =
     -- returns
     (λ c. rw (eq-eqb _ _ (c .before .if1 .taken)) (c .byte-at .ensures))
     -- mul-byte-at
-    (λ c. omega (arith, rw (more-entry (c .before .if1 .left)) at (c .before .before .before .pre)))
+    (λ c. omega (arith, rw (more-entry (c .before .if1 .left)) at (start-of-struct-known c .pre)))
     -- byte-at-requires-2
-    (λ c κs. omega (arith, rw (more-entry (c .before .if1 .left)) at (c .before .before .before .pre)))
+    (λ c κs. omega (arith, rw (more-entry (c .before .if1 .left)) at (start-of-struct-known c .pre)))
     -- returns-2
     (λ c. rw (ne-eqb _ _ (c .before .before .if1 .left)) (c .byte-at2 .ensures)))

@@ -19,6 +19,23 @@ Inv-loop terms out₀ to next₀ i₀ out next i =
 abbrev μ-loop : tie.MeasureT-loop
 μ-loop terms out₀ to next₀ i₀ out next i = length terms - i
 
+-- The places that lie behind a place.
+
+abbrev put-byte2-of-slice-known3 : tie.After-slice-known3 Inv-loop μ-loop → tie.After-put-byte2 Inv-loop μ-loop
+put-byte2-of-slice-known3 c = c .before .before
+
+abbrev start-of-at-loop : tie.At-loop Inv-loop μ-loop → tie.Start Inv-loop μ-loop
+start-of-at-loop c = c .before .before .before
+
+abbrev in-loop-of-link-before : tie.After-link-before Inv-loop μ-loop → tie.In-loop Inv-loop μ-loop
+in-loop-of-link-before c = c .before .before .before
+
+abbrev put-byte-of-put-byte-arg2 : tie.After-put-byte-arg2 Inv-loop μ-loop → tie.After-put-byte Inv-loop μ-loop
+put-byte-of-put-byte-arg2 c = c .before .before .before
+
+abbrev in-loop-of-slice-known3 : tie.After-slice-known3 Inv-loop μ-loop → tie.In-loop Inv-loop μ-loop
+in-loop-of-slice-known3 c = in-loop-of-link-before (put-byte-of-put-byte-arg2 (put-byte2-of-slice-known3 c .before) .before)
+
 pub put-entries-spec : {M : Type 1} → statement M
 put-entries-spec =
     tie.close
@@ -32,20 +49,33 @@ put-entries-spec =
     -- link-before-requires
     (λ c κs. search needs)
     -- put-byte-requires
-    (λ c κs. omega (arith, c .before .before .before .before .loop .inv .1, c .before .before .before .before .before .before .before .pre, c .before .before .before .loop-test .taken))
+    (λ c κs.
+    let in-loop = in-loop-of-link-before c in let at-loop = in-loop .before in
+    omega (arith, at-loop .loop .inv .1, start-of-at-loop at-loop .pre, in-loop .loop-test .taken))
     -- put-byte-requires-2
-    (λ c κs. omega (arith, c .before .before .before .put-byte .ensures .ends, c .before .before .before .before .before .before .before .before .loop .inv .1, c .before .before .before .before .before .before .before .before .before .before .before .pre, c .before .before .before .before .before .before .before .loop-test .taken))
+    (λ c κs.
+    let after-put-byte = put-byte-of-put-byte-arg2 c in let in-loop = in-loop-of-link-before (after-put-byte .before) in
+    let at-loop = in-loop .before in
+    omega (arith, after-put-byte .put-byte .ensures .ends, at-loop .loop .inv .1, start-of-at-loop at-loop .pre, in-loop .loop-test .taken))
     -- add-i
-    (λ c. omega (arith, c .before .before .before .before .before .before .before .before .before .before .before .before .before .before .pre, c .before .before .before .before .before .before .before .before .before .before .loop-test .taken))
+    (λ c.
+    let in-loop = in-loop-of-slice-known3 c in
+    omega (arith, start-of-at-loop (in-loop .before) .pre, in-loop .loop-test .taken))
     -- loop-less
-    (λ c. omega (arith, c .before .before .before .before .before .before .before .before .before .before .loop-test .taken))
+    (λ c. omega (arith, in-loop-of-slice-known3 c .loop-test .taken))
     -- loop-again
-    (λ c. (
-      part-more (part-more (c .before .before .before .before .before .before .before .before .before .before .before .loop .inv .0) (terms-next (c .before .before .before .before .before .before .before .before .before .before .before .before .before .before .args .terms .now) (c .before .before .before .before .before .before .before .before .before .before .before .loop .i) (c .before .before .before .before .before .before .before .before .before .before .loop-test .taken)) (writes-as (ap (λ b. b ∷ []) (c .before .before .before .before .before .before .before .link-before .ensures)) (c .before .before .before .before .before .before .put-byte .ensures))) refl (c .before .before .put-byte2 .ensures),
-      omega (arith, c .before .before .before .before .before .before .before .before .before .before .before .loop .inv .1, c .before .before .before .before .before .before .put-byte .ensures .ends, c .before .before .put-byte2 .ensures .ends),
-      omega (arith, c .before .before .before .before .before .before .before .before .before .before .loop-test .taken),
+    (λ c.
+    let after-put-byte2 = put-byte2-of-slice-known3 c in let after-put-byte = put-byte-of-put-byte-arg2 (after-put-byte2 .before) in
+    let in-loop = in-loop-of-slice-known3 c in let at-loop = in-loop .before in (
+      part-more (part-more (at-loop .loop .inv .0)
+          (terms-next (start-of-at-loop at-loop .args .terms .now) (at-loop .loop .i) (in-loop .loop-test .taken))
+          (writes-as (ap (λ b. b ∷ []) (after-put-byte .before .link-before .ensures)) (after-put-byte .put-byte .ensures))) refl (after-put-byte2 .put-byte2 .ensures),
+      omega (arith, at-loop .loop .inv .1, after-put-byte .put-byte .ensures .ends, after-put-byte2 .put-byte2 .ensures .ends),
+      omega (arith, in-loop .loop-test .taken),
     ))
     -- same-length
     (λ c. part-length (c .before .loop .inv .0))
     -- returns
-    (λ c. part-all (c .before .loop .inv .0) (terms-end (c .before .before .before .before .args .terms .now) (c .before .loop .i) (c .loop-test .left) (c .before .loop .inv .2))))
+    (λ c.
+    let at-loop = c .before in
+    part-all (at-loop .loop .inv .0) (terms-end (start-of-at-loop at-loop .args .terms .now) (at-loop .loop .i) (c .loop-test .left) (at-loop .loop .inv .2))))

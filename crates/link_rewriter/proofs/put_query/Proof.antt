@@ -9,21 +9,59 @@ use Rattle.link_rewriter.proofs.Loops.{entries-long, part-long, links-l
 use Rattle.link_rewriter.proofs.put_query.Statement.{statement}
 use Rattle.link_rewriter.proofs.put_query.Tie as tie
 
+-- The places that lie behind a place.
+
+abbrev put-part2-of-slice-known6 : tie.After-slice-known6 → tie.After-put-part2
+put-part2-of-slice-known6 c = c .before .before
+
+abbrev put-part-of-slice-known4 : tie.After-slice-known4 → tie.After-put-part
+put-part-of-slice-known4 c = c .before .before
+
+abbrev put-byte-of-slice-known2 : tie.After-slice-known2 → tie.After-put-byte
+put-byte-of-slice-known2 c = c .before .before
+
+abbrev slice-known2-of-put-entries-arg2 : tie.After-put-entries-arg2 → tie.After-slice-known2
+slice-known2-of-put-entries-arg2 c = c .before .before
+
+abbrev start-of-slice-known : tie.After-slice-known → tie.Start
+start-of-slice-known c = c .before .before
+
+abbrev put-literals-of-put-part-arg2 : tie.After-put-part-arg2 → tie.After-put-literals
+put-literals-of-put-part-arg2 c = c .before .before .before
+
+abbrev put-entries-of-put-part-arg : tie.After-put-part-arg → tie.After-put-entries
+put-entries-of-put-part-arg c = c .before .before .before
+
+abbrev put-part-of-put-literals-arg2 : tie.After-put-literals-arg2 → tie.After-put-part
+put-part-of-put-literals-arg2 c = put-part-of-slice-known4 (c .before .before)
+
+abbrev start-of-put-byte : tie.After-put-byte → tie.Start
+start-of-put-byte c = start-of-slice-known (c .before .before)
+
+abbrev put-entries-of-put-part : tie.After-put-part → tie.After-put-entries
+put-entries-of-put-part c = put-entries-of-put-part-arg (c .before)
+
+abbrev put-byte-of-put-entries : tie.After-put-entries → tie.After-put-byte
+put-byte-of-put-entries c = put-byte-of-slice-known2 (slice-known2-of-put-entries-arg2 (c .before))
+
+abbrev put-part-of-put-literals : tie.After-put-literals → tie.After-put-part
+put-part-of-put-literals c = put-part-of-put-literals-arg2 (c .before)
+
 pub put-query-spec : {M : Type 1} → statement M
 unfolding cut rewrittenBytes
 put-query-spec =
     tie.close
     (tie.spec
     -- add-second
-    (λ c. omega (arith, c .before .before .pre .0))
+    (λ c. omega (arith, start-of-slice-known c .pre .0))
     -- mul-behind
-    (λ c. omega (arith, c .before .before .pre .4))
+    (λ c. omega (arith, start-of-slice-known c .pre .4))
     -- add-behind
     (λ c.
-    let c2 = c .before .before in
-    omega (arith, c2 .pre .2, c2 .pre .3))
+    let start = start-of-slice-known c in
+    omega (arith, start .pre .2, start .pre .3))
     -- cast-put-byte
-    (λ c. omega (arith, c .before .before .before .pre .0))
+    (λ c. omega (arith, start-of-slice-known (c .before) .pre .0))
     -- put-byte-requires
     (λ c κs. omega arith)
     -- sub-put-entries
@@ -32,27 +70,25 @@ put-query-spec =
     (λ c. omega arith)
     -- part-put-entries-end
     (λ c.
-    let c6 = c .before .before .before .before .before .before in
-    omega (arith, c6 .pre .1, c6 .pre .2))
+    let start = start-of-put-byte (put-byte-of-slice-known2 c) in
+    omega (arith, start .pre .1, start .pre .2))
     -- put-entries-requires
     (λ c κs.
-    let c4 = c .before .before .before .before in
-    let c8 = c4 .before .before .before .before in
-    omega (arith, c4 .put-byte .ensures .ends, cut-long (c8 .args .query .now) 1 (c8 .args .n + 1) (omega arith) (omega (arith, c8 .pre .1, c8 .pre .2)), c8 .pre .0))
+    let after-put-byte = put-byte-of-slice-known2 (slice-known2-of-put-entries-arg2 c) in let start = start-of-put-byte after-put-byte in
+    omega (arith, after-put-byte .put-byte .ensures .ends, cut-long (start .args .query .now) 1 (start .args .n + 1) (omega arith) (omega (arith, start .pre .1, start .pre .2)), start .pre .0))
     -- put-part-requires
     (λ c κs.
-    let c3 = c .before .before .before in
-    let c8 = c3 .before .before .before .before .before in
-    let c12 = c8 .before .before .before .before in (
-      c12 .pre .1,
-      omega (arith, c12 .pre .2),
+    let after-put-entries = put-entries-of-put-part-arg c in let after-put-byte = put-byte-of-put-entries after-put-entries in
+    let start = start-of-put-byte after-put-byte in (
+      start .pre .1,
+      omega (arith, start .pre .2),
       omega (
         arith,
-        c8 .put-byte .ensures .ends,
-        c3 .put-entries .ensures .ends,
-        entries-long (c12 .args .query .now) (c12 .args .n) (omega (arith, c12 .pre .1, c12 .pre .2)),
-        c12 .pre .0,
-        c12 .pre .3,
+        after-put-byte .put-byte .ensures .ends,
+        after-put-entries .put-entries .ensures .ends,
+        entries-long (start .args .query .now) (start .args .n) (omega (arith, start .pre .1, start .pre .2)),
+        start .pre .0,
+        start .pre .3,
       ),
     ))
     -- sub-put-literals
@@ -61,70 +97,62 @@ put-query-spec =
     (λ c. omega arith)
     -- part-put-literals-end
     (λ c.
-    let c15 = c .before .before .before .before .before .before .before .before .before .before .before .before .before .before .before in
-    c15 .pre .2)
+    start-of-put-byte (put-byte-of-put-entries (put-entries-of-put-part (put-part-of-slice-known4 c))) .pre .2)
     -- put-literals-requires
     (λ c κs.
-    let c4 = c .before .before .before .before in
-    let c8 = c4 .before .before .before .before in
-    let c13 = c8 .before .before .before .before .before in
-    let c17 = c13 .before .before .before .before in
-    let query = c17 .args .query .now in (
-      part-long query (c17 .args .at) (c17 .args .count) (c17 .pre .2),
+    let after-put-part = put-part-of-put-literals-arg2 c in let after-put-entries = put-entries-of-put-part after-put-part in
+    let after-put-byte = put-byte-of-put-entries after-put-entries in let start = start-of-put-byte after-put-byte in
+    let pre-2 = start .pre .2 in
+    let query = start .args .query .now in (
+      part-long query (start .args .at) (start .args .count) pre-2,
       omega (
         arith,
-        c13 .put-byte .ensures .ends,
-        c8 .put-entries .ensures .ends,
-        c4 .put-part .ensures .ends,
-        entries-long query (c17 .args .n) (omega (arith, c17 .pre .1, c17 .pre .2)),
-        cut-long query (c17 .args .n + 1) (c17 .args .at) (c17 .pre .1) (omega (arith, c17 .pre .2)),
-        c17 .pre .0,
-        c17 .pre .2,
-        c17 .pre .3,
-        c17 .pre .4,
+        after-put-byte .put-byte .ensures .ends,
+        after-put-entries .put-entries .ensures .ends,
+        after-put-part .put-part .ensures .ends,
+        entries-long query (start .args .n) (omega (arith, start .pre .1, pre-2)),
+        cut-long query (start .args .n + 1) (start .args .at) (start .pre .1) (omega (arith, pre-2)),
+        start .pre .0,
+        pre-2,
+        start .pre .3,
+        start .pre .4,
       ),
     ))
     -- put-part-requires-2
     (λ c κs.
-    let c3 = c .before .before .before in
-    let c8 = c3 .before .before .before .before .before in
-    let c12 = c8 .before .before .before .before in
-    let c17 = c12 .before .before .before .before .before in
-    let c21 = c17 .before .before .before .before in
-    let query = c21 .args .query .now in (
-      c21 .pre .2,
+    let after-put-literals = put-literals-of-put-part-arg2 c in let after-put-part = put-part-of-put-literals after-put-literals in
+    let after-put-entries = put-entries-of-put-part after-put-part in let after-put-byte = put-byte-of-put-entries after-put-entries in
+    let start = start-of-put-byte after-put-byte in let pre-2 = start .pre .2 in
+    let query = start .args .query .now in (
+      pre-2,
       omega arith,
       omega (
         arith,
-        c17 .put-byte .ensures .ends,
-        c12 .put-entries .ensures .ends,
-        c8 .put-part .ensures .ends,
-        c3 .put-literals .ensures .ends,
-        entries-long query (c21 .args .n)
-            (omega (arith, c21 .pre .1, c21 .pre .2)),
-        cut-long query (c21 .args .n + 1) (c21 .args .at) (c21 .pre .1) (omega (arith, c21 .pre .2)),
-        links-long query (c21 .args .at)
-            (c21 .args .count) (c21 .pre .2),
-        c21 .pre .0,
-        c21 .pre .2,
-        c21 .pre .3,
-        c21 .pre .4,
+        after-put-byte .put-byte .ensures .ends,
+        after-put-entries .put-entries .ensures .ends,
+        after-put-part .put-part .ensures .ends,
+        after-put-literals .put-literals .ensures .ends,
+        entries-long query (start .args .n)
+            (omega (arith, start .pre .1, pre-2)),
+        cut-long query (start .args .n + 1) (start .args .at) (start .pre .1) (omega (arith, pre-2)),
+        links-long query (start .args .at)
+            (start .args .count) pre-2,
+        start .pre .0,
+        pre-2,
+        start .pre .3,
+        start .pre .4,
       ),
     ))
     -- same-length
     (λ c.
-    let c2 = c .before .before in
-    let c6 = c2 .before .before .before .before in
-    let c11 = c6 .before .before .before .before .before in
-    let c15 = c11 .before .before .before .before in
-    let c20 = c15 .before .before .before .before .before in
-    writes-length (writes-then (c20 .put-byte .ensures) (writes-then (c15 .put-entries .ensures)
-    (writes-then (c11 .put-part .ensures) (writes-then (c6 .put-literals .ensures) (c2 .put-part2 .ensures))))))
+    let after-put-part2 = put-part2-of-slice-known6 c in let after-put-literals = put-literals-of-put-part-arg2 (after-put-part2 .before) in
+    let after-put-part = put-part-of-put-literals after-put-literals in let after-put-entries = put-entries-of-put-part after-put-part in
+    writes-length (writes-then (put-byte-of-put-entries after-put-entries .put-byte .ensures) (writes-then (after-put-entries .put-entries .ensures)
+    (writes-then (after-put-part .put-part .ensures) (writes-then (after-put-literals .put-literals .ensures) (after-put-part2 .put-part2 .ensures))))))
     -- returns
     (λ c.
-    let c2 = c .before .before in
-    let c6 = c2 .before .before .before .before in
-    let c11 = c6 .before .before .before .before .before in
-    let c15 = c11 .before .before .before .before in
-    let c20 = c15 .before .before .before .before .before in
-    writes-then (c20 .put-byte .ensures) (writes-then (c15 .put-entries .ensures) (writes-then (c11 .put-part .ensures) (writes-then (c6 .put-literals .ensures) (c2 .put-part2 .ensures))))))
+    let after-put-part2 = put-part2-of-slice-known6 c in let after-put-literals = put-literals-of-put-part-arg2 (after-put-part2 .before) in
+    let after-put-part = put-part-of-put-literals after-put-literals in let after-put-entries = put-entries-of-put-part after-put-part in
+    writes-then (put-byte-of-put-entries after-put-entries .put-byte .ensures)
+    (writes-then (after-put-entries .put-entries .ensures)
+    (writes-then (after-put-part .put-part .ensures) (writes-then (after-put-literals .put-literals .ensures) (after-put-part2 .put-part2 .ensures))))))

@@ -12,6 +12,26 @@ use Rattle.link_rewriter.proofs.Answers as law
 use Rattle.link_rewriter.proofs.rewrite.Statement.{statement}
 use Rattle.link_rewriter.proofs.rewrite.Tie as tie
 
+-- The places that lie behind a place.
+
+abbrev l-of-rewrite-checked-arg : tie.After-rewrite-checked-arg → tie.After-l
+l-of-rewrite-checked-arg c = c .before .before
+
+abbrev rewrite-checked-of-slice-known3 : tie.After-slice-known3 → tie.After-rewrite-checked
+rewrite-checked-of-slice-known3 c = c .before .before
+
+abbrev check-of-known-told : tie.After-known-told → tie.After-check
+check-of-known-told c = c .before .before .before
+
+abbrev clear-of-check : tie.After-check → tie.After-clear
+clear-of-check c = c .before .before .before
+
+abbrev check-of-rewrite-checked-arg : tie.After-rewrite-checked-arg → tie.After-check
+check-of-rewrite-checked-arg c = l-of-rewrite-checked-arg c .before .before
+
+abbrev start-of-clear : tie.After-clear → tie.Start
+start-of-clear c = c .before .before .before .before
+
 pub rewrite-spec : {M : Type 1} → statement M
 rewrite-spec =
     tie.close
@@ -25,16 +45,26 @@ rewrite-spec =
     -- enum-known-l
     (λ c. search needs)
     -- rewrite-checked-requires
-    (λ c κs. (
-      subst (λ (x : Checked). CheckedAs x (c .before .before .before .before .before .before .before .before .before .before .before .args .query .now)) (c .before .before .l .given .1) (c .before .before .before .before .check .ensures) .1,
-      checked-accepts _ (c .before .before .before .before .before .before .before .before .before .before .before .args .query .now) (subst (λ (x : Checked). CheckedAs x (c .before .before .before .before .before .before .before .before .before .before .before .args .query .now)) (c .before .before .l .given .1) (c .before .before .before .before .check .ensures)),
-      blank-again _ (length (c .before .before .before .before .before .before .before .before .before .before .before .args .out .now)) (c .before .before .before .before .before .before .before .clear .ensures),
+    (λ c κs.
+    let after-l = l-of-rewrite-checked-arg c in let after-check = check-of-rewrite-checked-arg c in
+    let after-clear = clear-of-check after-check in let start = start-of-clear after-clear in let query = start .args .query .now in (
+      subst (λ (x : Checked). CheckedAs x query) (after-l .l .given .1) (after-check .check .ensures) .1,
+      checked-accepts _ query (subst (λ (x : Checked). CheckedAs x query) (after-l .l .given .1) (after-check .check .ensures)),
+      blank-again _ (length (start .args .out .now)) (after-clear .clear .ensures),
     ))
     -- same-length
-    (λ c. blank-long _ (length (c .before .before .before .before .before .before .before .before .before .before .args .out .now)) (c .before .before .before .before .before .before .clear .ensures))
+    (λ c.
+    let after-clear = clear-of-check (check-of-known-told c) in
+    blank-long _ (length (start-of-clear after-clear .args .out .now)) (after-clear .clear .ensures))
     -- returns
-    (λ c. law.refuses (c .before .before .before .before .before .before .before .before .before .before .args .query .now) (length (c .before .before .before .before .before .before .before .before .before .before .args .out .now)) (subst (λ (x : Checked). CheckedAs x (c .before .before .before .before .before .before .before .before .before .before .args .query .now)) (c .before .k .given .1) (c .before .before .before .check .ensures)) _ (c .before .before .before .before .before .before .clear .ensures))
+    (λ c.
+    let after-check = check-of-known-told c in let after-clear = clear-of-check after-check in let start = start-of-clear after-clear in
+    law.refuses (start .args .query .now) (length (start .args .out .now))
+    (subst (λ (x : Checked). CheckedAs x (start .args .query .now)) (c .before .k .given .1) (after-check .check .ensures)) _ (after-clear .clear .ensures))
     -- same-length-2
     (λ c. search needs)
     -- returns-2
-    (λ c. moved (linksRewriteCall (c .before .before .before .before .before .before .before .before .before .before .before .before .before .before .args .query .now)) (blank-long _ (length (c .before .before .before .before .before .before .before .before .before .before .before .before .before .before .args .out .now)) (c .before .before .before .before .before .before .before .before .before .before .clear .ensures)) (c .before .before .rewrite-checked .ensures)))
+    (λ c.
+    let after-rewrite-checked = rewrite-checked-of-slice-known3 c in
+    let after-clear = clear-of-check (check-of-rewrite-checked-arg (after-rewrite-checked .before)) in let start = start-of-clear after-clear in
+    moved (linksRewriteCall (start .args .query .now)) (blank-long _ (length (start .args .out .now)) (after-clear .clear .ensures)) (after-rewrite-checked .rewrite-checked .ensures)))

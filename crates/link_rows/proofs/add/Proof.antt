@@ -6,6 +6,14 @@ use Rattle.link_rows.proofs.Cube.{cube-added}
 use Rattle.link_rows.proofs.add.Statement.{statement}
 use Rattle.link_rows.proofs.add.Tie as tie
 
+-- The places that lie behind a place.
+
+abbrev place-of-only : tie.After-only → tie.After-place
+place-of-only c = c .before .before
+
+abbrev place-of-rows : tie.After-rows → tie.After-place
+place-of-rows c = place-of-only (c .before)
+
 pub add-spec : {M : Type 1} → statement M
 add-spec =
     tie.close
@@ -17,12 +25,12 @@ add-spec =
     -- only-requires
     (λ c κs. search needs)
     -- mul-rows
-    (λ c. omega (arith, c .before .before .place .ensures .1))
+    (λ c. omega (arith, place-of-only c .place .ensures .1))
     -- element-copy-out-rows
-    (λ c. omega (arith, c .before .before .place .ensures .1))
+    (λ c. omega (arith, place-of-only c .place .ensures .1))
     -- mul-rows-2
-    (λ c. omega (arith, c .before .before .before .place .ensures .1))
+    (λ c. omega (arith, place-of-rows c .place .ensures .1))
     -- element-write-rows
-    (λ c. omega (arith, c .before .before .before .place .ensures .1))
+    (λ c. omega (arith, place-of-rows c .place .ensures .1))
     -- returns
-    (λ c. let p = c .before .before .before .before .pre in (cube-added _ (p .4) _ _ _ _ (p .0) (p .1) (p .2) (p .3) _ (c .before .before .before .place .ensures .0) (c .before .only .ensures), simp length-set (p .4))))
+    (λ c. let p = place-of-rows c .before .pre in (cube-added _ (p .4) _ _ _ _ (p .0) (p .1) (p .2) (p .3) _ (place-of-rows c .place .ensures .0) (c .before .only .ensures), simp length-set (p .4))))

@@ -20,7 +20,9 @@ list-spec =
     tie.close
     (tie.spec
     -- list-in-requires
-    (λ c κs. let p = c .before .before .before .before .before .before .before .before .before .pre in (p .0, p .1, p .2, p .3, whole (c .before .before .before .before .before .before .before .before .before .κs) (lts.dens (list-in-reads.Asked, list-in-reads.Learnt) reads.Pre reads.Post (c .before .before .before .before .before .before .before .before .before .κs) (c .before .before .before .before .before .before .before .before .before .args)) (c .before .before .before .before .before .before .before .before .before .good)))
+    (λ c κs.
+    let start = c .before .before .before .before .before .before .before .before .before in
+    let p = start .pre in (p .0, p .1, p .2, p .3, whole (start .κs) (lts.dens (list-in-reads.Asked, list-in-reads.Learnt) reads.Pre reads.Post (start .κs) (start .args)) (start .good)))
     -- same-length
     (λ c. c .before .before .list-in .ensures .same-length)
     -- returns

@@ -27,5 +27,10 @@ is-field-partner-spec =
     (λ c κs. search needs)
     -- returns-3
     (λ c.
-    rw (sym (c .before .before .before .before .before .before .before .sign .ensures) ∙ not-false _ (c .before .before .before .before .before .before .if1 .left), ← c .before .before .before .before .before .field .ensures, eq-eqb _ _ (c .before .before .before .before .if2 .left))
+    rw (
+      sym (c .before .before .before .before .before .before .before .sign .ensures)
+          ∙ not-false _ (c .before .before .before .before .before .before .if1 .left),
+      ← c .before .before .before .before .before .field .ensures,
+      eq-eqb _ _ (c .before .before .before .before .if2 .left),
+    )
     (ap (eqb _) (c .before .before .read-rep .ensures ∙ ap (repOf _) (c .before .before .before .right .ensures)))))

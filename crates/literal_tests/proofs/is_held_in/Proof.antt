@@ -35,4 +35,8 @@ is-held-in-spec =
     -- reaches-by-requires
     (λ c κs. search needs)
     -- returns-2
-    (λ c. rw (sym (c .before .before .before .before .before .before .before .reach-sign .ensures) ∙ c .before .before .before .before .before .before .if1 .left) (c .reaches-by .ensures ∙ held _ _ (c .before .before .before .before .before .reach-link .ensures) (c .before .before .before .read-rep .ensures ∙ ap (repOf _) (c .before .before .before .before .reach-left .ensures)) (c .before .read-rep2 .ensures ∙ ap (repOf _) (c .before .before .reach-right .ensures)))))
+    (λ c. rw (sym (c .before .before .before .before .before .before .before .reach-sign .ensures)
+    ∙ c .before .before .before .before .before .before .if1 .left)
+    (c .reaches-by .ensures ∙ held _ _ (c .before .before .before .before .before .reach-link .ensures)
+    (c .before .before .before .read-rep .ensures ∙ ap (repOf _) (c .before .before .before .before .reach-left .ensures))
+    (c .before .read-rep2 .ensures ∙ ap (repOf _) (c .before .before .reach-right .ensures)))))

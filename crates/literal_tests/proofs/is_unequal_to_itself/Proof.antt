@@ -27,4 +27,5 @@ is-unequal-to-itself-spec =
     -- returns-2
     (λ c.
     rw (sym (c .before .before .before .before .before .before .before .sign .ensures) ∙ c .before .before .before .before .before .before .if1 .left)
-    (ap₂ eqb (c .before .before .before .before .read-rep .ensures ∙ ap (repOf _) (c .before .before .before .before .before .left .ensures)) (c .before .before .read-rep2 .ensures ∙ ap (repOf _) (c .before .before .before .right .ensures)))))
+    (ap₂ eqb (c .before .before .before .before .read-rep .ensures ∙ ap (repOf _) (c .before .before .before .before .before .left .ensures))
+    (c .before .before .read-rep2 .ensures ∙ ap (repOf _) (c .before .before .before .right .ensures)))))

@@ -26,4 +26,5 @@ reaches-by-spec =
     -- is-held-requires
     (λ c κs. (omega (arith, c .before .before .if1 .left), omega (arith, c .if2 .left, c .before .links .ensures)))
     -- returns-3
-    (λ c. let a = c .before .before .before .before .args in rw (le-leb (a .k) (cond (a .single) 1 3) (omega (arith, c .before .if2 .left, c .before .before .links .ensures .0))) (c .is-held .ensures)))
+    (λ c. let a = c .before .before .before .before .args in
+    rw (le-leb (a .k) (cond (a .single) 1 3) (omega (arith, c .before .if2 .left, c .before .before .links .ensures .0))) (c .is-held .ensures)))

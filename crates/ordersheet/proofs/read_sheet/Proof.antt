@@ -50,11 +50,17 @@ read-sheet-spec =
     -- loop-less
     (λ c. search needs)
     -- loop-again
-    (λ c. (
-      omega (arith, c .before .before .before .before .before .before .before .before .before .before .before .loop .inv .0, c .before .before .before .before .before .before .before .before .before .line-end .ensures .0),
-      omega (arith, c .before .before .before .before .before .before .before .before .before .line-end .ensures .1),
-      subst (λ (x : Added). Few x) (c .before .added .given .1) (c .before .before .before .before .before .add-line .ensures .1),
-      c .before .before .before .before .before .add-line .ensures .0 ∙ c .before .before .before .before .before .before .before .before .before .before .before .loop .inv .3,
+    (λ c.
+    let after-add-line = c .before .before .before .before .before in let after-line-end = after-add-line .before .before .before .before in
+    let at-loop = after-line-end .before .before in (
+      omega (
+        arith,
+        at-loop .loop .inv .0,
+        after-line-end .line-end .ensures .0,
+      ),
+      omega (arith, after-line-end .line-end .ensures .1),
+      subst (λ (x : Added). Few x) (c .before .added .given .1) (after-add-line .add-line .ensures .1),
+      after-add-line .add-line .ensures .0 ∙ at-loop .loop .inv .3,
     ))
     -- cast-sheet
     (λ c. search needs)

@@ -16,6 +16,11 @@ Inv-loop sheet z k a r₀ r = find (onward (pairs sheet) z k a) (from 8 1) ≡ f
 abbrev μ-loop : tie.MeasureT-loop
 μ-loop sheet z k a r₀ r = 9 - r
 
+-- The places that lie behind a place.
+
+abbrev at-loop-of-is-onward : tie.After-is-onward Inv-loop μ-loop → tie.At-loop Inv-loop μ-loop
+at-loop-of-is-onward c = c .before .before
+
 loop-holds : tie.Need-loop-holds Inv-loop μ-loop
 loop-holds c = refl
 
@@ -27,14 +32,16 @@ next-on-spec =
     μ-loop
     loop-holds
     -- is-onward-requires
-    (λ c κs. (c .before .before .before .pre .0, c .before .before .before .pre .1, c .before .before .before .pre .2, omega arith))
+    (λ c κs.
+    let start = c .before .before .before in
+    (start .pre .0, start .pre .1, start .pre .2, omega arith))
     -- returns
-    (λ c. sym (next-found _ _ _ _ _ (c .before .before .before .loop .inv ∙ find-here _ _ _ (c .before .before .loop-test .taken) (sym (c .before .is-onward .ensures) ∙ c .if1 .taken))))
+    (λ c. sym (next-found _ _ _ _ _ (at-loop-of-is-onward (c .before) .loop .inv ∙ find-here _ _ _ (c .before .before .loop-test .taken) (sym (c .before .is-onward .ensures) ∙ c .if1 .taken))))
     -- add-r
     (λ c. omega arith)
     -- loop-less
     (λ c. omega arith)
     -- loop-again
-    (λ c. c .before .before .before .loop .inv ∙ find-next _ _ _ (c .before .before .loop-test .taken) (sym (c .before .is-onward .ensures) ∙ c .if1 .left))
+    (λ c. at-loop-of-is-onward (c .before) .loop .inv ∙ find-next _ _ _ (c .before .before .loop-test .taken) (sym (c .before .is-onward .ensures) ∙ c .if1 .left))
     -- returns-2
     (λ c. sym (next-missing _ _ _ _ (c .before .loop .inv ∙ find-end _ _ _ (c .loop-test .left)))))

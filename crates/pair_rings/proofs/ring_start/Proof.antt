@@ -15,6 +15,11 @@ Inv-loop sheet k s₀ s = ringStart (pairs sheet) k ≡ find (λ x. leads (pairs
 abbrev μ-loop : tie.MeasureT-loop
 μ-loop sheet k s₀ s = 9 - s
 
+-- The places that lie behind a place.
+
+abbrev at-loop-of-is-led : tie.After-is-led Inv-loop μ-loop → tie.At-loop Inv-loop μ-loop
+at-loop-of-is-led c = c .before .before
+
 loop-holds : tie.Need-loop-holds Inv-loop μ-loop
 unfolding ringStart
 loop-holds c = refl
@@ -27,14 +32,16 @@ ring-start-spec =
     μ-loop
     loop-holds
     -- is-led-requires
-    (λ c κs. (c .before .before .before .pre .0, c .before .before .before .pre .1, omega arith, omega arith))
+    (λ c κs.
+    let start = c .before .before .before in
+    (start .pre .0, start .pre .1, omega arith, omega arith))
     -- returns
-    (λ c. sym (c .before .before .before .loop .inv ∙ find-here _ _ _ (c .before .before .loop-test .taken) (sym (c .before .is-led .ensures) ∙ c .if1 .taken)))
+    (λ c. sym (at-loop-of-is-led (c .before) .loop .inv ∙ find-here _ _ _ (c .before .before .loop-test .taken) (sym (c .before .is-led .ensures) ∙ c .if1 .taken)))
     -- add-s
     (λ c. omega arith)
     -- loop-less
     (λ c. omega arith)
     -- loop-again
-    (λ c. c .before .before .before .loop .inv ∙ find-next _ _ _ (c .before .before .loop-test .taken) (sym (c .before .is-led .ensures) ∙ c .if1 .left))
+    (λ c. at-loop-of-is-led (c .before) .loop .inv ∙ find-next _ _ _ (c .before .before .loop-test .taken) (sym (c .before .is-led .ensures) ∙ c .if1 .left))
     -- returns-2
     (λ c. sym (c .before .loop .inv ∙ find-end _ _ _ (c .loop-test .left))))

@@ -12,6 +12,11 @@ Inv-loop sheet k z at row₀ j₀ row j = (j ≤ k) × Row sheet z j row
 abbrev μ-loop : tie.MeasureT-loop
 μ-loop sheet k z at row₀ j₀ row j = k - j
 
+-- The places that lie behind a place.
+
+abbrev start-of-at-loop : tie.At-loop Inv-loop μ-loop → tie.Start Inv-loop μ-loop
+start-of-at-loop c = c .before .before
+
 pub row-to-spec : {M : Type 1} → statement M
 row-to-spec =
     tie.close
@@ -21,14 +26,23 @@ row-to-spec =
     -- array-write-row
     (λ c. omega (arith, c .before .pre .2))
     -- loop-holds
-    (λ c. (omega arith, row-start (c .before .args .sheet .now) (c .before .args .z) (c .before .pre .2)))
+    (λ c.
+    let start = c .before in
+    (omega arith, row-start (start .args .sheet .now) (start .args .z) (start .pre .2)))
     -- step-back-requires
-    (λ c κs. (c .before .before .before .pre .0, c .before .before .before .pre .1))
+    (λ c κs.
+    let start = start-of-at-loop (c .before) in
+    (start .pre .0, start .pre .1))
     -- add-j
     (λ c. omega arith)
     -- loop-less
     (λ c. omega arith)
     -- loop-again
-    (λ c. (omega arith, row-turn (c .before .before .before .before .args .sheet .now) (c .before .before .before .before .args .z) (c .before .before .loop .j) (c .before .before .loop .row) (c .step-back .result) (c .before .before .before .before .pre .0) (c .before .before .before .before .pre .1) (c .before .before .loop .inv .1) (c .step-back .ensures)))
+    (λ c.
+    let at-loop = c .before .before in let start = start-of-at-loop at-loop in (
+      omega arith,
+      row-turn (start .args .sheet .now) (start .args .z) (at-loop .loop .j) (at-loop .loop .row) (c .step-back .result) (start .pre .0)
+          (start .pre .1) (at-loop .loop .inv .1) (c .step-back .ensures),
+    ))
     -- returns
-    (λ c. let same : c .before .loop .j ≡ c .before .before .before .args .k = omega arith in rw (← same) (c .before .loop .inv .1)))
+    (λ c. let same : c .before .loop .j ≡ start-of-at-loop (c .before) .args .k = omega arith in rw (← same) (c .before .loop .inv .1)))

@@ -21,6 +21,8 @@ plain-spec =
     tie.close
     (tie.spec
     -- plain-in-requires
-    (λ c κs. let p = c .before .before .before .before .before .before .before .before .pre in (p .0, p .1, p .2, p .3, p .4, whole (c .before .before .before .before .before .before .before .before .κs) (lts.dens (plain-in-reads.Asked, plain-in-reads.Learnt) reads.Pre reads.Post (c .before .before .before .before .before .before .before .before .κs) (c .before .before .before .before .before .before .before .before .args)) (c .before .before .before .before .before .before .before .before .good)))
+    (λ c κs.
+    let start = c .before .before .before .before .before .before .before .before in
+    let p = start .pre in (p .0, p .1, p .2, p .3, p .4, whole (start .κs) (lts.dens (plain-in-reads.Asked, plain-in-reads.Learnt) reads.Pre reads.Post (start .κs) (start .args)) (start .good)))
     -- returns
     (λ c. c .plain-in .ensures .0))

@@ -9,7 +9,9 @@ is-ready-spec =
     tie.close
     (tie.spec
     -- placed-requires
-    (λ c κs. (c .before .pre .0, c .before .pre .1))
+    (λ c κs.
+    let start = c .before in
+    (start .pre .0, start .pre .1))
     -- returns
     (λ c. sym (ready-placed _ _ _ (sym (c .before .placed .ensures) ∙ c .if1 .taken)))
     -- is-free-requires

@@ -16,6 +16,11 @@ Inv-loop sheet list n r₀ r = nextRule (pairs sheet) (take n list) ≡ find (re
 abbrev μ-loop : tie.MeasureT-loop
 μ-loop sheet list n r₀ r = 9 - r
 
+-- The places that lie behind a place.
+
+abbrev at-loop-of-is-ready : tie.After-is-ready Inv-loop μ-loop → tie.At-loop Inv-loop μ-loop
+at-loop-of-is-ready c = c .before .before
+
 loop-holds : tie.Need-loop-holds Inv-loop μ-loop
 unfolding nextRule
 loop-holds c = refl
@@ -30,12 +35,12 @@ next-rule-spec =
     -- is-ready-requires
     (λ c κs. c .before .before .before .pre)
     -- returns
-    (λ c. sym (c .before .before .before .loop .inv ∙ find-here _ _ _ (c .before .before .loop-test .taken) (sym (c .before .is-ready .ensures) ∙ c .if1 .taken)))
+    (λ c. sym (at-loop-of-is-ready (c .before) .loop .inv ∙ find-here _ _ _ (c .before .before .loop-test .taken) (sym (c .before .is-ready .ensures) ∙ c .if1 .taken)))
     -- add-r
     (λ c. omega arith)
     -- loop-less
     (λ c. omega arith)
     -- loop-again
-    (λ c. c .before .before .before .loop .inv ∙ find-next _ _ _ (c .before .before .loop-test .taken) (sym (c .before .is-ready .ensures) ∙ c .if1 .left))
+    (λ c. at-loop-of-is-ready (c .before) .loop .inv ∙ find-next _ _ _ (c .before .before .loop-test .taken) (sym (c .before .is-ready .ensures) ∙ c .if1 .left))
     -- returns-2
     (λ c. sym (c .before .loop .inv ∙ find-end _ _ _ (c .loop-test .left))))

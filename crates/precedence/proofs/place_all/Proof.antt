@@ -19,6 +19,17 @@ Inv-loop sheet list₀ n₀ list n = (n ≤ 8) × (length list ≡ 8) × (grow (
 abbrev μ-loop : tie.MeasureT-loop
 μ-loop sheet list₀ n₀ list n = 8 - n
 
+-- The places that lie behind a place.
+
+abbrev at-loop-of-list : tie.After-list Inv-loop μ-loop → tie.At-loop Inv-loop μ-loop
+at-loop-of-list c = c .before .before
+
+abbrev in-loop-of-next-rule : tie.After-next-rule Inv-loop μ-loop → tie.In-loop Inv-loop μ-loop
+in-loop-of-next-rule c = c .before .before
+
+abbrev next-rule-of-enum-told : tie.After-enum-told Inv-loop μ-loop → tie.After-next-rule Inv-loop μ-loop
+next-rule-of-enum-told c = c .before .before
+
 pub place-all-spec : {M : Type 1} → statement M
 unfolding keep
 place-all-spec =
@@ -29,13 +40,17 @@ place-all-spec =
     -- loop-holds
     (λ c. (omega arith, refl, refl))
     -- next-rule-requires
-    (λ c κs. (omega arith, c .before .before .loop .inv .1, c .before .before .before .before .pre))
+    (λ c κs.
+    let at-loop = at-loop-of-list c in
+    (omega arith, at-loop .loop .inv .1, at-loop .before .before .pre))
     -- enum-known-r
     (λ c. search needs)
     -- enum-told
     (λ c. search needs)
     -- returns
-    (λ c. sym (c .before .before .before .before .before .loop .inv .2 ∙ grow-stuck _ (c .before .before .before .before .before .loop .n) _ (c .before .before .before .before .loop-test .taken) (sym (c .before .before .next-rule .ensures) ∙ ap foundOf (c .enum-told .given .1))))
+    (λ c.
+    let after-next-rule = next-rule-of-enum-told c in let in-loop = in-loop-of-next-rule after-next-rule in let at-loop = in-loop .before in
+    sym (at-loop .loop .inv .2 ∙ grow-stuck _ (at-loop .loop .n) _ (in-loop .loop-test .taken) (sym (after-next-rule .next-rule .ensures) ∙ ap foundOf (c .enum-told .given .1))))
     -- array-write-list
     (λ c. omega arith)
     -- add-n
@@ -43,10 +58,14 @@ place-all-spec =
     -- loop-less
     (λ c. omega arith)
     -- loop-again
-    (λ c. (
+    (λ c.
+    let after-next-rule = c .before .before .before in let in-loop = in-loop-of-next-rule after-next-rule in let at-loop = in-loop .before in (
       omega arith,
-      simp length-set (c .before .before .before .before .before .before .loop .inv .1),
-      c .before .before .before .before .before .before .loop .inv .2 ∙ grow-placed _ (c .before .before .before .before .before .before .loop .n) (c .before .before .before .before .before .before .loop .list) _ (c .before .before .before .before .before .loop-test .taken) (c .before .before .before .before .before .before .loop .inv .1) (sym (c .before .before .before .next-rule .ensures) ∙ ap foundOf (c .before .r .given .1)),
+      simp length-set (at-loop .loop .inv .1),
+      at-loop .loop .inv .2 ∙ grow-placed _ (at-loop .loop .n) (at-loop .loop .list) _ (in-loop .loop-test .taken) (at-loop .loop .inv .1)
+          (sym (after-next-rule .next-rule .ensures) ∙ ap foundOf (c .before .r .given .1)),
     ))
     -- returns-2
-    (λ c. sym (c .before .loop .inv .2 ∙ grow-whole _ (c .before .loop .n) (c .before .loop .list) (c .loop-test .left) (c .before .loop .inv .0) (c .before .loop .inv .1))))
+    (λ c.
+    let at-loop = c .before in
+    sym (at-loop .loop .inv .2 ∙ grow-whole _ (at-loop .loop .n) (at-loop .loop .list) (c .loop-test .left) (at-loop .loop .inv .0) (at-loop .loop .inv .1))))

@@ -27,12 +27,18 @@ placed-spec =
     -- array-read-x
     (λ c. search needs)
     -- returns
-    (λ c. sym (c .before .before .before .loop .inv ∙ placed-here (c .before .before .before .before .args .r) (c .before .before .before .before .args .list .now) (c .before .before .before .before .args .n) (omega arith) (c .before .before .before .loop .i) (omega arith) (c .if1 .taken)))
+    (λ c.
+    let at-loop = c .before .before .before in let start = at-loop .before in
+    sym (at-loop .loop .inv ∙ placed-here (start .args .r) (start .args .list .now) (start .args .n) (omega arith) (at-loop .loop .i) (omega arith) (c .if1 .taken)))
     -- add-i
     (λ c. omega arith)
     -- loop-less
     (λ c. omega arith)
     -- loop-again
-    (λ c. c .before .before .before .loop .inv ∙ placed-next (c .before .before .before .before .args .r) (c .before .before .before .before .args .list .now) (c .before .before .before .before .args .n) (omega arith) (c .before .before .before .loop .i) (omega arith) (c .if1 .left))
+    (λ c.
+    let at-loop = c .before .before .before in let start = at-loop .before in
+    at-loop .loop .inv ∙ placed-next (start .args .r) (start .args .list .now) (start .args .n) (omega arith) (at-loop .loop .i) (omega arith) (c .if1 .left))
     -- returns-2
-    (λ c. sym (c .before .loop .inv ∙ placed-end (c .before .before .args .r) (c .before .before .args .list .now) (c .before .before .args .n) (omega arith) (c .before .loop .i) (omega arith))))
+    (λ c.
+    let at-loop = c .before in let start = at-loop .before in
+    sym (at-loop .loop .inv ∙ placed-end (start .args .r) (start .args .list .now) (start .args .n) (omega arith) (at-loop .loop .i) (omega arith))))

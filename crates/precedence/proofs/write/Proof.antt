@@ -32,12 +32,15 @@ write-spec =
     -- loop-less
     (λ c. omega arith)
     -- loop-again
-    (λ c. (
+    (λ c.
+    let at-loop = c .before .before in let start = at-loop .before in let loop-i = at-loop .loop .i in (
       omega arith,
-      simp length-set (c .before .before .loop .inv .1),
-      ap (λ (xs : List ℕ). set xs (c .before .before .loop .i) (getD (c .before .before .before .args .list .now) (c .before .before .loop .i) 0)) (c .before .before .loop .inv .2) ∙ write-more _ (c .before .before .before .args .list .now) (c .before .before .loop .i) (omega arith) (omega arith),
+      simp length-set (at-loop .loop .inv .1),
+      ap (λ (xs : List ℕ). set xs loop-i (getD (start .args .list .now) loop-i 0)) (at-loop .loop .inv .2) ∙ write-more _ (start .args .list .now) loop-i (omega arith) (omega arith),
     ))
     -- same-length
     (λ c. search needs)
     -- returns
-    (λ c. c .before .loop .inv .2 ∙ write-all _ (c .before .before .args .list .now) (c .before .loop .i) (c .before .before .pre .1) (c .before .loop .inv .0) (omega arith) (c .before .before .pre .0) (c .before .before .pre .2)))
+    (λ c.
+    let at-loop = c .before in let start = at-loop .before in
+    at-loop .loop .inv .2 ∙ write-all _ (start .args .list .now) (at-loop .loop .i) (start .pre .1) (at-loop .loop .inv .0) (omega arith) (start .pre .0) (start .pre .2)))

@@ -29,12 +29,18 @@ put-answer-spec =
     -- same-length
     (λ c. search needs)
     -- returns
-    (λ c. (writes-as (sat-words _ (c .before .before .before .before .before .enum-told .given .1)) (c .before .before .put-bytes .ensures), omega (arith, c .before .before .put-bytes .ensures .ends)))
+    (λ c.
+    let after-put-bytes = c .before .before in
+    (writes-as (sat-words _ (after-put-bytes .before .before .before .enum-told .given .1)) (after-put-bytes .put-bytes .ensures), omega (arith, after-put-bytes .put-bytes .ensures .ends)))
     -- same-length-2
     (λ c. search needs)
     -- returns-2
-    (λ c. (writes-as (unsat-words _ (c .before .before .before .before .before .enum-told2 .given .1)) (c .before .before .put-bytes2 .ensures), omega (arith, c .before .before .put-bytes2 .ensures .ends)))
+    (λ c.
+    let after-put-bytes2 = c .before .before in
+    (writes-as (unsat-words _ (after-put-bytes2 .before .before .before .enum-told2 .given .1)) (after-put-bytes2 .put-bytes2 .ensures), omega (arith, after-put-bytes2 .put-bytes2 .ensures .ends)))
     -- same-length-3
     (λ c. search needs)
     -- returns-3
-    (λ c. (writes-as (refusal-words _ _ _ (c .before .before .before .before .before .answer .given .1)) (c .before .before .put-refused .ensures .0), c .before .before .put-refused .ensures .1)))
+    (λ c.
+    let after-put-refused = c .before .before in
+    (writes-as (refusal-words _ _ _ (after-put-refused .before .before .before .answer .given .1)) (after-put-refused .put-refused .ensures .0), after-put-refused .put-refused .ensures .1)))

@@ -13,7 +13,8 @@ use Rattle.printing.proofs.put_lines.Statement.{statement}
 use Rattle.printing.proofs.put_lines.Tie as tie
 
 abbrev Inv-loop : tie.InvT-loop
-Inv-loop buffer₀ at lines count to₀ i₀ buffer to i = (i ≤ count) × (to ≤ at + 16 * i) × (count ≡ length (linesIn lines)) × Part buffer₀ at (flatMap lineText (linesIn lines)) buffer to (linesLeft count lines i)
+Inv-loop buffer₀ at lines count to₀ i₀ buffer to i = (i ≤ count) × (to ≤ at + 16 * i) × (count ≡ length (linesIn lines))
+    × Part buffer₀ at (flatMap lineText (linesIn lines)) buffer to (linesLeft count lines i)
 
 abbrev μ-loop : tie.MeasureT-loop
 μ-loop buffer₀ at lines count to₀ i₀ buffer to i = count - i
@@ -63,11 +64,12 @@ put-lines-spec =
     -- loop-less
     (λ c. omega arith)
     -- loop-again
-    (λ c. (
+    (λ c.
+    let after-put-line = c .before .before in let at-loop = after-put-line .before .before .before .before .before .before .before in (
       omega arith,
-      omega (arith, c .before .before .put-line .ensures .1),
-      c .before .before .before .before .before .before .before .before .before .loop .inv .2,
-      part-more (c .before .before .before .before .before .before .before .before .before .loop .inv .3) (lines-next _ _ (c .before .before .before .before .before .before .before .before .before .loop .i) _ refl (omega arith)) (c .before .before .put-line .ensures .0),
+      omega (arith, after-put-line .put-line .ensures .1),
+      at-loop .loop .inv .2,
+      part-more (at-loop .loop .inv .3) (lines-next _ _ (at-loop .loop .i) _ refl (omega arith)) (after-put-line .put-line .ensures .0),
     ))
     -- same-length
     (λ c. part-length (c .before .loop .inv .3))

@@ -30,4 +30,9 @@ put-links-text-spec =
     -- same-length
     (λ c. search needs)
     -- returns
-    (λ c. (writes-as (text-read _ _ _ (c .before .before .before .before .before .before .before .at-most .ensures) (c .before .before .before .before .before .before .at-most2 .ensures) threeLinkForm) (c .before .before .put-three .ensures .0), c .before .before .put-three .ensures .1)))
+    (λ c.
+    let after-put-three = c .before .before in let after-at-most2 = after-put-three .before .before .before .before in (
+      writes-as (text-read _ _ _ (after-at-most2 .before .at-most .ensures) (after-at-most2 .at-most2 .ensures) threeLinkForm)
+          (after-put-three .put-three .ensures .0),
+      after-put-three .put-three .ensures .1,
+    )))

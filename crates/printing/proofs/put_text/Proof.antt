@@ -30,4 +30,6 @@ put-text-spec =
     -- same-length
     (λ c. search needs)
     -- returns
-    (λ c. (writes-as (text-read _ _ _ (c .before .before .before .before .before .before .before .at-most .ensures) (c .before .before .before .before .before .before .at-most2 .ensures) oneLinkForm) (c .before .before .put-one .ensures .0), c .before .before .put-one .ensures .1)))
+    (λ c.
+    let after-put-one = c .before .before in let after-at-most2 = after-put-one .before .before .before .before in
+    (writes-as (text-read _ _ _ (after-at-most2 .before .at-most .ensures) (after-at-most2 .at-most2 .ensures) oneLinkForm) (after-put-one .put-one .ensures .0), after-put-one .put-one .ensures .1)))

@@ -17,8 +17,12 @@ clashes-spec =
     -- enum-told
     (λ c. search needs)
     -- returns
-    (λ c. ap isSome (sym (ap lineOf (c .enum-told .given .1)) ∙ path-clash (c .before .before .find-clash .result) _ _ (c .before .before .find-clash .ensures)))
+    (λ c.
+    let after-find-clash = c .before .before in
+    ap isSome (sym (ap lineOf (c .enum-told .given .1)) ∙ path-clash (after-find-clash .find-clash .result) _ _ (after-find-clash .find-clash .ensures)))
     -- enum-told-2
     (λ c. search needs)
     -- returns-2
-    (λ c. ap isSome (sym (ap lineOf (c .enum-told2 .given .1)) ∙ path-clash (c .before .before .find-clash .result) _ _ (c .before .before .find-clash .ensures))))
+    (λ c.
+    let after-find-clash = c .before .before in
+    ap isSome (sym (ap lineOf (c .enum-told2 .given .1)) ∙ path-clash (after-find-clash .find-clash .result) _ _ (after-find-clash .find-clash .ensures))))

@@ -12,6 +12,11 @@ Inv-loop query layout s k far x y z₀ z = z ≤ 17
 abbrev μ-loop : tie.MeasureT-loop
 μ-loop query layout s k far x y z₀ z = 17 - z
 
+-- The places that lie behind a place.
+
+abbrev then1-of-then2 : tie.Then2 Inv-loop μ-loop → tie.Then1 Inv-loop μ-loop
+then1-of-then2 c = c .before .before
+
 pub func-at-spec : {M : Type 1} → statement M
 func-at-spec =
     tie.close
@@ -25,7 +30,9 @@ func-at-spec =
     -- some-soon-clashes-requires
     (λ c κs. let p = c .before .before .before .before .before .pre in (p .0, p .1, p .2, p .3, omega arith))
     -- returns
-    (λ c. (omega arith, sym (c .before .before .before .has .ensures) ∙ c .before .before .if1 .taken))
+    (λ c.
+    let then1 = then1-of-then2 c in
+    (omega arith, sym (then1 .before .has .ensures) ∙ then1 .if1 .taken))
     -- add-z
     (λ c. omega arith)
     -- loop-less

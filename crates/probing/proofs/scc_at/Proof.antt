@@ -12,6 +12,11 @@ Inv-loop query layout s k both x z y₀ y = y ≤ 17
 abbrev μ-loop : tie.MeasureT-loop
 μ-loop query layout s k both x z y₀ y = 17 - y
 
+-- The places that lie behind a place.
+
+abbrev then1-of-then2 : tie.Then2 Inv-loop μ-loop → tie.Then1 Inv-loop μ-loop
+then1-of-then2 c = c .before .before
+
 pub scc-at-spec : {M : Type 1} → statement M
 scc-at-spec =
     tie.close
@@ -25,7 +30,9 @@ scc-at-spec =
     -- some-soon-clashes-requires
     (λ c κs. let p = c .before .before .before .before .before .pre in (p .0, p .1, p .2, omega arith, p .3))
     -- returns
-    (λ c. (omega arith, sym (c .before .before .before .has .ensures) ∙ c .before .before .if1 .taken))
+    (λ c.
+    let then1 = then1-of-then2 c in
+    (omega arith, sym (then1 .before .has .ensures) ∙ then1 .if1 .taken))
     -- add-y
     (λ c. omega arith)
     -- loop-less

@@ -34,7 +34,13 @@ soon-clashes-spec =
     -- returns-2
     (λ c. search needs)
     -- still-left-requires
-    (λ c κs. let n = c .before .before .before .before .before .before .before .before .before .args .layout .terms in let s = pathOf (c .before .before .before .before .before .before .before .loop .t) in let h = handed-on n s _ _ (c .before .k .given .1) (c .before .before .before .unit .ensures) in (c .before .before .before .before .before .before .before .before .before .pre, applies-by n s _ _ _ (h .0), h .1, h .2, h .3))
+    (λ c κs.
+    let after-unit = c .before .before .before in let at-loop = after-unit .before .before .before .before in
+    let start = at-loop .before .before in
+    let n = start .args .layout .terms in
+    let s = pathOf (at-loop .loop .t) in
+    let h = handed-on n s _ _ (c .before .k .given .1) (after-unit .unit .ensures) in
+    (start .pre, applies-by n s _ _ _ (h .0), h .1, h .2, h .3))
     -- returns-3
     (λ c. search needs)
     -- returns-4

@@ -14,6 +14,17 @@ Inv-loop query layout s k reach back y from near z₀ z = z ≤ 17
 abbrev μ-loop : tie.MeasureT-loop
 μ-loop query layout s k reach back y from near z₀ z = 17 - z
 
+-- The places that lie behind a place.
+
+abbrev then2-of-lowest : tie.After-lowest Inv-loop μ-loop → tie.Then2 Inv-loop μ-loop
+then2-of-lowest c = c .before .before
+
+abbrev lowest-of-x : tie.After-x Inv-loop μ-loop → tie.After-lowest Inv-loop μ-loop
+lowest-of-x c = c .before .before
+
+abbrev start-of-has : tie.After-has Inv-loop μ-loop → tie.Start Inv-loop μ-loop
+start-of-has c = c .before .before .before .before .before .before .before
+
 pub total-at-spec : {M : Type 1} → statement M
 total-at-spec =
     tie.close
@@ -41,9 +52,15 @@ total-at-spec =
     -- enum-known-x
     (λ c. search needs)
     -- some-soon-clashes-requires
-    (λ c κs. let h = lowest-in _ _ (c .before .x .given .1) _ (c .before .before .before .lowest .ensures) in let p = c .before .before .before .before .before .before .before .before .before .before .before .before .before .pre in (p .0, p .1, h .0, p .2, omega arith))
+    (λ c κs.
+    let after-lowest = lowest-of-x (c .before) in
+    let h = lowest-in _ _ (c .before .x .given .1) _ (after-lowest .lowest .ensures) in let p = start-of-has (then2-of-lowest after-lowest .before) .pre in (p .0, p .1, h .0, p .2, omega arith))
     -- returns
-    (λ c. λ n link s k e. total-found n link (c .before .before .before .before .before .before .before .before .before .before .before .before .before .before .before .args .reach .now) s k e _ _ _ (c .before .before .before .before .before .before .before .before .before .before .before .before .before .before .before .args .back .now) (c .before .before .before .before .before .before .before .before .before .before .before .before .before .before .before .pre .3) (c .before .before .before .before .before .before .before .before .before .before .before .before .before .before .before .pre .2) (omega arith) (sym (c .before .before .before .before .before .before .before .before .has .ensures) ∙ not-true _ (c .before .before .before .before .before .before .before .if2 .taken)) (lowest-in _ _ (c .before .before .before .x .given .1) _ (c .before .before .before .before .before .lowest .ensures)))
+    (λ c.
+    let after-x = c .before .before .before in let after-lowest = lowest-of-x after-x in let then2 = then2-of-lowest after-lowest in
+    let after-has = then2 .before in let start = start-of-has after-has in
+    λ n link s k e. total-found n link (start .args .reach .now) s k e _ _ _ (start .args .back .now) (start .pre .3) (start .pre .2) (omega arith)
+    (sym (after-has .has .ensures) ∙ not-true _ (then2 .if2 .taken)) (lowest-in _ _ (after-x .x .given .1) _ (after-lowest .lowest .ensures)))
     -- enum-told
     (λ c. search needs)
     -- add-z

@@ -10,6 +10,11 @@ use Rattle.query.proofs.Reading.{missing, above, short}
 use Rattle.query.proofs.read_section.Statement.{statement}
 use Rattle.query.proofs.read_section.Tie as tie
 
+-- The places that lie behind a place.
+
+abbrev start-of-shared-slice-known : tie.After-shared-slice-known → tie.Start
+start-of-shared-slice-known c = c .before .before
+
 size-fits : {count width : ℕ} → count < 256 → width ≤ 4 → Fits w64 (count * width)
 size-fits h l = record { fits = omega (arith, mul-le-mul (le-of-lt h) l) }
 
@@ -22,11 +27,11 @@ read-section-spec =
     -- shared-slice-read-count
     (λ c. search needs)
     -- cast-count
-    (λ c. omega (arith, c .shared-slice-known .given (c .before .before .args .at)))
+    (λ c. omega (arith, c .shared-slice-known .given (start-of-shared-slice-known c .args .at)))
     -- returns-2
     (λ c s ss l x w. rw (← x) (above s ss _ _ (omega arith) (omega arith)))
     -- mul-size
-    (λ c. size-fits (omega (arith, c .before .shared-slice-known .given (c .before .before .before .args .at))) (omega arith))
+    (λ c. size-fits (omega (arith, c .before .shared-slice-known .given (start-of-shared-slice-known (c .before) .args .at))) (omega arith))
     -- sub-left
     (λ c. search needs)
     -- sub-left-2

@@ -19,12 +19,30 @@ Inv-loop query at count rep marks₀ i₀ marks i = (length marks ≡ 17) × Fie
 abbrev μ-loop : tie.MeasureT-loop
 μ-loop query at count rep marks₀ i₀ marks i = count - i
 
+-- The places that lie behind a place.
+
+abbrev field-of-read-rep : tie.After-read-rep Inv-loop μ-loop → tie.After-field Inv-loop μ-loop
+field-of-read-rep c = c .before .before
+
+abbrev start-of-at-loop : tie.At-loop Inv-loop μ-loop → tie.Start Inv-loop μ-loop
+start-of-at-loop c = c .before .before
+
+abbrev at-loop-of-sign : tie.After-sign Inv-loop μ-loop → tie.At-loop Inv-loop μ-loop
+at-loop-of-sign c = c .before .before
+
+abbrev at-loop-of-read-rep : tie.After-read-rep Inv-loop μ-loop → tie.At-loop Inv-loop μ-loop
+at-loop-of-read-rep c = at-loop-of-sign (field-of-read-rep c .before .before)
+
 -- the term that stands for a literal's
-stands-is : (c : tie.After-read-rep Inv-loop μ-loop) → c .read-rep .result .0 ≡ repOf (c .before .before .before .before .before .before .before .before .args .rep .now) (literalIn (c .before .before .before .before .before .before .before .before .args .query .now) (c .before .before .before .before .before .before .before .before .args .at) (c .before .before .before .before .before .before .loop .i) .right)
+stands-is : (c : tie.After-read-rep Inv-loop μ-loop) →
+    c .read-rep .result .0 ≡ repOf (start-of-at-loop (at-loop-of-read-rep c) .args .rep .now)
+    (literalIn (start-of-at-loop (at-loop-of-read-rep c) .args .query .now) (start-of-at-loop (at-loop-of-read-rep c) .args .at) (at-loop-of-read-rep c .loop .i) .right)
 stands-is c = c .read-rep .ensures ∙ ap (repOf _) (c .before .right .ensures)
 
 stands-within : (c : tie.After-read-rep Inv-loop μ-loop) → c .read-rep .result .0 ≤ 16
-stands-within c = omega (arith, stands-is c, c .before .before .before .before .before .before .before .before .pre .1 (c .before .before .before .before .before .before .loop .i) (omega arith) .2)
+stands-within c =
+    let at-loop = at-loop-of-read-rep c in
+    omega (arith, stands-is c, start-of-at-loop at-loop .pre .1 (at-loop .loop .i) (omega arith) .2)
 
 returns : tie.Need-returns Inv-loop μ-loop
 unfolding literalsAt listed
@@ -45,7 +63,9 @@ mark-fields-spec =
     -- loop-less
     (λ c. omega arith)
     -- loop-again
-    (λ c. (c .before .before .before .loop .inv .0, fields-skip _ _ _ _ _ (omega arith) (sym (c .before .sign .ensures) ∙ not-true _ (c .if1 .taken)) (c .before .before .before .loop .inv .1)))
+    (λ c.
+    let at-loop = at-loop-of-sign (c .before) in
+    (at-loop .loop .inv .0, fields-skip _ _ _ _ _ (omega arith) (sym (c .before .sign .ensures) ∙ not-true _ (c .if1 .taken)) (at-loop .loop .inv .1)))
     -- field-requires
     (λ c κs. omega arith)
     -- right-requires
@@ -57,7 +77,9 @@ mark-fields-spec =
     -- array-read-marks
     (λ c. omega (arith, stands-within c))
     -- only-requires
-    (λ c κs. let r = c .before .before .before .before .before .before .before .before .pre .1 (c .before .before .before .before .before .before .loop .i) (omega arith) in omega (arith, c .before .before .field .ensures))
+    (λ c κs.
+    let at-loop = at-loop-of-read-rep c in
+    let r = start-of-at-loop at-loop .pre .1 (at-loop .loop .i) (omega arith) in omega (arith, field-of-read-rep c .field .ensures))
     -- mul-marks-2
     (λ c. omega (arith, stands-within (c .before)))
     -- array-write-marks
@@ -68,8 +90,12 @@ mark-fields-spec =
     (λ c. omega arith)
     -- loop-again-2
     (λ c.
-    let l = c .before .before .before .before .before .before .before .loop in let r = c .before .before .before .before .before .before .before .before .before .pre .1 (l .i) (omega arith) in (
+    let after-read-rep = c .before in let after-field = field-of-read-rep after-read-rep in let else1 = after-field .before in
+    let after-sign = else1 .before in let at-loop = at-loop-of-sign after-sign in
+    let l = at-loop .loop in let r = start-of-at-loop at-loop .pre .1 (l .i) (omega arith) in (
       simp length-set (l .inv .0),
-      fields-here _ _ _ (l .i) (l .marks) (l .inv .0) (omega arith) (sym (c .before .before .before .before .before .sign .ensures) ∙ not-false _ (c .before .before .before .before .if1 .left)) _ _ _ (stands-within (c .before)) (omega (arith, c .before .before .before .field .ensures)) (c .only .ensures) (stands-is (c .before)) (c .before .before .before .field .ensures) (l .inv .1),
+      fields-here _ _ _ (l .i) (l .marks) (l .inv .0) (omega arith) (sym (after-sign .sign .ensures) ∙ not-false _ (else1 .if1 .left)) _ _ _
+          (stands-within (after-read-rep)) (omega (arith, after-field .field .ensures)) (c .only .ensures) (stands-is (after-read-rep))
+          (after-field .field .ensures) (l .inv .1),
     ))
     returns)

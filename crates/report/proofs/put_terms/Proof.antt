@@ -16,6 +16,11 @@ Inv-loop buffer₀ at bytes n to₀ t₀ buffer to t = (1 ≤ t) × Put (ltb 0) 
 abbrev μ-loop : tie.MeasureT-loop
 μ-loop buffer₀ at bytes n to₀ t₀ buffer to t = n + 1 - t
 
+-- The places that lie behind a place.
+
+abbrev at-loop-of-buffer : tie.After-buffer Inv-loop μ-loop → tie.At-loop Inv-loop μ-loop
+at-loop-of-buffer c = c .before .before
+
 pub put-terms-spec : {M : Type 1} → statement M
 put-terms-spec =
     tie.close
@@ -27,18 +32,25 @@ put-terms-spec =
     -- element-copy-out-buffer
     (λ c. omega arith)
     -- slice-write-buffer
-    (λ c. put-room _ _ _ _ _ _ _ _ (c .before .before .loop .inv .1) (omega arith) (lt-ltb 0 _ (c .before .before .loop .inv .0)) (omega (arith, every-length (c .before .before .before .args .n))))
+    (λ c.
+    let at-loop = at-loop-of-buffer c in
+    put-room _ _ _ _ _ _ _ _ (at-loop .loop .inv .1) (omega arith) (lt-ltb 0 _ (at-loop .loop .inv .0)) (omega (arith, every-length (at-loop .before .args .n))))
     -- add-to
     (λ c.
-    let h = put-room _ _ _ _ _ _ _ _ (c .before .before .loop .inv .1) (omega arith) (lt-ltb 0 _ (c .before .before .loop .inv .0)) (omega (arith, every-length (c .before .before .before .args .n))) in
-    omega (arith, c .before .before .loop .inv .1 .same, c .before .before .before .good))
+    let at-loop = at-loop-of-buffer c in let start = at-loop .before in
+    let h = put-room _ _ _ _ _ _ _ _ (at-loop .loop .inv .1) (omega arith) (lt-ltb 0 _ (at-loop .loop .inv .0)) (omega (arith, every-length (start .args .n))) in
+    omega (arith, at-loop .loop .inv .1 .same, start .good))
     -- add-t
     (λ c. omega arith)
     -- loop-less
     (λ c. omega arith)
     -- loop-again
-    (λ c. (omega arith, put-here _ _ _ _ _ _ _ _ (c .before .before .loop .inv .1) (omega arith) (lt-ltb 0 _ (c .before .before .loop .inv .0)) (omega (arith, every-length (c .before .before .before .args .n))) _ refl))
+    (λ c.
+    let at-loop = at-loop-of-buffer c in
+    (omega arith, put-here _ _ _ _ _ _ _ _ (at-loop .loop .inv .1) (omega arith) (lt-ltb 0 _ (at-loop .loop .inv .0)) (omega (arith, every-length (at-loop .before .args .n))) _ refl))
     -- same-length
     (λ c. c .before .loop .inv .1 .same)
     -- returns
-    (λ c. let w = put-all _ _ _ _ _ _ _ _ (c .before .loop .inv .1) (omega arith) in (omega (arith, w .0, every-length (c .before .before .args .n)), rw (every-selected (c .before .before .args .n)) at (w .1))))
+    (λ c.
+    let start = c .before .before in
+    let w = put-all _ _ _ _ _ _ _ _ (c .before .loop .inv .1) (omega arith) in (omega (arith, w .0, every-length (start .args .n)), rw (every-selected (start .args .n)) at (w .1))))

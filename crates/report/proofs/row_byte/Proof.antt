@@ -16,6 +16,8 @@ row-byte-spec =
     -- element-copy-out-result
     (λ c. search needs)
     -- cast-result
-    (λ c. record { fits = row-byte-small (getD (c .before .args .marks .now) (c .before .args .v) 0 / 2 ^ 1) })
+    (λ c.
+    let start = c .before in
+    record { fits = row-byte-small (getD (start .args .marks .now) (start .args .v) 0 / 2 ^ 1) })
     -- returns
     (λ c. row-byte-is _ _ (omega arith)))

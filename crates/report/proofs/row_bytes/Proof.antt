@@ -16,6 +16,11 @@ Inv-loop marks n bytes₀ v₀ bytes v = (length bytes ≡ 17) × ((x : ℕ) →
 abbrev μ-loop : tie.MeasureT-loop
 μ-loop marks n bytes₀ v₀ bytes v = n + 1 - v
 
+-- The places that lie behind a place.
+
+abbrev at-loop-of-row-byte : tie.After-row-byte Inv-loop μ-loop → tie.At-loop Inv-loop μ-loop
+at-loop-of-row-byte c = c .before .before
+
 pub row-bytes-spec : {M : Type 1} → statement M
 row-bytes-spec =
     tie.close
@@ -34,9 +39,10 @@ row-bytes-spec =
     (λ c. omega arith)
     -- loop-again
     (λ c.
-    let l = c .before .before .loop in (
+    let at-loop = at-loop-of-row-byte c in
+    let l = at-loop .loop in (
       simp length-set (l .inv .0),
-      filled-more (λ x. byteOf (square (c .before .before .before .args .marks .now) x) 1 8) 0 (l .bytes) (l .v) (omega arith) _ (c .row-byte .ensures) (l .inv .1),
+      filled-more (λ x. byteOf (square (at-loop .before .args .marks .now) x) 1 8) 0 (l .bytes) (l .v) (omega arith) _ (c .row-byte .ensures) (l .inv .1),
     ))
     -- returns
     (λ c. λ v h. c .before .loop .inv .1 v (omega arith) (omega arith)))

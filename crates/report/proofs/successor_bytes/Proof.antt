@@ -9,6 +9,11 @@ use Rattle.completion.proofs.Completing.{shown-below}
 use Rattle.report.proofs.successor_bytes.Statement.{statement}
 use Rattle.report.proofs.successor_bytes.Tie as tie
 
+-- The places that lie behind a place.
+
+abbrev start-of-links : tie.After-links → tie.Start
+start-of-links c = c .before .before
+
 pub successor-bytes-spec : {M : Type 1} → statement M
 successor-bytes-spec =
     tie.close
@@ -17,7 +22,7 @@ successor-bytes-spec =
     (λ c κs. search needs)
     -- nodes-linked-requires
     (λ c κs.
-    let s = c .before .before in
-    (s .pre .0, λ t r. rw (c .before .shown-links .ensures) (omega (arith, shown-below (s .args .n) (pathOf (s .args .s)) (s .args .k .0) t))))
+    let start = start-of-links c in
+    (start .pre .0, λ t r. rw (c .before .shown-links .ensures) (omega (arith, shown-below (start .args .n) (pathOf (start .args .s)) (start .args .k .0) t))))
     -- returns
-    (λ c. λ t h. c .nodes-linked .ensures t h ∙ ap (λ (f : ℕ → ℕ). nodeOf (c .before .before .before .args .nodes .now) (f t)) (c .before .before .shown-links .ensures)))
+    (λ c. λ t h. c .nodes-linked .ensures t h ∙ ap (λ (f : ℕ → ℕ). nodeOf (start-of-links (c .before) .args .nodes .now) (f t)) (c .before .before .shown-links .ensures)))

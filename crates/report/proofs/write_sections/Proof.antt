@@ -30,10 +30,17 @@ write-sections-spec =
     (λ c. search needs)
     -- returns
     (λ c.
-    let p = c .before .before .before .before .before .before .before .before .before .before .before .before .before .before .before .before .before .before .before .before .before .before .before .before .before .pre in
-    let a = c .before .before .before .before .before .before .before .before .before .before .before .before .before .before .before .before .before .before .before .before .before .before .before .before .before .args in
-    sections-written _ (c .before .before .before .before .before .before .before .before .before .before .before .before .before .before .before .before .before .before .before .before .before .before .clear .last .0) (c .before .before .before .before .before .before .before .before .before .before .before .before .before .before .before .before .before .before .put-successor-section .last .0) (c .before .before .before .before .before .before .before .before .before .before .before .before .before .before .put-term-section .last .0) (c .before .before .before .before .before .before .before .before .before .before .put-node-section .last .0) (c .before .before .before .before .before .before .put .last .0) (c .before .before .put2 .last .0)
+    let after-put2 = c .before .before in let after-put = after-put2 .before .before .before .before in
+    let after-put-node-section = after-put .before .before .before .before in
+    let after-put-term-section = after-put-node-section .before .before .before .before in
+    let after-put-successor-section = after-put-term-section .before .before .before .before in
+    let after-clear = after-put-successor-section .before .before .before .before in let start = after-clear .before .before .before in
+    let p = start .pre in
+    let a = start .args in
+    sections-written _ (after-clear .clear .last .0) (after-put-successor-section .put-successor-section .last .0)
+    (after-put-term-section .put-term-section .last .0) (after-put-node-section .put-node-section .last .0) (after-put .put .last .0) (after-put2 .put2 .last .0)
     _ _ _ (marked (a .marks .now) (a .n)) (allSuccessors (a .n) (pathOf (a .s)) (marked (a .marks .now) (a .n))) (λ t. getD (a .places .now) t 0) (λ t. getD (a .fields .now) t 0) _ _ _ _
-    (p .2) (ap (λ (k : ℕ). pathOf (a .s) .links * k) (p .2) ∙ sym (successors-counted (a .n) (pathOf (a .s)) (marked (a .marks .now) (a .n)))) (c .before .before .before .before .before .before .before .before .before .before .before .before .before .before .before .before .before .before .before .before .before .before .clear .ensures)
-    (c .before .before .before .before .before .before .before .before .before .before .before .before .before .before .before .before .before .before .put-successor-section .kept .0) (c .before .before .before .before .before .before .before .before .before .before .before .before .before .before .put-term-section .kept .0) (c .before .before .before .before .before .before .before .before .before .before .put-node-section .kept .0) (c .before .before .before .before .before .before .put .kept .0)
-    (c .before .before .before .before .before .before .before .before .before .before .before .before .before .before .before .before .before .before .put-successor-section .ensures) (c .before .before .before .before .before .before .before .before .before .before .before .before .before .before .put-term-section .ensures) (c .before .before .before .before .before .before .before .before .before .before .put-node-section .ensures) (c .before .before .before .before .before .before .put .ensures) (c .before .before .put2 .ensures .1)))
+    (p .2) (ap (λ (k : ℕ). pathOf (a .s) .links * k) (p .2) ∙ sym (successors-counted (a .n) (pathOf (a .s)) (marked (a .marks .now) (a .n)))) (after-clear .clear .ensures)
+    (after-put-successor-section .put-successor-section .kept .0) (after-put-term-section .put-term-section .kept .0) (after-put-node-section .put-node-section .kept .0) (after-put .put .kept .0)
+    (after-put-successor-section .put-successor-section .ensures) (after-put-term-section .put-term-section .ensures)
+    (after-put-node-section .put-node-section .ensures) (after-put .put .ensures) (after-put2 .put2 .ensures .1)))

@@ -18,6 +18,11 @@ Inv-loop report m at end i₀ i =
 abbrev μ-loop : tie.MeasureT-loop
 μ-loop report m at end i₀ i = end - i
 
+-- The places that lie behind a place.
+
+abbrev at-loop-of-byte-at : tie.After-byte-at Inv-loop μ-loop → tie.At-loop Inv-loop μ-loop
+at-loop-of-byte-at c = c .before .before
+
 pub all-nodes-spec : {M : Type 1} → statement M
 all-nodes-spec =
     tie.close
@@ -29,12 +34,12 @@ all-nodes-spec =
     -- byte-at-requires
     (λ c κs. search needs)
     -- returns
-    (λ c. sym (all-fails _ _ _ (c .before .before .loop-test .taken) (no-node _ (c .before .byte-at .ensures .0) (c .if1 .taken))) ∙ c .before .before .before .loop .inv)
+    (λ c. sym (all-fails _ _ _ (c .before .before .loop-test .taken) (no-node _ (c .before .byte-at .ensures .0) (c .if1 .taken))) ∙ at-loop-of-byte-at (c .before) .loop .inv)
     -- add-i
     (λ c. omega arith)
     -- loop-less
     (λ c. omega arith)
     -- loop-again
-    (λ c. sym (all-next _ _ _ (c .before .before .loop-test .taken) (is-node _ (c .before .byte-at .ensures .0) (c .if1 .left))) ∙ c .before .before .before .loop .inv)
+    (λ c. sym (all-next _ _ _ (c .before .before .loop-test .taken) (is-node _ (c .before .byte-at .ensures .0) (c .if1 .left))) ∙ at-loop-of-byte-at (c .before) .loop .inv)
     -- returns-2
     (λ c. sym (all-end _ _ _ (c .loop-test .left)) ∙ c .before .loop .inv))

@@ -7,9 +7,16 @@ use Rattle.drawing.specs.Text.{booleansIn}
 use Rattle.report_reader.proofs.booleans_in.Statement.{statement}
 use Rattle.report_reader.proofs.booleans_in.Tie as tie
 
+-- The places that lie behind a place.
+
+abbrev size-in-of-byte-at : tie.After-byte-at → tie.After-size-in
+size-in-of-byte-at c = c .before .before
+
 returns : tie.Need-returns
 unfolding booleansIn
-returns c = c .byte-at .ensures .0 ∙ ap₂ (λ (m n : ℕ). getD (c .before .before .before .before .args .report .now) (m + n + m + 4) 0) (c .before .before .size-in .ensures .0) (c .before .count-in .ensures .0)
+returns c =
+    let after-size-in = size-in-of-byte-at c in
+    c .byte-at .ensures .0 ∙ ap₂ (λ (m n : ℕ). getD (after-size-in .before .before .args .report .now) (m + n + m + 4) 0) (after-size-in .size-in .ensures .0) (c .before .count-in .ensures .0)
 
 pub booleans-in-spec : {M : Type 1} → statement M
 booleans-in-spec =

@@ -4,6 +4,11 @@ use Rattle.report_reader.proofs.Laws.{formed-test}
 use Rattle.report_reader.proofs.is_well_formed.Statement.{statement}
 use Rattle.report_reader.proofs.is_well_formed.Tie as tie
 
+-- The places that lie behind a place.
+
+abbrev all-nodes-of-all-zero : tie.After-all-zero → tie.After-all-nodes
+all-nodes-of-all-zero c = c .before .before
+
 pub is-well-formed-spec : {M : Type 1} → statement M
 is-well-formed-spec =
     tie.close
@@ -48,4 +53,8 @@ is-well-formed-spec =
     (λ c κs. search needs)
     -- returns
     (λ c.
-    formed-test _ _ _ _ _ _ _ _ (c .before .before .before .before .before .before .size-in .ensures .0) (c .before .before .before .before .before .count-in .ensures .0) (c .before .before .before .before .byte-at .ensures .0) (c .before .before .before .byte-at2 .ensures .0) (c .before .before .all-nodes .ensures) (c .before .all-nodes2 .ensures) (c .all-zero .ensures)))
+    let after-all-nodes = all-nodes-of-all-zero c in let after-byte-at2 = after-all-nodes .before in
+    let after-byte-at = after-byte-at2 .before in let after-count-in = after-byte-at .before in
+    formed-test _ _ _ _ _ _ _ _ (after-count-in .before .size-in .ensures .0) (after-count-in .count-in .ensures .0)
+    (after-byte-at .byte-at .ensures .0) (after-byte-at2 .byte-at2 .ensures .0) (after-all-nodes .all-nodes .ensures) (c .before .all-nodes2 .ensures)
+    (c .all-zero .ensures)))

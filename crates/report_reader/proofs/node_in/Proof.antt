@@ -7,11 +7,16 @@ use Rattle.logic.specs.Shown.{nodeIn}
 use Rattle.report_reader.proofs.node_in.Statement.{statement}
 use Rattle.report_reader.proofs.node_in.Tie as tie
 
+-- The places that lie behind a place.
+
+abbrev size-in-of-byte-at : tie.After-byte-at → tie.After-size-in
+size-in-of-byte-at c = c .before .before
+
 returns : tie.Need-returns
 unfolding nodeIn
 returns c =
-    let start = c .before .before .before .before in
-    c .byte-at .ensures .0 ∙ ap (λ (k : ℕ). getD (start .args .report .now) (k + 1 + start .args .t .0) 0) (c .before .before .size-in .ensures .0)
+    let after-size-in = size-in-of-byte-at c in let the-start = after-size-in .before .before in
+    c .byte-at .ensures .0 ∙ ap (λ (k : ℕ). getD (the-start .args .report .now) (k + 1 + the-start .args .t .0) 0) (after-size-in .size-in .ensures .0)
 
 pub node-in-spec : {M : Type 1} → statement M
 node-in-spec =

@@ -7,6 +7,11 @@ use Rattle.rewrite_printing.proofs.Texts.{rewritten-text}
 use Rattle.rewrite_printing.proofs.put_rewritten.Statement.{statement}
 use Rattle.rewrite_printing.proofs.put_rewritten.Tie as tie
 
+-- The places that lie behind a place.
+
+abbrev put-answer-of-slice-known2 : tie.After-slice-known2 → tie.After-put-answer
+put-answer-of-slice-known2 c = c .before .before
+
 pub put-rewritten-spec : {M : Type 1} → statement M
 put-rewritten-spec =
     tie.close
@@ -22,4 +27,7 @@ put-rewritten-spec =
     -- same-length
     (λ c. search needs)
     -- returns
-    (λ c. writes-as (rewritten-text (c .before .before .before .before .before .before .before .before .before .before .args .query .now) _ (c .before .before .before .before .before .before .rewrite .ensures) (length-replicate {A = ℕ} 561 0)) (c .before .before .put-answer .ensures)))
+    (λ c.
+    let after-put-answer = put-answer-of-slice-known2 c in let after-rewrite = after-put-answer .before .before .before .before in
+    writes-as (rewritten-text (after-rewrite .before .before .before .before .args .query .now) _ (after-rewrite .rewrite .ensures)
+    (length-replicate {A = ℕ} 561 0)) (after-put-answer .put-answer .ensures)))

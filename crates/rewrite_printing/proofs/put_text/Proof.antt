@@ -8,6 +8,11 @@ use Rattle.rewrite_printing.proofs.Texts.{text-cut, text-whole}
 use Rattle.rewrite_printing.proofs.put_text.Statement.{statement}
 use Rattle.rewrite_printing.proofs.put_text.Tie as tie
 
+-- The places that lie behind a place.
+
+abbrev put-rewritten2-of-slice-known3 : tie.After-slice-known3 → tie.After-put-rewritten2
+put-rewritten2-of-slice-known3 c = c .before .before
+
 pub put-text-spec : {M : Type 1} → statement M
 put-text-spec =
     tie.close
@@ -25,4 +30,6 @@ put-text-spec =
     -- same-length-2
     (λ c. search needs)
     -- returns-2
-    (λ c. writes-as (text-whole _ (c .before .before .before .before .if1 .left)) (c .before .before .put-rewritten2 .ensures)))
+    (λ c.
+    let after-put-rewritten2 = put-rewritten2-of-slice-known3 c in
+    writes-as (text-whole _ (after-put-rewritten2 .before .before .if1 .left)) (after-put-rewritten2 .put-rewritten2 .ensures)))

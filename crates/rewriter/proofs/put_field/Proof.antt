@@ -4,6 +4,11 @@ use Rattle.text.proofs.Writing.{writes-then}
 use Rattle.rewriter.proofs.put_field.Statement.{statement}
 use Rattle.rewriter.proofs.put_field.Tie as tie
 
+-- The places that lie behind a place.
+
+abbrev put-byte3-of-slice-known4 : tie.After-slice-known4 → tie.After-put-byte3
+put-byte3-of-slice-known4 c = c .before .before
+
 pub put-field-spec : {M : Type 1} → statement M
 put-field-spec =
     tie.close
@@ -17,4 +22,6 @@ put-field-spec =
     -- same-length
     (λ c. search needs)
     -- returns
-    (λ c. writes-then (c .before .before .before .before .before .before .before .before .before .before .put-byte .ensures) (writes-then (c .before .before .before .before .before .before .put-byte2 .ensures) (c .before .before .put-byte3 .ensures))))
+    (λ c.
+    let after-put-byte3 = put-byte3-of-slice-known4 c in let after-put-byte2 = after-put-byte3 .before .before .before .before in
+    writes-then (after-put-byte2 .before .before .before .before .put-byte .ensures) (writes-then (after-put-byte2 .put-byte2 .ensures) (after-put-byte3 .put-byte3 .ensures))))

@@ -18,4 +18,8 @@ replace-in-spec =
     -- same-length
     (λ c. omega arith)
     -- returns
-    (λ c. (c .before .before .merge-rows .ensures .0 ∙ ap (rows _ _) (c .before .before .before .before .before .before .merge-columns .ensures .0) ∙ replaced _ _ _, c .before .before .merge-rows .ensures .1)))
+    (λ c. (
+      c .before .before .merge-rows .ensures .0 ∙ ap (rows _ _) (c .before .before .before .before .before .before .merge-columns .ensures .0)
+          ∙ replaced _ _ _,
+      c .before .before .merge-rows .ensures .1,
+    )))

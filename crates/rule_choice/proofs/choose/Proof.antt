@@ -6,6 +6,14 @@ use Rattle.rule_choice.proofs.Nested.{choose-single, choose-three}
 use Rattle.rule_choice.proofs.choose.Statement.{statement}
 use Rattle.rule_choice.proofs.choose.Tie as tie
 
+-- The places that lie behind a place.
+
+abbrev live-of-choose-any : tie.After-choose-any → tie.After-live
+live-of-choose-any c = c .before .before
+
+abbrev start-of-live : tie.After-live → tie.Start
+start-of-live c = c .before .before
+
 pub choose-spec : {M : Type 1} → statement M
 choose-spec =
     tie.close
@@ -19,8 +27,14 @@ choose-spec =
     -- choose-by-requires
     (λ c κs. search needs)
     -- returns
-    (λ c. c .choose-by .ensures ∙ sym (choose-single _ _ _ _ _ (c .before .before .before .before .before .before .before .before .args .order .now) _ (c .before .before .before .before .before .before .live .ensures) (c .before .before .before .before .before .if1 .taken) _ _ (c .before .before .before .before .rows-of .ensures) (c .before .before .before .rows-of2 .ensures)))
+    (λ c.
+    let after-rows-of2 = c .before .before .before in let after-rows-of = after-rows-of2 .before in let then1 = after-rows-of .before in
+    let after-live = then1 .before in
+    c .choose-by .ensures ∙ sym (choose-single _ _ _ _ _ (start-of-live after-live .args .order .now) _ (after-live .live .ensures)
+    (then1 .if1 .taken) _ _ (after-rows-of .rows-of .ensures) (after-rows-of2 .rows-of2 .ensures)))
     -- choose-any-requires
     (λ c κs. search needs)
     -- returns-2
-    (λ c. c .choose-any .ensures ∙ sym (choose-three _ _ _ _ _ (c .before .before .before .before .args .order .now) _ (c .before .before .live .ensures) (c .before .if1 .left))))
+    (λ c.
+    let after-live = live-of-choose-any c in
+    c .choose-any .ensures ∙ sym (choose-three _ _ _ _ _ (start-of-live after-live .args .order .now) _ (after-live .live .ensures) (c .before .if1 .left))))

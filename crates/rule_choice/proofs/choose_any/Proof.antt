@@ -21,6 +21,17 @@ Inv-loop order alive link reach n i₀ i =
 abbrev μ-loop : tie.MeasureT-loop
 μ-loop order alive link reach n i₀ i = length order - i
 
+-- The places that lie behind a place.
+
+abbrev start-of-at-loop : tie.At-loop Inv-loop μ-loop → tie.Start Inv-loop μ-loop
+start-of-at-loop c = c .before .before
+
+abbrev tried-by-of-enum-told : tie.After-enum-told Inv-loop μ-loop → tie.After-tried-by Inv-loop μ-loop
+tried-by-of-enum-told c = c .before .before
+
+abbrev at-loop-of-tried-by : tie.After-tried-by Inv-loop μ-loop → tie.At-loop Inv-loop μ-loop
+at-loop-of-tried-by c = c .before .before .before
+
 pub choose-any-spec : {M : Type 1} → statement M
 choose-any-spec =
     tie.close
@@ -36,7 +47,10 @@ choose-any-spec =
     -- enum-known-l
     (λ c. search needs)
     -- returns
-    (λ c. sym (c .before .before .before .before .before .before .loop .inv .1 ∙ rest-here _ (c .before .before .before .before .before .before .before .before .args .order .now) (c .before .before .before .before .before .before .loop .i) _ (omega arith) (sym (c .before .before .before .tried-by .ensures) ∙ ap choiceOf (c .before .l .given .1))))
+    (λ c.
+    let after-tried-by = c .before .before .before in let at-loop = at-loop-of-tried-by after-tried-by in
+    sym (at-loop .loop .inv .1 ∙ rest-here _ (start-of-at-loop at-loop .args .order .now) (at-loop .loop .i) _ (omega arith)
+    (sym (after-tried-by .tried-by .ensures) ∙ ap choiceOf (c .before .l .given .1))))
     -- enum-told
     (λ c. search needs)
     -- add-i
@@ -44,6 +58,13 @@ choose-any-spec =
     -- loop-less
     (λ c. omega arith)
     -- loop-again
-    (λ c. (omega arith, c .before .before .before .before .before .loop .inv .1 ∙ rest-next _ (c .before .before .before .before .before .before .before .args .order .now) (c .before .before .before .before .before .loop .i) (omega arith) (sym (c .before .before .tried-by .ensures) ∙ ap choiceOf (c .enum-told .given .1))))
+    (λ c.
+    let after-tried-by = tried-by-of-enum-told c in let at-loop = at-loop-of-tried-by after-tried-by in (
+      omega arith,
+      at-loop .loop .inv .1 ∙ rest-next _ (start-of-at-loop at-loop .args .order .now) (at-loop .loop .i) (omega arith)
+          (sym (after-tried-by .tried-by .ensures) ∙ ap choiceOf (c .enum-told .given .1)),
+    ))
     -- returns-2
-    (λ c. sym (c .before .loop .inv .1 ∙ rest-end _ (c .before .before .before .args .order .now) (c .before .loop .i) (omega arith))))
+    (λ c.
+    let at-loop = c .before in
+    sym (at-loop .loop .inv .1 ∙ rest-end _ (start-of-at-loop at-loop .args .order .now) (at-loop .loop .i) (omega arith))))

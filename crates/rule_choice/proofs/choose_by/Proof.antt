@@ -25,6 +25,20 @@ Inv-loop k order alive link reach n back₀ turned₀ i₀ back turned i =
 abbrev μ-loop : tie.MeasureT-loop
 μ-loop k order alive link reach n back₀ turned₀ i₀ back turned i = length order - i
 
+-- The places that lie behind a place.
+
+abbrev turned-once-of-back : tie.After-back Inv-loop μ-loop → tie.After-turned-once Inv-loop μ-loop
+turned-once-of-back c = c .before .before
+
+abbrev start-of-at-loop : tie.At-loop Inv-loop μ-loop → tie.Start Inv-loop μ-loop
+start-of-at-loop c = c .before .before
+
+abbrev tried-of-enum-told : tie.After-enum-told Inv-loop μ-loop → tie.After-tried Inv-loop μ-loop
+tried-of-enum-told c = c .before .before
+
+abbrev at-loop-of-turned-once : tie.After-turned-once Inv-loop μ-loop → tie.At-loop Inv-loop μ-loop
+at-loop-of-turned-once c = c .before .before .before .before
+
 pub choose-by-spec : {M : Type 1} → statement M
 choose-by-spec =
     tie.close
@@ -42,11 +56,19 @@ choose-by-spec =
     -- shared-slice-read-tried
     (λ c. omega arith)
     -- tried-requires
-    (λ c κs. (c .before .before .before .before .before .before .before .before .pre, λ e. turned-now _ _ _ _ _ (c .before .before .before .before .before .before .loop .inv .2) (c .before .before .turned-once .ensures .0) (c .before .before .turned-once .ensures .1) (c .before .before .before .looks-back .ensures ∙ e)))
+    (λ c κs.
+    let after-turned-once = turned-once-of-back c in let at-loop = at-loop-of-turned-once after-turned-once in (
+      start-of-at-loop at-loop .pre,
+      λ e. turned-now _ _ _ _ _ (at-loop .loop .inv .2) (after-turned-once .turned-once .ensures .0)
+          (after-turned-once .turned-once .ensures .1) (after-turned-once .before .looks-back .ensures ∙ e),
+    ))
     -- enum-known-l
     (λ c. search needs)
     -- returns
-    (λ c. sym (c .before .before .before .before .before .before .before .before .before .before .loop .inv .1 ∙ rest-here _ (c .before .before .before .before .before .before .before .before .before .before .before .before .args .order .now) (c .before .before .before .before .before .before .before .before .before .before .loop .i) _ (omega arith) (sym (c .before .before .before .tried .ensures) ∙ ap choiceOf (c .before .l .given .1))))
+    (λ c.
+    let after-tried = c .before .before .before in let at-loop = at-loop-of-turned-once (turned-once-of-back (after-tried .before)) in
+    sym (at-loop .loop .inv .1 ∙ rest-here _ (start-of-at-loop at-loop .args .order .now) (at-loop .loop .i) _ (omega arith)
+    (sym (after-tried .tried .ensures) ∙ ap choiceOf (c .before .l .given .1))))
     -- enum-told
     (λ c. search needs)
     -- add-i
@@ -54,6 +76,15 @@ choose-by-spec =
     -- loop-less
     (λ c. omega arith)
     -- loop-again
-    (λ c. (omega arith, c .before .before .before .before .before .before .before .before .before .loop .inv .1 ∙ rest-next _ (c .before .before .before .before .before .before .before .before .before .before .before .args .order .now) (c .before .before .before .before .before .before .before .before .before .loop .i) (omega arith) (sym (c .before .before .tried .ensures) ∙ ap choiceOf (c .enum-told .given .1)), turned-kept _ _ _ _ _ (c .before .before .before .before .before .before .before .before .before .loop .inv .2) (c .before .before .before .before .before .turned-once .ensures .0) (c .before .before .before .before .before .turned-once .ensures .1)))
+    (λ c.
+    let after-tried = tried-of-enum-told c in let after-turned-once = turned-once-of-back (after-tried .before) in
+    let at-loop = at-loop-of-turned-once after-turned-once in (
+      omega arith,
+      at-loop .loop .inv .1 ∙ rest-next _ (start-of-at-loop at-loop .args .order .now) (at-loop .loop .i) (omega arith)
+          (sym (after-tried .tried .ensures) ∙ ap choiceOf (c .enum-told .given .1)),
+      turned-kept _ _ _ _ _ (at-loop .loop .inv .2) (after-turned-once .turned-once .ensures .0) (after-turned-once .turned-once .ensures .1),
+    ))
     -- returns-2
-    (λ c. sym (c .before .loop .inv .1 ∙ rest-end _ (c .before .before .before .args .order .now) (c .before .loop .i) (omega arith))))
+    (λ c.
+    let at-loop = c .before in
+    sym (at-loop .loop .inv .1 ∙ rest-end _ (start-of-at-loop at-loop .args .order .now) (at-loop .loop .i) (omega arith))))

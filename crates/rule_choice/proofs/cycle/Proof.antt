@@ -9,6 +9,26 @@ use Rattle.rule_choice.proofs.Rounds.{second-unreached, second-open, se
 use Rattle.rule_choice.proofs.cycle.Statement.{statement}
 use Rattle.rule_choice.proofs.cycle.Tie as tie
 
+-- The places that lie behind a place.
+
+abbrev follow-of-then2 : tie.Then2 → tie.After-follow
+follow-of-then2 c = c .before .before
+
+abbrev only-of-without : tie.After-without → tie.After-only
+only-of-without c = c .before .before
+
+abbrev up-to-of-next : tie.After-next → tie.After-up-to
+up-to-of-next c = c .before .before
+
+abbrev first-of-enum-told : tie.After-enum-told → tie.After-first
+first-of-enum-told c = c .before .before
+
+abbrev start-of-up-to : tie.After-up-to → tie.Start
+start-of-up-to c = c .before .before
+
+abbrev follow-of-only : tie.After-only → tie.After-follow
+follow-of-only c = c .before .before .before
+
 pub cycle-spec : {M : Type 1} → statement M
 cycle-spec =
     tie.close
@@ -21,19 +41,21 @@ cycle-spec =
     (λ c κs. search needs)
     -- returns
     (λ c alive.
-    let s = c .before .before .before in
-    sym (second-unreached _ _ _ _ (reach-none _ (s .pre .0) (s .args .link .now) (s .args .reach .now) _ (s .pre .1) _ (c .before .up-to .ensures) (c .if1 .taken))))
+    let start = start-of-up-to (c .before) in
+    sym (second-unreached _ _ _ _ (reach-none _ (start .pre .0) (start .args .link .now) (start .args .reach .now) _ (start .pre .1) _ (c .before .up-to .ensures) (c .if1 .taken))))
     -- next-requires
     (λ c κs. search needs)
     -- follow-requires
-    (λ c κs. let s = c .before .before .before .before in let l = next-le (s .args .n) (linksIn (s .args .link .now)) (s .args .x .0) in let e = c .next .ensures in (omega arith, omega arith))
+    (λ c κs.
+    let start = start-of-up-to (up-to-of-next c) in
+    let l = next-le (start .args .n) (linksIn (start .args .link .now)) (start .args .x .0) in let e = c .next .ensures in (omega arith, omega arith))
     -- add-k
     (λ c. let l = steps-bound _ _ _ _ _ _ (c .before .follow .ensures .0) in omega arith)
     -- returns-2
     (λ c alive.
-    let s = c .before .before .before .before .before .before .before in
-    let q = back-links (s .args .n) (s .args .link .now) (s .args .reach .now) (s .args .x .0) _ _ (c .before .before .before .next .ensures) (c .before .before .follow .ensures .0) in
-    sym (second-open _ alive (graphOf (s .args .link .now) (s .args .reach .now)) _ (omega arith)))
+    let after-follow = follow-of-then2 c in let after-next = after-follow .before in let start = start-of-up-to (up-to-of-next after-next) in
+    let q = back-links (start .args .n) (start .args .link .now) (start .args .reach .now) (start .args .x .0) _ _ (after-next .next .ensures) (after-follow .follow .ensures .0) in
+    sym (second-open _ alive (graphOf (start .args .link .now) (start .args .reach .now)) _ (omega arith)))
     -- only-requires
     (λ c κs. search needs)
     -- without-requires
@@ -46,11 +68,21 @@ cycle-spec =
     (λ c. search needs)
     -- returns-3
     (λ c alive.
-    let s = c .before .before .before .before .before .before .before .before .before .before .before .before .before in
-    let q = back-links (s .args .n) (s .args .link .now) (s .args .reach .now) (s .args .x .0) _ _ (c .before .before .before .before .before .before .before .before .before .next .ensures) (c .before .before .before .before .before .before .before .before .follow .ensures .0) in
-    sym (second-none _ alive (graphOf (s .args .link .now) (s .args .reach .now)) _ _ q (omega arith) (sym (round-find (s .args .n) (s .pre .0) (s .args .link .now) (s .args .reach .now) (s .args .x .0) (s .pre .1) _ (c .before .before .before .before .before .before .before .before .before .before .before .up-to .ensures) _ _ _ _ _ _ (c .before .before .before .before .before .before .before .before .before .next .ensures) refl (c .before .before .before .before .before .before .before .before .follow .ensures .2) (c .before .before .before .before .before .only .ensures) (c .before .before .before .without .ensures)) ∙ sym (c .before .before .first .ensures) ∙ ap foundOf (c .enum-told .given .1))))
+    let after-first = first-of-enum-told c in let after-without = after-first .before in let after-only = only-of-without after-without in
+    let after-follow = follow-of-only after-only in let after-next = after-follow .before in let after-up-to = up-to-of-next after-next in
+    let start = start-of-up-to after-up-to in let link = start .args .link .now in let reach = start .args .reach .now in
+    let q = back-links (start .args .n) link reach (start .args .x .0) _ _ (after-next .next .ensures) (after-follow .follow .ensures .0) in
+    sym (second-none _ alive (graphOf link reach) _ _ q (omega arith)
+    (sym (round-find (start .args .n) (start .pre .0) link reach (start .args .x .0) (start .pre .1) _ (after-up-to .up-to .ensures) _ _ _ _ _ _
+    (after-next .next .ensures) refl (after-follow .follow .ensures .2) (after-only .only .ensures) (after-without .without .ensures))
+    ∙ sym (after-first .first .ensures) ∙ ap foundOf (c .enum-told .given .1))))
     -- returns-4
     (λ c alive.
-    let s = c .before .before .before .before .before .before .before .before .before .before .before .before .before .before in
-    let q = back-links (s .args .n) (s .args .link .now) (s .args .reach .now) (s .args .x .0) _ _ (c .before .before .before .before .before .before .before .before .before .before .next .ensures) (c .before .before .before .before .before .before .before .before .before .follow .ensures .0) in
-    sym (second-some _ alive (graphOf (s .args .link .now) (s .args .reach .now)) _ _ q (omega arith) _ (sym (round-find (s .args .n) (s .pre .0) (s .args .link .now) (s .args .reach .now) (s .args .x .0) (s .pre .1) _ (c .before .before .before .before .before .before .before .before .before .before .before .before .up-to .ensures) _ _ _ _ _ _ (c .before .before .before .before .before .before .before .before .before .before .next .ensures) refl (c .before .before .before .before .before .before .before .before .before .follow .ensures .2) (c .before .before .before .before .before .before .only .ensures) (c .before .before .before .before .without .ensures)) ∙ sym (c .before .before .before .first .ensures) ∙ ap foundOf (c .before .y .given .1)))))
+    let after-first = c .before .before .before in let after-without = after-first .before in let after-only = only-of-without after-without in
+    let after-follow = follow-of-only after-only in let after-next = after-follow .before in let after-up-to = up-to-of-next after-next in
+    let start = start-of-up-to after-up-to in let link = start .args .link .now in let reach = start .args .reach .now in
+    let q = back-links (start .args .n) link reach (start .args .x .0) _ _ (after-next .next .ensures) (after-follow .follow .ensures .0) in
+    sym (second-some _ alive (graphOf link reach) _ _ q (omega arith) _
+    (sym (round-find (start .args .n) (start .pre .0) link reach (start .args .x .0) (start .pre .1) _ (after-up-to .up-to .ensures) _ _ _ _ _ _
+    (after-next .next .ensures) refl (after-follow .follow .ensures .2) (after-only .only .ensures) (after-without .without .ensures))
+    ∙ sym (after-first .first .ensures) ∙ ap foundOf (c .before .y .given .1)))))

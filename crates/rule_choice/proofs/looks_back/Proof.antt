@@ -7,10 +7,17 @@ use Rattle.rule_choice.proofs.Searches.{looks-as}
 use Rattle.rule_choice.proofs.looks_back.Statement.{statement}
 use Rattle.rule_choice.proofs.looks_back.Tie as tie
 
+-- The places that lie behind a place.
+
+abbrev rule-of-two-way : tie.After-two-way → tie.After-rule
+rule-of-two-way c = c .before .before
+
 returns : tie.Need-returns
 unfolding Option·elim
 -- returns
-returns c = c .two-way .ensures ∙ sym (looks-as _ _ (sym (c .before .before .before .before .rule-numbered .ensures) ∙ ap numberedOf (c .before .before .rule .given .1)))
+returns c =
+    let after-rule = rule-of-two-way c in
+    c .two-way .ensures ∙ sym (looks-as _ _ (sym (after-rule .before .before .rule-numbered .ensures) ∙ ap numberedOf (after-rule .rule .given .1)))
 
 returns-2 : tie.Need-returns-2
 unfolding Option·elim

@@ -19,6 +19,14 @@ Inv-loop rule alive link reach back n x₀ x = inFirst n (bit alive) (graphOf li
 abbrev μ-loop : tie.MeasureT-loop
 μ-loop rule alive link reach back n x₀ x = n + 1 - x
 
+-- The places that lie behind a place.
+
+abbrev in-second-of-enum-told : tie.After-enum-told Inv-loop μ-loop → tie.After-in-second Inv-loop μ-loop
+in-second-of-enum-told c = c .before .before
+
+abbrev at-loop-of-in-second : tie.After-in-second Inv-loop μ-loop → tie.At-loop Inv-loop μ-loop
+at-loop-of-in-second c = c .before .before
+
 loop-holds : tie.Need-loop-holds Inv-loop μ-loop
 unfolding inFirst
 -- loop-holds
@@ -32,11 +40,15 @@ smallest-spec =
     μ-loop
     loop-holds
     -- in-second-requires
-    (λ c κs. let s = c .before .before in (s .pre .0, omega arith, s .pre .1))
+    (λ c κs.
+    let start = c .before .before in
+    (start .pre .0, omega arith, start .pre .1))
     -- enum-known-a
     (λ c. search needs)
     -- returns
-    (λ c. sym (c .before .before .before .before .before .loop .inv ∙ first-here _ _ _ _ (omega arith) (sym (c .before .before .before .in-second .ensures) ∙ ap placeOf (c .before .a .given .1))))
+    (λ c.
+    let after-in-second = c .before .before .before in
+    sym (at-loop-of-in-second after-in-second .loop .inv ∙ first-here _ _ _ _ (omega arith) (sym (after-in-second .in-second .ensures) ∙ ap placeOf (c .before .a .given .1))))
     -- enum-told
     (λ c. search needs)
     -- add-x
@@ -44,6 +56,8 @@ smallest-spec =
     -- loop-less
     (λ c. omega arith)
     -- loop-again
-    (λ c. c .before .before .before .before .loop .inv ∙ first-next _ _ _ (omega arith) (sym (c .before .before .in-second .ensures) ∙ ap placeOf (c .enum-told .given .1)))
+    (λ c.
+    let after-in-second = in-second-of-enum-told c in
+    at-loop-of-in-second after-in-second .loop .inv ∙ first-next _ _ _ (omega arith) (sym (after-in-second .in-second .ensures) ∙ ap placeOf (c .enum-told .given .1)))
     -- returns-2
     (λ c. sym (c .before .loop .inv ∙ first-end _ _ _ (omega arith))))

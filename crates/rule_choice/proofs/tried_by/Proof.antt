@@ -21,6 +21,14 @@ Inv-loop k alive link reach n i₀ i =
 abbrev μ-loop : tie.MeasureT-loop
 μ-loop k alive link reach n i₀ i = 4 - i
 
+-- The places that lie behind a place.
+
+abbrev tried-at-of-enum-told : tie.After-enum-told Inv-loop μ-loop → tie.After-tried-at Inv-loop μ-loop
+tried-at-of-enum-told c = c .before .before
+
+abbrev at-loop-of-tried-at : tie.After-tried-at Inv-loop μ-loop → tie.At-loop Inv-loop μ-loop
+at-loop-of-tried-at c = c .before .before
+
 loop-holds : tie.Need-loop-holds Inv-loop μ-loop
 unfolding triedBy linkNumbers
 -- loop-holds
@@ -38,7 +46,9 @@ tried-by-spec =
     -- enum-known-l
     (λ c. search needs)
     -- returns
-    (λ c. sym (c .before .before .before .before .before .loop .inv .1 ∙ first-here _ _ _ _ (omega arith) (sym (c .before .before .before .tried-at .ensures) ∙ ap choiceOf (c .before .l .given .1))))
+    (λ c.
+    let after-tried-at = c .before .before .before in
+    sym (at-loop-of-tried-at after-tried-at .loop .inv .1 ∙ first-here _ _ _ _ (omega arith) (sym (after-tried-at .tried-at .ensures) ∙ ap choiceOf (c .before .l .given .1))))
     -- enum-told
     (λ c. search needs)
     -- add-i
@@ -46,6 +56,8 @@ tried-by-spec =
     -- loop-less
     (λ c. omega arith)
     -- loop-again
-    (λ c. (omega arith, c .before .before .before .before .loop .inv .1 ∙ first-next _ _ _ (omega arith) (sym (c .before .before .tried-at .ensures) ∙ ap choiceOf (c .enum-told .given .1))))
+    (λ c.
+    let after-tried-at = tried-at-of-enum-told c in
+    (omega arith, at-loop-of-tried-at after-tried-at .loop .inv .1 ∙ first-next _ _ _ (omega arith) (sym (after-tried-at .tried-at .ensures) ∙ ap choiceOf (c .enum-told .given .1))))
     -- returns-2
     (λ c. sym (c .before .loop .inv .1 ∙ first-end _ _ _ (omega arith))))

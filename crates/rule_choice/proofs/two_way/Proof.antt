@@ -4,39 +4,8 @@ use Rattle.rules.specs.Tests.{twoWay}
 use Rattle.rule_choice.proofs.two_way.Statement.{statement}
 use Rattle.rule_choice.proofs.two_way.Tie as tie
 
-returns : tie.Need-returns
-unfolding twoWay
-returns c = rw (c .enum-told .given .1)
-
-returns-2 : tie.Need-returns-2
-unfolding twoWay
-returns-2 c = rw (c .enum-told2 .given .1)
-
-returns-3 : tie.Need-returns-3
-unfolding twoWay
-returns-3 c = rw (c .enum-told3 .given .1)
-
-returns-4 : tie.Need-returns-4
-unfolding twoWay
-returns-4 c = rw (c .enum-told4 .given .1)
-
-returns-5 : tie.Need-returns-5
-unfolding twoWay
-returns-5 c = rw (c .enum-told5 .given .1)
-
-returns-6 : tie.Need-returns-6
-unfolding twoWay
-returns-6 c = rw (c .enum-told6 .given .1)
-
-returns-7 : tie.Need-returns-7
-unfolding twoWay
-returns-7 c = rw (c .enum-told7 .given .1)
-
-returns-8 : tie.Need-returns-8
-unfolding twoWay
-returns-8 c = rw (c .enum-told8 .given .1)
-
 pub two-way-spec : {M : Type 1} → statement M
+unfolding twoWay
 two-way-spec =
     tie.close
     (tie.spec
@@ -56,11 +25,19 @@ two-way-spec =
     (λ c. search needs)
     -- enum-told-8
     (λ c. search needs)
-    returns
-    returns-2
-    returns-3
-    returns-4
-    returns-5
-    returns-6
-    returns-7
-    returns-8)
+    -- returns
+    (λ c. rw (c .enum-told .given .1))
+    -- returns-2
+    (λ c. rw (c .enum-told2 .given .1))
+    -- returns-3
+    (λ c. rw (c .enum-told3 .given .1))
+    -- returns-4
+    (λ c. rw (c .enum-told4 .given .1))
+    -- returns-5
+    (λ c. rw (c .enum-told5 .given .1))
+    -- returns-6
+    (λ c. rw (c .enum-told6 .given .1))
+    -- returns-7
+    (λ c. rw (c .enum-told7 .given .1))
+    -- returns-8
+    (λ c. rw (c .enum-told8 .given .1)))

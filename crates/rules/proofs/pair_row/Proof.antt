@@ -7,39 +7,13 @@ use Rattle.rules.proofs.Rows.{near-bit, far-bit, pair-reflex, pair-tran
 use Rattle.rules.proofs.pair_row.Statement.{statement}
 use Rattle.rules.proofs.pair_row.Tie as tie
 
-returns : tie.Need-returns
-unfolding pairTest
-returns c = λ y h. let s = c .before .before .before .before .before .before in rw (c .before .enum-told .given .1) (pair-reflex (s .args .link .now) (s .args .reach .now) (s .args .alive) (s .args .x .0) (s .pre .0) y h _ (c .without .ensures))
+-- The places that lie behind a place.
 
-returns-2 : tie.Need-returns-2
-unfolding pairTest
-returns-2 c = λ y h. let s = c .before .before .before .before .before .before in rw (c .before .enum-told2 .given .1) (pair-trans1 (s .args .link .now) (s .args .reach .now) (s .args .alive) (s .args .x .0) (s .pre .0) y h _ (c .without2 .ensures))
-
-returns-3 : tie.Need-returns-3
-unfolding pairTest
-returns-3 c = λ y h. let s = c .before .before .before .before .before in rw (c .enum-told3 .given .1) (far-bit (s .args .link .now) (s .args .reach .now) (s .args .x .0) y (s .pre .0) h)
-
-returns-4 : tie.Need-returns-4
-unfolding pairTest
-returns-4 c = λ y h. let s = c .before .before .before .before .before in rw (c .enum-told4 .given .1) (near-bit (s .args .link .now) (s .args .reach .now) (s .args .x .0) y (s .pre .0) h)
-
-returns-5 : tie.Need-returns-5
-unfolding pairTest
-returns-5 c = λ y h. let s = c .before .before .before .before .before in rw (c .enum-told5 .given .1) (far-bit (s .args .link .now) (s .args .reach .now) (s .args .x .0) y (s .pre .0) h)
-
-returns-6 : tie.Need-returns-6
-unfolding pairTest twoWay
-returns-6 c = λ y h. let s = c .before .before .before .before .before .before .before in rw (c .before .before .enum-told6 .given .1) (pair-mutual (s .args .link .now) (s .args .reach .now) (s .args .back .now) (s .pre .1 (ap (λ (r : _). twoWay (kindOf r)) (c .before .before .enum-told6 .given .1))) (s .args .x .0) (s .pre .0) y h _ _ (c .before .only .ensures) (c .without3 .ensures))
-
-returns-7 : tie.Need-returns-7
-unfolding pairTest
-returns-7 c = λ y h. let s = c .before .before .before .before .before in rw (c .enum-told7 .given .1) (far-bit (s .args .link .now) (s .args .reach .now) (s .args .x .0) y (s .pre .0) h)
-
-returns-8 : tie.Need-returns-8
-unfolding pairTest twoWay
-returns-8 c = λ y h. let s = c .before .before .before .before .before .before .before in rw (c .before .before .enum-told8 .given .1) (pair-mutual (s .args .link .now) (s .args .reach .now) (s .args .back .now) (s .pre .1 (ap (λ (r : _). twoWay (kindOf r)) (c .before .before .enum-told8 .given .1))) (s .args .x .0) (s .pre .0) y h _ _ (c .before .only2 .ensures) (c .without4 .ensures))
+abbrev start-of-both : tie.After-both → tie.Start
+start-of-both c = c .before .before .before
 
 pub pair-row-spec : {M : Type 1} → statement M
+unfolding pairTest twoWay
 pair-row-spec =
     tie.close
     (tie.spec
@@ -87,11 +61,41 @@ pair-row-spec =
     (λ c κs. search needs)
     -- without-requires-4
     (λ c κs. search needs)
-    returns
-    returns-2
-    returns-3
-    returns-4
-    returns-5
-    returns-6
-    returns-7
-    returns-8)
+    -- returns
+    (λ c.
+    let start = start-of-both (c .before .before .before) in
+    λ y h. rw (c .before .enum-told .given .1) (pair-reflex (start .args .link .now) (start .args .reach .now) (start .args .alive) (start .args .x .0) (start .pre .0) y h _ (c .without .ensures)))
+    -- returns-2
+    (λ c.
+    let start = start-of-both (c .before .before .before) in
+    λ y h. rw (c .before .enum-told2 .given .1) (pair-trans1 (start .args .link .now) (start .args .reach .now) (start .args .alive) (start .args .x .0) (start .pre .0) y h _ (c .without2 .ensures)))
+    -- returns-3
+    (λ c.
+    let start = start-of-both (c .before .before) in
+    λ y h. rw (c .enum-told3 .given .1) (far-bit (start .args .link .now) (start .args .reach .now) (start .args .x .0) y (start .pre .0) h))
+    -- returns-4
+    (λ c.
+    let start = start-of-both (c .before .before) in
+    λ y h. rw (c .enum-told4 .given .1) (near-bit (start .args .link .now) (start .args .reach .now) (start .args .x .0) y (start .pre .0) h))
+    -- returns-5
+    (λ c.
+    let start = start-of-both (c .before .before) in
+    λ y h. rw (c .enum-told5 .given .1) (far-bit (start .args .link .now) (start .args .reach .now) (start .args .x .0) y (start .pre .0) h))
+    -- returns-6
+    (λ c.
+    let after-enum-told6 = c .before .before in let start = start-of-both (after-enum-told6 .before .before) in
+    λ y h. rw (after-enum-told6 .enum-told6 .given .1)
+    (pair-mutual (start .args .link .now) (start .args .reach .now) (start .args .back .now)
+    (start .pre .1 (ap (λ (r : _). twoWay (kindOf r)) (after-enum-told6 .enum-told6 .given .1))) (start .args .x .0) (start .pre .0) y h _ _
+    (c .before .only .ensures) (c .without3 .ensures)))
+    -- returns-7
+    (λ c.
+    let start = start-of-both (c .before .before) in
+    λ y h. rw (c .enum-told7 .given .1) (far-bit (start .args .link .now) (start .args .reach .now) (start .args .x .0) y (start .pre .0) h))
+    -- returns-8
+    (λ c.
+    let after-enum-told8 = c .before .before in let start = start-of-both (after-enum-told8 .before .before) in
+    λ y h. rw (after-enum-told8 .enum-told8 .given .1)
+    (pair-mutual (start .args .link .now) (start .args .reach .now) (start .args .back .now)
+    (start .pre .1 (ap (λ (r : _). twoWay (kindOf r)) (after-enum-told8 .enum-told8 .given .1))) (start .args .x .0) (start .pre .0) y h _ _
+    (c .before .only2 .ensures) (c .without4 .ensures))))

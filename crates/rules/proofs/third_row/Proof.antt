@@ -8,39 +8,22 @@ use Rattle.rules.proofs.Rows.{third-trans2, third-func, third-scc, thir
 use Rattle.rules.proofs.third_row.Statement.{statement}
 use Rattle.rules.proofs.third_row.Tie as tie
 
-returns : tie.Need-returns
-unfolding thirdTest
-returns c = λ z l. rw (c .enum-told .given .1) (bit-power 0 z)
+-- The places that lie behind a place.
 
-returns-2 : tie.Need-returns-2
-unfolding thirdTest
-returns-2 c = λ z l. rw (c .enum-told2 .given .1) (bit-power 0 z)
+abbrev only-of-without3 : tie.After-without3 → tie.After-only
+only-of-without3 c = c .before .before
 
-returns-3 : tie.Need-returns-3
-unfolding thirdTest
-returns-3 c = λ z l. let s = c .before .before .before .before .before in rw (c .before .enum-told3 .given .1) (third-trans2 (s .args .link .now) (s .args .reach .now) (s .args .x .0) (s .args .y .0) z (s .pre .0) (s .pre .1) l _ (c .without .ensures))
+abbrev enum-told8-of-result2 : tie.After-result2 → tie.After-enum-told8
+enum-told8-of-result2 c = c .before .before
 
-returns-4 : tie.Need-returns-4
-unfolding thirdTest
-returns-4 c = λ z l. let s = c .before .before .before .before .before .before .before in rw (c .before .before .before .enum-told4 .given .1) (third-func (s .args .link .now) (s .args .reach .now) (s .args .x .0) (s .args .y .0) z (s .pre .0) (s .pre .1) l _ _ _ (c .before .before .only .ensures) (c .before .without2 .ensures) (c .without3 .ensures))
+abbrev without5-of-without6 : tie.After-without6 → tie.After-without5
+without5-of-without6 c = c .before .before
 
-returns-5 : tie.Need-returns-5
-unfolding thirdTest
-returns-5 c = λ z l. rw (c .enum-told5 .given .1) (bit-none z)
-
-returns-6 : tie.Need-returns-6
-unfolding thirdTest twoWay
-returns-6 c = λ z l. let s = c .before .before .before .before .before .before in rw (c .before .before .enum-told6 .given .1) (third-scc (s .args .link .now) (s .args .reach .now) (s .args .back .now) (s .pre .2 (ap (λ (r : _). twoWay (kindOf r)) (c .before .before .enum-told6 .given .1))) (s .args .x .0) (s .args .y .0) z (s .pre .0) (s .pre .1) l _ (c .without4 .ensures))
-
-returns-7 : tie.Need-returns-7
-unfolding thirdTest twoWay
-returns-7 c = λ z l. let s = c .before .before .before .before .before .before .before in rw (c .before .before .before .enum-told7 .given .1) (third-total (s .args .link .now) (s .args .reach .now) (s .args .back .now) (s .pre .2 (ap (λ (r : _). twoWay (kindOf r)) (c .before .before .before .enum-told7 .given .1))) (s .args .x .0) (s .args .y .0) z (s .pre .0) (s .pre .1) l _ _ (c .before .before .without5 .ensures) (c .without6 .ensures))
-
-returns-8 : tie.Need-returns-8
-unfolding thirdTest
-returns-8 c = λ z l. let s = c .before .before .before .before .before .before in rw (c .before .before .enum-told8 .given .1) (third-share (s .args .link .now) (s .args .reach .now) (s .args .x .0) (s .args .y .0) z (s .pre .0) (s .pre .1) l)
+abbrev start-of-farther : tie.After-farther → tie.Start
+start-of-farther c = c .before .before
 
 pub third-row-spec : {M : Type 1} → statement M
+unfolding thirdTest twoWay
 third-row-spec =
     tie.close
     (tie.spec
@@ -98,11 +81,41 @@ third-row-spec =
     (λ c. search needs)
     -- element-copy-out-result-2
     (λ c. search needs)
-    returns
-    returns-2
-    returns-3
-    returns-4
-    returns-5
-    returns-6
-    returns-7
-    returns-8)
+    -- returns
+    (λ c. λ z l. rw (c .enum-told .given .1) (bit-power 0 z))
+    -- returns-2
+    (λ c. λ z l. rw (c .enum-told2 .given .1) (bit-power 0 z))
+    -- returns-3
+    (λ c.
+    let start = start-of-farther (c .before .before .before) in
+    λ z l. rw (c .before .enum-told3 .given .1)
+    (third-trans2 (start .args .link .now) (start .args .reach .now) (start .args .x .0) (start .args .y .0) z (start .pre .0) (start .pre .1) l _
+    (c .without .ensures)))
+    -- returns-4
+    (λ c.
+    let after-only = only-of-without3 c in let after-enum-told4 = after-only .before in
+    let start = start-of-farther (after-enum-told4 .before .before) in
+    λ z l. rw (after-enum-told4 .enum-told4 .given .1)
+    (third-func (start .args .link .now) (start .args .reach .now) (start .args .x .0) (start .args .y .0) z (start .pre .0) (start .pre .1) l _ _ _
+    (after-only .only .ensures) (c .before .without2 .ensures) (c .without3 .ensures)))
+    -- returns-5
+    (λ c. λ z l. rw (c .enum-told5 .given .1) (bit-none z))
+    -- returns-6
+    (λ c.
+    let after-enum-told6 = c .before .before in let start = start-of-farther (after-enum-told6 .before .before) in
+    λ z l. rw (after-enum-told6 .enum-told6 .given .1)
+    (third-scc (start .args .link .now) (start .args .reach .now) (start .args .back .now)
+    (start .pre .2 (ap (λ (r : _). twoWay (kindOf r)) (after-enum-told6 .enum-told6 .given .1))) (start .args .x .0) (start .args .y .0) z
+    (start .pre .0) (start .pre .1) l _ (c .without4 .ensures)))
+    -- returns-7
+    (λ c.
+    let after-without5 = without5-of-without6 c in let after-enum-told7 = after-without5 .before in
+    let start = start-of-farther (after-enum-told7 .before .before) in
+    λ z l. rw (after-enum-told7 .enum-told7 .given .1)
+    (third-total (start .args .link .now) (start .args .reach .now) (start .args .back .now)
+    (start .pre .2 (ap (λ (r : _). twoWay (kindOf r)) (after-enum-told7 .enum-told7 .given .1))) (start .args .x .0) (start .args .y .0) z
+    (start .pre .0) (start .pre .1) l _ _ (after-without5 .without5 .ensures) (c .without6 .ensures)))
+    -- returns-8
+    (λ c.
+    let after-enum-told8 = enum-told8-of-result2 c in let start = start-of-farther (after-enum-told8 .before .before) in
+    λ z l. rw (after-enum-told8 .enum-told8 .given .1) (third-share (start .args .link .now) (start .args .reach .now) (start .args .x .0) (start .args .y .0) z (start .pre .0) (start .pre .1) l)))

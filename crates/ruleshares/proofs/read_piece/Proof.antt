@@ -29,6 +29,8 @@ read-piece-spec =
     -- same-length
     (λ c. search needs)
     -- returns-2
-    (λ c. let d = c .before .before .before .before .before .before in let bytes = d .args .input .now in let kept = d .args .kept in
-    reads-piece bytes kept (omega arith) _ (c .before .before .read-full .result) (c .before .before .before .before .if1 .left) (search needs)
-    (take-put kept (length bytes - kept) bytes (c .before .before .read-full .last .1 .0) (omega arith)) (search needs)))
+    (λ c.
+    let after-read-full = c .before .before in let else1 = after-read-full .before .before in let start = else1 .before .before in
+    let bytes = start .args .input .now in let kept = start .args .kept in
+    reads-piece bytes kept (omega arith) _ (after-read-full .read-full .result) (else1 .if1 .left) (search needs)
+    (take-put kept (length bytes - kept) bytes (after-read-full .read-full .last .1 .0) (omega arith)) (search needs)))

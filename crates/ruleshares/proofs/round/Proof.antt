@@ -10,6 +10,11 @@ use Rattle.share_stream.proofs.Rounds.{kept-moved}
 use Rattle.ruleshares.proofs.round.Statement.{statement}
 use Rattle.ruleshares.proofs.round.Tie as tie
 
+-- The places that lie behind a place.
+
+abbrev read-piece-of-process-arg : tie.After-process-arg → tie.After-read-piece
+read-piece-of-process-arg c = c .before .before .before
+
 pub round-spec : {M : Type 1} → statement M
 round-spec =
     tie.close
@@ -17,9 +22,9 @@ round-spec =
     -- read-piece-requires
     (λ c κs. search needs)
     -- slice-relend-prefix-process
-    (λ c. let read = c .before .before .before .read-piece .ensures in omega (arith, read .most, read .same-length))
+    (λ c. let read = read-piece-of-process-arg c .read-piece .ensures in omega (arith, read .most, read .same-length))
     -- slice-aggregate-process
-    (λ c. let read = c .before .before .before .before .read-piece .ensures in sym (length-take-le _ _ (omega (arith, read .most, read .same-length))))
+    (λ c. let read = read-piece-of-process-arg (c .before) .read-piece .ensures in sym (length-take-le _ _ (omega (arith, read .most, read .same-length))))
     -- process-requires
     (λ c κs. search needs)
     -- slice-reshare-prefix-write-all
@@ -33,12 +38,15 @@ round-spec =
     -- same-length-2
     (λ c. search needs)
     -- returns
-    (λ c. let done = c .before .before .before .before .before .before .before .process in
-    let piece = c .before .before .before .before .before .before .before .before .before .before .before .before .read-piece in
-    let start = c .before .before .before .before .before .before .before .before .before .before .before .before .before .before .before .before .before in
+    (λ c.
+    let after-process = c .before .before .before .before .before .before .before in
+    let after-read-piece = read-piece-of-process-arg (after-process .before .before) in
+    let the-start = after-read-piece .before .before .before .before .before in
+    let done = after-process .process in
+    let piece = after-read-piece .read-piece in
     let read = piece .ensures in
     let long = length-take-le (piece .result .filled) (piece .last .0) (omega (arith, read .most, read .same-length)) in (
-      round-read read (start .pre .0) (kept-moved (take-append-le (done .result .kept) (done .last .1 .0) _ (omega (arith, done .ensures .0 .0, long))) (done .ensures .1)),
-      λ e. let room = room-left 65536 (done .ensures .1) e (omega (arith, read .most, start .pre .1, long)) (omega arith) in
+      round-read read (the-start .pre .0) (kept-moved (take-append-le (done .result .kept) (done .last .1 .0) _ (omega (arith, done .ensures .0 .0, long))) (done .ensures .1)),
+      λ e. let room = room-left 65536 (done .ensures .1) e (omega (arith, read .most, the-start .pre .1, long)) (omega arith) in
           omega (arith, room, length-take (done .result .kept) (done .last .1 .0), done .ensures .0 .0, long),
     )))

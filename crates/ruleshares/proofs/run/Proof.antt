@@ -17,6 +17,11 @@ Inv-loop input₀ text₀ stands₀ left₀ input text stands left =
 abbrev μ-loop : tie.MeasureT-loop
 μ-loop input₀ text₀ stands₀ left₀ input text stands left = left
 
+-- The places that lie behind a place.
+
+abbrev at-loop-of-round-arg2 : tie.After-round-arg2 Inv-loop μ-loop → tie.At-loop Inv-loop μ-loop
+at-loop-of-round-arg2 c = c .before .before .before
+
 pub run-spec : {M : Type 1} → statement M
 run-spec =
     tie.close
@@ -26,15 +31,19 @@ run-spec =
     -- new-requires
     (λ c κs. search needs)
     -- loop-holds
-    (λ c. (omega arith, omega arith, c .before .before .before .pre .0, c .before .before .before .pre .1, gone-none (c .new .ensures) refl))
+    (λ c.
+    let start = c .before .before .before in
+    (omega arith, omega arith, start .pre .0, start .pre .1, gone-none (c .new .ensures) refl))
     -- round-requires
-    (λ c κs. let at = c .before .before .before .loop .inv in (omega (arith, at .1, at .2), at .2, omega (arith, at .3)))
+    (λ c κs. let at = at-loop-of-round-arg2 c .loop .inv in (omega (arith, at .1, at .2), at .2, omega (arith, at .3)))
     -- same-length
     (λ c. search needs)
     -- same-length-2
     (λ c. search needs)
     -- returns
-    (λ c. let done = c .before .before .before .before .before .before .before .round in let at = c .before .before .before .before .before .before .before .before .before .before .before .loop in
+    (λ c.
+    let after-round = c .before .before .before .before .before .before .before in
+    let done = after-round .round in let at = at-loop-of-round-arg2 (after-round .before) .loop in
     ran-last (done .ensures .0) (at .inv .4) (not-true _ (c .before .if1 .taken)))
     -- sub-left
     (λ c. search needs)
@@ -43,7 +52,9 @@ run-spec =
     -- loop-less
     (λ c. search needs)
     -- loop-again
-    (λ c. let done = c .before .before .before .before .before .before .before .round in let at = c .before .before .before .before .before .before .before .before .before .before .before .loop in
+    (λ c.
+    let after-round = c .before .before .before .before .before .before .before in
+    let done = after-round .round in let at = at-loop-of-round-arg2 (after-round .before) .loop in
     let goes = not-false _ (c .before .if1 .left) in
     let next : (18446744073709551615 - at .left) + 1 ≡ 18446744073709551615 - (at .left - 1) = omega (arith, at .inv .0) in
     (omega (arith, at .inv .0), done .ensures .1 goes, search needs, search needs, subst (Gone _ _ _) next (gone-more (done .ensures .0) (at .inv .4) goes)))

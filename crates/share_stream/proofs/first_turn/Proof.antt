@@ -34,4 +34,8 @@ first-turn-spec =
     -- same-length
     (λ c. search needs)
     -- returns
-    (λ c. takes-first _ _ (c .before .before .before .before .before .before .before .before .before .before .at-most .ensures) _ _ (c .before .before .before .before .before .before .before .at-most2 .ensures) (c .before .before .before .before .before .before .before .before .query-length .ensures .0) (c .before .before .before .take-turn .ensures)))
+    (λ c.
+    let after-take-turn = c .before .before .before in let after-at-most2 = after-take-turn .before .before .before .before in
+    let after-query-length = after-at-most2 .before in
+    takes-first _ _ (after-query-length .before .before .at-most .ensures) _ _ (after-at-most2 .at-most2 .ensures)
+    (after-query-length .query-length .ensures .0) (after-take-turn .take-turn .ensures)))

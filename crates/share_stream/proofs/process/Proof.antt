@@ -17,4 +17,6 @@ process-spec =
     -- same-length-2
     (λ c. search needs)
     -- returns
-    (λ c. ((c .before .before .before .keep .ensures .0, c .before .before .before .before .before .before .before .take-turns .ensures .0 .2), kept-moved (c .before .before .before .keep .ensures .1) (c .before .before .before .before .before .before .before .take-turns .ensures .1))))
+    (λ c.
+    let after-keep = c .before .before .before in let after-take-turns = after-keep .before .before .before .before in
+    ((after-keep .keep .ensures .0, after-take-turns .take-turns .ensures .0 .2), kept-moved (after-keep .keep .ensures .1) (after-take-turns .take-turns .ensures .1))))

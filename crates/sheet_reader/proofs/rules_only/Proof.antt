@@ -33,12 +33,15 @@ rules-only-spec =
     -- is-rule-requires
     (λ c κs. search needs)
     -- returns
-    (λ c. sym (c .before .before .before .before .loop .inv ∙ every-fails isRule (c .before .before .before .before .before .before .args .sheet .now) (c .before .before .before .before .loop .i) (omega arith) (sym (c .before .is-rule .ensures) ∙ not-true _ (c .if1 .taken))))
+    (λ c. sym (c .before .before .before .before .loop .inv
+    ∙ every-fails isRule (c .before .before .before .before .before .before .args .sheet .now) (c .before .before .before .before .loop .i)
+    (omega arith) (sym (c .before .is-rule .ensures) ∙ not-true _ (c .if1 .taken))))
     -- add-i
     (λ c. omega arith)
     -- loop-less
     (λ c. omega arith)
     -- loop-again
-    (λ c. c .before .before .before .before .loop .inv ∙ every-next isRule (c .before .before .before .before .before .before .args .sheet .now) (c .before .before .before .before .loop .i) (omega arith) (sym (c .before .is-rule .ensures) ∙ not-false _ (c .if1 .left)))
+    (λ c. c .before .before .before .before .loop .inv ∙ every-next isRule (c .before .before .before .before .before .before .args .sheet .now)
+    (c .before .before .before .before .loop .i) (omega arith) (sym (c .before .is-rule .ensures) ∙ not-false _ (c .if1 .left)))
     -- returns-2
     (λ c. sym (c .before .loop .inv ∙ every-end isRule (c .before .before .before .args .sheet .now) (c .before .loop .i) (omega arith))))

@@ -11,10 +11,16 @@ use Rattle.tally.proofs.rule_lines.Statement.{statement}
 use Rattle.tally.proofs.rule_lines.Tie as tie
 
 abbrev Inv-loop : tie.InvT-loop
-Inv-loop derivation count counts₀ i₀ counts i = (i ≤ count) × (count ≤ 65535) × (length counts ≡ 8) × Below (i + 1) counts × (raised counts (left count derivation i) ≡ raised noLines (linesIn derivation))
+Inv-loop derivation count counts₀ i₀ counts i = (i ≤ count) × (count ≤ 65535) × (length counts ≡ 8) × Below (i + 1) counts
+    × (raised counts (left count derivation i) ≡ raised noLines (linesIn derivation))
 
 abbrev μ-loop : tie.MeasureT-loop
 μ-loop derivation count counts₀ i₀ counts i = count - i
+
+-- The places that lie behind a place.
+
+abbrev in-loop-of-counts : tie.After-counts Inv-loop μ-loop → tie.In-loop Inv-loop μ-loop
+in-loop-of-counts c = c .before .before
 
 pub rule-lines-spec : {M : Type 1} → statement M
 rule-lines-spec =
@@ -39,12 +45,24 @@ rule-lines-spec =
     -- byte-at-requires-3
     (λ c κs. search needs)
     -- count-line-requires
-    (λ c κs. (below-more (c .before .before .before .loop .counts) (omega arith) (c .before .before .before .loop .inv .3), c .before .before .before .loop .inv .2))
+    (λ c κs.
+    let at-loop = in-loop-of-counts c .before in
+    (below-more (at-loop .loop .counts) (omega arith) (at-loop .loop .inv .3), at-loop .loop .inv .2))
     -- add-i
     (λ c. search needs)
     -- loop-less
     (λ c. search needs)
     -- loop-again
-    (λ c. (omega arith, omega arith, ap length (c .count-line .ensures) ∙ raised-length _ _ ∙ c .before .before .before .before .loop .inv .2, below-as (c .count-line .ensures) (raised-below _ _ (c .before .before .before .before .loop .inv .3)), count-again _ _ (c .before .before .before .before .loop .counts) (c .before .before .before .before .loop .i) _ (c .count-line .ensures) (c .before .before .byte-at3 .ensures .0) (c .before .before .before .loop-test .taken) ∙ c .before .before .before .before .loop .inv .4))
+    (λ c.
+    let in-loop = in-loop-of-counts (c .before) in let at-loop = in-loop .before in let count-line-ensures = c .count-line .ensures in (
+      omega arith,
+      omega arith,
+      ap length count-line-ensures ∙ raised-length _ _ ∙ at-loop .loop .inv .2,
+      below-as count-line-ensures (raised-below _ _ (at-loop .loop .inv .3)),
+      count-again _ _ (at-loop .loop .counts) (at-loop .loop .i) _ count-line-ensures (c .before .before .byte-at3 .ensures .0)
+          (in-loop .loop-test .taken) ∙ at-loop .loop .inv .4,
+    ))
     -- returns
-    (λ c. sym (count-end _ _ _ (c .before .loop .i) (omega arith)) ∙ c .before .loop .inv .4))
+    (λ c.
+    let at-loop = c .before in
+    sym (count-end _ _ _ (at-loop .loop .i) (omega arith)) ∙ at-loop .loop .inv .4))

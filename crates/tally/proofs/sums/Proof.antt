@@ -14,6 +14,11 @@ Inv-loop counts more next₀ k₀ next k = (k ≤ 8) × (length counts ≡ 8) ×
 abbrev μ-loop : tie.MeasureT-loop
 μ-loop counts more next₀ k₀ next k = 8 - k
 
+-- The places that lie behind a place.
+
+abbrev start-of-in-loop : tie.In-loop Inv-loop μ-loop → tie.Start Inv-loop μ-loop
+start-of-in-loop c = c .before .before
+
 pub sums-spec : {M : Type 1} → statement M
 sums-spec =
     tie.close
@@ -31,7 +36,9 @@ sums-spec =
     -- array-read-next-2
     (λ c. search needs)
     -- add-next
-    (λ c. omega (arith, sum-fits (c .before .before .args .t1) (c .before .before .args .t2) (c .before .loop .k) (c .before .before .pre) (omega arith)))
+    (λ c.
+    let start = start-of-in-loop c in
+    omega (arith, sum-fits (start .args .t1) (start .args .t2) (c .before .loop .k) (start .pre) (omega arith)))
     -- mul-next-3
     (λ c. search needs)
     -- array-write-next
@@ -41,6 +48,15 @@ sums-spec =
     -- loop-less
     (λ c. search needs)
     -- loop-again
-    (λ c. (omega arith, omega arith, omega arith, simp length-set (omega arith), summed-more (c .before .before .args .t1) (c .before .before .args .t2) (c .before .loop .next) (c .before .loop .k) _ (omega arith) refl (c .before .loop .inv .4)))
+    (λ c. (
+      omega arith,
+      omega arith,
+      omega arith,
+      simp length-set (omega arith),
+      summed-more (start-of-in-loop c .args .t1) (start-of-in-loop c .args .t2) (c .before .loop .next) (c .before .loop .k) _ (omega arith) refl
+          (c .before .loop .inv .4),
+    ))
     -- returns
-    (λ c. summed-all (c .before .before .args .t1) (c .before .before .args .t2) (c .before .loop .next) (c .before .loop .k) (omega arith) (omega arith) (c .before .loop .inv .4)))
+    (λ c.
+    let at-loop = c .before in let start = at-loop .before in
+    summed-all (start .args .t1) (start .args .t2) (at-loop .loop .next) (at-loop .loop .k) (omega arith) (omega arith) (at-loop .loop .inv .4)))

@@ -38,12 +38,18 @@ sums-fit-spec =
     -- add-if1
     (λ c. search needs)
     -- returns
-    (λ c. (sym (fits-not (c .before .before .before .before .before .args .t1) (c .before .before .before .before .before .args .t2) (c .before .before .before .before .loop .k) (omega arith) (omega arith) (omega arith)) ∙ c .before .before .before .before .loop .inv .3, c .before .before .before .before .loop .inv .1))
+    (λ c.
+    let at-loop = c .before .before .before .before in let start = at-loop .before in
+    (sym (fits-not (start .args .t1) (start .args .t2) (at-loop .loop .k) (omega arith) (omega arith) (omega arith)) ∙ at-loop .loop .inv .3, at-loop .loop .inv .1))
     -- add-k
     (λ c. search needs)
     -- loop-less
     (λ c. search needs)
     -- loop-again
-    (λ c. (omega arith, omega arith, omega arith, sym (fits-here (c .before .before .before .before .before .args .t1) (c .before .before .before .before .before .args .t2) (c .before .before .before .before .loop .k) (omega arith) (omega arith) (omega arith)) ∙ c .before .before .before .before .loop .inv .3))
+    (λ c.
+    let at-loop = c .before .before .before .before in let start = at-loop .before in
+    (omega arith, omega arith, omega arith, sym (fits-here (start .args .t1) (start .args .t2) (at-loop .loop .k) (omega arith) (omega arith) (omega arith)) ∙ at-loop .loop .inv .3))
     -- returns-2
-    (λ c. (sym (fits-end (c .before .before .args .t1) (c .before .before .args .t2) (c .before .loop .k) (omega arith)) ∙ c .before .loop .inv .3, c .before .loop .inv .1)))
+    (λ c.
+    let at-loop = c .before in let start = at-loop .before in
+    (sym (fits-end (start .args .t1) (start .args .t2) (at-loop .loop .k) (omega arith)) ∙ at-loop .loop .inv .3, at-loop .loop .inv .1)))

@@ -14,6 +14,11 @@ use Rattle.text.proofs.put_byte.Reads as put-byte-reads
 use Rattle.text.proofs.+put_decimal.{statement}
 use Rattle.text.proofs.+put_decimal.Tie.{close}
 
+-- The places that lie behind a place.
+module _ {K : put-decimal-lts.Claims} {P : In 1 put-decimal-kinds.ps} where
+  abbrev put-decimal-of-digit2 : put-decimal-lts.After-digit2 K P put-decimal.Post → put-decimal-lts.After-put-decimal K P put-decimal.Post
+  put-decimal-of-digit2 c = c .before .before .before .before
+
 abbrev μ-put-decimal : Measures 1 put-decimal-kinds.ps ℕ
 μ-put-decimal κs a = a .1 .1 .0
 
@@ -43,14 +48,21 @@ pub +put-decimal-spec : {M : Type 1} → statement M
     -- put-decimal-same-length
     (λ c. writes-length (c .before .before .put-byte .ensures))
     -- put-decimal-returns
-    (λ c. writes-as (decimal-one _ (c .before .before .before .before .before .if1 .taken) (c .before .before .before .digit .ensures)) (c .before .before .put-byte .ensures))
+    (λ c.
+    let after-digit = c .before .before .before in
+    writes-as (decimal-one _ (after-digit .before .before .if1 .taken) (after-digit .digit .ensures)) (c .before .before .put-byte .ensures))
     -- put-decimal-put-decimal-requires
     (λ c κs. (omega arith, omega arith))
     -- put-decimal-digit-requires-2
     (λ c κs. omega arith)
     -- put-decimal-put-byte-requires-2
-    (λ c κs. let l = decimal-tenth (c .before .before .before .before .before .before .before .before .args .k) (omega arith) in omega (arith, c .before .before .before .before .put-decimal .ensures .ends))
+    (λ c κs.
+    let after-put-decimal = put-decimal-of-digit2 c in
+    let l = decimal-tenth (after-put-decimal .before .before .before .before .args .k) (omega arith) in omega (arith, after-put-decimal .put-decimal .ensures .ends))
     -- put-decimal-same-length-2
-    (λ c. writes-length (c .before .before .put-byte2 .ensures) ∙ writes-length (c .before .before .before .before .before .before .before .put-decimal .ensures))
+    (λ c. writes-length (c .before .before .put-byte2 .ensures) ∙ writes-length (put-decimal-of-digit2 (c .before .before .before) .put-decimal .ensures))
     -- put-decimal-returns-2
-    (λ c. writes-as (decimal-last _ (c .before .before .before .before .before .before .before .before .before .if1 .left) (c .before .before .before .digit2 .ensures)) (writes-then (c .before .before .before .before .before .before .before .put-decimal .ensures) (c .before .before .put-byte2 .ensures)))
+    (λ c.
+    let after-digit2 = c .before .before .before in let after-put-decimal = put-decimal-of-digit2 after-digit2 in
+    writes-as (decimal-last _ (after-put-decimal .before .before .if1 .left) (after-digit2 .digit2 .ensures))
+    (writes-then (after-put-decimal .put-decimal .ensures) (c .before .before .put-byte2 .ensures)))

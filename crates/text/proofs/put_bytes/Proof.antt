@@ -14,6 +14,17 @@ Inv-loop buffer₀ at bytes to₀ i₀ buffer to i = (i ≤ length bytes) × Par
 abbrev μ-loop : tie.MeasureT-loop
 μ-loop buffer₀ at bytes to₀ i₀ buffer to i = length bytes - i
 
+-- The places that lie behind a place.
+
+abbrev put-byte-of-slice-known2 : tie.After-slice-known2 Inv-loop μ-loop → tie.After-put-byte Inv-loop μ-loop
+put-byte-of-slice-known2 c = c .before .before
+
+abbrev start-of-at-loop : tie.At-loop Inv-loop μ-loop → tie.Start Inv-loop μ-loop
+start-of-at-loop c = c .before .before .before
+
+abbrev at-loop-of-shared-slice-known2 : tie.After-shared-slice-known2 Inv-loop μ-loop → tie.At-loop Inv-loop μ-loop
+at-loop-of-shared-slice-known2 c = c .before .before .before
+
 pub put-bytes-spec : {M : Type 1} → statement M
 put-bytes-spec =
     tie.close
@@ -25,14 +36,20 @@ put-bytes-spec =
     -- shared-slice-read-put-byte
     (λ c. search needs)
     -- put-byte-requires
-    (λ c κs. omega (arith, part-place (c .before .before .before .loop .inv .1), length-drop (c .before .before .before .loop .i) (c .before .before .before .before .before .before .args .bytes .now)))
+    (λ c κs.
+    let at-loop = at-loop-of-shared-slice-known2 c in
+    omega (arith, part-place (at-loop .loop .inv .1), length-drop (at-loop .loop .i) (start-of-at-loop at-loop .args .bytes .now)))
     -- add-i
     (λ c. search needs)
     -- loop-less
     (λ c. search needs)
     -- loop-again
-    (λ c. (omega arith, part-more (c .before .before .before .before .before .before .loop .inv .1) (left-first (c .before .before .before .before .before .before .before .before .before .args .bytes .now) (c .before .before .before .before .before .before .loop .i) (omega arith)) (c .before .before .put-byte .ensures)))
+    (λ c.
+    let after-put-byte = put-byte-of-slice-known2 c in let at-loop = at-loop-of-shared-slice-known2 (after-put-byte .before) in
+    (omega arith, part-more (at-loop .loop .inv .1) (left-first (start-of-at-loop at-loop .args .bytes .now) (at-loop .loop .i) (omega arith)) (after-put-byte .put-byte .ensures)))
     -- same-length
     (λ c. part-length (c .before .loop .inv .1))
     -- returns
-    (λ c. part-all (c .before .loop .inv .1) (drop-of-length-le (c .before .before .before .before .args .bytes .now) {i = c .before .loop .i} (omega arith))))
+    (λ c.
+    let at-loop = c .before in
+    part-all (at-loop .loop .inv .1) (drop-of-length-le (start-of-at-loop at-loop .args .bytes .now) {i = at-loop .loop .i} (omega arith))))

@@ -5,6 +5,11 @@ use Rattle.text.proofs.Digits.{hex-pair}
 use Rattle.text.proofs.put_hex_byte.Statement.{statement}
 use Rattle.text.proofs.put_hex_byte.Tie as tie
 
+-- The places that lie behind a place.
+
+abbrev put-byte2-of-slice-known3 : tie.After-slice-known3 → tie.After-put-byte2
+put-byte2-of-slice-known3 c = c .before .before
+
 pub put-hex-byte-spec : {M : Type 1} → statement M
 put-hex-byte-spec =
     tie.close
@@ -20,4 +25,8 @@ put-hex-byte-spec =
     -- same-length
     (λ c. search needs)
     -- returns
-    (λ c. writes-as (hex-pair _ (c .before .before .before .before .before .before .before .before .hex-digit .ensures) (c .before .before .before .hex-digit2 .ensures)) (writes-then (c .before .before .before .before .before .before .before .put-byte .ensures) (c .before .before .put-byte2 .ensures))))
+    (λ c.
+    let after-put-byte2 = put-byte2-of-slice-known3 c in let after-hex-digit2 = after-put-byte2 .before in
+    let after-put-byte = after-hex-digit2 .before .before .before .before in
+    writes-as (hex-pair _ (after-put-byte .before .hex-digit .ensures) (after-hex-digit2 .hex-digit2 .ensures))
+    (writes-then (after-put-byte .put-byte .ensures) (after-put-byte2 .put-byte2 .ensures))))

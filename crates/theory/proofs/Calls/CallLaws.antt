@@ -12,7 +12,8 @@ use borrow.Author.Tests.{ltb-false, le-ltb}
 use Rattle.logic.specs.Search.{keep, isSome, orElse}
 use Rattle.logic.specs.Query.{sections, isOrder, layoutFault, byteFault}
 use Rattle.logic.specs.Walk.{Ending, ourWalk}
-use Rattle.logic.specs.Calls.{Input, Check, orderCheck, layoutCheck, byteCheck, roomUnder, queryChecks, CallForm, verdictChecksOf, derivationChecksOf, Answer, refused, Outcome, refusalOf, acceptsBy, padded, blank, call}
+use Rattle.logic.specs.Calls.{Input, Check, orderCheck, layoutCheck, byteCheck, roomUnder, queryChecks, CallForm, verdictChecksOf}
+use Rattle.logic.specs.Calls.{derivationChecksOf, Answer, refused, Outcome, refusalOf, acceptsBy, padded, blank, call}
 use Rattle.logic.specs.Demands.{NoneStands, numbers, Alike}
 use Rattle.theory.proofs.Basics.Search.{none-some, firstOf-some, firstOf-none, firstOf-empty, firstOf-append, isSome-false, keep-none, not-true, bool-cases, true-false}
 use Rattle.theory.proofs.Query.Tied.{Accepted}
@@ -54,11 +55,17 @@ module _ (cs : List Check) (i : Input) where
   unfolding refusalOf
   refusalOf-append ds = firstOf-append (answers i) cs ds
 
-  pub call-cases : (f : CallForm) (result : Ending → Outcome) → ((a : Answer) × (refusalOf cs i ≡ some a) × (call f cs result i ≡ blank (i .room) a)) ⊎ ((refusalOf cs i ≡ none) × (call f cs result i ≡ result (ourWalk (i .order) (f .decode (i .query)))))
+  pub call-cases : (f : CallForm) (result : Ending → Outcome) →
+      ((a : Answer) × (refusalOf cs i ≡ some a) × (call f cs result i ≡ blank (i .room) a)) ⊎
+      ((refusalOf cs i ≡ none) × (call f cs result i ≡ result (ourWalk (i .order) (f .decode (i .query)))))
   unfolding call Option·elim
   call-cases f result = go (refusalOf cs i) refl
     where
-      go : (o : Option Answer) → refusalOf cs i ≡ o → ((a : Answer) × (refusalOf cs i ≡ some a) × (Option·elim o (result (ourWalk (i .order) (f .decode (i .query)))) (blank (i .room)) ≡ blank (i .room) a)) ⊎ ((refusalOf cs i ≡ none) × (Option·elim o (result (ourWalk (i .order) (f .decode (i .query)))) (blank (i .room)) ≡ result (ourWalk (i .order) (f .decode (i .query)))))
+      go : (o : Option Answer) → refusalOf cs i ≡ o →
+          ((a : Answer) × (refusalOf cs i ≡ some a)
+          × (Option·elim o (result (ourWalk (i .order) (f .decode (i .query)))) (blank (i .room)) ≡ blank (i .room) a)) ⊎
+          ((refusalOf cs i ≡ none) × (Option·elim o (result (ourWalk (i .order) (f .decode (i .query)))) (blank (i .room)) ≡ result
+          (ourWalk (i .order) (f .decode (i .query)))))
       go none e = inr (e, refl)
       go (some a) e = inl (a, e, refl)
 

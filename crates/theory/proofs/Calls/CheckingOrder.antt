@@ -18,7 +18,8 @@ abbrev pub answers : Input → Check → Option Answer
 answers i c = Option·elim (c .place i) none (λ place. some (refused (c .number) place))
 
 -- a check that stands is the refusal where none before it does
-stands-refusal : (before : List Check) (c : Check) (behind : List Check) (i : Input) (p : ℕ) → NoneStands before i → c .place i ≡ some p → refusalOf (before ++ (c ∷ behind)) i ≡ some (refused (c .number) p)
+stands-refusal : (before : List Check) (c : Check) (behind : List Check) (i : Input) (p : ℕ) → NoneStands before i → c .place i ≡ some p →
+    refusalOf (before ++ (c ∷ behind)) i ≡ some (refused (c .number) p)
 unfolding refusalOf firstOf orElse Option·elim
 stands-refusal [] c behind i p n s = rw s
 stands-refusal (b ∷ before) c behind i p n s =
@@ -70,7 +71,8 @@ unfolding refusalOf firstOf orElse Option·elim
 refusal-first [] i a e = absurd (none-some e)
 refusal-first (c ∷ cs) i a e = go (c .place i) refl (refusal-first cs i a) e
   where
-    go : (o : Option ℕ) → c .place i ≡ o → (refusalOf cs i ≡ some a → ByFirst cs i a) → orElse (Option·elim o none (λ place. some (refused (c .number) place))) (refusalOf cs i) ≡ some a → ByFirst (c ∷ cs) i a
+    go : (o : Option ℕ) → c .place i ≡ o → (refusalOf cs i ≡ some a → ByFirst cs i a) →
+        orElse (Option·elim o none (λ place. some (refused (c .number) place))) (refusalOf cs i) ≡ some a → ByFirst (c ∷ cs) i a
     go none s ih e = let r = ih e in (r .0, r .1, first-later c cs i (r .0) (r .1) s (r .2), r .3)
     go (some p) s ih e = let q : refused (c .number) p ≡ a = cc in (c .number, p, first-here c cs i p s, sym q)
 
@@ -97,7 +99,8 @@ module _ (cs : List Check) (i : Input) where
   first-stands k p h f = none-some (sym (h (f .check) (first-own k p f)) ∙ f .stands)
 
 -- where a check stands, there is a first one among it and those before it
-pub first-up-to : (cs : List Check) (i : Input) (c : Check) (before behind : List Check) (place : ℕ) → cs ≡ before ++ (c ∷ behind) → c .place i ≡ some place → (k : ℕ) × (p : ℕ) × FirstStands (before ++ (c ∷ [])) i k p × FirstStands cs i k p
+pub first-up-to : (cs : List Check) (i : Input) (c : Check) (before behind : List Check) (place : ℕ) → cs ≡ before ++ (c ∷ behind) →
+    c .place i ≡ some place → (k : ℕ) × (p : ℕ) × FirstStands (before ++ (c ∷ [])) i k p × FirstStands cs i k p
 first-up-to cs i c before behind place e s =
     let f = among before in
     let longer : (before ++ (c ∷ [])) ++ behind ≡ cs = append-assoc before (c ∷ []) behind ∙ sym e in
@@ -121,8 +124,11 @@ early k = ltb 0 k and (leb k 9 or (ltb 21 k and ltb k 27))
 all-early : (ks : List ℕ) → all early ks ≡ true → (k : ℕ) → List·Memᴰ k ks → Early k
 unfolding early
 all-early ks h k m =
-    let e = all-true early k h m in
-    (ltb-true 0 k (and-left _ _ e), ⊎-elim (λ l. inl (leb-true k 9 l)) (λ q. inr (ltb-true 21 k (and-left _ _ q), ltb-true k 27 (and-right _ _ q))) (or-cases (leb k 9) (ltb 21 k and ltb k 27) (and-right (ltb 0 k) _ e)))
+    let e = all-true early k h m in (
+      ltb-true 0 k (and-left _ _ e),
+      ⊎-elim (λ l. inl (leb-true k 9 l)) (λ q. inr (ltb-true 21 k (and-left _ _ q), ltb-true k 27 (and-right _ _ q)))
+          (or-cases (leb k 9) (ltb 21 k and ltb k 27) (and-right (ltb 0 k) _ e)),
+    )
 
 -- numbers that a test finds so
 pub early-of : (ks : List ℕ) → all (λ k. ltb 0 k and (leb k 9 or (ltb 21 k and ltb k 27))) ks ≡ true → (k : ℕ) → List·Memᴰ k ks → Early k

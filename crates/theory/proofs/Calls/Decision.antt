@@ -59,7 +59,8 @@ unfolding followPairs timesReplaced select
 followed-none [] t h = refl
 followed-none (ab ∷ rest) t h = go (eqb (ab .1) t) refl (followed-none rest t) h
   where
-    go : (b : Bool) → eqb (ab .1) t ≡ b → (timesReplaced t rest ≡ 0 → followPairs rest t ≡ t) → length (cond b (ab ∷ select (λ cd. eqb (cd .1) t) rest) (select (λ cd. eqb (cd .1) t) rest)) ≡ 0 → followPairs rest (cond (eqb t (ab .1)) (ab .0) t) ≡ t
+    go : (b : Bool) → eqb (ab .1) t ≡ b → (timesReplaced t rest ≡ 0 → followPairs rest t ≡ t) →
+        length (cond b (ab ∷ select (λ cd. eqb (cd .1) t) rest) (select (λ cd. eqb (cd .1) t) rest)) ≡ 0 → followPairs rest (cond (eqb t (ab .1)) (ab .0) t) ≡ t
     go true e ih k = absurd (omega arith)
     go false e ih k =
         let ne : eqb t (ab .1) ≡ false = ⊎-elim (λ p. absurd (true-false (ap (λ (x : ℕ). eqb (ab .1) x) p ∙ eqb-self (ab .1)) e)) (λ p. p .1) (eq-cases t (ab .1)) in
@@ -286,7 +287,9 @@ module _ (q : Query) (ok : Accepted q) where
   branch-at s k m app i l = branch-known s m k app (getD (branches n s m) i s) (getD-mem (branches n s m) i s l)
 
   -- our walk goes into the first branch that is not refuted
-  each-at : (w : Facts → Ending) (s : Facts) (cs : List Fact) (d t : Facts) (i : ℕ) → i < length cs → ((j : ℕ) → j < i → (ls : List Line) × (w (getD (map (add n s) cs) j d) ≡ refutation ls)) → w (getD (map (add n s) cs) i d) ≡ saturation t → walkEach n w s cs ≡ saturation t
+  each-at : (w : Facts → Ending) (s : Facts) (cs : List Fact) (d t : Facts) (i : ℕ) → i < length cs →
+      ((j : ℕ) → j < i → (ls : List Line) × (w (getD (map (add n s) cs) j d) ≡ refutation ls)) → w (getD (map (add n s) cs) i d) ≡ saturation t →
+      walkEach n w s cs ≡ saturation t
   unfolding walkEach walkBranch thenEnding after add
   each-at w s [] d t i l before here = absurd (omega arith)
   each-at w s (c ∷ cs) d t zero l before here = rw here refl
@@ -295,7 +298,9 @@ module _ (q : Query) (ok : Accepted q) where
       let rest = each-at w s cs d t i (omega arith) (λ j h. before (suc j) (omega arith)) here in
       rw (e, rest) refl
 
-  pub walk-first : (order : List Rule) → HoldsAll order → (k : ℕ) (s : Facts) → Known q s → AtMost n s k → (m : Move) → look q order s ≡ applying m → (i : ℕ) → i < length (branches n s m) → Struck q s m i → (t : Facts) → walk q order (k - 1) (getD (branches n s m) i s) ≡ saturation t → walk q order k s ≡ saturation t
+  pub walk-first : (order : List Rule) → HoldsAll order → (k : ℕ) (s : Facts) → Known q s → AtMost n s k → (m : Move) → look q order s ≡ applying m →
+      (i : ℕ) → i < length (branches n s m) → Struck q s m i → (t : Facts) → walk q order (k - 1) (getD (branches n s m) i s) ≡ saturation t →
+      walk q order k s ≡ saturation t
   unfolding walk endAt after branches
   walk-first order full zero s known most m seen i l st t e = absurd (let p = look-some q order 0 s m most seen in omega arith)
   walk-first order full (suc k) s known most m seen i l st t e =
@@ -381,7 +386,8 @@ module _ (q : Query) (ok : Accepted q) where
     heap-closed (h, m) = (h, extended-back s s′ known closed-known extends h m)
 
 -- The verdict of a walk of a path
-verdicts : (q : Query) → Accepted q → (order : List Rule) → HoldsAll order → (k : ℕ) (s : Facts) → Known q s → AtMost (termCount q) s k → ((ourVerdict (walk q order k s) ≡ Verdict.satisfiable) ↔ HasHeap q s) × ((ourVerdict (walk q order k s) ≡ Verdict.refuted) ↔ NoHeap q s)
+verdicts : (q : Query) → Accepted q → (order : List Rule) → HoldsAll order → (k : ℕ) (s : Facts) → Known q s → AtMost (termCount q) s k →
+    ((ourVerdict (walk q order k s) ≡ Verdict.satisfiable) ↔ HasHeap q s) × ((ourVerdict (walk q order k s) ≡ Verdict.refuted) ↔ NoHeap q s)
 unfolding ourVerdict
 verdicts q ok order full k s known most = go (walk q order k s) refl
   where
@@ -399,8 +405,10 @@ verdicts q ok order full k s known most = go (walk q order k s) refl
 pub paths-decided-of : (f : CallForm) → FormLaws f → PathsDecided f
 paths-decided-of f laws =
     record {
-      satisfiable-exactly = λ query order s k a o r most. let ok = laws .accepted-query query a in verdicts (f .decode query) ok (orderOf order) (order-full order o) k s (reachable-known (f .decode query) ok s r) most .0;
-      refuted-exactly = λ query order s k a o r most. let ok = laws .accepted-query query a in verdicts (f .decode query) ok (orderOf order) (order-full order o) k s (reachable-known (f .decode query) ok s r) most .1;
+      satisfiable-exactly = λ query order s k a o r most. let ok = laws .accepted-query query a in
+          verdicts (f .decode query) ok (orderOf order) (order-full order o) k s (reachable-known (f .decode query) ok s r) most .0;
+      refuted-exactly = λ query order s k a o r most. let ok = laws .accepted-query query a in
+          verdicts (f .decode query) ok (orderOf order) (order-full order o) k s (reachable-known (f .decode query) ok s r) most .1;
     }
 
 pub paths-decided : PathsDecided oneLinkForm

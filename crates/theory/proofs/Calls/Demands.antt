@@ -10,7 +10,8 @@ use Rattle.logic.specs.Heap.{Satisfiable}
 use Rattle.logic.specs.Facts.{Facts}
 use Rattle.logic.specs.Walk.{Ending, Verdict, ourWalk, ourVerdict}
 use Rattle.logic.specs.Shown.{report, wellFormed}
-use Rattle.logic.specs.Calls.{Input, orderCheck, layoutCheck, byteCheck, formChecks, roomUnder, queryChecks, CallForm, oneLinkForm, verdictChecksOf, derivationChecksOf, Outcome, Answer, refused, padded, blank, verdictOf, verdictCallOf, derivationCallOf}
+use Rattle.logic.specs.Calls.{Input, orderCheck, layoutCheck, byteCheck, formChecks, roomUnder, queryChecks, CallForm, oneLinkForm, verdictChecksOf}
+use Rattle.logic.specs.Calls.{derivationChecksOf, Outcome, Answer, refused, padded, blank, verdictOf, verdictCallOf, derivationCallOf}
 use Rattle.logic.specs.Demands.{NotRefused, numbers, Alike, walkOf, Demand1, Demand2, Demand3, ChecksInOrder, Shows, Right, answerOf}
 use Rattle.theory.proofs.Query.Tied.{Accepted}
 use Rattle.theory.proofs.Walks.Limit.{our-refutes}
@@ -19,7 +20,8 @@ use Rattle.theory.proofs.Completeness.ShownHeap.{shown, formed}
 use Rattle.theory.proofs.Calls.Verdicts.{Model, our-model, completed, our-right, hand-right, right-unique}
 use Rattle.theory.proofs.Calls.CallLaws.{FormLaws, Passed, derivation-passed, derivation-known, verdict-clear, verdict-passed, alike-clear}
 use Rattle.theory.proofs.Calls.Refusals.{refused-one, blank-answer, one-link-laws}
-use Rattle.theory.proofs.Calls.VerdictCall.{verdictAt, refused-satisfiable, refused-refuted, refuted-satisfiable, VerdictCase, by-refusal, by-lines, by-model, verdict-refusals, verdict-of, verdict-case}
+use Rattle.theory.proofs.Calls.VerdictCall.{verdictAt, refused-satisfiable, refused-refuted, refuted-satisfiable, VerdictCase}
+use Rattle.theory.proofs.Calls.VerdictCall.{by-refusal, by-lines, by-model, verdict-refusals, verdict-of, verdict-case}
 use Rattle.theory.proofs.Calls.DerivationCall.{derivation-refusals, never-satisfiable, heap-exactly, excess-exactly, lines-exactly, eleven-modelled, model-answered, unrefused-refuted, derived}
 
 -- an answer is a verdict's exactly as the verdicts are
@@ -83,7 +85,8 @@ module _ (f : CallForm) (laws : FormLaws f) where
       let (e, p) = answered i (verdictCallOf f i) h (verdict-case f laws i) in
       (ourVerdict (walkOf f i), e, our-right (f .decode (i .query)) (call-accepted i p) (i .order) (p .order))
 
-  answer-exactly : (i : Input) (w : Verdict) (P : Type 0) → NotRefused (verdictCallOf f i .answer) → ((v : Verdict) → Right (f .decode (i .query)) v → (v ≡ w) ↔ P) → (verdictCallOf f i .answer ≡ answerOf w) ↔ P
+  answer-exactly : (i : Input) (w : Verdict) (P : Type 0) → NotRefused (verdictCallOf f i .answer) →
+      ((v : Verdict) → Right (f .decode (i .query)) v → (v ≡ w) ↔ P) → (verdictCallOf f i .answer ≡ answerOf w) ↔ P
   answer-exactly i w P h exactly =
       let a = answer-right i h in
       let e = exactly (a .0) (a .2) in

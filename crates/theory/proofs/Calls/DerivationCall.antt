@@ -171,7 +171,9 @@ module _ (f : CallForm) (laws : FormLaws f) where
       λ h. let g = found (h .1) (h .2) in model-answered (g .0) (h .1) (g .1) ∙ ap (refused 11) (sym (h .0)),
     )
 
-    pub excess-exactly : (place : ℕ) → (a ≡ refused 12 place) ↔ ((place ≡ 0) × NoneStands (derivationChecksOf f) i × (Satisfiable (f .decode (i .query)) → ⊥) × ((ls : List Line) × (walkOf f i ≡ refutation ls) × Exceeds (i .room) ls))
+    pub excess-exactly : (place : ℕ) → (a ≡ refused 12 place) ↔
+        ((place ≡ 0) × NoneStands (derivationChecksOf f) i × (Satisfiable (f .decode (i .query)) → ⊥)
+        × ((ls : List Line) × (walkOf f i ≡ refutation ls) × Exceeds (i .room) ls))
     excess-exactly place = (
       λ h. let (z, l) = twelve place h in (z, l .0, lines-unsatisfiable (l .0) (l .1 .0) (l .1 .1), l .1),
       λ h. blank-answer (derivationCallOf f i) (i .room) _ (derivation-of i (h .1) ∙ ap (derivationAt i) (h .3 .1) ∙ lines-exceed (i .room) (h .3 .0) (h .3 .2)) ∙ ap (refused 12) (sym (h .0)),

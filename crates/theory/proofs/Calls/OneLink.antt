@@ -11,7 +11,8 @@ use lib.Dec.{eqb, leb}
 use Rattle.logic.specs.Search.{_and_, _or_, from, all, any, keep, orElse, firstOf, find}
 use Rattle.logic.specs.Query.{Query, termCount}
 use Rattle.logic.specs.Facts.{Graph, linkNumbers, terms}
-use Rattle.logic.specs.Rules.{Rule, REFLEX, TRANS1, TRANS2, FUNC, CYCLE, SCC, TOTAL, SHARE, ruleNumber, rules, ruleOf, Triple, triple, move, equal, round, conditions, alternatives, held, moveNumber, moveOf}
+use Rattle.logic.specs.Rules.{Rule, REFLEX, TRANS1, TRANS2, FUNC, CYCLE, SCC, TOTAL, SHARE, ruleNumber, rules, ruleOf}
+use Rattle.logic.specs.Rules.{Triple, triple, move, equal, round, conditions, alternatives, held, moveNumber, moveOf}
 use Rattle.logic.specs.Walk.{limit}
 use Rattle.logic.specs.Shown.{isNode, sizeIn, wellFormed}
 use Rattle.theory.proofs.Basics.Compare.{eqb-self}
@@ -33,7 +34,8 @@ unfolding firstOf find keep orElse Option·elim
 firstOf-keep p f [] = refl
 firstOf-keep {A} {B} p f (x ∷ xs) = go (p x) (firstOf-keep p f xs)
   where
-    go : (b : Bool) → firstOf (λ y. keep (p y) (f y)) xs ≡ Option·elim (find p xs) none (λ y. some (f y)) → orElse (keep b (f x)) (firstOf (λ y. keep (p y) (f y)) xs) ≡ Option·elim (orElse (keep b x) (firstOf (λ y. keep (p y) y) xs)) none (λ y. some (f y))
+    go : (b : Bool) → firstOf (λ y. keep (p y) (f y)) xs ≡ Option·elim (find p xs) none (λ y. some (f y)) →
+        orElse (keep b (f x)) (firstOf (λ y. keep (p y) (f y)) xs) ≡ Option·elim (orElse (keep b x) (firstOf (λ y. keep (p y) y) xs)) none (λ y. some (f y))
     go true ih = refl
     go false ih = ih
 
@@ -53,7 +55,14 @@ limit-one q one = rw one (omega arith)
 
 -- Reports
 
-pub wellFormed-one : (bytes : List ℕ) → wellFormed 1 bytes ≡ (isNode 16 (sizeIn bytes) and leb (getD bytes (sizeIn bytes + 1) 0) 16 and leb (sizeIn bytes + getD bytes (sizeIn bytes + 1) 0 + sizeIn bytes + 5) (length bytes) and eqb (getD bytes (sizeIn bytes + getD bytes (sizeIn bytes + 1) 0 + 2) 0) (sizeIn bytes) and eqb (getD bytes (sizeIn bytes + getD bytes (sizeIn bytes + 1) 0 + sizeIn bytes + 3) 0) 1 and all (λ i. isNode (sizeIn bytes) (getD bytes i 0)) (from (sizeIn bytes) 1) and all (λ i. isNode (sizeIn bytes) (getD bytes i 0)) (from (getD bytes (sizeIn bytes + 1) 0) (sizeIn bytes + 2)) and all (λ i. eqb (getD bytes i 0) 0) (from (length bytes - (sizeIn bytes + getD bytes (sizeIn bytes + 1) 0 + sizeIn bytes + 5)) (sizeIn bytes + getD bytes (sizeIn bytes + 1) 0 + sizeIn bytes + 5)))
+pub wellFormed-one : (bytes : List ℕ) → wellFormed 1
+    bytes ≡ (isNode 16 (sizeIn bytes) and leb (getD bytes (sizeIn bytes + 1) 0) 16 and leb
+    (sizeIn bytes + getD bytes (sizeIn bytes + 1) 0 + sizeIn bytes + 5) (length bytes) and eqb
+    (getD bytes (sizeIn bytes + getD bytes (sizeIn bytes + 1) 0 + 2) 0) (sizeIn bytes) and eqb
+    (getD bytes (sizeIn bytes + getD bytes (sizeIn bytes + 1) 0 + sizeIn bytes + 3) 0) 1 and all (λ i. isNode (sizeIn bytes) (getD bytes i 0))
+    (from (sizeIn bytes) 1) and all (λ i. isNode (sizeIn bytes) (getD bytes i 0)) (from (getD bytes (sizeIn bytes + 1) 0) (sizeIn bytes + 2)) and all
+    (λ i. eqb (getD bytes i 0) 0) (from (length bytes - (sizeIn bytes + getD bytes (sizeIn bytes + 1) 0 + sizeIn bytes + 5))
+    (sizeIn bytes + getD bytes (sizeIn bytes + 1) 0 + sizeIn bytes + 5)))
 unfolding wellFormed _and_
 wellFormed-one bytes =
     let m : ℕ = sizeIn bytes in

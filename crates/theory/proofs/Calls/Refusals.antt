@@ -4,14 +4,16 @@ use native.Mathlib.Omega.{arith}
 use mathlib.Core.Path.{_≡_, refl, sym, ap, _∙_, subst, subst₂}
 use mathlib.Core.Logic.{_⊎_, ⊎-elim, inl, inr}
 use mathlib.Core.Bool.{Bool, true, not, false≢true}
-use mathlib.Core.List.{List, [], _∷_, _++_, List·Memᴰ, List·Memᴰ·head, List·Memᴰ·tail, List·Memᴰ·not-nil, List·Memᴰ·cases-cons, List·Memᴰ·append-cases, Memᴰ·append-left, Memᴰ·append-right, map, map-append}
+use mathlib.Core.List.{List, [], _∷_, _++_, List·Memᴰ, List·Memᴰ·head, List·Memᴰ·tail, List·Memᴰ·not-nil}
+use mathlib.Core.List.{List·Memᴰ·cases-cons, List·Memᴰ·append-cases, Memᴰ·append-left, Memᴰ·append-right, map, map-append}
 use mathlib.Core.Option.{Option, none, some, Option·elim}
 use lib.ListN.{length, replicate}
 use lib.Dec.{eqb, ltb}
 use Rattle.logic.specs.Search.{_and_, all, keep, from, orElse}
 use Rattle.logic.specs.Query.{sections, isOrder}
 use Rattle.logic.specs.Walk.{Ending}
-use Rattle.logic.specs.Calls.{Input, Check, orderCheck, layoutCheck, byteCheck, formChecks, roomUnder, queryChecks, CallForm, oneLinkForm, verdictChecksOf, derivationChecksOf, Answer, refused, refusalOf, Outcome, blank, call}
+use Rattle.logic.specs.Calls.{Input, Check, orderCheck, layoutCheck, byteCheck, formChecks, roomUnder, queryChecks, CallForm}
+use Rattle.logic.specs.Calls.{oneLinkForm, verdictChecksOf, derivationChecksOf, Answer, refused, refusalOf, Outcome, blank, call}
 use Rattle.logic.specs.Demands.{NoneStands, FirstStands, numbers, walkOf, Refusals}
 use Rattle.theory.proofs.Basics.Search.{all-true, keep-some, map-mem, map-intro}
 use Rattle.theory.proofs.Basics.Compare.{le-cases}
@@ -189,7 +191,8 @@ module _ (form : CallForm) (cs : List Check) (result : Input → Ending → Outc
 
   late-numbered : (i : Input) (k place : ℕ) (lent : List ℕ) → Late (i .room) k place lent → List·Memᴰ k (11 ∷ 12 ∷ [])
   late-numbered i k place lent l =
-      ⊎-elim (λ (u : k ≤ 11). List·Memᴰ·head (let e : k ≡ 11 = omega (arith, u, l .above) in e)) (λ (u : 11 < k). List·Memᴰ·tail (List·Memᴰ·head (let e : k ≡ 12 = omega (arith, u, l .below) in e))) (le-cases k 11)
+      ⊎-elim (λ (u : k ≤ 11). List·Memᴰ·head (let e : k ≡ 11 = omega (arith, u, l .above) in
+      e)) (λ (u : 11 < k). List·Memᴰ·tail (List·Memᴰ·head (let e : k ≡ 12 = omega (arith, u, l .below) in e))) (le-cases k 11)
 
   pub refusals : Refusals cs (form .longest) outcome
   refusals =

@@ -50,7 +50,8 @@ unfolding joinEach unjoined joinAll joinTerms plainPairs select
 joinEach-pairs n [] s = refl
 joinEach-pairs n (l ∷ ls) s = joinEach-step n l ls s ∙ go (l .plain) refl (λ t. joinEach-pairs n ls t)
   where
-    go : (b : Bool) → l .plain ≡ b → ((t : Facts) → joinEach n ls t .facts ≡ joinAll n (plainPairs ls) t) → joinEach n ls (cond b (joinTerms n (pairOf l) s) s) .facts ≡ joinAll n (map pairOf (cond b (l ∷ select (λ k. k .plain) ls) (select (λ k. k .plain) ls))) s
+    go : (b : Bool) → l .plain ≡ b → ((t : Facts) → joinEach n ls t .facts ≡ joinAll n (plainPairs ls) t) →
+        joinEach n ls (cond b (joinTerms n (pairOf l) s) s) .facts ≡ joinAll n (map pairOf (cond b (l ∷ select (λ k. k .plain) ls) (select (λ k. k .plain) ls))) s
     go true e ih = ih (joinTerms n (pairOf l) s)
     go false e ih = ih s
 
@@ -149,7 +150,8 @@ module _ (q : Query) (es : List Literal) (same : SameElements (q .equalities) es
   unfolding Option·elim
   clash-alike s e e′ a = go (clash q s) refl (clash (withEqualities q es) s) refl
     where
-      go : (o : Option Line) → clash q s ≡ o → (o′ : Option Line) → clash (withEqualities q es) s ≡ o′ → Alike (Option·elim o e (λ l. refutation (l ∷ []))) (Option·elim o′ e′ (λ l. refutation (l ∷ [])))
+      go : (o : Option Line) → clash q s ≡ o → (o′ : Option Line) → clash (withEqualities q es) s ≡ o′ →
+          Alike (Option·elim o e (λ l. refutation (l ∷ []))) (Option·elim o′ e′ (λ l. refutation (l ∷ [])))
       go none h none h′ = a
       go none h (some l) h′ = absurd (none-some (sym (clash-free q es s (λ k. same k .1) h) ∙ h′))
       go (some l) h none h′ = absurd (none-some (sym (clash-free (withEqualities q es) (q .equalities) s (λ k. same k .0) h′) ∙ h))
@@ -175,7 +177,8 @@ module _ (q : Query) (es : List Literal) (same : SameElements (q .equalities) es
   walk-alike : (k : ℕ) (s : Facts) → Alike (walk q order k s) (walk (withEqualities q es) order k s)
   unfolding walk walkEach termCount
   walk-alike zero s = clash-alike s (saturation s) (saturation s) (both-saturated s)
-  walk-alike (suc k) s = endAt-alike s _ _ (λ m. after-alike (moveLine m ∷ []) (moveLine m ∷ []) _ _ (walkEach-alike (termCount q) _ _ (λ t. walk-alike k t) s (alternatives (termCount q) (s .graph) m)))
+  walk-alike (suc k) s = endAt-alike s _ _
+      (λ m. after-alike (moveLine m ∷ []) (moveLine m ∷ []) _ _ (walkEach-alike (termCount q) _ _ (λ t. walk-alike k t) s (alternatives (termCount q) (s .graph) m)))
 
 -- The call
 
@@ -184,11 +187,13 @@ unfolding verdictOf report termCount fieldByte
 verdict-alike q es room e e′ (both-refuted ls ms) = refl
 verdict-alike q es room e e′ (both-saturated s) = refl
 
-our-alike : (q : Query) (es : List Literal) → Accepted q → Accepted (withEqualities q es) → SameElements (q .equalities) es → (order : List ℕ) → Alike (ourWalk order q) (ourWalk order (withEqualities q es))
+our-alike : (q : Query) (es : List Literal) → Accepted q → Accepted (withEqualities q es) → SameElements (q .equalities) es → (order : List ℕ) →
+    Alike (ourWalk order q) (ourWalk order (withEqualities q es))
 unfolding ourWalk limit termCount
 our-alike q es ok ok′ same order =
     after-alike _ _ _ _
-    (subst (λ (s : Facts). Alike (walk q (orderOf order) (limit q) (start q)) (walk (withEqualities q es) (orderOf order) (limit q) s)) (start-same q es ok ok′ same) (walk-alike q es same (orderOf order) (limit q) (start q)))
+    (subst (λ (s : Facts). Alike (walk q (orderOf order) (limit q) (start q)) (walk (withEqualities q es) (orderOf order) (limit q) s))
+    (start-same q es ok ok′ same) (walk-alike q es same (orderOf order) (limit q) (start q)))
 
 walked : (order : List ℕ) (room : ℕ) (q q′ : Query) → Accepted q → Accepted q′ → Reordered q q′ → verdictOf q room (ourWalk order q) ≡ verdictOf q′ room (ourWalk order q′)
 walked order room q q′ ok ok′ r =
@@ -202,7 +207,8 @@ answerAt i c = Option·elim (c .place i) none (λ place. some (refused (c .numbe
 
 module _ (f : CallForm) (laws : FormLaws f) where
   -- the checks of an accepted query stand aside: what is left reads the order list and the room
-  refusal-same : (i j : Input) → i .order ≡ j .order → i .room ≡ j .room → acceptsBy f (i .query) ≡ true → acceptsBy f (j .query) ≡ true → refusalOf (verdictChecksOf f) i ≡ refusalOf (verdictChecksOf f) j
+  refusal-same : (i j : Input) → i .order ≡ j .order → i .room ≡ j .room → acceptsBy f (i .query) ≡ true → acceptsBy f (j .query) ≡ true →
+      refusalOf (verdictChecksOf f) i ≡ refusalOf (verdictChecksOf f) j
   unfolding verdictChecksOf orderCheck roomUnder refusalOf firstOf Option·elim
   refusal-same i j e g a b = refusal-rest i a ∙ (λ k. left (e k) (g k)) ∙ sym (refusal-rest j b)
     where
@@ -212,13 +218,16 @@ module _ (f : CallForm) (laws : FormLaws f) where
       refusal-rest : (i : Input) → acceptsBy f (i .query) ≡ true → refusalOf (verdictChecksOf f) i ≡ left (i .order) (i .room)
       refusal-rest i a = ap (orElse (answerAt i orderCheck)) (firstOf-skip (answerAt i) (f .checks) (roomUnder (f .room) ∷ []) (λ c m. rw (accepts-checks f laws i a c m)))
 
-  report-stays : (order query query′ : List ℕ) (room : ℕ) → acceptsBy f query ≡ true → acceptsBy f query′ ≡ true → Reordered (f .decode query) (f .decode query′) → verdictCallOf f (record { order = order; query = query; room = room }) ≡ verdictCallOf f (record { order = order; query = query′; room = room })
+  report-stays : (order query query′ : List ℕ) (room : ℕ) → acceptsBy f query ≡ true → acceptsBy f query′ ≡ true →
+      Reordered (f .decode query) (f .decode query′) → verdictCallOf f (record { order = order; query = query; room = room }) ≡ verdictCallOf f
+      (record { order = order; query = query′; room = room })
   unfolding verdictCallOf call
   report-stays order query query′ room a a′ r =
       let i : Input = record { order = order; query = query; room = room } in
       let j : Input = record { order = order; query = query′; room = room } in
       rw (refusal-same i j refl refl a a′)
-      (ap (λ (o : Outcome). Option·elim (refusalOf (verdictChecksOf f) j) o (blank room)) (walked order room (f .decode query) (f .decode query′) (laws .accepted-query query a) (laws .accepted-query query′ a′) r))
+      (ap (λ (o : Outcome). Option·elim (refusalOf (verdictChecksOf f) j) o (blank room))
+      (walked order room (f .decode query) (f .decode query′) (laws .accepted-query query a) (laws .accepted-query query′ a′) r))
 
 -- facts that a walk can hold are sane
 pub held-sane : (q : Query) → Accepted q → (s : Facts) → Held q s → Sane (termCount q) s

@@ -28,7 +28,8 @@ module _ (f : CallForm) (laws : FormLaws f) where
       ⊎-elim (λ o. absurd (omega (arith, e, ap (λ (x : Check). x .number) o)))
       (λ n. ⊎-elim
       (λ n′. absurd (laws .early (c .number) (map-intro (λ (x : Check). x .number) c n′) .1 e))
-      (λ n′. ⊎-elim (λ o. ltb-true (i .room) (f .room) (keep-some (ltb (i .room) (f .room)) (sym (ap (λ (x : Check). x .place i) o) ∙ h) .0)) (λ n″. absurd (List·Memᴰ·not-nil n″)) (List·Memᴰ·cases-cons n′))
+      (λ n′. ⊎-elim (λ o. ltb-true (i .room) (f .room) (keep-some (ltb (i .room) (f .room)) (sym (ap (λ (x : Check). x .place i) o) ∙ h) .0))
+      (λ n″. absurd (List·Memᴰ·not-nil n″)) (List·Memᴰ·cases-cons n′))
       (List·Memᴰ·append-cases (f .checks) n))
       (List·Memᴰ·cases-cons m)
 

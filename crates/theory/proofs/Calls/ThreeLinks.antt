@@ -41,7 +41,8 @@ unfolding linkChecks layout-checks byte-checks layoutNumbers from
 checks-are = refl
 
 -- what holds of each kind of check holds of all
-checks-elim : (P : Check → Type 0) → ((k : ℕ) → LayoutNumber k → P (layoutCheck linkSections k)) → P linkCheck → ((k : ℕ) → 5 ≤ k → k ≤ 8 → P (byteCheck linkSections k)) → (c : Check) → List·Memᴰ c linkChecks → P c
+checks-elim : (P : Check → Type 0) → ((k : ℕ) → LayoutNumber k → P (layoutCheck linkSections k)) → P linkCheck →
+    ((k : ℕ) → 5 ≤ k → k ≤ 8 → P (byteCheck linkSections k)) → (c : Check) → List·Memᴰ c linkChecks → P c
 unfolding layout-checks byte-checks
 checks-elim P l m b c i =
     ⊎-elim
@@ -60,7 +61,8 @@ link-own = subst (λ (cs : List Check). List·Memᴰ linkCheck cs) (sym checks-a
 
 byte-own : (k : ℕ) → 5 ≤ k → k ≤ 8 → List·Memᴰ (byteCheck linkSections k) linkChecks
 unfolding byte-checks
-byte-own k l u = subst (λ (cs : List Check). List·Memᴰ (byteCheck linkSections k) cs) (sym checks-are) (Memᴰ·append-right layout-checks (List·Memᴰ·tail (map-intro (byteCheck linkSections) k (from-intro 4 5 k l (omega arith)))))
+byte-own k l u = subst (λ (cs : List Check). List·Memᴰ (byteCheck linkSections k) cs) (sym checks-are)
+    (Memᴰ·append-right layout-checks (List·Memᴰ·tail (map-intro (byteCheck linkSections) k (from-intro 4 5 k l (omega arith)))))
 
 link-passes : (bytes : List ℕ) → acceptsBy threeLinkForm bytes ≡ true → LinksPass bytes
 unfolding acceptsBy layoutCheck byteCheck linkCheck
@@ -81,7 +83,8 @@ three-links (parts ps) = refl
 link-local : (i j : Input) → i .query ≡ j .query → (c : Check) → List·Memᴰ c linkChecks → c .place i ≡ c .place j
 unfolding layoutCheck byteCheck linkCheck
 link-local i j e =
-    checks-elim (λ (c : Check). c .place i ≡ c .place j) (λ k m. ap (layoutFault linkSections k) e) (ap (λ (q : List ℕ). linkFault (layoutBy linkSections q)) e) (λ k l u. ap (byteFault linkSections k) e)
+    checks-elim (λ (c : Check). c .place i ≡ c .place j) (λ k m. ap (layoutFault linkSections k) e)
+    (ap (λ (q : List ℕ). linkFault (layoutBy linkSections q)) e) (λ k l u. ap (byteFault linkSections k) e)
 
 link-placed : (i : Input) → Placed 637 linkChecks i
 unfolding layoutCheck byteCheck linkCheck layout-checks byte-checks
@@ -105,7 +108,9 @@ link-placed i =
     single passed k place h =
         let (c, m, (p, s, q)) = refusalOf-some byte-checks i _ h in
         let (j, n, e) = map-mem (byteCheck linkSections) c (from 4 5) m in
-        byte-place-of linkSections 637 link-most link-sections-excesses j (i .query) place (λ l o. passed (layoutCheck linkSections l) (map-intro (layoutCheck linkSections) l o)) (sym (ap (λ (x : Check). x .place i) e) ∙ s ∙ ap some (sym (refused-one q .1)))
+        byte-place-of linkSections 637 link-most link-sections-excesses j (i .query) place
+        (λ l o. passed (layoutCheck linkSections l) (map-intro (layoutCheck linkSections) l o))
+        (sym (ap (λ (x : Check). x .place i) e) ∙ s ∙ ap some (sym (refused-one q .1)))
 
 link-early : (k : ℕ) → List·Memᴰ k (numbers linkChecks) → (Early k) × (k ≡ 9 → ⊥)
 unfolding linkChecks linkCheck layoutCheck byteCheck all _and_ _or_

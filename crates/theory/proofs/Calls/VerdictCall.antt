@@ -72,7 +72,8 @@ module _ (f : CallForm) (laws : FormLaws f) where
   pub data VerdictCase (i : Input) (o : Outcome) : Type 0 where
     by-refusal : (k place : ℕ) → List·Memᴰ k (numbers (verdictChecksOf f)) → o ≡ blank (i .room) (refused k place) → VerdictCase i o
     by-lines : (ls : List Line) → walkOf f i ≡ refutation ls → o ≡ blank (i .room) Answer.refuted → NoneStands (verdictChecksOf f) i → VerdictCase i o
-    by-model : (s : Facts) → walkOf f i ≡ saturation s → o ≡ record { answer = Answer.satisfiable; lent = padded (i .room) (report (f .decode (i .query)) s) } → NoneStands (verdictChecksOf f) i → VerdictCase i o
+    by-model : (s : Facts) → walkOf f i ≡ saturation s →
+        o ≡ record { answer = Answer.satisfiable; lent = padded (i .room) (report (f .decode (i .query)) s) } → NoneStands (verdictChecksOf f) i → VerdictCase i o
 
   walked-case : (i : Input) (w : Ending) → walkOf f i ≡ w → NoneStands (verdictChecksOf f) i → VerdictCase i (verdictAt i w)
   unfolding verdictOf

@@ -34,7 +34,11 @@ pub record Model (q : Query) (s : Facts) : Type 0 where
 
 module _ (q : Query) (ok : Accepted q) where
   model : (order : List Rule) → HoldsAll order → (s : Facts) → Invariant q s → clash q s ≡ none → choose (termCount q) order s ≡ none → Model q s
-  model order full s i c h = record { invariant = i; no-clash = c; no-rule = λ j k. saturated (termCount q) s order full (i .sane) h j (subst (λ (l : ℕ). (1 ≤ j) × (j ≤ l)) (sym (i .tied .same-links)) k) }
+  model order full s i c h = record {
+    invariant = i;
+    no-clash = c;
+    no-rule = λ j k. saturated (termCount q) s order full (i .sane) h j (subst (λ (l : ℕ). (1 ≤ j) × (j ≤ l)) (sym (i .tied .same-links)) k);
+  }
 
   pub completed : (s : Facts) → Model q s → (i : ℕ) → InLinks q i → Completed (termCount q) (liveTerms (termCount q) s) (s .graph i)
   completed s m i k =

@@ -14,7 +14,9 @@ use Rattle.logic.specs.Search.{_and_, _or_, any, all, find}
 use Rattle.logic.specs.Heap.{iterate, Reaches}
 use Rattle.logic.specs.Facts.{Graph, terms}
 use Rattle.logic.specs.Shown.{reached, inBasin, heads, onPath, basinLink, treeLink, newLink}
-use Rattle.theory.proofs.Basics.Search.{bool-cases, true-false, not-true, not-intro, not-of, and-left, and-right, and-intro, or-cases, or-left, or-right, any-true, any-false, all-true, all-intro, all-false, select-mem, select-intro, from-intro}
+use Rattle.theory.proofs.Basics.Search.{bool-cases, true-false, not-true, not-intro, not-of, and-left, and-right}
+use Rattle.theory.proofs.Basics.Search.{and-intro, or-cases, or-left, or-right, any-true, any-false, all-true}
+use Rattle.theory.proofs.Basics.Search.{all-intro, all-false, select-mem, select-intro, from-intro}
 use Rattle.theory.proofs.Basics.Iterate.{reaches-refl, reaches-step}
 use Rattle.theory.proofs.Completeness.Saturated.{Saturated}
 use Rattle.theory.proofs.Graph.BasinGraph.{Compatible, Fits}

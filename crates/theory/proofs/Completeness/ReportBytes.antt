@@ -71,7 +71,8 @@ rows-each f m sized (suc links) i (suc k) j l h =
     getD-past (f i) (flatMap f (from links (suc i))) (k * m + j) (suc k * m + j) (omega (arith, sized i, suc-mul k m))
     ∙ rows-each f m sized links (suc i) k j (omega arith) h ∙ ap (λ (x : ℕ). getD (f x) j 0) e′
 
-module _ (links m n flags : ℕ) (link : ℕ → ℕ → ℕ) (node datum : ℕ → ℕ) (ls ns ds rest : List ℕ) (sized : length ls ≡ links * m) (linked : (k i : ℕ) → k < links → i < m → getD ls (k * m + i) 0 ≡ link k i) (listed : Lists ns n node) (fields : Lists ds m datum) where
+module _ (links m n flags : ℕ) (link : ℕ → ℕ → ℕ) (node datum : ℕ → ℕ) (ls ns ds rest : List ℕ) (sized : length ls ≡ links * m)
+    (linked : (k i : ℕ) → k < links → i < m → getD ls (k * m + i) 0 ≡ link k i) (listed : Lists ns n node) (fields : Lists ds m datum) where
   -- what follows each section
   abbrev behind-data : List ℕ
   behind-data = 1 ∷ flags ∷ rest
@@ -127,7 +128,9 @@ abbrev pub place : Query → Facts → ℕ → ℕ
 place q s v = placeOf v (nodesOf q s)
 
 -- the report, whatever follows it
-pub report-laid : (q : Query) (s : Facts) (rest : List ℕ) → Laid (report q s ++ rest) (q .links) (length (nodesOf q s)) (termCount q) (λ k i. place q s (linkShown q s (suc k) (getD (nodesOf q s) i 0))) (λ i. place q s (s .rep (suc i))) (λ i. fieldByte q s (getD (nodesOf q s) i 0)) 0 rest
+pub report-laid : (q : Query) (s : Facts) (rest : List ℕ) →
+    Laid (report q s ++ rest) (q .links) (length (nodesOf q s)) (termCount q) (λ k i. place q s (linkShown q s (suc k) (getD (nodesOf q s) i 0)))
+    (λ i. place q s (s .rep (suc i))) (λ i. fieldByte q s (getD (nodesOf q s) i 0)) 0 rest
 unfolding report successorsShown linkNumbers
 report-laid q s rest =
     let ts : List ℕ = nodesOf q s in
@@ -138,4 +141,6 @@ report-laid q s rest =
     (q .links * length ts ∷ flatMap row (from (q .links) 1)) (termCount q ∷ map (λ t. place q s (s .rep t)) (terms (termCount q)))
     (length ts ∷ map (fieldByte q s) ts) (1 ∷ 0 ∷ []) rest)
     (laid (q .links) (length ts) (termCount q) 0 _ _ _ (flatMap row (from (q .links) 1)) _ _ rest (rows-length row (length ts) sized (q .links) 1)
-    (λ k i l h. let e : 1 + k ≡ suc k = omega arith in rows-each row (length ts) sized (q .links) 1 k i l h ∙ ap (λ (x : ℕ). getD (row x) i 0) e ∙ lists-map (λ v. place q s (linkShown q s (suc k) v)) ts .each i h) listed (lists-map (fieldByte q s) ts))
+    (λ k i l h. let e : 1 + k ≡ suc k = omega arith in
+    rows-each row (length ts) sized (q .links) 1 k i l h ∙ ap (λ (x : ℕ). getD (row x) i 0) e
+    ∙ lists-map (λ v. place q s (linkShown q s (suc k) v)) ts .each i h) listed (lists-map (fieldByte q s) ts))

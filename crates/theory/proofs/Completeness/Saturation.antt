@@ -20,12 +20,15 @@ use Rattle.theory.proofs.Completeness.Saturated.{Saturated}
 
 module _ (n : ℕ) (s : Facts) (order : List Rule) (full : HoldsAll order) (none-applies : choose n order s ≡ none) where
   -- at a triple of numbers up to n, conditions that are held give a held alternative
-  held-alternative : (i : ℕ) → InRange (s .links) i → (r : Rule) (x y z : ℕ) → x ≤ n → y ≤ n → z ≤ n → conditions n (live n s) (s .graph) (move i r (triple x y z)) ≡ true → (c : Fact) × List·Memᴰ c (alternatives n (s .graph) (move i r (triple x y z))) × (held (s .graph) c ≡ true)
+  held-alternative : (i : ℕ) → InRange (s .links) i → (r : Rule) (x y z : ℕ) → x ≤ n → y ≤ n → z ≤ n →
+      conditions n (live n s) (s .graph) (move i r (triple x y z)) ≡ true → (c : Fact) × List·Memᴰ c (alternatives n (s .graph) (move i r (triple x y z)))
+      × (held (s .graph) c ≡ true)
   held-alternative i k r x y z lx ly lz h =
       let m = move i r (triple x y z) in
       any-true (held (s .graph)) (alternatives n (s .graph) m)
       (⊎-elim (λ e. e)
-      (λ e. absurd (true-false (applies-intro n s m (hasLink-intro (s .links) i r (triple x y z) k) h e) (choose-none n s order full none-applies i r (triple x y z) k (triples-full n x y z lx ly lz))))
+      (λ e. absurd (true-false (applies-intro n s m (hasLink-intro (s .links) i r (triple x y z) k) h e)
+      (choose-none n s order full none-applies i r (triple x y z) k (triples-full n x y z lx ly lz))))
       (bool-cases (any (held (s .graph)) (alternatives n (s .graph) m))))
 
 -- a held fact among one or two
@@ -48,7 +51,8 @@ module _ (n : ℕ) (s : Facts) (order : List Rule) (full : HoldsAll order) (sane
   reach-range : (a b : ℕ) → g .reach a b ≡ true → InRange n a × InRange n b
   reach-range a b h = let l = r .reach-live i a b h in (live-range n s a (l .0), live-range n s b (l .1))
 
-  abbrev at-triple : (k : Rule) (x y z : ℕ) → x ≤ n → y ≤ n → z ≤ n → conditions n (live n s) (s .graph) (move i k (triple x y z)) ≡ true → (c : Fact) × List·Memᴰ c (alternatives n (s .graph) (move i k (triple x y z))) × (held (s .graph) c ≡ true)
+  abbrev at-triple : (k : Rule) (x y z : ℕ) → x ≤ n → y ≤ n → z ≤ n → conditions n (live n s) (s .graph) (move i k (triple x y z)) ≡ true → (c : Fact)
+      × List·Memᴰ c (alternatives n (s .graph) (move i k (triple x y z))) × (held (s .graph) c ≡ true)
   at-triple = held-alternative n s order full none-applies i linked
 
   pub saturated : Saturated n (liveTerms n s) g

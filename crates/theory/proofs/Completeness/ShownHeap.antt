@@ -47,7 +47,8 @@ signed true P plain negated = plain refl
 signed false P plain negated = negated refl
 
 -- the same for a bit that is set exactly where a literal passes a test
-signed-bit : {bit : Bool} (ls : List Literal) (test : Literal → Bool) (l : Literal) → bit ≡ any test ls → List·Memᴰ l ls → (l .plain ≡ true → test l ≡ true) → ((p : Literal) → List·Memᴰ p ls → test p ≡ true → l .plain ≡ false → ⊥) → Signed (l .plain) (bit ≡ true)
+signed-bit : {bit : Bool} (ls : List Literal) (test : Literal → Bool) (l : Literal) → bit ≡ any test ls → List·Memᴰ l ls →
+    (l .plain ≡ true → test l ≡ true) → ((p : Literal) → List·Memᴰ p ls → test p ≡ true → l .plain ≡ false → ⊥) → Signed (l .plain) (bit ≡ true)
 signed-bit ls test l set m passes free =
     signed (l .plain) _ (λ e. set ∙ any-intro test l m (passes e)) (λ e on. let r = any-true test ls (sym set ∙ on) in free (r .0) (r .1) (r .2) e)
 
@@ -57,8 +58,11 @@ setsField s j v l = l .plain and eqb (l .left) j and eqb (s .rep (l .right)) v
 
 setsField-true : (s : Facts) (j v : ℕ) (l : Literal) → setsField s j v l ≡ true → (l .plain ≡ true) × (l .left ≡ j) × (s .rep (l .right) ≡ v)
 setsField-true s j v l e =
-    let named = and-left (l .plain and eqb (l .left) j) (eqb (s .rep (l .right)) v) e in
-    (and-left (l .plain) (eqb (l .left) j) named, eqb-true (l .left) j (and-right (l .plain) (eqb (l .left) j) named), eqb-true (s .rep (l .right)) v (and-right (l .plain and eqb (l .left) j) (eqb (s .rep (l .right)) v) e))
+    let named = and-left (l .plain and eqb (l .left) j) (eqb (s .rep (l .right)) v) e in (
+      and-left (l .plain) (eqb (l .left) j) named,
+      eqb-true (l .left) j (and-right (l .plain) (eqb (l .left) j) named),
+      eqb-true (s .rep (l .right)) v (and-right (l .plain and eqb (l .left) j) (eqb (s .rep (l .right)) v) e),
+    )
 
 -- v is the term of a node; p is the number of one
 abbrev IsNode : Query → Facts → ℕ → Type 0
@@ -167,11 +171,13 @@ module _ (q : Query) (s : Facts) (acc : Accepted q) (tied : Tied q s) (comp : (i
         rw (value-place a h, value-place b k) (λ e. ap (place q s) e, placeOf-injective (s .rep a) (s .rep b) (rep-node a h) (rep-node b k))
 
     -- one reaches the other exactly where the path holds it
-    pub reach-exactly : (i : ℕ) → InLinks q i → (a b : ℕ) → InTerms q a → InTerms q b → (s .graph i .reach (s .rep a) (s .rep b) ≡ true) ↔ Reaches (heapOf q s rest .link i) (valueOf q s rest a) (valueOf q s rest b)
+    pub reach-exactly : (i : ℕ) → InLinks q i → (a b : ℕ) → InTerms q a → InTerms q b →
+        (s .graph i .reach (s .rep a) (s .rep b) ≡ true) ↔ Reaches (heapOf q s rest .link i) (valueOf q s rest a) (valueOf q s rest b)
     unfolding shownLink
     reach-exactly i l a b h k =
         let held = comp i l .completed-reach (s .rep a) (s .rep b) (live-mem (termCount q) s (s .rep a) (tied .rep-live a h)) in
-        let moved = reaches-name (linkShown q s i) (heapOf q s rest .link i) (place q s) (IsNode q s) (link-node i l) (link-place i l) (λ v w. placeOf-injective v w) (s .rep a) (s .rep b) (rep-node a h) (rep-node b k) in
+        let moved = reaches-name (linkShown q s i) (heapOf q s rest .link i) (place q s) (IsNode q s) (link-node i l) (link-place i l)
+        (λ v w. placeOf-injective v w) (s .rep a) (s .rep b) (rep-node a h) (rep-node b k) in
         rw (value-place a h, value-place b k) (λ e. moved .0 (held .0 e), λ r. held .1 (moved .1 r))
 
     module _ (clean : clash q s ≡ none) where

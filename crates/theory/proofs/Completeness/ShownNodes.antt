@@ -48,7 +48,8 @@ no-terms : (s : Facts) (i v : ℕ) → List·Memᴰ (shownLink 0 s i v) (nodes 0
 unfolding shownLink linkEach nodes orZero liveTerms terms from select next find firstOf
 no-terms s i v = List·Memᴰ·head refl
 
-pub shownLink-node : (n : ℕ) (s : Facts) (i : ℕ) → ((t : ℕ) → 1 ≤ t → t ≤ n → live n s (s .rep t) ≡ true) → Completed n (liveTerms n s) (s .graph i) → (v : ℕ) → List·Memᴰ v (nodes n s) → List·Memᴰ (shownLink n s i v) (nodes n s)
+pub shownLink-node : (n : ℕ) (s : Facts) (i : ℕ) → ((t : ℕ) → 1 ≤ t → t ≤ n → live n s (s .rep t) ≡ true) → Completed n (liveTerms n s) (s .graph i) →
+    (v : ℕ) → List·Memᴰ v (nodes n s) → List·Memᴰ (shownLink n s i v) (nodes n s)
 unfolding nodes shownLink
 shownLink-node zero s i tied comp v m = no-terms s i v
 shownLink-node (suc n) s i tied comp v m =

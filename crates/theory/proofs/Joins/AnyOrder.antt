@@ -46,7 +46,8 @@ module _ (n : ℕ) where
 
   -- nothing is put together beyond a congruence that holds the pairs
   module _ {E : ℕ → ℕ → Type 0} {s : Facts} (c : Congruence s E) where
-    joinAll-within : (ps : List (ℕ × ℕ)) (s′ : Facts) → PairsIn n ps → ((ab : ℕ × ℕ) → List·Memᴰ ab ps → E (s .rep (ab .0)) (s .rep (ab .1))) → Sane n s′ → Within n E s s′ → Within n E s (joinAll n ps s′)
+    joinAll-within : (ps : List (ℕ × ℕ)) (s′ : Facts) → PairsIn n ps → ((ab : ℕ × ℕ) → List·Memᴰ ab ps → E (s .rep (ab .0)) (s .rep (ab .1))) →
+        Sane n s′ → Within n E s s′ → Within n E s (joinAll n ps s′)
     unfolding joinAll joinTerms
     joinAll-within [] s′ r held h w = w
     joinAll-within (ab ∷ ps) s′ r held h w =
@@ -96,7 +97,8 @@ module _ (n : ℕ) where
       (class-more ps qs s r r′ h (λ ab m. same ab .0 m)) (class-more qs ps s r′ r h (λ ab m. same ab .1 m))
 
   -- "two joins, with replaced terms read as what they became, leave the same facts in either order"
-  pub two-joins : (ab cd : ℕ × ℕ) (s : Facts) → InRange n (ab .0) × InRange n (ab .1) → InRange n (cd .0) × InRange n (cd .1) → Sane n s → joinTerms n cd (joinTerms n ab s) ≡ joinTerms n ab (joinTerms n cd s)
+  pub two-joins : (ab cd : ℕ × ℕ) (s : Facts) → InRange n (ab .0) × InRange n (ab .1) → InRange n (cd .0) × InRange n (cd .1) → Sane n s →
+      joinTerms n cd (joinTerms n ab s) ≡ joinTerms n ab (joinTerms n cd s)
   unfolding joinAll
   two-joins ab cd s i i′ h = joins-any-order (ab ∷ cd ∷ []) (cd ∷ ab ∷ []) s (pairs ab cd i i′) (pairs cd ab i′ i) (λ x. (swap ab cd x, swap cd ab x)) h
     where

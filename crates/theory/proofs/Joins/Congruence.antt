@@ -81,7 +81,9 @@ module _ (n : ℕ) where
     join-within a b s′ la lb e r w =
         ⊎-elim
         (λ q. rw (join-facts n a b s′, eqb-intro {m = a} {n = b} q) w)
-        (λ d. rw (join-facts n a b s′, d .1) (low-high (λ lo hi. lo < hi → Within E s (settle n n (replace lo hi s′) .facts)) a b (λ lt. step a b la lb lt e) (λ lt. step b a lb la lt (c .turned a b e)) (omega (arith, d .0))))
+        (λ d. rw (join-facts n a b s′, d .1)
+        (low-high (λ lo hi. lo < hi → Within E s (settle n n (replace lo hi s′) .facts)) a b (λ lt. step a b la lb lt e)
+        (λ lt. step b a lb la lt (c .turned a b e)) (omega (arith, d .0))))
         (eq-cases a b)
       where
         step : (lo hi : ℕ) → live n s′ lo ≡ true → live n s′ hi ≡ true → lo < hi → E lo hi → Within E s (settle n n (replace lo hi s′) .facts)
@@ -98,6 +100,7 @@ module _ (n : ℕ) where
         successors-too = λ i x y u v e l l′.
             let k = p .link-held i x u l in
             let k′ = subst (λ (t : ℕ). s′ .graph i .link t (p .class v) ≡ true) (sym e) (p .link-held i y v l′) in
-            let r : (a b : ℕ) → s′ .graph i .link a b ≡ true → InRange n a × InRange n b = λ a b m. (live-range n s′ a (h′ .ranged .link-live i a b m .0), live-range n s′ b (h′ .ranged .link-live i a b m .1)) in
+            let r : (a b : ℕ) → s′ .graph i .link a b ≡ true → InRange n a
+            × InRange n b = λ a b m. (live-range n s′ a (h′ .ranged .link-live i a b m .0), live-range n s′ b (h′ .ranged .link-live i a b m .1)) in
             doubled-none n s′ (h′ .single) i (p .class x) (p .class u) (p .class v) (h′ .ranged .link-linked i _ _ k) (r _ _ k .0) (r _ _ k .1) (r _ _ k′ .1) k k′;
       }

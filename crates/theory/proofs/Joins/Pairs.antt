@@ -10,7 +10,8 @@ use lib.ListN.{length, length-append}
 use lib.Dec.{eqb}
 use Rattle.logic.specs.Search.{_and_, select}
 use Rattle.logic.specs.Query.{Literal, Query, termCount, literal}
-use Rattle.logic.specs.Facts.{Facts, Joined, live, replace, doubled, unjoined, joinPair, andThen, settle, join, joinEach, addReach, linksOf, reachEach, nilTerms, addLinks, equalTo, addNilLinks, joinNil, startJoins, start}
+use Rattle.logic.specs.Facts.{Facts, Joined, live, replace, doubled, unjoined, joinPair, andThen, settle, join, joinEach, addReach}
+use Rattle.logic.specs.Facts.{linksOf, reachEach, nilTerms, addLinks, equalTo, addNilLinks, joinNil, startJoins, start}
 use Rattle.logic.specs.Rules.{Fact, equal, reaches, branch}
 use Rattle.logic.specs.JoinPairs.{followPairs, timesReplaced, Accounts}
 use Rattle.theory.proofs.Basics.Search.{not-of, map-mem}
@@ -143,7 +144,8 @@ module _ (n : ℕ) where
   accounts-settle zero s r = accounts-unjoined s s refl
   accounts-settle (suc k) s r = go (doubled n s) refl (λ s′ r′. accounts-settle k s′ r′)
     where
-      go : (o : Option (ℕ × ℕ)) → doubled n s ≡ o → ((s′ : Facts) → Ranged n s′ → Accounts n s′ (settle n k s′)) → Accounts n s (Option·elim o (unjoined s) (λ ab. andThen (joinPair ab s) (settle n k)))
+      go : (o : Option (ℕ × ℕ)) → doubled n s ≡ o → ((s′ : Facts) → Ranged n s′ → Accounts n s′ (settle n k s′)) →
+          Accounts n s (Option·elim o (unjoined s) (λ ab. andThen (joinPair ab s) (settle n k)))
       go none e ih = accounts-unjoined s s refl
       go (some ab) e ih =
           let l = doubled-live n s ab r e in

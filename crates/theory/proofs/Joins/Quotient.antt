@@ -107,7 +107,9 @@ module _ (n : ℕ) where
         let b = p′ .class-lower (p .class x) in
         omega arith
 
-  module _ {s s₁ s₂ : Facts} (p : Quotient s s₁) (p′ : Quotient s s₂) (same : (x y : ℕ) → live n s x ≡ true → live n s y ≡ true → p .class x ≡ p .class y → p′ .class x ≡ p′ .class y) (back : (x y : ℕ) → live n s x ≡ true → live n s y ≡ true → p′ .class x ≡ p′ .class y → p .class x ≡ p .class y) where
+  module _ {s s₁ s₂ : Facts} (p : Quotient s s₁) (p′ : Quotient s s₂)
+      (same : (x y : ℕ) → live n s x ≡ true → live n s y ≡ true → p .class x ≡ p .class y → p′ .class x ≡ p′ .class y)
+      (back : (x y : ℕ) → live n s x ≡ true → live n s y ≡ true → p′ .class x ≡ p′ .class y → p .class x ≡ p .class y) where
     pub class-same : (x : ℕ) → p .class x ≡ p′ .class x
     class-same x =
         ⊎-elim
@@ -120,7 +122,8 @@ abbrev made : (ℕ → ℕ) → ℕ → (ℕ → ℕ → ℕ → Bool) → (ℕ 
 made rep links link reach = record { rep = rep; links = links; graph = λ i. record { link = link i; reach = reach i } }
 
 -- two paths are one where they answer alike
-pub alike : (s s′ : Facts) → ((t : ℕ) → s .rep t ≡ s′ .rep t) → s .links ≡ s′ .links → ((i a b : ℕ) → s .graph i .link a b ≡ s′ .graph i .link a b) → ((i a b : ℕ) → s .graph i .reach a b ≡ s′ .graph i .reach a b) → s ≡ s′
+pub alike : (s s′ : Facts) → ((t : ℕ) → s .rep t ≡ s′ .rep t) → s .links ≡ s′ .links → ((i a b : ℕ) → s .graph i .link a b ≡ s′ .graph i .link a b) →
+    ((i a b : ℕ) → s .graph i .reach a b ≡ s′ .graph i .reach a b) → s ≡ s′
 alike s s′ e k f g = λ i. made (fun-ext e i) (k i) (fun-ext (λ j. fun-ext (λ a. fun-ext (f j a))) i) (fun-ext (λ j. fun-ext (λ a. fun-ext (g j a))) i)
 
 -- tests that pass alike are equal
@@ -129,18 +132,23 @@ test-same true c f g = sym (f refl)
 test-same false c f g = sym (not-of (λ e. true-false (g e) refl))
 
 -- a relation that is just R read through one map is one that is just R read through another that does the same
-relation-within : (f g : ℕ → ℕ) → ((x : ℕ) → f x ≡ g x) → (R R₁ R₂ : ℕ → ℕ → Bool) → ((a b : ℕ) → R₁ a b ≡ true → Mapped f R a b) → ((a b : ℕ) → R a b ≡ true → R₂ (g a) (g b) ≡ true) → (a b : ℕ) → R₁ a b ≡ true → R₂ a b ≡ true
+relation-within : (f g : ℕ → ℕ) → ((x : ℕ) → f x ≡ g x) → (R R₁ R₂ : ℕ → ℕ → Bool) → ((a b : ℕ) → R₁ a b ≡ true → Mapped f R a b) →
+    ((a b : ℕ) → R a b ≡ true → R₂ (g a) (g b) ≡ true) → (a b : ℕ) → R₁ a b ≡ true → R₂ a b ≡ true
 relation-within f g e R R₁ R₂ from held a b h =
     let m = from a b h in
     subst (λ (x : ℕ). R₂ x b ≡ true) (sym (e (m .0)) ∙ m .3) (subst (λ (y : ℕ). R₂ (g (m .0)) y ≡ true) (sym (e (m .1)) ∙ m .4) (held (m .0) (m .1) (m .2)))
 
 -- two relations that are just R, read through maps that do the same, are one
-relation-same : (f g : ℕ → ℕ) → ((x : ℕ) → f x ≡ g x) → (R R₁ R₂ : ℕ → ℕ → Bool) → ((a b : ℕ) → R₁ a b ≡ true → Mapped f R a b) → ((a b : ℕ) → R a b ≡ true → R₁ (f a) (f b) ≡ true) → ((a b : ℕ) → R₂ a b ≡ true → Mapped g R a b) → ((a b : ℕ) → R a b ≡ true → R₂ (g a) (g b) ≡ true) → (a b : ℕ) → R₁ a b ≡ R₂ a b
+relation-same : (f g : ℕ → ℕ) → ((x : ℕ) → f x ≡ g x) → (R R₁ R₂ : ℕ → ℕ → Bool) → ((a b : ℕ) → R₁ a b ≡ true → Mapped f R a b) →
+    ((a b : ℕ) → R a b ≡ true → R₁ (f a) (f b) ≡ true) → ((a b : ℕ) → R₂ a b ≡ true → Mapped g R a b) →
+    ((a b : ℕ) → R a b ≡ true → R₂ (g a) (g b) ≡ true) → (a b : ℕ) → R₁ a b ≡ R₂ a b
 relation-same f g e R R₁ R₂ from held from′ held′ a b =
     test-same (R₁ a b) (R₂ a b) (relation-within f g e R R₁ R₂ from held′ a b) (relation-within g f (λ x. sym (e x)) R R₂ R₁ from′ held a b)
 
 -- Two quotients of one path that put the same live terms together are the same facts.
-pub quotient-unique : (n : ℕ) {s s₁ s₂ : Facts} (p : Quotient n s s₁) (p′ : Quotient n s s₂) → ((x y : ℕ) → live n s x ≡ true → live n s y ≡ true → p .class x ≡ p .class y → p′ .class x ≡ p′ .class y) → ((x y : ℕ) → live n s x ≡ true → live n s y ≡ true → p′ .class x ≡ p′ .class y → p .class x ≡ p .class y) → s₁ ≡ s₂
+pub quotient-unique : (n : ℕ) {s s₁ s₂ : Facts} (p : Quotient n s s₁) (p′ : Quotient n s s₂) →
+    ((x y : ℕ) → live n s x ≡ true → live n s y ≡ true → p .class x ≡ p .class y → p′ .class x ≡ p′ .class y) →
+    ((x y : ℕ) → live n s x ≡ true → live n s y ≡ true → p′ .class x ≡ p′ .class y → p .class x ≡ p .class y) → s₁ ≡ s₂
 quotient-unique n {s} {s₁} {s₂} p p′ same back =
     alike s₁ s₂
     (λ t. p .rep-class t ∙ e (s .rep t) ∙ sym (p′ .rep-class t))

@@ -40,7 +40,8 @@ module _ (lo hi : ℕ) (apart : lo ≡ hi → ⊥) (test : Bool) (x y : ℕ) (R 
       forth h =
           let m = replaceIn-true lo hi (plus test x y R) a b h in
           ⊎-elim
-          (λ e. or-left _ (subst (λ (u : ℕ). replaceIn lo hi R u b ≡ true) (m .3) (subst (λ (v : ℕ). replaceIn lo hi R (sub lo hi (m .0)) v ≡ true) (m .4) (replaceIn-intro lo hi R apart (m .0) (m .1) e))))
+          (λ e. or-left _ (subst (λ (u : ℕ). replaceIn lo hi R u b ≡ true) (m .3)
+          (subst (λ (v : ℕ). replaceIn lo hi R (sub lo hi (m .0)) v ≡ true) (m .4) (replaceIn-intro lo hi R apart (m .0) (m .1) e))))
           (λ e. plus-one test (sub lo hi x) (sub lo hi y) (replaceIn lo hi R) a b (e .0) (sym (m .3) ∙ ap (sub lo hi) (e .1)) (sym (m .4) ∙ ap (sub lo hi) (e .2)))
           (plus-cases test x y R (m .0) (m .1) (m .2))
 
@@ -73,7 +74,9 @@ module _ (n i : ℕ) (ab : ℕ × ℕ) where
   settle-reach zero s = refl
   settle-reach (suc k) s = rw (settle-step n k (reachTerms i ab s), settle-step n k s, doubled-reach s) (go (λ t. settle-reach k t) (doubled n s) refl)
     where
-      go : ((t : Facts) → settle n k (reachTerms i ab t) .facts ≡ reachTerms i ab (settle n k t .facts)) → (o : Option (ℕ × ℕ)) → doubled n s ≡ o → Option·elim o (reachTerms i ab s) (λ p. settle n k (replace (p .0) (p .1) (reachTerms i ab s)) .facts) ≡ reachTerms i ab (Option·elim o s (λ p. settle n k (replace (p .0) (p .1) s) .facts))
+      go : ((t : Facts) → settle n k (reachTerms i ab t) .facts ≡ reachTerms i ab (settle n k t .facts)) → (o : Option (ℕ × ℕ)) → doubled n s ≡ o →
+          Option·elim o (reachTerms i ab s) (λ p. settle n k (replace (p .0) (p .1) (reachTerms i ab s)) .facts) ≡ reachTerms i ab
+          (Option·elim o s (λ p. settle n k (replace (p .0) (p .1) s) .facts))
       go ih none e = refl
       go ih (some p) e =
           let d = doubled-some n s p e in
@@ -83,7 +86,9 @@ module _ (n i : ℕ) (ab : ℕ × ℕ) where
   join-reach c d s =
       ⊎-elim
       (λ e. rw (join-facts n c d (reachTerms i ab s), join-facts n c d s, eqb-intro {m = c} {n = d} e))
-      (λ e. rw (join-facts n c d (reachTerms i ab s), join-facts n c d s, e .1) (low-high (λ lo hi. settle n n (replace lo hi (reachTerms i ab s)) .facts ≡ reachTerms i ab (settle n n (replace lo hi s) .facts)) c d (step c d (e .0)) (step d c (λ q. e .0 (sym q)))))
+      (λ e. rw (join-facts n c d (reachTerms i ab s), join-facts n c d s, e .1)
+      (low-high (λ lo hi. settle n n (replace lo hi (reachTerms i ab s)) .facts ≡ reachTerms i ab (settle n n (replace lo hi s) .facts)) c d
+      (step c d (e .0)) (step d c (λ q. e .0 (sym q)))))
       (eq-cases c d)
     where
       step : (lo hi : ℕ) → (lo ≡ hi → ⊥) → settle n n (replace lo hi (reachTerms i ab s)) .facts ≡ reachTerms i ab (settle n n (replace lo hi s) .facts)

@@ -7,7 +7,8 @@ use mathlib.Core.Option.{Option, none, some, Option·elim}
 use lib.Dec.{eqb}
 use Rattle.logic.specs.Search.{select}
 use Rattle.logic.specs.Query.{Literal, Query, termCount, literal}
-use Rattle.logic.specs.Facts.{Facts, Joined, live, replace, successors, doubled, unjoined, joinPair, andThen, settle, join, joinEach, addReach, linksOf, reachEach, nilTerms, equalTo, addNilLinks, joinNil, startJoins, start}
+use Rattle.logic.specs.Facts.{Facts, Joined, live, replace, successors, doubled, unjoined, joinPair, andThen, settle, join}
+use Rattle.logic.specs.Facts.{joinEach, addReach, linksOf, reachEach, nilTerms, equalTo, addNilLinks, joinNil, startJoins, start}
 use Rattle.logic.specs.Rules.{Fact, equal, reaches, branch}
 use Rattle.logic.specs.JoinPairs.{Given, fact, nilLinks, taken, Replays, doubles, takes, all-taken, plainGiven, equalGiven, nilGiven, startGiven, replaceEach, withNil}
 use Rattle.theory.proofs.Basics.Search.{map-mem}
@@ -119,7 +120,8 @@ module _ (n : ℕ) (end : Facts) where
       added : Facts
       added = addReach (l .link) (s .rep (l .left)) (s .rep (l .right)) s
 
-      go : (b : Bool) → ((s′ : Facts) → doubled n s′ ≡ none → First s′ (map said rest) (unjoined (reachEach ls s′))) → First s (map said (cond b (l ∷ rest) rest)) (unjoined (reachEach ls (cond b added s)))
+      go : (b : Bool) → ((s′ : Facts) → doubled n s′ ≡ none → First s′ (map said rest) (unjoined (reachEach ls s′))) →
+          First s (map said (cond b (l ∷ rest) rest)) (unjoined (reachEach ls (cond b added s)))
       go true ih = λ given pairs r. takes (said l) d (ih added d given pairs r)
       go false ih = ih s d
 
@@ -220,7 +222,8 @@ pub replaced-branch : (n a b : ℕ) (s : Facts) → branch n s (equal a b) .fact
 unfolding branch
 replaced-branch n a b s = replaced-join n a b s
 
-pub replaced-start : (q : Query) → (before : Pairs) × (behind : Pairs) × (startJoins q .pairs ≡ before ++ behind) × (startJoins q .facts ≡ replaceEach behind (withNil (nilTerms q) (replaceEach before (linksOf q))))
+pub replaced-start : (q : Query) → (before : Pairs) × (behind : Pairs) × (startJoins q .pairs ≡ before ++ behind)
+    × (startJoins q .facts ≡ replaceEach behind (withNil (nilTerms q) (replaceEach before (linksOf q))))
 unfolding startJoins andThen joinNil unjoined withNil
 replaced-start q = go (nilTerms q)
   where

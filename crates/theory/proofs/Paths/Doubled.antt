@@ -72,7 +72,8 @@ module _ (n : ℕ) (s : Facts) where
       record { link = e .0; term = f .0; low = m .1; high = m′ .1; lower = select-ascends (g .link (f .0)) n 1 (ab .0) (ab .1) (l .0) (l .1) }
 
   -- where nothing is found, a term of 1 to n has one successor there by each link
-  pub doubled-none : doubled n s ≡ none → (i a b c : ℕ) → (1 ≤ i) × (i ≤ s .links) → (1 ≤ a) × (a ≤ n) → (1 ≤ b) × (b ≤ n) → (1 ≤ c) × (c ≤ n) → s .graph i .link a b ≡ true → s .graph i .link a c ≡ true → b ≡ c
+  pub doubled-none : doubled n s ≡ none → (i a b c : ℕ) → (1 ≤ i) × (i ≤ s .links) → (1 ≤ a) × (a ≤ n) → (1 ≤ b) × (b ≤ n) → (1 ≤ c) × (c ≤ n) →
+      s .graph i .link a b ≡ true → s .graph i .link a c ≡ true → b ≡ c
   unfolding doubled successors terms linkNumbers
   doubled-none h i a b c ri ra rb rc l l′ =
       let at-term = firstOf-none (λ t. firstOf (twoAt t) (from (s .links) 1)) a h (from-intro n 1 a (ra .0) (omega arith)) in

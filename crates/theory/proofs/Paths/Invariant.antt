@@ -8,7 +8,8 @@ use lib.Dec.{eqb}
 use Rattle.logic.specs.Search.{_and_}
 use Rattle.logic.specs.Query.{Query, termCount}
 use Rattle.logic.specs.Facts.{Facts, live, start}
-use Rattle.logic.specs.Rules.{Rule, REFLEX, TRANS1, TRANS2, FUNC, CYCLE, SCC, TOTAL, SHARE, Triple, triple, Move, move, Fact, equal, returns, round, conditions, alternatives, hasLink, applies, add, branches}
+use Rattle.logic.specs.Rules.{Rule, REFLEX, TRANS1, TRANS2, FUNC, CYCLE, SCC, TOTAL, SHARE, Triple, triple, Move, move}
+use Rattle.logic.specs.Rules.{Fact, equal, returns, round, conditions, alternatives, hasLink, applies, add, branches}
 use Rattle.theory.proofs.Basics.Search.{and-left, and-right, map-mem}
 use Rattle.theory.proofs.Paths.Ranged.{InRange, Ranged, live-range}
 use Rattle.theory.proofs.Paths.Kept.{Sane, LiveFact, add-kept}
@@ -39,7 +40,8 @@ module _ (n : ℕ) (s : Facts) (r : Ranged n s) where
   abbrev Reach : ℕ → ℕ → ℕ → Bool
   Reach i = s .graph i .reach
 
-  at-link : (i : ℕ) → InRange (s .links) i → (k : Rule) (t : Triple) → conditions n (live n s) (s .graph) (move i k t) ≡ true → (c : Fact) → List·Memᴰ c (alternatives n (s .graph) (move i k t)) → LiveFact n s c
+  at-link : (i : ℕ) → InRange (s .links) i → (k : Rule) (t : Triple) → conditions n (live n s) (s .graph) (move i k t) ≡ true → (c : Fact) →
+      List·Memᴰ c (alternatives n (s .graph) (move i k t)) → LiveFact n s c
   unfolding conditions alternatives LiveFact
   at-link i w REFLEX (triple x y z) h c =
       let l = and-left (live n s x) (eqb y 0) (and-left (live n s x and eqb y 0) (eqb z 0) h) in

@@ -24,7 +24,8 @@ join-facts n a b s = go (eqb a b)
     go true = refl
     go false = refl
 
-pub joinEach-step : (n : ℕ) (l : Literal) (ls : List Literal) (s : Facts) → joinEach n (l ∷ ls) s .facts ≡ joinEach n ls (cond (l .plain) (join n (s .rep (l .left)) (s .rep (l .right)) s .facts) s) .facts
+pub joinEach-step : (n : ℕ) (l : Literal) (ls : List Literal) (s : Facts) →
+    joinEach n (l ∷ ls) s .facts ≡ joinEach n ls (cond (l .plain) (join n (s .rep (l .left)) (s .rep (l .right)) s .facts) s) .facts
 unfolding joinEach andThen unjoined
 joinEach-step n l ls s = go (l .plain) (join n (s .rep (l .left)) (s .rep (l .right)) s)
   where

@@ -47,7 +47,8 @@ low-high P a b p p′ =
 module _ (n a b : ℕ) (s : Facts) (la : live n s a ≡ true) (lb : live n s b ≡ true) where
   -- a join of two different live terms: a replacement, and then settling
   abbrev Replaced : ℕ → ℕ → Type 0
-  Replaced lo hi = Ranged n s → Kept n s (settle n n (replace lo hi s) .facts) × ((t u : ℕ) → s .rep t ≡ a → s .rep u ≡ b → settle n n (replace lo hi s) .facts .rep t ≡ settle n n (replace lo hi s) .facts .rep u)
+  Replaced lo hi = Ranged n s → Kept n s (settle n n (replace lo hi s) .facts)
+      × ((t u : ℕ) → s .rep t ≡ a → s .rep u ≡ b → settle n n (replace lo hi s) .facts .rep t ≡ settle n n (replace lo hi s) .facts .rep u)
 
   -- a and b become one term where one replaces the other
   sub-both : (lo hi : ℕ) → (lo ≡ hi → ⊥) → ((a ≡ lo) × (b ≡ hi)) ⊎ ((a ≡ hi) × (b ≡ lo)) → sub lo hi a ≡ sub lo hi b

@@ -81,7 +81,8 @@ module _ (n lo hi : ℕ) (s : Facts) (llo : live n s lo ≡ true) (lhi : live n 
           (eq-cases (s .rep t) hi)
 
   -- the two terms of a replaced fact are live
-  replaced-live : (R : ℕ → ℕ → Bool) → ((a b : ℕ) → R a b ≡ true → (live n s a ≡ true) × (live n s b ≡ true)) → (a b : ℕ) → replaceIn lo hi R a b ≡ true → (live n (replace lo hi s) a ≡ true) × (live n (replace lo hi s) b ≡ true)
+  replaced-live : (R : ℕ → ℕ → Bool) → ((a b : ℕ) → R a b ≡ true → (live n s a ≡ true) × (live n s b ≡ true)) → (a b : ℕ) →
+      replaceIn lo hi R a b ≡ true → (live n (replace lo hi s) a ≡ true) × (live n (replace lo hi s) b ≡ true)
   replaced-live R r a b h =
       let p = replaceIn-true lo hi R a b h in
       let l = r (p .0) (p .1) (p .2) in (
@@ -101,7 +102,9 @@ module _ (n lo hi : ℕ) (s : Facts) (llo : live n s lo ≡ true) (lhi : live n 
       }
 
 -- a relation with one more pair of live terms, where a test passes
-plus-live : (n a b : ℕ) (s : Facts) (R : ℕ → ℕ → Bool) (test : Bool) → live n s a ≡ true → live n s b ≡ true → ((x y : ℕ) → R x y ≡ true → (live n s x ≡ true) × (live n s y ≡ true)) → (x y : ℕ) → R x y or (test and eqb x a and eqb y b) ≡ true → (live n s x ≡ true) × (live n s y ≡ true)
+plus-live : (n a b : ℕ) (s : Facts) (R : ℕ → ℕ → Bool) (test : Bool) → live n s a ≡ true → live n s b ≡ true →
+    ((x y : ℕ) → R x y ≡ true → (live n s x ≡ true) × (live n s y ≡ true)) → (x y : ℕ) → R x y or (test and eqb x a and eqb y b) ≡ true →
+    (live n s x ≡ true) × (live n s y ≡ true)
 plus-live n a b s R test la lb r x y h =
     ⊎-elim (r x y)
     (λ e. (

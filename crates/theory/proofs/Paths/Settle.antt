@@ -43,7 +43,8 @@ module _ (n : ℕ) where
   settle-keeps P keep zero s h = h
   settle-keeps P keep (suc k) s h = rw (settle-step n k s) (go (doubled n s) refl (λ ab e. settle-keeps P keep k (replace (ab .0) (ab .1) s) (keep s ab h e)))
     where
-      go : (o : Option (ℕ × ℕ)) → doubled n s ≡ o → ((ab : ℕ × ℕ) → doubled n s ≡ some ab → P (settle n k (replace (ab .0) (ab .1) s) .facts)) → P (Option·elim o s (λ ab. settle n k (replace (ab .0) (ab .1) s) .facts))
+      go : (o : Option (ℕ × ℕ)) → doubled n s ≡ o → ((ab : ℕ × ℕ) → doubled n s ≡ some ab → P (settle n k (replace (ab .0) (ab .1) s) .facts)) →
+          P (Option·elim o s (λ ab. settle n k (replace (ab .0) (ab .1) s) .facts))
       go none e ih = h
       go (some ab) e ih = ih ab e
 
@@ -78,11 +79,15 @@ module _ (n : ℕ) where
           absurd (omega arith)
   settle-done (suc k) s r l = rw (settle-step n k s) (go (doubled n s) refl (λ ab e. step ab (doubled-live s ab r e) (λ r′ l′. settle-done k (replace (ab .0) (ab .1) s) r′ l′)))
     where
-      step : (ab : ℕ × ℕ) → (live n s (ab .0) ≡ true) × (live n s (ab .1) ≡ true) × (ab .0 ≡ ab .1 → ⊥) → (Ranged n (replace (ab .0) (ab .1) s) → liveCount (replace (ab .0) (ab .1) s) ≤ k → doubled n (settle n k (replace (ab .0) (ab .1) s) .facts) ≡ none) → doubled n (settle n k (replace (ab .0) (ab .1) s) .facts) ≡ none
+      step : (ab : ℕ × ℕ) → (live n s (ab .0) ≡ true) × (live n s (ab .1) ≡ true) × (ab .0 ≡ ab .1 → ⊥) →
+          (Ranged n (replace (ab .0) (ab .1) s) → liveCount (replace (ab .0) (ab .1) s) ≤ k →
+          doubled n (settle n k (replace (ab .0) (ab .1) s) .facts) ≡ none) → doubled n (settle n k (replace (ab .0) (ab .1) s) .facts) ≡ none
       step ab d ih =
           let lt = liveCount-replace (ab .0) (ab .1) s (d .0) (d .1) (d .2) in
           ih (ranged-replace n (ab .0) (ab .1) s (d .0) (d .1) (d .2) r) (omega arith)
 
-      go : (o : Option (ℕ × ℕ)) → doubled n s ≡ o → ((ab : ℕ × ℕ) → doubled n s ≡ some ab → doubled n (settle n k (replace (ab .0) (ab .1) s) .facts) ≡ none) → doubled n (Option·elim o s (λ ab. settle n k (replace (ab .0) (ab .1) s) .facts)) ≡ none
+      go : (o : Option (ℕ × ℕ)) → doubled n s ≡ o →
+          ((ab : ℕ × ℕ) → doubled n s ≡ some ab → doubled n (settle n k (replace (ab .0) (ab .1) s) .facts) ≡ none) →
+          doubled n (Option·elim o s (λ ab. settle n k (replace (ab .0) (ab .1) s) .facts)) ≡ none
       go none e ih = e
       go (some ab) e ih = ih ab e

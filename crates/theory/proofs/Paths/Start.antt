@@ -70,7 +70,8 @@ module _ (n links : ℕ) (Fit : Literal → Type 0) (op : Literal → Facts → 
         go true = (t .kept l s r k h, λ e. t .made l s r h)
         go false = (kept-refl h, λ e. absurd (false≢true e))
 
-    pub takeEach-kept : (ls : List Literal) (s : Facts) → ((l : Literal) → List·Memᴰ l ls → Fit l) → s .links ≡ links → Sane n s → Kept n s (takeEach op ls s) × ((l : Literal) → List·Memᴰ l ls → l .plain ≡ true → Held l (takeEach op ls s))
+    pub takeEach-kept : (ls : List Literal) (s : Facts) → ((l : Literal) → List·Memᴰ l ls → Fit l) → s .links ≡ links → Sane n s →
+        Kept n s (takeEach op ls s) × ((l : Literal) → List·Memᴰ l ls → l .plain ≡ true → Held l (takeEach op ls s))
     unfolding takeEach
     takeEach-kept [] s r k h = (kept-refl h, λ l m. absurd (List·Memᴰ·not-nil m))
     takeEach-kept (l ∷ ls) s r e h =
@@ -107,7 +108,8 @@ joinLiteral-takes n links =
       stays = λ l s s′ e p. rep-same e (l .left) (l .right) p;
     }
   where
-    joins : (l : Literal) (s : Facts) → InRange n (l .left) × InRange n (l .right) → Sane n s → Kept n s (joinLiteral n l s) × ((t u : ℕ) → s .rep t ≡ s .rep (l .left) → s .rep u ≡ s .rep (l .right) → joinLiteral n l s .rep t ≡ joinLiteral n l s .rep u)
+    joins : (l : Literal) (s : Facts) → InRange n (l .left) × InRange n (l .right) → Sane n s → Kept n s (joinLiteral n l s)
+        × ((t u : ℕ) → s .rep t ≡ s .rep (l .left) → s .rep u ≡ s .rep (l .right) → joinLiteral n l s .rep t ≡ joinLiteral n l s .rep u)
     joins l s r h = join-kept n (s .rep (l .left)) (s .rep (l .right)) s (h .ranged .rep-live (l .left) (r .0)) (h .ranged .rep-live (l .right) (r .1)) h
 
 -- a plain reachability literal adds its fact
@@ -142,7 +144,8 @@ joinEach-is n [] s = refl
 joinEach-is n (l ∷ ls) s = joinEach-step n l ls s ∙ joinEach-is n ls _
 
 -- joining plain equalities keeps, and makes them held
-pub joinEach-kept : (n : ℕ) (ls : List Literal) (s : Facts) → ((l : Literal) → List·Memᴰ l ls → InRange n (l .left) × InRange n (l .right)) → Sane n s → Kept n s (joinEach n ls s .facts) × ((l : Literal) → List·Memᴰ l ls → l .plain ≡ true → EqualHeld l (joinEach n ls s .facts))
+pub joinEach-kept : (n : ℕ) (ls : List Literal) (s : Facts) → ((l : Literal) → List·Memᴰ l ls → InRange n (l .left) × InRange n (l .right)) →
+    Sane n s → Kept n s (joinEach n ls s .facts) × ((l : Literal) → List·Memᴰ l ls → l .plain ≡ true → EqualHeld l (joinEach n ls s .facts))
 joinEach-kept n ls s r h = rw (joinEach-is n ls s) (takeEach-kept n (s .links) (InTerms n) (joinLiteral n) EqualHeld (joinLiteral-takes n (s .links)) ls s r refl h)
 
 reachEach-is : (ls : List Literal) (s : Facts) → reachEach ls s ≡ takeEach reachLiteral ls s
@@ -174,7 +177,8 @@ module _ (n : ℕ) where
   equalTo-intro t us u m = map-intro (λ u. literal true t u) u m
 
   -- the first of the terms is as good as each
-  first-held : (t : ℕ) (us : List ℕ) (s : Facts) → ((u : ℕ) → List·Memᴰ u us → s .rep t ≡ s .rep u) → ((i : ℕ) → InRange (s .links) i → s .graph i .link (s .rep t) (s .rep t) ≡ true) → NilHeld (t ∷ us) s
+  first-held : (t : ℕ) (us : List ℕ) (s : Facts) → ((u : ℕ) → List·Memᴰ u us → s .rep t ≡ s .rep u) →
+      ((i : ℕ) → InRange (s .links) i → s .graph i .link (s .rep t) (s .rep t) ≡ true) → NilHeld (t ∷ us) s
   first-held t us s same linked =
       let each : (u : ℕ) → List·Memᴰ u (t ∷ us) → s .rep t ≡ s .rep u = λ u m. ⊎-elim (λ e. ap (s .rep) (sym e)) (same u) (List·Memᴰ·cases-cons m) in
       record {
@@ -254,7 +258,8 @@ module _ (q : Query) (acc : Accepted q) where
   unfolding start startJoins andThen
   reached-kept =
       rw (reachEach-is (q .reachability) joined)
-      (takeEach-kept count (q .links) (InBoth count (q .links)) reachLiteral ReachHeld (reachLiteral-takes count (q .links)) (q .reachability) joined (λ l m. (acc .reach-terms l m, acc .reach-linked l m)) joined-links (joined-kept .0 .sane))
+      (takeEach-kept count (q .links) (InBoth count (q .links)) reachLiteral ReachHeld (reachLiteral-takes count (q .links)) (q .reachability) joined
+      (λ l m. (acc .reach-terms l m, acc .reach-linked l m)) joined-links (joined-kept .0 .sane))
 
   nil-held-kept : Kept count nilled (start q)
   nil-held-kept = kept-trans (joined-kept .0) (reached-kept .0)

@@ -11,11 +11,15 @@ use lib.ListN.{length, getD}
 use lib.Dec.{eqb, ltb, leb}
 use borrow.Author.Tests.{ltb-true, leb-true, eq-eqb}
 use Rattle.logic.specs.Search.{_and_, _or_, from, at}
-use Rattle.logic.specs.Query.{Literal, oneLink, entryOf, namesNil, argumentOf, linkOf, termCount, Role, Section, Form, entryRole, signRole, termRole, numberRole, fourSections, booleanSection, fiveSections, sections, Layout, faulty, parts, rolesOf, firstByte, layoutBy, layoutOf, faultIn, layoutFault, byteFault, literals, section, queryOf, decode}
+use Rattle.logic.specs.Query.{Literal, oneLink, entryOf, namesNil, argumentOf, linkOf, termCount, Role, Section, Form, entryRole, signRole}
+use Rattle.logic.specs.Query.{termRole, numberRole, fourSections, booleanSection, fiveSections, sections, Layout, faulty, parts, rolesOf}
+use Rattle.logic.specs.Query.{firstByte, layoutBy, layoutOf, faultIn, layoutFault, byteFault, literals, section, queryOf, decode}
 use Rattle.logic.specs.Calls.{Input, Check, layoutCheck, byteCheck, formChecks, queryChecks, refused, refusalOf, accepts, acceptsBy}
 use Rattle.theory.proofs.Basics.Search.{true-false, and-left, and-right, or-cases, not-true, none-some, keep-none, isSome-false, firstOf-none, from-mem, from-intro, map-mem, map-intro, at-left}
 use Rattle.theory.proofs.Query.Tied.{InTerms, ToEight, Accepted}
-use Rattle.theory.proofs.Query.Bytes.{Allows, faultless-allowed, Regular, Part, part-at, first-sized, layoutNumbers, LayoutNumber, Excesses, three-number, retired-number, Numbered, layout-numbered, entry-allowed, literals-link, literals-allowed}
+use Rattle.theory.proofs.Query.Bytes.{Allows, faultless-allowed, Regular, Part, part-at, first-sized}
+use Rattle.theory.proofs.Query.Bytes.{layoutNumbers, LayoutNumber, Excesses, three-number, retired-number}
+use Rattle.theory.proofs.Query.Bytes.{Numbered, layout-numbered, entry-allowed, literals-link, literals-allowed}
 
 -- The checks of a form of query
 
@@ -33,7 +37,8 @@ unfolding formChecks layoutNumbers from
 byte-own form k l u = Memᴰ·append-right (map (layoutCheck form) layoutNumbers) (map-intro (byteCheck form) k (from-intro 4 5 k l (omega arith)))
 
 -- what holds of each kind of check holds of every check of a form
-pub form-elim : (form : Form) (P : Check → Type 0) → ((k : ℕ) → LayoutNumber k → P (layoutCheck form k)) → ((k : ℕ) → 5 ≤ k → k ≤ 8 → P (byteCheck form k)) → (c : Check) → List·Memᴰ c (formChecks form) → P c
+pub form-elim : (form : Form) (P : Check → Type 0) → ((k : ℕ) → LayoutNumber k → P (layoutCheck form k)) →
+    ((k : ℕ) → 5 ≤ k → k ≤ 8 → P (byteCheck form k)) → (c : Check) → List·Memᴰ c (formChecks form) → P c
 unfolding formChecks layoutNumbers from
 form-elim form P l b c m = ⊎-elim layouts bytes (List·Memᴰ·append-cases (map (layoutCheck form) layoutNumbers) m)
   where
@@ -63,7 +68,8 @@ query-passes bytes passes =
     (λ c m. unmet (c .number) _ (firstOf-none _ c (isSome-false _ (not-true passes)) m))
 
 -- where the walk from the front meets no refusal, there are parts
-pub laid-out : (form : Form) (bytes : List ℕ) → Excesses (form (firstByte bytes)) → ((k : ℕ) → LayoutNumber k → layoutFault form k bytes ≡ none) → (ps : List (List ℕ)) × (layoutBy form bytes ≡ parts ps)
+pub laid-out : (form : Form) (bytes : List ℕ) → Excesses (form (firstByte bytes)) → ((k : ℕ) → LayoutNumber k → layoutFault form k bytes ≡ none) →
+    (ps : List (List ℕ)) × (layoutBy form bytes ≡ parts ps)
 unfolding layoutFault layoutBy faultIn
 laid-out form bytes excesses passed = at-layout (layoutBy form bytes) refl (layout-numbered (form (firstByte bytes)) 0 bytes excesses)
   where
@@ -124,10 +130,14 @@ module _ (n : ℕ) (ps : List (List ℕ)) (count : length (section ps 0) ≡ n) 
           let sized = p .sized in
           omega (arith, entry-allows (1 + t) (getD (section ps 0) t 0) (omega arith) (entry-allowed entryRole (p .count) 1 (section ps 0) (p .allowed) t (omega arith) u))
 
-      literals-of : (left right : Role) (i : ℕ) → at (fourSections n) (suc i) ≡ some (record { limit = 60; excess = 3; width = 3; roles = λ j. signRole ∷ left ∷ right ∷ [] }) → (l : Literal) → List·Memᴰ l (literals (section ps i)) → Allows left (l .left) × Allows right (l .right)
+      literals-of : (left right : Role) (i : ℕ) → at (fourSections n) (suc i) ≡ some
+          (record { limit = 60; excess = 3; width = 3; roles = λ j. signRole ∷ left ∷ right ∷ [] }) → (l : Literal) →
+          List·Memᴰ l (literals (section ps i)) → Allows left (l .left) × Allows right (l .right)
       literals-of left right i e = let p = part i _ e in literals-allowed signRole left right (p .count) 1 (section ps i) (p .sized) (p .allowed)
 
-      terms-of : (i : ℕ) → at (fourSections n) (suc i) ≡ some (record { limit = 60; excess = 3; width = 3; roles = λ j. signRole ∷ termRole n ∷ termRole n ∷ [] }) → (l : Literal) → List·Memᴰ l (literals (section ps i)) → InTerms (queryOf (parts ps)) (l .left) × InTerms (queryOf (parts ps)) (l .right)
+      terms-of : (i : ℕ) → at (fourSections n) (suc i) ≡ some
+          (record { limit = 60; excess = 3; width = 3; roles = λ j. signRole ∷ termRole n ∷ termRole n ∷ [] }) → (l : Literal) →
+          List·Memᴰ l (literals (section ps i)) → InTerms (queryOf (parts ps)) (l .left) × InTerms (queryOf (parts ps)) (l .right)
       terms-of i e l m = let a = literals-of (termRole n) (termRole n) i e l m in (in-terms (l .left) (a .0), in-terms (l .right) (a .1))
 
 -- A form whose first four sections are these

@@ -139,7 +139,9 @@ pub record Part (s : Section) (bytes : List ℕ) : Type 0 where
   pub allowed : Allowed (flatMap (s .roles) (from count 1)) bytes
 
 -- a section that was passed leaves its part, and the bytes behind it are allowed by the roles of the other sections
-passed-part : (s : Section) (ss : List Section) (c : ℕ) (more : List ℕ) (ps : List (List ℕ)) → ((i : ℕ) → length (s .roles i) ≡ s .width) → Passed s ss c more ps → Allowed (rolesOf (s ∷ ss) (c ∷ more)) (c ∷ more) → Part s (take (c * s .width) more) × Allowed (rolesOf ss (drop (c * s .width) more)) (drop (c * s .width) more)
+passed-part : (s : Section) (ss : List Section) (c : ℕ) (more : List ℕ) (ps : List (List ℕ)) → ((i : ℕ) → length (s .roles i) ≡ s .width) →
+    Passed s ss c more ps → Allowed (rolesOf (s ∷ ss) (c ∷ more)) (c ∷ more) → Part s (take (c * s .width) more)
+    × Allowed (rolesOf ss (drop (c * s .width) more)) (drop (c * s .width) more)
 unfolding rolesOf
 passed-part s ss c more ps regular p h =
     (record { count = c; within = p .within; sized = sized; allowed = split .0 }, split .1)
@@ -159,7 +161,8 @@ passed-part s ss c more ps regular p h =
         (rw (take-append-drop size more) (h .1))
 
 -- each section of bytes that are laid out and allowed has its part, at its own place
-pub part-at : (ss : List Section) (place : ℕ) (bytes : List ℕ) (ps : List (List ℕ)) → Regular ss → layout ss place bytes ≡ parts ps → Allowed (rolesOf ss bytes) bytes → (i : ℕ) (s : Section) → at ss (suc i) ≡ some s → Part s (section ps i)
+pub part-at : (ss : List Section) (place : ℕ) (bytes : List ℕ) (ps : List (List ℕ)) → Regular ss → layout ss place bytes ≡ parts ps →
+    Allowed (rolesOf ss bytes) bytes → (i : ℕ) (s : Section) → at ss (suc i) ≡ some s → Part s (section ps i)
 unfolding layout at section
 part-at [] place bytes ps r l h i s e = absurd (none-some e)
 part-at (s₁ ∷ ss) place [] ps r l h i s e = absurd (faulty-parts l)
@@ -261,7 +264,8 @@ literals-link (s ∷ []) l m = absurd (List·Memᴰ·not-nil m)
 literals-link (s ∷ a ∷ []) l m = absurd (List·Memᴰ·not-nil m)
 literals-link (s ∷ a ∷ b ∷ rest) l m = ⊎-elim (λ e. ap (λ (k : Literal). k .link) e) (literals-link rest l) (List·Memᴰ·cases-cons m)
 
-pub literals-allowed : (sign left right : Role) (c i : ℕ) (bytes : List ℕ) → length bytes ≡ c * 3 → Allowed (flatMap (λ j. sign ∷ left ∷ right ∷ []) (from c i)) bytes → (l : Literal) → List·Memᴰ l (literals bytes) → Allows left (l .left) × Allows right (l .right)
+pub literals-allowed : (sign left right : Role) (c i : ℕ) (bytes : List ℕ) → length bytes ≡ c * 3 →
+    Allowed (flatMap (λ j. sign ∷ left ∷ right ∷ []) (from c i)) bytes → (l : Literal) → List·Memᴰ l (literals bytes) → Allows left (l .left) × Allows right (l .right)
 unfolding flatMap from literals
 literals-allowed sign left right zero i [] e h l m = absurd (List·Memᴰ·not-nil m)
 literals-allowed sign left right zero i (s ∷ bytes) e h l m = absurd (omega arith)

@@ -11,7 +11,8 @@ use lib.ListN.{length, take, drop, length-drop}
 use lib.Dec.{eqb, leb}
 use borrow.Author.Tests.{leb-true, leb-false}
 use Rattle.logic.specs.Search.{_and_, keep}
-use Rattle.logic.specs.Query.{Role, Section, Form, fourSections, booleanSection, fiveSections, sections, Layout, faulty, parts, withPart, layout, firstByte, layoutBy, faultIn, layoutFault, roleFault, byteFault}
+use Rattle.logic.specs.Query.{Role, Section, Form, fourSections, booleanSection, fiveSections, sections, Layout, faulty}
+use Rattle.logic.specs.Query.{parts, withPart, layout, firstByte, layoutBy, faultIn, layoutFault, roleFault, byteFault}
 use Rattle.theory.proofs.Basics.Search.{none-some, keep-some, orElse-cases}
 use Rattle.theory.proofs.Query.Bytes.{cond-elim, LayoutNumber, Excesses}
 use Rattle.theory.proofs.Query.AcceptedBytes.{laid-out, sections-excesses}
@@ -31,7 +32,8 @@ abbrev Bounded : List Section → ℕ → List ℕ → Layout → Type 0
 Bounded ss place bytes (faulty k p) = (p ≤ place + length bytes) × (p ≤ place + most ss)
 Bounded ss place bytes (parts ps) = length bytes ≤ most ss
 
-withPart-bounded : (s : Section) (ss : List Section) (place c : ℕ) (more : List ℕ) → c * s .width ≤ s .limit * s .width → c * s .width ≤ length more → (l : Layout) → Bounded ss (suc place + c * s .width) (drop (c * s .width) more) l → Bounded (s ∷ ss) place (c ∷ more) (withPart (take (c * s .width) more) l)
+withPart-bounded : (s : Section) (ss : List Section) (place c : ℕ) (more : List ℕ) → c * s .width ≤ s .limit * s .width → c * s .width ≤ length more →
+    (l : Layout) → Bounded ss (suc place + c * s .width) (drop (c * s .width) more) l → Bounded (s ∷ ss) place (c ∷ more) (withPart (take (c * s .width) more) l)
 unfolding withPart most
 withPart-bounded s ss place c more small fits (faulty k p) h = (omega (arith, h .0, length-drop (c * s .width) more), omega (arith, h .1))
 withPart-bounded s ss place c more small fits (parts ps) h = omega (arith, h, length-drop (c * s .width) more)

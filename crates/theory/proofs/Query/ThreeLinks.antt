@@ -10,12 +10,15 @@ use mathlib.Core.Option.{none, some}
 use lib.ListN.{length, getD}
 use lib.Dec.{eqb, ltb, leb}
 use Rattle.logic.specs.Search.{_or_, from, at, keep, orElse, flatMap}
-use Rattle.logic.specs.Query.{Literal, Entries, entryOf, namesNil, argumentOf, linkOf, termCount, Role, Section, entryRole, signRole, termRole, numberRole, countRole, booleanSection, Layout, faulty, parts, rolesOf, firstByte, layoutBy, layoutFault, byteFault, literals, section}
+use Rattle.logic.specs.Query.{Literal, Entries, entryOf, namesNil, argumentOf, linkOf, termCount, Role, Section}
+use Rattle.logic.specs.Query.{entryRole, signRole, termRole, numberRole, countRole, booleanSection, Layout, faulty}
+use Rattle.logic.specs.Query.{parts, rolesOf, firstByte, layoutBy, layoutFault, byteFault, literals, section}
 use Rattle.logic.specs.ThreeLinks.{linkSections, isLink, mayPrecede, entryLinkFault, reachLinkFault, linkFault, firsts, seconds, linkedLiterals, linkedQuery, decodeLinks}
 use Rattle.theory.proofs.Basics.Search.{bool-cases, true-false, and-left, and-right, none-some, orElse-none, orElse-cases, keep-none, keep-some}
 use Rattle.theory.proofs.Basics.Compare.{ltb-true, leb-true, eq-cases}
 use Rattle.theory.proofs.Query.Tied.{InTerms, Accepted}
-use Rattle.theory.proofs.Query.Bytes.{Allows, Allowed, Regular, Part, part-at, first-sized, faultless-allowed, LayoutNumber, Excesses, three-number, retired-number, literals-allowed, total, laid-length}
+use Rattle.theory.proofs.Query.Bytes.{Allows, Allowed, Regular, Part, part-at, first-sized, faultless-allowed, LayoutNumber}
+use Rattle.theory.proofs.Query.Bytes.{Excesses, three-number, retired-number, literals-allowed, total, laid-length}
 use Rattle.theory.proofs.Query.AcceptedBytes.{laid-out, entry-allows, term-allows, number-allows}
 use Rattle.theory.proofs.Query.Places.{most, laid-short}
 
@@ -38,7 +41,8 @@ seconds-length (suc c) (a ∷ []) e = absurd (omega arith)
 seconds-length (suc c) (a ∷ b ∷ rest) e = ap suc (seconds-length c rest (omega arith))
 
 -- the second byte of entry t of a section of two bytes an entry
-second-allowed : (free : Role) (role : ℕ → Role) (c i : ℕ) (bytes : List ℕ) → length bytes ≡ c * 2 → Allowed (flatMap (λ j. free ∷ role j ∷ []) (from c i)) bytes → (t : ℕ) → t < c → Allows (role (i + t)) (getD (seconds bytes) t 0)
+second-allowed : (free : Role) (role : ℕ → Role) (c i : ℕ) (bytes : List ℕ) → length bytes ≡ c * 2 →
+    Allowed (flatMap (λ j. free ∷ role j ∷ []) (from c i)) bytes → (t : ℕ) → t < c → Allows (role (i + t)) (getD (seconds bytes) t 0)
 unfolding flatMap from seconds
 second-allowed free role zero i bytes e h t l = absurd (omega arith)
 second-allowed free role (suc c) i [] e h t l = absurd (omega arith)
@@ -73,7 +77,9 @@ precedes-term l b h one no-nil =
 
 -- Literals of four bytes
 
-linked-allowed : (sign free left right : Role) (c i : ℕ) (bytes : List ℕ) → length bytes ≡ c * 4 → Allowed (flatMap (λ j. sign ∷ free ∷ left ∷ right ∷ []) (from c i)) bytes → (l : Literal) → List·Memᴰ l (linkedLiterals bytes) → Allows left (l .left) × Allows right (l .right)
+linked-allowed : (sign free left right : Role) (c i : ℕ) (bytes : List ℕ) → length bytes ≡ c * 4 →
+    Allowed (flatMap (λ j. sign ∷ free ∷ left ∷ right ∷ []) (from c i)) bytes → (l : Literal) → List·Memᴰ l (linkedLiterals bytes) → Allows left (l .left)
+    × Allows right (l .right)
 unfolding flatMap from linkedLiterals
 linked-allowed sign free left right zero i [] e h l m = absurd (List·Memᴰ·not-nil m)
 linked-allowed sign free left right zero i (s ∷ bytes) e h l m = absurd (omega arith)
@@ -113,7 +119,8 @@ pub link-most : (n : ℕ) → most (linkSections n) ≡ 637
 unfolding most linkSections booleanSection
 link-most n = refl
 
-module _ (n : ℕ) (ps : List (List ℕ)) (count : length (section ps 0) ≡ n * 2) (part : (i : ℕ) (s : Section) → at (linkSections n) (suc i) ≡ some s → Part s (section ps i)) (linked : linkFault (parts ps) ≡ none) where
+module _ (n : ℕ) (ps : List (List ℕ)) (count : length (section ps 0) ≡ n * 2)
+    (part : (i : ℕ) (s : Section) → at (linkSections n) (suc i) ≡ some s → Part s (section ps i)) (linked : linkFault (parts ps) ≡ none) where
   terms-counted : length (seconds (section ps 0)) ≡ n
   terms-counted = seconds-length n (section ps 0) count
 
@@ -149,7 +156,11 @@ module _ (n : ℕ) (ps : List (List ℕ)) (count : length (section ps 0) ≡ n *
       entry-of zero l u = absurd (omega arith)
       entry-of (suc t) l u =
           let p = part 0 _ refl in
-          omega (arith, entry-allows (1 + t) (getD (seconds (section ps 0)) t 0) (omega arith) (second-allowed countRole entryRole (p .count) 1 (section ps 0) (p .sized) (p .allowed) t (omega (arith, u, p .sized, count, terms-counted))))
+          omega (
+            arith,
+            entry-allows (1 + t) (getD (seconds (section ps 0)) t 0) (omega arith)
+                (second-allowed countRole entryRole (p .count) 1 (section ps 0) (p .sized) (p .allowed) t (omega (arith, u, p .sized, count, terms-counted))),
+          )
 
       entry-link : (t : ℕ) → 1 ≤ t → t ≤ length (seconds (section ps 0)) → 1 ≤ argumentOf entries t → (1 ≤ linkOf entries t) × (linkOf entries t ≤ 3)
       entry-link zero l u one = absurd (omega arith)
@@ -159,11 +170,14 @@ module _ (n : ℕ) (ps : List (List ℕ)) (count : length (section ps 0) ≡ n *
           let fits = entry-precedes 1 n (section ps 0) count (both-free .0) t (omega (arith, u, terms-counted)) in
           rw e (named b (eqb b 255) refl one fits)
         where
-          named : (b : ℕ) (c : Bool) → eqb b 255 ≡ c → 1 ≤ cond c 0 b → mayPrecede (getD (firsts (section ps 0)) t 1) b ≡ true → (1 ≤ getD (firsts (section ps 0)) t 1) × (getD (firsts (section ps 0)) t 1 ≤ 3)
+          named : (b : ℕ) (c : Bool) → eqb b 255 ≡ c → 1 ≤ cond c 0 b → mayPrecede (getD (firsts (section ps 0)) t 1) b ≡ true →
+              (1 ≤ getD (firsts (section ps 0)) t 1) × (getD (firsts (section ps 0)) t 1 ≤ 3)
           named b true e o f = absurd (omega (arith, o))
           named b false e o f = precedes-term (getD (firsts (section ps 0)) t 1) b f o e
 
-      literals-of : (left right : Role) (i : ℕ) → at (linkSections n) (suc i) ≡ some (record { limit = 60; excess = 3; width = 3; roles = λ j. signRole ∷ left ∷ right ∷ [] }) → (l : Literal) → List·Memᴰ l (literals (section ps i)) → Allows left (l .left) × Allows right (l .right)
+      literals-of : (left right : Role) (i : ℕ) → at (linkSections n) (suc i) ≡ some
+          (record { limit = 60; excess = 3; width = 3; roles = λ j. signRole ∷ left ∷ right ∷ [] }) → (l : Literal) →
+          List·Memᴰ l (literals (section ps i)) → Allows left (l .left) × Allows right (l .right)
       literals-of left right i e = let p = part i _ e in literals-allowed signRole left right (p .count) 1 (section ps i) (p .sized) (p .allowed)
 
 -- bytes at which no check stands

@@ -56,7 +56,8 @@ module _ (q : Query) (ok : Accepted q) (h : Heap) (meets : Meets h q) (s : Facts
       subst₂ (Reaches (h .link (l .link))) (holds .rep-true (l .left) (r .0 .0) .stands) (holds .rep-true (l .right) (r .1 .0) .stands)
       (holds .graph-true (l .link) .reach-true (s .rep (l .left)) (s .rep (l .right)) e .stands)
 
-  field-shown : (j : ℕ) (l : Literal) → List·Memᴰ l (q .fields) → plainAt (q .fields) j (λ m. eqb (l .left) (m .left) and eqb (s .rep (l .right)) (s .rep (m .right))) ≡ true → h .field (l .left) (val (l .right)) ≡ true
+  field-shown : (j : ℕ) (l : Literal) → List·Memᴰ l (q .fields) →
+      plainAt (q .fields) j (λ m. eqb (l .left) (m .left) and eqb (s .rep (l .right)) (s .rep (m .right))) ≡ true → h .field (l .left) (val (l .right)) ≡ true
   field-shown j l m e =
       let p = plain-meant (q .fields) (λ k. h .field (k .left) (val (k .right)) ≡ true) (meets .fields) j _ e in
       let k = p .0 in

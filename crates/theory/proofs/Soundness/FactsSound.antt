@@ -12,7 +12,8 @@ use lib.Dec.{eqb, ltb, leb}
 use Rattle.logic.specs.Search.{_and_}
 use Rattle.logic.specs.Query.{Literal, Query, argumentOf, linkOf, termCount, literal}
 use Rattle.logic.specs.Heap.{Heap, Reaches, Meets, value}
-use Rattle.logic.specs.Facts.{Facts, replaceIn, replace, doubled, unjoined, andThen, settle, join, addReach, linksOf, joinEach, reachEach, nilTerms, addLinks, equalTo, addNilLinks, joinNil, startJoins, start}
+use Rattle.logic.specs.Facts.{Facts, replaceIn, replace, doubled, unjoined, andThen, settle, join, addReach, linksOf}
+use Rattle.logic.specs.Facts.{joinEach, reachEach, nilTerms, addLinks, equalTo, addNilLinks, joinNil, startJoins, start}
 use Rattle.logic.specs.Rules.{Fact, equal, reaches, branch, add}
 use Rattle.theory.proofs.Basics.Search.{and-left, and-right, or-cases, map-mem}
 use Rattle.theory.proofs.Basics.Compare.{eqb-true, ltb-true, eq-cases, le-cases}
@@ -66,7 +67,8 @@ module _ (f : ℕ → ℕ → ℕ) (val : ℕ → ℕ) (n : ℕ) where
       rw (settle-step n k s)
       (go (doubled n s) (λ ab e. holds-settle k (replace (ab .0) (ab .1) s) (holds-replace (ab .0) (ab .1) (doubled-same s h ab e) s h)))
     where
-      go : (o : Option (ℕ × ℕ)) → ((ab : ℕ × ℕ) → o ≡ some ab → Holds f val (settle n k (replace (ab .0) (ab .1) s) .facts)) → Holds f val (Option·elim o s (λ ab. settle n k (replace (ab .0) (ab .1) s) .facts))
+      go : (o : Option (ℕ × ℕ)) → ((ab : ℕ × ℕ) → o ≡ some ab → Holds f val (settle n k (replace (ab .0) (ab .1) s) .facts)) →
+          Holds f val (Option·elim o s (λ ab. settle n k (replace (ab .0) (ab .1) s) .facts))
       go none r = h
       go (some ab) r = r ab refl
 
@@ -137,7 +139,8 @@ module _ (f : ℕ → ℕ → ℕ) (val : ℕ → ℕ) (n : ℕ) where
       (holds-cond (l .plain) (join n (s .rep (l .left)) (s .rep (l .right)) s .facts) s (λ e. holds-join _ _ (rep-between f val s h (p l (List·Memᴰ·head refl) e)) s h) (λ e. h)))
 
   -- nil terms of one value, each of whose links goes to itself
-  holds-joinNil : (ts : List ℕ) → ((t u : ℕ) → List·Memᴰ t ts → List·Memᴰ u ts → Same val t u) → ((i t : ℕ) → List·Memᴰ t ts → Linked (f i) val t t) → (s : Facts) → Holds f val s → Holds f val (joinNil n ts s .facts)
+  holds-joinNil : (ts : List ℕ) → ((t u : ℕ) → List·Memᴰ t ts → List·Memᴰ u ts → Same val t u) → ((i t : ℕ) → List·Memᴰ t ts → Linked (f i) val t t) →
+      (s : Facts) → Holds f val s → Holds f val (joinNil n ts s .facts)
   unfolding joinNil unjoined andThen addNilLinks equalTo
   holds-joinNil [] same own s h = h
   holds-joinNil (t ∷ us) same own s h =
@@ -147,7 +150,8 @@ module _ (f : ℕ → ℕ → ℕ) (val : ℕ → ℕ) (n : ℕ) where
       let j = holds-joinEach (equalTo t us) equal s h in
       holds-settle n _ (holds-addLinks _ _ (λ i. rep-between f val _ j (own i t (List·Memᴰ·head refl))) _ j)
 
-  holds-reachEach : (ls : List Literal) → ((l : Literal) → List·Memᴰ l ls → l .plain ≡ true → Reached (f (l .link)) val (l .left) (l .right)) → (s : Facts) → Holds f val s → Holds f val (reachEach ls s)
+  holds-reachEach : (ls : List Literal) → ((l : Literal) → List·Memᴰ l ls → l .plain ≡ true → Reached (f (l .link)) val (l .left) (l .right)) →
+      (s : Facts) → Holds f val s → Holds f val (reachEach ls s)
   unfolding reachEach
   holds-reachEach [] p s h = h
   holds-reachEach (l ∷ ls) p s h =

@@ -91,5 +91,6 @@ module _ (F : ℕ → ℕ → ℕ) (val : ℕ → ℕ) (n i : ℕ) (graph : ℕ 
         only F val (between (r .left-term) (r .right-term) (cycle-injective f (val x) (val y) (k .stands ∙ sym (l .stands)) (r .stands) (s .stands)))
 
 -- every rule is, about whichever link
-pub rule-sound : (F : ℕ → ℕ → ℕ) (val : ℕ → ℕ) (n : ℕ) (graph : ℕ → Graph) → ((i : ℕ) → TrueGraph (F i) val (graph i)) → (alive : ℕ → Bool) → ((x : ℕ) → alive x ≡ true → 1 ≤ x) → (m : Move) → conditions n alive graph m ≡ true → SomeTrue F val (alternatives n graph m)
+pub rule-sound : (F : ℕ → ℕ → ℕ) (val : ℕ → ℕ) (n : ℕ) (graph : ℕ → Graph) → ((i : ℕ) → TrueGraph (F i) val (graph i)) → (alive : ℕ → Bool) →
+    ((x : ℕ) → alive x ≡ true → 1 ≤ x) → (m : Move) → conditions n alive graph m ≡ true → SomeTrue F val (alternatives n graph m)
 rule-sound F val n graph holds alive alive-term (move i r t) h = link-sound F val n i graph (holds i) alive alive-term r t h

@@ -50,7 +50,8 @@ module _ (q : Query) where
   pick-move p s (move i r t) free app =
       rw (moveOf-number (s .links) i r t (hasLink-range (s .links) i r t (applies-linked (termCount q) s (move i r t) app)), free, app) refl
 
-  pick-at : (left : List Facts) (s : Facts) (right : List Facts) (m : Move) → clash q s ≡ none → applies (termCount q) s m ≡ true → pickEach q (pickOf (suc (length left)) m ∷ []) (left ++ (s ∷ right)) ≡ left ++ (branches (termCount q) s m ++ right)
+  pick-at : (left : List Facts) (s : Facts) (right : List Facts) (m : Move) → clash q s ≡ none → applies (termCount q) s m ≡ true →
+      pickEach q (pickOf (suc (length left)) m ∷ []) (left ++ (s ∷ right)) ≡ left ++ (branches (termCount q) s m ++ right)
   unfolding pickEach pickOf
   pick-at left s right (move i r t) free app =
       let p = pickOf (suc (length left)) (move i r t) in
@@ -65,7 +66,9 @@ module _ (q : Query) where
   Followed left middle right (saturation t) = (picks : List Pick) × List·Memᴰ t (pickEach q picks (left ++ (middle ++ right)))
 
   -- picks that change the middle first, and then what follows the changed one
-  followed-after : (picks : List Pick) (left middle middle′ right : List Facts) → pickEach q picks (left ++ (middle ++ right)) ≡ left ++ (middle′ ++ right) → (ls : List Line) (e : Ending) → Followed left middle′ right e → Followed left middle right (after ls e)
+  followed-after : (picks : List Pick) (left middle middle′ right : List Facts) →
+      pickEach q picks (left ++ (middle ++ right)) ≡ left ++ (middle′ ++ right) → (ls : List Line) (e : Ending) → Followed left middle′ right e →
+      Followed left middle right (after ls e)
   unfolding Followed after
   followed-after picks left middle middle′ right h ls (refutation ms) f =
       (picks ++ f .0, f .1, f .2, pickEach-append picks (f .0) (left ++ (middle ++ right)) ∙ ap (pickEach q (f .0)) h ∙ f .3)
@@ -73,7 +76,8 @@ module _ (q : Query) where
       (picks ++ f .0, subst (λ (row : List Facts). List·Memᴰ t row) (sym (pickEach-append picks (f .0) (left ++ (middle ++ right)) ∙ ap (pickEach q (f .0)) h)) (f .1))
 
   -- clashed paths to the left of the middle are clashed paths in its place
-  behind : (left clashed : List Facts) → all (isClashed q) clashed ≡ true → (middle right : List Facts) (e : Ending) → Followed (left ++ clashed) middle right e → Followed left (clashed ++ middle) right e
+  behind : (left clashed : List Facts) → all (isClashed q) clashed ≡ true → (middle right : List Facts) (e : Ending) →
+      Followed (left ++ clashed) middle right e → Followed left (clashed ++ middle) right e
   unfolding Followed
   behind left clashed cl middle right (refutation ls) f =
       (f .0, clashed ++ f .1, all-append (isClashed q) clashed (f .1) cl (f .2), ap (pickEach q (f .0)) (nested middle) ∙ f .3 ∙ sym (nested (f .1)))
@@ -83,11 +87,14 @@ module _ (q : Query) where
   behind left clashed cl middle right (saturation t) f = (f .0, subst (λ (row : List Facts). List·Memᴰ t (pickEach q (f .0) row)) (simp append-assoc) (f .1))
 
   -- a path that is refuted, and then those to its right
-  followed-then : (left : List Facts) (s : Facts) (ss right : List Facts) (ls ms : List Line) (e : Ending) → ((right′ : List Facts) → Followed left (s ∷ []) right′ (refutation ls)) → ((left′ : List Facts) → Followed left′ ss right e) → Followed left (s ∷ ss) right (after ms e)
+  followed-then : (left : List Facts) (s : Facts) (ss right : List Facts) (ls ms : List Line) (e : Ending) →
+      ((right′ : List Facts) → Followed left (s ∷ []) right′ (refutation ls)) → ((left′ : List Facts) → Followed left′ ss right e) →
+      Followed left (s ∷ ss) right (after ms e)
   unfolding Followed
   followed-then left s ss right ls ms e f g =
       let (picks, clashed, cl, row) = f (ss ++ right) in
-      followed-after picks left (s ∷ ss) (clashed ++ ss) right (row ∙ ap (λ (r : List Facts). left ++ r) (sym (append-assoc clashed ss right))) ms e (behind left clashed cl ss right e (g (left ++ clashed)))
+      followed-after picks left (s ∷ ss) (clashed ++ ss) right (row ∙ ap (λ (r : List Facts). left ++ r) (sym (append-assoc clashed ss right))) ms e
+      (behind left clashed cl ss right e (g (left ++ clashed)))
 
   -- each way in which a walk ends, or goes on
   followed-clash : (s : Facts) (l : Line) → clash q s ≡ some l → (left right : List Facts) → Followed left (s ∷ []) right (refutation (l ∷ []))
@@ -102,7 +109,8 @@ module _ (q : Query) where
   unfolding Followed all pickEach
   followed-none left right = ([], [], refl, refl)
 
-  followed-first : (s : Facts) (ss : List Facts) (t : Facts) → ((left right : List Facts) → Followed left (s ∷ []) right (saturation t)) → (left right : List Facts) → Followed left (s ∷ ss) right (saturation t)
+  followed-first : (s : Facts) (ss : List Facts) (t : Facts) → ((left right : List Facts) → Followed left (s ∷ []) right (saturation t)) →
+      (left right : List Facts) → Followed left (s ∷ ss) right (saturation t)
   unfolding Followed
   followed-first s ss t f left right = f left (ss ++ right)
 
@@ -134,7 +142,8 @@ module _ (q : Query) where
       ∙ cond-true (some satisfiable) none (any-intro (isSaturated q) t m (rw (free, e) refl))
 
   -- so for every list of every rule there are picks after which the hand's verdict is our walk's
-  followed-verdict : Accepted q → (order : List ℕ) → isOrder order ≡ true → (e : Ending) → walked order q ≡ e → Followed [] (start q ∷ []) [] e → (picks : List Pick) × (handVerdict q (handRow q picks) ≡ some (ourVerdict e))
+  followed-verdict : Accepted q → (order : List ℕ) → isOrder order ≡ true → (e : Ending) → walked order q ≡ e → Followed [] (start q ∷ []) [] e →
+      (picks : List Pick) × (handVerdict q (handRow q picks) ≡ some (ourVerdict e))
   unfolding Followed ourVerdict handRow after
   followed-verdict ok order o (refutation ls) h (picks, clashed, cl, row) =
       (picks, refuted-row (pickEach q picks (start q ∷ [])) (subst (λ (r : List Facts). all (isClashed q) r ≡ true) (sym (row ∙ append-nil clashed)) cl))

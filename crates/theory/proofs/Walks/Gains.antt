@@ -90,7 +90,8 @@ module _ (n : ℕ) where
   lacks-back s s′ e back (replaced t) h = back t h
 
   -- so there is less to gain where something is held that was not
-  gains-less : (s s′ : Facts) → Extends s s′ → ((t : ℕ) → live n s′ t ≡ true → live n s t ≡ true) → (x : Gain) → List·Memᴰ x (gains (s .links) n) → lacks n s x ≡ true → lacks n s′ x ≡ false → gainsLeft n s′ < gainsLeft n s
+  gains-less : (s s′ : Facts) → Extends s s′ → ((t : ℕ) → live n s′ t ≡ true → live n s t ≡ true) → (x : Gain) → List·Memᴰ x (gains (s .links) n) →
+      lacks n s x ≡ true → lacks n s′ x ≡ false → gainsLeft n s′ < gainsLeft n s
   unfolding gainsLeft
   gains-less s s′ e back x m h h′ =
       subst (λ (k : ℕ). length (select (lacks n s′) (gains k n)) < length (select (lacks n s) (gains (s .links) n))) (sym (e .same-links))

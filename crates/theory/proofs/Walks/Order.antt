@@ -14,7 +14,8 @@ use Rattle.logic.specs.Rules.{Rule, REFLEX, TRANS1, TRANS2, FUNC, CYCLE, SCC, T
 use Rattle.logic.specs.Walk.{orderOf}
 use Rattle.theory.proofs.Paths.Ranged.{InRange}
 use Rattle.theory.proofs.Basics.Compare.{eqb-true, eqb-self}
-use Rattle.theory.proofs.Basics.Search.{true-false, and-right, keep-some, keep-none, any-true, all-true, firstOf-some, firstOf-none, firstOf-empty, find-some, from-mem, from-intro, flatMap-intro, map-intro}
+use Rattle.theory.proofs.Basics.Search.{true-false, and-right, keep-some, keep-none, any-true, all-true, firstOf-some}
+use Rattle.theory.proofs.Basics.Search.{firstOf-none, firstOf-empty, find-some, from-mem, from-intro, flatMap-intro, map-intro}
 
 -- Lists that hold every rule
 

@@ -90,19 +90,22 @@ module _ (q : Query) (order : List Rule) where
   pub look-some : (k : ℕ) (s : Facts) (m : Move) → AtMost (termCount q) s k → look q order s ≡ applying m → 1 ≤ k
   look-some k s m most h = let (s′, step) = applies-step (termCount q) s m (seen-applying q order s h .1) in atMost-some k most step
 
-  pub look-fewer : (k : ℕ) (s : Facts) (m : Move) → AtMost (termCount q) s k → look q order s ≡ applying m → (c : Fact) → List·Memᴰ c (alternatives (termCount q) (s .graph) m) → AtMost (termCount q) (add (termCount q) s c) (k - 1)
+  pub look-fewer : (k : ℕ) (s : Facts) (m : Move) → AtMost (termCount q) s k → look q order s ≡ applying m → (c : Fact) →
+      List·Memᴰ c (alternatives (termCount q) (s .graph) m) → AtMost (termCount q) (add (termCount q) s c) (k - 1)
   unfolding branches
   look-fewer k s m most h c mem =
       atMost-step k most (record { rule-move = m; applicable = seen-applying q order s h .1; branch = map-intro (add (termCount q) s) c mem })
 
   -- The walk with steps left computes it
 
-  then-walks : (s : Facts) (c : Fact) (cs : List Fact) (e e′ : Ending) → Walks q order (add (termCount q) s c) e → WalksEach q order s cs e′ → WalksEach q order s (c ∷ cs) (thenEnding (after (headOf s c) e) e′)
+  then-walks : (s : Facts) (c : Fact) (cs : List Fact) (e e′ : Ending) → Walks q order (add (termCount q) s c) e → WalksEach q order s cs e′ →
+      WalksEach q order s (c ∷ cs) (thenEnding (after (headOf s c) e) e′)
   unfolding thenEnding after
   then-walks s c cs (refutation ls) e′ r rs = refuted-first r rs
   then-walks s c cs (saturation t) e′ r rs = saturated-first r
 
-  walkEach-walks : (w : Facts → Ending) (s : Facts) (cs : List Fact) → ((c : Fact) → List·Memᴰ c cs → Walks q order (add (termCount q) s c) (w (add (termCount q) s c))) → WalksEach q order s cs (walkEach (termCount q) w s cs)
+  walkEach-walks : (w : Facts → Ending) (s : Facts) (cs : List Fact) →
+      ((c : Fact) → List·Memᴰ c cs → Walks q order (add (termCount q) s c) (w (add (termCount q) s c))) → WalksEach q order s cs (walkEach (termCount q) w s cs)
   unfolding walkEach walkBranch add
   walkEach-walks w s [] each = all-tried
   walkEach-walks w s (c ∷ cs) each =

@@ -15,11 +15,19 @@ around-spec =
     -- next-requires
     (λ c κs. search needs)
     -- follow-requires
-    (λ c κs. let s = c .before in let l = next-le (s .args .n) (linksIn (s .args .link .now)) (s .args .x) in let e = c .next .ensures in (omega arith, omega arith))
+    (λ c κs.
+    let start = c .before in
+    let l = next-le (start .args .n) (linksIn (start .args .link .now)) (start .args .x) in let e = c .next .ensures in (omega arith, omega arith))
     -- add-k
     (λ c. let l = steps-bound _ _ _ _ _ _ (c .before .follow .ensures .0) in omega arith)
     -- returns
-    (λ c. let s = c .before .before .before .before in record { steps-within = omega arith; on-round = on-none _ (s .args .link .now) (s .args .reach .now) _; off-round = λ lives y h. off-none _ (s .args .link .now) (s .args .reach .now) _ lives y })
+    (λ c.
+    let start = c .before .before .before .before in
+    record {
+      steps-within = omega arith;
+      on-round = on-none _ (start .args .link .now) (start .args .reach .now) _;
+      off-round = λ lives y h. off-none _ (start .args .link .now) (start .args .reach .now) _ lives y;
+    })
     -- only-requires
     (λ c κs. search needs)
     -- mul-without
@@ -30,10 +38,13 @@ around-spec =
     (λ c κs. search needs)
     -- returns-2
     (λ c.
-    let s = c .before .before .before .before .before .before .before .before in
-    let f = c .before .before .before .before .before .before .follow .ensures in
+    let after-only = c .before .before .before in let after-follow = after-only .before .before .before in
+    let after-next = after-follow .before in let start = after-next .before in
+    let f = after-follow .follow .ensures in
     record {
       steps-within = omega arith;
-      on-round = on-bits (s .args .n) (s .args .link .now) (s .args .reach .now) (s .args .x) _ _ _ _ _ (c .before .before .before .before .before .before .before .next .ensures) (f .0) refl (omega arith) (f .2) (c .before .before .before .only .ensures);
-      off-round = off-bits (s .args .n) (s .args .link .now) (s .args .reach .now) (s .args .x) _ _ _ _ _ (c .before .before .before .before .before .before .before .next .ensures) (f .0) refl (omega arith) (f .2) (c .before .before .before .only .ensures) _ (c .without .ensures) (s .pre .1);
+      on-round = on-bits (start .args .n) (start .args .link .now) (start .args .reach .now) (start .args .x) _ _ _ _ _ (after-next .next .ensures)
+          (f .0) refl (omega arith) (f .2) (after-only .only .ensures);
+      off-round = off-bits (start .args .n) (start .args .link .now) (start .args .reach .now) (start .args .x) _ _ _ _ _ (after-next .next .ensures)
+          (f .0) refl (omega arith) (f .2) (after-only .only .ensures) _ (c .without .ensures) (start .pre .1);
     }))

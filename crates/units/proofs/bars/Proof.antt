@@ -17,6 +17,11 @@ Inv-loop reach denied ahead₀ behind₀ x₀ ahead behind x =
 abbrev μ-loop : tie.MeasureT-loop
 μ-loop reach denied ahead₀ behind₀ x₀ ahead behind x = 17 - x
 
+-- The places that lie behind a place.
+
+abbrev at-loop-of-ahead : tie.After-ahead Inv-loop μ-loop → tie.At-loop Inv-loop μ-loop
+at-loop-of-ahead c = c .before .before .before .before .before .before
+
 pub bars-spec : {M : Type 1} → statement M
 bars-spec =
     tie.close
@@ -36,17 +41,18 @@ bars-spec =
     -- having-requires
     (λ c κs. search needs)
     -- spread-requires
-    (λ c κs. c .before .before .before .before .before .before .loop .inv .1)
+    (λ c κs. at-loop-of-ahead c .loop .inv .1)
     -- spread-requires-2
-    (λ c κs. c .before .before .before .before .before .before .before .before .loop .inv .2)
+    (λ c κs. at-loop-of-ahead (c .before .before) .loop .inv .2)
     -- add-x
     (λ c. omega arith)
     -- loop-less
     (λ c. omega arith)
     -- loop-again
     (λ c.
-    let l = c .before .before .before .loop in
-    let a = c .before .before .before .before .args in
+    let at-loop = c .before .before .before in
+    let l = at-loop .loop in
+    let a = at-loop .before .args in
     ⊎-elim
     (λ w. (
       omega arith,

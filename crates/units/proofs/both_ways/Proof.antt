@@ -24,4 +24,5 @@ both-ways-spec =
     -- without-requires
     (λ c κs. search needs)
     -- returns
-    (λ c. let s = c .before .before .before .before in λ y h. pair-mutual [] (s .args .reach .now) (s .args .back .now) (s .pre .1) (s .args .x) (s .pre .0) y h _ _ (c .before .only .ensures) (c .without .ensures)))
+    (λ c. let s = c .before .before .before .before in
+    λ y h. pair-mutual [] (s .args .reach .now) (s .args .back .now) (s .pre .1) (s .args .x) (s .pre .0) y h _ _ (c .before .only .ensures) (c .without .ensures)))

@@ -29,11 +29,15 @@ cycle-at-spec =
     -- without-requires
     (λ c κs. search needs)
     -- returns
-    (λ c. (omega arith, sym (c .before .before .before .before .has .ensures) ∙ c .before .before .before .if1 .taken))
+    (λ c.
+    let then1 = c .before .before .before in
+    (omega arith, sym (then1 .before .has .ensures) ∙ then1 .if1 .taken))
     -- sub-if3
     (λ c. omega arith)
     -- returns-2
-    (λ c. (omega arith, sym (c .before .before .before .before .before .has .ensures) ∙ c .before .before .before .before .if1 .taken))
+    (λ c.
+    let then1 = c .before .before .before .before in
+    (omega arith, sym (then1 .before .has .ensures) ∙ then1 .if1 .taken))
     -- add-y
     (λ c. omega arith)
     -- loop-less

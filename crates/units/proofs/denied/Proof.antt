@@ -21,6 +21,26 @@ Inv-loop query rep k links at count out₀ i₀ out i = (i ≤ count) × (length
 abbrev μ-loop : tie.MeasureT-loop
 μ-loop query rep k links at count out₀ i₀ out i = count - i
 
+-- The places that lie behind a place.
+
+abbrev start-of-at-loop : tie.At-loop Inv-loop μ-loop → tie.Start Inv-loop μ-loop
+start-of-at-loop c = c .before .before
+
+abbrev then2-of-read-rep : tie.After-read-rep Inv-loop μ-loop → tie.Then2 Inv-loop μ-loop
+then2-of-read-rep c = c .before .before
+
+abbrev in-loop-of-then1 : tie.Then1 Inv-loop μ-loop → tie.In-loop Inv-loop μ-loop
+in-loop-of-then1 c = c .before .before
+
+abbrev at-loop-of-joined1 : tie.Joined1 Inv-loop μ-loop → tie.At-loop Inv-loop μ-loop
+at-loop-of-joined1 c = c .before .before .before
+
+abbrev start-of-in-loop : tie.In-loop Inv-loop μ-loop → tie.Start Inv-loop μ-loop
+start-of-in-loop c = start-of-at-loop (c .before)
+
+abbrev in-loop-of-then2 : tie.Then2 Inv-loop μ-loop → tie.In-loop Inv-loop μ-loop
+in-loop-of-then2 c = in-loop-of-then1 (c .before .before .before)
+
 pub denied-spec : {M : Type 1} → statement M
 denied-spec =
     tie.close
@@ -30,30 +50,37 @@ denied-spec =
     -- loop-holds
     (λ c. (omega arith, search needs, telling-none _ _ _ 17))
     -- reach-sign-requires
-    (λ c κs. literal-fits _ _ _ _ _ (c .loop-test .taken) (c .before .before .before .pre .reach-fit))
+    (λ c κs. literal-fits _ _ _ _ _ (c .loop-test .taken) (start-of-in-loop c .pre .reach-fit))
     -- reach-link-requires
-    (λ c κs. literal-fits _ _ _ _ _ (c .before .before .loop-test .taken) (c .before .before .before .before .before .pre .reach-fit))
+    (λ c κs.
+    let in-loop = in-loop-of-then1 c in
+    literal-fits _ _ _ _ _ (in-loop .loop-test .taken) (start-of-in-loop in-loop .pre .reach-fit))
     -- reach-left-requires
-    (λ c κs. literal-fits _ _ _ _ _ (c .before .before .before .before .before .loop-test .taken) (c .before .before .before .before .before .before .before .before .pre .reach-fit))
+    (λ c κs.
+    let in-loop = in-loop-of-then2 c in
+    literal-fits _ _ _ _ _ (in-loop .loop-test .taken) (start-of-in-loop in-loop .pre .reach-fit))
     -- read-rep-requires
     (λ c κs. search needs)
     -- reach-right-requires
-    (λ c κs. literal-fits _ _ _ _ _ (c .before .before .before .before .before .before .before .loop-test .taken) (c .before .before .before .before .before .before .before .before .before .before .pre .reach-fit))
+    (λ c κs.
+    let in-loop = in-loop-of-then2 (then2-of-read-rep c) in
+    literal-fits _ _ _ _ _ (in-loop .loop-test .taken) (start-of-in-loop in-loop .pre .reach-fit))
     -- read-rep-requires-2
     (λ c κs. search needs)
     -- alone-requires
     (λ c κs. search needs)
     -- mark-requires
-    (λ c κs. c .before .before .before .before .before .before .before .before .before .before .before .before .loop .inv .1)
+    (λ c κs. in-loop-of-then2 (then2-of-read-rep (c .before .before .before .before)) .before .loop .inv .1)
     -- add-i
-    (λ c. omega (arith, c .before .before .before .before .before .pre .reach-within))
+    (λ c. omega (arith, start-of-at-loop (at-loop-of-joined1 c) .pre .reach-within))
     -- loop-less
     (λ c. omega arith)
     -- loop-again
     (λ c.
-    let l = c .before .before .before .loop in
+    let at-loop = at-loop-of-joined1 c in
+    let l = at-loop .loop in
     let sign = c .before .reach-sign .ensures in
-    let rep = repOf (c .before .before .before .before .before .args .rep .now) in
+    let rep = repOf (start-of-at-loop at-loop .args .rep .now) in
     ⊎-elim
     (λ w.
     let negated = sym sign ∙ not-true _ (w .0 .taken) in
@@ -69,4 +96,4 @@ denied-spec =
     (λ w. (omega arith, ap length (w .1) ∙ l .inv .1, plain-denied rep _ _ _ (omega arith) _ _ _ (ap not (sym sign) ∙ w .0 .left) (w .1) (l .inv .2))))
     (c .if1 .came))
     -- returns
-    (λ c. telling-all _ _ _ _ _ _ (omega arith) (reachability-said _ _ (c .before .before .before .pre)) (c .before .loop .inv .2)))
+    (λ c. telling-all _ _ _ _ _ _ (omega arith) (reachability-said _ _ (start-of-at-loop (c .before) .pre)) (c .before .loop .inv .2)))

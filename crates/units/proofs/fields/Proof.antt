@@ -20,6 +20,14 @@ Inv-loop query at count rep plain out₀ i₀ out i = (i ≤ count) × (length o
 abbrev μ-loop : tie.MeasureT-loop
 μ-loop query at count rep plain out₀ i₀ out i = count - i
 
+-- The places that lie behind a place.
+
+abbrev start-of-at-loop : tie.At-loop Inv-loop μ-loop → tie.Start Inv-loop μ-loop
+start-of-at-loop c = c .before .before
+
+abbrev at-loop-of-sign : tie.After-sign Inv-loop μ-loop → tie.At-loop Inv-loop μ-loop
+at-loop-of-sign c = c .before .before
+
 pub fields-spec : {M : Type 1} → statement M
 fields-spec =
     tie.close
@@ -39,15 +47,16 @@ fields-spec =
     -- alone-requires
     (λ c κs. search needs)
     -- mark-requires
-    (λ c κs. c .before .before .before .before .before .before .before .before .loop .inv .1)
+    (λ c κs. at-loop-of-sign (c .before .before .before .before .before .before) .loop .inv .1)
     -- add-i
     (λ c. omega arith)
     -- loop-less
     (λ c. omega arith)
     -- loop-again
     (λ c.
-    let l = c .before .before .before .loop in
-    let a = c .before .before .before .before .before .args in
+    let at-loop = at-loop-of-sign (c .before) in
+    let l = at-loop .loop in
+    let a = start-of-at-loop at-loop .args in
     let rep = repOf (a .rep .now) in
     let sign = ap (λ (s : Bool). Bool·beq s (a .plain)) (sym (c .before .sign .ensures)) in
     ⊎-elim
@@ -59,4 +68,4 @@ fields-spec =
     (λ w. (omega arith, ap length (w .1) ∙ l .inv .1, other-given rep _ _ _ (omega arith) _ _ (a .plain) (sign ∙ w .0 .left) (w .1) (l .inv .2)))
     (c .if1 .came))
     -- returns
-    (λ c. telling-all _ _ _ _ _ _ (omega arith) (literals-are _ _ _ (c .before .before .before .pre)) (c .before .loop .inv .2)))
+    (λ c. telling-all _ _ _ _ _ _ (omega arith) (literals-are _ _ _ (start-of-at-loop (c .before) .pre)) (c .before .loop .inv .2)))

@@ -12,6 +12,14 @@ Inv-loop link reach no-equal no-reach x₀ x = x ≤ 17
 abbrev μ-loop : tie.MeasureT-loop
 μ-loop link reach no-equal no-reach x₀ x = 17 - x
 
+-- The places that lie behind a place.
+
+abbrev y-of-struck : tie.After-struck Inv-loop μ-loop → tie.After-y Inv-loop μ-loop
+y-of-struck c = c .before .before
+
+abbrev lowest-of-y : tie.After-y Inv-loop μ-loop → tie.After-lowest Inv-loop μ-loop
+lowest-of-y c = c .before .before
+
 pub func-spec : {M : Type 1} → statement M
 func-spec =
     tie.close
@@ -33,17 +41,29 @@ func-spec =
     -- element-copy-out-struck
     (λ c. omega arith)
     -- mul-struck-2
-    (λ c. let h = lowest-in _ _ (c .before .before .y .given .1) _ (c .before .before .before .before .lowest .ensures) in omega arith)
+    (λ c.
+    let after-y = y-of-struck c in
+    let h = lowest-in _ _ (after-y .y .given .1) _ (lowest-of-y after-y .lowest .ensures) in omega arith)
     -- element-copy-out-struck-2
-    (λ c. let h = lowest-in _ _ (c .before .before .y .given .1) _ (c .before .before .before .before .lowest .ensures) in omega arith)
+    (λ c.
+    let after-y = y-of-struck c in
+    let h = lowest-in _ _ (after-y .y .given .1) _ (lowest-of-y after-y .lowest .ensures) in omega arith)
     -- missed-requires
-    (λ c κs. let h = lowest-in _ _ (c .before .before .before .y .given .1) _ (c .before .before .before .before .before .lowest .ensures) in (omega arith, h .0))
+    (λ c κs.
+    let after-y = y-of-struck (c .before) in
+    let h = lowest-in _ _ (after-y .y .given .1) _ (lowest-of-y after-y .lowest .ensures) in (omega arith, h .0))
     -- lowest-requires-2
     (λ c κs. search needs)
     -- enum-known-z
     (λ c. search needs)
     -- returns
-    (λ c. λ n s k e. func-placed n (c .before .before .before .before .before .before .before .before .before .before .before .before .before .before .args .link .now) (c .before .before .before .before .before .before .before .before .before .before .before .before .before .before .args .reach .now) s k e _ _ _ _ (omega arith) (lowest-in _ _ (c .before .before .before .before .before .before .before .before .y .given .1) _ (c .before .before .before .before .before .before .before .before .before .before .lowest .ensures)) (c .before .before .before .before .missed .ensures) (lowest-left _ _ (c .before .z .given .1) _ _ (c .before .before .before .lowest2 .ensures)))
+    (λ c.
+    let after-lowest2 = c .before .before .before in let after-missed = after-lowest2 .before in
+    let after-y = y-of-struck (after-missed .before .before) in let after-lowest = lowest-of-y after-y in
+    let start = after-lowest .before .before .before .before in
+    λ n s k e. func-placed n (start .args .link .now) (start .args .reach .now) s k e _ _ _ _ (omega arith)
+    (lowest-in _ _ (after-y .y .given .1) _ (after-lowest .lowest .ensures)) (after-missed .missed .ensures)
+    (lowest-left _ _ (c .before .z .given .1) _ _ (after-lowest2 .lowest2 .ensures)))
     -- enum-told
     (λ c. search needs)
     -- enum-told-2

@@ -38,11 +38,14 @@ having-spec =
     (λ c. omega arith)
     -- loop-again
     (λ c.
-    let l = c .before .before .before .loop in
-    let a = c .before .before .before .before .args in
+    let at-loop = c .before .before .before in let start = at-loop .before in
+    let l = at-loop .loop in
+    let a = start .args in
     ⊎-elim
-    (λ w. (omega arith, having-more (a .some) (a .rows .now) (l .b) (l .out) _ _ (omega arith) (c .before .before .before .before .fits .some .fits) (w .0 .taken) (w .1 .ensures) (w .2) (l .inv .1)))
+    (λ w. (omega arith, having-more (a .some) (a .rows .now) (l .b) (l .out) _ _ (omega arith) (start .fits .some .fits) (w .0 .taken) (w .1 .ensures) (w .2) (l .inv .1)))
     (λ w. (omega arith, having-same (a .some) (a .rows .now) (l .b) (l .out) _ (omega arith) (w .0 .left) (w .1) (l .inv .1)))
     (c .if1 .came))
     -- returns
-    (λ c. having-all (c .before .before .args .some) (c .before .before .args .rows .now) _ (rw (whole c) at (c .before .loop .inv .1))))
+    (λ c.
+    let start = c .before .before in
+    having-all (start .args .some) (start .args .rows .now) _ (rw (whole c) at (c .before .loop .inv .1))))

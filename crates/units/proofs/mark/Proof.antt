@@ -18,6 +18,8 @@ mark-spec =
     -- element-write-rows
     (λ c. search needs)
     -- returns
-    (λ c. (row-marked _ _ _ (c .before .before .pre) (c .before .if1 .taken), simp length-set (c .before .before .pre)))
+    (λ c.
+    let start = c .before .before in
+    (row-marked _ _ _ (start .pre) (c .before .if1 .taken), simp length-set (start .pre)))
     -- returns-2
     (λ c. (row-kept _ _ _ (c .if1 .left), c .before .pre)))

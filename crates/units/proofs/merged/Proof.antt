@@ -15,6 +15,11 @@ Inv-loop a b c out₀ x₀ out x = (x ≤ 17) × (length out ≡ 17) × Merging 
 abbrev μ-loop : tie.MeasureT-loop
 μ-loop a b c out₀ x₀ out x = 17 - x
 
+-- The places that lie behind a place.
+
+abbrev at-loop-of-mark-arg3 : tie.After-mark-arg3 Inv-loop μ-loop → tie.At-loop Inv-loop μ-loop
+at-loop-of-mark-arg3 c = c .before .before .before .before .before
+
 whole : (c : tie.After-loop Inv-loop μ-loop) → c .before .loop .x ≡ 17
 whole c = omega arith
 
@@ -39,14 +44,14 @@ merged-spec =
     -- element-copy-out-marked-3
     (λ c. omega arith)
     -- mark-requires
-    (λ c κs. c .before .before .before .before .before .loop .inv .1)
+    (λ c κs. at-loop-of-mark-arg3 c .loop .inv .1)
     -- add-x
     (λ c. omega arith)
     -- loop-less
     (λ c. omega arith)
     -- loop-again
     (λ c.
-    let l = c .before .before .before .before .before .before .loop in
+    let l = at-loop-of-mark-arg3 (c .before) .loop in
     (omega arith, c .mark .ensures .1, merged-more _ _ _ (l .x) _ _ (omega arith) (c .mark .ensures .0) (l .inv .2)))
     -- returns
     (λ c. merged-all _ _ _ _ (rw (whole c) at (c .before .loop .inv .2))))

@@ -7,6 +7,11 @@ use Rattle.rules.proofs.Rows.{third-func}
 use Rattle.units.proofs.missed.Statement.{statement}
 use Rattle.units.proofs.missed.Tie as tie
 
+-- The places that lie behind a place.
+
+abbrev without-of-without2 : tie.After-without2 → tie.After-without
+without-of-without2 c = c .before .before
+
 pub missed-spec : {M : Type 1} → statement M
 unfolding graphOf thirdTest
 missed-spec =
@@ -27,4 +32,7 @@ missed-spec =
     -- without-requires-2
     (λ c κs. search needs)
     -- returns
-    (λ c. let s = c .before .before .before .before .before in λ z h. third-func [] (s .args .reach .now) (s .args .x) (s .args .y) z (s .pre .0) (s .pre .1) h _ _ _ (c .before .before .before .only .ensures) (c .before .before .without .ensures) (c .without2 .ensures)))
+    (λ c.
+    let after-without = without-of-without2 c in let after-only = after-without .before in let start = after-only .before .before in
+    λ z h. third-func [] (start .args .reach .now) (start .args .x) (start .args .y) z (start .pre .0) (start .pre .1) h _ _ _
+    (after-only .only .ensures) (after-without .without .ensures) (c .without2 .ensures)))

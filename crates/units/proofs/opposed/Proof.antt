@@ -41,8 +41,9 @@ opposed-spec =
     (λ c. omega arith)
     -- loop-again
     (λ c.
-    let l = c .before .before .before .loop in
-    let a = c .before .before .before .before .args in
+    let at-loop = c .before .before .before in
+    let l = at-loop .loop in
+    let a = at-loop .before .args in
     ⊎-elim
     (λ w. (omega arith, ap length (w .4) ∙ w .3 .ensures .1, opposed-more _ (a .some .now) (a .other .now) (l .a) _ _ _ _ (omega arith) (w .2 .ensures) (w .3 .ensures .0) (w .4) (l .inv .2)))
     (λ w. (omega arith, ap length (w .1) ∙ l .inv .1, opposed-same _ (a .some .now) (a .other .now) (l .a) _ _ (omega arith) (w .0 .left) (w .1) (l .inv .2)))

@@ -19,6 +19,11 @@ Inv-loop link reach back x₀ x = x ≤ 17
 abbrev μ-loop : tie.MeasureT-loop
 μ-loop link reach back x₀ x = 17 - x
 
+-- The places that lie behind a place.
+
+abbrev start-of-then1 : tie.Then1 Inv-loop2 μ-loop2 Inv-loop μ-loop → tie.Start Inv-loop2 μ-loop2 Inv-loop μ-loop
+start-of-then1 c = c .before .before .before .before
+
 pub share-spec : {M : Type 1} → statement M
 share-spec =
     tie.close
@@ -34,7 +39,7 @@ share-spec =
     -- element-copy-out-near
     (λ c. omega arith)
     -- both-ways-requires
-    (λ c κs. (omega arith, c .before .before .before .before .pre))
+    (λ c κs. (omega arith, start-of-then1 c .pre))
     -- loop2-holds
     (λ c. omega arith)
     -- has-requires
@@ -48,7 +53,11 @@ share-spec =
     -- enum-known-z
     (λ c. search needs)
     -- returns
-    (λ c. λ n s k e. share-placed n (c .before .before .before .before .before .before .before .before .before .before .before .before .before .before .args .link .now) (c .before .before .before .before .before .before .before .before .before .before .before .before .before .before .args .reach .now) s k e _ _ _ _ (omega arith) (c .before .before .before .before .before .before .before .before .before .both-ways .ensures) (omega arith, sym (c .before .before .before .before .before .before .has .ensures) ∙ c .before .before .before .before .before .if2 .taken) (lowest-in _ _ (c .before .z .given .1) _ (c .before .before .before .lowest .ensures)))
+    (λ c.
+    let after-lowest = c .before .before .before in let then2 = after-lowest .before .before in let after-has = then2 .before in
+    let after-both-ways = after-has .before .before .before in let start = start-of-then1 (after-both-ways .before) in
+    λ n s k e. share-placed n (start .args .link .now) (start .args .reach .now) s k e _ _ _ _ (omega arith) (after-both-ways .both-ways .ensures)
+    (omega arith, sym (after-has .has .ensures) ∙ then2 .if2 .taken) (lowest-in _ _ (c .before .z .given .1) _ (after-lowest .lowest .ensures)))
     -- enum-told
     (λ c. search needs)
     -- add-y

@@ -42,14 +42,17 @@ spread-spec =
     (λ c. omega arith)
     -- loop-again
     (λ c.
-    let l = c .before .before .before .loop in
+    let after-has = c .before in
+    let l = after-has .before .before .loop in
     ⊎-elim
     (λ w. (
       omega arith,
       ap length (w .2) ∙ simp length-set (l .inv .1),
-      spread-more _ _ _ (l .a) _ _ (omega arith) (l .inv .1) (sym (c .before .has .ensures) ∙ w .0 .taken) (w .2) (l .inv .2),
+      spread-more _ _ _ (l .a) _ _ (omega arith) (l .inv .1) (sym (after-has .has .ensures) ∙ w .0 .taken) (w .2) (l .inv .2),
     ))
-    (λ w. (omega arith, ap length (w .1) ∙ l .inv .1, spread-same _ _ _ (l .a) _ _ (omega arith) (sym (c .before .has .ensures) ∙ w .0 .left) (w .1) (l .inv .2)))
+    (λ w. (omega arith, ap length (w .1) ∙ l .inv .1, spread-same _ _ _ (l .a) _ _ (omega arith) (sym (after-has .has .ensures) ∙ w .0 .left) (w .1) (l .inv .2)))
     (c .if1 .came))
     -- returns
-    (λ c. (spread-all _ _ _ _ (rw (whole c) at (c .before .loop .inv .2)), c .before .loop .inv .1)))
+    (λ c.
+    let at-loop = c .before in
+    (spread-all _ _ _ _ (rw (whole c) at (at-loop .loop .inv .2)), at-loop .loop .inv .1)))

@@ -21,6 +21,14 @@ Inv-loop query at count rep out₀ i₀ out i = (i ≤ count) × (length out ≡
 abbrev μ-loop : tie.MeasureT-loop
 μ-loop query at count rep out₀ i₀ out i = count - i
 
+-- The places that lie behind a place.
+
+abbrev start-of-at-loop : tie.At-loop Inv-loop μ-loop → tie.Start Inv-loop μ-loop
+start-of-at-loop c = c .before .before
+
+abbrev at-loop-of-sign : tie.After-sign Inv-loop μ-loop → tie.At-loop Inv-loop μ-loop
+at-loop-of-sign c = c .before .before
+
 pub unequal-spec : {M : Type 1} → statement M
 unequal-spec =
     tie.close
@@ -42,7 +50,7 @@ unequal-spec =
     -- alone-requires
     (λ c κs. search needs)
     -- mark-requires
-    (λ c κs. c .before .before .before .before .before .before .before .before .before .loop .inv .1)
+    (λ c κs. at-loop-of-sign (c .before .before .before .before .before .before .before) .loop .inv .1)
     -- alone-requires-2
     (λ c κs. search needs)
     -- mark-requires-2
@@ -53,18 +61,19 @@ unequal-spec =
     (λ c. omega arith)
     -- loop-again
     (λ c.
-    let l = c .before .before .before .loop in
-    let rep = repOf (c .before .before .before .before .before .args .rep .now) in
+    let after-sign = c .before in let at-loop = at-loop-of-sign after-sign in
+    let l = at-loop .loop in
+    let rep = repOf (start-of-at-loop at-loop .args .rep .now) in
     ⊎-elim
     (λ w.
-    let negated = sym (c .before .sign .ensures) ∙ not-true _ (w .0 .taken) in
+    let negated = sym (after-sign .sign .ensures) ∙ not-true _ (w .0 .taken) in
     let left = w .2 .ensures ∙ ap rep (w .1 .ensures) in
     let right = w .4 .ensures ∙ ap rep (w .3 .ensures) in (
       omega arith,
       ap length (w .11) ∙ w .10 .ensures .1,
       negated-apart rep _ _ _ (omega arith) _ _ negated _ _ left right _ _ (_, w .6 .ensures, w .7 .ensures .0) (_, w .9 .ensures, w .10 .ensures .0) (w .11) (l .inv .2),
     ))
-    (λ w. (omega arith, ap length (w .1) ∙ l .inv .1, plain-apart rep _ _ _ (omega arith) _ _ (ap not (sym (c .before .sign .ensures)) ∙ w .0 .left) (w .1) (l .inv .2)))
+    (λ w. (omega arith, ap length (w .1) ∙ l .inv .1, plain-apart rep _ _ _ (omega arith) _ _ (ap not (sym (after-sign .sign .ensures)) ∙ w .0 .left) (w .1) (l .inv .2)))
     (c .if1 .came))
     -- returns
-    (λ c. telling-all _ _ _ _ _ _ (omega arith) (literals-are _ _ _ (c .before .before .before .pre)) (c .before .loop .inv .2)))
+    (λ c. telling-all _ _ _ _ _ _ (omega arith) (literals-are _ _ _ (start-of-at-loop (c .before) .pre)) (c .before .loop .inv .2)))

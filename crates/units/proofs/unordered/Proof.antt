@@ -7,6 +7,11 @@ use Rattle.rules.proofs.Rows.{third-total}
 use Rattle.units.proofs.unordered.Statement.{statement}
 use Rattle.units.proofs.unordered.Tie as tie
 
+-- The places that lie behind a place.
+
+abbrev without-of-without2 : tie.After-without2 → tie.After-without
+without-of-without2 c = c .before .before
+
 pub unordered-spec : {M : Type 1} → statement M
 unfolding graphOf thirdTest
 unordered-spec =
@@ -29,4 +34,7 @@ unordered-spec =
     -- without-requires-2
     (λ c κs. search needs)
     -- returns
-    (λ c. let s = c .before .before .before .before .before in λ z h. third-total [] (s .args .reach .now) (s .args .back .now) (s .pre .2) (s .args .x) (s .args .y) z (s .pre .0) (s .pre .1) h _ _ (c .before .before .without .ensures) (c .without2 .ensures)))
+    (λ c.
+    let after-without = without-of-without2 c in let start = after-without .before .before .before in
+    λ z h. third-total [] (start .args .reach .now) (start .args .back .now) (start .pre .2) (start .args .x) (start .args .y) z (start .pre .0)
+    (start .pre .1) h _ _ (after-without .without .ensures) (c .without2 .ensures)))

@@ -9,6 +9,17 @@ use Rattle.walk.proofs.Looks.{seen-clashing, seen-applying, seen-satura
 use Rattle.walk.proofs.look.Statement.{statement}
 use Rattle.walk.proofs.look.Tie as tie
 
+-- The places that lie behind a place.
+
+abbrev find-clash-of-enum-told : tie.After-enum-told → tie.After-find-clash
+find-clash-of-enum-told c = c .before .before
+
+abbrev choose-of-enum-told2 : tie.After-enum-told2 → tie.After-choose
+choose-of-enum-told2 c = c .before .before
+
+abbrev start-of-find-clash : tie.After-find-clash → tie.Start
+start-of-find-clash c = c .before .before .before
+
 pub look-spec : {M : Type 1} → statement M
 look-spec =
     tie.close
@@ -18,16 +29,29 @@ look-spec =
     -- enum-known-section
     (λ c. search needs)
     -- returns
-    (λ c. seen-clashing _ _ _ _ (sym (terms-said _ _ (c .before .before .before .before .before .before .pre))) _ (rows-clash _ _ _ _ (c .before .before .before .find-clash .result) _ (c .before .before .before .find-clash .ensures)) _ (ap lineOf (c .before .section .given .1)))
+    (λ c.
+    let after-find-clash = c .before .before .before in
+    seen-clashing _ _ _ _ (sym (terms-said _ _ (start-of-find-clash after-find-clash .pre))) _
+    (rows-clash _ _ _ _ (after-find-clash .find-clash .result) _ (after-find-clash .find-clash .ensures)) _ (ap lineOf (c .before .section .given .1)))
     -- enum-told
     (λ c. search needs)
     -- choose-requires
-    (λ c κs. c .before .before .before .before .before .pre .terms-within)
+    (λ c κs. start-of-find-clash (find-clash-of-enum-told c) .pre .terms-within)
     -- enum-known-k
     (λ c. search needs)
     -- enum-told-2
     (λ c. search needs)
     -- returns-2
-    (λ c. seen-saturated _ _ _ _ (sym (terms-said _ _ (c .before .before .before .before .before .before .before .before .pre))) _ (rows-clash _ _ _ _ (c .before .before .before .before .before .find-clash .result) _ (c .before .before .before .before .before .find-clash .ensures)) _ (ap lineOf (c .before .before .before .enum-told .given .1)) (c .before .before .choose .ensures) (ap choiceOf (c .enum-told2 .given .1)))
+    (λ c.
+    let after-choose = choose-of-enum-told2 c in let after-enum-told = after-choose .before in
+    let after-find-clash = find-clash-of-enum-told after-enum-told in
+    seen-saturated _ _ _ _ (sym (terms-said _ _ (start-of-find-clash after-find-clash .pre))) _
+    (rows-clash _ _ _ _ (after-find-clash .find-clash .result) _ (after-find-clash .find-clash .ensures)) _
+    (ap lineOf (after-enum-told .enum-told .given .1)) (after-choose .choose .ensures) (ap choiceOf (c .enum-told2 .given .1)))
     -- returns-3
-    (λ c. seen-applying _ _ _ _ (sym (terms-said _ _ (c .before .before .before .before .before .before .before .before .before .pre))) _ (rows-clash _ _ _ _ (c .before .before .before .before .before .before .find-clash .result) _ (c .before .before .before .before .before .before .find-clash .ensures)) _ (ap lineOf (c .before .before .before .before .enum-told .given .1)) (c .before .before .before .choose .ensures) _ (ap choiceOf (c .before .k .given .1))))
+    (λ c.
+    let after-choose = c .before .before .before in let after-enum-told = after-choose .before in
+    let after-find-clash = find-clash-of-enum-told after-enum-told in
+    seen-applying _ _ _ _ (sym (terms-said _ _ (start-of-find-clash after-find-clash .pre))) _
+    (rows-clash _ _ _ _ (after-find-clash .find-clash .result) _ (after-find-clash .find-clash .ensures)) _
+    (ap lineOf (after-enum-told .enum-told .given .1)) (after-choose .choose .ensures) _ (ap choiceOf (c .before .k .given .1))))

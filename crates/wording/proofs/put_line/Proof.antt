@@ -23,8 +23,13 @@ put-line-spec =
     -- same-length
     (λ c. search needs)
     -- returns
-    (λ c. (
+    (λ c.
+    let after-put-byte = c .before .before in let after-put-next3 = after-put-byte .before .before .before .before in
+    let after-put-next2 = after-put-next3 .before .before .before .before in
+    let after-put-next = after-put-next2 .before .before .before .before in (
       writes-as (line-words _ _ _ _)
-          (writes-then (c .before .before .before .before .before .before .before .before .before .before .before .before .before .before .before .before .before .before .put-number .ensures .0) (writes-then (c .before .before .before .before .before .before .before .before .before .before .before .before .before .before .put-next .ensures .0) (writes-then (c .before .before .before .before .before .before .before .before .before .before .put-next2 .ensures .0) (writes-then (c .before .before .before .before .before .before .put-next3 .ensures .0) (c .before .before .put-byte .ensures))))),
-      omega (arith, c .before .before .put-byte .ensures .ends),
+          (writes-then (after-put-next .before .before .before .before .put-number .ensures .0)
+          (writes-then (after-put-next .put-next .ensures .0)
+          (writes-then (after-put-next2 .put-next2 .ensures .0) (writes-then (after-put-next3 .put-next3 .ensures .0) (after-put-byte .put-byte .ensures))))),
+      omega (arith, after-put-byte .put-byte .ensures .ends),
     )))

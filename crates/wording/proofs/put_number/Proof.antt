@@ -19,7 +19,8 @@ put-number-spec =
     -- same-length
     (λ c. search needs)
     -- returns
-    (λ c. (
-      writes-as (ap decimal (c .before .before .before .wide .ensures .0)) (c .before .before .put-decimal .ensures),
-      omega (arith, c .before .before .put-decimal .ensures .ends, decimal-byte (c .before .before .before .wide .result) (c .before .before .before .wide .ensures .1)),
+    (λ c.
+    let after-put-decimal = c .before .before in let after-wide = after-put-decimal .before in (
+      writes-as (ap decimal (after-wide .wide .ensures .0)) (after-put-decimal .put-decimal .ensures),
+      omega (arith, after-put-decimal .put-decimal .ensures .ends, decimal-byte (after-wide .wide .result) (after-wide .wide .ensures .1)),
     )))

@@ -17,4 +17,8 @@ put-refusal-spec =
     -- same-length
     (λ c. search needs)
     -- returns
-    (λ c. (writes-as (refusal-words _ _) (writes-then (c .before .before .before .before .before .before .put-refused .ensures .0) (c .before .before .put-byte .ensures)), omega (arith, c .before .before .before .before .before .before .put-refused .ensures .1, c .before .before .put-byte .ensures .ends))))
+    (λ c.
+    let after-put-byte = c .before .before in let after-put-refused = after-put-byte .before .before .before .before in (
+      writes-as (refusal-words _ _) (writes-then (after-put-refused .put-refused .ensures .0) (after-put-byte .put-byte .ensures)),
+      omega (arith, after-put-refused .put-refused .ensures .1, after-put-byte .put-byte .ensures .ends),
+    )))

@@ -1,0 +1,2 @@
+pub mod Nogoods
+pub mod Branching

@@ -1,0 +1,3 @@
+pub mod Formulas
+pub mod Codes
+pub mod Examples
