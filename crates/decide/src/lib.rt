@@ -188,7 +188,7 @@ fn search(query: &[u8], layout: Layout, how: usize, left: usize, s: Facts, budge
     ensures { λ r. ⌜ Ends (said layout (now (query .entry))) (pathOf s) (r .kind) (pathOf (r .facts)) ⌝ }
 {
     if how == 4 {
-        let found = backjumping::search(query, layout, 42, s, budget);
+        let found = backjumping::search(query, layout, 55, s, budget);
         let told = found.kind;
         let facts = found.facts;
         return Tried {
@@ -253,7 +253,7 @@ fn in_turn(query: &[u8], layout: Layout, s: Facts, first: usize) -> Settled
     requires { ⌜ Within layout (now query) × Accepted (said layout (now query)) × Known (said layout (now query)) (pathOf s) ⌝ }
     ensures { λ r. ⌜ Ends (said layout (now (query .entry))) (pathOf s) (r .kind) (pathOf (r .facts)) ⌝ }
 {
-    let quick = search(query, layout, 0, 300, s, 50);
+    let quick = search(query, layout, 0, 200, s, 50);
     let known = quick.kind;
     if !kinds::is_unknown(known) {
         let end = quick.facts;
@@ -263,7 +263,7 @@ fn in_turn(query: &[u8], layout: Layout, s: Facts, first: usize) -> Settled
             facts: end,
         };
     }
-    let soon = search(query, layout, first, 300, s, 400);
+    let soon = search(query, layout, first, 200, s, 400);
     let found = soon.kind;
     if !kinds::is_unknown(found) {
         let end = soon.facts;
@@ -277,7 +277,7 @@ fn in_turn(query: &[u8], layout: Layout, s: Facts, first: usize) -> Settled
     let mut turn: usize = 0;
     while turn < 60 {
         let how = strategy(turn);
-        let tried = search(query, layout, how, 300, s, budget);
+        let tried = search(query, layout, how, 200, s, budget);
         let kind = tried.kind;
         if !kinds::is_unknown(kind) {
             let end = tried.facts;
