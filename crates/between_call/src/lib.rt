@@ -1,4 +1,6 @@
 // The call for queries with between literals: the first small heap that satisfies, in a report, or none.
+#![tactic(auto)]
+
 ghost use Rattle.std.specs.Prelude.{◌≡◌, List, map, ℕ, ◌+◌, ◌*◌, ◌≤◌, length, get_or};
 ghost use Rattle.logic.specs.Facts.{terms};
 ghost use Rattle.rows.specs.Square.{square};

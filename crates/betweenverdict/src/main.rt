@@ -1,4 +1,6 @@
 // Reads a query of six sections from standard input, and prints the first small heap that meets it, if there is one.
+#![tactic(auto)]
+
 use libc::{STDIN_FILENO, STDOUT_FILENO};
 
 fn main() {

@@ -1,6 +1,8 @@
 // Runs a row of cases, each of a call or of what a program prints, and prints a line for each: what the call answers, and every byte that was
 // lent; or the program's text. A case is a byte that names the call, three parts, each after its length in two bytes, high byte first (a call that
 // takes fewer has empty ones), and in two bytes how many bytes are lent. They are lent full of 255.
+#![tactic(auto)]
+
 ghost use Rattle.std.specs.Prelude.{◌≤◌, ◌<◌, length};
 
 use between_call::BetweenAnswer;

@@ -1,5 +1,7 @@
 // Reads a query with three links (02, R-11) and a derivation by anyone from standard input, and prints whether the derivation refutes the
 // query. 321,544 bytes hold the length of a query, the longest query of that length, and the longest text of 16,000 lines and a byte more.
+#![tactic(auto)]
+
 use libc::{STDIN_FILENO, STDOUT_FILENO};
 
 fn main() {

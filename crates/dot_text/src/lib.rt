@@ -1,6 +1,8 @@
 // The whole text of a report through one writer: it is made over the caller's buffer, passed on from part to part and dropped at the end
 // (02, R-2). A part with a loop takes the writer apart, lends its buffer to a function on the slice and the fill (`dot_lines`), and hands
 // the writer back with the next fill.
+#![tactic(auto)]
+
 ghost use Rattle.std.specs.Prelude.{◌≡◌, ◌++◌, ◌+◌, ◌≤◌, length};
 ghost use Rattle.text.specs.Text.{Writes};
 ghost use Rattle.dot_writer.specs.Written.{written};

@@ -2,6 +2,8 @@
 // that holds the caller's buffer and its fill"). Each function over the struct takes it apart and calls one on the slice and the number,
 // which does the work. `add` and `add_two` above them have plain parameters, for callers that loop: each makes one writer, passes it on
 // through its parts and drops it.
+#![tactic(auto)]
+
 ghost use Rattle.std.specs.Prelude.{◌≡◌, ◌++◌, ◌+◌, ◌≤◌, length};
 ghost use Rattle.text.specs.Text.{Writes, decimal};
 ghost use Rattle.dot_writer.specs.Written.{written};

@@ -1,6 +1,8 @@
 // Small random queries under random orders, each decided by trying every small heap and compared with the prover's
 // verdict. The heap of each satisfiable answer is checked literal by literal. Nothing here is shared with the prover.
 // What must be printed comes from tests/enumerate.rs, which makes and decides the same queries.
+#![tactic(auto)]
+
 mod heaps;
 mod literals;
 mod queries;

@@ -1,4 +1,6 @@
 // Every export of the library, called as a C program calls it: the number that it answers, on a line. Lent bytes are full of 255.
+#![tactic(auto)]
+
 use lemitsaka::between_export::lemitsaka_between;
 use lemitsaka::check_export::{lemitsaka_check, lemitsaka_links_check};
 use lemitsaka::dot_export::lemitsaka_dot;

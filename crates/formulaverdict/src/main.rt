@@ -1,4 +1,6 @@
 // Reads an order list, a query after its length, and a formula's text from standard input, and prints the answer.
+#![tactic(auto)]
+
 use libc::{STDIN_FILENO, STDOUT_FILENO};
 
 fn main() {

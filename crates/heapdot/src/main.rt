@@ -1,6 +1,8 @@
 // Reads what heapverdict prints, or a heap report's bytes, from standard input, and prints the heap's picture in Graphviz's DOT
 // language: `heapverdict <query | heapdot | dot -Tpng`. Where there is no heap, a line on standard error says why, and nothing else is
 // printed.
+#![tactic(auto)]
+
 ghost use Rattle.std.specs.Prelude.{◌≤◌};
 
 use dot::DotAnswer;

@@ -1,4 +1,6 @@
 // Reads an order list and a query from standard input, and prints the verdict and its evidence.
+#![tactic(auto)]
+
 use libc::{STDIN_FILENO, STDOUT_FILENO};
 
 fn main() {

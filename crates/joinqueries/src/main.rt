@@ -1,5 +1,7 @@
 // Reads two teams' queries and a pair list, or a clash line, from standard input, and prints both as one query, or the literal that the line
 // names. 131,214 bytes hold two queries of any length that two bytes give, and a pair list longer than any that passes.
+#![tactic(auto)]
+
 use libc::{STDIN_FILENO, STDOUT_FILENO};
 
 fn main() {

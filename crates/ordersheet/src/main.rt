@@ -1,4 +1,6 @@
 // Reads a precedence sheet as text from standard input, a pair a line, and prints the order list, or the ring in words.
+#![tactic(auto)]
+
 ghost use Rattle.std.specs.Prelude.{◌*◌, ◌+◌, ◌≤◌, ◌<◌, length, ◌≡◌};
 ghost use Rattle.ordersheet.specs.Reading.{Few};
 

@@ -1,5 +1,7 @@
 // Reads a query in the old layout from standard input and prints the query with three links that it becomes, as two hex digits a byte: 1,911
 // bytes hold the longest.
+#![tactic(auto)]
+
 use libc::{STDIN_FILENO, STDOUT_FILENO};
 
 fn main() {

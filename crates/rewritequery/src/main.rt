@@ -1,4 +1,6 @@
 // Reads an old query from standard input and prints the query that it becomes, as two hex digits a byte: 1,683 bytes hold the longest.
+#![tactic(auto)]
+
 use libc::{STDIN_FILENO, STDOUT_FILENO};
 
 fn main() {

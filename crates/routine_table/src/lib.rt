@@ -1,4 +1,6 @@
 // The table of a text: its numbers, by place. What they say is in specs/.
+#![tactic(auto)]
+
 ghost use Rattle.std.specs.Prelude.{◌≡◌, ◌+◌, ◌*◌, ◌≤◌, ◌<◌};
 ghost use Rattle.routine_table.specs.Cells.{cell, statement_cell, clause_cell, routine_cell, part_cell};
 

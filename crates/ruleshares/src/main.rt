@@ -1,6 +1,8 @@
 // Reads an order list and queries from standard input, and prints a line for each query and then each rule's share of the rule lines of their
 // derivations. It reads and writes in pieces of 64 KiB; what is printed is `output` (crates/sharing/specs) of all that is read
 // (Claims, there).
+#![tactic(auto)]
+
 ghost use Rattle.std.specs.Prelude.{◌≡◌, true, ◌<◌, ◌≤◌, length, take};
 ghost use Rattle.sharing.specs.Claims.{Reads, RoundOf, Ends};
 

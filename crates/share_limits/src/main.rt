@@ -1,6 +1,8 @@
 // Values of FNV-1a's public test vectors, and a tally near its limit: refusal 28 leaves it as it was, and the next derivation is added. Then the
 // streams of standard input (tests/share_vectors.py), each after its length in two bytes, high first: what ruleshares prints of each, by the same
 // functions, and a line `--`.
+#![tactic(auto)]
+
 ghost use Rattle.std.specs.Prelude.{◌≤◌, length};
 
 use libc::{STDIN_FILENO, STDOUT_FILENO};

@@ -1,6 +1,8 @@
 // Runs three rows of inputs, each input after its length in two bytes, and prints what a program prints of each, with a line `--` after it:
 // heapverdict; heapverdict, but of a refuted query the first line alone, for a workload whose derivations are not stored; linksverdict. A
 // length of 65,535, which no input has, ends a row.
+#![tactic(auto)]
+
 ghost use Rattle.std.specs.Prelude.{◌≡◌, ◌≤◌, ◌<◌, length};
 
 use libc::STDOUT_FILENO;

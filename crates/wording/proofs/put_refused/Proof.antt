@@ -9,17 +9,17 @@ use Rattle.wording.proofs.put_refused.Tie as tie
 
 -- The places that lie behind a place.
 
-abbrev put_bytes2_of_put_decimal_arg2 : tie.After-put-decimal-arg2 → tie.After-put-bytes2
+abbrev put_bytes2_of_put_decimal_arg2 : tie.After-put_decimal-arg-2-1 → tie.After-put_bytes-where_from
 put_bytes2_of_put_decimal_arg2 c = c.before.before.before
 
-abbrev put_bytes_of_put_decimal : tie.After-put-decimal → tie.After-put-bytes
+abbrev put_bytes_of_put_decimal : tie.After-put_decimal-behind → tie.After-put_bytes-number
 put_bytes_of_put_decimal c = c.before.before.before.before
 
-abbrev put_decimal_of_put_bytes_arg4 : tie.After-put-bytes-arg4 → tie.After-put-decimal
-put_decimal_of_put_bytes_arg4 c = c.before.before.before.before
+abbrev put_decimal_of_put_bytes_arg4 : tie.After-put_bytes-arg-4-1 → tie.After-put_decimal-behind
+put_decimal_of_put_bytes_arg4 c = c.before.before.before
 
-abbrev start_of_put_bytes_arg4 : tie.After-put-bytes-arg4 → tie.Start
-start_of_put_bytes_arg4 c = (put_bytes_of_put_decimal (put_decimal_of_put_bytes_arg4 c)).before.before.before.before
+abbrev start_of_put_bytes_arg4 : tie.After-put_bytes-arg-4-1 → tie.Start
+start_of_put_bytes_arg4 c = (put_bytes_of_put_decimal (put_decimal_of_put_bytes_arg4 c)).before.before.before.before.before
 
 pub put_refused_spec : {M : Type 1} → statement M
 put_refused_spec =
@@ -34,25 +34,25 @@ put_refused_spec =
     -- slice-aggregate-put-bytes-2
     (λ c. search rules)
     -- put-bytes-requires-2
-    (λ c κs. let k = decimal_machine (start_of_put_bytes_arg4 c).args.k (omega arith) in omega arith)
+    (λ c κs. let k = decimal_machine (start_of_put_bytes_arg4 c.before.before.before.before.before.before.before.before.before).args.k (omega arith) in omega arith)
     -- put-decimal-requires-2
-    (λ c κs. let k = decimal_machine (start_of_put_bytes_arg4 (put_bytes2_of_put_decimal_arg2 c).before).args.k (omega arith) in omega arith)
+    (λ c κs. let k = decimal_machine (start_of_put_bytes_arg4 (put_bytes2_of_put_decimal_arg2 c.before.before.before).before.before.before).args.k (omega arith) in omega arith)
     -- same-length
     (λ c. search rules)
     -- returns
     (λ c.
     let after_put_decimal2 = c.before.before in let after_put_bytes2 = put_bytes2_of_put_decimal_arg2 after_put_decimal2.before in
-    let after_put_decimal = put_decimal_of_put_bytes_arg4 after_put_bytes2.before in
-    let after_put_bytes = put_bytes_of_put_decimal after_put_decimal in let start = start_of_put_bytes_arg4 after_put_bytes2.before in
+    let after_put_decimal = put_decimal_of_put_bytes_arg4 after_put_bytes2.before.before.before in
+    let after_put_bytes = put_bytes_of_put_decimal after_put_decimal in let start = start_of_put_bytes_arg4 after_put_bytes2.before.before.before in
     let k = decimal_machine start.args.k (omega arith) in
     let p = decimal_machine start.args.place (omega arith) in (
-      writes_as (refused_words _ _) (writes_then after_put_bytes.put-bytes.ensures
-          (writes_then after_put_decimal.put-decimal.ensures (writes_then after_put_bytes2.put-bytes2.ensures after_put_decimal2.put-decimal2.ensures))),
+      writes_as (refused_words _ _) (writes_then after_put_bytes.put_bytes-number.ensures
+          (writes_then after_put_decimal.put_decimal-behind.ensures (writes_then after_put_bytes2.put_bytes-where_from.ensures after_put_decimal2.put-decimal2.ensures))),
       omega (
         arith,
-        after_put_bytes.put-bytes.ensures.ends,
-        after_put_decimal.put-decimal.ensures.ends,
-        after_put_bytes2.put-bytes2.ensures.ends,
+        after_put_bytes.put_bytes-number.ensures.ends,
+        after_put_decimal.put_decimal-behind.ensures.ends,
+        after_put_bytes2.put_bytes-where_from.ensures.ends,
         after_put_decimal2.put-decimal2.ensures.ends,
       ),
     )))

@@ -8,13 +8,13 @@ use Rattle.wording.proofs.report_size.Tie as tie
 
 -- The places that lie behind a place.
 
-abbrev start_of_shared_slice_known2 : tie.After-shared-slice-known2 → tie.Start
+abbrev start_of_shared_slice_known2 : tie.After-shared_slice_known-2-1 → tie.Start
 start_of_shared_slice_known2 c = c.before.before
 
-abbrev wide_of_wide2 : tie.After-wide2 → tie.After-wide
+abbrev wide_of_wide2 : tie.After-wide-n → tie.After-wide-p
 wide_of_wide2 c = c.before.before
 
-abbrev start_of_wide : tie.After-wide → tie.Start
+abbrev start_of_wide : tie.After-wide-p → tie.Start
 start_of_wide c = start_of_shared_slice_known2 c.before
 
 pub report_size_spec : {M : Type 1} → statement M
@@ -24,7 +24,7 @@ report_size_spec =
     -- shared-slice-read-wide
     (λ c.
     let start = start_of_shared_slice_known2 c in
-    let s = report_sized start.args.report.now start.args.links _ _ start.pre.2 refl refl in omega (arith, s.whole))
+    let s = report_sized start.args.report.now start.args.links _ _ start.requires.2 refl refl in omega (arith, s.whole))
     -- wide-requires
     (λ c κs. search rules)
     -- add-wide
@@ -32,7 +32,7 @@ report_size_spec =
     -- shared-slice-read-wide-2
     (λ c.
     let start = start_of_wide c.before in
-    let s = report_sized start.args.report.now start.args.links _ _ start.pre.2 c.before.wide.ensures.0 refl in omega (arith, s.whole))
+    let s = report_sized start.args.report.now start.args.links _ _ start.requires.2 c.wide-p.ensures.0 refl in omega (arith, s.whole))
     -- wide-requires-2
     (λ c κs. search rules)
     -- add-result
@@ -42,15 +42,15 @@ report_size_spec =
     -- add-result-2
     (λ c.
     let after_wide = wide_of_wide2 c in let start = start_of_wide after_wide in
-    let s = report_sized start.args.report.now start.args.links _ _ start.pre.2 after_wide.wide.ensures.0 c.wide2.ensures.0 in
-    omega (arith, s.nodes, after_wide.wide.ensures.1, c.wide2.ensures.1))
+    let s = report_sized start.args.report.now start.args.links _ _ start.requires.2 after_wide.wide-p.ensures.0 c.wide-n.ensures.0 in
+    omega (arith, s.nodes, after_wide.wide-p.ensures.1, c.wide-n.ensures.1))
     -- add-result-3
     (λ c.
     let after_wide = wide_of_wide2 c in let start = start_of_wide after_wide in
-    let s = report_sized start.args.report.now start.args.links _ _ start.pre.2 after_wide.wide.ensures.0 c.wide2.ensures.0 in
-    omega (arith, s.nodes, after_wide.wide.ensures.1, c.wide2.ensures.1))
+    let s = report_sized start.args.report.now start.args.links _ _ start.requires.2 after_wide.wide-p.ensures.0 c.wide-n.ensures.0 in
+    omega (arith, s.nodes, after_wide.wide-p.ensures.1, c.wide-n.ensures.1))
     -- returns
     (λ c.
     let after_wide = wide_of_wide2 c in let start = start_of_wide after_wide in
-    let s = report_sized start.args.report.now start.args.links _ _ start.pre.2 after_wide.wide.ensures.0 c.wide2.ensures.0 in
+    let s = report_sized start.args.report.now start.args.links _ _ start.requires.2 after_wide.wide-p.ensures.0 c.wide-n.ensures.0 in
     (s.counted, s.whole, omega arith, omega (arith, s.successors, s.terms, s.nodes))))
