@@ -23,14 +23,14 @@ concerned_spec =
     -- enum-told-6
     (λ c. search rules)
     -- returns
-    (λ c. sym (ap (λ (s : Kind). concerned s c.args.k) c.enum_told-1.given.1))
+    (λ c. sym (ap (λ (s : Kind). concerned s c.args.k) c.in-Terms.is))
     -- returns-2
-    (λ c. sym (ap (λ (s : Kind). concerned s c.args.k) c.enum_told-in-Pairs-1.given.1))
+    (λ c. sym (ap (λ (s : Kind). concerned s c.args.k) c.in-Pairs.is))
     -- returns-3
-    (λ c. sym (ap (λ (s : Kind). concerned s c.args.k) c.enum_told-in-Fields-1.given.1))
+    (λ c. sym (ap (λ (s : Kind). concerned s c.args.k) c.in-Fields.is))
     -- returns-4
-    (λ c. sym (ap (λ (s : Kind). concerned s c.args.k) c.enum_told-in-Booleans-1.given.1))
+    (λ c. sym (ap (λ (s : Kind). concerned s c.args.k) c.in-Booleans.is))
     -- returns-5
-    (λ c. sym (ap (λ (s : Kind). concerned s c.args.k) c.enum_told-in-LinkedTerms-1.given.1))
+    (λ c. sym (ap (λ (s : Kind). concerned s c.args.k) c.in-LinkedTerms.is))
     -- returns-6
-    (λ c. sym (ap (λ (s : Kind). concerned s c.args.k) c.enum_told-in-LinkedPairs-1.given.1)))
+    (λ c. sym (ap (λ (s : Kind). concerned s c.args.k) c.in-LinkedPairs.is)))

@@ -23,7 +23,7 @@ decreases-loop-i linked query at count step place₀ i₀ place i = count - i
 -- The places that lie behind a place.
 
 abbrev entry_link_fault_of_enum_told : tie.In-Nothing invariant-loop-i decreases-loop-i → tie.After-entry_link_fault invariant-loop-i decreases-loop-i
-entry_link_fault_of_enum_told c = c.before.before
+entry_link_fault_of_enum_told c = c.before
 
 abbrev start_of_linked_width : tie.After-linked_width-step invariant-loop-i decreases-loop-i → tie.Start invariant-loop-i decreases-loop-i
 start_of_linked_width c = c.before.before
@@ -56,9 +56,9 @@ link_fault_spec =
     -- returns
     (λ c.
     let after_entry_link_fault = c in let in_loop = after_entry_link_fault in let at_loop = in_loop in
-    let start = start_of_at_loop at_loop.before.before.before.before.before in
+    let start = start_of_at_loop at_loop.before.before.before in
     sym (at_loop.loop-i.invariant.1 ∙ links_here start.args.linked start.args.query.now _ _ _ _ in_loop.loop-i-test.true
-    (sym after_entry_link_fault.entry_link_fault.ensures ∙ ap found_of c.p-1.given.1)))
+    (sym after_entry_link_fault.entry_link_fault.ensures ∙ ap found_of c.in-At.is)))
     -- enum_told
     (λ c. search rules)
     -- add-place
@@ -79,7 +79,7 @@ link_fault_spec =
       ),
       (at_loop_of_enum_told c).loop-i.invariant.1 ∙ links_next (start_of_at_loop (at_loop_of_enum_told c)).args.linked
           (start_of_at_loop (at_loop_of_enum_told c)).args.query.now _ _ _ (in_loop_of_enum_told c).loop-i-test.true
-          (sym (entry_link_fault_of_enum_told c).entry_link_fault.ensures ∙ ap found_of c.enum_told-1.given.1),
+          (sym (entry_link_fault_of_enum_told c).entry_link_fault.ensures ∙ ap found_of c.in-Nothing.is),
     ))
     -- returns-2
     (λ c.

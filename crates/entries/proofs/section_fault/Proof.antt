@@ -24,7 +24,7 @@ decreases-loop-i k kind n query at count step place₀ i₀ place i = count - i
 -- The places that lie behind a place.
 
 abbrev entry_fault_of_enum_told : tie.In-Nothing invariant-loop-i decreases-loop-i → tie.After-entry_fault invariant-loop-i decreases-loop-i
-entry_fault_of_enum_told c = c.before.before
+entry_fault_of_enum_told c = c.before
 
 abbrev width_of_in_loop : tie.In-loop-i invariant-loop-i decreases-loop-i → tie.After-width-step invariant-loop-i decreases-loop-i
 width_of_in_loop c = c.before.before
@@ -44,7 +44,7 @@ section_fault_spec =
     -- concerned-requires
     (λ c κs. search rules)
     -- returns
-    (λ c. sym (section_free _ _ _ _ _ _ (sym c.concerned.ensures ∙ not-true _ c.if-not-concerned.true)))
+    (λ c. sym (section_free _ _ _ _ _ _ (sym c.concerned.ensures ∙ c.if-not-concerned.true)))
     -- width-requires
     (λ c κs. search rules)
     -- loop-holds
@@ -60,9 +60,9 @@ section_fault_spec =
     -- returns-2
     (λ c.
     let after_entry_fault = c in let in_loop = after_entry_fault in
-    let start = start_of_width (width_of_in_loop in_loop.before.before.before.before) in
+    let start = start_of_width (width_of_in_loop in_loop.before.before) in
     sym (in_loop.loop-i.invariant.1 ∙ entry_here _ start.args.kind _ _ start.args.query.now _ _ _ in_loop.loop-i-test.true
-    (sym after_entry_fault.entry_fault.ensures ∙ ap found_of c.p-1.given.1)))
+    (sym after_entry_fault.entry_fault.ensures ∙ ap found_of c.in-At.is)))
     -- enum_told
     (λ c. search rules)
     -- add-place
@@ -83,7 +83,7 @@ section_fault_spec =
       ),
       (in_loop_of_enum_told c).loop-i.invariant.1 ∙ entry_next _ (start_of_width (width_of_in_loop (in_loop_of_enum_told c))).args.kind _ _
           (start_of_width (width_of_in_loop (in_loop_of_enum_told c))).args.query.now _ _ (in_loop_of_enum_told c).loop-i-test.true
-          (sym (entry_fault_of_enum_told c).entry_fault.ensures ∙ ap found_of c.enum_told-1.given.1),
+          (sym (entry_fault_of_enum_told c).entry_fault.ensures ∙ ap found_of c.in-Nothing.is),
     ))
     -- returns-3
     (λ c.

@@ -71,7 +71,7 @@ section_passes_spec =
       ),
       λ k. (at_loop_of_else1 c).loop-i.invariant.1 k ∙ entry_next k (start_of_at_loop (at_loop_of_else1 c)).args.kind _ _
           (start_of_at_loop (at_loop_of_else1 c)).args.query.now _ _ (in_loop_of_else1 c).loop-i-test.true
-          (c.entry_passes.ensures (not-false _ c.if-not-entry_passes.false) k),
+          (c.entry_passes.ensures c.if-not-entry_passes.false k),
     ))
     -- returns-2
     (λ c h k.

@@ -38,11 +38,11 @@ put_spec =
     -- same-length
     (λ c.
     let after_copy = copy_of_slice_known2 c in let after_place = place_of_copy after_copy in
-    back_long _ _ (start_of_place after_place).requires.2 after_place.place-from.ensures.1 after_copy.copy.last.0 after_copy.copy.ensures.1)
+    back_long _ _ (start_of_place after_place).requires.2 after_place.place-from.ensures.1 after_copy.copy.new.rows after_copy.copy.ensures.1)
     -- returns
     (λ c.
     let after_copy = copy_of_slice_known2 c in let after_place = place_of_copy after_copy in
     let p = (start_of_place after_place).requires in (
-      put_as _ _ p.0 p.1 p.2 after_copy.copy.last.0 after_copy.copy.ensures.1 _ after_place.place-from.ensures.0 _ after_copy.copy.ensures.0,
-      back_long _ _ p.2 after_place.place-from.ensures.1 after_copy.copy.last.0 after_copy.copy.ensures.1 ∙ p.2,
+      put_as _ _ p.0 p.1 p.2 after_copy.copy.new.rows after_copy.copy.ensures.1 _ after_place.place-from.ensures.0 _ after_copy.copy.ensures.0,
+      back_long _ _ p.2 after_place.place-from.ensures.1 after_copy.copy.new.rows after_copy.copy.ensures.1 ∙ p.2,
     )))

@@ -38,12 +38,12 @@ replace_by_spec =
     -- same-length
     (λ c.
     let after_replace_in = replace_in_of_slice_known2 c in let after_place = place_of_replace_in after_replace_in in
-    back_long _ _ (start_of_place after_place).requires.4 after_place.place-from.ensures.1 after_replace_in.replace_in.last.0 after_replace_in.replace_in.ensures.1)
+    back_long _ _ (start_of_place after_place).requires.4 after_place.place-from.ensures.1 after_replace_in.replace_in.new.rows after_replace_in.replace_in.ensures.1)
     -- returns
     (λ c.
     let after_replace_in = replace_in_of_slice_known2 c in let after_place = place_of_replace_in after_replace_in in
     let p = (start_of_place after_place).requires in (
-      replaced_by _ _ p.0 p.1 p.4 after_replace_in.replace_in.last.0 after_replace_in.replace_in.ensures.1 _
+      replaced_by _ _ p.0 p.1 p.4 after_replace_in.replace_in.new.rows after_replace_in.replace_in.ensures.1 _
           after_place.place-from.ensures.0 _ _ after_replace_in.replace_in.ensures.0,
-      back_long _ _ p.4 after_place.place-from.ensures.1 after_replace_in.replace_in.last.0 after_replace_in.replace_in.ensures.1 ∙ p.4,
+      back_long _ _ p.4 after_place.place-from.ensures.1 after_replace_in.replace_in.new.rows after_replace_in.replace_in.ensures.1 ∙ p.4,
     )))

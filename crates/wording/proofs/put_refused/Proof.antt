@@ -25,34 +25,30 @@ pub put_refused_spec : {M : Type 1} → statement M
 put_refused_spec =
     tie.close
     (tie.spec
-    -- slice-aggregate-put-bytes
-    (λ c. search rules)
     -- put-bytes-requires
     (λ c κs. search rules)
     -- put-decimal-requires
     (λ c κs. search rules)
-    -- slice-aggregate-put-bytes-2
-    (λ c. search rules)
     -- put-bytes-requires-2
-    (λ c κs. let k = decimal_machine (start_of_put_bytes_arg4 c.before.before.before.before.before.before.before.before.before).args.k (omega arith) in omega arith)
+    (λ c κs. let k = decimal_machine (start_of_put_bytes_arg4 c.before.before).args.k (omega arith) in omega arith)
     -- put-decimal-requires-2
-    (λ c κs. let k = decimal_machine (start_of_put_bytes_arg4 (put_bytes2_of_put_decimal_arg2 c.before.before.before).before.before.before).args.k (omega arith) in omega arith)
+    (λ c κs. let k = decimal_machine (start_of_put_bytes_arg4 (put_bytes2_of_put_decimal_arg2 c).before.before.before).args.k (omega arith) in omega arith)
     -- same-length
     (λ c. search rules)
     -- returns
     (λ c.
-    let after_put_decimal2 = c.before.before in let after_put_bytes2 = put_bytes2_of_put_decimal_arg2 after_put_decimal2.before in
+    let after_put_decimal2 = c in let after_put_bytes2 = put_bytes2_of_put_decimal_arg2 after_put_decimal2.before.before.before in
     let after_put_decimal = put_decimal_of_put_bytes_arg4 after_put_bytes2.before.before.before in
     let after_put_bytes = put_bytes_of_put_decimal after_put_decimal in let start = start_of_put_bytes_arg4 after_put_bytes2.before.before.before in
     let k = decimal_machine start.args.k (omega arith) in
     let p = decimal_machine start.args.place (omega arith) in (
       writes_as (refused_words _ _) (writes_then after_put_bytes.put_bytes-number.ensures
-          (writes_then after_put_decimal.put_decimal-behind.ensures (writes_then after_put_bytes2.put_bytes-where_from.ensures after_put_decimal2.put-decimal2.ensures))),
+          (writes_then after_put_decimal.put_decimal-behind.ensures (writes_then after_put_bytes2.put_bytes-where_from.ensures after_put_decimal2.put_decimal.ensures))),
       omega (
         arith,
         after_put_bytes.put_bytes-number.ensures.ends,
         after_put_decimal.put_decimal-behind.ensures.ends,
         after_put_bytes2.put_bytes-where_from.ensures.ends,
-        after_put_decimal2.put-decimal2.ensures.ends,
+        after_put_decimal2.put_decimal.ensures.ends,
       ),
     )))

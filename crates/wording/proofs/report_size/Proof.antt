@@ -8,14 +8,14 @@ use Rattle.wording.proofs.report_size.Tie as tie
 
 -- The places that lie behind a place.
 
-abbrev start_of_shared_slice_known2 : tie.After-shared_slice_known-2-1 → tie.Start
+abbrev start_of_shared_slice_known2 : tie.After-shared_slice_known-2-1-unread → tie.Start
 start_of_shared_slice_known2 c = c.before.before
 
 abbrev wide_of_wide2 : tie.After-wide-n → tie.After-wide-p
 wide_of_wide2 c = c.before.before
 
 abbrev start_of_wide : tie.After-wide-p → tie.Start
-start_of_wide c = start_of_shared_slice_known2 c.before
+start_of_wide c = start_of_shared_slice_known2 c
 
 pub report_size_spec : {M : Type 1} → statement M
 report_size_spec =
