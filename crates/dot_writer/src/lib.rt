@@ -32,7 +32,8 @@ fn number_at(out: &mut [u8], fill: usize, k: usize) -> usize
 
 // The borrow goes into the writer, beside how much of it is filled.
 pub fn new<'a>(out: &'a mut [u8], fill: usize) -> Writer<'a>
-    ensures { (result.out ≡ out.entry) × (result.fill ≡ fill) }
+    ensures same_reference { result.out.ghost_name ≡ out.entry.ghost_name }
+    ensures made { (result.out ≡ out.entry) × (result.fill ≡ fill) }
 {
     Writer {
         out: out,
@@ -50,7 +51,8 @@ pub fn filled<'a>(w: Writer<'a>) -> usize
 // Bytes are added.
 pub fn put_bytes<'a, 'b>(w: Writer<'a>, bytes: &'b [u8]) -> Writer<'a>
     requires { w.fill + length bytes.now ≤ 18446744073709551615 }
-    ensures { result ≡ written w.entry bytes.now }
+    ensures same_reference { result.out.ghost_name ≡ w.entry.out.ghost_name }
+    ensures added { result ≡ written w.entry bytes.now }
 {
     let fill = w.fill;
     let next = bytes_at(&mut *w.out, fill, bytes);
@@ -63,7 +65,8 @@ pub fn put_bytes<'a, 'b>(w: Writer<'a>, bytes: &'b [u8]) -> Writer<'a>
 // A number in decimal is added.
 pub fn put_number<'a>(w: Writer<'a>, k: usize) -> Writer<'a>
     requires { w.fill + 20 ≤ 18446744073709551615 }
-    ensures { result ≡ written w.entry (decimal k) }
+    ensures same_reference { result.out.ghost_name ≡ w.entry.out.ghost_name }
+    ensures added { result ≡ written w.entry (decimal k) }
 {
     let fill = w.fill;
     let next = number_at(&mut *w.out, fill, k);

@@ -24,25 +24,21 @@ begins_spec =
     (λ c. (omega arith, refl))
     -- returns
     (λ c.
-    let at_loop = c in
-    sym (begins_short _ _ at_loop.loop-i.i c.loop-i-test.true c.if-bytes-i.true) ∙ at_loop.loop-i.invariant.1)
+    sym (begins_short _ _ c.loop-i.i c.loop-i-test.true c.if-bytes-i.true) ∙ c.loop-i.invariant.1)
     -- shared-slice-read-if2
     (λ c. omega arith)
     -- shared-slice-read-if2-2
     (λ c. omega arith)
     -- returns-2
     (λ c.
-    let else1 = c in let in_loop = else1 in let at_loop = in_loop in
-    sym (begins_other _ _ at_loop.loop-i.i in_loop.loop-i-test.true (omega (arith, else1.if-bytes-i.false)) c.if-bytes-i-2.true) ∙ at_loop.loop-i.invariant.1)
+    sym (begins_other _ _ c.loop-i.i c.loop-i-test.true (omega (arith, c.if-bytes-i.false)) c.if-bytes-i-2.true) ∙ c.loop-i.invariant.1)
     -- add-i
     (λ c. omega arith)
     -- loop-less
     (λ c. omega arith)
     -- loop-again
     (λ c.
-    let else1 = c in let in_loop = else1 in let at_loop = in_loop in
-    (omega arith, sym (begins-next _ _ at_loop.loop-i.i in_loop.loop-i-test.true (omega (arith, else1.if-bytes-i.false)) c.if-bytes-i-2.false) ∙ at_loop.loop-i.invariant.1))
+    (omega arith, sym (begins-next _ _ c.loop-i.i c.loop-i-test.true (omega (arith, c.if-bytes-i.false)) c.if-bytes-i-2.false) ∙ c.loop-i.invariant.1))
     -- returns-3
     (λ c.
-    let at_loop = c in
-    sym (begins_end _ _ at_loop.loop-i.i (omega arith)) ∙ at_loop.loop-i.invariant.1))
+    sym (begins_end _ _ c.loop-i.i (omega arith)) ∙ c.loop-i.invariant.1))

@@ -15,11 +15,6 @@ invariant-loop-i text count₀ i₀ count i = (i ≤ length text) × (count ≤ 
 abbrev decreases-loop-i : tie.decreases-loop-i
 decreases-loop-i text count₀ i₀ count i = length text - i
 
--- The places that lie behind a place.
-
-abbrev start_of_at_loop : tie.At-loop-i invariant-loop-i decreases-loop-i → tie.Start invariant-loop-i decreases-loop-i
-start_of_at_loop c = c.before.before
-
 pub count_newlines_spec : {M : Type 1} → statement M
 count_newlines_spec =
     tie.close
@@ -40,7 +35,6 @@ count_newlines_spec =
     (λ c. omega arith)
     -- loop-again
     (λ c.
-    let at_loop = c in
-    (omega arith, omega (arith, c.newline-count.ensures.1), omega (arith, newline_next (start_of_at_loop at_loop.before.before.before).args.text.now at_loop.loop-i.i (omega arith), c.newline-count.ensures.0)))
+    (omega arith, omega (arith, c.newline-count.ensures.1), omega (arith, newline_next c.args.text.now c.loop-i.i (omega arith), c.newline-count.ensures.0)))
     -- returns
-    (λ c. omega (arith, newline_end (start_of_at_loop c.before).args.text.now c.loop-i.i (omega arith))))
+    (λ c. omega (arith, newline_end c.args.text.now c.loop-i.i (omega arith))))

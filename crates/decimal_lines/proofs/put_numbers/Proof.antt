@@ -16,26 +16,6 @@ invariant-loop-i buffer₀ at text to₀ place₀ value₀ begun₀ i₀ buffer 
 abbrev decreases-loop-i : tie.decreases-loop-i
 decreases-loop-i buffer₀ at text to₀ place₀ value₀ begun₀ i₀ buffer to place value begun i = length text - i
 
--- The places that lie behind a place.
-
-abbrev at_loop_of_is_between : tie.After-is_between invariant-loop-i decreases-loop-i → tie.At-loop-i invariant-loop-i decreases-loop-i
-at_loop_of_is_between c = c.before.before
-
-abbrev is_digit_of_ends_number : tie.After-ends_number invariant-loop-i decreases-loop-i → tie.After-is_digit invariant-loop-i decreases-loop-i
-is_digit_of_ends_number c = c.before.before
-
-abbrev wide_of_then1 : tie.Then-is_digit invariant-loop-i decreases-loop-i → tie.After-wide-c invariant-loop-i decreases-loop-i
-wide_of_then1 c = c.before.before
-
-abbrev in_loop_of_wide : tie.After-wide-c invariant-loop-i decreases-loop-i → tie.In-loop-i invariant-loop-i decreases-loop-i
-in_loop_of_wide c = c.before.before
-
-abbrev wide_of_ends_number : tie.After-ends_number invariant-loop-i decreases-loop-i → tie.After-wide-c invariant-loop-i decreases-loop-i
-wide_of_ends_number c = (is_digit_of_ends_number c).before
-
-abbrev at_loop_of_wide : tie.After-wide-c invariant-loop-i decreases-loop-i → tie.At-loop-i invariant-loop-i decreases-loop-i
-at_loop_of_wide c = (in_loop_of_wide c).before
-
 pub put_numbers_spec : {M : Type 1} → statement M
 put_numbers_spec =
     tie.close
@@ -53,45 +33,43 @@ put_numbers_spec =
     -- mul-value
     (λ c. omega arith)
     -- sub-value
-    (λ c. omega (arith, (wide_of_then1 c).wide-c.ensures.0, (digit_range _ (sym c.is_digit.ensures ∙ c.if-is_digit.true)).0))
+    (λ c. omega (arith, c.wide-c.ensures.0, (digit_range _ (sym c.is_digit.ensures ∙ c.if-is_digit.true)).0))
     -- add-value
-    (λ c. omega (arith, (wide_of_then1 c).wide-c.ensures.1))
+    (λ c. omega (arith, c.wide-c.ensures.1))
     -- same-length
-    (λ c. writes_length (at_loop_of_wide (wide_of_then1 c.before)).loop-i.invariant.3.wrote)
+    (λ c. writes_length c.loop-i.invariant.3.wrote)
     -- returns
     (λ c.
-    let after_wide = wide_of_then1 c.before in
-    puts_big _ _ _ (at_loop_of_wide after_wide).loop-i.invariant.3 _ _ refl (in_loop_of_wide after_wide).loop-i-test.true
-    (digit_is _ after_wide.wide-c.ensures.0 (sym c.is_digit.ensures ∙ c.if-is_digit.true))
-    (omega (arith, after_wide.wide-c.ensures.0, c.if-value-gt255.true)))
+    puts_big _ _ _ c.loop-i.invariant.3 _ _ refl c.loop-i-test.true
+    (digit_is _ c.wide-c.ensures.0 (sym c.is_digit.ensures ∙ c.if-is_digit.true))
+    (omega (arith, c.wide-c.ensures.0, c.if-value-gt255.true)))
     -- add-i
     (λ c. omega arith)
     -- loop-less
     (λ c. omega arith)
     -- loop-again
     (λ c.
-    let after_wide = wide_of_then1 c.before in let wide_ensures_0 = after_wide.wide-c.ensures.0 in (
+    let wide_ensures_0 = c.wide-c.ensures.0 in (
       omega arith,
       omega arith,
       omega arith,
       value_as _ wide_ensures_0
-          (scanned_digit _ _ _ (at_loop_of_wide after_wide).loop-i.invariant.3 (in_loop_of_wide after_wide).loop-i-test.true
+          (scanned_digit _ _ _ c.loop-i.invariant.3 c.loop-i-test.true
           (digit_is _ wide_ensures_0 (sym c.is_digit.ensures ∙ c.if-is_digit.true)) (omega (arith, wide_ensures_0, c.if-value-gt255.false))),
     ))
     -- ends-number-requires
     (λ c κs. search rules)
     -- same-length-2
-    (λ c. writes_length (at_loop_of_wide (wide_of_ends_number c.before)).loop-i.invariant.3.wrote)
+    (λ c. writes_length c.loop-i.invariant.3.wrote)
     -- returns-2
     (λ c.
-    let after_is_digit = is_digit_of_ends_number c.before in let after_wide = after_is_digit in
-    puts_other _ _ _ (at_loop_of_wide after_wide.before).loop-i.invariant.3 _ _ refl (in_loop_of_wide after_wide.before).loop-i-test.true
-    (digit_is _ after_wide.wide-c.ensures.0 (sym after_is_digit.is_digit.ensures ∙ c.if-is_digit.false))
-    (end_is _ _ after_wide.wide-c.ensures.0 (sym c.ends_number.ensures ∙ not_taken _ c.if-not-ends_number.true)))
+    puts_other _ _ _ c.loop-i.invariant.3 _ _ refl c.loop-i-test.true
+    (digit_is _ c.wide-c.ensures.0 (sym c.is_digit.ensures ∙ c.if-is_digit.false))
+    (end_is _ _ c.wide-c.ensures.0 (sym c.ends_number.ensures ∙ not_taken _ c.if-not-ends_number.true)))
     -- cast-put-byte
     (λ c. omega arith)
     -- put-byte-requires
-    (λ c κs. omega (arith, (at_loop_of_wide (wide_of_ends_number c.before.before)).loop-i.invariant.3.few))
+    (λ c κs. omega (arith, c.loop-i.invariant.3.few))
     -- next-place-requires
     (λ c κs. search rules)
     -- add-i-2
@@ -100,24 +78,23 @@ put_numbers_spec =
     (λ c. omega arith)
     -- loop-again-2
     (λ c.
-    let after_put_byte = c in let else3 = after_put_byte in let after_ends_number = else3 in
-    let after_wide = wide_of_ends_number after_ends_number.before.before.before.before.before.before in (
+    (
       omega arith,
       omega (arith, c.next_place-place.ensures.1),
       omega arith,
       place_as (sym c.next_place-place.ensures.0)
-          (scanned_end _ _ _ (at_loop_of_wide after_wide).loop-i.invariant.3 (in_loop_of_wide after_wide).loop-i-test.true
-          (digit_is _ after_wide.wide-c.ensures.0
-          (sym (is_digit_of_ends_number after_ends_number.before.before.before.before.before.before).is_digit.ensures ∙ after_ends_number.if-is_digit.false))
-          (end_is _ _ after_wide.wide-c.ensures.0 (sym after_ends_number.ends_number.ensures ∙ not_left _ else3.if-not-ends_number.false)) after_put_byte.put_byte-to.ensures),
+          (scanned_end _ _ _ c.loop-i.invariant.3 c.loop-i-test.true
+          (digit_is _ c.wide-c.ensures.0
+          (sym c.is_digit.ensures ∙ c.if-is_digit.false))
+          (end_is _ _ c.wide-c.ensures.0 (sym c.ends_number.ensures ∙ not_left _ c.if-not-ends_number.false)) c.put_byte-to.ensures),
     ))
     -- is-between-requires
     (λ c κs. search rules)
     -- same-length-3
-    (λ c. writes_length (at_loop_of_is_between c.before).loop-i.invariant.3.wrote)
+    (λ c. writes_length c.loop-i.invariant.3.wrote)
     -- returns-3
-    (λ c. puts_open _ _ _ (at_loop_of_is_between c.before).loop-i.invariant.3 _ _ refl (omega arith) (sym c.is_between.ensures ∙ not_taken _ c.if-not-is_between.true))
+    (λ c. puts_open _ _ _ c.loop-i.invariant.3 _ _ refl (omega arith) (sym c.is_between.ensures ∙ not_taken _ c.if-not-is_between.true))
     -- same-length-4
-    (λ c. writes_length (at_loop_of_is_between c.before).loop-i.invariant.3.wrote)
+    (λ c. writes_length c.loop-i.invariant.3.wrote)
     -- returns-4
-    (λ c. puts_all _ _ _ (at_loop_of_is_between c.before).loop-i.invariant.3 (omega arith) (sym c.is_between.ensures ∙ not_left _ c.if-not-is_between.false)))
+    (λ c. puts_all _ _ _ c.loop-i.invariant.3 (omega arith) (sym c.is_between.ensures ∙ not_left _ c.if-not-is_between.false)))

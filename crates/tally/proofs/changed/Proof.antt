@@ -27,7 +27,7 @@ changed_spec =
     (λ c.
     let after_sums_fit = sums_fit_of_sums c in
     let fit = after_sums_fit.sums_fit in let at = c.if-sums_fit.true in
-    adds_lines _ _ fit.ensures.1 (rule_lines_of_sums_fit after_sums_fit).rule_lines_lem.ensures (test_true 0 28 fit.ensures.0 at refl, test_true _ _ fit.ensures.0 at c.sums.ensures))
+    adds_lines _ _ fit.ensures.1 (rule_lines_of_sums_fit after_sums_fit).rule_lines-lines.ensures (test_true 0 28 fit.ensures.0 at refl, test_true _ _ fit.ensures.0 at c.sums.ensures))
     -- returns-2
     (λ c. let fit = c.sums_fit in let at = c.if-sums_fit.false in
-    adds_lines _ _ fit.ensures.1 (rule_lines_of_sums_fit c.before).rule_lines_lem.ensures (test_false 0 28 fit.ensures.0 at refl, test_false _ _ fit.ensures.0 at refl)))
+    adds_lines _ _ fit.ensures.1 (rule_lines_of_sums_fit c.before).rule_lines-lines.ensures (test_false 0 28 fit.ensures.0 at refl, test_false _ _ fit.ensures.0 at refl)))

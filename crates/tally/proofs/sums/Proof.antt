@@ -38,7 +38,7 @@ sums_spec =
     -- add-next
     (λ c.
     let start = start_of_in_loop c in
-    omega (arith, sum_fits start.args.t1 start.args.t2 c.loop-k.k start.requires (omega arith)))
+    omega (arith, sum_fits start.args.counts start.args.more c.loop-k.k start.requires (omega arith)))
     -- mul-next-3
     (λ c. search rules)
     -- array-write-next
@@ -53,10 +53,10 @@ sums_spec =
       omega arith,
       omega arith,
       simp length-set (omega arith),
-      summed_more (start_of_in_loop c).args.t1 (start_of_in_loop c).args.t2 c.loop-k.next c.loop-k.k _ (omega arith) refl
+      summed_more (start_of_in_loop c).args.counts (start_of_in_loop c).args.more c.loop-k.next c.loop-k.k _ (omega arith) refl
           c.loop-k.invariant.4,
     ))
     -- returns
     (λ c.
     let at_loop = c in let start = at_loop in
-    summed_all start.args.t1 start.args.t2 at_loop.loop-k.next at_loop.loop-k.k (omega arith) (omega arith) at_loop.loop-k.invariant.4))
+    summed_all start.args.counts start.args.more at_loop.loop-k.next at_loop.loop-k.k (omega arith) (omega arith) at_loop.loop-k.invariant.4))

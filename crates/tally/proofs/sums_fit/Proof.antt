@@ -40,7 +40,7 @@ sums_fit_spec =
     -- returns
     (λ c.
     let at_loop = c in let start = at_loop in
-    (sym (fits_not start.args.t1 start.args.t2 at_loop.loop-k.k (omega arith) (omega arith) (omega arith)) ∙ at_loop.loop-k.invariant.3, at_loop.loop-k.invariant.1))
+    (sym (fits_not start.args.counts start.args.more at_loop.loop-k.k (omega arith) (omega arith) (omega arith)) ∙ at_loop.loop-k.invariant.3, at_loop.loop-k.invariant.1))
     -- add-k
     (λ c. search rules)
     -- loop-less
@@ -48,8 +48,8 @@ sums_fit_spec =
     -- loop-again
     (λ c.
     let at_loop = c in let start = at_loop in
-    (omega arith, omega arith, omega arith, sym (fits-here start.args.t1 start.args.t2 at_loop.loop-k.k (omega arith) (omega arith) (omega arith)) ∙ at_loop.loop-k.invariant.3))
+    (omega arith, omega arith, omega arith, sym (fits-here start.args.counts start.args.more at_loop.loop-k.k (omega arith) (omega arith) (omega arith)) ∙ at_loop.loop-k.invariant.3))
     -- returns-2
     (λ c.
     let at_loop = c in let start = at_loop in
-    (sym (fits-end start.args.t1 start.args.t2 at_loop.loop-k.k (omega arith)) ∙ at_loop.loop-k.invariant.3, at_loop.loop-k.invariant.1)))
+    (sym (fits-end start.args.counts start.args.more at_loop.loop-k.k (omega arith)) ∙ at_loop.loop-k.invariant.3, at_loop.loop-k.invariant.1)))

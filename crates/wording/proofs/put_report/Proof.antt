@@ -15,35 +15,6 @@ invariant-loop-i buffer₀ at report links size to₀ i₀ buffer to i = (1 ≤ 
 abbrev decreases-loop-i : tie.decreases-loop-i
 decreases-loop-i buffer₀ at report links size to₀ i₀ buffer to i = size - i
 
--- The places that lie behind a place.
-
-abbrev at_loop_of_put_byte_arg2 : tie.After-put_byte-arg-2-1 invariant-loop-i decreases-loop-i → tie.At-loop-i invariant-loop-i decreases-loop-i
-at_loop_of_put_byte_arg2 c = c.before.before
-
-abbrev start_of_shared_slice_known : tie.After-shared_slice_known-1 invariant-loop-i decreases-loop-i → tie.Start invariant-loop-i decreases-loop-i
-start_of_shared_slice_known c = c.before.before
-
-abbrev at_loop_of_put_byte_arg : tie.After-put_byte-arg-1 invariant-loop-i decreases-loop-i → tie.At-loop-i invariant-loop-i decreases-loop-i
-at_loop_of_put_byte_arg c = c.before.before
-
-abbrev put_byte2_of_slice_known5 : tie.After-slice_known-3-1 invariant-loop-i decreases-loop-i → tie.After-put_byte invariant-loop-i decreases-loop-i
-put_byte2_of_slice_known5 c = c.before.before
-
-abbrev put_hex_byte2_of_slice_known4 : tie.After-slice_known-in-loop-i-2-1 invariant-loop-i decreases-loop-i → tie.After-put_hex_byte-to-in-loop-i invariant-loop-i decreases-loop-i
-put_hex_byte2_of_slice_known4 c = c.before.before
-
-abbrev put_hex_byte_of_at_loop : tie.At-loop-i invariant-loop-i decreases-loop-i → tie.After-put_hex_byte-to invariant-loop-i decreases-loop-i
-put_hex_byte_of_at_loop c = c.before.before.before
-
-abbrev start_of_report_size : tie.After-report_size-size invariant-loop-i decreases-loop-i → tie.Start invariant-loop-i decreases-loop-i
-start_of_report_size c = start_of_shared_slice_known c.before
-
-abbrev put_byte_of_shared_slice_known3 : tie.After-shared_slice_known-in-loop-i-1 invariant-loop-i decreases-loop-i → tie.After-put_byte-to invariant-loop-i decreases-loop-i
-put_byte_of_shared_slice_known3 c = c.before.before.before.before
-
-abbrev report_size_of_at_loop : tie.At-loop-i invariant-loop-i decreases-loop-i → tie.After-report_size-size invariant-loop-i decreases-loop-i
-report_size_of_at_loop c = (put_hex_byte_of_at_loop c).before.before.before
-
 pub put_report_spec : {M : Type 1} → statement M
 put_report_spec =
     tie.close
@@ -51,7 +22,7 @@ put_report_spec =
     invariant-loop-i
     decreases-loop-i
     -- report-size-requires
-    (λ c κs. let p = (start_of_shared_slice_known c).requires in (p.1, p.2, p.3))
+    (λ c κs. let p = c.requires in (p.1, p.2, p.3))
     -- shared-slice-read-put-hex-byte
     (λ c. omega arith)
     -- put-hex-byte-requires
@@ -60,23 +31,23 @@ put_report_spec =
     (λ c. (omega arith, omega arith, part_from _ _ refl))
     -- put-byte-requires
     (λ c κs.
-    let at_loop = at_loop_of_put_byte_arg c in let after_report_size = report_size_of_at_loop at_loop in
-    let start = start_of_report_size after_report_size in
+    let at_loop = c in let after_report_size = at_loop in
+    let start = after_report_size in
     let sized = left-length after_report_size.report_size-size.result start.args.report.now after_report_size.report_size-size.ensures.1 in
-    omega (arith, part_place at_loop.loop-i.invariant.2, sized 1, sized at_loop.loop-i.i, (put_hex_byte_of_at_loop at_loop).put_hex_byte-to.ensures.ends, hex_two (get_or start.args.report.now 0 0)))
+    omega (arith, part_place at_loop.loop-i.invariant.2, sized 1, sized at_loop.loop-i.i, at_loop.put_hex_byte-to.ensures.ends, hex_two (get_or start.args.report.now 0 0)))
     -- shared-slice-read-put-hex-byte-2
     (λ c. omega arith)
     -- put-hex-byte-requires-2
     (λ c κs.
-    let after_put_byte = put_byte_of_shared_slice_known3 c in let at_loop = at_loop_of_put_byte_arg after_put_byte.before in
-    let after_report_size = report_size_of_at_loop at_loop in let start = start_of_report_size after_report_size in
+    let after_put_byte = c in let at_loop = after_put_byte in
+    let after_report_size = at_loop in let start = after_report_size in
     let sized = left-length after_report_size.report_size-size.result start.args.report.now after_report_size.report_size-size.ensures.1 in
     omega (
       arith,
       part_place at_loop.loop-i.invariant.2,
       sized 1,
       sized at_loop.loop-i.i,
-      (put_hex_byte_of_at_loop at_loop).put_hex_byte-to.ensures.ends,
+      at_loop.put_hex_byte-to.ensures.ends,
       after_put_byte.put_byte-to.ensures.ends,
       hex_two (get_or start.args.report.now 0 0),
     ))
@@ -86,31 +57,31 @@ put_report_spec =
     (λ c. omega arith)
     -- loop-again
     (λ c.
-    let after_put_hex_byte2 = put_hex_byte2_of_slice_known4 c in
-    let after_put_byte = put_byte_of_shared_slice_known3 after_put_hex_byte2.before in
-    let at_loop = at_loop_of_put_byte_arg after_put_byte.before in let after_report_size = report_size_of_at_loop at_loop in (
+    let after_put_hex_byte2 = c in
+    let after_put_byte = after_put_hex_byte2 in
+    let at_loop = after_put_byte in let after_report_size = at_loop in (
       omega arith,
       omega arith,
       part_more at_loop.loop-i.invariant.2
-          (report_next after_report_size.report_size-size.result (start_of_report_size after_report_size).args.report.now
+          (report_next after_report_size.report_size-size.result after_report_size.args.report.now
           after_report_size.report_size-size.ensures.1 at_loop.loop-i.i (omega arith))
           (writes_then after_put_byte.put_byte-to.ensures after_put_hex_byte2.put_hex_byte-to-in-loop-i.ensures),
     ))
     -- put-byte-requires-2
     (λ c κs.
-    let at_loop = at_loop_of_put_byte_arg2 c in let after_report_size = report_size_of_at_loop at_loop in
-    let start = start_of_report_size after_report_size in
+    let at_loop = c in let after_report_size = at_loop in
+    let start = after_report_size in
     let sized = left-length after_report_size.report_size-size.result start.args.report.now after_report_size.report_size-size.ensures.1 in
-    omega (arith, part_place at_loop.loop-i.invariant.2, sized 1, sized at_loop.loop-i.i, (put_hex_byte_of_at_loop at_loop).put_hex_byte-to.ensures.ends, hex_two (get_or start.args.report.now 0 0)))
+    omega (arith, part_place at_loop.loop-i.invariant.2, sized 1, sized at_loop.loop-i.i, at_loop.put_hex_byte-to.ensures.ends, hex_two (get_or start.args.report.now 0 0)))
     -- same-length
     (λ c.
-    let after_put_byte2 = put_byte2_of_slice_known5 c in let at_loop = at_loop_of_put_byte_arg2 after_put_byte2.before in
-    writes_length after_put_byte2.put_byte.ensures ∙ part_length at_loop.loop-i.invariant.2 ∙ writes_length (put_hex_byte_of_at_loop at_loop).put_hex_byte-to.ensures)
+    let after_put_byte2 = c in let at_loop = after_put_byte2 in
+    writes_length after_put_byte2.put_byte.ensures ∙ part_length at_loop.loop-i.invariant.2 ∙ writes_length at_loop.put_hex_byte-to.ensures)
     -- returns
     (λ c.
-    let after_put_byte2 = put_byte2_of_slice_known5 c in let at_loop = at_loop_of_put_byte_arg2 after_put_byte2.before in
-    let after_put_hex_byte = put_hex_byte_of_at_loop at_loop in let after_report_size = report_size_of_at_loop at_loop in
-    let args_report_now = (start_of_report_size after_report_size).args.report.now in
+    let after_put_byte2 = c in let at_loop = after_put_byte2 in
+    let after_put_hex_byte = at_loop in let after_report_size = at_loop in
+    let args_report_now = after_report_size.args.report.now in
     let report_size_result = after_report_size.report_size-size.result in
     let size = after_report_size.report_size-size.ensures in
     let sized = left-length report_size_result args_report_now size.1 in
