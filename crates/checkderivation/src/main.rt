@@ -2,12 +2,10 @@
 // length of a query, the longest query of that length, and the longest text of 16,000 lines and a byte more.
 #![tactic(auto)]
 
-use libc::{STDIN_FILENO, STDOUT_FILENO};
-
-fn main() {
+fn main(rt: HostRuntime) {
     let mut input = [0u8; 321544];
     let mut text = [0u8; 64];
-    let read = io::read_full(STDIN_FILENO, &mut input);
+    let read = streams::read_full(&rt, &mut input);
     let made = check_printing::put_text(&mut text, &input[..read]);
-    io::write_all(STDOUT_FILENO, &text[..made]);
+    streams::write_all(&rt, &text[..made]);
 }

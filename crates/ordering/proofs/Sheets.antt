@@ -80,7 +80,7 @@ mem_place x xs (Memᴰ.tail {xs = ys} m) = let r = mem_place x ys m in (suc r.0,
 
 pub numbers_rules : (sheet : List ℕ) → RuleNumbers sheet → rules_only sheet ≡ true
 unfolding rules_only
-numbers_rules sheet n = all_intro is_rule (drop 1 sheet) (λ x m. go x (mem_place (drop 1 sheet) x m))
+numbers_rules sheet n = all_intro is_rule (drop 1 sheet) (λ x m. go x (mem_place x (drop 1 sheet) m))
   where
     go : (x : ℕ) → (i : ℕ) × (i < length (drop 1 sheet)) × (x ≡ get_or (drop 1 sheet) i 0) → is_rule x ≡ true
     go x (i, l, e) =

@@ -15,8 +15,8 @@ unfolding path_of
 returns c =
     let a = c.args in
     let h = c.requires.1 in
-    shown _ (path_of a.t1) _ _ _ _ refl (c.rows_of-link.ensures ∙ link_at a.t1 a.k.0 h)
-    (c.rows_of-reach.ensures ∙ reach_at a.t1 a.k.0 h) _ _ c.known_links-known.ensures c.link_each.ensures
+    shown _ (path_of a.s) _ _ _ _ refl (c.rows_of-link.ensures ∙ link_at a.s a.k.0 h)
+    (c.rows_of-reach.ensures ∙ reach_at a.s a.k.0 h) _ _ c.known_links-known.ensures c.link_each.ensures
 
 pub shown_links_spec : {M : Type 1} → statement M
 shown_links_spec =
@@ -24,10 +24,10 @@ shown_links_spec =
     (tie.spec
     -- rows-of-requires
     (λ c κs.
-    let p = c.requires in (p.1.0, link_few c.args.t1 c.args.k.0 p.1))
+    let p = c.requires in (p.1.0, link_few c.args.s c.args.k.0 p.1))
     -- rows-of-requires-2
     (λ c κs.
-    let p = c.requires in (p.1.0, link_few c.args.t1 c.args.k.0 p.1))
+    let p = c.requires in (p.1.0, link_few c.args.s c.args.k.0 p.1))
     -- known-links-requires
     (λ c κs. search rules)
     -- link-each-requires

@@ -31,7 +31,7 @@ covers_spec =
     -- returns-2
     (λ c e. absurd (false≢true e))
     -- loop-holds
-    (λ c. (omega arith, omega arith, links-none _ c.args.t2))
+    (λ c. (omega arith, omega arith, links-none _ c.args.s))
     -- rows-of-requires
     (λ c κs.
     (c.loop-k.invariant.0, omega (arith, c.links-count.ensures.2)))
@@ -58,7 +58,7 @@ covers_spec =
       omega arith,
       omega arith,
       below_more _ _ c.loop-k.invariant.2
-          (link_held _ c.args.t2 _ (omega (arith, c.links-count.ensures.0, c.loop-k-test.true))
+          (link_held _ c.args.s _ (omega (arith, c.links-count.ensures.0, c.loop-k-test.true))
           (omega (arith, c.links.ensures.0, c.if-links-count.false, c.loop-k-test.true)) _ _ _ _ c.rows_of-link.ensures
           c.rows_of-reach.ensures c.rows_of-other_link.ensures c.rows_of-other_reach.ensures
           (c.graph_held.ensures c.if-not-graph_held.false)),

@@ -5,7 +5,7 @@ use native.Mathlib.Omega.{arith}
 use mathlib.Core.Path.{refl, sym, ◌∙◌}
 use lib.ListN.{length}
 use Rattle.text.proofs.Writing.{writes_length}
-use Rattle.decimal_lines.proofs.Reading.{not_left, not_taken, digit_range, digit_is, end_is, value_as, place_as, Scanned}
+use Rattle.decimal_lines.proofs.Reading.{digit_range, digit_is, end_is, value_as, place_as, Scanned}
 use Rattle.decimal_lines.proofs.Reading.{scanned_none, scanned_digit, scanned_end, puts_big, puts_other, puts_open, puts_all}
 use Rattle.decimal_lines.proofs.put_numbers.Statement.{statement}
 use Rattle.decimal_lines.proofs.put_numbers.Tie as tie
@@ -65,7 +65,7 @@ put_numbers_spec =
     (λ c.
     puts_other _ _ _ c.loop-i.invariant.3 _ _ refl c.loop-i-test.true
     (digit_is _ c.wide-c.ensures.0 (sym c.is_digit.ensures ∙ c.if-is_digit.false))
-    (end_is _ _ c.wide-c.ensures.0 (sym c.ends_number.ensures ∙ not_taken _ c.if-not-ends_number.true)))
+    (end_is _ _ c.wide-c.ensures.0 (sym c.ends_number.ensures ∙ c.if-not-ends_number.true)))
     -- cast-put-byte
     (λ c. omega arith)
     -- put-byte-requires
@@ -86,15 +86,15 @@ put_numbers_spec =
           (scanned_end _ _ _ c.loop-i.invariant.3 c.loop-i-test.true
           (digit_is _ c.wide-c.ensures.0
           (sym c.is_digit.ensures ∙ c.if-is_digit.false))
-          (end_is _ _ c.wide-c.ensures.0 (sym c.ends_number.ensures ∙ not_left _ c.if-not-ends_number.false)) c.put_byte-to.ensures),
+          (end_is _ _ c.wide-c.ensures.0 (sym c.ends_number.ensures ∙ c.if-not-ends_number.false)) c.put_byte-to.ensures),
     ))
     -- is-between-requires
     (λ c κs. search rules)
     -- same-length-3
     (λ c. writes_length c.loop-i.invariant.3.wrote)
     -- returns-3
-    (λ c. puts_open _ _ _ c.loop-i.invariant.3 _ _ refl (omega arith) (sym c.is_between.ensures ∙ not_taken _ c.if-not-is_between.true))
+    (λ c. puts_open _ _ _ c.loop-i.invariant.3 _ _ refl (omega arith) (sym c.is_between.ensures ∙ c.if-not-is_between.true))
     -- same-length-4
     (λ c. writes_length c.loop-i.invariant.3.wrote)
     -- returns-4
-    (λ c. puts_all _ _ _ c.loop-i.invariant.3 (omega arith) (sym c.is_between.ensures ∙ not_left _ c.if-not-is_between.false)))
+    (λ c. puts_all _ _ _ c.loop-i.invariant.3 (omega arith) (sym c.is_between.ensures ∙ c.if-not-is_between.false)))

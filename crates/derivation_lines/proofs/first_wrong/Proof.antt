@@ -10,10 +10,10 @@ first_wrong_spec =
     tie.close
     (tie.spec
     -- returns
-    (λ c. conclude_wrong _ _ c.if-not-judged.true)
+    (λ c. conclude_wrong _ _ (not-true _ c.if-not-judged.true))
     -- add-result
     (λ c. let l = c.if-at-count.true in let p = c.requires in omega arith)
     -- returns-2
-    (λ c. conclude_more _ _ c.if-not-judged.false c.if-at-count.true)
+    (λ c. conclude_more _ _ (not-false _ c.if-not-judged.false) c.if-at-count.true)
     -- returns-3
-    (λ c. conclude_all _ _ c.if-not-judged.false c.if-at-count.false))
+    (λ c. conclude_all _ _ (not-false _ c.if-not-judged.false) c.if-at-count.false))

@@ -38,7 +38,7 @@ row_of_spec =
     (λ c. let s = c.args in
     let table = s.table.now in
     let k = c.loop-k.k in
-    let e = sym (c.fits2.ensures ∙ ap (fits _ _) (suffix table _)) ∙ c.if-fits.true in
+    let e = sym (c.fits.ensures ∙ ap (fits _ _) (suffix table _)) ∙ c.if-fits.true in
     let h = row_here s.whole s.bytes.now table s.count k c.loop-k-test.true e in
     omega (arith, h, c.loop-k.invariant))
     -- add-k
@@ -49,7 +49,7 @@ row_of_spec =
     (λ c. let s = c.args in
     let table = s.table.now in
     let k = c.loop-k.k in
-    let e = sym (c.fits2.ensures ∙ ap (fits _ _) (suffix table _)) ∙ c.if-fits.false in
+    let e = sym (c.fits.ensures ∙ ap (fits _ _) (suffix table _)) ∙ c.if-fits.false in
     let h = row_next s.whole s.bytes.now table s.count k c.loop-k-test.true e in
     (omega arith, omega (arith, h, c.loop-k.invariant)))
     -- returns-2
