@@ -5,8 +5,8 @@ use Rattle.dot_writer.specs.declared.Writer.{Writer}
 use Rattle.dot_writer.specs.Written.{written}
 
 -- what a part writes, and that the writer still holds the same borrow
-pub appended : {w v : Writer} (bytes : List ℕ) → v ≡ written w bytes → Writes w.out.now w.fill bytes v.out.now v.fill
-appended bytes e = record { leaves = ap (λ (u : Writer). u.out.now) e; ends = ap (λ (u : Writer). u.fill) e }
+pub appended : {v : Writer} (w : Writer) (bytes : List ℕ) → v ≡ written w bytes → Writes w.out.now w.fill bytes v.out.now v.fill
+appended w bytes e = record { leaves = ap (λ (u : Writer). u.out.now) e; ends = ap (λ (u : Writer). u.fill) e }
 
-pub holds_on : {w v : Writer} (bytes : List ℕ) → v ≡ written w bytes → v.out.ghost_name ≡ w.out.ghost_name
-holds_on bytes e = ap (λ (u : Writer). u.out.ghost_name) e
+pub holds_on : {v : Writer} (w : Writer) (bytes : List ℕ) → v ≡ written w bytes → v.out.ghost_name ≡ w.out.ghost_name
+holds_on w bytes e = ap (λ (u : Writer). u.out.ghost_name) e

@@ -37,7 +37,7 @@ pub fn clause_cell(table: &[u16], i: usize, k: usize) -> usize
 
 pub fn routine_cell(table: &[u16], r: usize, k: usize) -> usize
     requires { (r ≤ 65536) × (k ≤ 7) }
-    ensures* { λ typeof.r.value. ⌜ (typeof.r.value ≡ routine_cell table.now r k) × (typeof.r.value ≤ 65535) ⌝ }
+    ensures { (result ≡ routine_cell table.now r k) × (result ≤ 65535) }
 {
     cell(table, 16384 + 8 * r + k)
 }

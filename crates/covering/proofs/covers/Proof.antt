@@ -53,8 +53,7 @@ covers_spec =
     -- loop-less
     (λ c. omega arith)
     -- loop-again
-    (λ c.
-    (
+    (λ c. (
       omega arith,
       omega arith,
       below_more _ _ c.loop-k.invariant.2

@@ -77,8 +77,7 @@ put_numbers_spec =
     -- loop-less-2
     (λ c. omega arith)
     -- loop-again-2
-    (λ c.
-    (
+    (λ c. (
       omega arith,
       omega (arith, c.next_place-place.ensures.1),
       omega arith,

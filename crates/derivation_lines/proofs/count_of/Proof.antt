@@ -22,8 +22,7 @@ count_of_spec =
     (λ c.
     let h = c.byte_at-high.ensures in let l = c.byte_at-low.ensures in omega (arith, c.shared_slice_known-1.given 0, c.shared_slice_known-1.given 1))
     -- returns
-    (λ c.
-    (
+    (λ c. (
       ap₂ (λ (h l : ℕ). 256 * h + l) c.byte_at-high.ensures c.byte_at-low.ensures,
       let h = c.byte_at-high.ensures in
           let l = c.byte_at-low.ensures in

@@ -30,20 +30,20 @@ read_text_spec =
     ))
     -- returns-2
     (λ c.
-    let text = c.args.text.now in let read_or_last_1_1_1_1_0 = c.read_or.new.1.1.1.1.0 in (
-      subst (λ (r : Found). Ranged r text 0 0 c.args.nodes.now read_or_last_1_1_1_1_0) c.in-Refused.is
+    let text = c.args.text.now in let read_or_nodes = c.read_or.new.nodes in (
+      subst (λ (r : Found). Ranged r text 0 0 c.args.nodes.now read_or_nodes) c.in-Refused.is
           c.read_or.ensures.0,
-      whole_refused text c.args.counts.now read_or_last_1_1_1_1_0 c.in-Refused.k
-          c.in-Refused.place (subst (λ (r : Found). ReadAs r disjunction text 0 32 c.args.counts.now read_or_last_1_1_1_1_0)
+      whole_refused text c.args.counts.now read_or_nodes c.in-Refused.k
+          c.in-Refused.place (subst (λ (r : Found). ReadAs r disjunction text 0 32 c.args.counts.now read_or_nodes)
           c.in-Refused.is c.read_or.ensures.1),
     ))
     -- returns-3
     (λ c.
-    let text = c.args.text.now in let read_or_last_1_1_1_1_0 = c.read_or.new.nodes in (
-      subst (λ (r : Found). Ranged r text 0 0 c.args.nodes.now read_or_last_1_1_1_1_0) c.in-Read.is
+    let text = c.args.text.now in let read_or_nodes = c.read_or.new.nodes in (
+      subst (λ (r : Found). Ranged r text 0 0 c.args.nodes.now read_or_nodes) c.in-Read.is
           c.read_or.ensures.0,
-      whole-read text c.args.counts.now read_or_last_1_1_1_1_0 c.in-Read.next
+      whole-read text c.args.counts.now read_or_nodes c.in-Read.next
           c.in-Read.last c.if-next-text.false
-          (subst (λ (r : Found). ReadAs r disjunction text 0 32 c.args.counts.now read_or_last_1_1_1_1_0) c.in-Read.is
+          (subst (λ (r : Found). ReadAs r disjunction text 0 32 c.args.counts.now read_or_nodes) c.in-Read.is
           c.read_or.ensures.1),
     )))

@@ -34,7 +34,7 @@ put_shares_spec =
     (λ c κs. search rules)
     -- put-share-requires
     (λ c κs.
-    (omega arith, omega (arith, part_at_most c.args.t2 c.loop-k.k (omega arith))))
+    (omega arith, omega (arith, part_at_most c.args.counts c.loop-k.k (omega arith))))
     -- add-k
     (λ c. omega arith)
     -- loop-less

@@ -37,7 +37,7 @@ total_of_spec =
     (λ c. omega arith)
     -- loop-again
     (λ c.
-    (omega arith, omega arith, omega arith, omega (arith, total_next c.args.t1 c.loop-k.k (omega arith))))
+    (omega arith, omega arith, omega arith, omega (arith, total_next c.args.counts c.loop-k.k (omega arith))))
     -- returns
     (λ c.
-    (omega (arith, total_end c.args.t1 c.loop-k.k (omega arith)), c.loop-k.invariant.1)))
+    (omega (arith, total_end c.args.counts c.loop-k.k (omega arith)), c.loop-k.invariant.1)))

@@ -37,6 +37,6 @@ is_held_in_spec =
     -- returns-2
     (λ c. rw (sym c.reach_sign.ensures
     ∙ c.if-reach_sign.false)
-    (c.reaches_by_lem.ensures ∙ held _ _ c.reach_link-k.ensures
+    (c.reaches_by.ensures ∙ held _ _ c.reach_link-k.ensures
     (c.read_rep-a.ensures ∙ ap (rep_of _) c.reach_left.ensures)
     (c.read_rep-b.ensures ∙ ap (rep_of _) c.reach_right.ensures))))

@@ -22,4 +22,4 @@ is_held_negated_spec =
     (λ c.
     let a = c.args in
     let l = reach_in a.links a.query.now a.at a.i in
-    c.is_held_in.ensures ∙ ap (λ (reach : ℕ → ℕ → ℕ → Bool). not l.plain and rows_held (rep_of a.t5.rep) reach l) (sym (path_reach a.t5))))
+    c.is_held_in.ensures ∙ ap (λ (reach : ℕ → ℕ → ℕ → Bool). not l.plain and rows_held (rep_of a.s.rep) reach l) (sym (path_reach a.s))))

@@ -195,8 +195,7 @@ lay_out_spec =
     (λ c.
     fits_behind (stands₅ c.before.before.before.before.before.before) (short c.before.before.before.before.before.before.before.before.before.before.before.before.before.before))
     -- returns-7
-    (λ c.
-    (
+    (λ c. (
       record {
         second = (part₁ c.before.before.before.before.before.before.before.before.before.before.before.before.before.before).next;
         third = (part₂ c.before.before.before.before.before.before.before.before.before.before.before.before).next;
