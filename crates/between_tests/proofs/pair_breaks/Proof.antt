@@ -41,11 +41,11 @@ pair_breaks_spec =
     (λ c κs. search rules)
     -- returns-2
     (λ c link s.
-    ap not (c.agrees.ensures ∙ ap (λ (b : Bool). agrees b (leb c.step_of_lem.result c.args.most)) c.sign.ensures)
+    ap not (c.agrees.ensures ∙ ap (λ (b : Bool). agrees b (leb c.step_of-count.result c.args.most)) c.sign.ensures)
     ∙ pair_due link _ _ _ _ _ (ap₂ (λ (x y : ℕ). due_pair x y c.args.t.0)
     (sym c.left-a.ensures) (sym c.right-b.ensures)
     ∙ sym c.due_pair.ensures ∙ c.if-not-due_pair.false)
-    (c.step_of_lem.ensures
+    (c.step_of-count.ensures
     ∙ s _ _ (rw (node-read _ _ _ c.node_of.ensures) (c.requires.1 _))
     (rw (node-read _ _ _ c.node_of-2.ensures) (c.requires.1 _))
     ∙ ap₂ (λ (x y : ℕ). steps link x y)

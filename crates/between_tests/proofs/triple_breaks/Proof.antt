@@ -57,7 +57,7 @@ triple_breaks_spec =
     (λ c link s.
     let nodes = c.args.nodes.now in
     ap not (c.agrees.ensures ∙ ap (λ (b : ℕ). agrees (eqb b 1)
-    (leb c.step_of_lem.result c.step_of-end.result && leb c.step_of-end.result 5))
+    (leb c.step_of-middle.result c.step_of-end.result && leb c.step_of-end.result 5))
     c.byte_at.ensures)
     ∙ triple_due link _ _ _ _ _ (rw (
       ← c.term_in-x.ensures,
@@ -65,7 +65,7 @@ triple_breaks_spec =
       ← c.term_in-z.ensures,
       ← c.due_triple.ensures,
     ) c.if-not-due_triple.false)
-    (c.step_of_lem.ensures
+    (c.step_of-middle.ensures
     ∙ s _ _ (rw (node-read _ _ _ c.node_of-start.ensures) (c.requires.1 _))
     (rw (node-read _ _ _ c.node_of.ensures) (c.requires.1 _))
     ∙ ap₂ (λ (x y : ℕ). steps link x y)

@@ -48,7 +48,6 @@ search_in_Inv_loop query layout how left single rep₀ link₀ reach₀ budget n
 abbrev search_in_μ_loop : search_in_lts.decreases-loop
 search_in_μ_loop query layout how left single rep₀ link₀ reach₀ budget n k rule x y z total fuel₀ at₀ rep link reach fuel at = total - at
 
--- The places that lie behind a place.
 module _ {K : search_in_lts.Claims} {P : In 4 search_in_kinds.ps} where
   abbrev count_of_in_loop : search_in_lts.In-loop K P search_in.Post search_in_Inv_loop search_in_μ_loop → search_in_lts.After-count K P search_in.Post search_in_Inv_loop search_in_μ_loop
   count_of_in_loop c = c.before.before.before
@@ -84,42 +83,24 @@ module _ {K : search_in_lts.Claims} {P : In 4 search_in_kinds.ps} where
       path_as a.single a.rep.now a.link.now c.sees.new.1.1.1.1.1.1.0
 
 pub +search_in_spec : {M : Type 1} → statement M
-+search_in_spec = close μ_search_in λ t. search_in_lts.spec (
-  sees_reads.Asked,
-  sees_reads.Learnt,
-  spent_reads.Asked,
-  spent_reads.Learnt,
-  count_reads.Asked,
-  count_reads.Learnt,
-  take_reads.Asked,
-  take_reads.Learnt,
-  search_in_below t,
-  search_in.Post,
-  is_refuted_reads.Asked,
-  is_refuted_reads.Learnt,
-)
-    (search_in_at t)
-    search_in.Post
-    search_in_Inv_loop
-    search_in_μ_loop
     -- sees-requires
-    (λ c κs. let p = c.before.before.before.before.requires.1 in (p.0, p.3.of_reach))
+    (λ c κs. let p = c.requires.1 in (p.0, p.3.of_reach))
     -- enum_told
     (λ c. search rules)
     -- spent-requires
     (λ c κs. search rules)
     -- returns
     (λ c.
-    let after_sees = c.before.before.before in let start = start_of_sees after_sees in
+    let start = start_of_sees c in
     let a = start.args in
     let p = start.pre.1 in
     let q = asked_of start in
     let s = path_of start in
-    let t = seen_of after_sees in
-    let v = seen_as q t after_sees.sees.result seen.Saturated after_sees.sees.ensures.1 c.before.enum_told.given.1 in (
-      ends_saturated {q = q} p.1 s t p.2 a.layout.terms (sym (terms-said a.layout a.query.now p.0)) after_sees.sees.ensures.0
+    let t = seen_of c in
+    let v = seen_as q t c.sees.result seen.Saturated c.sees.ensures.1 c.in-Saturated.is in (
+      ends_saturated {q = q} p.1 s t p.2 a.layout.terms (sym (terms-said a.layout a.query.now p.0)) c.sees.ensures.0
           v.0 v.1,
-      record { of_rep = p.3.of_rep; of_link = p.3.of_link; of_reach = after_sees.sees.ensures.2 },
+      record { of_rep = p.3.of_rep; of_link = p.3.of_link; of_reach = c.sees.ensures.2 },
     ))
     -- enum-told-2
     (λ c. search rules)
@@ -127,28 +108,28 @@ pub +search_in_spec : {M : Type 1} → statement M
     (λ c κs. search rules)
     -- returns-2
     (λ c.
-    let after_sees = c.before.before.before in let start = start_of_sees after_sees in
+    let start = start_of_sees c in
     let a = start.args in
     let p = start.pre.1 in
     let q = asked_of start in
     let s = path_of start in
-    let t = seen_of after_sees in
-    let v = seen_as q t after_sees.sees.result seen.Clashing after_sees.sees.ensures.1 c.before.enum-told2.given.1 in (
+    let t = seen_of c in
+    let v = seen_as q t c.sees.result seen.Clashing c.sees.ensures.1 c.in-Clashing.is in (
       ends_refuted q s t (tells-clash {q = q} p.1 s t p.2 a.layout.terms (sym (terms-said a.layout a.query.now p.0))
-          after_sees.sees.ensures.0 v.0 v.1),
-      record { of_rep = p.3.of_rep; of_link = p.3.of_link; of_reach = after_sees.sees.ensures.2 },
+          c.sees.ensures.0 v.0 v.1),
+      record { of_rep = p.3.of_rep; of_link = p.3.of_link; of_reach = c.sees.ensures.2 },
     ))
     -- enum-known-k
     (λ c. search rules)
     -- returns-3
     (λ c.
-    let after_sees = c.before.before.before.before in let start = start_of_sees after_sees in
+    let start = start_of_sees c in
     let a = start.args in
     let p = start.pre.1 in
     let q = asked_of start in
     let s = path_of start in
-    let t = seen_of after_sees in
-    (ends_nothing q s t, record { of_rep = p.3.of_rep; of_link = p.3.of_link; of_reach = after_sees.sees.ensures.2 }))
+    let t = seen_of c in
+    (ends_nothing q s t, record { of_rep = p.3.of_rep; of_link = p.3.of_link; of_reach = c.sees.ensures.2 }))
     -- count-requires
     (λ c κs. search rules)
     -- spent-requires-3
@@ -161,7 +142,7 @@ pub +search_in_spec : {M : Type 1} → statement M
     (λ c.
     let a = (start_of_sees (sees_of_count (count_of_in_loop c.before))).args in
     let s = path_as a.single a.rep.now a.link.now a.reach.now in
-    let o = c.before.before.loop in
+    let o = c.loop-at in
     (ends_nothing (said a.layout a.query.now) s (path_as a.single o.rep o.link o.reach), o.invariant.3))
     -- take-requires
     (λ c κs.
@@ -176,18 +157,18 @@ pub +search_in_spec : {M : Type 1} → statement M
     let v = seen_as q t after_sees.sees.result (seen.Applying m.0 m.1.0 m.1.1.0 m.1.1.1.0 m.1.1.1.1.0) after_sees.sees.ensures.1 after_k.k.given.1 in
     let o = in_loop.before.loop in (
       p.0.terms_within,
-      same_linked (path_as a.single o.rep o.link o.reach) t o.inv.2 m.0.0
+      same_linked (path_as a.single o.rep o.link o.reach) t o.invariant.2 m.0.0
           (applied_linked (term_count q) t m.0.0 (kind_of m.1.0) m.1.1.0.0 m.1.1.1.0.0 m.1.1.1.1.0.0 v.0),
       v.1,
       v.2,
       v.3,
-      o.inv.3,
+      o.invariant.3,
     ))
     -- sub-search-in
     (λ c. let b = (count_of_in_loop (in_loop_of_take c)).before.if1.left in omega arith)
     -- search-in-requires
     (λ c κs.
-    let after_take = c.before.before.before in let in_loop = in_loop_of_take after_take in let after_count = count_of_in_loop in_loop in
+    let in_loop = in_loop_of_take c in let after_count = count_of_in_loop in_loop in
     let after_k = k_of_count after_count in let after_sees = sees_of_count after_count in let start = start_of_sees after_sees in
     let a = start.args in
     let p = start.pre.1 in
@@ -198,7 +179,7 @@ pub +search_in_spec : {M : Type 1} → statement M
     let v = seen_as q t after_sees.sees.result (seen.Applying m.0 m.1.0 m.1.1.0 m.1.1.1.0 m.1.1.1.1.0) after_sees.sees.ensures.1 after_k.k.given.1 in
     let o = in_loop.before.loop in
     let here = subst (λ (j : ℕ). o.at < j) after_count.count.ensures in_loop.loop-test.taken in
-    let e = after_take.take.new in
+    let e = c.take.new in
     let u = path_as a.single e.1.0 e.1.1.0 e.1.1.1.0 in (
       fewer_left a.left _ after_count.before.if1.left start.pre.0,
       (
@@ -206,15 +187,15 @@ pub +search_in_spec : {M : Type 1} → statement M
         p.1,
         known-branch {q = q} p.1 s t p.2 a.layout.terms (sym (terms-said a.layout a.query.now p.0))
             after_sees.sees.ensures.0 m.0.0 (kind_of m.1.0) m.1.1.0.0 m.1.1.1.0.0 m.1.1.1.1.0.0 v.0
-            (path_as a.single o.rep o.link o.reach) o.inv.2 o.at here u after_take.take.ensures.0,
-        after_take.take.ensures.1,
+            (path_as a.single o.rep o.link o.reach) o.invariant.2 o.at here u c.take.ensures.0,
+        c.take.ensures.1,
       ),
     ))
     -- is-refuted-requires
     (λ c κs. search rules)
     -- returns-5
     (λ c.
-    let after_search_in = c.before.before in let after_take = take_of_search_in after_search_in in let in_loop = in_loop_of_take after_take in
+    let after_take = take_of_search_in c in let in_loop = in_loop_of_take after_take in
     let after_count = count_of_in_loop in_loop in let after_k = k_of_count after_count in let after_sees = sees_of_count after_count in
     let start = start_of_sees after_sees in
     let a = start.args in
@@ -228,14 +209,14 @@ pub +search_in_spec : {M : Type 1} → statement M
     let here = subst (λ (j : ℕ). o.at < j) after_count.count.ensures in_loop.loop-test.taken in
     let e = after_take.take.last in
     let u = path_as a.single e.1.0 e.1.1.0 e.1.1.1.0 in
-    let f = after_search_in.search-in.new in
+    let f = c.search_in-w.new in
     let w = path_as a.single f.1.1.1.1.1.0 f.1.1.1.1.1.1.0 f.1.1.1.1.1.1.1.0 in (
-      ends_as q s w u after_search_in.search-in.result.kind after_search_in.search-in.ensures.0
+      ends_as q s w u c.search_in-w.result.kind c.search_in-w.ensures.0
           (tells-branch {q = q} p.1 s t p.2 a.layout.terms (sym (terms-said a.layout a.query.now p.0)) after_sees.sees.ensures.0
           m.0.0 (kind_of m.1.0) m.1.1.0.0 m.1.1.1.0.0 m.1.1.1.1.0.0 v.0 (path_as a.single o.rep o.link o.reach)
-          o.inv.2 o.at here u after_take.take.ensures.0 after_search_in.search-in.result.kind
-          after_search_in.search-in.ensures.0.tells (sym c.before.is-refuted.ensures ∙ not-true _ c.if3.true)),
-      after_search_in.search-in.ensures.1,
+          o.invariant.2 o.at here u after_take.take.ensures.0 c.search_in-w.result.kind
+          c.search_in-w.ensures.0.tells (sym c.is_refuted.ensures ∙ c.if-not-is_refuted.true)),
+      c.search_in-w.ensures.1,
     ))
     -- add-at
     (λ c.
@@ -254,7 +235,7 @@ pub +search_in_spec : {M : Type 1} → statement M
     (λ c. let b = (in_loop_of_take (take_of_search_in c.before.before)).loop-test.taken in omega arith)
     -- loop-again
     (λ c.
-    let after_search_in = c.before.before in let after_take = take_of_search_in after_search_in in let in_loop = in_loop_of_take after_take in
+    let after_take = take_of_search_in c in let in_loop = in_loop_of_take after_take in
     let after_count = count_of_in_loop in_loop in let after_k = k_of_count after_count in let after_sees = sees_of_count after_count in
     let start = start_of_sees after_sees in
     let a = start.args in
@@ -272,15 +253,15 @@ pub +search_in_spec : {M : Type 1} → statement M
       omega arith,
       struck_more {q = q} p.1 s t p.2 a.layout.terms (sym (terms-said a.layout a.query.now p.0))
           after_sees.sees.ensures.0 m.0.0 (kind_of m.1.0) m.1.1.0.0 m.1.1.1.0.0 m.1.1.1.1.0.0 v.0
-          (path_as a.single o.rep o.link o.reach) o.inv.2 o.at here u after_take.take.ensures.0 o.inv.1
-          after_search_in.search-in.result.kind after_search_in.search-in.ensures.0.tells
-          (sym c.before.is-refuted.ensures ∙ not-false _ c.if3.false),
-      o.inv.2,
-      o.inv.3,
+          (path_as a.single o.rep o.link o.reach) o.invariant.2 o.at here u after_take.take.ensures.0 o.invariant.1
+          c.search_in-w.result.kind c.search_in-w.ensures.0.tells
+          (sym c.is_refuted.ensures ∙ c.if-not-is_refuted.false),
+      o.invariant.2,
+      o.invariant.3,
     ))
     -- returns-6
     (λ c.
-    let after_count = c.before.before.before in let after_k = k_of_count after_count in let after_sees = sees_of_count after_count in
+    let after_k = k_of_count c in let after_sees = sees_of_count c in
     let start = start_of_sees after_sees in
     let a = start.args in
     let p = start.pre.1 in
@@ -289,10 +270,10 @@ pub +search_in_spec : {M : Type 1} → statement M
     let t = seen_of after_sees in
     let m = after_k.k.given.0 in
     let v = seen_as q t after_sees.sees.result (seen.Applying m.0 m.1.0 m.1.1.0 m.1.1.1.0 m.1.1.1.1.0) after_sees.sees.ensures.1 after_k.k.given.1 in
-    let o = c.before.loop in (
+    let o = c.loop-at in (
       ends_refuted q s (path_as a.single o.rep o.link o.reach)
           (tells_struck {q = q} p.1 s t p.2 a.layout.terms (sym (terms-said a.layout a.query.now p.0)) after_sees.sees.ensures.0
           m.0.0 (kind_of m.1.0) m.1.1.0.0 m.1.1.1.0.0 m.1.1.1.1.0.0 v.0 o.at o.invariant.1
-          (subst (λ (j : ℕ). j ≤ o.at) after_count.count.ensures c.loop-test.false)),
+          (subst (λ (j : ℕ). j ≤ o.at) c.count-total.ensures c.loop-at-test.false)),
       o.invariant.3,
     ))

@@ -54,6 +54,6 @@ count_marked_spec =
     -- returns
     (λ c. (
       omega arith,
-      λ ls l. sym (count_end (mark c.args.marks.now c.args.code) ls c.loop-i.i c.loop-i.auto
+      λ ls l. sym (count_end (mark c.args.marks.now c.args.code) ls c.loop-i.i c.loop-i.kept
           (subst (λ (n : ℕ). n ≤ c.loop-i.i) (sym l) c.loop-i-test.false)) ∙ c.loop-i.invariant.2 ls l,
     )))

@@ -2,12 +2,12 @@
 use Prim.Native.Nat.{◌-◌, ◌≤◌}
 use native.Mathlib.Omega.{arith}
 use borrow.Author.Rules.{rules}
-use mathlib.Core.Logic.{⊎_elim}
 use mathlib.Core.Path.{◌∙◌}
 use Rattle.units.proofs.Places.{lowest_in, cycle_placed}
 use Rattle.gains.proofs.Keeps.{kept_same, kept_better}
 use Rattle.gains.specs.Keeps.{Keeps}
 use Rattle.gains.proofs.cycle.Statement.{statement}
+use Rattle.gains.proofs.cycle.Lts.{in-At, in_default}
 use Rattle.gains.proofs.cycle.Tie as tie
 
 abbrev invariant-loop-x : tie.invariant-loop-x
@@ -44,12 +44,13 @@ cycle_spec =
       λ s e p.
           let a = c.args in
           let h = c.loop-x.invariant.1 s e p in
-          ⊎_elim
-          (λ w. kept_better a.n s _ _ _ _ (w.4 ∙ w.3.ensures) h
-          (cycle_placed a.n a.link.now a.reach.now s a.k e _ _ _ _ c.requires (omega arith)
-          c.around-round.ensures.steps_within c.around-round.ensures.off_round (lowest_in _ _ w.1.given.1 _ c.lowest.ensures)))
-          (λ w. kept_same a.n s _ _ w.2 h)
-          c.in-At.branch,
+          elim c.match-lowest.branch [
+            | in-At w ↦
+                kept_better a.n s _ _ _ _ (w.best-is ∙ w.better-next.ensures) h
+                (cycle_placed a.n a.link.now a.reach.now s a.k e _ _ _ _ c.requires (omega arith)
+                c.around-round.ensures.steps_within c.around-round.ensures.off_round (lowest_in _ _ w.in-At.is _ c.lowest.ensures))
+            | in_default w ↦ kept_same a.n s _ _ w.best-is h
+          ],
     ))
     -- returns
     (λ c. c.loop-x.invariant.1))

@@ -2,12 +2,12 @@
 use Prim.Native.Nat.{ℕ, ◌-◌, ◌≤◌}
 use native.Mathlib.Omega.{arith}
 use borrow.Author.Rules.{rules}
-use mathlib.Core.Logic.{⊎_elim}
 use mathlib.Core.Path.{sym, ◌∙◌}
 use Rattle.units.proofs.Places.{lowest_in, func_placed}
 use Rattle.gains.proofs.Keeps.{kept_same, kept_better}
 use Rattle.gains.specs.Keeps.{Keeps}
 use Rattle.gains.proofs.func.Statement.{statement}
+use Rattle.gains.proofs.func.Lts.{then-has, else-has, in-At+else-loop-z-test, in_default}
 use Rattle.gains.proofs.func.Tie as tie
 
 abbrev invariant-loop-z : tie.invariant-loop-z
@@ -65,13 +65,14 @@ func_spec =
       λ n s e p.
           let a = c.args in
           let h = c.loop-z.invariant.1 n s e p in
-          ⊎_elim
-          (λ w. kept_better n s _ _ _ _ (w.5 ∙ w.4.ensures) h
-          (func_placed n a.link.now a.reach.now s a.k e _ _ _ _ (omega arith)
-          (lowest_in _ _ c.in-At.is _ c.lowest.ensures) c.missed-far.ensures
-          (omega arith, sym c.has.ensures ∙ w.0.taken)))
-          (λ w. kept_same n s _ _ w.1 h)
-          c.if-has.branch,
+          elim c.if-has.branch [
+            | then-has w ↦
+                kept_better n s _ _ _ _ (w.best-is ∙ w.better-next.ensures) h
+                (func_placed n a.link.now a.reach.now s a.k e _ _ _ _ (omega arith)
+                (lowest_in _ _ c.in-At.is _ c.lowest.ensures) c.missed-far.ensures
+                (omega arith, sym c.has.ensures ∙ w.if-has.true))
+            | else-has w ↦ kept_same n s _ _ w.best-is h
+          ],
     ))
     -- enum-told
     (λ c. search rules)
@@ -84,10 +85,10 @@ func_spec =
       omega arith,
       λ n s e p.
           let h = c.loop-x.invariant.1 n s e p in
-          ⊎_elim
-          (λ w. kept_same n s _ _ w.6 (w.4.invariant.1 n s e h))
-          (λ w. kept_same n s _ _ w.2 h)
-          c.in-At.branch,
+          elim c.match-lowest.branch [
+            | in-At+else-loop-z-test w ↦ kept_same n s _ _ w.best-is (w.loop-z.invariant.1 n s e h)
+            | in_default w ↦ kept_same n s _ _ w.best-is h
+          ],
     ))
     -- returns
     (λ c. c.loop-x.invariant.1))

@@ -3,12 +3,12 @@ use Prim.Native.Nat.{ℕ, ◌-◌, ◌≤◌}
 use native.Mathlib.Omega.{arith}
 use borrow.Author.Rules.{rules}
 use mathlib.Core.List.{List}
-use mathlib.Core.Logic.{⊎_elim}
 use mathlib.Core.Path.{sym, ◌∙◌}
 use Rattle.units.proofs.Places.{lowest_in, scc_placed}
 use Rattle.gains.proofs.Keeps.{kept_same, kept_better}
 use Rattle.gains.specs.Keeps.{Keeps}
 use Rattle.gains.proofs.scc.Statement.{statement}
+use Rattle.gains.proofs.scc.Lts.{then-has, else-has, in-At+else-loop-y-test, in_default}
 use Rattle.gains.proofs.scc.Tie as tie
 
 abbrev invariant-loop-y : tie.invariant-loop-y
@@ -64,13 +64,14 @@ scc_spec =
       λ n link s e p.
           let a = c.args in
           let h = c.loop-y.invariant.1 n link s e p in
-          ⊎_elim
-          (λ w. kept_better n s _ _ _ _ (w.5 ∙ w.4.ensures) h
-          (scc_placed n link a.reach.now s a.k e _ _ _ _ _ (omega arith) c.both_ways-both.ensures
-          (omega arith, sym c.has.ensures ∙ w.0.taken) c.ahead.ensures
-          (lowest_in _ _ c.in-At.is _ c.lowest.ensures)))
-          (λ w. kept_same n s _ _ w.1 h)
-          c.if-has.branch,
+          elim c.if-has.branch [
+            | then-has w ↦
+                kept_better n s _ _ _ _ (w.best-is ∙ w.better-next.ensures) h
+                (scc_placed n link a.reach.now s a.k e _ _ _ _ _ (omega arith) c.both_ways-both.ensures
+                (omega arith, sym c.has.ensures ∙ w.if-has.true) c.ahead.ensures
+                (lowest_in _ _ c.in-At.is _ c.lowest.ensures))
+            | else-has w ↦ kept_same n s _ _ w.best-is h
+          ],
     ))
     -- enum-told
     (λ c. search rules)
@@ -83,10 +84,10 @@ scc_spec =
       omega arith,
       λ n link s e p.
           let h = c.loop-x.invariant.1 n link s e p in
-          ⊎_elim
-          (λ w. kept_same n s _ _ w.5 (w.3.invariant.1 n link s e h))
-          (λ w. kept_same n s _ _ w.2 h)
-          c.in-At.branch,
+          elim c.match-lowest.branch [
+            | in-At+else-loop-y-test w ↦ kept_same n s _ _ w.best-is (w.loop-y.invariant.1 n link s e h)
+            | in_default w ↦ kept_same n s _ _ w.best-is h
+          ],
     ))
     -- returns
     (λ c. c.loop-x.invariant.1))

@@ -4,12 +4,12 @@ use native.Mathlib.Omega.{arith}
 use borrow.Author.Rules.{rules}
 use borrow.Author.Tests.{not-true}
 use mathlib.Core.List.{List}
-use mathlib.Core.Logic.{⊎_elim}
 use mathlib.Core.Path.{sym, ◌∙◌}
 use Rattle.units.proofs.Places.{lowest_in, total-found}
 use Rattle.gains.proofs.Keeps.{kept_same, kept_better}
 use Rattle.gains.specs.Keeps.{Keeps}
 use Rattle.gains.proofs.total_at.Statement.{statement}
+use Rattle.gains.proofs.total_at.Lts.{then-not-has+in-At, then-not-has+in_default, else-not-has}
 use Rattle.gains.proofs.total_at.Tie as tie
 
 abbrev invariant-loop-z : tie.invariant-loop-z
@@ -64,12 +64,14 @@ total_at_spec =
       λ n link s e p.
           let a = c.args in
           let h = c.loop-z.invariant.1 n link s e p in
-          ⊎_elim
-          (λ w. kept_better n s _ _ _ _ (w.10 ∙ w.9.ensures) h
-          (total-found n link a.reach.now s a.k e _ _ _ a.back.now c.requires.1 c.requires.0 (omega arith)
-          (sym c.has.ensures ∙ not-true _ w.0.taken) (lowest_in _ _ w.4.given.1 _ w.2.ensures)))
-          (λ v. ⊎_elim (λ w. kept_same n s _ _ w.5 h) (λ w. kept_same n s _ _ w.1 h) v)
-          c.if-not-has.branch,
+          elim c.if-not-has.branch [
+            | then-not-has+in-At w ↦
+                kept_better n s _ _ _ _ (w.best-is ∙ w.better-next.ensures) h
+                (total-found n link a.reach.now s a.k e _ _ _ a.back.now c.requires.1 c.requires.0 (omega arith)
+                (sym c.has.ensures ∙ w.if-not-has.true) (lowest_in _ _ w.in-At.is _ w.lowest.ensures))
+            | then-not-has+in_default w ↦ kept_same n s _ _ w.best-is h
+            | else-not-has w ↦ kept_same n s _ _ w.best-is h
+          ],
     ))
     -- returns
     (λ c. c.loop-z.invariant.1))

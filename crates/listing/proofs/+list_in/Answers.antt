@@ -18,7 +18,7 @@ use Rattle.alternatives.proofs.Alternatives.{count_few}
 use Rattle.rules.specs.Answers.{kind_of}
 use Rattle.walk.specs.declared.Seen.TheVariants as seen
 use Rattle.walk.proofs.Lines.{counted_bound}
-use Rattle.walk.proofs.Steps.{look_is, clash_fits, move_fits, move_linked, branch_fewer, headed_bound, less_left}
+use Rattle.walk.proofs.Steps.{look_is, clash_fits, move_fits, move_linked, branch_fewer, headed_bound}
 use Rattle.listing.specs.Lists.{joined_with}
 use Rattle.listing.proofs.Listing.{put_line-length, made_fits, going_first, going_next, going_stop, going_last, lists_clash, lists_saturated, lists_after, lists_early}
 use Rattle.listing.proofs.+list_in.Goals as goal
@@ -27,7 +27,7 @@ pub returns-then-most-count : goal.returns-then-most-count
 unfolding pairs_of
 returns-then-most-count t c =
     let a = c.args in
-    let p = c.requires.1 in
+    let p = c.requires in
     let q = said a.layout a.query.now in
     let g = order_of a.order.now in
     let s = path_as a.single a.rep.now a.link.now a.reach.now in
@@ -38,7 +38,7 @@ returns-then-most-count t c =
 pub put_line-requires : goal.put_line-requires
 put_line-requires t c =
     let a = c.args in
-    let p = c.requires.1 in
+    let p = c.requires in
     let q = said a.layout a.query.now in
     let g = order_of a.order.now in
     let s = path_as a.single a.rep.now a.link.now a.reach.now in
@@ -51,7 +51,7 @@ put_line-requires t c =
 pub number-requires : goal.number-requires
 number-requires t c =
     let a = c.args in
-    let p = c.requires.1 in
+    let p = c.requires in
     let q = said a.layout a.query.now in
     let g = order_of a.order.now in
     let s = path_as a.single a.rep.now a.link.now a.reach.now in
@@ -63,7 +63,7 @@ number-requires t c =
 pub put_line-requires-in-Applying : goal.put_line-requires-in-Applying
 put_line-requires-in-Applying t c =
     let a = c.args in
-    let p = c.requires.1 in
+    let p = c.requires in
     let q = said a.layout a.query.now in
     let g = order_of a.order.now in
     let s = path_as a.single a.rep.now a.link.now a.reach.now in
@@ -81,7 +81,7 @@ put_line-requires-in-Applying t c =
 pub loop-i-init : goal.loop-i-init
 loop-i-init t c =
     let a = c.args in
-    let p = c.requires.1 in
+    let p = c.requires in
     let q = said a.layout a.query.now in
     let g = order_of a.order.now in
     let s = path_as a.single a.rep.now a.link.now a.reach.now in
@@ -95,7 +95,7 @@ loop-i-init t c =
 pub make-made-requires : goal.make-made-requires
 make-made-requires t c =
     let a = c.args in
-    let p = c.requires.1 in
+    let p = c.requires in
     let q = said a.layout a.query.now in
     let g = order_of a.order.now in
     let s = path_as a.single a.rep.now a.link.now a.reach.now in
@@ -110,7 +110,7 @@ make-made-requires t c =
 pub overflow_sub-left : goal.overflow_sub-left
 overflow_sub-left t c =
     let a = c.args in
-    let p = c.requires.1 in
+    let p = c.requires in
     let q = said a.layout a.query.now in
     let g = order_of a.order.now in
     let s = path_as a.single a.rep.now a.link.now a.reach.now in
@@ -120,9 +120,10 @@ overflow_sub-left t c =
     some_left
 
 pub list_in-w-requires : goal.list_in-w-requires
+unfolding pairs_of
 list_in-w-requires t c =
     let a = c.args in
-    let p = c.requires.1 in
+    let p = c.requires in
     let q = said a.layout a.query.now in
     let g = order_of a.order.now in
     let s = path_as a.single a.rep.now a.link.now a.reach.now in
@@ -133,7 +134,7 @@ list_in-w-requires t c =
     let here = subst (λ (j : ℕ). o.i < j) c.count-total.ensures c.loop-i-test.true in
     let e = c.make-made.new in
     let j = joined_in a.single e.rep e.link e.reach e.kept e.replaced c.make-made.result in (
-      less_left a.left _ some_left c.requires.0,
+      omega (arith, some_left),
       (
         p.0,
         made_fits a.layout.terms s
@@ -149,7 +150,7 @@ pub returns-then-w : goal.returns-then-w
 unfolding pairs_of
 returns-then-w t c =
     let a = c.args in
-    let p = c.requires.1 in
+    let p = c.requires in
     let q = said a.layout a.query.now in
     let g = order_of a.order.now in
     let s = path_as a.single a.rep.now a.link.now a.reach.now in
@@ -171,9 +172,10 @@ returns-then-w t c =
     (o.invariant.2 ∙ put_line-length _ _ _ _ c.put_line-in-Applying.ensures) o.invariant.0 c.if-w.true)
 
 pub loop-i-preserved : goal.loop-i-preserved
+unfolding pairs_of
 loop-i-preserved t c =
     let a = c.args in
-    let p = c.requires.1 in
+    let p = c.requires in
     let q = said a.layout a.query.now in
     let g = order_of a.order.now in
     let s = path_as a.single a.rep.now a.link.now a.reach.now in
@@ -195,7 +197,7 @@ pub returns-in-Saturated : goal.returns-in-Saturated
 unfolding pairs_of
 returns-in-Saturated t c =
     let a = c.args in
-    let p = c.requires.1 in
+    let p = c.requires in
     let q = said a.layout a.query.now in
     let g = order_of a.order.now in
     let s = path_as a.single a.rep.now a.link.now a.reach.now in
@@ -209,7 +211,7 @@ pub returns-in-Clashing : goal.returns-in-Clashing
 unfolding pairs_of
 returns-in-Clashing t c =
     let a = c.args in
-    let p = c.requires.1 in
+    let p = c.requires in
     let q = said a.layout a.query.now in
     let g = order_of a.order.now in
     let s = path_as a.single a.rep.now a.link.now a.reach.now in
@@ -225,7 +227,7 @@ pub returns-after-loop-i : goal.returns-after-loop-i
 unfolding pairs_of
 returns-after-loop-i t c =
     let a = c.args in
-    let p = c.requires.1 in
+    let p = c.requires in
     let q = said a.layout a.query.now in
     let g = order_of a.order.now in
     let s = path_as a.single a.rep.now a.link.now a.reach.now in

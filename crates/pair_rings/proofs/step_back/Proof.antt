@@ -24,7 +24,7 @@ step_back_spec =
     -- count-requires
     (λ c κs. c.requires.0)
     -- loop-holds
-    (λ c. (c.count-end.ensures.0, refl, rw c.count-end.ensures.0 (marks_start c.args.sheet.now c.args.t2)))
+    (λ c. (c.count-end.ensures.0, refl, rw c.count-end.ensures.0 (marks_start c.args.sheet.now c.args.row)))
     -- earlier-requires
     (λ c κs. omega (arith, c.count-end.ensures.1))
     -- cast-from
@@ -52,11 +52,11 @@ step_back_spec =
     c.requires.1 c.loop-i.i (omega (arith, c.loop-i.invariant.0)) in (
       c.loop-i.invariant.0,
       simp length-set c.loop-i.invariant.1,
-      marks_turn c.args.sheet.now c.args.t2
+      marks_turn c.args.sheet.now c.args.row
           c.count-end.result c.loop-i.i c.loop-i.out
           c.earlier-from.result c.later-to.result c.loop-i-test.true c.loop-i.invariant.1
           (omega (arith, c.earlier-from.ensures)) c.earlier-from.ensures c.later-to.ensures c.loop-i.invariant.2,
     ))
     -- returns
     (λ c.
-    marks_end c.args.sheet.now c.args.t2 c.count-end.result c.loop-i.i c.loop-i.out c.loop-i-test.false c.loop-i.invariant.2))
+    marks_end c.args.sheet.now c.args.row c.count-end.result c.loop-i.i c.loop-i.out c.loop-i-test.false c.loop-i.invariant.2))
