@@ -37,10 +37,15 @@ refute-w-requires t c =
     let v = seen_as q t' c.sees.result (seen.Applying m.link m.rule m.x m.y m.z) c.sees.ensures m.is in
     let o = c.loop-at in
     let here = subst (λ (j : ℕ). o.at < j) c.count-total.ensures c.loop-at-test.true in
-    let made = ap (λ (j : Joined). j.facts) c.branch-joined.ensures in
-    (fewer_left a.left _ c.if-left-eq0.false c.decreases, (p.0, p.1,
-    known-branch {q = q} p.1 s t' p.2 a.layout.terms (sym (terms-said a.layout a.query.now p.0)) c.close-closed.ensures.0
-    m.link.0 (kind_of m.rule) m.x.0 m.y.0 m.z.0 v.0 o.at here _ made))
+    let made = ap (λ (j : Joined). j.facts) c.branch-joined.ensures in (
+      fewer_left a.left _ c.if-left-eq0.false c.decreases,
+      (
+        p.0,
+        p.1,
+        known-branch {q = q} p.1 s t' p.2 a.layout.terms (sym (terms-said a.layout a.query.now p.0)) c.close-closed.ensures.0
+            m.link.0 (kind_of m.rule) m.x.0 m.y.0 m.z.0 v.0 o.at here _ made,
+      ),
+    )
 
 pub returns-then-not-is_refuted : goal.returns-then-not-is_refuted
 returns-then-not-is_refuted t c =

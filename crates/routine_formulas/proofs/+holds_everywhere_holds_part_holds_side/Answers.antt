@@ -24,9 +24,11 @@ pub holds_everywhere-loop-v-preserved : goal.holds_everywhere-loop-v-preserved
 holds_everywhere-loop-v-preserved t c =
     let l = c.loop-v in
     let small : l.v ≤ 31 = omega (arith, c.size_of-end.ensures.1, c.loop-v-test.true) in
-    let inside = room_inside c.args.bound.now l.bound _ c.args.i l.invariant.1.same_length c.requires.0 in
-    (omega arith, turn_kept _ _ _ l.invariant.1 _ inside small _ c.holds_side.ensures.kept,
-    l.invariant.2 ∙ all_next _ _ _ c.loop-v-test.true (sym (turn_truth _ _ _ l.invariant.1 _ inside small _ _ _ c.holds_side.ensures.value) ∙ c.if-not-holds_side.false))
+    let inside = room_inside c.args.bound.now l.bound _ c.args.i l.invariant.1.same_length c.requires.0 in (
+      omega arith,
+      turn_kept _ _ _ l.invariant.1 _ inside small _ c.holds_side.ensures.kept,
+      l.invariant.2 ∙ all_next _ _ _ c.loop-v-test.true (sym (turn_truth _ _ _ l.invariant.1 _ inside small _ _ _ c.holds_side.ensures.value) ∙ c.if-not-holds_side.false),
+    )
 
 pub holds_everywhere-returns-clause-value : goal.holds_everywhere-returns-clause-value
 holds_everywhere-returns-clause-value t c = all_nodes _ _ _ _ c.size_of-end.ensures.0 (c.loop-v.invariant.2 ∙ all_end _ _ _ c.loop-v-test.false)

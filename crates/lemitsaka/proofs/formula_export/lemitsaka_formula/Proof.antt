@@ -15,7 +15,7 @@ lemitsaka_formula_spec =
     -- formula-number-requires
     (λ c κs. search rules)
     -- same-length
-    (λ c. c.formula.auto.1.1.1.0)
+    (λ c. c.formula.auto.report)
     -- returns
     (λ c.
     let did = c.formula.ensures in
