@@ -1,8 +1,9 @@
 -- One law for each return: what is said of the closed path is said of the path.
-use Rattle.std.proofs.Common.{ℕ, ◌<◌, ◌≤◌, ◌∙◌, refl, sym, subst, arith}
+use Rattle.std.proofs.Common.{◌≡◌, ℕ, ◌<◌, ◌≤◌, ◌∙◌, refl, sym, subst, arith, rules}
 use Rattle.logic.specs.Query.{term_count}
 use Rattle.facts.specs.Path.{path_as}
 use Rattle.rules.specs.Answers.{kind_of}
+use Rattle.alternatives.proofs.Alternatives.{count_few}
 use Rattle.link_query.specs.Said.{said}
 use Rattle.link_query.proofs.Said.{terms-said}
 use Rattle.plain_steps.proofs.Branches.{same_linked}
